@@ -2,7 +2,7 @@
 mod fakes;
 
 use crate::{ByteIn, ByteOut, Failed, Failing, Fault, MemIn, MemOut, StdIo, put_all};
-use fakes::{Half, Interrupted};
+use fakes::Calls;
 use std::test::Fail;
 
 #[test]
@@ -11,12 +11,12 @@ fn reader_in_memory_gives_pieces_and_fails_once(rt: HostRuntime) -> Result<(), F
     let mut reader = MemIn::new(bytes, 2, Some(1));
     let mut buffer = [0u8; 8];
     assert_eq!(rt; reader.pull(&mut buffer), Ok(2));
-    assert!(rt; buffer[..2] == b"ab"[..]);
+    assert_eq!(rt; &buffer[..2], b"ab".as_slice());
     assert_eq!(rt; reader.pull(&mut buffer), Err(Failed));
     assert_eq!(rt; reader.pull(&mut buffer[..1]), Ok(1));
-    assert!(rt; buffer[..1] == b"c"[..]);
+    assert_eq!(rt; &buffer[..1], b"c".as_slice());
     assert_eq!(rt; reader.pull(&mut buffer), Ok(2));
-    assert!(rt; buffer[..2] == b"de"[..]);
+    assert_eq!(rt; &buffer[..2], b"de".as_slice());
     assert_eq!(rt; reader.pull(&mut buffer), Ok(0));
     Ok(())
 }
@@ -28,7 +28,7 @@ fn writer_in_memory_takes_pieces_and_fails_once(rt: HostRuntime) -> Result<(), F
         assert_eq!(rt; writer.put(b"abc"), Ok(2));
         assert_eq!(rt; writer.put(b"c"), want);
         assert_eq!(rt; writer.put(b"c"), Ok(1));
-        assert!(rt; writer.as_slice() == b"xabc"[..]);
+        assert_eq!(rt; writer.as_slice(), b"xabc".as_slice());
     }
     Ok(())
 }
@@ -37,32 +37,50 @@ fn writer_in_memory_takes_pieces_and_fails_once(rt: HostRuntime) -> Result<(), F
 fn whole_text_goes_out_in_many_calls(rt: HostRuntime) -> Result<(), Fail> {
     let mut writer = MemOut::new(Vec::new(rt.alloc()), 2, None);
     assert_eq!(rt; put_all(&mut writer, b"hello"), Ok(()));
-    assert!(rt; writer.as_slice() == b"hello"[..]);
+    assert_eq!(rt; writer.as_slice(), b"hello".as_slice());
 
     for failing in [Failing::Error, Failing::Nothing] {
         let mut writer = MemOut::new(Vec::new(rt.alloc()), 2, Some((2, failing)));
         assert_eq!(rt; put_all(&mut writer, b"hello"), Err(Fault::Write));
-        assert!(rt; writer.as_slice() == b"hell"[..]);
+        assert_eq!(rt; writer.as_slice(), b"hell".as_slice());
     }
     Ok(())
 }
 
 #[test]
-fn interrupted_calls_are_made_again(rt: HostRuntime) -> Result<(), Fail> {
+fn std_calls_are_made_again_or_fail(rt: HostRuntime) {
     let mut buffer = [0u8; 4];
-    let mut reader = StdIo::new(Interrupted { left: 3 });
-    assert_eq!(rt; reader.pull(&mut buffer), Ok(1));
-    assert_eq!(rt; buffer[0], b'i');
-    let mut writer = StdIo::new(Interrupted { left: 3 });
-    assert_eq!(rt; writer.put(b"abc"), Ok(1));
-    Ok(())
+    let cases = [
+        (0, Some(0), Ok(0), Ok(0)),
+        (3, Some(1), Ok(1), Ok(1)),
+        (2, None, Err(Failed), Err(Failed)),
+    ];
+    for (interruptions, then, read, written) in cases {
+        let mut reader = StdIo::new(Calls {
+            interruptions,
+            then,
+        });
+        assert_eq!(rt; reader.pull(&mut buffer), read);
+        let mut writer = StdIo::new(Calls {
+            interruptions,
+            then,
+        });
+        assert_eq!(rt; writer.put(b"abc"), written);
+    }
 }
 
 #[test]
-fn other_errors_and_a_write_of_nothing_fail(rt: HostRuntime) {
-    let mut buffer = [0u8; 4];
-    assert_eq!(rt; StdIo::new(Half { works: true }).pull(&mut buffer), Ok(0));
-    assert_eq!(rt; StdIo::new(Half { works: false }).pull(&mut buffer), Err(Failed));
-    assert_eq!(rt; put_all(&mut StdIo::new(Half { works: true }), b"abc"), Err(Fault::Write));
-    assert_eq!(rt; put_all(&mut StdIo::new(Half { works: false }), b"abc"), Err(Fault::Write));
+fn a_write_of_nothing_is_a_fault(rt: HostRuntime) {
+    for then in [Some(0), None] {
+        let mut writer = StdIo::new(Calls {
+            interruptions: 1,
+            then,
+        });
+        assert_eq!(rt; put_all(&mut writer, b"abc"), Err(Fault::Write));
+    }
+    let mut writer = StdIo::new(Calls {
+        interruptions: 1,
+        then: Some(2),
+    });
+    assert_eq!(rt; put_all(&mut writer, b"abc"), Ok(()));
 }
