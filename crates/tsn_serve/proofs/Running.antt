@@ -1,7 +1,7 @@
 -- How a run over lines goes on.
-use Rattle.std.proofs.Common.{◌≡◌, ◌≢◌, ◌⊎◌, inl, inr, ℕ, ◌<◌, ◌++◌, length, take, Bool, true, false, Result, Ok, Err, List, [], ◌∷◌, Option, Some, None, refl, sym, ap, ◌∙◌, subst, append_assoc, append-nil}
-use Rattle.tsn_serve.specs.Lines.{line_feed, HasNoLineFeed, ended, Splits, last_line, held, held_and}
-use Rattle.tsn_serve.specs.Script.{AnswersHeld, AnswersLine, Run, IsScript, AreFirst, CutScript}
+use Rattle.std.proofs.Common.{◌≡◌, ◌≢◌, inl, inr, ℕ, ◌<◌, ◌++◌, length, take, true, false, Result, Ok, Err, List, [], ◌∷◌, Option, Some, refl, sym, ap, ◌∙◌, subst, append_assoc, append-nil}
+use Rattle.tsn_serve.specs.Lines.{line_feed, HasNoLineFeed, ended, held, held_and}
+use Rattle.tsn_serve.specs.Script.{AnswersHeld, AnswersLine, Run, AreFirst, CutScript}
 use Rattle.tsn_serve.specs.Pieces.{Going, Feeds, Ends, Cuts, EndCuts}
 use Rattle.std.specs.Result.{OnErr, IfErr}
 use Rattle.tsn_wire.specs.declared.bytes.Fault.{Fault}

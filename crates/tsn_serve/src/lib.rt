@@ -7,5 +7,7 @@ mod line_buffer;
 mod responder;
 
 pub use laws::one_cut;
-pub use line_buffer::LineBuffer;
 pub use responder::{Responder, answer_lines};
+
+#[cfg(test)]
+mod tests;

@@ -1,6 +1,6 @@
 //! The loop that answers a script line by line, in whatever pieces its bytes come.
 //! It is generic in what answers a line, and relies on that one's contract, on the reader's and on the writer's.
-ghost use Rattle.std.specs.Prelude.{◌≡◌, ℕ, ◌≤◌, ◌⊎◌, List, [], ◌∷◌, Bool, true, length, IfErr, OnOk, OnErr, IsErrOf};
+ghost use Rattle.std.specs.Prelude.{◌≡◌, ℕ, ◌≤◌, ◌⊎◌, List, [], ◌∷◌, Bool, true, length, IfErr, OnOk, OnErr, IsErrOf, Err, ◌≢◌};
 ghost use Rattle.std.specs.Io.KnownBytes.{Consumes, Appends, IsAtEnd};
 ghost use Rattle.tsn_wire.specs.Bytes.{IsCut};
 ghost use Rattle.tsn_wire.specs.declared.bytes.Fault.TheVariants.{Read, Write, Memory};
@@ -134,6 +134,9 @@ pub fn answer_lines<A: Responder, R: ByteIn, W: ByteOut>(
         × IsAtEnd (R.remaining reader.new)
         × Appends (W.taken writer.old) (W.taken writer.new) text
         × IsScript A.answers responder.old input text responder.new) }
+    ensures reader_worked { OnOk result (R.has_failed reader.new ≡ R.has_failed reader.old) }
+    ensures writer_worked { result ≢ Err Write
+        → W.has_failed writer.new ≡ W.has_failed writer.old }
     // A fault of reading: the reader failed or gave a byte for each read, and all lines that ended
     // were answered.
     ensures read { IsErrOf result Read → (input : List ℕ) × (text : List ℕ)

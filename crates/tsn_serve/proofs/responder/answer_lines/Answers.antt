@@ -1,4 +1,4 @@
-use Rattle.std.proofs.Common.{true, false, inr, length, length-append, ◌++◌, [], ◌≡◌, ◌-◌, ◌<◌, take, arith, ap, subst, sym, refl, append-nil}
+use Rattle.std.proofs.Common.{true, false, inr, length, length-append, ◌++◌, [], ◌≡◌, ◌∙◌, take, arith, subst, sym, refl, append-nil}
 use Rattle.std.proofs.KnownBytes.{Appends-nil, Appends-trans, Consumes-nil, Consumes-trans}
 use Rattle.std.proofs.lemmas.List.{length-take-le}
 use Rattle.std.proofs.lemmas.Result.{on_ok_weaker}
@@ -14,6 +14,8 @@ reads-init g c = (
   Appends-nil _,
   subst (λ k. Going g.A.Responder.answers c.args.responder.now [] k [] c.args.responder.now) (sym c.in-Ok.ensures) (opened g.A.Responder.answers c.args.responder.now),
   omega arith,
+  refl,
+  refl,
 )
 
 pub returns-then-count-eq0-clause-ok : goal.returns-then-count-eq0-clause-ok
@@ -85,4 +87,6 @@ reads-preserved g c =
       Appends-trans _ _ _ _ _ before.3 ok.2,
       ok.1 c.args.responder.now before.0 before.1 before.4,
       simp length-append (omega (arith, size, before.5)),
+      c.in-Ok-pull.ensures.worked ∙ before.6,
+      c.in_ok-feed.ensures.worked ∙ before.7,
     )

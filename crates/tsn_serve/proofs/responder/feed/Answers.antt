@@ -1,4 +1,4 @@
-use Rattle.std.proofs.Common.{◌++◌, ◌+◌, [], ◌∷◌, ◌<◌, take, drop, length, take-append-drop, sym, ◌∙◌}
+use Rattle.std.proofs.Common.{◌++◌, ◌+◌, take, drop, take-append-drop, sym, ◌∙◌}
 use Rattle.std.proofs.KnownBytes.{Appends-trans}
 use Rattle.std.proofs.lemmas.List.{take_more}
 use Rattle.tsn_serve.proofs.Running.{fed_more, fed_as, cut_after, cut_as, cut_more, on_err}
