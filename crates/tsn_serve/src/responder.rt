@@ -21,7 +21,12 @@ pub trait Responder {
 
     /// Answers a line, given without its line feed. The one fault is `Write`, where the writer failed: the state
     /// is then that after the line, and a front of its text is written.
-    fn answer<W: ByteOut>(&mut self, line: &[u8], writer: &mut W) -> Result<(), Fault>
+    fn answer<W: ByteOut>(
+        &mut self,
+        alloc: Global,
+        line: &[u8],
+        writer: &mut W,
+    ) -> Result<(), Fault>
         ensures ok { OnOk result ((text : List ℕ) × answers self.old line.now text self.new
             × Appends (W.taken writer.old) (W.taken writer.new) text) }
         ensures worked { OnOk result (W.has_failed writer.new ≡ W.has_failed writer.old) }
@@ -33,6 +38,7 @@ pub trait Responder {
 
 // Answers what is held of a line that ended.
 fn answer_held<A: Responder, W: ByteOut>(
+    alloc: Global,
     responder: &mut A,
     line: &LineBuffer,
     writer: &mut W,
@@ -48,12 +54,13 @@ fn answer_held<A: Responder, W: ByteOut>(
         × IsCut (W.taken writer.old) (W.taken writer.new) text) }
 {
     match line.get() {
-        Some(bytes) => responder.answer(bytes, writer),
+        Some(bytes) => responder.answer(alloc, bytes, writer),
         None => put_all(writer, b"{\"refused\":1,\"why\":\"too_long\"}\n"),
     }
 }
 
 fn feed_byte<A: Responder, W: ByteOut>(
+    alloc: Global,
     responder: &mut A,
     line: &mut LineBuffer,
     byte: u8,
@@ -73,12 +80,13 @@ fn feed_byte<A: Responder, W: ByteOut>(
         line.push(byte);
         return Ok(());
     }
-    answer_held(responder, line, writer)?;
+    answer_held(alloc, responder, line, writer)?;
     line.clear();
     Ok(())
 }
 
 fn feed<A: Responder, W: ByteOut>(
+    alloc: Global,
     responder: &mut A,
     line: &mut LineBuffer,
     piece: &[u8],
@@ -95,12 +103,13 @@ fn feed<A: Responder, W: ByteOut>(
         × Appends (W.taken writer.old) (W.taken writer.new) written) }
 {
     'bytes: for byte in piece {
-        feed_byte(responder, line, *byte, writer)?;
+        feed_byte(alloc, responder, line, *byte, writer)?;
     }
     Ok(())
 }
 
 fn finish<A: Responder, W: ByteOut>(
+    alloc: Global,
     responder: &mut A,
     line: &LineBuffer,
     writer: &mut W,
@@ -118,7 +127,7 @@ fn finish<A: Responder, W: ByteOut>(
     if line.is_empty() {
         return Ok(());
     }
-    answer_held(responder, line, writer)
+    answer_held(alloc, responder, line, writer)
 }
 
 /// Answers each line of the input, with at most so many reads.
@@ -165,9 +174,9 @@ pub fn answer_lines<A: Responder, R: ByteIn, W: ByteOut>(
             Err(_) => return Err(Fault::Read),
         };
         if count == 0 {
-            return finish(responder, &line, writer);
+            return finish(alloc, responder, &line, writer);
         }
-        feed(responder, &mut line, &chunk[..count], writer)?;
+        feed(alloc, responder, &mut line, &chunk[..count], writer)?;
     }
     Err(Fault::Read)
 }
