@@ -1,0 +1,4 @@
+pub mod Changes
+pub mod Configuration
+pub mod Parts
+pub mod Runs
