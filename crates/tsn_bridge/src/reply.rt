@@ -2,7 +2,7 @@
 use tsn_types::refusals::Refusal;
 
 /// A reply to a command.
-#[derive(Clone, Copy, Debug, PartialEq, Eq)]
+#[derive(Debug, Drop, PartialEq)]
 pub enum Reply {
     /// The session number that was given out, from 1.
     Session { session: u32 },
