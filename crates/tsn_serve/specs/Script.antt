@@ -1,0 +1,62 @@
+-- What is written for an input, given what may be written for a line. There, answers old line text new says that
+-- from the state old the line may have this text, with the state new after it.
+use Rattle.std.specs.Prelude.{◌≡◌, ◌≢◌, ◌⊎◌, ℕ, ◌<◌, ◌++◌, List, [], ◌∷◌, Bool, true, length, take, Option, Some, None, codes}
+use Rattle.std.specs.List.{flat_map, AllByRecursion}
+use Rattle.tsn_serve.specs.Lines.{Splits, HasNoLineFeed, ended, last_line, held}
+
+abbrev pub too_long : List ℕ
+too_long = codes "{\"refused\":1,\"why\":\"too_long\"}\n"
+
+-- What is held of a line is answered; a line that is too long is refused, and changes nothing.
+abbrev pub AnswersHeld : {S : Type 0} → (S → List ℕ → List ℕ → S → Type 0) → S → Option (List ℕ) → List ℕ → S → Type 0
+AnswersHeld answers old None text new = (text ≡ too_long) × (new ≡ old)
+AnswersHeld answers old (Some line) text new = answers old line text new
+
+abbrev pub AnswersLine : {S : Type 0} → (S → List ℕ → List ℕ → S → Type 0) → S → List ℕ → List ℕ → S → Type 0
+AnswersLine answers old line text new = AnswersHeld answers old (held line) text new
+
+-- Each line is answered once, in order: the text is the replies one after another, with the state going on.
+abbrev pub Run : {S : Type 0} → (S → List ℕ → List ℕ → S → Type 0) → S → List (List ℕ) → List ℕ → S → Type 0
+Run answers old [] text new = (text ≡ []) × (new ≡ old)
+Run {S} answers old (line ∷ lines) text new =
+    (mid : S) × (reply : List ℕ) × (more : List ℕ)
+    × AnswersLine answers old line reply mid
+    × Run answers mid lines more new
+    × (text ≡ reply ++ more)
+
+-- The text of a script: a run over all lines of the input.
+abbrev pub IsScript : {S : Type 0} → (S → List ℕ → List ℕ → S → Type 0) → S → List ℕ → List ℕ → S → Type 0
+IsScript answers old input text new =
+    (lines : List (List ℕ)) × (rest : List ℕ)
+    × Splits input lines rest
+    × Run answers old (lines ++ last_line rest) text new
+
+-- The text of a script whose input broke off: a run over the lines that a line feed ended.
+abbrev pub OpenScript : {S : Type 0} → (S → List ℕ → List ℕ → S → Type 0) → S → List ℕ → List ℕ → S → Type 0
+OpenScript answers old input text new =
+    (lines : List (List ℕ)) × (rest : List ℕ)
+    × Splits input lines rest
+    × Run answers old lines text new
+
+-- The input begins with these lines and then this one, each ended by its line feed; or, where the input is at its
+-- end, they are all of it, and the last is ended by that.
+abbrev pub AreFirst : Bool → List ℕ → List (List ℕ) → List ℕ → Type 0
+AreFirst at_end input lines line =
+    ((more : List ℕ) × (input ≡ flat_map ended (lines ++ line ∷ []) ++ more))
+    ⊎ ((at_end ≡ true) × (line ≢ []) × (input ≡ flat_map ended lines ++ line))
+
+-- The text of a script whose writer failed: a run over the first lines, of which each reply went out but the
+-- last, and of that a part. The state is that after the last of these lines.
+pub record CutScript {S : Type 0} (answers : S → List ℕ → List ℕ → S → Type 0) (at_end : Bool) (opening : S) (input written : List ℕ) (now : S) : Type 0 where
+  pub lines : List (List ℕ)
+  pub line : List ℕ
+  pub text : List ℕ
+  pub mid : S
+  pub reply : List ℕ
+  pub taken : ℕ
+  pub first : AreFirst at_end input lines line
+  pub each : AllByRecursion HasNoLineFeed (lines ++ line ∷ [])
+  pub run : Run answers opening lines text mid
+  pub answer : AnswersLine answers mid line reply now
+  pub less : taken < length reply
+  pub written_is : written ≡ text ++ take taken reply
