@@ -13,12 +13,15 @@ mod memory;
 mod ranges;
 mod reading;
 mod records;
+mod reply;
 mod standard;
+mod text;
 mod unread;
 
 pub use bytes::{ByteIn, ByteOut, Failed, Fault, put_all};
 pub use memory::{Failing, MemIn, MemOut};
 pub use reading::{Line, command_of};
+pub use reply::write_reply;
 pub use standard::StdIo;
 
 #[cfg(test)]
