@@ -1,13 +1,27 @@
-//! The bytes that the service reads and writes: readers and writers, in memory and over those of std.
-//! It relies on std alone, and what it says of std's readers and writers is no more than whether they failed.
+//! What goes in and out of the service: bytes, the command that a line says and the text of a reply.
+//!
+//! Readers and writers stand in memory and over those of std. A line is read as a command by what `serde_json` reads
+//! of it; nothing of the bridge is looked at. Of std's readers and writers no more is said than whether they failed.
 #![tactic(auto)]
 
 mod bytes;
+mod commands;
+mod drafts;
+mod json;
+mod keys;
 mod memory;
+mod ranges;
+mod reading;
+mod records;
+mod reply;
 mod standard;
+mod text;
+mod unread;
 
 pub use bytes::{ByteIn, ByteOut, Failed, Fault, put_all};
 pub use memory::{Failing, MemIn, MemOut};
+pub use reading::{Line, command_of};
+pub use reply::write_reply;
 pub use standard::StdIo;
 
 #[cfg(test)]

@@ -1,0 +1,5 @@
+//! The bridge as a machine: commands in, replies out.
+#![tactic(auto)]
+
+pub mod command;
+pub mod reply;

@@ -1,0 +1,15 @@
+//! What the bridge answers, one variant for each form of reply.
+use tsn_types::refusals::Refusal;
+
+/// A reply to a command.
+#[derive(Debug, Drop, PartialEq)]
+pub enum Reply {
+    /// The session number that was given out, from 1.
+    Session { session: u32 },
+    /// The number of the entry that was made.
+    Entry { entry: u64 },
+    /// The number of the entry that was made and of the entry that it takes back.
+    EntryOf { entry: u64, of: u64 },
+    /// Why the command was refused; nothing has changed.
+    Refused(Refusal),
+}

@@ -1,0 +1,128 @@
+-- Keys as an order, and what a change does to a map at one key.
+use Rattle.std.proofs.Common.{◌≡◌, ℕ, zero, suc, Bool, true, false, cond, ◌||◌, List, [], ◌∷◌, ◌++◌, refl, sym, ◌∙◌, ap, subst, Option, Some, None}
+use Rattle.std.specs.Prelude.{find}
+use Rattle.std.specs.Cmp.{IsTotalOrder}
+use Rattle.std.specs.Ordering.{nat_cmp, is_eq}
+use Rattle.std.specs.FinMap.{get, get-insert, get-remove, IsAntisymmetric, same_map}
+use Rattle.std.specs.List.{AllByRecursion}
+use Rattle.std.specs.declared.cmp.Ordering.{Ordering}
+use Rattle.std.specs.declared.cmp.Ordering.TheVariants.{Less, Equal, Greater}
+use Rattle.std.proofs.lemmas.Cmp.{on_total, then_total, nat_cmp_total, tied_itself}
+use Rattle.std.proofs.lemmas.Map.Lookups.{exact_pairs, exact_unsigned}
+use Rattle.tsn_types.specs.declared.keys.Key.{Key}
+use Rattle.tsn_types.specs.declared.keys.Key.TheVariants.{Port, Filter, Gate, Meter}
+use Rattle.tsn_edit.specs.Parts.{Change, Part, parts}
+use Rattle.tsn_types.specs.declared.records.Record.{Record}
+use Rattle.tsn_types.specs.Keys.{kind_of, number_of, key_cmp, same_key, has}
+use Rattle.tsn_edit.specs.Configuration.{Configuration, put}
+use Rattle.tsn_edit.specs.Changes.{keys_of, put_all, changed}
+
+pub by_bool : {G : Type 0} (b : Bool) → (b ≡ true → G) → (b ≡ false → G) → G
+by_bool true f g = f refl
+by_bool false f g = g refl
+
+pub by_option : {A G : Type 0} (o : Option A) → (o ≡ None → G) → ((x : A) → o ≡ Some x → G) → G
+by_option None f g = f refl
+by_option (Some x) f g = g x refl
+
+pub keys_total : IsTotalOrder key_cmp
+keys_total = then_total (on_total kind_of nat_cmp_total) (on_total number_of nat_cmp_total)
+
+key_at : ℕ → ℕ → Key
+key_at zero n = Port n
+key_at (suc zero) n = Filter n
+key_at (suc (suc zero)) n = Gate n
+key_at (suc (suc (suc _))) n = Meter n
+
+key_at-key : (k : Key) → key_at (kind_of k) (number_of k) ≡ k
+unfolding key_at
+key_at-key (Port n) = refl
+key_at-key (Filter n) = refl
+key_at-key (Gate n) = refl
+key_at-key (Meter n) = refl
+
+-- only one key compares alike
+pub exact_keys : IsAntisymmetric key_cmp
+exact_keys a b h =
+    sym (key_at-key a)
+    ∙ ap (λ (p : ℕ × ℕ). key_at p.0 p.1) (exact_pairs nat_cmp nat_cmp exact_unsigned exact_unsigned (kind_of a, number_of a) (kind_of b, number_of b) h)
+    ∙ key_at-key b
+
+is_equal : (o : Ordering) → is_eq o ≡ true → o ≡ Equal
+is_equal Less h = (cc)
+is_equal Equal h = refl
+is_equal Greater h = (cc)
+
+pub one_key : (a b : Key) → same_key a b ≡ true → a ≡ b
+one_key a b h = exact_keys a b (is_equal (key_cmp a b) h)
+
+pub same_itself : (k : Key) → same_key k k ≡ true
+same_itself k = ap is_eq (tied_itself keys_total k)
+
+pub get-put : (c : Configuration) (k : Key) (v : Option Record) (q : Key) → get (put c k v) q ≡ cond (same_key q k) v (get c q)
+get-put c k None q = get-remove keys_total c k q
+get-put c k (Some r) q = get-insert keys_total c k r q
+
+pub same_configuration : (c d : Configuration) → ((k : Key) → get c k ≡ get d k) → c ≡ d
+same_configuration c d h = same_map keys_total exact_keys c d h
+
+-- the value after the part, or v where there is none
+abbrev pub after_or : Option Part → Option Record → Option Record
+after_or None v = v
+after_or (Some p) v = p.after
+
+after_or-cond : (b : Bool) (p : Part) (o : Option Part) (v : Option Record) → cond b p.after (after_or o v) ≡ after_or (cond b (Some p) o) v
+after_or-cond true p o v = refl
+after_or-cond false p o v = refl
+
+unfoldable pub part_on : Key → List Part → Option Part
+part_on k e = find (λ p. same_key k p.key) e
+
+pub get-put_all : (c : Configuration) (e : List Part) (q : Key) → get (put_all c e) q ≡ after_or (part_on q e) (get c q)
+unfolding part_on
+get-put_all c [] q = refl
+get-put_all c (p ∷ e) q =
+    get-put (put_all c e) p.key p.after q
+    ∙ ap (cond (same_key q p.key) p.after) (get-put_all c e q)
+    ∙ after_or-cond (same_key q p.key) p (part_on q e) (get c q)
+
+pub get-changed : (c : Configuration) (e : Change) (q : Key) → get (changed c e) q ≡ after_or (part_on q (parts e)) (get c q)
+get-changed c e q = get-put_all c (parts e) q
+
+-- no part is on a key that the change does not have
+pub part_on_none : (k : Key) (e : List Part) → has (keys_of e) k ≡ false → part_on k e ≡ None
+unfolding part_on
+part_on_none k [] h = refl
+part_on_none k (p ∷ e) h =
+    elim (same_key k p.key) as (λ b. b || has (keys_of e) k ≡ false → cond b (Some p) (part_on k e) ≡ None) [
+      | true ↦ λ h. (cc)
+      | false ↦ λ h. part_on_none k e h
+    ] h
+
+pub or_left : (a b : Bool) → a ≡ true → (a || b) ≡ true
+or_left true b h = refl
+or_left false b h = (cc)
+
+pub or_right : (a b : Bool) → b ≡ true → (a || b) ≡ true
+or_right true b h = refl
+or_right false b h = h
+
+-- a part that is found is on the key
+pub part_on_some : (k : Key) (e : List Part) (p : Part) → part_on k e ≡ Some p → k ≡ p.key
+unfolding part_on
+part_on_some k [] p h = (cc)
+part_on_some k (x ∷ e) p h =
+    elim (same_key k x.key) as (λ b. same_key k x.key ≡ b → cond b (Some x) (part_on k e) ≡ Some p → k ≡ p.key) [
+      | true ↦ λ same found. let is : x ≡ p = (cc) in one_key k x.key same ∙ ap (λ (y : Part). y.key) is
+      | false ↦ λ same found. part_on_some k e p found
+    ] refl h
+
+-- what holds of each part holds of the one that is found
+pub each_part : (P : Part → Type 0) (k : Key) (e : List Part) (p : Part) → part_on k e ≡ Some p → AllByRecursion P e → P p
+unfolding part_on
+each_part P k [] p h all = (cc)
+each_part P k (x ∷ e) p h all =
+    elim (same_key k x.key) as (λ b. cond b (Some x) (part_on k e) ≡ Some p → P p) [
+      | true ↦ λ found. let is : x ≡ p = (cc) in subst P is all.0
+      | false ↦ λ found. each_part P k e p found all.1
+    ] h

@@ -1,0 +1,38 @@
+-- Changes: what one does to a configuration, and where it fits. A change is its parts, on distinct keys.
+use Rattle.std.specs.Prelude.{◌≡◌, List, [], ◌∷◌, map, flat_map}
+use Rattle.std.specs.List.{AllByRecursion, IsDistinct}
+use Rattle.std.specs.FinMap.{get}
+use Rattle.tsn_types.specs.declared.keys.Key.{Key}
+use Rattle.tsn_edit.specs.Parts.{Change, Part, parts}
+use Rattle.tsn_types.specs.declared.limits.Limits.{Limits}
+use Rattle.tsn_types.specs.Keys.{same_key, refs_of}
+use Rattle.tsn_edit.specs.Configuration.{Configuration, put, IsWellKept}
+
+-- the keys, what the values before refer to, and what the values after refer to
+abbrev pub keys_of : List Part → List Key
+keys_of ps = map (λ p. p.key) ps
+
+abbrev pub refs_before : List Part → List Key
+refs_before ps = flat_map (λ p. refs_of p.before) ps
+
+abbrev pub refs_after : List Part → List Key
+refs_after ps = flat_map (λ p. refs_of p.after) ps
+
+-- c with the value after at each key
+abbrev pub put_all : Configuration → List Part → Configuration
+put_all c [] = c
+put_all c (p ∷ ps) = put (put_all c ps) p.key p.after
+
+-- what the change leaves of c
+abbrev pub changed : Configuration → Change → Configuration
+changed c e = put_all c (parts e)
+
+-- every value before stands in c
+abbrev pub Stands : Configuration → List Part → Type 0
+Stands c ps = AllByRecursion (λ p. get c p.key ≡ p.before) ps
+
+-- a change fits where every value before stands and the result is a well kept configuration
+pub record Fits (l : Limits) (c : Configuration) (e : Change) : Type 0 where
+  pub distinct : IsDistinct same_key (keys_of (parts e))
+  pub stands : Stands c (parts e)
+  pub kept : IsWellKept l (changed c e)

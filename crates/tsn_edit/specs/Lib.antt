@@ -1,0 +1,5 @@
+pub mod Changes
+pub mod Configuration
+pub mod Edits
+pub mod Parts
+pub mod Runs

@@ -1,0 +1,23 @@
+-- What a change is made of: parts, on distinct keys. Today a change has one part.
+use Rattle.std.specs.Prelude.{List, [], ◌∷◌}
+use Rattle.tsn_edit.specs.declared.Change.{Change as OneChange}
+
+-- a part: a key with its value before and after
+abbrev pub Part : Type 0
+Part = OneChange
+
+-- a change of one part
+abbrev pub Change : Type 0
+Change = OneChange
+
+-- the parts of a change
+abbrev pub parts : Change → List Part
+parts e = e ∷ []
+
+-- a part with its values swapped
+abbrev pub turned : Part → Part
+turned p = record { key = p.key; before = p.after; after = p.before }
+
+-- the inverse swaps the values before and after
+abbrev pub inverse : Change → Change
+inverse e = turned e

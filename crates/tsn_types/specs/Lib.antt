@@ -1,0 +1,5 @@
+pub mod Bounds
+pub mod Keys
+pub mod Limits
+pub mod Refusals
+pub mod Whole

@@ -1,0 +1,122 @@
+//! How many instances of each kind a bridge has, and how long its gate control lists may be.
+//!
+//! Limits are tested before anything else that depends on the configuration. None of these calls takes memory.
+ghost use Rattle.std.specs.Prelude.{◌≡◌, ◌≤◌, ◌↔◌, IsOk, IfOk, IsTrue};
+ghost use Rattle.tsn_types.specs.Limits.{holds_key, lists_within, out_of_limits};
+
+use crate::keys::Key;
+use crate::numbers::Range;
+use crate::records::Record;
+use crate::refusals::{Field, Refusal};
+use std::marker::Model;
+
+/// The number of ports (1 to 64), the sizes of the stream filter, stream gate and flow meter tables (1 to 65,536 each,
+/// 802.1Q-2018, 12.31.1) and the greatest length of a gate control list (SupportedListMax, 1 to 1,024).
+#[derive(Clone, Copy, Debug)]
+pub struct Limits {
+    ports: u64,
+    filters: u64,
+    gates: u64,
+    meters: u64,
+    list: u64,
+}
+
+impl Model for Limits {
+    ghost use Rattle.tsn_types.specs.Bounds.{Bounds, AreInRange};
+
+    ghost Value = { Bounds };
+
+    ghost view = { λ a. record { ports = a.ports; filters = a.filters; gates = a.gates; meters = a.meters; list = a.list } };
+
+    ghost inverse = { λ b. record { ports = b.ports; filters = b.filters; gates = b.gates; meters = b.meters; list = b.list } };
+
+    ghost invariant = { λ a. AreInRange (record { ports = a.ports; filters = a.filters; gates = a.gates; meters = a.meters; list = a.list }) };
+}
+
+ghost use Rattle.tsn_types.specs.Bounds.{AreInRange};
+
+impl Limits {
+    /// The limits, refused where one is outside its range.
+    pub fn new(
+        ports: u64,
+        filters: u64,
+        gates: u64,
+        meters: u64,
+        list: u64,
+    ) -> Result<Limits, Range>
+        ensures in_range { IsOk result ↔ AreInRange (record { ports = ports; filters = filters; gates = gates; meters = meters; list = list }) }
+        ensures same { IfOk result (λ l. l ≡ record { ports = ports; filters = filters; gates = gates; meters = meters; list = list }) }
+    {
+        let is_id = |n: u64| 1 <= n && n <= 65_536;
+        if 1 <= ports
+            && ports <= 64
+            && is_id(filters)
+            && is_id(gates)
+            && is_id(meters)
+            && 1 <= list
+            && list <= 1_024
+        {
+            Ok(Limits {
+                ports,
+                filters,
+                gates,
+                meters,
+                list,
+            })
+        } else {
+            Err(Range)
+        }
+    }
+
+    /// The number of ports, which are numbered from 1.
+    pub fn ports(self) -> u64
+        ensures same { result ≡ self.ports }
+        ensures in_range { AreInRange self }
+    {
+        self.ports
+    }
+
+    /// Whether the key is within the limits: a port from 1 to `ports`, any other number below its table's size.
+    pub fn holds(self, key: Key) -> bool
+        ensures { result ≡ holds_key self key }
+    {
+        match key {
+            Key::Port(id) => 0 < id.get() && id.get() <= self.ports,
+            Key::Filter(id) => id.get() < self.filters,
+            Key::Gate(id) => id.get() < self.gates,
+            Key::Meter(id) => id.get() < self.meters,
+        }
+    }
+
+    /// Why the references or the list of the record are outside the limits, if they are: the gate before the meter.
+    pub fn refuse(self, value: &Record) -> Option<Refusal>
+        ensures { result ≡ out_of_limits self value.now }
+    {
+        match value {
+            Record::Port(ports) => self.refuse_list(ports.admin.list.len()),
+            Record::Gate(gate) => self.refuse_list(gate.admin.list.len()),
+            Record::Meter(_) => None,
+            Record::Filter(filter) => {
+                if !self.holds(Key::Gate(filter.gate)) {
+                    return Some(Refusal::Range(Field::Gate));
+                }
+                match filter.meter {
+                    Some(meter) if !self.holds(Key::Meter(meter)) => {
+                        Some(Refusal::Range(Field::Meter))
+                    }
+                    _ => None,
+                }
+            }
+        }
+    }
+
+    fn refuse_list(self, length: usize) -> Option<Refusal>
+        ensures { result ≡ lists_within self length }
+    {
+        if length as u64 <= self.list {
+            None
+        } else {
+            Some(Refusal::Range(Field::List))
+        }
+    }
+}

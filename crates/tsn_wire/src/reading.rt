@@ -1,0 +1,82 @@
+//! Reading a command line: bytes to a session and a command, or the refusal of least number.
+//!
+//! A line is one JSON value as `serde_json` reads it. Its shape is found first and its ranges are tested after, so a
+//! fault of shape anywhere comes before a fault of range. Nothing of the bridge is looked at.
+ghost use Rattle.std.specs.Prelude.{◌≡◌};
+ghost use Rattle.serde_json.specs.View.{view};
+ghost use Rattle.tsn_types.specs.declared.refusals.Field.TheVariants as fields;
+ghost use Rattle.tsn_wire.specs.Answers.{Reads, IsOrMemory, seen};
+ghost use Rattle.tsn_wire.specs.Ranges.{within};
+ghost use Rattle.tsn_wire.specs.Reading.{data_of, or_syntax, line_of_draft, reading, line_of};
+
+use crate::commands::line_shape;
+use crate::drafts::LineDraft;
+use crate::ranges::command_of_draft;
+use crate::unread::Unread;
+use serde_json::Value;
+use std::alloc::Global;
+use tsn_bridge::command::Command;
+use tsn_types::refusals::{Field, Refusal};
+
+/// What a command line says.
+#[derive(Debug, Drop)]
+pub struct Line {
+    /// The session, 1 to 65,535; 0 for a hello, which has none.
+    pub session: u32,
+    pub command: Command,
+}
+
+fn value_of(alloc: Global, line: &[u8]) -> Result<Value, Unread>
+    ensures { Reads (seen view result) (or_syntax (data_of line.now)) }
+{
+    match Value::from_slice(alloc, line) {
+        Ok(value) => Ok(value),
+        Err(error) if error.is_memory() => Err(Unread::Memory),
+        Err(_) => Err(Unread::Syntax),
+    }
+}
+
+fn session(number: u64) -> Result<u32, Unread>
+    ensures { result ≡ within fields.S 1 65535 number }
+{
+    if number < 1 || 65_535 < number {
+        return Err(Unread::Range(Field::S));
+    }
+    Ok(number as u32)
+}
+
+fn line_of_draft(alloc: Global, draft: &LineDraft) -> Result<Line, Unread>
+    ensures { Reads result (line_of_draft draft.now) }
+{
+    match draft {
+        LineDraft::Hello => Ok(Line {
+            session: 0,
+            command: Command::Hello,
+        }),
+        LineDraft::Session {
+            session: number,
+            command,
+        } => {
+            let session = session(*number)?;
+            let command = command_of_draft(alloc, command)?;
+            Ok(Line { session, command })
+        }
+    }
+}
+
+fn reading(alloc: Global, line: &[u8]) -> Result<Line, Unread>
+    ensures { Reads result (reading line.now) }
+{
+    let value = value_of(alloc, line)?;
+    let draft = line_shape(alloc, &value)?;
+    line_of_draft(alloc, &draft)
+}
+
+/// The session and the command of a line without its line feed: refusal 2 where it is no JSON value, 3 where it has
+/// other members than a command, 4 where a number is outside its range, 18 in place of any of these where memory is
+/// refused.
+pub fn command_of(alloc: Global, line: &[u8]) -> Result<Line, Refusal>
+    ensures { IsOrMemory result (line_of line.now) }
+{
+    reading(alloc, line).map_err(Unread::refusal)
+}

@@ -1,0 +1,150 @@
+//! Replies as lines of text: compact JSON, its members in ascending order of their names.
+//!
+//! A reply is spelled in a buffer of fixed size and goes out in one piece, so writing it takes no memory.
+ghost use Rattle.std.specs.Prelude.{◌≡◌, ◌+◌, ◌≤◌, ◌++◌, ℕ, List, [], length, true, IfErr, OnOk, OnErr, codes};
+ghost use Rattle.std.specs.Io.KnownBytes.{Appends};
+ghost use Rattle.tsn_types.specs.Refusals.{name_of, field_name};
+ghost use Rattle.tsn_wire.specs.Bytes.{IsCut};
+ghost use Rattle.tsn_wire.specs.Replies.{key_text, number_member, text_member, members_of, refusal_text, reply_text};
+ghost use Rattle.tsn_wire.specs.declared.bytes.Fault.TheVariants.{Write};
+
+use crate::bytes::{ByteOut, Fault, put_all};
+use crate::text::ShortText;
+use tsn_bridge::reply::Reply;
+use tsn_types::keys::Key;
+use tsn_types::refusals::{Field, Refusal};
+
+fn push_key(text: &mut ShortText, key: Key)
+    requires { length text.old + 27 ≤ 256 }
+    ensures text { text.new ≡ text.old ++ key_text key }
+    ensures len { length text.new ≤ length text.old + 27 }
+{
+    let (kind, number) = match key {
+        Key::Port(id) => ("port ", id.get()),
+        Key::Filter(id) => ("filter ", id.get()),
+        Key::Gate(id) => ("gate ", id.get()),
+        Key::Meter(id) => ("meter ", id.get()),
+    };
+    text.push(kind);
+    text.push_number(number);
+}
+
+fn push_number_member(text: &mut ShortText, name: &str, number: u64)
+    requires { length text.old + length name.now + 24 ≤ 256 }
+    ensures text { text.new ≡ text.old ++ number_member name.now number }
+    ensures len { length text.new ≤ length text.old + length name.now + 24 }
+{
+    text.push("\"");
+    text.push(name);
+    text.push("\":");
+    text.push_number(number);
+    text.push(",");
+}
+
+fn push_key_member(text: &mut ShortText, name: &str, key: Key)
+    requires { length text.old + length name.now + 33 ≤ 256 }
+    ensures text { text.new ≡ text.old ++ text_member name.now (key_text key) }
+    ensures len { length text.new ≤ length text.old + length name.now + 33 }
+{
+    text.push("\"");
+    text.push(name);
+    text.push("\":\"");
+    push_key(text, key);
+    text.push("\",");
+}
+
+#[tactic(auto, using(crate::proofs::Names::field_name_short))]
+fn push_field_member(text: &mut ShortText, field: Field)
+    requires { length text.old + 22 ≤ 256 }
+    ensures text { text.new ≡ text.old ++ text_member (codes "field") (field_name field) }
+    ensures len { length text.new ≤ length text.old + 22 }
+{
+    text.push("\"field\":\"");
+    text.push(field.name());
+    text.push("\",");
+}
+
+fn push_members(text: &mut ShortText, refusal: &Refusal)
+    requires { length text.old + 60 ≤ 256 }
+    ensures text { text.new ≡ text.old ++ members_of refusal.now }
+    ensures len { length text.new ≤ length text.old + 60 }
+{
+    match *refusal {
+        Refusal::Range(field) => push_field_member(text, field),
+        Refusal::Missing(key) | Refusal::Exists(key) | Refusal::Dangling(key) => {
+            push_key_member(text, "key", key);
+        }
+        Refusal::Referred(by) => push_key_member(text, "by", by),
+        Refusal::Conflict { own, other } => {
+            push_number_member(text, "other", other);
+            push_number_member(text, "own", own);
+        }
+        Refusal::RedoConflict { other } => push_number_member(text, "other", other),
+        Refusal::TooLong
+        | Refusal::Syntax
+        | Refusal::Shape
+        | Refusal::NoSession
+        | Refusal::NothingToUndo
+        | Refusal::NothingToRedo
+        | Refusal::NotEnabled
+        | Refusal::EmptyList
+        | Refusal::Past
+        | Refusal::JournalFull
+        | Refusal::Memory => {}
+    }
+}
+
+#[tactic(auto, using(crate::proofs::Names::name_short))]
+fn push_refusal(text: &mut ShortText, refusal: &Refusal)
+    requires { text.old ≡ [] }
+    ensures { text.new ≡ refusal_text refusal.now }
+{
+    text.push("{");
+    push_members(text, refusal);
+    text.push("\"refused\":");
+    text.push_number(refusal.number());
+    text.push(",\"why\":\"");
+    text.push(refusal.name());
+    text.push("\"}\n");
+}
+
+fn text_of(reply: &Reply) -> ShortText
+    ensures { result ≡ reply_text reply.now }
+{
+    let mut text = ShortText::new();
+    match reply {
+        Reply::Session { session } => {
+            text.push("{\"session\":");
+            text.push_number(u64::from(*session));
+            text.push("}\n");
+        }
+        Reply::Entry { entry } => {
+            text.push("{\"entry\":");
+            text.push_number(*entry);
+            text.push("}\n");
+        }
+        Reply::EntryOf { entry, of } => {
+            text.push("{\"entry\":");
+            text.push_number(*entry);
+            text.push(",\"of\":");
+            text.push_number(*of);
+            text.push("}\n");
+        }
+        Reply::Refused(refusal) => push_refusal(&mut text, refusal),
+    }
+    text
+}
+
+/// Writes the reply's line, its line feed in it. It takes no memory; its one fault is `Write`, and what went out is
+/// then a front of the line.
+pub fn write_reply<W: ByteOut>(writer: &mut W, reply: &Reply) -> Result<(), Fault>
+    ensures ok { OnOk result
+        (Appends (W.taken writer.old) (W.taken writer.new) (reply_text reply.now)) }
+    ensures worked { OnOk result (W.has_failed writer.new ≡ W.has_failed writer.old) }
+    ensures fault { IfErr result (λ e. e ≡ Write) }
+    ensures failed { OnErr result (W.has_failed writer.new ≡ true) }
+    ensures cut { OnErr result
+        (IsCut (W.taken writer.old) (W.taken writer.new) (reply_text reply.now)) }
+{
+    put_all(writer, text_of(reply).as_slice())
+}
