@@ -1,6 +1,8 @@
 -- What is written for an input, by what may be written for a line.
-use Rattle.std.specs.Prelude.{◌≡◌, ◌≢◌, ◌⊎◌, ℕ, ◌<◌, ◌++◌, List, [], ◌∷◌, Bool, true, length, take, Option, Some, None, codes}
+use Rattle.std.specs.Prelude.{◌≡◌, ◌≢◌, ◌⊎◌, ℕ, ◌<◌, ◌++◌, List, [], ◌∷◌, Bool, true, length, take, Option, Some, None}
 use Rattle.std.specs.List.{flat_map, AllByRecursion}
+use Rattle.tsn_types.specs.declared.refusals.Refusal.TheVariants.{TooLong}
+use Rattle.tsn_wire.specs.Replies.{refusal_text}
 use Rattle.tsn_serve.specs.Lines.{Splits, HasNoLineFeed, ended, last_line, held}
 
 -- What may be written for a line: answers old line text new says that from the state old the line may have this
@@ -8,13 +10,9 @@ use Rattle.tsn_serve.specs.Lines.{Splits, HasNoLineFeed, ended, last_line, held}
 abbrev pub Answering : Type 0 → Type 1
 Answering S = S → List ℕ → List ℕ → S → Type 0
 
--- The reply to a line that is too long.
-abbrev pub too_long : List ℕ
-too_long = codes "{\"refused\":1,\"why\":\"too_long\"}\n"
-
--- What is held of a line is answered; a line that is too long is refused, and changes nothing.
+-- What is held of a line is answered; a line that is too long is refused, by refusal 1, and changes nothing.
 abbrev pub AnswersHeld : {S : Type 0} → Answering S → S → Option (List ℕ) → List ℕ → S → Type 0
-AnswersHeld answers old None text new = (text ≡ too_long) × (new ≡ old)
+AnswersHeld answers old None text new = (text ≡ refusal_text TooLong) × (new ≡ old)
 AnswersHeld answers old (Some line) text new = answers old line text new
 
 abbrev pub AnswersLine : {S : Type 0} → Answering S → S → List ℕ → List ℕ → S → Type 0

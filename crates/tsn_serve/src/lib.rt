@@ -1,5 +1,5 @@
 //! The run of a script: command lines in, reply lines out, over any reader and writer of bytes.
-//! It relies on tsn_wire for readers, writers and faults.
+//! It relies on tsn_wire for readers, writers and the text of replies.
 #![tactic(auto)]
 
 mod laws;

@@ -1,15 +1,18 @@
 //! The loop that answers a script line by line, in whatever pieces its bytes come.
 //! It is generic in what answers a line, and relies on that one's contract, on the reader's and on the writer's.
-ghost use Rattle.std.specs.Prelude.{◌≡◌, ℕ, ◌≤◌, ◌⊎◌, List, [], ◌∷◌, Bool, true, length, IfErr, OnOk, OnErr, IsErrOf, Err, ◌≢◌};
-ghost use Rattle.std.specs.Io.KnownBytes.{Consumes, Appends, IsAtEnd};
+ghost use Rattle.std.specs.Prelude.{◌≡◌, ◌≢◌, ℕ, List, [], ◌∷◌, true, IfErr, OnOk, OnErr, IsErrOf, Err};
+ghost use Rattle.std.specs.Io.KnownBytes.{Appends};
 ghost use Rattle.tsn_wire.specs.Bytes.{IsCut};
 ghost use Rattle.tsn_wire.specs.declared.bytes.Fault.TheVariants.{Read, Write, Memory};
-ghost use Rattle.tsn_serve.specs.Script.{AnswersHeld, IsScript, OpenScript, CutScript};
+ghost use Rattle.tsn_serve.specs.Script.{AnswersHeld};
 ghost use Rattle.tsn_serve.specs.Pieces.{Feeds, Ends, Cuts, EndCuts};
+ghost use Rattle.tsn_serve.specs.Outcomes.{Completes, BreaksOff, IsCutOff};
 
 use crate::line_buffer::LineBuffer;
 use std::alloc::Global;
-use tsn_wire::{ByteIn, ByteOut, Fault, put_all};
+use tsn_bridge::reply::Reply;
+use tsn_types::refusals::Refusal;
+use tsn_wire::{ByteIn, ByteOut, Fault, write_reply};
 
 // The most bytes of one read.
 const CHUNK: usize = 8192;
@@ -55,7 +58,7 @@ fn answer_held<A: Responder, W: ByteOut>(
 {
     match line.get() {
         Some(bytes) => responder.answer(alloc, bytes, writer),
-        None => put_all(writer, b"{\"refused\":1,\"why\":\"too_long\"}\n"),
+        None => write_reply(writer, &Reply::Refused(Refusal::TooLong)),
     }
 }
 
@@ -130,7 +133,8 @@ fn finish<A: Responder, W: ByteOut>(
     answer_held(alloc, responder, line, writer)
 }
 
-/// Answers each line of the input, with at most so many reads.
+/// Answers each line of the input, with at most so many reads. The memory for a line is taken before the first of
+/// them. After a fault the lines that ended were answered; `Write` cuts the last of these answers.
 pub fn answer_lines<A: Responder, R: ByteIn, W: ByteOut>(
     alloc: Global,
     responder: &mut A,
@@ -138,31 +142,23 @@ pub fn answer_lines<A: Responder, R: ByteIn, W: ByteOut>(
     writer: &mut W,
     reads: u64,
 ) -> Result<(), Fault>
-    ensures ok { OnOk result ((input : List ℕ) × (text : List ℕ)
-        × Consumes (R.remaining reader.old) (R.remaining reader.new) input
-        × IsAtEnd (R.remaining reader.new)
-        × Appends (W.taken writer.old) (W.taken writer.new) text
-        × IsScript A.answers responder.old input text responder.new) }
+    ensures ok { OnOk result (Completes A.answers responder.old responder.new
+        (R.remaining reader.old) (R.remaining reader.new)
+        (W.taken writer.old) (W.taken writer.new)) }
+    ensures read { IsErrOf result Read → BreaksOff A.answers responder.old responder.new
+        (R.remaining reader.old) (R.remaining reader.new)
+        (W.taken writer.old) (W.taken writer.new) (R.has_failed reader.new) reads }
+    ensures write { IsErrOf result Write → IsCutOff A.answers responder.old responder.new
+        (R.remaining reader.old) (R.remaining reader.new)
+        (W.taken writer.old) (W.taken writer.new) }
+    ensures memory { IsErrOf result Memory → (responder.new ≡ responder.old)
+        × (reader.new ≡ reader.old) × (writer.new ≡ writer.old) }
+
+    // A failed call is always told.
     ensures reader_worked { OnOk result (R.has_failed reader.new ≡ R.has_failed reader.old) }
     ensures writer_worked { result ≢ Err Write
         → W.has_failed writer.new ≡ W.has_failed writer.old }
-    // A fault of reading: the reader failed or gave a byte for each read, and all lines that ended
-    // were answered.
-    ensures read { IsErrOf result Read → (input : List ℕ) × (text : List ℕ)
-        × Consumes (R.remaining reader.old) (R.remaining reader.new) input
-        × Appends (W.taken writer.old) (W.taken writer.new) text
-        × ((R.has_failed reader.new ≡ true) ⊎ (reads ≤ length input))
-        × OpenScript A.answers responder.old input text responder.new }
-    // A fault of writing: the writer failed in the text of one of the lines that ended.
-    ensures write { IsErrOf result Write → (input : List ℕ) × (written : List ℕ) × (at_end : Bool)
-        × Consumes (R.remaining reader.old) (R.remaining reader.new) input
-        × Appends (W.taken writer.old) (W.taken writer.new) written
-        × (at_end ≡ true → IsAtEnd (R.remaining reader.new))
-        × (W.has_failed writer.new ≡ true)
-        × CutScript A.answers at_end responder.old input written responder.new }
-    // Memory is wanted before all else.
-    ensures memory { IsErrOf result Memory → (responder.new ≡ responder.old)
-        × (reader.new ≡ reader.old) × (writer.new ≡ writer.old) }
+    ensures writer_failed { IsErrOf result Write → W.has_failed writer.new ≡ true }
 {
     let Ok(mut line) = LineBuffer::new(alloc) else {
         return Err(Fault::Memory);
