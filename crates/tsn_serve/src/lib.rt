@@ -6,7 +6,7 @@ mod laws;
 mod line_buffer;
 mod responder;
 
-pub use laws::one_cut;
+pub use laws::{example_cuts, one_cut};
 pub use responder::{Responder, answer_lines};
 
 #[cfg(test)]
