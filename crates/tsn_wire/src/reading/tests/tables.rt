@@ -247,14 +247,17 @@ fn refusal(
         if text.is_empty() {
             continue;
         }
-        for piece in [comma, "\"", row.name, "\":", text] {
-            line.push_str(piece)?;
-        }
+        line.push_str(comma)?;
+        line.push_str("\"")?;
+        line.push_str(row.name)?;
+        line.push_str("\":")?;
+        line.push_str(text)?;
         comma = ",";
     }
-    for piece in [more, "},\"key\":\"", key, "\",\"s\":1}"] {
-        line.push_str(piece)?;
-    }
+    line.push_str(more)?;
+    line.push_str("},\"key\":\"")?;
+    line.push_str(key)?;
+    line.push_str("\",\"s\":1}")?;
     Ok(command_of(alloc, line.as_bytes()).err())
 }
 
