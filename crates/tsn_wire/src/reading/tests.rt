@@ -1,7 +1,7 @@
 //! Lines as a caller meets them: what is read, and which refusal comes.
 mod tables;
 
-use super::{Line, command_of};
+use super::command_of;
 use std::alloc::Global;
 use std::test::Fail;
 use tsn_bridge::command::Command;
@@ -9,50 +9,53 @@ use tsn_types::keys::{Key, Kind};
 use tsn_types::numbers::{FilterId, GateId};
 use tsn_types::refusals::{Field, Refusal};
 
-/// The word and the key of a command.
-fn parts(command: &Command) -> (&'static str, Option<Key>) {
-    match command {
-        Command::Hello => ("hello", None),
-        Command::Create { key, .. } => ("create", Some(*key)),
-        Command::Replace { key, .. } => ("replace", Some(*key)),
-        Command::Remove { key } => ("remove", Some(*key)),
-        Command::Undo => ("undo", None),
-        Command::Show { key } => ("show", Some(*key)),
-        Command::List { kind: Kind::Meter } => ("list of meters", None),
-        Command::List { .. } => ("list of others", None),
-    }
+/// What a line asks for.
+#[derive(Clone, Copy, Debug, PartialEq, Eq)]
+enum Asked {
+    Hello,
+    Create(Key),
+    Replace(Key),
+    Remove(Key),
+    Undo,
+    Show(Key),
+    List(Kind),
+}
+
+fn asked(alloc: Global, line: &[u8]) -> Result<(u32, Asked), Refusal> {
+    let line = command_of(alloc, line)?;
+    let asked = match &line.command {
+        Command::Hello => Asked::Hello,
+        Command::Create { key, .. } => Asked::Create(*key),
+        Command::Replace { key, .. } => Asked::Replace(*key),
+        Command::Remove { key } => Asked::Remove(*key),
+        Command::Undo => Asked::Undo,
+        Command::Show { key } => Asked::Show(*key),
+        Command::List { kind } => Asked::List(*kind),
+    };
+    Ok((line.session, asked))
 }
 
 #[test]
 fn reads_each_command(rt: HostRuntime) -> Result<(), Fail> {
     let alloc = rt.alloc();
-    let gate = Some(Key::Gate(GateId::new(0)?));
-    let filter = Some(Key::Filter(FilterId::new(65_535)?));
-    for (line, session, want) in [
-        ("{\"do\":\"hello\"}", 0, ("hello", None)),
-        ("{\"s\":65535,\"do\":\"undo\"}\r", 65_535, ("undo", None)),
-        (
-            "{\"do\":\"remove\",\"key\":\"\\u0067ate 0\",\"s\":1}",
-            1,
-            ("remove", gate),
-        ),
-        (
-            " {\"do\":\"show\",\"key\":\"filter 65535\",\"s\":2}",
-            2,
-            ("show", filter),
-        ),
-        (
-            "{\"do\":\"list\",\"kind\":\"meter\",\"s\":2}",
-            2,
-            ("list of meters", None),
-        ),
-    ] {
-        let found = command_of(alloc, line.as_bytes())?;
-        assert_eq!(rt; found.session, session);
-        let (word, key) = parts(&found.command);
-        assert_eq!(rt; word, want.0);
-        assert_eq!(rt; key, want.1);
-    }
+    let gate = Key::Gate(GateId::new(0)?);
+    let filter = Key::Filter(FilterId::new(65_535)?);
+    let found = asked(alloc, b"{\"do\":\"hello\"}")?;
+    assert_eq!(rt; found, (0, Asked::Hello));
+    let found = asked(alloc, b"{\"s\":65535,\"do\":\"undo\"}\r")?;
+    assert_eq!(rt; found, (65_535, Asked::Undo));
+    let found = asked(
+        alloc,
+        b"{\"do\":\"remove\",\"key\":\"\\u0067ate 0\",\"s\":1}",
+    )?;
+    assert_eq!(rt; found, (1, Asked::Remove(gate)));
+    let found = asked(
+        alloc,
+        b" {\"do\":\"show\",\"key\":\"filter 65535\",\"s\":2}",
+    )?;
+    assert_eq!(rt; found, (2, Asked::Show(filter)));
+    let found = asked(alloc, b"{\"do\":\"list\",\"kind\":\"meter\",\"s\":2}")?;
+    assert_eq!(rt; found, (2, Asked::List(Kind::Meter)));
     Ok(())
 }
 
@@ -172,8 +175,8 @@ fn refuses_ranges_in_order(rt: HostRuntime) {
 #[test]
 fn keeps_the_last_of_two_members(rt: HostRuntime) -> Result<(), Fail> {
     let alloc = rt.alloc();
-    let hello = command_of(alloc, b"{\"do\":\"undo\",\"do\":\"hello\"}")?;
-    assert_eq!(rt; parts(&hello.command).0, "hello");
+    let found = asked(alloc, b"{\"do\":\"undo\",\"do\":\"hello\"}")?;
+    assert_eq!(rt; found, (0, Asked::Hello));
     let line = b"{\"do\":\"undo\",\"s\":-1,\"\\u0073\":7}";
     assert_eq!(rt; command_of(alloc, line)?.session, 7);
     let line = b"{\"do\":\"undo\",\"s\":7,\"s\":true}";

@@ -1,39 +1,37 @@
 //! The line of each form of reply.
 use super::write_reply;
 use crate::{Failing, Fault, MemOut};
+use std::alloc::Global;
+use std::process::Abort;
 use std::test::Fail;
 use tsn_bridge::reply::Reply;
 use tsn_types::keys::Key;
 use tsn_types::numbers::{FilterId, GateId, MeterId, PortId};
 use tsn_types::refusals::{Field, Refusal};
 
+fn spells(rt: &impl Abort, alloc: Global, reply: &Reply, text: &str) {
+    let mut writer = MemOut::new(Vec::new(alloc), 1000, None);
+    assert_eq!(rt; write_reply(&mut writer, reply), Ok(()));
+    assert_eq!(rt; writer.as_slice(), text.as_bytes());
+}
+
 #[test]
-fn spells_each_reply(rt: HostRuntime) -> Result<(), Fail> {
-    for (reply, text) in [
-        (Reply::Session { session: 1 }, "{\"session\":1}\n"),
-        (Reply::Session { session: 65_535 }, "{\"session\":65535}\n"),
-        (Reply::Entry { entry: 3 }, "{\"entry\":3}\n"),
-        (
-            Reply::EntryOf { entry: 4, of: 3 },
-            "{\"entry\":4,\"of\":3}\n",
-        ),
-        (
-            Reply::EntryOf {
-                entry: 18_446_744_073_709_551_615,
-                of: 0,
-            },
-            "{\"entry\":18446744073709551615,\"of\":0}\n",
-        ),
-        (
-            Reply::Refused(Refusal::JournalFull),
-            "{\"refused\":17,\"why\":\"journal_full\"}\n",
-        ),
-    ] {
-        let mut writer = MemOut::new(Vec::new(rt.alloc()), 1000, None);
-        assert_eq!(rt; write_reply(&mut writer, &reply), Ok(()));
-        assert_eq!(rt; writer.as_slice(), text.as_bytes());
-    }
-    Ok(())
+fn spells_each_reply(rt: HostRuntime) {
+    let alloc = rt.alloc();
+    let reply = Reply::Session { session: 1 };
+    spells(&rt, alloc, &reply, "{\"session\":1}\n");
+    let reply = Reply::Session { session: 65_535 };
+    spells(&rt, alloc, &reply, "{\"session\":65535}\n");
+    let reply = Reply::Entry { entry: 3 };
+    spells(&rt, alloc, &reply, "{\"entry\":3}\n");
+    let reply = Reply::EntryOf { entry: 4, of: 3 };
+    spells(&rt, alloc, &reply, "{\"entry\":4,\"of\":3}\n");
+    let reply = Reply::EntryOf {
+        entry: 18_446_744_073_709_551_615,
+        of: 0,
+    };
+    let text = "{\"entry\":18446744073709551615,\"of\":0}\n";
+    spells(&rt, alloc, &reply, text);
 }
 
 #[test]
@@ -97,9 +95,7 @@ fn spells_each_refusal(rt: HostRuntime) -> Result<(), Fail> {
         ),
         (Refusal::Memory, "{\"refused\":18,\"why\":\"memory\"}\n"),
     ] {
-        let mut writer = MemOut::new(Vec::new(rt.alloc()), 1000, None);
-        assert_eq!(rt; write_reply(&mut writer, &Reply::Refused(refusal)), Ok(()));
-        assert_eq!(rt; writer.as_slice(), text.as_bytes());
+        spells(&rt, rt.alloc(), &Reply::Refused(refusal), text);
     }
     Ok(())
 }

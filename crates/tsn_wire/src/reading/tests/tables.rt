@@ -222,7 +222,7 @@ const METER: [Row; 8] = [
 ];
 
 /// The member's value: the last change of it, else the first good one.
-fn text_of<'a>(index: usize, row: &'a Row, changes: &'a [(usize, &'a str)]) -> &'a str {
+fn text_of<'a>(index: usize, row: &Row, changes: &[(usize, &'a str)]) -> &'a str {
     let mut text = row.good.split(' ').next().unwrap_or("");
     for (place, changed) in changes {
         if *place == index {
