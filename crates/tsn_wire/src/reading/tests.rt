@@ -21,7 +21,7 @@ enum Asked {
     List(Kind),
 }
 
-fn asked(alloc: Global, line: &[u8]) -> Result<(u32, Asked), Refusal> {
+fn read_line(alloc: Global, line: &[u8]) -> Result<(u32, Asked), Refusal> {
     let line = command_of(alloc, line)?;
     let asked = match &line.command {
         Command::Hello => Asked::Hello,
@@ -40,21 +40,21 @@ fn reads_each_command(rt: HostRuntime) -> Result<(), Fail> {
     let alloc = rt.alloc();
     let gate = Key::Gate(GateId::new(0)?);
     let filter = Key::Filter(FilterId::new(65_535)?);
-    let found = asked(alloc, b"{\"do\":\"hello\"}")?;
+    let found = read_line(alloc, b"{\"do\":\"hello\"}")?;
     assert_eq!(rt; found, (0, Asked::Hello));
-    let found = asked(alloc, b"{\"s\":65535,\"do\":\"undo\"}\r")?;
+    let found = read_line(alloc, b"{\"s\":65535,\"do\":\"undo\"}\r")?;
     assert_eq!(rt; found, (65_535, Asked::Undo));
-    let found = asked(
+    let found = read_line(
         alloc,
         b"{\"do\":\"remove\",\"key\":\"\\u0067ate 0\",\"s\":1}",
     )?;
     assert_eq!(rt; found, (1, Asked::Remove(gate)));
-    let found = asked(
+    let found = read_line(
         alloc,
         b" {\"do\":\"show\",\"key\":\"filter 65535\",\"s\":2}",
     )?;
     assert_eq!(rt; found, (2, Asked::Show(filter)));
-    let found = asked(alloc, b"{\"do\":\"list\",\"kind\":\"meter\",\"s\":2}")?;
+    let found = read_line(alloc, b"{\"do\":\"list\",\"kind\":\"meter\",\"s\":2}")?;
     assert_eq!(rt; found, (2, Asked::List(Kind::Meter)));
     Ok(())
 }
@@ -175,7 +175,7 @@ fn refuses_ranges_in_order(rt: HostRuntime) {
 #[test]
 fn keeps_the_last_of_two_members(rt: HostRuntime) -> Result<(), Fail> {
     let alloc = rt.alloc();
-    let found = asked(alloc, b"{\"do\":\"undo\",\"do\":\"hello\"}")?;
+    let found = read_line(alloc, b"{\"do\":\"undo\",\"do\":\"hello\"}")?;
     assert_eq!(rt; found, (0, Asked::Hello));
     let line = b"{\"do\":\"undo\",\"s\":-1,\"\\u0073\":7}";
     assert_eq!(rt; command_of(alloc, line)?.session, 7);

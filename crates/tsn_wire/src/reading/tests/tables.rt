@@ -1,6 +1,7 @@
 //! Every member of every record: at the ends of its range, outside it, of another kind, left out and one too many.
 use crate::reading::command_of;
 use std::alloc::{AllocError, Global};
+use std::process::Abort;
 use std::test::Fail;
 use tsn_types::refusals::{Field, Refusal};
 
@@ -302,36 +303,60 @@ fn tests_each_member(rt: HostRuntime) -> Result<(), Fail> {
     Ok(())
 }
 
+/// A value out of range, or the empty text.
+fn out_of(row: &Row) -> &'static str {
+    row.out.split(' ').next().unwrap_or("")
+}
+
+/// With one member out of range, another that is out of range too or of another shape.
+fn with_each_other(
+    rt: &impl Abort,
+    alloc: Global,
+    key: &str,
+    rows: &[Row],
+    first: usize,
+    row: &Row,
+) -> Result<(), AllocError> {
+    let out = out_of(row);
+    for (second, other) in rows.iter().enumerate() {
+        let name = other.name;
+        let later = out_of(other);
+        if first < second && !later.is_empty() {
+            let found = refusal(alloc, key, rows, &[(first, out), (second, later)], "")?;
+            let want = Some(Refusal::Range(row.field));
+            assert_eq!(rt; found, want, "{key} {name}");
+        }
+        if first != second {
+            let wrong = other.wrong.split(' ').next().unwrap_or("");
+            let found = refusal(alloc, key, rows, &[(first, out), (second, wrong)], "")?;
+            assert_eq!(rt; found, Some(Refusal::Shape), "{key} {name}");
+        }
+    }
+    Ok(())
+}
+
 #[test]
 fn tests_members_in_pairs(rt: HostRuntime) -> Result<(), Fail> {
     let alloc = rt.alloc();
     for (key, rows) in KINDS {
         for (first, row) in rows.iter().enumerate() {
-            let Some(out) = row.out.split(' ').find(|text| !text.is_empty()) else {
-                continue;
-            };
-            for (second, other) in rows.iter().enumerate() {
-                let name = other.name;
-                if first < second {
-                    let later = other.out.split(' ').next().unwrap_or("");
-                    let later = if later.is_empty() { "true" } else { later };
-                    let found = refusal(alloc, key, rows, &[(first, out), (second, later)], "")?;
-                    assert_eq!(rt; found, Some(Refusal::Range(row.field)), "{key} {name}");
-                }
-                if first != second {
-                    let wrong = other.wrong.split(' ').next().unwrap_or("");
-                    let found = refusal(alloc, key, rows, &[(first, out), (second, wrong)], "")?;
-                    assert_eq!(rt; found, Some(Refusal::Shape), "{key} {name}");
-                }
+            if !out_of(row).is_empty() {
+                with_each_other(&rt, alloc, key, rows, first, row)?;
             }
-            let found = refusal(alloc, "port 65", rows, &[(first, out)], "")?;
-            let want = if key == "port 1" {
-                Refusal::Range(Field::Key)
-            } else {
-                Refusal::Shape
-            };
-            assert_eq!(rt; found, Some(want), "{key}");
         }
     }
+    Ok(())
+}
+
+#[test]
+fn tests_the_key_before_the_record(rt: HostRuntime) -> Result<(), Fail> {
+    let alloc = rt.alloc();
+    let changes = [(0, "256")];
+    let found = refusal(alloc, "port 65", &PORT, &changes, "")?;
+    assert_eq!(rt; found, Some(Refusal::Range(Field::Key)));
+    let found = refusal(alloc, "port 65", &FILTER, &changes, "")?;
+    assert_eq!(rt; found, Some(Refusal::Shape));
+    let found = refusal(alloc, "port 064", &PORT, &changes, "")?;
+    assert_eq!(rt; found, Some(Refusal::Shape));
     Ok(())
 }
