@@ -1,7 +1,7 @@
 -- What a JSON value holds, as commands and records are made of it.
 use Rattle.std.specs.Prelude.{ℕ, suc, ◌==◌, List, [], ◌∷◌, Bool, if◌then◌else◌, is_some, Option, Some, None, option_map, option_and_then, Result, Ok, Err}
 use Rattle.serde_json.specs.Data.{Data, null, boolean, number, string, array, object, Items, no_items, item, Members, no_members, member}
-use Rattle.serde_json.specs.Find.{get, as_null, as_bool, as_number, as_str, as_array, as_u64}
+use Rattle.serde_json.specs.Find.{get, at, as_null, as_bool, as_number, as_str, as_array, as_u64}
 use Rattle.tsn_wire.specs.declared.unread.Unread.{Unread}
 use Rattle.tsn_wire.specs.declared.unread.Unread.TheVariants.{Shape}
 use Rattle.tsn_wire.specs.Answers.{or_shape}
@@ -67,3 +67,17 @@ value_at name d = or_shape (get name d)
 
 abbrev pub items_at : List ℕ → Data → Result Items Unread
 items_at name d = or_shape (option_and_then as_array (get name d))
+
+-- The item at an index, of the kind that is wanted; a fault of shape where there is none.
+abbrev pub number_item : ℕ → Data → Result ℕ Unread
+number_item i d = or_shape (option_and_then whole (at i d))
+
+abbrev pub number_or_null_item : ℕ → Data → Result (Option ℕ) Unread
+number_or_null_item i d = or_shape (option_and_then whole_or_null (at i d))
+
+abbrev pub flag_item : ℕ → Data → Result Bool Unread
+flag_item i d = or_shape (option_and_then as_bool (at i d))
+
+-- an array of that many items
+abbrev pub has_items : ℕ → Data → Result (Unit {0}) Unread
+has_items n d = if item_count d == n then Ok tt else Err Shape

@@ -7,7 +7,7 @@ use Rattle.tsn_types.specs.declared.keys.Kind.TheVariants as kinds
 use Rattle.tsn_wire.specs.declared.unread.Unread.{Unread}
 use Rattle.tsn_wire.specs.declared.unread.Unread.TheVariants.{Shape}
 use Rattle.tsn_wire.specs.Answers.{◌>>=◌, or_shape, each}
-use Rattle.tsn_wire.specs.Json.{has_members, items_list, item_count, whole, whole_or_null, number_at, number_or_null_at, flag_at, items_at}
+use Rattle.tsn_wire.specs.Json.{has_members, has_items, items_list, number_at, number_or_null_at, flag_at, items_at, number_item, number_or_null_item, flag_item}
 use Rattle.tsn_wire.specs.declared.drafts.PortEntryDraft.{PortEntryDraft}
 use Rattle.tsn_wire.specs.declared.drafts.GateEntryDraft.{GateEntryDraft}
 use Rattle.tsn_wire.specs.declared.drafts.ScheduleDraft.{ScheduleDraft}
@@ -20,25 +20,21 @@ use Rattle.tsn_wire.specs.declared.drafts.RecordDraft.TheVariants as records
 
 -- `[gates, interval]`
 unfoldable pub port_entry_shape : Data → Result PortEntryDraft Unread
-port_entry_shape d =
-    if item_count d == 2
-    then (do
-      gates ← or_shape (option_and_then whole (at 0 d))
-      interval ← or_shape (option_and_then whole (at 1 d))
-      Ok (record { gates = gates; interval = interval }))
-    else Err Shape
+port_entry_shape d = do
+  _ ← has_items 2 d
+  gates ← number_item 0 d
+  interval ← number_item 1 d
+  Ok (record { gates = gates; interval = interval })
 
 -- `[open, ipv, interval, octets]`
 unfoldable pub gate_entry_shape : Data → Result GateEntryDraft Unread
-gate_entry_shape d =
-    if item_count d == 4
-    then (do
-      is_open ← or_shape (option_and_then as_bool (at 0 d))
-      ipv ← or_shape (option_and_then whole_or_null (at 1 d))
-      interval ← or_shape (option_and_then whole (at 2 d))
-      octets ← or_shape (option_and_then whole_or_null (at 3 d))
-      Ok (record { is_open = is_open; ipv = ipv; interval = interval; octets = octets }))
-    else Err Shape
+gate_entry_shape d = do
+  _ ← has_items 4 d
+  is_open ← flag_item 0 d
+  ipv ← number_or_null_item 1 d
+  interval ← number_item 2 d
+  octets ← number_or_null_item 3 d
+  Ok (record { is_open = is_open; ipv = ipv; interval = interval; octets = octets })
 
 -- the member `list`: entries of that shape
 unfoldable pub list_shape : {E : Type 0} → (Data → Result E Unread) → Data → Result (List E) Unread

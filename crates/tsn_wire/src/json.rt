@@ -5,13 +5,13 @@ ghost use Rattle.std.specs.Prelude.{◌≡◌, Option, Some, None};
 ghost use Rattle.serde_json.specs.Find.{get};
 ghost use Rattle.serde_json.specs.View.{view};
 ghost use Rattle.tsn_wire.specs.Answers.{seen};
-ghost use Rattle.tsn_wire.specs.Json.{has_members, member_count, item_count, whole, whole_or_null, number_at, number_or_null_at, flag_at, text_at, value_at};
+ghost use Rattle.tsn_wire.specs.Json.{has_members, member_count, item_count, whole, whole_or_null, number_at, number_or_null_at, flag_at, text_at, value_at, has_items, number_item, number_or_null_item, flag_item};
 
 use crate::unread::Unread;
 use serde_json::Value;
 
-/// How many members an object has; 0 of any other value.
-pub fn member_count(value: &Value) -> usize
+// 0 of any value that is no object
+fn member_count(value: &Value) -> usize
     ensures { result ≡ member_count (view value.now) }
 {
     match value.as_object() {
@@ -20,8 +20,8 @@ pub fn member_count(value: &Value) -> usize
     }
 }
 
-/// How many items an array has; 0 of any other value.
-pub fn item_count(value: &Value) -> usize
+// 0 of any value that is no array
+fn item_count(value: &Value) -> usize
     ensures { result ≡ item_count (view value.now) }
 {
     match value.as_array() {
@@ -40,8 +40,8 @@ pub fn has_members(count: usize, value: &Value) -> Result<(), Unread>
     Ok(())
 }
 
-/// A whole number, or null for none.
-pub fn whole_or_null(value: &Value) -> Option<Option<u64>>
+// null is none
+fn whole_or_null(value: &Value) -> Option<Option<u64>>
     ensures { result ≡ whole_or_null (view value.now) }
 {
     if value.is_null() {
@@ -86,4 +86,44 @@ pub fn value_at<'a>(name: &str, value: &'a Value) -> Result<&'a Value, Unread>
     ensures { seen (λ member. view member.now) result ≡ value_at name.now (view value.now) }
 {
     value.get(name).ok_or(Unread::Shape)
+}
+
+/// Refuses all but an array of that many items.
+pub fn has_items(count: usize, value: &Value) -> Result<(), Unread>
+    ensures { result ≡ has_items count (view value.now) }
+{
+    if item_count(value) != count {
+        return Err(Unread::Shape);
+    }
+    Ok(())
+}
+
+/// The item at that index as a whole number.
+pub fn number_item(index: usize, value: &Value) -> Result<u64, Unread>
+    ensures { result ≡ number_item index (view value.now) }
+{
+    value
+        .get(index)
+        .and_then(Value::as_u64)
+        .ok_or(Unread::Shape)
+}
+
+/// The item at that index as a whole number, or null for none.
+pub fn number_or_null_item(index: usize, value: &Value) -> Result<Option<u64>, Unread>
+    ensures { result ≡ number_or_null_item index (view value.now) }
+{
+    value
+        .get(index)
+        .and_then(whole_or_null)
+        .ok_or(Unread::Shape)
+}
+
+/// The item at that index as true or false.
+pub fn flag_item(index: usize, value: &Value) -> Result<bool, Unread>
+    ensures { result ≡ flag_item index (view value.now) }
+{
+    value
+        .get(index)
+        .and_then(Value::as_bool)
+        .ok_or(Unread::Shape)
 }

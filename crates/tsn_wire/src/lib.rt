@@ -9,6 +9,7 @@ mod commands;
 mod drafts;
 mod json;
 mod keys;
+pub mod laws;
 mod memory;
 mod ranges;
 mod reading;

@@ -14,7 +14,10 @@ use crate::drafts::{
     FilterDraft, GateDraft, GateEntryDraft, MeterDraft, PortDraft, PortEntryDraft, RecordDraft,
     ScheduleDraft,
 };
-use crate::json::{flag_at, has_members, item_count, number_at, number_or_null_at, whole_or_null};
+use crate::json::{
+    flag_at, flag_item, has_items, has_members, number_at, number_item, number_or_null_at,
+    number_or_null_item,
+};
 use crate::unread::Unread;
 use serde_json::Value;
 use std::alloc::Global;
@@ -35,17 +38,9 @@ impl EntryShape for PortEntryDraft {
 
     #[tactic(auto, unfolding(crate::specs::Records::port_entry_shape))]
     fn of_value(value: &Value) -> Result<Self, Unread> {
-        if item_count(value) != 2 {
-            return Err(Unread::Shape);
-        }
-        let gates = value
-            .get(0usize)
-            .and_then(Value::as_u64)
-            .ok_or(Unread::Shape)?;
-        let interval = value
-            .get(1usize)
-            .and_then(Value::as_u64)
-            .ok_or(Unread::Shape)?;
+        has_items(2, value)?;
+        let gates = number_item(0, value)?;
+        let interval = number_item(1, value)?;
         Ok(PortEntryDraft { gates, interval })
     }
 }
@@ -55,25 +50,11 @@ impl EntryShape for GateEntryDraft {
 
     #[tactic(auto, unfolding(crate::specs::Records::gate_entry_shape))]
     fn of_value(value: &Value) -> Result<Self, Unread> {
-        if item_count(value) != 4 {
-            return Err(Unread::Shape);
-        }
-        let is_open = value
-            .get(0usize)
-            .and_then(Value::as_bool)
-            .ok_or(Unread::Shape)?;
-        let ipv = value
-            .get(1usize)
-            .and_then(whole_or_null)
-            .ok_or(Unread::Shape)?;
-        let interval = value
-            .get(2usize)
-            .and_then(Value::as_u64)
-            .ok_or(Unread::Shape)?;
-        let octets = value
-            .get(3usize)
-            .and_then(whole_or_null)
-            .ok_or(Unread::Shape)?;
+        has_items(4, value)?;
+        let is_open = flag_item(0, value)?;
+        let ipv = number_or_null_item(1, value)?;
+        let interval = number_item(2, value)?;
+        let octets = number_or_null_item(3, value)?;
         Ok(GateEntryDraft {
             is_open,
             ipv,

@@ -148,3 +148,6 @@ pub fn write_reply<W: ByteOut>(writer: &mut W, reply: &Reply) -> Result<(), Faul
 {
     put_all(writer, text_of(reply).as_slice())
 }
+
+#[cfg(test)]
+mod tests;

@@ -1,0 +1,185 @@
+//! Lines as a caller meets them: what is read, and which refusal comes.
+mod tables;
+
+use super::command_of;
+use std::alloc::Global;
+use std::test::Fail;
+use tsn_bridge::command::Command;
+use tsn_types::keys::{Key, Kind};
+use tsn_types::numbers::{FilterId, GateId};
+use tsn_types::refusals::{Field, Refusal};
+
+/// What a line asks for.
+#[derive(Clone, Copy, Debug, PartialEq, Eq)]
+enum Asked {
+    Hello,
+    Create(Key),
+    Replace(Key),
+    Remove(Key),
+    Undo,
+    Show(Key),
+    List(Kind),
+}
+
+fn read_line(alloc: Global, line: &[u8]) -> Result<(u32, Asked), Refusal> {
+    let line = command_of(alloc, line)?;
+    let asked = match &line.command {
+        Command::Hello => Asked::Hello,
+        Command::Create { key, .. } => Asked::Create(*key),
+        Command::Replace { key, .. } => Asked::Replace(*key),
+        Command::Remove { key } => Asked::Remove(*key),
+        Command::Undo => Asked::Undo,
+        Command::Show { key } => Asked::Show(*key),
+        Command::List { kind } => Asked::List(*kind),
+    };
+    Ok((line.session, asked))
+}
+
+#[test]
+fn reads_each_command(rt: HostRuntime) -> Result<(), Fail> {
+    let alloc = rt.alloc();
+    let gate = Key::Gate(GateId::new(0)?);
+    let filter = Key::Filter(FilterId::new(65_535)?);
+    let found = read_line(alloc, b"{\"do\":\"hello\"}")?;
+    assert_eq!(rt; found, (0, Asked::Hello));
+    let found = read_line(alloc, b"{\"s\":65535,\"do\":\"undo\"}\r")?;
+    assert_eq!(rt; found, (65_535, Asked::Undo));
+    let found = read_line(
+        alloc,
+        b"{\"do\":\"remove\",\"key\":\"\\u0067ate 0\",\"s\":1}",
+    )?;
+    assert_eq!(rt; found, (1, Asked::Remove(gate)));
+    let found = read_line(
+        alloc,
+        b" {\"do\":\"show\",\"key\":\"filter 65535\",\"s\":2}",
+    )?;
+    assert_eq!(rt; found, (2, Asked::Show(filter)));
+    let found = read_line(alloc, b"{\"do\":\"list\",\"kind\":\"meter\",\"s\":2}")?;
+    assert_eq!(rt; found, (2, Asked::List(Kind::Meter)));
+    Ok(())
+}
+
+fn refusal(alloc: Global, line: &[u8]) -> Option<Refusal> {
+    command_of(alloc, line).err()
+}
+
+#[test]
+fn refuses_bytes_that_are_no_value(rt: HostRuntime) -> Result<(), Fail> {
+    let alloc = rt.alloc();
+    for line in [
+        b"".as_slice(),
+        b"\xff",
+        b"\xef\xbb\xbf{\"do\":\"hello\"}",
+        b"{\"do\":\"undo\"",
+        b"{\"do\":\"hello\"} x",
+        b"{\"do\":\"undo\",\"s\":1e400}",
+        b"{\"do\":\"undo\",\"s\":01}",
+        b"{\"do\":\"undo\",\"s\":1e400,\"s\":1}",
+        b"\"\\ud800\"",
+        b"\"\t\"",
+    ] {
+        assert_eq!(rt; refusal(alloc, line), Some(Refusal::Syntax), "at {line:?}");
+    }
+    for (depth, want) in [
+        (200, Refusal::Syntax),
+        (128, Refusal::Syntax),
+        (127, Refusal::Shape),
+    ] {
+        let mut line = Vec::new(alloc);
+        for _ in 0..depth {
+            line.push(b'[')?;
+        }
+        if depth < 200 {
+            for _ in 0..depth {
+                line.push(b']')?;
+            }
+        }
+        assert_eq!(rt; refusal(alloc, line.as_slice()), Some(want), "at {depth}");
+    }
+    Ok(())
+}
+
+#[test]
+fn refuses_other_shapes(rt: HostRuntime) {
+    let alloc = rt.alloc();
+    for line in [
+        "[1]",
+        "{}",
+        "7",
+        "{\"do\":\"hello\",\"s\":1}",
+        "{\"do\":\"Hello\"}",
+        "{\"do\":1}",
+        "{\"do\":\"undo\"}",
+        "{\"do\":\"undo\",\"s\":1,\"key\":\"gate 0\"}",
+        "{\"do\":\"undo\",\"s\":1.0}",
+        "{\"do\":\"undo\",\"s\":1e0}",
+        "{\"do\":\"undo\",\"s\":-0}",
+        "{\"do\":\"undo\",\"s\":-1}",
+        "{\"do\":\"undo\",\"s\":18446744073709551616}",
+        "{\"do\":\"undo\",\"s\":\"1\"}",
+        "{\"do\":\"undo\",\"s\":null}",
+        "{\"do\":\"remove\",\"key\":\"gate 00\",\"s\":1}",
+        "{\"do\":\"remove\",\"key\":\"gate 01\",\"s\":1}",
+        "{\"do\":\"remove\",\"key\":\"gate  1\",\"s\":1}",
+        "{\"do\":\"remove\",\"key\":\"gate \",\"s\":1}",
+        "{\"do\":\"remove\",\"key\":\"gate 1 \",\"s\":1}",
+        "{\"do\":\"remove\",\"key\":\"gate -1\",\"s\":1}",
+        "{\"do\":\"remove\",\"key\":\"gate +1\",\"s\":1}",
+        "{\"do\":\"remove\",\"key\":\"Gate 1\",\"s\":1}",
+        "{\"do\":\"remove\",\"key\":\"gate 12345678901\",\"s\":1}",
+        "{\"do\":\"remove\",\"key\":7,\"s\":1}",
+        "{\"do\":\"remove\",\"key\":\"port 1\",\"s\":1}",
+        "{\"do\":\"remove\",\"key\":\"port 65\",\"s\":70000}",
+        "{\"do\":\"list\",\"kind\":\"ports\",\"s\":1}",
+    ] {
+        assert_eq!(rt;
+            refusal(alloc, line.as_bytes()),
+            Some(Refusal::Shape),
+            "at {line}"
+        );
+    }
+}
+
+#[test]
+fn refuses_ranges_in_order(rt: HostRuntime) {
+    let alloc = rt.alloc();
+    for (line, field) in [
+        ("{\"do\":\"undo\",\"s\":0}", Field::S),
+        ("{\"do\":\"undo\",\"s\":65536}", Field::S),
+        ("{\"do\":\"undo\",\"s\":70000}", Field::S),
+        ("{\"do\":\"undo\",\"s\":18446744073709551615}", Field::S),
+        (
+            "{\"do\":\"remove\",\"key\":\"gate 65536\",\"s\":1}",
+            Field::Key,
+        ),
+        (
+            "{\"do\":\"remove\",\"key\":\"gate 4294967296\",\"s\":1}",
+            Field::Key,
+        ),
+        (
+            "{\"do\":\"remove\",\"key\":\"filter 9999999999\",\"s\":1}",
+            Field::Key,
+        ),
+        (
+            "{\"do\":\"remove\",\"key\":\"meter 65536\",\"s\":0}",
+            Field::S,
+        ),
+        ("{\"do\":\"show\",\"key\":\"port 0\",\"s\":1}", Field::Key),
+        ("{\"do\":\"show\",\"key\":\"port 65\",\"s\":1}", Field::Key),
+    ] {
+        let want = Some(Refusal::Range(field));
+        assert_eq!(rt; refusal(alloc, line.as_bytes()), want, "at {line}");
+    }
+}
+
+#[test]
+fn keeps_the_last_of_two_members(rt: HostRuntime) -> Result<(), Fail> {
+    let alloc = rt.alloc();
+    let found = read_line(alloc, b"{\"do\":\"undo\",\"do\":\"hello\"}")?;
+    assert_eq!(rt; found, (0, Asked::Hello));
+    let line = b"{\"do\":\"undo\",\"s\":-1,\"\\u0073\":7}";
+    assert_eq!(rt; command_of(alloc, line)?.session, 7);
+    let line = b"{\"do\":\"undo\",\"s\":7,\"s\":true}";
+    assert_eq!(rt; refusal(alloc, line), Some(Refusal::Shape));
+    Ok(())
+}
