@@ -117,6 +117,9 @@ impl<R: Drop> Table<R> {
         ensures before { result ≡ map.get self.old.map id }
         ensures map { self.new.map ≡ map.remove self.old.map id }
         ensures spare { MatchOption result (self.new.spare ≡ self.old.spare) (λ _. self.new.spare ≡ self.old.spare + 1) }
+
+        // Either way it takes no room.
+        ensures room { self.old.spare ≤ self.new.spare }
     {
         match place_of(&self.rows, id) {
             Ok(place) => Some(self.rows.remove(place).1),
