@@ -1,0 +1,4 @@
+pub mod Entries
+pub mod Ledger
+pub mod Marks
+pub mod Soundness

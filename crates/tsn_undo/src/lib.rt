@@ -1,0 +1,4 @@
+//! The book: a configuration with the journal of what was done to it.
+#![tactic(auto)]
+
+pub mod entries;
