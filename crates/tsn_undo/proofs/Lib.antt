@@ -1,4 +1,5 @@
 pub mod Adding
+pub mod Finding
 pub mod Marking
 pub mod Numbers
 pub mod Undoing
