@@ -1,5 +1,5 @@
 pub mod Adding
-pub mod Finding
+pub mod Latest
 pub mod Marking
 pub mod Numbers
 pub mod Undoing

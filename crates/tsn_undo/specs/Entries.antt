@@ -29,6 +29,14 @@ abbrev pub applies : What → Option Change
 applies (Made e) = Some e
 applies (Undone n e) = Some e
 
+-- the change in an entry, as a change that it applied
+abbrev pub change_in : What → Change
+change_in (Made e) = e
+change_in (Undone n e) = e
+
+abbrev pub applied_by : ℕ → Entry → Applied
+applied_by n x = record { number = n; session = x.session; change = change_in x.what }
+
 abbrev pub applied_at : ℕ → ℕ → Option Change → List Applied
 applied_at n s None = []
 applied_at n s (Some e) = record { number = n; session = s; change = e } ∷ []

@@ -3,3 +3,4 @@ pub mod Finding
 pub mod Ledger
 pub mod Marks
 pub mod Soundness
+pub mod Steps

@@ -1,5 +1,5 @@
 -- The last marked entry that passes is the last standing one that passes.
-use Rattle.std.proofs.Common.{◌≡◌, ℕ, zero, suc, ◌+◌, ◌<◌, ◌≤◌, Bool, true, false, cond, ◌&&◌, List, [], ◌∷◌, ◌++◌, refl, sym, ◌∙◌, ap, Option, Some, None, arith, length, nat_lt, get_or}
+use Rattle.std.proofs.Common.{◌≡◌, ℕ, zero, suc, ◌+◌, ◌<◌, ◌≤◌, Bool, true, false, cond, ◌&&◌, List, [], ◌∷◌, ◌++◌, refl, sym, ◌∙◌, ap, subst, Option, Some, None, arith, length, nat_lt, get_or}
 use Rattle.std.specs.Prelude.{filter, ◌==◌, is_some, option_map}
 use Rattle.std.specs.Option.{option_or}
 use Rattle.std.proofs.lemmas.Bool.Decides.{nat_tests}
@@ -8,9 +8,11 @@ use Rattle.tsn_edit.proofs.KeyFacts.{by_bool, by_option}
 use Rattle.tsn_undo.specs.declared.entries.Entry.{Entry}
 use Rattle.tsn_undo.specs.declared.entries.What.{What}
 use Rattle.tsn_undo.specs.declared.entries.What.TheVariants.{Made, Undone}
-use Rattle.tsn_undo.specs.Entries.{Applied, applied_at, adds, applies, last_where}
+use Rattle.tsn_edit.specs.Changes.{conflicts}
+use Rattle.tsn_undo.specs.Entries.{Applied, applied_at, applied_by, change_in, adds, applies, is_undone, last_where, last_of, find_conflict, later_than, standing}
+use Rattle.tsn_undo.specs.Marks.{marks_from, marks}
 use Rattle.tsn_undo.specs.Finding.{passes, last_true}
-use Rattle.tsn_undo.proofs.Marking.{marked}
+use Rattle.tsn_undo.proofs.Marking.{marked, standing-marked}
 
 -- ---- the place of the last true
 
@@ -149,3 +151,105 @@ found t low p n (x ∷ xs) (b ∷ bs) i d c agree some add h is =
     ap (λ o. option_or o (cond q (option_map (applied n x.session) (adds x.what)) None)) (found t low p (n + 1) xs bs k d c agree (omega arith) add.1 later (ap (λ (e : Entry). applies e.what) (sym at) ∙ is))
     ∙ ap (λ m. Some (applied m (get_or xs k d).session c)) (let e : (n + 1) + k ≡ n + i = omega (arith, now) in e)
     ∙ ap (λ (e : Entry). Some (applied (n + i) e.session c)) (sym at))
+
+-- ---- the finders
+
+and_first : (a b : Bool) → (a && b) ≡ true → a ≡ true
+and_first true b h = refl
+and_first false b h = h
+
+marks_add : (es : List Entry) (n : ℕ) (xs : List Entry) → MarksAdd xs (marks_from es n xs)
+marks_add es n [] = tt
+marks_add es n (x ∷ xs) = (λ h. and_first (is_some (adds x.what)) _ h, marks_add es (n + 1) xs)
+
+applies_is : (w : What) → applies w ≡ Some (change_in w)
+applies_is (Made e) = refl
+applies_is (Undone k e) = refl
+
+-- the last standing entry that passes is at the last marked place that passes
+last_standing : (t : Applied → Bool) (low : ℕ) (p : Entry → Bool) (es : List Entry) (r : Option ℕ) (d : Entry) → Agree t low p → r ≡ last_true (passes low p 1 es (marks es)) → last_where t (standing es) ≡ option_map (λ i. applied_by (i + 1) (get_or es i d)) r
+last_standing t low p es None d agree is =
+    ap (last_where t) (standing-marked es) ∙ missing t low p 1 es (marks es) agree (omega arith) (marks_add es 1 es) (sym is)
+last_standing t low p es (Some i) d agree is =
+    ap (last_where t) (standing-marked es)
+    ∙ found t low p 1 es (marks es) i d (change_in (get_or es i d).what) agree (omega arith) (marks_add es 1 es) (sym is) (applies_is (get_or es i d).what)
+    ∙ ap (λ n. Some (applied_by n (get_or es i d))) (let e : 1 + i ≡ i + 1 = omega arith in e)
+
+above_zero : (n : ℕ) (b : Bool) → 1 ≤ n → b ≡ (nat_lt 0 n && b)
+above_zero n b h = let lt : nat_lt 0 n ≡ true = grind (arith, nat_tests) in ap (λ c. c && b) (sym lt)
+
+pub newest_is : (es : List Entry) (bs : List Bool) (s : ℕ) (r : Option ℕ) (d : Entry) → bs ≡ marks es → r ≡ last_true (passes 0 (λ x. x.session == s) 1 es bs) → last_of es s ≡ option_map (λ i. applied_by (i + 1) (get_or es i d)) r
+newest_is es bs s r d marked is =
+    last_standing (λ x. x.session == s) 0 (λ x. x.session == s) es r d (λ x c n some _. above_zero n (x.session == s) some)
+    (is ∙ ap (λ b. last_true (passes 0 (λ x. x.session == s) 1 es b)) marked)
+
+last_where-filter : (p q : Applied → Bool) (xs : List Applied) → last_where p (filter q xs) ≡ last_where (λ x. q x && p x) xs
+last_where-filter p q [] = refl
+last_where-filter p q (x ∷ xs) =
+    by_bool (q x)
+    (λ keep. ap (λ b. last_where p (cond b (x ∷ filter q xs) (filter q xs))) keep
+    ∙ ap (λ o. option_or o (cond (p x) (Some x) None)) (last_where-filter p q xs)
+    ∙ ap (λ b. option_or (last_where (λ y. q y && p y) xs) (cond (b && p x) (Some x) None)) (sym keep))
+    (λ drop'. ap (λ b. last_where p (cond b (x ∷ filter q xs) (filter q xs))) drop'
+    ∙ last_where-filter p q xs
+    ∙ or_nothing (last_where (λ y. q y && p y) xs)
+    ∙ ap (λ b. option_or (last_where (λ y. q y && p y) xs) (cond (b && p x) (Some x) None)) (sym drop'))
+  where
+    or_nothing : (o : Option Applied) → o ≡ option_or o None
+    or_nothing None = refl
+    or_nothing (Some x) = refl
+
+adds_change : (w : What) (c : Change) → adds w ≡ Some c → c ≡ change_in w
+adds_change (Made e) c is = (cc)
+adds_change (Undone k e) c is = (cc)
+
+pub conflict_is : (es : List Entry) (bs : List Bool) (e : Applied) (r : Option ℕ) (d : Entry) → bs ≡ marks es → r ≡ last_true (passes e.number (λ x. conflicts (change_in x.what) e.change) 1 es bs) → find_conflict es e ≡ option_map (λ i. applied_by (i + 1) (get_or es i d)) r
+conflict_is es bs e r d marked is =
+    let p : Entry → Bool = λ x. conflicts (change_in x.what) e.change in
+    let t : Applied → Bool = λ f. conflicts f.change e.change in
+    last_where-filter t (λ x. nat_lt e.number x.number) (standing es)
+    ∙ last_standing (λ x. nat_lt e.number x.number && t x) e.number p es r d
+    (λ x c n some is_c. ap (λ k. nat_lt e.number n && conflicts k e.change) (adds_change x.what c is_c))
+    (is ∙ ap (λ b. last_true (passes e.number p 1 es b)) marked)
+
+-- ---- one step back
+
+all_true : (low i : ℕ) (a b : Bool) → low ≤ i → a ≡ true → b ≡ true → (nat_lt low (1 + i) && (a && b)) ≡ true
+all_true low i a b le p q = grind (arith, nat_tests)
+
+last_false : (c a b : Bool) → b ≡ false → (c && (a && b)) ≡ false
+last_false true true b h = h
+last_false true false b h = refl
+last_false false a b h = refl
+
+mark_false : (c a b : Bool) → a ≡ false → (c && (a && b)) ≡ false
+mark_false true true b h = (cc)
+mark_false true false b h = refl
+mark_false false a b h = refl
+
+module _ (low : ℕ) (p : Entry → Bool) (xs : List Entry) (bs : List Bool) (i : ℕ) (x : Entry) (l : i < length xs) (same : length bs ≡ length xs) (at : x ≡ get_or xs i x) where
+  place_is : get_or (passes low p 1 xs bs) i false ≡ (nat_lt low (1 + i) && (get_or bs i false && p x))
+  place_is = passes_at low p 1 xs bs i x l same ∙ ap (λ y. nat_lt low (1 + i) && (get_or bs i false && p y)) (sym at)
+
+  pub here_true : low ≤ i → get_or bs i false ≡ true → p x ≡ true → get_or (passes low p 1 xs bs) i false ≡ true
+  here_true le mark pass = place_is ∙ all_true low i _ _ le mark pass
+
+  pub here_false : p x ≡ false → get_or (passes low p 1 xs bs) i false ≡ false
+  here_false fail = place_is ∙ last_false _ _ _ fail
+
+pub here_unmarked : (low : ℕ) (p : Entry → Bool) (xs : List Entry) (bs : List Bool) (i n : ℕ) → get_or bs i false ≡ false → get_or (passes low p n xs bs) i false ≡ false
+here_unmarked low p [] bs i n h = refl
+here_unmarked low p (x ∷ xs) [] i n h = refl
+here_unmarked low p (x ∷ xs) (b ∷ bs) zero n h = mark_false _ _ _ h
+here_unmarked low p (x ∷ xs) (b ∷ bs) (suc i) n h = here_unmarked low p xs bs i (n + 1) h
+
+pub from_here : (P : ℕ → Type 0) (i : ℕ) → P i → ((k : ℕ) → i < k → P k) → (k : ℕ) → i ≤ k → P k
+from_here P i here later k le = by_bool (nat_lt i k)
+    (λ less. later k (let h : i < k = grind (arith, nat_tests) in h))
+    (λ not_less. subst P (let h : i ≡ k = grind (arith, nat_tests) in h) here)
+
+-- below the lowest place nothing passes
+pub none_passes : (low : ℕ) (p : Entry → Bool) (xs : List Entry) (bs : List Bool) → ((k : ℕ) → low ≤ k → get_or (passes low p 1 xs bs) k false ≡ false) → (k : ℕ) → get_or (passes low p 1 xs bs) k false ≡ false
+none_passes low p xs bs above k = by_bool (nat_lt k low)
+    (λ less. passes_low low p 1 xs bs k (let h : 1 + k ≤ low = grind (arith, nat_tests) in h))
+    (λ not_less. above k (let h : low ≤ k = grind (arith, nat_tests) in h))
