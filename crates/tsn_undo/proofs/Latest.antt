@@ -1,6 +1,6 @@
 -- The last marked entry that passes is the last standing one that passes.
 use Rattle.std.proofs.Common.{◌≡◌, ℕ, zero, suc, ◌+◌, ◌<◌, ◌≤◌, Bool, true, false, cond, ◌&&◌, List, [], ◌∷◌, ◌++◌, refl, sym, ◌∙◌, ap, subst, Option, Some, None, arith, length, nat_lt, get_or}
-use Rattle.std.specs.Prelude.{filter, ◌==◌, is_some, option_map}
+use Rattle.std.specs.Prelude.{filter, ◌==◌, is_some, option_map, IfSome}
 use Rattle.std.specs.Option.{option_or}
 use Rattle.std.proofs.lemmas.Bool.Decides.{nat_tests}
 use Rattle.tsn_edit.specs.Parts.{Change}
@@ -253,3 +253,35 @@ pub none_passes : (low : ℕ) (p : Entry → Bool) (xs : List Entry) (bs : List 
 none_passes low p xs bs above k = by_bool (nat_lt k low)
     (λ less. passes_low low p 1 xs bs k (let h : 1 + k ≤ low = grind (arith, nat_tests) in h))
     (λ not_less. above k (let h : low ≤ k = grind (arith, nat_tests) in h))
+
+-- what is found is a place
+last_true_within : (bs : List Bool) (i : ℕ) → last_true bs ≡ Some i → i < length bs
+last_true_within [] i h = (cc)
+last_true_within (b ∷ bs) i h = by_option (last_true bs)
+    (λ none. by_bool b
+    (λ on. let is : 0 ≡ i = (let e : Some 0 ≡ Some i = (λ j. sym (ap (λ o. option_or (option_map suc o) (cond b (Some 0) None)) none ∙ ap (λ c. cond c (Some 0) None) on) j) ∙ h in (cc)) in omega arith)
+    (λ off. let e : None ≡ Some i = sym (ap (λ o. option_or (option_map suc o) (cond b (Some 0) None)) none ∙ ap (λ c. cond c (Some 0) None) off) ∙ h in (cc)))
+    (λ k later.
+    let is : suc k ≡ i = (let e : Some (suc k) ≡ Some i = sym (ap (λ o. option_or (option_map suc o) (cond b (Some 0) None)) later) ∙ h in (cc)) in
+    let rest = last_true_within bs k later in omega arith)
+
+length-passes : (low : ℕ) (p : Entry → Bool) (n : ℕ) (xs : List Entry) (bs : List Bool) → length (passes low p n xs bs) ≤ length xs
+length-passes low p n [] bs = omega arith
+length-passes low p n (x ∷ xs) [] = omega arith
+length-passes low p n (x ∷ xs) (b ∷ bs) = let rest = length-passes low p (n + 1) xs bs in omega arith
+
+pub within_few : (r : Option ℕ) (low : ℕ) (p : Entry → Bool) (xs : List Entry) (bs : List Bool) → r ≡ last_true (passes low p 1 xs bs) → length xs ≤ 65536 → IfSome r (λ i. (i < length xs) × (i < 65536))
+within_few None low p xs bs is few = tt
+within_few (Some i) low p xs bs is few =
+    let here = last_true_within (passes low p 1 xs bs) i (sym is) in
+    let most = length-passes low p 1 xs bs in
+    (omega arith, omega arith)
+
+pub few_alone : (r : Option ℕ) (n : ℕ) → IfSome r (λ i. (i < n) × (i < 65536)) → IfSome r (λ i. i < 65536)
+few_alone None n h = tt
+few_alone (Some i) n h = h.1
+
+pub one_default : (es : List Entry) (i : ℕ) (d e : Entry) → i < length es → get_or es i d ≡ get_or es i e
+one_default [] i d e l = absurd (omega arith)
+one_default (x ∷ es) zero d e l = refl
+one_default (x ∷ es) (suc i) d e l = one_default es i d e (omega arith)

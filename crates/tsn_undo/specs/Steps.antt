@@ -1,5 +1,5 @@
 -- What an edit and an undo do to a book, and why they are refused.
-use Rattle.std.specs.Prelude.{◌≡◌, ℕ, ◌+◌, List, [], ◌∷◌, ◌++◌, Option, Some, None, option_map, nat_lt, length}
+use Rattle.std.specs.Prelude.{◌≡◌, ℕ, ◌+◌, ◌<◌, List, [], ◌∷◌, ◌++◌, Option, Some, None, option_map, nat_lt, length, slice_index_or}
 use Rattle.std.specs.Option.{option_or}
 use Rattle.tsn_types.specs.declared.refusals.Refusal.{Refusal}
 use Rattle.tsn_types.specs.declared.refusals.Refusal.TheVariants.{NothingToUndo, Conflict, JournalFull, Memory}
@@ -8,7 +8,7 @@ use Rattle.tsn_edit.specs.declared.Edit.{Edit}
 use Rattle.tsn_edit.specs.Configuration.{Configuration}
 use Rattle.tsn_edit.specs.Edits.{refusal, change_of}
 use Rattle.tsn_undo.specs.declared.entries.Entry.{Entry}
-use Rattle.tsn_undo.specs.Entries.{Applied, configuration, last_of, find_conflict, made, undone}
+use Rattle.tsn_undo.specs.Entries.{Applied, applied_by, configuration, last_of, find_conflict, made, undone}
 use Rattle.tsn_undo.specs.Ledger.{Ledger}
 
 -- the configuration to which the entries have led
@@ -38,6 +38,13 @@ undo_cause es (Some e) = conflict_with es e
 -- why an undo is refused: nothing of the session stands, its newest standing entry is in conflict, a full journal
 abbrev pub undo_refusal : Ledger → ℕ → Option Refusal
 undo_refusal b s = option_or (undo_cause b.entries (last_of b.entries s)) (full b)
+
+-- the session's newest standing entry is at the place, and may be taken back
+pub record IsUndoPlace (b : Ledger) (s place : ℕ) : Type 0 where
+  pub within : place < length b.entries
+  pub few : place < 65536
+  pub free : undo_refusal b s ≡ None
+  pub newest : (d : Entry) → last_of b.entries s ≡ Some (applied_by (place + 1) (slice_index_or b.entries place d))
 
 -- a refusal is the least cause, or want of memory where there is none
 abbrev pub IsLeastOrMemory : Option Refusal → Refusal → Type 0
