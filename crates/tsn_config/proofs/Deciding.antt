@@ -17,6 +17,7 @@ use Rattle.tsn_types.specs.declared.records.Record.{Record}
 use Rattle.tsn_types.specs.declared.records.Record.TheVariants.{Port as PortRecord, Filter as FilterRecord, Gate as GateRecord, Meter as MeterRecord}
 use Rattle.tsn_types.specs.declared.limits.Limits.{Limits}
 use Rattle.tsn_types.specs.Keys.{key_cmp, same_key, has, refs, meter_ref}
+use Rattle.tsn_types.specs.Bounds.{AreInRange}
 use Rattle.tsn_types.specs.Limits.{HoldsKey, HoldsRecord, unless, first_cause, holds_key, out_of_limits, field_of}
 use Rattle.tsn_edit.specs.Configuration.{Configuration, put, IsWellKept}
 use Rattle.tsn_edit.specs.Parts.{Change}
@@ -24,8 +25,12 @@ use Rattle.tsn_edit.specs.Changes.{Fits}
 use Rattle.tsn_edit.proofs.KeyFacts.{by_bool, by_option, get-put, one_key, same_itself, or_left, or_right, same_configuration}
 use Rattle.tsn_edit.specs.Edits.{is_of_kind, is_port, referrer, limit_causes}
 use Rattle.tsn_config.specs.Keeping.{keeps}
-use Rattle.tsn_config.proofs.Applied.{held}
+use Rattle.tsn_config.proofs.SetRows.{IsOfKind}
 use Rattle.tsn_config.proofs.Edits.{each_none, holds_unless, fits_put, remove_kept, none_refers, map_none}
+
+-- what stands at a key of a well kept map is within the limits
+pub held : (l : Limits) (c : Configuration) (k : Key) (r : Record) → IsWellKept l (put c k (Some r)) → HoldsKey l k × HoldsRecord l k r
+held l c k r kept = kept.within k r (get-put c k (Some r) k ∙ ap (λ b. cond b (Some r) (get c k)) (same_itself k))
 
 and_both : (a b : Bool) → a ≡ true → b ≡ true → (a && b) ≡ true
 and_both true b h g = g
@@ -119,6 +124,29 @@ no_referrer c k free = by_option (find (λ e. has (refs e.1) k) (entries c))
     (λ e is. let at = found (λ e. has (refs e.1) k) (entries c) (of_T _ (entries_sorted c)) e is in
     let not_so : has (refs e.1) k ≡ false = free e.0 e.1 (get-entries c e.0 ∙ at.1) in
     let never : true ≡ false = sym at.0 ∙ not_so in (cc))
+
+-- the filter that a referrer names is there
+pub referrer_there : (c : Configuration) (k : Key) (n : ℕ) → Some (Referred (Filter n)) ≡ referrer c k → IsSome (get c (Filter n))
+referrer_there c k n h = by_option (find (λ e. has (refs e.1) k) (entries c))
+    (λ none. let never : Some (Referred (Filter n)) ≡ None = h ∙ ap (option_map (λ e. Referred e.0)) none in (cc))
+    (λ e is. let at = found (λ e. has (refs e.1) k) (entries c) (of_T _ (entries_sorted c)) e is in
+    let one : Some (Referred (Filter n)) ≡ Some (Referred e.0) = h ∙ ap (option_map (λ e. Referred e.0)) is in
+    let key : Filter n ≡ e.0 = (cc) in
+    ap (λ q. is_some (get c q)) key ∙ ap is_some (get-entries c e.0 ∙ at.1))
+
+-- a filter that is there has a number in the range of its type
+pub filter_small : (l : Limits) (c : Configuration) (n : ℕ) → IsWellKept l c → AreInRange l → IsSome (get c (Filter n)) → n ≤ 65535
+filter_small l c n kept range some = by_option (get c (Filter n))
+    (λ none. let never : false ≡ true = sym (ap is_some none) ∙ some in (cc))
+    (λ r is. let below = (kept.within (Filter n) r is).0 in let most = range.1.0.1 in omega arith)
+
+-- what holds of a change's record at a well kept map: it is of its key's kind
+pub after_kind : (l : Limits) (c : Configuration) (e : Change) → Fits l c e → IsOfKind e.key e.after
+after_kind l c e fits = kind_of_value e.after fits.kept
+  where
+    kind_of_value : (v : Option Record) → IsWellKept l (put c e.key v) → IsOfKind e.key v
+    kind_of_value None kept = tt
+    kind_of_value (Some r) kept = of_kind l e.key r (held l c e.key r kept).1
 
 module _ (l : Limits) (c : Configuration) (kept : IsWellKept l c) where
   -- the references of a record that fits are there

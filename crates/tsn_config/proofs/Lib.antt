@@ -1,5 +1,5 @@
-pub mod Applied
-pub mod Edits
 pub mod Deciding
+pub mod Edits
 pub mod Joined
 pub mod Listed
+pub mod SetRows

@@ -3,7 +3,7 @@ use Rattle.std.proofs.Common.{◌≡◌, ℕ, Bool, true, false, cond, ◌&&◌,
 use Rattle.std.specs.Prelude.{T, find, option_map}
 use Rattle.std.specs.Ordering.{nat_cmp, is_lt}
 use Rattle.std.specs.declared.cmp.Ordering.TheVariants.{Less}
-use Rattle.std.specs.FinMap.{FinMap, get, entries, entries_sorted, from_entries, from_sorted, get-from_entries, get-from_sorted, entries-from_sorted, same_map, is_sorted}
+use Rattle.std.specs.FinMap.{FinMap, entries, entries_sorted, from_entries, from_sorted, get-from_entries, get-from_sorted, entries-from_sorted, same_map, is_sorted}
 use Rattle.std.specs.FinMap.Entries.{below_all}
 use Rattle.tsn_types.specs.declared.keys.Key.{Key}
 use Rattle.tsn_types.specs.declared.keys.Key.TheVariants.{Port, Filter, Gate, Meter}
@@ -15,18 +15,10 @@ use Rattle.tsn_types.specs.declared.records.StreamFilter.{StreamFilter}
 use Rattle.tsn_types.specs.declared.records.StreamGate.{StreamGate}
 use Rattle.tsn_types.specs.declared.records.FlowMeter.{FlowMeter}
 use Rattle.tsn_types.specs.Keys.{key_cmp, has, refs}
-use Rattle.tsn_edit.proofs.KeyFacts.{keys_total, exact_keys, by_bool, by_option}
+use Rattle.tsn_edit.proofs.KeyFacts.{keys_total, exact_keys}
 use Rattle.tsn_table.specs.Firsts.{first_id}
 use Rattle.tsn_config.specs.Settings.{tagged, joined}
 use Rattle.tsn_edit.specs.Edits.{referrer}
-use Rattle.tsn_config.proofs.Joined.{get-joined}
-use Rattle.tsn_edit.specs.Configuration.{IsWellKept}
-use Rattle.tsn_types.specs.declared.limits.Limits.{Limits}
-use Rattle.std.specs.FinMap.{find as find_row, get-entries}
-use Rattle.std.specs.Ordering.{eq_by_cmp}
-use Rattle.std.proofs.lemmas.Bool.Decides.{nat_tests}
-use Rattle.std.proofs.Common.{arith, ◌<◌}
-use Rattle.std.specs.Prelude.{is_some}
 
 and_both : (a b : Bool) → a ≡ true → b ≡ true → (a && b) ≡ true
 and_both true b h g = g
@@ -114,25 +106,3 @@ module _ (ps : FinMap nat_cmp PortGates) (fs : FinMap nat_cmp StreamFilter) (gs 
       (skips Gate GateRecord (λ e. has (refs e.1) k) (λ n r. refl) (entries gs) _
       ∙ ap (find (λ e. has (refs e.1) k)) (sym (append_nil (tagged Meter MeterRecord (entries ms))))
       ∙ skips Meter MeterRecord (λ e. has (refs e.1) k) (λ n r. refl) (entries ms) [])
-
-equal_itself : (n m : ℕ) → m ≡ n → eq_by_cmp nat_cmp n m ≡ true
-equal_itself n m h = grind (arith, nat_tests)
-
--- a row that a test finds is there
-first_some : {A : Type 0} (p : A → Bool) (es : List (ℕ × A)) (n : ℕ) → first_id p es ≡ Some n → is_some (find_row nat_cmp n es) ≡ true
-first_some p [] n h = (cc)
-first_some p (e ∷ es) n h = by_bool (eq_by_cmp nat_cmp n e.0)
-    (λ same. ap (λ b. is_some (cond b (Some e.1) (find_row nat_cmp n es))) same)
-    (λ other. ap (λ b. is_some (cond b (Some e.1) (find_row nat_cmp n es))) other
-    ∙ by_bool (p e.1)
-    (λ yes. let this : Some e.0 ≡ Some n = sym (ap (λ b. cond b (Some e.0) (first_id p es)) yes) ∙ h in
-    let same : e.0 ≡ n = (cc) in
-    let never : true ≡ false = sym (equal_itself n e.0 same) ∙ other in (cc))
-    (λ misses. first_some p es n (sym (ap (λ b. cond b (Some e.0) (first_id p es)) misses) ∙ h)))
-
--- a filter that a test finds is within the limits
-pub filter_within : (l : Limits) (ps : FinMap nat_cmp PortGates) (fs : FinMap nat_cmp StreamFilter) (gs : FinMap nat_cmp StreamGate) (ms : FinMap nat_cmp FlowMeter) (p : StreamFilter → Bool) (n : ℕ)
-    → IsWellKept l (joined ps fs gs ms) → first_id p (entries fs) ≡ Some n → n < l.filters
-filter_within l ps fs gs ms p n kept h = by_option (get fs n)
-    (λ none. let never : false ≡ true = sym (ap is_some (sym (get-entries fs n) ∙ none)) ∙ first_some p (entries fs) n h in (cc))
-    (λ r is. (kept.within (Filter n) (FilterRecord r) (get-joined ps fs gs ms (Filter n) ∙ ap (option_map FilterRecord) is)).0)

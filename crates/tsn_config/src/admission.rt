@@ -1,12 +1,10 @@
 //! Which edits are admitted, why another is refused, and what an admitted one does.
 //!
-//! The causes are tested in the order of their numbers: 3, 4, 6, 7, 8, 9. It relies on the tables for look-ups, and on
+//! The causes are tested in the order of their numbers: 3, 4, 6, 7, 8, 9. It relies on the rows for look-ups, and on
 //! the limits for all that depends on no other record.
-ghost use Rattle.std.specs.Prelude.{◌≡◌, IfOk, None, is_some};
-ghost use Rattle.std.specs.FinMap as map;
-ghost use Rattle.tsn_types.specs.Keys.{has, refs};
+ghost use Rattle.std.specs.Prelude.{◌≡◌, IfOk, None};
 ghost use Rattle.tsn_types.specs.Limits.{first_cause};
-ghost use Rattle.tsn_edit.specs.Edits.{refusal, change_of, dangling, referrer, is_of_kind, is_port, limit_causes};
+ghost use Rattle.tsn_edit.specs.Edits.{refusal, change_of, referrer, is_of_kind, is_port, limit_causes};
 
 use crate::Config;
 use std::alloc::AllocError;
@@ -14,7 +12,7 @@ use tsn_edit::{Change, Edit};
 use tsn_types::keys::Key;
 use tsn_types::limits::Limits;
 use tsn_types::numbers::FilterId;
-use tsn_types::records::{Record, StreamFilter};
+use tsn_types::records::Record;
 use tsn_types::refusals::{Field, Refusal};
 
 impl Config {
@@ -28,19 +26,19 @@ impl Config {
                 if let Some(why) = refuse_limits(self.limits, key, value) {
                     return Some(why);
                 }
-                if self.has(*key) {
+                if self.rows.has(*key) {
                     return Some(Refusal::Exists(*key));
                 }
-                self.dangling(value)
+                self.rows.dangling(value)
             }
             Edit::Replace(key, value) => {
                 if let Some(why) = refuse_limits(self.limits, key, value) {
                     return Some(why);
                 }
-                if !self.has(*key) {
+                if !self.rows.has(*key) {
                     return Some(Refusal::Missing(*key));
                 }
-                self.dangling(value)
+                self.rows.dangling(value)
             }
             Edit::Remove(key) => {
                 if is_port(key) {
@@ -49,7 +47,7 @@ impl Config {
                 if !self.limits.holds(*key) {
                     return Some(Refusal::Range(Field::Key));
                 }
-                if !self.has(*key) {
+                if !self.rows.has(*key) {
                     return Some(Refusal::Missing(*key));
                 }
                 self.referrer(key)
@@ -66,56 +64,19 @@ impl Config {
         match edit {
             Edit::Create(key, value) => Ok(Change {
                 key,
-                before: self.copy_of(key)?,
+                before: self.rows.copy_of(key)?,
                 after: Some(value),
             }),
             Edit::Replace(key, value) => Ok(Change {
                 key,
-                before: self.copy_of(key)?,
+                before: self.rows.copy_of(key)?,
                 after: Some(value),
             }),
             Edit::Remove(key) => Ok(Change {
                 key,
-                before: self.copy_of(key)?,
+                before: self.rows.copy_of(key)?,
                 after: None,
             }),
-        }
-    }
-
-    // A copy of the value at the key.
-    fn copy_of(&self, key: Key) -> Result<Option<Record>, AllocError>
-        ensures { IfOk result (λ copy. copy ≡ map.get self.now.map key) }
-    {
-        match self.get(key) {
-            Some(found) => Ok(Some(found.try_clone()?)),
-            None => Ok(None),
-        }
-    }
-
-    // Whether the key is present.
-    fn has(&self, key: Key) -> bool
-        ensures { result ≡ is_some (map.get self.now.map key) }
-    {
-        self.get(key).is_some()
-    }
-
-    // The refusal for a reference of the record that is absent, the gate before the meter.
-    pub(crate) fn dangling(&self, value: &Record) -> Option<Refusal>
-        ensures { result ≡ dangling self.now.map value.now }
-    {
-        match value {
-            Record::Filter(filter) => {
-                if !self.has(Key::Gate(filter.gate)) {
-                    return Some(Refusal::Dangling(Key::Gate(filter.gate)));
-                }
-                match filter.meter {
-                    Some(id) if !self.has(Key::Meter(id)) => {
-                        Some(Refusal::Dangling(Key::Meter(id)))
-                    }
-                    _ => None,
-                }
-            }
-            _ => None,
         }
     }
 
@@ -123,18 +84,9 @@ impl Config {
     pub(crate) fn referrer(&self, key: &Key) -> Option<Refusal>
         ensures { result ≡ referrer self.now.map key.now }
     {
-        let first = self.filters.first_where(|filter| refers_to(filter, key));
-        match first {
-            Some(number) => match FilterId::new(number) {
-                Ok(id) => Some(Refusal::Referred(Key::Filter(id))),
-                Err(_) => {
-                    let _ports = self.limits.ports();
-                    prove!(false);
-                    None
-                }
-            },
-            None => None,
-        }
+        let number = self.rows.referrer(key)?;
+        let _most = self.limits.ports();
+        Some(Refusal::Referred(Key::Filter(FilterId::new(number).unwrap())))
     }
 }
 
@@ -167,17 +119,4 @@ pub(crate) fn is_port(key: &Key) -> bool
     ensures { result ≡ is_port key.now }
 {
     matches!(key, Key::Port(_))
-}
-
-// Whether the filter refers to the key.
-fn refers_to(filter: &StreamFilter, key: &Key) -> bool
-    ensures { result ≡ has (refs (Record.Filter filter.now)) key.now }
-{
-    if *key == Key::Gate(filter.gate) {
-        return true;
-    }
-    match filter.meter {
-        Some(meter) => *key == Key::Meter(meter),
-        None => false,
-    }
 }

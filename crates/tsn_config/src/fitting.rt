@@ -56,7 +56,8 @@ impl Config {
     {
         match after {
             Some(value) => {
-                refuse_limits(self.limits, key, value).is_none() && self.dangling(value).is_none()
+                refuse_limits(self.limits, key, value).is_none()
+                    && self.rows.dangling(value).is_none()
             }
             None => before.is_none() || (!is_port(key) && self.referrer(key).is_none()),
         }
