@@ -21,11 +21,11 @@ use Rattle.tsn_edit.specs.Changes.{Fits}
 use Rattle.tsn_edit.specs.Edits.{is_of_kind, is_port, dangling, causes, refusal, change_of}
 use Rattle.tsn_edit.proofs.KeyFacts.{by_bool, get-put, one_key}
 
-head_none : (o p : Option Refusal) → option_or o p ≡ None → o ≡ None
+pub head_none : (o p : Option Refusal) → option_or o p ≡ None → o ≡ None
 head_none None p h = refl
 head_none (Some x) p h = (cc)
 
-tail_none : (o p : Option Refusal) → option_or o p ≡ None → p ≡ None
+pub tail_none : (o p : Option Refusal) → option_or o p ≡ None → p ≡ None
 tail_none None p h = h
 tail_none (Some x) p h = (cc)
 
@@ -44,7 +44,7 @@ refused_first [] ps why h = (cc)
 refused_first (None ∷ os) ps why h = refused_first os ps why h
 refused_first (Some x ∷ os) ps why h = h
 
-HoldsKey-from_test : (l : Limits) (k : Key) → holds_key l k ≡ true → HoldsKey l k
+pub HoldsKey-from_test : (l : Limits) (k : Key) → holds_key l k ≡ true → HoldsKey l k
 HoldsKey-from_test l (Port n) h = grind (arith, nat_tests)
 HoldsKey-from_test l (Filter n) h = grind (arith, nat_tests)
 HoldsKey-from_test l (Gate n) h = grind (arith, nat_tests)
@@ -53,14 +53,14 @@ HoldsKey-from_test l (Meter n) h = grind (arith, nat_tests)
 list_fits : (l : Limits) (n : ℕ) → nat_le n l.list ≡ true → n ≤ l.list
 list_fits l n h = grind (arith, nat_tests)
 
-HoldsRecord-from_test : (l : Limits) (k : Key) (r : Record) → is_of_kind k r ≡ true → out_of_limits l r ≡ None → HoldsRecord l k r
+pub HoldsRecord-from_test : (l : Limits) (k : Key) (r : Record) → is_of_kind k r ≡ true → out_of_limits l r ≡ None → HoldsRecord l k r
 HoldsRecord-from_test l (Port n) (PortRecord r) h o = list_fits l (length r.admin.list) (holds_unless _ _ o)
 HoldsRecord-from_test l (Filter n) (FilterRecord r) h o = tt
 HoldsRecord-from_test l (Gate n) (GateRecord r) h o = list_fits l (length r.admin.list) (holds_unless _ _ o)
 HoldsRecord-from_test l (Meter n) (MeterRecord r) h o = tt
 HoldsRecord-from_test l k r h o = (cc)
 
-none_dangling : (c : Configuration) (ks : List Key) → first_cause (map (λ q. unless (is_some (get c q)) (Dangling q)) ks) ≡ None → (q : Key) → has ks q ≡ true → IsSome (get c q)
+pub none_dangling : (c : Configuration) (ks : List Key) → first_cause (map (λ q. unless (is_some (get c q)) (Dangling q)) ks) ≡ None → (q : Key) → has ks q ≡ true → IsSome (get c q)
 none_dangling c [] h q in' = (cc)
 none_dangling c (k ∷ ks) h q in' =
     elim (same_key q k) as (λ b. same_key q k ≡ b → (b || has ks q) ≡ true → IsSome (get c q)) [

@@ -21,6 +21,8 @@ use tsn_types::records::{RecordRef, StreamFilter};
 mod admission;
 mod applying;
 mod fitting;
+mod opening;
+pub mod records;
 mod rows;
 
 /// A well kept configuration with its limits. `map` is the map from keys to records, and `spare` the number of

@@ -9,6 +9,7 @@ ghost use Rattle.tsn_types.specs.Whole.{whole};
 ghost use Rattle.tsn_types.specs.declared.refusals.Refusal.TheVariants.{Referred};
 ghost use Rattle.tsn_edit.specs.Configuration.{put};
 ghost use Rattle.tsn_edit.specs.Edits.{dangling, is_of_kind, referrer};
+ghost use Rattle.tsn_config.specs.Opening.{dangling_cause};
 ghost use Rattle.tsn_config.specs.Kinds.{port_of, filter_of, gate_of, meter_of};
 ghost use Rattle.tsn_config.specs.Settings.{set_row};
 
@@ -39,6 +40,19 @@ impl Model for Rows {
 }
 
 impl Rows {
+    /// No row. It takes no memory.
+    pub(crate) fn new(alloc: Global) -> Self
+        ensures map { result.map ≡ map.empty }
+        ensures spare { result.spare ≡ 0 }
+    {
+        Rows {
+            ports: Table::new(alloc),
+            filters: Table::new(alloc),
+            gates: Table::new(alloc),
+            meters: Table::new(alloc),
+        }
+    }
+
     /// The record of the key, lent, none where the key is absent.
     pub(crate) fn get(&self, key: Key) -> Option<RecordRef<'_>>
         ensures { option_map whole result ≡ map.get self.now.map key }
@@ -107,6 +121,16 @@ impl Rows {
             Some(id) if !self.has(Key::Meter(id)) => Some(Refusal::Dangling(Key::Meter(id))),
             _ => None,
         }
+    }
+
+    /// The refusal for the first absent reference in the order of keys.
+    pub(crate) fn first_dangling(&self) -> Option<Refusal>
+        ensures { result ≡ dangling_cause self.now.map }
+    {
+        let dangles = |filter: &StreamFilter| self.dangling_filter(filter).is_some();
+        let number = self.filters.first_where(dangles)?;
+        let filter = self.filters.get(number)?;
+        self.dangling_filter(filter)
     }
 
     /// The number of the least filter that refers to the key.
