@@ -133,16 +133,12 @@ fn first_of<R, F: Fn(&R) -> bool>(rows: &[(u64, R)], test: &F) -> Option<u64>
     requires { F.IsAlwaysCallable test.now }
     ensures { (p : R → Bool) → Answers F.Fn p test.now → result ≡ first_id p rows.now }
 {
-    match rows {
-        [] => None,
-        [row, rest @ ..] => {
-            if test(&row.1) {
-                Some(row.0)
-            } else {
-                first_of(rest, test)
-            }
+    for row in rows {
+        if test(&row.1) {
+            return Some(row.0);
         }
     }
+    None
 }
 
 // The numbers of the rows, in the order of the rows.
