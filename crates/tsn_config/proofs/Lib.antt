@@ -1,6 +1,7 @@
 pub mod Dangling
 pub mod Deciding
 pub mod Edits
+pub mod Examples
 pub mod Joined
 pub mod Listed
 pub mod Opened

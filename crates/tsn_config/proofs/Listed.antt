@@ -75,7 +75,7 @@ module _ {A : Type 0} (key : ℕ → Key) (record' : A → Record) where
     | false ↦ first k es ys none
   ]
 
-from_sorted_list : (es : List (Key × Record)) → is_sorted key_cmp es ≡ true → entries (from_entries {R = key_cmp} es) ≡ es
+pub from_sorted_list : (es : List (Key × Record)) → is_sorted key_cmp es ≡ true → entries (from_entries {R = key_cmp} es) ≡ es
 from_sorted_list es h =
     ap entries (same_map keys_total exact_keys (from_entries es) (from_sorted es) (λ q. get-from_entries keys_total es q ∙ sym (get-from_sorted key_cmp es q (T_of _ h)))) ∙ entries-from_sorted key_cmp es (T_of _ h)
 
