@@ -38,11 +38,11 @@ pub holds_unless : (b : Bool) (why : Refusal) → unless b why ≡ None → b �
 holds_unless true why h = refl
 holds_unless false why h = (cc)
 
--- what the first causes refuse, they refuse with more behind them
-pub refused_first : (os ps : List (Option Refusal)) (why : Refusal) → first_cause os ≡ Some why → first_cause (os ++ ps) ≡ Some why
-refused_first [] ps why h = (cc)
-refused_first (None ∷ os) ps why h = refused_first os ps why h
-refused_first (Some x ∷ os) ps why h = h
+-- the first cause is one of the first ones, or else one of those behind them
+pub first_cause-append : (os ps : List (Option Refusal)) → first_cause (os ++ ps) ≡ option_or (first_cause os) (first_cause ps)
+first_cause-append [] ps = refl
+first_cause-append (None ∷ os) ps = first_cause-append os ps
+first_cause-append (Some x ∷ os) ps = refl
 
 pub HoldsKey-from_test : (l : Limits) (k : Key) → holds_key l k ≡ true → HoldsKey l k
 HoldsKey-from_test l (Port n) h = grind (arith, nat_tests)

@@ -4,7 +4,7 @@
 //! the limits for all that depends on no other record.
 ghost use Rattle.std.specs.Prelude.{◌≡◌, IfOk, None};
 ghost use Rattle.tsn_types.specs.Limits.{first_cause};
-ghost use Rattle.tsn_edit.specs.Edits.{refusal, change_of, referrer, is_of_kind, is_port, limit_causes};
+ghost use Rattle.tsn_edit.specs.Edits.{refusal, early_causes, late_causes, change_of, referrer, is_of_kind, is_port, limit_causes};
 
 use crate::Config;
 use std::alloc::AllocError;
@@ -21,25 +21,20 @@ impl Config {
     pub fn check(&self, edit: &Edit) -> Option<Refusal>
         ensures { result ≡ refusal self.now.limits self.now.map edit.now }
     {
+        if let Some(why) = self.check_early(edit) {
+            return Some(why);
+        }
+        self.check_late(edit)
+    }
+
+    /// Why the edit is refused whatever the configuration holds: 3 for a record of another kind than its key and for
+    /// the removal of a port, 4 for what is outside the limits. It takes no memory.
+    pub fn check_early(&self, edit: &Edit) -> Option<Refusal>
+        ensures { result ≡ first_cause (early_causes self.now.limits edit.now) }
+    {
         match edit {
-            Edit::Create(key, value) => {
-                if let Some(why) = refuse_limits(self.limits, key, value) {
-                    return Some(why);
-                }
-                if self.rows.has(*key) {
-                    return Some(Refusal::Exists(*key));
-                }
-                self.rows.dangling(value)
-            }
-            Edit::Replace(key, value) => {
-                if let Some(why) = refuse_limits(self.limits, key, value) {
-                    return Some(why);
-                }
-                if !self.rows.has(*key) {
-                    return Some(Refusal::Missing(*key));
-                }
-                self.rows.dangling(value)
-            }
+            Edit::Create(key, value) => refuse_limits(self.limits, key, value),
+            Edit::Replace(key, value) => refuse_limits(self.limits, key, value),
             Edit::Remove(key) => {
                 if is_port(key) {
                     return Some(Refusal::Shape);
@@ -47,6 +42,29 @@ impl Config {
                 if !self.limits.holds(*key) {
                     return Some(Refusal::Range(Field::Key));
                 }
+                None
+            }
+        }
+    }
+
+    // Why the edit is refused by what the configuration holds.
+    fn check_late(&self, edit: &Edit) -> Option<Refusal>
+        ensures { result ≡ first_cause (late_causes self.now.map edit.now) }
+    {
+        match edit {
+            Edit::Create(key, value) => {
+                if self.rows.has(*key) {
+                    return Some(Refusal::Exists(*key));
+                }
+                self.rows.dangling(value)
+            }
+            Edit::Replace(key, value) => {
+                if !self.rows.has(*key) {
+                    return Some(Refusal::Missing(*key));
+                }
+                self.rows.dangling(value)
+            }
+            Edit::Remove(key) => {
                 if !self.rows.has(*key) {
                     return Some(Refusal::Missing(*key));
                 }
