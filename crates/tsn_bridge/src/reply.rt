@@ -1,4 +1,6 @@
 //! What the bridge answers, one variant for each form of reply.
+use tsn_types::keys::Key;
+use tsn_types::records::Record;
 use tsn_types::refusals::Refusal;
 
 /// A reply to a command.
@@ -10,6 +12,8 @@ pub enum Reply {
     Entry { entry: u64 },
     /// The number of the entry that was made and of the entry that it takes back.
     EntryOf { entry: u64, of: u64 },
+    /// The record at the key.
+    Shown { key: Key, value: Record },
     /// Why the command was refused; nothing has changed.
     Refused(Refusal),
 }

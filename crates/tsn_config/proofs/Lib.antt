@@ -1,0 +1,9 @@
+pub mod Dangling
+pub mod Deciding
+pub mod Edits
+pub mod Examples
+pub mod Joined
+pub mod Listed
+pub mod Opened
+pub mod OpeningKept
+pub mod SetRows

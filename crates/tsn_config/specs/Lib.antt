@@ -1,0 +1,4 @@
+pub mod Keeping
+pub mod Kinds
+pub mod Opening
+pub mod Settings

@@ -1,0 +1,6 @@
+pub mod Adding
+pub mod Latest
+pub mod Marking
+pub mod Numbers
+pub mod Rewinding
+pub mod Undoing
