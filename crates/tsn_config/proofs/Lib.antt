@@ -4,6 +4,7 @@ pub mod Edits
 pub mod Examples
 pub mod Joined
 pub mod Listed
+pub mod Numbered
 pub mod Opened
 pub mod OpeningKept
 pub mod SetRows

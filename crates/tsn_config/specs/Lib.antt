@@ -1,3 +1,4 @@
+pub mod Ids
 pub mod Keeping
 pub mod Kinds
 pub mod Opening

@@ -15,11 +15,9 @@ ghost use Rattle.tsn_edit.specs.Runs.{run, IsGood};
 pub fn change_and_inverse()
     ensures good { (l : Limits) (c : Configuration) (e : Change) → IsWellKept l c → Fits l c e → IsGood l c (e ∷ inverse e ∷ []) }
     ensures same { (l : Limits) (c : Configuration) (e : Change) → IsWellKept l c → Fits l c e → run c (e ∷ inverse e ∷ []) ≡ c }
-{
-}
+{}
 
 /// The change of an admitted edit fits the well kept configuration in which the edit was admitted.
 pub fn admitted_edit_fits()
     ensures { (l : Limits) (c : Configuration) (edit : Edit) → IsWellKept l c → refusal l c edit ≡ None → Fits l c (change_of c edit) }
-{
-}
+{}

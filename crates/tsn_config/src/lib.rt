@@ -21,6 +21,7 @@ use tsn_types::records::{RecordRef, StreamFilter};
 mod admission;
 mod applying;
 mod fitting;
+pub mod ids;
 pub mod laws;
 mod opening;
 pub mod records;

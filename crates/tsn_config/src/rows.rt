@@ -10,13 +10,14 @@ ghost use Rattle.tsn_types.specs.declared.refusals.Refusal.TheVariants.{Referred
 ghost use Rattle.tsn_edit.specs.Configuration.{put};
 ghost use Rattle.tsn_edit.specs.Edits.{dangling, is_of_kind, referrer};
 ghost use Rattle.tsn_config.specs.Opening.{dangling_cause};
+ghost use Rattle.tsn_config.specs.Ids.{ids_of};
 ghost use Rattle.tsn_config.specs.Kinds.{port_of, filter_of, gate_of, meter_of};
 ghost use Rattle.tsn_config.specs.Settings.{set_row};
 
 use std::alloc::{AllocError, Global};
 use std::marker::Model;
 use tsn_table::Table;
-use tsn_types::keys::Key;
+use tsn_types::keys::{Key, Kind};
 use tsn_types::records::{FlowMeter, PortGates, Record, RecordRef, StreamFilter, StreamGate};
 use tsn_types::refusals::Refusal;
 
@@ -50,6 +51,18 @@ impl Rows {
             filters: Table::new(alloc),
             gates: Table::new(alloc),
             meters: Table::new(alloc),
+        }
+    }
+
+    /// The numbers of the rows of the kind, ascending. Refused only for want of memory.
+    pub(crate) fn ids(&self, alloc: Global, kind: Kind) -> Result<Vec<u64>, AllocError>
+        ensures { IfOk result (λ ids. ids.items ≡ ids_of kind self.now.map) }
+    {
+        match kind {
+            Kind::Port => self.ports.ids(alloc),
+            Kind::Filter => self.filters.ids(alloc),
+            Kind::Gate => self.gates.ids(alloc),
+            Kind::Meter => self.meters.ids(alloc),
         }
     }
 
