@@ -2,6 +2,7 @@
 use Rattle.std.specs.Prelude.{◌≡◌, ◌⊎◌, ℕ, ◌+◌, Bool, ◌&&◌, List, [], ◌∷◌, ◌++◌, Option, Some, None, MatchOption, is_some, nat_lt, nat_le, length}
 use Rattle.std.specs.FinMap.{get}
 use Rattle.tsn_types.specs.declared.keys.Key.{Key}
+use Rattle.tsn_types.specs.declared.keys.Kind.{Kind}
 use Rattle.tsn_types.specs.declared.records.Record.{Record}
 use Rattle.tsn_types.specs.declared.refusals.Field.TheVariants as fields
 use Rattle.tsn_types.specs.declared.refusals.Refusal.{Refusal}
@@ -10,6 +11,7 @@ use Rattle.tsn_types.specs.Limits.{unless, first_cause, holds_key}
 use Rattle.tsn_edit.specs.declared.Edit.{Edit}
 use Rattle.tsn_edit.specs.declared.Edit.TheVariants as edits
 use Rattle.tsn_edit.specs.Edits.{early_causes, late_causes, change_of}
+use Rattle.tsn_config.specs.Ids.{ids_of}
 use Rattle.tsn_undo.specs.Entries.{Applied, last_of, made, undone}
 use Rattle.tsn_undo.specs.Ledger.{Ledger}
 use Rattle.tsn_undo.specs.Steps.{present, with_entry, full, undo_cause}
@@ -46,6 +48,9 @@ undo_causes s n = no_session s n ∷ undo_cause s.book.entries (last_of s.book.e
 abbrev pub show_causes : State → ℕ → Key → List (Option Refusal)
 show_causes s n k = unless (holds_key s.book.limits k) (Range fields.Key) ∷ no_session s n ∷ unless (is_some (get (present s.book) k)) (Missing k) ∷ []
 
+abbrev pub list_causes : State → ℕ → List (Option Refusal)
+list_causes s n = no_session s n ∷ []
+
 -- where a cause holds, the least one is the reply and the state stays; where none holds, it is done
 abbrev pub AnsweredSurely : List (Option Refusal) → Type 0 → State → Reply → State → Type 0
 AnsweredSurely os Done s reply new = MatchOption (first_cause os) Done (λ why. (reply ≡ replies.Refused why) × (new ≡ s))
@@ -75,6 +80,11 @@ abbrev pub ShowStep : State → ℕ → Key → Reply → State → Type 0
 ShowStep s n k reply new = Answered (show_causes s n k)
     ((r : Record) × (get (present s.book) k ≡ Some r) × (reply ≡ replies.Shown k r) × (new ≡ s)) s reply new
 
+-- a list answers the numbers of all instances of the kind
+abbrev pub ListStep : State → ℕ → Kind → Reply → State → Type 0
+ListStep s n kind reply new = Answered (list_causes s n)
+    ((reply ≡ replies.Ids (ids_of kind (present s.book))) × (new ≡ s)) s reply new
+
 -- a step of the machine
 abbrev pub Step : State → ℕ → Command → Reply → State → Type 0
 Step s n commands.Hello reply new = HelloStep s reply new
@@ -83,3 +93,4 @@ Step s n (commands.Replace k r) reply new = EditStep s n (edits.Replace k r) rep
 Step s n (commands.Remove k) reply new = EditStep s n (edits.Remove k) reply new
 Step s n commands.Undo reply new = UndoStep s n reply new
 Step s n (commands.Show k) reply new = ShowStep s n k reply new
+Step s n (commands.List kind) reply new = ListStep s n kind reply new

@@ -13,7 +13,7 @@ ghost use Rattle.tsn_edit.specs.Runs.{run, IsGood};
 ghost use Rattle.tsn_config.specs.Opening.{opening, opening_refusal};
 ghost use Rattle.tsn_undo.specs.Entries.{changes, standing};
 ghost use Rattle.tsn_undo.specs.Steps.{present};
-ghost use Rattle.tsn_bridge.specs.Machine.{Step, HelloStep, EditStep, UndoStep, ShowStep, is_given};
+ghost use Rattle.tsn_bridge.specs.Machine.{Step, HelloStep, EditStep, UndoStep, ShowStep, ListStep, is_given};
 
 use crate::command::Command;
 use crate::reply::Reply;
@@ -22,7 +22,7 @@ use std::marker::Model;
 use tsn_config::Config;
 use tsn_config::records::Records;
 use tsn_edit::Edit;
-use tsn_types::keys::Key;
+use tsn_types::keys::{Key, Kind};
 use tsn_types::limits::Limits;
 use tsn_types::refusals::{Field, Refusal};
 use tsn_undo::book::Book;
@@ -40,6 +40,7 @@ pub struct Setup {
 /// The state of one bridge.
 #[derive(Drop)]
 pub struct Bridge {
+    alloc: Global,
     book: Book,
     sessions: u32,
 }
@@ -73,6 +74,7 @@ impl Bridge {
             Err(why) => return Err(why),
         };
         Ok(Bridge {
+            alloc,
             book: Book::new(alloc, config),
             sessions: 0,
         })
@@ -89,6 +91,7 @@ impl Bridge {
             Command::Remove { key } => self.edit(session, Edit::Remove(key)),
             Command::Undo => self.undo(session),
             Command::Show { key } => self.show(session, &key),
+            Command::List { kind } => self.list(session, kind),
         }
     }
 
@@ -181,6 +184,18 @@ impl Bridge {
                 Err(_) => Reply::Refused(Refusal::Memory),
             },
             None => Reply::Refused(Refusal::Missing(*key)),
+        }
+    }
+
+    fn list(&self, session: u32, kind: Kind) -> Reply
+        ensures { ListStep self.now session kind result self.now }
+    {
+        if !self.is_given(session) {
+            return Reply::Refused(Refusal::NoSession);
+        }
+        match self.config().ids(self.alloc, kind) {
+            Ok(ids) => Reply::Ids { ids },
+            Err(_) => Reply::Refused(Refusal::Memory),
         }
     }
 }

@@ -1,5 +1,5 @@
 //! What a session may ask of the bridge, one variant for each command.
-use tsn_types::keys::Key;
+use tsn_types::keys::{Key, Kind};
 use tsn_types::records::Record;
 
 /// A command, without the session that gives it.
@@ -17,4 +17,6 @@ pub enum Command {
     Undo,
     /// Asks for the record at the key.
     Show { key: Key },
+    /// Asks for the numbers of all instances of the kind.
+    List { kind: Kind },
 }
