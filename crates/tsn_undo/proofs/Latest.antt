@@ -60,7 +60,7 @@ MarksAdd [] bs = Unit {0}
 MarksAdd (x ∷ xs) [] = Unit {0}
 MarksAdd (x ∷ xs) (b ∷ bs) = (b ≡ true → is_some (adds x.what) ≡ true) × MarksAdd xs bs
 
-last_where-append : (t : Applied → Bool) (xs ys : List Applied) → last_where t (xs ++ ys) ≡ option_or (last_where t ys) (last_where t xs)
+pub last_where-append : (t : Applied → Bool) (xs ys : List Applied) → last_where t (xs ++ ys) ≡ option_or (last_where t ys) (last_where t xs)
 last_where-append t [] ys = or_nothing (last_where t ys)
   where
     or_nothing : (o : Option Applied) → o ≡ option_or o None

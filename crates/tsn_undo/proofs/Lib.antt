@@ -1,4 +1,5 @@
 pub mod Adding
+pub mod AtOnce
 pub mod Latest
 pub mod Marking
 pub mod Numbers

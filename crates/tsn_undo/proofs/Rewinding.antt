@@ -37,7 +37,7 @@ rewound-append : (c : Configuration) (es fs : List Change) → rewound c (es ++ 
 rewound-append c [] fs = refl
 rewound-append c (e ∷ es) fs = ap (λ (m : Configuration). changed m (inverse e)) (rewound-append c es fs)
 
-applied_push : (es : List Entry) (w : Entry) (e : Change) → applies w.what ≡ Some e → changes (collect applies 1 (es ++ w ∷ [])) ≡ changes (collect applies 1 es) ++ e ∷ []
+pub applied_push : (es : List Entry) (w : Entry) (e : Change) → applies w.what ≡ Some e → changes (collect applies 1 (es ++ w ∷ [])) ≡ changes (collect applies 1 es) ++ e ∷ []
 applied_push es w e apply =
     ap changes (collect_push applies 1 es w ∙ ap (λ o. collect applies 1 es ++ applied_at (1 + length es) w.session o) apply)
     ∙ changes-append (collect applies 1 es) (record { number = 1 + length es; session = w.session; change = e } ∷ [])

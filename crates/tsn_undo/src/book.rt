@@ -9,6 +9,7 @@ ghost use Rattle.tsn_edit.specs.Configuration.{IsWellKept};
 ghost use Rattle.tsn_edit.specs.Parts.{inverse};
 ghost use Rattle.tsn_edit.specs.Runs.{run, IsGood};
 ghost use Rattle.tsn_undo.specs.Entries.{applied_by, change_in, changes, standing, made, last_of, find_conflict};
+ghost use Rattle.tsn_undo.specs.Soundness.{IsSound};
 ghost use Rattle.tsn_undo.specs.Steps.{present, with_entry, Edits, TakesBack, IsUndoPlace, edit_refusal, undo_refusal, IsLeastOrMemory};
 ghost use Rattle.tsn_undo.specs.declared.entries.Entry.{Entry as AnyEntry};
 
@@ -61,6 +62,7 @@ impl Book {
         ensures limits { result.now.limits ≡ self.now.limits }
         ensures map { result.now.map ≡ present self.now }
         ensures kept { IsWellKept self.now.limits (present self.now) }
+        ensures sound { IsSound self.now.limits self.now.opening self.now.entries }
         ensures good { IsGood self.now.limits self.now.opening (changes (standing self.now.entries)) }
         ensures stands { result.now.map ≡ run self.now.opening (changes (standing self.now.entries)) }
     {
