@@ -37,6 +37,20 @@ pub struct Setup {
     pub records: Records,
 }
 
+impl Setup {
+    /// The setup of a bridge of which nothing was said: 2 ports, tables of 16 instances, lists of up to 16 entries and
+    /// no records. It takes no memory.
+    pub fn standard(alloc: Global) -> Setup
+        ensures limits { result.limits ≡ record { ports = 2; filters = 16; gates = 16; meters = 16; list = 16 } }
+        ensures records { result.records ≡ [] }
+    {
+        Setup {
+            limits: Limits::new(2, 16, 16, 16, 16).unwrap(),
+            records: Records::new(alloc),
+        }
+    }
+}
+
 /// The state of one bridge.
 #[derive(Drop)]
 pub struct Bridge {
