@@ -15,6 +15,7 @@ mod ranges;
 mod reading;
 mod records;
 mod reply;
+mod shown;
 mod standard;
 mod text;
 mod unread;
