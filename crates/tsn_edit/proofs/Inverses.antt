@@ -1,16 +1,17 @@
--- The inverse of a change that fits takes it back, and good runs join.
-use Rattle.std.proofs.Common.{◌≡◌, Bool, true, false, cond, ◌||◌, List, [], ◌∷◌, ◌++◌, refl, sym, ◌∙◌, ap, subst, Option, Some, None, map}
+-- The inverse of a change fits as long as nothing after it conflicts, and gives the run without it.
+use Rattle.std.proofs.Common.{◌≡◌, Bool, true, false, cond, ◌||◌, List, [], ◌∷◌, ◌++◌, refl, sym, ◌∙◌, ap, subst, Option, Some, map}
 use Rattle.std.specs.FinMap.{get}
 use Rattle.std.specs.List.{AllByRecursion, IsDistinct}
 use Rattle.tsn_types.specs.declared.keys.Key.{Key}
+use Rattle.tsn_edit.specs.Parts.{Change, Part, parts, inverse, turned}
 use Rattle.tsn_types.specs.declared.records.Record.{Record}
 use Rattle.tsn_types.specs.declared.limits.Limits.{Limits}
 use Rattle.tsn_types.specs.Keys.{same_key, has}
-use Rattle.tsn_edit.specs.Parts.{Change, Part, parts, inverse, turned}
 use Rattle.tsn_edit.specs.Configuration.{Configuration, IsWellKept, put}
-use Rattle.tsn_edit.specs.Changes.{keys_of, put_all, changed, Stands, Fits}
+use Rattle.tsn_edit.specs.Changes.{keys_of, put_all, changed, Stands, Fits, conflicts}
 use Rattle.tsn_edit.specs.Runs.{run, IsGood}
-use Rattle.tsn_edit.proofs.KeyFacts.{by_bool, by_option, part_on, part_on_some, each_part, after_or, get-put, get-changed, same_configuration, same_itself, one_key, or_left, or_right}
+use Rattle.tsn_edit.proofs.KeyFacts.{by_bool, part_on, part_on_none, before_or, after_or, get-put, get-changed, same_configuration, same_itself, one_key}
+use Rattle.tsn_edit.proofs.Apart.{begin_agrees, Apart, Apart-from_test, Agrees, agrees_taken, agrees_left, fits_left, stands_alike}
 
 pub run-append : (c : Configuration) (es fs : List Change) → run c (es ++ fs) ≡ run (run c es) fs
 run-append c [] fs = refl
@@ -33,32 +34,34 @@ pub end_kept : (l : Limits) (c : Configuration) (es : List Change) → IsWellKep
 end_kept l c [] k g = k
 end_kept l c (e ∷ es) k g = end_kept l (changed c e) es (g.0).kept g.1
 
--- the value before the part, or v where there is none
-abbrev before_or : Option Part → Option Record → Option Record
-before_or None v = v
-before_or (Some p) v = p.before
+-- changes apart from t go the same way from where t was left out
+pub without : (l : Limits) (c d : Configuration) (t : List Part) (es : List Change) → Agrees l c d t → IsGood l c es → AllByRecursion (λ f. Apart (parts f) t) es → IsGood l d es × Agrees l (run c es) (run d es) t
+without l c d t [] a g apart = (tt, a)
+without l c d t (e ∷ es) a g apart =
+    let rest = without l (changed c e) (changed d e) t es (agrees_left l c d t e a g.0 apart.0) g.1 apart.1 in
+    ((fits_left l c d t e a g.0 apart.0, rest.0), rest.1)
 
 turned_first : (b : Bool) (p : Part) (o q : Option Part) (v : Option Record) → after_or q v ≡ before_or o v → after_or (cond b (Some (turned p)) q) v ≡ before_or (cond b (Some p) o) v
 turned_first true p o q v h = refl
 turned_first false p o q v h = h
 
-turned_gives : (k : Key) (ps : List Part) (v : Option Record) → after_or (part_on k (map turned ps)) v ≡ before_or (part_on k ps) v
+pub turned_gives : (k : Key) (ps : List Part) (v : Option Record) → after_or (part_on k (map turned ps)) v ≡ before_or (part_on k ps) v
 unfolding part_on
 turned_gives k [] v = refl
 turned_gives k (p ∷ ps) v = turned_first (same_key k p.key) p (part_on k ps) (part_on k (map turned ps)) v (turned_gives k ps v)
 
 -- the parts of the inverse are the parts turned
-parts-inverse : (e : Change) → parts (inverse e) ≡ map turned (parts e)
+pub parts-inverse : (e : Change) → parts (inverse e) ≡ map turned (parts e)
 parts-inverse e = refl
 
-get-inverse : (c : Configuration) (e : Change) (k : Key) → get (changed c (inverse e)) k ≡ before_or (part_on k (parts e)) (get c k)
+pub get-inverse : (c : Configuration) (e : Change) (k : Key) → get (changed c (inverse e)) k ≡ before_or (part_on k (parts e)) (get c k)
 get-inverse c e k = get-changed c (inverse e) k ∙ ap (λ ps. after_or (part_on k ps) (get c k)) (parts-inverse e) ∙ turned_gives k (parts e) (get c k)
 
-keys_of-turned : (ps : List Part) → keys_of (map turned ps) ≡ keys_of ps
+pub keys_of-turned : (ps : List Part) → keys_of (map turned ps) ≡ keys_of ps
 keys_of-turned [] = refl
 keys_of-turned (p ∷ ps) = ap (λ ks. p.key ∷ ks) (keys_of-turned ps)
 
-keys_of-inverse : (e : Change) → keys_of (parts (inverse e)) ≡ keys_of (parts e)
+pub keys_of-inverse : (e : Change) → keys_of (parts (inverse e)) ≡ keys_of (parts e)
 keys_of-inverse e = ap keys_of (parts-inverse e) ∙ keys_of-turned (parts e)
 
 -- the head of a list of distinct keys is not in the rest
@@ -76,16 +79,8 @@ not_again k (x ∷ ks) h q in' =
       | false ↦ λ _ in''. not_again k ks h.1 q in''
     ] refl in'
 
--- values that stand in c stand in d, where both agree on the keys
-stands_alike : (c d : Configuration) (f : List Part) → ((k : Key) → has (keys_of f) k ≡ true → get d k ≡ get c k) → Stands c f → Stands d f
-stands_alike c d [] same h = tt
-stands_alike c d (p ∷ f) same h = (
-  same p.key (or_left (same_key p.key p.key) _ (same_itself p.key)) ∙ h.0,
-  stands_alike c d f (λ k in'. same k (or_right (same_key k p.key) _ in')) h.1,
-)
-
 -- after a change its values after stand
-turned_stands : (c : Configuration) (ps : List Part) → IsDistinct same_key (keys_of ps) → Stands (put_all c ps) (map turned ps)
+pub turned_stands : (c : Configuration) (ps : List Part) → IsDistinct same_key (keys_of ps) → Stands (put_all c ps) (map turned ps)
 unfolding IsDistinct
 turned_stands c [] d = tt
 turned_stands c (p ∷ ps) d = (
@@ -95,28 +90,49 @@ turned_stands c (p ∷ ps) d = (
       (turned_stands c ps d.1),
 )
 
--- at each key the value before is the one that stood there
-value_before : (c : Configuration) (e : Change) (k : Key) → Stands c (parts e) → before_or (part_on k (parts e)) (get (changed c e) k) ≡ get c k
-value_before c e k stands = by_option (part_on k (parts e))
-    (λ none. ap (λ o. before_or o (get (changed c e) k)) none ∙ get-changed c e k ∙ ap (λ o. after_or o (get c k)) none)
-    (λ p is. ap (λ o. before_or o (get (changed c e) k)) is
-    ∙ sym (each_part (λ p. get c p.key ≡ p.before) k (parts e) p is stands)
-    ∙ ap (get c) (sym (part_on_some k (parts e) p is)))
+pub stands_after : (c : Configuration) (e : Change) → IsDistinct same_key (keys_of (parts e)) → Stands (changed c e) (parts (inverse e))
+stands_after c e d = subst (Stands (changed c e)) (sym (parts-inverse e)) (turned_stands c (parts e) d)
 
--- a change that fits is taken back by its inverse, which fits what the change left
-pub record IsTakenBack (l : Limits) (c : Configuration) (e : Change) : Type 0 where
-  pub fits : Fits l (changed c e) (inverse e)
-  pub same : changed (changed c e) (inverse e) ≡ c
+-- a key that no change touches keeps its value
+pub run_elsewhere : (c : Configuration) (es : List Change) (k : Key) → AllByRecursion (λ f. has (keys_of (parts f)) k ≡ false) es → get (run c es) k ≡ get c k
+run_elsewhere c [] k h = refl
+run_elsewhere c (e ∷ es) k h =
+    run_elsewhere (changed c e) es k h.1 ∙ get-changed c e k ∙ ap (λ o. after_or o (get c k)) (part_on_none k (parts e) h.0)
 
-pub taken_back : (l : Limits) (c : Configuration) (e : Change) → IsWellKept l c → Fits l c e → IsTakenBack l c e
+pub each_weaker : {A : Type 0} (P Q : A → Type 0) → ((x : A) → P x → Q x) → (xs : List A) → AllByRecursion P xs → AllByRecursion Q xs
+each_weaker P Q f [] h = tt
+each_weaker P Q f (x ∷ xs) h = (f x h.0, each_weaker P Q f xs h.1)
+
+pub record IsUndoable (l : Limits) (c : Configuration) (e : Change) (es : List Change) : Type 0 where
+  pub good : IsGood l c es
+  pub fits : Fits l (run c (e ∷ es)) (inverse e)
+  pub same : changed (run c (e ∷ es)) (inverse e) ≡ run c es
+
+apart_key : (k : Key) (f e : Change) → has (keys_of (parts e)) k ≡ true → Apart (parts f) (parts e) → has (keys_of (parts f)) k ≡ false
+apart_key k f e in' a = by_bool (has (keys_of (parts f)) k) (λ h. let no : has (keys_of (parts e)) k ≡ false = a.keys k h in (cc)) (λ h. h)
+
+pub undoable : (l : Limits) (c : Configuration) (e : Change) (es : List Change) → IsWellKept l c → IsGood l c (e ∷ es) → AllByRecursion (λ f. conflicts f e ≡ false) es → IsUndoable l c e es
 unfolding IsDistinct
-taken_back l c e kept fits =
-    let same : changed (changed c e) (inverse e) ≡ c = same_configuration _ _ (λ k. get-inverse (changed c e) e k ∙ value_before c e k fits.stands) in
+undoable l c e es kept g none =
+    let apart : AllByRecursion (λ f. Apart (parts f) (parts e)) es = each_weaker (λ f. conflicts f e ≡ false) (λ f. Apart (parts f) (parts e)) (λ f h. Apart-from_test (parts f) (parts e) h) es none in
+    let begins : Agrees l c c [] = record { all_kept = kept; left_kept = kept; agree = begin_agrees c } in
+    let rest = without l (changed c e) c (parts e) es (agrees_taken l c c [] e begins g.0) g.1 apart in
+    let same : changed (run c (e ∷ es)) (inverse e) ≡ run c es =
+    same_configuration _ _ (λ k. get-inverse (run c (e ∷ es)) e k ∙ sym (rest.1.agree k)) in
     record {
+      good = rest.0;
       fits = record {
-        distinct = subst (IsDistinct same_key) (sym (keys_of-inverse e)) fits.distinct;
-        stands = subst (Stands (changed c e)) (sym (parts-inverse e)) (turned_stands c (parts e) fits.distinct);
-        kept = subst (IsWellKept l) (sym same) kept;
+        distinct = subst (IsDistinct same_key) (sym (keys_of-inverse e)) (g.0).distinct;
+        stands = stands_alike (changed c e) (run c (e ∷ es)) (parts (inverse e))
+            (λ k in'.
+            let in_e : has (keys_of (parts e)) k ≡ true = sym (ap (λ ks. has ks k) (keys_of-inverse e)) ∙ in' in
+            run_elsewhere (changed c e) es k (each_weaker (λ f. Apart (parts f) (parts e)) (λ f. has (keys_of (parts f)) k ≡ false) (λ f a. apart_key k f e in_e a) es apart))
+            (stands_after c e (g.0).distinct);
+        kept = subst (IsWellKept l) (sym same) (rest.1.left_kept);
       };
       same = same;
     }
+
+-- a change that fits is taken back by its inverse, which fits what the change left
+pub taken_back : (l : Limits) (c : Configuration) (e : Change) → IsWellKept l c → Fits l c e → IsUndoable l c e []
+taken_back l c e kept fits = undoable l c e [] kept (fits, tt) tt

@@ -13,9 +13,9 @@ use Rattle.tsn_types.specs.declared.keys.Key.{Key}
 use Rattle.tsn_types.specs.declared.keys.Key.TheVariants.{Port, Filter, Gate, Meter}
 use Rattle.tsn_edit.specs.Parts.{Change, Part, parts}
 use Rattle.tsn_types.specs.declared.records.Record.{Record}
-use Rattle.tsn_types.specs.Keys.{kind_of, number_of, key_cmp, same_key, has}
+use Rattle.tsn_types.specs.Keys.{kind_of, number_of, key_cmp, same_key, has, meets, refs_of}
 use Rattle.tsn_edit.specs.Configuration.{Configuration, put}
-use Rattle.tsn_edit.specs.Changes.{keys_of, put_all, changed}
+use Rattle.tsn_edit.specs.Changes.{keys_of, refs_before, refs_after, put_all, changed}
 
 pub by_bool : {G : Type 0} (b : Bool) → (b ≡ true → G) → (b ≡ false → G) → G
 by_bool true f g = f refl
@@ -99,6 +99,10 @@ part_on_none k (p ∷ e) h =
       | false ↦ λ h. part_on_none k e h
     ] h
 
+pub has-append : (ks ls : List Key) (k : Key) → has (ks ++ ls) k ≡ (has ks k || has ls k)
+has-append [] ls k = refl
+has-append (x ∷ ks) ls k = elim (same_key k x) as (λ b. (b || has (ks ++ ls) k) ≡ ((b || has ks k) || has ls k)) [ true ↦ refl | false ↦ has-append ks ls k ]
+
 pub or_left : (a b : Bool) → a ≡ true → (a || b) ≡ true
 or_left true b h = refl
 or_left false b h = (cc)
@@ -107,17 +111,51 @@ pub or_right : (a b : Bool) → b ≡ true → (a || b) ≡ true
 or_right true b h = refl
 or_right false b h = h
 
--- a part that is found is on the key
-pub part_on_some : (k : Key) (e : List Part) (p : Part) → part_on k e ≡ Some p → k ≡ p.key
+or_assoc : (a b c : Bool) → (a || (b || c)) ≡ ((a || b) || c)
+or_assoc true b c = refl
+or_assoc false b c = refl
+
+pub or_false_left : (a b : Bool) → (a || b) ≡ false → a ≡ false
+or_false_left true b h = h
+or_false_left false b h = refl
+
+pub or_false_right : (a b : Bool) → (a || b) ≡ false → b ≡ false
+or_false_right true b h = (cc)
+or_false_right false b h = h
+
+-- the value before the part, or v where there is none
+abbrev pub before_or : Option Part → Option Record → Option Record
+before_or None v = v
+before_or (Some p) v = p.before
+
+-- what a part that is found is
+pub record IsPartOn (k : Key) (e : List Part) (p : Part) : Type 0 where
+  pub key : k ≡ p.key
+  pub there : has (keys_of e) k ≡ true
+  pub before : (q : Key) → has (refs_of p.before) q ≡ true → has (refs_before e) q ≡ true
+  pub after : (q : Key) → has (refs_of p.after) q ≡ true → has (refs_after e) q ≡ true
+
+pub part_on_some : (k : Key) (e : List Part) (p : Part) → part_on k e ≡ Some p → IsPartOn k e p
 unfolding part_on
 part_on_some k [] p h = (cc)
 part_on_some k (x ∷ e) p h =
-    elim (same_key k x.key) as (λ b. same_key k x.key ≡ b → cond b (Some x) (part_on k e) ≡ Some p → k ≡ p.key) [
-      | true ↦ λ same found. let is : x ≡ p = (cc) in one_key k x.key same ∙ ap (λ (y : Part). y.key) is
-      | false ↦ λ same found. part_on_some k e p found
+    elim (same_key k x.key) as (λ b. same_key k x.key ≡ b → cond b (Some x) (part_on k e) ≡ Some p → IsPartOn k (x ∷ e) p) [
+      | true ↦ λ same found. let is : x ≡ p = (cc) in
+          record {
+            key = one_key k x.key same ∙ ap (λ (y : Part). y.key) is;
+            there = or_left (same_key k x.key) _ same;
+            before = λ q h. has-append (refs_of x.before) (refs_before e) q ∙ or_left _ _ (ap (λ (y : Part). has (refs_of y.before) q) is ∙ h);
+            after = λ q h. has-append (refs_of x.after) (refs_after e) q ∙ or_left _ _ (ap (λ (y : Part). has (refs_of y.after) q) is ∙ h);
+          }
+      | false ↦ λ same found. let rest = part_on_some k e p found in
+          record {
+            key = rest.key;
+            there = or_right (same_key k x.key) _ rest.there;
+            before = λ q h. has-append (refs_of x.before) (refs_before e) q ∙ or_right _ _ (rest.before q h);
+            after = λ q h. has-append (refs_of x.after) (refs_after e) q ∙ or_right _ _ (rest.after q h);
+          }
     ] refl h
 
--- what holds of each part holds of the one that is found
 pub each_part : (P : Part → Type 0) (k : Key) (e : List Part) (p : Part) → part_on k e ≡ Some p → AllByRecursion P e → P p
 unfolding part_on
 each_part P k [] p h all = (cc)
@@ -126,3 +164,42 @@ each_part P k (x ∷ e) p h all =
       | true ↦ λ found. let is : x ≡ p = (cc) in subst P is all.0
       | false ↦ λ found. each_part P k e p found all.1
     ] h
+
+pub part_on-append : (k : Key) (e f : List Part) → part_on k e ≡ None → part_on k (e ++ f) ≡ part_on k f
+unfolding part_on
+part_on-append k [] f h = refl
+part_on-append k (x ∷ e) f h =
+    elim (same_key k x.key) as (λ b. cond b (Some x) (part_on k e) ≡ None → cond b (Some x) (part_on k (e ++ f)) ≡ part_on k f) [
+      | true ↦ λ none. (cc)
+      | false ↦ λ none. part_on-append k e f none
+    ] h
+
+pub part_on-append_found : (k : Key) (e f : List Part) (p : Part) → part_on k e ≡ Some p → part_on k (e ++ f) ≡ Some p
+unfolding part_on
+part_on-append_found k [] f p h = (cc)
+part_on-append_found k (x ∷ e) f p h =
+    elim (same_key k x.key) as (λ b. cond b (Some x) (part_on k e) ≡ Some p → cond b (Some x) (part_on k (e ++ f)) ≡ Some p) [
+      | true ↦ λ found. found
+      | false ↦ λ found. part_on-append_found k e f p found
+    ] h
+
+pub keys_of-append : (e f : List Part) → keys_of (e ++ f) ≡ keys_of e ++ keys_of f
+keys_of-append [] f = refl
+keys_of-append (p ∷ e) f = ap (λ ks. p.key ∷ ks) (keys_of-append e f)
+
+pub refs_before-append : (e f : List Part) (q : Key) → has (refs_before (e ++ f)) q ≡ (has (refs_before e) q || has (refs_before f) q)
+refs_before-append [] f q = refl
+refs_before-append (p ∷ e) f q =
+    has-append (refs_of p.before) (refs_before (e ++ f)) q
+    ∙ ap (λ b. has (refs_of p.before) q || b) (refs_before-append e f q)
+    ∙ or_assoc (has (refs_of p.before) q) (has (refs_before e) q) (has (refs_before f) q)
+    ∙ ap (λ b. b || has (refs_before f) q) (sym (has-append (refs_of p.before) (refs_before e) q))
+
+-- lists that do not meet have no key in common
+pub meets_apart : (ks ls : List Key) → meets ks ls ≡ false → (k : Key) → has ks k ≡ true → has ls k ≡ false
+meets_apart [] ls h k in' = (cc)
+meets_apart (x ∷ ks) ls h k in' =
+    elim (same_key k x) as (λ b. same_key k x ≡ b → (b || has ks k) ≡ true → has ls k ≡ false) [
+      | true ↦ λ same _. ap (has ls) (one_key k x same) ∙ or_false_left (has ls x) (meets ks ls) h
+      | false ↦ λ same in''. meets_apart ks ls (or_false_right (has ls x) (meets ks ls) h) k in''
+    ] refl in'

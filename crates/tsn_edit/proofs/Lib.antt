@@ -1,2 +1,4 @@
+pub mod Apart
+pub mod Conflicting
 pub mod Inverses
 pub mod KeyFacts

@@ -1,11 +1,11 @@
--- Changes: what one does to a configuration, and where it fits. A change is its parts, on distinct keys.
-use Rattle.std.specs.Prelude.{◌≡◌, List, [], ◌∷◌, map, flat_map}
+-- Changes: what one does to a configuration, where it fits, and what it conflicts with. A change is its parts, on distinct keys.
+use Rattle.std.specs.Prelude.{◌≡◌, Bool, ◌||◌, List, [], ◌∷◌, map, flat_map}
 use Rattle.std.specs.List.{AllByRecursion, IsDistinct}
 use Rattle.std.specs.FinMap.{get}
 use Rattle.tsn_types.specs.declared.keys.Key.{Key}
 use Rattle.tsn_edit.specs.Parts.{Change, Part, parts}
 use Rattle.tsn_types.specs.declared.limits.Limits.{Limits}
-use Rattle.tsn_types.specs.Keys.{same_key, refs_of}
+use Rattle.tsn_types.specs.Keys.{same_key, meets, refs_of}
 use Rattle.tsn_edit.specs.Configuration.{Configuration, put, IsWellKept}
 
 -- the keys, what the values before refer to, and what the values after refer to
@@ -36,3 +36,11 @@ pub record Fits (l : Limits) (c : Configuration) (e : Change) : Type 0 where
   pub distinct : IsDistinct same_key (keys_of (parts e))
   pub stands : Stands c (parts e)
   pub kept : IsWellKept l (changed c e)
+
+-- whether later parts ps conflict with qs: they have a key in common, or a value after in ps refers to a key of qs, or ps have a key that a value before in qs refers to
+abbrev pub clashes : List Part → List Part → Bool
+clashes ps qs = meets (keys_of ps) (keys_of qs) || (meets (refs_after ps) (keys_of qs) || meets (keys_of ps) (refs_before qs))
+
+-- whether a later change f conflicts with e
+abbrev pub conflicts : Change → Change → Bool
+conflicts f e = clashes (parts f) (parts e)

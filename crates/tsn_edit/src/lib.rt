@@ -7,7 +7,9 @@
 
 ghost use Rattle.std.specs.Prelude.{◌≡◌, ◌↔◌, IfOk, IsTrue};
 ghost use Rattle.std.specs.Option.{option_copied};
+ghost use Rattle.tsn_edit.specs.Changes.{conflicts};
 ghost use Rattle.tsn_edit.specs.Parts.{inverse};
+ghost use Rattle.tsn_types.specs.Keys.{has, refs_of, same_key};
 
 use std::alloc::AllocError;
 use tsn_types::keys::Key;
@@ -50,6 +52,43 @@ impl Change {
             before: try_clone_of(&self.before)?,
             after: try_clone_of(&self.after)?,
         })
+    }
+}
+
+/// Whether a later change conflicts with an earlier one: they are on the same key, or the later one's value after
+/// refers to the earlier one's key, or the later one's key is referred to by the earlier one's value before. It takes
+/// no memory.
+pub fn conflicts(later: &Change, earlier: &Change) -> bool
+    ensures { result ≡ conflicts later.now earlier.now }
+{
+    if is_same(&later.key, &earlier.key) {
+        return true;
+    }
+    if refers_to(&later.after, &earlier.key) {
+        return true;
+    }
+    refers_to(&earlier.before, &later.key)
+}
+
+fn is_same(left: &Key, right: &Key) -> bool
+    ensures { result ≡ same_key left.now right.now }
+{
+    left == right
+}
+
+/// Whether the value refers to the key; none refers to nothing.
+fn refers_to(value: &Option<Record>, key: &Key) -> bool
+    ensures { result ≡ has (refs_of value.now) key.now }
+{
+    match value {
+        Some(Record::Filter(filter)) => {
+            *key == Key::Gate(filter.gate)
+                || match filter.meter {
+                    Some(meter) => *key == Key::Meter(meter),
+                    None => false,
+                }
+        }
+        _ => false,
     }
 }
 

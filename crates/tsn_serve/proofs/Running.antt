@@ -1,7 +1,7 @@
--- How a run over lines goes on.
+-- How a run over lines goes on, by a byte, a line feed, a piece or the end of the input.
 use Rattle.std.proofs.Common.{◌≡◌, ◌≢◌, inl, inr, ℕ, ◌<◌, ◌++◌, length, take, true, false, Result, Ok, Err, List, [], ◌∷◌, Option, Some, refl, sym, ap, ◌∙◌, subst, append_assoc, append-nil}
 use Rattle.tsn_serve.specs.Lines.{line_feed, HasNoLineFeed, ended, held, held_and}
-use Rattle.tsn_serve.specs.Script.{AnswersHeld, AnswersLine, Run, AreFirst, CutScript}
+use Rattle.tsn_serve.specs.Script.{Answering, AnswersHeld, AnswersLine, Run, AreFirst, CutScript}
 use Rattle.tsn_serve.specs.Pieces.{Going, Feeds, Ends, Cuts, EndCuts}
 use Rattle.std.specs.Result.{OnErr, IfErr}
 use Rattle.tsn_wire.specs.declared.bytes.Fault.{Fault}
@@ -9,16 +9,19 @@ use Rattle.tsn_wire.specs.declared.bytes.Fault.TheVariants.{Read, Write, Memory}
 use Rattle.std.specs.List.{flat_map}
 use Rattle.tsn_serve.proofs.Cutting.{all_more, held_and_is, splits_at_feed, splits_on, held_nil, last_of_kept}
 
-pub run_more : {S : Type 0} (answers : S → List ℕ → List ℕ → S → Type 0) (old : S) (lines : List (List ℕ)) (text : List ℕ) (mid : S) (line reply : List ℕ) (new : S) → Run answers old lines text mid → AnswersLine answers mid line reply new → Run answers old (lines ++ line ∷ []) (text ++ reply) new
+-- one line more at the end of a run
+pub run_more : {S : Type 0} (answers : Answering S) (old : S) (lines : List (List ℕ)) (text : List ℕ) (mid : S) (line reply : List ℕ) (new : S) → Run answers old lines text mid → AnswersLine answers mid line reply new → Run answers old (lines ++ line ∷ []) (text ++ reply) new
 run_more answers old [] text mid line reply new h a =
     (new, reply, [], subst (λ s. AnswersLine answers s line reply new) h.1 a, (refl, refl), ap (λ t. t ++ reply) h.0 ∙ sym (append-nil reply))
 run_more answers old (l ∷ ls) text mid line reply new h a =
     (h.0, h.1, h.2 ++ reply, h.3, run_more answers h.0 ls h.2 mid line reply new h.4 a, ap (λ t. t ++ reply) h.5 ∙ append_assoc h.1 h.2 reply)
 
-pub opened : {S : Type 0} (answers : S → List ℕ → List ℕ → S → Type 0) (s : S) → Going answers s [] (Some []) [] s
+-- before the first byte nothing is held and nothing written
+pub opened : {S : Type 0} (answers : Answering S) (s : S) → Going answers s [] (Some []) [] s
 opened answers s = record { lines = []; rest = []; splits = record { whole = refl; each = tt; last = tt }; kept_is = refl; run = (refl, refl) }
 
-pub fed_byte : {S : Type 0} (answers : S → List ℕ → List ℕ → S → Type 0) (now : S) (kept : Option (List ℕ)) (b : ℕ) → b ≢ line_feed → Feeds answers now kept (b ∷ []) [] now (held_and kept b)
+-- a byte that is no line feed goes on the line that is held
+pub fed_byte : {S : Type 0} (answers : Answering S) (now : S) (kept : Option (List ℕ)) (b : ℕ) → b ≢ line_feed → Feeds answers now kept (b ∷ []) [] now (held_and kept b)
 fed_byte answers now kept b other opening input before h = record {
   lines = h.lines;
   rest = h.rest ++ b ∷ [];
@@ -27,7 +30,8 @@ fed_byte answers now kept b other opening input before h = record {
   run = rw append-nil h.run;
 }
 
-pub fed_line : {S : Type 0} (answers : S → List ℕ → List ℕ → S → Type 0) (old : S) (kept : Option (List ℕ)) (text : List ℕ) (new : S) → AnswersHeld answers old kept text new → Feeds answers old kept (line_feed ∷ []) text new (Some [])
+-- a line feed ends the line that is held, which is answered
+pub fed_line : {S : Type 0} (answers : Answering S) (old : S) (kept : Option (List ℕ)) (text : List ℕ) (new : S) → AnswersHeld answers old kept text new → Feeds answers old kept (line_feed ∷ []) text new (Some [])
 fed_line answers old kept text new a opening input before h = record {
   lines = h.lines ++ h.rest ∷ [];
   rest = [];
@@ -36,39 +40,44 @@ fed_line answers old kept text new a opening input before h = record {
   run = run_more answers opening h.lines before old h.rest text new h.run (subst (λ k. AnswersHeld answers old k text new) h.kept_is a);
 }
 
-pub fed_none : {S : Type 0} (answers : S → List ℕ → List ℕ → S → Type 0) (now : S) (kept : Option (List ℕ)) → Feeds answers now kept [] [] now kept
-fed_none answers now kept opening input before h = simp append-nil h
-
-pub fed_more : {S : Type 0} (answers : S → List ℕ → List ℕ → S → Type 0) (a b c : S) (k l m : Option (List ℕ)) (p q t u : List ℕ) → Feeds answers a k p t b l → Feeds answers b l q u c m → Feeds answers a k (p ++ q) (t ++ u) c m
+-- a piece after a piece
+pub fed_more : {S : Type 0} (answers : Answering S) (a b c : S) (k l m : Option (List ℕ)) (p q t u : List ℕ) → Feeds answers a k p t b l → Feeds answers b l q u c m → Feeds answers a k (p ++ q) (t ++ u) c m
 fed_more answers a b c k l m p q t u f g opening input before h =
     let r = g opening (input ++ p) (before ++ t) (f opening input before h) in
     simp append_assoc at r
 
-pub ended_at_feed : {S : Type 0} (answers : S → List ℕ → List ℕ → S → Type 0) (now : S) → Ends answers now (Some []) [] now
+-- the end of the input right after a line feed ends no line
+pub ended_at_feed : {S : Type 0} (answers : Answering S) (now : S) → Ends answers now (Some []) [] now
 ended_at_feed answers now opening input before h =
     let none = held_nil h.rest h.kept_is in
     (h.lines, h.rest, h.splits, rw (none, append-nil, append-nil) h.run)
 
-pub ended_with : {S : Type 0} (answers : S → List ℕ → List ℕ → S → Type 0) (old : S) (kept : Option (List ℕ)) (text : List ℕ) (new : S) → kept ≢ Some [] → AnswersHeld answers old kept text new → Ends answers old kept text new
+-- the end of the input ends the line that is held, which is answered
+pub ended_with : {S : Type 0} (answers : Answering S) (old : S) (kept : Option (List ℕ)) (text : List ℕ) (new : S) → kept ≢ Some [] → AnswersHeld answers old kept text new → Ends answers old kept text new
 ended_with answers old kept text new some a opening input before h =
     let last = last_of_kept h.rest (λ e. some (h.kept_is ∙ e)) in
     (h.lines, h.rest, h.splits, rw last (run_more answers opening h.lines before old h.rest text new h.run (subst (λ k. AnswersHeld answers old k text new) h.kept_is a)))
 
-pub fed_other_byte : {S : Type 0} (answers : S → List ℕ → List ℕ → S → Type 0) (now : S) (kept : Option (List ℕ)) (b : ℕ) (kept' : Option (List ℕ)) → b ≢ line_feed → kept' ≡ held_and kept b → Feeds answers now kept (b ∷ []) [] now kept'
+-- the same as fed_byte, for a byte and a state of the code
+pub fed_other_byte : {S : Type 0} (answers : Answering S) (now : S) (kept : Option (List ℕ)) (b : ℕ) (kept' : Option (List ℕ)) → b ≢ line_feed → kept' ≡ held_and kept b → Feeds answers now kept (b ∷ []) [] now kept'
 fed_other_byte answers now kept b kept' other e = subst (λ k. Feeds answers now kept (b ∷ []) [] now k) (sym e) (fed_byte answers now kept b other)
 
-pub fed_line_feed : {S : Type 0} (answers : S → List ℕ → List ℕ → S → Type 0) (old : S) (kept : Option (List ℕ)) (b : ℕ) (text : List ℕ) (new : S) (kept' : Option (List ℕ)) → b ≡ line_feed → kept' ≡ Some [] → AnswersHeld answers old kept text new → Feeds answers old kept (b ∷ []) text new kept'
+-- the same as fed_line, for a byte and a state of the code
+pub fed_line_feed : {S : Type 0} (answers : Answering S) (old : S) (kept : Option (List ℕ)) (b : ℕ) (text : List ℕ) (new : S) (kept' : Option (List ℕ)) → b ≡ line_feed → kept' ≡ Some [] → AnswersHeld answers old kept text new → Feeds answers old kept (b ∷ []) text new kept'
 fed_line_feed answers old kept b text new kept' at_feed e a =
     subst (λ k. Feeds answers old kept (b ∷ []) text new k) (sym e)
     (subst (λ c. Feeds answers old kept (c ∷ []) text new (Some [])) (sym at_feed) (fed_line answers old kept text new a))
 
-pub fed_as : {S : Type 0} (answers : S → List ℕ → List ℕ → S → Type 0) (a b : S) (k l : Option (List ℕ)) (p q t : List ℕ) → p ≡ q → Feeds answers a k p t b l → Feeds answers a k q t b l
+-- a piece under another name
+pub fed_as : {S : Type 0} (answers : Answering S) (a b : S) (k l : Option (List ℕ)) (p q t : List ℕ) → p ≡ q → Feeds answers a k p t b l → Feeds answers a k q t b l
 fed_as answers a b k l p q t e f = subst (λ x. Feeds answers a k x t b l) e f
 
-pub ended_empty : {S : Type 0} (answers : S → List ℕ → List ℕ → S → Type 0) (now : S) (kept : Option (List ℕ)) → kept ≡ Some [] → Ends answers now kept [] now
+-- the same as ended_at_feed, where the code found the line empty
+pub ended_empty : {S : Type 0} (answers : Answering S) (now : S) (kept : Option (List ℕ)) → kept ≡ Some [] → Ends answers now kept [] now
 ended_empty answers now kept e = subst (λ k. Ends answers now k [] now) (sym e) (ended_at_feed answers now)
 
-pub cut_line : {S : Type 0} (answers : S → List ℕ → List ℕ → S → Type 0) (old : S) (kept : Option (List ℕ)) (text : List ℕ) (n : ℕ) (new : S) → AnswersHeld answers old kept text new → n < length text → Cuts answers old kept (line_feed ∷ []) (take n text) new
+-- a line feed ends the line that is held, and the writer fails in its answer
+pub cut_line : {S : Type 0} (answers : Answering S) (old : S) (kept : Option (List ℕ)) (text : List ℕ) (n : ℕ) (new : S) → AnswersHeld answers old kept text new → n < length text → Cuts answers old kept (line_feed ∷ []) (take n text) new
 cut_line answers old kept text n new a less opening input before h = record {
   lines = h.lines;
   line = h.rest;
@@ -84,13 +93,16 @@ cut_line answers old kept text n new a less opening input before h = record {
   written_is = refl;
 }
 
-pub cut_line_feed : {S : Type 0} (answers : S → List ℕ → List ℕ → S → Type 0) (old : S) (kept : Option (List ℕ)) (b : ℕ) (text : List ℕ) (n : ℕ) (new : S) → b ≡ line_feed → AnswersHeld answers old kept text new → n < length text → Cuts answers old kept (b ∷ []) (take n text) new
+-- the same as cut_line, for a byte of the code
+pub cut_line_feed : {S : Type 0} (answers : Answering S) (old : S) (kept : Option (List ℕ)) (b : ℕ) (text : List ℕ) (n : ℕ) (new : S) → b ≡ line_feed → AnswersHeld answers old kept text new → n < length text → Cuts answers old kept (b ∷ []) (take n text) new
 cut_line_feed answers old kept b text n new at_feed a less = subst (λ c. Cuts answers old kept (c ∷ []) (take n text) new) (sym at_feed) (cut_line answers old kept text n new a less)
 
+-- lines that come first still do when more input comes
 first_on : (input : List ℕ) (lines : List (List ℕ)) (line q : List ℕ) → AreFirst false input lines line → AreFirst false (input ++ q) lines line
 first_on input lines line q h = elim h [ inl p ↦ inl (p.0 ++ q, ap (λ bs. bs ++ q) p.1 ∙ append_assoc (flat_map ended (lines ++ line ∷ [])) p.0 q) | inr p ↦ absurd (let e : false ≡ true = p.0 in cc) ]
 
-pub cut_on : {S : Type 0} (answers : S → List ℕ → List ℕ → S → Type 0) (opening : S) (input written : List ℕ) (now : S) (q : List ℕ) → CutScript answers false opening input written now → CutScript answers false opening (input ++ q) written now
+-- input after the line whose answer was cut changes nothing
+pub cut_on : {S : Type 0} (answers : Answering S) (opening : S) (input written : List ℕ) (now : S) (q : List ℕ) → CutScript answers false opening input written now → CutScript answers false opening (input ++ q) written now
 cut_on answers opening input written now q h = record {
   lines = h.lines;
   line = h.line;
@@ -106,20 +118,24 @@ cut_on answers opening input written now q h = record {
   written_is = h.written_is;
 }
 
-pub cut_more : {S : Type 0} (answers : S → List ℕ → List ℕ → S → Type 0) (a c : S) (k : Option (List ℕ)) (p q w : List ℕ) → Cuts answers a k p w c → Cuts answers a k (p ++ q) w c
+-- a piece after the cut
+pub cut_more : {S : Type 0} (answers : Answering S) (a c : S) (k : Option (List ℕ)) (p q w : List ℕ) → Cuts answers a k p w c → Cuts answers a k (p ++ q) w c
 cut_more answers a c k p q w f opening input before h =
     let r = cut_on answers opening (input ++ p) (before ++ w) c q (f opening input before h) in
     simp append_assoc at r
 
-pub cut_after : {S : Type 0} (answers : S → List ℕ → List ℕ → S → Type 0) (a b c : S) (k l : Option (List ℕ)) (p q t w : List ℕ) → Feeds answers a k p t b l → Cuts answers b l q w c → Cuts answers a k (p ++ q) (t ++ w) c
+-- a piece before the cut
+pub cut_after : {S : Type 0} (answers : Answering S) (a b c : S) (k l : Option (List ℕ)) (p q t w : List ℕ) → Feeds answers a k p t b l → Cuts answers b l q w c → Cuts answers a k (p ++ q) (t ++ w) c
 cut_after answers a b c k l p q t w f g opening input before h =
     let r = g opening (input ++ p) (before ++ t) (f opening input before h) in
     simp append_assoc at r
 
-pub cut_as : {S : Type 0} (answers : S → List ℕ → List ℕ → S → Type 0) (a c : S) (k : Option (List ℕ)) (p q w : List ℕ) → p ≡ q → Cuts answers a k p w c → Cuts answers a k q w c
+-- a cut piece under another name
+pub cut_as : {S : Type 0} (answers : Answering S) (a c : S) (k : Option (List ℕ)) (p q w : List ℕ) → p ≡ q → Cuts answers a k p w c → Cuts answers a k q w c
 cut_as answers a c k p q w e f = subst (λ x. Cuts answers a k x w c) e f
 
-pub cut_at_end : {S : Type 0} (answers : S → List ℕ → List ℕ → S → Type 0) (old : S) (kept : Option (List ℕ)) (text : List ℕ) (n : ℕ) (new : S) → kept ≢ Some [] → AnswersHeld answers old kept text new → n < length text → EndCuts answers old kept (take n text) new
+-- the end of the input ends the line that is held, and the writer fails in its answer
+pub cut_at_end : {S : Type 0} (answers : Answering S) (old : S) (kept : Option (List ℕ)) (text : List ℕ) (n : ℕ) (new : S) → kept ≢ Some [] → AnswersHeld answers old kept text new → n < length text → EndCuts answers old kept (take n text) new
 cut_at_end answers old kept text n new some a less opening input before h = record {
   lines = h.lines;
   line = h.rest;
@@ -135,12 +151,15 @@ cut_at_end answers old kept text n new some a less opening input before h = reco
   written_is = refl;
 }
 
+-- a fact that holds anyway, for an error
 pub on_err : {T E P : Type 0} (r : Result T E) → P → OnErr r P
 on_err (Ok x) p = tt
 on_err (Err e) p = p
 
+-- a result whose one fault is Write is no fault of reading
 pub no_read : {T : Type 0} (r : Result T Fault) → IfErr r (λ e. e ≡ Write) → r ≡ Err Read → ⊥
 no_read r h e = let f : Read ≡ Write = rw e at h in cc
 
+-- a result whose one fault is Write is no want of memory
 pub no_memory : {T : Type 0} (r : Result T Fault) → IfErr r (λ e. e ≡ Write) → r ≡ Err Memory → ⊥
 no_memory r h e = let f : Memory ≡ Write = rw e at h in cc

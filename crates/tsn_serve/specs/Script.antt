@@ -1,22 +1,25 @@
--- What is written for an input, given what may be written for a line. There, answers old line text new says that
--- from the state old the line may have this text, with the state new after it.
-use Rattle.std.specs.Prelude.{◌≡◌, ◌≢◌, ◌⊎◌, ℕ, ◌<◌, ◌++◌, List, [], ◌∷◌, Bool, true, length, take, Option, Some, None, codes}
+-- What is written for an input, by what may be written for a line.
+use Rattle.std.specs.Prelude.{◌≡◌, ◌≢◌, ◌⊎◌, ℕ, ◌<◌, ◌++◌, List, [], ◌∷◌, Bool, true, length, take, Option, Some, None}
 use Rattle.std.specs.List.{flat_map, AllByRecursion}
+use Rattle.tsn_types.specs.declared.refusals.Refusal.TheVariants.{TooLong}
+use Rattle.tsn_wire.specs.Replies.{refusal_text}
 use Rattle.tsn_serve.specs.Lines.{Splits, HasNoLineFeed, ended, last_line, held}
 
-abbrev pub too_long : List ℕ
-too_long = codes "{\"refused\":1,\"why\":\"too_long\"}\n"
+-- What may be written for a line: answers old line text new says that from the state old the line may have this
+-- text, its line feed in it, with the state new after it.
+abbrev pub Answering : Type 0 → Type 1
+Answering S = S → List ℕ → List ℕ → S → Type 0
 
--- What is held of a line is answered; a line that is too long is refused, and changes nothing.
-abbrev pub AnswersHeld : {S : Type 0} → (S → List ℕ → List ℕ → S → Type 0) → S → Option (List ℕ) → List ℕ → S → Type 0
-AnswersHeld answers old None text new = (text ≡ too_long) × (new ≡ old)
+-- What is held of a line is answered; a line that is too long is refused, by refusal 1, and changes nothing.
+abbrev pub AnswersHeld : {S : Type 0} → Answering S → S → Option (List ℕ) → List ℕ → S → Type 0
+AnswersHeld answers old None text new = (text ≡ refusal_text TooLong) × (new ≡ old)
 AnswersHeld answers old (Some line) text new = answers old line text new
 
-abbrev pub AnswersLine : {S : Type 0} → (S → List ℕ → List ℕ → S → Type 0) → S → List ℕ → List ℕ → S → Type 0
+abbrev pub AnswersLine : {S : Type 0} → Answering S → S → List ℕ → List ℕ → S → Type 0
 AnswersLine answers old line text new = AnswersHeld answers old (held line) text new
 
 -- Each line is answered once, in order: the text is the replies one after another, with the state going on.
-abbrev pub Run : {S : Type 0} → (S → List ℕ → List ℕ → S → Type 0) → S → List (List ℕ) → List ℕ → S → Type 0
+abbrev pub Run : {S : Type 0} → Answering S → S → List (List ℕ) → List ℕ → S → Type 0
 Run answers old [] text new = (text ≡ []) × (new ≡ old)
 Run {S} answers old (line ∷ lines) text new =
     (mid : S) × (reply : List ℕ) × (more : List ℕ)
@@ -25,14 +28,14 @@ Run {S} answers old (line ∷ lines) text new =
     × (text ≡ reply ++ more)
 
 -- The text of a script: a run over all lines of the input.
-abbrev pub IsScript : {S : Type 0} → (S → List ℕ → List ℕ → S → Type 0) → S → List ℕ → List ℕ → S → Type 0
+abbrev pub IsScript : {S : Type 0} → Answering S → S → List ℕ → List ℕ → S → Type 0
 IsScript answers old input text new =
     (lines : List (List ℕ)) × (rest : List ℕ)
     × Splits input lines rest
     × Run answers old (lines ++ last_line rest) text new
 
 -- The text of a script whose input broke off: a run over the lines that a line feed ended.
-abbrev pub OpenScript : {S : Type 0} → (S → List ℕ → List ℕ → S → Type 0) → S → List ℕ → List ℕ → S → Type 0
+abbrev pub OpenScript : {S : Type 0} → Answering S → S → List ℕ → List ℕ → S → Type 0
 OpenScript answers old input text new =
     (lines : List (List ℕ)) × (rest : List ℕ)
     × Splits input lines rest
@@ -47,7 +50,7 @@ AreFirst at_end input lines line =
 
 -- The text of a script whose writer failed: a run over the first lines, of which each reply went out but the
 -- last, and of that a part. The state is that after the last of these lines.
-pub record CutScript {S : Type 0} (answers : S → List ℕ → List ℕ → S → Type 0) (at_end : Bool) (opening : S) (input written : List ℕ) (now : S) : Type 0 where
+pub record CutScript {S : Type 0} (answers : Answering S) (at_end : Bool) (opening : S) (input written : List ℕ) (now : S) : Type 0 where
   pub lines : List (List ℕ)
   pub line : List ℕ
   pub text : List ℕ

@@ -1,15 +1,18 @@
 //! The loop that answers a script line by line, in whatever pieces its bytes come.
 //! It is generic in what answers a line, and relies on that one's contract, on the reader's and on the writer's.
-ghost use Rattle.std.specs.Prelude.{◌≡◌, ℕ, ◌≤◌, ◌⊎◌, List, [], ◌∷◌, Bool, true, length, IfErr, OnOk, OnErr, IsErrOf, Err, ◌≢◌};
-ghost use Rattle.std.specs.Io.KnownBytes.{Consumes, Appends, IsAtEnd};
+ghost use Rattle.std.specs.Prelude.{◌≡◌, ◌≢◌, ℕ, List, [], ◌∷◌, true, IfErr, OnOk, OnErr, IsErrOf, Err};
+ghost use Rattle.std.specs.Io.KnownBytes.{Appends};
 ghost use Rattle.tsn_wire.specs.Bytes.{IsCut};
 ghost use Rattle.tsn_wire.specs.declared.bytes.Fault.TheVariants.{Read, Write, Memory};
-ghost use Rattle.tsn_serve.specs.Script.{AnswersHeld, IsScript, OpenScript, CutScript};
+ghost use Rattle.tsn_serve.specs.Script.{AnswersHeld};
 ghost use Rattle.tsn_serve.specs.Pieces.{Feeds, Ends, Cuts, EndCuts};
+ghost use Rattle.tsn_serve.specs.Outcomes.{Completes, BreaksOff, IsCutOff};
 
 use crate::line_buffer::LineBuffer;
 use std::alloc::Global;
-use tsn_wire::{ByteIn, ByteOut, Fault, put_all};
+use tsn_bridge::reply::Reply;
+use tsn_types::refusals::Refusal;
+use tsn_wire::{ByteIn, ByteOut, Fault, write_reply};
 
 // The most bytes of one read.
 const CHUNK: usize = 8192;
@@ -21,7 +24,12 @@ pub trait Responder {
 
     /// Answers a line, given without its line feed. The one fault is `Write`, where the writer failed: the state
     /// is then that after the line, and a front of its text is written.
-    fn answer<W: ByteOut>(&mut self, line: &[u8], writer: &mut W) -> Result<(), Fault>
+    fn answer<W: ByteOut>(
+        &mut self,
+        alloc: Global,
+        line: &[u8],
+        writer: &mut W,
+    ) -> Result<(), Fault>
         ensures ok { OnOk result ((text : List ℕ) × answers self.old line.now text self.new
             × Appends (W.taken writer.old) (W.taken writer.new) text) }
         ensures worked { OnOk result (W.has_failed writer.new ≡ W.has_failed writer.old) }
@@ -33,6 +41,7 @@ pub trait Responder {
 
 // Answers what is held of a line that ended.
 fn answer_held<A: Responder, W: ByteOut>(
+    alloc: Global,
     responder: &mut A,
     line: &LineBuffer,
     writer: &mut W,
@@ -48,12 +57,13 @@ fn answer_held<A: Responder, W: ByteOut>(
         × IsCut (W.taken writer.old) (W.taken writer.new) text) }
 {
     match line.get() {
-        Some(bytes) => responder.answer(bytes, writer),
-        None => put_all(writer, b"{\"refused\":1,\"why\":\"too_long\"}\n"),
+        Some(bytes) => responder.answer(alloc, bytes, writer),
+        None => write_reply(writer, &Reply::Refused(Refusal::TooLong)),
     }
 }
 
 fn feed_byte<A: Responder, W: ByteOut>(
+    alloc: Global,
     responder: &mut A,
     line: &mut LineBuffer,
     byte: u8,
@@ -73,12 +83,13 @@ fn feed_byte<A: Responder, W: ByteOut>(
         line.push(byte);
         return Ok(());
     }
-    answer_held(responder, line, writer)?;
+    answer_held(alloc, responder, line, writer)?;
     line.clear();
     Ok(())
 }
 
 fn feed<A: Responder, W: ByteOut>(
+    alloc: Global,
     responder: &mut A,
     line: &mut LineBuffer,
     piece: &[u8],
@@ -95,12 +106,13 @@ fn feed<A: Responder, W: ByteOut>(
         × Appends (W.taken writer.old) (W.taken writer.new) written) }
 {
     'bytes: for byte in piece {
-        feed_byte(responder, line, *byte, writer)?;
+        feed_byte(alloc, responder, line, *byte, writer)?;
     }
     Ok(())
 }
 
 fn finish<A: Responder, W: ByteOut>(
+    alloc: Global,
     responder: &mut A,
     line: &LineBuffer,
     writer: &mut W,
@@ -118,10 +130,11 @@ fn finish<A: Responder, W: ByteOut>(
     if line.is_empty() {
         return Ok(());
     }
-    answer_held(responder, line, writer)
+    answer_held(alloc, responder, line, writer)
 }
 
-/// Answers each line of the input, with at most so many reads.
+/// Answers each line of the input, with at most so many reads. The memory for a line is taken before the first of
+/// them. After a fault the lines that ended were answered; `Write` cuts the last of these answers.
 pub fn answer_lines<A: Responder, R: ByteIn, W: ByteOut>(
     alloc: Global,
     responder: &mut A,
@@ -129,31 +142,23 @@ pub fn answer_lines<A: Responder, R: ByteIn, W: ByteOut>(
     writer: &mut W,
     reads: u64,
 ) -> Result<(), Fault>
-    ensures ok { OnOk result ((input : List ℕ) × (text : List ℕ)
-        × Consumes (R.remaining reader.old) (R.remaining reader.new) input
-        × IsAtEnd (R.remaining reader.new)
-        × Appends (W.taken writer.old) (W.taken writer.new) text
-        × IsScript A.answers responder.old input text responder.new) }
+    ensures ok { OnOk result (Completes A.answers responder.old responder.new
+        (R.remaining reader.old) (R.remaining reader.new)
+        (W.taken writer.old) (W.taken writer.new)) }
+    ensures read { IsErrOf result Read → BreaksOff A.answers responder.old responder.new
+        (R.remaining reader.old) (R.remaining reader.new)
+        (W.taken writer.old) (W.taken writer.new) (R.has_failed reader.new) reads }
+    ensures write { IsErrOf result Write → IsCutOff A.answers responder.old responder.new
+        (R.remaining reader.old) (R.remaining reader.new)
+        (W.taken writer.old) (W.taken writer.new) }
+    ensures memory { IsErrOf result Memory → (responder.new ≡ responder.old)
+        × (reader.new ≡ reader.old) × (writer.new ≡ writer.old) }
+
+    // A failed call is always told.
     ensures reader_worked { OnOk result (R.has_failed reader.new ≡ R.has_failed reader.old) }
     ensures writer_worked { result ≢ Err Write
         → W.has_failed writer.new ≡ W.has_failed writer.old }
-    // A fault of reading: the reader failed or gave a byte for each read, and all lines that ended
-    // were answered.
-    ensures read { IsErrOf result Read → (input : List ℕ) × (text : List ℕ)
-        × Consumes (R.remaining reader.old) (R.remaining reader.new) input
-        × Appends (W.taken writer.old) (W.taken writer.new) text
-        × ((R.has_failed reader.new ≡ true) ⊎ (reads ≤ length input))
-        × OpenScript A.answers responder.old input text responder.new }
-    // A fault of writing: the writer failed in the text of one of the lines that ended.
-    ensures write { IsErrOf result Write → (input : List ℕ) × (written : List ℕ) × (at_end : Bool)
-        × Consumes (R.remaining reader.old) (R.remaining reader.new) input
-        × Appends (W.taken writer.old) (W.taken writer.new) written
-        × (at_end ≡ true → IsAtEnd (R.remaining reader.new))
-        × (W.has_failed writer.new ≡ true)
-        × CutScript A.answers at_end responder.old input written responder.new }
-    // Memory is wanted before all else.
-    ensures memory { IsErrOf result Memory → (responder.new ≡ responder.old)
-        × (reader.new ≡ reader.old) × (writer.new ≡ writer.old) }
+    ensures writer_failed { IsErrOf result Write → W.has_failed writer.new ≡ true }
 {
     let Ok(mut line) = LineBuffer::new(alloc) else {
         return Err(Fault::Memory);
@@ -165,9 +170,9 @@ pub fn answer_lines<A: Responder, R: ByteIn, W: ByteOut>(
             Err(_) => return Err(Fault::Read),
         };
         if count == 0 {
-            return finish(responder, &line, writer);
+            return finish(alloc, responder, &line, writer);
         }
-        feed(responder, &mut line, &chunk[..count], writer)?;
+        feed(alloc, responder, &mut line, &chunk[..count], writer)?;
     }
     Err(Fault::Read)
 }

@@ -1,7 +1,7 @@
 //! How input is cut into lines, in whatever pieces it comes, and how a run ends where a call fails.
 mod fakes;
 
-use crate::{answer_lines, one_cut};
+use crate::{answer_lines, example_cuts, one_cut};
 use fakes::{Lengths, LineFeeds};
 use std::alloc::{AllocError, Global};
 use std::test::Fail;
@@ -121,6 +121,7 @@ fn input_without_an_end_ends_at_the_bound(rt: HostRuntime) -> Result<(), Fail> {
 }
 
 #[test]
-fn the_law_is_there() {
+fn laws_are_there() {
     one_cut();
+    example_cuts();
 }

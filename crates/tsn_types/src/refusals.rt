@@ -1,8 +1,10 @@
 //! Why a command is refused: a number, a name and, for some causes, what it is about.
 ghost use Rattle.std.specs.Prelude.{◌≡◌};
 ghost use Rattle.tsn_types.specs.Refusals.{number_of, name_of, field_name};
+ghost use Rattle.tsn_types.specs.declared.refusals.Refusal.TheVariants.{Memory};
 
 use crate::keys::Key;
+use std::alloc::{AllocError, AllocFailed};
 
 /// A member of a command, a record or a setup whose number is outside its range or its limit.
 #[derive(Clone, Copy, Debug, PartialEq, Eq)]
@@ -169,5 +171,21 @@ impl Refusal {
             Refusal::JournalFull => "journal_full",
             Refusal::Memory => "memory",
         }
+    }
+}
+
+impl From<AllocError> for Refusal {
+    ghost from_gives = { λ _ why. why ≡ Memory };
+
+    fn from(_refused: AllocError) -> Refusal {
+        Refusal::Memory
+    }
+}
+
+impl<T: Drop> From<AllocFailed<T>> for Refusal {
+    ghost from_gives = { λ _ why. why ≡ Memory };
+
+    fn from(_refused: AllocFailed<T>) -> Refusal {
+        Refusal::Memory
     }
 }

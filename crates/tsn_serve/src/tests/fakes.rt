@@ -2,6 +2,7 @@
 ghost use Rattle.std.specs.Prelude.{◌≡◌, None, false};
 
 use crate::Responder;
+use std::alloc::Global;
 use tsn_wire::{ByteIn, ByteOut, Failed, Fault, put_all};
 
 /// Answers an empty line with `empty`, a line of 65,536 bytes with `longest`, and any other with `line`.
@@ -13,7 +14,7 @@ pub struct Lengths {
 impl Responder for Lengths {
     ghost answers = { λ _ _ _ _. Unit {0} };
 
-    fn answer<W: ByteOut>(&mut self, line: &[u8], writer: &mut W) -> Result<(), Fault> {
+    fn answer<W: ByteOut>(&mut self, _: Global, line: &[u8], writer: &mut W) -> Result<(), Fault> {
         self.answered = self.answered.saturating_add(1);
         match line.len() {
             0 => put_all(writer, b"empty\n"),

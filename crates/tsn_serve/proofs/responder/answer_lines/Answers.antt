@@ -43,15 +43,13 @@ pub returns-then-count-eq0-clause-write : goal.returns-then-count-eq0-clause-wri
 returns-then-count-eq0-clause-write g c = λ e.
     let before = c.reads.invariant in
     let whole = Consumes-trans _ _ _ _ _ before.2 c.in-Ok-pull.ensures.bytes in
-    let cut = rw e at c.finish.ensures.cut in
-    let failed = rw e at c.finish.ensures.failed in (
+    let cut = rw e at c.finish.ensures.cut in (
       before.0,
       before.1 ++ cut.0,
       true,
       rw (c.if-count-eq0.true, append-nil) at whole,
       Appends-trans _ _ _ _ _ before.3 cut.2,
       (λ _. c.in-Ok-pull.ensures.end c.if-count-eq0.true (omega (arith, c.pull.auto.buffer))),
-      failed,
       cut.1 c.args.responder.now before.0 before.1 before.4,
     )
 
@@ -65,7 +63,6 @@ returns-in_err-feed-clause-write g c = λ _.
       Consumes-trans _ _ _ _ _ before.2 c.in-Ok-pull.ensures.bytes,
       Appends-trans _ _ _ _ _ before.3 cut.2,
       (λ e. absurd (let f : false ≡ true = e in cc)),
-      c.in_err-feed.ensures.failed,
       cut.1 c.args.responder.now before.0 before.1 before.4,
     )
 

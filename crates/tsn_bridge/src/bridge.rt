@@ -1,0 +1,215 @@
+//! The bridge: its book and the sessions that it has given out, stepped by one command at a time.
+//!
+//! A step is a step of the machine that `specs/Machine.antt` defines. Contracts see a bridge as the machine's state.
+//! A refused command changes nothing; of several causes the one of the least number is answered, and want of memory
+//! only where no other cause holds.
+ghost use Rattle.std.specs.Prelude.{◌≡◌, ◌⊎◌, ℕ, IfOk, IfErr, OnOk, IsTrue, Some, None, []};
+ghost use Rattle.std.specs.Option.{option_or};
+ghost use Rattle.tsn_types.specs.Limits.{first_cause};
+ghost use Rattle.tsn_types.specs.declared.refusals.Refusal.TheVariants.{Memory, NoSession};
+ghost use Rattle.tsn_edit.specs.Configuration.{IsWellKept};
+ghost use Rattle.tsn_edit.specs.Edits.{early_causes};
+ghost use Rattle.tsn_edit.specs.Runs.{run, IsGood};
+ghost use Rattle.tsn_config.specs.Opening.{opening, opening_refusal};
+ghost use Rattle.tsn_undo.specs.Entries.{changes, standing};
+ghost use Rattle.tsn_undo.specs.Steps.{present};
+ghost use Rattle.tsn_bridge.specs.Machine.{Step, HelloStep, EditStep, UndoStep, ShowStep, ListStep, is_given};
+
+use crate::command::Command;
+use crate::reply::Reply;
+use std::alloc::Global;
+use std::marker::Model;
+use tsn_config::Config;
+use tsn_config::records::Records;
+use tsn_edit::Edit;
+use tsn_types::keys::{Key, Kind};
+use tsn_types::limits::Limits;
+use tsn_types::refusals::{Field, Refusal};
+use tsn_undo::book::Book;
+
+/// How many sessions a bridge gives out at most.
+pub const MOST_SESSIONS: u32 = 1;
+
+/// What a bridge begins with: its limits, and the records of its first configuration.
+#[derive(Debug, Drop)]
+pub struct Setup {
+    pub limits: Limits,
+    pub records: Records,
+}
+
+impl Setup {
+    /// The setup of a bridge of which nothing was said: 2 ports, tables of 16 instances, lists of up to 16 entries and
+    /// no records. It takes no memory.
+    pub fn standard(alloc: Global) -> Setup
+        ensures limits { result.limits ≡ record { ports = 2; filters = 16; gates = 16; meters = 16; list = 16 } }
+        ensures records { result.records ≡ [] }
+    {
+        Setup {
+            limits: Limits::new(2, 16, 16, 16, 16).unwrap(),
+            records: Records::new(alloc),
+        }
+    }
+}
+
+/// The state of one bridge.
+#[derive(Drop)]
+pub struct Bridge {
+    alloc: Global,
+    book: Book,
+    sessions: u32,
+}
+
+impl Model for Bridge {
+    ghost use Rattle.tsn_bridge.specs.State.{State, state_code};
+
+    ghost Value = { State };
+
+    ghost coded = { state_code };
+
+    ghost view = { λ a. record { book = a.book; sessions = a.sessions } };
+}
+
+impl Bridge {
+    /// A bridge that begins with the setup. Refused are, in this order: the first record whose key, gate, meter or
+    /// list is outside the limits (4), the first key that is given twice (7), and the first absent reference of the
+    /// least filter (8); want of memory (18) may be answered in place of any answer.
+    pub fn new(alloc: Global, setup: Setup) -> Result<Bridge, Refusal>
+        ensures admitted { OnOk result (opening_refusal setup.limits setup.records ≡ None) }
+        ensures begins { IfOk result (λ bridge. bridge ≡ record {
+          book = record { limits = setup.limits; opening = opening setup.limits setup.records; entries = [] };
+          sessions = 0;
+        }) }
+        ensures refused { IfErr result (λ why.
+            (opening_refusal setup.limits setup.records ≡ Some why) ⊎ (why ≡ Memory)) }
+    {
+        let Setup { limits, records } = setup;
+        let config = match Config::open(alloc, limits, records) {
+            Ok(config) => config,
+            Err(why) => return Err(why),
+        };
+        Ok(Bridge {
+            alloc,
+            book: Book::new(alloc, config),
+            sessions: 0,
+        })
+    }
+
+    /// Answers a command of the session. A session of a hello is not looked at.
+    pub fn step(&mut self, session: u32, command: Command) -> Reply
+        ensures { Step self.old session command result self.new }
+    {
+        match command {
+            Command::Hello => self.hello(),
+            Command::Create { key, value } => self.edit(session, Edit::Create(key, value)),
+            Command::Replace { key, value } => self.edit(session, Edit::Replace(key, value)),
+            Command::Remove { key } => self.edit(session, Edit::Remove(key)),
+            Command::Undo => self.undo(session),
+            Command::Show { key } => self.show(session, &key),
+            Command::List { kind } => self.list(session, kind),
+        }
+    }
+
+    /// The present configuration. It is the run of the standing entries from the opening, and that run is good.
+    pub fn config(&self) -> &Config
+        ensures limits { result.now.limits ≡ self.now.book.limits }
+        ensures map { result.now.map ≡ present self.now.book }
+        ensures kept { IsWellKept self.now.book.limits (present self.now.book) }
+        ensures good { IsGood self.now.book.limits self.now.book.opening (changes (standing self.now.book.entries)) }
+        ensures stands { result.now.map ≡ run self.now.book.opening (changes (standing self.now.book.entries)) }
+    {
+        self.book.config()
+    }
+
+    /// Gives out the next session number. It takes no memory.
+    fn hello(&mut self) -> Reply
+        ensures { HelloStep self.old result self.new }
+    {
+        if self.sessions >= MOST_SESSIONS {
+            return Reply::Refused(Refusal::Range(Field::Session));
+        }
+        self.sessions += 1;
+        Reply::Session {
+            session: self.sessions,
+        }
+    }
+
+    /// Whether the session number was given out.
+    fn is_given(&self, session: u32) -> bool
+        ensures { result ≡ is_given self.now session }
+    {
+        0 < session && session <= self.sessions
+    }
+
+    fn edit(&mut self, session: u32, edit: Edit) -> Reply
+        ensures { EditStep self.old session edit result self.new }
+    {
+        if self.is_given(session) {
+            return self.edit_given(session, edit);
+        }
+        Reply::Refused(self.refuse_stranger(&edit))
+    }
+
+    /// An edit of a session that was given out.
+    fn edit_given(&mut self, session: u32, edit: Edit) -> Reply
+        requires { IsTrue (is_given self.old session) }
+        ensures { EditStep self.old session edit result self.new }
+    {
+        let entry = match self.book.edit(session, edit) {
+            Ok(entry) => entry,
+            Err(why) => return Reply::Refused(why),
+        };
+        Reply::Entry { entry }
+    }
+
+    /// Why an edit of a session that was not given out is refused: 3 and 4 come before 5.
+    fn refuse_stranger(&self, edit: &Edit) -> Refusal
+        ensures { Some result ≡ option_or (first_cause (early_causes self.now.book.limits edit.now)) (Some NoSession) }
+    {
+        match self.config().check_early(edit) {
+            Some(why) => why,
+            None => Refusal::NoSession,
+        }
+    }
+
+    fn undo(&mut self, session: u32) -> Reply
+        ensures { UndoStep self.old session result self.new }
+    {
+        if !self.is_given(session) {
+            return Reply::Refused(Refusal::NoSession);
+        }
+        match self.book.undo(session) {
+            Ok((entry, of)) => Reply::EntryOf { entry, of },
+            Err(why) => Reply::Refused(why),
+        }
+    }
+
+    fn show(&self, session: u32, key: &Key) -> Reply
+        ensures { ShowStep self.now session key.now result self.now }
+    {
+        if !self.config().limits().holds(*key) {
+            return Reply::Refused(Refusal::Range(Field::Key));
+        }
+        if !self.is_given(session) {
+            return Reply::Refused(Refusal::NoSession);
+        }
+        match self.config().get(*key) {
+            Some(found) => match found.try_clone() {
+                Ok(value) => Reply::Shown { key: *key, value },
+                Err(_) => Reply::Refused(Refusal::Memory),
+            },
+            None => Reply::Refused(Refusal::Missing(*key)),
+        }
+    }
+
+    fn list(&self, session: u32, kind: Kind) -> Reply
+        ensures { ListStep self.now session kind result self.now }
+    {
+        if !self.is_given(session) {
+            return Reply::Refused(Refusal::NoSession);
+        }
+        match self.config().ids(self.alloc, kind) {
+            Ok(ids) => Reply::Ids { ids },
+            Err(_) => Reply::Refused(Refusal::Memory),
+        }
+    }
+}

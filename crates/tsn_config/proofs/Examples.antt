@@ -1,0 +1,149 @@
+-- Worked examples of the definitions alone, with literals.
+use Rattle.std.proofs.Common.{◌≡◌, ℕ, true, false, cond, List, [], ◌∷◌, ◌++◌, refl, ap, Option, Some, None}
+use Rattle.std.specs.Prelude.{find, option_map, replicate}
+use Rattle.std.specs.FinMap.{empty, entries, entries-insert, from_entries, get, get-empty, get-from_entries, get-insert, insert, put}
+use Rattle.tsn_types.specs.declared.keys.Key.{Key}
+use Rattle.tsn_types.specs.declared.keys.Key.TheVariants.{Port, Filter, Gate, Meter}
+use Rattle.tsn_types.specs.declared.records.GateEntry.{GateEntry}
+use Rattle.tsn_types.specs.declared.records.Record.{Record}
+use Rattle.tsn_types.specs.declared.records.Record.TheVariants.{Filter as FilterRecord, Gate as GateRecord, Meter as MeterRecord}
+use Rattle.tsn_types.specs.declared.limits.Limits.{Limits}
+use Rattle.tsn_types.specs.declared.refusals.Field.TheVariants as fields
+use Rattle.tsn_types.specs.declared.refusals.Refusal.TheVariants.{Shape, Range, Missing, Exists, Dangling, Referred}
+use Rattle.tsn_types.specs.Keys.{has, key_cmp, refs, same_key}
+use Rattle.tsn_edit.specs.declared.Edit.TheVariants.{Create, Replace, Remove}
+use Rattle.tsn_edit.specs.Configuration.{Configuration}
+use Rattle.tsn_edit.specs.Edits.{referrer, refusal}
+use Rattle.tsn_edit.proofs.KeyFacts.{keys_total}
+use Rattle.tsn_config.specs.Opening.{default_port, default_ports, opening, opening_refusal}
+use Rattle.tsn_config.proofs.Listed.{from_sorted_list}
+
+-- two ports, sixteen instances of each other kind, lists of up to sixteen entries
+abbrev limits : Limits
+limits = record { ports = 2; filters = 16; gates = 16; meters = 16; list = 16 }
+
+abbrev gate_with : List GateEntry → Record
+gate_with es = GateRecord (record { is_open = true; ipv = None; invalid_rx = false; octets_exceeded = false; admin = record { list = es; cycle = 1000000; extension = 0; base = 0 } })
+
+abbrev gate : Record
+gate = gate_with []
+
+abbrev entry : GateEntry
+entry = record { is_open = true; ipv = None; interval = 1; octets = None }
+
+abbrev meter : Record
+meter = MeterRecord (record { cir = 8000000; cbs = 1500; eir = 0; ebs = 0; cf = false; aware = false; drop_yellow = false; all_red = false })
+
+abbrev filter : ℕ → Option ℕ → Record
+filter g m = FilterRecord (record { handle = Some 7; priority = None; gate = g; max_sdu = Some 1500; meter = m; oversize = true })
+
+-- both ports, filter 3 on gate 0 and meter 0
+abbrev rows : List (Key × Record)
+rows = (Port 1, default_port) ∷ (Port 2, default_port) ∷ (Filter 3, filter 0 (Some 0)) ∷ (Gate 0, gate) ∷ (Meter 0, meter) ∷ []
+
+abbrev now : Configuration
+now = from_entries rows
+
+inserted : (c : Configuration) (k : Key) (r : Record) (q : Key) → get (insert c k r) q ≡ cond (same_key q k) (Some r) (get c q)
+inserted = get-insert keys_total
+
+none_at : (q : Key) → get (empty {X = Record} {R = key_cmp}) q ≡ None
+none_at = get-empty key_cmp
+
+listed : (c : Configuration) (k : Key) (r : Record) → entries (insert c k r) ≡ put key_cmp k r (entries c)
+listed = entries-insert keys_total
+
+none_listed : entries (empty {X = Record} {R = key_cmp}) ≡ []
+none_listed = from_sorted_list [] refl
+
+gate_twice : refusal limits now (Create (Gate 0) gate) ≡ Some (Exists (Gate 0))
+gate_twice = simp (inserted, none_at)
+
+gate_beyond : (c : Configuration) → refusal limits c (Create (Gate 16) gate) ≡ Some (Range fields.Key)
+gate_beyond c = refl
+
+list_beyond : (c : Configuration) → refusal limits c (Create (Gate 1) (gate_with (replicate 17 entry))) ≡ Some (Range fields.List)
+list_beyond c = refl
+
+longest_list : refusal limits now (Create (Gate 1) (gate_with (replicate 16 entry))) ≡ None
+longest_list = simp (inserted, none_at)
+
+reference_beyond : (c : Configuration) → refusal limits c (Create (Filter 4) (filter 16 None)) ≡ Some (Range fields.Gate)
+reference_beyond c = refl
+
+meter_beyond : (c : Configuration) → refusal limits c (Create (Filter 4) (filter 9 (Some 16))) ≡ Some (Range fields.Meter)
+meter_beyond c = refl
+
+gate_absent : refusal limits now (Create (Filter 4) (filter 9 None)) ≡ Some (Dangling (Gate 9))
+gate_absent = simp (inserted, none_at)
+
+both_absent : refusal limits now (Create (Filter 4) (filter 9 (Some 9))) ≡ Some (Dangling (Gate 9))
+both_absent = simp (inserted, none_at)
+
+meter_absent : refusal limits now (Create (Filter 4) (filter 0 (Some 9))) ≡ Some (Dangling (Meter 9))
+meter_absent = simp (inserted, none_at)
+
+admitted : refusal limits now (Create (Filter 4) (filter 0 None)) ≡ None
+admitted = simp (inserted, none_at)
+
+replaced_by_itself : refusal limits now (Replace (Gate 0) gate) ≡ None
+replaced_by_itself = simp (inserted, none_at)
+
+replace_absent : refusal limits now (Replace (Meter 9) meter) ≡ Some (Missing (Meter 9))
+replace_absent = simp (inserted, none_at)
+
+remove_absent : refusal limits now (Remove (Gate 9)) ≡ Some (Missing (Gate 9))
+remove_absent = simp (inserted, none_at)
+
+-- a port is never removed, and one within the limits is there already
+port_removed : (c : Configuration) → refusal limits c (Remove (Port 1)) ≡ Some Shape
+port_removed c = refl
+
+port_created : refusal limits now (Create (Port 1) default_port) ≡ Some (Exists (Port 1))
+port_created = simp (inserted, none_at)
+
+port_beyond : (c : Configuration) → refusal limits c (Create (Port 3) default_port) ≡ Some (Range fields.Key)
+port_beyond c = refl
+
+other_kind : (c : Configuration) → refusal limits c (Create (Gate 16) meter) ≡ Some Shape
+other_kind c = refl
+
+-- a key in use is not removed; of filters that use it the least is named
+gate_in_use : referrer now (Gate 0) ≡ Some (Referred (Filter 3))
+gate_in_use = ap (λ es. option_map (λ (e : Key × Record). Referred e.0) (find (λ e. has (refs e.1) (Gate 0)) es)) (from_sorted_list rows refl)
+
+meter_in_use : referrer now (Meter 0) ≡ Some (Referred (Filter 3))
+meter_in_use = ap (λ es. option_map (λ (e : Key × Record). Referred e.0) (find (λ e. has (refs e.1) (Meter 0)) es)) (from_sorted_list rows refl)
+
+gate_removed : refusal limits now (Remove (Gate 0)) ≡ Some (Referred (Filter 3))
+gate_removed = simp (inserted, none_at, listed, none_listed)
+
+abbrev shared : List (Key × Record)
+shared = (Filter 3, filter 0 None) ∷ (Filter 5, filter 0 None) ∷ (Gate 0, gate) ∷ []
+
+least_user : referrer (from_entries shared) (Gate 0) ≡ Some (Referred (Filter 3))
+least_user = ap (λ es. option_map (λ (e : Key × Record). Referred e.0) (find (λ e. has (refs e.1) (Gate 0)) es)) (from_sorted_list shared refl)
+
+-- an opening with no record has the default ports and nothing else
+port_one : get (opening limits []) (Port 1) ≡ Some default_port
+port_one = get-from_entries keys_total (default_ports 2) (Port 1)
+
+port_two : get (opening limits []) (Port 2) ≡ Some default_port
+port_two = get-from_entries keys_total (default_ports 2) (Port 2)
+
+port_three : get (opening limits []) (Port 3) ≡ None
+port_three = get-from_entries keys_total (default_ports 2) (Port 3)
+
+-- a key given twice, a key and a reference beyond the limits
+given_twice : opening_refusal limits ((Gate 0, gate) ∷ (Meter 1, meter) ∷ (Gate 0, gate) ∷ (Meter 1, meter) ∷ []) ≡ Some (Exists (Gate 0))
+given_twice = refl
+
+beyond_first : opening_refusal limits ((Gate 0, gate) ∷ (Gate 0, gate) ∷ (Filter 1, filter 16 None) ∷ (Gate 16, gate) ∷ []) ≡ Some (Range fields.Gate)
+beyond_first = refl
+
+-- an absent reference is that of the least filter, wherever it stands in the list
+abbrev given : List (Key × Record)
+given = (Filter 4, filter 9 None) ∷ (Filter 1, filter 8 None) ∷ []
+
+least_filter : opening_refusal limits given ≡ Some (Dangling (Gate 8))
+least_filter = simp (listed, none_listed, inserted, none_at)

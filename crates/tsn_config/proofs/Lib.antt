@@ -1,0 +1,10 @@
+pub mod Dangling
+pub mod Deciding
+pub mod Edits
+pub mod Examples
+pub mod Joined
+pub mod Listed
+pub mod Numbered
+pub mod Opened
+pub mod OpeningKept
+pub mod SetRows

@@ -1,0 +1,5 @@
+pub mod Ids
+pub mod Keeping
+pub mod Kinds
+pub mod Opening
+pub mod Settings

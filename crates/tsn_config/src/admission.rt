@@ -1,0 +1,140 @@
+//! Which edits are admitted, why another is refused, and what an admitted one does.
+//!
+//! The causes are tested in the order of their numbers: 3, 4, 6, 7, 8, 9. It relies on the rows for look-ups, and on
+//! the limits for all that depends on no other record.
+ghost use Rattle.std.specs.Prelude.{◌≡◌, IfOk, None};
+ghost use Rattle.tsn_types.specs.Limits.{first_cause};
+ghost use Rattle.tsn_edit.specs.Edits.{refusal, early_causes, late_causes, change_of, referrer, is_of_kind, is_port, limit_causes};
+
+use crate::Config;
+use std::alloc::AllocError;
+use tsn_edit::{Change, Edit};
+use tsn_types::keys::Key;
+use tsn_types::limits::Limits;
+use tsn_types::numbers::FilterId;
+use tsn_types::records::Record;
+use tsn_types::refusals::{Field, Refusal};
+
+impl Config {
+    /// Why the edit is refused: the cause of the least number, none where the edit is admitted. Of absent references
+    /// the gate is named before the meter, and of filters that refer to a key the least. It takes no memory.
+    pub fn check(&self, edit: &Edit) -> Option<Refusal>
+        ensures { result ≡ refusal self.now.limits self.now.map edit.now }
+    {
+        if let Some(why) = self.check_early(edit) {
+            return Some(why);
+        }
+        self.check_late(edit)
+    }
+
+    /// Why the edit is refused whatever the configuration holds: 3 for a record of another kind than its key and for
+    /// the removal of a port, 4 for what is outside the limits. It takes no memory.
+    pub fn check_early(&self, edit: &Edit) -> Option<Refusal>
+        ensures { result ≡ first_cause (early_causes self.now.limits edit.now) }
+    {
+        match edit {
+            Edit::Create(key, value) => refuse_limits(self.limits, key, value),
+            Edit::Replace(key, value) => refuse_limits(self.limits, key, value),
+            Edit::Remove(key) => {
+                if is_port(key) {
+                    return Some(Refusal::Shape);
+                }
+                if !self.limits.holds(*key) {
+                    return Some(Refusal::Range(Field::Key));
+                }
+                None
+            }
+        }
+    }
+
+    // Why the edit is refused by what the configuration holds.
+    fn check_late(&self, edit: &Edit) -> Option<Refusal>
+        ensures { result ≡ first_cause (late_causes self.now.map edit.now) }
+    {
+        match edit {
+            Edit::Create(key, value) => {
+                if self.rows.has(*key) {
+                    return Some(Refusal::Exists(*key));
+                }
+                self.rows.dangling(value)
+            }
+            Edit::Replace(key, value) => {
+                if !self.rows.has(*key) {
+                    return Some(Refusal::Missing(*key));
+                }
+                self.rows.dangling(value)
+            }
+            Edit::Remove(key) => {
+                if !self.rows.has(*key) {
+                    return Some(Refusal::Missing(*key));
+                }
+                self.referrer(key)
+            }
+        }
+    }
+
+    /// The change of an admitted edit: the key with the value that stands there and the one that the edit puts there.
+    /// It is refused only for want of memory, since it copies the value that stands there.
+    pub fn change_of(&self, edit: Edit) -> Result<Change, AllocError>
+        requires { refusal self.now.limits self.now.map edit ≡ None }
+        ensures { IfOk result (λ change. change ≡ change_of self.now.map edit) }
+    {
+        match edit {
+            Edit::Create(key, value) => Ok(Change {
+                key,
+                before: self.rows.copy_of(key)?,
+                after: Some(value),
+            }),
+            Edit::Replace(key, value) => Ok(Change {
+                key,
+                before: self.rows.copy_of(key)?,
+                after: Some(value),
+            }),
+            Edit::Remove(key) => Ok(Change {
+                key,
+                before: self.rows.copy_of(key)?,
+                after: None,
+            }),
+        }
+    }
+
+    // The refusal for the least filter that refers to the key.
+    pub(crate) fn referrer(&self, key: &Key) -> Option<Refusal>
+        ensures { result ≡ referrer self.now.map key.now }
+    {
+        let number = self.rows.referrer(key)?;
+        let _most = self.limits.ports();
+        Some(Refusal::Referred(Key::Filter(FilterId::new(number).unwrap())))
+    }
+}
+
+// Why the record may not stand at the key, by the limits alone.
+pub(crate) fn refuse_limits(limits: Limits, key: &Key, value: &Record) -> Option<Refusal>
+    ensures { result ≡ first_cause (limit_causes limits key.now value.now) }
+{
+    if !is_of_kind(key, value) {
+        return Some(Refusal::Shape);
+    }
+    if !limits.holds(*key) {
+        return Some(Refusal::Range(Field::Key));
+    }
+    limits.refuse(value)
+}
+
+fn is_of_kind(key: &Key, value: &Record) -> bool
+    ensures { result ≡ is_of_kind key.now value.now }
+{
+    matches!(
+        (key, value),
+        (Key::Port(_), Record::Port(_))
+            | (Key::Filter(_), Record::Filter(_))
+            | (Key::Gate(_), Record::Gate(_))
+            | (Key::Meter(_), Record::Meter(_))
+    )
+}
+
+pub(crate) fn is_port(key: &Key) -> bool
+    ensures { result ≡ is_port key.now }
+{
+    matches!(key, Key::Port(_))
+}

@@ -1,0 +1,65 @@
+//! Whether a change, or its inverse, fits the configuration.
+//!
+//! The test looks at the value that stands at the key, at the record's limits and at its references; that this is
+//! enough rests on the configuration being well kept, by its type. Nothing here takes memory.
+ghost use Rattle.std.specs.Prelude.{◌≡◌, ◌↔◌, IsTrue};
+ghost use Rattle.std.specs.FinMap as map;
+ghost use Rattle.tsn_edit.specs.Changes.{Fits};
+ghost use Rattle.tsn_edit.specs.Parts.{inverse};
+ghost use Rattle.tsn_config.specs.Keeping.{keeps};
+
+use crate::Config;
+use crate::admission::{is_port, refuse_limits};
+use tsn_edit::Change;
+use tsn_types::keys::Key;
+use tsn_types::records::Record;
+
+impl Config {
+    /// Whether the change fits: its value before stands at its key, and with its value after there the configuration
+    /// is well kept.
+    pub fn fits(&self, change: &Change) -> bool
+        ensures { IsTrue result ↔ Fits self.now.limits self.now.map change.now }
+    {
+        self.fits_between(&change.key, &change.before, &change.after)
+    }
+
+    /// Whether the change's inverse fits.
+    pub fn fits_inverse(&self, change: &Change) -> bool
+        ensures { IsTrue result ↔ Fits self.now.limits self.now.map (inverse change.now) }
+    {
+        self.fits_between(&change.key, &change.after, &change.before)
+    }
+
+    // Whether the change of the key from one value to the other fits.
+    fn fits_between(&self, key: &Key, before: &Option<Record>, after: &Option<Record>) -> bool
+        ensures { IsTrue result ↔ Fits self.now.limits self.now.map (record { key = key.now; before = before.now; after = after.now }) }
+    {
+        // The proof needs what the type keeps, and reading a field gives it.
+        let _kept = &self.limits;
+        self.stands(key, before) && self.keeps(key, before, after)
+    }
+
+    // Whether the value stands at the key.
+    fn stands(&self, key: &Key, before: &Option<Record>) -> bool
+        ensures { IsTrue result ↔ (map.get self.now.map key.now ≡ before.now) }
+    {
+        match (self.get(*key), before) {
+            (Some(found), Some(value)) => found.is(value),
+            (None, None) => true,
+            _ => false,
+        }
+    }
+
+    // Whether the configuration stays well kept with the value after at the key, where the value before stands.
+    fn keeps(&self, key: &Key, before: &Option<Record>, after: &Option<Record>) -> bool
+        ensures { result ≡ keeps self.now.limits self.now.map key.now before.now after.now }
+    {
+        match after {
+            Some(value) => {
+                refuse_limits(self.limits, key, value).is_none()
+                    && self.rows.dangling(value).is_none()
+            }
+            None => before.is_none() || (!is_port(key) && self.referrer(key).is_none()),
+        }
+    }
+}

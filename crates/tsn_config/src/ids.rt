@@ -1,0 +1,44 @@
+//! The numbers of the instances that are there.
+//!
+//! It relies on the rows of each kind, which are kept in the order of their numbers.
+ghost use Rattle.std.specs.Prelude.{◌≡◌, IfOk};
+ghost use Rattle.tsn_config.specs.Ids.{ids_of};
+
+use crate::Config;
+use std::alloc::{AllocError, Global};
+use std::marker::Model;
+use tsn_types::keys::Kind;
+
+/// Numbers of instances in a list, which contracts see as the list.
+#[derive(Debug, Drop)]
+pub struct Ids {
+    ids: Vec<u64>,
+}
+
+impl Model for Ids {
+    ghost use Rattle.std.specs.Prelude.{List, ℕ};
+
+    ghost Value = { List ℕ };
+
+    ghost view = { λ a. a.ids.items };
+}
+
+impl Ids {
+    /// The numbers in order.
+    pub fn as_slice(&self) -> &[u64]
+        ensures { result.now ≡ self.now }
+    {
+        self.ids.as_slice()
+    }
+}
+
+impl Config {
+    /// The numbers of all instances of the kind that are there, ascending. Refused only for want of memory.
+    pub fn ids(&self, alloc: Global, kind: Kind) -> Result<Ids, AllocError>
+        ensures { IfOk result (λ ids. ids ≡ ids_of kind self.now.map) }
+    {
+        Ok(Ids {
+            ids: self.rows.ids(alloc, kind)?,
+        })
+    }
+}

@@ -1,0 +1,23 @@
+//! Laws of edits and changes, each a function whose contract is the law and whose body is empty.
+//!
+//! They are about the definitions alone, over every limits, configuration, edit and change. Nothing calls them as the
+//! program runs.
+ghost use Rattle.std.specs.Prelude.{◌≡◌, [], ◌∷◌, None};
+ghost use Rattle.tsn_types.specs.declared.limits.Limits.{Limits};
+ghost use Rattle.tsn_edit.specs.declared.Edit.{Edit};
+ghost use Rattle.tsn_edit.specs.Changes.{Fits};
+ghost use Rattle.tsn_edit.specs.Configuration.{Configuration, IsWellKept};
+ghost use Rattle.tsn_edit.specs.Edits.{change_of, refusal};
+ghost use Rattle.tsn_edit.specs.Parts.{Change, inverse};
+ghost use Rattle.tsn_edit.specs.Runs.{run, IsGood};
+
+/// A change that fits a well kept configuration, followed by its inverse, is a good run that ends where it began.
+pub fn change_and_inverse()
+    ensures good { (l : Limits) (c : Configuration) (e : Change) → IsWellKept l c → Fits l c e → IsGood l c (e ∷ inverse e ∷ []) }
+    ensures same { (l : Limits) (c : Configuration) (e : Change) → IsWellKept l c → Fits l c e → run c (e ∷ inverse e ∷ []) ≡ c }
+{}
+
+/// The change of an admitted edit fits the well kept configuration in which the edit was admitted.
+pub fn admitted_edit_fits()
+    ensures { (l : Limits) (c : Configuration) (edit : Edit) → IsWellKept l c → refusal l c edit ≡ None → Fits l c (change_of c edit) }
+{}

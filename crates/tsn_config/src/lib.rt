@@ -1,0 +1,72 @@
+//! The configuration of a bridge: a map from keys to records that is well kept at every moment, by its type.
+//!
+//! A `Config` is seen as one finite map from keys to records with its limits (802.1Q-2018, 12.29 and 12.31). Each key
+//! and list is within the limits, each record is of its key's kind, each port is there, and each reference of a filter
+//! is to a key that is there. `check` says why an edit is refused, `change_of` what an admitted one does, and `apply`
+//! does it. The definitions of edits and changes are those of `tsn_edit`.
+#![tactic(auto)]
+
+ghost use Rattle.std.specs.Prelude.{◌≡◌, ℕ, option_map};
+ghost use Rattle.std.specs.FinMap as map;
+ghost use Rattle.tsn_types.specs.Whole.{whole};
+ghost use Rattle.tsn_types.specs.declared.records.Record.TheVariants.{Filter as FilterRecord};
+
+use crate::rows::Rows;
+use std::marker::Model;
+use tsn_table::Table;
+use tsn_types::keys::Key;
+use tsn_types::limits::Limits;
+use tsn_types::records::{RecordRef, StreamFilter};
+
+mod admission;
+mod applying;
+mod fitting;
+pub mod ids;
+pub mod laws;
+mod opening;
+pub mod records;
+mod rows;
+
+/// A well kept configuration with its limits. `map` is the map from keys to records, and `spare` the number of
+/// changes that it certainly has room for.
+#[derive(Debug, Drop)]
+pub struct Config {
+    limits: Limits,
+    rows: Rows,
+}
+
+impl Model for Config {
+    ghost use Rattle.tsn_config.specs.Settings.{Settings, settings_code};
+    ghost use Rattle.tsn_edit.specs.Configuration.{IsWellKept};
+
+    ghost Value = { Settings };
+
+    ghost coded = { settings_code };
+
+    ghost view = { λ a. record { limits = a.limits; map = a.rows.map; spare = a.rows.spare } };
+
+    ghost invariant = { λ a. IsWellKept a.limits a.rows.map };
+}
+
+impl Config {
+    /// The limits, which never change.
+    pub fn limits(&self) -> Limits
+        ensures { result ≡ self.now.limits }
+    {
+        self.limits
+    }
+
+    /// The record of the key, lent, none where the key is absent.
+    pub fn get(&self, key: Key) -> Option<RecordRef<'_>>
+        ensures { option_map whole result ≡ map.get self.now.map key }
+    {
+        self.rows.get(key)
+    }
+
+    /// The stream filters by number, as a table of their own.
+    pub fn filters(&self) -> &Table<StreamFilter>
+        ensures { (n : ℕ) → option_map FilterRecord (map.get result.now.map n) ≡ map.get self.now.map (Key.Filter n) }
+    {
+        self.rows.filters()
+    }
+}

@@ -1,0 +1,248 @@
+//! The rows of the four kinds of managed object, one table for each kind, seen as one map from keys to records.
+//!
+//! Nothing here knows the limits: a map that is not well kept can stand here while a configuration is opened. It
+//! relies on the tables alone, and each call works in the table of its key's kind.
+ghost use Rattle.std.specs.Prelude.{◌≡◌, ℕ, ◌+◌, ◌≤◌, IfOk, IfSome, IsOk, IsTrue, OnOk, is_some, option_map};
+ghost use Rattle.std.specs.FinMap as map;
+ghost use Rattle.tsn_types.specs.Keys.{has, refs};
+ghost use Rattle.tsn_types.specs.Whole.{whole};
+ghost use Rattle.tsn_types.specs.declared.refusals.Refusal.TheVariants.{Referred};
+ghost use Rattle.tsn_edit.specs.Configuration.{put};
+ghost use Rattle.tsn_edit.specs.Edits.{dangling, is_of_kind, referrer};
+ghost use Rattle.tsn_config.specs.Opening.{dangling_cause};
+ghost use Rattle.tsn_config.specs.Ids.{ids_of};
+ghost use Rattle.tsn_config.specs.Kinds.{port_of, filter_of, gate_of, meter_of};
+ghost use Rattle.tsn_config.specs.Settings.{set_row};
+
+use std::alloc::{AllocError, Global};
+use std::marker::Model;
+use tsn_table::Table;
+use tsn_types::keys::{Key, Kind};
+use tsn_types::records::{FlowMeter, PortGates, Record, RecordRef, StreamFilter, StreamGate};
+use tsn_types::refusals::Refusal;
+
+/// Four tables. `map` is the map from keys to records, and `spare` the number of rows that each table has room for.
+#[derive(Debug, Drop)]
+pub(crate) struct Rows {
+    ports: Table<PortGates>,
+    filters: Table<StreamFilter>,
+    gates: Table<StreamGate>,
+    meters: Table<FlowMeter>,
+}
+
+impl Model for Rows {
+    ghost use Rattle.tsn_config.specs.Settings.{Contents, contents_code, joined, least};
+
+    ghost Value = { Contents };
+
+    ghost coded = { contents_code };
+
+    ghost view = { λ a. record { map = joined a.ports.map a.filters.map a.gates.map a.meters.map; spare = least a.ports.spare a.filters.spare a.gates.spare a.meters.spare } };
+}
+
+impl Rows {
+    /// No row. It takes no memory.
+    pub(crate) fn new(alloc: Global) -> Self
+        ensures map { result.map ≡ map.empty }
+        ensures spare { result.spare ≡ 0 }
+    {
+        Rows {
+            ports: Table::new(alloc),
+            filters: Table::new(alloc),
+            gates: Table::new(alloc),
+            meters: Table::new(alloc),
+        }
+    }
+
+    /// The numbers of the rows of the kind, ascending. Refused only for want of memory.
+    pub(crate) fn ids(&self, alloc: Global, kind: Kind) -> Result<Vec<u64>, AllocError>
+        ensures { IfOk result (λ ids. ids.items ≡ ids_of kind self.now.map) }
+    {
+        match kind {
+            Kind::Port => self.ports.ids(alloc),
+            Kind::Filter => self.filters.ids(alloc),
+            Kind::Gate => self.gates.ids(alloc),
+            Kind::Meter => self.meters.ids(alloc),
+        }
+    }
+
+    /// The record of the key, lent, none where the key is absent.
+    pub(crate) fn get(&self, key: Key) -> Option<RecordRef<'_>>
+        ensures { option_map whole result ≡ map.get self.now.map key }
+    {
+        match key {
+            Key::Port(id) => match self.ports.get(id.get()) {
+                Some(row) => Some(RecordRef::Port(row)),
+                None => None,
+            },
+            Key::Filter(id) => match self.filters.get(id.get()) {
+                Some(row) => Some(RecordRef::Filter(row)),
+                None => None,
+            },
+            Key::Gate(id) => match self.gates.get(id.get()) {
+                Some(row) => Some(RecordRef::Gate(row)),
+                None => None,
+            },
+            Key::Meter(id) => match self.meters.get(id.get()) {
+                Some(row) => Some(RecordRef::Meter(row)),
+                None => None,
+            },
+        }
+    }
+
+    /// Whether the key is present.
+    pub(crate) fn has(&self, key: Key) -> bool
+        ensures { result ≡ is_some (map.get self.now.map key) }
+    {
+        self.get(key).is_some()
+    }
+
+    /// A copy of the value at the key.
+    pub(crate) fn copy_of(&self, key: Key) -> Result<Option<Record>, AllocError>
+        ensures { IfOk result (λ copy. copy ≡ map.get self.now.map key) }
+    {
+        match self.get(key) {
+            Some(found) => Ok(Some(found.try_clone()?)),
+            None => Ok(None),
+        }
+    }
+
+    /// The stream filters by number.
+    pub(crate) fn filters(&self) -> &Table<StreamFilter>
+        ensures { (n : ℕ) → option_map Record.Filter (map.get result.now.map n) ≡ map.get self.now.map (Key.Filter n) }
+    {
+        &self.filters
+    }
+
+    /// The refusal for a reference of the record that is absent, the gate before the meter.
+    pub(crate) fn dangling(&self, value: &Record) -> Option<Refusal>
+        ensures { result ≡ dangling self.now.map value.now }
+    {
+        match value {
+            Record::Filter(filter) => self.dangling_filter(filter),
+            _ => None,
+        }
+    }
+
+    fn dangling_filter(&self, filter: &StreamFilter) -> Option<Refusal>
+        ensures { result ≡ dangling self.now.map (Record.Filter filter.now) }
+    {
+        if !self.has(Key::Gate(filter.gate)) {
+            return Some(Refusal::Dangling(Key::Gate(filter.gate)));
+        }
+        match filter.meter {
+            Some(id) if !self.has(Key::Meter(id)) => Some(Refusal::Dangling(Key::Meter(id))),
+            _ => None,
+        }
+    }
+
+    /// The refusal for the first absent reference in the order of keys.
+    pub(crate) fn first_dangling(&self) -> Option<Refusal>
+        ensures { result ≡ dangling_cause self.now.map }
+    {
+        let dangles = |filter: &StreamFilter| self.dangling_filter(filter).is_some();
+        let number = self.filters.first_where(dangles)?;
+        let filter = self.filters.get(number)?;
+        self.dangling_filter(filter)
+    }
+
+    /// The number of the least filter that refers to the key.
+    pub(crate) fn referrer(&self, key: &Key) -> Option<u64>
+        ensures { option_map (λ n. Referred (Key.Filter n)) result ≡ referrer self.now.map key.now }
+    {
+        self.filters.first_where(|filter| refers_to(filter, key))
+    }
+
+    /// Makes room for at least `count` rows in each table.
+    pub(crate) fn reserve(&mut self, count: usize) -> Result<(), AllocError>
+        ensures map { self.new.map ≡ self.old.map }
+        ensures ok { OnOk result (count ≤ self.new.spare) }
+        ensures spare { self.old.spare ≤ self.new.spare }
+        ensures enough { count ≤ self.old.spare → IsOk result }
+    {
+        self.ports.reserve(count)?;
+        self.filters.reserve(count)?;
+        self.gates.reserve(count)?;
+        self.meters.reserve(count)
+    }
+
+    /// Sets the value of the key, or takes the key out.
+    pub(crate) fn set(&mut self, key: Key, value: Option<Record>)
+        requires kind { IfSome value (λ r. IsTrue (is_of_kind key r)) }
+        requires room { 1 ≤ self.old.spare }
+        ensures map { self.new.map ≡ put self.old.map key value }
+        ensures spare { self.old.spare ≤ self.new.spare + 1 }
+    {
+        match key {
+            Key::Port(id) => set_row_of(&mut self.ports, id.get(), into_port(value)),
+            Key::Filter(id) => set_row_of(&mut self.filters, id.get(), into_filter(value)),
+            Key::Gate(id) => set_row_of(&mut self.gates, id.get(), into_gate(value)),
+            Key::Meter(id) => set_row_of(&mut self.meters, id.get(), into_meter(value)),
+        }
+    }
+}
+
+// Sets the row of the number, or takes it out.
+fn set_row_of<R: Drop>(table: &mut Table<R>, id: u64, row: Option<R>)
+    requires { 1 ≤ table.old.spare }
+    ensures map { table.new.map ≡ set_row table.old.map id row }
+    ensures spare { table.old.spare ≤ table.new.spare + 1 }
+{
+    match row {
+        Some(row) => {
+            let _ = table.put(id, row);
+        }
+        None => {
+            let _ = table.take(id);
+        }
+    }
+}
+
+fn into_port(value: Option<Record>) -> Option<PortGates>
+    ensures { result ≡ port_of value }
+{
+    match value {
+        Some(Record::Port(row)) => Some(row),
+        _ => None,
+    }
+}
+
+fn into_filter(value: Option<Record>) -> Option<StreamFilter>
+    ensures { result ≡ filter_of value }
+{
+    match &value {
+        Some(Record::Filter(row)) => Some(*row),
+        _ => None,
+    }
+}
+
+fn into_gate(value: Option<Record>) -> Option<StreamGate>
+    ensures { result ≡ gate_of value }
+{
+    match value {
+        Some(Record::Gate(row)) => Some(row),
+        _ => None,
+    }
+}
+
+fn into_meter(value: Option<Record>) -> Option<FlowMeter>
+    ensures { result ≡ meter_of value }
+{
+    match &value {
+        Some(Record::Meter(row)) => Some(*row),
+        _ => None,
+    }
+}
+
+// Whether the filter refers to the key.
+fn refers_to(filter: &StreamFilter, key: &Key) -> bool
+    ensures { result ≡ has (refs (Record.Filter filter.now)) key.now }
+{
+    if *key == Key::Gate(filter.gate) {
+        return true;
+    }
+    match filter.meter {
+        Some(meter) => *key == Key::Meter(meter),
+        None => false,
+    }
+}

@@ -1,0 +1,145 @@
+-- Changes that do not conflict with a set go the same way where the set was left out.
+use Rattle.std.proofs.Common.{◌≡◌, Bool, true, false, cond, ◌||◌, not, List, [], ◌∷◌, ◌++◌, refl, sym, ◌∙◌, ap, Some, None, append_assoc}
+use Rattle.std.specs.Prelude.{flat_map, IsTrue, IsSome, is_some}
+use Rattle.std.specs.FinMap.{get}
+use Rattle.std.specs.List.{AllByRecursion}
+use Rattle.tsn_types.specs.declared.keys.Key.{Key}
+use Rattle.tsn_types.specs.declared.keys.Key.TheVariants.{Port}
+use Rattle.tsn_edit.specs.Parts.{Change, Part, parts}
+use Rattle.tsn_types.specs.declared.records.Record.{Record}
+use Rattle.tsn_types.specs.declared.limits.Limits.{Limits}
+use Rattle.tsn_types.specs.Keys.{same_key, has, meets, refs, refs_of}
+use Rattle.tsn_edit.specs.Configuration.{Configuration, IsWellKept}
+use Rattle.tsn_edit.specs.Changes.{keys_of, refs_before, refs_after, changed, Stands, Fits, clashes}
+use Rattle.tsn_edit.proofs.KeyFacts.{same_itself, or_left, or_right, by_bool, by_option, part_on, part_on_none, before_or, part_on_some, each_part, part_on-append, part_on-append_found, keys_of-append, refs_before-append, has-append, meets_apart, after_or, get-changed, or_false_left, or_false_right}
+
+-- f touches no key of e, refers to none, and nothing that e's values before refer to
+pub record Apart (f e : List Part) : Type 0 where
+  pub keys : (k : Key) → has (keys_of f) k ≡ true → has (keys_of e) k ≡ false
+  pub after : (q : Key) → has (refs_after f) q ≡ true → has (keys_of e) q ≡ false
+  pub before : (k : Key) → has (keys_of f) k ≡ true → has (refs_before e) k ≡ false
+
+pub Apart-from_test : (f e : List Part) → clashes f e ≡ false → Apart f e
+Apart-from_test f e h =
+    let a = meets (keys_of f) (keys_of e) in
+    let b = meets (refs_after f) (keys_of e) in
+    let c = meets (keys_of f) (refs_before e) in
+    let bc : (b || c) ≡ false = or_false_right a (b || c) h in
+    record {
+      keys = meets_apart (keys_of f) (keys_of e) (or_false_left a (b || c) h);
+      after = meets_apart (refs_after f) (keys_of e) (or_false_left b c bc);
+      before = meets_apart (keys_of f) (refs_before e) (or_false_right b c bc);
+    }
+
+none_of_both : (a b : Bool) → a ≡ false → b ≡ false → (a || b) ≡ false
+none_of_both true b p q = p
+none_of_both false b p q = q
+
+pub Apart-append : (f e g : List Part) → Apart f e → Apart f g → Apart f (e ++ g)
+Apart-append f e g p q =
+    let keys_none : (k : Key) → has (keys_of e) k ≡ false → has (keys_of g) k ≡ false → has (keys_of (e ++ g)) k ≡ false =
+    λ k a b. ap (λ ks. has ks k) (keys_of-append e g) ∙ has-append (keys_of e) (keys_of g) k ∙ none_of_both _ _ a b in
+    record {
+      keys = λ k h. keys_none k (p.keys k h) (q.keys k h);
+      after = λ k h. keys_none k (p.after k h) (q.after k h);
+      before = λ k h. refs_before-append e g k ∙ none_of_both _ _ (p.before k h) (q.before k h);
+    }
+
+pub begin_agrees : (c : Configuration) (k : Key) → get c k ≡ before_or (part_on k []) (get c k)
+unfolding part_on
+begin_agrees c k = refl
+
+-- c is where all went, d where the set was left out, whose parts so far are t
+pub record Agrees (l : Limits) (c d : Configuration) (t : List Part) : Type 0 where
+  pub all_kept : IsWellKept l c
+  pub left_kept : IsWellKept l d
+  pub agree : (k : Key) → get d k ≡ before_or (part_on k t) (get c k)
+
+-- a change of the set goes into c alone
+pub agrees_taken : (l : Limits) (c d : Configuration) (t : List Part) (f : Change) → Agrees l c d t → Fits l c f → Agrees l (changed c f) d (t ++ parts f)
+agrees_taken l c d t f a fits =
+    record {
+      all_kept = fits.kept;
+      left_kept = a.left_kept;
+      agree = λ k.
+          by_option (part_on k t)
+          (λ none.
+          let here : get d k ≡ get c k = a.agree k ∙ ap (λ o. before_or o (get c k)) none in
+          let later : before_or (part_on k (t ++ parts f)) (get (changed c f) k) ≡ before_or (part_on k (parts f)) (get (changed c f) k) = ap (λ o. before_or o (get (changed c f) k)) (part_on-append k t (parts f) none) in
+          here ∙ by_option (part_on k (parts f))
+          (λ untouched. sym (ap (λ o. after_or o (get c k)) untouched) ∙ sym (get-changed c f k) ∙ sym (ap (λ o. before_or o (get (changed c f) k)) untouched))
+          (λ p is. ap (get c) (part_on_some k (parts f) p is).key ∙ each_part (λ p. get c p.key ≡ p.before) k (parts f) p is fits.stands ∙ sym (ap (λ o. before_or o (get (changed c f) k)) is))
+          ∙ sym later)
+          (λ p is.
+          a.agree k ∙ ap (λ o. before_or o (get c k)) is ∙ sym (ap (λ o. before_or o (get (changed c f) k)) (part_on-append_found k t (parts f) p is)));
+    }
+
+-- maps that agree on a change's keys both have its values before
+pub stands_alike : (c d : Configuration) (f : List Part) → ((k : Key) → has (keys_of f) k ≡ true → get d k ≡ get c k) → Stands c f → Stands d f
+stands_alike c d [] same h = tt
+stands_alike c d (p ∷ f) same h = (
+  same p.key (or_left (same_key p.key p.key) _ (same_itself p.key)) ∙ h.0,
+  stands_alike c d f (λ k in'. same k (or_right (same_key k p.key) _ in')) h.1,
+)
+
+module _ (l : Limits) (c d : Configuration) (t : List Part) (f : Change) (a : Agrees l c d t) (fits : Fits l c f) (apart : Apart (parts f) t) where
+  -- at a key that f leaves alone
+  untouched : (m : Configuration) (k : Key) → part_on k (parts f) ≡ None → get (changed m f) k ≡ get m k
+  untouched m k none = get-changed m f k ∙ ap (λ o. after_or o (get m k)) none
+
+  -- at a key that f touches
+  touched : (m n : Configuration) (k : Key) (p : Part) → part_on k (parts f) ≡ Some p → get (changed m f) k ≡ get (changed n f) k
+  touched m n k p is = get-changed m f k ∙ ap (λ o. after_or o (get m k)) is ∙ sym (ap (λ o. after_or o (get n k)) is) ∙ sym (get-changed n f k)
+
+  still_agree : (k : Key) → get (changed d f) k ≡ before_or (part_on k t) (get (changed c f) k)
+  still_agree k =
+      by_option (part_on k (parts f))
+      (λ none. untouched d k none ∙ a.agree k ∙ ap (before_or (part_on k t)) (sym (untouched c k none)))
+      (λ p is. touched d c k p is ∙ sym (ap (λ o. before_or o (get (changed c f) k)) (part_on_none k t (apart.keys k (part_on_some k (parts f) p is).there))))
+
+  same_outside : (k : Key) → has (keys_of t) k ≡ false → get (changed d f) k ≡ get (changed c f) k
+  same_outside k out = still_agree k ∙ ap (λ o. before_or o (get (changed c f) k)) (part_on_none k t out)
+
+  still_referred : (k : Key) (r : Record) (q : Key) → get (changed d f) k ≡ Some r → IsTrue (has (refs r) q) → IsSome (get (changed d f) q)
+  still_referred k r q is ref =
+      by_option (part_on k (parts f))
+      (λ none.
+      let before : get d k ≡ Some r = sym (untouched d k none) ∙ is in
+      by_option (part_on q (parts f))
+      (λ q_none. ap is_some (untouched d q q_none) ∙ a.left_kept.referred k r q before ref)
+      (λ p q_is. ap is_some (touched d c q p q_is) ∙ by_option (part_on k t)
+      (λ t_none. fits.kept.referred k r q (untouched c k none ∙ sym (a.agree k ∙ ap (λ o. before_or o (get c k)) t_none) ∙ before) ref)
+      (λ e t_is.
+      let old : e.before ≡ Some r = sym (a.agree k ∙ ap (λ o. before_or o (get c k)) t_is) ∙ before in
+      let in_old : has (refs_before t) q ≡ true = (part_on_some k t e t_is).before q (ap (λ v. has (refs_of v) q) old ∙ ref) in
+      let not_in : has (refs_before t) q ≡ false = apart.before q (part_on_some q (parts f) p q_is).there in
+      (cc))))
+      (λ p k_is.
+      let now : get (changed c f) k ≡ Some r = touched c d k p k_is ∙ is in
+      let new : p.after ≡ Some r = sym (get-changed c f k ∙ ap (λ o. after_or o (get c k)) k_is) ∙ now in
+      let in_new : has (refs_after (parts f)) q ≡ true = (part_on_some k (parts f) p k_is).after q (ap (λ v. has (refs_of v) q) new ∙ ref) in
+      ap is_some (same_outside q (apart.after q in_new)) ∙ fits.kept.referred k r q now ref)
+
+  still_kept : IsWellKept l (changed d f)
+  still_kept = record {
+    within = λ k r is.
+        by_option (part_on k (parts f))
+        (λ none. a.left_kept.within k r (sym (untouched d k none) ∙ is))
+        (λ p k_is. fits.kept.within k r (touched c d k p k_is ∙ is));
+    ports = λ n low high.
+        by_option (part_on (Port n) (parts f))
+        (λ none. ap is_some (untouched d (Port n) none) ∙ a.left_kept.ports n low high)
+        (λ p k_is. ap is_some (touched d c (Port n) p k_is) ∙ fits.kept.ports n low high);
+    referred = still_referred;
+  }
+
+  pub fits_left : Fits l d f
+  fits_left = record {
+    distinct = fits.distinct;
+    stands = stands_alike c d (parts f) (λ k in'. a.agree k ∙ ap (λ o. before_or o (get c k)) (part_on_none k t (apart.keys k in'))) fits.stands;
+    kept = still_kept;
+  }
+
+  -- a change that is apart from the set goes into both
+  pub agrees_left : Agrees l (changed c f) (changed d f) t
+  agrees_left = record { all_kept = fits.kept; left_kept = still_kept; agree = still_agree }

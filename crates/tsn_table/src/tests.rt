@@ -1,0 +1,66 @@
+//! One call of each public function on its happy path, with rows that come in no order.
+use super::*;
+use std::test::Fail;
+
+// A table of the numbers 4, 1 and 6, which come in this order; each row is ten times its number.
+fn three_rows(alloc: Global) -> Result<Table<u64>, AllocError> {
+    let mut table = Table::new(alloc);
+    table.reserve(3)?;
+    let _ = table.put(4, 40);
+    let _ = table.put(1, 10);
+    let _ = table.put(6, 60);
+    Ok(table)
+}
+
+#[test]
+fn a_new_table_has_no_row(rt: HostRuntime) -> Result<(), Fail> {
+    let table: Table<u64> = Table::new(rt.alloc());
+    assert!(rt; table.get(0).is_none());
+    assert_eq!(rt; table.ids(rt.alloc())?.len(), 0);
+    Ok(())
+}
+
+#[test]
+fn gets_the_row_of_a_number(rt: HostRuntime) -> Result<(), Fail> {
+    let table = three_rows(rt.alloc())?;
+    assert_eq!(rt; table.get(1).copied(), Some(10));
+    assert_eq!(rt; table.get(4).copied(), Some(40));
+    assert_eq!(rt; table.get(6).copied(), Some(60));
+    assert!(rt; table.get(5).is_none());
+    Ok(())
+}
+
+#[test]
+fn numbers_come_ascending(rt: HostRuntime) -> Result<(), Fail> {
+    let table = three_rows(rt.alloc())?;
+    assert_eq!(rt; table.ids(rt.alloc())?.as_slice(), [1, 4, 6].as_slice());
+    Ok(())
+}
+
+#[test]
+fn finds_the_least_number(rt: HostRuntime) -> Result<(), Fail> {
+    let table = three_rows(rt.alloc())?;
+    assert_eq!(rt; table.first_where(|row| *row > 10), Some(4));
+    assert_eq!(rt; table.first_where(|row| *row > 60), None);
+    Ok(())
+}
+
+#[test]
+fn a_put_replaces_the_row(rt: HostRuntime) -> Result<(), Fail> {
+    let mut table = three_rows(rt.alloc())?;
+    table.reserve(1)?;
+    assert_eq!(rt; table.put(4, 44), Some(40));
+    assert_eq!(rt; table.get(4).copied(), Some(44));
+    assert_eq!(rt; table.put(2, 20), None);
+    assert_eq!(rt; table.ids(rt.alloc())?.as_slice(), [1, 2, 4, 6].as_slice());
+    Ok(())
+}
+
+#[test]
+fn takes_a_row_out(rt: HostRuntime) -> Result<(), Fail> {
+    let mut table = three_rows(rt.alloc())?;
+    assert_eq!(rt; table.take(4), Some(40));
+    assert_eq!(rt; table.take(4), None);
+    assert_eq!(rt; table.ids(rt.alloc())?.as_slice(), [1, 6].as_slice());
+    Ok(())
+}

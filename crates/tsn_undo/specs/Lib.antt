@@ -1,0 +1,6 @@
+pub mod Entries
+pub mod Finding
+pub mod Ledger
+pub mod Marks
+pub mod Soundness
+pub mod Steps
