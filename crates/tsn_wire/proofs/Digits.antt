@@ -16,7 +16,8 @@ and_parts false b e = cc
 tells : IsDigitsTest (λ ds. list_all is_ascii_digit ds ≡ true)
 tells = search rules
 
-own : IsNumeralModel (λ ds. list_all is_ascii_digit ds ≡ true) (digits_value 10)
+-- digits are numerals of ten digits
+pub own : IsNumeralModel (λ ds. list_all is_ascii_digit ds ≡ true) (digits_value 10)
 own = numerals_by_value (λ ds. list_all is_ascii_digit ds ≡ true) tells
 
 decimal_parses : {E : Type 0} (bs : List ℕ) (r : Result ℕ E) → ParsesUnsigned 64 10 bs r → is_decimal bs ≡ true → r ≡ Ok (digits_value 10 bs)

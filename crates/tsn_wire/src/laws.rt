@@ -8,6 +8,7 @@ ghost use Rattle.tsn_types.specs.declared.records.Record.TheVariants as records;
 ghost use Rattle.tsn_types.specs.declared.refusals.Field.TheVariants as fields;
 ghost use Rattle.tsn_types.specs.declared.refusals.Refusal.TheVariants as refusals;
 ghost use Rattle.tsn_wire.specs.Reading.{line_of};
+ghost use Rattle.tsn_wire.specs.ReadingBack.{ReadsBack};
 ghost use Rattle.tsn_wire.specs.Replies.{reply_text};
 
 /// Lines that are read, and lines that are not.
@@ -64,4 +65,9 @@ pub fn replies_are_spelled()
         ≡ codes "{\"other\":4,\"refused\":13,\"why\":\"redo_conflict\"}\n" }
     ensures memory { reply_text (replies.Refused refusals.Memory)
         ≡ codes "{\"refused\":18,\"why\":\"memory\"}\n" }
+{}
+
+/// What is shown of a key and a record, put into a line that creates it, reads back as the same key and record.
+pub fn shown_reads_back()
+    ensures { ReadsBack }
 {}
