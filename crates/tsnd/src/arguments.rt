@@ -17,10 +17,9 @@ fn command<'a>(alloc: Global) -> Result<Command<'a>, AllocError> {
     Command::new(alloc, "tsnd")
         .about("The configuration service of one time-aware bridge")
         .subcommand_required(true)
-        .subcommand(
-            Command::new(alloc, "script")
-                .about("Answers the command lines on standard input, one reply line each"),
-        )
+        .subcommand(Command::new(alloc, "script").about(
+            "Answers the command lines on standard input, one reply line each",
+        ))
 }
 
 fn parsed(alloc: Global, words: &[String]) -> Result<(), Error> {

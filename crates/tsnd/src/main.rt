@@ -14,7 +14,7 @@ use crate::script::script;
 use std::process::ExitCode;
 use std::rt::Env;
 use std::{env, io};
-use tsn_wire::standard::StdIo;
+use tsn_wire::StdIo;
 
 /// The words of the command line, the program's name first.
 fn words_of<R: Env + AllocGlobal>(rt: &R) -> io::Result<Vec<String>> {
