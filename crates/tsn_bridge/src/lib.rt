@@ -7,3 +7,5 @@
 pub mod bridge;
 pub mod command;
 pub mod reply;
+#[cfg(test)]
+mod tests;

@@ -1,5 +1,5 @@
 -- Worked examples of the definitions alone, with literals.
-use Rattle.std.proofs.Common.{◌≡◌, ℕ, true, false, cond, List, [], ◌∷◌, ◌++◌, refl, ap, Option, Some, None}
+use Rattle.std.proofs.Common.{◌≡◌, ℕ, true, false, cond, List, [], ◌∷◌, refl, ap, Option, Some, None}
 use Rattle.std.specs.Prelude.{find, option_map, replicate}
 use Rattle.std.specs.FinMap.{empty, entries, entries-insert, from_entries, get, get-empty, get-from_entries, get-insert, insert, put}
 use Rattle.tsn_types.specs.declared.keys.Key.{Key}

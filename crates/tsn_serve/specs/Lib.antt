@@ -2,3 +2,4 @@ pub mod Lines
 pub mod Script
 pub mod Pieces
 pub mod Outcomes
+pub mod Answers

@@ -1,5 +1,6 @@
 //! How input is cut into lines, in whatever pieces it comes, and how a run ends where a call fails.
 mod fakes;
+mod scripts;
 
 use crate::{answer_lines, example_cuts, one_cut};
 use fakes::{Lengths, LineFeeds};

@@ -1,7 +1,7 @@
 //! What goes in and out of the service: bytes, the command that a line says and the text of a reply.
 //!
 //! Readers and writers stand in memory and over those of std. A line is read as a command by what `serde_json` reads
-//! of it; nothing of the bridge is looked at. Of std's readers and writers no more is said than whether they failed.
+//! of it; nothing of the bridge is looked at. Of std's readers and writers a contract knows the bytes that std tells.
 #![tactic(auto)]
 
 mod bytes;

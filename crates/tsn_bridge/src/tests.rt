@@ -1,0 +1,165 @@
+//! Commands of the worked examples: two ports, tables of sixteen, lists of up to sixteen entries. The scripts of
+//! `tsn_serve` try more of them.
+ghost use Rattle.std.specs.Prelude.{◌≤◌};
+
+use crate::bridge::{Bridge, Setup};
+use crate::command::Command;
+use crate::reply::Reply;
+use std::alloc::Global;
+use std::process::Abort;
+use std::test::Fail;
+use tsn_config::records::Records;
+use tsn_types::keys::{Key, Kind};
+use tsn_types::limits::Limits;
+use tsn_types::numbers::{BitRate, FilterId, GateId, MeterId, Octets};
+use tsn_types::records::{FlowMeter, Record, StreamFilter};
+use tsn_types::refusals::{Field, Refusal};
+
+fn meter_key(number: u64) -> Key
+    requires { number ≤ 65535 }
+{
+    Key::Meter(MeterId::new(number).unwrap())
+}
+
+fn meter() -> Record {
+    Record::Meter(FlowMeter {
+        cir: BitRate::new(8_000_000).unwrap(),
+        cbs: Octets::new(1500).unwrap(),
+        eir: BitRate::new(0).unwrap(),
+        ebs: Octets::new(0).unwrap(),
+        cf: false,
+        aware: false,
+        drop_yellow: false,
+        all_red: false,
+    })
+}
+
+fn create(bridge: &mut Bridge, session: u32, number: u64) -> Reply
+    requires { number ≤ 65535 }
+{
+    let command = Command::Create {
+        key: meter_key(number),
+        value: meter(),
+    };
+    bridge.step(session, command)
+}
+
+/// Whether the entry of the number was made.
+fn is_entry(reply: Reply, number: u64) -> bool {
+    match reply {
+        Reply::Entry { entry } => entry == number,
+        _ => false,
+    }
+}
+
+fn refusal_of(reply: Reply) -> Option<Refusal> {
+    match reply {
+        Reply::Refused(refusal) => Some(refusal),
+        _ => None,
+    }
+}
+
+/// A bridge that has given out session 1.
+fn greeted(rt: &impl Abort, alloc: Global) -> Result<Bridge, Refusal> {
+    let mut bridge = Bridge::new(alloc, Setup::standard(alloc))?;
+    let reply = bridge.step(0, Command::Hello);
+    assert!(rt; matches!(reply, Reply::Session { session: 1 }));
+    Ok(bridge)
+}
+
+/// Creates meter 1 and takes that back, so many times.
+fn fill(bridge: &mut Bridge, pairs: u32) {
+    for _ in 0..pairs {
+        let _ = create(bridge, 1, 1);
+        let _ = bridge.step(1, Command::Undo);
+    }
+}
+
+#[test]
+fn entries_are_made_and_taken_back(rt: HostRuntime) -> Result<(), Fail> {
+    let mut bridge = greeted(&rt, rt.alloc())?;
+    assert!(rt; is_entry(create(&mut bridge, 1, 5), 1));
+    assert!(rt; bridge.config().get(meter_key(5)).is_some());
+    let undone = bridge.step(1, Command::Undo);
+    assert!(rt; matches!(undone, Reply::EntryOf { entry: 2, of: 1 }));
+    assert!(rt; bridge.config().get(meter_key(5)).is_none());
+    let nothing = bridge.step(1, Command::Undo);
+    assert_eq!(rt; refusal_of(nothing), Some(Refusal::NothingToUndo));
+    Ok(())
+}
+
+#[test]
+fn a_record_is_shown_and_listed(rt: HostRuntime) -> Result<(), Fail> {
+    let mut bridge = greeted(&rt, rt.alloc())?;
+    assert!(rt; is_entry(create(&mut bridge, 1, 5), 1));
+    match bridge.step(1, Command::Show { key: meter_key(5) }) {
+        Reply::Shown { key, value } => assert!(rt; key == meter_key(5) && value == meter()),
+        _ => assert!(rt; false, "the meter is shown"),
+    }
+    match bridge.step(1, Command::List { kind: Kind::Port }) {
+        Reply::Ids { ids } => assert!(rt; ids.as_slice() == [1u64, 2].as_slice()),
+        _ => assert!(rt; false, "the ports are listed"),
+    }
+    Ok(())
+}
+
+#[test]
+fn limits_come_before_the_session(rt: HostRuntime) -> Result<(), Fail> {
+    let mut bridge = greeted(&rt, rt.alloc())?;
+    let key = Some(Refusal::Range(Field::Key));
+    assert_eq!(rt; refusal_of(create(&mut bridge, 2, 16)), key);
+    assert_eq!(rt;
+        refusal_of(create(&mut bridge, 2, 0)),
+        Some(Refusal::NoSession)
+    );
+    assert_eq!(rt;
+        refusal_of(bridge.step(2, Command::Show { key: meter_key(16) })),
+        key
+    );
+    assert_eq!(rt;
+        refusal_of(bridge.step(0, Command::Undo)),
+        Some(Refusal::NoSession)
+    );
+    let again = bridge.step(0, Command::Hello);
+    assert_eq!(rt; refusal_of(again), Some(Refusal::Range(Field::Session)));
+    Ok(())
+}
+
+#[test]
+fn a_full_journal_takes_no_more(rt: HostRuntime) -> Result<(), Fail> {
+    let mut bridge = greeted(&rt, rt.alloc())?;
+    fill(&mut bridge, 32_767);
+    assert!(rt; is_entry(create(&mut bridge, 1, 1), 65_535));
+    assert!(rt; is_entry(create(&mut bridge, 1, 2), 65_536));
+    assert_eq!(rt;
+        refusal_of(create(&mut bridge, 1, 3)),
+        Some(Refusal::JournalFull)
+    );
+    assert_eq!(rt;
+        refusal_of(bridge.step(1, Command::Undo)),
+        Some(Refusal::JournalFull)
+    );
+    Ok(())
+}
+
+#[test]
+fn a_setup_with_an_absent_gate_is_refused(rt: HostRuntime) -> Result<(), Fail> {
+    let mut records = Records::new(rt.alloc());
+    let filter = StreamFilter {
+        handle: None,
+        priority: None,
+        gate: GateId::new(4).unwrap(),
+        max_sdu: None,
+        meter: None,
+        oversize: false,
+    };
+    records.push(
+        Key::Filter(FilterId::new(0).unwrap()),
+        Record::Filter(filter),
+    )?;
+    let limits = Limits::new(2, 16, 16, 16, 16).unwrap();
+    let refused = Bridge::new(rt.alloc(), Setup { limits, records }).err();
+    let gate = Key::Gate(GateId::new(4).unwrap());
+    assert_eq!(rt; refused, Some(Refusal::Dangling(gate)));
+    Ok(())
+}

@@ -1,0 +1,36 @@
+//! Why the program ends with status 1: the line that it writes to standard error.
+use thiserror::Error;
+use tsn_types::refusals::Refusal;
+use tsn_wire::bytes::Fault;
+
+/// A refusal or a fault that ends the program.
+#[derive(Clone, Copy, Debug, Error)]
+pub enum Failure {
+    #[error("tsnd: refused {} {}", .0.number(), .0.name())]
+    Refused(Refusal),
+    #[error("tsnd: read failed")]
+    Read,
+    #[error("tsnd: write failed")]
+    Write,
+    #[error("tsnd: out of memory")]
+    Memory,
+}
+
+impl From<Fault> for Failure {
+    fn from(fault: Fault) -> Failure {
+        match fault {
+            Fault::Read => Failure::Read,
+            Fault::Write => Failure::Write,
+            Fault::Memory => Failure::Memory,
+        }
+    }
+}
+
+impl From<Refusal> for Failure {
+    fn from(refusal: Refusal) -> Failure {
+        match refusal {
+            Refusal::Memory => Failure::Memory,
+            other => Failure::Refused(other),
+        }
+    }
+}

@@ -1,0 +1,55 @@
+//! `tsnd`: the configuration service of one time-aware bridge.
+//!
+//! `tsnd script` answers a script of command lines on standard input with one reply line each on standard output. The
+//! status is 0, or 1 after one line on standard error that says why, or 2 for a command line that is refused.
+#![tactic(auto)]
+
+mod arguments;
+mod failure;
+mod script;
+
+use crate::arguments::{Asked, asked};
+use crate::failure::Failure;
+use crate::script::script;
+use std::process::ExitCode;
+use std::rt::Env;
+use std::{env, io};
+use tsn_wire::standard::StdIo;
+
+/// The words of the command line, the program's name first.
+fn words_of<R: Env + AllocGlobal>(rt: &R) -> io::Result<Vec<String>> {
+    let mut words = Vec::new(rt.alloc());
+    for word in env::args(rt)? {
+        words.push(word)?;
+    }
+    Ok(words)
+}
+
+/// Does what the command line asks for.
+fn run<R: Env + Input + Print + Eprint + AllocGlobal>(rt: &R) -> Result<u8, Failure> {
+    let Ok(words) = words_of(rt) else {
+        return Err(Failure::Memory);
+    };
+    match asked(rt.alloc(), words.as_slice())? {
+        Asked::Script => {
+            let mut reader = StdIo::new(rt.reader());
+            let mut writer = StdIo::new(io::writer(rt));
+            script(rt.alloc(), &mut reader, &mut writer)?;
+            Ok(0)
+        }
+        Asked::Text(text) => {
+            let _ = text.print(rt);
+            Ok(if text.use_stderr() { 2 } else { 0 })
+        }
+    }
+}
+
+fn main(rt: HostRuntime) -> ExitCode {
+    match run(&rt) {
+        Ok(status) => ExitCode::from(status),
+        Err(failure) => {
+            let _ = rt.eprintln(failure);
+            ExitCode::from(1)
+        }
+    }
+}
