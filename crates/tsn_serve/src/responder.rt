@@ -10,9 +10,8 @@ ghost use Rattle.tsn_serve.specs.Outcomes.{Completes, BreaksOff, IsCutOff};
 
 use crate::line_buffer::LineBuffer;
 use std::alloc::Global;
-use tsn_bridge::reply::Reply;
 use tsn_types::refusals::Refusal;
-use tsn_wire::{ByteIn, ByteOut, Fault, write_reply};
+use tsn_wire::{ByteIn, ByteOut, Fault, write_refusal};
 
 // The most bytes of one read.
 const CHUNK: usize = 8192;
@@ -58,7 +57,7 @@ fn answer_held<A: Responder, W: ByteOut>(
 {
     match line.get() {
         Some(bytes) => responder.answer(alloc, bytes, writer),
-        None => write_reply(writer, &Reply::Refused(Refusal::TooLong)),
+        None => write_refusal(writer, &Refusal::TooLong),
     }
 }
 

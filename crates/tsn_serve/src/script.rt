@@ -1,25 +1,45 @@
 //! The run of a script over a bridge: each line is read, taken as a step, and answered.
 //! It relies on the loop over lines, on the reading of a line, on the bridge's step and on the text of a reply.
-ghost use Rattle.std.specs.Prelude.{◌≡◌, ◌≢◌, ◌^◌, true, OnOk, IsErrOf, Err};
+ghost use Rattle.std.specs.Prelude.{◌≡◌, ◌≢◌, ◌^◌, ℕ, List, true, IfErr, OnOk, OnErr, IsErrOf, Err};
+ghost use Rattle.std.specs.Io.KnownBytes.{Appends};
+ghost use Rattle.tsn_wire.specs.Bytes.{IsCut};
 ghost use Rattle.tsn_wire.specs.declared.bytes.Fault.TheVariants.{Read, Write, Memory};
-ghost use Rattle.tsn_serve.specs.Answers.{Says, Answers};
+ghost use Rattle.tsn_serve.specs.Answers.{Says, IsTextOf, Answers};
 ghost use Rattle.tsn_serve.specs.Outcomes.{Completes, BreaksOff, IsCutOff};
 
 use crate::responder::{Responder, answer_lines};
 use std::alloc::Global;
 use tsn_bridge::bridge::Bridge;
 use tsn_bridge::reply::Reply;
-use tsn_wire::{ByteIn, ByteOut, Fault, command_of, write_reply};
+use tsn_types::refusals::Refusal;
+use tsn_wire::{ByteIn, ByteOut, Fault, command_of, write_refusal, write_reply};
 
 // The most reads of one script.
 const READS: u64 = 4_294_967_296;
 
+// The reply to a line. Only the machine's step changes the bridge.
 fn reply_to(alloc: Global, bridge: &mut Bridge, line: &[u8]) -> Reply
     ensures { Says bridge.old line.now result bridge.new }
 {
     match command_of(alloc, line) {
         Ok(line) => bridge.step(line.session, line.command),
         Err(refusal) => Reply::Refused(refusal),
+    }
+}
+
+// Writes the reply's line, or that of refusal 18 where the reply's text finds no memory.
+fn write_or_refuse<W: ByteOut>(alloc: Global, writer: &mut W, reply: &Reply) -> Result<(), Fault>
+    ensures ok { OnOk result ((text : List ℕ) × IsTextOf reply.now text
+        × Appends (W.taken writer.old) (W.taken writer.new) text) }
+    ensures worked { OnOk result (W.has_failed writer.new ≡ W.has_failed writer.old) }
+    ensures fault { IfErr result (λ e. e ≡ Write) }
+    ensures failed { OnErr result (W.has_failed writer.new ≡ true) }
+    ensures cut { OnErr result ((text : List ℕ) × IsTextOf reply.now text
+        × IsCut (W.taken writer.old) (W.taken writer.new) text) }
+{
+    match write_reply(alloc, writer, reply) {
+        Err(Fault::Memory) => write_refusal(writer, &Refusal::Memory),
+        written => written,
     }
 }
 
@@ -33,7 +53,7 @@ impl Responder for Bridge {
         writer: &mut W,
     ) -> Result<(), Fault> {
         let reply = reply_to(alloc, self, line);
-        write_reply(writer, &reply)
+        write_or_refuse(alloc, writer, &reply)
     }
 }
 

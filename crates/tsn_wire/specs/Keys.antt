@@ -1,9 +1,11 @@
 -- The text of a key.
-use Rattle.std.specs.Prelude.{ℕ, ◌&&◌, ◌||◌, ◌==◌, List, length, drop, slice_index, Bool, not, nat_lt, nat_le, nat_eq, if◌then◌else◌, Option, Some, None, option_map, codes}
+use Rattle.std.specs.Prelude.{ℕ, ◌&&◌, ◌||◌, ◌==◌, List, length, drop, slice_index, Bool, not, nat_lt, nat_le, nat_eq, if◌then◌else◌, Option, Some, None, option_map, ◌++◌, decimal, codes}
 use Rattle.std.specs.Char.{is_ascii_digit}
 use Rattle.std.specs.List.{starts_with, list_all}
 use Rattle.std.specs.Str.{bytes_eq}
 use Rattle.std.specs.Str.Parse.{digits_value}
+use Rattle.tsn_types.specs.declared.keys.Key.{Key}
+use Rattle.tsn_types.specs.declared.keys.Key.TheVariants as keys
 use Rattle.tsn_types.specs.declared.keys.Kind.{Kind}
 use Rattle.tsn_types.specs.declared.keys.Kind.TheVariants.{Port, Filter, Gate, Meter}
 use Rattle.tsn_wire.specs.declared.drafts.KeyDraft.{KeyDraft}
@@ -37,3 +39,10 @@ kind_of text =
     else if bytes_eq text (codes "gate") then Some Gate
     else if bytes_eq text (codes "meter") then Some Meter
     else None
+
+-- a key: its kind, one space and its number
+abbrev pub key_text : Key → List ℕ
+key_text (keys.Port n) = codes "port " ++ decimal n
+key_text (keys.Filter n) = codes "filter " ++ decimal n
+key_text (keys.Gate n) = codes "gate " ++ decimal n
+key_text (keys.Meter n) = codes "meter " ++ decimal n

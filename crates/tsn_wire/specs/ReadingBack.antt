@@ -15,7 +15,7 @@ use Rattle.tsn_types.specs.declared.records.FlowMeter.{FlowMeter}
 use Rattle.tsn_types.specs.declared.records.Record.{Record}
 use Rattle.tsn_types.specs.declared.records.Record.TheVariants as records
 use Rattle.tsn_wire.specs.Reading.{data_of, line_of}
-use Rattle.tsn_wire.specs.Replies.{key_text}
+use Rattle.tsn_wire.specs.Keys.{key_text}
 use Rattle.tsn_wire.specs.Shown.{whole_data, record_data}
 
 abbrev pub Within : ℕ → ℕ → ℕ → Type 0

@@ -1,19 +1,13 @@
 -- The text of a reply: compact JSON with its members in ascending order of their names, and a line feed.
 use Rattle.std.specs.Prelude.{ℕ, ◌++◌, List, [], codes, decimal}
+use Rattle.serde_json.specs.Written.{compact_text}
 use Rattle.tsn_bridge.specs.declared.reply.Reply.{Reply}
 use Rattle.tsn_bridge.specs.declared.reply.Reply.TheVariants as replies
-use Rattle.tsn_types.specs.declared.keys.Key.{Key}
-use Rattle.tsn_types.specs.declared.keys.Key.TheVariants as keys
 use Rattle.tsn_types.specs.declared.refusals.Refusal.{Refusal}
 use Rattle.tsn_types.specs.declared.refusals.Refusal.TheVariants as refusals
 use Rattle.tsn_types.specs.Refusals.{number_of, name_of, field_name}
-
--- a key: its kind, one space and its number
-abbrev pub key_text : Key → List ℕ
-key_text (keys.Port n) = codes "port " ++ decimal n
-key_text (keys.Filter n) = codes "filter " ++ decimal n
-key_text (keys.Gate n) = codes "gate " ++ decimal n
-key_text (keys.Meter n) = codes "meter " ++ decimal n
+use Rattle.tsn_wire.specs.Keys.{key_text}
+use Rattle.tsn_wire.specs.Shown.{shown_data, ids_data}
 
 -- a member that is a number, with a comma behind it
 abbrev pub number_member : List ℕ → ℕ → List ℕ
@@ -53,4 +47,15 @@ abbrev pub reply_text : Reply → List ℕ
 reply_text (replies.Session session) = codes "{\"session\":" ++ decimal session ++ codes "}\n"
 reply_text (replies.Entry entry) = codes "{\"entry\":" ++ decimal entry ++ codes "}\n"
 reply_text (replies.EntryOf entry of) = codes "{\"entry\":" ++ decimal entry ++ codes ",\"of\":" ++ decimal of ++ codes "}\n"
+reply_text (replies.Shown key value) = compact_text (shown_data key value) ++ codes "\n"
+reply_text (replies.Ids ids) = compact_text (ids_data ids) ++ codes "\n"
 reply_text (replies.Refused r) = refusal_text r
+
+-- the replies whose text takes memory
+abbrev pub TakesMemory : Reply → Type 0
+TakesMemory (replies.Session session) = ⊥
+TakesMemory (replies.Entry entry) = ⊥
+TakesMemory (replies.EntryOf entry of) = ⊥
+TakesMemory (replies.Shown key value) = Unit {0}
+TakesMemory (replies.Ids ids) = Unit {0}
+TakesMemory (replies.Refused r) = ⊥

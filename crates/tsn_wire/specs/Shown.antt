@@ -11,7 +11,7 @@ use Rattle.tsn_types.specs.declared.records.StreamFilter.{StreamFilter}
 use Rattle.tsn_types.specs.declared.records.FlowMeter.{FlowMeter}
 use Rattle.tsn_types.specs.declared.records.Record.{Record}
 use Rattle.tsn_types.specs.declared.records.Record.TheVariants.{Port, Filter, Gate, Meter}
-use Rattle.tsn_wire.specs.Replies.{key_text}
+use Rattle.tsn_wire.specs.Keys.{key_text}
 
 -- a whole number
 abbrev pub whole_data : ℕ → Data

@@ -23,7 +23,7 @@ mod unread;
 pub use bytes::{ByteIn, ByteOut, Failed, Fault, put_all};
 pub use memory::{Failing, MemIn, MemOut};
 pub use reading::{Line, command_of};
-pub use reply::write_reply;
+pub use reply::{write_refusal, write_reply};
 pub use standard::StdIo;
 
 #[cfg(test)]

@@ -7,7 +7,7 @@ ghost use Rattle.serde_json.specs.Read.{read};
 ghost use Rattle.serde_json.specs.Written.{compact_text};
 ghost use Rattle.serde_json.specs.View.{view, items_of};
 ghost use Rattle.tsn_wire.specs.Shown.{or_null, port_entry_data, gate_entry_data, port_data, filter_data, gate_data, meter_data, record_data, shown_data, ids_data};
-ghost use Rattle.tsn_wire.specs.Replies.{key_text};
+ghost use Rattle.tsn_wire.specs.Keys.{key_text};
 
 use serde_json::{Value, json};
 use std::alloc::{AllocError, Global};

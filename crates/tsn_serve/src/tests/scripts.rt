@@ -15,6 +15,13 @@ const FIRST_RUN: &'static [u8] =
 const FIRST_REPLIES: &'static [u8] =
     b"{\"session\":1}\n{\"entry\":1}\n{\"entry\":2}\n{\"entry\":3}\n{\"entry\":4,\"of\":3}\n{\"entry\":5,\"of\":2}\n";
 
+// Records created, refused, listed, shown, removed and put back.
+const RECORDS: &'static [u8] =
+    b"{\"do\":\"hello\"}\n{\"do\":\"create\",\"key\":\"gate 0\",\"record\":{\"base\":0,\"cycle\":1000000,\"extension\":0,\"invalid_rx\":false,\"ipv\":null,\"list\":[],\"octets_exceeded\":false,\"open\":true},\"s\":1}\n{\"do\":\"create\",\"key\":\"meter 0\",\"record\":{\"all_red\":false,\"aware\":false,\"cbs\":1500,\"cf\":false,\"cir\":8000000,\"drop_yellow\":false,\"ebs\":0,\"eir\":0},\"s\":1}\n{\"do\":\"create\",\"key\":\"filter 3\",\"record\":{\"gate\":0,\"handle\":7,\"max_sdu\":1500,\"meter\":0,\"oversize\":true,\"priority\":null},\"s\":1}\n{\"do\":\"show\",\"key\":\"filter 3\",\"s\":1}\n{\"do\":\"create\",\"key\":\"filter 4\",\"record\":{\"gate\":9,\"handle\":7,\"max_sdu\":1500,\"meter\":null,\"oversize\":true,\"priority\":null},\"s\":1}\n{\"do\":\"create\",\"key\":\"filter 4\",\"record\":{\"gate\":9,\"handle\":7,\"max_sdu\":1500,\"meter\":9,\"oversize\":true,\"priority\":null},\"s\":1}\n{\"do\":\"remove\",\"key\":\"meter 0\",\"s\":1}\n{\"do\":\"replace\",\"key\":\"meter 9\",\"record\":{\"all_red\":false,\"aware\":false,\"cbs\":1500,\"cf\":false,\"cir\":8000000,\"drop_yellow\":false,\"ebs\":0,\"eir\":0},\"s\":1}\n{\"do\":\"list\",\"kind\":\"gate\",\"s\":1}\n{\"do\":\"list\",\"kind\":\"port\",\"s\":1}\n{\"do\":\"show\",\"key\":\"port 1\",\"s\":1}\n{\"do\":\"remove\",\"key\":\"filter 3\",\"s\":1}\n{\"do\":\"undo\",\"s\":1}\n{\"do\":\"show\",\"key\":\"filter 3\",\"s\":1}\n{\"do\":\"create\",\"key\":\"gate 0\",\"record\":{\"base\":0,\"cycle\":1000000,\"extension\":0,\"invalid_rx\":false,\"ipv\":null,\"list\":[],\"octets_exceeded\":false,\"open\":true},\"s\":1}\n{\"do\":\"remove\",\"key\":\"meter 9\",\"s\":1}\n{\"do\":\"remove\",\"key\":\"port 1\",\"s\":1}\n{\"do\":\"create\",\"key\":\"gate 1\",\"record\":{\"base\":0,\"cycle\":0,\"extension\":0,\"invalid_rx\":false,\"ipv\":null,\"list\":[],\"octets_exceeded\":false,\"open\":true},\"s\":1}\n{\"do\":\"show\",\"key\":\"gate 16\",\"s\":1}\n";
+
+const RECORD_REPLIES: &'static [u8] =
+    b"{\"session\":1}\n{\"entry\":1}\n{\"entry\":2}\n{\"entry\":3}\n{\"key\":\"filter 3\",\"record\":{\"gate\":0,\"handle\":7,\"max_sdu\":1500,\"meter\":0,\"oversize\":true,\"priority\":null}}\n{\"key\":\"gate 9\",\"refused\":8,\"why\":\"dangling\"}\n{\"key\":\"gate 9\",\"refused\":8,\"why\":\"dangling\"}\n{\"by\":\"filter 3\",\"refused\":9,\"why\":\"referred\"}\n{\"key\":\"meter 9\",\"refused\":6,\"why\":\"missing\"}\n{\"ids\":[0]}\n{\"ids\":[1,2]}\n{\"key\":\"port 1\",\"record\":{\"base\":0,\"cycle\":1000000,\"extension\":0,\"gates\":255,\"list\":[]}}\n{\"entry\":4}\n{\"entry\":5,\"of\":4}\n{\"key\":\"filter 3\",\"record\":{\"gate\":0,\"handle\":7,\"max_sdu\":1500,\"meter\":0,\"oversize\":true,\"priority\":null}}\n{\"key\":\"gate 0\",\"refused\":7,\"why\":\"exists\"}\n{\"key\":\"meter 9\",\"refused\":6,\"why\":\"missing\"}\n{\"refused\":3,\"why\":\"shape\"}\n{\"field\":\"cycle\",\"refused\":4,\"why\":\"range\"}\n{\"field\":\"key\",\"refused\":4,\"why\":\"range\"}\n";
+
 const HELLO: &'static [u8] = b"{\"do\":\"hello\"}\n";
 
 const SYNTAX: &'static [u8] = b"{\"refused\":2,\"why\":\"syntax\"}\n";
@@ -171,5 +178,16 @@ fn line_feeds_without_end(rt: HostRuntime) -> Result<(), Fail> {
         want.extend_from_slice(SYNTAX)?;
     }
     assert_eq!(rt; writer.as_slice(), want.as_slice());
+    Ok(())
+}
+
+#[test]
+fn records_as_lines(rt: HostRuntime) -> Result<(), Fail> {
+    let alloc = rt.alloc();
+    let mut reader = MemIn::new(Vec::from_slice(alloc, RECORDS)?, 1000, None);
+    let mut writer = MemOut::new(Vec::new(alloc), 1000, None);
+    let end = run_script(alloc, &mut bridge(alloc)?, &mut reader, &mut writer);
+    assert_eq!(rt; end, Ok(()));
+    assert_eq!(rt; writer.as_slice(), RECORD_REPLIES);
     Ok(())
 }

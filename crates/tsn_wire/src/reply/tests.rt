@@ -11,7 +11,7 @@ use tsn_types::refusals::{Field, Refusal};
 
 fn spells(rt: &impl Abort, alloc: Global, reply: &Reply, text: &str) {
     let mut writer = MemOut::new(Vec::new(alloc), 1000, None);
-    assert_eq!(rt; write_reply(&mut writer, reply), Ok(()));
+    assert_eq!(rt; write_reply(alloc, &mut writer, reply), Ok(()));
     assert_eq!(rt; writer.as_slice(), text.as_bytes());
 }
 
@@ -104,6 +104,9 @@ fn spells_each_refusal(rt: HostRuntime) -> Result<(), Fail> {
 fn stops_where_the_writer_fails(rt: HostRuntime) {
     let mut writer = MemOut::new(Vec::new(rt.alloc()), 5, Some((2, Failing::Error)));
     let reply = Reply::Entry { entry: 10 };
-    assert_eq!(rt; write_reply(&mut writer, &reply), Err(Fault::Write));
+    assert_eq!(rt;
+        write_reply(rt.alloc(), &mut writer, &reply),
+        Err(Fault::Write)
+    );
     assert_eq!(rt; writer.as_slice(), b"{\"entry\":1".as_slice());
 }
