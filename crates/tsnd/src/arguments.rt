@@ -28,7 +28,7 @@ fn parsed(alloc: Global, words: &[String]) -> Result<(), Error> {
 }
 
 /// What the words ask for, the program's name first.
-pub fn asked(alloc: Global, words: &[String]) -> Result<Asked, Failure> {
+pub fn read_words(alloc: Global, words: &[String]) -> Result<Asked, Failure> {
     match parsed(alloc, words) {
         Ok(()) => Ok(Asked::Script),
         Err(error) if error.kind() == ErrorKind::OutOfMemory => Err(Failure::Memory),

@@ -6,7 +6,7 @@ use tsn_serve::run_script;
 use tsn_wire::{ByteIn, ByteOut};
 
 /// Answers each line of the reader on the writer, from a bridge with the standard setup.
-pub fn script<R: ByteIn, W: ByteOut>(
+pub fn answer_script<R: ByteIn, W: ByteOut>(
     alloc: Global,
     reader: &mut R,
     writer: &mut W,
