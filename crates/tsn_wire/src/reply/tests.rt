@@ -2,13 +2,14 @@
 use super::{write_refusal, write_reply};
 use crate::shown::ids_text;
 use crate::{Failing, Fault, Line, MemOut, command_of};
-use std::alloc::{AllocError, Global};
+use std::alloc::Global;
 use std::process::Abort;
 use std::test::Fail;
 use tsn_bridge::command::Command;
 use tsn_bridge::reply::Reply;
 use tsn_types::keys::Key;
 use tsn_types::numbers::{FilterId, GateId, MeterId, PortId};
+use tsn_types::records::Record;
 use tsn_types::refusals::{Field, Refusal};
 
 fn spells(rt: &impl Abort, alloc: Global, reply: &Reply, text: &str) {
@@ -113,8 +114,15 @@ fn stops_where_the_writer_fails(rt: HostRuntime) {
     assert_eq!(rt; writer.as_slice(), b"{\"entry\":1".as_slice());
 }
 
+fn created(command: Command) -> Option<(Key, Record)> {
+    match command {
+        Command::Create { key, value } => Some((key, value)),
+        _other => None,
+    }
+}
+
 // Creates the record of this text, and shows it as the same text.
-fn shows(rt: &impl Abort, alloc: Global, key: &str, record: &str) -> Result<(), AllocError> {
+fn shows(rt: &impl Abort, alloc: Global, key: &str, record: &str) -> Result<(), Fail> {
     let mut line = String::from_str(alloc, "{\"do\":\"create\",\"key\":\"")?;
     line.push_str(key)?;
     line.push_str("\",\"record\":")?;
@@ -125,15 +133,10 @@ fn shows(rt: &impl Abort, alloc: Global, key: &str, record: &str) -> Result<(), 
     text.push_str("\",\"record\":")?;
     text.push_str(record)?;
     text.push_str("}\n")?;
-    match command_of(alloc, line.as_bytes()) {
-        Ok(
-            Line {
-                session: _,
-                command: Command::Create { key, value },
-            },
-        ) => spells(rt, alloc, &Reply::Shown { key, value }, text.as_str()),
-        _ => assert!(rt; false, "{line} is not read"),
-    }
+    let Line { session, command } = command_of(alloc, line.as_bytes())?;
+    assert_eq!(rt; session, 1);
+    let (key, value) = created(command).ok_or("no create")?;
+    spells(rt, alloc, &Reply::Shown { key, value }, text.as_str());
     Ok(())
 }
 
