@@ -1,4 +1,5 @@
 pub mod Entries
+pub mod Examples
 pub mod Finding
 pub mod Ledger
 pub mod Marks

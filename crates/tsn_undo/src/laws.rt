@@ -1,6 +1,8 @@
 //! Laws of edits and their undoing, as functions whose contracts state them. Their bodies are empty.
-ghost use Rattle.std.specs.Prelude.{◌≡◌, ℕ};
+ghost use Rattle.std.specs.Prelude.{◌≡◌, ◌++◌, ◌∷◌, [], ℕ, Some, None};
 ghost use Rattle.tsn_edit.specs.declared.Edit.{Edit as AnyEdit};
+ghost use Rattle.tsn_undo.specs.Entries.{last_of, find_conflict, undone};
+ghost use Rattle.tsn_undo.specs.Examples.{first_run, removal, creation, blocked, replacement, others_removal};
 ghost use Rattle.tsn_undo.specs.Ledger.{Ledger};
 ghost use Rattle.tsn_undo.specs.Soundness.{IsSound};
 ghost use Rattle.tsn_undo.specs.Steps.{Edits, TakesBack, present};
@@ -13,4 +15,15 @@ pub fn edit_at_once_undone()
         Edits before session edit entry edited →
         TakesBack edited session number of after →
         (of ≡ entry) × (present after ≡ present before) }
+{}
+
+/// Journals of worked examples: what a session's next undo takes back, and what a colleague's removal blocks until it
+/// is undone itself.
+pub fn undos_by_hand()
+    ensures removal { last_of first_run 1 ≡ Some removal }
+    ensures creation { last_of (first_run ++ undone removal ∷ []) 1 ≡ Some creation }
+    ensures stranger { last_of first_run 2 ≡ None }
+    ensures newest { last_of blocked 1 ≡ Some replacement }
+    ensures blocks { find_conflict blocked replacement ≡ Some others_removal }
+    ensures unblocks { find_conflict (blocked ++ undone others_removal ∷ []) replacement ≡ None }
 {}
