@@ -423,3 +423,16 @@ fn a_copy_has_every_record(rt: HostRuntime) -> Result<(), Fail> {
     assert!(rt; is_default(&copy, port_key(2)));
     Ok(())
 }
+
+// The largest table of gates, filled in rising order.
+#[test]
+fn creates_each_gate_of_the_largest_table(rt: HostRuntime) -> Result<(), Fail> {
+    let alloc = rt.alloc();
+    let most = Limits::new(2, 16, 65_536, 16, 16).unwrap();
+    let mut config = Config::open(alloc, most, Records::new(alloc))?;
+    for number in 0..65_536 {
+        make(&rt, &mut config, create_gate(number, gate(alloc)))?;
+    }
+    assert_eq!(rt; config.ids(alloc, Kind::Gate)?.as_slice().len(), 65_536);
+    Ok(())
+}
