@@ -67,6 +67,22 @@ pub fn replies_are_spelled()
         ≡ codes "{\"refused\":18,\"why\":\"memory\"}\n" }
 {}
 
+/// The text of records and of numbers of instances.
+pub fn records_are_shown()
+    ensures filter { reply_text (replies.Shown (keys.Filter 3) (records.Filter (record { handle = Some 7; priority = None; gate = 0; max_sdu = Some 1500; meter = Some 0; oversize = true })))
+        ≡ codes "{\"key\":\"filter 3\",\"record\":{\"gate\":0,\"handle\":7,\"max_sdu\":1500,\"meter\":0,\"oversize\":true,\"priority\":null}}\n" }
+    ensures port { reply_text (replies.Shown (keys.Port 1) (records.Port (record { gates = 255; admin = record { list = []; cycle = 1000000; extension = 0; base = 0 } })))
+        ≡ codes "{\"key\":\"port 1\",\"record\":{\"base\":0,\"cycle\":1000000,\"extension\":0,\"gates\":255,\"list\":[]}}\n" }
+    ensures gate { reply_text (replies.Shown (keys.Gate 0) (records.Gate (record { is_open = false; ipv = None; invalid_rx = false; octets_exceeded = true; admin = record { list = record { is_open = true; ipv = Some 5; interval = 1000; octets = Some 150 } ∷ record { is_open = false; ipv = None; interval = 1000; octets = None } ∷ []; cycle = 2000; extension = 0; base = 0 } })))
+        ≡ codes "{\"key\":\"gate 0\",\"record\":{\"base\":0,\"cycle\":2000,\"extension\":0,\"invalid_rx\":false,\"ipv\":null,\"list\":[[true,5,1000,150],[false,null,1000,null]],\"octets_exceeded\":true,\"open\":false}}\n" }
+    ensures meter { reply_text (replies.Shown (keys.Meter 0) (records.Meter (record { cir = 8000000; cbs = 1500; eir = 0; ebs = 0; cf = false; aware = false; drop_yellow = false; all_red = false })))
+        ≡ codes "{\"key\":\"meter 0\",\"record\":{\"all_red\":false,\"aware\":false,\"cbs\":1500,\"cf\":false,\"cir\":8000000,\"drop_yellow\":false,\"ebs\":0,\"eir\":0}}\n" }
+    ensures ids { reply_text (replies.Ids (0 ∷ 1 ∷ 15 ∷ []))
+        ≡ codes "{\"ids\":[0,1,15]}\n" }
+    ensures none { reply_text (replies.Ids [])
+        ≡ codes "{\"ids\":[]}\n" }
+{}
+
 /// What is shown of a key and a record, put into a line that creates it, reads back as the same key and record.
 pub fn shown_reads_back()
     ensures { ReadsBack }

@@ -1,12 +1,15 @@
 //! The line of each form of reply.
-use super::write_reply;
-use crate::{Failing, Fault, MemOut};
+use super::{write_refusal, write_reply};
+use crate::shown::ids_text;
+use crate::{Failing, Fault, Line, MemOut, command_of};
 use std::alloc::Global;
 use std::process::Abort;
 use std::test::Fail;
+use tsn_bridge::command::Command;
 use tsn_bridge::reply::Reply;
 use tsn_types::keys::Key;
 use tsn_types::numbers::{FilterId, GateId, MeterId, PortId};
+use tsn_types::records::Record;
 use tsn_types::refusals::{Field, Refusal};
 
 fn spells(rt: &impl Abort, alloc: Global, reply: &Reply, text: &str) {
@@ -109,4 +112,75 @@ fn stops_where_the_writer_fails(rt: HostRuntime) {
         Err(Fault::Write)
     );
     assert_eq!(rt; writer.as_slice(), b"{\"entry\":1".as_slice());
+}
+
+fn created(command: Command) -> Option<(Key, Record)> {
+    match command {
+        Command::Create { key, value } => Some((key, value)),
+        _other => None,
+    }
+}
+
+// Creates the record of this text, and shows it as the same text.
+fn shows(rt: &impl Abort, alloc: Global, key: &str, record: &str) -> Result<(), Fail> {
+    let mut line = String::from_str(alloc, "{\"do\":\"create\",\"key\":\"")?;
+    line.push_str(key)?;
+    line.push_str("\",\"record\":")?;
+    line.push_str(record)?;
+    line.push_str(",\"s\":1}")?;
+    let mut text = String::from_str(alloc, "{\"key\":\"")?;
+    text.push_str(key)?;
+    text.push_str("\",\"record\":")?;
+    text.push_str(record)?;
+    text.push_str("}\n")?;
+    let Line { session, command } = command_of(alloc, line.as_bytes())?;
+    assert_eq!(rt; session, 1);
+    let (key, value) = created(command).ok_or("no create")?;
+    spells(rt, alloc, &Reply::Shown { key, value }, text.as_str());
+    Ok(())
+}
+
+#[test]
+fn shows_each_record(rt: HostRuntime) -> Result<(), Fail> {
+    let alloc = rt.alloc();
+    for (key, record) in [
+        (
+            "gate 0",
+            "{\"base\":0,\"cycle\":1000000,\"extension\":0,\"invalid_rx\":false,\"ipv\":null,\"list\":[],\"octets_exceeded\":false,\"open\":true}",
+        ),
+        (
+            "gate 65535",
+            "{\"base\":4611686018427387904,\"cycle\":2000,\"extension\":1,\"invalid_rx\":true,\"ipv\":7,\"list\":[[true,5,1000,150],[false,null,1000,null]],\"octets_exceeded\":true,\"open\":false}",
+        ),
+        (
+            "meter 0",
+            "{\"all_red\":false,\"aware\":false,\"cbs\":1500,\"cf\":false,\"cir\":8000000,\"drop_yellow\":false,\"ebs\":0,\"eir\":0}",
+        ),
+        (
+            "filter 3",
+            "{\"gate\":0,\"handle\":7,\"max_sdu\":1500,\"meter\":0,\"oversize\":true,\"priority\":null}",
+        ),
+        (
+            "port 1",
+            "{\"base\":0,\"cycle\":1000,\"extension\":0,\"gates\":255,\"list\":[[1,300],[128,700]]}",
+        ),
+    ] {
+        shows(&rt, alloc, key, record)?;
+    }
+    assert_eq!(rt; ids_text(alloc, &[])?.as_str(), "{\"ids\":[]}");
+    assert_eq!(rt;
+        ids_text(alloc, &[0, 1, 65_535])?.as_str(),
+        "{\"ids\":[0,1,65535]}"
+    );
+    Ok(())
+}
+
+#[test]
+fn refuses_in_place_of_a_reply(rt: HostRuntime) {
+    let mut writer = MemOut::new(Vec::new(rt.alloc()), 1, None);
+    assert_eq!(rt; write_refusal(&mut writer, &Refusal::Memory), Ok(()));
+    assert_eq!(rt;
+        writer.as_slice(),
+        b"{\"refused\":18,\"why\":\"memory\"}\n".as_slice()
+    );
 }
