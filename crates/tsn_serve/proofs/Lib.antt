@@ -1,3 +1,4 @@
 pub mod Cutting
 pub mod Running
 pub mod OneCut
+pub mod Keeping
