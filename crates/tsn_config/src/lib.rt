@@ -6,12 +6,13 @@
 //! does it. The definitions of edits and changes are those of `tsn_edit`.
 #![tactic(auto)]
 
-ghost use Rattle.std.specs.Prelude.{◌≡◌, ℕ, option_map};
+ghost use Rattle.std.specs.Prelude.{◌≡◌, ℕ, IfOk, option_map};
 ghost use Rattle.std.specs.FinMap as map;
 ghost use Rattle.tsn_types.specs.Whole.{whole};
 ghost use Rattle.tsn_types.specs.declared.records.Record.TheVariants.{Filter as FilterRecord};
 
 use crate::rows::Rows;
+use std::alloc::AllocError;
 use std::marker::Model;
 use tsn_table::Table;
 use tsn_types::keys::Key;
@@ -63,6 +64,17 @@ impl Config {
         ensures { option_map whole result ≡ map.get self.now.map key }
     {
         self.rows.get(key)
+    }
+
+    /// A configuration of the same limits and an equal map. Refused only for want of memory.
+    pub fn copy(&self) -> Result<Config, AllocError>
+        ensures limits { IfOk result (λ copy. copy.limits ≡ self.now.limits) }
+        ensures map { IfOk result (λ copy. copy.map ≡ self.now.map) }
+    {
+        Ok(Config {
+            limits: self.limits,
+            rows: self.rows.copy()?,
+        })
     }
 
     /// The stream filters by number, as a table of their own.

@@ -114,6 +114,18 @@ impl Rows {
         &self.filters
     }
 
+    /// Equal rows in tables of their own. Refused only for want of memory.
+    pub(crate) fn copy(&self) -> Result<Rows, AllocError>
+        ensures { IfOk result (λ copy. copy.map ≡ self.now.map) }
+    {
+        Ok(Rows {
+            ports: self.ports.copy(|row| row.try_clone())?,
+            filters: self.filters.copy(|row| Ok(*row))?,
+            gates: self.gates.copy(|row| row.try_clone())?,
+            meters: self.meters.copy(|row| Ok(*row))?,
+        })
+    }
+
     /// The refusal for a reference of the record that is absent, the gate before the meter.
     pub(crate) fn dangling(&self, value: &Record) -> Option<Refusal>
         ensures { result ≡ dangling self.now.map value.now }

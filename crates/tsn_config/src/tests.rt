@@ -407,3 +407,19 @@ fn laws_have_nothing_to_run() {
     laws::change_and_inverse();
     laws::admitted_edit_fits();
 }
+
+#[test]
+fn a_copy_has_every_record(rt: HostRuntime) -> Result<(), Fail> {
+    let alloc = rt.alloc();
+    let config = first_entries(&rt, alloc)?;
+    let copy = config.copy()?;
+    let whole = Record::Filter(filter(0, on_meter(0)));
+    assert_eq!(rt; copy.limits().ports(), 2);
+    assert_eq!(rt; copy.ids(alloc, Kind::Gate)?.as_slice(), [0].as_slice());
+    assert!(rt;
+        copy.get(filter_key(3))
+            .is_some_and(|found| found.is(&whole))
+    );
+    assert!(rt; is_default(&copy, port_key(2)));
+    Ok(())
+}

@@ -13,6 +13,7 @@ ghost use Rattle.std.specs.List.{insert};
 ghost use Rattle.std.specs.Vec.{vec_len, vec_capacity};
 ghost use Rattle.tsn_table.specs.Places.{IsRowAt, IsGap};
 ghost use Rattle.tsn_table.specs.Firsts.{Answers, first_id};
+ghost use Rattle.tsn_table.specs.Copies.{Copies};
 
 use std::alloc::{AllocError, Global};
 use std::marker::Model;
@@ -78,6 +79,21 @@ impl<R: Drop> Table<R> {
         ensures { IfOk result (λ ids. ids.items ≡ map.keys self.now.map) }
     {
         ids_of(&self.rows, alloc)
+    }
+
+    /// A table of equal rows with no more room than they need, each row copied by `copy_row`. Refused only for want of
+    /// memory.
+    pub fn copy<F: Fn(&R) -> Result<R, AllocError> + Drop>(
+        &self,
+        copy_row: F,
+    ) -> Result<Table<R>, AllocError>
+        requires callable { F.IsAlwaysCallable copy_row }
+        requires equal { Copies F.Fn copy_row }
+        ensures { IfOk result (λ copy. copy.map ≡ self.now.map) }
+    {
+        Ok(Table {
+            rows: copy_of(&self.rows, *self.rows.allocator(), &copy_row)?,
+        })
     }
 
     /// Makes room for at least `count` rows of new numbers. It is refused only for want of memory, and never
@@ -146,6 +162,23 @@ fn ids_of<R>(rows: &[(u64, R)], alloc: Global) -> Result<Vec<u64>, AllocError>
     ensures { IfOk result (λ ids. ids.items ≡ keys_of (λ e. e.0) rows.now) }
 {
     rows.iter().map(|row| row.0).collect(alloc)
+}
+
+// The rows with equal copies.
+fn copy_of<R: Drop, F: Fn(&R) -> Result<R, AllocError>>(
+    rows: &[(u64, R)],
+    alloc: Global,
+    copy_row: &F,
+) -> Result<Vec<(u64, R)>, AllocError>
+    requires callable { F.IsAlwaysCallable copy_row.now }
+    requires equal { Copies F.Fn copy_row.now }
+    ensures { IfOk result (λ copy. copy.items ≡ rows.now) }
+{
+    let mut copy = Vec::with_capacity(alloc, rows.len())?;
+    for row in rows {
+        copy.push((row.0, copy_row(&row.1)?))?;
+    }
+    Ok(copy)
 }
 
 // Where the row of the number stands, or where it would stand.

@@ -64,3 +64,12 @@ fn takes_a_row_out(rt: HostRuntime) -> Result<(), Fail> {
     assert_eq!(rt; table.ids(rt.alloc())?.as_slice(), [1, 6].as_slice());
     Ok(())
 }
+
+#[test]
+fn copies_every_row(rt: HostRuntime) -> Result<(), Fail> {
+    let table = three_rows(rt.alloc())?;
+    let copy = table.copy(|row| Ok(*row))?;
+    assert_eq!(rt; copy.ids(rt.alloc())?.as_slice(), [1, 4, 6].as_slice());
+    assert_eq!(rt; copy.get(4).copied(), Some(40));
+    Ok(())
+}

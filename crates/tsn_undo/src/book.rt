@@ -81,7 +81,7 @@ impl Book {
     fn is_full(&self) -> bool
         ensures { result ≡ not (nat_lt (length self.now.entries) 65536) }
     {
-        self.entries.len() >= MOST_ENTRIES
+        self.len() >= MOST_ENTRIES
     }
 
     /// Makes the edit and its entry, whose number is the answer. It is refused 3, 4 or 6 to 9 as the configuration

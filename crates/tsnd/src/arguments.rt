@@ -17,10 +17,9 @@ fn command<'a>(alloc: Global) -> Result<Command<'a>, AllocError> {
     Command::new(alloc, "tsnd")
         .about("The configuration service of one time-aware bridge")
         .subcommand_required(true)
-        .subcommand(
-            Command::new(alloc, "script")
-                .about("Answers the command lines on standard input, one reply line each"),
-        )
+        .subcommand(Command::new(alloc, "script").about(
+            "Answers the command lines on standard input, one reply line each",
+        ))
 }
 
 fn parsed(alloc: Global, words: &[String]) -> Result<(), Error> {
@@ -29,7 +28,7 @@ fn parsed(alloc: Global, words: &[String]) -> Result<(), Error> {
 }
 
 /// What the words ask for, the program's name first.
-pub fn asked(alloc: Global, words: &[String]) -> Result<Asked, Failure> {
+pub fn read_words(alloc: Global, words: &[String]) -> Result<Asked, Failure> {
     match parsed(alloc, words) {
         Ok(()) => Ok(Asked::Script),
         Err(error) if error.kind() == ErrorKind::OutOfMemory => Err(Failure::Memory),

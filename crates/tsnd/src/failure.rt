@@ -1,7 +1,7 @@
 //! Why the program ends with status 1: the line that it writes to standard error.
 use thiserror::Error;
 use tsn_types::refusals::Refusal;
-use tsn_wire::bytes::Fault;
+use tsn_wire::Fault;
 
 /// A refusal or a fault that ends the program.
 #[derive(Clone, Copy, Debug, Error)]

@@ -8,13 +8,13 @@ mod arguments;
 mod failure;
 mod script;
 
-use crate::arguments::{Asked, asked};
+use crate::arguments::{Asked, read_words};
 use crate::failure::Failure;
-use crate::script::script;
+use crate::script::answer_script;
 use std::process::ExitCode;
 use std::rt::Env;
 use std::{env, io};
-use tsn_wire::standard::StdIo;
+use tsn_wire::StdIo;
 
 /// The words of the command line, the program's name first.
 fn words_of<R: Env + AllocGlobal>(rt: &R) -> io::Result<Vec<String>> {
@@ -30,11 +30,11 @@ fn run<R: Env + Input + Print + Eprint + AllocGlobal>(rt: &R) -> Result<u8, Fail
     let Ok(words) = words_of(rt) else {
         return Err(Failure::Memory);
     };
-    match asked(rt.alloc(), words.as_slice())? {
+    match read_words(rt.alloc(), words.as_slice())? {
         Asked::Script => {
             let mut reader = StdIo::new(rt.reader());
             let mut writer = StdIo::new(io::writer(rt));
-            script(rt.alloc(), &mut reader, &mut writer)?;
+            answer_script(rt.alloc(), &mut reader, &mut writer)?;
             Ok(0)
         }
         Asked::Text(text) => {

@@ -3,15 +3,15 @@ use crate::failure::Failure;
 use std::alloc::Global;
 use tsn_bridge::bridge::{Bridge, Setup};
 use tsn_serve::run_script;
-use tsn_wire::bytes::{ByteIn, ByteOut};
+use tsn_wire::{ByteIn, ByteOut};
 
 /// Answers each line of the reader on the writer, from a bridge with the standard setup.
-pub fn script<R: ByteIn, W: ByteOut>(
+pub fn answer_script<R: ByteIn, W: ByteOut>(
     alloc: Global,
     reader: &mut R,
     writer: &mut W,
 ) -> Result<(), Failure> {
     let mut bridge = Bridge::new(alloc, Setup::standard(alloc))?;
-    run_script(&mut bridge, reader, writer)?;
+    run_script(alloc, &mut bridge, reader, writer)?;
     Ok(())
 }
