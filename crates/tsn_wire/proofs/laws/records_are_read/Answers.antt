@@ -1,7 +1,7 @@
 use Rattle.std.proofs.Common.{refl}
 use Rattle.std.specs.Str.{is_utf8, chars}
 use Rattle.serde_json.proofs.OnLiterals.{serde_json_on_literals}
-use Rattle.tsn_wire.specs.Commands.{line_shape, command_shape, create_shape, replace_shape}
+use Rattle.tsn_wire.specs.Commands.{line_shape, command_shape, create_shape}
 use Rattle.tsn_wire.specs.Ranges.{schedule, port_entry, gate_entry, port, gate, filter, meter}
 use Rattle.tsn_wire.specs.Records.{list_shape, schedule_shape, port_entry_shape, gate_entry_shape, port_shape, gate_shape, filter_shape, meter_shape}
 use Rattle.tsn_wire.proofs.laws.records_are_read.Goals as goal
@@ -19,7 +19,7 @@ unfolding serde_json_on_literals is_utf8 chars line_shape command_shape create_s
 returns-clause-gate c = refl
 
 pub returns-clause-port : goal.returns-clause-port
-unfolding serde_json_on_literals is_utf8 chars line_shape command_shape replace_shape port_shape schedule_shape list_shape port_entry_shape port schedule port_entry
+unfolding serde_json_on_literals is_utf8 chars line_shape command_shape create_shape port_shape schedule_shape list_shape port_entry_shape port schedule port_entry
 returns-clause-port c = refl
 
 pub returns-clause-cycle : goal.returns-clause-cycle
