@@ -30,7 +30,9 @@ a_port = record {
     list = record { gates = 1; interval = 300 } ∷ record { gates = 128; interval = 700 } ∷ [];
     cycle = 1000;
     extension = 0;
-    base = 0 } }
+    base = 0;
+  };
+}
 
 abbrev pub port_text : List ℕ
 port_text = codes "{\"base\":0,\"cycle\":1000,\"extension\":0,\"gates\":255,\"list\":[[1,"
@@ -56,7 +58,9 @@ a_gate = record {
         ∷ record { is_open = false; ipv = None; interval = 1000; octets = None } ∷ [];
     cycle = 2000;
     extension = 0;
-    base = 0 } }
+    base = 0;
+  };
+}
 
 abbrev pub gate_text : List ℕ
 gate_text = codes "{\"base\":0,\"cycle\":2000,\"extension\":0,\"invalid_rx\":false,"
