@@ -7,6 +7,8 @@
 mod arguments;
 mod failure;
 mod script;
+#[cfg(test)]
+mod tests;
 
 use crate::arguments::{Asked, read_words};
 use crate::failure::Failure;
