@@ -113,12 +113,18 @@ fn quantities_keep_their_ranges(rt: HostRuntime) {
     assert_eq!(rt; Interval::new(1).map(Interval::get), Ok(1));
 }
 
+fn port_key() -> Key {
+    Key::Port(PortId::new(2).unwrap())
+}
+
+fn gate_key() -> Key {
+    Key::Gate(GateId::new(0).unwrap())
+}
+
 #[test]
 fn keys_are_ordered_by_kind(rt: HostRuntime) {
-    let port = Key::Port(PortId::new(2).unwrap());
-    let gate = Key::Gate(GateId::new(0).unwrap());
-    assert_eq!(rt; port.order(gate), Ordering::Less);
-    assert_eq!(rt; gate.kind(), Kind::Gate);
+    assert_eq!(rt; port_key().order(gate_key()), Ordering::Less);
+    assert_eq!(rt; gate_key().kind(), Kind::Gate);
 }
 
 #[test]
@@ -147,11 +153,11 @@ fn copies_are_equal(rt: HostRuntime) -> Result<(), Fail> {
 
 #[test]
 fn a_lent_record_is_the_record(rt: HostRuntime) -> Result<(), Fail> {
-    let filter = filter();
-    let lent = RecordRef::Filter(&filter);
-    assert!(rt; lent.is(&Record::Filter(filter)));
+    let kept = filter();
+    let lent = RecordRef::Filter(&kept);
+    assert!(rt; lent.is(&Record::Filter(filter())));
     assert!(rt; !lent.is(&Record::Meter(meter())));
-    assert!(rt; lent.try_clone()? == Record::Filter(filter));
+    assert!(rt; lent.try_clone()? == Record::Filter(filter()));
     Ok(())
 }
 
