@@ -46,15 +46,15 @@ fn create(bridge: &mut Bridge, session: u32, number: u64) -> Reply
 
 /// Whether the entry of the number was made.
 fn is_entry(reply: Reply, number: u64) -> bool {
-    match reply {
-        Reply::Entry { entry } => entry == number,
+    match &reply {
+        Reply::Entry { entry } => *entry == number,
         _ => false,
     }
 }
 
 fn refusal_of(reply: Reply) -> Option<Refusal> {
-    match reply {
-        Reply::Refused(refusal) => Some(refusal),
+    match &reply {
+        Reply::Refused(refusal) => Some(*refusal),
         _ => None,
     }
 }
