@@ -6,8 +6,8 @@ use tsn_wire::Fault;
 /// A refusal or a fault that ends the program.
 #[derive(Clone, Copy, Debug, Error)]
 pub enum Failure {
-    #[error("tsnd: refused {} {}", .0.number(), .0.name())]
-    Refused(Refusal),
+    #[error("tsnd: refused {number} {name}")]
+    Refused { number: u64, name: &'static str },
     #[error("tsnd: read failed")]
     Read,
     #[error("tsnd: write failed")]
@@ -28,9 +28,12 @@ impl From<Fault> for Failure {
 
 impl From<Refusal> for Failure {
     fn from(refusal: Refusal) -> Failure {
-        match refusal {
-            Refusal::Memory => Failure::Memory,
-            other => Failure::Refused(other),
+        let number = refusal.number();
+        let name = refusal.name();
+        if refusal == Refusal::Memory {
+            Failure::Memory
+        } else {
+            Failure::Refused { number, name }
         }
     }
 }
