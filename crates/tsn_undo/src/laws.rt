@@ -5,7 +5,7 @@ ghost use Rattle.tsn_undo.specs.Entries.{last_of, find_conflict, undone};
 ghost use Rattle.tsn_undo.specs.Examples.{first_run, removal, creation, blocked, replacement, others_removal};
 ghost use Rattle.tsn_undo.specs.Ledger.{Ledger};
 ghost use Rattle.tsn_undo.specs.Soundness.{IsSound};
-ghost use Rattle.tsn_undo.specs.Steps.{Edits, TakesBack, present};
+ghost use Rattle.tsn_undo.specs.Steps.{Edits, TakesBack, full, present, undo_refusal};
 
 /// An accepted edit that the same session at once undoes is the one that is taken back, and the configuration is then
 /// the one before the edit: the whole map, every member of every record. Every book is sound, as `Book::config` says.
@@ -15,6 +15,15 @@ pub fn edit_at_once_undone()
         Edits before session edit entry edited →
         TakesBack edited session number of after →
         (of ≡ entry) × (present after ≡ present before) }
+{}
+
+/// Such an undo always has something to take back and never a conflict: a full journal alone refuses it, or want of
+/// memory, as it does any undo.
+pub fn undo_at_once_is_free()
+    ensures { (before edited : Ledger) (session : ℕ) (edit : AnyEdit) (entry : ℕ) →
+        IsSound before.limits before.opening before.entries →
+        Edits before session edit entry edited →
+        undo_refusal edited session ≡ full edited }
 {}
 
 /// Journals of worked examples: what a session's next undo takes back, and what a colleague's removal blocks until it
