@@ -1,20 +1,18 @@
 -- An entry that applies a change that fits keeps a journal sound.
-use Rattle.std.proofs.Common.{◌≡◌, ℕ, ◌+◌, ◌≤◌, Bool, true, false, cond, ◌||◌, ◌⊎◌, inl, inr, not, List, [], ◌∷◌, ◌++◌, refl, sym, ◌∙◌, ap, subst, Some, None, arith, length}
-use Rattle.std.specs.Prelude.{filter, IsTrue, IsSome, is_some}
-use Rattle.std.specs.List.{AllByRecursion}
+use Rattle.std.proofs.Common.{◌≡◌, ℕ, ◌+◌, ◌≤◌, Bool, true, false, cond, ◌||◌, not, List, [], ◌∷◌, ◌++◌, refl, sym, ◌∙◌, ap, subst, Some, arith, length}
+use Rattle.std.specs.Prelude.{filter, IsTrue}
 use Rattle.std.proofs.Common.{length-append}
-use Rattle.tsn_edit.specs.Parts.{Change, inverse}
+use Rattle.tsn_edit.specs.Parts.{Change}
 use Rattle.tsn_types.specs.declared.limits.Limits.{Limits}
-use Rattle.tsn_undo.specs.declared.entries.What.{What}
 use Rattle.tsn_undo.specs.declared.entries.Entry.{Entry}
 use Rattle.tsn_edit.specs.Configuration.{Configuration}
-use Rattle.tsn_edit.specs.Changes.{changed, conflicts, Fits}
+use Rattle.tsn_edit.specs.Changes.{changed, Fits}
 use Rattle.tsn_edit.specs.Runs.{run, IsGood}
 use Rattle.tsn_undo.specs.Entries.{Applied, changes, applied_at, collect, adds, applies, takes_back, is_undone, standing, configuration}
 use Rattle.tsn_undo.specs.Soundness.{IsSound}
-use Rattle.tsn_edit.proofs.KeyFacts.{by_bool, by_option}
-use Rattle.tsn_edit.proofs.Inverses.{run-append, good-append, good_front, good_rest, end_kept, undoable}
-use Rattle.tsn_undo.proofs.Numbers.{append_nil, changes-append, collect_push, is_undone_push, Rises, rises_collect, filter-append, filter_alike, last_where_none, later_than_rest}
+use Rattle.tsn_edit.proofs.KeyFacts.{by_bool}
+use Rattle.tsn_edit.proofs.Inverses.{run-append, good-append}
+use Rattle.tsn_undo.proofs.Numbers.{changes-append, collect_push, is_undone_push, filter-append, filter_alike}
 
 length_push : (es : List Entry) (e : Entry) → length (es ++ e ∷ []) ≡ length es + 1
 length_push es e = omega (arith, length-append es (e ∷ []))

@@ -9,7 +9,7 @@ use Rattle.tsn_undo.specs.declared.entries.Entry.{Entry}
 use Rattle.tsn_undo.specs.declared.entries.What.{What}
 use Rattle.tsn_undo.specs.declared.entries.What.TheVariants.{Made, Undone}
 use Rattle.tsn_edit.specs.Changes.{conflicts}
-use Rattle.tsn_undo.specs.Entries.{Applied, applied_at, applied_by, change_in, adds, applies, is_undone, last_where, last_of, find_conflict, later_than, standing}
+use Rattle.tsn_undo.specs.Entries.{Applied, applied_at, applied_by, change_in, adds, applies, last_where, last_of, find_conflict, standing}
 use Rattle.tsn_undo.specs.Marks.{marks_from, marks}
 use Rattle.tsn_undo.specs.Finding.{passes, last_true}
 use Rattle.tsn_undo.proofs.Marking.{marked, standing-marked}

@@ -1,11 +1,9 @@
 -- The marks of entries give the standing ones, and follow each new entry.
-use Rattle.std.proofs.Common.{◌≡◌, ℕ, zero, suc, ◌+◌, ◌<◌, ◌≤◌, Bool, true, false, cond, ◌||◌, ◌&&◌, not, List, [], ◌∷◌, ◌++◌, refl, sym, ◌∙◌, ap, Option, Some, None, arith, length, set}
+use Rattle.std.proofs.Common.{◌≡◌, ℕ, zero, suc, ◌+◌, ◌<◌, Bool, true, false, cond, ◌||◌, ◌&&◌, not, List, [], ◌∷◌, ◌++◌, refl, ◌∙◌, ap, Option, Some, None, arith, length, set}
 use Rattle.std.specs.Prelude.{filter, ◌==◌, is_some}
 use Rattle.std.proofs.lemmas.Bool.Decides.{nat_tests}
 use Rattle.tsn_edit.specs.Parts.{Change}
-use Rattle.tsn_edit.proofs.KeyFacts.{by_bool}
 use Rattle.tsn_undo.specs.declared.entries.Entry.{Entry}
-use Rattle.tsn_undo.specs.declared.entries.What.{What}
 use Rattle.tsn_undo.specs.Entries.{Applied, applied_at, collect, adds, takes_back, is_undone, standing}
 use Rattle.tsn_undo.specs.Marks.{marks_from, marks}
 use Rattle.tsn_undo.proofs.Numbers.{filter-append, is_undone_push}

@@ -10,16 +10,16 @@ use Rattle.tsn_undo.specs.Entries.{Applied, changes, collect, applies, applied_a
 use Rattle.std.specs.Prelude.{◌==◌}
 use Rattle.std.proofs.Common.{arith}
 use Rattle.std.proofs.lemmas.Bool.Decides.{nat_tests}
-use Rattle.tsn_undo.proofs.Undoing.{IsUndoStep, undo_step}
+use Rattle.tsn_undo.proofs.Undoing.{undo_step}
 use Rattle.tsn_undo.specs.Soundness.{IsSound}
 use Rattle.tsn_undo.specs.Marks.{marks}
-use Rattle.tsn_undo.specs.declared.entries.What.TheVariants.{Made, Undone}
+use Rattle.tsn_undo.specs.declared.entries.What.TheVariants.{Made}
 use Rattle.tsn_undo.specs.Entries.{made}
 use Rattle.tsn_undo.proofs.Adding.{sound_added}
 use Rattle.tsn_undo.proofs.Marking.{marks_made, marks_undone}
 use Rattle.tsn_edit.proofs.KeyFacts.{by_bool}
 use Rattle.tsn_undo.specs.Entries.{is_undone}
-use Rattle.std.proofs.Common.{◌<◌, ◌≤◌, length-append, set, IsTrue}
+use Rattle.std.proofs.Common.{◌<◌, ◌≤◌, length-append, set}
 use Rattle.tsn_edit.proofs.Inverses.{run-append, end_kept, taken_back}
 use Rattle.tsn_undo.proofs.Numbers.{changes-append, collect_push, last_where_some}
 use Rattle.tsn_undo.specs.Ledger.{Ledger, rewound, opening_of, IsBook}

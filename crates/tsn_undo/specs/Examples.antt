@@ -1,12 +1,12 @@
 -- Journals of two worked examples, by hand: the first run of a script, and an undo that a colleague's removal blocks.
-use Rattle.std.specs.Prelude.{ℕ, List, [], ◌∷◌, ◌++◌, Option, Some, None, true, false}
+use Rattle.std.specs.Prelude.{ℕ, List, [], ◌∷◌, Option, Some, None, true, false}
 use Rattle.tsn_types.specs.declared.keys.Key.{Key}
 use Rattle.tsn_types.specs.declared.keys.Key.TheVariants.{Filter, Gate}
 use Rattle.tsn_types.specs.declared.records.Record.{Record}
 use Rattle.tsn_types.specs.declared.records.Record.TheVariants.{Filter as FilterRecord, Gate as GateRecord}
 use Rattle.tsn_edit.specs.Parts.{Change}
 use Rattle.tsn_undo.specs.declared.entries.Entry.{Entry}
-use Rattle.tsn_undo.specs.Entries.{Applied, made, undone}
+use Rattle.tsn_undo.specs.Entries.{Applied, made}
 
 -- an open gate with an empty list
 abbrev pub gate : Record

@@ -1,6 +1,6 @@
-use Rattle.std.proofs.Common.{◌≡◌, ℕ, ◌+◌, ◌-◌, ◌<◌, ◌≤◌, false, length, sym, ◌∙◌, ap, get_or, arith}
+use Rattle.std.proofs.Common.{◌≡◌, ◌-◌, ◌<◌, ◌≤◌, false, length, sym, ◌∙◌, get_or, arith}
 use Rattle.tsn_undo.specs.Finding.{passes}
-use Rattle.tsn_undo.proofs.Latest.{last_true_at, last_true_none, passes_past, passes_low, here_true, here_false, here_unmarked, from_here, none_passes}
+use Rattle.tsn_undo.proofs.Latest.{last_true_at, last_true_none, passes_past, here_true, here_false, here_unmarked, from_here, none_passes}
 use Rattle.tsn_undo.proofs.finding.latest.Goals as goal
 use Rattle.tsn_undo.proofs.finding.latest.Goals.{else-stands-place-via-then-stands-place+else-test, else-stands-place-via-else-stands-place}
 

@@ -1,6 +1,5 @@
-use Rattle.std.proofs.Common.{◌≡◌, ℕ, ◌+◌, ◌<◌, Bool, length, sym, ◌∙◌, ap, subst, rules, get_or}
+use Rattle.std.proofs.Common.{◌≡◌, ◌+◌, ◌<◌, Bool, length, sym, ◌∙◌, ap, subst, rules, get_or}
 use Rattle.std.specs.Prelude.{option_map}
-use Rattle.tsn_edit.specs.Parts.{Change}
 use Rattle.tsn_edit.specs.Changes.{conflicts}
 use Rattle.tsn_undo.specs.declared.entries.Entry.{Entry}
 use Rattle.tsn_undo.specs.Entries.{applied_by, change_in, find_conflict}

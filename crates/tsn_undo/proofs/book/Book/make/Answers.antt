@@ -1,4 +1,4 @@
-use Rattle.std.proofs.Common.{◌≡◌, ◌<◌, true, List, [], ◌∷◌, ◌++◌, length, sym, ◌∙◌, ap, subst}
+use Rattle.std.proofs.Common.{◌<◌, true, [], ◌∷◌, ◌++◌, length, sym, ◌∙◌, ap, subst}
 use Rattle.tsn_edit.specs.Configuration.{Configuration}
 use Rattle.tsn_edit.specs.Parts.{Change}
 use Rattle.tsn_edit.specs.Changes.{changed}

@@ -1,4 +1,4 @@
-use Rattle.std.proofs.Common.{◌≡◌, ℕ, ◌+◌, ◌<◌, Bool, length, sym, ◌∙◌, ap, subst, rules, get_or}
+use Rattle.std.proofs.Common.{◌≡◌, ◌+◌, ◌<◌, Bool, length, sym, ◌∙◌, ap, subst, rules, get_or}
 use Rattle.std.specs.Prelude.{◌==◌, option_map, IfSome}
 use Rattle.tsn_undo.specs.declared.entries.Entry.{Entry}
 use Rattle.tsn_undo.specs.Entries.{applied_by, last_of}

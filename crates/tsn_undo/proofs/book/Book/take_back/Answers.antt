@@ -1,4 +1,4 @@
-use Rattle.std.proofs.Common.{◌≡◌, ℕ, ◌+◌, ◌<◌, Bool, false, List, [], ◌∷◌, ◌++◌, length, sym, ◌∙◌, ap, subst, refl, arith, set, get_or, Some, None}
+use Rattle.std.proofs.Common.{◌≡◌, ℕ, ◌+◌, ◌<◌, Bool, false, List, [], ◌∷◌, ◌++◌, length, sym, ◌∙◌, ap, subst, refl, arith, set, get_or}
 use Rattle.tsn_types.specs.declared.limits.Limits.{Limits}
 use Rattle.tsn_edit.specs.Configuration.{Configuration}
 use Rattle.tsn_edit.specs.Parts.{Change, inverse}

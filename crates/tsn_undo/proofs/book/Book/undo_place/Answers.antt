@@ -1,4 +1,4 @@
-use Rattle.std.proofs.Common.{◌≡◌, ◌+◌, ◌∙◌, ap, Option, Some, None, length}
+use Rattle.std.proofs.Common.{◌+◌, ◌∙◌, ap, Option, length}
 use Rattle.std.specs.Prelude.{option_map, nat_lt}
 use Rattle.std.specs.Option.{option_or}
 use Rattle.tsn_types.specs.declared.refusals.Refusal.TheVariants.{Conflict}
