@@ -12,6 +12,7 @@ ghost use Rattle.tsn_edit.specs.Edits.{early_causes};
 ghost use Rattle.tsn_edit.specs.Runs.{run, IsGood};
 ghost use Rattle.tsn_config.specs.Opening.{opening, opening_refusal};
 ghost use Rattle.tsn_undo.specs.Entries.{changes, standing};
+ghost use Rattle.tsn_undo.specs.Soundness.{IsSound};
 ghost use Rattle.tsn_undo.specs.Steps.{present};
 ghost use Rattle.tsn_bridge.specs.Machine.{Step, HelloStep, EditStep, UndoStep, ShowStep, ListStep, is_given};
 
@@ -114,6 +115,7 @@ impl Bridge {
         ensures limits { result.now.limits ≡ self.now.book.limits }
         ensures map { result.now.map ≡ present self.now.book }
         ensures kept { IsWellKept self.now.book.limits (present self.now.book) }
+        ensures sound { IsSound self.now.book.limits self.now.book.opening self.now.book.entries }
         ensures good { IsGood self.now.book.limits self.now.book.opening (changes (standing self.now.book.entries)) }
         ensures stands { result.now.map ≡ run self.now.book.opening (changes (standing self.now.book.entries)) }
     {

@@ -6,6 +6,7 @@
 
 pub mod bridge;
 pub mod command;
+pub mod laws;
 pub mod reply;
 #[cfg(test)]
 mod tests;

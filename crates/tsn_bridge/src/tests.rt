@@ -4,6 +4,7 @@ ghost use Rattle.std.specs.Prelude.{◌≤◌};
 
 use crate::bridge::{Bridge, Setup};
 use crate::command::Command;
+use crate::laws;
 use crate::reply::Reply;
 use std::alloc::Global;
 use std::process::Abort;
@@ -162,4 +163,9 @@ fn a_setup_with_an_absent_gate_is_refused(rt: HostRuntime) -> Result<(), Fail> {
     let gate = Key::Gate(GateId::new(4).unwrap());
     assert_eq!(rt; refused, Some(Refusal::Dangling(gate)));
     Ok(())
+}
+
+#[test]
+fn laws_have_nothing_to_run() {
+    laws::edit_at_once_undone();
 }
