@@ -1,5 +1,5 @@
 -- The bridge as a machine: what a command of a session may be answered, and the state after it.
-use Rattle.std.specs.Prelude.{◌≡◌, ◌⊎◌, ℕ, ◌+◌, Bool, ◌&&◌, List, [], ◌∷◌, ◌++◌, Option, Some, None, MatchOption, is_some, nat_lt, nat_le, length}
+use Rattle.std.specs.Prelude.{◌≡◌, ◌⊎◌, ℕ, ◌+◌, Bool, ◌&&◌, List, [], ◌∷◌, ◌++◌, Option, Some, MatchOption, is_some, nat_lt, nat_le, length}
 use Rattle.std.specs.FinMap.{get}
 use Rattle.tsn_types.specs.declared.keys.Key.{Key}
 use Rattle.tsn_types.specs.declared.keys.Kind.{Kind}

@@ -64,6 +64,7 @@ fn fill(book: &mut Book, pairs: u32) -> Result<(), Refusal> {
 #[test]
 fn an_undone_removal_is_whole(rt: HostRuntime) -> Result<(), Fail> {
     laws::edit_at_once_undone();
+    laws::undo_at_once_is_free();
     laws::undos_by_hand();
     let mut book = book(rt.alloc())?;
     assert_eq!(rt; book.edit(1, create(3)), Ok(1));

@@ -3,7 +3,7 @@ use Rattle.tsn_undo.specs.Ledger.{Ledger}
 use Rattle.tsn_undo.specs.Steps.{edit_refusal}
 use Rattle.tsn_bridge.specs.State.{State}
 use Rattle.tsn_bridge.specs.Machine.{edit_causes, EditDone}
-use Rattle.tsn_bridge.specs.declared.reply.Reply.TheVariants.{Refused, Entry}
+use Rattle.tsn_bridge.specs.declared.reply.Reply.TheVariants.{Refused}
 use Rattle.tsn_bridge.proofs.Causes.{causes_given, edit_step, refused}
 use Rattle.tsn_bridge.proofs.bridge.Bridge.edit_given.Goals as goal
 
