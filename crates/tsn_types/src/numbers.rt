@@ -46,7 +46,8 @@ impl PortId {
         ensures same { result ≡ self }
         ensures in_range { (1 ≤ self) × (self ≤ 64) }
     {
-        self.number
+        let PortId { number } = self;
+        number
     }
 }
 
@@ -86,7 +87,8 @@ impl FilterId {
         ensures same { result ≡ self }
         ensures in_range { self ≤ 65535 }
     {
-        self.number
+        let FilterId { number } = self;
+        number
     }
 }
 
@@ -126,7 +128,8 @@ impl GateId {
         ensures same { result ≡ self }
         ensures in_range { self ≤ 65535 }
     {
-        self.number
+        let GateId { number } = self;
+        number
     }
 }
 
@@ -166,7 +169,8 @@ impl MeterId {
         ensures same { result ≡ self }
         ensures in_range { self ≤ 65535 }
     {
-        self.number
+        let MeterId { number } = self;
+        number
     }
 }
 
@@ -206,7 +210,8 @@ impl Priority {
         ensures same { result ≡ self }
         ensures in_range { self ≤ 7 }
     {
-        self.number
+        let Priority { number } = self;
+        number
     }
 }
 
@@ -246,7 +251,8 @@ impl Handle {
         ensures same { result ≡ self }
         ensures in_range { self ≤ 4294967295 }
     {
-        self.number
+        let Handle { number } = self;
+        number
     }
 }
 
@@ -286,7 +292,8 @@ impl Octets {
         ensures same { result ≡ self }
         ensures in_range { self ≤ 4294967295 }
     {
-        self.number
+        let Octets { number } = self;
+        number
     }
 }
 
@@ -326,7 +333,8 @@ impl MaxSdu {
         ensures same { result ≡ self }
         ensures in_range { (1 ≤ self) × (self ≤ 65535) }
     {
-        self.number
+        let MaxSdu { number } = self;
+        number
     }
 }
 
@@ -366,7 +374,8 @@ impl BitRate {
         ensures same { result ≡ self }
         ensures in_range { self ≤ 10 ^ 12 }
     {
-        self.number
+        let BitRate { number } = self;
+        number
     }
 }
 
@@ -406,7 +415,8 @@ impl Instant {
         ensures same { result ≡ self }
         ensures in_range { self ≤ 2 ^ 62 }
     {
-        self.number
+        let Instant { number } = self;
+        number
     }
 }
 
@@ -446,7 +456,8 @@ impl Cycle {
         ensures same { result ≡ self }
         ensures in_range { (1 ≤ self) × (self ≤ 10 ^ 12) }
     {
-        self.number
+        let Cycle { number } = self;
+        number
     }
 }
 
@@ -486,7 +497,8 @@ impl Extension {
         ensures same { result ≡ self }
         ensures in_range { self ≤ 10 ^ 12 }
     {
-        self.number
+        let Extension { number } = self;
+        number
     }
 }
 
@@ -526,6 +538,7 @@ impl Interval {
         ensures same { result ≡ self }
         ensures in_range { (1 ≤ self) × (self ≤ 4294967295) }
     {
-        self.number
+        let Interval { number } = self;
+        number
     }
 }
