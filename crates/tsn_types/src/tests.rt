@@ -8,10 +8,11 @@ use crate::numbers::{
     Octets, PortId, Priority, Range,
 };
 use crate::records::{
-    FlowMeter, PortEntry, PortGates, Record, RecordRef, Refs, Schedule, StreamFilter, StreamGate,
+    FlowMeter, GateEntry, PortEntry, PortGates, Record, RecordRef, Refs, Schedule, StreamFilter,
+    StreamGate,
 };
 use crate::refusals::{Field, Refusal};
-use std::alloc::{AllocError, Global};
+use std::alloc::{AllocError, AllocFailed, Global};
 use std::cmp::Ordering;
 use std::test::Fail;
 
@@ -65,128 +66,387 @@ fn port(alloc: Global) -> Result<PortGates, AllocError> {
     })
 }
 
-fn gate(alloc: Global) -> StreamGate {
-    StreamGate {
+/// A gate that is open for 1,000 nanoseconds at internal priority 5 and for at most 150 octets.
+fn gate(alloc: Global) -> Result<StreamGate, AllocError> {
+    let mut list = ControlList::new(alloc);
+    list.push(GateEntry {
+        is_open: true,
+        ipv: Some(Priority::new(5).unwrap()),
+        interval: Interval::new(1000).unwrap(),
+        octets: Some(Octets::new(150).unwrap()),
+    })?;
+    Ok(StreamGate {
         is_open: true,
         ipv: None,
         invalid_rx: true,
         octets_exceeded: false,
-        admin: schedule(ControlList::new(alloc)),
+        admin: schedule(list),
+    })
+}
+
+#[test]
+fn ports_and_priorities_keep_their_ranges(rt: HostRuntime) {
+    for (made, wanted) in [
+        (PortId::new(0).map(PortId::get), Err(Range)),
+        (PortId::new(1).map(PortId::get), Ok(1)),
+        (PortId::new(64).map(PortId::get), Ok(64)),
+        (PortId::new(65).map(PortId::get), Err(Range)),
+        (Priority::new(0).map(Priority::get), Ok(0)),
+        (Priority::new(7).map(Priority::get), Ok(7)),
+        (Priority::new(8).map(Priority::get), Err(Range)),
+    ] {
+        assert_eq!(rt; made, wanted);
     }
 }
 
 #[test]
-fn identifiers_keep_their_ranges(rt: HostRuntime) {
-    assert_eq!(rt; PortId::new(0), Err(Range));
-    assert_eq!(rt; PortId::new(64).map(PortId::get), Ok(64));
-    assert_eq!(rt; PortId::new(65), Err(Range));
-    assert_eq!(rt; FilterId::new(65_535).map(FilterId::get), Ok(65_535));
-    assert_eq!(rt; GateId::new(65_535).map(GateId::get), Ok(65_535));
-    assert_eq!(rt; MeterId::new(65_536), Err(Range));
-    assert_eq!(rt; MeterId::new(0).map(MeterId::get), Ok(0));
-    assert_eq!(rt; Priority::new(7).map(Priority::get), Ok(7));
-    assert_eq!(rt;
-        Handle::new(4_294_967_295).map(Handle::get),
-        Ok(4_294_967_295)
-    );
+fn instances_are_numbered_from_0_to_65535(rt: HostRuntime) {
+    for (made, wanted) in [
+        (FilterId::new(0).map(FilterId::get), Ok(0)),
+        (FilterId::new(65_535).map(FilterId::get), Ok(65_535)),
+        (FilterId::new(65_536).map(FilterId::get), Err(Range)),
+        (GateId::new(0).map(GateId::get), Ok(0)),
+        (GateId::new(65_535).map(GateId::get), Ok(65_535)),
+        (GateId::new(65_536).map(GateId::get), Err(Range)),
+        (MeterId::new(0).map(MeterId::get), Ok(0)),
+        (MeterId::new(65_535).map(MeterId::get), Ok(65_535)),
+        (MeterId::new(65_536).map(MeterId::get), Err(Range)),
+    ] {
+        assert_eq!(rt; made, wanted);
+    }
 }
 
 #[test]
-fn quantities_keep_their_ranges(rt: HostRuntime) {
-    assert_eq!(rt;
-        Octets::new(4_294_967_295).map(Octets::get),
-        Ok(4_294_967_295)
-    );
-    assert_eq!(rt; MaxSdu::new(0), Err(Range));
-    assert_eq!(rt; MaxSdu::new(65_535).map(MaxSdu::get), Ok(65_535));
-    assert_eq!(rt;
-        BitRate::new(1_000_000_000_000).map(BitRate::get),
-        Ok(1_000_000_000_000)
-    );
-    assert_eq!(rt;
-        Instant::new(1 << 62).map(Instant::get),
-        Ok(4_611_686_018_427_387_904)
-    );
-    assert_eq!(rt; Cycle::new(0), Err(Range));
-    assert_eq!(rt; Cycle::new(1000).map(Cycle::get), Ok(1000));
-    assert_eq!(rt; Extension::new(0).map(Extension::get), Ok(0));
-    assert_eq!(rt; Interval::new(1).map(Interval::get), Ok(1));
-}
-
-fn port_key() -> Key {
-    Key::Port(PortId::new(2).unwrap())
-}
-
-fn gate_key() -> Key {
-    Key::Gate(GateId::new(0).unwrap())
+fn handles_octets_and_intervals_keep_their_ranges(rt: HostRuntime) {
+    for (made, wanted) in [
+        (Handle::new(0).map(Handle::get), Ok(0)),
+        (
+            Handle::new(4_294_967_295).map(Handle::get),
+            Ok(4_294_967_295),
+        ),
+        (Handle::new(4_294_967_296).map(Handle::get), Err(Range)),
+        (Octets::new(0).map(Octets::get), Ok(0)),
+        (
+            Octets::new(4_294_967_295).map(Octets::get),
+            Ok(4_294_967_295),
+        ),
+        (Octets::new(4_294_967_296).map(Octets::get), Err(Range)),
+        (Interval::new(0).map(Interval::get), Err(Range)),
+        (Interval::new(1).map(Interval::get), Ok(1)),
+        (
+            Interval::new(4_294_967_295).map(Interval::get),
+            Ok(4_294_967_295),
+        ),
+        (Interval::new(4_294_967_296).map(Interval::get), Err(Range)),
+    ] {
+        assert_eq!(rt; made, wanted);
+    }
 }
 
 #[test]
-fn keys_are_ordered_by_kind(rt: HostRuntime) {
-    assert_eq!(rt; port_key().order(gate_key()), Ordering::Less);
-    assert_eq!(rt; gate_key().kind(), Kind::Gate);
+fn sizes_and_rates_keep_their_ranges(rt: HostRuntime) {
+    for (made, wanted) in [
+        (MaxSdu::new(0).map(MaxSdu::get), Err(Range)),
+        (MaxSdu::new(1).map(MaxSdu::get), Ok(1)),
+        (MaxSdu::new(65_535).map(MaxSdu::get), Ok(65_535)),
+        (MaxSdu::new(65_536).map(MaxSdu::get), Err(Range)),
+        (BitRate::new(0).map(BitRate::get), Ok(0)),
+        (
+            BitRate::new(1_000_000_000_000).map(BitRate::get),
+            Ok(1_000_000_000_000),
+        ),
+        (
+            BitRate::new(1_000_000_000_001).map(BitRate::get),
+            Err(Range),
+        ),
+    ] {
+        assert_eq!(rt; made, wanted);
+    }
+}
+
+#[test]
+fn instants_and_cycles_keep_their_ranges(rt: HostRuntime) {
+    for (made, wanted) in [
+        (Instant::new(0).map(Instant::get), Ok(0)),
+        (
+            Instant::new(4_611_686_018_427_387_904).map(Instant::get),
+            Ok(4_611_686_018_427_387_904),
+        ),
+        (
+            Instant::new(4_611_686_018_427_387_905).map(Instant::get),
+            Err(Range),
+        ),
+        (Cycle::new(0).map(Cycle::get), Err(Range)),
+        (Cycle::new(1).map(Cycle::get), Ok(1)),
+        (
+            Cycle::new(1_000_000_000_000).map(Cycle::get),
+            Ok(1_000_000_000_000),
+        ),
+        (Cycle::new(1_000_000_000_001).map(Cycle::get), Err(Range)),
+        (Extension::new(0).map(Extension::get), Ok(0)),
+        (
+            Extension::new(1_000_000_000_000).map(Extension::get),
+            Ok(1_000_000_000_000),
+        ),
+        (
+            Extension::new(1_000_000_000_001).map(Extension::get),
+            Err(Range),
+        ),
+    ] {
+        assert_eq!(rt; made, wanted);
+    }
+}
+
+fn port_key(number: u64) -> Result<Key, Range> {
+    Ok(Key::Port(PortId::new(number)?))
+}
+
+fn filter_key(number: u64) -> Result<Key, Range> {
+    Ok(Key::Filter(FilterId::new(number)?))
+}
+
+fn gate_key(number: u64) -> Result<Key, Range> {
+    Ok(Key::Gate(GateId::new(number)?))
+}
+
+fn meter_key(number: u64) -> Result<Key, Range> {
+    Ok(Key::Meter(MeterId::new(number)?))
+}
+
+#[test]
+fn a_key_tells_its_kind(rt: HostRuntime) -> Result<(), Fail> {
+    assert_eq!(rt; port_key(1)?.kind(), Kind::Port);
+    assert_eq!(rt; filter_key(1)?.kind(), Kind::Filter);
+    assert_eq!(rt; gate_key(1)?.kind(), Kind::Gate);
+    assert_eq!(rt; meter_key(1)?.kind(), Kind::Meter);
+    Ok(())
+}
+
+#[test]
+fn keys_are_ordered_by_kind_and_then_by_number(rt: HostRuntime) -> Result<(), Fail> {
+    for (left, right, wanted) in [
+        (port_key(64)?, filter_key(0)?, Ordering::Less),
+        (filter_key(65_535)?, gate_key(0)?, Ordering::Less),
+        (gate_key(65_535)?, meter_key(0)?, Ordering::Less),
+        (meter_key(0)?, port_key(64)?, Ordering::Greater),
+        (gate_key(9)?, gate_key(10)?, Ordering::Less),
+        (gate_key(10)?, gate_key(9)?, Ordering::Greater),
+        (gate_key(9)?, gate_key(9)?, Ordering::Equal),
+    ] {
+        assert_eq!(rt; left.order(right), wanted, "{left:?} to {right:?}");
+    }
+    Ok(())
 }
 
 #[test]
 fn a_list_grows_at_its_end(rt: HostRuntime) -> Result<(), Fail> {
-    let port = port(rt.alloc())?;
-    let list = &port.admin.list;
-    assert_eq!(rt; list.len(), 2);
+    let mut list = ControlList::new(rt.alloc());
+    assert!(rt; list.is_empty());
+    assert_eq!(rt; list.len(), 0);
+    list.push(300)?;
+    list.push(700)?;
     assert!(rt; !list.is_empty());
-    assert_eq!(rt; list.get(1).map(|entry| entry.gates), Some(128));
-    assert_eq!(rt; list.as_slice().len(), 2);
-    assert!(rt; list.try_clone()? == port.admin.list);
+    assert_eq!(rt; list.len(), 2);
+    assert_eq!(rt; list.get(0).copied(), Some(300));
+    assert_eq!(rt; list.get(1).copied(), Some(700));
+    assert_eq!(rt; list.get(2).copied(), None);
+    assert_eq!(rt; list.as_slice(), [300, 700].as_slice());
+    Ok(())
+}
+
+#[test]
+fn lists_are_equal_where_their_entries_are(rt: HostRuntime) -> Result<(), Fail> {
+    let list = port(rt.alloc())?.admin.list;
+    let mut other = list.try_clone()?;
+    assert!(rt; other == list);
+    other.push(PortEntry {
+        gates: 0,
+        interval: Interval::new(1).unwrap(),
+    })?;
+    assert!(rt; other != list);
     Ok(())
 }
 
 #[test]
 fn copies_are_equal(rt: HostRuntime) -> Result<(), Fail> {
     let port = port(rt.alloc())?;
-    assert!(rt; port.try_clone()? == port);
     assert!(rt; port.admin.try_clone()? == port.admin);
-    let gate = gate(rt.alloc());
+    assert!(rt; port.try_clone()? == port);
+    let gate = gate(rt.alloc())?;
+    assert!(rt; gate.admin.try_clone()? == gate.admin);
     assert!(rt; gate.try_clone()? == gate);
-    let record = Record::Gate(gate);
-    assert!(rt; record.try_clone()?.is_same(&record));
+    for record in [
+        Record::Port(port),
+        Record::Filter(filter()),
+        Record::Gate(gate),
+        Record::Meter(meter()),
+    ] {
+        assert!(rt; record.try_clone()?.is_same(&record), "{record:?}");
+    }
     Ok(())
+}
+
+#[test]
+fn records_differ_by_kind_and_by_member(rt: HostRuntime) {
+    let kept = Record::Filter(filter());
+    let unmetered = Record::Filter(StreamFilter {
+        meter: None,
+        ..filter()
+    });
+    assert!(rt; kept.is_same(&Record::Filter(filter())));
+    assert!(rt; !kept.is_same(&unmetered));
+    assert!(rt; !kept.is_same(&Record::Meter(meter())));
 }
 
 #[test]
 fn a_lent_record_is_the_record(rt: HostRuntime) -> Result<(), Fail> {
-    let kept = filter();
-    let lent = RecordRef::Filter(&kept);
-    assert!(rt; lent.is(&Record::Filter(filter())));
-    assert!(rt; !lent.is(&Record::Meter(meter())));
-    assert!(rt; lent.try_clone()? == Record::Filter(filter()));
+    let (port, filter, gate, meter) = (port(rt.alloc())?, filter(), gate(rt.alloc())?, meter());
+    let closed = Record::Gate(StreamGate {
+        is_open: false,
+        ..gate.try_clone()?
+    });
+    for lent in [
+        RecordRef::Port(&port),
+        RecordRef::Filter(&filter),
+        RecordRef::Gate(&gate),
+        RecordRef::Meter(&meter),
+    ] {
+        assert!(rt; lent.is(&lent.try_clone()?), "{lent:?}");
+        assert!(rt; !lent.is(&closed), "{lent:?}");
+    }
+    assert!(rt; RecordRef::Gate(&gate).try_clone()? == Record::Gate(gate));
     Ok(())
 }
 
 #[test]
-fn a_filter_refers_to_its_gate_and_meter(rt: HostRuntime) {
-    let refs = Record::Filter(filter()).refs();
-    let wanted = Refs {
-        first: Some(Key::Gate(GateId::new(9).unwrap())),
-        second: Some(Key::Meter(MeterId::new(5).unwrap())),
+fn a_filter_refers_to_its_gate_and_meter(rt: HostRuntime) -> Result<(), Fail> {
+    let unmetered = StreamFilter {
+        meter: None,
+        ..filter()
     };
-    assert_eq!(rt; refs, wanted);
+    for (record, first, second) in [
+        (
+            Record::Filter(filter()),
+            Some(gate_key(9)?),
+            Some(meter_key(5)?),
+        ),
+        (Record::Filter(unmetered), Some(gate_key(9)?), None),
+        (Record::Port(port(rt.alloc())?), None, None),
+        (Record::Gate(gate(rt.alloc())?), None, None),
+        (Record::Meter(meter()), None, None),
+    ] {
+        assert_eq!(rt; record.refs(), Refs { first, second }, "{record:?}");
+    }
+    Ok(())
 }
 
 #[test]
-fn limits_hold_keys_and_records(rt: HostRuntime) {
-    let limits = Limits::new(2, 16, 9, 16, 16).unwrap();
+fn limits_keep_their_ranges(rt: HostRuntime) {
+    for (made, is_made) in [
+        (Limits::new(1, 1, 1, 1, 1), true),
+        (Limits::new(64, 65_536, 65_536, 65_536, 1_024), true),
+        (Limits::new(0, 1, 1, 1, 1), false),
+        (Limits::new(65, 1, 1, 1, 1), false),
+        (Limits::new(1, 0, 1, 1, 1), false),
+        (Limits::new(1, 65_537, 1, 1, 1), false),
+        (Limits::new(1, 1, 0, 1, 1), false),
+        (Limits::new(1, 1, 65_537, 1, 1), false),
+        (Limits::new(1, 1, 1, 0, 1), false),
+        (Limits::new(1, 1, 1, 65_537, 1), false),
+        (Limits::new(1, 1, 1, 1, 0), false),
+        (Limits::new(1, 1, 1, 1, 1_025), false),
+    ] {
+        assert_eq!(rt; made.is_ok(), is_made, "{made:?}");
+    }
+}
+
+#[test]
+fn limits_hold_ports_from_1_and_the_rest_from_0(rt: HostRuntime) -> Result<(), Fail> {
+    let limits = Limits::new(2, 16, 9, 8, 16)?;
     assert_eq!(rt; limits.ports(), 2);
-    assert!(rt; limits.holds(Key::Filter(FilterId::new(15).unwrap())));
-    assert!(rt; !limits.holds(Key::Gate(GateId::new(9).unwrap())));
-    let refused = limits.refuse(&Record::Filter(filter()));
-    assert_eq!(rt; refused, Some(Refusal::Range(Field::Gate)));
-    assert!(rt; Limits::new(65, 16, 16, 16, 16).is_err());
+    for (key, wanted) in [
+        (port_key(1)?, true),
+        (port_key(2)?, true),
+        (port_key(3)?, false),
+        (filter_key(0)?, true),
+        (filter_key(15)?, true),
+        (filter_key(16)?, false),
+        (gate_key(8)?, true),
+        (gate_key(9)?, false),
+        (meter_key(7)?, true),
+        (meter_key(8)?, false),
+    ] {
+        assert_eq!(rt; limits.holds(key), wanted, "{key:?}");
+    }
+    Ok(())
 }
 
 #[test]
-fn refusals_have_numbers_and_names(rt: HostRuntime) {
-    assert_eq!(rt; Refusal::TooLong.number(), 1);
-    assert_eq!(rt; Refusal::Memory.number(), 18);
-    assert_eq!(rt; Refusal::NothingToUndo.name(), "nothing_to_undo");
-    assert_eq!(rt; Field::MaxSdu.name(), "max_sdu");
+fn a_reference_or_a_list_outside_the_limits_is_refused(rt: HostRuntime) -> Result<(), Fail> {
+    let port = Record::Port(port(rt.alloc())?);
+    let filter = Record::Filter(filter());
+    let gate = Record::Gate(gate(rt.alloc())?);
+    let meter = Record::Meter(meter());
+    for (limits, record, wanted) in [
+        (Limits::new(1, 1, 1, 1, 2)?, &port, None),
+        (Limits::new(1, 1, 1, 1, 1)?, &port, Some(Field::List)),
+        (Limits::new(1, 1, 1, 1, 1)?, &gate, None),
+        (Limits::new(1, 1, 1, 1, 1)?, &meter, None),
+        (Limits::new(1, 1, 10, 6, 1)?, &filter, None),
+        (Limits::new(1, 1, 10, 5, 1)?, &filter, Some(Field::Meter)),
+        (Limits::new(1, 1, 9, 6, 1)?, &filter, Some(Field::Gate)),
+        (Limits::new(1, 1, 9, 5, 1)?, &filter, Some(Field::Gate)),
+    ] {
+        let wanted = wanted.map(Refusal::Range);
+        assert_eq!(rt; limits.refuse(record), wanted, "{limits:?}");
+    }
+    Ok(())
+}
+
+#[test]
+fn refusals_have_numbers_and_names(rt: HostRuntime) -> Result<(), Fail> {
+    for (why, number, name) in [
+        (Refusal::TooLong, 1, "too_long"),
+        (Refusal::Syntax, 2, "syntax"),
+        (Refusal::Shape, 3, "shape"),
+        (Refusal::Range(Field::Key), 4, "range"),
+        (Refusal::NoSession, 5, "no_session"),
+        (Refusal::Missing(gate_key(9)?), 6, "missing"),
+        (Refusal::Exists(gate_key(9)?), 7, "exists"),
+        (Refusal::Dangling(gate_key(9)?), 8, "dangling"),
+        (Refusal::Referred(gate_key(9)?), 9, "referred"),
+        (Refusal::NothingToUndo, 10, "nothing_to_undo"),
+        (Refusal::Conflict { own: 1, other: 2 }, 11, "conflict"),
+        (Refusal::NothingToRedo, 12, "nothing_to_redo"),
+        (Refusal::RedoConflict { other: 2 }, 13, "redo_conflict"),
+        (Refusal::NotEnabled, 14, "not_enabled"),
+        (Refusal::EmptyList, 15, "empty_list"),
+        (Refusal::Past, 16, "past"),
+        (Refusal::JournalFull, 17, "journal_full"),
+        (Refusal::Memory, 18, "memory"),
+    ] {
+        assert_eq!(rt; why.number(), number, "{why:?}");
+        assert_eq!(rt; why.name(), name);
+    }
+    Ok(())
+}
+
+#[test]
+fn members_have_names(rt: HostRuntime) {
+    for (field, name) in [
+        (Field::S, "s"),
+        (Field::Session, "session"),
+        (Field::MaxSdu, "max_sdu"),
+        (Field::Octets, "octets"),
+        (Field::MaxFilters, "max_filters"),
+        (Field::ListMax, "list_max"),
+    ] {
+        assert_eq!(rt; field.name(), name);
+    }
+}
+
+#[test]
+fn a_refused_growth_is_told_as_memory(rt: HostRuntime) {
     assert_eq!(rt; Refusal::from(AllocError), Refusal::Memory);
+    assert_eq!(rt; Refusal::from(AllocFailed { value: 7 }), Refusal::Memory);
 }
