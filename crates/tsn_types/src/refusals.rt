@@ -178,14 +178,14 @@ impl From<AllocError> for Refusal {
     ghost from_gives = { λ _ why. why ≡ Memory };
 
     fn from(_refused: AllocError) -> Refusal {
-        Refusal::Memory
+        Self::Memory
     }
 }
 
 impl<T: Drop> From<AllocFailed<T>> for Refusal {
     ghost from_gives = { λ _ why. why ≡ Memory };
 
-    fn from(_refused: AllocFailed<T>) -> Refusal {
-        Refusal::Memory
+    fn from(refused: AllocFailed<T>) -> Refusal {
+        Self::from(AllocError::from(refused))
     }
 }
