@@ -57,6 +57,17 @@ fn a_put_replaces_the_row(rt: HostRuntime) -> Result<(), Fail> {
 }
 
 #[test]
+fn a_reserve_makes_room_and_keeps_the_rows(rt: HostRuntime) -> Result<(), Fail> {
+    let mut table = three_rows(rt.alloc())?;
+    table.reserve(100)?;
+    assert_eq!(rt; table.ids(rt.alloc())?.as_slice(), [1, 4, 6].as_slice());
+    assert_eq!(rt; table.get(4).copied(), Some(40));
+    assert_eq!(rt; table.put(9, 90), None);
+    assert_eq!(rt; table.get(9).copied(), Some(90));
+    Ok(())
+}
+
+#[test]
 fn takes_a_row_out(rt: HostRuntime) -> Result<(), Fail> {
     let mut table = three_rows(rt.alloc())?;
     assert_eq!(rt; table.take(4), Some(40));
