@@ -1,8 +1,12 @@
 use crate::{Change, conflicts};
+use std::alloc::Global;
 use std::test::Fail;
 use tsn_types::keys::Key;
-use tsn_types::numbers::{BitRate, FilterId, GateId, MeterId, Octets, Range};
-use tsn_types::records::{FlowMeter, Record, StreamFilter};
+use tsn_types::lists::ControlList;
+use tsn_types::numbers::{
+    BitRate, Cycle, Extension, FilterId, GateId, Instant, Interval, MeterId, Octets, PortId, Range,
+};
+use tsn_types::records::{FlowMeter, PortEntry, PortGates, Record, Schedule, StreamFilter};
 
 fn meter(committed_burst: u64) -> Result<Record, Range> {
     Ok(Record::Meter(FlowMeter {
@@ -34,22 +38,54 @@ fn an_inverse_swaps_the_values(rt: HostRuntime) -> Result<(), Fail> {
     Ok(())
 }
 
-/// A filter on gate 1, changed from gate 0.
+/// A port whose gates are all open, and whose list has one entry.
+fn port(alloc: Global, gates: u8) -> Result<Record, Fail> {
+    let mut list = ControlList::new(alloc);
+    list.push(PortEntry {
+        gates,
+        interval: Interval::new(300)?,
+    })?;
+    Ok(Record::Port(PortGates {
+        gates: 255,
+        admin: Schedule {
+            list,
+            cycle: Cycle::new(1000)?,
+            extension: Extension::new(0)?,
+            base: Instant::new(0)?,
+        },
+    }))
+}
+
+#[test]
+fn a_copy_has_the_key_and_both_values(rt: HostRuntime) -> Result<(), Fail> {
+    let change = Change {
+        key: Key::Port(PortId::new(2)?),
+        before: Some(port(rt.alloc(), 1)?),
+        after: Some(port(rt.alloc(), 128)?),
+    };
+    let copy = change.try_clone()?;
+    assert_eq!(rt; copy.key, Key::Port(PortId::new(2)?));
+    assert!(rt; copy.before == Some(port(rt.alloc(), 1)?));
+    assert!(rt; copy.after == Some(port(rt.alloc(), 128)?));
+    Ok(())
+}
+
+/// Filter 3 on gate 1 and meter 5, changed from gate 0 and meter 4.
 fn moved_filter() -> Result<Change, Range> {
     Ok(Change {
         key: Key::Filter(FilterId::new(3)?),
-        before: Some(filter(0)?),
-        after: Some(filter(1)?),
+        before: Some(filter(0, 4)?),
+        after: Some(filter(1, 5)?),
     })
 }
 
-fn filter(gate: u64) -> Result<Record, Range> {
+fn filter(gate: u64, meter: u64) -> Result<Record, Range> {
     Ok(Record::Filter(StreamFilter {
         handle: None,
         priority: None,
         gate: GateId::new(gate)?,
         max_sdu: None,
-        meter: None,
+        meter: Some(MeterId::new(meter)?),
         oversize: false,
     }))
 }
@@ -68,10 +104,25 @@ fn a_later_change_conflicts_by_key_or_reference(rt: HostRuntime) -> Result<(), F
     let moved = moved_filter()?;
     let old_gate = removed(Key::Gate(GateId::new(0)?));
     let new_gate = removed(Key::Gate(GateId::new(1)?));
-    assert!(rt; conflicts(&moved, &moved));
-    assert!(rt; conflicts(&old_gate, &moved));
-    assert!(rt; !conflicts(&new_gate, &moved));
-    assert!(rt; conflicts(&moved, &new_gate));
-    assert!(rt; !conflicts(&moved, &old_gate));
+    let old_meter = removed(Key::Meter(MeterId::new(4)?));
+    let new_meter = removed(Key::Meter(MeterId::new(5)?));
+    for (later, earlier, wanted) in [
+        (&moved, &moved, true),
+        (&old_gate, &moved, true),
+        (&new_gate, &moved, false),
+        (&moved, &new_gate, true),
+        (&moved, &old_gate, false),
+        (&old_meter, &moved, true),
+        (&new_meter, &moved, false),
+        (&moved, &new_meter, true),
+        (&moved, &old_meter, false),
+        (&old_meter, &old_gate, false),
+    ] {
+        assert_eq!(rt;
+            conflicts(later, earlier),
+            wanted,
+            "{later:?} after {earlier:?}"
+        );
+    }
     Ok(())
 }
