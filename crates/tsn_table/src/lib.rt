@@ -47,6 +47,7 @@ impl<R> Model for Table<R> {
 
 impl<R: Drop> Table<R> {
     /// The table with no row. It takes no memory and has room for none.
+    #[tactic(auto, using(crate::proofs::Places::no_rows))]
     pub fn new(alloc: Global) -> Self
         ensures map { result.map ≡ map.empty }
         ensures spare { result.spare ≡ 0 }
