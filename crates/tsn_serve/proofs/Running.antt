@@ -4,8 +4,8 @@ use Rattle.tsn_serve.specs.Lines.{line_feed, HasNoLineFeed, ended, held, held_an
 use Rattle.tsn_serve.specs.Script.{Answering, AnswersHeld, AnswersLine, Run, AreFirst, CutScript}
 use Rattle.tsn_serve.specs.Pieces.{Going, Feeds, Ends, Cuts, EndCuts}
 use Rattle.std.specs.Result.{OnErr, IfErr}
-use Rattle.tsn_wire.specs.declared.bytes.Fault.{Fault}
-use Rattle.tsn_wire.specs.declared.bytes.Fault.TheVariants.{Read, Write, Memory}
+use Rattle.tsn_bytes.specs.declared.bytes.Fault.{Fault}
+use Rattle.tsn_bytes.specs.declared.bytes.Fault.TheVariants.{Read, Write, Memory}
 use Rattle.std.specs.List.{flat_map}
 use Rattle.tsn_serve.proofs.Cutting.{all_more, held_and_is, splits_at_feed, splits_on, held_nil, last_of_kept}
 

@@ -2,8 +2,8 @@
 //! It is generic in what answers a line, and relies on that one's contract, on the reader's and on the writer's.
 ghost use Rattle.std.specs.Prelude.{◌≡◌, ◌≢◌, ℕ, List, [], ◌∷◌, true, IfErr, OnOk, OnErr, IsErrOf, Err};
 ghost use Rattle.std.specs.Io.KnownBytes.{Appends};
-ghost use Rattle.tsn_wire.specs.Bytes.{IsCut};
-ghost use Rattle.tsn_wire.specs.declared.bytes.Fault.TheVariants.{Read, Write, Memory};
+ghost use Rattle.tsn_bytes.specs.Bytes.{IsCut};
+ghost use Rattle.tsn_bytes.specs.declared.bytes.Fault.TheVariants.{Read, Write, Memory};
 ghost use Rattle.tsn_serve.specs.Script.{AnswersHeld};
 ghost use Rattle.tsn_serve.specs.Pieces.{Feeds, Ends, Cuts, EndCuts};
 ghost use Rattle.tsn_serve.specs.Outcomes.{Completes, BreaksOff, IsCutOff};

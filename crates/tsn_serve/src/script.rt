@@ -2,8 +2,8 @@
 //! It relies on the loop over lines, on the reading of a line, on the bridge's step and on the text of a reply.
 ghost use Rattle.std.specs.Prelude.{◌≡◌, ◌≢◌, ◌^◌, ℕ, List, true, IfErr, OnOk, OnErr, IsErrOf, Err};
 ghost use Rattle.std.specs.Io.KnownBytes.{Appends};
-ghost use Rattle.tsn_wire.specs.Bytes.{IsCut};
-ghost use Rattle.tsn_wire.specs.declared.bytes.Fault.TheVariants.{Read, Write, Memory};
+ghost use Rattle.tsn_bytes.specs.Bytes.{IsCut};
+ghost use Rattle.tsn_bytes.specs.declared.bytes.Fault.TheVariants.{Read, Write, Memory};
 ghost use Rattle.tsn_serve.specs.Answers.{Says, IsTextOf, Answers};
 ghost use Rattle.tsn_serve.specs.Outcomes.{Completes, BreaksOff, IsCutOff};
 

@@ -5,16 +5,16 @@
 ghost use Rattle.std.specs.Prelude.{◌≡◌, ◌+◌, ◌≤◌, ◌++◌, ℕ, List, [], length, true, IfErr, OnOk, OnErr, IsOkAnd, IsErrOf, ◌⊎◌, string_bytes, codes};
 ghost use Rattle.std.specs.Io.KnownBytes.{Appends};
 ghost use Rattle.tsn_types.specs.Refusals.{name_of, field_name};
-ghost use Rattle.tsn_wire.specs.Bytes.{IsCut};
+ghost use Rattle.tsn_bytes.specs.Bytes.{IsCut};
 ghost use Rattle.tsn_wire.specs.Replies.{number_member, text_member, members_of, refusal_text, reply_text, TakesMemory};
 ghost use Rattle.tsn_wire.specs.Keys.{key_text};
-ghost use Rattle.tsn_wire.specs.declared.bytes.Fault.TheVariants.{Write, Memory};
+ghost use Rattle.tsn_bytes.specs.declared.bytes.Fault.TheVariants.{Write, Memory};
 
-use crate::bytes::{ByteOut, Fault, put_all};
 use crate::shown::{ids_text, shown_text};
 use crate::text::ShortText;
 use std::alloc::{AllocError, Global};
 use tsn_bridge::reply::Reply;
+use tsn_bytes::{ByteOut, Fault, put_all};
 use tsn_types::keys::Key;
 use tsn_types::refusals::{Field, Refusal};
 

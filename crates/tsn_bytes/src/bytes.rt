@@ -3,7 +3,7 @@
 //! all code above is written over the two traits, so that it runs in memory as it runs over a terminal.
 ghost use Rattle.std.specs.Prelude.{◌≡◌, ℕ, ◌<◌, ◌≤◌, List, Option, Bool, true, length, take, IfOk, IfErr, OnOk, OnErr};
 ghost use Rattle.std.specs.Io.KnownBytes.{Consumes, Appends, Keeps, IsAtEnd};
-ghost use Rattle.tsn_wire.specs.Bytes.{IsCut};
+ghost use Rattle.tsn_bytes.specs.Bytes.{IsCut};
 
 /// A call of a reader or a writer failed. It moved no byte.
 #[derive(Clone, Copy, Debug, PartialEq, Eq)]
