@@ -150,10 +150,10 @@ fn meter_value(alloc: Global, meter: &FlowMeter) -> Result<Value, AllocError>
 }
 
 /// The record as a JSON value.
-pub fn record_value(alloc: Global, record: &Record) -> Result<Value, AllocError>
-    ensures { IfOk result (λ v. view v ≡ record_data record.now) }
+pub fn record_value(alloc: Global, shown: &Record) -> Result<Value, AllocError>
+    ensures { IfOk result (λ v. view v ≡ record_data shown.now) }
 {
-    match record {
+    match shown {
         Record::Port(port) => port_value(alloc, port),
         Record::Filter(filter) => filter_value(alloc, filter),
         Record::Gate(gate) => gate_value(alloc, gate),
@@ -176,21 +176,21 @@ fn key_string(alloc: Global, key: Key) -> Result<String, AllocError>
     Ok(text)
 }
 
-fn shown_value(alloc: Global, key: Key, record: &Record) -> Result<Value, AllocError>
-    ensures { IfOk result (λ v. view v ≡ shown_data key record.now) }
+fn shown_value(alloc: Global, key: Key, shown: &Record) -> Result<Value, AllocError>
+    ensures { IfOk result (λ v. view v ≡ shown_data key shown.now) }
 {
     let key = key_string(alloc, key)?;
-    let record = record_value(alloc, record)?;
-    json!(in alloc; {"key": key, "record": record})
+    let shown = record_value(alloc, shown)?;
+    json!(in alloc; {"key": key, "record": shown})
 }
 
 /// A key and its record as compact JSON.
-pub fn shown_text(alloc: Global, key: Key, record: &Record) -> Result<String, AllocError>
-    ensures text { IfOk result (λ s. string_bytes s ≡ compact_text (shown_data key record.now)) }
+pub fn shown_text(alloc: Global, key: Key, shown: &Record) -> Result<String, AllocError>
+    ensures text { IfOk result (λ s. string_bytes s ≡ compact_text (shown_data key shown.now)) }
     // What is printed reads as the same value.
-    ensures reads { IfOk result (λ s. read (string_bytes s) ≡ Some (shown_data key record.now)) }
+    ensures reads { IfOk result (λ s. read (string_bytes s) ≡ Some (shown_data key shown.now)) }
 {
-    shown_value(alloc, key, record)?.to_string(alloc)
+    shown_value(alloc, key, shown)?.to_string(alloc)
 }
 
 fn ids_value(alloc: Global, ids: &[u64]) -> Result<Value, AllocError>
