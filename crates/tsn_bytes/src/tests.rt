@@ -48,6 +48,24 @@ fn whole_text_goes_out_in_many_calls(rt: HostRuntime) -> Result<(), Fail> {
 }
 
 #[test]
+fn std_moves_the_bytes_of_its_readers_and_writers(rt: HostRuntime) -> Result<(), Fail> {
+    let mut reader = StdIo::new(b"abc".as_slice());
+    let mut buffer = [0u8; 2];
+    assert_eq!(rt; reader.pull(&mut buffer), Ok(2));
+    assert_eq!(rt; &buffer[..2], b"ab".as_slice());
+    assert_eq!(rt; reader.pull(&mut buffer), Ok(1));
+    assert_eq!(rt; &buffer[..1], b"c".as_slice());
+    assert_eq!(rt; reader.pull(&mut buffer), Ok(0));
+
+    let mut bytes = Vec::with_capacity(rt.alloc(), 4)?;
+    let mut writer = StdIo::new(&mut bytes);
+    assert_eq!(rt; writer.put(b"ab"), Ok(2));
+    assert_eq!(rt; writer.put(b"cd"), Ok(2));
+    assert_eq!(rt; bytes.as_slice(), b"abcd".as_slice());
+    Ok(())
+}
+
+#[test]
 fn std_calls_are_made_again_or_fail(rt: HostRuntime) {
     let mut buffer = [0u8; 4];
     let cases = [
