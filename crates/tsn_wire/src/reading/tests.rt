@@ -59,8 +59,13 @@ fn reads_each_command(rt: HostRuntime) -> Result<(), Fail> {
     Ok(())
 }
 
-fn refusal(alloc: Global, line: &[u8]) -> Option<Refusal> {
-    command_of(alloc, line).err()
+/// The refusal of a line, none where it is read; an error where memory is refused.
+fn refusal(alloc: Global, line: &[u8]) -> Result<Option<Refusal>, Refusal> {
+    match command_of(alloc, line) {
+        Ok(_line) => Ok(None),
+        Err(Refusal::Memory) => Err(Refusal::Memory),
+        Err(refusal) => Ok(Some(refusal)),
+    }
 }
 
 #[test]
@@ -78,7 +83,7 @@ fn refuses_bytes_that_are_no_value(rt: HostRuntime) -> Result<(), Fail> {
         b"\"\\ud800\"",
         b"\"\t\"",
     ] {
-        assert_eq!(rt; refusal(alloc, line), Some(Refusal::Syntax), "at {line:?}");
+        assert_eq!(rt; refusal(alloc, line)?, Some(Refusal::Syntax), "at {line:?}");
     }
     for (depth, want) in [
         (200, Refusal::Syntax),
@@ -94,13 +99,13 @@ fn refuses_bytes_that_are_no_value(rt: HostRuntime) -> Result<(), Fail> {
                 line.push(b']')?;
             }
         }
-        assert_eq!(rt; refusal(alloc, line.as_slice()), Some(want), "at {depth}");
+        assert_eq!(rt; refusal(alloc, line.as_slice())?, Some(want), "at {depth}");
     }
     Ok(())
 }
 
 #[test]
-fn refuses_other_shapes(rt: HostRuntime) {
+fn refuses_other_shapes(rt: HostRuntime) -> Result<(), Fail> {
     let alloc = rt.alloc();
     for line in [
         "[1]",
@@ -133,15 +138,16 @@ fn refuses_other_shapes(rt: HostRuntime) {
         "{\"do\":\"list\",\"kind\":\"ports\",\"s\":1}",
     ] {
         assert_eq!(rt;
-            refusal(alloc, line.as_bytes()),
+            refusal(alloc, line.as_bytes())?,
             Some(Refusal::Shape),
             "at {line}"
         );
     }
+    Ok(())
 }
 
 #[test]
-fn refuses_ranges_in_order(rt: HostRuntime) {
+fn refuses_ranges_in_order(rt: HostRuntime) -> Result<(), Fail> {
     let alloc = rt.alloc();
     for (line, field) in [
         ("{\"do\":\"undo\",\"s\":0}", Field::S),
@@ -168,8 +174,9 @@ fn refuses_ranges_in_order(rt: HostRuntime) {
         ("{\"do\":\"show\",\"key\":\"port 65\",\"s\":1}", Field::Key),
     ] {
         let want = Some(Refusal::Range(field));
-        assert_eq!(rt; refusal(alloc, line.as_bytes()), want, "at {line}");
+        assert_eq!(rt; refusal(alloc, line.as_bytes())?, want, "at {line}");
     }
+    Ok(())
 }
 
 #[test]
@@ -180,6 +187,6 @@ fn keeps_the_last_of_two_members(rt: HostRuntime) -> Result<(), Fail> {
     let line = b"{\"do\":\"undo\",\"s\":-1,\"\\u0073\":7}";
     assert_eq!(rt; command_of(alloc, line)?.session, 7);
     let line = b"{\"do\":\"undo\",\"s\":7,\"s\":true}";
-    assert_eq!(rt; refusal(alloc, line), Some(Refusal::Shape));
+    assert_eq!(rt; refusal(alloc, line)?, Some(Refusal::Shape));
     Ok(())
 }

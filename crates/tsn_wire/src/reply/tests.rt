@@ -12,29 +12,31 @@ use tsn_types::numbers::{FilterId, GateId, MeterId, PortId};
 use tsn_types::records::Record;
 use tsn_types::refusals::{Field, Refusal};
 
-fn spells(rt: &impl Abort, alloc: Global, reply: &Reply, text: &str) {
-    let mut writer = MemOut::new(Vec::new(alloc), 1000, None);
-    assert_eq!(rt; write_reply(alloc, &mut writer, reply), Ok(()));
+fn spells(rt: &impl Abort, alloc: Global, reply: &Reply, text: &str) -> Result<(), Fail> {
+    let mut writer = MemOut::new(Vec::with_capacity(alloc, text.len())?, 1000, None);
+    write_reply(alloc, &mut writer, reply)?;
     assert_eq!(rt; writer.as_slice(), text.as_bytes());
+    Ok(())
 }
 
 #[test]
-fn spells_each_reply(rt: HostRuntime) {
+fn spells_each_reply(rt: HostRuntime) -> Result<(), Fail> {
     let alloc = rt.alloc();
     let reply = Reply::Session { session: 1 };
-    spells(&rt, alloc, &reply, "{\"session\":1}\n");
+    spells(&rt, alloc, &reply, "{\"session\":1}\n")?;
     let reply = Reply::Session { session: 65_535 };
-    spells(&rt, alloc, &reply, "{\"session\":65535}\n");
+    spells(&rt, alloc, &reply, "{\"session\":65535}\n")?;
     let reply = Reply::Entry { entry: 3 };
-    spells(&rt, alloc, &reply, "{\"entry\":3}\n");
+    spells(&rt, alloc, &reply, "{\"entry\":3}\n")?;
     let reply = Reply::EntryOf { entry: 4, of: 3 };
-    spells(&rt, alloc, &reply, "{\"entry\":4,\"of\":3}\n");
+    spells(&rt, alloc, &reply, "{\"entry\":4,\"of\":3}\n")?;
     let reply = Reply::EntryOf {
         entry: 18_446_744_073_709_551_615,
         of: 0,
     };
     let text = "{\"entry\":18446744073709551615,\"of\":0}\n";
-    spells(&rt, alloc, &reply, text);
+    spells(&rt, alloc, &reply, text)?;
+    Ok(())
 }
 
 #[test]
@@ -98,20 +100,22 @@ fn spells_each_refusal(rt: HostRuntime) -> Result<(), Fail> {
         ),
         (Refusal::Memory, "{\"refused\":18,\"why\":\"memory\"}\n"),
     ] {
-        spells(&rt, rt.alloc(), &Reply::Refused(refusal), text);
+        spells(&rt, rt.alloc(), &Reply::Refused(refusal), text)?;
     }
     Ok(())
 }
 
 #[test]
-fn stops_where_the_writer_fails(rt: HostRuntime) {
-    let mut writer = MemOut::new(Vec::new(rt.alloc()), 5, Some((2, Failing::Error)));
+fn stops_where_the_writer_fails(rt: HostRuntime) -> Result<(), Fail> {
+    let bytes = Vec::with_capacity(rt.alloc(), 20)?;
+    let mut writer = MemOut::new(bytes, 5, Some((2, Failing::Error)));
     let reply = Reply::Entry { entry: 10 };
     assert_eq!(rt;
         write_reply(rt.alloc(), &mut writer, &reply),
         Err(Fault::Write)
     );
     assert_eq!(rt; writer.as_slice(), b"{\"entry\":1".as_slice());
+    Ok(())
 }
 
 fn created(command: Command) -> Option<(Key, Record)> {
@@ -136,8 +140,7 @@ fn shows(rt: &impl Abort, alloc: Global, key: &str, record: &str) -> Result<(), 
     let Line { session, command } = command_of(alloc, line.as_bytes())?;
     assert_eq!(rt; session, 1);
     let (key, value) = created(command).ok_or("no create")?;
-    spells(rt, alloc, &Reply::Shown { key, value }, text.as_str());
-    Ok(())
+    spells(rt, alloc, &Reply::Shown { key, value }, text.as_str())
 }
 
 #[test]
@@ -176,11 +179,12 @@ fn shows_each_record(rt: HostRuntime) -> Result<(), Fail> {
 }
 
 #[test]
-fn refuses_in_place_of_a_reply(rt: HostRuntime) {
-    let mut writer = MemOut::new(Vec::new(rt.alloc()), 1, None);
+fn refuses_in_place_of_a_reply(rt: HostRuntime) -> Result<(), Fail> {
+    let mut writer = MemOut::new(Vec::with_capacity(rt.alloc(), 40)?, 1, None);
     assert_eq!(rt; write_refusal(&mut writer, &Refusal::Memory), Ok(()));
     assert_eq!(rt;
         writer.as_slice(),
         b"{\"refused\":18,\"why\":\"memory\"}\n".as_slice()
     );
+    Ok(())
 }

@@ -1,6 +1,5 @@
 //! Every member of every record: at the ends of its range, outside it, of another kind, left out and one too many.
-use crate::reading::command_of;
-use std::alloc::{AllocError, Global};
+use std::alloc::Global;
 use std::process::Abort;
 use std::test::Fail;
 use tsn_types::refusals::{Field, Refusal};
@@ -240,7 +239,7 @@ fn refusal(
     rows: &[Row],
     changes: &[(usize, &str)],
     more: &str,
-) -> Result<Option<Refusal>, AllocError> {
+) -> Result<Option<Refusal>, Fail> {
     let mut line = String::from_str(alloc, "{\"do\":\"create\",\"record\":{")?;
     let mut comma = "";
     for (index, row) in rows.iter().enumerate() {
@@ -259,7 +258,7 @@ fn refusal(
     line.push_str("},\"key\":\"")?;
     line.push_str(key)?;
     line.push_str("\",\"s\":1}")?;
-    Ok(command_of(alloc, line.as_bytes()).err())
+    Ok(super::refusal(alloc, line.as_bytes())?)
 }
 
 const KINDS: [(&'static str, &'static [Row]); 4] = [
@@ -316,7 +315,7 @@ fn with_each_other(
     rows: &[Row],
     first: usize,
     row: &Row,
-) -> Result<(), AllocError> {
+) -> Result<(), Fail> {
     let out = out_of(row);
     for (second, other) in rows.iter().enumerate() {
         let name = other.name;
