@@ -1,8 +1,7 @@
 -- Changes that do not conflict with a set go the same way where the set was left out.
-use Rattle.std.proofs.Common.{◌≡◌, Bool, true, false, cond, ◌||◌, not, List, [], ◌∷◌, ◌++◌, refl, sym, ◌∙◌, ap, Some, None, append_assoc}
-use Rattle.std.specs.Prelude.{flat_map, IsTrue, IsSome, is_some}
+use Rattle.std.proofs.Common.{◌≡◌, Bool, true, false, ◌||◌, List, [], ◌∷◌, ◌++◌, refl, sym, ◌∙◌, ap, Some, None}
+use Rattle.std.specs.Prelude.{IsTrue, IsSome, is_some}
 use Rattle.std.specs.FinMap.{get}
-use Rattle.std.specs.List.{AllByRecursion}
 use Rattle.tsn_types.specs.declared.keys.Key.{Key}
 use Rattle.tsn_types.specs.declared.keys.Key.TheVariants.{Port}
 use Rattle.tsn_edit.specs.Parts.{Change, Part, parts}
@@ -11,7 +10,7 @@ use Rattle.tsn_types.specs.declared.limits.Limits.{Limits}
 use Rattle.tsn_types.specs.Keys.{same_key, has, meets, refs, refs_of}
 use Rattle.tsn_edit.specs.Configuration.{Configuration, IsWellKept}
 use Rattle.tsn_edit.specs.Changes.{keys_of, refs_before, refs_after, changed, Stands, Fits, clashes}
-use Rattle.tsn_edit.proofs.KeyFacts.{same_itself, or_left, or_right, by_bool, by_option, part_on, part_on_none, before_or, part_on_some, each_part, part_on-append, part_on-append_found, keys_of-append, refs_before-append, has-append, meets_apart, after_or, get-changed, or_false_left, or_false_right}
+use Rattle.tsn_edit.proofs.KeyFacts.{same_itself, or_left, or_right, by_option, part_on, part_on_none, before_or, part_on_some, each_part, part_on-append, part_on-append_found, keys_of-append, refs_before-append, has-append, meets_apart, after_or, get-changed, or_false_left, or_false_right}
 
 -- f touches no key of e, refers to none, and nothing that e's values before refer to
 pub record Apart (f e : List Part) : Type 0 where
