@@ -90,7 +90,10 @@ impl<R: Drop> Table<R> {
     ) -> Result<Table<R>, AllocError>
         requires callable { F.IsAlwaysCallable copy_row }
         requires equal { Copies F.Fn copy_row }
-        ensures { IfOk result (λ copy. copy.map ≡ self.now.map) }
+        ensures map { IfOk result (λ copy. copy.map ≡ self.now.map) }
+
+        // It has no room for a row of a new number.
+        ensures spare { IfOk result (λ copy. copy.spare ≡ 0) }
     {
         Ok(Table {
             rows: copy_of(&self.rows, *self.rows.allocator(), &copy_row)?,
@@ -165,7 +168,7 @@ fn ids_of<R>(rows: &[(u64, R)], alloc: Global) -> Result<Vec<u64>, AllocError>
     rows.iter().map(|row| row.0).collect(alloc)
 }
 
-// The rows with equal copies.
+// Equal copies of the rows, in room for just these.
 fn copy_of<R: Drop, F: Fn(&R) -> Result<R, AllocError>>(
     rows: &[(u64, R)],
     alloc: Global,
@@ -173,11 +176,12 @@ fn copy_of<R: Drop, F: Fn(&R) -> Result<R, AllocError>>(
 ) -> Result<Vec<(u64, R)>, AllocError>
     requires callable { F.IsAlwaysCallable copy_row.now }
     requires equal { Copies F.Fn copy_row.now }
-    ensures { IfOk result (λ copy. copy.items ≡ rows.now) }
+    ensures items { IfOk result (λ copy. copy.items ≡ rows.now) }
+    ensures capacity { IfOk result (λ copy. vec_capacity copy ≡ vec_len copy) }
 {
     let mut copy = Vec::with_capacity(alloc, rows.len())?;
     for row in rows {
-        copy.push((row.0, copy_row(&row.1)?))?;
+        copy.push_reserved((row.0, copy_row(&row.1)?));
     }
     Ok(copy)
 }
