@@ -1,7 +1,6 @@
 -- What is shown of a record reads back, part by part.
-use Rattle.std.proofs.Common.{◌≡◌, ℕ, ◌^◌, ◌<◌, ◌≤◌, ◌&&◌, ◌||◌, ◌==◌, suc, zero, slice_index, List, [], ◌∷◌, length, map, get_or, Bool, true, false, not, Option, Some, None, Result, Ok, cond, refl, ap, sym, ◌∙◌, arith, nat_lt, nat_le, decimal, IfSome}
-use Rattle.std.specs.List.{AllByRecursion, list_all}
-use Rattle.std.specs.Char.{is_ascii_digit}
+use Rattle.std.proofs.Common.{◌≡◌, ℕ, ◌^◌, ◌<◌, ◌≤◌, ◌&&◌, ◌||◌, ◌==◌, suc, zero, slice_index, List, [], ◌∷◌, length, map, Bool, true, false, not, Option, Some, None, Result, Ok, cond, refl, ap, ◌∙◌, arith, decimal, IfSome}
+use Rattle.std.specs.List.{AllByRecursion}
 use Rattle.std.specs.Str.Parse.{digits_value}
 use Rattle.std.specs.Fmt.{digits}
 use Rattle.std.proofs.lemmas.Fmt.{digits_decimal, digits_value-decimal, length-decimal-le, decimal_nonempty, first_decimal}
@@ -24,7 +23,7 @@ use Rattle.tsn_wire.specs.Ranges.{within, within_or_none, port_entry, gate_entry
 use Rattle.tsn_wire.specs.Commands.{line_shape, command_shape, create_shape}
 use Rattle.tsn_wire.specs.Reading.{data_of, or_syntax, line_of_draft, refused, line_of}
 use Rattle.tsn_wire.proofs.Digits.{own}
-use Rattle.tsn_wire.specs.ReadingBack.{Within, create_data, PortEntryFits, GateEntryFits, ReadsBack, ScheduleFits, PortFits, GateFits, FilterFits, MeterFits}
+use Rattle.tsn_wire.specs.ReadingBack.{Within, create_data, PortEntryFits, GateEntryFits, ReadsBack, PortFits, GateFits, FilterFits, MeterFits}
 use Rattle.tsn_wire.specs.Records.{port_entry_shape, gate_entry_shape, list_shape, schedule_shape, port_shape, gate_shape, filter_shape, meter_shape}
 use Rattle.tsn_wire.specs.Shown.{or_null, port_entry_data, gate_entry_data, port_data, gate_data, filter_data, meter_data}
 use Rattle.tsn_wire.specs.declared.unread.Unread.{Unread}

@@ -1,5 +1,5 @@
 -- What is shown of a key and a record reads back: the numbers that they hold, and the line that creates them.
-use Rattle.std.specs.Prelude.{◌≡◌, ℕ, ◌^◌, ◌≤◌, List, Option, Some, Result, Ok, IfSome, codes}
+use Rattle.std.specs.Prelude.{◌≡◌, ℕ, ◌^◌, ◌≤◌, List, Some, Ok, IfSome, codes}
 use Rattle.std.specs.List.{AllByRecursion}
 use Rattle.serde_json.specs.Data.{Data, string, object, member, no_members}
 use Rattle.tsn_bridge.specs.declared.command.Command.TheVariants.{Create}

@@ -1,12 +1,10 @@
 -- The shapes of records: which members there are, and of which kinds.
-use Rattle.std.specs.Prelude.{◌==◌, List, if◌then◌else◌, option_and_then, Result, Ok, Err, codes}
+use Rattle.std.specs.Prelude.{List, Result, Ok, codes}
 use Rattle.serde_json.specs.Data.{Data}
-use Rattle.serde_json.specs.Find.{at, as_bool}
 use Rattle.tsn_types.specs.declared.keys.Kind.{Kind}
 use Rattle.tsn_types.specs.declared.keys.Kind.TheVariants as kinds
 use Rattle.tsn_wire.specs.declared.unread.Unread.{Unread}
-use Rattle.tsn_wire.specs.declared.unread.Unread.TheVariants.{Shape}
-use Rattle.tsn_wire.specs.Answers.{◌>>=◌, or_shape, each}
+use Rattle.tsn_wire.specs.Answers.{◌>>=◌, each}
 use Rattle.tsn_wire.specs.Json.{has_members, has_items, items_list, number_at, number_or_null_at, flag_at, items_at, number_item, number_or_null_item, flag_item}
 use Rattle.tsn_wire.specs.declared.drafts.PortEntryDraft.{PortEntryDraft}
 use Rattle.tsn_wire.specs.declared.drafts.GateEntryDraft.{GateEntryDraft}
