@@ -1,2 +1,3 @@
+pub mod Beginning
 pub mod Machine
 pub mod State

@@ -10,10 +10,11 @@ ghost use Rattle.tsn_types.specs.declared.refusals.Refusal.TheVariants.{Memory, 
 ghost use Rattle.tsn_edit.specs.Configuration.{IsWellKept};
 ghost use Rattle.tsn_edit.specs.Edits.{early_causes};
 ghost use Rattle.tsn_edit.specs.Runs.{run, IsGood};
-ghost use Rattle.tsn_config.specs.Opening.{opening, opening_refusal};
+ghost use Rattle.tsn_config.specs.Opening.{opening_refusal};
 ghost use Rattle.tsn_undo.specs.Entries.{changes, standing};
 ghost use Rattle.tsn_undo.specs.Soundness.{IsSound};
 ghost use Rattle.tsn_undo.specs.Steps.{present};
+ghost use Rattle.tsn_bridge.specs.Beginning.{begun, standard_limits};
 ghost use Rattle.tsn_bridge.specs.Machine.{Step, HelloStep, EditStep, UndoStep, ShowStep, ListStep, is_given};
 
 use crate::command::Command;
@@ -40,10 +41,11 @@ pub struct Setup {
 
 impl Setup {
     /// The setup of a bridge of which nothing was said: 2 ports, tables of 16 instances, lists of up to 16 entries and
-    /// no records. It takes no memory.
+    /// no records. An opening of it is refused only for want of memory. It takes no memory itself.
     pub fn standard(alloc: Global) -> Setup
-        ensures limits { result.limits ≡ record { ports = 2; filters = 16; gates = 16; meters = 16; list = 16 } }
+        ensures limits { result.limits ≡ standard_limits }
         ensures records { result.records ≡ [] }
+        ensures accepted { opening_refusal result.limits result.records ≡ None }
     {
         Setup {
             limits: Limits::new(2, 16, 16, 16, 16).unwrap(),
@@ -76,10 +78,7 @@ impl Bridge {
     /// least filter (8); want of memory (18) may be answered in place of any answer.
     pub fn new(alloc: Global, setup: Setup) -> Result<Bridge, Refusal>
         ensures admitted { OnOk result (opening_refusal setup.limits setup.records ≡ None) }
-        ensures begins { IfOk result (λ bridge. bridge ≡ record {
-          book = record { limits = setup.limits; opening = opening setup.limits setup.records; entries = [] };
-          sessions = 0;
-        }) }
+        ensures begins { IfOk result (λ bridge. bridge ≡ begun setup.limits setup.records) }
         ensures refused { IfErr result (λ why.
             (opening_refusal setup.limits setup.records ≡ Some why) ⊎ (why ≡ Memory)) }
     {

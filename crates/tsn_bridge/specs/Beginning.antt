@@ -1,0 +1,22 @@
+-- What a bridge begins with.
+use Rattle.std.specs.Prelude.{List, []}
+use Rattle.tsn_types.specs.declared.keys.Key.{Key}
+use Rattle.tsn_types.specs.declared.records.Record.{Record}
+use Rattle.tsn_types.specs.declared.limits.Limits.{Limits}
+use Rattle.tsn_config.specs.Opening.{opening}
+use Rattle.tsn_bridge.specs.State.{State}
+
+-- The opening of these records, with no entry and no session.
+abbrev pub begun : Limits → List (Key × Record) → State
+begun limits records = record {
+  book = record { limits = limits; opening = opening limits records; entries = [] };
+  sessions = 0;
+}
+
+-- 2 ports, tables of 16 instances, lists of up to 16 entries
+abbrev pub standard_limits : Limits
+standard_limits = record { ports = 2; filters = 16; gates = 16; meters = 16; list = 16 }
+
+-- a bridge of which nothing was said
+abbrev pub standard : State
+standard = begun standard_limits []
