@@ -1,6 +1,6 @@
 //! Commands of the worked examples: two ports, tables of sixteen, lists of up to sixteen entries. The scripts of
 //! `tsn_serve` try more of them.
-ghost use Rattle.std.specs.Prelude.{◌≤◌};
+ghost use Rattle.std.specs.Prelude.{◌≤◌, ◌^◌};
 
 use crate::bridge::{Bridge, Setup};
 use crate::command::Command;
@@ -22,9 +22,16 @@ fn meter_key(number: u64) -> Key
     Key::Meter(MeterId::new(number).unwrap())
 }
 
+/// A meter of eight million bits a second.
 fn meter() -> Record {
+    meter_of(8_000_000)
+}
+
+fn meter_of(rate: u64) -> Record
+    requires { rate ≤ 10 ^ 12 }
+{
     Record::Meter(FlowMeter {
-        cir: BitRate::new(8_000_000).unwrap(),
+        cir: BitRate::new(rate).unwrap(),
         cbs: Octets::new(1500).unwrap(),
         eir: BitRate::new(0).unwrap(),
         ebs: Octets::new(0).unwrap(),
@@ -86,6 +93,36 @@ fn entries_are_made_and_taken_back(rt: HostRuntime) -> Result<(), Fail> {
     assert!(rt; bridge.config().get(meter_key(5)).is_none());
     let nothing = bridge.step(1, Command::Undo);
     assert_eq!(rt; refusal_of(nothing), Some(Refusal::NothingToUndo));
+    Ok(())
+}
+
+// Whether the meter 5 that a show answers has this rate.
+fn is_shown(bridge: &mut Bridge, rate: u64) -> bool
+    requires { rate ≤ 10 ^ 12 }
+{
+    match bridge.step(1, Command::Show { key: meter_key(5) }) {
+        Reply::Shown { key, value } => key == meter_key(5) && value == meter_of(rate),
+        _ => false,
+    }
+}
+
+#[test]
+fn a_record_is_replaced_and_removed(rt: HostRuntime) -> Result<(), Fail> {
+    let mut bridge = greeted(&rt, rt.alloc())?;
+    assert!(rt; is_entry(create(&mut bridge, 1, 5), 1));
+    let replace = Command::Replace {
+        key: meter_key(5),
+        value: meter_of(9_000_000),
+    };
+    assert!(rt; is_shown(&mut bridge, 8_000_000));
+    assert!(rt; is_entry(bridge.step(1, replace), 2));
+    assert!(rt; is_shown(&mut bridge, 9_000_000));
+    let removal = bridge.step(1, Command::Remove { key: meter_key(5) });
+    assert!(rt; is_entry(removal, 3));
+    assert!(rt; !is_shown(&mut bridge, 9_000_000));
+    let undone = bridge.step(1, Command::Undo);
+    assert!(rt; matches!(undone, Reply::EntryOf { entry: 4, of: 3 }));
+    assert!(rt; is_shown(&mut bridge, 9_000_000));
     Ok(())
 }
 
