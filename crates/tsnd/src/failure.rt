@@ -1,4 +1,7 @@
 //! Why the program ends with status 1: the line that it writes to standard error.
+ghost use Rattle.tsnd.specs.Failures.{failure_of, Tells};
+ghost use Rattle.std.specs.Prelude.{◌≡◌};
+
 use thiserror::Error;
 use tsn_types::refusals::Refusal;
 use tsn_wire::Fault;
@@ -17,6 +20,8 @@ pub enum Failure {
 }
 
 impl From<Fault> for Failure {
+    ghost from_gives = { λ fault failure. failure ≡ failure_of fault };
+
     fn from(fault: Fault) -> Failure {
         match fault {
             Fault::Read => Failure::Read,
@@ -27,6 +32,8 @@ impl From<Fault> for Failure {
 }
 
 impl From<Refusal> for Failure {
+    ghost from_gives = { Tells };
+
     fn from(refusal: Refusal) -> Failure {
         let number = refusal.number();
         let name = refusal.name();

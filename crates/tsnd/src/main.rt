@@ -4,13 +4,16 @@
 //! status is 0, or 1 after one line on standard error that says why, or 2 for a command line that is refused.
 #![tactic(auto)]
 
+ghost use Rattle.std.specs.Prelude.{◌≡◌, ◌⊎◌, IfOk, IfErr};
+ghost use Rattle.tsnd.specs.Failures.{IsFault};
+
 mod arguments;
 mod failure;
 mod script;
 #[cfg(test)]
 mod tests;
 
-use crate::arguments::{Asked, read_words};
+use crate::arguments::{Asked, read_words, status_of};
 use crate::failure::Failure;
 use crate::script::answer_script;
 use std::process::ExitCode;
@@ -27,8 +30,11 @@ fn words_of<R: Env + AllocGlobal>(rt: &R) -> io::Result<Vec<String>> {
     Ok(words)
 }
 
-/// Does what the command line asks for.
-fn run<R: Env + Input + Print + Eprint + AllocGlobal>(rt: &R) -> Result<u8, Failure> {
+/// Does what the command line asks for, and gives the status: 0, or 2 for a command line that is refused.
+fn run<R: Env + Input + Print + Eprint + AllocGlobal>(rt: &R) -> Result<u8, Failure>
+    ensures status { IfOk result (λ status. (status ≡ 0) ⊎ (status ≡ 2)) }
+    ensures fault { IfErr result IsFault }
+{
     let Ok(words) = words_of(rt) else {
         return Err(Failure::Memory);
     };
@@ -41,7 +47,7 @@ fn run<R: Env + Input + Print + Eprint + AllocGlobal>(rt: &R) -> Result<u8, Fail
         }
         Asked::Text(text) => {
             let _ = text.print(rt);
-            Ok(if text.use_stderr() { 2 } else { 0 })
+            Ok(status_of(&text))
         }
     }
 }

@@ -1,11 +1,12 @@
 //! What the program makes of words and of a script.
-use crate::arguments::{Asked, read_words};
+use crate::arguments::{Asked, read_words, status_of};
 use crate::failure::Failure;
 use crate::script::answer_script;
+use crate::words_of;
 use std::alloc::{AllocError, Global};
 use std::test::Fail;
 use tsn_types::refusals::Refusal;
-use tsn_wire::{Failing, MemIn, MemOut};
+use tsn_wire::{Failing, Fault, MemIn, MemOut};
 
 /// The program's name and one more word.
 fn words(alloc: Global, word: &str) -> Result<Vec<String>, AllocError> {
@@ -16,28 +17,41 @@ fn words(alloc: Global, word: &str) -> Result<Vec<String>, AllocError> {
 }
 
 /// The status that the words alone lead to: 0 for a script and for help, 2 for what is refused.
-fn status_of(alloc: Global, word: &str) -> Result<u8, Fail> {
+fn status_after(alloc: Global, word: &str) -> Result<u8, Fail> {
     let words = words(alloc, word)?;
     match read_words(alloc, words.as_slice())? {
         Asked::Script => Ok(0),
-        Asked::Text(text) => Ok(if text.use_stderr() { 2 } else { 0 }),
+        Asked::Text(text) => Ok(status_of(&text)),
     }
 }
 
 #[test]
 fn words_are_read(rt: HostRuntime) -> Result<(), Fail> {
     let alloc = rt.alloc();
-    assert_eq!(rt; status_of(alloc, "script")?, 0);
-    assert_eq!(rt; status_of(alloc, "--help")?, 0);
-    assert_eq!(rt; status_of(alloc, "serve")?, 2);
+    assert_eq!(rt; status_after(alloc, "script")?, 0);
+    assert_eq!(rt; status_after(alloc, "--help")?, 0);
+    assert_eq!(rt; status_after(alloc, "serve")?, 2);
     Ok(())
+}
+
+#[test]
+fn the_words_of_the_process_begin_with_its_name(rt: HostRuntime) -> Result<(), Fail> {
+    let words = words_of(&rt)?;
+    assert!(rt; !words.is_empty());
+    Ok(())
+}
+
+const SCRIPT: &'static [u8] = b"{\"do\":\"hello\"}\n{\"do\":\"undo\",\"s\":1}\n";
+
+// What the program writes to standard error.
+fn line_of(alloc: Global, failure: Failure) -> Result<String, AllocError> {
+    format!(in alloc; "{failure}")
 }
 
 #[test]
 fn a_script_is_answered(rt: HostRuntime) -> Result<(), Fail> {
     let alloc = rt.alloc();
-    let input = Vec::from_slice(alloc, b"{\"do\":\"hello\"}\n{\"do\":\"undo\",\"s\":1}\n")?;
-    let mut reader = MemIn::new(input, 7, None);
+    let mut reader = MemIn::new(Vec::from_slice(alloc, SCRIPT)?, 7, None);
     let mut writer = MemOut::new(Vec::new(alloc), 1000, None);
     answer_script(alloc, &mut reader, &mut writer)?;
     let replies = b"{\"session\":1}\n{\"refused\":10,\"why\":\"nothing_to_undo\"}\n";
@@ -46,27 +60,55 @@ fn a_script_is_answered(rt: HostRuntime) -> Result<(), Fail> {
 }
 
 #[test]
-fn a_fault_has_its_line(rt: HostRuntime) -> Result<(), Fail> {
+fn a_script_begins_with_two_ports(rt: HostRuntime) -> Result<(), Fail> {
     let alloc = rt.alloc();
-    let input = Vec::from_slice(alloc, b"{\"do\":\"hello\"}\n")?;
-    let mut reader = MemIn::new(input, 7, None);
-    let mut writer = MemOut::new(Vec::new(alloc), 1000, Some((0, Failing::Error)));
+    let script = b"{\"do\":\"hello\"}\n{\"do\":\"list\",\"kind\":\"port\",\"s\":1}\n";
+    let mut reader = MemIn::new(Vec::from_slice(alloc, script)?, 1000, None);
+    let mut writer = MemOut::new(Vec::new(alloc), 1000, None);
+    answer_script(alloc, &mut reader, &mut writer)?;
+    let replies = b"{\"session\":1}\n{\"ids\":[1,2]}\n";
+    assert!(rt; writer.as_slice() == replies.as_slice());
+    Ok(())
+}
+
+#[test]
+fn a_failed_read_leaves_the_lines_that_ended(rt: HostRuntime) -> Result<(), Fail> {
+    let alloc = rt.alloc();
+    let mut reader = MemIn::new(Vec::from_slice(alloc, SCRIPT)?, 15, Some(1));
+    let mut writer = MemOut::new(Vec::new(alloc), 1000, None);
+    let Err(failure) = answer_script(alloc, &mut reader, &mut writer) else {
+        return Err(Fail::from("the reader fails"));
+    };
+    assert_eq!(rt; line_of(alloc, failure)?.as_str(), "tsnd: read failed");
+    assert!(rt; writer.as_slice() == b"{\"session\":1}\n".as_slice());
+    Ok(())
+}
+
+#[test]
+fn a_failed_write_ends_the_script(rt: HostRuntime) -> Result<(), Fail> {
+    let alloc = rt.alloc();
+    let mut reader = MemIn::new(Vec::from_slice(alloc, SCRIPT)?, 7, None);
+    let mut writer = MemOut::new(Vec::new(alloc), 1000, Some((1, Failing::Error)));
     let Err(failure) = answer_script(alloc, &mut reader, &mut writer) else {
         return Err(Fail::from("the writer fails"));
     };
-    assert_eq!(rt;
-        format!(in alloc; "{failure}")?.as_str(),
-        "tsnd: write failed"
-    );
-    let refused = Failure::from(Refusal::Shape);
-    assert_eq!(rt;
-        format!(in alloc; "{refused}")?.as_str(),
-        "tsnd: refused 3 shape"
-    );
-    let memory = Failure::from(Refusal::Memory);
-    assert_eq!(rt;
-        format!(in alloc; "{memory}")?.as_str(),
-        "tsnd: out of memory"
-    );
+    assert_eq!(rt; line_of(alloc, failure)?.as_str(), "tsnd: write failed");
+    assert!(rt; writer.as_slice() == b"{\"session\":1}\n".as_slice());
+    Ok(())
+}
+
+#[test]
+fn a_failure_has_its_line(rt: HostRuntime) -> Result<(), Fail> {
+    let alloc = rt.alloc();
+    let cases = [
+        (Failure::from(Fault::Read), "tsnd: read failed"),
+        (Failure::from(Fault::Write), "tsnd: write failed"),
+        (Failure::from(Fault::Memory), "tsnd: out of memory"),
+        (Failure::from(Refusal::Memory), "tsnd: out of memory"),
+        (Failure::from(Refusal::Shape), "tsnd: refused 3 shape"),
+    ];
+    for (failure, line) in cases {
+        assert_eq!(rt; line_of(alloc, failure)?.as_str(), line);
+    }
     Ok(())
 }
