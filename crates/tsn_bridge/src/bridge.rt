@@ -42,6 +42,7 @@ pub struct Setup {
 impl Setup {
     /// The setup of a bridge of which nothing was said: 2 ports, tables of 16 instances, lists of up to 16 entries and
     /// no records. An opening of it is refused only for want of memory. It takes no memory itself.
+    #[tactic(auto, using(crate::proofs::Accepted::accepted))]
     pub fn standard(alloc: Global) -> Setup
         ensures limits { result.limits ≡ standard_limits }
         ensures records { result.records ≡ [] }
