@@ -1,13 +1,12 @@
 -- The words of worked command lines.
-use Rattle.std.proofs.Common.{◌≡◌, ℕ, List, [], ◌∷◌, true, codes, refl, subst}
-use Rattle.clap.specs.declared.error.kind.ErrorKind.TheVariants.{DisplayHelp, MissingSubcommand}
-use Rattle.clap.specs.Kinds.{IsAmong}
+use Rattle.std.proofs.Common.{◌≡◌, ℕ, List, [], ◌∷◌, true, codes, refl, ap, subst, ◌∙◌, inl, inr, Result, Ok, Err, IfErr}
+use Rattle.clap.specs.declared.error.Error.{Error}
+use Rattle.clap.specs.declared.error.kind.ErrorKind.TheVariants.{DisplayHelp, MissingSubcommand, OutOfMemory}
+use Rattle.clap.specs.Kinds.{FailsBy, IsAmong}
 use Rattle.clap.specs.Values.{kind_of}
 use Rattle.clap.specs.Faults.{fault_of, is_simple_and_free}
 use Rattle.clap.proofs.OnLiterals.{clap_on_literals}
-use Rattle.tsnd.specs.declared.arguments.Asked.{Asked}
-use Rattle.tsnd.specs.declared.arguments.Asked.TheVariants.{Script, Text}
-use Rattle.tsnd.specs.Asking.{program, Asks}
+use Rattle.tsnd.specs.Asking.{program}
 
 pub is_simple : is_simple_and_free program ≡ true
 unfolding clap_on_literals
@@ -18,10 +17,14 @@ pub script : (name : List ℕ) → fault_of program (name ∷ codes "script" ∷
 unfolding clap_on_literals
 script name = refl
 
--- so a script is what it asks for
-pub asks_script : (name : List ℕ) (asked : Asked) → Asks (name ∷ codes "script" ∷ []) asked → asked ≡ Script
-asks_script name Script asks = refl
-asks_script name (Text error) asks = absurd (subst (IsAmong (kind_of error)) (script name) asks)
+-- so a parse of that fails only for want of memory
+pub script_parsed : {T : Type 0} (r : Result T Error) (words : List (List ℕ)) → FailsBy (fault_of program words) r → (name : List ℕ) → words ≡ name ∷ codes "script" ∷ [] → IfErr r (λ e. kind_of e ≡ OutOfMemory)
+script_parsed (Ok x) words fails name is = tt
+script_parsed (Err e) words fails name is =
+    elim fails [
+      | inl memory ↦ memory
+      | inr among ↦ absurd (subst (IsAmong (kind_of e)) (ap (fault_of program) is ∙ script name) among)
+    ]
 
 help : (name : List ℕ) → fault_of program (name ∷ codes "--help" ∷ []) ≡ DisplayHelp ∷ []
 unfolding clap_on_literals

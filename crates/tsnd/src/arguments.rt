@@ -32,7 +32,9 @@ fn command<'a>(alloc: Global) -> Result<Command<'a>, AllocError>
 }
 
 fn parsed(alloc: Global, words: &[String]) -> Result<(), Error>
-    ensures { FailsBy (fault_of program (map string_bytes words.now)) result }
+    ensures kinds { FailsBy (fault_of program (map string_bytes words.now)) result }
+    ensures script { (name : List ℕ) → map string_bytes words.now ≡ name ∷ codes "script" ∷ []
+        → IfErr result (λ e. kind_of e ≡ ErrorKind.OutOfMemory) }
 {
     let _ = command(alloc)?.try_get_matches_from(words)?;
     Ok(())

@@ -1,5 +1,5 @@
 //! A script of command lines over a bridge of its own.
-ghost use Rattle.std.specs.Prelude.{◌≡◌, ◌≢◌, ◌^◌, true, IfErr, OnOk, IsErrOf, Err};
+ghost use Rattle.std.specs.Prelude.{◌≡◌, ◌≢◌, ◌^◌, true, IfOk, IfErr, OnOk, IsErrOf, Err};
 ghost use Rattle.tsn_bridge.specs.Beginning.{standard};
 ghost use Rattle.tsn_bridge.specs.State.{State};
 ghost use Rattle.tsn_serve.specs.Answers.{Answers};
@@ -12,6 +12,14 @@ use std::alloc::Global;
 use tsn_bridge::bridge::{Bridge, Setup};
 use tsn_serve::run_script;
 use tsn_wire::{ByteIn, ByteOut};
+
+/// A bridge with the standard setup. It is refused only for want of memory.
+fn standard_bridge(alloc: Global) -> Result<Bridge, Failure>
+    ensures begins { IfOk result (λ bridge. bridge ≡ standard) }
+    ensures memory { IfErr result (λ failure. failure ≡ Memory) }
+{
+    Ok(Bridge::new(alloc, Setup::standard(alloc))?)
+}
 
 /// Answers each line of the reader on the writer, from a bridge with the standard setup. On `Ok` all bytes were read,
 /// and what was written is the text of the script. On `Read` all lines that a line feed ended are answered, on `Write`
@@ -39,7 +47,7 @@ pub fn answer_script<R: ByteIn, W: ByteOut>(
         → W.has_failed writer.new ≡ W.has_failed writer.old }
     ensures writer_failed { IsErrOf result Write → W.has_failed writer.new ≡ true }
 {
-    let mut bridge = Bridge::new(alloc, Setup::standard(alloc))?;
+    let mut bridge = standard_bridge(alloc)?;
     run_script(alloc, &mut bridge, reader, writer)?;
     Ok(())
 }

@@ -1,16 +1,13 @@
 use Rattle.std.proofs.Common.{◌≡◌, ◌^◌, subst, ap, Err}
-use Rattle.tsn_bridge.specs.Beginning.{standard}
 use Rattle.tsn_bridge.specs.State.{State}
 use Rattle.tsn_serve.specs.Answers.{Answers}
 use Rattle.tsn_serve.specs.Outcomes.{Completes, BreaksOff, IsCutOff}
-use Rattle.tsnd.proofs.Beginning.{begins}
 use Rattle.tsnd.proofs.Telling.{told_read, told_write}
 use Rattle.tsnd.proofs.script.answer_script.Goals as goal
 
 pub returns-in_err-run_script-clause-read : goal.returns-in_err-run_script-clause-read
 returns-in_err-run_script-clause-read g c = λ e.
-    let begun = c.in_ok-bridge.ensures.begins in
-    let from : c.in_ok-bridge.bridge ≡ standard = begins c.in_ok-bridge.bridge c.standard.result.limits c.standard.result.records begun c.standard.ensures.limits c.standard.ensures.records in
+    let from = c.in_ok-bridge.ensures.begins in
     let why = told_read c.from_residual-in_err-run_script.result c.in_err-run_script.field-0.0 c.from_residual-in_err-run_script.ensures.1 e in
     let end = c.run_script.new in (
       end.bridge,
@@ -21,8 +18,7 @@ returns-in_err-run_script-clause-read g c = λ e.
 
 pub returns-in_err-run_script-clause-write : goal.returns-in_err-run_script-clause-write
 returns-in_err-run_script-clause-write g c = λ e.
-    let begun = c.in_ok-bridge.ensures.begins in
-    let from : c.in_ok-bridge.bridge ≡ standard = begins c.in_ok-bridge.bridge c.standard.result.limits c.standard.result.records begun c.standard.ensures.limits c.standard.ensures.records in
+    let from = c.in_ok-bridge.ensures.begins in
     let why = told_write c.from_residual-in_err-run_script.result c.in_err-run_script.field-0.0 c.from_residual-in_err-run_script.ensures.1 e in
     let end = c.run_script.new in (
       end.bridge,
@@ -33,8 +29,7 @@ returns-in_err-run_script-clause-write g c = λ e.
 
 pub returns-clause-ok : goal.returns-clause-ok
 returns-clause-ok g c =
-    let begun = c.in_ok-bridge.ensures.begins in
-    let from : c.in_ok-bridge.bridge ≡ standard = begins c.in_ok-bridge.bridge c.standard.result.limits c.standard.result.records begun c.standard.ensures.limits c.standard.ensures.records in
+    let from = c.in_ok-bridge.ensures.begins in
     let end = c.run_script.new in (
       end.bridge,
       subst

@@ -1,0 +1,14 @@
+use Rattle.std.proofs.Common.{rules, map, string_bytes}
+use Rattle.clap.specs.Kinds.{FailsBy}
+use Rattle.clap.specs.Faults.{fault_of}
+use Rattle.tsnd.specs.Asking.{program}
+use Rattle.tsnd.proofs.Asked.{script_parsed}
+use Rattle.tsnd.proofs.arguments.parsed.Goals as goal
+
+pub returns-in_err-try_get_matches_from-clause-script :
+    goal.returns-in_err-try_get_matches_from-clause-script
+returns-in_err-try_get_matches_from-clause-script c =
+    let result = c.from_residual-in_err-try_get_matches_from.result in
+    let words = map string_bytes c.args.words.now in
+    let kinds : FailsBy (fault_of program words) result = search rules in
+    script_parsed result words kinds
