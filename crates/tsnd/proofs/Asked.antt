@@ -1,16 +1,12 @@
 -- The words of worked command lines.
-use Rattle.std.proofs.Common.{◌≡◌, ℕ, List, [], ◌∷◌, true, codes, refl, ap, subst, ◌∙◌, inl, inr, Result, Ok, Err, IfErr}
+use Rattle.std.proofs.Common.{◌≡◌, ℕ, List, [], ◌∷◌, codes, refl, ap, subst, ◌∙◌, inl, inr, Result, Ok, Err, IfErr}
 use Rattle.clap.specs.declared.error.Error.{Error}
 use Rattle.clap.specs.declared.error.kind.ErrorKind.TheVariants.{DisplayHelp, MissingSubcommand, OutOfMemory}
 use Rattle.clap.specs.Kinds.{FailsBy, IsAmong}
 use Rattle.clap.specs.Values.{kind_of}
-use Rattle.clap.specs.Faults.{fault_of, is_simple_and_free}
+use Rattle.clap.specs.Faults.{fault_of}
 use Rattle.clap.proofs.OnLiterals.{clap_on_literals}
 use Rattle.tsnd.specs.Asking.{program}
-
-pub is_simple : is_simple_and_free program ≡ true
-unfolding clap_on_literals
-is_simple = refl
 
 -- whatever the program's name, `script` alone has no fault
 pub script : (name : List ℕ) → fault_of program (name ∷ codes "script" ∷ []) ≡ []
@@ -26,6 +22,7 @@ script_parsed (Err e) words fails name is =
       | inr among ↦ absurd (subst (IsAmong (kind_of e)) (ap (fault_of program) is ∙ script name) among)
     ]
 
+-- `--help` shows help, and no word at all is a subcommand that is missing
 help : (name : List ℕ) → fault_of program (name ∷ codes "--help" ∷ []) ≡ DisplayHelp ∷ []
 unfolding clap_on_literals
 help name = refl

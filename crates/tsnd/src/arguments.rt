@@ -20,6 +20,7 @@ pub enum Asked {
     Text(Error),
 }
 
+// The command line that the program takes.
 fn command<'a>(alloc: Global) -> Result<Command<'a>, AllocError>
     ensures { IfOk result (λ c. app_of c ≡ program) }
 {
@@ -31,6 +32,7 @@ fn command<'a>(alloc: Global) -> Result<Command<'a>, AllocError>
         ))
 }
 
+// Whether the words are `script` alone, or what is wrong with them.
 fn parsed(alloc: Global, words: &[String]) -> Result<(), Error>
     ensures kinds { FailsBy (fault_of program (map string_bytes words.now)) result }
     ensures script { (name : List ℕ) → map string_bytes words.now ≡ name ∷ codes "script" ∷ []

@@ -1,6 +1,6 @@
 //! Why the program ends with status 1: the line that it writes to standard error.
-ghost use Rattle.tsnd.specs.Failures.{failure_of, Tells};
 ghost use Rattle.std.specs.Prelude.{◌≡◌};
+ghost use Rattle.tsnd.specs.Failures.{failure_of, Tells};
 
 use thiserror::Error;
 use tsn_types::refusals::Refusal;

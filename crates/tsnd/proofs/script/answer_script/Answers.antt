@@ -1,4 +1,4 @@
-use Rattle.std.proofs.Common.{◌≡◌, ◌^◌, subst, ap, Err}
+use Rattle.std.proofs.Common.{◌^◌, subst, ap, Err}
 use Rattle.tsn_bridge.specs.State.{State}
 use Rattle.tsn_serve.specs.Answers.{Answers}
 use Rattle.tsn_serve.specs.Outcomes.{Completes, BreaksOff, IsCutOff}
