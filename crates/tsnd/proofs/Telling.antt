@@ -1,8 +1,8 @@
 -- What a failure comes of.
 use Rattle.std.proofs.Common.{◌≡◌, refl, Result, Err}
 use Rattle.std.specs.Prelude.{IsErrAnd}
-use Rattle.tsn_wire.specs.declared.bytes.Fault.{Fault}
-use Rattle.tsn_wire.specs.declared.bytes.Fault.TheVariants as faults
+use Rattle.tsn_bytes.specs.declared.bytes.Fault.{Fault}
+use Rattle.tsn_bytes.specs.declared.bytes.Fault.TheVariants as faults
 use Rattle.tsnd.specs.declared.failure.Failure.{Failure}
 use Rattle.tsnd.specs.declared.failure.Failure.TheVariants as failures
 use Rattle.tsnd.specs.Failures.{failure_of}

@@ -3,8 +3,8 @@ use Rattle.std.specs.Prelude.{◌≡◌, ◌≢◌, ⊤}
 use Rattle.tsn_types.specs.declared.refusals.Refusal.{Refusal}
 use Rattle.tsn_types.specs.declared.refusals.Refusal.TheVariants as refusals
 use Rattle.tsn_types.specs.Refusals.{number_of, name_of}
-use Rattle.tsn_wire.specs.declared.bytes.Fault.{Fault}
-use Rattle.tsn_wire.specs.declared.bytes.Fault.TheVariants as faults
+use Rattle.tsn_bytes.specs.declared.bytes.Fault.{Fault}
+use Rattle.tsn_bytes.specs.declared.bytes.Fault.TheVariants as faults
 use Rattle.tsnd.specs.declared.failure.Failure.{Failure}
 use Rattle.tsnd.specs.declared.failure.Failure.TheVariants as failures
 
