@@ -42,14 +42,23 @@ fn meter_of(rate: u64) -> Record
     })
 }
 
-fn create(bridge: &mut Bridge, session: u32, number: u64) -> Reply
+/// The reply to a command, or an error where memory is refused: a test ends by that, and not by another answer.
+fn step(bridge: &mut Bridge, session: u32, command: Command) -> Result<Reply, Refusal> {
+    let reply = bridge.step(session, command);
+    if matches!(reply, Reply::Refused(Refusal::Memory)) {
+        return Err(Refusal::Memory);
+    }
+    Ok(reply)
+}
+
+fn create(bridge: &mut Bridge, session: u32, number: u64) -> Result<Reply, Refusal>
     requires { number ≤ 65535 }
 {
     let command = Command::Create {
         key: meter_key(number),
         value: meter(),
     };
-    bridge.step(session, command)
+    step(bridge, session, command)
 }
 
 /// Whether the entry of the number was made.
@@ -76,65 +85,66 @@ fn greeted(rt: &impl Abort, alloc: Global) -> Result<Bridge, Refusal> {
 }
 
 /// Creates meter 1 and takes that back, so many times.
-fn fill(bridge: &mut Bridge, pairs: u32) {
+fn fill(bridge: &mut Bridge, pairs: u32) -> Result<(), Refusal> {
     for _ in 0..pairs {
-        let _ = create(bridge, 1, 1);
-        let _ = bridge.step(1, Command::Undo);
+        let _ = create(bridge, 1, 1)?;
+        let _ = step(bridge, 1, Command::Undo)?;
     }
+    Ok(())
 }
 
 #[test]
 fn entries_are_made_and_taken_back(rt: HostRuntime) -> Result<(), Fail> {
     let mut bridge = greeted(&rt, rt.alloc())?;
-    assert!(rt; is_entry(create(&mut bridge, 1, 5), 1));
+    assert!(rt; is_entry(create(&mut bridge, 1, 5)?, 1));
     assert!(rt; bridge.config().get(meter_key(5)).is_some());
-    let undone = bridge.step(1, Command::Undo);
+    let undone = step(&mut bridge, 1, Command::Undo)?;
     assert!(rt; matches!(undone, Reply::EntryOf { entry: 2, of: 1 }));
     assert!(rt; bridge.config().get(meter_key(5)).is_none());
-    let nothing = bridge.step(1, Command::Undo);
+    let nothing = step(&mut bridge, 1, Command::Undo)?;
     assert_eq!(rt; refusal_of(nothing), Some(Refusal::NothingToUndo));
     Ok(())
 }
 
 // Whether the meter 5 that a show answers has this rate.
-fn is_shown(bridge: &mut Bridge, rate: u64) -> bool
+fn is_shown(bridge: &mut Bridge, rate: u64) -> Result<bool, Refusal>
     requires { rate ≤ 10 ^ 12 }
 {
-    match bridge.step(1, Command::Show { key: meter_key(5) }) {
-        Reply::Shown { key, value } => key == meter_key(5) && value == meter_of(rate),
-        _ => false,
+    match step(bridge, 1, Command::Show { key: meter_key(5) })? {
+        Reply::Shown { key, value } => Ok(key == meter_key(5) && value == meter_of(rate)),
+        _ => Ok(false),
     }
 }
 
 #[test]
 fn a_record_is_replaced_and_removed(rt: HostRuntime) -> Result<(), Fail> {
     let mut bridge = greeted(&rt, rt.alloc())?;
-    assert!(rt; is_entry(create(&mut bridge, 1, 5), 1));
+    assert!(rt; is_entry(create(&mut bridge, 1, 5)?, 1));
     let replace = Command::Replace {
         key: meter_key(5),
         value: meter_of(9_000_000),
     };
-    assert!(rt; is_shown(&mut bridge, 8_000_000));
-    assert!(rt; is_entry(bridge.step(1, replace), 2));
-    assert!(rt; is_shown(&mut bridge, 9_000_000));
-    let removal = bridge.step(1, Command::Remove { key: meter_key(5) });
+    assert!(rt; is_shown(&mut bridge, 8_000_000)?);
+    assert!(rt; is_entry(step(&mut bridge, 1, replace)?, 2));
+    assert!(rt; is_shown(&mut bridge, 9_000_000)?);
+    let removal = step(&mut bridge, 1, Command::Remove { key: meter_key(5) })?;
     assert!(rt; is_entry(removal, 3));
-    assert!(rt; !is_shown(&mut bridge, 9_000_000));
-    let undone = bridge.step(1, Command::Undo);
+    assert!(rt; !is_shown(&mut bridge, 9_000_000)?);
+    let undone = step(&mut bridge, 1, Command::Undo)?;
     assert!(rt; matches!(undone, Reply::EntryOf { entry: 4, of: 3 }));
-    assert!(rt; is_shown(&mut bridge, 9_000_000));
+    assert!(rt; is_shown(&mut bridge, 9_000_000)?);
     Ok(())
 }
 
 #[test]
 fn a_record_is_shown_and_listed(rt: HostRuntime) -> Result<(), Fail> {
     let mut bridge = greeted(&rt, rt.alloc())?;
-    assert!(rt; is_entry(create(&mut bridge, 1, 5), 1));
-    match bridge.step(1, Command::Show { key: meter_key(5) }) {
+    assert!(rt; is_entry(create(&mut bridge, 1, 5)?, 1));
+    match step(&mut bridge, 1, Command::Show { key: meter_key(5) })? {
         Reply::Shown { key, value } => assert!(rt; key == meter_key(5) && value == meter()),
         _ => assert!(rt; false, "the meter is shown"),
     }
-    match bridge.step(1, Command::List { kind: Kind::Port }) {
+    match step(&mut bridge, 1, Command::List { kind: Kind::Port })? {
         Reply::Ids { ids } => assert!(rt; ids.as_slice() == [1u64, 2].as_slice()),
         _ => assert!(rt; false, "the ports are listed"),
     }
@@ -145,20 +155,20 @@ fn a_record_is_shown_and_listed(rt: HostRuntime) -> Result<(), Fail> {
 fn limits_come_before_the_session(rt: HostRuntime) -> Result<(), Fail> {
     let mut bridge = greeted(&rt, rt.alloc())?;
     let key = Some(Refusal::Range(Field::Key));
-    assert_eq!(rt; refusal_of(create(&mut bridge, 2, 16)), key);
+    assert_eq!(rt; refusal_of(create(&mut bridge, 2, 16)?), key);
     assert_eq!(rt;
-        refusal_of(create(&mut bridge, 2, 0)),
+        refusal_of(create(&mut bridge, 2, 0)?),
         Some(Refusal::NoSession)
     );
     assert_eq!(rt;
-        refusal_of(bridge.step(2, Command::Show { key: meter_key(16) })),
+        refusal_of(step(&mut bridge, 2, Command::Show { key: meter_key(16) })?),
         key
     );
     assert_eq!(rt;
-        refusal_of(bridge.step(0, Command::Undo)),
+        refusal_of(step(&mut bridge, 0, Command::Undo)?),
         Some(Refusal::NoSession)
     );
-    let again = bridge.step(0, Command::Hello);
+    let again = step(&mut bridge, 0, Command::Hello)?;
     assert_eq!(rt; refusal_of(again), Some(Refusal::Range(Field::Session)));
     Ok(())
 }
@@ -166,15 +176,15 @@ fn limits_come_before_the_session(rt: HostRuntime) -> Result<(), Fail> {
 #[test]
 fn a_full_journal_takes_no_more(rt: HostRuntime) -> Result<(), Fail> {
     let mut bridge = greeted(&rt, rt.alloc())?;
-    fill(&mut bridge, 32_767);
-    assert!(rt; is_entry(create(&mut bridge, 1, 1), 65_535));
-    assert!(rt; is_entry(create(&mut bridge, 1, 2), 65_536));
+    fill(&mut bridge, 32_767)?;
+    assert!(rt; is_entry(create(&mut bridge, 1, 1)?, 65_535));
+    assert!(rt; is_entry(create(&mut bridge, 1, 2)?, 65_536));
     assert_eq!(rt;
-        refusal_of(create(&mut bridge, 1, 3)),
+        refusal_of(create(&mut bridge, 1, 3)?),
         Some(Refusal::JournalFull)
     );
     assert_eq!(rt;
-        refusal_of(bridge.step(1, Command::Undo)),
+        refusal_of(step(&mut bridge, 1, Command::Undo)?),
         Some(Refusal::JournalFull)
     );
     Ok(())
@@ -196,7 +206,10 @@ fn a_setup_with_an_absent_gate_is_refused(rt: HostRuntime) -> Result<(), Fail> {
         Record::Filter(filter),
     )?;
     let limits = Limits::new(2, 16, 16, 16, 16).unwrap();
-    let refused = Bridge::new(rt.alloc(), Setup { limits, records }).err();
+    let refused = match Bridge::new(rt.alloc(), Setup { limits, records }) {
+        Err(Refusal::Memory) => return Err(Fail::from("out of memory")),
+        other => other.err(),
+    };
     let gate = Key::Gate(GateId::new(4).unwrap());
     assert_eq!(rt; refused, Some(Refusal::Dangling(gate)));
     Ok(())
