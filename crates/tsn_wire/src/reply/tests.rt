@@ -1,8 +1,8 @@
 //! The line of each form of reply.
-use super::{write_refusal, write_reply};
+use super::{write_built, write_refusal, write_reply};
 use crate::shown::ids_text;
 use crate::{Failing, Fault, Line, MemOut, command_of};
-use std::alloc::Global;
+use std::alloc::{AllocError, Global};
 use std::process::Abort;
 use std::test::Fail;
 use tsn_bridge::command::Command;
@@ -176,6 +176,16 @@ fn shows_each_record(rt: HostRuntime) -> Result<(), Fail> {
         "{\"ids\":[0,1,65535]}"
     );
     Ok(())
+}
+
+#[test]
+fn writes_nothing_of_a_text_that_finds_no_memory(rt: HostRuntime) {
+    let mut writer = MemOut::new(Vec::new(rt.alloc()), 1000, None);
+    assert_eq!(rt;
+        write_built(&mut writer, Err(AllocError)),
+        Err(Fault::Memory)
+    );
+    assert!(rt; writer.as_slice().is_empty());
 }
 
 #[test]
