@@ -103,6 +103,7 @@ impl Config {
         ensures { result ≡ referrer self.now.map key.now }
     {
         let number = self.rows.referrer(key)?;
+        // The proof needs the size of the table of filters to be in its range, as a call of the limits tells.
         let _most = self.limits.ports();
         Some(Refusal::Referred(Key::Filter(FilterId::new(number).unwrap())))
     }
