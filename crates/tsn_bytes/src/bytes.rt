@@ -1,7 +1,7 @@
 //! What a reader and a writer of bytes are, and the writing of a whole text.
 //! The contracts speak of the bytes that a reader has left and that a writer took, where these are known;
 //! all code above is written over the two traits, so that it runs in memory as it runs over a terminal.
-ghost use Rattle.std.specs.Prelude.{◌≡◌, ℕ, ◌<◌, ◌≤◌, List, Option, Bool, true, length, take, IfOk, IfErr, OnOk, OnErr};
+ghost use Rattle.std.specs.Prelude.{◌≡◌, ℕ, ◌<◌, ◌≤◌, List, [], Option, Bool, true, length, take, IfOk, IfErr, OnOk, OnErr};
 ghost use Rattle.std.specs.Io.KnownBytes.{Consumes, Appends, Keeps, IsAtEnd};
 ghost use Rattle.tsn_bytes.specs.Bytes.{IsCut};
 
@@ -46,6 +46,9 @@ pub trait ByteOut {
     // The bytes that were taken so far, where they are known.
     ghost taken: { Self → Option (List ℕ) };
 
+    // Of the bytes that were taken, those at the end that are held back until there are more or a flush.
+    ghost pending: { Self → List ℕ };
+
     // Whether a call has failed, or took nothing of a slice that is not empty.
     ghost has_failed: { Self → Bool };
 
@@ -60,6 +63,13 @@ pub trait ByteOut {
         ensures nothing { IfOk result (λ n. n ≡ 0 → 0 < length bytes.now
             → has_failed self.new ≡ true) }
         ensures err { OnErr result (Keeps (taken self.old) (taken self.new)) }
+        ensures failed { OnErr result (has_failed self.new ≡ true) };
+
+    /// Hands on all that is held back. It takes no byte, and a call that fails loses none.
+    fn flush(&mut self) -> Result<(), Failed>
+        ensures bytes { Keeps (taken self.old) (taken self.new) }
+        ensures ok { OnOk result (pending self.new ≡ []) }
+        ensures worked { OnOk result (has_failed self.new ≡ has_failed self.old) }
         ensures failed { OnErr result (has_failed self.new ≡ true) };
 }
 

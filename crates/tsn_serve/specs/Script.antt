@@ -1,5 +1,5 @@
 -- What is written for an input, by what may be written for a line.
-use Rattle.std.specs.Prelude.{◌≡◌, ◌≢◌, ◌⊎◌, ℕ, ◌<◌, ◌++◌, List, [], ◌∷◌, Bool, true, length, take, Option, Some, None}
+use Rattle.std.specs.Prelude.{◌≡◌, ◌≢◌, ◌⊎◌, ℕ, ◌<◌, ◌++◌, List, [], ◌∷◌, Bool, true, false, length, take, Option, Some, None}
 use Rattle.std.specs.List.{flat_map, AllByRecursion}
 use Rattle.tsn_types.specs.declared.refusals.Refusal.TheVariants.{TooLong}
 use Rattle.tsn_wire.specs.Replies.{refusal_text}
@@ -40,6 +40,11 @@ OpenScript answers old input text new =
     (lines : List (List ℕ)) × (rest : List ℕ)
     × Splits input lines rest
     × Run answers old lines text new
+
+-- The text of all lines that ended, at the end of the input or before it.
+abbrev pub AllAnswered : {S : Type 0} → Answering S → Bool → S → List ℕ → List ℕ → S → Type 0
+AllAnswered answers true old input text new = IsScript answers old input text new
+AllAnswered answers false old input text new = OpenScript answers old input text new
 
 -- The input begins with these lines and then this one, each ended by its line feed; or, where the input is at its
 -- end, they are all of it, and the last is ended by that.

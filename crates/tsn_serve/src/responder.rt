@@ -1,7 +1,7 @@
 //! The loop that answers a script line by line, in whatever pieces its bytes come.
 //! It is generic in what answers a line, and relies on that one's contract, on the reader's and on the writer's.
 ghost use Rattle.std.specs.Prelude.{◌≡◌, ◌≢◌, ℕ, List, [], ◌∷◌, true, IfErr, OnOk, OnErr, IsErrOf, Err};
-ghost use Rattle.std.specs.Io.KnownBytes.{Appends};
+ghost use Rattle.std.specs.Io.KnownBytes.{Appends, Keeps};
 ghost use Rattle.tsn_bytes.specs.Bytes.{IsCut};
 ghost use Rattle.tsn_bytes.specs.declared.bytes.Fault.TheVariants.{Read, Write, Memory};
 ghost use Rattle.tsn_serve.specs.Script.{AnswersHeld};
@@ -14,7 +14,7 @@ use tsn_types::refusals::Refusal;
 use tsn_wire::{ByteIn, ByteOut, Fault, write_refusal};
 
 // The most bytes of one read.
-const CHUNK: usize = 8192;
+const CHUNK: usize = 65536;
 
 /// What answers a command line that is not too long.
 pub trait Responder {
@@ -132,8 +132,20 @@ fn finish<A: Responder, W: ByteOut>(
     answer_held(alloc, responder, line, writer)
 }
 
+// Hands on what the writer holds back.
+fn flush<W: ByteOut>(writer: &mut W) -> Result<(), Fault>
+    ensures bytes { Keeps (W.taken writer.old) (W.taken writer.new) }
+    ensures ok { OnOk result (W.pending writer.new ≡ []) }
+    ensures worked { OnOk result (W.has_failed writer.new ≡ W.has_failed writer.old) }
+    ensures fault { IfErr result (λ e. e ≡ Write) }
+    ensures failed { OnErr result (W.has_failed writer.new ≡ true) }
+{
+    writer.flush().map_err(|_| Fault::Write)
+}
+
 /// Answers each line of the input, with at most so many reads. The memory for a line is taken before the first of
-/// them. After a fault the lines that ended were answered; `Write` cuts the last of these answers.
+/// them. What the writer holds back is handed on before each read and at the end. After a fault the lines that ended
+/// were answered; `Write` cuts the last of these answers, or leaves some of them held back.
 pub fn answer_lines<A: Responder, R: ByteIn, W: ByteOut>(
     alloc: Global,
     responder: &mut A,
@@ -153,6 +165,9 @@ pub fn answer_lines<A: Responder, R: ByteIn, W: ByteOut>(
     ensures memory { IsErrOf result Memory → (responder.new ≡ responder.old)
         × (reader.new ≡ reader.old) × (writer.new ≡ writer.old) }
 
+    // Nothing is held back.
+    ensures flushed { result ≢ Err Write → result ≢ Err Memory → W.pending writer.new ≡ [] }
+
     // A failed call is always told.
     ensures reader_worked { OnOk result (R.has_failed reader.new ≡ R.has_failed reader.old) }
     ensures writer_worked { result ≢ Err Write
@@ -164,14 +179,17 @@ pub fn answer_lines<A: Responder, R: ByteIn, W: ByteOut>(
     };
     let mut chunk = [0u8; CHUNK];
     'reads: for _ in 0..reads {
+        flush(writer)?;
         let count = match reader.pull(&mut chunk) {
             Ok(count) => count,
             Err(_) => return Err(Fault::Read),
         };
         if count == 0 {
-            return finish(alloc, responder, &line, writer);
+            finish(alloc, responder, &line, writer)?;
+            return flush(writer);
         }
         feed(alloc, responder, &mut line, &chunk[..count], writer)?;
     }
+    flush(writer)?;
     Err(Fault::Read)
 }

@@ -1,6 +1,6 @@
 //! The run of a script over a bridge: each line is read, taken as a step, and answered.
 //! It relies on the loop over lines, on the reading of a line, on the bridge's step and on the text of a reply.
-ghost use Rattle.std.specs.Prelude.{◌≡◌, ◌≢◌, ◌^◌, ℕ, List, true, IfErr, OnOk, OnErr, IsErrOf, Err};
+ghost use Rattle.std.specs.Prelude.{◌≡◌, ◌≢◌, ◌^◌, ℕ, List, [], true, IfErr, OnOk, OnErr, IsErrOf, Err};
 ghost use Rattle.std.specs.Io.KnownBytes.{Appends};
 ghost use Rattle.tsn_bytes.specs.Bytes.{IsCut};
 ghost use Rattle.tsn_bytes.specs.declared.bytes.Fault.TheVariants.{Read, Write, Memory};
@@ -78,6 +78,9 @@ pub fn run_script_up_to<R: ByteIn, W: ByteOut>(
     ensures memory { IsErrOf result Memory → (bridge.new ≡ bridge.old)
         × (reader.new ≡ reader.old) × (writer.new ≡ writer.old) }
 
+    // Nothing is held back.
+    ensures flushed { result ≢ Err Write → result ≢ Err Memory → W.pending writer.new ≡ [] }
+
     // A failed call is always told.
     ensures reader_worked { OnOk result (R.has_failed reader.new ≡ R.has_failed reader.old) }
     ensures writer_worked { result ≢ Err Write
@@ -105,6 +108,9 @@ pub fn run_script<R: ByteIn, W: ByteOut>(
         (W.taken writer.old) (W.taken writer.new) }
     ensures memory { IsErrOf result Memory → (bridge.new ≡ bridge.old)
         × (reader.new ≡ reader.old) × (writer.new ≡ writer.old) }
+
+    // Nothing is held back.
+    ensures flushed { result ≢ Err Write → result ≢ Err Memory → W.pending writer.new ≡ [] }
 
     // A failed call is always told.
     ensures reader_worked { OnOk result (R.has_failed reader.new ≡ R.has_failed reader.old) }

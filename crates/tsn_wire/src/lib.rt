@@ -19,4 +19,6 @@ mod unread;
 
 pub use reading::{Line, command_of};
 pub use reply::{write_refusal, write_reply};
-pub use tsn_bytes::{ByteIn, ByteOut, Failed, Failing, Fault, MemIn, MemOut, StdIo, put_all};
+pub use tsn_bytes::{
+    Buffered, ByteIn, ByteOut, Failed, Failing, Fault, MemIn, MemOut, StdIo, put_all,
+};

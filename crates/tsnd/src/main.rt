@@ -19,7 +19,7 @@ use crate::script::answer_script;
 use std::process::ExitCode;
 use std::rt::Env;
 use std::{env, io};
-use tsn_wire::StdIo;
+use tsn_wire::{Buffered, StdIo};
 
 /// The words of the command line, the program's name first.
 fn words_of<R: Env + AllocGlobal>(rt: &R) -> io::Result<Vec<String>> {
@@ -41,7 +41,10 @@ fn run<R: Env + Input + Print + Eprint + AllocGlobal>(rt: &R) -> Result<u8, Fail
     match read_words(rt.alloc(), words.as_slice())? {
         Asked::Script => {
             let mut reader = StdIo::new(rt.reader());
-            let mut writer = StdIo::new(io::writer(rt));
+            let writer = StdIo::new(io::writer(rt));
+            let Ok(mut writer) = Buffered::new(rt.alloc(), writer) else {
+                return Err(Failure::Memory);
+            };
             answer_script(rt.alloc(), &mut reader, &mut writer)?;
             Ok(0)
         }

@@ -1,5 +1,5 @@
 //! A script of command lines over a bridge of its own.
-ghost use Rattle.std.specs.Prelude.{◌≡◌, ◌≢◌, ◌^◌, true, IfOk, IfErr, OnOk, IsErrOf, Err};
+ghost use Rattle.std.specs.Prelude.{◌≡◌, ◌≢◌, ◌^◌, [], true, IfOk, IfErr, OnOk, IsErrOf, Err};
 ghost use Rattle.tsn_bridge.specs.Beginning.{standard};
 ghost use Rattle.tsn_bridge.specs.State.{State};
 ghost use Rattle.tsn_serve.specs.Answers.{Answers};
@@ -40,6 +40,10 @@ pub fn answer_script<R: ByteIn, W: ByteOut>(
         (W.taken writer.old) (W.taken writer.new) }
     ensures memory { IsErrOf result Memory → (reader.new ≡ reader.old) × (writer.new ≡ writer.old) }
     ensures fault { IfErr result IsFault }
+
+    // Nothing is held back.
+    ensures flushed { OnOk result (W.pending writer.new ≡ [])
+        × (IsErrOf result Read → W.pending writer.new ≡ []) }
 
     // A failed call is always told.
     ensures reader_worked { OnOk result (R.has_failed reader.new ≡ R.has_failed reader.old) }
