@@ -8,7 +8,7 @@ use Rattle.tsn_wire.specs.Keys.{is_decimal, decimal_of}
 use Rattle.std.specs.Result.{result_ok}
 use borrow.Author.Tests.{ltb-true, leb-true}
 
-and_parts : (a b : Bool) → a && b ≡ true → (a ≡ true) × (b ≡ true)
+pub and_parts : (a b : Bool) → a && b ≡ true → (a ≡ true) × (b ≡ true)
 and_parts true true e = (refl, refl)
 and_parts true false e = cc
 and_parts false b e = cc

@@ -44,14 +44,14 @@ use Rattle.std.proofs.lemmas.Bool.{le-leb, lt-ltb, ne_eqb}
 pub then : {A B : Type 0} (x : Result A Unread) (f : A → Result B Unread) (d : A) (y : Result B Unread) → x ≡ Ok d → f d ≡ y → (x >>= f) ≡ y
 then x f d y first next = ap (λ r. r >>= f) first ∙ next
 
-within_ok : (field : Field) (least most n : ℕ) → Within least most n → within field least most n ≡ Ok n
+pub within_ok : (field : Field) (least most n : ℕ) → Within least most n → within field least most n ≡ Ok n
 within_ok field least most n fits = rw (le-leb least n fits.0, le-leb n most fits.1) refl
 
 within_or_none_ok : (field : Field) (least most : ℕ) (o : Option ℕ) → IfSome o (Within least most) → within_or_none field least most o ≡ Ok o
 within_or_none_ok field least most None fits = refl
 within_or_none_ok field least most (Some n) fits = rw (within_ok field least most n fits) refl
 
-whole_or_null_back : (o : Option ℕ) → whole_or_null (or_null o) ≡ Some o
+pub whole_or_null_back : (o : Option ℕ) → whole_or_null (or_null o) ≡ Some o
 whole_or_null_back None = refl
 whole_or_null_back (Some n) = refl
 
@@ -154,7 +154,7 @@ is_decimal_back (suc m) small =
     let ten : suc m < 10 ^ 10 = omega arith in
     all_hold _ _ _ _ (digits_decimal own (suc m) fits) (lt-ltb _ _ (decimal_nonempty (suc m) fits)) (le-leb _ _ (length-decimal-le 10 (suc m) (omega arith) ten fits)) (no_zero_first (suc m) (omega arith) fits)
 
-decimal_back : (n : ℕ) → n ≤ 65535 → decimal_of (decimal n) ≡ Some n
+pub decimal_back : (n : ℕ) → n ≤ 65535 → decimal_of (decimal n) ≡ Some n
 decimal_back n small =
     let fits : n < 2 ^ 64 = omega arith in
     ap (λ b. cond b (Some (digits_value 10 (decimal n))) None) (is_decimal_back n small) ∙ ap Some (digits_value-decimal own n fits)
@@ -176,7 +176,7 @@ unfolding line_shape command_shape create_shape
 meter_line_shaped s n r small = rw (decimal_back n small, meter_shaped r) refl
 
 -- the shape, and then the ranges
-in_steps : (line : List ℕ) (d : Data) (draft : LineDraft) (found : Line) → data_of line ≡ Some d → line_shape d ≡ Ok draft → line_of_draft draft ≡ Ok found → line_of line ≡ Ok found
+pub in_steps : (line : List ℕ) (d : Data) (draft : LineDraft) (found : Line) → data_of line ≡ Some d → line_shape d ≡ Ok draft → line_of_draft draft ≡ Ok found → line_of line ≡ Ok found
 in_steps line d draft found read shape ranges = ap refused (then (or_syntax (data_of line)) _ d _ (ap or_syntax read) (then (line_shape d) _ draft _ shape ranges))
 
 pub reads_back : ReadsBack

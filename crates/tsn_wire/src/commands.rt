@@ -8,8 +8,8 @@ ghost use Rattle.tsn_wire.specs.Json.{text_at, value_at};
 ghost use Rattle.tsn_wire.specs.Commands.{key_at, removable, create_shape, replace_shape, remove_shape, undo_shape, show_shape, list_shape, command_shape, line_shape};
 
 use crate::drafts::{CommandDraft, KeyDraft, LineDraft};
-use crate::json::{has_members, number_at, text_at, value_at};
 use crate::keys::{key_of, kind_of};
+use crate::members::{has_members, number_at, text_at, value_at};
 use crate::records::record_shape;
 use crate::unread::Unread;
 use serde_json::Value;

@@ -5,15 +5,17 @@
 #![tactic(auto)]
 
 mod commands;
+mod cursor;
 mod drafts;
-mod json;
 mod keys;
 pub mod laws;
+mod members;
 mod ranges;
 mod reading;
 mod records;
 mod reply;
 mod shown;
+mod spelled;
 mod text;
 mod unread;
 

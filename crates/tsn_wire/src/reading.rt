@@ -12,6 +12,7 @@ ghost use Rattle.tsn_wire.specs.Reading.{data_of, or_syntax, line_of_draft, read
 use crate::commands::line_shape;
 use crate::drafts::LineDraft;
 use crate::ranges::command_of_draft;
+use crate::spelled::spelled_draft;
 use crate::unread::Unread;
 use serde_json::Value;
 use std::alloc::Global;
@@ -67,6 +68,9 @@ fn line_of_draft(alloc: Global, draft: &LineDraft) -> Result<Line, Unread>
 fn reading(alloc: Global, line: &[u8]) -> Result<Line, Unread>
     ensures { Reads result (reading line.now) }
 {
+    if let Some(draft) = spelled_draft(alloc, line) {
+        return line_of_draft(alloc, &draft);
+    }
     let value = value_of(alloc, line)?;
     let draft = line_shape(alloc, &value)?;
     line_of_draft(alloc, &draft)

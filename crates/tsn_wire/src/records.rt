@@ -14,7 +14,7 @@ use crate::drafts::{
     FilterDraft, GateDraft, GateEntryDraft, MeterDraft, PortDraft, PortEntryDraft, RecordDraft,
     ScheduleDraft,
 };
-use crate::json::{
+use crate::members::{
     flag_at, flag_item, has_items, has_members, number_at, number_item, number_or_null_at,
     number_or_null_item,
 };

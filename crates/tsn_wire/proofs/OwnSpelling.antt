@@ -1,0 +1,346 @@
+-- A line in the service's own spelling is read as the draft that it spells.
+use Rattle.std.proofs.Common.{◌≡◌, ℕ, ◌^◌, ◌<◌, ◌≤◌, ◌++◌, List, [], ◌∷◌, map, Bool, true, Result, Option, Some, None, option_and_then, option_map, Ok, codes, decimal, IfSome, refl, sym, ap, ◌∙◌, arith, append_assoc, append-nil}
+use Rattle.std.specs.Prelude.{IsUtf8}
+use Rattle.std.specs.Char.{is_ascii_digit}
+use Rattle.std.specs.List.{list_all, AllByRecursion}
+use Rattle.std.proofs.lemmas.Bool.{leb-true}
+use Rattle.std.proofs.lemmas.Fmt.{digits_decimal}
+use Rattle.json.specs.Lex.{tokens}
+use Rattle.json.specs.Token.{Token}
+use Rattle.json.specs.Json as json
+use Rattle.json.specs.Print.{print, escape, escape_byte}
+use Rattle.json.specs.Tree.{json_tokens, HasNumbers, ItemsHaveNumbers, depth, items_depth}
+use Rattle.json.proofs.Printed.Decimals.{IsNumber-decimal}
+use Rattle.json.proofs.Printed.Strings.{escape_byte_plain}
+use Rattle.json.proofs.Printed.Tokens.{tokens-print}
+use Rattle.json.proofs.Printed.Trees.{value-json_tokens, ArePrintable-json_tokens}
+use Rattle.serde_json.specs.Data.{Data, Items, no_items, item, boolean, string, object, member, no_members}
+use Rattle.serde_json.specs.Read.{of_json, of_items, read, max_depth}
+use Rattle.serde_json.specs.View.{items_of}
+use Rattle.serde_json.specs.Written.{compact_text, outline, items_outline}
+use Rattle.serde_json.proofs.Numbers.{number_of-decimal}
+use Rattle.serde_json.proofs.Texts.{print-outline}
+use Rattle.tsn_types.specs.declared.keys.Kind.{Kind}
+use Rattle.tsn_types.specs.declared.keys.Kind.TheVariants as kinds
+use Rattle.tsn_wire.specs.Answers.{each}
+use Rattle.tsn_wire.specs.Json.{items_list, whole_or_null}
+use Rattle.tsn_wire.specs.Commands.{line_shape, command_shape, create_shape, replace_shape, remove_shape, undo_shape, show_shape, list_shape}
+use Rattle.tsn_wire.specs.Records.{port_entry_shape, gate_entry_shape, list_shape as entries_shape, schedule_shape, port_shape, gate_shape, filter_shape, meter_shape, record_shape}
+use Rattle.tsn_wire.specs.Reading.{data_of, or_syntax, line_of_draft, reading}
+use Rattle.tsn_wire.specs.Shown.{whole_data, or_null}
+use Rattle.tsn_wire.specs.Spelled.{IsSmall, kind_text, spelled_key, IsKey, IsNoPort, port_entry_value, gate_entry_value, list_value, port_value, filter_value, gate_value, meter_value, record_value, PortEntryIsSmall, GateEntryIsSmall, PortIsSmall, GateIsSmall, FilterIsSmall, MeterIsSmall, RecordIsSmall, Spells}
+use Rattle.tsn_wire.specs.declared.drafts.KeyDraft.{KeyDraft}
+use Rattle.tsn_wire.specs.declared.drafts.PortEntryDraft.{PortEntryDraft}
+use Rattle.tsn_wire.specs.declared.drafts.GateEntryDraft.{GateEntryDraft}
+use Rattle.tsn_wire.specs.declared.drafts.PortDraft.{PortDraft}
+use Rattle.tsn_wire.specs.declared.drafts.GateDraft.{GateDraft}
+use Rattle.tsn_wire.specs.declared.drafts.FilterDraft.{FilterDraft}
+use Rattle.tsn_wire.specs.declared.drafts.MeterDraft.{MeterDraft}
+use Rattle.tsn_wire.specs.declared.drafts.RecordDraft.{RecordDraft}
+use Rattle.tsn_wire.specs.declared.drafts.RecordDraft.TheVariants as records
+use Rattle.tsn_wire.specs.declared.drafts.CommandDraft.{CommandDraft}
+use Rattle.tsn_wire.specs.declared.drafts.CommandDraft.TheVariants.{Create, Replace, Remove, Undo, Show, List as ListKind}
+use Rattle.tsn_wire.specs.declared.drafts.LineDraft.{LineDraft}
+use Rattle.tsn_wire.specs.declared.drafts.LineDraft.TheVariants.{Session}
+use Rattle.tsn_wire.specs.declared.unread.Unread.{Unread}
+use Rattle.tsn_wire.proofs.Answering.{data_of_read}
+use Rattle.tsn_wire.proofs.Digits.{own, and_parts}
+use Rattle.tsn_wire.proofs.ReadingBack.{then, decimal_back, whole_or_null_back}
+
+-- ---- what is printed is read
+
+abbrev whole : Option (json.Json × List Token) → Option Data
+whole o = option_and_then of_json (option_and_then (λ p. json.if_last p.0 p.1) o)
+
+-- a value whose numbers are small whole ones, and that nests no deeper than n
+record IsPlain (n : ℕ) (d : Data) : Type 0 where
+  same : of_json (outline d) ≡ Some d
+  numbers : HasNumbers (outline d)
+  shallow : depth (outline d) ≤ n
+
+-- the compact text of such a value is read as the value
+printed_reads : (line : List ℕ) (d : Data) → IsPlain 127 d → line ≡ compact_text d → IsUtf8 line → data_of line ≡ Some d
+printed_reads line d plain is utf8 =
+    let j = outline d in
+    let text : line ≡ print (json_tokens j) = is ∙ sym (print-outline d) in
+    let found : read line ≡ Some d =
+    ap whole (ap (json.value max_depth) (ap tokens text ∙ tokens-print (json_tokens j) (ArePrintable-json_tokens j plain.numbers) ∙ sym (append-nil (json_tokens j))) ∙ value-json_tokens j max_depth [] plain.shallow) ∙ plain.same in
+    data_of_read line d utf8 found
+
+or_null_same : (o : Option ℕ) → IfSome o IsSmall → of_json (outline (or_null o)) ≡ Some (or_null o)
+or_null_same None small = refl
+or_null_same (Some n) small = rw (number_of-decimal n small) refl
+
+or_null_numbers : (o : Option ℕ) → IfSome o IsSmall → HasNumbers (outline (or_null o))
+or_null_numbers None small = tt
+or_null_numbers (Some n) small = IsNumber-decimal n small
+
+or_null_flat : (o : Option ℕ) → depth (outline (or_null o)) ≡ 0
+or_null_flat None = refl
+or_null_flat (Some n) = refl
+
+-- ---- lists of entries
+
+items_same : {E : Type 0} (P : E → Type 0) (f : E → Data) → ((e : E) → P e → of_json (outline (f e)) ≡ Some (f e)) → (es : List E) → AllByRecursion P es → of_items (items_outline (items_of (map f es))) ≡ Some (items_of (map f es))
+items_same P f one [] all = refl
+items_same P f one (e ∷ es) all = rw (one e all.0, items_same P f one es all.1) refl
+
+items_numbers : {E : Type 0} (P : E → Type 0) (f : E → Data) → ((e : E) → P e → HasNumbers (outline (f e))) → (es : List E) → AllByRecursion P es → ItemsHaveNumbers (items_outline (items_of (map f es)))
+items_numbers P f one [] all = tt
+items_numbers P f one (e ∷ es) all = (one e all.0, items_numbers P f one es all.1)
+
+items_shallow : {E : Type 0} (f : E → Data) → ((e : E) → depth (outline (f e)) ≤ 1) → (es : List E) → items_depth (items_outline (items_of (map f es))) ≤ 1
+items_shallow f low [] = omega arith
+items_shallow f low (e ∷ es) = let here = low e in let rest = items_shallow f low es in omega arith
+
+shaped_items : {E : Type 0} (shape : Data → Result E Unread) (f : E → Data) → ((e : E) → shape (f e) ≡ Ok e) → (es : List E) → each shape (items_list (items_of (map f es))) ≡ Ok es
+shaped_items shape f one [] = refl
+shaped_items shape f one (e ∷ es) = rw (one e, shaped_items shape f one es) refl
+
+port_entry_same : (e : PortEntryDraft) → PortEntryIsSmall e → of_json (outline (port_entry_value e)) ≡ Some (port_entry_value e)
+port_entry_same e small = rw (number_of-decimal e.gates small.gates, number_of-decimal e.interval small.interval) refl
+
+gate_entry_same : (e : GateEntryDraft) → GateEntryIsSmall e → of_json (outline (gate_entry_value e)) ≡ Some (gate_entry_value e)
+gate_entry_same e small = rw (or_null_same e.ipv small.ipv, number_of-decimal e.interval small.interval, or_null_same e.octets small.octets) refl
+
+port_entry_shaped : (e : PortEntryDraft) → port_entry_shape (port_entry_value e) ≡ Ok e
+unfolding port_entry_shape
+port_entry_shaped e = refl
+
+gate_entry_shaped : (e : GateEntryDraft) → gate_entry_shape (gate_entry_value e) ≡ Ok e
+unfolding gate_entry_shape
+gate_entry_shaped e = simp whole_or_null_back
+
+-- ---- records
+
+port_plain : (r : PortDraft) → PortIsSmall r → IsPlain 3 (port_value r)
+port_plain r small = record {
+  same = rw (number_of-decimal r.admin.base small.base, number_of-decimal r.admin.cycle small.cycle, number_of-decimal r.admin.extension small.extension, number_of-decimal r.gates small.gates, items_same PortEntryIsSmall port_entry_value port_entry_same r.admin.list small.list) refl;
+  numbers = (IsNumber-decimal _ small.base, (IsNumber-decimal _ small.cycle, (IsNumber-decimal _ small.extension, (IsNumber-decimal _ small.gates, (items_numbers PortEntryIsSmall port_entry_value (λ e s. (IsNumber-decimal _ s.gates, (IsNumber-decimal _ s.interval, tt))) r.admin.list small.list, tt)))));
+  shallow = let list = items_shallow port_entry_value (λ e. omega arith) r.admin.list in omega arith;
+}
+
+filter_plain : (r : FilterDraft) → FilterIsSmall r → IsPlain 3 (filter_value r)
+filter_plain r small = record {
+  same = rw (number_of-decimal r.gate small.gate, or_null_same r.handle small.handle, or_null_same r.max_sdu small.max_sdu, or_null_same r.meter small.meter, or_null_same r.priority small.priority) refl;
+  numbers = (IsNumber-decimal _ small.gate, (or_null_numbers _ small.handle, (or_null_numbers _ small.max_sdu, (or_null_numbers _ small.meter, (tt, (or_null_numbers _ small.priority, tt))))));
+  shallow = omega (arith, or_null_flat r.handle, or_null_flat r.max_sdu, or_null_flat r.meter, or_null_flat r.priority);
+}
+
+gate_plain : (r : GateDraft) → GateIsSmall r → IsPlain 3 (gate_value r)
+gate_plain r small = record {
+  same = rw (number_of-decimal r.admin.base small.base, number_of-decimal r.admin.cycle small.cycle, number_of-decimal r.admin.extension small.extension, or_null_same r.ipv small.ipv, items_same GateEntryIsSmall gate_entry_value gate_entry_same r.admin.list small.list) refl;
+  numbers = (IsNumber-decimal _ small.base, (IsNumber-decimal _ small.cycle, (IsNumber-decimal _ small.extension, (tt, (or_null_numbers _ small.ipv, (items_numbers GateEntryIsSmall gate_entry_value (λ e s. (tt, (or_null_numbers _ s.ipv, (IsNumber-decimal _ s.interval, (or_null_numbers _ s.octets, tt))))) r.admin.list small.list, (tt, (tt, tt))))))));
+  shallow = let list = items_shallow gate_entry_value (λ e. omega (arith, or_null_flat e.ipv, or_null_flat e.octets)) r.admin.list in omega (arith, or_null_flat r.ipv);
+}
+
+meter_plain : (r : MeterDraft) → MeterIsSmall r → IsPlain 3 (meter_value r)
+meter_plain r small = record {
+  same = rw (number_of-decimal r.cbs small.cbs, number_of-decimal r.cir small.cir, number_of-decimal r.ebs small.ebs, number_of-decimal r.eir small.eir) refl;
+  numbers = (tt, (tt, (IsNumber-decimal _ small.cbs, (tt, (IsNumber-decimal _ small.cir, (tt, (IsNumber-decimal _ small.ebs, (IsNumber-decimal _ small.eir, tt))))))));
+  shallow = omega arith;
+}
+
+record_plain : (k : Kind) (r : RecordDraft) → RecordIsSmall k r → IsPlain 3 (record_value r)
+record_plain kinds.Port (records.Port r) small = port_plain r small
+record_plain kinds.Port (records.Filter r) small = absurd small
+record_plain kinds.Port (records.Gate r) small = absurd small
+record_plain kinds.Port (records.Meter r) small = absurd small
+record_plain kinds.Filter (records.Port r) small = absurd small
+record_plain kinds.Filter (records.Filter r) small = filter_plain r small
+record_plain kinds.Filter (records.Gate r) small = absurd small
+record_plain kinds.Filter (records.Meter r) small = absurd small
+record_plain kinds.Gate (records.Port r) small = absurd small
+record_plain kinds.Gate (records.Filter r) small = absurd small
+record_plain kinds.Gate (records.Gate r) small = gate_plain r small
+record_plain kinds.Gate (records.Meter r) small = absurd small
+record_plain kinds.Meter (records.Port r) small = absurd small
+record_plain kinds.Meter (records.Filter r) small = absurd small
+record_plain kinds.Meter (records.Gate r) small = absurd small
+record_plain kinds.Meter (records.Meter r) small = meter_plain r small
+
+record_shaped : (k : Kind) (r : RecordDraft) → RecordIsSmall k r → record_shape k (record_value r) ≡ Ok r
+unfolding port_shape schedule_shape entries_shape filter_shape gate_shape meter_shape
+record_shaped kinds.Port (records.Port r) small = rw (shaped_items port_entry_shape port_entry_value port_entry_shaped r.admin.list) refl
+record_shaped kinds.Port (records.Filter r) small = absurd small
+record_shaped kinds.Port (records.Gate r) small = absurd small
+record_shaped kinds.Port (records.Meter r) small = absurd small
+record_shaped kinds.Filter (records.Port r) small = absurd small
+record_shaped kinds.Filter (records.Filter r) small = simp whole_or_null_back
+record_shaped kinds.Filter (records.Gate r) small = absurd small
+record_shaped kinds.Filter (records.Meter r) small = absurd small
+record_shaped kinds.Gate (records.Port r) small = absurd small
+record_shaped kinds.Gate (records.Filter r) small = absurd small
+record_shaped kinds.Gate (records.Gate r) small = rw (whole_or_null_back r.ipv, shaped_items gate_entry_shape gate_entry_value gate_entry_shaped r.admin.list) refl
+record_shaped kinds.Gate (records.Meter r) small = absurd small
+record_shaped kinds.Meter (records.Port r) small = absurd small
+record_shaped kinds.Meter (records.Filter r) small = absurd small
+record_shaped kinds.Meter (records.Gate r) small = absurd small
+record_shaped kinds.Meter (records.Meter r) small = refl
+
+-- ---- keys
+
+-- digits need no escape
+escape_digits : (ds : List ℕ) → list_all is_ascii_digit ds ≡ true → escape ds ≡ ds
+escape_digits [] h = refl
+escape_digits (d ∷ ds) h =
+    let digit = and_parts _ _ h in
+    let bounds = and_parts _ _ digit.0 in
+    let low : 48 ≤ d = leb-true _ _ bounds.0 in
+    let high : d ≤ 57 = leb-true _ _ bounds.1 in
+    ap (λ l. l ++ escape ds) (escape_byte_plain d (λ e. omega arith) (λ e. omega arith) (omega arith)) ∙ ap (λ l. d ∷ l) (escape_digits ds digit.1)
+
+escape_decimal : (n : ℕ) → n ≤ 65535 → escape (decimal n) ≡ decimal n
+escape_decimal n small = escape_digits (decimal n) (digits_decimal own n (omega arith))
+
+escape_key : (k : Kind) (n : ℕ) → n ≤ 65535 → escape (spelled_key k n) ≡ spelled_key k n
+unfolding escape_byte
+escape_key kinds.Port n small = ap (λ l. codes "port " ++ l) (escape_decimal n small)
+escape_key kinds.Filter n small = ap (λ l. codes "filter " ++ l) (escape_decimal n small)
+escape_key kinds.Gate n small = ap (λ l. codes "gate " ++ l) (escape_decimal n small)
+escape_key kinds.Meter n small = ap (λ l. codes "meter " ++ l) (escape_decimal n small)
+
+-- ---- commands
+
+reading_of : (line : List ℕ) (d : Data) (draft : LineDraft) → data_of line ≡ Some d → line_shape d ≡ Ok draft → reading line ≡ line_of_draft draft
+reading_of line d draft found shaped = then (or_syntax (data_of line)) _ d _ (ap or_syntax found) (then (line_shape d) _ draft _ shaped refl)
+
+-- what comes behind the command
+abbrev tail : ℕ → List ℕ
+tail s = codes ",\"s\":" ++ (decimal s ++ codes "}")
+
+abbrev recorded : List ℕ → ℕ → Kind → ℕ → RecordDraft → Data
+recorded word s k n v = object (member (codes "do") (string word) (member (codes "key") (string (spelled_key k n)) (member (codes "record") (record_value v) (member (codes "s") (whole_data s) no_members))))
+
+recorded_plain : (word : List ℕ) (s : ℕ) (k : Kind) (n : ℕ) (v : RecordDraft) → IsSmall s → IsPlain 3 (record_value v) → IsPlain 127 (recorded word s k n v)
+recorded_plain word s k n v small p = record {
+  same = rw (p.same, number_of-decimal s small) refl;
+  numbers = (tt, (tt, (p.numbers, (IsNumber-decimal s small, tt))));
+  shallow = omega (arith, p.shallow);
+}
+
+create_text : (s : ℕ) (k : Kind) (n : ℕ) (v : RecordDraft) → n ≤ 65535 → codes "{\"do\":\"create\",\"key\":\"" ++ (spelled_key k n ++ (codes "\",\"record\":" ++ (compact_text (record_value v) ++ tail s))) ≡ compact_text (recorded (codes "create") s k n v)
+unfolding escape_byte
+create_text s k n v small =
+    sym (ap (λ l. codes "{\"do\":\"create\",\"key\":\"" ++ ((l ++ codes "\"") ++ (codes ",\"record\":" ++ (compact_text (record_value v) ++ tail s)))) (escape_key k n small)
+    ∙ ap (λ l. codes "{\"do\":\"create\",\"key\":\"" ++ l) (append_assoc (spelled_key k n) (codes "\"") (codes ",\"record\":" ++ (compact_text (record_value v) ++ tail s))))
+
+replace_text : (s : ℕ) (k : Kind) (n : ℕ) (v : RecordDraft) → n ≤ 65535 → codes "{\"do\":\"replace\",\"key\":\"" ++ (spelled_key k n ++ (codes "\",\"record\":" ++ (compact_text (record_value v) ++ tail s))) ≡ compact_text (recorded (codes "replace") s k n v)
+unfolding escape_byte
+replace_text s k n v small =
+    sym (ap (λ l. codes "{\"do\":\"replace\",\"key\":\"" ++ ((l ++ codes "\"") ++ (codes ",\"record\":" ++ (compact_text (record_value v) ++ tail s)))) (escape_key k n small)
+    ∙ ap (λ l. codes "{\"do\":\"replace\",\"key\":\"" ++ l) (append_assoc (spelled_key k n) (codes "\"") (codes ",\"record\":" ++ (compact_text (record_value v) ++ tail s))))
+
+create_shaped : (s : ℕ) (k : Kind) (n : ℕ) (v : RecordDraft) → n ≤ 65535 → record_shape k (record_value v) ≡ Ok v → line_shape (recorded (codes "create") s k n v) ≡ Ok (Session s (Create (record { kind = k; number = n }) v))
+unfolding line_shape command_shape create_shape
+create_shaped s kinds.Port n v small e = rw (decimal_back n small, e) refl
+create_shaped s kinds.Filter n v small e = rw (decimal_back n small, e) refl
+create_shaped s kinds.Gate n v small e = rw (decimal_back n small, e) refl
+create_shaped s kinds.Meter n v small e = rw (decimal_back n small, e) refl
+
+replace_shaped : (s : ℕ) (k : Kind) (n : ℕ) (v : RecordDraft) → n ≤ 65535 → record_shape k (record_value v) ≡ Ok v → line_shape (recorded (codes "replace") s k n v) ≡ Ok (Session s (Replace (record { kind = k; number = n }) v))
+unfolding line_shape command_shape replace_shape
+replace_shaped s kinds.Port n v small e = rw (decimal_back n small, e) refl
+replace_shaped s kinds.Filter n v small e = rw (decimal_back n small, e) refl
+replace_shaped s kinds.Gate n v small e = rw (decimal_back n small, e) refl
+replace_shaped s kinds.Meter n v small e = rw (decimal_back n small, e) refl
+
+abbrev keyed : List ℕ → ℕ → Kind → ℕ → Data
+keyed word s k n = object (member (codes "do") (string word) (member (codes "key") (string (spelled_key k n)) (member (codes "s") (whole_data s) no_members)))
+
+keyed_plain : (word : List ℕ) (s : ℕ) (k : Kind) (n : ℕ) → IsSmall s → IsPlain 127 (keyed word s k n)
+keyed_plain word s k n small = record {
+  same = rw (number_of-decimal s small) refl;
+  numbers = (tt, (tt, (IsNumber-decimal s small, tt)));
+  shallow = omega arith;
+}
+
+remove_text : (s : ℕ) (k : Kind) (n : ℕ) → n ≤ 65535 → codes "{\"do\":\"remove\",\"key\":\"" ++ (spelled_key k n ++ (codes "\"" ++ tail s)) ≡ compact_text (keyed (codes "remove") s k n)
+unfolding escape_byte
+remove_text s k n small =
+    sym (ap (λ l. codes "{\"do\":\"remove\",\"key\":\"" ++ ((l ++ codes "\"") ++ tail s)) (escape_key k n small)
+    ∙ ap (λ l. codes "{\"do\":\"remove\",\"key\":\"" ++ l) (append_assoc (spelled_key k n) (codes "\"") (tail s)))
+
+show_text : (s : ℕ) (k : Kind) (n : ℕ) → n ≤ 65535 → codes "{\"do\":\"show\",\"key\":\"" ++ (spelled_key k n ++ (codes "\"" ++ tail s)) ≡ compact_text (keyed (codes "show") s k n)
+unfolding escape_byte
+show_text s k n small =
+    sym (ap (λ l. codes "{\"do\":\"show\",\"key\":\"" ++ ((l ++ codes "\"") ++ tail s)) (escape_key k n small)
+    ∙ ap (λ l. codes "{\"do\":\"show\",\"key\":\"" ++ l) (append_assoc (spelled_key k n) (codes "\"") (tail s)))
+
+remove_shaped : (s : ℕ) (k : Kind) (n : ℕ) → n ≤ 65535 → IsNoPort k → line_shape (keyed (codes "remove") s k n) ≡ Ok (Session s (Remove (record { kind = k; number = n })))
+unfolding line_shape command_shape remove_shape
+remove_shaped s kinds.Port n small other = absurd other
+remove_shaped s kinds.Filter n small other = rw (decimal_back n small) refl
+remove_shaped s kinds.Gate n small other = rw (decimal_back n small) refl
+remove_shaped s kinds.Meter n small other = rw (decimal_back n small) refl
+
+show_shaped : (s : ℕ) (k : Kind) (n : ℕ) → n ≤ 65535 → line_shape (keyed (codes "show") s k n) ≡ Ok (Session s (Show (record { kind = k; number = n })))
+unfolding line_shape command_shape show_shape
+show_shaped s kinds.Port n small = rw (decimal_back n small) refl
+show_shaped s kinds.Filter n small = rw (decimal_back n small) refl
+show_shaped s kinds.Gate n small = rw (decimal_back n small) refl
+show_shaped s kinds.Meter n small = rw (decimal_back n small) refl
+
+abbrev listed : ℕ → Kind → Data
+listed s k = object (member (codes "do") (string (codes "list")) (member (codes "kind") (string (kind_text k)) (member (codes "s") (whole_data s) no_members)))
+
+listed_plain : (s : ℕ) (k : Kind) → IsSmall s → IsPlain 127 (listed s k)
+listed_plain s k small = record { same = rw (number_of-decimal s small) refl; numbers = (tt, (tt, (IsNumber-decimal s small, tt))); shallow = omega arith }
+
+listed_text : (s : ℕ) (k : Kind) → codes "{\"do\":\"list\",\"kind\":\"" ++ (kind_text k ++ (codes "\"" ++ tail s)) ≡ compact_text (listed s k)
+unfolding escape_byte
+listed_text s kinds.Port = refl
+listed_text s kinds.Filter = refl
+listed_text s kinds.Gate = refl
+listed_text s kinds.Meter = refl
+
+listed_shaped : (s : ℕ) (k : Kind) → line_shape (listed s k) ≡ Ok (Session s (ListKind k))
+unfolding line_shape command_shape list_shape
+listed_shaped s kinds.Port = refl
+listed_shaped s kinds.Filter = refl
+listed_shaped s kinds.Gate = refl
+listed_shaped s kinds.Meter = refl
+
+abbrev undone : ℕ → Data
+undone s = object (member (codes "do") (string (codes "undo")) (member (codes "s") (whole_data s) no_members))
+
+undone_plain : (s : ℕ) → IsSmall s → IsPlain 127 (undone s)
+undone_plain s small = record { same = rw (number_of-decimal s small) refl; numbers = (tt, (IsNumber-decimal s small, tt)); shallow = omega arith }
+
+undone_text : (s : ℕ) → codes "{\"do\":\"undo\"" ++ tail s ≡ compact_text (undone s)
+unfolding escape_byte
+undone_text s = refl
+
+undone_shaped : (s : ℕ) → line_shape (undone s) ≡ Ok (Session s Undo)
+unfolding line_shape command_shape undo_shape
+undone_shaped s = refl
+
+-- ---- the line of any of them
+
+pub spelled_says : (line text rest : List ℕ) (command : CommandDraft) (s : ℕ) → line ≡ codes "{\"do\":\"" ++ text → Spells text command rest → IsSmall s → rest ≡ tail s → IsUtf8 line → reading line ≡ line_of_draft (Session s command)
+spelled_says line text rest (Create key v) s first (behind, word, (k, v_small, is)) small last utf8 =
+    let whole_line = first ∙ ap (λ l. codes "{\"do\":\"" ++ l) (word ∙ ap (λ l. codes "create\",\"key\":\"" ++ l) (is ∙ ap (λ l. spelled_key key.kind key.number ++ (codes "\",\"record\":" ++ (compact_text (record_value v) ++ l))) last)) in
+    reading_of line (recorded (codes "create") s key.kind key.number v) (Session s (Create key v))
+    (printed_reads line _ (recorded_plain (codes "create") s key.kind key.number v small (record_plain key.kind v v_small)) (whole_line ∙ create_text s key.kind key.number v k) utf8)
+    (create_shaped s key.kind key.number v k (record_shaped key.kind v v_small))
+spelled_says line text rest (Replace key v) s first (behind, word, (k, v_small, is)) small last utf8 =
+    let whole_line = first ∙ ap (λ l. codes "{\"do\":\"" ++ l) (word ∙ ap (λ l. codes "replace\",\"key\":\"" ++ l) (is ∙ ap (λ l. spelled_key key.kind key.number ++ (codes "\",\"record\":" ++ (compact_text (record_value v) ++ l))) last)) in
+    reading_of line (recorded (codes "replace") s key.kind key.number v) (Session s (Replace key v))
+    (printed_reads line _ (recorded_plain (codes "replace") s key.kind key.number v small (record_plain key.kind v v_small)) (whole_line ∙ replace_text s key.kind key.number v k) utf8)
+    (replace_shaped s key.kind key.number v k (record_shaped key.kind v v_small))
+spelled_says line text rest (Remove key) s first (k, other, is) small last utf8 =
+    let whole_line = first ∙ ap (λ l. codes "{\"do\":\"" ++ l) (is ∙ ap (λ l. codes "remove\",\"key\":\"" ++ (spelled_key key.kind key.number ++ (codes "\"" ++ l))) last) in
+    reading_of line (keyed (codes "remove") s key.kind key.number) (Session s (Remove key))
+    (printed_reads line _ (keyed_plain (codes "remove") s key.kind key.number small) (whole_line ∙ remove_text s key.kind key.number k) utf8)
+    (remove_shaped s key.kind key.number k other)
+spelled_says line text rest Undo s first is small last utf8 =
+    let whole_line = first ∙ ap (λ l. codes "{\"do\":\"" ++ l) (is ∙ ap (λ l. codes "undo\"" ++ l) last) in
+    reading_of line (undone s) (Session s Undo) (printed_reads line _ (undone_plain s small) (whole_line ∙ undone_text s) utf8) (undone_shaped s)
+spelled_says line text rest (Show key) s first (k, is) small last utf8 =
+    let whole_line = first ∙ ap (λ l. codes "{\"do\":\"" ++ l) (is ∙ ap (λ l. codes "show\",\"key\":\"" ++ (spelled_key key.kind key.number ++ (codes "\"" ++ l))) last) in
+    reading_of line (keyed (codes "show") s key.kind key.number) (Session s (Show key))
+    (printed_reads line _ (keyed_plain (codes "show") s key.kind key.number small) (whole_line ∙ show_text s key.kind key.number k) utf8)
+    (show_shaped s key.kind key.number k)
+spelled_says line text rest (ListKind k) s first is small last utf8 =
+    let whole_line = first ∙ ap (λ l. codes "{\"do\":\"" ++ l) (is ∙ ap (λ l. codes "list\",\"kind\":\"" ++ (kind_text k ++ (codes "\"" ++ l))) last) in
+    reading_of line (listed s k) (Session s (ListKind k)) (printed_reads line _ (listed_plain s k small) (whole_line ∙ listed_text s k) utf8) (listed_shaped s k)
