@@ -1,13 +1,15 @@
 -- How a run over lines goes on, by a byte, a line feed, a piece or the end of the input.
-use Rattle.std.proofs.Common.{◌≡◌, ◌≢◌, inl, inr, ℕ, ◌<◌, ◌++◌, length, take, true, false, Result, Ok, Err, List, [], ◌∷◌, Option, Some, refl, sym, ap, ◌∙◌, subst, append_assoc, append-nil}
-use Rattle.tsn_serve.specs.Lines.{line_feed, HasNoLineFeed, ended, held, held_and}
+use Rattle.std.proofs.Common.{◌≡◌, ◌≢◌, inl, inr, ℕ, ◌+◌, ◌-◌, ◌<◌, ◌≤◌, ◌++◌, length, take, drop, true, false, Result, Ok, Err, List, [], ◌∷◌, Option, Some, refl, sym, ap, ◌∙◌, subst, append_assoc, append-nil}
+use Rattle.tsn_serve.specs.Lines.{line_feed, max_line, HasNoLineFeed, Splits, ended, held, held_and}
 use Rattle.tsn_serve.specs.Script.{Answering, AnswersHeld, AnswersLine, Run, AreFirst, CutScript}
+use Rattle.std.proofs.Math.Seq.{take-add}
+use Rattle.std.proofs.lemmas.List.{take_rest}
 use Rattle.tsn_serve.specs.Pieces.{Going, Feeds, Ends, Cuts, EndCuts}
 use Rattle.std.specs.Result.{OnErr, IfErr}
 use Rattle.tsn_bytes.specs.declared.bytes.Fault.{Fault}
 use Rattle.tsn_bytes.specs.declared.bytes.Fault.TheVariants.{Read, Write, Memory}
 use Rattle.std.specs.List.{flat_map}
-use Rattle.tsn_serve.proofs.Cutting.{all_more, held_and_is, splits_at_feed, splits_on, held_nil, last_of_kept}
+use Rattle.tsn_serve.proofs.Cutting.{all_more, held_and_is, held_short, splits_at_feed, splits_on, held_nil, last_of_kept}
 
 -- one line more at the end of a run
 pub run_more : {S : Type 0} (answers : Answering S) (old : S) (lines : List (List ℕ)) (text : List ℕ) (mid : S) (line reply : List ℕ) (new : S) → Run answers old lines text mid → AnswersLine answers mid line reply new → Run answers old (lines ++ line ∷ []) (text ++ reply) new
@@ -163,3 +165,58 @@ no_read r h e = let f : Read ≡ Write = rw e at h in cc
 -- a result whose one fault is Write is no want of memory
 pub no_memory : {T : Type 0} (r : Result T Fault) → IfErr r (λ e. e ≡ Write) → r ≡ Err Memory → ⊥
 no_memory r h e = let f : Memory ≡ Write = rw e at h in cc
+
+-- a line that lies whole in the input, where nothing was held, goes on the text before it
+on_whole : (input : List ℕ) (lines : List (List ℕ)) (rest bytes : List ℕ) → rest ≡ [] → HasNoLineFeed bytes → Splits input lines rest → Splits (input ++ bytes) lines bytes
+on_whole input lines rest bytes none one s = record {
+  whole = ap (λ l. l ++ bytes) (s.whole ∙ ap (λ r. flat_map ended lines ++ r) none ∙ append-nil (flat_map ended lines));
+  each = s.each;
+  last = one;
+}
+
+-- such a line is answered
+pub fed_whole : {S : Type 0} (answers : Answering S) (old : S) (bytes text : List ℕ) (new : S) → HasNoLineFeed bytes → length bytes ≤ max_line → answers old bytes text new → Feeds answers old (Some []) (bytes ++ line_feed ∷ []) text new (Some [])
+fed_whole answers old bytes text new one short a opening input before h =
+    let none = held_nil h.rest h.kept_is in
+    let splits = splits_at_feed (input ++ bytes) h.lines bytes (on_whole input h.lines h.rest bytes none one h.splits) in record {
+      lines = h.lines ++ bytes ∷ [];
+      rest = [];
+      splits = subst (λ l. Splits l (h.lines ++ bytes ∷ []) []) (append_assoc input bytes (line_feed ∷ [])) splits;
+      kept_is = refl;
+      run = run_more answers opening h.lines before old bytes text new h.run (subst (λ k. AnswersHeld answers old k text new) (sym (held_short bytes short)) a);
+    }
+
+-- and the writer fails in its answer
+pub cut_whole : {S : Type 0} (answers : Answering S) (old : S) (bytes text : List ℕ) (n : ℕ) (new : S) → HasNoLineFeed bytes → length bytes ≤ max_line → answers old bytes text new → n < length text → Cuts answers old (Some []) (bytes ++ line_feed ∷ []) (take n text) new
+cut_whole answers old bytes text n new one short a less opening input before h =
+    let none = held_nil h.rest h.kept_is in
+    let splits = splits_at_feed (input ++ bytes) h.lines bytes (on_whole input h.lines h.rest bytes none one h.splits) in record {
+      lines = h.lines;
+      line = bytes;
+      text = before;
+      mid = old;
+      reply = text;
+      taken = n;
+      first = inl ([], sym (append_assoc input bytes (line_feed ∷ [])) ∙ splits.whole);
+      each = all_more HasNoLineFeed h.lines bytes h.splits.each one;
+      run = h.run;
+      answer = subst (λ k. AnswersHeld answers old k text new) (sym (held_short bytes short)) a;
+      less = less;
+      written_is = refl;
+    }
+
+-- no byte
+pub fed_nothing : {S : Type 0} (answers : Answering S) (now : S) (kept : Option (List ℕ)) → Feeds answers now kept [] [] now kept
+fed_nothing answers now kept opening input before h =
+    subst (λ i. Going answers opening i kept (before ++ []) now) (sym (append-nil input)) (subst (λ t. Going answers opening input kept t now) (sym (append-nil before)) h)
+
+-- the same as fed_whole and cut_whole, where the code found nothing held
+pub fed_whole_line : {S : Type 0} (answers : Answering S) (old : S) (kept : Option (List ℕ)) (bytes text : List ℕ) (new : S) → kept ≡ Some [] → HasNoLineFeed bytes → length bytes ≤ max_line → answers old bytes text new → Feeds answers old kept (bytes ++ line_feed ∷ []) text new kept
+fed_whole_line answers old kept bytes text new fresh one short a = subst (λ k. Feeds answers old k (bytes ++ line_feed ∷ []) text new k) (sym fresh) (fed_whole answers old bytes text new one short a)
+
+pub cut_whole_line : {S : Type 0} (answers : Answering S) (old : S) (kept : Option (List ℕ)) (bytes text : List ℕ) (n : ℕ) (new : S) → kept ≡ Some [] → HasNoLineFeed bytes → length bytes ≤ max_line → answers old bytes text new → n < length text → Cuts answers old kept (bytes ++ line_feed ∷ []) (take n text) new
+cut_whole_line answers old kept bytes text n new fresh one short a less = subst (λ k. Cuts answers old k (bytes ++ line_feed ∷ []) (take n text) new) (sym fresh) (cut_whole answers old bytes text n new one short a less)
+
+-- where a line that lies whole in a piece ends
+pub line_at : (piece whole : List ℕ) (done : ℕ) → take (length whole + 1) (take (length piece - done) (drop done piece)) ≡ whole ++ line_feed ∷ [] → take done piece ++ (whole ++ line_feed ∷ []) ≡ take (done + (length whole + 1)) piece
+line_at piece whole done e = ap (λ l. take done piece ++ l) (sym e ∙ ap (take (length whole + 1)) (take_rest piece done)) ∙ sym (take-add done (length whole + 1) piece)

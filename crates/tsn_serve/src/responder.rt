@@ -1,14 +1,16 @@
 //! The loop that answers a script line by line, in whatever pieces its bytes come.
 //! It is generic in what answers a line, and relies on that one's contract, on the reader's and on the writer's.
-ghost use Rattle.std.specs.Prelude.{◌≡◌, ◌≢◌, ℕ, List, [], ◌∷◌, true, IfErr, OnOk, OnErr, IsErrOf, Err};
+ghost use Rattle.std.specs.Prelude.{◌≡◌, ◌≢◌, ◌<◌, ◌≤◌, ◌+◌, ◌++◌, ℕ, List, [], ◌∷◌, length, take, Some, IfSome, true, IfErr, OnOk, OnErr, IsErrOf, Err};
 ghost use Rattle.std.specs.Io.KnownBytes.{Appends, Keeps};
 ghost use Rattle.tsn_bytes.specs.Bytes.{IsCut};
 ghost use Rattle.tsn_bytes.specs.declared.bytes.Fault.TheVariants.{Read, Write, Memory};
+ghost use Rattle.tsn_serve.specs.Lines.{HasNoLineFeed};
 ghost use Rattle.tsn_serve.specs.Script.{AnswersHeld};
 ghost use Rattle.tsn_serve.specs.Pieces.{Feeds, Ends, Cuts, EndCuts};
 ghost use Rattle.tsn_serve.specs.Outcomes.{Completes, BreaksOff, IsCutOff};
 
-use crate::line_buffer::LineBuffer;
+use crate::line_buffer::{LineBuffer, MAX_LINE};
+use memchr::memchr;
 use std::alloc::Global;
 use tsn_types::refusals::Refusal;
 use tsn_wire::{ByteIn, ByteOut, Fault, write_refusal};
@@ -87,6 +89,24 @@ fn feed_byte<A: Responder, W: ByteOut>(
     Ok(())
 }
 
+// The line that lies whole in these bytes, up to their first line feed, where nothing is held of an earlier one.
+fn whole_line<'p>(line: &LineBuffer, bytes: &'p [u8]) -> Option<&'p [u8]>
+    ensures fresh { IfSome result (λ _. line.now ≡ Some []) }
+    ensures short { IfSome result (λ whole. length whole.now ≤ 65536) }
+    ensures one { IfSome result (λ whole. HasNoLineFeed whole.now) }
+    ensures bytes { IfSome result (λ whole. (length whole.now < length bytes.now)
+        × (take (length whole.now + 1) bytes.now ≡ whole.now ++ 10 ∷ [])) }
+{
+    if !line.is_empty() {
+        return None;
+    }
+    let end = memchr(b'\n', bytes)?;
+    if end > MAX_LINE {
+        return None;
+    }
+    Some(&bytes[..end])
+}
+
 fn feed<A: Responder, W: ByteOut>(
     alloc: Global,
     responder: &mut A,
@@ -104,8 +124,18 @@ fn feed<A: Responder, W: ByteOut>(
         × Cuts A.answers responder.old line.old piece.now written responder.new
         × Appends (W.taken writer.old) (W.taken writer.new) written) }
 {
-    'bytes: for byte in piece {
-        feed_byte(alloc, responder, line, *byte, writer)?;
+    let mut done = 0;
+    'bytes: while done < piece.len() {
+        match whole_line(line, &piece[done..]) {
+            Some(whole) => {
+                responder.answer(alloc, whole, writer)?;
+                done += whole.len() + 1;
+            }
+            None => {
+                feed_byte(alloc, responder, line, piece[done], writer)?;
+                done += 1;
+            }
+        }
     }
     Ok(())
 }
