@@ -8,7 +8,7 @@ use Rattle.tsn_bridge.specs.declared.reply.Reply.TheVariants as replies
 use Rattle.tsn_bridge.specs.Machine.{Step}
 use Rattle.tsn_wire.specs.declared.reading.Line.{Line}
 use Rattle.tsn_wire.specs.Reading.{line_of}
-use Rattle.tsn_wire.specs.Replies.{reply_text, refusal_text, TakesMemory}
+use Rattle.tsn_wire.specs.Replies.{reply_text}
 use Rattle.tsn_serve.specs.Script.{Answering}
 
 -- The reply to what a line reads as: that of a step of the bridge, or the refusal of reading, which changes nothing.
@@ -22,12 +22,6 @@ Says old line reply new =
     Replies old (line_of line) reply new
     ⊎ ((reply ≡ replies.Refused refusals.Memory) × (new ≡ old))
 
--- The text of a reply. Where a text that takes memory finds none, that of refusal 18 stands in its place.
-abbrev pub IsTextOf : Reply → List ℕ → Type 0
-IsTextOf reply text =
-    (text ≡ reply_text reply)
-    ⊎ (TakesMemory reply × (text ≡ refusal_text refusals.Memory))
-
 -- The text of a line is that of the reply to it.
 abbrev pub Answers : Answering State
-Answers old line text new = (reply : Reply) × Says old line reply new × IsTextOf reply text
+Answers old line text new = (reply : Reply) × Says old line reply new × (text ≡ reply_text reply)

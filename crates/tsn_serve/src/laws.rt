@@ -1,9 +1,5 @@
 //! Laws of the definitions, for a reader who wants to know that they say what they seem to.
 ghost use Rattle.std.specs.Prelude.{◌≡◌, ℕ, ◌≤◌, ◌<◌, List, [], ◌∷◌, ◌++◌, length, codes, Some, None};
-ghost use Rattle.tsn_bridge.specs.State.{State};
-ghost use Rattle.tsn_bridge.specs.declared.reply.Reply.{Reply};
-ghost use Rattle.tsn_wire.specs.Replies.{TakesMemory};
-ghost use Rattle.tsn_serve.specs.Answers.{Says};
 ghost use Rattle.tsn_serve.specs.Lines.{Splits, last_line, held};
 
 /// Bytes are cut into lines in one way, so a script has one list of lines.
@@ -21,10 +17,4 @@ pub fn example_cuts()
         × (last_line [] ≡ []) }
     ensures longest { (line : List ℕ) → length line ≤ 65536 → held line ≡ Some line }
     ensures too_long { (line : List ℕ) → 65536 < length line → held line ≡ None }
-{}
-
-/// Where the text of a reply takes memory, the line has changed nothing; so neither has refusal 18 in its place.
-pub fn shown_changes_nothing()
-    ensures { (old : State) (line : List ℕ) (reply : Reply) (new : State) →
-        Says old line reply new → TakesMemory reply → new ≡ old }
 {}

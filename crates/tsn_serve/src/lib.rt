@@ -7,7 +7,7 @@ mod line_buffer;
 mod responder;
 mod script;
 
-pub use laws::{example_cuts, one_cut, shown_changes_nothing};
+pub use laws::{example_cuts, one_cut};
 pub use responder::{Responder, answer_lines};
 pub use script::{run_script, run_script_up_to};
 

@@ -4,7 +4,7 @@ ghost use Rattle.std.specs.Prelude.{◌≡◌, ◌≢◌, ◌^◌, ℕ, List, []
 ghost use Rattle.std.specs.Io.KnownBytes.{Appends};
 ghost use Rattle.tsn_bytes.specs.Bytes.{IsCut};
 ghost use Rattle.tsn_bytes.specs.declared.bytes.Fault.TheVariants.{Read, Write, Memory};
-ghost use Rattle.tsn_serve.specs.Answers.{Says, IsTextOf, Answers};
+ghost use Rattle.tsn_serve.specs.Answers.{Says, Answers};
 ghost use Rattle.tsn_serve.specs.Outcomes.{Completes, BreaksOff, IsCutOff};
 
 use crate::responder::{Responder, answer_lines};
@@ -12,7 +12,7 @@ use std::alloc::Global;
 use tsn_bridge::bridge::Bridge;
 use tsn_bridge::reply::Reply;
 use tsn_types::refusals::Refusal;
-use tsn_wire::{ByteIn, ByteOut, Fault, command_of, write_refusal, write_reply};
+use tsn_wire::{ByteIn, ByteOut, Fault, command_of, write_reply};
 
 // The most reads of one script.
 const READS: u64 = 4_294_967_296;
@@ -27,22 +27,6 @@ fn reply_to(alloc: Global, bridge: &mut Bridge, line: &[u8]) -> Reply
     }
 }
 
-// Writes the reply's line, or that of refusal 18 where the reply's text finds no memory.
-fn write_or_refuse<W: ByteOut>(alloc: Global, writer: &mut W, reply: &Reply) -> Result<(), Fault>
-    ensures ok { OnOk result ((text : List ℕ) × IsTextOf reply.now text
-        × Appends (W.taken writer.old) (W.taken writer.new) text) }
-    ensures worked { OnOk result (W.has_failed writer.new ≡ W.has_failed writer.old) }
-    ensures fault { IfErr result (λ e. e ≡ Write) }
-    ensures failed { OnErr result (W.has_failed writer.new ≡ true) }
-    ensures cut { OnErr result ((text : List ℕ) × IsTextOf reply.now text
-        × IsCut (W.taken writer.old) (W.taken writer.new) text) }
-{
-    match write_reply(alloc, writer, reply) {
-        Err(Fault::Memory) => write_refusal(writer, &Refusal::Memory),
-        written => written,
-    }
-}
-
 impl Responder for Bridge {
     ghost answers = { Answers };
 
@@ -53,7 +37,7 @@ impl Responder for Bridge {
         writer: &mut W,
     ) -> Result<(), Fault> {
         let reply = reply_to(alloc, self, line);
-        write_or_refuse(alloc, writer, &reply)
+        write_reply(writer, &reply)
     }
 }
 

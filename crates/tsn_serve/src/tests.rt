@@ -2,7 +2,7 @@
 mod fakes;
 mod scripts;
 
-use crate::{answer_lines, example_cuts, one_cut, shown_changes_nothing};
+use crate::{answer_lines, example_cuts, one_cut};
 use fakes::{Lengths, LineFeeds};
 use std::alloc::{AllocError, Global};
 use std::test::Fail;
@@ -125,5 +125,4 @@ fn input_without_an_end_ends_at_the_bound(rt: HostRuntime) -> Result<(), Fail> {
 fn laws_are_there() {
     one_cut();
     example_cuts();
-    shown_changes_nothing();
 }

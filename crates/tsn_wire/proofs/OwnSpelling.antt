@@ -1,5 +1,5 @@
 -- A line in the service's own spelling is read as the draft that it spells.
-use Rattle.std.proofs.Common.{◌≡◌, ℕ, ◌^◌, ◌<◌, ◌≤◌, ◌++◌, List, [], ◌∷◌, map, Bool, true, Result, Option, Some, None, option_and_then, option_map, Ok, codes, decimal, IfSome, refl, sym, ap, ◌∙◌, arith, append_assoc, append-nil}
+use Rattle.std.proofs.Common.{◌≡◌, ℕ, ◌≤◌, ◌++◌, List, [], ◌∷◌, map, true, Result, Option, Some, None, option_and_then, Ok, codes, decimal, IfSome, refl, sym, ap, ◌∙◌, arith, append_assoc, append-nil}
 use Rattle.std.specs.Prelude.{IsUtf8}
 use Rattle.std.specs.Char.{is_ascii_digit}
 use Rattle.std.specs.List.{list_all, AllByRecursion}
@@ -14,7 +14,7 @@ use Rattle.json.proofs.Printed.Decimals.{IsNumber-decimal}
 use Rattle.json.proofs.Printed.Strings.{escape_byte_plain}
 use Rattle.json.proofs.Printed.Tokens.{tokens-print}
 use Rattle.json.proofs.Printed.Trees.{value-json_tokens, ArePrintable-json_tokens}
-use Rattle.serde_json.specs.Data.{Data, Items, no_items, item, boolean, string, object, member, no_members}
+use Rattle.serde_json.specs.Data.{Data, string, object, member, no_members}
 use Rattle.serde_json.specs.Read.{of_json, of_items, read, max_depth}
 use Rattle.serde_json.specs.View.{items_of}
 use Rattle.serde_json.specs.Written.{compact_text, outline, items_outline}
@@ -23,13 +23,12 @@ use Rattle.serde_json.proofs.Texts.{print-outline}
 use Rattle.tsn_types.specs.declared.keys.Kind.{Kind}
 use Rattle.tsn_types.specs.declared.keys.Kind.TheVariants as kinds
 use Rattle.tsn_wire.specs.Answers.{each}
-use Rattle.tsn_wire.specs.Json.{items_list, whole_or_null}
+use Rattle.tsn_wire.specs.Json.{items_list}
 use Rattle.tsn_wire.specs.Commands.{line_shape, command_shape, create_shape, replace_shape, remove_shape, undo_shape, show_shape, list_shape}
 use Rattle.tsn_wire.specs.Records.{port_entry_shape, gate_entry_shape, list_shape as entries_shape, schedule_shape, port_shape, gate_shape, filter_shape, meter_shape, record_shape}
 use Rattle.tsn_wire.specs.Reading.{data_of, or_syntax, line_of_draft, reading}
 use Rattle.tsn_wire.specs.Shown.{whole_data, or_null}
-use Rattle.tsn_wire.specs.Spelled.{IsSmall, kind_text, spelled_key, IsKey, IsNoPort, port_entry_value, gate_entry_value, list_value, port_value, filter_value, gate_value, meter_value, record_value, PortEntryIsSmall, GateEntryIsSmall, PortIsSmall, GateIsSmall, FilterIsSmall, MeterIsSmall, RecordIsSmall, Spells}
-use Rattle.tsn_wire.specs.declared.drafts.KeyDraft.{KeyDraft}
+use Rattle.tsn_wire.specs.Spelled.{IsSmall, kind_text, spelled_key, IsNoPort, port_entry_value, gate_entry_value, port_value, filter_value, gate_value, meter_value, record_value, PortEntryIsSmall, GateEntryIsSmall, PortIsSmall, GateIsSmall, FilterIsSmall, MeterIsSmall, RecordIsSmall, Spells}
 use Rattle.tsn_wire.specs.declared.drafts.PortEntryDraft.{PortEntryDraft}
 use Rattle.tsn_wire.specs.declared.drafts.GateEntryDraft.{GateEntryDraft}
 use Rattle.tsn_wire.specs.declared.drafts.PortDraft.{PortDraft}

@@ -50,12 +50,3 @@ reply_text (replies.EntryOf entry of) = codes "{\"entry\":" ++ decimal entry ++ 
 reply_text (replies.Shown key value) = compact_text (shown_data key value) ++ codes "\n"
 reply_text (replies.Ids ids) = compact_text (ids_data ids) ++ codes "\n"
 reply_text (replies.Refused r) = refusal_text r
-
--- the replies whose text takes memory
-abbrev pub TakesMemory : Reply → Type 0
-TakesMemory (replies.Session session) = ⊥
-TakesMemory (replies.Entry entry) = ⊥
-TakesMemory (replies.EntryOf entry of) = ⊥
-TakesMemory (replies.Shown key value) = Unit {0}
-TakesMemory (replies.Ids ids) = Unit {0}
-TakesMemory (replies.Refused r) = ⊥

@@ -1,40 +1,24 @@
 //! Replies as lines of text: compact JSON, its members in ascending order of their names.
 //!
-//! A short reply is spelled in a buffer of fixed size and goes out in one piece, so writing it takes no memory. A
-//! record and a list of numbers are printed by `serde_json`, which takes memory before anything is written.
-ghost use Rattle.std.specs.Prelude.{◌≡◌, ◌+◌, ◌≤◌, ◌++◌, ℕ, List, [], length, true, IfErr, OnOk, OnErr, IsOkAnd, IsErrOf, ◌⊎◌, string_bytes, codes};
+//! A short reply is spelled in a buffer of fixed size and goes out in one piece; a record and a list of numbers go out
+//! in as many as they fill. No reply takes memory.
+ghost use Rattle.std.specs.Prelude.{◌≡◌, ◌+◌, ◌≤◌, ◌++◌, [], length, true, IfErr, OnOk, OnErr, codes};
 ghost use Rattle.std.specs.Io.KnownBytes.{Appends};
 ghost use Rattle.tsn_types.specs.Refusals.{name_of, field_name};
 ghost use Rattle.tsn_bytes.specs.Bytes.{IsCut};
-ghost use Rattle.tsn_wire.specs.Replies.{number_member, text_member, members_of, refusal_text, reply_text, TakesMemory};
+ghost use Rattle.tsn_wire.specs.Replies.{number_member, text_member, members_of, refusal_text, reply_text};
 ghost use Rattle.tsn_wire.specs.Keys.{key_text};
-ghost use Rattle.tsn_bytes.specs.declared.bytes.Fault.TheVariants.{Write, Memory};
+ghost use Rattle.tsn_bytes.specs.declared.bytes.Fault.TheVariants.{Write};
 
-use crate::shown::{ids_text, shown_text};
+use crate::shown::{push_key, write_ids, write_shown};
 use crate::text::ShortText;
-use std::alloc::{AllocError, Global};
 use tsn_bridge::reply::Reply;
 use tsn_bytes::{ByteOut, Fault, put_all};
 use tsn_types::keys::Key;
 use tsn_types::refusals::{Field, Refusal};
 
-fn push_key(text: &mut ShortText, key: Key)
-    requires { length text.old + 27 ≤ 256 }
-    ensures text { text.new ≡ text.old ++ key_text key }
-    ensures len { length text.new ≤ length text.old + 27 }
-{
-    let (kind, number) = match key {
-        Key::Port(id) => ("port ", id.get()),
-        Key::Filter(id) => ("filter ", id.get()),
-        Key::Gate(id) => ("gate ", id.get()),
-        Key::Meter(id) => ("meter ", id.get()),
-    };
-    text.push(kind);
-    text.push_number(number);
-}
-
 fn push_number_member(text: &mut ShortText, name: &str, number: u64)
-    requires { length text.old + length name.now + 24 ≤ 256 }
+    requires { length text.old + length name.now + 24 ≤ 512 }
     ensures text { text.new ≡ text.old ++ number_member name.now number }
     ensures len { length text.new ≤ length text.old + length name.now + 24 }
 {
@@ -46,7 +30,7 @@ fn push_number_member(text: &mut ShortText, name: &str, number: u64)
 }
 
 fn push_key_member(text: &mut ShortText, name: &str, key: Key)
-    requires { length text.old + length name.now + 33 ≤ 256 }
+    requires { length text.old + length name.now + 33 ≤ 512 }
     ensures text { text.new ≡ text.old ++ text_member name.now (key_text key) }
     ensures len { length text.new ≤ length text.old + length name.now + 33 }
 {
@@ -59,7 +43,7 @@ fn push_key_member(text: &mut ShortText, name: &str, key: Key)
 
 #[tactic(auto, using(crate::proofs::Names::field_name_short))]
 fn push_field_member(text: &mut ShortText, field: Field)
-    requires { length text.old + 22 ≤ 256 }
+    requires { length text.old + 22 ≤ 512 }
     ensures text { text.new ≡ text.old ++ text_member (codes "field") (field_name field) }
     ensures len { length text.new ≤ length text.old + 22 }
 {
@@ -69,7 +53,7 @@ fn push_field_member(text: &mut ShortText, field: Field)
 }
 
 fn push_members(text: &mut ShortText, refusal: &Refusal)
-    requires { length text.old + 60 ≤ 256 }
+    requires { length text.old + 60 ≤ 512 }
     ensures text { text.new ≡ text.old ++ members_of refusal.now }
     ensures len { length text.new ≤ length text.old + 60 }
 {
@@ -112,36 +96,43 @@ fn push_refusal(text: &mut ShortText, refusal: &Refusal)
     text.push("\"}\n");
 }
 
-fn session_text(session: u32) -> ShortText
-    ensures { result ≡ reply_text (Reply.Session session) }
+fn push_session(text: &mut ShortText, session: u32)
+    requires { text.old ≡ [] }
+    ensures { text.new ≡ reply_text (Reply.Session session) }
 {
-    let mut text = ShortText::new();
     text.push("{\"session\":");
     text.push_number(u64::from(session));
     text.push("}\n");
-    text
 }
 
-fn entry_text(entry: u64) -> ShortText
-    ensures { result ≡ reply_text (Reply.Entry entry) }
+fn push_entry(text: &mut ShortText, entry: u64)
+    requires { text.old ≡ [] }
+    ensures { text.new ≡ reply_text (Reply.Entry entry) }
 {
-    let mut text = ShortText::new();
     text.push("{\"entry\":");
     text.push_number(entry);
     text.push("}\n");
-    text
 }
 
-fn entry_of_text(entry: u64, of: u64) -> ShortText
-    ensures { result ≡ reply_text (Reply.EntryOf entry of) }
+fn push_entry_of(text: &mut ShortText, entry: u64, of: u64)
+    requires { text.old ≡ [] }
+    ensures { text.new ≡ reply_text (Reply.EntryOf entry of) }
 {
-    let mut text = ShortText::new();
     text.push("{\"entry\":");
     text.push_number(entry);
     text.push(",\"of\":");
     text.push_number(of);
     text.push("}\n");
-    text
+}
+
+fn put_text<W: ByteOut>(writer: &mut W, text: &ShortText) -> Result<(), Fault>
+    ensures ok { OnOk result (Appends (W.taken writer.old) (W.taken writer.new) text.now) }
+    ensures worked { OnOk result (W.has_failed writer.new ≡ W.has_failed writer.old) }
+    ensures fault { IfErr result (λ e. e ≡ Write) }
+    ensures failed { OnErr result (W.has_failed writer.new ≡ true) }
+    ensures cut { OnErr result (IsCut (W.taken writer.old) (W.taken writer.new) text.now) }
+{
+    put_all(writer, text.as_slice())
 }
 
 /// Writes the line of a refusal, its line feed in it. It takes no memory. Its one fault is `Write`; what went out is
@@ -157,49 +148,41 @@ pub fn write_refusal<W: ByteOut>(writer: &mut W, refusal: &Refusal) -> Result<()
 {
     let mut text = ShortText::new();
     push_refusal(&mut text, refusal);
-    put_all(writer, text.as_slice())
+    put_text(writer, &text)
 }
 
-// Writes a text that was built, with a line feed behind it.
-fn write_built<W: ByteOut>(writer: &mut W, built: Result<String, AllocError>) -> Result<(), Fault>
-    ensures ok { OnOk result (IsOkAnd built (λ text.
-        Appends (W.taken writer.old) (W.taken writer.new) (string_bytes text ++ codes "\n"))) }
-    ensures worked { OnOk result (W.has_failed writer.new ≡ W.has_failed writer.old) }
-    ensures fault { IfErr result (λ e. (e ≡ Write) ⊎ (e ≡ Memory)) }
-    ensures failed { IsErrOf result Write → W.has_failed writer.new ≡ true }
-    ensures cut { IsErrOf result Write → IsOkAnd built (λ text.
-        IsCut (W.taken writer.old) (W.taken writer.new) (string_bytes text ++ codes "\n")) }
-    ensures memory { IsErrOf result Memory → writer.new ≡ writer.old }
-{
-    let Ok(mut text) = built else {
-        return Err(Fault::Memory);
-    };
-    if text.push_str("\n").is_err() {
-        return Err(Fault::Memory);
-    }
-    put_all(writer, text.as_bytes())
-}
-
-/// Writes the reply's line, its line feed in it. Where the fault is `Write`, what went out is a front of the line.
-/// Only the text of a record or of numbers of instances takes memory; where that is refused, the fault is `Memory`
-/// and nothing is written.
-pub fn write_reply<W: ByteOut>(alloc: Global, writer: &mut W, reply: &Reply) -> Result<(), Fault>
+/// Writes the reply's line, its line feed in it. It takes no memory. Its one fault is `Write`; what went out is then a
+/// front of the line.
+pub fn write_reply<W: ByteOut>(writer: &mut W, reply: &Reply) -> Result<(), Fault>
     ensures ok { OnOk result
         (Appends (W.taken writer.old) (W.taken writer.new) (reply_text reply.now)) }
     ensures worked { OnOk result (W.has_failed writer.new ≡ W.has_failed writer.old) }
-    ensures fault { IfErr result (λ e. (e ≡ Write) ⊎ (e ≡ Memory)) }
-    ensures failed { IsErrOf result Write → W.has_failed writer.new ≡ true }
-    ensures cut { IsErrOf result Write →
-        IsCut (W.taken writer.old) (W.taken writer.new) (reply_text reply.now) }
-    ensures memory { IsErrOf result Memory → (writer.new ≡ writer.old) × TakesMemory reply.now }
+    ensures fault { IfErr result (λ e. e ≡ Write) }
+    ensures failed { OnErr result (W.has_failed writer.new ≡ true) }
+    ensures cut { OnErr result
+        (IsCut (W.taken writer.old) (W.taken writer.new) (reply_text reply.now)) }
 {
+    // One text for all: each local text would be cleared at entry.
+    let mut text = ShortText::new();
     match reply {
-        Reply::Session { session } => put_all(writer, session_text(*session).as_slice()),
-        Reply::Entry { entry } => put_all(writer, entry_text(*entry).as_slice()),
-        Reply::EntryOf { entry, of } => put_all(writer, entry_of_text(*entry, *of).as_slice()),
-        Reply::Shown { key, value } => write_built(writer, shown_text(alloc, *key, value)),
-        Reply::Ids { ids } => write_built(writer, ids_text(alloc, ids.as_slice())),
-        Reply::Refused(refusal) => write_refusal(writer, refusal),
+        Reply::Session { session } => {
+            push_session(&mut text, *session);
+            put_text(writer, &text)
+        }
+        Reply::Entry { entry } => {
+            push_entry(&mut text, *entry);
+            put_text(writer, &text)
+        }
+        Reply::EntryOf { entry, of } => {
+            push_entry_of(&mut text, *entry, *of);
+            put_text(writer, &text)
+        }
+        Reply::Shown { key, value } => write_shown(writer, &mut text, *key, value),
+        Reply::Ids { ids } => write_ids(writer, &mut text, ids.as_slice()),
+        Reply::Refused(refusal) => {
+            push_refusal(&mut text, refusal);
+            put_text(writer, &text)
+        }
     }
 }
 

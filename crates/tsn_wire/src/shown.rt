@@ -1,212 +1,395 @@
-//! Records as JSON values, as they are shown: the members that a line has, in ascending order of their names.
+//! The lines of shown records and of numbers of instances, spelled piece by piece. None of it takes memory.
 //!
-//! Building a value takes memory; want of it is the only reason why there is none.
-ghost use Rattle.std.specs.Prelude.{◌≡◌, Some, IfOk, map, string_bytes};
-ghost use Rattle.serde_json.specs.Data.{Data, array};
-ghost use Rattle.serde_json.specs.Read.{read};
-ghost use Rattle.serde_json.specs.Written.{compact_text};
-ghost use Rattle.serde_json.specs.View.{view, items_of};
-ghost use Rattle.tsn_wire.specs.Shown.{or_null, port_entry_data, gate_entry_data, port_data, filter_data, gate_data, meter_data, record_data, shown_data, ids_data};
+//! What stands before a list, each item of it and what stands behind it go into a short text, which is written when
+//! it may have no room for the next item, and at the end.
+ghost use Rattle.std.specs.Prelude.{◌≡◌, ◌+◌, ◌≤◌, ◌++◌, ℕ, List, [], length, map, true, false, IfErr, OnOk, OnErr, codes, decimal};
+ghost use Rattle.std.specs.Io.KnownBytes.{Appends};
+ghost use Rattle.serde_json.specs.Data.{Data, boolean};
+ghost use Rattle.serde_json.specs.View.{items_of};
+ghost use Rattle.serde_json.specs.Written.{compact_text, items_text};
+ghost use Rattle.tsn_bytes.specs.Bytes.{IsCut};
+ghost use Rattle.tsn_bytes.specs.declared.bytes.Fault.TheVariants.{Write};
+ghost use Rattle.tsn_types.specs.declared.records.Record.TheVariants as records;
+ghost use Rattle.tsn_wire.specs.Shown.{whole_data, or_null, port_entry_data, gate_entry_data, filter_data, meter_data, shown_data, ids_data};
 ghost use Rattle.tsn_wire.specs.Keys.{key_text};
+ghost use Rattle.tsn_wire.specs.Pieces.{TakesFront, number_in, key_front, port_front, gate_front, gate_rest};
 
-use serde_json::{Value, json};
-use std::alloc::{AllocError, Global};
+use crate::text::ShortText;
+use tsn_bytes::{ByteOut, Fault, put_all};
 use tsn_types::keys::Key;
 use tsn_types::numbers::{Handle, MaxSdu, MeterId, Octets, Priority};
 use tsn_types::records::{
     FlowMeter, GateEntry, PortEntry, PortGates, Record, StreamFilter, StreamGate,
 };
 
-fn or_null(number: Option<u64>) -> Value
-    ensures { view result ≡ or_null number }
+// ---- pieces
+
+fn number_in(key: Key) -> u64
+    ensures { result ≡ number_in key }
 {
-    match number {
-        None => Value::Null,
-        Some(number) => Value::from(number),
+    match key {
+        Key::Port(id) => id.get(),
+        Key::Filter(id) => id.get(),
+        Key::Gate(id) => id.get(),
+        Key::Meter(id) => id.get(),
     }
 }
 
-fn handle_value(handle: Option<Handle>) -> Value
-    ensures { view result ≡ or_null handle }
+/// Puts the text of a key at the end.
+pub fn push_key(text: &mut ShortText, key: Key)
+    requires { length text.old + 27 ≤ 512 }
+    ensures text { text.new ≡ text.old ++ key_text key }
+    ensures len { length text.new ≤ length text.old + 27 }
 {
-    or_null(handle.map(Handle::get))
+    text.push(match key {
+        Key::Port(_) => "port ",
+        Key::Filter(_) => "filter ",
+        Key::Gate(_) => "gate ",
+        Key::Meter(_) => "meter ",
+    });
+    text.push_number(number_in(key));
 }
 
-fn priority_value(priority: Option<Priority>) -> Value
-    ensures { view result ≡ or_null priority }
+fn push_flag(text: &mut ShortText, name: &str, flag: bool)
+    requires { length text.old + length name.now + 5 ≤ 512 }
+    ensures text { text.new ≡ text.old ++ (name.now ++ compact_text (boolean flag)) }
+    ensures len { length text.new ≤ length text.old + length name.now + 5 }
 {
-    or_null(priority.map(Priority::get))
+    text.push(name);
+    if flag {
+        text.push("true");
+    } else {
+        text.push("false");
+    }
 }
 
-fn max_sdu_value(size: Option<MaxSdu>) -> Value
-    ensures { view result ≡ or_null size }
+fn push_number(text: &mut ShortText, name: &str, number: u64)
+    requires { length text.old + length name.now + 20 ≤ 512 }
+    ensures text { text.new ≡ text.old ++ (name.now ++ decimal number) }
+    ensures len { length text.new ≤ length text.old + length name.now + 20 }
 {
-    or_null(size.map(MaxSdu::get))
+    text.push(name);
+    text.push_number(number);
 }
 
-fn meter_id_value(meter: Option<MeterId>) -> Value
-    ensures { view result ≡ or_null meter }
+fn push_or_null(text: &mut ShortText, name: &str, number: Option<u64>)
+    requires { length text.old + length name.now + 20 ≤ 512 }
+    ensures text { text.new ≡ text.old ++ (name.now ++ compact_text (or_null number)) }
+    ensures len { length text.new ≤ length text.old + length name.now + 20 }
 {
-    or_null(meter.map(MeterId::get))
+    text.push(name);
+    match number {
+        None => text.push("null"),
+        Some(number) => text.push_number(number),
+    }
 }
 
-fn octets_value(octets: Option<Octets>) -> Value
-    ensures { view result ≡ or_null octets }
+// ---- numbers as they are spelled
+
+fn plain_handle(number: Option<Handle>) -> Option<u64>
+    ensures { result ≡ number }
 {
-    or_null(octets.map(Octets::get))
+    number.map(Handle::get)
 }
 
-/// An entry of a gate control list, as it is shown.
-trait EntryShown {
+fn plain_priority(number: Option<Priority>) -> Option<u64>
+    ensures { result ≡ number }
+{
+    number.map(Priority::get)
+}
+
+fn plain_max_sdu(number: Option<MaxSdu>) -> Option<u64>
+    ensures { result ≡ number }
+{
+    number.map(MaxSdu::get)
+}
+
+fn plain_meter_id(number: Option<MeterId>) -> Option<u64>
+    ensures { result ≡ number }
+{
+    number.map(MeterId::get)
+}
+
+fn plain_octets(number: Option<Octets>) -> Option<u64>
+    ensures { result ≡ number }
+{
+    number.map(Octets::get)
+}
+
+// ---- records
+
+fn push_filter(text: &mut ShortText, filter: &StreamFilter)
+    requires { length text.old + 170 ≤ 512 }
+    ensures text { text.new ≡ text.old ++ compact_text (filter_data filter.now) }
+    ensures len { length text.new ≤ length text.old + 170 }
+{
+    push_number(text, "{\"gate\":", filter.gate.get());
+    push_or_null(text, ",\"handle\":", plain_handle(filter.handle));
+    push_or_null(text, ",\"max_sdu\":", plain_max_sdu(filter.max_sdu));
+    push_or_null(text, ",\"meter\":", plain_meter_id(filter.meter));
+    push_flag(text, ",\"oversize\":", filter.oversize);
+    push_or_null(text, ",\"priority\":", plain_priority(filter.priority));
+    text.push("}");
+}
+
+fn push_meter(text: &mut ShortText, meter: &FlowMeter)
+    requires { length text.old + 170 ≤ 512 }
+    ensures text { text.new ≡ text.old ++ compact_text (meter_data meter.now) }
+    ensures len { length text.new ≤ length text.old + 170 }
+{
+    push_flag(text, "{\"all_red\":", meter.all_red);
+    push_flag(text, ",\"aware\":", meter.aware);
+    push_number(text, ",\"cbs\":", meter.cbs.get());
+    push_flag(text, ",\"cf\":", meter.cf);
+    push_number(text, ",\"cir\":", meter.cir.get());
+    push_flag(text, ",\"drop_yellow\":", meter.drop_yellow);
+    push_number(text, ",\"ebs\":", meter.ebs.get());
+    push_number(text, ",\"eir\":", meter.eir.get());
+    text.push("}");
+}
+
+fn push_port_front(text: &mut ShortText, port: &PortGates)
+    requires { length text.old + 150 ≤ 512 }
+    ensures text { text.new ≡ text.old ++ port_front port.now }
+    ensures len { length text.new ≤ length text.old + 150 }
+{
+    push_number(text, "{\"base\":", port.admin.base.get());
+    push_number(text, ",\"cycle\":", port.admin.cycle.get());
+    push_number(text, ",\"extension\":", port.admin.extension.get());
+    push_number(text, ",\"gates\":", u64::from(port.gates));
+    text.push(",\"list\":[");
+}
+
+fn push_gate_front(text: &mut ShortText, gate: &StreamGate)
+    requires { length text.old + 150 ≤ 512 }
+    ensures text { text.new ≡ text.old ++ gate_front gate.now }
+    ensures len { length text.new ≤ length text.old + 150 }
+{
+    push_number(text, "{\"base\":", gate.admin.base.get());
+    push_number(text, ",\"cycle\":", gate.admin.cycle.get());
+    push_number(text, ",\"extension\":", gate.admin.extension.get());
+    push_flag(text, ",\"invalid_rx\":", gate.invalid_rx);
+    push_or_null(text, ",\"ipv\":", plain_priority(gate.ipv));
+    text.push(",\"list\":[");
+}
+
+fn gate_rest(gate: &StreamGate) -> &'static [u8]
+    ensures text { result.now ≡ gate_rest gate.now }
+    ensures len { length result.now ≤ 48 }
+{
+    match (gate.octets_exceeded, gate.is_open) {
+        (false, false) => b",\"octets_exceeded\":false,\"open\":false}}\n",
+        (false, true) => b",\"octets_exceeded\":false,\"open\":true}}\n",
+        (true, false) => b",\"octets_exceeded\":true,\"open\":false}}\n",
+        (true, true) => b",\"octets_exceeded\":true,\"open\":true}}\n",
+    }
+}
+
+#[tactic(auto, using(crate::proofs::Pieces::key_pieces))]
+fn push_key_front(text: &mut ShortText, key: Key)
+    requires { text.old ≡ [] }
+    ensures text { text.new ≡ key_front key }
+    ensures len { length text.new ≤ 48 }
+{
+    text.push("{\"key\":\"");
+    push_key(text, key);
+    text.push("\",\"record\":");
+}
+
+// ---- lists
+
+/// What is shown in a list.
+trait ShownItem {
     ghost shown: { Self → Data };
 
-    fn to_value(&self, alloc: Global) -> Result<Value, AllocError>
-        ensures { IfOk result (λ v. view v ≡ shown self.now) };
+    fn push(&self, text: &mut ShortText)
+        requires { length text.old + 72 ≤ 512 }
+        ensures text { text.new ≡ text.old ++ compact_text (shown self.now) }
+        ensures len { length text.new ≤ length text.old + 72 };
 }
 
-impl EntryShown for PortEntry {
+impl ShownItem for u64 {
+    ghost shown = { whole_data };
+
+    fn push(&self, text: &mut ShortText) {
+        text.push_number(*self);
+    }
+}
+
+impl ShownItem for PortEntry {
     ghost shown = { port_entry_data };
 
-    fn to_value(&self, alloc: Global) -> Result<Value, AllocError> {
-        json!(in alloc; [self.gates, self.interval.get()])
+    fn push(&self, text: &mut ShortText) {
+        push_number(text, "[", u64::from(self.gates));
+        push_number(text, ",", self.interval.get());
+        text.push("]");
     }
 }
 
-impl EntryShown for GateEntry {
+impl ShownItem for GateEntry {
     ghost shown = { gate_entry_data };
 
-    fn to_value(&self, alloc: Global) -> Result<Value, AllocError> {
-        let ipv = priority_value(self.ipv);
-        let octets = octets_value(self.octets);
-        json!(in alloc; [self.is_open, ipv, self.interval.get(), octets])
+    fn push(&self, text: &mut ShortText) {
+        push_flag(text, "[", self.is_open);
+        push_or_null(text, ",", plain_priority(self.ipv));
+        push_number(text, ",", self.interval.get());
+        push_or_null(text, ",", plain_octets(self.octets));
+        text.push("]");
     }
 }
 
-fn list_value<E: EntryShown>(alloc: Global, entries: &[E]) -> Result<Value, AllocError>
-    ensures { IfOk result (λ v. view v ≡ array (items_of (map E.shown entries.now))) }
+// Writes what is held, unless there is room behind it for one item more.
+fn make_room<W: ByteOut>(writer: &mut W, text: &mut ShortText) -> Result<(), Fault>
+    ensures ok { OnOk result (
+        TakesFront (W.taken writer.old) (W.taken writer.new) text.old text.new) }
+    ensures room { OnOk result (length text.new ≤ 384) }
+    ensures worked { OnOk result (W.has_failed writer.new ≡ W.has_failed writer.old) }
+    ensures fault { IfErr result (λ e. e ≡ Write) }
+    ensures failed { OnErr result (W.has_failed writer.new ≡ true) }
+    ensures cut { OnErr result (IsCut (W.taken writer.old) (W.taken writer.new) text.old) }
 {
-    let mut values = Vec::new(alloc);
-    'entries: for entry in entries {
-        values.push(entry.to_value(alloc)?)?;
+    if text.as_slice().len() > 384 {
+        put_all(writer, text.as_slice())?;
+        text.clear();
     }
-    Ok(Value::Array(values))
+    Ok(())
 }
 
-fn port_value(alloc: Global, port: &PortGates) -> Result<Value, AllocError>
-    ensures { IfOk result (λ v. view v ≡ port_data port.now) }
+// Writes the front, which the text holds, the items with commas between them, a bracket and the rest.
+fn write_listed<W: ByteOut, I: ShownItem>(
+    writer: &mut W,
+    text: &mut ShortText,
+    items: &[I],
+    rest: &[u8],
+) -> Result<(), Fault>
+    requires front { length text.old ≤ 200 }
+    requires rest { length rest.now ≤ 50 }
+    ensures ok { OnOk result (Appends (W.taken writer.old) (W.taken writer.new)
+        (text.old ++ (items_text false (items_of (map I.shown items.now)) ++ rest.now))) }
+    ensures worked { OnOk result (W.has_failed writer.new ≡ W.has_failed writer.old) }
+    ensures fault { IfErr result (λ e. e ≡ Write) }
+    ensures failed { OnErr result (W.has_failed writer.new ≡ true) }
+    ensures cut { OnErr result (IsCut (W.taken writer.old) (W.taken writer.new)
+        (text.old ++ (items_text false (items_of (map I.shown items.now)) ++ rest.now))) }
 {
-    let list = list_value(alloc, port.admin.list.as_slice())?;
-    json!(in alloc; {
-        "base": port.admin.base.get(),
-        "cycle": port.admin.cycle.get(),
-        "extension": port.admin.extension.get(),
-        "gates": port.gates,
-        "list": list,
-    })
+    let Some((first, others)) = items.split_first() else {
+        text.push("]");
+        text.push_bytes(rest);
+        return put_all(writer, text.as_slice());
+    };
+    first.push(text);
+    'others: for item in others {
+        make_room(writer, text)?;
+        text.push(",");
+        item.push(text);
+    }
+    text.push("]");
+    text.push_bytes(rest);
+    put_all(writer, text.as_slice())
 }
 
-fn filter_value(alloc: Global, filter: &StreamFilter) -> Result<Value, AllocError>
-    ensures { IfOk result (λ v. view v ≡ filter_data filter.now) }
+// ---- lines
+
+fn push_filter_line(text: &mut ShortText, key: Key, filter: &StreamFilter)
+    requires { text.old ≡ [] }
+    ensures { text.new ≡ compact_text (shown_data key (records.Filter filter.now)) ++ codes "\n" }
 {
-    json!(in alloc; {
-        "gate": filter.gate.get(),
-        "handle": handle_value(filter.handle),
-        "max_sdu": max_sdu_value(filter.max_sdu),
-        "meter": meter_id_value(filter.meter),
-        "oversize": filter.oversize,
-        "priority": priority_value(filter.priority),
-    })
+    push_key_front(text, key);
+    push_filter(text, filter);
+    text.push("}\n");
 }
 
-fn gate_value(alloc: Global, gate: &StreamGate) -> Result<Value, AllocError>
-    ensures { IfOk result (λ v. view v ≡ gate_data gate.now) }
+fn push_meter_line(text: &mut ShortText, key: Key, meter: &FlowMeter)
+    requires { text.old ≡ [] }
+    ensures { text.new ≡ compact_text (shown_data key (records.Meter meter.now)) ++ codes "\n" }
 {
-    let list = list_value(alloc, gate.admin.list.as_slice())?;
-    json!(in alloc; {
-        "base": gate.admin.base.get(),
-        "cycle": gate.admin.cycle.get(),
-        "extension": gate.admin.extension.get(),
-        "invalid_rx": gate.invalid_rx,
-        "ipv": priority_value(gate.ipv),
-        "list": list,
-        "octets_exceeded": gate.octets_exceeded,
-        "open": gate.is_open,
-    })
+    push_key_front(text, key);
+    push_meter(text, meter);
+    text.push("}\n");
 }
 
-fn meter_value(alloc: Global, meter: &FlowMeter) -> Result<Value, AllocError>
-    ensures { IfOk result (λ v. view v ≡ meter_data meter.now) }
+fn write_port<W: ByteOut>(
+    writer: &mut W,
+    text: &mut ShortText,
+    key: Key,
+    port: &PortGates,
+) -> Result<(), Fault>
+    requires { text.old ≡ [] }
+    ensures ok { OnOk result (Appends (W.taken writer.old) (W.taken writer.new)
+        (compact_text (shown_data key (records.Port port.now)) ++ codes "\n")) }
+    ensures worked { OnOk result (W.has_failed writer.new ≡ W.has_failed writer.old) }
+    ensures fault { IfErr result (λ e. e ≡ Write) }
+    ensures failed { OnErr result (W.has_failed writer.new ≡ true) }
+    ensures cut { OnErr result (IsCut (W.taken writer.old) (W.taken writer.new)
+        (compact_text (shown_data key (records.Port port.now)) ++ codes "\n")) }
 {
-    json!(in alloc; {
-        "all_red": meter.all_red,
-        "aware": meter.aware,
-        "cbs": meter.cbs.get(),
-        "cf": meter.cf,
-        "cir": meter.cir.get(),
-        "drop_yellow": meter.drop_yellow,
-        "ebs": meter.ebs.get(),
-        "eir": meter.eir.get(),
-    })
+    push_key_front(text, key);
+    push_port_front(text, port);
+    write_listed(writer, text, port.admin.list.as_slice(), b"}}\n")
 }
 
-/// The record as a JSON value.
-pub fn record_value(alloc: Global, shown: &Record) -> Result<Value, AllocError>
-    ensures { IfOk result (λ v. view v ≡ record_data shown.now) }
+fn write_gate<W: ByteOut>(
+    writer: &mut W,
+    text: &mut ShortText,
+    key: Key,
+    gate: &StreamGate,
+) -> Result<(), Fault>
+    requires { text.old ≡ [] }
+    ensures ok { OnOk result (Appends (W.taken writer.old) (W.taken writer.new)
+        (compact_text (shown_data key (records.Gate gate.now)) ++ codes "\n")) }
+    ensures worked { OnOk result (W.has_failed writer.new ≡ W.has_failed writer.old) }
+    ensures fault { IfErr result (λ e. e ≡ Write) }
+    ensures failed { OnErr result (W.has_failed writer.new ≡ true) }
+    ensures cut { OnErr result (IsCut (W.taken writer.old) (W.taken writer.new)
+        (compact_text (shown_data key (records.Gate gate.now)) ++ codes "\n")) }
+{
+    push_key_front(text, key);
+    push_gate_front(text, gate);
+    write_listed(writer, text, gate.admin.list.as_slice(), gate_rest(gate))
+}
+
+/// Writes the line of a key and its record, by way of an empty text. Its one fault is `Write`; what went out is then a
+/// front of the line.
+pub fn write_shown<W: ByteOut>(
+    writer: &mut W,
+    text: &mut ShortText,
+    key: Key,
+    shown: &Record,
+) -> Result<(), Fault>
+    requires { text.old ≡ [] }
+    ensures ok { OnOk result (Appends (W.taken writer.old) (W.taken writer.new)
+        (compact_text (shown_data key shown.now) ++ codes "\n")) }
+    ensures worked { OnOk result (W.has_failed writer.new ≡ W.has_failed writer.old) }
+    ensures fault { IfErr result (λ e. e ≡ Write) }
+    ensures failed { OnErr result (W.has_failed writer.new ≡ true) }
+    ensures cut { OnErr result (IsCut (W.taken writer.old) (W.taken writer.new)
+        (compact_text (shown_data key shown.now) ++ codes "\n")) }
 {
     match shown {
-        Record::Port(port) => port_value(alloc, port),
-        Record::Filter(filter) => filter_value(alloc, filter),
-        Record::Gate(gate) => gate_value(alloc, gate),
-        Record::Meter(meter) => meter_value(alloc, meter),
+        Record::Port(port) => write_port(writer, text, key, port),
+        Record::Filter(filter) => {
+            push_filter_line(text, key, filter);
+            put_all(writer, text.as_slice())
+        }
+        Record::Gate(gate) => write_gate(writer, text, key, gate),
+        Record::Meter(meter) => {
+            push_meter_line(text, key, meter);
+            put_all(writer, text.as_slice())
+        }
     }
 }
 
-fn key_string(alloc: Global, key: Key) -> Result<String, AllocError>
-    ensures { IfOk result (λ s. string_bytes s ≡ key_text key) }
+/// Writes the line of numbers of instances, in their order, as `write_shown` does that of a record.
+pub fn write_ids<W: ByteOut>(writer: &mut W, text: &mut ShortText, ids: &[u64]) -> Result<(), Fault>
+    requires { text.old ≡ [] }
+    ensures ok { OnOk result (Appends (W.taken writer.old) (W.taken writer.new)
+        (compact_text (ids_data ids.now) ++ codes "\n")) }
+    ensures worked { OnOk result (W.has_failed writer.new ≡ W.has_failed writer.old) }
+    ensures fault { IfErr result (λ e. e ≡ Write) }
+    ensures failed { OnErr result (W.has_failed writer.new ≡ true) }
+    ensures cut { OnErr result (IsCut (W.taken writer.old) (W.taken writer.new)
+        (compact_text (ids_data ids.now) ++ codes "\n")) }
 {
-    let (kind, number) = match key {
-        Key::Port(id) => ("port ", id.get()),
-        Key::Filter(id) => ("filter ", id.get()),
-        Key::Gate(id) => ("gate ", id.get()),
-        Key::Meter(id) => ("meter ", id.get()),
-    };
-    let mut text = String::from_str(alloc, kind)?;
-    let mut buffer = itoa::Buffer::new();
-    text.push_str(buffer.format(number))?;
-    Ok(text)
-}
-
-fn shown_value(alloc: Global, key: Key, shown: &Record) -> Result<Value, AllocError>
-    ensures { IfOk result (λ v. view v ≡ shown_data key shown.now) }
-{
-    let key = key_string(alloc, key)?;
-    let shown = record_value(alloc, shown)?;
-    json!(in alloc; {"key": key, "record": shown})
-}
-
-/// A key and its record as compact JSON.
-pub fn shown_text(alloc: Global, key: Key, shown: &Record) -> Result<String, AllocError>
-    ensures text { IfOk result (λ s. string_bytes s ≡ compact_text (shown_data key shown.now)) }
-    // What is printed reads as the same value.
-    ensures reads { IfOk result (λ s. read (string_bytes s) ≡ Some (shown_data key shown.now)) }
-{
-    shown_value(alloc, key, shown)?.to_string(alloc)
-}
-
-fn ids_value(alloc: Global, ids: &[u64]) -> Result<Value, AllocError>
-    ensures { IfOk result (λ v. view v ≡ ids_data ids.now) }
-{
-    let mut values = Vec::new(alloc);
-    'ids: for id in ids {
-        values.push(Value::from(*id))?;
-    }
-    json!(in alloc; {"ids": Value::Array(values)})
-}
-
-/// Numbers of instances as compact JSON, in their order.
-pub fn ids_text(alloc: Global, ids: &[u64]) -> Result<String, AllocError>
-    ensures text { IfOk result (λ s. string_bytes s ≡ compact_text (ids_data ids.now)) }
-    ensures reads { IfOk result (λ s. read (string_bytes s) ≡ Some (ids_data ids.now)) }
-{
-    ids_value(alloc, ids)?.to_string(alloc)
+    text.push("{\"ids\":[");
+    write_listed(writer, text, ids, b"}\n")
 }

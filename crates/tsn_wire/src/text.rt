@@ -1,12 +1,12 @@
 //! A short text in a buffer of fixed size, which takes no memory.
-ghost use Rattle.std.specs.Prelude.{◌≡◌, ◌+◌, ◌≤◌, ℕ, List, [], ◌∷◌, ◌++◌, length, take, decimal};
+ghost use Rattle.std.specs.Prelude.{◌≡◌, ◌+◌, ◌≤◌, ℕ, List, [], ◌++◌, length, take, decimal};
 
 use std::marker::Model;
 
 /// How many bytes a short text holds.
-pub const CAPACITY: usize = 256;
+pub const CAPACITY: usize = 512;
 
-/// A text of at most 256 bytes, which contracts see as the list of its bytes.
+/// A text of at most 512 bytes, which contracts see as the list of its bytes.
 #[derive(Drop)]
 pub struct ShortText {
     bytes: [u8; CAPACITY],
@@ -18,7 +18,7 @@ impl Model for ShortText {
 
     ghost view = { λ t. take t.len t.bytes };
 
-    ghost invariant = { λ t. t.len ≤ 256 };
+    ghost invariant = { λ t. t.len ≤ 512 };
 }
 
 impl ShortText {
@@ -32,28 +32,20 @@ impl ShortText {
         }
     }
 
-    fn push_byte(&mut self, byte: u8)
-        requires { length self.old + 1 ≤ 256 }
-        ensures text { self.new ≡ self.old ++ byte ∷ [] }
-        ensures len { length self.new ≡ length self.old + 1 }
-    {
-        self.bytes[self.len] = byte;
-        self.len += 1;
-    }
-
-    fn push_bytes(&mut self, piece: &[u8])
-        requires { length self.old + length piece.now ≤ 256 }
+    /// Puts the bytes at the end.
+    pub fn push_bytes(&mut self, piece: &[u8])
+        requires { length self.old + length piece.now ≤ 512 }
         ensures text { self.new ≡ self.old ++ piece.now }
         ensures len { length self.new ≡ length self.old + length piece.now }
     {
-        'bytes: for byte in piece {
-            self.push_byte(*byte);
-        }
+        let end = self.len + piece.len();
+        self.bytes[self.len..end].copy_from_slice(piece);
+        self.len = end;
     }
 
     /// Puts the piece at the end.
     pub fn push(&mut self, piece: &str)
-        requires { length self.old + length piece.now ≤ 256 }
+        requires { length self.old + length piece.now ≤ 512 }
         ensures text { self.new ≡ self.old ++ piece.now }
         ensures len { length self.new ≡ length self.old + length piece.now }
     {
@@ -62,12 +54,19 @@ impl ShortText {
 
     /// Puts the number at the end, in decimal digits.
     pub fn push_number(&mut self, number: u64)
-        requires { length self.old + 20 ≤ 256 }
+        requires { length self.old + 20 ≤ 512 }
         ensures text { self.new ≡ self.old ++ decimal number }
         ensures len { length self.new ≤ length self.old + 20 }
     {
         let mut buffer = itoa::Buffer::new();
         self.push(buffer.format(number));
+    }
+
+    /// The text is empty again.
+    pub fn clear(&mut self)
+        ensures { self.new ≡ [] }
+    {
+        self.len = 0;
     }
 
     /// The bytes of the text.

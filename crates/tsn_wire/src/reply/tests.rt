@@ -1,8 +1,9 @@
 //! The line of each form of reply.
-use super::{write_built, write_refusal, write_reply};
-use crate::shown::ids_text;
+use super::{write_refusal, write_reply};
+use crate::shown::write_ids;
+use crate::text::ShortText;
 use crate::{Failing, Fault, Line, MemOut, command_of};
-use std::alloc::{AllocError, Global};
+use std::alloc::Global;
 use std::process::Abort;
 use std::test::Fail;
 use tsn_bridge::command::Command;
@@ -14,7 +15,7 @@ use tsn_types::refusals::{Field, Refusal};
 
 fn spells(rt: &impl Abort, alloc: Global, reply: &Reply, text: &str) -> Result<(), Fail> {
     let mut writer = MemOut::new(Vec::with_capacity(alloc, text.len())?, 1000, None);
-    write_reply(alloc, &mut writer, reply)?;
+    write_reply(&mut writer, reply)?;
     assert_eq!(rt; writer.as_slice(), text.as_bytes());
     Ok(())
 }
@@ -110,10 +111,7 @@ fn stops_where_the_writer_fails(rt: HostRuntime) -> Result<(), Fail> {
     let bytes = Vec::with_capacity(rt.alloc(), 20)?;
     let mut writer = MemOut::new(bytes, 5, Some((2, Failing::Error)));
     let reply = Reply::Entry { entry: 10 };
-    assert_eq!(rt;
-        write_reply(rt.alloc(), &mut writer, &reply),
-        Err(Fault::Write)
-    );
+    assert_eq!(rt; write_reply(&mut writer, &reply), Err(Fault::Write));
     assert_eq!(rt; writer.as_slice(), b"{\"entry\":1".as_slice());
     Ok(())
 }
@@ -143,6 +141,13 @@ fn shows(rt: &impl Abort, alloc: Global, key: &str, record: &str) -> Result<(), 
     spells(rt, alloc, &Reply::Shown { key, value }, text.as_str())
 }
 
+fn lists(rt: &impl Abort, alloc: Global, ids: &[u64], text: &str) -> Result<(), Fail> {
+    let mut writer = MemOut::new(Vec::with_capacity(alloc, text.len())?, 1000, None);
+    write_ids(&mut writer, &mut ShortText::new(), ids)?;
+    assert_eq!(rt; writer.as_slice(), text.as_bytes());
+    Ok(())
+}
+
 #[test]
 fn shows_each_record(rt: HostRuntime) -> Result<(), Fail> {
     let alloc = rt.alloc();
@@ -170,22 +175,49 @@ fn shows_each_record(rt: HostRuntime) -> Result<(), Fail> {
     ] {
         shows(&rt, alloc, key, record)?;
     }
-    assert_eq!(rt; ids_text(alloc, &[])?.as_str(), "{\"ids\":[]}");
-    assert_eq!(rt;
-        ids_text(alloc, &[0, 1, 65_535])?.as_str(),
-        "{\"ids\":[0,1,65535]}"
-    );
+    lists(&rt, alloc, &[], "{\"ids\":[]}\n")?;
+    lists(&rt, alloc, &[0, 1, 65_535], "{\"ids\":[0,1,65535]}\n")?;
+    Ok(())
+}
+
+// The numbers from 0 on, so many, and their line.
+fn numbers(alloc: Global, count: u64) -> Result<(Vec<u64>, String), Fail> {
+    let mut ids = Vec::new(alloc);
+    let mut text = String::from_str(alloc, "{\"ids\":[")?;
+    for id in 0..count {
+        if id != 0 {
+            text.push_str(",")?;
+        }
+        text.push_str(format!(in alloc; "{id}")?.as_str())?;
+        ids.push(id)?;
+    }
+    text.push_str("]}\n")?;
+    Ok((ids, text))
+}
+
+#[test]
+fn lists_more_numbers_than_fit_at_once(rt: HostRuntime) -> Result<(), Fail> {
+    let alloc = rt.alloc();
+    for count in [1u64, 100, 130, 131, 132, 133, 134, 135, 1000] {
+        let (ids, text) = numbers(alloc, count)?;
+        lists(&rt, alloc, ids.as_slice(), text.as_str())?;
+    }
     Ok(())
 }
 
 #[test]
-fn writes_nothing_of_a_text_that_finds_no_memory(rt: HostRuntime) {
-    let mut writer = MemOut::new(Vec::new(rt.alloc()), 1000, None);
+fn stops_in_a_list_where_the_writer_fails(rt: HostRuntime) -> Result<(), Fail> {
+    let alloc = rt.alloc();
+    let (ids, text) = numbers(alloc, 1000)?;
+    let bytes = Vec::with_capacity(alloc, 2000)?;
+    let mut writer = MemOut::new(bytes, 1000, Some((2, Failing::Nothing)));
     assert_eq!(rt;
-        write_built(&mut writer, Err(AllocError)),
-        Err(Fault::Memory)
+        write_ids(&mut writer, &mut ShortText::new(), ids.as_slice()),
+        Err(Fault::Write)
     );
-    assert!(rt; writer.as_slice().is_empty());
+    assert!(rt; writer.as_slice().len() > 700);
+    assert!(rt; text.as_bytes().starts_with(writer.as_slice()));
+    Ok(())
 }
 
 #[test]

@@ -1,4 +1,4 @@
-use Rattle.std.proofs.Common.{rules, ◌≡◌, ◌+◌, ◌-◌, ◌*◌, ◌<◌, ◌^◌, length, get_or, ◌∙◌, sym, arith, inl, inr}
+use Rattle.std.proofs.Common.{rules, ◌≡◌, ◌+◌, ◌-◌, ◌*◌, get_or, ◌∙◌, arith, inl, inr}
 use Rattle.tsn_wire.proofs.Places.{digit_more, spell}
 use Rattle.tsn_wire.proofs.cursor.leading_number.Goals as goal
 

@@ -1,7 +1,6 @@
-use Rattle.std.proofs.Common.{◌≡◌, ◌++◌, codes, subst, sym, ap, ◌∙◌}
-use Rattle.serde_json.specs.Written.{compact_text}
+use Rattle.std.proofs.Common.{◌++◌, codes, subst, sym, ap, ◌∙◌}
 use Rattle.tsn_types.specs.declared.keys.Kind.{Kind}
-use Rattle.tsn_wire.specs.Spelled.{spelled_key, record_value, RecordIsSmall}
+use Rattle.tsn_wire.specs.Spelled.{spelled_key, RecordIsSmall}
 use Rattle.tsn_wire.specs.declared.drafts.RecordDraft.TheVariants.{Port, Filter, Gate, Meter}
 use Rattle.tsn_wire.proofs.spelled.keyed_record.Goals as goal
 
