@@ -1,17 +1,13 @@
 -- A line in the service's own spelling is read as the draft that it spells.
 use Rattle.std.proofs.Common.{◌≡◌, ℕ, ◌≤◌, ◌++◌, List, [], ◌∷◌, map, true, Result, Option, Some, None, option_and_then, Ok, codes, decimal, IfSome, refl, sym, ap, ◌∙◌, arith, append_assoc, append-nil}
 use Rattle.std.specs.Prelude.{IsUtf8}
-use Rattle.std.specs.Char.{is_ascii_digit}
-use Rattle.std.specs.List.{list_all, AllByRecursion}
-use Rattle.std.proofs.lemmas.Bool.{leb-true}
-use Rattle.std.proofs.lemmas.Fmt.{digits_decimal}
+use Rattle.std.specs.List.{AllByRecursion}
 use Rattle.json.specs.Lex.{tokens}
 use Rattle.json.specs.Token.{Token}
 use Rattle.json.specs.Json as json
 use Rattle.json.specs.Print.{print, escape, escape_byte}
 use Rattle.json.specs.Tree.{json_tokens, HasNumbers, ItemsHaveNumbers, depth, items_depth}
 use Rattle.json.proofs.Printed.Decimals.{IsNumber-decimal}
-use Rattle.json.proofs.Printed.Strings.{escape_byte_plain}
 use Rattle.json.proofs.Printed.Tokens.{tokens-print}
 use Rattle.json.proofs.Printed.Trees.{value-json_tokens, ArePrintable-json_tokens}
 use Rattle.serde_json.specs.Data.{Data, string, object, member, no_members}
@@ -24,11 +20,12 @@ use Rattle.tsn_types.specs.declared.keys.Kind.{Kind}
 use Rattle.tsn_types.specs.declared.keys.Kind.TheVariants as kinds
 use Rattle.tsn_wire.specs.Answers.{each}
 use Rattle.tsn_wire.specs.Json.{items_list}
+use Rattle.tsn_wire.specs.Keys.{kind_text, spelled_key}
 use Rattle.tsn_wire.specs.Commands.{line_shape, command_shape, create_shape, replace_shape, remove_shape, undo_shape, show_shape, list_shape}
 use Rattle.tsn_wire.specs.Records.{port_entry_shape, gate_entry_shape, list_shape as entries_shape, schedule_shape, port_shape, gate_shape, filter_shape, meter_shape, record_shape}
 use Rattle.tsn_wire.specs.Reading.{data_of, or_syntax, line_of_draft, reading}
 use Rattle.tsn_wire.specs.Shown.{whole_data, or_null}
-use Rattle.tsn_wire.specs.Spelled.{IsSmall, kind_text, spelled_key, IsNoPort, port_entry_value, gate_entry_value, port_value, filter_value, gate_value, meter_value, record_value, PortEntryIsSmall, GateEntryIsSmall, PortIsSmall, GateIsSmall, FilterIsSmall, MeterIsSmall, RecordIsSmall, Spells}
+use Rattle.tsn_wire.specs.Spelled.{IsSmall, IsNoPort, port_entry_value, gate_entry_value, port_value, filter_value, gate_value, meter_value, record_value, PortEntryIsSmall, GateEntryIsSmall, PortIsSmall, GateIsSmall, FilterIsSmall, MeterIsSmall, RecordIsSmall, Spells}
 use Rattle.tsn_wire.specs.declared.drafts.PortEntryDraft.{PortEntryDraft}
 use Rattle.tsn_wire.specs.declared.drafts.GateEntryDraft.{GateEntryDraft}
 use Rattle.tsn_wire.specs.declared.drafts.PortDraft.{PortDraft}
@@ -43,7 +40,7 @@ use Rattle.tsn_wire.specs.declared.drafts.LineDraft.{LineDraft}
 use Rattle.tsn_wire.specs.declared.drafts.LineDraft.TheVariants.{Session}
 use Rattle.tsn_wire.specs.declared.unread.Unread.{Unread}
 use Rattle.tsn_wire.proofs.Answering.{data_of_read}
-use Rattle.tsn_wire.proofs.Digits.{own, and_parts}
+use Rattle.tsn_wire.proofs.Escaping.{escape_key}
 use Rattle.tsn_wire.proofs.ReadingBack.{then, decimal_back, whole_or_null_back}
 
 -- ---- what is printed is read
@@ -177,28 +174,6 @@ record_shaped kinds.Meter (records.Filter r) small = absurd small
 record_shaped kinds.Meter (records.Gate r) small = absurd small
 record_shaped kinds.Meter (records.Meter r) small = refl
 
--- ---- keys
-
--- digits need no escape
-escape_digits : (ds : List ℕ) → list_all is_ascii_digit ds ≡ true → escape ds ≡ ds
-escape_digits [] h = refl
-escape_digits (d ∷ ds) h =
-    let digit = and_parts _ _ h in
-    let bounds = and_parts _ _ digit.0 in
-    let low : 48 ≤ d = leb-true _ _ bounds.0 in
-    let high : d ≤ 57 = leb-true _ _ bounds.1 in
-    ap (λ l. l ++ escape ds) (escape_byte_plain d (λ e. omega arith) (λ e. omega arith) (omega arith)) ∙ ap (λ l. d ∷ l) (escape_digits ds digit.1)
-
-escape_decimal : (n : ℕ) → n ≤ 65535 → escape (decimal n) ≡ decimal n
-escape_decimal n small = escape_digits (decimal n) (digits_decimal own n (omega arith))
-
-escape_key : (k : Kind) (n : ℕ) → n ≤ 65535 → escape (spelled_key k n) ≡ spelled_key k n
-unfolding escape_byte
-escape_key kinds.Port n small = ap (λ l. codes "port " ++ l) (escape_decimal n small)
-escape_key kinds.Filter n small = ap (λ l. codes "filter " ++ l) (escape_decimal n small)
-escape_key kinds.Gate n small = ap (λ l. codes "gate " ++ l) (escape_decimal n small)
-escape_key kinds.Meter n small = ap (λ l. codes "meter " ++ l) (escape_decimal n small)
-
 -- ---- commands
 
 reading_of : (line : List ℕ) (d : Data) (draft : LineDraft) → data_of line ≡ Some d → line_shape d ≡ Ok draft → reading line ≡ line_of_draft draft
@@ -221,13 +196,13 @@ recorded_plain word s k n v small p = record {
 create_text : (s : ℕ) (k : Kind) (n : ℕ) (v : RecordDraft) → n ≤ 65535 → codes "{\"do\":\"create\",\"key\":\"" ++ (spelled_key k n ++ (codes "\",\"record\":" ++ (compact_text (record_value v) ++ tail s))) ≡ compact_text (recorded (codes "create") s k n v)
 unfolding escape_byte
 create_text s k n v small =
-    sym (ap (λ l. codes "{\"do\":\"create\",\"key\":\"" ++ ((l ++ codes "\"") ++ (codes ",\"record\":" ++ (compact_text (record_value v) ++ tail s)))) (escape_key k n small)
+    sym (ap (λ l. codes "{\"do\":\"create\",\"key\":\"" ++ ((l ++ codes "\"") ++ (codes ",\"record\":" ++ (compact_text (record_value v) ++ tail s)))) (escape_key k n (omega arith))
     ∙ ap (λ l. codes "{\"do\":\"create\",\"key\":\"" ++ l) (append_assoc (spelled_key k n) (codes "\"") (codes ",\"record\":" ++ (compact_text (record_value v) ++ tail s))))
 
 replace_text : (s : ℕ) (k : Kind) (n : ℕ) (v : RecordDraft) → n ≤ 65535 → codes "{\"do\":\"replace\",\"key\":\"" ++ (spelled_key k n ++ (codes "\",\"record\":" ++ (compact_text (record_value v) ++ tail s))) ≡ compact_text (recorded (codes "replace") s k n v)
 unfolding escape_byte
 replace_text s k n v small =
-    sym (ap (λ l. codes "{\"do\":\"replace\",\"key\":\"" ++ ((l ++ codes "\"") ++ (codes ",\"record\":" ++ (compact_text (record_value v) ++ tail s)))) (escape_key k n small)
+    sym (ap (λ l. codes "{\"do\":\"replace\",\"key\":\"" ++ ((l ++ codes "\"") ++ (codes ",\"record\":" ++ (compact_text (record_value v) ++ tail s)))) (escape_key k n (omega arith))
     ∙ ap (λ l. codes "{\"do\":\"replace\",\"key\":\"" ++ l) (append_assoc (spelled_key k n) (codes "\"") (codes ",\"record\":" ++ (compact_text (record_value v) ++ tail s))))
 
 create_shaped : (s : ℕ) (k : Kind) (n : ℕ) (v : RecordDraft) → n ≤ 65535 → record_shape k (record_value v) ≡ Ok v → line_shape (recorded (codes "create") s k n v) ≡ Ok (Session s (Create (record { kind = k; number = n }) v))
@@ -257,13 +232,13 @@ keyed_plain word s k n small = record {
 remove_text : (s : ℕ) (k : Kind) (n : ℕ) → n ≤ 65535 → codes "{\"do\":\"remove\",\"key\":\"" ++ (spelled_key k n ++ (codes "\"" ++ tail s)) ≡ compact_text (keyed (codes "remove") s k n)
 unfolding escape_byte
 remove_text s k n small =
-    sym (ap (λ l. codes "{\"do\":\"remove\",\"key\":\"" ++ ((l ++ codes "\"") ++ tail s)) (escape_key k n small)
+    sym (ap (λ l. codes "{\"do\":\"remove\",\"key\":\"" ++ ((l ++ codes "\"") ++ tail s)) (escape_key k n (omega arith))
     ∙ ap (λ l. codes "{\"do\":\"remove\",\"key\":\"" ++ l) (append_assoc (spelled_key k n) (codes "\"") (tail s)))
 
 show_text : (s : ℕ) (k : Kind) (n : ℕ) → n ≤ 65535 → codes "{\"do\":\"show\",\"key\":\"" ++ (spelled_key k n ++ (codes "\"" ++ tail s)) ≡ compact_text (keyed (codes "show") s k n)
 unfolding escape_byte
 show_text s k n small =
-    sym (ap (λ l. codes "{\"do\":\"show\",\"key\":\"" ++ ((l ++ codes "\"") ++ tail s)) (escape_key k n small)
+    sym (ap (λ l. codes "{\"do\":\"show\",\"key\":\"" ++ ((l ++ codes "\"") ++ tail s)) (escape_key k n (omega arith))
     ∙ ap (λ l. codes "{\"do\":\"show\",\"key\":\"" ++ l) (append_assoc (spelled_key k n) (codes "\"") (tail s)))
 
 remove_shaped : (s : ℕ) (k : Kind) (n : ℕ) → n ≤ 65535 → IsNoPort k → line_shape (keyed (codes "remove") s k n) ≡ Ok (Session s (Remove (record { kind = k; number = n })))

@@ -2,20 +2,17 @@
 use Rattle.std.proofs.Common.{◌≡◌, ℕ, ◌+◌, ◌^◌, ◌<◌, ◌≤◌, ◌++◌, List, [], ◌∷◌, length, take, drop, get_or, map, true, false, Option, Result, Ok, Err, OnOk, OnErr, codes, decimal, refl, sym, ap, subst, ◌∙◌, append_assoc, append-nil, length-append, take-append-drop, arith}
 use Rattle.std.proofs.KnownBytes.{Appends-nil, Appends-trans}
 use Rattle.std.specs.Io.KnownBytes.{Appends}
-use Rattle.std.specs.Char.{is_ascii_digit}
-use Rattle.std.specs.List.{list_all}
 use Rattle.std.proofs.Math.Seq.{take-append-add}
-use Rattle.std.proofs.lemmas.Bool.{leb-true}
 use Rattle.std.proofs.lemmas.List.{take-append-le, take_more, drop_all}
-use Rattle.std.proofs.lemmas.Fmt.{digits_decimal}
 use Rattle.json.specs.Print.{escape, escape_byte}
-use Rattle.json.proofs.Printed.Strings.{escape_byte_plain}
 use Rattle.serde_json.specs.Data.{Data, string, boolean}
 use Rattle.serde_json.specs.View.{items_of}
 use Rattle.serde_json.specs.Written.{compact_text, items_text}
 use Rattle.tsn_bytes.specs.Bytes.{IsCut}
 use Rattle.tsn_types.specs.declared.keys.Key.{Key}
 use Rattle.tsn_types.specs.declared.keys.Key.TheVariants as keys
+use Rattle.tsn_types.specs.declared.keys.Kind.TheVariants as kinds
+use Rattle.tsn_types.specs.Keys.{number_of}
 use Rattle.tsn_types.specs.declared.records.PortEntry.{PortEntry}
 use Rattle.tsn_types.specs.declared.records.GateEntry.{GateEntry}
 use Rattle.tsn_types.specs.declared.records.PortGates.{PortGates}
@@ -26,8 +23,8 @@ use Rattle.tsn_types.specs.declared.records.Record.{Record}
 use Rattle.tsn_types.specs.declared.records.Record.TheVariants as records
 use Rattle.tsn_wire.specs.Keys.{key_text}
 use Rattle.tsn_wire.specs.Shown.{or_null, port_entry_data, gate_entry_data, port_data, filter_data, gate_data, meter_data, record_data, shown_data, ids_data, whole_data}
-use Rattle.tsn_wire.specs.Pieces.{TakesFront, number_in, key_front, port_front, gate_front, gate_rest}
-use Rattle.tsn_wire.proofs.Digits.{own, and_parts}
+use Rattle.tsn_wire.specs.Pieces.{TakesFront, key_front, port_front, gate_front, gate_rest}
+use Rattle.tsn_wire.proofs.Escaping.{escape_key}
 
 -- ---- what is taken and what is held
 
@@ -84,29 +81,15 @@ behind_closed f (x ∷ xs) = ap (λ l. 44 ∷ (compact_text (f x) ++ l)) (behind
 
 -- ---- keys
 
--- digits need no escape
-escape_digits : (ds : List ℕ) → list_all is_ascii_digit ds ≡ true → escape ds ≡ ds
-escape_digits [] h = refl
-escape_digits (d ∷ ds) h =
-    let digit = and_parts _ _ h in
-    let bounds = and_parts _ _ digit.0 in
-    let low : 48 ≤ d = leb-true _ _ bounds.0 in
-    let high : d ≤ 57 = leb-true _ _ bounds.1 in
-    ap (λ l. l ++ escape ds) (escape_byte_plain d (λ e. omega arith) (λ e. omega arith) (omega arith)) ∙ ap (λ l. d ∷ l) (escape_digits ds digit.1)
+text_unescaped : (k : Key) → number_of k < 2 ^ 64 → escape (key_text k) ≡ key_text k
+text_unescaped (keys.Port n) small = escape_key kinds.Port n small
+text_unescaped (keys.Filter n) small = escape_key kinds.Filter n small
+text_unescaped (keys.Gate n) small = escape_key kinds.Gate n small
+text_unescaped (keys.Meter n) small = escape_key kinds.Meter n small
 
-escape_decimal : (n : ℕ) → n < 2 ^ 64 → escape (decimal n) ≡ decimal n
-escape_decimal n small = escape_digits (decimal n) (digits_decimal own n small)
-
-escape_key : (k : Key) → number_in k < 2 ^ 64 → escape (key_text k) ≡ key_text k
-unfolding escape_byte
-escape_key (keys.Port n) small = ap (λ l. codes "port " ++ l) (escape_decimal n small)
-escape_key (keys.Filter n) small = ap (λ l. codes "filter " ++ l) (escape_decimal n small)
-escape_key (keys.Gate n) small = ap (λ l. codes "gate " ++ l) (escape_decimal n small)
-escape_key (keys.Meter n) small = ap (λ l. codes "meter " ++ l) (escape_decimal n small)
-
-pub key_pieces : (k : Key) → number_in k < 2 ^ 64 → codes "{\"key\":\"" ++ (key_text k ++ codes "\",\"record\":") ≡ key_front k
+pub key_pieces : (k : Key) → number_of k < 2 ^ 64 → codes "{\"key\":\"" ++ (key_text k ++ codes "\",\"record\":") ≡ key_front k
 key_pieces k small =
-    sym (ap (λ l. codes "{\"key\":\"" ++ ((l ++ codes "\"") ++ codes ",\"record\":")) (escape_key k small)
+    sym (ap (λ l. codes "{\"key\":\"" ++ ((l ++ codes "\"") ++ codes ",\"record\":")) (text_unescaped k small)
     ∙ ap (λ l. codes "{\"key\":\"" ++ l) (append_assoc (key_text k) (codes "\"") (codes ",\"record\":")))
 
 -- ---- records

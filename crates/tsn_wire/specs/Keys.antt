@@ -5,9 +5,9 @@ use Rattle.std.specs.List.{starts_with, list_all}
 use Rattle.std.specs.Str.{bytes_eq}
 use Rattle.std.specs.Str.Parse.{digits_value}
 use Rattle.tsn_types.specs.declared.keys.Key.{Key}
-use Rattle.tsn_types.specs.declared.keys.Key.TheVariants as keys
 use Rattle.tsn_types.specs.declared.keys.Kind.{Kind}
 use Rattle.tsn_types.specs.declared.keys.Kind.TheVariants.{Port, Filter, Gate, Meter}
+use Rattle.tsn_types.specs.Keys.{kind, number_of}
 use Rattle.tsn_wire.specs.declared.drafts.KeyDraft.{KeyDraft}
 
 -- one to ten decimal digits, with no 0 before another digit
@@ -40,9 +40,19 @@ kind_of text =
     else if bytes_eq text (codes "meter") then Some Meter
     else None
 
--- a key: its kind, one space and its number
+abbrev pub kind_text : Kind → List ℕ
+kind_text Port = codes "port"
+kind_text Filter = codes "filter"
+kind_text Gate = codes "gate"
+kind_text Meter = codes "meter"
+
+-- its kind, one space and its number
+abbrev pub spelled_key : Kind → ℕ → List ℕ
+spelled_key Port n = codes "port " ++ decimal n
+spelled_key Filter n = codes "filter " ++ decimal n
+spelled_key Gate n = codes "gate " ++ decimal n
+spelled_key Meter n = codes "meter " ++ decimal n
+
+-- the text of a key
 abbrev pub key_text : Key → List ℕ
-key_text (keys.Port n) = codes "port " ++ decimal n
-key_text (keys.Filter n) = codes "filter " ++ decimal n
-key_text (keys.Gate n) = codes "gate " ++ decimal n
-key_text (keys.Meter n) = codes "meter " ++ decimal n
+key_text k = spelled_key (kind k) (number_of k)

@@ -1,11 +1,10 @@
 -- The text of a shown record in pieces: what stands before its list and behind it, and what a writer took of a text
 -- whose end is still held. All of it is for private clauses.
-use Rattle.std.specs.Prelude.{◌≡◌, ℕ, ◌++◌, List, Option, codes, decimal}
+use Rattle.std.specs.Prelude.{◌≡◌, ◌++◌, ℕ, List, Option, codes, decimal}
 use Rattle.std.specs.Io.KnownBytes.{Appends}
 use Rattle.serde_json.specs.Data.{boolean, string}
 use Rattle.serde_json.specs.Written.{compact_text}
 use Rattle.tsn_types.specs.declared.keys.Key.{Key}
-use Rattle.tsn_types.specs.declared.keys.Key.TheVariants as keys
 use Rattle.tsn_types.specs.declared.records.PortGates.{PortGates}
 use Rattle.tsn_types.specs.declared.records.StreamGate.{StreamGate}
 use Rattle.tsn_wire.specs.Keys.{key_text}
@@ -14,13 +13,6 @@ use Rattle.tsn_wire.specs.Shown.{or_null}
 -- a front of the text was taken, and the rest of it is held
 abbrev pub TakesFront : Option (List ℕ) → Option (List ℕ) → List ℕ → List ℕ → Type 0
 TakesFront old new text held = (gone : List ℕ) × Appends old new gone × (text ≡ gone ++ held)
-
--- the number of a key
-abbrev pub number_in : Key → ℕ
-number_in (keys.Port n) = n
-number_in (keys.Filter n) = n
-number_in (keys.Gate n) = n
-number_in (keys.Meter n) = n
 
 -- up to the record
 abbrev pub key_front : Key → List ℕ

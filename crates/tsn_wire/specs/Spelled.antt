@@ -7,6 +7,7 @@ use Rattle.serde_json.specs.View.{items_of}
 use Rattle.serde_json.specs.Written.{compact_text}
 use Rattle.tsn_types.specs.declared.keys.Kind.{Kind}
 use Rattle.tsn_types.specs.declared.keys.Kind.TheVariants as kinds
+use Rattle.tsn_wire.specs.Keys.{kind_text, spelled_key}
 use Rattle.tsn_wire.specs.Shown.{whole_data, or_null}
 use Rattle.tsn_wire.specs.declared.drafts.KeyDraft.{KeyDraft}
 use Rattle.tsn_wire.specs.declared.drafts.PortEntryDraft.{PortEntryDraft}
@@ -23,19 +24,6 @@ use Rattle.tsn_wire.specs.declared.drafts.CommandDraft.TheVariants.{Create, Repl
 -- a number that a line can hold
 abbrev pub IsSmall : ℕ → Type 0
 IsSmall n = n < 2 ^ 64
-
-abbrev pub kind_text : Kind → List ℕ
-kind_text kinds.Port = codes "port"
-kind_text kinds.Filter = codes "filter"
-kind_text kinds.Gate = codes "gate"
-kind_text kinds.Meter = codes "meter"
-
--- a key as a text
-abbrev pub spelled_key : Kind → ℕ → List ℕ
-spelled_key kinds.Port n = codes "port " ++ decimal n
-spelled_key kinds.Filter n = codes "filter " ++ decimal n
-spelled_key kinds.Gate n = codes "gate " ++ decimal n
-spelled_key kinds.Meter n = codes "meter " ++ decimal n
 
 abbrev pub IsKey : KeyDraft → Type 0
 IsKey k = k.number ≤ 65535

@@ -14,6 +14,8 @@ mod ranges;
 mod reading;
 mod records;
 mod reply;
+#[cfg(test)]
+mod samples;
 mod shown;
 mod spelled;
 mod text;

@@ -11,14 +11,14 @@ ghost use Rattle.tsn_wire.specs.Keys.{key_text};
 ghost use Rattle.tsn_bytes.specs.declared.bytes.Fault.TheVariants.{Write};
 
 use crate::shown::{push_key, write_ids, write_shown};
-use crate::text::ShortText;
+use crate::text::{CAPACITY, ShortText};
 use tsn_bridge::reply::Reply;
 use tsn_bytes::{ByteOut, Fault, put_all};
 use tsn_types::keys::Key;
 use tsn_types::refusals::{Field, Refusal};
 
 fn push_number_member(text: &mut ShortText, name: &str, number: u64)
-    requires { length text.old + length name.now + 24 ≤ 512 }
+    requires { length text.old + length name.now + 24 ≤ CAPACITY }
     ensures text { text.new ≡ text.old ++ number_member name.now number }
     ensures len { length text.new ≤ length text.old + length name.now + 24 }
 {
@@ -30,7 +30,7 @@ fn push_number_member(text: &mut ShortText, name: &str, number: u64)
 }
 
 fn push_key_member(text: &mut ShortText, name: &str, key: Key)
-    requires { length text.old + length name.now + 33 ≤ 512 }
+    requires { length text.old + length name.now + 33 ≤ CAPACITY }
     ensures text { text.new ≡ text.old ++ text_member name.now (key_text key) }
     ensures len { length text.new ≤ length text.old + length name.now + 33 }
 {
@@ -43,7 +43,7 @@ fn push_key_member(text: &mut ShortText, name: &str, key: Key)
 
 #[tactic(auto, using(crate::proofs::Names::field_name_short))]
 fn push_field_member(text: &mut ShortText, field: Field)
-    requires { length text.old + 22 ≤ 512 }
+    requires { length text.old + 22 ≤ CAPACITY }
     ensures text { text.new ≡ text.old ++ text_member (codes "field") (field_name field) }
     ensures len { length text.new ≤ length text.old + 22 }
 {
@@ -53,7 +53,7 @@ fn push_field_member(text: &mut ShortText, field: Field)
 }
 
 fn push_members(text: &mut ShortText, refusal: &Refusal)
-    requires { length text.old + 60 ≤ 512 }
+    requires { length text.old + 60 ≤ CAPACITY }
     ensures text { text.new ≡ text.old ++ members_of refusal.now }
     ensures len { length text.new ≤ length text.old + 60 }
 {

@@ -10,11 +10,12 @@ ghost use Rattle.serde_json.specs.Written.{compact_text, items_text};
 ghost use Rattle.tsn_bytes.specs.Bytes.{IsCut};
 ghost use Rattle.tsn_bytes.specs.declared.bytes.Fault.TheVariants.{Write};
 ghost use Rattle.tsn_types.specs.declared.records.Record.TheVariants as records;
+ghost use Rattle.tsn_types.specs.Keys.{number_of};
 ghost use Rattle.tsn_wire.specs.Shown.{whole_data, or_null, port_entry_data, gate_entry_data, filter_data, meter_data, shown_data, ids_data};
 ghost use Rattle.tsn_wire.specs.Keys.{key_text};
-ghost use Rattle.tsn_wire.specs.Pieces.{TakesFront, number_in, key_front, port_front, gate_front, gate_rest};
+ghost use Rattle.tsn_wire.specs.Pieces.{TakesFront, key_front, port_front, gate_front, gate_rest};
 
-use crate::text::ShortText;
+use crate::text::{CAPACITY, MOST_DIGITS, ShortText};
 use tsn_bytes::{ByteOut, Fault, put_all};
 use tsn_types::keys::Key;
 use tsn_types::numbers::{Handle, MaxSdu, MeterId, Octets, Priority};
@@ -25,7 +26,7 @@ use tsn_types::records::{
 // ---- pieces
 
 fn number_in(key: Key) -> u64
-    ensures { result ≡ number_in key }
+    ensures { result ≡ number_of key }
 {
     match key {
         Key::Port(id) => id.get(),
@@ -37,7 +38,7 @@ fn number_in(key: Key) -> u64
 
 /// Puts the text of a key at the end.
 pub fn push_key(text: &mut ShortText, key: Key)
-    requires { length text.old + 27 ≤ 512 }
+    requires { length text.old + 27 ≤ CAPACITY }
     ensures text { text.new ≡ text.old ++ key_text key }
     ensures len { length text.new ≤ length text.old + 27 }
 {
@@ -51,7 +52,7 @@ pub fn push_key(text: &mut ShortText, key: Key)
 }
 
 fn push_flag(text: &mut ShortText, name: &str, flag: bool)
-    requires { length text.old + length name.now + 5 ≤ 512 }
+    requires { length text.old + length name.now + 5 ≤ CAPACITY }
     ensures text { text.new ≡ text.old ++ (name.now ++ compact_text (boolean flag)) }
     ensures len { length text.new ≤ length text.old + length name.now + 5 }
 {
@@ -64,18 +65,18 @@ fn push_flag(text: &mut ShortText, name: &str, flag: bool)
 }
 
 fn push_number(text: &mut ShortText, name: &str, number: u64)
-    requires { length text.old + length name.now + 20 ≤ 512 }
+    requires { length text.old + length name.now + MOST_DIGITS ≤ CAPACITY }
     ensures text { text.new ≡ text.old ++ (name.now ++ decimal number) }
-    ensures len { length text.new ≤ length text.old + length name.now + 20 }
+    ensures len { length text.new ≤ length text.old + length name.now + MOST_DIGITS }
 {
     text.push(name);
     text.push_number(number);
 }
 
 fn push_or_null(text: &mut ShortText, name: &str, number: Option<u64>)
-    requires { length text.old + length name.now + 20 ≤ 512 }
+    requires { length text.old + length name.now + MOST_DIGITS ≤ CAPACITY }
     ensures text { text.new ≡ text.old ++ (name.now ++ compact_text (or_null number)) }
-    ensures len { length text.new ≤ length text.old + length name.now + 20 }
+    ensures len { length text.new ≤ length text.old + length name.now + MOST_DIGITS }
 {
     text.push(name);
     match number {
@@ -119,7 +120,7 @@ fn plain_octets(number: Option<Octets>) -> Option<u64>
 // ---- records
 
 fn push_filter(text: &mut ShortText, filter: &StreamFilter)
-    requires { length text.old + 170 ≤ 512 }
+    requires { length text.old + 170 ≤ CAPACITY }
     ensures text { text.new ≡ text.old ++ compact_text (filter_data filter.now) }
     ensures len { length text.new ≤ length text.old + 170 }
 {
@@ -133,7 +134,7 @@ fn push_filter(text: &mut ShortText, filter: &StreamFilter)
 }
 
 fn push_meter(text: &mut ShortText, meter: &FlowMeter)
-    requires { length text.old + 170 ≤ 512 }
+    requires { length text.old + 170 ≤ CAPACITY }
     ensures text { text.new ≡ text.old ++ compact_text (meter_data meter.now) }
     ensures len { length text.new ≤ length text.old + 170 }
 {
@@ -149,7 +150,7 @@ fn push_meter(text: &mut ShortText, meter: &FlowMeter)
 }
 
 fn push_port_front(text: &mut ShortText, port: &PortGates)
-    requires { length text.old + 150 ≤ 512 }
+    requires { length text.old + 150 ≤ CAPACITY }
     ensures text { text.new ≡ text.old ++ port_front port.now }
     ensures len { length text.new ≤ length text.old + 150 }
 {
@@ -161,7 +162,7 @@ fn push_port_front(text: &mut ShortText, port: &PortGates)
 }
 
 fn push_gate_front(text: &mut ShortText, gate: &StreamGate)
-    requires { length text.old + 150 ≤ 512 }
+    requires { length text.old + 150 ≤ CAPACITY }
     ensures text { text.new ≡ text.old ++ gate_front gate.now }
     ensures len { length text.new ≤ length text.old + 150 }
 {
@@ -198,14 +199,24 @@ fn push_key_front(text: &mut ShortText, key: Key)
 
 // ---- lists
 
+// The most bytes before a list, of one item of it, and behind its bracket.
+const LONGEST_FRONT: usize = 200;
+
+const LONGEST_ITEM: usize = 72;
+
+const LONGEST_REST: usize = 50;
+
+// The most bytes that may be held before a comma and an item, so that the bracket and the rest have room behind them.
+const MOST_BEFORE_ITEM: usize = CAPACITY - LONGEST_REST - LONGEST_ITEM - 2;
+
 /// What is shown in a list.
 trait ShownItem {
     ghost shown: { Self → Data };
 
     fn push(&self, text: &mut ShortText)
-        requires { length text.old + 72 ≤ 512 }
+        requires { length text.old + LONGEST_ITEM ≤ CAPACITY }
         ensures text { text.new ≡ text.old ++ compact_text (shown self.now) }
-        ensures len { length text.new ≤ length text.old + 72 };
+        ensures len { length text.new ≤ length text.old + LONGEST_ITEM };
 }
 
 impl ShownItem for u64 {
@@ -242,13 +253,13 @@ impl ShownItem for GateEntry {
 fn make_room<W: ByteOut>(writer: &mut W, text: &mut ShortText) -> Result<(), Fault>
     ensures ok { OnOk result (
         TakesFront (W.taken writer.old) (W.taken writer.new) text.old text.new) }
-    ensures room { OnOk result (length text.new ≤ 384) }
+    ensures room { OnOk result (length text.new ≤ MOST_BEFORE_ITEM) }
     ensures worked { OnOk result (W.has_failed writer.new ≡ W.has_failed writer.old) }
     ensures fault { IfErr result (λ e. e ≡ Write) }
     ensures failed { OnErr result (W.has_failed writer.new ≡ true) }
     ensures cut { OnErr result (IsCut (W.taken writer.old) (W.taken writer.new) text.old) }
 {
-    if text.as_slice().len() > 384 {
+    if text.as_slice().len() > MOST_BEFORE_ITEM {
         put_all(writer, text.as_slice())?;
         text.clear();
     }
@@ -262,8 +273,8 @@ fn write_listed<W: ByteOut, I: ShownItem>(
     items: &[I],
     rest: &[u8],
 ) -> Result<(), Fault>
-    requires front { length text.old ≤ 200 }
-    requires rest { length rest.now ≤ 50 }
+    requires front { length text.old ≤ LONGEST_FRONT }
+    requires rest { length rest.now ≤ LONGEST_REST }
     ensures ok { OnOk result (Appends (W.taken writer.old) (W.taken writer.new)
         (text.old ++ (items_text false (items_of (map I.shown items.now)) ++ rest.now))) }
     ensures worked { OnOk result (W.has_failed writer.new ≡ W.has_failed writer.old) }

@@ -1,12 +1,15 @@
 //! A short text in a buffer of fixed size, which takes no memory.
-ghost use Rattle.std.specs.Prelude.{◌≡◌, ◌+◌, ◌≤◌, ℕ, List, [], ◌++◌, length, take, decimal};
+ghost use Rattle.std.specs.Prelude.{◌≡◌, ◌+◌, ◌≤◌, [], ◌++◌, length, decimal};
 
 use std::marker::Model;
 
 /// How many bytes a short text holds.
 pub const CAPACITY: usize = 512;
 
-/// A text of at most 512 bytes, which contracts see as the list of its bytes.
+/// The most digits of a number of 64 bits.
+pub const MOST_DIGITS: usize = 20;
+
+/// A text of at most `CAPACITY` bytes, which contracts see as the list of its bytes.
 #[derive(Drop)]
 pub struct ShortText {
     bytes: [u8; CAPACITY],
@@ -14,11 +17,14 @@ pub struct ShortText {
 }
 
 impl Model for ShortText {
+    ghost use Rattle.std.specs.Prelude.{ℕ, ◌≤◌, List, take};
+    ghost use Rattle.tsn_wire.specs.declared.text.TheConstants.{CAPACITY};
+
     ghost Value = { List ℕ };
 
     ghost view = { λ t. take t.len t.bytes };
 
-    ghost invariant = { λ t. t.len ≤ 512 };
+    ghost invariant = { λ t. t.len ≤ CAPACITY };
 }
 
 impl ShortText {
@@ -34,7 +40,7 @@ impl ShortText {
 
     /// Puts the bytes at the end.
     pub fn push_bytes(&mut self, piece: &[u8])
-        requires { length self.old + length piece.now ≤ 512 }
+        requires { length self.old + length piece.now ≤ CAPACITY }
         ensures text { self.new ≡ self.old ++ piece.now }
         ensures len { length self.new ≡ length self.old + length piece.now }
     {
@@ -45,7 +51,7 @@ impl ShortText {
 
     /// Puts the piece at the end.
     pub fn push(&mut self, piece: &str)
-        requires { length self.old + length piece.now ≤ 512 }
+        requires { length self.old + length piece.now ≤ CAPACITY }
         ensures text { self.new ≡ self.old ++ piece.now }
         ensures len { length self.new ≡ length self.old + length piece.now }
     {
@@ -54,9 +60,9 @@ impl ShortText {
 
     /// Puts the number at the end, in decimal digits.
     pub fn push_number(&mut self, number: u64)
-        requires { length self.old + 20 ≤ 512 }
+        requires { length self.old + MOST_DIGITS ≤ CAPACITY }
         ensures text { self.new ≡ self.old ++ decimal number }
-        ensures len { length self.new ≤ length self.old + 20 }
+        ensures len { length self.new ≤ length self.old + MOST_DIGITS }
     {
         let mut buffer = itoa::Buffer::new();
         self.push(buffer.format(number));

@@ -2,6 +2,7 @@
 mod tables;
 
 use super::command_of;
+use crate::samples::{printed, spaced};
 use std::alloc::Global;
 use std::test::Fail;
 use tsn_bridge::command::Command;
@@ -59,13 +60,30 @@ fn reads_each_command(rt: HostRuntime) -> Result<(), Fail> {
     Ok(())
 }
 
-/// The refusal of a line, none where it is read; an error where memory is refused.
-fn refusal(alloc: Global, line: &[u8]) -> Result<Option<Refusal>, Refusal> {
+/// The refusal of a line in this very spelling, none where it is read; an error where memory is refused.
+fn refusal_as_spelled(alloc: Global, line: &[u8]) -> Result<Option<Refusal>, Refusal> {
     match command_of(alloc, line) {
         Ok(_line) => Ok(None),
         Err(Refusal::Memory) => Err(Refusal::Memory),
         Err(refusal) => Ok(Some(refusal)),
     }
+}
+
+/// The refusal of a line, none where it is read: the same in its own spelling, in the service's and with spaces.
+fn refusal(alloc: Global, line: &[u8]) -> Result<Option<Refusal>, Fail> {
+    let found = refusal_as_spelled(alloc, line)?;
+    if refusal_as_spelled(alloc, spaced(alloc, line)?.as_slice())? != found {
+        return Err(Fail::from("with spaces it is read otherwise"));
+    }
+    let Ok(text) = std::str::from_utf8(line) else {
+        return Ok(found);
+    };
+    if let Some(text) = printed(alloc, text)?
+        && refusal_as_spelled(alloc, text.as_bytes())? != found
+    {
+        return Err(Fail::from("in the service's own spelling it is read otherwise"));
+    }
+    Ok(found)
 }
 
 #[test]

@@ -1,9 +1,10 @@
 //! The line of each form of reply.
 use super::{write_refusal, write_reply};
+use crate::samples::{GATE, KINDS, PORT, Row, create_line, printed, record_text};
 use crate::shown::write_ids;
 use crate::text::ShortText;
 use crate::{Failing, Fault, Line, MemOut, command_of};
-use std::alloc::Global;
+use std::alloc::{AllocError, Global};
 use std::process::Abort;
 use std::test::Fail;
 use tsn_bridge::command::Command;
@@ -13,7 +14,16 @@ use tsn_types::numbers::{FilterId, GateId, MeterId, PortId};
 use tsn_types::records::Record;
 use tsn_types::refusals::{Field, Refusal};
 
+// The value of a text as `serde_json` prints it, and a line feed.
+fn line_of(alloc: Global, text: &str) -> Result<String, Fail> {
+    let mut line = printed(alloc, text)?.ok_or("no value")?;
+    line.push_str("\n")?;
+    Ok(line)
+}
+
+// The text is the line of the reply, and the same as `serde_json` prints of its value.
 fn spells(rt: &impl Abort, alloc: Global, reply: &Reply, text: &str) -> Result<(), Fail> {
+    assert_eq!(rt; line_of(alloc, text)?.as_str(), text);
     let mut writer = MemOut::new(Vec::with_capacity(alloc, text.len())?, 1000, None);
     write_reply(&mut writer, reply)?;
     assert_eq!(rt; writer.as_slice(), text.as_bytes());
@@ -123,18 +133,11 @@ fn created(command: Command) -> Option<(Key, Record)> {
     }
 }
 
-// Creates the record of this text, and shows it as the same text.
+// Creates the record of this text, and shows it as the same value.
 fn shows(rt: &impl Abort, alloc: Global, key: &str, record: &str) -> Result<(), Fail> {
-    let mut line = String::from_str(alloc, "{\"do\":\"create\",\"key\":\"")?;
-    line.push_str(key)?;
-    line.push_str("\",\"record\":")?;
-    line.push_str(record)?;
-    line.push_str(",\"s\":1}")?;
-    let mut text = String::from_str(alloc, "{\"key\":\"")?;
-    text.push_str(key)?;
-    text.push_str("\",\"record\":")?;
-    text.push_str(record)?;
-    text.push_str("}\n")?;
+    let line = create_line(alloc, key, record)?;
+    let text = format!(in alloc; "{{\"key\":\"{key}\",\"record\":{record}}}")?;
+    let text = line_of(alloc, text.as_str())?;
     let Line { session, command } = command_of(alloc, line.as_bytes())?;
     assert_eq!(rt; session, 1);
     let (key, value) = created(command).ok_or("no create")?;
@@ -142,6 +145,7 @@ fn shows(rt: &impl Abort, alloc: Global, key: &str, record: &str) -> Result<(), 
 }
 
 fn lists(rt: &impl Abort, alloc: Global, ids: &[u64], text: &str) -> Result<(), Fail> {
+    assert_eq!(rt; line_of(alloc, text)?.as_str(), text);
     let mut writer = MemOut::new(Vec::with_capacity(alloc, text.len())?, 1000, None);
     write_ids(&mut writer, &mut ShortText::new(), ids)?;
     assert_eq!(rt; writer.as_slice(), text.as_bytes());
@@ -180,6 +184,52 @@ fn shows_each_record(rt: HostRuntime) -> Result<(), Fail> {
     Ok(())
 }
 
+#[test]
+fn shows_each_member_at_both_ends(rt: HostRuntime) -> Result<(), Fail> {
+    let alloc = rt.alloc();
+    for (key, rows) in KINDS {
+        for (index, row) in rows.iter().enumerate() {
+            for text in row.good.split(' ') {
+                let record = record_text(alloc, rows, &[(index, text)], "")?;
+                shows(&rt, alloc, key, record.as_str())?;
+            }
+        }
+    }
+    Ok(())
+}
+
+// A list of so many entries of this text.
+fn list_text(alloc: Global, entry: &str, count: u32) -> Result<String, AllocError> {
+    let mut list = String::from_str(alloc, "[")?;
+    for place in 0..count {
+        if place != 0 {
+            list.push_str(",")?;
+        }
+        list.push_str(entry)?;
+    }
+    list.push_str("]")?;
+    Ok(list)
+}
+
+#[test]
+fn shows_lists_of_each_length(rt: HostRuntime) -> Result<(), Fail> {
+    let alloc = rt.alloc();
+    let cases: [(&str, &[Row], usize, &str); 4] = [
+        ("port 1", &PORT, 1, "[0,1]"),
+        ("port 64", &PORT, 1, "[255,4294967295]"),
+        ("gate 0", &GATE, 2, "[true,null,1,null]"),
+        ("gate 65535", &GATE, 2, "[false,7,4294967295,4294967295]"),
+    ];
+    for (key, rows, place, entry) in cases {
+        for count in [0u32, 1, 16, 1024] {
+            let list = list_text(alloc, entry, count)?;
+            let record = record_text(alloc, rows, &[(place, list.as_str())], "")?;
+            shows(&rt, alloc, key, record.as_str())?;
+        }
+    }
+    Ok(())
+}
+
 // The numbers from 0 on, so many, and their line.
 fn numbers(alloc: Global, count: u64) -> Result<(Vec<u64>, String), Fail> {
     let mut ids = Vec::new(alloc);
@@ -198,7 +248,7 @@ fn numbers(alloc: Global, count: u64) -> Result<(Vec<u64>, String), Fail> {
 #[test]
 fn lists_more_numbers_than_fit_at_once(rt: HostRuntime) -> Result<(), Fail> {
     let alloc = rt.alloc();
-    for count in [1u64, 100, 130, 131, 132, 133, 134, 135, 1000] {
+    for count in [1u64, 16, 100, 130, 131, 132, 133, 134, 135, 1000, 1024] {
         let (ids, text) = numbers(alloc, count)?;
         lists(&rt, alloc, ids.as_slice(), text.as_str())?;
     }
