@@ -1,6 +1,10 @@
 -- What a writer in front of another holds.
 use Rattle.std.specs.Prelude.{ℕ, List, Bool}
 
+-- The most bytes that are held.
+abbrev pub most_held : ℕ
+most_held = 65536
+
 -- The writer behind, the bytes that it has not been given yet, how many more fit behind them before it is given
 -- them all, and whether a call has failed.
 pub record Held (W : Type 0) : Type 0 where

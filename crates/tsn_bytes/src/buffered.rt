@@ -2,6 +2,7 @@
 //! It relies on the writer behind it, to which it gives all that it holds when it is full or flushed.
 ghost use Rattle.std.specs.Prelude.{◌≡◌, ◌+◌, ◌≤◌, ◌++◌, [], vec_len, vec_capacity, length, false, true, IfOk, OnOk, OnErr};
 ghost use Rattle.std.specs.Io.KnownBytes.{append_known, Keeps};
+ghost use Rattle.tsn_bytes.specs.Buffered.{most_held};
 
 use crate::bytes::{ByteOut, Failed};
 use std::alloc::{AllocError, Global};
@@ -23,19 +24,19 @@ pub struct Buffered<W> {
 
 impl<W> Model for Buffered<W> {
     ghost use Rattle.std.specs.Prelude.{◌≤◌, ◌-◌, drop, vec_len, vec_capacity};
-    ghost use Rattle.tsn_bytes.specs.Buffered.{Held};
+    ghost use Rattle.tsn_bytes.specs.Buffered.{Held, most_held};
 
     ghost Value = { Held W };
 
     ghost view = { λ b. record {
       inner = b.inner;
       pending = drop b.start b.bytes.items;
-      room = 65536 - vec_len b.bytes;
+      room = most_held - vec_len b.bytes;
       has_failed = b.has_failed;
     } };
 
-    ghost invariant = { λ b. (b.start ≤ vec_len b.bytes) × (vec_len b.bytes ≤ 65536)
-        × (65536 ≤ vec_capacity b.bytes) };
+    ghost invariant = { λ b. (b.start ≤ vec_len b.bytes) × (vec_len b.bytes ≤ most_held)
+        × (most_held ≤ vec_capacity b.bytes) };
 }
 
 impl<W: ByteOut> Buffered<W> {
@@ -46,7 +47,7 @@ impl<W: ByteOut> Buffered<W> {
         ensures { IfOk result (λ b. b ≡ record {
           inner = inner;
           pending = [];
-          room = 65536;
+          room = most_held;
           has_failed = false;
         }) }
     {
@@ -70,7 +71,7 @@ impl<W: ByteOut> Buffered<W> {
     fn hand_on(&mut self) -> Result<(), Failed>
         ensures bytes { Keeps (append_known (W.taken self.old.inner) self.old.pending)
             (append_known (W.taken self.new.inner) self.new.pending) }
-        ensures ok { OnOk result ((self.new.pending ≡ []) × (self.new.room ≡ 65536)) }
+        ensures ok { OnOk result ((self.new.pending ≡ []) × (self.new.room ≡ most_held)) }
         ensures worked { OnOk result (self.new.has_failed ≡ self.old.has_failed) }
         ensures failed { OnErr result (self.new.has_failed ≡ true) }
     {

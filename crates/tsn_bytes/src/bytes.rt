@@ -3,7 +3,7 @@
 //! all code above is written over the two traits, so that it runs in memory as it runs over a terminal.
 ghost use Rattle.std.specs.Prelude.{◌≡◌, ℕ, ◌<◌, ◌≤◌, List, [], Option, Bool, true, length, take, IfOk, IfErr, OnOk, OnErr};
 ghost use Rattle.std.specs.Io.KnownBytes.{Consumes, Appends, Keeps, IsAtEnd};
-ghost use Rattle.tsn_bytes.specs.Bytes.{IsCut};
+ghost use Rattle.tsn_bytes.specs.Bytes.{IsCut, Counts};
 
 /// A call of a reader or a writer failed. It moved no byte.
 #[derive(Clone, Copy, Debug, PartialEq, Eq)]
@@ -18,6 +18,8 @@ pub enum Fault {
     Write,
     /// Memory was wanted and not there.
     Memory,
+    /// What answers the lines can answer no more.
+    Exhausted,
 }
 
 /// A reader of bytes.
@@ -25,12 +27,16 @@ pub trait ByteIn {
     // The bytes that are still to come, where they are known.
     ghost remaining: { Self → Option (List ℕ) };
 
+    // How many calls were made, as far as they are counted.
+    ghost calls: { Self → ℕ };
+
     // Whether a call has failed.
     ghost has_failed: { Self → Bool };
 
     /// Puts bytes into the front of the buffer and says how many. 0 for a buffer that is not empty is the end.
     /// A failed call moves no byte.
     fn pull(&mut self, buffer: &mut [u8]) -> Result<usize, Failed>
+        ensures calls { Counts (calls self.old) (calls self.new) 1 }
         ensures count { IfOk result (λ n. n ≤ length buffer.new) }
         ensures bytes { IfOk result (λ n.
             Consumes (remaining self.old) (remaining self.new) (take n buffer.new)) }
