@@ -1,3 +1,5 @@
 pub mod Cutting
 pub mod Running
 pub mod OneCut
+pub mod Ending
+pub mod Writing

@@ -1,14 +1,15 @@
 -- How a script goes on while its input comes in pieces. Each fact says what a piece adds to any input before it.
 use Rattle.std.specs.Prelude.{◌≡◌, ℕ, ◌++◌, List, false, true, Option}
-use Rattle.tsn_serve.specs.Lines.{Splits, held}
-use Rattle.tsn_serve.specs.Script.{Answering, Run, IsScript, CutScript}
+use Rattle.tsn_serve.specs.Lines.{Splits, short_line}
+use Rattle.tsn_bytes.specs.declared.bytes.Fault.{Fault}
+use Rattle.tsn_serve.specs.Script.{Answering, Breaking, Run, IsScript, BrokenScript}
 
 -- The input so far is whole lines, which were answered, and a rest, of which this is held.
 pub record Going {S : Type 0} (answers : Answering S) (opening : S) (input : List ℕ) (kept : Option (List ℕ)) (text : List ℕ) (now : S) : Type 0 where
   pub lines : List (List ℕ)
   pub rest : List ℕ
   pub splits : Splits input lines rest
-  pub kept_is : kept ≡ held rest
+  pub kept_is : kept ≡ short_line rest
   pub run : Run answers opening lines text now
 
 -- A piece goes on with any script, from what is held to what is held then, and adds this text.
@@ -25,16 +26,16 @@ Ends {S} answers old kept text new =
     → Going answers opening input kept before old
     → IsScript answers opening input (before ++ text) new
 
--- In a piece the writer fails, whatever the script before it, and these bytes of its text are written.
-abbrev pub Cuts : {S : Type 0} → Answering S → S → Option (List ℕ) → List ℕ → List ℕ → S → Type 0
-Cuts {S} answers old kept piece written new =
+-- In a piece an answer breaks off, whatever the script before it, and these bytes of its text are written.
+abbrev pub Breaks : {S : Type 0} → Answering S → Breaking S → Fault → S → Option (List ℕ) → List ℕ → List ℕ → S → Type 0
+Breaks {S} answers breaks fault old kept piece written new =
     (opening : S) (input before : List ℕ)
     → Going answers opening input kept before old
-    → CutScript answers false opening (input ++ piece) (before ++ written) new
+    → BrokenScript answers breaks fault false opening (input ++ piece) (before ++ written) new
 
--- At the end of the input the writer fails, and these bytes of the last text are written.
-abbrev pub EndCuts : {S : Type 0} → Answering S → S → Option (List ℕ) → List ℕ → S → Type 0
-EndCuts {S} answers old kept written new =
+-- At the end of the input the last answer breaks off, and these bytes of it are written.
+abbrev pub EndBreaks : {S : Type 0} → Answering S → Breaking S → Fault → S → Option (List ℕ) → List ℕ → S → Type 0
+EndBreaks {S} answers breaks fault old kept written new =
     (opening : S) (input before : List ℕ)
     → Going answers opening input kept before old
-    → CutScript answers true opening input (before ++ written) new
+    → BrokenScript answers breaks fault true opening input (before ++ written) new

@@ -1,29 +1,29 @@
 -- What is written for an input, by what may be written for a line.
-use Rattle.std.specs.Prelude.{◌≡◌, ◌≢◌, ◌⊎◌, ℕ, ◌<◌, ◌++◌, List, [], ◌∷◌, Bool, true, false, length, take, Option, Some, None}
+use Rattle.std.specs.Prelude.{◌≡◌, ◌≢◌, ◌⊎◌, ℕ, ◌<◌, ◌++◌, List, [], ◌∷◌, Bool, true, false, length, take, Option}
 use Rattle.std.specs.List.{flat_map, AllByRecursion}
-use Rattle.tsn_types.specs.declared.refusals.Refusal.TheVariants.{TooLong}
-use Rattle.tsn_wire.specs.Replies.{refusal_text}
-use Rattle.tsn_serve.specs.Lines.{Splits, HasNoLineFeed, ended, last_line, held}
+use Rattle.tsn_bytes.specs.declared.bytes.Fault.{Fault}
+use Rattle.tsn_serve.specs.Lines.{Splits, HasNoLineFeed, with_line_feed, last_line, short_line}
 
 -- What may be written for a line: answers old line text new says that from the state old the line may have this
--- text, its line feed in it, with the state new after it.
+-- text, its line feed in it, with the state new after it. None is a line that is too long.
 abbrev pub Answering : Type 0 → Type 1
-Answering S = S → List ℕ → List ℕ → S → Type 0
+Answering S = S → Option (List ℕ) → List ℕ → S → Type 0
 
--- What is held of a line is answered; a line that is too long is refused, by refusal 1, and changes nothing.
-abbrev pub AnswersHeld : {S : Type 0} → Answering S → S → Option (List ℕ) → List ℕ → S → Type 0
-AnswersHeld answers old None text new = (text ≡ refusal_text TooLong) × (new ≡ old)
-AnswersHeld answers old (Some line) text new = answers old line text new
+-- How an answer may break off: breaks old line fault part new says that from the state old the answer to the line may
+-- end by this fault, with this part of it written and the state new after it.
+abbrev pub Breaking : Type 0 → Type 1
+Breaking S = S → Option (List ℕ) → Fault → List ℕ → S → Type 0
 
-abbrev pub AnswersLine : {S : Type 0} → Answering S → S → List ℕ → List ℕ → S → Type 0
-AnswersLine answers old line text new = AnswersHeld answers old (held line) text new
+-- The part is a front of the text, and not all of it.
+abbrev pub IsFront : List ℕ → List ℕ → Type 0
+IsFront part text = (n : ℕ) × (n < length text) × (part ≡ take n text)
 
 -- Each line is answered once, in order: the text is the replies one after another, with the state going on.
 abbrev pub Run : {S : Type 0} → Answering S → S → List (List ℕ) → List ℕ → S → Type 0
 Run answers old [] text new = (text ≡ []) × (new ≡ old)
 Run {S} answers old (line ∷ lines) text new =
     (mid : S) × (reply : List ℕ) × (more : List ℕ)
-    × AnswersLine answers old line reply mid
+    × answers old (short_line line) reply mid
     × Run answers mid lines more new
     × (text ≡ reply ++ more)
 
@@ -50,21 +50,19 @@ AllAnswered answers false old input text new = OpenScript answers old input text
 -- end, they are all of it, and the last is ended by that.
 abbrev pub AreFirst : Bool → List ℕ → List (List ℕ) → List ℕ → Type 0
 AreFirst at_end input lines line =
-    ((more : List ℕ) × (input ≡ flat_map ended (lines ++ line ∷ []) ++ more))
-    ⊎ ((at_end ≡ true) × (line ≢ []) × (input ≡ flat_map ended lines ++ line))
+    ((more : List ℕ) × (input ≡ flat_map with_line_feed (lines ++ line ∷ []) ++ more))
+    ⊎ ((at_end ≡ true) × (line ≢ []) × (input ≡ flat_map with_line_feed lines ++ line))
 
--- The text of a script whose writer failed: a run over the first lines, of which each reply went out but the
--- last, and of that a part. The state is that after the last of these lines.
-pub record CutScript {S : Type 0} (answers : Answering S) (at_end : Bool) (opening : S) (input written : List ℕ) (now : S) : Type 0 where
+-- The text of a script that broke off in an answer: a run over the first lines, of which each reply went out, and
+-- then a line whose answer broke off. The state is that after this line.
+pub record BrokenScript {S : Type 0} (answers : Answering S) (breaks : Breaking S) (fault : Fault) (at_end : Bool) (opening : S) (input written : List ℕ) (now : S) : Type 0 where
   pub lines : List (List ℕ)
   pub line : List ℕ
   pub text : List ℕ
   pub mid : S
-  pub reply : List ℕ
-  pub taken : ℕ
+  pub part : List ℕ
   pub first : AreFirst at_end input lines line
   pub each : AllByRecursion HasNoLineFeed (lines ++ line ∷ [])
   pub run : Run answers opening lines text mid
-  pub answer : AnswersLine answers mid line reply now
-  pub less : taken < length reply
-  pub written_is : written ≡ text ++ take taken reply
+  pub broken : breaks mid (short_line line) fault part now
+  pub written_is : written ≡ text ++ part

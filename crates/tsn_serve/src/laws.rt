@@ -1,6 +1,6 @@
 //! Laws of the definitions, for a reader who wants to know that they say what they seem to.
 ghost use Rattle.std.specs.Prelude.{◌≡◌, ℕ, ◌≤◌, ◌<◌, List, [], ◌∷◌, ◌++◌, length, codes, Some, None};
-ghost use Rattle.tsn_serve.specs.Lines.{Splits, last_line, held};
+ghost use Rattle.tsn_serve.specs.Lines.{Splits, last_line, longest_line, short_line};
 
 /// Bytes are cut into lines in one way, so a script has one list of lines.
 pub fn one_cut()
@@ -15,6 +15,6 @@ pub fn example_cuts()
         × (last_line (codes "b") ≡ codes "b" ∷ []) }
     ensures empty_line { Splits (codes "a\n\nb\n") (codes "a" ∷ [] ∷ codes "b" ∷ []) []
         × (last_line [] ≡ []) }
-    ensures longest { (line : List ℕ) → length line ≤ 65536 → held line ≡ Some line }
-    ensures too_long { (line : List ℕ) → 65536 < length line → held line ≡ None }
+    ensures longest { (line : List ℕ) → length line ≤ longest_line → short_line line ≡ Some line }
+    ensures too_long { (line : List ℕ) → longest_line < length line → short_line line ≡ None }
 {}

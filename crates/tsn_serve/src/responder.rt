@@ -1,98 +1,55 @@
-//! The loop that answers a script line by line, in whatever pieces its bytes come.
+//! The loop that answers lines, in whatever pieces their bytes come.
 //! It is generic in what answers a line, and relies on that one's contract, on the reader's and on the writer's.
-ghost use Rattle.std.specs.Prelude.{◌≡◌, ◌≢◌, ◌<◌, ◌≤◌, ◌+◌, ◌++◌, ℕ, List, [], ◌∷◌, length, take, Some, IfSome, true, IfErr, OnOk, OnErr, IsErrOf, Err};
-ghost use Rattle.std.specs.Io.KnownBytes.{Appends, Keeps};
-ghost use Rattle.tsn_bytes.specs.Bytes.{IsCut};
-ghost use Rattle.tsn_bytes.specs.declared.bytes.Fault.TheVariants.{Read, Write, Memory};
-ghost use Rattle.tsn_serve.specs.Lines.{HasNoLineFeed};
-ghost use Rattle.tsn_serve.specs.Script.{AnswersHeld};
-ghost use Rattle.tsn_serve.specs.Pieces.{Feeds, Ends, Cuts, EndCuts};
-ghost use Rattle.tsn_serve.specs.Outcomes.{Completes, BreaksOff, IsCutOff};
+ghost use Rattle.std.specs.Prelude.{◌≡◌, ◌≢◌, ◌⊎◌, ◌<◌, ◌≤◌, ◌+◌, ◌++◌, ℕ, Option, List, [], ◌∷◌, length, take, Some, IfSome, true, IfOk, IfErr, OnOk, OnErr, IsErrOf, Err, option_map};
+ghost use Rattle.std.specs.Io.KnownBytes.{Appends, Consumes, Keeps, IsAtEnd};
+ghost use Rattle.tsn_bytes.specs.Bytes.{Counts};
+ghost use Rattle.tsn_bytes.specs.declared.bytes.Fault.{Fault as AnyFault};
+ghost use Rattle.tsn_bytes.specs.declared.bytes.Fault.TheVariants.{Write, Memory, Exhausted};
+ghost use Rattle.tsn_serve.specs.Lines.{HasNoLineFeed, longest_line};
+ghost use Rattle.tsn_serve.specs.Pieces.{Feeds, Ends, Breaks, EndBreaks};
+ghost use Rattle.tsn_serve.specs.Outcomes.{Outcome, moment};
 
 use crate::line_buffer::{LineBuffer, MAX_LINE};
 use memchr::memchr;
 use std::alloc::Global;
-use tsn_types::refusals::Refusal;
-use tsn_wire::{ByteIn, ByteOut, Fault, write_refusal};
+use tsn_wire::{ByteIn, ByteOut, Failed, Fault};
 
 // The most bytes of one read.
 const CHUNK: usize = 65536;
 
-/// What answers a command line that is not too long.
+/// What answers command lines.
 pub trait Responder {
-    // From the state old the line may have this text, its line feed in it, with the state new after it.
-    ghost answers: { Self → List ℕ → List ℕ → Self → Type 0 };
+    // From the state old a line may have this text, its line feed in it, with the state new after it. None is a line
+    // that is too long.
+    ghost answers: { Self → Option (List ℕ) → List ℕ → Self → Type 0 };
 
-    /// Answers a line, given without its line feed. The one fault is `Write`, where the writer failed: the state
-    /// is then that after the line, and a front of its text is written.
+    // From the state old the answer to a line may end by this fault, with this part of it written and the state new
+    // after it.
+    ghost breaks: { Self → Option (List ℕ) → AnyFault → List ℕ → Self → Type 0 };
+
+    /// Answers a line, given without its line feed; none is a line that is too long. The faults are `Write`, where
+    /// the writer failed, and `Exhausted`, where the responder can answer no more.
     fn answer<W: ByteOut>(
         &mut self,
         alloc: Global,
-        line: &[u8],
+        line: Option<&[u8]>,
         writer: &mut W,
     ) -> Result<(), Fault>
-        ensures ok { OnOk result ((text : List ℕ) × answers self.old line.now text self.new
+        ensures ok { OnOk result ((text : List ℕ)
+            × answers self.old (option_map (λ s. s.now) line.entry) text self.new
             × Appends (W.taken writer.old) (W.taken writer.new) text) }
-        ensures worked { OnOk result (W.has_failed writer.new ≡ W.has_failed writer.old) }
-        ensures fault { IfErr result (λ e. e ≡ Write) }
-        ensures failed { OnErr result (W.has_failed writer.new ≡ true) }
-        ensures cut { OnErr result ((text : List ℕ) × answers self.old line.now text self.new
-            × IsCut (W.taken writer.old) (W.taken writer.new) text) };
+        ensures worked { result ≢ Err Write → W.has_failed writer.new ≡ W.has_failed writer.old }
+        ensures fault { IfErr result (λ e. (e ≡ Write) ⊎ (e ≡ Exhausted)) }
+        ensures failed { IsErrOf result Write → W.has_failed writer.new ≡ true }
+        ensures broken { IfErr result (λ e. (part : List ℕ)
+            × breaks self.old (option_map (λ s. s.now) line.entry) e part self.new
+            × Appends (W.taken writer.old) (W.taken writer.new) part) };
 }
 
-// Answers what is held of a line that ended.
-fn answer_held<A: Responder, W: ByteOut>(
-    alloc: Global,
-    responder: &mut A,
-    line: &LineBuffer,
-    writer: &mut W,
-) -> Result<(), Fault>
-    ensures ok { OnOk result ((text : List ℕ)
-        × AnswersHeld A.answers responder.old line.now text responder.new
-        × Appends (W.taken writer.old) (W.taken writer.new) text) }
-    ensures worked { OnOk result (W.has_failed writer.new ≡ W.has_failed writer.old) }
-    ensures fault { IfErr result (λ e. e ≡ Write) }
-    ensures failed { OnErr result (W.has_failed writer.new ≡ true) }
-    ensures cut { OnErr result ((text : List ℕ)
-        × AnswersHeld A.answers responder.old line.now text responder.new
-        × IsCut (W.taken writer.old) (W.taken writer.new) text) }
-{
-    match line.get() {
-        Some(bytes) => responder.answer(alloc, bytes, writer),
-        None => write_refusal(writer, &Refusal::TooLong),
-    }
-}
-
-fn feed_byte<A: Responder, W: ByteOut>(
-    alloc: Global,
-    responder: &mut A,
-    line: &mut LineBuffer,
-    byte: u8,
-    writer: &mut W,
-) -> Result<(), Fault>
-    ensures ok { OnOk result ((text : List ℕ)
-        × Feeds A.answers responder.old line.old (byte ∷ []) text responder.new line.new
-        × Appends (W.taken writer.old) (W.taken writer.new) text) }
-    ensures worked { OnOk result (W.has_failed writer.new ≡ W.has_failed writer.old) }
-    ensures fault { IfErr result (λ e. e ≡ Write) }
-    ensures failed { OnErr result (W.has_failed writer.new ≡ true) }
-    ensures cut { OnErr result ((written : List ℕ)
-        × Cuts A.answers responder.old line.old (byte ∷ []) written responder.new
-        × Appends (W.taken writer.old) (W.taken writer.new) written) }
-{
-    if byte != b'\n' {
-        line.push(byte);
-        return Ok(());
-    }
-    answer_held(alloc, responder, line, writer)?;
-    line.clear();
-    Ok(())
-}
-
-// The line that lies whole in these bytes, up to their first line feed, where nothing is held of an earlier one.
+// The line that lies whole in these bytes, up to their first line feed, where nothing is kept of an earlier one.
 fn whole_line<'p>(line: &LineBuffer, bytes: &'p [u8]) -> Option<&'p [u8]>
     ensures fresh { IfSome result (λ _. line.now ≡ Some []) }
-    ensures short { IfSome result (λ whole. length whole.now ≤ 65536) }
+    ensures short { IfSome result (λ whole. length whole.now ≤ longest_line) }
     ensures one { IfSome result (λ whole. HasNoLineFeed whole.now) }
     ensures bytes { IfSome result (λ whole. (length whole.now < length bytes.now)
         × (take (length whole.now + 1) bytes.now ≡ whole.now ++ 10 ∷ [])) }
@@ -107,6 +64,70 @@ fn whole_line<'p>(line: &LineBuffer, bytes: &'p [u8]) -> Option<&'p [u8]>
     Some(&bytes[..end])
 }
 
+// Goes on by one byte.
+fn feed_byte<A: Responder, W: ByteOut>(
+    alloc: Global,
+    responder: &mut A,
+    line: &mut LineBuffer,
+    byte: u8,
+    writer: &mut W,
+) -> Result<(), Fault>
+    ensures ok { OnOk result ((text : List ℕ)
+        × Feeds A.answers responder.old line.old (byte ∷ []) text responder.new line.new
+        × Appends (W.taken writer.old) (W.taken writer.new) text) }
+    ensures worked { result ≢ Err Write → W.has_failed writer.new ≡ W.has_failed writer.old }
+    ensures fault { IfErr result (λ e. (e ≡ Write) ⊎ (e ≡ Exhausted)) }
+    ensures failed { IsErrOf result Write → W.has_failed writer.new ≡ true }
+    ensures broken { IfErr result (λ e. (written : List ℕ)
+        × Breaks A.answers A.breaks e responder.old line.old (byte ∷ []) written responder.new
+        × Appends (W.taken writer.old) (W.taken writer.new) written) }
+{
+    if byte != b'\n' {
+        line.push(byte);
+        return Ok(());
+    }
+    match responder.answer(alloc, line.get(), writer) {
+        Ok(()) => {
+            line.clear();
+            Ok(())
+        }
+        Err(fault) => Err(fault),
+    }
+}
+
+// Goes on by the line that lies whole in front, or else by one byte, and says by how many bytes.
+fn feed_front<A: Responder, W: ByteOut>(
+    alloc: Global,
+    responder: &mut A,
+    line: &mut LineBuffer,
+    bytes: &[u8],
+    writer: &mut W,
+) -> Result<usize, Fault>
+    requires { 0 < length bytes.now }
+    ensures count { IfOk result (λ n. (0 < n) × (n ≤ length bytes.now)) }
+    ensures ok { IfOk result (λ n. (text : List ℕ)
+        × Feeds A.answers responder.old line.old (take n bytes.now) text responder.new line.new
+        × Appends (W.taken writer.old) (W.taken writer.new) text) }
+    ensures worked { result ≢ Err Write → W.has_failed writer.new ≡ W.has_failed writer.old }
+    ensures fault { IfErr result (λ e. (e ≡ Write) ⊎ (e ≡ Exhausted)) }
+    ensures failed { IsErrOf result Write → W.has_failed writer.new ≡ true }
+    ensures broken { IfErr result (λ e. (written : List ℕ)
+        × Breaks A.answers A.breaks e responder.old line.old bytes.now written responder.new
+        × Appends (W.taken writer.old) (W.taken writer.new) written) }
+{
+    match whole_line(line, bytes) {
+        Some(whole) => match responder.answer(alloc, Some(whole), writer) {
+            Ok(()) => Ok(whole.len() + 1),
+            Err(fault) => Err(fault),
+        },
+        None => match feed_byte(alloc, responder, line, bytes[0], writer) {
+            Ok(()) => Ok(1),
+            Err(fault) => Err(fault),
+        },
+    }
+}
+
+// Goes on by a piece of the input.
 fn feed<A: Responder, W: ByteOut>(
     alloc: Global,
     responder: &mut A,
@@ -117,29 +138,24 @@ fn feed<A: Responder, W: ByteOut>(
     ensures ok { OnOk result ((text : List ℕ)
         × Feeds A.answers responder.old line.old piece.now text responder.new line.new
         × Appends (W.taken writer.old) (W.taken writer.new) text) }
-    ensures worked { OnOk result (W.has_failed writer.new ≡ W.has_failed writer.old) }
-    ensures fault { IfErr result (λ e. e ≡ Write) }
-    ensures failed { OnErr result (W.has_failed writer.new ≡ true) }
-    ensures cut { OnErr result ((written : List ℕ)
-        × Cuts A.answers responder.old line.old piece.now written responder.new
+    ensures worked { result ≢ Err Write → W.has_failed writer.new ≡ W.has_failed writer.old }
+    ensures fault { IfErr result (λ e. (e ≡ Write) ⊎ (e ≡ Exhausted)) }
+    ensures failed { IsErrOf result Write → W.has_failed writer.new ≡ true }
+    ensures broken { IfErr result (λ e. (written : List ℕ)
+        × Breaks A.answers A.breaks e responder.old line.old piece.now written responder.new
         × Appends (W.taken writer.old) (W.taken writer.new) written) }
 {
     let mut done = 0;
     'bytes: while done < piece.len() {
-        match whole_line(line, &piece[done..]) {
-            Some(whole) => {
-                responder.answer(alloc, whole, writer)?;
-                done += whole.len() + 1;
-            }
-            None => {
-                feed_byte(alloc, responder, line, piece[done], writer)?;
-                done += 1;
-            }
+        match feed_front(alloc, responder, line, &piece[done..], writer) {
+            Ok(count) => done += count,
+            Err(fault) => return Err(fault),
         }
     }
     Ok(())
 }
 
+// Ends the line that is kept, at the end of the input.
 fn finish<A: Responder, W: ByteOut>(
     alloc: Global,
     responder: &mut A,
@@ -149,33 +165,43 @@ fn finish<A: Responder, W: ByteOut>(
     ensures ok { OnOk result ((text : List ℕ)
         × Ends A.answers responder.old line.now text responder.new
         × Appends (W.taken writer.old) (W.taken writer.new) text) }
-    ensures worked { OnOk result (W.has_failed writer.new ≡ W.has_failed writer.old) }
-    ensures fault { IfErr result (λ e. e ≡ Write) }
-    ensures failed { OnErr result (W.has_failed writer.new ≡ true) }
-    ensures cut { OnErr result ((written : List ℕ)
-        × EndCuts A.answers responder.old line.now written responder.new
+    ensures worked { result ≢ Err Write → W.has_failed writer.new ≡ W.has_failed writer.old }
+    ensures fault { IfErr result (λ e. (e ≡ Write) ⊎ (e ≡ Exhausted)) }
+    ensures failed { IsErrOf result Write → W.has_failed writer.new ≡ true }
+    ensures broken { IfErr result (λ e. (written : List ℕ)
+        × EndBreaks A.answers A.breaks e responder.old line.now written responder.new
         × Appends (W.taken writer.old) (W.taken writer.new) written) }
 {
     if line.is_empty() {
         return Ok(());
     }
-    answer_held(alloc, responder, line, writer)
+    responder.answer(alloc, line.get(), writer)
 }
 
-// Hands on what the writer holds back.
-fn flush<W: ByteOut>(writer: &mut W) -> Result<(), Fault>
-    ensures bytes { Keeps (W.taken writer.old) (W.taken writer.new) }
-    ensures ok { OnOk result (W.pending writer.new ≡ []) }
-    ensures worked { OnOk result (W.has_failed writer.new ≡ W.has_failed writer.old) }
-    ensures fault { IfErr result (λ e. e ≡ Write) }
-    ensures failed { OnErr result (W.has_failed writer.new ≡ true) }
+// Reads the next piece. A read may wait for whoever waits for a reply, so nothing may be held back.
+fn pull<R: ByteIn, W: ByteOut>(
+    reader: &mut R,
+    _writer: &W,
+    piece: &mut [u8],
+) -> Result<usize, Failed>
+    requires { W.pending _writer.now ≡ [] }
+    ensures calls { Counts (R.calls reader.old) (R.calls reader.new) 1 }
+    ensures count { IfOk result (λ n. n ≤ length piece.new) }
+    ensures bytes { IfOk result (λ n.
+        Consumes (R.remaining reader.old) (R.remaining reader.new) (take n piece.new)) }
+    ensures end { IfOk result (λ n. n ≡ 0 → 0 < length piece.new
+        → IsAtEnd (R.remaining reader.new)) }
+    ensures worked { OnOk result (R.has_failed reader.new ≡ R.has_failed reader.old) }
+    ensures err { OnErr result (Keeps (R.remaining reader.old) (R.remaining reader.new)) }
+    ensures failed { OnErr result (R.has_failed reader.new ≡ true) }
 {
-    writer.flush().map_err(|_| Fault::Write)
+    reader.pull(piece)
 }
 
 /// Answers each line of the input, with at most so many reads. The memory for a line is taken before the first of
 /// them. What the writer holds back is handed on before each read and at the end. After a fault the lines that ended
-/// were answered; `Write` cuts the last of these answers, or leaves some of them held back.
+/// were answered; `Write` and `Exhausted` break off the last of these answers, or `Write` leaves some of them held
+/// back; `Memory` comes before anything is read.
 pub fn answer_lines<A: Responder, R: ByteIn, W: ByteOut>(
     alloc: Global,
     responder: &mut A,
@@ -183,43 +209,41 @@ pub fn answer_lines<A: Responder, R: ByteIn, W: ByteOut>(
     writer: &mut W,
     reads: u64,
 ) -> Result<(), Fault>
-    ensures ok { OnOk result (Completes A.answers responder.old responder.new
-        (R.remaining reader.old) (R.remaining reader.new)
-        (W.taken writer.old) (W.taken writer.new)) }
-    ensures read { IsErrOf result Read → BreaksOff A.answers responder.old responder.new
-        (R.remaining reader.old) (R.remaining reader.new)
-        (W.taken writer.old) (W.taken writer.new) (R.has_failed reader.new) reads }
-    ensures write { IsErrOf result Write → IsCutOff A.answers responder.old responder.new
-        (R.remaining reader.old) (R.remaining reader.new)
-        (W.taken writer.old) (W.taken writer.new) }
-    ensures memory { IsErrOf result Memory → (responder.new ≡ responder.old)
-        × (reader.new ≡ reader.old) × (writer.new ≡ writer.old) }
-
-    // Nothing is held back.
-    ensures flushed { result ≢ Err Write → result ≢ Err Memory → W.pending writer.new ≡ [] }
-
-    // A failed call is always told.
-    ensures reader_worked { OnOk result (R.has_failed reader.new ≡ R.has_failed reader.old) }
-    ensures writer_worked { result ≢ Err Write
-        → W.has_failed writer.new ≡ W.has_failed writer.old }
-    ensures writer_failed { IsErrOf result Write → W.has_failed writer.new ≡ true }
+    ensures outcome { Outcome A.answers A.breaks reads
+        (moment R.remaining R.calls R.has_failed W.taken W.pending W.has_failed
+        responder.old reader.old writer.old)
+        (moment R.remaining R.calls R.has_failed W.taken W.pending W.has_failed
+        responder.new reader.new writer.new)
+        result }
+    ensures untouched { IsErrOf result Memory
+        → (reader.new ≡ reader.old) × (writer.new ≡ writer.old) }
 {
     let Ok(mut line) = LineBuffer::new(alloc) else {
         return Err(Fault::Memory);
     };
     let mut chunk = [0u8; CHUNK];
     'reads: for _ in 0..reads {
-        flush(writer)?;
-        let count = match reader.pull(&mut chunk) {
-            Ok(count) => count,
-            Err(_) => return Err(Fault::Read),
+        let Ok(()) = writer.flush() else {
+            return Err(Fault::Write);
+        };
+        let Ok(count) = pull(reader, writer, &mut chunk) else {
+            return Err(Fault::Read);
         };
         if count == 0 {
-            finish(alloc, responder, &line, writer)?;
-            return flush(writer);
+            if let Err(fault) = finish(alloc, responder, &line, writer) {
+                return Err(fault);
+            }
+            let Ok(()) = writer.flush() else {
+                return Err(Fault::Write);
+            };
+            return Ok(());
         }
-        feed(alloc, responder, &mut line, &chunk[..count], writer)?;
+        if let Err(fault) = feed(alloc, responder, &mut line, &chunk[..count], writer) {
+            return Err(fault);
+        }
     }
-    flush(writer)?;
+    let Ok(()) = writer.flush() else {
+        return Err(Fault::Write);
+    };
     Err(Fault::Read)
 }

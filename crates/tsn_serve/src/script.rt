@@ -1,11 +1,9 @@
 //! The run of a script over a bridge: each line is read, taken as a step, and answered.
 //! It relies on the loop over lines, on the reading of a line, on the bridge's step and on the text of a reply.
-ghost use Rattle.std.specs.Prelude.{◌≡◌, ◌≢◌, ◌^◌, ℕ, List, [], true, IfErr, OnOk, OnErr, IsErrOf, Err};
-ghost use Rattle.std.specs.Io.KnownBytes.{Appends};
-ghost use Rattle.tsn_bytes.specs.Bytes.{IsCut};
-ghost use Rattle.tsn_bytes.specs.declared.bytes.Fault.TheVariants.{Read, Write, Memory};
-ghost use Rattle.tsn_serve.specs.Answers.{Says, Answers};
-ghost use Rattle.tsn_serve.specs.Outcomes.{Completes, BreaksOff, IsCutOff};
+ghost use Rattle.std.specs.Prelude.{◌≡◌, ◌≢◌, IsErrOf, Err, option_map};
+ghost use Rattle.tsn_bytes.specs.declared.bytes.Fault.TheVariants.{Memory, Exhausted};
+ghost use Rattle.tsn_serve.specs.Answers.{Says, Answers, BreaksInWriting};
+ghost use Rattle.tsn_serve.specs.Outcomes.{Outcome, moment, most_reads};
 
 use crate::responder::{Responder, answer_lines};
 use std::alloc::Global;
@@ -17,10 +15,13 @@ use tsn_wire::{ByteIn, ByteOut, Fault, command_of, write_reply};
 // The most reads of one script.
 const READS: u64 = 4_294_967_296;
 
-// The reply to a line. Only the machine's step changes the bridge.
-fn reply_to(alloc: Global, bridge: &mut Bridge, line: &[u8]) -> Reply
-    ensures { Says bridge.old line.now result bridge.new }
+// The reply to a line, none of one that is too long. Only the machine's step changes the bridge.
+fn reply_to(alloc: Global, bridge: &mut Bridge, line: Option<&[u8]>) -> Reply
+    ensures { Says bridge.old (option_map (λ s. s.now) line.entry) result bridge.new }
 {
+    let Some(line) = line else {
+        return Reply::Refused(Refusal::TooLong);
+    };
     match command_of(alloc, line) {
         Ok(line) => bridge.step(line.session, line.command),
         Err(refusal) => Reply::Refused(refusal),
@@ -30,10 +31,12 @@ fn reply_to(alloc: Global, bridge: &mut Bridge, line: &[u8]) -> Reply
 impl Responder for Bridge {
     ghost answers = { Answers };
 
+    ghost breaks = { BreaksInWriting };
+
     fn answer<W: ByteOut>(
         &mut self,
         alloc: Global,
-        line: &[u8],
+        line: Option<&[u8]>,
         writer: &mut W,
     ) -> Result<(), Fault> {
         let reply = reply_to(alloc, self, line);
@@ -42,7 +45,8 @@ impl Responder for Bridge {
 }
 
 /// Answers each line of the input, with at most so many reads. On `Ok` all bytes were read, and what was written is
-/// the text of the script from the bridge as it was; the bridge is where that run ends.
+/// the text of the script from the bridge as it was; the bridge is where that run ends. On a fault the bridge is where
+/// the run over the lines that were answered ends. A bridge is never exhausted.
 pub fn run_script_up_to<R: ByteIn, W: ByteOut>(
     alloc: Global,
     bridge: &mut Bridge,
@@ -50,26 +54,15 @@ pub fn run_script_up_to<R: ByteIn, W: ByteOut>(
     writer: &mut W,
     reads: u64,
 ) -> Result<(), Fault>
-    ensures ok { OnOk result (Completes Answers bridge.old bridge.new
-        (R.remaining reader.old) (R.remaining reader.new)
-        (W.taken writer.old) (W.taken writer.new)) }
-    ensures read { IsErrOf result Read → BreaksOff Answers bridge.old bridge.new
-        (R.remaining reader.old) (R.remaining reader.new)
-        (W.taken writer.old) (W.taken writer.new) (R.has_failed reader.new) reads }
-    ensures write { IsErrOf result Write → IsCutOff Answers bridge.old bridge.new
-        (R.remaining reader.old) (R.remaining reader.new)
-        (W.taken writer.old) (W.taken writer.new) }
-    ensures memory { IsErrOf result Memory → (bridge.new ≡ bridge.old)
-        × (reader.new ≡ reader.old) × (writer.new ≡ writer.old) }
-
-    // Nothing is held back.
-    ensures flushed { result ≢ Err Write → result ≢ Err Memory → W.pending writer.new ≡ [] }
-
-    // A failed call is always told.
-    ensures reader_worked { OnOk result (R.has_failed reader.new ≡ R.has_failed reader.old) }
-    ensures writer_worked { result ≢ Err Write
-        → W.has_failed writer.new ≡ W.has_failed writer.old }
-    ensures writer_failed { IsErrOf result Write → W.has_failed writer.new ≡ true }
+    ensures outcome { Outcome Answers BreaksInWriting reads
+        (moment R.remaining R.calls R.has_failed W.taken W.pending W.has_failed
+        bridge.old reader.old writer.old)
+        (moment R.remaining R.calls R.has_failed W.taken W.pending W.has_failed
+        bridge.new reader.new writer.new)
+        result }
+    ensures untouched { IsErrOf result Memory
+        → (reader.new ≡ reader.old) × (writer.new ≡ writer.old) }
+    ensures never_exhausted { result ≢ Err Exhausted }
 {
     answer_lines(alloc, bridge, reader, writer, reads)
 }
@@ -81,26 +74,15 @@ pub fn run_script<R: ByteIn, W: ByteOut>(
     reader: &mut R,
     writer: &mut W,
 ) -> Result<(), Fault>
-    ensures ok { OnOk result (Completes Answers bridge.old bridge.new
-        (R.remaining reader.old) (R.remaining reader.new)
-        (W.taken writer.old) (W.taken writer.new)) }
-    ensures read { IsErrOf result Read → BreaksOff Answers bridge.old bridge.new
-        (R.remaining reader.old) (R.remaining reader.new)
-        (W.taken writer.old) (W.taken writer.new) (R.has_failed reader.new) (2 ^ 32) }
-    ensures write { IsErrOf result Write → IsCutOff Answers bridge.old bridge.new
-        (R.remaining reader.old) (R.remaining reader.new)
-        (W.taken writer.old) (W.taken writer.new) }
-    ensures memory { IsErrOf result Memory → (bridge.new ≡ bridge.old)
-        × (reader.new ≡ reader.old) × (writer.new ≡ writer.old) }
-
-    // Nothing is held back.
-    ensures flushed { result ≢ Err Write → result ≢ Err Memory → W.pending writer.new ≡ [] }
-
-    // A failed call is always told.
-    ensures reader_worked { OnOk result (R.has_failed reader.new ≡ R.has_failed reader.old) }
-    ensures writer_worked { result ≢ Err Write
-        → W.has_failed writer.new ≡ W.has_failed writer.old }
-    ensures writer_failed { IsErrOf result Write → W.has_failed writer.new ≡ true }
+    ensures outcome { Outcome Answers BreaksInWriting most_reads
+        (moment R.remaining R.calls R.has_failed W.taken W.pending W.has_failed
+        bridge.old reader.old writer.old)
+        (moment R.remaining R.calls R.has_failed W.taken W.pending W.has_failed
+        bridge.new reader.new writer.new)
+        result }
+    ensures untouched { IsErrOf result Memory
+        → (reader.new ≡ reader.old) × (writer.new ≡ writer.old) }
+    ensures never_exhausted { result ≢ Err Exhausted }
 {
     run_script_up_to(alloc, bridge, reader, writer, READS)
 }

@@ -1,14 +1,13 @@
 //! How input is cut into lines, in whatever pieces it comes, and how a run ends where a call fails.
 mod fakes;
 mod scripts;
+mod worked;
 
 use crate::{answer_lines, example_cuts, one_cut};
 use fakes::{Lengths, LineFeeds};
 use std::alloc::{AllocError, Global};
 use std::test::Fail;
 use tsn_wire::{Failing, Fault, MemIn, MemOut};
-
-const TOO_LONG: &'static [u8] = b"{\"refused\":1,\"why\":\"too_long\"}\n";
 
 const READS: u64 = 1000000;
 
@@ -48,17 +47,9 @@ fn a_line_that_is_too_long_is_answered_once(rt: HostRuntime) -> Result<(), Fail>
     let cases: [(usize, &[u8], &[u8]); 5] = [
         (65535, b"\r\n\n", b"longest\nempty\n"),
         (65536, b"", b"longest\n"),
-        (
-            65536,
-            b"\r\n\n",
-            b"{\"refused\":1,\"why\":\"too_long\"}\nempty\n",
-        ),
-        (65537, b"", TOO_LONG),
-        (
-            200000,
-            b"\n\n",
-            b"{\"refused\":1,\"why\":\"too_long\"}\nempty\n",
-        ),
+        (65536, b"\r\n\n", b"too long\nempty\n"),
+        (65537, b"", b"too long\n"),
+        (200000, b"\n\n", b"too long\nempty\n"),
     ];
     for (count, rest, want) in cases {
         let mut reader = MemIn::new(line_of(alloc, count, rest)?, 100000, None);
@@ -114,8 +105,10 @@ fn input_without_an_end_ends_at_the_bound(rt: HostRuntime) -> Result<(), Fail> {
     let alloc = rt.alloc();
     let mut writer = MemOut::new(Vec::new(alloc), 100, None);
     let mut lengths = Lengths { answered: 0 };
-    let end = answer_lines(alloc, &mut lengths, &mut LineFeeds, &mut writer, 1000);
+    let mut line_feeds = LineFeeds { calls: 0 };
+    let end = answer_lines(alloc, &mut lengths, &mut line_feeds, &mut writer, 1000);
     assert_eq!(rt; end, Err(Fault::Read));
+    assert_eq!(rt; line_feeds.calls, 1000);
     assert_eq!(rt; lengths.answered, 1000);
     assert_eq!(rt; writer.as_slice().len(), 6000);
     Ok(())

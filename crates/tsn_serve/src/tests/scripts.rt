@@ -1,36 +1,17 @@
-//! Whole scripts over a bridge: worked runs, in pieces of every kind, and cut at every call.
+//! Whole scripts over a bridge: worked runs, in every spelling and in pieces of every kind, and cut at every call.
 use super::fakes::LineFeeds;
+use super::worked::{Exchange, FIRST_RUN, RECORDS, Spelling, input_of, replies_of};
 use crate::{run_script, run_script_up_to};
 use std::alloc::{AllocError, Global};
+use std::process::Abort;
 use std::test::Fail;
 use tsn_bridge::bridge::{Bridge, Setup};
-use tsn_config::records::Records;
-use tsn_types::limits::Limits;
-use tsn_wire::{Failing, Fault, MemIn, MemOut};
-
-// A hello, a gate and a filter on it, the filter's removal, and two undos.
-const FIRST_RUN: &'static [u8] =
-    b"{\"do\":\"hello\"}\n{\"do\":\"create\",\"key\":\"gate 0\",\"record\":{\"base\":0,\"cycle\":1000000,\"extension\":0,\"invalid_rx\":false,\"ipv\":null,\"list\":[],\"octets_exceeded\":false,\"open\":true},\"s\":1}\n{\"do\":\"create\",\"key\":\"filter 3\",\"record\":{\"gate\":0,\"handle\":7,\"max_sdu\":1500,\"meter\":null,\"oversize\":true,\"priority\":null},\"s\":1}\n{\"do\":\"remove\",\"key\":\"filter 3\",\"s\":1}\n{\"do\":\"undo\",\"s\":1}\n{\"do\":\"undo\",\"s\":1}\n";
-
-const FIRST_REPLIES: &'static [u8] =
-    b"{\"session\":1}\n{\"entry\":1}\n{\"entry\":2}\n{\"entry\":3}\n{\"entry\":4,\"of\":3}\n{\"entry\":5,\"of\":2}\n";
-
-// Records created, refused, listed, shown, removed and put back.
-const RECORDS: &'static [u8] =
-    b"{\"do\":\"hello\"}\n{\"do\":\"create\",\"key\":\"gate 0\",\"record\":{\"base\":0,\"cycle\":1000000,\"extension\":0,\"invalid_rx\":false,\"ipv\":null,\"list\":[],\"octets_exceeded\":false,\"open\":true},\"s\":1}\n{\"do\":\"create\",\"key\":\"meter 0\",\"record\":{\"all_red\":false,\"aware\":false,\"cbs\":1500,\"cf\":false,\"cir\":8000000,\"drop_yellow\":false,\"ebs\":0,\"eir\":0},\"s\":1}\n{\"do\":\"create\",\"key\":\"filter 3\",\"record\":{\"gate\":0,\"handle\":7,\"max_sdu\":1500,\"meter\":0,\"oversize\":true,\"priority\":null},\"s\":1}\n{\"do\":\"show\",\"key\":\"filter 3\",\"s\":1}\n{\"do\":\"create\",\"key\":\"filter 4\",\"record\":{\"gate\":9,\"handle\":7,\"max_sdu\":1500,\"meter\":null,\"oversize\":true,\"priority\":null},\"s\":1}\n{\"do\":\"create\",\"key\":\"filter 4\",\"record\":{\"gate\":9,\"handle\":7,\"max_sdu\":1500,\"meter\":9,\"oversize\":true,\"priority\":null},\"s\":1}\n{\"do\":\"remove\",\"key\":\"meter 0\",\"s\":1}\n{\"do\":\"replace\",\"key\":\"meter 9\",\"record\":{\"all_red\":false,\"aware\":false,\"cbs\":1500,\"cf\":false,\"cir\":8000000,\"drop_yellow\":false,\"ebs\":0,\"eir\":0},\"s\":1}\n{\"do\":\"list\",\"kind\":\"gate\",\"s\":1}\n{\"do\":\"list\",\"kind\":\"port\",\"s\":1}\n{\"do\":\"show\",\"key\":\"port 1\",\"s\":1}\n{\"do\":\"remove\",\"key\":\"filter 3\",\"s\":1}\n{\"do\":\"undo\",\"s\":1}\n{\"do\":\"show\",\"key\":\"filter 3\",\"s\":1}\n{\"do\":\"create\",\"key\":\"gate 0\",\"record\":{\"base\":0,\"cycle\":1000000,\"extension\":0,\"invalid_rx\":false,\"ipv\":null,\"list\":[],\"octets_exceeded\":false,\"open\":true},\"s\":1}\n{\"do\":\"remove\",\"key\":\"meter 9\",\"s\":1}\n{\"do\":\"remove\",\"key\":\"port 1\",\"s\":1}\n{\"do\":\"create\",\"key\":\"gate 1\",\"record\":{\"base\":0,\"cycle\":0,\"extension\":0,\"invalid_rx\":false,\"ipv\":null,\"list\":[],\"octets_exceeded\":false,\"open\":true},\"s\":1}\n{\"do\":\"show\",\"key\":\"gate 16\",\"s\":1}\n";
-
-const RECORD_REPLIES: &'static [u8] =
-    b"{\"session\":1}\n{\"entry\":1}\n{\"entry\":2}\n{\"entry\":3}\n{\"key\":\"filter 3\",\"record\":{\"gate\":0,\"handle\":7,\"max_sdu\":1500,\"meter\":0,\"oversize\":true,\"priority\":null}}\n{\"key\":\"gate 9\",\"refused\":8,\"why\":\"dangling\"}\n{\"key\":\"gate 9\",\"refused\":8,\"why\":\"dangling\"}\n{\"by\":\"filter 3\",\"refused\":9,\"why\":\"referred\"}\n{\"key\":\"meter 9\",\"refused\":6,\"why\":\"missing\"}\n{\"ids\":[0]}\n{\"ids\":[1,2]}\n{\"key\":\"port 1\",\"record\":{\"base\":0,\"cycle\":1000000,\"extension\":0,\"gates\":255,\"list\":[]}}\n{\"entry\":4}\n{\"entry\":5,\"of\":4}\n{\"key\":\"filter 3\",\"record\":{\"gate\":0,\"handle\":7,\"max_sdu\":1500,\"meter\":0,\"oversize\":true,\"priority\":null}}\n{\"key\":\"gate 0\",\"refused\":7,\"why\":\"exists\"}\n{\"key\":\"meter 9\",\"refused\":6,\"why\":\"missing\"}\n{\"refused\":3,\"why\":\"shape\"}\n{\"field\":\"cycle\",\"refused\":4,\"why\":\"range\"}\n{\"field\":\"key\",\"refused\":4,\"why\":\"range\"}\n";
-
-const HELLO: &'static [u8] = b"{\"do\":\"hello\"}\n";
+use tsn_wire::{Buffered, Failing, Fault, MemIn, MemOut};
 
 const SYNTAX: &'static [u8] = b"{\"refused\":2,\"why\":\"syntax\"}\n";
 
-// A bridge with 2 ports, 16 identifiers per table and lists up to 16.
 fn bridge(alloc: Global) -> Result<Bridge, Fail> {
-    let limits = Limits::new(2, 16, 16, 16, 16)?;
-    let records = Records::new(alloc);
-    Ok(Bridge::new(alloc, Setup { limits, records })?)
+    Ok(Bridge::new(alloc, Setup::standard(alloc))?)
 }
 
 // How many line feeds the bytes have.
@@ -52,15 +33,52 @@ fn first_lines(text: &[u8], count: usize) -> &[u8] {
     text
 }
 
+// The script in that spelling, read in pieces of so many bytes, has its replies.
+fn answers_well(
+    rt: &impl Abort,
+    alloc: Global,
+    script: &[Exchange],
+    spelling: Spelling,
+    most: usize,
+) -> Result<(), Fail> {
+    let mut reader = MemIn::new(input_of(alloc, script, spelling)?, most.max(1), None);
+    let mut writer = MemOut::new(Vec::new(alloc), most.max(1), None);
+    let end = run_script(alloc, &mut bridge(alloc)?, &mut reader, &mut writer);
+    assert_eq!(rt; end, Ok(()));
+    let want = replies_of(alloc, script)?;
+    assert_eq!(rt;
+        writer.as_slice(),
+        want.as_slice(),
+        "{spelling:?} in pieces of {most}"
+    );
+    Ok(())
+}
+
 #[test]
-fn first_run_in_pieces(rt: HostRuntime) -> Result<(), Fail> {
+fn worked_scripts_in_every_spelling(rt: HostRuntime) -> Result<(), Fail> {
+    for script in [FIRST_RUN.as_slice(), RECORDS.as_slice()] {
+        for spelling in [
+            Spelling::Own,
+            Spelling::Spaced,
+            Spelling::Reversed,
+            Spelling::Escaped,
+        ] {
+            for most in [1usize, 7, 100_000] {
+                answers_well(&rt, rt.alloc(), script, spelling, most)?;
+            }
+        }
+    }
+    Ok(())
+}
+
+#[test]
+fn a_line_across_two_pieces_at_each_cut(rt: HostRuntime) -> Result<(), Fail> {
     let alloc = rt.alloc();
-    for most in [1usize, 7, 1000] {
-        let mut reader = MemIn::new(Vec::from_slice(alloc, FIRST_RUN)?, most, None);
-        let mut writer = MemOut::new(Vec::new(alloc), most, None);
-        let end = run_script(alloc, &mut bridge(alloc)?, &mut reader, &mut writer);
-        assert_eq!(rt; end, Ok(()));
-        assert_eq!(rt; writer.as_slice(), FIRST_REPLIES, "in pieces of {most}");
+    for spelling in [Spelling::Own, Spelling::Spaced] {
+        let length = input_of(alloc, FIRST_RUN.as_slice(), spelling)?.len();
+        for most in 1..length {
+            answers_well(&rt, alloc, FIRST_RUN.as_slice(), spelling, most)?;
+        }
     }
     Ok(())
 }
@@ -68,14 +86,16 @@ fn first_run_in_pieces(rt: HostRuntime) -> Result<(), Fail> {
 #[test]
 fn first_run_cut_at_each_read(rt: HostRuntime) -> Result<(), Fail> {
     let alloc = rt.alloc();
+    let input = input_of(alloc, FIRST_RUN.as_slice(), Spelling::Own)?;
+    let replies = replies_of(alloc, FIRST_RUN.as_slice())?;
     let mut call = 0u64;
     let mut ended = 0usize;
-    for piece in FIRST_RUN.chunks(7) {
-        let mut reader = MemIn::new(Vec::from_slice(alloc, FIRST_RUN)?, 7, Some(call));
+    for piece in input.chunks(7) {
+        let mut reader = MemIn::new(input.clone()?, 7, Some(call));
         let mut writer = MemOut::new(Vec::new(alloc), 1, None);
         let end = run_script(alloc, &mut bridge(alloc)?, &mut reader, &mut writer);
         assert_eq!(rt; end, Err(Fault::Read));
-        let want = first_lines(FIRST_REPLIES, ended);
+        let want = first_lines(replies.as_slice(), ended);
         assert_eq!(rt; writer.as_slice(), want, "at read {call}");
         ended = ended.saturating_add(line_feeds(piece));
         call = call.saturating_add(1);
@@ -86,14 +106,16 @@ fn first_run_cut_at_each_read(rt: HostRuntime) -> Result<(), Fail> {
 #[test]
 fn first_run_cut_at_each_write(rt: HostRuntime) -> Result<(), Fail> {
     let alloc = rt.alloc();
+    let input = input_of(alloc, FIRST_RUN.as_slice(), Spelling::Own)?;
+    let replies = replies_of(alloc, FIRST_RUN.as_slice())?;
     let mut call = 0u64;
-    for cut in 0..FIRST_REPLIES.len() {
+    for cut in 0..replies.len() {
         for failing in [Failing::Error, Failing::Nothing] {
-            let mut reader = MemIn::new(Vec::from_slice(alloc, FIRST_RUN)?, 7, None);
+            let mut reader = MemIn::new(input.clone()?, 7, None);
             let mut writer = MemOut::new(Vec::new(alloc), 1, Some((call, failing)));
             let end = run_script(alloc, &mut bridge(alloc)?, &mut reader, &mut writer);
             assert_eq!(rt; end, Err(Fault::Write));
-            assert_eq!(rt; writer.as_slice(), &FIRST_REPLIES[..cut], "at write {call}");
+            assert_eq!(rt; writer.as_slice(), &replies[..cut], "at write {call}");
         }
         call = call.saturating_add(1);
     }
@@ -103,45 +125,93 @@ fn first_run_cut_at_each_write(rt: HostRuntime) -> Result<(), Fail> {
 #[test]
 fn first_run_cut_at_each_reply(rt: HostRuntime) -> Result<(), Fail> {
     let alloc = rt.alloc();
+    let input = input_of(alloc, FIRST_RUN.as_slice(), Spelling::Own)?;
+    let replies = replies_of(alloc, FIRST_RUN.as_slice())?;
     for (call, count) in [(0u64, 0usize), (1, 1), (2, 2), (3, 3), (4, 4), (5, 5)] {
-        let mut reader = MemIn::new(Vec::from_slice(alloc, FIRST_RUN)?, 7, None);
+        let mut reader = MemIn::new(input.clone()?, 7, None);
         let mut writer = MemOut::new(Vec::new(alloc), 1000, Some((call, Failing::Error)));
         let end = run_script(alloc, &mut bridge(alloc)?, &mut reader, &mut writer);
         assert_eq!(rt; end, Err(Fault::Write));
-        assert_eq!(rt; writer.as_slice(), first_lines(FIRST_REPLIES, count));
+        assert_eq!(rt; writer.as_slice(), first_lines(replies.as_slice(), count));
     }
     Ok(())
 }
 
 #[test]
-fn line_handling(rt: HostRuntime) -> Result<(), Fail> {
+fn a_failed_write_behind_a_buffer_leaves_a_front(rt: HostRuntime) -> Result<(), Fail> {
     let alloc = rt.alloc();
-    let mut input = Vec::from_slice(alloc, b"{\"do\":\"undo\",\"s\":1}\n{\"do\":\"hello\"}\n\n")?;
-    input.extend_from_slice(vec![in alloc; b'x'; 65537]?.as_slice())?;
-    input.extend_from_slice(b"\n{\"do\":\"undo\",\"s\":1}\n{\"do\":\"undo\"")?;
-    let mut reader = MemIn::new(input, 1000, None);
-    let mut writer = MemOut::new(Vec::new(alloc), 1000, None);
-    let end = run_script(alloc, &mut bridge(alloc)?, &mut reader, &mut writer);
-    assert_eq!(rt; end, Ok(()));
-    let want =
-        b"{\"refused\":5,\"why\":\"no_session\"}\n{\"session\":1}\n{\"refused\":2,\"why\":\"syntax\"}\n{\"refused\":1,\"why\":\"too_long\"}\n{\"refused\":10,\"why\":\"nothing_to_undo\"}\n{\"refused\":2,\"why\":\"syntax\"}\n";
-    assert_eq!(rt; writer.as_slice(), want.as_slice());
+    let input = input_of(alloc, FIRST_RUN.as_slice(), Spelling::Own)?;
+    let replies = replies_of(alloc, FIRST_RUN.as_slice())?;
+    for call in 0..40 {
+        for failing in [Failing::Error, Failing::Nothing] {
+            let mut reader = MemIn::new(input.clone()?, 50, None);
+            let inner = MemOut::new(Vec::new(alloc), 5, Some((call, failing)));
+            let mut writer = Buffered::new(alloc, inner)?;
+            let end = run_script(alloc, &mut bridge(alloc)?, &mut reader, &mut writer);
+            let taken = writer.inner().as_slice();
+            if end == Ok(()) {
+                assert_eq!(rt; taken, replies.as_slice(), "at call {call}");
+            } else {
+                assert_eq!(rt; end, Err(Fault::Write));
+                assert!(rt; taken.len() < replies.len(), "at call {call}");
+                assert!(rt; replies.as_slice().starts_with(taken), "at call {call}");
+            }
+        }
+    }
     Ok(())
 }
 
-// What a line after a hello is answered with.
-fn answer_after_hello(alloc: Global, line: &[u8]) -> Result<Vec<u8>, Fail> {
-    let mut input = Vec::from_slice(alloc, HELLO)?;
-    input.extend_from_slice(line)?;
-    let mut reader = MemIn::new(input, 1000, None);
-    let mut writer = MemOut::new(Vec::new(alloc), 1000, None);
-    run_script(alloc, &mut bridge(alloc)?, &mut reader, &mut writer)?;
-    let hello = b"{\"session\":1}\n".len();
-    let answer = writer
-        .as_slice()
-        .get(hello..)
-        .ok_or("no reply to the hello")?;
-    Ok(Vec::from_slice(alloc, answer)?)
+// The text, so many times.
+fn repeated(alloc: Global, text: &[u8], count: usize) -> Result<Vec<u8>, AllocError> {
+    let mut all = Vec::new(alloc);
+    for _ in 0..count {
+        all.extend_from_slice(text)?;
+    }
+    Ok(all)
+}
+
+#[test]
+fn more_replies_than_a_buffer_holds(rt: HostRuntime) -> Result<(), Fail> {
+    let alloc = rt.alloc();
+    let input = repeated(alloc, b"{\"do\":\"undo\",\"s\":1}\n", 5000)?;
+    let want = repeated(alloc, b"{\"refused\":5,\"why\":\"no_session\"}\n", 5000)?;
+    let mut reader = MemIn::new(input, 100_000, None);
+    let inner = MemOut::new(Vec::new(alloc), 100_000, None);
+    let mut writer = Buffered::new(alloc, inner)?;
+    let end = run_script(alloc, &mut bridge(alloc)?, &mut reader, &mut writer);
+    assert_eq!(rt; end, Ok(()));
+    assert!(rt; writer.inner().as_slice() == want.as_slice());
+    Ok(())
+}
+
+// The byte, so many times.
+fn bytes_of(alloc: Global, byte: u8, count: usize) -> Result<Vec<u8>, AllocError> {
+    vec![in alloc; byte; count]
+}
+
+// A session that was not given out, a hello, an empty line, a line that is too long, and a line without its end.
+fn handled_lines(alloc: Global) -> Result<Vec<u8>, AllocError> {
+    let mut input = Vec::from_slice(alloc, b"{\"do\":\"undo\",\"s\":1}\n{\"do\":\"hello\"}\n\n")?;
+    input.extend_from_slice(bytes_of(alloc, b'x', 65537)?.as_slice())?;
+    input.extend_from_slice(b"\n{\"do\":\"undo\",\"s\":1}\n{\"do\":\"undo\"")?;
+    Ok(input)
+}
+
+const HANDLED: &'static [u8] =
+    b"{\"refused\":5,\"why\":\"no_session\"}\n{\"session\":1}\n{\"refused\":2,\"why\":\"syntax\"}\n\
+    {\"refused\":1,\"why\":\"too_long\"}\n{\"refused\":10,\"why\":\"nothing_to_undo\"}\n{\"refused\":2,\"why\":\"syntax\"}\n";
+
+#[test]
+fn line_handling(rt: HostRuntime) -> Result<(), Fail> {
+    let alloc = rt.alloc();
+    for most in [1000usize, 100_000] {
+        let mut reader = MemIn::new(handled_lines(alloc)?, most.max(1), None);
+        let mut writer = MemOut::new(Vec::new(alloc), 1000, None);
+        let end = run_script(alloc, &mut bridge(alloc)?, &mut reader, &mut writer);
+        assert_eq!(rt; end, Ok(()));
+        assert_eq!(rt; writer.as_slice(), HANDLED);
+    }
+    Ok(())
 }
 
 #[test]
@@ -154,9 +224,11 @@ fn lines_that_are_no_json(rt: HostRuntime) -> Result<(), Fail> {
         (255, 1, SYNTAX),
         (b'[', 200, SYNTAX),
     ] {
-        let line = vec![in alloc; byte; count]?;
-        let answer = answer_after_hello(alloc, line.as_slice())?;
-        assert_eq!(rt; answer.as_slice(), want, "{count} times {byte}");
+        let mut reader = MemIn::new(bytes_of(alloc, byte, count)?, 100_000, None);
+        let mut writer = MemOut::new(Vec::new(alloc), 1000, None);
+        let end = run_script(alloc, &mut bridge(alloc)?, &mut reader, &mut writer);
+        assert_eq!(rt; end, Ok(()));
+        assert_eq!(rt; writer.as_slice(), want, "{count} times {byte}");
     }
     Ok(())
 }
@@ -164,30 +236,12 @@ fn lines_that_are_no_json(rt: HostRuntime) -> Result<(), Fail> {
 #[test]
 fn line_feeds_without_end(rt: HostRuntime) -> Result<(), Fail> {
     let alloc = rt.alloc();
+    let mut reader = LineFeeds { calls: 0 };
     let mut writer = MemOut::new(Vec::new(alloc), 1000, None);
-    let end = run_script_up_to(
-        alloc,
-        &mut bridge(alloc)?,
-        &mut LineFeeds,
-        &mut writer,
-        1000,
-    );
+    let end = run_script_up_to(alloc, &mut bridge(alloc)?, &mut reader, &mut writer, 1000);
     assert_eq!(rt; end, Err(Fault::Read));
-    let mut want = Vec::new(alloc);
-    for _ in 0..1000 {
-        want.extend_from_slice(SYNTAX)?;
-    }
+    assert_eq!(rt; reader.calls, 1000);
+    let want = repeated(alloc, SYNTAX, 1000)?;
     assert_eq!(rt; writer.as_slice(), want.as_slice());
-    Ok(())
-}
-
-#[test]
-fn records_as_lines(rt: HostRuntime) -> Result<(), Fail> {
-    let alloc = rt.alloc();
-    let mut reader = MemIn::new(Vec::from_slice(alloc, RECORDS)?, 1000, None);
-    let mut writer = MemOut::new(Vec::new(alloc), 1000, None);
-    let end = run_script(alloc, &mut bridge(alloc)?, &mut reader, &mut writer);
-    assert_eq!(rt; end, Ok(()));
-    assert_eq!(rt; writer.as_slice(), RECORD_REPLIES);
     Ok(())
 }

@@ -1,7 +1,7 @@
-use Rattle.std.proofs.Common.{[], take, ◌≡◌, true, false}
+use Rattle.std.proofs.Common.{[], ◌≡◌, true, false, subst}
 use Rattle.std.proofs.KnownBytes.{Appends-nil}
-use Rattle.std.proofs.lemmas.Result.{IfOk-weaker, on_err_weaker}
-use Rattle.tsn_serve.proofs.Running.{ended_empty, ended_with, cut_at_end}
+use Rattle.std.proofs.lemmas.Result.{IfOk-weaker, IfErr-weaker}
+use Rattle.tsn_serve.proofs.Running.{ended_empty, ended_with, broken_at_end}
 use Rattle.tsn_serve.proofs.responder.finish.Goals as goal
 
 pub returns-then-is_empty-clause-ok : goal.returns-then-is_empty-clause-ok
@@ -10,12 +10,22 @@ returns-then-is_empty-clause-ok g c =
 
 pub returns-clause-ok : goal.returns-clause-ok
 returns-clause-ok g c =
-    IfOk-weaker c.answer_held.result _ _
-    (λ _ ok. (ok.0, ended_with g.A.Responder.answers c.args.responder.now c.args.line.now ok.0 c.answer_held.new.responder (λ e. let t : false ≡ true = c.if-is_empty.ensures.1 e in cc) ok.1, ok.2))
-    c.answer_held.ensures.ok
+    IfOk-weaker c.answer.result _ _
+    (λ _ ok. (
+      ok.0,
+      ended_with g.A.Responder.answers c.args.responder.now c.args.line.now ok.0 c.answer.new.self (λ e. let t : false ≡ true = c.if-is_empty.ensures.1 e in cc)
+          (subst (λ k. g.A.Responder.answers c.args.responder.now k ok.0 c.answer.new.self) c.get.ensures ok.1),
+      ok.2,
+    ))
+    c.answer.ensures.ok
 
-pub returns-clause-cut : goal.returns-clause-cut
-returns-clause-cut g c =
-    on_err_weaker c.answer_held.result
-    (λ cut. (take cut.2.0 cut.0, cut_at_end g.A.Responder.answers c.args.responder.now c.args.line.now cut.0 cut.2.0 c.answer_held.new.responder (λ e. let t : false ≡ true = c.if-is_empty.ensures.1 e in cc) cut.1 cut.2.1, cut.2.2))
-    c.answer_held.ensures.cut
+pub returns-clause-broken : goal.returns-clause-broken
+returns-clause-broken g c =
+    IfErr-weaker c.answer.result _ _
+    (λ fault broken. (
+      broken.0,
+      broken_at_end g.A.Responder.answers g.A.Responder.breaks fault c.args.responder.now c.args.line.now broken.0 c.answer.new.self (λ e. let t : false ≡ true = c.if-is_empty.ensures.1 e in cc)
+          (subst (λ k. g.A.Responder.breaks c.args.responder.now k fault broken.0 c.answer.new.self) c.get.ensures broken.1),
+      broken.2,
+    ))
+    c.answer.ensures.broken

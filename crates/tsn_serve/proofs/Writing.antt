@@ -1,0 +1,29 @@
+-- An answer of a bridge breaks off only where the writer fails.
+use Rattle.std.proofs.Common.{◌≡◌, ◌≢◌, ℕ, List, take, Option, Result, Ok, Err, OnErr, inl, inr, refl}
+use Rattle.std.specs.Result.{IfErr}
+use Rattle.std.specs.Io.KnownBytes.{Appends}
+use Rattle.tsn_bytes.specs.Bytes.{IsCut}
+use Rattle.tsn_bytes.specs.declared.bytes.Fault.{Fault}
+use Rattle.tsn_bytes.specs.declared.bytes.Fault.TheVariants.{Read, Write, Memory, Exhausted}
+use Rattle.tsn_bridge.specs.State.{State}
+use Rattle.tsn_bridge.specs.declared.reply.Reply.{Reply}
+use Rattle.tsn_wire.specs.Replies.{reply_text}
+use Rattle.tsn_serve.specs.Answers.{Says, Answers, BreaksInWriting}
+use Rattle.tsn_serve.specs.Outcomes.{Moment, Outcome}
+
+-- a reply that was cut off
+pub broke_in_writing : {T : Type 0} (r : Result T Fault) (old : State) (line : Option (List ℕ)) (reply : Reply) (new : State) (taken taken' : Option (List ℕ))
+    → Says old line reply new → IfErr r (λ e. e ≡ Write) → OnErr r (IsCut taken taken' (reply_text reply))
+    → IfErr r (λ e. (part : List ℕ) × BreaksInWriting old line e part new × Appends taken taken' part)
+broke_in_writing (Ok x) old line reply new taken taken' says write cut = tt
+broke_in_writing (Err e) old line reply new taken taken' says write cut =
+    (take cut.0 (reply_text reply), (write, (reply_text reply, (reply, says, refl), (cut.0, cut.1, refl))), cut.2)
+
+-- a bridge is never exhausted
+pub never_exhausted : (reads : ℕ) (old new : Moment State) (r : Result (Unit {0}) Fault) → Outcome Answers BreaksInWriting reads old new r → r ≢ Err Exhausted
+never_exhausted reads old new (Ok u) o e = cc
+never_exhausted reads old new (Err Read) o e = cc
+never_exhausted reads old new (Err Write) o e = cc
+never_exhausted reads old new (Err Memory) o e = cc
+never_exhausted reads old new (Err Exhausted) o e =
+    elim o.script [ inl b ↦ let f : Exhausted ≡ Write = b.broken.0 in cc | inr a ↦ let f : Exhausted ≡ Write = a.0 in cc ]
