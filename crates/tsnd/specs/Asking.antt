@@ -1,19 +1,29 @@
 -- What the words of a command line ask for.
-use Rattle.std.specs.Prelude.{◌≡◌, ℕ, List, [], codes, true}
+use Rattle.std.specs.Prelude.{◌≡◌, ◌⊎◌, ℕ, List, [], Option, Some, None, codes, true, ⊤}
 use Rattle.clap.specs.Simple.{App, new_app, new_shape, with_subcommand, on_top}
-use Rattle.clap.specs.Values.{kind_of}
 use Rattle.clap.specs.Kinds.{IsAmong}
 use Rattle.clap.specs.Faults.{fault_of}
+use Rattle.clap.specs.declared.error.kind.ErrorKind.{ErrorKind}
+use Rattle.clap.specs.declared.error.kind.ErrorKind.TheVariants.{DisplayHelp, DisplayVersion}
 use Rattle.tsnd.specs.declared.arguments.Asked.{Asked}
-use Rattle.tsnd.specs.declared.arguments.Asked.TheVariants.{Script, Text}
+use Rattle.tsnd.specs.declared.arguments.Asked.TheVariants.{Script, Shown, Refused}
 
--- `tsnd`, which wants a subcommand, and has the one `script`.
+-- `tsnd`, which has a version, wants a subcommand, and has the one `script`.
 abbrev pub program : App
 program = with_subcommand
-    (on_top (λ s. record s { subcommand_required = true }) (new_app (codes "tsnd")))
+    (on_top (λ s. record s { subcommand_required = true; has_version = true }) (new_app (codes "tsnd")))
     (new_shape (codes "script"))
 
--- A script is asked for where the words have no fault, and else there is a text of one of the kinds of the fault.
-abbrev pub Asks : List (List ℕ) → Asked → Type 0
-Asks words Script = fault_of program words ≡ []
-Asks words (Text error) = IsAmong (kind_of error) (fault_of program words)
+-- Help or the version was asked for, which is no mistake.
+abbrev pub IsShown : ErrorKind → Type 0
+IsShown kind = (kind ≡ DisplayHelp) ⊎ (kind ≡ DisplayVersion)
+
+-- A script is asked for where the words have no fault. Else there is a text to show, or to refuse the words by, as the
+-- fault is. Words that are no text are refused.
+abbrev pub Asks : Option (List (List ℕ)) → Asked → Type 0
+Asks (Some words) Script = fault_of program words ≡ []
+Asks (Some words) (Shown text) = (kind : ErrorKind) × IsAmong kind (fault_of program words) × IsShown kind
+Asks (Some words) (Refused text) = (kind : ErrorKind) × IsAmong kind (fault_of program words) × (¬ IsShown kind)
+Asks None Script = ⊥
+Asks None (Shown text) = ⊥
+Asks None (Refused text) = ⊤

@@ -1,23 +1,25 @@
 //! The command line.
-ghost use Rattle.std.specs.Prelude.{◌≡◌, ◌≢◌, ◌⊎◌, ℕ, List, [], ◌∷◌, IfOk, IfErr, codes, map, string_bytes};
+ghost use Rattle.std.specs.Prelude.{◌≡◌, ◌≢◌, ◌⊎◌, ℕ, List, [], ◌∷◌, Some, IfOk, IfErr, codes, map, option_map, string_bytes};
 ghost use Rattle.clap.specs.Words.{app_of, kind_of};
 ghost use Rattle.clap.specs.Kinds.{FailsBy};
 ghost use Rattle.clap.specs.Faults.{fault_of};
+ghost use Rattle.tsn_bytes.specs.declared.bytes.Fault.TheVariants.{Memory};
 ghost use Rattle.tsnd.specs.Asking.{program, Asks};
-ghost use Rattle.tsnd.specs.declared.failure.Failure.TheVariants.{Memory};
 
-use crate::failure::Failure;
 use clap::error::ErrorKind;
 use clap::{Command, Error};
 use std::alloc::{AllocError, Global};
+use tsn_wire::Fault;
 
 /// What a command line asks for.
 #[derive(Drop)]
 pub enum Asked {
     /// Answer the script on standard input.
     Script,
-    /// Show help, or say why the command line is refused.
-    Text(Error),
+    /// Show this text, help or the version.
+    Shown(String),
+    /// Say by this text why the command line is refused.
+    Refused(String),
 }
 
 // The command line that the program takes.
@@ -26,6 +28,7 @@ fn command<'a>(alloc: Global) -> Result<Command<'a>, AllocError>
 {
     Command::new(alloc, "tsnd")
         .about("The configuration service of one time-aware bridge")
+        .version("0.1.0")
         .subcommand_required(true)
         .subcommand(Command::new(alloc, "script").about(
             "Answers the command lines on standard input, one reply line each",
@@ -42,27 +45,44 @@ fn parsed(alloc: Global, words: &[String]) -> Result<(), Error>
     Ok(())
 }
 
-/// What the words ask for, the program's name first. It is refused only for want of memory.
-pub fn read_words(alloc: Global, words: &[String]) -> Result<Asked, Failure>
-    ensures ok { IfOk result (Asks (map string_bytes words.now)) }
-    ensures script { (name : List ℕ) → map string_bytes words.now ≡ name ∷ codes "script" ∷ []
+// Why words that are no UTF-8 are refused.
+fn no_text(alloc: Global) -> Result<Error, AllocError> {
+    command(alloc)?.error(
+        ErrorKind::InvalidValue,
+        "invalid UTF-8 was detected in one or more arguments",
+    )
+}
+
+/// What the words ask for, the program's name first, or none where a word is no UTF-8. It is refused only for want of
+/// memory.
+pub fn read_words(alloc: Global, words: Option<&[String]>) -> Result<Asked, Fault>
+    ensures ok { IfOk result (Asks (option_map (λ w. map string_bytes w.now) words.entry)) }
+    ensures script { (name : List ℕ)
+        → option_map (λ w. map string_bytes w.now) words.entry ≡ Some (name ∷ codes "script" ∷ [])
         → IfOk result (λ asked. asked ≡ Asked.Script) }
     ensures memory { IfErr result (λ e. e ≡ Memory) }
 {
-    match parsed(alloc, words) {
-        Ok(()) => Ok(Asked::Script),
-        Err(error) if error.kind() == ErrorKind::OutOfMemory => Err(Failure::Memory),
-        Err(error) => Ok(Asked::Text(error)),
+    let Some(words) = words else {
+        let Ok(error) = no_text(alloc) else {
+            return Err(Fault::Memory);
+        };
+        let Ok(text) = format!(in alloc; "{error}") else {
+            return Err(Fault::Memory);
+        };
+        return Ok(Asked::Refused(text));
+    };
+    let Err(error) = parsed(alloc, words) else {
+        return Ok(Asked::Script);
+    };
+    if error.kind() == ErrorKind::OutOfMemory {
+        return Err(Fault::Memory);
     }
-}
-
-/// The program's status once the text is shown: 0 for help, 2 for a command line that is refused.
-pub fn status_of(text: &Error) -> u8
-    ensures shown { (kind_of text.now ≡ ErrorKind.DisplayHelp)
-        ⊎ (kind_of text.now ≡ ErrorKind.DisplayVersion) → result ≡ 0 }
-    ensures mistake { kind_of text.now ≢ ErrorKind.DisplayHelp
-        → kind_of text.now ≢ ErrorKind.DisplayVersion → result ≡ 2 }
-    ensures either { (result ≡ 0) ⊎ (result ≡ 2) }
-{
-    if text.use_stderr() { 2 } else { 0 }
+    let Ok(text) = format!(in alloc; "{error}") else {
+        return Err(Fault::Memory);
+    };
+    if error.use_stderr() {
+        Ok(Asked::Refused(text))
+    } else {
+        Ok(Asked::Shown(text))
+    }
 }

@@ -1,38 +1,15 @@
-use Rattle.std.proofs.Common.{◌^◌, subst, ap, Err}
 use Rattle.tsn_bridge.specs.State.{State}
-use Rattle.tsn_serve.specs.Answers.{Answers}
-use Rattle.tsn_serve.specs.Outcomes.{Completes, BreaksOff, IsCutOff}
-use Rattle.tsnd.proofs.Telling.{told_read, told_write}
+use Rattle.tsn_bridge.specs.Beginning.{standard}
+use Rattle.tsn_serve.specs.Outcomes.{moment}
+use Rattle.tsnd.proofs.Beginnings.{memory_first, begun_at}
 use Rattle.tsnd.proofs.script.answer_script.Goals as goal
 
-pub returns-in_err-run_script-clause-read : goal.returns-in_err-run_script-clause-read
-returns-in_err-run_script-clause-read g c = λ e.
-    let from = c.in_ok-bridge.ensures.begins in
-    let why = told_read c.from_residual-in_err-run_script.result c.in_err-run_script.field-0.0 c.from_residual-in_err-run_script.ensures.1 e in
-    let end = c.run_script.new in (
-      end.bridge,
-      subst
-          (λ (s : State). BreaksOff Answers s end.bridge (g.R.ByteIn.remaining c.args.reader.now) (g.R.ByteIn.remaining end.reader) (g.W.ByteOut.taken c.args.writer.now) (g.W.ByteOut.taken end.writer) (g.R.ByteIn.has_failed end.reader) (2 ^ 32))
-          from (c.in_err-run_script.ensures.read (ap Err why)),
-    )
+pub returns-in-Err-clause-outcome : goal.returns-in-Err-clause-outcome
+returns-in-Err-clause-outcome g c = (standard, memory_first _ c.in-Err.fault c.in-Err.ensures.memory)
 
-pub returns-in_err-run_script-clause-write : goal.returns-in_err-run_script-clause-write
-returns-in_err-run_script-clause-write g c = λ e.
-    let from = c.in_ok-bridge.ensures.begins in
-    let why = told_write c.from_residual-in_err-run_script.result c.in_err-run_script.field-0.0 c.from_residual-in_err-run_script.ensures.1 e in
-    let end = c.run_script.new in (
-      end.bridge,
-      subst
-          (λ (s : State). IsCutOff Answers s end.bridge (g.R.ByteIn.remaining c.args.reader.now) (g.R.ByteIn.remaining end.reader) (g.W.ByteOut.taken c.args.writer.now) (g.W.ByteOut.taken end.writer))
-          from (c.in_err-run_script.ensures.write (ap Err why)),
-    )
-
-pub returns-clause-ok : goal.returns-clause-ok
-returns-clause-ok g c =
-    let from = c.in_ok-bridge.ensures.begins in
-    let end = c.run_script.new in (
-      end.bridge,
-      subst
-          (λ (s : State). Completes Answers s end.bridge (g.R.ByteIn.remaining c.args.reader.now) (g.R.ByteIn.remaining end.reader) (g.W.ByteOut.taken c.args.writer.now) (g.W.ByteOut.taken end.writer))
-          from c.in_ok-run_script.ensures.ok,
-    )
+pub returns-clause-outcome : goal.returns-clause-outcome
+returns-clause-outcome g c = (
+  c.run_script.new.bridge,
+  begun_at (λ (s : State). moment g.R.ByteIn.remaining g.R.ByteIn.calls g.R.ByteIn.has_failed g.W.ByteOut.taken g.W.ByteOut.pending g.W.ByteOut.has_failed s c.args.reader.now c.args.writer.now)
+      _ c.run_script.result _ _ c.in-Ok.ensures.begins c.run_script.ensures.outcome,
+)
