@@ -1,5 +1,6 @@
 pub mod Bounds
 pub mod Keys
 pub mod Limits
+pub mod Numbers
 pub mod Refusals
 pub mod Whole
