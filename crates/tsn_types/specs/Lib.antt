@@ -1,4 +1,5 @@
 pub mod Bounds
+pub mod InRange
 pub mod Keys
 pub mod Limits
 pub mod Numbers

@@ -2,8 +2,9 @@
 //!
 //! A record is created, replaced and removed as one. Only `try_clone` takes memory; what it gives equals its source.
 ghost use Rattle.std.specs.Prelude.{◌≡◌, ◌↔◌, IfOk, IsTrue};
-ghost use Rattle.tsn_types.specs.Keys.{refs, listed};
+ghost use Rattle.tsn_types.specs.Keys.{has, listed, refs};
 ghost use Rattle.tsn_types.specs.Whole.{whole};
+ghost use Rattle.tsn_types.specs.declared.records.Record.TheVariants.{Filter as FilterRecord};
 
 use crate::keys::Key;
 use crate::lists::ControlList;
@@ -119,6 +120,21 @@ pub struct StreamFilter {
     pub oversize: bool,
 }
 
+impl StreamFilter {
+    /// Whether the filter refers to the key: its gate or, if given, its meter.
+    pub fn refers_to(&self, key: &Key) -> bool
+        ensures { result ≡ has (refs (FilterRecord self.now)) key.now }
+    {
+        if *key == Key::Gate(self.gate) {
+            return true;
+        }
+        match self.meter {
+            Some(meter) => *key == Key::Meter(meter),
+            None => false,
+        }
+    }
+}
+
 /// A flow meter instance (802.1Q-2018, 12.31.4).
 #[derive(Clone, Copy, Debug, PartialEq, Eq)]
 pub struct FlowMeter {
@@ -185,11 +201,14 @@ impl Record {
         })
     }
 
-    /// Whether the records are equal, every member of them.
-    pub fn is_same(&self, other: &Record) -> bool
-        ensures { IsTrue result ↔ (self.now ≡ other.now) }
+    /// Whether the record refers to the key.
+    pub fn refers_to(&self, key: &Key) -> bool
+        ensures { result ≡ has (refs self.now) key.now }
     {
-        self == other
+        match self {
+            Record::Filter(filter) => filter.refers_to(key),
+            _ => false,
+        }
     }
 }
 
