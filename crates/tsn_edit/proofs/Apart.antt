@@ -121,6 +121,11 @@ module _ (l : Limits) (c d : Configuration) (t : List Part) (f : Change) (a : Ag
 
   still_kept : IsWellKept l (changed d f)
   still_kept = record {
+    limits = a.left_kept.limits;
+    in_range = λ k r is.
+        by_option (part_on k (parts f))
+        (λ none. a.left_kept.in_range k r (sym (untouched d k none) ∙ is))
+        (λ p k_is. fits.kept.in_range k r (touched c d k p k_is ∙ is));
     within = λ k r is.
         by_option (part_on k (parts f))
         (λ none. a.left_kept.within k r (sym (untouched d k none) ∙ is))

@@ -8,6 +8,7 @@
 ghost use Rattle.std.specs.Prelude.{◌≡◌, ◌↔◌, IfOk, IsTrue};
 ghost use Rattle.std.specs.Option.{option_copied};
 ghost use Rattle.tsn_edit.specs.Changes.{conflicts};
+ghost use Rattle.tsn_edit.specs.Edits.{EditInRange};
 ghost use Rattle.tsn_edit.specs.Parts.{inverse};
 ghost use Rattle.tsn_types.specs.Keys.{has, refs_of, same_key};
 
@@ -21,6 +22,19 @@ pub enum Edit {
     Create(Key, Record),
     Replace(Key, Record),
     Remove(Key),
+}
+
+impl Edit {
+    /// The numbers of the edit's record are in their ranges, by their types. It does nothing as the program runs.
+    pub fn tell_ranges(&self)
+        ensures { EditInRange self.now }
+    {
+        match self {
+            Edit::Create(_, value) => value.tell_ranges(),
+            Edit::Replace(_, value) => value.tell_ranges(),
+            Edit::Remove(_) => {}
+        }
+    }
 }
 
 /// A key with its value before and its value after.
@@ -81,14 +95,8 @@ fn refers_to(value: &Option<Record>, key: &Key) -> bool
     ensures { result ≡ has (refs_of value.now) key.now }
 {
     match value {
-        Some(Record::Filter(filter)) => {
-            *key == Key::Gate(filter.gate)
-                || match filter.meter {
-                    Some(meter) => *key == Key::Meter(meter),
-                    None => false,
-                }
-        }
-        _ => false,
+        Some(whole) => whole.refers_to(key),
+        None => false,
     }
 }
 

@@ -13,7 +13,7 @@ use crate::records::{
 };
 
 impl Record {
-    /// The numbers of a record are in their ranges.
+    /// The numbers of the record are in their ranges, by their types. It does nothing as the program runs.
     pub fn tell_ranges(&self)
         ensures { RecordInRange self.now }
     {
