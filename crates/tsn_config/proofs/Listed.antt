@@ -1,6 +1,8 @@
 -- The entries of the map of four tables are those of the tables, one table after another.
-use Rattle.std.proofs.Common.{◌≡◌, ℕ, Bool, true, false, cond, ◌&&◌, List, [], ◌∷◌, ◌++◌, refl, sym, ◌∙◌, ap, Some, None}
+use Rattle.std.proofs.Common.{◌≡◌, ℕ, Bool, true, false, cond, List, [], ◌∷◌, ◌++◌, refl, sym, ◌∙◌, ap, Some, None}
 use Rattle.std.specs.Prelude.{T, find, option_map}
+use Rattle.std.proofs.lemmas.Bool.{and_from, and_parts}
+use Rattle.std.proofs.lemmas.List.{append-nil}
 use Rattle.std.specs.Ordering.{nat_cmp, is_lt}
 use Rattle.std.specs.declared.cmp.Ordering.TheVariants.{Less}
 use Rattle.std.specs.FinMap.{FinMap, entries, entries_sorted, from_entries, from_sorted, get-from_entries, get-from_sorted, entries-from_sorted, same_map, is_sorted}
@@ -20,48 +22,36 @@ use Rattle.tsn_table.specs.Firsts.{first_id}
 use Rattle.tsn_config.specs.Settings.{tagged, joined}
 use Rattle.tsn_edit.specs.Edits.{referrer}
 
-and_both : (a b : Bool) → a ≡ true → b ≡ true → (a && b) ≡ true
-and_both true b h g = g
-and_both false b h g = h
-
-and_left : (a b : Bool) → (a && b) ≡ true → a ≡ true
-and_left true b h = refl
-and_left false b h = h
-
-and_right : (a b : Bool) → (a && b) ≡ true → b ≡ true
-and_right true b h = h
-and_right false b h = (cc)
-
-of_T : (b : Bool) → T b → b ≡ true
+pub of_T : (b : Bool) → T b → b ≡ true
 of_T true h = refl
 of_T false h = absurd h
 
-T_of : (b : Bool) → b ≡ true → T b
+pub T_of : (b : Bool) → b ≡ true → T b
 T_of true h = tt
 T_of false h = absurd (cc)
 
 below_append : (k : Key) (xs ys : List (Key × Record)) → below_all key_cmp k xs ≡ true → below_all key_cmp k ys ≡ true → below_all key_cmp k (xs ++ ys) ≡ true
 below_append k [] ys h g = g
-below_append k (x ∷ xs) ys h g = and_both _ _ (and_left _ _ h) (below_append k xs ys (and_right (is_lt (key_cmp k x.0)) _ h) g)
+below_append k (x ∷ xs) ys h g = and_from _ _ ((and_parts _ _ h).0) (below_append k xs ys ((and_parts (is_lt (key_cmp k x.0)) _ h).1) g)
 
 module _ {A : Type 0} (key : ℕ → Key) (record' : A → Record) where
   below_tagged : ((a b : ℕ) → key_cmp (key a) (key b) ≡ nat_cmp a b) → (x : ℕ) (es : List (ℕ × A)) → below_all nat_cmp x es ≡ true → below_all key_cmp (key x) (tagged key record' es) ≡ true
   below_tagged same x [] h = refl
-  below_tagged same x (e ∷ es) h = and_both _ _ (ap is_lt (same x e.0) ∙ and_left _ _ h) (below_tagged same x es (and_right (is_lt (nat_cmp x e.0)) _ h))
+  below_tagged same x (e ∷ es) h = and_from _ _ (ap is_lt (same x e.0) ∙ (and_parts _ _ h).0) (below_tagged same x es ((and_parts (is_lt (nat_cmp x e.0)) _ h).1))
 
   sorted_tagged : ((a b : ℕ) → key_cmp (key a) (key b) ≡ nat_cmp a b) → (es : List (ℕ × A)) → is_sorted nat_cmp es ≡ true → is_sorted key_cmp (tagged key record' es) ≡ true
   sorted_tagged same [] h = refl
-  sorted_tagged same (e ∷ es) h = and_both _ _ (below_tagged same e.0 es (and_left _ _ h)) (sorted_tagged same es (and_right (below_all nat_cmp e.0 es) _ h))
+  sorted_tagged same (e ∷ es) h = and_from _ _ (below_tagged same e.0 es ((and_parts _ _ h).0)) (sorted_tagged same es ((and_parts (below_all nat_cmp e.0 es) _ h).1))
 
   higher : (k : Key) → ((n : ℕ) → key_cmp k (key n) ≡ Less) → (es : List (ℕ × A)) → below_all key_cmp k (tagged key record' es) ≡ true
   higher k less [] = refl
-  higher k less (e ∷ es) = and_both _ _ (ap is_lt (less e.0)) (higher k less es)
+  higher k less (e ∷ es) = and_from _ _ (ap is_lt (less e.0)) (higher k less es)
 
   sorted_then : (es : List (ℕ × A)) (ys : List (Key × Record)) → is_sorted key_cmp (tagged key record' es) ≡ true → is_sorted key_cmp ys ≡ true → ((n : ℕ) → below_all key_cmp (key n) ys ≡ true) → is_sorted key_cmp (tagged key record' es ++ ys) ≡ true
   sorted_then [] ys h g below = g
   sorted_then (e ∷ es) ys h g below =
-      and_both _ _ (below_append (key e.0) (tagged key record' es) ys (and_left _ _ h) (below e.0))
-      (sorted_then es ys (and_right (below_all key_cmp (key e.0) (tagged key record' es)) _ h) g below)
+      and_from _ _ (below_append (key e.0) (tagged key record' es) ys ((and_parts _ _ h).0) (below e.0))
+      (sorted_then es ys ((and_parts (below_all key_cmp (key e.0) (tagged key record' es)) _ h).1) g below)
 
   skips : (p : Key × Record → Bool) → ((n : ℕ) (r : A) → p (key n, record' r) ≡ false) → (es : List (ℕ × A)) (ys : List (Key × Record)) → find p (tagged key record' es ++ ys) ≡ find p ys
   skips p misses [] ys = refl
@@ -78,10 +68,6 @@ module _ {A : Type 0} (key : ℕ → Key) (record' : A → Record) where
 pub from_sorted_list : (es : List (Key × Record)) → is_sorted key_cmp es ≡ true → entries (from_entries {R = key_cmp} es) ≡ es
 from_sorted_list es h =
     ap entries (same_map keys_total exact_keys (from_entries es) (from_sorted es) (λ q. get-from_entries keys_total es q ∙ sym (get-from_sorted key_cmp es q (T_of _ h)))) ∙ entries-from_sorted key_cmp es (T_of _ h)
-
-append_nil : (xs : List (Key × Record)) → xs ++ [] ≡ xs
-append_nil [] = refl
-append_nil (x ∷ xs) = ap (λ ys. x ∷ ys) (append_nil xs)
 
 module _ (ps : FinMap nat_cmp PortGates) (fs : FinMap nat_cmp StreamFilter) (gs : FinMap nat_cmp StreamGate) (ms : FinMap nat_cmp FlowMeter) where
   sorted_all : is_sorted key_cmp (tagged Port PortRecord (entries ps) ++ (tagged Filter FilterRecord (entries fs) ++ (tagged Gate GateRecord (entries gs) ++ tagged Meter MeterRecord (entries ms)))) ≡ true
@@ -104,5 +90,5 @@ module _ (ps : FinMap nat_cmp PortGates) (fs : FinMap nat_cmp StreamFilter) (gs 
       ∙ ap (option_map (λ (e : Key × Record). Referred e.0)) (skips Port PortRecord (λ e. has (refs e.1) k) (λ n r. refl) (entries ps) _)
       ∙ first Filter FilterRecord k (entries fs) _
       (skips Gate GateRecord (λ e. has (refs e.1) k) (λ n r. refl) (entries gs) _
-      ∙ ap (find (λ e. has (refs e.1) k)) (sym (append_nil (tagged Meter MeterRecord (entries ms))))
+      ∙ ap (find (λ e. has (refs e.1) k)) (sym (append-nil (tagged Meter MeterRecord (entries ms))))
       ∙ skips Meter MeterRecord (λ e. has (refs e.1) k) (λ n r. refl) (entries ms) [])

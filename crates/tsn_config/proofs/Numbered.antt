@@ -1,6 +1,7 @@
 -- The numbers of one kind are those of its table.
 use Rattle.std.proofs.Common.{◌≡◌, ℕ, true, false, cond, List, [], ◌∷◌, ◌++◌, refl, ◌∙◌, ap, map}
 use Rattle.std.specs.Prelude.{filter}
+use Rattle.std.proofs.lemmas.List.{append-nil}
 use Rattle.std.specs.Ordering.{nat_cmp}
 use Rattle.std.specs.FinMap.{FinMap, entries, keys}
 use Rattle.tsn_types.specs.declared.keys.Key.{Key}
@@ -43,10 +44,6 @@ module _ {A : Type 0} (key : ℕ → Key) (rec : A → Record) (kind : Kind) whe
       ap (λ b. map (λ k. number_of k) (cond b (key e.0 ∷ filter (λ k. is_of kind k) (map (λ (e : Key × Record). e.0) (tagged key rec es))) (filter (λ k. is_of kind k) (map (λ (e : Key × Record). e.0) (tagged key rec es))))) (other e.0)
       ∙ none_picked other es
 
-nothing_after : (xs : List ℕ) → xs ++ [] ≡ xs
-nothing_after [] = refl
-nothing_after (x ∷ xs) = ap (λ ys. x ∷ ys) (nothing_after xs)
-
 module _ (ps : FinMap nat_cmp PortGates) (fs : FinMap nat_cmp StreamFilter) (gs : FinMap nat_cmp StreamGate) (ms : FinMap nat_cmp FlowMeter) where
   abbrev tp : List (Key × Record)
   tp = tagged Port PortRecord (entries ps)
@@ -69,17 +66,17 @@ module _ (ps : FinMap nat_cmp PortGates) (fs : FinMap nat_cmp StreamFilter) (gs 
   pub ids_of_ports : ids_of kinds.Port (joined ps fs gs ms) ≡ keys ps
   ids_of_ports = parts kinds.Port ∙ (λ i. all_picked Port PortRecord kinds.Port (λ n. refl) (λ n. refl) (entries ps) i
       ++ (none_picked Filter FilterRecord kinds.Port (λ n. refl) (entries fs) i ++ (none_picked Gate GateRecord kinds.Port (λ n. refl) (entries gs) i ++ none_picked Meter MeterRecord kinds.Port (λ n. refl) (entries ms) i)))
-      ∙ nothing_after (keys ps)
+      ∙ append-nil (keys ps)
 
   pub ids_of_filters : ids_of kinds.Filter (joined ps fs gs ms) ≡ keys fs
   ids_of_filters = parts kinds.Filter ∙ (λ i. none_picked Port PortRecord kinds.Filter (λ n. refl) (entries ps) i
       ++ (all_picked Filter FilterRecord kinds.Filter (λ n. refl) (λ n. refl) (entries fs) i ++ (none_picked Gate GateRecord kinds.Filter (λ n. refl) (entries gs) i ++ none_picked Meter MeterRecord kinds.Filter (λ n. refl) (entries ms) i)))
-      ∙ nothing_after (keys fs)
+      ∙ append-nil (keys fs)
 
   pub ids_of_gates : ids_of kinds.Gate (joined ps fs gs ms) ≡ keys gs
   ids_of_gates = parts kinds.Gate ∙ (λ i. none_picked Port PortRecord kinds.Gate (λ n. refl) (entries ps) i
       ++ (none_picked Filter FilterRecord kinds.Gate (λ n. refl) (entries fs) i ++ (all_picked Gate GateRecord kinds.Gate (λ n. refl) (λ n. refl) (entries gs) i ++ none_picked Meter MeterRecord kinds.Gate (λ n. refl) (entries ms) i)))
-      ∙ nothing_after (keys gs)
+      ∙ append-nil (keys gs)
 
   pub ids_of_meters : ids_of kinds.Meter (joined ps fs gs ms) ≡ keys ms
   ids_of_meters = parts kinds.Meter ∙ (λ i. none_picked Port PortRecord kinds.Meter (λ n. refl) (entries ps) i

@@ -4,7 +4,6 @@
 //! relies on the tables alone, and each call works in the table of its key's kind.
 ghost use Rattle.std.specs.Prelude.{◌≡◌, ℕ, ◌+◌, ◌≤◌, IfOk, IfSome, IsOk, IsTrue, OnOk, is_some, option_map};
 ghost use Rattle.std.specs.FinMap as map;
-ghost use Rattle.tsn_types.specs.Keys.{has, refs};
 ghost use Rattle.tsn_types.specs.Whole.{whole};
 ghost use Rattle.tsn_types.specs.declared.refusals.Refusal.TheVariants.{Referred};
 ghost use Rattle.tsn_edit.specs.Configuration.{put};
@@ -162,7 +161,7 @@ impl Rows {
     pub(crate) fn referrer(&self, key: &Key) -> Option<u64>
         ensures { option_map (λ n. Referred (Key.Filter n)) result ≡ referrer self.now.map key.now }
     {
-        self.filters.first_where(|filter| refers_to(filter, key))
+        self.filters.first_where(|filter| filter.refers_to(key))
     }
 
     /// Makes room for at least `count` rows in each table.
@@ -243,18 +242,5 @@ fn into_meter(value: Option<Record>) -> Option<FlowMeter>
     match &value {
         Some(Record::Meter(row)) => Some(*row),
         _ => None,
-    }
-}
-
-// Whether the filter refers to the key.
-fn refers_to(filter: &StreamFilter, key: &Key) -> bool
-    ensures { result ≡ has (refs (Record.Filter filter.now)) key.now }
-{
-    if *key == Key::Gate(filter.gate) {
-        return true;
-    }
-    match filter.meter {
-        Some(meter) => *key == Key::Meter(meter),
-        None => false,
     }
 }

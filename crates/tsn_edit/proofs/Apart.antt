@@ -1,7 +1,8 @@
 -- Changes that do not conflict with a set go the same way where the set was left out.
-use Rattle.std.proofs.Common.{◌≡◌, Bool, true, false, ◌||◌, List, [], ◌∷◌, ◌++◌, refl, sym, ◌∙◌, ap, Some, None}
+use Rattle.std.proofs.Common.{◌≡◌, true, false, ◌||◌, List, [], ◌∷◌, ◌++◌, refl, sym, ◌∙◌, ap, Some, None}
 use Rattle.std.specs.Prelude.{IsTrue, IsSome, is_some}
 use Rattle.std.specs.FinMap.{get}
+use Rattle.std.proofs.lemmas.Bool.{or_from, or_left, or_parts, or_right}
 use Rattle.tsn_types.specs.declared.keys.Key.{Key}
 use Rattle.tsn_types.specs.declared.keys.Key.TheVariants.{Port}
 use Rattle.tsn_edit.specs.Parts.{Change, Part, parts}
@@ -10,7 +11,7 @@ use Rattle.tsn_types.specs.declared.limits.Limits.{Limits}
 use Rattle.tsn_types.specs.Keys.{same_key, has, meets, refs, refs_of}
 use Rattle.tsn_edit.specs.Configuration.{Configuration, IsWellKept}
 use Rattle.tsn_edit.specs.Changes.{keys_of, refs_before, refs_after, changed, Stands, Fits, clashes}
-use Rattle.tsn_edit.proofs.KeyFacts.{same_itself, or_left, or_right, by_option, part_on, part_on_none, before_or, part_on_some, each_part, part_on-append, part_on-append_found, keys_of-append, refs_before-append, has-append, meets_apart, after_or, get-changed, or_false_left, or_false_right}
+use Rattle.tsn_edit.proofs.KeyFacts.{same_itself, by_option, part_on, part_on_none, before_or, part_on_some, each_part, part_on-append, part_on-append_found, keys_of-append, refs_before-append, has-append, meets_apart, after_or, get-changed}
 
 -- f touches no key of e, refers to none, and nothing that e's values before refer to
 pub record Apart (f e : List Part) : Type 0 where
@@ -23,25 +24,21 @@ Apart-from_test f e h =
     let a = meets (keys_of f) (keys_of e) in
     let b = meets (refs_after f) (keys_of e) in
     let c = meets (keys_of f) (refs_before e) in
-    let bc : (b || c) ≡ false = or_false_right a (b || c) h in
+    let bc : (b || c) ≡ false = (or_parts a (b || c) h).1 in
     record {
-      keys = meets_apart (keys_of f) (keys_of e) (or_false_left a (b || c) h);
-      after = meets_apart (refs_after f) (keys_of e) (or_false_left b c bc);
-      before = meets_apart (keys_of f) (refs_before e) (or_false_right b c bc);
+      keys = meets_apart (keys_of f) (keys_of e) ((or_parts a (b || c) h).0);
+      after = meets_apart (refs_after f) (keys_of e) ((or_parts b c bc).0);
+      before = meets_apart (keys_of f) (refs_before e) ((or_parts b c bc).1);
     }
-
-none_of_both : (a b : Bool) → a ≡ false → b ≡ false → (a || b) ≡ false
-none_of_both true b p q = p
-none_of_both false b p q = q
 
 pub Apart-append : (f e g : List Part) → Apart f e → Apart f g → Apart f (e ++ g)
 Apart-append f e g p q =
     let keys_none : (k : Key) → has (keys_of e) k ≡ false → has (keys_of g) k ≡ false → has (keys_of (e ++ g)) k ≡ false =
-    λ k a b. ap (λ ks. has ks k) (keys_of-append e g) ∙ has-append (keys_of e) (keys_of g) k ∙ none_of_both _ _ a b in
+    λ k a b. ap (λ ks. has ks k) (keys_of-append e g) ∙ has-append (keys_of e) (keys_of g) k ∙ or_from _ _ a b in
     record {
       keys = λ k h. keys_none k (p.keys k h) (q.keys k h);
       after = λ k h. keys_none k (p.after k h) (q.after k h);
-      before = λ k h. refs_before-append e g k ∙ none_of_both _ _ (p.before k h) (q.before k h);
+      before = λ k h. refs_before-append e g k ∙ or_from _ _ (p.before k h) (q.before k h);
     }
 
 pub begin_agrees : (c : Configuration) (k : Key) → get c k ≡ before_or (part_on k []) (get c k)

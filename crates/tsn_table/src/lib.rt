@@ -4,11 +4,10 @@
 //! the number of rows that it still has room for. It relies on the standard library alone.
 #![tactic(auto)]
 
-ghost use Rattle.std.specs.Prelude.{◌≡◌, ℕ, Bool, ◌+◌, ◌<◌, ◌≤◌, ◌⊎◌, IsOk, IsSome, IsTrue, IfOk, OnOk, OnErr, MatchOption, MatchResult};
+ghost use Rattle.std.specs.Prelude.{◌≡◌, ℕ, Bool, ◌+◌, ◌<◌, ◌≤◌, ◌⊎◌, IsOk, IsSome, IsTrue, IfOk, OnOk, OnErr, MatchOption, MatchResult, map as keys_of};
 ghost use Rattle.std.specs.Ordering.{nat_cmp};
 ghost use Rattle.std.specs.Option.{option_copied};
 ghost use Rattle.std.specs.FinMap as map;
-ghost use Rattle.std.specs.Prelude.{map as keys_of};
 ghost use Rattle.std.specs.List.{insert};
 ghost use Rattle.std.specs.Vec.{vec_len, vec_capacity};
 ghost use Rattle.tsn_table.specs.Places.{IsRowAt, IsGap};
