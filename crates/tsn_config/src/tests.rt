@@ -216,6 +216,7 @@ fn a_change_fits_only_where_its_value_before_stands(rt: HostRuntime) -> Result<(
 fn laws_have_nothing_to_run() {
     laws::change_and_inverse();
     laws::admitted_edit_fits();
+    laws::kept_is_in_range();
 }
 
 #[test]

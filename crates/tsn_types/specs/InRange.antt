@@ -1,6 +1,8 @@
--- The numbers of entries, schedules and records within their ranges.
+-- The numbers of entries, schedules, records and keys within their ranges.
 use Rattle.std.specs.Prelude.{IfSome}
 use Rattle.std.specs.List.{AllByRecursion}
+use Rattle.tsn_types.specs.declared.keys.Key.{Key}
+use Rattle.tsn_types.specs.declared.keys.Key.TheVariants as keys
 use Rattle.tsn_types.specs.declared.records.PortEntry.{PortEntry}
 use Rattle.tsn_types.specs.declared.records.GateEntry.{GateEntry}
 use Rattle.tsn_types.specs.declared.records.Schedule.{Schedule}
@@ -10,7 +12,7 @@ use Rattle.tsn_types.specs.declared.records.StreamFilter.{StreamFilter}
 use Rattle.tsn_types.specs.declared.records.FlowMeter.{FlowMeter}
 use Rattle.tsn_types.specs.declared.records.Record.{Record}
 use Rattle.tsn_types.specs.declared.records.Record.TheVariants as records
-use Rattle.tsn_types.specs.Numbers.{AreGateStates, IsBitRate, IsCycle, IsExtension, IsHandle, IsInstanceId, IsInstant, IsInterval, IsMaxSdu, IsOctets, IsPriority}
+use Rattle.tsn_types.specs.Numbers.{AreGateStates, IsBitRate, IsCycle, IsExtension, IsHandle, IsInstanceId, IsInstant, IsInterval, IsMaxSdu, IsOctets, IsPortId, IsPriority}
 
 pub record PortEntryInRange (e : PortEntry) : Type 0 where
   pub gates : AreGateStates e.gates
@@ -55,3 +57,11 @@ RecordInRange (records.Port r) = PortInRange r
 RecordInRange (records.Filter r) = FilterInRange r
 RecordInRange (records.Gate r) = GateInRange r
 RecordInRange (records.Meter r) = MeterInRange r
+
+-- a key and a record of its kind, with every number in its range
+abbrev pub KeyedInRange : Key → Record → Type 0
+KeyedInRange (keys.Port n) (records.Port r) = IsPortId n × PortInRange r
+KeyedInRange (keys.Filter n) (records.Filter r) = IsInstanceId n × FilterInRange r
+KeyedInRange (keys.Gate n) (records.Gate r) = IsInstanceId n × GateInRange r
+KeyedInRange (keys.Meter n) (records.Meter r) = IsInstanceId n × MeterInRange r
+KeyedInRange k r = ⊥
