@@ -33,8 +33,8 @@ use Rattle.tsn_config.proofs.Listed.{of_T}
 use Rattle.tsn_config.proofs.Edits.{fits_put, remove_kept, none_refers, map_none}
 
 -- what stands at a key of a well kept map is within the limits
-pub held : (l : Limits) (c : Configuration) (k : Key) (r : Record) → IsWellKept l (put c k (Some r)) → HoldsKey l k × HoldsRecord l k r
-held l c k r kept = kept.within k r (get-put c k (Some r) k ∙ ap (λ b. cond b (Some r) (get c k)) (same_itself k))
+pub limits_hold : (l : Limits) (c : Configuration) (k : Key) (r : Record) → IsWellKept l (put c k (Some r)) → HoldsKey l k × HoldsRecord l k r
+limits_hold l c k r kept = kept.within k r (get-put c k (Some r) k ∙ ap (λ b. cond b (Some r) (get c k)) (same_itself k))
 
 none_of : {A : Type 0} (o : Option A) → is_none o ≡ true → o ≡ None
 none_of None h = refl
@@ -130,13 +130,13 @@ after_kind l c e fits = kind_of_value e.after fits.kept
   where
     kind_of_value : (v : Option Record) → IsWellKept l (put c e.key v) → IsOfKind e.key v
     kind_of_value None kept = tt
-    kind_of_value (Some r) kept = of_kind l e.key r (held l c e.key r kept).1
+    kind_of_value (Some r) kept = of_kind l e.key r (limits_hold l c e.key r kept).1
 
 module _ (l : Limits) (c : Configuration) (kept : IsWellKept l c) where
   -- the references of a record that fits are there
   there : (k : Key) (r : Record) → IsWellKept l (put c k (Some r)) → (q : Key) → has (refs r) q ≡ true → IsSome (get c q)
   there k r after q is =
-      let holds = (held l c k r after).1 in
+      let holds = (limits_hold l c k r after).1 in
       let at = after.referred k r q (get-put c k (Some r) k ∙ ap (λ b. cond b (Some r) (get c k)) (same_itself k)) is in
       ap is_some (sym (get-put c k (Some r) q ∙ ap (λ b. cond b (Some r) (get c q)) (refs_other l k r holds q is))) ∙ at
 
@@ -152,7 +152,7 @@ module _ (l : Limits) (c : Configuration) (kept : IsWellKept l c) where
 
   keeps_put : (k : Key) (b : Option Record) (r : Record) → IsWellKept l (put c k (Some r)) → keeps l c k b (Some r) ≡ true
   keeps_put k b r after =
-      let h = held l c k r after in
+      let h = limits_hold l c k r after in
       let refs_there = there k r after in
       rw (of_kind l k r h.1, test_holds l k h.0, no_limits k r h.1 refs_there, no_cause (λ q. is_some (get c q)) Dangling (refs r) refs_there) refl
 

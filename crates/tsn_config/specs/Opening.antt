@@ -51,9 +51,9 @@ abbrev pub limits_cause : Limits → List (Key × Record) → Option Refusal
 limits_cause l rs = first_cause (map (λ e. limit_cause l e) rs)
 
 -- the first key that was seen, or stands earlier in the list
-abbrev pub repeated : List Key → List (Key × Record) → Option Refusal
-repeated seen [] = None
-repeated seen (e ∷ es) = option_or (unless (not (has seen e.0)) (Exists e.0)) (repeated (e.0 ∷ seen) es)
+abbrev pub repeated_key : List Key → List (Key × Record) → Option Refusal
+repeated_key seen [] = None
+repeated_key seen (e ∷ es) = option_or (unless (not (has seen e.0)) (Exists e.0)) (repeated_key (e.0 ∷ seen) es)
 
 -- the first absent reference in the order of keys: that of the least filter, its gate before its meter
 abbrev pub dangling_cause : Configuration → Option Refusal
@@ -61,7 +61,7 @@ dangling_cause c = first_cause (map (λ e. dangling c e.1) (entries c))
 
 -- the causes, in the order of their numbers
 abbrev pub opening_causes : Limits → List (Key × Record) → List (Option Refusal)
-opening_causes l rs = limits_cause l rs ∷ repeated [] rs ∷ dangling_cause (opening l rs) ∷ []
+opening_causes l rs = limits_cause l rs ∷ repeated_key [] rs ∷ dangling_cause (opening l rs) ∷ []
 
 -- why the list is refused, if it is
 abbrev pub opening_refusal : Limits → List (Key × Record) → Option Refusal

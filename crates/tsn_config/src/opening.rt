@@ -8,7 +8,7 @@ ghost use Rattle.std.specs.FinMap as map;
 ghost use Rattle.tsn_types.specs.Numbers.{most_ports};
 ghost use Rattle.tsn_types.specs.declared.refusals.Refusal.TheVariants.{Exists, Memory};
 ghost use Rattle.tsn_types.specs.declared.records.Record.TheVariants.{Port as PortRecord};
-ghost use Rattle.tsn_config.specs.Opening.{AreOfKind, default_port, default_ports, limit_cause, limits_cause, opening, opening_refusal, repeated, with_port};
+ghost use Rattle.tsn_config.specs.Opening.{AreOfKind, default_port, default_ports, limit_cause, limits_cause, opening, opening_refusal, repeated_key, with_port};
 ghost use Rattle.tsn_edit.specs.Edits.{is_of_kind};
 
 use crate::Config;
@@ -73,9 +73,9 @@ fn refuse_item(limits: Limits, item: &(Key, Record)) -> Option<Refusal>
 // Empty tables with the records put into them, refused at the first key that is there already.
 fn rows_of(alloc: Global, items: Vec<(Key, Record)>) -> Result<Rows, Refusal>
     requires { AreOfKind items.items }
-    ensures distinct { OnOk result (repeated [] items.items ≡ None) }
+    ensures distinct { OnOk result (repeated_key [] items.items ≡ None) }
     ensures map { IfOk result (λ rows. rows.map ≡ map.from_entries items.items) }
-    ensures err { IfErr result (λ why. (repeated [] items.items ≡ Some why) ⊎ (why ≡ Memory)) }
+    ensures err { IfErr result (λ why. (repeated_key [] items.items ≡ Some why) ⊎ (why ≡ Memory)) }
 {
     let mut rows = Rows::new(alloc);
     for (key, value) in items {

@@ -17,7 +17,7 @@ use Rattle.tsn_edit.specs.Parts.{Change, Part, parts}
 use Rattle.tsn_types.specs.declared.records.Record.{Record}
 use Rattle.tsn_types.specs.Keys.{kind_of, number_of, key_cmp, same_key, has, meets, refs_of}
 use Rattle.tsn_edit.specs.Configuration.{Configuration, put}
-use Rattle.tsn_edit.specs.Changes.{keys_of, refs_before, refs_after, put_all, changed}
+use Rattle.tsn_edit.specs.Changes.{keys_of, refs_before, refs_after, put_all, after_change}
 
 pub by_bool : {G : Type 0} (b : Bool) → (b ≡ true → G) → (b ≡ false → G) → G
 by_bool true f g = f refl
@@ -88,8 +88,8 @@ get-put_all c (p ∷ e) q =
     ∙ ap (cond (same_key q p.key) p.after) (get-put_all c e q)
     ∙ after_or-cond (same_key q p.key) p (part_on q e) (get c q)
 
-pub get-changed : (c : Configuration) (e : Change) (q : Key) → get (changed c e) q ≡ after_or (part_on q (parts e)) (get c q)
-get-changed c e q = get-put_all c (parts e) q
+pub get-after_change : (c : Configuration) (e : Change) (q : Key) → get (after_change c e) q ≡ after_or (part_on q (parts e)) (get c q)
+get-after_change c e q = get-put_all c (parts e) q
 
 -- no part is on a key that the change does not have
 pub part_on_none : (k : Key) (e : List Part) → has (keys_of e) k ≡ false → part_on k e ≡ None

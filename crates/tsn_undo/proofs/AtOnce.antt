@@ -7,7 +7,7 @@ use Rattle.tsn_types.specs.declared.refusals.Refusal.TheVariants.{Conflict}
 use Rattle.tsn_edit.specs.declared.Edit.{Edit}
 use Rattle.tsn_edit.specs.Parts.{Change, inverse}
 use Rattle.tsn_edit.specs.Configuration.{Configuration, IsWellKept}
-use Rattle.tsn_edit.specs.Changes.{changed, conflicts, Fits}
+use Rattle.tsn_edit.specs.Changes.{after_change, conflicts, Fits}
 use Rattle.tsn_edit.specs.Runs.{run}
 use Rattle.tsn_edit.specs.Edits.{EditInRange, change_of}
 use Rattle.tsn_edit.proofs.Inverses.{run-append, end_kept, taken_back}
@@ -23,7 +23,7 @@ use Rattle.tsn_undo.proofs.Numbers.{Rises, later_than_rest, rises_standing}
 use Rattle.tsn_undo.proofs.Rewinding.{applied_push, admitted_now}
 
 -- an entry more applies its change
-configuration_push : (opening : Configuration) (es : List Entry) (w : Entry) (e : Change) → applies w.what ≡ Some e → configuration opening (es ++ w ∷ []) ≡ changed (configuration opening es) e
+configuration_push : (opening : Configuration) (es : List Entry) (w : Entry) (e : Change) → applies w.what ≡ Some e → configuration opening (es ++ w ∷ []) ≡ after_change (configuration opening es) e
 configuration_push opening es w e apply = ap (run opening) (applied_push es w e apply) ∙ run-append opening (changes (collect applies 1 es)) (e ∷ [])
 
 -- the change that an edit of the session has just applied
@@ -76,6 +76,6 @@ undone_at_once before edited after session edit entry number of ranges sound mad
       back.of_is ∙ ap (λ (x : Applied). x.number) (sym is) ∙ (let n : 1 + length es ≡ length es + 1 = omega arith in n) ∙ sym made'.number_is,
       ap present now
           ∙ configuration_push before.opening (es ++ w ∷ []) (undone newest) (inverse e) refl
-          ∙ ap (λ (m : Configuration). changed m (inverse e)) (configuration_push before.opening es w e refl)
+          ∙ ap (λ (m : Configuration). after_change m (inverse e)) (configuration_push before.opening es w e refl)
           ∙ (taken_back before.limits (present before) e kept fits).same,
     )
