@@ -287,12 +287,17 @@ fn the_change_of_a_replace_has_both_records(rt: HostRuntime) -> Result<(), Fail>
     Ok(())
 }
 
-// The largest table of gates, filled in rising order.
+// The largest table of meters, opened, and the largest of gates, filled in rising order.
 #[test]
-fn creates_each_gate_of_the_largest_table(rt: HostRuntime) -> Result<(), Fail> {
+fn opens_and_creates_the_largest_tables(rt: HostRuntime) -> Result<(), Fail> {
     let alloc = rt.alloc();
-    let most = Limits::new(2, 16, 65_536, 16, 16).unwrap();
-    let mut config = Config::open(alloc, most, Records::new(alloc))?;
+    let most = Limits::new(2, 16, 65_536, 65_536, 16).unwrap();
+    let mut records = Records::new(alloc);
+    for number in 0..65_536 {
+        add_meter(&mut records, number, meter())?;
+    }
+    let mut config = Config::open(alloc, most, records)?;
+    assert_eq!(rt; config.ids(alloc, Kind::Meter)?.as_slice().len(), 65_536);
     config.reserve(65_536)?;
     for number in 0..65_536 {
         make(&rt, &mut config, create_gate(number, gate(alloc)))?;
