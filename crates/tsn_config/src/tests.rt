@@ -39,10 +39,14 @@ fn opens_with_the_records_given(rt: HostRuntime) -> Result<(), Fail> {
     assert!(rt; config.get(gate_key(0)).is_some());
     assert!(rt; stands(&config, meter_key(15), &Record::Meter(meter())));
     assert_eq!(rt; config.filters().ids(alloc)?.as_slice(), [4].as_slice());
-    assert_eq!(rt;
-        config.ids(alloc, Kind::Port)?.as_slice(),
-        [1, 2].as_slice()
-    );
+    for (kind, wanted) in [
+        (Kind::Port, [1, 2].as_slice()),
+        (Kind::Filter, [4].as_slice()),
+        (Kind::Gate, [0].as_slice()),
+        (Kind::Meter, [15].as_slice()),
+    ] {
+        assert_eq!(rt; config.ids(alloc, kind)?.as_slice(), wanted, "{kind:?}");
+    }
     assert!(rt; is_default(&config, port_key(1)));
     assert_eq!(rt; gates_of(&config, port_key(2)), Some(15));
     Ok(())

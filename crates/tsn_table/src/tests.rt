@@ -40,6 +40,7 @@ fn numbers_come_ascending(rt: HostRuntime) -> Result<(), Fail> {
 #[test]
 fn finds_the_least_number(rt: HostRuntime) -> Result<(), Fail> {
     let table = three_rows(rt.alloc())?;
+    assert_eq!(rt; table.first_where(|row| *row > 0), Some(1));
     assert_eq!(rt; table.first_where(|row| *row > 10), Some(4));
     assert_eq!(rt; table.first_where(|row| *row > 60), None);
     Ok(())
