@@ -266,16 +266,6 @@ fn a_copy_has_every_port_and_kind(rt: HostRuntime) -> Result<(), Fail> {
 fn the_change_of_a_replace_has_both_records(rt: HostRuntime) -> Result<(), Fail> {
     let alloc = rt.alloc();
     let config = first_entries(&rt, alloc)?;
-    let long = Limits::new(2, 16, 16, 16, 1_024).unwrap();
-    let gates = Config::open(
-        alloc,
-        long,
-        {
-            let mut records = Records::new(alloc);
-            add_gate(&mut records, 1, gate_with(alloc, 1_024)?)?;
-            records
-        },
-    )?;
     let moved = filter(0, None);
     let edit = Edit::Replace(filter_key(3), Record::Filter(moved));
     assert!(rt; config.check(&edit).is_none());
@@ -283,9 +273,20 @@ fn the_change_of_a_replace_has_both_records(rt: HostRuntime) -> Result<(), Fail>
     assert_eq!(rt; change.key, filter_key(3));
     assert!(rt; change.before == Some(Record::Filter(filter(0, on_meter(0)))));
     assert!(rt; change.after == Some(Record::Filter(moved)));
+    Ok(())
+}
+
+// The change copies the longest list that there may be.
+#[test]
+fn the_change_of_a_replace_has_the_longest_list(rt: HostRuntime) -> Result<(), Fail> {
+    let alloc = rt.alloc();
+    let most = Limits::new(2, 16, 16, 16, 1_024).unwrap();
+    let mut records = Records::new(alloc);
+    add_gate(&mut records, 1, gate_with(alloc, 1_024)?)?;
+    let config = Config::open(alloc, most, records)?;
     let edit = Edit::Replace(gate_key(1), Record::Gate(gate(alloc)));
-    assert!(rt; gates.check(&edit).is_none());
-    let change = gates.change_of(edit)?;
+    assert!(rt; config.check(&edit).is_none());
+    let change = config.change_of(edit)?;
     assert!(rt; change.before == Some(Record::Gate(gate_with(alloc, 1_024)?)));
     assert!(rt; change.after == Some(Record::Gate(gate(alloc))));
     Ok(())

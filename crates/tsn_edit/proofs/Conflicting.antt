@@ -26,15 +26,3 @@ conflicts_is f e =
     ap (λ b. b || (meets (refs_of f.after ++ []) (e.key ∷ []) || (has (refs_of e.before ++ []) f.key || false))) (or-false (same_key f.key e.key || false) ∙ or-false (same_key f.key e.key))
     ∙ ap (λ b. same_key f.key e.key || (b || (has (refs_of e.before ++ []) f.key || false))) (meets_one (refs_of f.after) e.key)
     ∙ ap (λ b. same_key f.key e.key || (has (refs_of f.after) e.key || b)) (or-false (has (refs_of e.before ++ []) f.key) ∙ has_all (refs_of e.before) f.key)
-
-pub on_key : (f e : Change) (b : Bool) → b ≡ same_key f.key e.key → b ≡ true → true ≡ conflicts f e
-on_key f e b is same = sym (conflicts_is f e ∙ ap (λ b. b || (has (refs_of f.after) e.key || has (refs_of e.before) f.key)) (sym is ∙ same))
-
-apart : (f e : Change) → same_key f.key e.key ≡ false → conflicts f e ≡ (has (refs_of f.after) e.key || has (refs_of e.before) f.key)
-apart f e other = conflicts_is f e ∙ ap (λ b. b || (has (refs_of f.after) e.key || has (refs_of e.before) f.key)) other
-
-pub to_key : (f e : Change) (a b : Bool) → a ≡ same_key f.key e.key → a ≡ false → b ≡ has (refs_of f.after) e.key → b ≡ true → true ≡ conflicts f e
-to_key f e a b key other is refers = sym (apart f e (sym key ∙ other) ∙ ap (λ b. b || has (refs_of e.before) f.key) (sym is ∙ refers))
-
-pub from_key : (f e : Change) (a b x : Bool) → a ≡ same_key f.key e.key → a ≡ false → b ≡ has (refs_of f.after) e.key → b ≡ false → x ≡ has (refs_of e.before) f.key → x ≡ conflicts f e
-from_key f e a b x key other is misses last = last ∙ sym (apart f e (sym key ∙ other) ∙ ap (λ b. b || has (refs_of e.before) f.key) (sym is ∙ misses))

@@ -72,6 +72,7 @@ impl Change {
 /// Whether a later change conflicts with an earlier one: they are on the same key, or the later one's value after
 /// refers to the earlier one's key, or the later one's key is referred to by the earlier one's value before. It takes
 /// no memory.
+#[tactic(auto, using(crate::proofs::Conflicting::conflicts_is))]
 pub fn conflicts(later: &Change, earlier: &Change) -> bool
     ensures { result ≡ conflicts later.now earlier.now }
 {
