@@ -6,7 +6,7 @@ use Rattle.tsn_types.specs.declared.refusals.Refusal.{Refusal}
 use Rattle.tsn_types.specs.declared.refusals.Refusal.TheVariants.{JournalFull, Memory, NoSession}
 use Rattle.tsn_types.specs.Limits.{unless, first_cause}
 use Rattle.tsn_edit.specs.declared.Edit.{Edit}
-use Rattle.tsn_edit.specs.Edits.{early_causes}
+use Rattle.tsn_edit.specs.Edits.{EditInRange, early_causes}
 use Rattle.tsn_edit.proofs.KeyFacts.{by_bool}
 use Rattle.tsn_undo.specs.Entries.{Applied, last_of, undone as taken_back}
 use Rattle.tsn_undo.specs.Soundness.{IsSound}
@@ -83,10 +83,10 @@ taken s n number of new step =
       after = ap (λ (t : State). t.book) now.1.3;
     }
 
-pub undone : (before edited after : State) (session : ℕ) (edit : Edit) (entry number of : ℕ) → IsSound before.book.limits before.book.opening before.book.entries → EditStep before session edit (Entry entry) edited → UndoStep edited session (EntryOf number of) after
+pub undone : (before edited after : State) (session : ℕ) (edit : Edit) (entry number of : ℕ) → EditInRange edit → IsSound before.book.limits before.book.opening before.book.entries → EditStep before session edit (Entry entry) edited → UndoStep edited session (EntryOf number of) after
     → (of ≡ entry) × (present after.book ≡ present before.book)
-undone before edited after session edit entry number of sound made' back =
-    undone_at_once before.book edited.book after.book session edit entry number of sound (edits before edited session edit entry made') (taken edited session number of after back)
+undone before edited after session edit entry number of ranges sound made' back =
+    undone_at_once before.book edited.book after.book session edit entry number of ranges sound (edits before edited session edit entry made') (taken edited session number of after back)
 
 only_full : (b : Bool) (why : Refusal) → unless b JournalFull ≡ Some why → why ≡ JournalFull
 only_full true why h = (cc)

@@ -7,7 +7,7 @@ use Rattle.tsn_types.specs.declared.refusals.Refusal.TheVariants.{NoSession, Mem
 use Rattle.tsn_types.specs.Limits.{unless, first_cause}
 use Rattle.tsn_edit.specs.declared.Edit.{Edit}
 use Rattle.tsn_edit.specs.Edits.{early_causes, late_causes}
-use Rattle.tsn_config.proofs.Edits.{first_cause-append}
+use Rattle.tsn_types.proofs.Causes.{first_cause-append}
 use Rattle.tsn_edit.specs.Edits.{change_of}
 use Rattle.tsn_undo.specs.Entries.{made}
 use Rattle.tsn_undo.specs.Ledger.{Ledger}

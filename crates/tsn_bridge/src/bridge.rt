@@ -74,9 +74,9 @@ impl Model for Bridge {
 }
 
 impl Bridge {
-    /// A bridge that begins with the setup. Refused are, in this order: the first record whose key, gate, meter or
-    /// list is outside the limits (4), the first key that is given twice (7), and the first absent reference of the
-    /// least filter (8); want of memory (18) may be answered in place of any answer.
+    /// A bridge that begins with the setup. Refused are, in this order: the first record whose identifier, gate, meter
+    /// or list is outside the limits (4, field `id` for the identifier), the first key that is given twice (7), and the
+    /// first absent reference of the least filter (8); want of memory (18) may be answered in place of any answer.
     pub fn new(alloc: Global, setup: Setup) -> Result<Bridge, Refusal>
         ensures admitted { OnOk result (opening_refusal setup.limits setup.records ≡ None) }
         ensures begins { IfOk result (λ bridge. bridge ≡ begun setup.limits setup.records) }

@@ -1,11 +1,13 @@
 -- The first absent reference in the order of keys is found by a test of the filters.
-use Rattle.std.proofs.Common.{◌≡◌, ℕ, Bool, true, false, cond, ◌&&◌, List, [], ◌∷◌, ◌++◌, refl, sym, ◌∙◌, ap, Option, Some, None, map, arith}
-use Rattle.std.specs.Prelude.{T, IsSome, is_some}
+use Rattle.std.proofs.Common.{◌≡◌, ℕ, Bool, true, false, cond, List, [], ◌∷◌, ◌++◌, refl, sym, ◌∙◌, ap, Option, Some, None, map, arith}
+use Rattle.std.specs.Prelude.{IsSome, is_some}
 use Rattle.std.specs.Option.{option_or}
 use Rattle.std.specs.Ordering.{nat_cmp, eq_by_cmp, is_lt}
 use Rattle.std.specs.FinMap.{FinMap, get, entries, entries_sorted, get-entries, is_sorted, find}
 use Rattle.std.specs.FinMap.Entries.{below_all}
+use Rattle.std.proofs.lemmas.Bool.{and_parts}
 use Rattle.std.proofs.lemmas.Bool.Decides.{nat_tests}
+use Rattle.std.proofs.lemmas.List.{append-nil}
 use Rattle.tsn_types.specs.declared.keys.Key.{Key}
 use Rattle.tsn_types.specs.declared.keys.Key.TheVariants.{Port, Filter, Gate, Meter}
 use Rattle.tsn_types.specs.declared.refusals.Refusal.{Refusal}
@@ -21,8 +23,8 @@ use Rattle.tsn_edit.specs.Configuration.{Configuration}
 use Rattle.tsn_edit.specs.Edits.{dangling}
 use Rattle.tsn_edit.proofs.KeyFacts.{by_bool}
 use Rattle.tsn_config.specs.Opening.{dangling_cause}
-use Rattle.tsn_config.specs.Settings.{tagged, joined}
-use Rattle.tsn_config.proofs.Listed.{entries-joined}
+use Rattle.tsn_config.specs.Views.{keyed_rows, map_of_tables}
+use Rattle.tsn_config.proofs.Listed.{entries-map_of_tables, of_T}
 
 -- whether a reference of the filter is absent
 abbrev pub dangles : Configuration → StreamFilter → Bool
@@ -40,18 +42,6 @@ none_or : {A : Type 0} (o p : Option A) → is_some o ≡ false → option_or o 
 none_or None p h = refl
 none_or (Some x) p h = (cc)
 
-and_left : (a b : Bool) → (a && b) ≡ true → a ≡ true
-and_left true b h = refl
-and_left false b h = h
-
-and_right : (a b : Bool) → (a && b) ≡ true → b ≡ true
-and_right true b h = h
-and_right false b h = (cc)
-
-of_T : (b : Bool) → T b → b ≡ true
-of_T true h = refl
-of_T false h = absurd h
-
 equal_itself : (n m : ℕ) → m ≡ n → eq_by_cmp nat_cmp n m ≡ true
 equal_itself n m h = grind (arith, nat_tests)
 
@@ -64,7 +54,7 @@ not_below n m h = grind (arith, nat_tests)
 find_above : {A : Type 0} (n : ℕ) (es : List (ℕ × A)) → below_all nat_cmp n es ≡ true → find nat_cmp n es ≡ None
 find_above n [] h = refl
 find_above n (e ∷ es) h =
-    ap (λ b. cond b (Some e.1) (find nat_cmp n es)) (not_below n e.0 (and_left _ _ h)) ∙ find_above n es (and_right (is_lt (nat_cmp n e.0)) _ h)
+    ap (λ b. cond b (Some e.1) (find nat_cmp n es)) (not_below n e.0 ((and_parts _ _ h).0)) ∙ find_above n es ((and_parts (is_lt (nat_cmp n e.0)) _ h).1)
 
 -- a row that a test finds is there
 first_some : {A : Type 0} (p : A → Bool) (es : List (ℕ × A)) (n : ℕ) → first_id p es ≡ Some n → is_some (find nat_cmp n es) ≡ true
@@ -80,51 +70,47 @@ first_some p (e ∷ es) n h = by_bool (eq_by_cmp nat_cmp n e.0)
 
 module _ (c : Configuration) where
   -- entries with no references have no cause
-  skipped : {A : Type 0} (key : ℕ → Key) (rec : A → Record) → ((r : A) → dangling c (rec r) ≡ None) → (es : List (ℕ × A)) (ys : List (Key × Record)) → causes_of c (tagged key rec es ++ ys) ≡ causes_of c ys
+  skipped : {A : Type 0} (key : ℕ → Key) (rec : A → Record) → ((r : A) → dangling c (rec r) ≡ None) → (es : List (ℕ × A)) (ys : List (Key × Record)) → causes_of c (keyed_rows key rec es ++ ys) ≡ causes_of c ys
   skipped key rec none [] ys = refl
-  skipped key rec none (e ∷ es) ys = ap (λ o. option_or o (causes_of c (tagged key rec es ++ ys))) (none e.1) ∙ skipped key rec none es ys
+  skipped key rec none (e ∷ es) ys = ap (λ o. option_or o (causes_of c (keyed_rows key rec es ++ ys))) (none e.1) ∙ skipped key rec none es ys
 
-  none_first : (es : List (ℕ × StreamFilter)) (ys : List (Key × Record)) → first_id (dangles c) es ≡ None → causes_of c (tagged Filter FilterRecord es ++ ys) ≡ causes_of c ys
+  none_first : (es : List (ℕ × StreamFilter)) (ys : List (Key × Record)) → first_id (dangles c) es ≡ None → causes_of c (keyed_rows Filter FilterRecord es ++ ys) ≡ causes_of c ys
   none_first [] ys h = refl
   none_first (e ∷ es) ys h = by_bool (dangles c e.1)
       (λ yes. let never : Some e.0 ≡ None = sym (ap (λ b. cond b (Some e.0) (first_id (dangles c) es)) yes) ∙ h in (cc))
-      (λ no. none_or (dangling c (FilterRecord e.1)) (causes_of c (tagged Filter FilterRecord es ++ ys)) no
+      (λ no. none_or (dangling c (FilterRecord e.1)) (causes_of c (keyed_rows Filter FilterRecord es ++ ys)) no
       ∙ none_first es ys (sym (ap (λ b. cond b (Some e.0) (first_id (dangles c) es)) no) ∙ h))
 
   first_is : (es : List (ℕ × StreamFilter)) (ys : List (Key × Record)) → is_sorted nat_cmp es ≡ true → (n : ℕ) (r : StreamFilter) → first_id (dangles c) es ≡ Some n → find nat_cmp n es ≡ Some r
-      → causes_of c (tagged Filter FilterRecord es ++ ys) ≡ dangling c (FilterRecord r)
+      → causes_of c (keyed_rows Filter FilterRecord es ++ ys) ≡ dangling c (FilterRecord r)
   first_is [] ys sorted n r h is = (cc)
   first_is (e ∷ es) ys sorted n r h is = by_bool (dangles c e.1)
       (λ yes. let this : Some e.0 ≡ Some n = sym (ap (λ b. cond b (Some e.0) (first_id (dangles c) es)) yes) ∙ h in
       let same : e.0 ≡ n = (cc) in
       let found : Some e.1 ≡ Some r = sym (ap (λ b. cond b (Some e.1) (find nat_cmp n es)) (equal_itself n e.0 same)) ∙ is in
       let one : e.1 ≡ r = (cc) in
-      some_or (dangling c (FilterRecord e.1)) (causes_of c (tagged Filter FilterRecord es ++ ys)) yes ∙ ap (λ x. dangling c (FilterRecord x)) one)
+      some_or (dangling c (FilterRecord e.1)) (causes_of c (keyed_rows Filter FilterRecord es ++ ys)) yes ∙ ap (λ x. dangling c (FilterRecord x)) one)
       (λ no. let rest : first_id (dangles c) es ≡ Some n = sym (ap (λ b. cond b (Some e.0) (first_id (dangles c) es)) no) ∙ h in
-      none_or (dangling c (FilterRecord e.1)) (causes_of c (tagged Filter FilterRecord es ++ ys)) no
+      none_or (dangling c (FilterRecord e.1)) (causes_of c (keyed_rows Filter FilterRecord es ++ ys)) no
       ∙ by_bool (eq_by_cmp nat_cmp n e.0)
-      (λ same. let none : find nat_cmp n es ≡ None = ap (λ x. find nat_cmp x es) (sym (equal_one n e.0 same)) ∙ find_above e.0 es (and_left _ _ sorted) in
+      (λ same. let none : find nat_cmp n es ≡ None = ap (λ x. find nat_cmp x es) (sym (equal_one n e.0 same)) ∙ find_above e.0 es ((and_parts _ _ sorted).0) in
       let never : false ≡ true = sym (ap is_some none) ∙ first_some (dangles c) es n rest in (cc))
-      (λ other. first_is es ys (and_right (below_all nat_cmp e.0 es) _ sorted) n r rest (sym (ap (λ b. cond b (Some e.1) (find nat_cmp n es)) other) ∙ is)))
+      (λ other. first_is es ys ((and_parts (below_all nat_cmp e.0 es) _ sorted).1) n r rest (sym (ap (λ b. cond b (Some e.1) (find nat_cmp n es)) other) ∙ is)))
 
 module _ (ps : FinMap nat_cmp PortGates) (fs : FinMap nat_cmp StreamFilter) (gs : FinMap nat_cmp StreamGate) (ms : FinMap nat_cmp FlowMeter) where
   abbrev all : Configuration
-  all = joined ps fs gs ms
+  all = map_of_tables ps fs gs ms
 
   abbrev others : List (Key × Record)
-  others = tagged Gate GateRecord (entries gs) ++ tagged Meter MeterRecord (entries ms)
+  others = keyed_rows Gate GateRecord (entries gs) ++ keyed_rows Meter MeterRecord (entries ms)
 
-  append_nil : (xs : List (Key × Record)) → xs ++ [] ≡ xs
-  append_nil [] = refl
-  append_nil (x ∷ xs) = ap (λ ys. x ∷ ys) (append_nil xs)
-
-  of_filters : dangling_cause all ≡ causes_of all (tagged Filter FilterRecord (entries fs) ++ others)
-  of_filters = ap (causes_of all) (entries-joined ps fs gs ms) ∙ skipped all Port PortRecord (λ r. refl) (entries ps) (tagged Filter FilterRecord (entries fs) ++ others)
+  of_filters : dangling_cause all ≡ causes_of all (keyed_rows Filter FilterRecord (entries fs) ++ others)
+  of_filters = ap (causes_of all) (entries-map_of_tables ps fs gs ms) ∙ skipped all Port PortRecord (λ r. refl) (entries ps) (keyed_rows Filter FilterRecord (entries fs) ++ others)
 
   no_others : causes_of all others ≡ None
   no_others =
-      skipped all Gate GateRecord (λ r. refl) (entries gs) (tagged Meter MeterRecord (entries ms))
-      ∙ ap (causes_of all) (sym (append_nil (tagged Meter MeterRecord (entries ms)))) ∙ skipped all Meter MeterRecord (λ r. refl) (entries ms) []
+      skipped all Gate GateRecord (λ r. refl) (entries gs) (keyed_rows Meter MeterRecord (entries ms))
+      ∙ ap (causes_of all) (sym (append-nil (keyed_rows Meter MeterRecord (entries ms)))) ∙ skipped all Meter MeterRecord (λ r. refl) (entries ms) []
 
   pub dangling_cause-none : first_id (dangles all) (entries fs) ≡ None → dangling_cause all ≡ None
   dangling_cause-none h = of_filters ∙ none_first all (entries fs) others h ∙ no_others

@@ -1,6 +1,6 @@
 -- The tests of `fits` answer true just where the change fits.
-use Rattle.std.proofs.Common.{◌≡◌, ℕ, ◌≤◌, Bool, true, false, cond, ◌&&◌, not, List, [], ◌∷◌, refl, sym, ◌∙◌, ap, subst, Option, Some, None, map, arith, length}
-use Rattle.std.specs.Prelude.{T, find, IsSome, is_some, is_none, nat_le, option_map}
+use Rattle.std.proofs.Common.{◌≡◌, ℕ, ◌≤◌, Bool, true, false, cond, not, List, [], ◌∷◌, refl, sym, ◌∙◌, ap, subst, Option, Some, None, map, arith, length}
+use Rattle.std.specs.Prelude.{find, IfSome, IsSome, is_some, is_none, nat_le, option_map}
 use Rattle.std.specs.List.{IsDistinct}
 use Rattle.std.specs.FinMap.{get, entries, entries_sorted, get-entries, find as find_entry, is_sorted}
 use Rattle.std.specs.FinMap.Entries.{below_all}
@@ -8,6 +8,7 @@ use Rattle.std.specs.Ordering.{is_lt, is_eq}
 use Rattle.std.specs.Bool.{Decides}
 use Rattle.std.specs.declared.cmp.Ordering.{Ordering}
 use Rattle.std.specs.declared.cmp.Ordering.TheVariants.{Less, Equal, Greater}
+use Rattle.std.proofs.lemmas.Bool.{and_from, and_parts, or_left, or_right}
 use Rattle.std.proofs.lemmas.Bool.Decides.{nat_tests}
 use Rattle.tsn_types.specs.declared.keys.Key.{Key}
 use Rattle.tsn_types.specs.declared.keys.Key.TheVariants.{Port, Filter, Gate, Meter}
@@ -17,46 +18,33 @@ use Rattle.tsn_types.specs.declared.records.Record.{Record}
 use Rattle.tsn_types.specs.declared.records.Record.TheVariants.{Port as PortRecord, Filter as FilterRecord, Gate as GateRecord, Meter as MeterRecord}
 use Rattle.tsn_types.specs.declared.limits.Limits.{Limits}
 use Rattle.tsn_types.specs.Keys.{key_cmp, same_key, has, refs, meter_ref}
-use Rattle.tsn_types.specs.Bounds.{AreInRange}
+use Rattle.tsn_types.specs.InRange.{RecordInRange}
+use Rattle.tsn_types.specs.Numbers.{IsInstanceId}
 use Rattle.tsn_types.specs.Limits.{HoldsKey, HoldsRecord, unless, first_cause, holds_key, out_of_limits, field_of}
 use Rattle.tsn_edit.specs.Configuration.{Configuration, put, IsWellKept}
 use Rattle.tsn_edit.specs.Parts.{Change}
 use Rattle.tsn_edit.specs.Changes.{Fits}
-use Rattle.tsn_edit.proofs.KeyFacts.{by_bool, by_option, get-put, one_key, same_itself, or_left, or_right, same_configuration}
+use Rattle.tsn_edit.proofs.KeyFacts.{by_bool, by_option, get-put, one_key, same_itself, same_configuration}
 use Rattle.tsn_edit.specs.Edits.{is_of_kind, is_port, referrer, limit_causes}
+use Rattle.tsn_types.proofs.Causes.{each_none, unless-None, unless-true}
 use Rattle.tsn_config.specs.Keeping.{keeps}
 use Rattle.tsn_config.proofs.SetRows.{IsOfKind}
-use Rattle.tsn_config.proofs.Edits.{each_none, holds_unless, fits_put, remove_kept, none_refers, map_none}
+use Rattle.tsn_config.proofs.Listed.{of_T}
+use Rattle.tsn_config.proofs.Edits.{fits_put, remove_kept, none_refers, map_none}
 
 -- what stands at a key of a well kept map is within the limits
-pub held : (l : Limits) (c : Configuration) (k : Key) (r : Record) → IsWellKept l (put c k (Some r)) → HoldsKey l k × HoldsRecord l k r
-held l c k r kept = kept.within k r (get-put c k (Some r) k ∙ ap (λ b. cond b (Some r) (get c k)) (same_itself k))
-
-and_both : (a b : Bool) → a ≡ true → b ≡ true → (a && b) ≡ true
-and_both true b h g = g
-and_both false b h g = h
-
-and_left : (a b : Bool) → (a && b) ≡ true → a ≡ true
-and_left true b h = refl
-and_left false b h = h
-
-and_right : (a b : Bool) → (a && b) ≡ true → b ≡ true
-and_right true b h = h
-and_right false b h = (cc)
+pub limits_hold : (l : Limits) (c : Configuration) (k : Key) (r : Record) → IsWellKept l (put c k (Some r)) → HoldsKey l k × HoldsRecord l k r
+limits_hold l c k r kept = kept.within k r (get-put c k (Some r) k ∙ ap (λ b. cond b (Some r) (get c k)) (same_itself k))
 
 none_of : {A : Type 0} (o : Option A) → is_none o ≡ true → o ≡ None
 none_of None h = refl
 none_of (Some x) h = (cc)
 
-unless_true : (b : Bool) (why : Refusal) → b ≡ true → unless b why ≡ None
-unless_true true why h = refl
-unless_true false why h = (cc)
-
 -- no cause where each test holds
 no_cause : (test : Key → Bool) (why : Key → Refusal) (ks : List Key) → ((q : Key) → has ks q ≡ true → test q ≡ true) → first_cause (map (λ q. unless (test q) (why q)) ks) ≡ None
 no_cause test why [] h = refl
 no_cause test why (k ∷ ks) h =
-    rw (unless_true (test k) (why k) (h k (or_left (same_key k k) _ (same_itself k)))) (no_cause test why ks (λ q is. h q (or_right (same_key q k) _ is)))
+    rw (unless-true (test k) (why k) (h k (or_left (same_key k k) _ (same_itself k)))) (no_cause test why ks (λ q is. h q (or_right (same_key q k) _ is)))
 
 test_holds : (l : Limits) (k : Key) → HoldsKey l k → holds_key l k ≡ true
 test_holds l (Port n) h = let a = h.0 in let b = h.1 in grind (arith, nat_tests)
@@ -97,7 +85,7 @@ not_equal Greater h = refl
 find_above : (k : Key) (es : List (Key × Record)) → below_all key_cmp k es ≡ true → find_entry key_cmp k es ≡ None
 find_above k [] h = refl
 find_above k (e ∷ es) h =
-    ap (λ b. cond b (Some e.1) (find_entry key_cmp k es)) (not_equal (key_cmp k e.0) (and_left _ _ h)) ∙ find_above k es (and_right (is_lt (key_cmp k e.0)) _ h)
+    ap (λ b. cond b (Some e.1) (find_entry key_cmp k es)) (not_equal (key_cmp k e.0) ((and_parts _ _ h).0)) ∙ find_above k es ((and_parts (is_lt (key_cmp k e.0)) _ h).1)
 
 -- what a test finds in a sorted list passes it, and stands at its key
 found : (p : Key × Record → Bool) (es : List (Key × Record)) → is_sorted key_cmp es ≡ true → (e : Key × Record) → find p es ≡ Some e → (p e ≡ true) × (find_entry key_cmp e.0 es ≡ Some e.1)
@@ -106,17 +94,13 @@ found p (x ∷ es) h e is = by_bool (p x)
     (λ yes. let this : Some x ≡ Some e = sym (ap (λ b. cond b (Some x) (find p es)) yes) ∙ is in
     let same : x ≡ e = (cc) in
     (ap p (sym same) ∙ yes, subst (λ (y : Key × Record). find_entry key_cmp y.0 (x ∷ es) ≡ Some y.1) same (ap (λ b. cond b (Some x.1) (find_entry key_cmp x.0 es)) (same_itself x.0))))
-    (λ no. let rest = found p es (and_right (below_all key_cmp x.0 es) _ h) e (sym (ap (λ b. cond b (Some x) (find p es)) no) ∙ is) in (
+    (λ no. let rest = found p es ((and_parts (below_all key_cmp x.0 es) _ h).1) e (sym (ap (λ b. cond b (Some x) (find p es)) no) ∙ is) in (
       rest.0,
       by_bool (same_key e.0 x.0)
-          (λ same. let none : find_entry key_cmp e.0 es ≡ None = ap (λ k. find_entry key_cmp k es) (one_key e.0 x.0 same) ∙ find_above x.0 es (and_left _ _ h) in
+          (λ same. let none : find_entry key_cmp e.0 es ≡ None = ap (λ k. find_entry key_cmp k es) (one_key e.0 x.0 same) ∙ find_above x.0 es ((and_parts _ _ h).0) in
           let never : None ≡ Some e.1 = sym none ∙ rest.1 in (cc))
           (λ other. ap (λ b. cond b (Some x.1) (find_entry key_cmp e.0 es)) other ∙ rest.1),
     ))
-
-of_T : (b : Bool) → T b → b ≡ true
-of_T true h = refl
-of_T false h = absurd h
 
 no_referrer : (c : Configuration) (k : Key) → ((q : Key) (r : Record) → get c q ≡ Some r → has (refs r) k ≡ false) → referrer c k ≡ None
 no_referrer c k free = by_option (find (λ e. has (refs e.1) k) (entries c))
@@ -135,10 +119,10 @@ referrer_there c k n h = by_option (find (λ e. has (refs e.1) k) (entries c))
     ap (λ q. is_some (get c q)) key ∙ ap is_some (get-entries c e.0 ∙ at.1))
 
 -- a filter that is there has a number in the range of its type
-pub filter_small : (l : Limits) (c : Configuration) (n : ℕ) → IsWellKept l c → AreInRange l → IsSome (get c (Filter n)) → n ≤ 65535
-filter_small l c n kept range some = by_option (get c (Filter n))
+pub filter_small : (l : Limits) (c : Configuration) (n : ℕ) → IsWellKept l c → IsSome (get c (Filter n)) → IsInstanceId n
+filter_small l c n kept some = by_option (get c (Filter n))
     (λ none. let never : false ≡ true = sym (ap is_some none) ∙ some in (cc))
-    (λ r is. let below = (kept.within (Filter n) r is).0 in let most = range.1.0.1 in omega arith)
+    (λ r is. let below = (kept.within (Filter n) r is).0 in let most = kept.limits.1.0.1 in omega arith)
 
 -- what holds of a change's record at a well kept map: it is of its key's kind
 pub after_kind : (l : Limits) (c : Configuration) (e : Change) → Fits l c e → IsOfKind e.key e.after
@@ -146,13 +130,13 @@ after_kind l c e fits = kind_of_value e.after fits.kept
   where
     kind_of_value : (v : Option Record) → IsWellKept l (put c e.key v) → IsOfKind e.key v
     kind_of_value None kept = tt
-    kind_of_value (Some r) kept = of_kind l e.key r (held l c e.key r kept).1
+    kind_of_value (Some r) kept = of_kind l e.key r (limits_hold l c e.key r kept).1
 
 module _ (l : Limits) (c : Configuration) (kept : IsWellKept l c) where
   -- the references of a record that fits are there
   there : (k : Key) (r : Record) → IsWellKept l (put c k (Some r)) → (q : Key) → has (refs r) q ≡ true → IsSome (get c q)
   there k r after q is =
-      let holds = (held l c k r after).1 in
+      let holds = (limits_hold l c k r after).1 in
       let at = after.referred k r q (get-put c k (Some r) k ∙ ap (λ b. cond b (Some r) (get c k)) (same_itself k)) is in
       ap is_some (sym (get-put c k (Some r) q ∙ ap (λ b. cond b (Some r) (get c q)) (refs_other l k r holds q is))) ∙ at
 
@@ -160,22 +144,22 @@ module _ (l : Limits) (c : Configuration) (kept : IsWellKept l c) where
   within_limits q some = by_option (get c q) (λ none. let h : is_some (get c q) ≡ false = ap is_some none in (cc)) (λ s is. test_holds l q (kept.within q s is).0)
 
   no_limits : (k : Key) (r : Record) → HoldsRecord l k r → ((q : Key) → has (refs r) q ≡ true → IsSome (get c q)) → out_of_limits l r ≡ None
-  no_limits (Port n) (PortRecord r) h there = unless_true _ _ (list_test (length r.admin.list) l.list h)
+  no_limits (Port n) (PortRecord r) h there = unless-true _ _ (list_test (length r.admin.list) l.list h)
   no_limits (Filter n) (FilterRecord r) h there = no_cause (holds_key l) field_of (refs (FilterRecord r)) (λ q is. within_limits q (there q is))
-  no_limits (Gate n) (GateRecord r) h there = unless_true _ _ (list_test (length r.admin.list) l.list h)
+  no_limits (Gate n) (GateRecord r) h there = unless-true _ _ (list_test (length r.admin.list) l.list h)
   no_limits (Meter n) (MeterRecord r) h there = refl
   no_limits k r h there = absurd h
 
   keeps_put : (k : Key) (b : Option Record) (r : Record) → IsWellKept l (put c k (Some r)) → keeps l c k b (Some r) ≡ true
   keeps_put k b r after =
-      let h = held l c k r after in
+      let h = limits_hold l c k r after in
       let refs_there = there k r after in
       rw (of_kind l k r h.1, test_holds l k h.0, no_limits k r h.1 refs_there, no_cause (λ q. is_some (get c q)) Dangling (refs r) refs_there) refl
 
-  put_keeps : (k : Key) (b : Option Record) (r : Record) → keeps l c k b (Some r) ≡ true → IsWellKept l (put c k (Some r))
-  put_keeps k b r h =
-      let limits = each_none (limit_causes l k r) (none_of _ (and_left _ _ h)) in
-      fits_put l c kept k r (holds_unless _ _ limits.0) (holds_unless _ _ limits.1.0) limits.1.1.0 (none_of _ (and_right (is_none (first_cause (limit_causes l k r))) _ h))
+  put_keeps : (k : Key) (b : Option Record) (r : Record) → RecordInRange r → keeps l c k b (Some r) ≡ true → IsWellKept l (put c k (Some r))
+  put_keeps k b r ranges h =
+      let limits = each_none (limit_causes l k r) (none_of _ ((and_parts _ _ h).0)) in
+      fits_put l c kept k r ranges (unless-None _ _ limits.0) (unless-None _ _ limits.1.0) limits.1.1.0 (none_of _ ((and_parts (is_none (first_cause (limit_causes l k r))) _ h).1))
 
   gone : (k : Key) → get (put c k None) k ≡ None
   gone k = get-put c k None k ∙ ap (λ b. cond b None (get c k)) (same_itself k)
@@ -199,7 +183,7 @@ module _ (l : Limits) (c : Configuration) (kept : IsWellKept l c) where
 
   keeps_remove : (k : Key) (b : Option Record) → get c k ≡ b → IsWellKept l (put c k None) → keeps l c k b None ≡ true
   keeps_remove k None is after = refl
-  keeps_remove k (Some s) is after = and_both _ _ (not_port k s is after) (ap is_none (no_referrer c k (unreferred k after)))
+  keeps_remove k (Some s) is after = and_from _ _ (not_port k s is after) (ap is_none (no_referrer c k (unreferred k after)))
 
   remove_keeps : (k : Key) (b : Option Record) → get c k ≡ b → keeps l c k b None ≡ true → IsWellKept l (put c k None)
   remove_keeps k None is h =
@@ -208,18 +192,18 @@ module _ (l : Limits) (c : Configuration) (kept : IsWellKept l c) where
       (λ other. ap (λ b. cond b None (get c q)) other)) in
       subst (IsWellKept l) (sym same) kept
   remove_keeps k (Some s) is h =
-      remove_kept l c kept k (and_left _ _ h)
-      (λ q r at. none_refers k (entries c) (map_none (λ e. Referred e.0) _ (none_of _ (and_right (not (is_port k)) _ h))) q r (sym (get-entries c q) ∙ at))
+      remove_kept l c kept k ((and_parts _ _ h).0)
+      (λ q r at. none_refers k (entries c) (map_none (λ e. Referred e.0) _ (none_of _ ((and_parts (not (is_port k)) _ h).1))) q r (sym (get-entries c q) ∙ at))
 
-  to : (k : Key) (b v : Option Record) → get c k ≡ b → keeps l c k b v ≡ true → IsWellKept l (put c k v)
-  to k b None is h = remove_keeps k b is h
-  to k b (Some r) is h = put_keeps k b r h
+  to : (k : Key) (b v : Option Record) → IfSome v RecordInRange → get c k ≡ b → keeps l c k b v ≡ true → IsWellKept l (put c k v)
+  to k b None ranges is h = remove_keeps k b is h
+  to k b (Some r) ranges is h = put_keeps k b r ranges h
 
   from : (k : Key) (b v : Option Record) → get c k ≡ b → IsWellKept l (put c k v) → keeps l c k b v ≡ true
   from k b None is h = keeps_remove k b is h
   from k b (Some r) is h = keeps_put k b r h
 
   -- where the value before stands, the test decides whether the change fits
-  pub fits_decides : (e : Change) → get c e.key ≡ e.before → Decides (keeps l c e.key e.before e.after) (Fits l c e)
+  pub fits_decides : (e : Change) → IfSome e.after RecordInRange → get c e.key ≡ e.before → Decides (keeps l c e.key e.before e.after) (Fits l c e)
   unfolding IsDistinct
-  fits_decides e is = (λ h. record { distinct = (tt, tt); stands = (is, tt); kept = to e.key e.before e.after is h }, λ f. from e.key e.before e.after is f.kept)
+  fits_decides e ranges is = (λ h. record { distinct = (tt, tt); stands = (is, tt); kept = to e.key e.before e.after ranges is h }, λ f. from e.key e.before e.after is f.kept)

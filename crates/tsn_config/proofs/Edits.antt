@@ -1,8 +1,7 @@
 -- What no cause refuses has a change that fits.
-use Rattle.std.proofs.Common.{◌≡◌, ℕ, ◌≤◌, Bool, true, false, cond, ◌||◌, not, List, [], ◌∷◌, ◌++◌, refl, sym, ◌∙◌, ap, subst, Option, Some, None, map, arith, length}
+use Rattle.std.proofs.Common.{◌≡◌, ℕ, ◌≤◌, true, false, cond, ◌||◌, not, List, [], ◌∷◌, refl, sym, ◌∙◌, ap, subst, Option, Some, None, map, arith, length}
 use Rattle.std.specs.Prelude.{find, IsSome, is_some, nat_le, option_map}
-use Rattle.std.specs.Option.{option_or}
-use Rattle.std.specs.List.{AllByRecursion, IsDistinct}
+use Rattle.std.specs.List.{IsDistinct}
 use Rattle.std.specs.FinMap.{get, entries, get-entries, find as find_entry}
 use Rattle.std.proofs.lemmas.Bool.Decides.{nat_tests}
 use Rattle.tsn_types.specs.declared.keys.Key.{Key}
@@ -12,37 +11,15 @@ use Rattle.tsn_types.specs.declared.records.Record.TheVariants.{Port as PortReco
 use Rattle.tsn_types.specs.declared.limits.Limits.{Limits}
 use Rattle.tsn_edit.specs.declared.Edit.{Edit}
 use Rattle.tsn_edit.specs.declared.Edit.TheVariants.{Create, Replace, Remove}
-use Rattle.tsn_types.specs.declared.refusals.Refusal.{Refusal}
 use Rattle.tsn_types.specs.declared.refusals.Refusal.TheVariants.{Dangling, Referred}
+use Rattle.tsn_types.specs.InRange.{RecordInRange}
 use Rattle.tsn_types.specs.Keys.{key_cmp, same_key, has, refs}
 use Rattle.tsn_edit.specs.Configuration.{Configuration, put, IsWellKept}
 use Rattle.tsn_types.specs.Limits.{HoldsKey, HoldsRecord, unless, first_cause, holds_key, out_of_limits}
 use Rattle.tsn_edit.specs.Changes.{Fits}
-use Rattle.tsn_edit.specs.Edits.{is_of_kind, is_port, dangling, causes, refusal, change_of}
+use Rattle.tsn_edit.specs.Edits.{EditInRange, is_of_kind, is_port, dangling, causes, refusal, change_of}
 use Rattle.tsn_edit.proofs.KeyFacts.{by_bool, get-put, one_key}
-
-pub head_none : (o p : Option Refusal) → option_or o p ≡ None → o ≡ None
-head_none None p h = refl
-head_none (Some x) p h = (cc)
-
-pub tail_none : (o p : Option Refusal) → option_or o p ≡ None → p ≡ None
-tail_none None p h = h
-tail_none (Some x) p h = (cc)
-
--- where the first cause is none, each is
-pub each_none : (os : List (Option Refusal)) → first_cause os ≡ None → AllByRecursion (λ o. o ≡ None) os
-each_none [] h = tt
-each_none (o ∷ os) h = (head_none o (first_cause os) h, each_none os (tail_none o (first_cause os) h))
-
-pub holds_unless : (b : Bool) (why : Refusal) → unless b why ≡ None → b ≡ true
-holds_unless true why h = refl
-holds_unless false why h = (cc)
-
--- the first cause is one of the first ones, or else one of those behind them
-pub first_cause-append : (os ps : List (Option Refusal)) → first_cause (os ++ ps) ≡ option_or (first_cause os) (first_cause ps)
-first_cause-append [] ps = refl
-first_cause-append (None ∷ os) ps = first_cause-append os ps
-first_cause-append (Some x ∷ os) ps = refl
+use Rattle.tsn_types.proofs.Causes.{each_none, option_or_parts, unless-None}
 
 pub HoldsKey-from_test : (l : Limits) (k : Key) → holds_key l k ≡ true → HoldsKey l k
 HoldsKey-from_test l (Port n) h = grind (arith, nat_tests)
@@ -54,9 +31,9 @@ list_fits : (l : Limits) (n : ℕ) → nat_le n l.list ≡ true → n ≤ l.list
 list_fits l n h = grind (arith, nat_tests)
 
 pub HoldsRecord-from_test : (l : Limits) (k : Key) (r : Record) → is_of_kind k r ≡ true → out_of_limits l r ≡ None → HoldsRecord l k r
-HoldsRecord-from_test l (Port n) (PortRecord r) h o = list_fits l (length r.admin.list) (holds_unless _ _ o)
+HoldsRecord-from_test l (Port n) (PortRecord r) h o = list_fits l (length r.admin.list) (unless-None _ _ o)
 HoldsRecord-from_test l (Filter n) (FilterRecord r) h o = tt
-HoldsRecord-from_test l (Gate n) (GateRecord r) h o = list_fits l (length r.admin.list) (holds_unless _ _ o)
+HoldsRecord-from_test l (Gate n) (GateRecord r) h o = list_fits l (length r.admin.list) (unless-None _ _ o)
 HoldsRecord-from_test l (Meter n) (MeterRecord r) h o = tt
 HoldsRecord-from_test l k r h o = (cc)
 
@@ -64,8 +41,8 @@ pub none_dangling : (c : Configuration) (ks : List Key) → first_cause (map (λ
 none_dangling c [] h q in' = (cc)
 none_dangling c (k ∷ ks) h q in' =
     elim (same_key q k) as (λ b. same_key q k ≡ b → (b || has ks q) ≡ true → IsSome (get c q)) [
-      | true ↦ λ same _. ap (λ k. is_some (get c k)) (one_key q k same) ∙ holds_unless (is_some (get c k)) (Dangling k) (head_none _ _ h)
-      | false ↦ λ _ rest. none_dangling c ks (tail_none _ _ h) q rest
+      | true ↦ λ same _. ap (λ k. is_some (get c k)) (one_key q k same) ∙ unless-None (is_some (get c k)) (Dangling k) ((option_or_parts _ _ h).0)
+      | false ↦ λ _ rest. none_dangling c ks ((option_or_parts _ _ h).1) q rest
     ] refl in'
 
 pub map_none : {A B : Type 0} (f : A → B) (o : Option A) → option_map f o ≡ None → o ≡ None
@@ -88,8 +65,13 @@ module _ (l : Limits) (c : Configuration) (kept : IsWellKept l c) where
   still_some : (k : Key) (r : Record) (q : Key) → IsSome (get c q) → IsSome (get (put c k (Some r)) q)
   still_some k r q h = ap is_some (get-put c k (Some r) q) ∙ elim (same_key q k) as (λ b. is_some (cond b (Some r) (get c q)) ≡ true) [ true ↦ refl | false ↦ h ]
 
-  put_kept : (k : Key) (r : Record) → HoldsKey l k → HoldsRecord l k r → ((q : Key) → has (refs r) q ≡ true → IsSome (get c q)) → IsWellKept l (put c k (Some r))
-  put_kept k r holds_k holds_r there = record {
+  put_kept : (k : Key) (r : Record) → RecordInRange r → HoldsKey l k → HoldsRecord l k r → ((q : Key) → has (refs r) q ≡ true → IsSome (get c q)) → IsWellKept l (put c k (Some r))
+  put_kept k r ranges holds_k holds_r there = record {
+    limits = kept.limits;
+    in_range = λ q s is. by_bool (same_key q k)
+        (λ same. let now : r ≡ s = (let e : Some r ≡ Some s = sym (get-put c k (Some r) q ∙ ap (λ b. cond b (Some r) (get c q)) same) ∙ is in (cc)) in
+        subst (λ (x : Record). RecordInRange x) now ranges)
+        (λ other. kept.in_range q s (sym (get-put c k (Some r) q ∙ ap (λ b. cond b (Some r) (get c q)) other) ∙ is));
     within = λ q s is. by_bool (same_key q k)
         (λ same. let now : r ≡ s = (let e : Some r ≡ Some s = sym (get-put c k (Some r) q ∙ ap (λ b. cond b (Some r) (get c q)) same) ∙ is in (cc)) in
         (subst (λ x. HoldsKey l x) (sym (one_key q k same)) holds_k, subst (λ (p : Key × Record). HoldsRecord l p.0 p.1) (λ i. (sym (one_key q k same) i, now i)) holds_r))
@@ -117,6 +99,8 @@ module _ (l : Limits) (c : Configuration) (kept : IsWellKept l c) where
 
   pub remove_kept : (k : Key) → not (is_port k) ≡ true → ((q : Key) (r : Record) → get c q ≡ Some r → has (refs r) k ≡ false) → IsWellKept l (put c k None)
   remove_kept k no_port free = record {
+    limits = kept.limits;
+    in_range = λ q s is. kept.in_range q s (gone k q s is).1;
     within = λ q s is. kept.within q s (gone k q s is).1;
     ports = λ n low high. stays k (Port n) (not_port k n no_port) (kept.ports n low high);
     referred = λ q s t is ref.
@@ -124,24 +108,24 @@ module _ (l : Limits) (c : Configuration) (kept : IsWellKept l c) where
         stays k t (by_bool (same_key t k) (λ same. let a : has (refs s) t ≡ false = ap (has (refs s)) (one_key t k same) ∙ free q s before in (cc)) (λ h. h)) (kept.referred q s t before ref);
   }
 
-  pub fits_put : (k : Key) (r : Record) → is_of_kind k r ≡ true → holds_key l k ≡ true → out_of_limits l r ≡ None → dangling c r ≡ None → IsWellKept l (put c k (Some r))
-  fits_put k r kind in_limits fields there =
-      put_kept k r (HoldsKey-from_test l k in_limits) (HoldsRecord-from_test l k r kind fields) (none_dangling c (refs r) there)
+  pub fits_put : (k : Key) (r : Record) → RecordInRange r → is_of_kind k r ≡ true → holds_key l k ≡ true → out_of_limits l r ≡ None → dangling c r ≡ None → IsWellKept l (put c k (Some r))
+  fits_put k r ranges kind in_limits fields there =
+      put_kept k r ranges (HoldsKey-from_test l k in_limits) (HoldsRecord-from_test l k r kind fields) (none_dangling c (refs r) there)
 
-  pub edit_fits : (edit : Edit) → refusal l c edit ≡ None → Fits l c (change_of c edit)
+  pub edit_fits : (edit : Edit) → EditInRange edit → refusal l c edit ≡ None → Fits l c (change_of c edit)
   unfolding IsDistinct
-  edit_fits (Create k r) h =
+  edit_fits (Create k r) ranges h =
       let none = each_none (causes l c (Create k r)) h in
-      record { distinct = (tt, tt); stands = (refl, tt); kept = fits_put k r (holds_unless _ _ none.0) (holds_unless _ _ none.1.0) none.1.1.0 none.1.1.1.1.0 }
-  edit_fits (Replace k r) h =
+      record { distinct = (tt, tt); stands = (refl, tt); kept = fits_put k r ranges (unless-None _ _ none.0) (unless-None _ _ none.1.0) none.1.1.0 none.1.1.1.1.0 }
+  edit_fits (Replace k r) ranges h =
       let none = each_none (causes l c (Replace k r)) h in
-      record { distinct = (tt, tt); stands = (refl, tt); kept = fits_put k r (holds_unless _ _ none.0) (holds_unless _ _ none.1.0) none.1.1.0 none.1.1.1.1.0 }
-  edit_fits (Remove k) h =
+      record { distinct = (tt, tt); stands = (refl, tt); kept = fits_put k r ranges (unless-None _ _ none.0) (unless-None _ _ none.1.0) none.1.1.0 none.1.1.1.1.0 }
+  edit_fits (Remove k) ranges h =
       let none = each_none (causes l c (Remove k)) h in
       record {
         distinct = (tt, tt);
         stands = (refl, tt);
         kept =
-            remove_kept k (holds_unless _ _ none.0)
+            remove_kept k (unless-None _ _ none.0)
             (λ q r is. none_refers k (entries c) (map_none (λ e. Referred e.0) _ none.1.1.1.0) q r (sym (get-entries c q) ∙ is));
       }

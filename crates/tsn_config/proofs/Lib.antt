@@ -7,4 +7,5 @@ pub mod Listed
 pub mod Numbered
 pub mod Opened
 pub mod OpeningKept
+pub mod Ranges
 pub mod SetRows

@@ -1,6 +1,7 @@
 -- The numbers of one kind are those of its table.
 use Rattle.std.proofs.Common.{◌≡◌, ℕ, true, false, cond, List, [], ◌∷◌, ◌++◌, refl, ◌∙◌, ap, map}
 use Rattle.std.specs.Prelude.{filter}
+use Rattle.std.proofs.lemmas.List.{append-nil}
 use Rattle.std.specs.Ordering.{nat_cmp}
 use Rattle.std.specs.FinMap.{FinMap, entries, keys}
 use Rattle.tsn_types.specs.declared.keys.Key.{Key}
@@ -14,9 +15,9 @@ use Rattle.tsn_types.specs.declared.records.StreamFilter.{StreamFilter}
 use Rattle.tsn_types.specs.declared.records.StreamGate.{StreamGate}
 use Rattle.tsn_types.specs.declared.records.FlowMeter.{FlowMeter}
 use Rattle.tsn_types.specs.Keys.{number_of}
-use Rattle.tsn_config.specs.Settings.{tagged, joined}
+use Rattle.tsn_config.specs.Views.{keyed_rows, map_of_tables}
 use Rattle.tsn_config.specs.Ids.{is_of, ids_of}
-use Rattle.tsn_config.proofs.Listed.{entries-joined}
+use Rattle.tsn_config.proofs.Listed.{entries-map_of_tables}
 
 abbrev picked : Kind → List (Key × Record) → List ℕ
 picked kind es = map (λ k. number_of k) (filter (λ k. is_of kind k) (map (λ (e : Key × Record). e.0) es))
@@ -31,56 +32,52 @@ picked-append kind (x ∷ xs) ys =
     ]
 
 module _ {A : Type 0} (key : ℕ → Key) (rec : A → Record) (kind : Kind) where
-  all_picked : ((n : ℕ) → is_of kind (key n) ≡ true) → ((n : ℕ) → number_of (key n) ≡ n) → (es : List (ℕ × A)) → picked kind (tagged key rec es) ≡ map (λ (e : ℕ × A). e.0) es
+  all_picked : ((n : ℕ) → is_of kind (key n) ≡ true) → ((n : ℕ) → number_of (key n) ≡ n) → (es : List (ℕ × A)) → picked kind (keyed_rows key rec es) ≡ map (λ (e : ℕ × A). e.0) es
   all_picked own number [] = refl
   all_picked own number (e ∷ es) =
-      ap (λ b. map (λ k. number_of k) (cond b (key e.0 ∷ filter (λ k. is_of kind k) (map (λ (e : Key × Record). e.0) (tagged key rec es))) (filter (λ k. is_of kind k) (map (λ (e : Key × Record). e.0) (tagged key rec es))))) (own e.0)
+      ap (λ b. map (λ k. number_of k) (cond b (key e.0 ∷ filter (λ k. is_of kind k) (map (λ (e : Key × Record). e.0) (keyed_rows key rec es))) (filter (λ k. is_of kind k) (map (λ (e : Key × Record). e.0) (keyed_rows key rec es))))) (own e.0)
       ∙ (λ i. number e.0 i ∷ all_picked own number es i)
 
-  none_picked : ((n : ℕ) → is_of kind (key n) ≡ false) → (es : List (ℕ × A)) → picked kind (tagged key rec es) ≡ []
+  none_picked : ((n : ℕ) → is_of kind (key n) ≡ false) → (es : List (ℕ × A)) → picked kind (keyed_rows key rec es) ≡ []
   none_picked other [] = refl
   none_picked other (e ∷ es) =
-      ap (λ b. map (λ k. number_of k) (cond b (key e.0 ∷ filter (λ k. is_of kind k) (map (λ (e : Key × Record). e.0) (tagged key rec es))) (filter (λ k. is_of kind k) (map (λ (e : Key × Record). e.0) (tagged key rec es))))) (other e.0)
+      ap (λ b. map (λ k. number_of k) (cond b (key e.0 ∷ filter (λ k. is_of kind k) (map (λ (e : Key × Record). e.0) (keyed_rows key rec es))) (filter (λ k. is_of kind k) (map (λ (e : Key × Record). e.0) (keyed_rows key rec es))))) (other e.0)
       ∙ none_picked other es
-
-nothing_after : (xs : List ℕ) → xs ++ [] ≡ xs
-nothing_after [] = refl
-nothing_after (x ∷ xs) = ap (λ ys. x ∷ ys) (nothing_after xs)
 
 module _ (ps : FinMap nat_cmp PortGates) (fs : FinMap nat_cmp StreamFilter) (gs : FinMap nat_cmp StreamGate) (ms : FinMap nat_cmp FlowMeter) where
   abbrev tp : List (Key × Record)
-  tp = tagged Port PortRecord (entries ps)
+  tp = keyed_rows Port PortRecord (entries ps)
 
   abbrev tf : List (Key × Record)
-  tf = tagged Filter FilterRecord (entries fs)
+  tf = keyed_rows Filter FilterRecord (entries fs)
 
   abbrev tg : List (Key × Record)
-  tg = tagged Gate GateRecord (entries gs)
+  tg = keyed_rows Gate GateRecord (entries gs)
 
   abbrev tm : List (Key × Record)
-  tm = tagged Meter MeterRecord (entries ms)
+  tm = keyed_rows Meter MeterRecord (entries ms)
 
-  parts : (kind : Kind) → ids_of kind (joined ps fs gs ms) ≡ picked kind tp ++ (picked kind tf ++ (picked kind tg ++ picked kind tm))
+  parts : (kind : Kind) → ids_of kind (map_of_tables ps fs gs ms) ≡ picked kind tp ++ (picked kind tf ++ (picked kind tg ++ picked kind tm))
   parts kind =
-      ap (picked kind) (entries-joined ps fs gs ms)
+      ap (picked kind) (entries-map_of_tables ps fs gs ms)
       ∙ picked-append kind tp (tf ++ (tg ++ tm))
       ∙ ap (λ ns. picked kind tp ++ ns) (picked-append kind tf (tg ++ tm) ∙ ap (λ ns. picked kind tf ++ ns) (picked-append kind tg tm))
 
-  pub ids_of_ports : ids_of kinds.Port (joined ps fs gs ms) ≡ keys ps
+  pub ids_of_ports : ids_of kinds.Port (map_of_tables ps fs gs ms) ≡ keys ps
   ids_of_ports = parts kinds.Port ∙ (λ i. all_picked Port PortRecord kinds.Port (λ n. refl) (λ n. refl) (entries ps) i
       ++ (none_picked Filter FilterRecord kinds.Port (λ n. refl) (entries fs) i ++ (none_picked Gate GateRecord kinds.Port (λ n. refl) (entries gs) i ++ none_picked Meter MeterRecord kinds.Port (λ n. refl) (entries ms) i)))
-      ∙ nothing_after (keys ps)
+      ∙ append-nil (keys ps)
 
-  pub ids_of_filters : ids_of kinds.Filter (joined ps fs gs ms) ≡ keys fs
+  pub ids_of_filters : ids_of kinds.Filter (map_of_tables ps fs gs ms) ≡ keys fs
   ids_of_filters = parts kinds.Filter ∙ (λ i. none_picked Port PortRecord kinds.Filter (λ n. refl) (entries ps) i
       ++ (all_picked Filter FilterRecord kinds.Filter (λ n. refl) (λ n. refl) (entries fs) i ++ (none_picked Gate GateRecord kinds.Filter (λ n. refl) (entries gs) i ++ none_picked Meter MeterRecord kinds.Filter (λ n. refl) (entries ms) i)))
-      ∙ nothing_after (keys fs)
+      ∙ append-nil (keys fs)
 
-  pub ids_of_gates : ids_of kinds.Gate (joined ps fs gs ms) ≡ keys gs
+  pub ids_of_gates : ids_of kinds.Gate (map_of_tables ps fs gs ms) ≡ keys gs
   ids_of_gates = parts kinds.Gate ∙ (λ i. none_picked Port PortRecord kinds.Gate (λ n. refl) (entries ps) i
       ++ (none_picked Filter FilterRecord kinds.Gate (λ n. refl) (entries fs) i ++ (all_picked Gate GateRecord kinds.Gate (λ n. refl) (λ n. refl) (entries gs) i ++ none_picked Meter MeterRecord kinds.Gate (λ n. refl) (entries ms) i)))
-      ∙ nothing_after (keys gs)
+      ∙ append-nil (keys gs)
 
-  pub ids_of_meters : ids_of kinds.Meter (joined ps fs gs ms) ≡ keys ms
+  pub ids_of_meters : ids_of kinds.Meter (map_of_tables ps fs gs ms) ≡ keys ms
   ids_of_meters = parts kinds.Meter ∙ (λ i. none_picked Port PortRecord kinds.Meter (λ n. refl) (entries ps) i
       ++ (none_picked Filter FilterRecord kinds.Meter (λ n. refl) (entries fs) i ++ (none_picked Gate GateRecord kinds.Meter (λ n. refl) (entries gs) i ++ all_picked Meter MeterRecord kinds.Meter (λ n. refl) (λ n. refl) (entries ms) i)))

@@ -2,6 +2,7 @@
 use Rattle.std.proofs.Common.{◌≡◌, ℕ, suc, ◌+◌, true, false, cond, ◌||◌, not, List, [], ◌∷◌, ◌++◌, refl, sym, ◌∙◌, ap, Some, None, append_assoc, add-one}
 use Rattle.std.specs.Prelude.{IsSome, is_some}
 use Rattle.std.specs.Option.{option_or}
+use Rattle.std.proofs.lemmas.List.{append-nil}
 use Rattle.std.specs.FinMap.{get, empty, insert, from_entries, find, get-empty, get-insert, get-from_entries, from_entries_push}
 use Rattle.tsn_types.specs.declared.keys.Key.{Key}
 use Rattle.tsn_types.specs.declared.keys.Key.TheVariants.{Port}
@@ -11,8 +12,9 @@ use Rattle.tsn_types.specs.Keys.{key_cmp, same_key, has}
 use Rattle.tsn_types.specs.Limits.{unless}
 use Rattle.tsn_edit.specs.Configuration.{Configuration}
 use Rattle.tsn_edit.proofs.KeyFacts.{by_bool, by_option, keys_total, exact_keys, one_key, same_configuration}
-use Rattle.tsn_config.specs.Opening.{AreOfKind, default_port, default_ports, repeated, with_port}
-use Rattle.tsn_config.proofs.Joined.{find_append, or_none}
+use Rattle.tsn_config.specs.Opening.{AreOfKind, default_port, default_ports, repeated_key, with_port}
+use Rattle.tsn_types.proofs.Causes.{option_or-None}
+use Rattle.tsn_config.proofs.Joined.{find_append}
 
 -- a further entry of a key that is there changes nothing
 again : (es : List (Key × Record)) (k : Key) (r : Record) → IsSome (find key_cmp k es) → from_entries {R = key_cmp} (es ++ (k, r) ∷ []) ≡ from_entries es
@@ -21,7 +23,7 @@ again es k r some = same_configuration _ _ (λ q.
     (λ same. by_option (find key_cmp q es)
     (λ none. let never : false ≡ true = sym (ap is_some none) ∙ ap (λ x. is_some (find key_cmp x es)) (one_key q k same) ∙ some in (cc))
     (λ x is. ap (λ o. option_or o (find key_cmp q ((k, r) ∷ []))) is ∙ sym is))
-    (λ other. ap (λ b. option_or (find key_cmp q es) (cond b (Some r) None)) other ∙ or_none (find key_cmp q es))
+    (λ other. ap (λ b. option_or (find key_cmp q es) (cond b (Some r) None)) other ∙ option_or-None (find key_cmp q es))
     ∙ sym (get-from_entries keys_total es q))
 
 -- a further entry of a key that is not there is put at it
@@ -48,12 +50,8 @@ pub record IsFilled (items : List (Key × Record)) (c : Configuration) (rest : L
   pub split : items ≡ done ++ rest
   pub map_is : c ≡ from_entries done
   pub seen_is : (k : Key) → has seen k ≡ is_some (get c k)
-  pub no_repeat : repeated [] items ≡ repeated seen rest
+  pub no_repeat : repeated_key [] items ≡ repeated_key seen rest
   pub kinds : AreOfKind rest
-
-append_nil : (xs : List (Key × Record)) → xs ++ [] ≡ xs
-append_nil [] = refl
-append_nil (x ∷ xs) = ap (λ ys. x ∷ ys) (append_nil xs)
 
 nothing : from_entries {X = Record} {R = key_cmp} [] ≡ empty
 nothing = same_configuration _ _ (λ q. get-from_entries keys_total [] q ∙ sym (get-empty key_cmp q))
@@ -78,7 +76,7 @@ fill_more items c d k r rest f none is =
       split = f.split ∙ sym (append_assoc f.done ((k, r) ∷ []) rest);
       map_is = is ∙ ap (λ x. insert x k r) f.map_is ∙ sym (fresh f.done k r (ap (λ x. get x k) (sym f.map_is) ∙ none));
       seen_is = λ q. both q ∙ sym (ap (λ x. is_some (get x q)) is ∙ ap is_some (get-insert keys_total c k r q));
-      no_repeat = f.no_repeat ∙ ap (λ b. option_or (unless (not b) (Exists k)) (repeated (k ∷ f.seen) rest)) unseen;
+      no_repeat = f.no_repeat ∙ ap (λ b. option_or (unless (not b) (Exists k)) (repeated_key (k ∷ f.seen) rest)) unseen;
       kinds = f.kinds.1;
     }
   where
@@ -86,11 +84,11 @@ fill_more items c d k r rest f none is =
     both q = elim (same_key q k) as (λ b. (b || has f.seen q) ≡ is_some (cond b (Some r) (get c q))) [ true ↦ refl | false ↦ f.seen_is q ]
 
 -- a key that is there is the first that stands earlier
-pub fill_refused : (items : List (Key × Record)) (c : Configuration) (k : Key) (r : Record) (rest : List (Key × Record)) → IsFilled items c ((k, r) ∷ rest) → IsSome (get c k) → repeated [] items ≡ Some (Exists k)
-fill_refused items c k r rest f some = f.no_repeat ∙ ap (λ b. option_or (unless (not b) (Exists k)) (repeated (k ∷ f.seen) rest)) (f.seen_is k ∙ some)
+pub fill_refused : (items : List (Key × Record)) (c : Configuration) (k : Key) (r : Record) (rest : List (Key × Record)) → IsFilled items c ((k, r) ∷ rest) → IsSome (get c k) → repeated_key [] items ≡ Some (Exists k)
+fill_refused items c k r rest f some = f.no_repeat ∙ ap (λ b. option_or (unless (not b) (Exists k)) (repeated_key (k ∷ f.seen) rest)) (f.seen_is k ∙ some)
 
 pub fill_end_map : (items : List (Key × Record)) (c : Configuration) → IsFilled items c [] → c ≡ from_entries items
-fill_end_map items c f = f.map_is ∙ ap from_entries (sym (append_nil f.done) ∙ sym f.split)
+fill_end_map items c f = f.map_is ∙ ap from_entries (sym (append-nil f.done) ∙ sym f.split)
 
-pub fill_end : (items : List (Key × Record)) (c : Configuration) → IsFilled items c [] → repeated [] items ≡ None
+pub fill_end : (items : List (Key × Record)) (c : Configuration) → IsFilled items c [] → repeated_key [] items ≡ None
 fill_end items c f = f.no_repeat

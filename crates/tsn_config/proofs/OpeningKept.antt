@@ -9,15 +9,18 @@ use Rattle.tsn_types.specs.declared.keys.Key.{Key}
 use Rattle.tsn_types.specs.declared.keys.Key.TheVariants.{Port}
 use Rattle.tsn_types.specs.declared.records.Record.{Record}
 use Rattle.tsn_types.specs.declared.limits.Limits.{Limits}
-use Rattle.tsn_types.specs.declared.refusals.Field.TheVariants.{Key as KeyField}
+use Rattle.tsn_types.specs.declared.refusals.Field.TheVariants.{Id as IdField}
 use Rattle.tsn_types.specs.declared.refusals.Refusal.TheVariants.{Range}
+use Rattle.tsn_types.specs.Bounds.{AreInRange}
+use Rattle.tsn_types.specs.InRange.{RecordInRange}
 use Rattle.tsn_types.specs.Keys.{key_cmp, same_key, refs}
 use Rattle.tsn_types.specs.Limits.{HoldsKey, HoldsRecord, first_cause, holds_key, out_of_limits, unless}
 use Rattle.tsn_edit.specs.Configuration.{Configuration, IsWellKept}
 use Rattle.tsn_edit.specs.Edits.{dangling}
 use Rattle.tsn_edit.proofs.KeyFacts.{by_bool, keys_total, one_key, same_itself}
-use Rattle.tsn_config.specs.Opening.{AreOfKind, dangling_cause, default_port, default_ports, limit_cause, limits_cause}
-use Rattle.tsn_config.proofs.Edits.{HoldsKey-from_test, HoldsRecord-from_test, head_none, holds_unless, none_dangling, tail_none}
+use Rattle.tsn_config.specs.Opening.{AreOfKind, RecordsInRange, dangling_cause, default_port, default_ports, limit_cause, limits_cause}
+use Rattle.tsn_types.proofs.Causes.{option_or_parts, unless-None}
+use Rattle.tsn_config.proofs.Edits.{HoldsKey-from_test, HoldsRecord-from_test, none_dangling}
 use Rattle.tsn_config.proofs.Joined.{find_append}
 
 -- what holds of each entry holds of one that is found
@@ -40,11 +43,11 @@ IsWithin l k r = HoldsKey l k × HoldsRecord l k r
 records_within : (l : Limits) (rs : List (Key × Record)) → AreOfKind rs → limits_cause l rs ≡ None → AllByRecursion (λ e. IsWithin l e.0 e.1) rs
 records_within l [] kinds none = tt
 records_within l (e ∷ es) kinds none =
-    let here = head_none (limit_cause l e) (limits_cause l es) none in
-    let key = holds_unless (holds_key l e.0) (Range KeyField) (head_none (unless (holds_key l e.0) (Range KeyField)) (out_of_limits l e.1) here) in
-    let fields = tail_none (unless (holds_key l e.0) (Range KeyField)) (out_of_limits l e.1) here in (
+    let here = (option_or_parts (limit_cause l e) (limits_cause l es) none).0 in
+    let key = unless-None (holds_key l e.0) (Range IdField) (option_or_parts (unless (holds_key l e.0) (Range IdField)) (out_of_limits l e.1) here).0 in
+    let fields = (option_or_parts (unless (holds_key l e.0) (Range IdField)) (out_of_limits l e.1) here).1 in (
       (HoldsKey-from_test l e.0 key, HoldsRecord-from_test l e.0 e.1 kinds.0 fields),
-      records_within l es kinds.1 (tail_none (limit_cause l e) (limits_cause l es) none),
+      records_within l es kinds.1 (option_or_parts (limit_cause l e) (limits_cause l es) none).1,
     )
 
 ports_within : (l : Limits) (n : ℕ) → n ≤ l.ports → AllByRecursion (λ e. IsWithin l e.0 e.1) (default_ports n)
@@ -53,6 +56,13 @@ ports_within l (suc n) le =
     let low : 1 ≤ suc n = omega arith in
     let empty_list : 0 ≤ l.list = omega arith in
     all_append (λ e. IsWithin l e.0 e.1) (default_ports n) ((Port (suc n), default_port) ∷ []) (ports_within l n (omega arith)) (((low, le), empty_list), tt)
+
+default_in_range : RecordInRange default_port
+default_in_range = record { gates = omega arith; admin = record { list = tt; cycle = (omega arith, omega arith); extension = omega arith; base = omega arith } }
+
+ports_in_range : (n : ℕ) → RecordsInRange (default_ports n)
+ports_in_range zero = tt
+ports_in_range (suc n) = all_append (λ e. RecordInRange e.1) (default_ports n) ((Port (suc n), default_port) ∷ []) (ports_in_range n) (default_in_range, tt)
 
 some_left : {A : Type 0} (o p : Option A) → IsSome o → IsSome (option_or o p)
 some_left None p h = (cc)
@@ -80,10 +90,12 @@ port_there n (suc m) low high =
 
 none_each : (c : Configuration) (es : List (Key × Record)) → first_cause (map (λ e. dangling c e.1) es) ≡ None → AllByRecursion (λ e. dangling c e.1 ≡ None) es
 none_each c [] h = tt
-none_each c (e ∷ es) h = (head_none (dangling c e.1) _ h, none_each c es (tail_none (dangling c e.1) _ h))
+none_each c (e ∷ es) h = (let both = option_or_parts (dangling c e.1) _ h in (both.0, none_each c es both.1))
 
-pub opening_kept : (l : Limits) (rs : List (Key × Record)) (c : Configuration) → AreOfKind rs → limits_cause l rs ≡ None → c ≡ from_entries (rs ++ default_ports l.ports) → dangling_cause c ≡ None → IsWellKept l c
-opening_kept l rs c kinds limits is none = record {
+pub opening_kept : (l : Limits) (rs : List (Key × Record)) (c : Configuration) → AreInRange l → RecordsInRange rs → AreOfKind rs → limits_cause l rs ≡ None → c ≡ from_entries (rs ++ default_ports l.ports) → dangling_cause c ≡ None → IsWellKept l c
+opening_kept l rs c bounds ranges kinds limits is none = record {
+  limits = bounds;
+  in_range = λ k r at. find_each (λ k r. RecordInRange r) (rs ++ default_ports l.ports) (all_append (λ e. RecordInRange e.1) rs (default_ports l.ports) ranges (ports_in_range l.ports)) k r (sym (found k) ∙ at);
   within = λ k r at. find_each (IsWithin l) (rs ++ default_ports l.ports) (all_append (λ e. IsWithin l e.0 e.1) rs (default_ports l.ports) (records_within l rs kinds limits) (ports_within l l.ports (omega arith))) k r (sym (found k) ∙ at);
   ports = λ n low high. ap is_some (found (Port n) ∙ find_append (Port n) rs (default_ports l.ports)) ∙ some_right (find key_cmp (Port n) rs) _ (port_there n l.ports low high);
   referred = λ k r q at ref.

@@ -13,9 +13,9 @@ use Rattle.tsn_types.specs.declared.records.StreamGate.{StreamGate}
 use Rattle.tsn_types.specs.declared.records.FlowMeter.{FlowMeter}
 use Rattle.tsn_edit.specs.Configuration.{Configuration, put}
 use Rattle.tsn_edit.specs.Edits.{is_of_kind}
-use Rattle.tsn_config.specs.Settings.{joined, set_row}
+use Rattle.tsn_config.specs.Views.{map_of_tables, set_row}
 use Rattle.tsn_config.specs.Kinds.{port_of, filter_of, gate_of, meter_of}
-use Rattle.tsn_config.proofs.Joined.{joined-set_port, joined-set_filter, joined-set_gate, joined-set_meter}
+use Rattle.tsn_config.proofs.Joined.{map_of_tables-set_port, map_of_tables-set_filter, map_of_tables-set_gate, map_of_tables-set_meter}
 
 -- a value, if it is a record, is of the key's kind
 abbrev pub IsOfKind : Key → Option Record → Type 0
@@ -48,27 +48,27 @@ pub record IsRowOf {A : Type 0} (row_of : Option Record → Option A) (key : ℕ
   pub row_is : row ≡ row_of v
   pub kind : IsOfKind k v
 
-module _ (ps : FinMap nat_cmp PortGates) (fs : FinMap nat_cmp StreamFilter) (gs : FinMap nat_cmp StreamGate) (ms : FinMap nat_cmp FlowMeter) (c : Configuration) (is : joined ps fs gs ms ≡ c) (k : Key) (v : Option Record) (n m : ℕ) where
-  pub set_port : (t : FinMap nat_cmp PortGates) (row : Option PortGates) → t ≡ set_row ps m row → IsRowOf port_of Port k v n m row → joined t fs gs ms ≡ put c k v
+module _ (ps : FinMap nat_cmp PortGates) (fs : FinMap nat_cmp StreamFilter) (gs : FinMap nat_cmp StreamGate) (ms : FinMap nat_cmp FlowMeter) (c : Configuration) (is : map_of_tables ps fs gs ms ≡ c) (k : Key) (v : Option Record) (n m : ℕ) where
+  pub set_port : (t : FinMap nat_cmp PortGates) (row : Option PortGates) → t ≡ set_row ps m row → IsRowOf port_of Port k v n m row → map_of_tables t fs gs ms ≡ put c k v
   set_port t row now h =
-      ap (λ (x : FinMap nat_cmp PortGates). joined x fs gs ms) (now ∙ ap (λ i. set_row ps i row) h.number_is ∙ ap (set_row ps n) h.row_is)
-      ∙ joined-set_port ps fs gs ms n (port_of v) ∙ ap (put (joined ps fs gs ms) (Port n)) (whole_port n v (subst (λ q. IsOfKind q v) h.key_is h.kind))
-      ∙ ap (λ q. put (joined ps fs gs ms) q v) (sym h.key_is) ∙ ap (λ (d : Configuration). put d k v) is
+      ap (λ (x : FinMap nat_cmp PortGates). map_of_tables x fs gs ms) (now ∙ ap (λ i. set_row ps i row) h.number_is ∙ ap (set_row ps n) h.row_is)
+      ∙ map_of_tables-set_port ps fs gs ms n (port_of v) ∙ ap (put (map_of_tables ps fs gs ms) (Port n)) (whole_port n v (subst (λ q. IsOfKind q v) h.key_is h.kind))
+      ∙ ap (λ q. put (map_of_tables ps fs gs ms) q v) (sym h.key_is) ∙ ap (λ (d : Configuration). put d k v) is
 
-  pub set_filter : (t : FinMap nat_cmp StreamFilter) (row : Option StreamFilter) → t ≡ set_row fs m row → IsRowOf filter_of Filter k v n m row → joined ps t gs ms ≡ put c k v
+  pub set_filter : (t : FinMap nat_cmp StreamFilter) (row : Option StreamFilter) → t ≡ set_row fs m row → IsRowOf filter_of Filter k v n m row → map_of_tables ps t gs ms ≡ put c k v
   set_filter t row now h =
-      ap (λ (x : FinMap nat_cmp StreamFilter). joined ps x gs ms) (now ∙ ap (λ i. set_row fs i row) h.number_is ∙ ap (set_row fs n) h.row_is)
-      ∙ joined-set_filter ps fs gs ms n (filter_of v) ∙ ap (put (joined ps fs gs ms) (Filter n)) (whole_filter n v (subst (λ q. IsOfKind q v) h.key_is h.kind))
-      ∙ ap (λ q. put (joined ps fs gs ms) q v) (sym h.key_is) ∙ ap (λ (d : Configuration). put d k v) is
+      ap (λ (x : FinMap nat_cmp StreamFilter). map_of_tables ps x gs ms) (now ∙ ap (λ i. set_row fs i row) h.number_is ∙ ap (set_row fs n) h.row_is)
+      ∙ map_of_tables-set_filter ps fs gs ms n (filter_of v) ∙ ap (put (map_of_tables ps fs gs ms) (Filter n)) (whole_filter n v (subst (λ q. IsOfKind q v) h.key_is h.kind))
+      ∙ ap (λ q. put (map_of_tables ps fs gs ms) q v) (sym h.key_is) ∙ ap (λ (d : Configuration). put d k v) is
 
-  pub set_gate : (t : FinMap nat_cmp StreamGate) (row : Option StreamGate) → t ≡ set_row gs m row → IsRowOf gate_of Gate k v n m row → joined ps fs t ms ≡ put c k v
+  pub set_gate : (t : FinMap nat_cmp StreamGate) (row : Option StreamGate) → t ≡ set_row gs m row → IsRowOf gate_of Gate k v n m row → map_of_tables ps fs t ms ≡ put c k v
   set_gate t row now h =
-      ap (λ (x : FinMap nat_cmp StreamGate). joined ps fs x ms) (now ∙ ap (λ i. set_row gs i row) h.number_is ∙ ap (set_row gs n) h.row_is)
-      ∙ joined-set_gate ps fs gs ms n (gate_of v) ∙ ap (put (joined ps fs gs ms) (Gate n)) (whole_gate n v (subst (λ q. IsOfKind q v) h.key_is h.kind))
-      ∙ ap (λ q. put (joined ps fs gs ms) q v) (sym h.key_is) ∙ ap (λ (d : Configuration). put d k v) is
+      ap (λ (x : FinMap nat_cmp StreamGate). map_of_tables ps fs x ms) (now ∙ ap (λ i. set_row gs i row) h.number_is ∙ ap (set_row gs n) h.row_is)
+      ∙ map_of_tables-set_gate ps fs gs ms n (gate_of v) ∙ ap (put (map_of_tables ps fs gs ms) (Gate n)) (whole_gate n v (subst (λ q. IsOfKind q v) h.key_is h.kind))
+      ∙ ap (λ q. put (map_of_tables ps fs gs ms) q v) (sym h.key_is) ∙ ap (λ (d : Configuration). put d k v) is
 
-  pub set_meter : (t : FinMap nat_cmp FlowMeter) (row : Option FlowMeter) → t ≡ set_row ms m row → IsRowOf meter_of Meter k v n m row → joined ps fs gs t ≡ put c k v
+  pub set_meter : (t : FinMap nat_cmp FlowMeter) (row : Option FlowMeter) → t ≡ set_row ms m row → IsRowOf meter_of Meter k v n m row → map_of_tables ps fs gs t ≡ put c k v
   set_meter t row now h =
-      ap (λ (x : FinMap nat_cmp FlowMeter). joined ps fs gs x) (now ∙ ap (λ i. set_row ms i row) h.number_is ∙ ap (set_row ms n) h.row_is)
-      ∙ joined-set_meter ps fs gs ms n (meter_of v) ∙ ap (put (joined ps fs gs ms) (Meter n)) (whole_meter n v (subst (λ q. IsOfKind q v) h.key_is h.kind))
-      ∙ ap (λ q. put (joined ps fs gs ms) q v) (sym h.key_is) ∙ ap (λ (d : Configuration). put d k v) is
+      ap (λ (x : FinMap nat_cmp FlowMeter). map_of_tables ps fs gs x) (now ∙ ap (λ i. set_row ms i row) h.number_is ∙ ap (set_row ms n) h.row_is)
+      ∙ map_of_tables-set_meter ps fs gs ms n (meter_of v) ∙ ap (put (map_of_tables ps fs gs ms) (Meter n)) (whole_meter n v (subst (λ q. IsOfKind q v) h.key_is h.kind))
+      ∙ ap (λ q. put (map_of_tables ps fs gs ms) q v) (sym h.key_is) ∙ ap (λ (d : Configuration). put d k v) is

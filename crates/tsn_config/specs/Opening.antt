@@ -8,9 +8,10 @@ use Rattle.tsn_types.specs.declared.keys.Key.TheVariants.{Port}
 use Rattle.tsn_types.specs.declared.records.Record.{Record}
 use Rattle.tsn_types.specs.declared.records.Record.TheVariants.{Port as PortRecord}
 use Rattle.tsn_types.specs.declared.limits.Limits.{Limits}
-use Rattle.tsn_types.specs.declared.refusals.Field.TheVariants.{Key as KeyField}
+use Rattle.tsn_types.specs.declared.refusals.Field.TheVariants.{Id as IdField}
 use Rattle.tsn_types.specs.declared.refusals.Refusal.{Refusal}
 use Rattle.tsn_types.specs.declared.refusals.Refusal.TheVariants.{Range, Exists}
+use Rattle.tsn_types.specs.InRange.{RecordInRange}
 use Rattle.tsn_types.specs.Keys.{has}
 use Rattle.tsn_types.specs.Limits.{unless, first_cause, holds_key, out_of_limits}
 use Rattle.tsn_edit.specs.Configuration.{Configuration}
@@ -19,6 +20,10 @@ use Rattle.tsn_edit.specs.Edits.{is_of_kind, dangling}
 -- each record is of its key's kind
 abbrev pub AreOfKind : List (Key × Record) → Type 0
 AreOfKind rs = AllByRecursion (λ e. IsTrue (is_of_kind e.0 e.1)) rs
+
+-- the numbers of each record are in their ranges
+abbrev pub RecordsInRange : List (Key × Record) → Type 0
+RecordsInRange rs = AllByRecursion (λ e. RecordInRange e.1) rs
 
 -- the record of a port that no record is given for: all gates open, an empty list, a cycle of a millisecond
 abbrev pub default_port : Record
@@ -37,18 +42,18 @@ with_port c n = if is_some (get c (Port n)) then c else insert c (Port n) defaul
 abbrev pub opening : Limits → List (Key × Record) → Configuration
 opening l rs = from_entries (rs ++ default_ports l.ports)
 
--- a key outside the limits, or else a reference or a list outside them
+-- an identifier outside the limits, named as the member of a setup, or else a reference or a list outside them
 abbrev pub limit_cause : Limits → Key × Record → Option Refusal
-limit_cause l e = option_or (unless (holds_key l e.0) (Range KeyField)) (out_of_limits l e.1)
+limit_cause l e = option_or (unless (holds_key l e.0) (Range IdField)) (out_of_limits l e.1)
 
 -- the first such cause in the order of the list
 abbrev pub limits_cause : Limits → List (Key × Record) → Option Refusal
 limits_cause l rs = first_cause (map (λ e. limit_cause l e) rs)
 
 -- the first key that was seen, or stands earlier in the list
-abbrev pub repeated : List Key → List (Key × Record) → Option Refusal
-repeated seen [] = None
-repeated seen (e ∷ es) = option_or (unless (not (has seen e.0)) (Exists e.0)) (repeated (e.0 ∷ seen) es)
+abbrev pub repeated_key : List Key → List (Key × Record) → Option Refusal
+repeated_key seen [] = None
+repeated_key seen (e ∷ es) = option_or (unless (not (has seen e.0)) (Exists e.0)) (repeated_key (e.0 ∷ seen) es)
 
 -- the first absent reference in the order of keys: that of the least filter, its gate before its meter
 abbrev pub dangling_cause : Configuration → Option Refusal
@@ -56,7 +61,7 @@ dangling_cause c = first_cause (map (λ e. dangling c e.1) (entries c))
 
 -- the causes, in the order of their numbers
 abbrev pub opening_causes : Limits → List (Key × Record) → List (Option Refusal)
-opening_causes l rs = limits_cause l rs ∷ repeated [] rs ∷ dangling_cause (opening l rs) ∷ []
+opening_causes l rs = limits_cause l rs ∷ repeated_key [] rs ∷ dangling_cause (opening l rs) ∷ []
 
 -- why the list is refused, if it is
 abbrev pub opening_refusal : Limits → List (Key × Record) → Option Refusal

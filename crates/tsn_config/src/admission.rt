@@ -4,6 +4,7 @@
 //! the limits for all that depends on no other record.
 ghost use Rattle.std.specs.Prelude.{◌≡◌, IfOk, None};
 ghost use Rattle.tsn_types.specs.Limits.{first_cause};
+ghost use Rattle.tsn_edit.specs.Changes.{Fits};
 ghost use Rattle.tsn_edit.specs.Edits.{refusal, early_causes, late_causes, change_of, referrer, is_of_kind, is_port, limit_causes};
 
 use crate::Config;
@@ -74,9 +75,21 @@ impl Config {
     }
 
     /// The change of an admitted edit: the key with the value that stands there and the one that the edit puts there.
-    /// It is refused only for want of memory, since it copies the value that stands there.
+    /// It fits. It is refused only for want of memory, since it copies the value that stands there.
     pub fn change_of(&self, edit: Edit) -> Result<Change, AllocError>
         requires { refusal self.now.limits self.now.map edit ≡ None }
+        ensures change { IfOk result (λ change. change ≡ change_of self.now.map edit) }
+        ensures fits { IfOk result (λ change. Fits self.now.limits self.now.map change) }
+    {
+        // The proof needs what the type keeps, which reading a field gives, and the ranges of the record's numbers.
+        let _kept = &self.limits;
+        edit.tell_ranges();
+        let change = self.copied_change(edit)?;
+        Ok(change)
+    }
+
+    // The change of an edit, with a copy of the value that stands at its key.
+    fn copied_change(&self, edit: Edit) -> Result<Change, AllocError>
         ensures { IfOk result (λ change. change ≡ change_of self.now.map edit) }
     {
         match edit {
@@ -103,8 +116,6 @@ impl Config {
         ensures { result ≡ referrer self.now.map key.now }
     {
         let number = self.rows.referrer(key)?;
-        // The proof needs the size of the table of filters to be in its range, as a call of the limits tells.
-        let _most = self.limits.ports();
         Some(Refusal::Referred(Key::Filter(FilterId::new(number).unwrap())))
     }
 }

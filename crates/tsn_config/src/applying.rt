@@ -3,7 +3,7 @@
 //! No reference is tested when a change is made: that it fits is the caller's to know, and the type's rule follows from
 //! it.
 ghost use Rattle.std.specs.Prelude.{◌≡◌, ◌+◌, ◌≤◌, IsOk, OnOk};
-ghost use Rattle.tsn_edit.specs.Changes.{Fits, changed};
+ghost use Rattle.tsn_edit.specs.Changes.{Fits, after_change};
 
 use crate::Config;
 use std::alloc::AllocError;
@@ -27,7 +27,7 @@ impl Config {
         requires fits { Fits self.old.limits self.old.map change }
         requires room { 1 ≤ self.old.spare }
         ensures limits { self.new.limits ≡ self.old.limits }
-        ensures map { self.new.map ≡ changed self.old.map change }
+        ensures map { self.new.map ≡ after_change self.old.map change }
         ensures spare { self.old.spare ≤ self.new.spare + 1 }
     {
         let Change {

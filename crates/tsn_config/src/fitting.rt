@@ -2,8 +2,9 @@
 //!
 //! The test looks at the value that stands at the key, at the record's limits and at its references; that this is
 //! enough rests on the configuration being well kept, by its type. Nothing here takes memory.
-ghost use Rattle.std.specs.Prelude.{◌≡◌, ◌↔◌, IsTrue};
+ghost use Rattle.std.specs.Prelude.{◌≡◌, ◌↔◌, IfSome, IsTrue};
 ghost use Rattle.std.specs.FinMap as map;
+ghost use Rattle.tsn_types.specs.InRange.{RecordInRange};
 ghost use Rattle.tsn_edit.specs.Changes.{Fits};
 ghost use Rattle.tsn_edit.specs.Parts.{inverse};
 ghost use Rattle.tsn_config.specs.Keeping.{keeps};
@@ -34,8 +35,9 @@ impl Config {
     fn fits_between(&self, key: &Key, before: &Option<Record>, after: &Option<Record>) -> bool
         ensures { IsTrue result ↔ Fits self.now.limits self.now.map (record { key = key.now; before = before.now; after = after.now }) }
     {
-        // The proof needs what the type keeps, and reading a field gives it.
+        // The proof needs what the type keeps, which reading a field gives, and the ranges of the record's numbers.
         let _kept = &self.limits;
+        tell_ranges(after);
         self.stands(key, before) && self.keeps(key, before, after)
     }
 
@@ -61,5 +63,14 @@ impl Config {
             }
             None => before.is_none() || (!is_port(key) && self.referrer(key).is_none()),
         }
+    }
+}
+
+// The numbers of a value are in their ranges, by their types. It does nothing as the program runs.
+fn tell_ranges(value: &Option<Record>)
+    ensures { IfSome value.now RecordInRange }
+{
+    if let Some(whole) = value {
+        whole.tell_ranges();
     }
 }

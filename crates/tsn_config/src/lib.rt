@@ -8,7 +8,7 @@
 
 ghost use Rattle.std.specs.Prelude.{◌≡◌, ℕ, IfOk, option_map};
 ghost use Rattle.std.specs.FinMap as map;
-ghost use Rattle.tsn_types.specs.Whole.{whole};
+ghost use Rattle.tsn_types.specs.Lent.{lent_record};
 ghost use Rattle.tsn_types.specs.declared.records.Record.TheVariants.{Filter as FilterRecord};
 
 use crate::rows::Rows;
@@ -39,12 +39,12 @@ pub struct Config {
 }
 
 impl Model for Config {
-    ghost use Rattle.tsn_config.specs.Settings.{Settings, settings_code};
+    ghost use Rattle.tsn_config.specs.Views.{ConfigView, config_code};
     ghost use Rattle.tsn_edit.specs.Configuration.{IsWellKept};
 
-    ghost Value = { Settings };
+    ghost Value = { ConfigView };
 
-    ghost coded = { settings_code };
+    ghost coded = { config_code };
 
     ghost view = { λ a. record { limits = a.limits; map = a.rows.map; spare = a.rows.spare } };
 
@@ -61,7 +61,7 @@ impl Config {
 
     /// The record of the key, lent, none where the key is absent.
     pub fn get(&self, key: Key) -> Option<RecordRef<'_>>
-        ensures { option_map whole result ≡ map.get self.now.map key }
+        ensures { option_map lent_record result ≡ map.get self.now.map key }
     {
         self.rows.get(key)
     }

@@ -5,9 +5,10 @@
 //! What makes the outcome well kept is just that none of these looks found a cause.
 ghost use Rattle.std.specs.Prelude.{◌≡◌, ◌+◌, ◌≤◌, ◌⊎◌, ◌++◌, IfErr, IfOk, IsSome, IsTrue, OnOk, List, [], None, Some};
 ghost use Rattle.std.specs.FinMap as map;
+ghost use Rattle.tsn_types.specs.Numbers.{most_ports};
 ghost use Rattle.tsn_types.specs.declared.refusals.Refusal.TheVariants.{Exists, Memory};
 ghost use Rattle.tsn_types.specs.declared.records.Record.TheVariants.{Port as PortRecord};
-ghost use Rattle.tsn_config.specs.Opening.{AreOfKind, default_port, default_ports, limit_cause, limits_cause, opening, opening_refusal, repeated, with_port};
+ghost use Rattle.tsn_config.specs.Opening.{AreOfKind, default_port, default_ports, limit_cause, limits_cause, opening, opening_refusal, repeated_key, with_port};
 ghost use Rattle.tsn_edit.specs.Edits.{is_of_kind};
 
 use crate::Config;
@@ -25,8 +26,8 @@ impl Config {
     /// The configuration of the records given and, for each port that they leave out, the default record: all gates
     /// open, an empty list, a cycle of a millisecond, extension and base 0.
     ///
-    /// Refused are, in this order: the first record whose key, gate, meter or list is outside the limits (4, by that
-    /// field); the first key that stands earlier in the list (7); the first absent reference of the least filter, its
+    /// Refused are, in this order: the first record whose identifier, gate, meter or list is outside the limits (4, by
+    /// that field, `id` for the identifier); the first key that stands earlier in the list (7); the first absent reference of the least filter, its
     /// gate before its meter (8). Want of memory (18) may be answered in place of any answer.
     pub fn open(alloc: Global, limits: Limits, records: Records) -> Result<Config, Refusal>
         ensures admitted { OnOk result (opening_refusal limits records ≡ None) }
@@ -39,7 +40,7 @@ impl Config {
             return Err(why);
         }
         let mut rows = rows_of(alloc, items)?;
-        add_ports(&mut rows, alloc, limits)?;
+        add_ports(&mut rows, alloc, limits.ports())?;
         if let Some(why) = rows.first_dangling() {
             return Err(why);
         }
@@ -65,16 +66,16 @@ fn refuse_item(limits: Limits, item: &(Key, Record)) -> Option<Refusal>
     if limits.holds(item.0) {
         limits.refuse(&item.1)
     } else {
-        Some(Refusal::Range(Field::Key))
+        Some(Refusal::Range(Field::Id))
     }
 }
 
 // Empty tables with the records put into them, refused at the first key that is there already.
 fn rows_of(alloc: Global, items: Vec<(Key, Record)>) -> Result<Rows, Refusal>
     requires { AreOfKind items.items }
-    ensures distinct { OnOk result (repeated [] items.items ≡ None) }
+    ensures distinct { OnOk result (repeated_key [] items.items ≡ None) }
     ensures map { IfOk result (λ rows. rows.map ≡ map.from_entries items.items) }
-    ensures err { IfErr result (λ why. (repeated [] items.items ≡ Some why) ⊎ (why ≡ Memory)) }
+    ensures err { IfErr result (λ why. (repeated_key [] items.items ≡ Some why) ⊎ (why ≡ Memory)) }
 {
     let mut rows = Rows::new(alloc);
     for (key, value) in items {
@@ -97,11 +98,12 @@ fn add(rows: &mut Rows, key: &Key, value: Record) -> Result<(), Refusal>
     Ok(())
 }
 
-// Puts the default record at each port from 1 to the limit that is not there.
-fn add_ports(rows: &mut Rows, alloc: Global, limits: Limits) -> Result<(), AllocError>
-    ensures { (es : List (Key × Record)) → rows.old.map ≡ map.from_entries es → OnOk result (rows.new.map ≡ map.from_entries (es ++ default_ports limits.ports)) }
+// Puts the default record at each port from 1 to the last that is not there.
+fn add_ports(rows: &mut Rows, alloc: Global, last: u64) -> Result<(), AllocError>
+    requires { last ≤ most_ports }
+    ensures { (es : List (Key × Record)) → rows.old.map ≡ map.from_entries es → OnOk result (rows.new.map ≡ map.from_entries (es ++ default_ports last)) }
 {
-    for index in 0..limits.ports() {
+    for index in 0..last {
         add_port(rows, alloc, &PortId::new(index + 1).unwrap())?;
     }
     Ok(())

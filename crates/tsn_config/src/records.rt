@@ -1,10 +1,10 @@
 //! Lists of records with their keys, from which a configuration is opened.
 //!
-//! Each record is of its key's kind, by the type of the list. Limits, repeated keys and references are not looked at
+//! Each record is of its key's kind and its numbers are in range, by the type of the list. Limits, repeated keys and references are not looked at
 //! here.
 ghost use Rattle.std.specs.Prelude.{◌≡◌, ◌++◌, ◌∷◌, [], IsTrue, OnErr, OnOk};
 ghost use Rattle.tsn_edit.specs.Edits.{is_of_kind};
-ghost use Rattle.tsn_config.specs.Opening.{AreOfKind};
+ghost use Rattle.tsn_config.specs.Opening.{AreOfKind, RecordsInRange};
 
 use std::alloc::{AllocError, Global};
 use std::marker::Model;
@@ -21,13 +21,13 @@ impl Model for Records {
     ghost use Rattle.std.specs.Prelude.{List};
     ghost use Rattle.tsn_types.specs.declared.keys.Key.{Key};
     ghost use Rattle.tsn_types.specs.declared.records.Record.{Record};
-    ghost use Rattle.tsn_config.specs.Opening.{AreOfKind};
+    ghost use Rattle.tsn_config.specs.Opening.{AreOfKind, RecordsInRange};
 
     ghost Value = { List (Key × Record) };
 
     ghost view = { λ a. a.items.items };
 
-    ghost invariant = { λ a. AreOfKind a.items.items };
+    ghost invariant = { λ a. AreOfKind a.items.items × RecordsInRange a.items.items };
 }
 
 impl Records {
@@ -47,6 +47,7 @@ impl Records {
         ensures ok { OnOk result (self.new ≡ self.old ++ (key, value) ∷ []) }
         ensures err { OnErr result (self.new ≡ self.old) }
     {
+        value.tell_ranges();
         self.items.push((key, value))?;
         Ok(())
     }
@@ -55,7 +56,11 @@ impl Records {
     pub(crate) fn into_items(self) -> Vec<(Key, Record)>
         ensures items { result.items ≡ self }
         ensures kinds { AreOfKind result.items }
+        ensures ranges { RecordsInRange result.items }
     {
         self.items
     }
 }
+
+#[cfg(test)]
+mod tests;

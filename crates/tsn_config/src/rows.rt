@@ -4,15 +4,14 @@
 //! relies on the tables alone, and each call works in the table of its key's kind.
 ghost use Rattle.std.specs.Prelude.{◌≡◌, ℕ, ◌+◌, ◌≤◌, IfOk, IfSome, IsOk, IsTrue, OnOk, is_some, option_map};
 ghost use Rattle.std.specs.FinMap as map;
-ghost use Rattle.tsn_types.specs.Keys.{has, refs};
-ghost use Rattle.tsn_types.specs.Whole.{whole};
+ghost use Rattle.tsn_types.specs.Lent.{lent_record};
 ghost use Rattle.tsn_types.specs.declared.refusals.Refusal.TheVariants.{Referred};
 ghost use Rattle.tsn_edit.specs.Configuration.{put};
 ghost use Rattle.tsn_edit.specs.Edits.{dangling, is_of_kind, referrer};
 ghost use Rattle.tsn_config.specs.Opening.{dangling_cause};
 ghost use Rattle.tsn_config.specs.Ids.{ids_of};
 ghost use Rattle.tsn_config.specs.Kinds.{port_of, filter_of, gate_of, meter_of};
-ghost use Rattle.tsn_config.specs.Settings.{set_row};
+ghost use Rattle.tsn_config.specs.Views.{set_row};
 
 use std::alloc::{AllocError, Global};
 use std::marker::Model;
@@ -31,13 +30,13 @@ pub(crate) struct Rows {
 }
 
 impl Model for Rows {
-    ghost use Rattle.tsn_config.specs.Settings.{Contents, contents_code, joined, least};
+    ghost use Rattle.tsn_config.specs.Views.{RowsView, rows_code, map_of_tables, least_of_four};
 
-    ghost Value = { Contents };
+    ghost Value = { RowsView };
 
-    ghost coded = { contents_code };
+    ghost coded = { rows_code };
 
-    ghost view = { λ a. record { map = joined a.ports.map a.filters.map a.gates.map a.meters.map; spare = least a.ports.spare a.filters.spare a.gates.spare a.meters.spare } };
+    ghost view = { λ a. record { map = map_of_tables a.ports.map a.filters.map a.gates.map a.meters.map; spare = least_of_four a.ports.spare a.filters.spare a.gates.spare a.meters.spare } };
 }
 
 impl Rows {
@@ -68,7 +67,7 @@ impl Rows {
 
     /// The record of the key, lent, none where the key is absent.
     pub(crate) fn get(&self, key: Key) -> Option<RecordRef<'_>>
-        ensures { option_map whole result ≡ map.get self.now.map key }
+        ensures { option_map lent_record result ≡ map.get self.now.map key }
     {
         match key {
             Key::Port(id) => match self.ports.get(id.get()) {
@@ -162,7 +161,7 @@ impl Rows {
     pub(crate) fn referrer(&self, key: &Key) -> Option<u64>
         ensures { option_map (λ n. Referred (Key.Filter n)) result ≡ referrer self.now.map key.now }
     {
-        self.filters.first_where(|filter| refers_to(filter, key))
+        self.filters.first_where(|filter| filter.refers_to(key))
     }
 
     /// Makes room for at least `count` rows in each table.
@@ -243,18 +242,5 @@ fn into_meter(value: Option<Record>) -> Option<FlowMeter>
     match &value {
         Some(Record::Meter(row)) => Some(*row),
         _ => None,
-    }
-}
-
-// Whether the filter refers to the key.
-fn refers_to(filter: &StreamFilter, key: &Key) -> bool
-    ensures { result ≡ has (refs (Record.Filter filter.now)) key.now }
-{
-    if *key == Key::Gate(filter.gate) {
-        return true;
-    }
-    match filter.meter {
-        Some(meter) => *key == Key::Meter(meter),
-        None => false,
     }
 }

@@ -1,211 +1,20 @@
-//! The calls of a configuration on literals of the worked examples: two ports, sixteen instances of each other kind and
-//! lists of up to sixteen entries.
-ghost use Rattle.std.specs.Prelude.{◌≡◌, ◌≤◌};
+//! The calls of a configuration on literals of the worked examples.
+
+mod literals;
 
 use crate::records::Records;
 use crate::{Config, laws};
-use std::alloc::{AllocError, Global};
-use std::process::Abort;
+use literals::{
+    add_filter, add_gate, add_meter, add_port, create_filter, create_gate, filter, filter_key,
+    first_entries, gate, gate_key, gate_with, gates_of, is_default, limits, make, meter, meter_key,
+    on_meter, port, port_key, refused, stands,
+};
 use std::test::Fail;
 use tsn_edit::{Change, Edit};
-use tsn_types::keys::{Key, Kind};
+use tsn_types::keys::Kind;
 use tsn_types::limits::Limits;
-use tsn_types::lists::ControlList;
-use tsn_types::numbers::{
-    BitRate, Cycle, Extension, FilterId, GateId, Handle, Instant, Interval, MaxSdu, MeterId,
-    Octets, PortId,
-};
-use tsn_types::records::{
-    FlowMeter, GateEntry, PortGates, Record, RecordRef, Schedule, StreamFilter, StreamGate,
-};
+use tsn_types::records::Record;
 use tsn_types::refusals::{Field, Refusal};
-
-fn port_key(number: u64) -> Key
-    requires low { 1 ≤ number }
-    requires high { number ≤ 64 }
-    ensures { result ≡ Key.Port number }
-{
-    Key::Port(PortId::new(number).unwrap())
-}
-
-fn filter_key(number: u64) -> Key
-    requires { number ≤ 65535 }
-    ensures { result ≡ Key.Filter number }
-{
-    Key::Filter(FilterId::new(number).unwrap())
-}
-
-fn gate_key(number: u64) -> Key
-    requires { number ≤ 65535 }
-    ensures { result ≡ Key.Gate number }
-{
-    Key::Gate(GateId::new(number).unwrap())
-}
-
-fn meter_key(number: u64) -> Key
-    requires { number ≤ 65535 }
-    ensures { result ≡ Key.Meter number }
-{
-    Key::Meter(MeterId::new(number).unwrap())
-}
-
-fn schedule<E: Drop>(alloc: Global) -> Schedule<E> {
-    Schedule {
-        list: ControlList::new(alloc),
-        cycle: Cycle::new(1_000_000).unwrap(),
-        extension: Extension::new(0).unwrap(),
-        base: Instant::new(0).unwrap(),
-    }
-}
-
-fn port(alloc: Global, gates: u8) -> PortGates {
-    PortGates {
-        gates,
-        admin: schedule(alloc),
-    }
-}
-
-fn gate(alloc: Global) -> StreamGate {
-    StreamGate {
-        is_open: true,
-        ipv: None,
-        invalid_rx: false,
-        octets_exceeded: false,
-        admin: schedule(alloc),
-    }
-}
-
-// A gate whose list has this many entries.
-fn gate_with(alloc: Global, length: usize) -> Result<StreamGate, AllocError> {
-    let mut gate = gate(alloc);
-    for _ in 0..length {
-        gate.admin.list.push(GateEntry {
-            is_open: true,
-            ipv: None,
-            interval: Interval::new(1).unwrap(),
-            octets: None,
-        })?;
-    }
-    Ok(gate)
-}
-
-fn filter(gate: u64, meter: Option<MeterId>) -> StreamFilter
-    requires { gate ≤ 65535 }
-{
-    StreamFilter {
-        handle: Some(Handle::new(7).unwrap()),
-        priority: None,
-        gate: GateId::new(gate).unwrap(),
-        max_sdu: Some(MaxSdu::new(1500).unwrap()),
-        meter,
-        oversize: true,
-    }
-}
-
-fn on_meter(number: u64) -> Option<MeterId>
-    requires { number ≤ 65535 }
-{
-    Some(MeterId::new(number).unwrap())
-}
-
-fn meter() -> FlowMeter {
-    FlowMeter {
-        cir: BitRate::new(8_000_000).unwrap(),
-        cbs: Octets::new(1500).unwrap(),
-        eir: BitRate::new(0).unwrap(),
-        ebs: Octets::new(0).unwrap(),
-        cf: false,
-        aware: false,
-        drop_yellow: false,
-        all_red: false,
-    }
-}
-
-fn limits() -> Limits {
-    Limits::new(2, 16, 16, 16, 16).unwrap()
-}
-
-// Checks the edit, and makes its change.
-fn make(rt: &impl Abort, config: &mut Config, edit: Edit) -> Result<(), AllocError> {
-    assert!(rt; config.check_early(&edit).is_none());
-    assert!(rt; config.check(&edit).is_none());
-    let change = config.change_of(edit)?;
-    assert!(rt; config.fits(&change));
-    config.reserve(1)?;
-    config.apply(change);
-    Ok(())
-}
-
-fn create_filter(number: u64, value: StreamFilter) -> Edit
-    requires { number ≤ 65535 }
-{
-    Edit::Create(filter_key(number), Record::Filter(value))
-}
-
-fn create_gate(number: u64, value: StreamGate) -> Edit
-    requires { number ≤ 65535 }
-{
-    Edit::Create(gate_key(number), Record::Gate(value))
-}
-
-// Gate 0, meter 0, and filter 3 that refers to both.
-fn first_entries(rt: &impl Abort, alloc: Global) -> Result<Config, Fail> {
-    let mut config = Config::open(alloc, limits(), Records::new(alloc))?;
-    make(rt, &mut config, create_gate(0, gate(alloc)))?;
-    make(
-        rt,
-        &mut config,
-        Edit::Create(meter_key(0), Record::Meter(meter())),
-    )?;
-    make(rt, &mut config, create_filter(3, filter(0, on_meter(0))))?;
-    Ok(config)
-}
-
-fn add_gate(records: &mut Records, number: u64, value: StreamGate) -> Result<(), AllocError>
-    requires { number ≤ 65535 }
-{
-    records.push(gate_key(number), Record::Gate(value))
-}
-
-fn add_filter(records: &mut Records, number: u64, value: StreamFilter) -> Result<(), AllocError>
-    requires { number ≤ 65535 }
-{
-    records.push(filter_key(number), Record::Filter(value))
-}
-
-fn add_port(records: &mut Records, number: u64, value: PortGates) -> Result<(), AllocError>
-    requires low { 1 ≤ number }
-    requires high { number ≤ 64 }
-{
-    records.push(port_key(number), Record::Port(value))
-}
-
-// Why the records are refused.
-fn refused(alloc: Global, records: Records) -> Option<Refusal> {
-    Config::open(alloc, limits(), records).err()
-}
-
-// The admin gate states of a port, none where it is absent.
-fn gates_of(config: &Config, key: Key) -> Option<u8> {
-    match config.get(key) {
-        Some(RecordRef::Port(port)) => Some(port.gates),
-        _ => None,
-    }
-}
-
-// Whether the port has the default record.
-fn is_default(config: &Config, key: Key) -> bool {
-    match config.get(key) {
-        Some(RecordRef::Port(port)) => {
-            port.gates == 255
-                && port.admin.list.is_empty()
-                && port.admin.cycle.get() == 1_000_000
-                && port.admin.extension.get() == 0
-                && port.admin.base.get() == 0
-        }
-        _ => false,
-    }
-}
 
 #[test]
 fn opens_with_the_default_ports(rt: HostRuntime) -> Result<(), Fail> {
@@ -224,14 +33,20 @@ fn opens_with_the_records_given(rt: HostRuntime) -> Result<(), Fail> {
     let mut records = Records::new(alloc);
     add_filter(&mut records, 4, filter(0, None))?;
     add_gate(&mut records, 0, gate_with(alloc, 16)?)?;
+    add_meter(&mut records, 15, meter())?;
     add_port(&mut records, 2, port(alloc, 15))?;
     let config = Config::open(alloc, limits(), records)?;
     assert!(rt; config.get(gate_key(0)).is_some());
+    assert!(rt; stands(&config, meter_key(15), &Record::Meter(meter())));
     assert_eq!(rt; config.filters().ids(alloc)?.as_slice(), [4].as_slice());
-    assert_eq!(rt;
-        config.ids(alloc, Kind::Port)?.as_slice(),
-        [1, 2].as_slice()
-    );
+    for (kind, wanted) in [
+        (Kind::Port, [1, 2].as_slice()),
+        (Kind::Filter, [4].as_slice()),
+        (Kind::Gate, [0].as_slice()),
+        (Kind::Meter, [15].as_slice()),
+    ] {
+        assert_eq!(rt; config.ids(alloc, kind)?.as_slice(), wanted, "{kind:?}");
+    }
     assert!(rt; is_default(&config, port_key(1)));
     assert_eq!(rt; gates_of(&config, port_key(2)), Some(15));
     Ok(())
@@ -253,13 +68,16 @@ fn an_opening_is_refused_by_the_first_record_beyond_the_limits(
 }
 
 #[test]
-fn an_opening_is_refused_by_a_key_a_meter_or_a_list_beyond_the_limits(
+fn an_opening_is_refused_by_an_identifier_a_meter_or_a_list_beyond_the_limits(
     rt: HostRuntime,
 ) -> Result<(), Fail> {
     let alloc = rt.alloc();
     let mut records = Records::new(alloc);
     add_gate(&mut records, 16, gate_with(alloc, 17)?)?;
-    assert_eq!(rt; refused(alloc, records), Some(Refusal::Range(Field::Key)));
+    assert_eq!(rt; refused(alloc, records), Some(Refusal::Range(Field::Id)));
+    let mut records = Records::new(alloc);
+    add_port(&mut records, 3, port(alloc, 15))?;
+    assert_eq!(rt; refused(alloc, records), Some(Refusal::Range(Field::Id)));
     let mut records = Records::new(alloc);
     add_filter(&mut records, 1, filter(9, on_meter(16)))?;
     assert_eq!(rt; refused(alloc, records), Some(Refusal::Range(Field::Meter)));
@@ -382,11 +200,7 @@ fn a_removal_and_its_inverse_keep_every_member(rt: HostRuntime) -> Result<(), Fa
     assert!(rt; config.fits(&back));
     config.reserve(1)?;
     config.apply(back);
-    assert!(rt;
-        config
-            .get(filter_key(3))
-            .is_some_and(|found| found.is(&whole))
-    );
+    assert!(rt; stands(&config, filter_key(3), &whole));
     Ok(())
 }
 
@@ -406,6 +220,7 @@ fn a_change_fits_only_where_its_value_before_stands(rt: HostRuntime) -> Result<(
 fn laws_have_nothing_to_run() {
     laws::change_and_inverse();
     laws::admitted_edit_fits();
+    laws::kept_is_in_range();
 }
 
 #[test]
@@ -416,23 +231,88 @@ fn a_copy_has_every_record(rt: HostRuntime) -> Result<(), Fail> {
     let whole = Record::Filter(filter(0, on_meter(0)));
     assert_eq!(rt; copy.limits().ports(), 2);
     assert_eq!(rt; copy.ids(alloc, Kind::Gate)?.as_slice(), [0].as_slice());
-    assert!(rt;
-        copy.get(filter_key(3))
-            .is_some_and(|found| found.is(&whole))
-    );
+    assert!(rt; stands(&copy, filter_key(3), &whole));
     assert!(rt; is_default(&copy, port_key(2)));
     Ok(())
 }
 
-// The largest table of gates, filled in rising order.
+// Every port that a bridge may have, each with its own gates, and a record of each other kind.
 #[test]
-fn creates_each_gate_of_the_largest_table(rt: HostRuntime) -> Result<(), Fail> {
+fn a_copy_has_every_port_and_kind(rt: HostRuntime) -> Result<(), Fail> {
     let alloc = rt.alloc();
-    let most = Limits::new(2, 16, 65_536, 16, 16).unwrap();
-    let mut config = Config::open(alloc, most, Records::new(alloc))?;
+    let most = Limits::new(64, 16, 16, 16, 1_024).unwrap();
+    let mut records = Records::new(alloc);
+    add_filter(&mut records, 5, filter(7, on_meter(9)))?;
+    add_gate(&mut records, 7, gate_with(alloc, 1_024)?)?;
+    add_meter(&mut records, 9, meter())?;
+    for number in 1..65 {
+        add_port(&mut records, number, port(alloc, number as u8))?;
+    }
+    let copy = Config::open(alloc, most, records)?.copy()?;
+    for number in 1..65 {
+        let port = Record::Port(port(alloc, number as u8));
+        assert!(rt; stands(&copy, port_key(number), &port), "port {number}");
+    }
+    let filter = Record::Filter(filter(7, on_meter(9)));
+    let gate = Record::Gate(gate_with(alloc, 1_024)?);
+    assert!(rt; stands(&copy, filter_key(5), &filter));
+    assert!(rt; stands(&copy, gate_key(7), &gate));
+    assert!(rt; stands(&copy, meter_key(9), &Record::Meter(meter())));
+    assert_eq!(rt; copy.ids(alloc, Kind::Port)?.as_slice().len(), 64);
+    Ok(())
+}
+
+#[test]
+fn the_change_of_a_replace_has_both_records(rt: HostRuntime) -> Result<(), Fail> {
+    let alloc = rt.alloc();
+    let config = first_entries(&rt, alloc)?;
+    let moved = filter(0, None);
+    let edit = Edit::Replace(filter_key(3), Record::Filter(moved));
+    assert!(rt; config.check(&edit).is_none());
+    let change = config.change_of(edit)?;
+    assert_eq!(rt; change.key, filter_key(3));
+    assert!(rt; change.before == Some(Record::Filter(filter(0, on_meter(0)))));
+    assert!(rt; change.after == Some(Record::Filter(moved)));
+    Ok(())
+}
+
+// The change copies the longest list that there may be.
+#[test]
+fn the_change_of_a_replace_has_the_longest_list(rt: HostRuntime) -> Result<(), Fail> {
+    let alloc = rt.alloc();
+    let most = Limits::new(2, 16, 16, 16, 1_024).unwrap();
+    let mut records = Records::new(alloc);
+    add_gate(&mut records, 1, gate_with(alloc, 1_024)?)?;
+    let config = Config::open(alloc, most, records)?;
+    let edit = Edit::Replace(gate_key(1), Record::Gate(gate(alloc)));
+    assert!(rt; config.check(&edit).is_none());
+    let change = config.change_of(edit)?;
+    assert!(rt; change.before == Some(Record::Gate(gate_with(alloc, 1_024)?)));
+    assert!(rt; change.after == Some(Record::Gate(gate(alloc))));
+    Ok(())
+}
+
+// The largest table of meters, opened, and the largest of gates, filled in rising order.
+#[test]
+fn opens_and_creates_the_largest_tables(rt: HostRuntime) -> Result<(), Fail> {
+    let alloc = rt.alloc();
+    let most = Limits::new(2, 16, 65_536, 65_536, 16).unwrap();
+    let mut records = Records::new(alloc);
+    for number in 0..65_536 {
+        add_meter(&mut records, number, meter())?;
+    }
+    let mut config = Config::open(alloc, most, records)?;
+    assert_eq!(rt; config.ids(alloc, Kind::Meter)?.as_slice().len(), 65_536);
+    config.reserve(65_536)?;
     for number in 0..65_536 {
         make(&rt, &mut config, create_gate(number, gate(alloc)))?;
     }
-    assert_eq!(rt; config.ids(alloc, Kind::Gate)?.as_slice().len(), 65_536);
+    let ids = config.copy()?.ids(alloc, Kind::Gate)?;
+    assert_eq!(rt; ids.as_slice().len(), 65_536);
+    let mut wanted = 0;
+    for number in ids.as_slice() {
+        assert_eq!(rt; *number, wanted);
+        wanted += 1;
+    }
     Ok(())
 }

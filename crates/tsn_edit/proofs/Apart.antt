@@ -1,7 +1,8 @@
 -- Changes that do not conflict with a set go the same way where the set was left out.
-use Rattle.std.proofs.Common.{◌≡◌, Bool, true, false, ◌||◌, List, [], ◌∷◌, ◌++◌, refl, sym, ◌∙◌, ap, Some, None}
+use Rattle.std.proofs.Common.{◌≡◌, true, false, ◌||◌, List, [], ◌∷◌, ◌++◌, refl, sym, ◌∙◌, ap, Some, None}
 use Rattle.std.specs.Prelude.{IsTrue, IsSome, is_some}
 use Rattle.std.specs.FinMap.{get}
+use Rattle.std.proofs.lemmas.Bool.{or_from, or_left, or_parts, or_right}
 use Rattle.tsn_types.specs.declared.keys.Key.{Key}
 use Rattle.tsn_types.specs.declared.keys.Key.TheVariants.{Port}
 use Rattle.tsn_edit.specs.Parts.{Change, Part, parts}
@@ -9,8 +10,8 @@ use Rattle.tsn_types.specs.declared.records.Record.{Record}
 use Rattle.tsn_types.specs.declared.limits.Limits.{Limits}
 use Rattle.tsn_types.specs.Keys.{same_key, has, meets, refs, refs_of}
 use Rattle.tsn_edit.specs.Configuration.{Configuration, IsWellKept}
-use Rattle.tsn_edit.specs.Changes.{keys_of, refs_before, refs_after, changed, Stands, Fits, clashes}
-use Rattle.tsn_edit.proofs.KeyFacts.{same_itself, or_left, or_right, by_option, part_on, part_on_none, before_or, part_on_some, each_part, part_on-append, part_on-append_found, keys_of-append, refs_before-append, has-append, meets_apart, after_or, get-changed, or_false_left, or_false_right}
+use Rattle.tsn_edit.specs.Changes.{keys_of, refs_before, refs_after, after_change, Stands, Fits, clashes}
+use Rattle.tsn_edit.proofs.KeyFacts.{same_itself, by_option, part_on, part_on_none, before_or, part_on_some, each_part, part_on-append, part_on-append_found, keys_of-append, refs_before-append, has-append, meets_apart, after_or, get-after_change}
 
 -- f touches no key of e, refers to none, and nothing that e's values before refer to
 pub record Apart (f e : List Part) : Type 0 where
@@ -23,25 +24,21 @@ Apart-from_test f e h =
     let a = meets (keys_of f) (keys_of e) in
     let b = meets (refs_after f) (keys_of e) in
     let c = meets (keys_of f) (refs_before e) in
-    let bc : (b || c) ≡ false = or_false_right a (b || c) h in
+    let bc : (b || c) ≡ false = (or_parts a (b || c) h).1 in
     record {
-      keys = meets_apart (keys_of f) (keys_of e) (or_false_left a (b || c) h);
-      after = meets_apart (refs_after f) (keys_of e) (or_false_left b c bc);
-      before = meets_apart (keys_of f) (refs_before e) (or_false_right b c bc);
+      keys = meets_apart (keys_of f) (keys_of e) ((or_parts a (b || c) h).0);
+      after = meets_apart (refs_after f) (keys_of e) ((or_parts b c bc).0);
+      before = meets_apart (keys_of f) (refs_before e) ((or_parts b c bc).1);
     }
-
-none_of_both : (a b : Bool) → a ≡ false → b ≡ false → (a || b) ≡ false
-none_of_both true b p q = p
-none_of_both false b p q = q
 
 pub Apart-append : (f e g : List Part) → Apart f e → Apart f g → Apart f (e ++ g)
 Apart-append f e g p q =
     let keys_none : (k : Key) → has (keys_of e) k ≡ false → has (keys_of g) k ≡ false → has (keys_of (e ++ g)) k ≡ false =
-    λ k a b. ap (λ ks. has ks k) (keys_of-append e g) ∙ has-append (keys_of e) (keys_of g) k ∙ none_of_both _ _ a b in
+    λ k a b. ap (λ ks. has ks k) (keys_of-append e g) ∙ has-append (keys_of e) (keys_of g) k ∙ or_from _ _ a b in
     record {
       keys = λ k h. keys_none k (p.keys k h) (q.keys k h);
       after = λ k h. keys_none k (p.after k h) (q.after k h);
-      before = λ k h. refs_before-append e g k ∙ none_of_both _ _ (p.before k h) (q.before k h);
+      before = λ k h. refs_before-append e g k ∙ or_from _ _ (p.before k h) (q.before k h);
     }
 
 pub begin_agrees : (c : Configuration) (k : Key) → get c k ≡ before_or (part_on k []) (get c k)
@@ -55,7 +52,7 @@ pub record Agrees (l : Limits) (c d : Configuration) (t : List Part) : Type 0 wh
   pub agree : (k : Key) → get d k ≡ before_or (part_on k t) (get c k)
 
 -- a change of the set goes into c alone
-pub agrees_taken : (l : Limits) (c d : Configuration) (t : List Part) (f : Change) → Agrees l c d t → Fits l c f → Agrees l (changed c f) d (t ++ parts f)
+pub agrees_taken : (l : Limits) (c d : Configuration) (t : List Part) (f : Change) → Agrees l c d t → Fits l c f → Agrees l (after_change c f) d (t ++ parts f)
 agrees_taken l c d t f a fits =
     record {
       all_kept = fits.kept;
@@ -64,13 +61,13 @@ agrees_taken l c d t f a fits =
           by_option (part_on k t)
           (λ none.
           let here : get d k ≡ get c k = a.agree k ∙ ap (λ o. before_or o (get c k)) none in
-          let later : before_or (part_on k (t ++ parts f)) (get (changed c f) k) ≡ before_or (part_on k (parts f)) (get (changed c f) k) = ap (λ o. before_or o (get (changed c f) k)) (part_on-append k t (parts f) none) in
+          let later : before_or (part_on k (t ++ parts f)) (get (after_change c f) k) ≡ before_or (part_on k (parts f)) (get (after_change c f) k) = ap (λ o. before_or o (get (after_change c f) k)) (part_on-append k t (parts f) none) in
           here ∙ by_option (part_on k (parts f))
-          (λ untouched. sym (ap (λ o. after_or o (get c k)) untouched) ∙ sym (get-changed c f k) ∙ sym (ap (λ o. before_or o (get (changed c f) k)) untouched))
-          (λ p is. ap (get c) (part_on_some k (parts f) p is).key ∙ each_part (λ p. get c p.key ≡ p.before) k (parts f) p is fits.stands ∙ sym (ap (λ o. before_or o (get (changed c f) k)) is))
+          (λ untouched. sym (ap (λ o. after_or o (get c k)) untouched) ∙ sym (get-after_change c f k) ∙ sym (ap (λ o. before_or o (get (after_change c f) k)) untouched))
+          (λ p is. ap (get c) (part_on_some k (parts f) p is).key ∙ each_part (λ p. get c p.key ≡ p.before) k (parts f) p is fits.stands ∙ sym (ap (λ o. before_or o (get (after_change c f) k)) is))
           ∙ sym later)
           (λ p is.
-          a.agree k ∙ ap (λ o. before_or o (get c k)) is ∙ sym (ap (λ o. before_or o (get (changed c f) k)) (part_on-append_found k t (parts f) p is)));
+          a.agree k ∙ ap (λ o. before_or o (get c k)) is ∙ sym (ap (λ o. before_or o (get (after_change c f) k)) (part_on-append_found k t (parts f) p is)));
     }
 
 -- maps that agree on a change's keys both have its values before
@@ -83,23 +80,23 @@ stands_alike c d (p ∷ f) same h = (
 
 module _ (l : Limits) (c d : Configuration) (t : List Part) (f : Change) (a : Agrees l c d t) (fits : Fits l c f) (apart : Apart (parts f) t) where
   -- at a key that f leaves alone
-  untouched : (m : Configuration) (k : Key) → part_on k (parts f) ≡ None → get (changed m f) k ≡ get m k
-  untouched m k none = get-changed m f k ∙ ap (λ o. after_or o (get m k)) none
+  untouched : (m : Configuration) (k : Key) → part_on k (parts f) ≡ None → get (after_change m f) k ≡ get m k
+  untouched m k none = get-after_change m f k ∙ ap (λ o. after_or o (get m k)) none
 
   -- at a key that f touches
-  touched : (m n : Configuration) (k : Key) (p : Part) → part_on k (parts f) ≡ Some p → get (changed m f) k ≡ get (changed n f) k
-  touched m n k p is = get-changed m f k ∙ ap (λ o. after_or o (get m k)) is ∙ sym (ap (λ o. after_or o (get n k)) is) ∙ sym (get-changed n f k)
+  touched : (m n : Configuration) (k : Key) (p : Part) → part_on k (parts f) ≡ Some p → get (after_change m f) k ≡ get (after_change n f) k
+  touched m n k p is = get-after_change m f k ∙ ap (λ o. after_or o (get m k)) is ∙ sym (ap (λ o. after_or o (get n k)) is) ∙ sym (get-after_change n f k)
 
-  still_agree : (k : Key) → get (changed d f) k ≡ before_or (part_on k t) (get (changed c f) k)
+  still_agree : (k : Key) → get (after_change d f) k ≡ before_or (part_on k t) (get (after_change c f) k)
   still_agree k =
       by_option (part_on k (parts f))
       (λ none. untouched d k none ∙ a.agree k ∙ ap (before_or (part_on k t)) (sym (untouched c k none)))
-      (λ p is. touched d c k p is ∙ sym (ap (λ o. before_or o (get (changed c f) k)) (part_on_none k t (apart.keys k (part_on_some k (parts f) p is).there))))
+      (λ p is. touched d c k p is ∙ sym (ap (λ o. before_or o (get (after_change c f) k)) (part_on_none k t (apart.keys k (part_on_some k (parts f) p is).there))))
 
-  same_outside : (k : Key) → has (keys_of t) k ≡ false → get (changed d f) k ≡ get (changed c f) k
-  same_outside k out = still_agree k ∙ ap (λ o. before_or o (get (changed c f) k)) (part_on_none k t out)
+  same_outside : (k : Key) → has (keys_of t) k ≡ false → get (after_change d f) k ≡ get (after_change c f) k
+  same_outside k out = still_agree k ∙ ap (λ o. before_or o (get (after_change c f) k)) (part_on_none k t out)
 
-  still_referred : (k : Key) (r : Record) (q : Key) → get (changed d f) k ≡ Some r → IsTrue (has (refs r) q) → IsSome (get (changed d f) q)
+  still_referred : (k : Key) (r : Record) (q : Key) → get (after_change d f) k ≡ Some r → IsTrue (has (refs r) q) → IsSome (get (after_change d f) q)
   still_referred k r q is ref =
       by_option (part_on k (parts f))
       (λ none.
@@ -114,13 +111,18 @@ module _ (l : Limits) (c d : Configuration) (t : List Part) (f : Change) (a : Ag
       let not_in : has (refs_before t) q ≡ false = apart.before q (part_on_some q (parts f) p q_is).there in
       (cc))))
       (λ p k_is.
-      let now : get (changed c f) k ≡ Some r = touched c d k p k_is ∙ is in
-      let new : p.after ≡ Some r = sym (get-changed c f k ∙ ap (λ o. after_or o (get c k)) k_is) ∙ now in
+      let now : get (after_change c f) k ≡ Some r = touched c d k p k_is ∙ is in
+      let new : p.after ≡ Some r = sym (get-after_change c f k ∙ ap (λ o. after_or o (get c k)) k_is) ∙ now in
       let in_new : has (refs_after (parts f)) q ≡ true = (part_on_some k (parts f) p k_is).after q (ap (λ v. has (refs_of v) q) new ∙ ref) in
       ap is_some (same_outside q (apart.after q in_new)) ∙ fits.kept.referred k r q now ref)
 
-  still_kept : IsWellKept l (changed d f)
+  still_kept : IsWellKept l (after_change d f)
   still_kept = record {
+    limits = a.left_kept.limits;
+    in_range = λ k r is.
+        by_option (part_on k (parts f))
+        (λ none. a.left_kept.in_range k r (sym (untouched d k none) ∙ is))
+        (λ p k_is. fits.kept.in_range k r (touched c d k p k_is ∙ is));
     within = λ k r is.
         by_option (part_on k (parts f))
         (λ none. a.left_kept.within k r (sym (untouched d k none) ∙ is))
@@ -140,5 +142,5 @@ module _ (l : Limits) (c d : Configuration) (t : List Part) (f : Change) (a : Ag
   }
 
   -- a change that is apart from the set goes into both
-  pub agrees_left : Agrees l (changed c f) (changed d f) t
+  pub agrees_left : Agrees l (after_change c f) (after_change d f) t
   agrees_left = record { all_kept = fits.kept; left_kept = still_kept; agree = still_agree }

@@ -1,5 +1,6 @@
 -- Conflict of two changes of one part, as three tests.
 use Rattle.std.proofs.Common.{◌≡◌, Bool, true, false, ◌||◌, List, [], ◌∷◌, ◌++◌, refl, sym, ◌∙◌, ap}
+use Rattle.std.proofs.Math.Bool.{or-false}
 use Rattle.std.proofs.lemmas.Cmp.{eq_by_cmp_equiv}
 use Rattle.tsn_types.specs.declared.keys.Key.{Key}
 use Rattle.tsn_types.specs.Keys.{same_key, has, meets, refs_of}
@@ -7,17 +8,13 @@ use Rattle.tsn_edit.specs.Parts.{Change}
 use Rattle.tsn_edit.specs.Changes.{conflicts}
 use Rattle.tsn_edit.proofs.KeyFacts.{keys_total}
 
-or_nothing : (b : Bool) → (b || false) ≡ b
-or_nothing true = refl
-or_nothing false = refl
-
-turned : (a b : Key) → same_key a b ≡ same_key b a
-turned a b = (eq_by_cmp_equiv keys_total).symm a b
+same_key_swap : (a b : Key) → same_key a b ≡ same_key b a
+same_key_swap a b = (eq_by_cmp_equiv keys_total).symm a b
 
 meets_one : (ks : List Key) (k : Key) → meets (ks ++ []) (k ∷ []) ≡ has ks k
 meets_one [] k = refl
 meets_one (x ∷ ks) k =
-    ap (λ b. b || meets (ks ++ []) (k ∷ [])) (or_nothing (same_key x k) ∙ turned x k)
+    ap (λ b. b || meets (ks ++ []) (k ∷ [])) (or-false (same_key x k) ∙ same_key_swap x k)
     ∙ ap (λ b. same_key k x || b) (meets_one ks k)
 
 has_all : (ks : List Key) (k : Key) → has (ks ++ []) k ≡ has ks k
@@ -26,18 +23,6 @@ has_all (x ∷ ks) k = ap (λ b. same_key k x || b) (has_all ks k)
 
 pub conflicts_is : (f e : Change) → conflicts f e ≡ (same_key f.key e.key || (has (refs_of f.after) e.key || has (refs_of e.before) f.key))
 conflicts_is f e =
-    ap (λ b. b || (meets (refs_of f.after ++ []) (e.key ∷ []) || (has (refs_of e.before ++ []) f.key || false))) (or_nothing (same_key f.key e.key || false) ∙ or_nothing (same_key f.key e.key))
+    ap (λ b. b || (meets (refs_of f.after ++ []) (e.key ∷ []) || (has (refs_of e.before ++ []) f.key || false))) (or-false (same_key f.key e.key || false) ∙ or-false (same_key f.key e.key))
     ∙ ap (λ b. same_key f.key e.key || (b || (has (refs_of e.before ++ []) f.key || false))) (meets_one (refs_of f.after) e.key)
-    ∙ ap (λ b. same_key f.key e.key || (has (refs_of f.after) e.key || b)) (or_nothing (has (refs_of e.before ++ []) f.key) ∙ has_all (refs_of e.before) f.key)
-
-pub on_key : (f e : Change) (b : Bool) → b ≡ same_key f.key e.key → b ≡ true → true ≡ conflicts f e
-on_key f e b is same = sym (conflicts_is f e ∙ ap (λ b. b || (has (refs_of f.after) e.key || has (refs_of e.before) f.key)) (sym is ∙ same))
-
-apart : (f e : Change) → same_key f.key e.key ≡ false → conflicts f e ≡ (has (refs_of f.after) e.key || has (refs_of e.before) f.key)
-apart f e other = conflicts_is f e ∙ ap (λ b. b || (has (refs_of f.after) e.key || has (refs_of e.before) f.key)) other
-
-pub to_key : (f e : Change) (a b : Bool) → a ≡ same_key f.key e.key → a ≡ false → b ≡ has (refs_of f.after) e.key → b ≡ true → true ≡ conflicts f e
-to_key f e a b key other is refers = sym (apart f e (sym key ∙ other) ∙ ap (λ b. b || has (refs_of e.before) f.key) (sym is ∙ refers))
-
-pub from_key : (f e : Change) (a b x : Bool) → a ≡ same_key f.key e.key → a ≡ false → b ≡ has (refs_of f.after) e.key → b ≡ false → x ≡ has (refs_of e.before) f.key → x ≡ conflicts f e
-from_key f e a b x key other is misses last = last ∙ sym (apart f e (sym key ∙ other) ∙ ap (λ b. b || has (refs_of e.before) f.key) (sym is ∙ misses))
+    ∙ ap (λ b. same_key f.key e.key || (has (refs_of f.after) e.key || b)) (or-false (has (refs_of e.before ++ []) f.key) ∙ has_all (refs_of e.before) f.key)

@@ -7,6 +7,8 @@ use Rattle.std.specs.FinMap.{get, get-insert, get-remove, IsAntisymmetric, same_
 use Rattle.std.specs.List.{AllByRecursion}
 use Rattle.std.specs.declared.cmp.Ordering.{Ordering}
 use Rattle.std.specs.declared.cmp.Ordering.TheVariants.{Less, Equal, Greater}
+use Rattle.std.proofs.Math.Bool.{or_assoc}
+use Rattle.std.proofs.lemmas.Bool.{or_left, or_parts, or_right}
 use Rattle.std.proofs.lemmas.Cmp.{on_total, then_total, nat_cmp_total, tied_itself}
 use Rattle.std.proofs.lemmas.Map.Lookups.{exact_pairs, exact_unsigned}
 use Rattle.tsn_types.specs.declared.keys.Key.{Key}
@@ -15,7 +17,7 @@ use Rattle.tsn_edit.specs.Parts.{Change, Part, parts}
 use Rattle.tsn_types.specs.declared.records.Record.{Record}
 use Rattle.tsn_types.specs.Keys.{kind_of, number_of, key_cmp, same_key, has, meets, refs_of}
 use Rattle.tsn_edit.specs.Configuration.{Configuration, put}
-use Rattle.tsn_edit.specs.Changes.{keys_of, refs_before, refs_after, put_all, changed}
+use Rattle.tsn_edit.specs.Changes.{keys_of, refs_before, refs_after, put_all, after_change}
 
 pub by_bool : {G : Type 0} (b : Bool) → (b ≡ true → G) → (b ≡ false → G) → G
 by_bool true f g = f refl
@@ -86,8 +88,8 @@ get-put_all c (p ∷ e) q =
     ∙ ap (cond (same_key q p.key) p.after) (get-put_all c e q)
     ∙ after_or-cond (same_key q p.key) p (part_on q e) (get c q)
 
-pub get-changed : (c : Configuration) (e : Change) (q : Key) → get (changed c e) q ≡ after_or (part_on q (parts e)) (get c q)
-get-changed c e q = get-put_all c (parts e) q
+pub get-after_change : (c : Configuration) (e : Change) (q : Key) → get (after_change c e) q ≡ after_or (part_on q (parts e)) (get c q)
+get-after_change c e q = get-put_all c (parts e) q
 
 -- no part is on a key that the change does not have
 pub part_on_none : (k : Key) (e : List Part) → has (keys_of e) k ≡ false → part_on k e ≡ None
@@ -102,26 +104,6 @@ part_on_none k (p ∷ e) h =
 pub has-append : (ks ls : List Key) (k : Key) → has (ks ++ ls) k ≡ (has ks k || has ls k)
 has-append [] ls k = refl
 has-append (x ∷ ks) ls k = elim (same_key k x) as (λ b. (b || has (ks ++ ls) k) ≡ ((b || has ks k) || has ls k)) [ true ↦ refl | false ↦ has-append ks ls k ]
-
-pub or_left : (a b : Bool) → a ≡ true → (a || b) ≡ true
-or_left true b h = refl
-or_left false b h = (cc)
-
-pub or_right : (a b : Bool) → b ≡ true → (a || b) ≡ true
-or_right true b h = refl
-or_right false b h = h
-
-or_assoc : (a b c : Bool) → (a || (b || c)) ≡ ((a || b) || c)
-or_assoc true b c = refl
-or_assoc false b c = refl
-
-pub or_false_left : (a b : Bool) → (a || b) ≡ false → a ≡ false
-or_false_left true b h = h
-or_false_left false b h = refl
-
-pub or_false_right : (a b : Bool) → (a || b) ≡ false → b ≡ false
-or_false_right true b h = (cc)
-or_false_right false b h = h
 
 -- the value before the part, or v where there is none
 abbrev pub before_or : Option Part → Option Record → Option Record
@@ -192,7 +174,7 @@ refs_before-append [] f q = refl
 refs_before-append (p ∷ e) f q =
     has-append (refs_of p.before) (refs_before (e ++ f)) q
     ∙ ap (λ b. has (refs_of p.before) q || b) (refs_before-append e f q)
-    ∙ or_assoc (has (refs_of p.before) q) (has (refs_before e) q) (has (refs_before f) q)
+    ∙ sym (or_assoc (has (refs_of p.before) q) (has (refs_before e) q) (has (refs_before f) q))
     ∙ ap (λ b. b || has (refs_before f) q) (sym (has-append (refs_of p.before) (refs_before e) q))
 
 -- lists that do not meet have no key in common
@@ -200,6 +182,6 @@ pub meets_apart : (ks ls : List Key) → meets ks ls ≡ false → (k : Key) →
 meets_apart [] ls h k in' = (cc)
 meets_apart (x ∷ ks) ls h k in' =
     elim (same_key k x) as (λ b. same_key k x ≡ b → (b || has ks k) ≡ true → has ls k ≡ false) [
-      | true ↦ λ same _. ap (has ls) (one_key k x same) ∙ or_false_left (has ls x) (meets ks ls) h
-      | false ↦ λ same in''. meets_apart ks ls (or_false_right (has ls x) (meets ks ls) h) k in''
+      | true ↦ λ same _. ap (has ls) (one_key k x same) ∙ (or_parts (has ls x) (meets ks ls) h).0
+      | false ↦ λ same in''. meets_apart ks ls ((or_parts (has ls x) (meets ks ls) h).1) k in''
     ] refl in'

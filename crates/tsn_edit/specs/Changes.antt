@@ -24,8 +24,8 @@ put_all c [] = c
 put_all c (p ∷ ps) = put (put_all c ps) p.key p.after
 
 -- what the change leaves of c
-abbrev pub changed : Configuration → Change → Configuration
-changed c e = put_all c (parts e)
+abbrev pub after_change : Configuration → Change → Configuration
+after_change c e = put_all c (parts e)
 
 -- every value before stands in c
 abbrev pub Stands : Configuration → List Part → Type 0
@@ -35,7 +35,7 @@ Stands c ps = AllByRecursion (λ p. get c p.key ≡ p.before) ps
 pub record Fits (l : Limits) (c : Configuration) (e : Change) : Type 0 where
   pub distinct : IsDistinct same_key (keys_of (parts e))
   pub stands : Stands c (parts e)
-  pub kept : IsWellKept l (changed c e)
+  pub kept : IsWellKept l (after_change c e)
 
 -- whether later parts ps conflict with qs: they have a key in common, or a value after in ps refers to a key of qs, or ps have a key that a value before in qs refers to
 abbrev pub clashes : List Part → List Part → Bool

@@ -9,6 +9,7 @@ use Rattle.tsn_types.specs.declared.limits.Limits.{Limits}
 use Rattle.tsn_types.specs.declared.refusals.Field.TheVariants.{Key as KeyField}
 use Rattle.tsn_types.specs.declared.refusals.Refusal.{Refusal}
 use Rattle.tsn_types.specs.declared.refusals.Refusal.TheVariants.{Shape, Range, Missing, Exists, Dangling, Referred}
+use Rattle.tsn_types.specs.InRange.{RecordInRange}
 use Rattle.tsn_types.specs.Keys.{has, refs}
 use Rattle.tsn_types.specs.Limits.{unless, first_cause, holds_key, out_of_limits}
 use Rattle.tsn_edit.specs.declared.Edit.{Edit}
@@ -67,3 +68,9 @@ abbrev pub change_of : Configuration → Edit → Change
 change_of c (Create k r) = record { key = k; before = get c k; after = Some r }
 change_of c (Replace k r) = record { key = k; before = get c k; after = Some r }
 change_of c (Remove k) = record { key = k; before = get c k; after = None }
+
+-- the numbers of the edit's record are in their ranges
+abbrev pub EditInRange : Edit → Type 0
+EditInRange (Create k r) = RecordInRange r
+EditInRange (Replace k r) = RecordInRange r
+EditInRange (Remove k) = Unit {0}

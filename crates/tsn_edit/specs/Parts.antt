@@ -15,9 +15,9 @@ abbrev pub parts : Change → List Part
 parts e = e ∷ []
 
 -- a part with its values swapped
-abbrev pub turned : Part → Part
-turned p = record { key = p.key; before = p.after; after = p.before }
+abbrev pub inverse_part : Part → Part
+inverse_part p = record { key = p.key; before = p.after; after = p.before }
 
 -- the inverse swaps the values before and after
 abbrev pub inverse : Change → Change
-inverse e = turned e
+inverse e = inverse_part e

@@ -3,14 +3,14 @@ use Rattle.std.specs.Prelude.{List, [], ◌∷◌}
 use Rattle.tsn_types.specs.declared.limits.Limits.{Limits}
 use Rattle.tsn_edit.specs.Parts.{Change}
 use Rattle.tsn_edit.specs.Configuration.{Configuration}
-use Rattle.tsn_edit.specs.Changes.{changed, Fits}
+use Rattle.tsn_edit.specs.Changes.{after_change, Fits}
 
 -- the changes applied from left to right
 abbrev pub run : Configuration → List Change → Configuration
 run c [] = c
-run c (e ∷ es) = run (changed c e) es
+run c (e ∷ es) = run (after_change c e) es
 
 -- a run is good where each change fits the map in which it stands
 abbrev pub IsGood : Limits → Configuration → List Change → Type 0
 IsGood l c [] = Unit {0}
-IsGood l c (e ∷ es) = Fits l c e × IsGood l (changed c e) es
+IsGood l c (e ∷ es) = Fits l c e × IsGood l (after_change c e) es

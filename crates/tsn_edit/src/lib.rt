@@ -8,6 +8,7 @@
 ghost use Rattle.std.specs.Prelude.{◌≡◌, ◌↔◌, IfOk, IsTrue};
 ghost use Rattle.std.specs.Option.{option_copied};
 ghost use Rattle.tsn_edit.specs.Changes.{conflicts};
+ghost use Rattle.tsn_edit.specs.Edits.{EditInRange};
 ghost use Rattle.tsn_edit.specs.Parts.{inverse};
 ghost use Rattle.tsn_types.specs.Keys.{has, refs_of, same_key};
 
@@ -21,6 +22,19 @@ pub enum Edit {
     Create(Key, Record),
     Replace(Key, Record),
     Remove(Key),
+}
+
+impl Edit {
+    /// The numbers of the edit's record are in their ranges, by their types. It does nothing as the program runs.
+    pub fn tell_ranges(&self)
+        ensures { EditInRange self.now }
+    {
+        match self {
+            Edit::Create(_, value) => value.tell_ranges(),
+            Edit::Replace(_, value) => value.tell_ranges(),
+            Edit::Remove(_) => {}
+        }
+    }
 }
 
 /// A key with its value before and its value after.
@@ -58,6 +72,7 @@ impl Change {
 /// Whether a later change conflicts with an earlier one: they are on the same key, or the later one's value after
 /// refers to the earlier one's key, or the later one's key is referred to by the earlier one's value before. It takes
 /// no memory.
+#[tactic(auto, using(crate::proofs::Conflicting::conflicts_is))]
 pub fn conflicts(later: &Change, earlier: &Change) -> bool
     ensures { result ≡ conflicts later.now earlier.now }
 {
@@ -81,14 +96,8 @@ fn refers_to(value: &Option<Record>, key: &Key) -> bool
     ensures { result ≡ has (refs_of value.now) key.now }
 {
     match value {
-        Some(Record::Filter(filter)) => {
-            *key == Key::Gate(filter.gate)
-                || match filter.meter {
-                    Some(meter) => *key == Key::Meter(meter),
-                    None => false,
-                }
-        }
-        _ => false,
+        Some(whole) => whole.refers_to(key),
+        None => false,
     }
 }
 

@@ -1,4 +1,4 @@
-use crate::{Change, conflicts};
+use crate::{Change, Edit, conflicts};
 use std::alloc::Global;
 use std::test::Fail;
 use tsn_types::keys::Key;
@@ -21,30 +21,15 @@ fn meter(committed_burst: u64) -> Result<Record, Range> {
     }))
 }
 
-#[test]
-fn an_inverse_swaps_the_values(rt: HostRuntime) -> Result<(), Fail> {
-    let change = Change {
-        key: Key::Meter(MeterId::new(2)?),
-        before: Some(meter(1500)?),
-        after: None,
-    };
-    let copy = change.try_clone()?;
-    let back = change.inverse();
-    assert_eq!(rt; back.key, copy.key);
-    assert!(rt; back.before.is_none());
-    assert!(rt; back.after == Some(meter(1500)?));
-    assert!(rt; copy.before == Some(meter(1500)?));
-    assert!(rt; copy.after.is_none());
-    Ok(())
-}
-
-/// A port whose gates are all open, and whose list has one entry.
-fn port(alloc: Global, gates: u8) -> Result<Record, Fail> {
+/// A port whose gates are all open, and whose list has this many entries.
+fn port(alloc: Global, gates: u8, length: usize) -> Result<Record, Fail> {
     let mut list = ControlList::new(alloc);
-    list.push(PortEntry {
-        gates,
-        interval: Interval::new(300)?,
-    })?;
+    for _ in 0..length {
+        list.push(PortEntry {
+            gates,
+            interval: Interval::new(300)?,
+        })?;
+    }
     Ok(Record::Port(PortGates {
         gates: 255,
         admin: Schedule {
@@ -54,20 +39,6 @@ fn port(alloc: Global, gates: u8) -> Result<Record, Fail> {
             base: Instant::new(0)?,
         },
     }))
-}
-
-#[test]
-fn a_copy_has_the_key_and_both_values(rt: HostRuntime) -> Result<(), Fail> {
-    let change = Change {
-        key: Key::Port(PortId::new(2)?),
-        before: Some(port(rt.alloc(), 1)?),
-        after: Some(port(rt.alloc(), 128)?),
-    };
-    let copy = change.try_clone()?;
-    assert_eq!(rt; copy.key, Key::Port(PortId::new(2)?));
-    assert!(rt; copy.before == Some(port(rt.alloc(), 1)?));
-    assert!(rt; copy.after == Some(port(rt.alloc(), 128)?));
-    Ok(())
 }
 
 /// Filter 3 on gate 1 and meter 5, changed from gate 0 and meter 4.
@@ -100,6 +71,37 @@ fn removed(key: Key) -> Change {
 }
 
 #[test]
+fn an_inverse_swaps_the_values(rt: HostRuntime) -> Result<(), Fail> {
+    let change = Change {
+        key: Key::Meter(MeterId::new(2)?),
+        before: Some(meter(1500)?),
+        after: None,
+    };
+    let copy = change.try_clone()?;
+    let back = change.inverse();
+    assert_eq!(rt; back.key, copy.key);
+    assert!(rt; back.before.is_none());
+    assert!(rt; back.after == Some(meter(1500)?));
+    assert!(rt; copy.before == Some(meter(1500)?));
+    assert!(rt; copy.after.is_none());
+    Ok(())
+}
+
+#[test]
+fn a_copy_has_the_key_and_both_values(rt: HostRuntime) -> Result<(), Fail> {
+    let change = Change {
+        key: Key::Port(PortId::new(2)?),
+        before: Some(port(rt.alloc(), 1, 1_024)?),
+        after: Some(port(rt.alloc(), 128, 1)?),
+    };
+    let copy = change.try_clone()?;
+    assert_eq!(rt; copy.key, Key::Port(PortId::new(2)?));
+    assert!(rt; copy.before == Some(port(rt.alloc(), 1, 1_024)?));
+    assert!(rt; copy.after == Some(port(rt.alloc(), 128, 1)?));
+    Ok(())
+}
+
+#[test]
 fn a_later_change_conflicts_by_key_or_reference(rt: HostRuntime) -> Result<(), Fail> {
     let moved = moved_filter()?;
     let old_gate = removed(Key::Gate(GateId::new(0)?));
@@ -124,5 +126,13 @@ fn a_later_change_conflicts_by_key_or_reference(rt: HostRuntime) -> Result<(), F
             "{later:?} after {earlier:?}"
         );
     }
+    Ok(())
+}
+
+#[test]
+fn ranges_are_told_of_an_edit(rt: HostRuntime) -> Result<(), Fail> {
+    let edit = Edit::Replace(Key::Meter(MeterId::new(2)?), meter(1500)?);
+    edit.tell_ranges();
+    assert!(rt; matches!(&edit, Edit::Replace(_, _)));
     Ok(())
 }

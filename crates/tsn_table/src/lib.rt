@@ -4,15 +4,14 @@
 //! the number of rows that it still has room for. It relies on the standard library alone.
 #![tactic(auto)]
 
-ghost use Rattle.std.specs.Prelude.{◌≡◌, ℕ, Bool, ◌+◌, ◌<◌, ◌≤◌, ◌⊎◌, IsOk, IsSome, IsTrue, IfOk, OnOk, OnErr, MatchOption, MatchResult};
+ghost use Rattle.std.specs.Prelude.{◌≡◌, ℕ, Bool, ◌+◌, ◌<◌, ◌≤◌, ◌⊎◌, IsOk, IsSome, IsTrue, IfOk, OnOk, OnErr, MatchOption, MatchResult, map as keys_of};
 ghost use Rattle.std.specs.Ordering.{nat_cmp};
 ghost use Rattle.std.specs.Option.{option_copied};
 ghost use Rattle.std.specs.FinMap as map;
-ghost use Rattle.std.specs.Prelude.{map as keys_of};
 ghost use Rattle.std.specs.List.{insert};
 ghost use Rattle.std.specs.Vec.{vec_len, vec_capacity};
 ghost use Rattle.tsn_table.specs.Places.{IsRowAt, IsGap};
-ghost use Rattle.tsn_table.specs.Firsts.{Answers, first_id};
+ghost use Rattle.tsn_table.specs.Firsts.{AnswersAs, first_id};
 ghost use Rattle.tsn_table.specs.Copies.{Copies};
 
 use std::alloc::{AllocError, Global};
@@ -34,11 +33,11 @@ impl<R> Model for Table<R> {
     ghost use Rattle.std.specs.Vec.{vec_len, vec_capacity};
     ghost use Rattle.std.specs.Ordering.{nat_cmp};
     ghost use Rattle.std.specs.FinMap.{from_sorted, is_sorted};
-    ghost use Rattle.tsn_table.specs.Rows.{Rows, rows_code};
+    ghost use Rattle.tsn_table.specs.View.{TableView, table_code};
 
-    ghost Value = { Rows R };
+    ghost Value = { TableView R };
 
-    ghost coded = { rows_code R.code };
+    ghost coded = { table_code R.code };
 
     ghost view = { λ a. record { map = from_sorted a.rows.items; spare = vec_capacity a.rows - vec_len a.rows } };
 
@@ -70,7 +69,7 @@ impl<R: Drop> Table<R> {
     /// The least number whose row passes the test, none where no row passes it.
     pub fn first_where<F: Fn(&R) -> bool + Drop>(&self, test: F) -> Option<u64>
         requires { F.IsAlwaysCallable test }
-        ensures { (p : R → Bool) → Answers F.Fn p test → result ≡ first_id p (map.entries self.now.map) }
+        ensures { (p : R → Bool) → AnswersAs F.Fn p test → result ≡ first_id p (map.entries self.now.map) }
     {
         first_of(&self.rows, &test)
     }
@@ -151,7 +150,7 @@ impl<R: Drop> Table<R> {
 // The number of the first row that passes the test.
 fn first_of<R, F: Fn(&R) -> bool>(rows: &[(u64, R)], test: &F) -> Option<u64>
     requires { F.IsAlwaysCallable test.now }
-    ensures { (p : R → Bool) → Answers F.Fn p test.now → result ≡ first_id p rows.now }
+    ensures { (p : R → Bool) → AnswersAs F.Fn p test.now → result ≡ first_id p rows.now }
 {
     for row in rows {
         if test(&row.1) {

@@ -40,6 +40,7 @@ fn numbers_come_ascending(rt: HostRuntime) -> Result<(), Fail> {
 #[test]
 fn finds_the_least_number(rt: HostRuntime) -> Result<(), Fail> {
     let table = three_rows(rt.alloc())?;
+    assert_eq!(rt; table.first_where(|row| *row > 0), Some(1));
     assert_eq!(rt; table.first_where(|row| *row > 10), Some(4));
     assert_eq!(rt; table.first_where(|row| *row > 60), None);
     Ok(())
@@ -76,11 +77,46 @@ fn takes_a_row_out(rt: HostRuntime) -> Result<(), Fail> {
     Ok(())
 }
 
+// The rows behind the first one move up in their order.
+#[test]
+fn taking_the_first_row_keeps_the_order(rt: HostRuntime) -> Result<(), Fail> {
+    let mut table = three_rows(rt.alloc())?;
+    assert_eq!(rt; table.take(1), Some(10));
+    assert_eq!(rt; table.ids(rt.alloc())?.as_slice(), [4, 6].as_slice());
+    assert_eq!(rt; table.get(4).copied(), Some(40));
+    assert_eq!(rt; table.get(6).copied(), Some(60));
+    Ok(())
+}
+
 #[test]
 fn copies_every_row(rt: HostRuntime) -> Result<(), Fail> {
     let table = three_rows(rt.alloc())?;
     let copy = table.copy(|row| Ok(*row))?;
     assert_eq!(rt; copy.ids(rt.alloc())?.as_slice(), [1, 4, 6].as_slice());
     assert_eq!(rt; copy.get(4).copied(), Some(40));
+    Ok(())
+}
+
+// As many rows as the largest table of a bridge has.
+#[test]
+fn the_largest_table_is_listed_and_copied(rt: HostRuntime) -> Result<(), Fail> {
+    let mut table = Table::new(rt.alloc());
+    table.reserve(10_000)?;
+    for count in 0..10_000 {
+        let _ = table.put(count, 65_535 - count);
+    }
+    table.reserve(55_536)?;
+    for count in 10_000..65_536 {
+        let _ = table.put(count, 65_535 - count);
+    }
+    let ids = table.copy(|row| Ok(*row))?.ids(rt.alloc())?;
+    assert_eq!(rt; ids.len(), 65_536);
+    let mut wanted = 0;
+    for id in &ids {
+        assert_eq!(rt; *id, wanted);
+        wanted += 1;
+    }
+    assert_eq!(rt; table.get(0).copied(), Some(65_535));
+    assert_eq!(rt; table.get(65_535).copied(), Some(0));
     Ok(())
 }

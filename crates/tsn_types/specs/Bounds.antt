@@ -1,5 +1,6 @@
 -- The limits of a configuration: the number of ports, the sizes of three tables, the length of a list.
-use Rattle.std.specs.Prelude.{ℕ, ◌≤◌}
+use Rattle.std.specs.Prelude.{ℕ}
+use Rattle.tsn_types.specs.Numbers.{Within, most_ports}
 
 pub record Bounds : Type 0 where
   pub ports : ℕ
@@ -8,10 +9,14 @@ pub record Bounds : Type 0 where
   pub meters : ℕ
   pub list : ℕ
 
--- from 1 to the most
-abbrev pub IsCount : ℕ → ℕ → Type 0
-IsCount most n = (1 ≤ n) × (n ≤ most)
+-- the instances in a table
+abbrev pub most_instances : ℕ
+most_instances = 65536
 
--- at most 64 ports, 65,536 instances in a table and 1,024 entries in a list
+-- the entries of a gate control list (SupportedListMax)
+abbrev pub longest_list : ℕ
+longest_list = 1024
+
+-- each limit is from 1 to the most that there may be
 abbrev pub AreInRange : Bounds → Type 0
-AreInRange l = IsCount 64 l.ports × (IsCount 65536 l.filters × (IsCount 65536 l.gates × (IsCount 65536 l.meters × IsCount 1024 l.list)))
+AreInRange l = Within 1 most_ports l.ports × (Within 1 most_instances l.filters × (Within 1 most_instances l.gates × (Within 1 most_instances l.meters × Within 1 longest_list l.list)))

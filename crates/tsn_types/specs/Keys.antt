@@ -66,5 +66,5 @@ refs_of None = []
 refs_of (Some r) = refs r
 
 -- the keys in an answer of `Record::refs`, the first one first
-abbrev pub listed : Refs → List Key
-listed r = option_to_list r.first ++ option_to_list r.second
+abbrev pub keys_of_refs : Refs → List Key
+keys_of_refs r = option_to_list r.first ++ option_to_list r.second

@@ -1,5 +1,7 @@
 pub mod Bounds
+pub mod InRange
 pub mod Keys
+pub mod Lent
 pub mod Limits
+pub mod Numbers
 pub mod Refusals
-pub mod Whole

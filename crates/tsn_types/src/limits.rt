@@ -2,13 +2,21 @@
 //!
 //! Limits are tested before anything else that depends on the configuration. None of these calls takes memory.
 ghost use Rattle.std.specs.Prelude.{◌≡◌, ◌≤◌, ◌↔◌, IsOk, IfOk, IsTrue};
+ghost use Rattle.tsn_types.specs.Bounds.{AreInRange};
 ghost use Rattle.tsn_types.specs.Limits.{holds_key, lists_within, out_of_limits};
 
 use crate::keys::Key;
 use crate::numbers::Range;
+use crate::numbers::identifiers::MOST_PORTS;
 use crate::records::Record;
 use crate::refusals::{Field, Refusal};
 use std::marker::Model;
+
+/// The most instances that a table may have.
+pub const MOST_INSTANCES: u64 = 65_536;
+
+/// The most entries that a gate control list may have.
+pub const LONGEST_LIST: u64 = 1_024;
 
 /// The number of ports (1 to 64), the sizes of the stream filter, stream gate and flow meter tables (1 to 65,536 each,
 /// 802.1Q-2018, 12.31.1) and the greatest length of a gate control list (SupportedListMax, 1 to 1,024).
@@ -22,7 +30,7 @@ pub struct Limits {
 }
 
 impl Model for Limits {
-    ghost use Rattle.tsn_types.specs.Bounds.{Bounds, AreInRange};
+    ghost use Rattle.tsn_types.specs.Bounds.{AreInRange, Bounds};
 
     ghost Value = { Bounds };
 
@@ -32,8 +40,6 @@ impl Model for Limits {
 
     ghost invariant = { λ a. AreInRange (record { ports = a.ports; filters = a.filters; gates = a.gates; meters = a.meters; list = a.list }) };
 }
-
-ghost use Rattle.tsn_types.specs.Bounds.{AreInRange};
 
 impl Limits {
     /// The limits, refused where one is outside its range.
@@ -47,14 +53,14 @@ impl Limits {
         ensures in_range { IsOk result ↔ AreInRange (record { ports = ports; filters = filters; gates = gates; meters = meters; list = list }) }
         ensures same { IfOk result (λ l. l ≡ record { ports = ports; filters = filters; gates = gates; meters = meters; list = list }) }
     {
-        let is_id = |n: u64| 1 <= n && n <= 65_536;
+        let is_size = |n: u64| 1 <= n && n <= MOST_INSTANCES;
         if 1 <= ports
-            && ports <= 64
-            && is_id(filters)
-            && is_id(gates)
-            && is_id(meters)
+            && ports <= MOST_PORTS
+            && is_size(filters)
+            && is_size(gates)
+            && is_size(meters)
             && 1 <= list
-            && list <= 1_024
+            && list <= LONGEST_LIST
         {
             Ok(Limits {
                 ports,

@@ -91,3 +91,6 @@ impl<E: PartialEq> PartialEq for ControlList<E> {
         self.entries == other.entries
     }
 }
+
+#[cfg(test)]
+mod tests;

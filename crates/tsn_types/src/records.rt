@@ -2,8 +2,9 @@
 //!
 //! A record is created, replaced and removed as one. Only `try_clone` takes memory; what it gives equals its source.
 ghost use Rattle.std.specs.Prelude.{◌≡◌, ◌↔◌, IfOk, IsTrue};
-ghost use Rattle.tsn_types.specs.Keys.{refs, listed};
-ghost use Rattle.tsn_types.specs.Whole.{whole};
+ghost use Rattle.tsn_types.specs.Keys.{has, keys_of_refs, refs};
+ghost use Rattle.tsn_types.specs.Lent.{lent_record};
+ghost use Rattle.tsn_types.specs.declared.records.Record.TheVariants.{Filter as FilterRecord};
 
 use crate::keys::Key;
 use crate::lists::ControlList;
@@ -119,6 +120,21 @@ pub struct StreamFilter {
     pub oversize: bool,
 }
 
+impl StreamFilter {
+    /// Whether the filter refers to the key: its gate or, if given, its meter.
+    pub fn refers_to(&self, key: &Key) -> bool
+        ensures { result ≡ has (refs (FilterRecord self.now)) key.now }
+    {
+        if *key == Key::Gate(self.gate) {
+            return true;
+        }
+        match self.meter {
+            Some(meter) => *key == Key::Meter(meter),
+            None => false,
+        }
+    }
+}
+
 /// A flow meter instance (802.1Q-2018, 12.31.4).
 #[derive(Clone, Copy, Debug, PartialEq, Eq)]
 pub struct FlowMeter {
@@ -159,7 +175,7 @@ pub struct Refs {
 impl Record {
     /// What the record refers to: a filter to its gate and, if given, its meter; any other record to nothing.
     pub fn refs(&self) -> Refs
-        ensures { listed result ≡ refs self.now }
+        ensures { keys_of_refs result ≡ refs self.now }
     {
         match self {
             Record::Filter(filter) => Refs {
@@ -185,11 +201,14 @@ impl Record {
         })
     }
 
-    /// Whether the records are equal, every member of them.
-    pub fn is_same(&self, other: &Record) -> bool
-        ensures { IsTrue result ↔ (self.now ≡ other.now) }
+    /// Whether the record refers to the key.
+    pub fn refers_to(&self, key: &Key) -> bool
+        ensures { result ≡ has (refs self.now) key.now }
     {
-        self == other
+        match self {
+            Record::Filter(filter) => filter.refers_to(key),
+            _ => false,
+        }
     }
 }
 
@@ -205,7 +224,7 @@ pub enum RecordRef<'a> {
 impl RecordRef<'_> {
     /// A record that equals the one that is lent.
     pub fn try_clone(self) -> Result<Record, AllocError>
-        ensures { IfOk result (λ copy. copy ≡ whole self.entry) }
+        ensures { IfOk result (λ copy. copy ≡ lent_record self.entry) }
     {
         Ok(match self {
             RecordRef::Port(ports) => Record::Port(ports.try_clone()?),
@@ -217,7 +236,7 @@ impl RecordRef<'_> {
 
     /// Whether it is the record, every member of it.
     pub fn is(self, other: &Record) -> bool
-        ensures { IsTrue result ↔ (whole self.entry ≡ other.now) }
+        ensures { IsTrue result ↔ (lent_record self.entry ≡ other.now) }
     {
         match (self, other) {
             (RecordRef::Port(left), Record::Port(right)) => left == right,

@@ -1,88 +1,19 @@
 //! The calls of the types on numbers of the worked examples.
 
-use crate::keys::{Key, Kind};
+mod literals;
+
+use crate::keys::Kind;
 use crate::limits::Limits;
-use crate::lists::ControlList;
 use crate::numbers::{
     BitRate, Cycle, Extension, FilterId, GateId, Handle, Instant, Interval, MaxSdu, MeterId,
     Octets, PortId, Priority, Range,
 };
-use crate::records::{
-    FlowMeter, GateEntry, PortEntry, PortGates, Record, RecordRef, Refs, Schedule, StreamFilter,
-    StreamGate,
-};
+use crate::records::{Record, RecordRef, Refs, StreamFilter, StreamGate};
 use crate::refusals::{Field, Refusal};
-use std::alloc::{AllocError, AllocFailed, Global};
+use literals::{filter, filter_key, gate, gate_key, meter, meter_key, port, port_key};
+use std::alloc::{AllocError, AllocFailed};
 use std::cmp::Ordering;
 use std::test::Fail;
-
-fn filter() -> StreamFilter {
-    StreamFilter {
-        handle: Some(Handle::new(7).unwrap()),
-        priority: None,
-        gate: GateId::new(9).unwrap(),
-        max_sdu: Some(MaxSdu::new(1500).unwrap()),
-        meter: Some(MeterId::new(5).unwrap()),
-        oversize: true,
-    }
-}
-
-fn meter() -> FlowMeter {
-    FlowMeter {
-        cir: BitRate::new(8_000_000).unwrap(),
-        cbs: Octets::new(1500).unwrap(),
-        eir: BitRate::new(0).unwrap(),
-        ebs: Octets::new(0).unwrap(),
-        cf: false,
-        aware: false,
-        drop_yellow: false,
-        all_red: false,
-    }
-}
-
-fn schedule<E: Drop>(list: ControlList<E>) -> Schedule<E> {
-    Schedule {
-        list,
-        cycle: Cycle::new(1000).unwrap(),
-        extension: Extension::new(0).unwrap(),
-        base: Instant::new(0).unwrap(),
-    }
-}
-
-/// A port with gates 1 for 300 and then 128 for 700 nanoseconds.
-fn port(alloc: Global) -> Result<PortGates, AllocError> {
-    let mut list = ControlList::new(alloc);
-    list.push(PortEntry {
-        gates: 1,
-        interval: Interval::new(300).unwrap(),
-    })?;
-    list.push(PortEntry {
-        gates: 128,
-        interval: Interval::new(700).unwrap(),
-    })?;
-    Ok(PortGates {
-        gates: 255,
-        admin: schedule(list),
-    })
-}
-
-/// A gate that is open for 1,000 nanoseconds at internal priority 5 and for at most 150 octets.
-fn gate(alloc: Global) -> Result<StreamGate, AllocError> {
-    let mut list = ControlList::new(alloc);
-    list.push(GateEntry {
-        is_open: true,
-        ipv: Some(Priority::new(5).unwrap()),
-        interval: Interval::new(1000).unwrap(),
-        octets: Some(Octets::new(150).unwrap()),
-    })?;
-    Ok(StreamGate {
-        is_open: true,
-        ipv: None,
-        invalid_rx: true,
-        octets_exceeded: false,
-        admin: schedule(list),
-    })
-}
 
 #[test]
 fn ports_and_priorities_keep_their_ranges(rt: HostRuntime) {
@@ -197,22 +128,6 @@ fn instants_and_cycles_keep_their_ranges(rt: HostRuntime) {
     }
 }
 
-fn port_key(number: u64) -> Result<Key, Range> {
-    Ok(Key::Port(PortId::new(number)?))
-}
-
-fn filter_key(number: u64) -> Result<Key, Range> {
-    Ok(Key::Filter(FilterId::new(number)?))
-}
-
-fn gate_key(number: u64) -> Result<Key, Range> {
-    Ok(Key::Gate(GateId::new(number)?))
-}
-
-fn meter_key(number: u64) -> Result<Key, Range> {
-    Ok(Key::Meter(MeterId::new(number)?))
-}
-
 #[test]
 fn a_key_tells_its_kind(rt: HostRuntime) -> Result<(), Fail> {
     assert_eq!(rt; port_key(1)?.kind(), Kind::Port);
@@ -239,35 +154,6 @@ fn keys_are_ordered_by_kind_and_then_by_number(rt: HostRuntime) -> Result<(), Fa
 }
 
 #[test]
-fn a_list_grows_at_its_end(rt: HostRuntime) -> Result<(), Fail> {
-    let mut list = ControlList::new(rt.alloc());
-    assert!(rt; list.is_empty());
-    assert_eq!(rt; list.len(), 0);
-    list.push(300)?;
-    list.push(700)?;
-    assert!(rt; !list.is_empty());
-    assert_eq!(rt; list.len(), 2);
-    assert_eq!(rt; list.get(0).copied(), Some(300));
-    assert_eq!(rt; list.get(1).copied(), Some(700));
-    assert_eq!(rt; list.get(2).copied(), None);
-    assert_eq!(rt; list.as_slice(), [300, 700].as_slice());
-    Ok(())
-}
-
-#[test]
-fn lists_are_equal_where_their_entries_are(rt: HostRuntime) -> Result<(), Fail> {
-    let list = port(rt.alloc())?.admin.list;
-    let mut other = list.try_clone()?;
-    assert!(rt; other == list);
-    other.push(PortEntry {
-        gates: 0,
-        interval: Interval::new(1).unwrap(),
-    })?;
-    assert!(rt; other != list);
-    Ok(())
-}
-
-#[test]
 fn copies_are_equal(rt: HostRuntime) -> Result<(), Fail> {
     let port = port(rt.alloc())?;
     assert!(rt; port.admin.try_clone()? == port.admin);
@@ -281,7 +167,7 @@ fn copies_are_equal(rt: HostRuntime) -> Result<(), Fail> {
         Record::Gate(gate),
         Record::Meter(meter()),
     ] {
-        assert!(rt; record.try_clone()?.is_same(&record), "{record:?}");
+        assert!(rt; record.try_clone()? == record, "{record:?}");
     }
     Ok(())
 }
@@ -293,9 +179,9 @@ fn records_differ_by_kind_and_by_member(rt: HostRuntime) {
         meter: None,
         ..filter()
     });
-    assert!(rt; kept.is_same(&Record::Filter(filter())));
-    assert!(rt; !kept.is_same(&unmetered));
-    assert!(rt; !kept.is_same(&Record::Meter(meter())));
+    assert!(rt; kept == Record::Filter(filter()));
+    assert!(rt; kept != unmetered);
+    assert!(rt; kept != Record::Meter(meter()));
 }
 
 #[test]
@@ -336,7 +222,28 @@ fn a_filter_refers_to_its_gate_and_meter(rt: HostRuntime) -> Result<(), Fail> {
         (Record::Meter(meter()), None, None),
     ] {
         assert_eq!(rt; record.refs(), Refs { first, second }, "{record:?}");
+        for key in [
+            port_key(5)?,
+            filter_key(9)?,
+            gate_key(9)?,
+            gate_key(5)?,
+            meter_key(5)?,
+        ] {
+            let wanted = first == Some(key) || second == Some(key);
+            assert_eq!(rt; record.refers_to(&key), wanted, "{record:?} {key:?}");
+        }
     }
+    Ok(())
+}
+
+#[test]
+fn ranges_are_told_of_every_record(rt: HostRuntime) -> Result<(), Fail> {
+    let port = Record::Port(port(rt.alloc())?);
+    port.tell_ranges();
+    Record::Filter(filter()).tell_ranges();
+    Record::Gate(gate(rt.alloc())?).tell_ranges();
+    Record::Meter(meter()).tell_ranges();
+    assert!(rt; port.try_clone()? == port);
     Ok(())
 }
 

@@ -6,7 +6,7 @@ use Rattle.tsn_edit.specs.Parts.{Change}
 use Rattle.tsn_types.specs.declared.limits.Limits.{Limits}
 use Rattle.tsn_undo.specs.declared.entries.Entry.{Entry}
 use Rattle.tsn_edit.specs.Configuration.{Configuration}
-use Rattle.tsn_edit.specs.Changes.{changed, Fits}
+use Rattle.tsn_edit.specs.Changes.{after_change, Fits}
 use Rattle.tsn_edit.specs.Runs.{run, IsGood}
 use Rattle.tsn_undo.specs.Entries.{Applied, changes, applied_at, collect, adds, applies, takes_back, is_undone, standing, configuration}
 use Rattle.tsn_undo.specs.Soundness.{IsSound}
@@ -53,7 +53,7 @@ module _ (l : Limits) (opening : Configuration) (es : List Entry) (w : Entry) (s
         kept = sound.kept;
         replays = subst (IsGood l opening) (sym log) (good-append l opening (changes (collect applies 1 es)) (e ∷ []) sound.replays (fits, tt));
         good = subst (IsGood l opening) (sym stands) (good-append l opening (changes (standing es)) (e ∷ []) sound.good (subst (λ (m : Configuration). Fits l m e) (sym sound.same) fits, tt));
-        same = ap (run opening) stands ∙ run-append opening (changes (standing es)) (e ∷ []) ∙ ap (λ (m : Configuration). changed m e) sound.same
+        same = ap (run opening) stands ∙ run-append opening (changes (standing es)) (e ∷ []) ∙ ap (λ (m : Configuration). after_change m e) sound.same
             ∙ sym (run-append opening (changes (collect applies 1 es)) (e ∷ [])) ∙ sym (ap (run opening) log);
         named = still_named;
       }

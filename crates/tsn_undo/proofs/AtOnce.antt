@@ -7,9 +7,9 @@ use Rattle.tsn_types.specs.declared.refusals.Refusal.TheVariants.{Conflict}
 use Rattle.tsn_edit.specs.declared.Edit.{Edit}
 use Rattle.tsn_edit.specs.Parts.{Change, inverse}
 use Rattle.tsn_edit.specs.Configuration.{Configuration, IsWellKept}
-use Rattle.tsn_edit.specs.Changes.{changed, conflicts, Fits}
+use Rattle.tsn_edit.specs.Changes.{after_change, conflicts, Fits}
 use Rattle.tsn_edit.specs.Runs.{run}
-use Rattle.tsn_edit.specs.Edits.{change_of}
+use Rattle.tsn_edit.specs.Edits.{EditInRange, change_of}
 use Rattle.tsn_edit.proofs.Inverses.{run-append, end_kept, taken_back}
 use Rattle.tsn_config.proofs.Edits.{edit_fits}
 use Rattle.tsn_undo.specs.declared.entries.Entry.{Entry}
@@ -23,7 +23,7 @@ use Rattle.tsn_undo.proofs.Numbers.{Rises, later_than_rest, rises_standing}
 use Rattle.tsn_undo.proofs.Rewinding.{applied_push, admitted_now}
 
 -- an entry more applies its change
-configuration_push : (opening : Configuration) (es : List Entry) (w : Entry) (e : Change) → applies w.what ≡ Some e → configuration opening (es ++ w ∷ []) ≡ changed (configuration opening es) e
+configuration_push : (opening : Configuration) (es : List Entry) (w : Entry) (e : Change) → applies w.what ≡ Some e → configuration opening (es ++ w ∷ []) ≡ after_change (configuration opening es) e
 configuration_push opening es w e apply = ap (run opening) (applied_push es w e apply) ∙ run-append opening (changes (collect applies 1 es)) (e ∷ [])
 
 -- the change that an edit of the session has just applied
@@ -61,21 +61,21 @@ module _ (before edited : Ledger) (session : ℕ) (edit : Edit) (entry : ℕ) (s
       ap (λ o. option_or (undo_cause edited.entries o) (full edited)) newest_made
       ∙ ap (λ o. option_or (option_map (λ f. Conflict (newest_of before session edit).number f.number) o) (full edited)) no_conflict
 
-pub undone_at_once : (before edited after : Ledger) (session : ℕ) (edit : Edit) (entry number of : ℕ) → IsSound before.limits before.opening before.entries → Edits before session edit entry edited → TakesBack edited session number of after
+pub undone_at_once : (before edited after : Ledger) (session : ℕ) (edit : Edit) (entry number of : ℕ) → EditInRange edit → IsSound before.limits before.opening before.entries → Edits before session edit entry edited → TakesBack edited session number of after
     → (of ≡ entry) × (present after ≡ present before)
-undone_at_once before edited after session edit entry number of sound made' back =
+undone_at_once before edited after session edit entry number of ranges sound made' back =
     let es = before.entries in
     let e = change_of (present before) edit in
     let w = made session e in
     let newest = newest_of before session edit in
     let kept : IsWellKept before.limits (present before) = end_kept before.limits before.opening (changes (collect applies 1 es)) sound.kept sound.replays in
-    let fits : Fits before.limits (present before) e = edit_fits before.limits (present before) kept edit (admitted_now before edit made'.admitted).0 in
+    let fits : Fits before.limits (present before) e = edit_fits before.limits (present before) kept edit ranges (admitted_now before edit made'.admitted).0 in
     let found : Some newest ≡ Some back.newest = sym (newest_made before edited session edit entry sound made') ∙ back.newest_is in
     let is : newest ≡ back.newest = (cc) in
     let now : after ≡ with_entry (with_entry before w) (undone newest) = back.after ∙ (λ i. with_entry (made'.after i) (undone (sym is i))) in (
       back.of_is ∙ ap (λ (x : Applied). x.number) (sym is) ∙ (let n : 1 + length es ≡ length es + 1 = omega arith in n) ∙ sym made'.number_is,
       ap present now
           ∙ configuration_push before.opening (es ++ w ∷ []) (undone newest) (inverse e) refl
-          ∙ ap (λ (m : Configuration). changed m (inverse e)) (configuration_push before.opening es w e refl)
+          ∙ ap (λ (m : Configuration). after_change m (inverse e)) (configuration_push before.opening es w e refl)
           ∙ (taken_back before.limits (present before) e kept fits).same,
     )

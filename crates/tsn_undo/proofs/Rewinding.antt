@@ -4,7 +4,7 @@ use Rattle.tsn_types.specs.declared.limits.Limits.{Limits}
 use Rattle.tsn_edit.specs.Parts.{Change, inverse}
 use Rattle.tsn_undo.specs.declared.entries.Entry.{Entry}
 use Rattle.tsn_edit.specs.Configuration.{Configuration, IsWellKept}
-use Rattle.tsn_edit.specs.Changes.{changed, Fits}
+use Rattle.tsn_edit.specs.Changes.{after_change, Fits}
 use Rattle.tsn_edit.specs.Runs.{run}
 use Rattle.tsn_undo.specs.Entries.{Applied, changes, collect, applies, applied_at, configuration, standing, undone, last_of, find_conflict}
 use Rattle.std.specs.Prelude.{◌==◌}
@@ -35,7 +35,7 @@ use Rattle.tsn_edit.specs.Edits.{refusal}
 
 rewound-append : (c : Configuration) (es fs : List Change) → rewound c (es ++ fs) ≡ rewound (rewound c fs) es
 rewound-append c [] fs = refl
-rewound-append c (e ∷ es) fs = ap (λ (m : Configuration). changed m (inverse e)) (rewound-append c es fs)
+rewound-append c (e ∷ es) fs = ap (λ (m : Configuration). after_change m (inverse e)) (rewound-append c es fs)
 
 pub applied_push : (es : List Entry) (w : Entry) (e : Change) → applies w.what ≡ Some e → changes (collect applies 1 (es ++ w ∷ [])) ≡ changes (collect applies 1 es) ++ e ∷ []
 applied_push es w e apply =
@@ -46,28 +46,28 @@ module _ (l : Limits) (m : Configuration) (es : List Entry) (bs : List Bool) (w 
   kept : IsWellKept l m
   kept = subst (λ (c : Configuration). IsWellKept l c) book.is (end_kept l (opening_of m es) (changes (collect applies 1 es)) (book.sound).kept (book.sound).replays)
 
-  pub same_opening : opening_of (changed m e) (es ++ w ∷ []) ≡ opening_of m es
+  pub same_opening : opening_of (after_change m e) (es ++ w ∷ []) ≡ opening_of m es
   same_opening =
-      ap (rewound (changed m e)) (applied_push es w e apply)
-      ∙ rewound-append (changed m e) (changes (collect applies 1 es)) (e ∷ [])
+      ap (rewound (after_change m e)) (applied_push es w e apply)
+      ∙ rewound-append (after_change m e) (changes (collect applies 1 es)) (e ∷ [])
       ∙ ap (λ (c : Configuration). rewound c (changes (collect applies 1 es))) (taken_back l m e kept fits).same
 
-  pub book_push : IsSound l (opening_of m es) (es ++ w ∷ []) → length es < 65536 → (cs : List Bool) → cs ≡ marks (es ++ w ∷ []) → IsBook l (changed m e) (es ++ w ∷ []) cs
+  pub book_push : IsSound l (opening_of m es) (es ++ w ∷ []) → length es < 65536 → (cs : List Bool) → cs ≡ marks (es ++ w ∷ []) → IsBook l (after_change m e) (es ++ w ∷ []) cs
   book_push sound room cs marked =
       record {
         sound = subst (λ (o : Configuration). IsSound l o (es ++ w ∷ [])) (sym same_opening) sound;
         is = ap (λ (o : Configuration). configuration o (es ++ w ∷ [])) same_opening
             ∙ ap (run (opening_of m es)) (applied_push es w e apply)
             ∙ run-append (opening_of m es) (changes (collect applies 1 es)) (e ∷ [])
-            ∙ ap (λ (c : Configuration). changed c e) book.is;
+            ∙ ap (λ (c : Configuration). after_change c e) book.is;
         few = omega (arith, length-append es (w ∷ []));
         marked = marked;
       }
 
 -- what a change of a book that fits leaves
 pub record IsChanged (l : Limits) (m : Configuration) (es : List Entry) (w : Entry) (e : Change) (cs : List Bool) : Type 0 where
-  pub book : IsBook l (changed m e) (es ++ w ∷ []) cs
-  pub opening : opening_of (changed m e) (es ++ w ∷ []) ≡ opening_of m es
+  pub book : IsBook l (after_change m e) (es ++ w ∷ []) cs
+  pub opening : opening_of (after_change m e) (es ++ w ∷ []) ≡ opening_of m es
 
 unnamed : (l : Limits) (m : Configuration) (es : List Entry) (bs : List Bool) → IsBook l m es bs → is_undone es (1 + length es) ≡ false
 unnamed l m es bs book = by_bool (is_undone es (1 + length es)) (λ h. let bad : 1 + length es ≤ length es = (book.sound).named (1 + length es) h in absurd (omega arith)) (λ h. h)
@@ -100,7 +100,7 @@ undone_from l m es bs s i x book last free room number =
 
 -- a book with one entry more, and what it is seen as
 module _ (l : Limits) (m : Configuration) (es : List Entry) (w : Entry) (e : Change) (cs : List Bool) (is : IsChanged l m es w e cs)
-    (l' : Limits) (m' : Configuration) (es' : List Entry) (cs' : List Bool) (limits : l' ≡ l) (map' : m' ≡ changed m e) (entries : es' ≡ es ++ w ∷ []) (stands : cs' ≡ cs) where
+    (l' : Limits) (m' : Configuration) (es' : List Entry) (cs' : List Bool) (limits : l' ≡ l) (map' : m' ≡ after_change m e) (entries : es' ≡ es ++ w ∷ []) (stands : cs' ≡ cs) where
   pub grown_book : IsBook l' m' es' cs'
   grown_book = subst (λ (t : Limits × Configuration × List Entry × List Bool). IsBook t.0 t.1 t.2 t.3) (λ i. (sym limits i, sym map' i, sym entries i, sym stands i)) is.book
 

@@ -9,7 +9,7 @@ use Rattle.tsn_types.specs.declared.limits.Limits.{Limits}
 use Rattle.tsn_undo.specs.declared.entries.What.{What}
 use Rattle.tsn_undo.specs.declared.entries.Entry.{Entry}
 use Rattle.tsn_edit.specs.Configuration.{Configuration}
-use Rattle.tsn_edit.specs.Changes.{changed, conflicts, Fits}
+use Rattle.tsn_edit.specs.Changes.{after_change, conflicts, Fits}
 use Rattle.tsn_edit.specs.Runs.{run, IsGood}
 use Rattle.tsn_undo.specs.Entries.{Applied, changes, applied_at, collect, adds, applies, is_undone, standing, configuration, later_than, find_conflict, undone}
 use Rattle.tsn_undo.specs.Soundness.{IsSound}
@@ -65,7 +65,7 @@ none_conflicts es x p none =
 
 pub record IsUndoStep (l : Limits) (opening : Configuration) (es : List Entry) (x : Applied) : Type 0 where
   pub fits : Fits l (configuration opening es) (inverse x.change)
-  pub after : configuration opening (es ++ undone x ∷ []) ≡ changed (configuration opening es) (inverse x.change)
+  pub after : configuration opening (es ++ undone x ∷ []) ≡ after_change (configuration opening es) (inverse x.change)
   pub stands : standing (es ++ undone x ∷ []) ≡ filter (λ y. not (x.number == y.number)) (standing es)
   pub sound : IsSound l opening (es ++ undone x ∷ [])
 
@@ -86,7 +86,7 @@ undo_step l opening es x sound p none =
     let fits : Fits l (configuration opening es) (inverse x.change) = subst (λ (m : Configuration). Fits l m (inverse x.change)) now u_is.fits in
     let log : collect applies 1 (es ++ u ∷ []) ≡ collect applies 1 es ++ (record { number = 1 + length es; session = x.session; change = inverse x.change }) ∷ [] = collect_push applies 1 es u in
     let log_changes : changes (collect applies 1 (es ++ u ∷ [])) ≡ changes (collect applies 1 es) ++ inverse x.change ∷ [] = ap changes log ∙ changes-append (collect applies 1 es) _ in
-    let after : configuration opening (es ++ u ∷ []) ≡ changed (configuration opening es) (inverse x.change) = ap (run opening) log_changes ∙ run-append opening (changes (collect applies 1 es)) (inverse x.change ∷ []) in
+    let after : configuration opening (es ++ u ∷ []) ≡ after_change (configuration opening es) (inverse x.change) = ap (run opening) log_changes ∙ run-append opening (changes (collect applies 1 es)) (inverse x.change ∷ []) in
     let stands : standing (es ++ u ∷ []) ≡ filter (λ y. not (x.number == y.number)) (standing es) =
     ap (filter (λ y. not (is_undone (es ++ u ∷ []) y.number))) (collect_push adds 1 es u ∙ append_nil (collect adds 1 es))
     ∙ filter_alike (λ y. not (is_undone (es ++ u ∷ []) y.number)) (λ y. not (is_undone es y.number || (x.number == y.number))) (collect adds 1 es) (λ y. ap not (is_undone_push es u y.number))
@@ -101,7 +101,7 @@ undo_step l opening es x sound p none =
         kept = sound.kept;
         replays = subst (IsGood l opening) (sym log_changes) (good-append l opening (changes (collect applies 1 es)) (inverse x.change ∷ []) sound.replays (fits, tt));
         good = subst (IsGood l opening) (sym rest_is) (good-append l opening (changes p.front) (changes p.rest) front_good u_is.good);
-        same = ap (run opening) rest_is ∙ run-append opening (changes p.front) (changes p.rest) ∙ sym u_is.same ∙ ap (λ (m : Configuration). changed m (inverse x.change)) now ∙ sym after;
+        same = ap (run opening) rest_is ∙ run-append opening (changes p.front) (changes p.rest) ∙ sym u_is.same ∙ ap (λ (m : Configuration). after_change m (inverse x.change)) now ∙ sym after;
         named = λ n h.
             let below : x.number ≤ length es = number_below es x p in
             by_bool (is_undone es n)

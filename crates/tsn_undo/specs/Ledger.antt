@@ -8,7 +8,7 @@ use Rattle.tsn_types.specs.contracts.records.Record as record_row
 use Rattle.tsn_types.specs.declared.limits.Limits.{Limits}
 use Rattle.tsn_edit.specs.Parts.{Change, inverse}
 use Rattle.tsn_edit.specs.Configuration.{Configuration}
-use Rattle.tsn_edit.specs.Changes.{changed}
+use Rattle.tsn_edit.specs.Changes.{after_change}
 use Rattle.tsn_undo.specs.contracts.entries.Entry as entry_row
 use Rattle.tsn_undo.specs.declared.entries.Entry.{Entry}
 use Rattle.tsn_undo.specs.Entries.{changes, collect, applies, configuration}
@@ -27,7 +27,7 @@ ledger_code =
 -- where changes that ended in c began: their inverses, the last one first
 abbrev pub rewound : Configuration → List Change → Configuration
 rewound c [] = c
-rewound c (e ∷ es) = changed (rewound c es) (inverse e)
+rewound c (e ∷ es) = after_change (rewound c es) (inverse e)
 
 abbrev pub opening_of : Configuration → List Entry → Configuration
 opening_of c es = rewound c (changes (collect applies 1 es))

@@ -1,6 +1,6 @@
 //! Looking for a standing entry from the back of the journal.
 ghost use Rattle.std.specs.Prelude.{◌≡◌, Bool, length};
-ghost use Rattle.tsn_table.specs.Firsts.{Answers};
+ghost use Rattle.tsn_table.specs.Firsts.{AnswersAs};
 ghost use Rattle.tsn_undo.specs.Finding.{last_true, passes};
 ghost use Rattle.tsn_undo.specs.declared.entries.Entry.{Entry as AnyEntry};
 
@@ -15,7 +15,7 @@ pub(crate) fn latest<F: Fn(&Entry) -> bool>(
 ) -> Option<usize>
     requires callable { F.IsAlwaysCallable test.now }
     requires marked { length stands.now ≡ length entries.now }
-    ensures { (p : AnyEntry → Bool) → Answers F.Fn p test.now
+    ensures { (p : AnyEntry → Bool) → AnswersAs F.Fn p test.now
         → result ≡ last_true (passes low p 1 entries.now stands.now) }
 {
     let mut place = entries.len();

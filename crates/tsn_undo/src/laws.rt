@@ -1,6 +1,7 @@
 //! Laws of edits and their undoing, as functions whose contracts state them. Their bodies are empty.
 ghost use Rattle.std.specs.Prelude.{◌≡◌, ◌++◌, ◌∷◌, [], ℕ, Some, None};
 ghost use Rattle.tsn_edit.specs.declared.Edit.{Edit as AnyEdit};
+ghost use Rattle.tsn_edit.specs.Edits.{EditInRange};
 ghost use Rattle.tsn_undo.specs.Entries.{last_of, find_conflict, undone};
 ghost use Rattle.tsn_undo.specs.Examples.{first_run, removal, creation, blocked, replacement, others_removal};
 ghost use Rattle.tsn_undo.specs.Ledger.{Ledger};
@@ -8,9 +9,11 @@ ghost use Rattle.tsn_undo.specs.Soundness.{IsSound};
 ghost use Rattle.tsn_undo.specs.Steps.{Edits, TakesBack, full, present, undo_refusal};
 
 /// An accepted edit that the same session at once undoes is the one that is taken back, and the configuration is then
-/// the one before the edit: the whole map, every member of every record. Every book is sound, as `Book::config` says.
+/// the one before the edit: the whole map, every member of every record. Every book is sound, as `Book::config` says, and
+/// the numbers of every edit are in their ranges, as `Edit::tell_ranges` says.
 pub fn edit_at_once_undone()
     ensures { (before edited after : Ledger) (session : ℕ) (edit : AnyEdit) (entry number of : ℕ) →
+        EditInRange edit →
         IsSound before.limits before.opening before.entries →
         Edits before session edit entry edited →
         TakesBack edited session number of after →

@@ -23,7 +23,9 @@ use Rattle.tsn_wire.specs.Ranges.{within, within_or_none, port_entry, gate_entry
 use Rattle.tsn_wire.specs.Commands.{line_shape, command_shape, create_shape}
 use Rattle.tsn_wire.specs.Reading.{data_of, or_syntax, line_of_draft, refused, line_of}
 use Rattle.tsn_wire.proofs.Digits.{own}
-use Rattle.tsn_wire.specs.ReadingBack.{Within, create_data, PortEntryFits, GateEntryFits, ReadsBack, PortFits, GateFits, FilterFits, MeterFits}
+use Rattle.tsn_types.specs.InRange.{FilterInRange, GateEntryInRange, GateInRange, MeterInRange, PortEntryInRange, PortInRange}
+use Rattle.tsn_types.specs.Numbers.{Within}
+use Rattle.tsn_wire.specs.ReadingBack.{create_data, ReadsBack}
 use Rattle.tsn_wire.specs.Records.{port_entry_shape, gate_entry_shape, list_shape, schedule_shape, port_shape, gate_shape, filter_shape, meter_shape}
 use Rattle.tsn_wire.specs.Shown.{or_null, port_entry_data, gate_entry_data, port_data, gate_data, filter_data, meter_data}
 use Rattle.tsn_wire.specs.declared.unread.Unread.{Unread}
@@ -50,6 +52,13 @@ within_ok field least most n fits = rw (le-leb least n fits.0, le-leb n most fit
 within_or_none_ok : (field : Field) (least most : ℕ) (o : Option ℕ) → IfSome o (Within least most) → within_or_none field least most o ≡ Ok o
 within_or_none_ok field least most None fits = refl
 within_or_none_ok field least most (Some n) fits = rw (within_ok field least most n fits) refl
+
+at_most_ok : (field : Field) (most n : ℕ) → n ≤ most → within field 0 most n ≡ Ok n
+at_most_ok field most n fits = within_ok field 0 most n (omega arith, fits)
+
+at_most_or_none_ok : (field : Field) (most : ℕ) (o : Option ℕ) → IfSome o (λ n. n ≤ most) → within_or_none field 0 most o ≡ Ok o
+at_most_or_none_ok field most None fits = refl
+at_most_or_none_ok field most (Some n) fits = rw (at_most_ok field most n fits) refl
 
 pub whole_or_null_back : (o : Option ℕ) → whole_or_null (or_null o) ≡ Some o
 whole_or_null_back None = refl
@@ -78,13 +87,13 @@ gate_entry_shaped : (e : GateEntry) → gate_entry_shape (gate_entry_data e) ≡
 unfolding gate_entry_shape gate_entry_draft
 gate_entry_shaped e = simp whole_or_null_back
 
-port_entry_back : (e : PortEntry) → PortEntryFits e → port_entry (port_entry_draft e) ≡ Ok e
+port_entry_back : (e : PortEntry) → PortEntryInRange e → port_entry (port_entry_draft e) ≡ Ok e
 unfolding port_entry port_entry_draft
-port_entry_back e fits = rw (within_ok _ 0 255 e.gates fits.gates, within_ok _ 1 4294967295 e.interval fits.interval) refl
+port_entry_back e fits = rw (at_most_ok _ 255 e.gates fits.gates, within_ok _ 1 4294967295 e.interval fits.interval) refl
 
-gate_entry_back : (e : GateEntry) → GateEntryFits e → gate_entry (gate_entry_draft e) ≡ Ok e
+gate_entry_back : (e : GateEntry) → GateEntryInRange e → gate_entry (gate_entry_draft e) ≡ Ok e
 unfolding gate_entry gate_entry_draft
-gate_entry_back e fits = rw (within_or_none_ok _ 0 7 e.ipv fits.ipv, within_ok _ 1 4294967295 e.interval fits.interval, within_or_none_ok _ 0 4294967295 e.octets fits.octets) refl
+gate_entry_back e fits = rw (at_most_or_none_ok _ 7 e.ipv fits.ipv, within_ok _ 1 4294967295 e.interval fits.interval, at_most_or_none_ok _ 4294967295 e.octets fits.octets) refl
 
 port_draft : PortGates → PortDraft
 port_draft r = record { gates = r.gates; admin = record { list = map port_entry_draft r.admin.list; cycle = r.admin.cycle; extension = r.admin.extension; base = r.admin.base } }
@@ -114,21 +123,21 @@ meter_shaped : (r : FlowMeter) → meter_shape (meter_data r) ≡ Ok (meter_draf
 unfolding meter_shape meter_draft
 meter_shaped r = refl
 
-port_back : (r : PortGates) → PortFits r → port (port_draft r) ≡ Ok r
+port_back : (r : PortGates) → PortInRange r → port (port_draft r) ≡ Ok r
 unfolding port schedule port_draft
-port_back r fits = rw (within_ok _ 0 255 r.gates fits.gates, entries_back PortEntryFits port_entry port_entry_draft port_entry_back r.admin.list fits.admin.list, within_ok _ 1 (10 ^ 12) r.admin.cycle fits.admin.cycle, within_ok _ 0 (10 ^ 12) r.admin.extension fits.admin.extension, within_ok _ 0 (2 ^ 62) r.admin.base fits.admin.base) refl
+port_back r fits = rw (at_most_ok _ 255 r.gates fits.gates, entries_back PortEntryInRange port_entry port_entry_draft port_entry_back r.admin.list fits.admin.list, within_ok _ 1 (10 ^ 12) r.admin.cycle fits.admin.cycle, at_most_ok _ (10 ^ 12) r.admin.extension fits.admin.extension, at_most_ok _ (2 ^ 62) r.admin.base fits.admin.base) refl
 
-gate_back : (r : StreamGate) → GateFits r → gate (gate_draft r) ≡ Ok r
+gate_back : (r : StreamGate) → GateInRange r → gate (gate_draft r) ≡ Ok r
 unfolding gate schedule gate_draft
-gate_back r fits = rw (within_or_none_ok _ 0 7 r.ipv fits.ipv, entries_back GateEntryFits gate_entry gate_entry_draft gate_entry_back r.admin.list fits.admin.list, within_ok _ 1 (10 ^ 12) r.admin.cycle fits.admin.cycle, within_ok _ 0 (10 ^ 12) r.admin.extension fits.admin.extension, within_ok _ 0 (2 ^ 62) r.admin.base fits.admin.base) refl
+gate_back r fits = rw (at_most_or_none_ok _ 7 r.ipv fits.ipv, entries_back GateEntryInRange gate_entry gate_entry_draft gate_entry_back r.admin.list fits.admin.list, within_ok _ 1 (10 ^ 12) r.admin.cycle fits.admin.cycle, at_most_ok _ (10 ^ 12) r.admin.extension fits.admin.extension, at_most_ok _ (2 ^ 62) r.admin.base fits.admin.base) refl
 
-filter_back : (r : StreamFilter) → FilterFits r → filter (filter_draft r) ≡ Ok r
+filter_back : (r : StreamFilter) → FilterInRange r → filter (filter_draft r) ≡ Ok r
 unfolding filter filter_draft
-filter_back r fits = rw (within_or_none_ok _ 0 4294967295 r.handle fits.handle, within_or_none_ok _ 0 7 r.priority fits.priority, within_ok _ 0 65535 r.gate fits.gate, within_or_none_ok _ 1 65535 r.max_sdu fits.max_sdu, within_or_none_ok _ 0 65535 r.meter fits.meter) refl
+filter_back r fits = rw (at_most_or_none_ok _ 4294967295 r.handle fits.handle, at_most_or_none_ok _ 7 r.priority fits.priority, at_most_ok _ 65535 r.gate fits.gate, within_or_none_ok _ 1 65535 r.max_sdu fits.max_sdu, at_most_or_none_ok _ 65535 r.meter fits.meter) refl
 
-meter_back : (r : FlowMeter) → MeterFits r → meter (meter_draft r) ≡ Ok r
+meter_back : (r : FlowMeter) → MeterInRange r → meter (meter_draft r) ≡ Ok r
 unfolding meter meter_draft
-meter_back r fits = rw (within_ok _ 0 (10 ^ 12) r.cir fits.cir, within_ok _ 0 4294967295 r.cbs fits.cbs, within_ok _ 0 (10 ^ 12) r.eir fits.eir, within_ok _ 0 4294967295 r.ebs fits.ebs) refl
+meter_back r fits = rw (at_most_ok _ (10 ^ 12) r.cir fits.cir, at_most_ok _ 4294967295 r.cbs fits.cbs, at_most_ok _ (10 ^ 12) r.eir fits.eir, at_most_ok _ 4294967295 r.ebs fits.ebs) refl
 
 or_true : (a : Bool) → a || true ≡ true
 or_true true = refl
@@ -185,14 +194,14 @@ reads_back s (keys.Port n) (records.Filter r) line session fits read = absurd fi
 reads_back s (keys.Port n) (records.Gate r) line session fits read = absurd fits
 reads_back s (keys.Port n) (records.Meter r) line session fits read = absurd fits
 reads_back s (keys.Filter n) (records.Port r) line session fits read = absurd fits
-reads_back s (keys.Filter n) (records.Filter r) line session fits read = in_steps line _ _ _ read (filter_line_shaped s n r (omega (arith, fits.0.1))) (rw (within_ok _ 1 65535 s session, within_ok _ 0 65535 n fits.0, filter_back r fits.1) refl)
+reads_back s (keys.Filter n) (records.Filter r) line session fits read = in_steps line _ _ _ read (filter_line_shaped s n r (omega (arith, fits.0))) (rw (within_ok _ 1 65535 s session, at_most_ok _ 65535 n fits.0, filter_back r fits.1) refl)
 reads_back s (keys.Filter n) (records.Gate r) line session fits read = absurd fits
 reads_back s (keys.Filter n) (records.Meter r) line session fits read = absurd fits
 reads_back s (keys.Gate n) (records.Port r) line session fits read = absurd fits
 reads_back s (keys.Gate n) (records.Filter r) line session fits read = absurd fits
-reads_back s (keys.Gate n) (records.Gate r) line session fits read = in_steps line _ _ _ read (gate_line_shaped s n r (omega (arith, fits.0.1))) (rw (within_ok _ 1 65535 s session, within_ok _ 0 65535 n fits.0, gate_back r fits.1) refl)
+reads_back s (keys.Gate n) (records.Gate r) line session fits read = in_steps line _ _ _ read (gate_line_shaped s n r (omega (arith, fits.0))) (rw (within_ok _ 1 65535 s session, at_most_ok _ 65535 n fits.0, gate_back r fits.1) refl)
 reads_back s (keys.Gate n) (records.Meter r) line session fits read = absurd fits
 reads_back s (keys.Meter n) (records.Port r) line session fits read = absurd fits
 reads_back s (keys.Meter n) (records.Filter r) line session fits read = absurd fits
 reads_back s (keys.Meter n) (records.Gate r) line session fits read = absurd fits
-reads_back s (keys.Meter n) (records.Meter r) line session fits read = in_steps line _ _ _ read (meter_line_shaped s n r (omega (arith, fits.0.1))) (rw (within_ok _ 1 65535 s session, within_ok _ 0 65535 n fits.0, meter_back r fits.1) refl)
+reads_back s (keys.Meter n) (records.Meter r) line session fits read = in_steps line _ _ _ read (meter_line_shaped s n r (omega (arith, fits.0))) (rw (within_ok _ 1 65535 s session, at_most_ok _ 65535 n fits.0, meter_back r fits.1) refl)

@@ -6,6 +6,7 @@ ghost use Rattle.std.specs.Prelude.{◌≡◌, ◌^◌, ℕ, List, Result};
 ghost use Rattle.tsn_types.specs.declared.refusals.Field.TheVariants as fields;
 ghost use Rattle.tsn_wire.specs.declared.unread.Unread.{Unread};
 ghost use Rattle.tsn_wire.specs.Answers.{Reads, each};
+ghost use Rattle.tsn_types.specs.Numbers.{greatest_bit_rate, greatest_gate_states, greatest_handle, greatest_instance, greatest_instant, greatest_max_sdu, greatest_priority, longest_cycle, longest_extension, longest_interval, most_octets, most_ports};
 ghost use Rattle.tsn_wire.specs.Ranges.{within, within_or_none, port_entry, gate_entry, schedule, port, gate, filter, meter, record_of, key, command_of_draft};
 
 use crate::drafts::{
@@ -27,13 +28,13 @@ use tsn_types::records::{
 use tsn_types::refusals::Field;
 
 fn gates(number: u64, field: Field) -> Result<u8, Unread>
-    ensures { result ≡ within field 0 255 number }
+    ensures { result ≡ within field 0 greatest_gate_states number }
 {
     u8::try_from(number).map_err(|_| Unread::Range(field))
 }
 
 fn priority(number: Option<u64>, field: Field) -> Result<Option<Priority>, Unread>
-    ensures { result ≡ within_or_none field 0 7 number }
+    ensures { result ≡ within_or_none field 0 greatest_priority number }
 {
     match number {
         None => Ok(None),
@@ -45,19 +46,19 @@ fn priority(number: Option<u64>, field: Field) -> Result<Option<Priority>, Unrea
 }
 
 fn interval(number: u64) -> Result<Interval, Unread>
-    ensures { result ≡ within fields.List 1 4294967295 number }
+    ensures { result ≡ within fields.List 1 longest_interval number }
 {
     Interval::new(number).map_err(|_| Unread::Range(Field::List))
 }
 
 fn octets(number: u64, field: Field) -> Result<Octets, Unread>
-    ensures { result ≡ within field 0 4294967295 number }
+    ensures { result ≡ within field 0 most_octets number }
 {
     Octets::new(number).map_err(|_| Unread::Range(field))
 }
 
 fn octets_or_none(number: Option<u64>, field: Field) -> Result<Option<Octets>, Unread>
-    ensures { result ≡ within_or_none field 0 4294967295 number }
+    ensures { result ≡ within_or_none field 0 most_octets number }
 {
     match number {
         None => Ok(None),
@@ -66,13 +67,13 @@ fn octets_or_none(number: Option<u64>, field: Field) -> Result<Option<Octets>, U
 }
 
 fn bit_rate(number: u64, field: Field) -> Result<BitRate, Unread>
-    ensures { result ≡ within field 0 (10 ^ 12) number }
+    ensures { result ≡ within field 0 greatest_bit_rate number }
 {
     BitRate::new(number).map_err(|_| Unread::Range(field))
 }
 
 fn handle(number: Option<u64>) -> Result<Option<Handle>, Unread>
-    ensures { result ≡ within_or_none fields.Handle 0 4294967295 number }
+    ensures { result ≡ within_or_none fields.Handle 0 greatest_handle number }
 {
     match number {
         None => Ok(None),
@@ -84,7 +85,7 @@ fn handle(number: Option<u64>) -> Result<Option<Handle>, Unread>
 }
 
 fn max_sdu(number: Option<u64>) -> Result<Option<MaxSdu>, Unread>
-    ensures { result ≡ within_or_none fields.MaxSdu 1 65535 number }
+    ensures { result ≡ within_or_none fields.MaxSdu 1 greatest_max_sdu number }
 {
     match number {
         None => Ok(None),
@@ -96,31 +97,31 @@ fn max_sdu(number: Option<u64>) -> Result<Option<MaxSdu>, Unread>
 }
 
 fn port_id(number: u64) -> Result<PortId, Unread>
-    ensures { result ≡ within fields.Key 1 64 number }
+    ensures { result ≡ within fields.Key 1 most_ports number }
 {
     PortId::new(number).map_err(|_| Unread::Range(Field::Key))
 }
 
 fn filter_id(number: u64) -> Result<FilterId, Unread>
-    ensures { result ≡ within fields.Key 0 65535 number }
+    ensures { result ≡ within fields.Key 0 greatest_instance number }
 {
     FilterId::new(number).map_err(|_| Unread::Range(Field::Key))
 }
 
 fn gate_id(number: u64, field: Field) -> Result<GateId, Unread>
-    ensures { result ≡ within field 0 65535 number }
+    ensures { result ≡ within field 0 greatest_instance number }
 {
     GateId::new(number).map_err(|_| Unread::Range(field))
 }
 
 fn meter_id(number: u64, field: Field) -> Result<MeterId, Unread>
-    ensures { result ≡ within field 0 65535 number }
+    ensures { result ≡ within field 0 greatest_instance number }
 {
     MeterId::new(number).map_err(|_| Unread::Range(field))
 }
 
 fn meter_or_none(number: Option<u64>) -> Result<Option<MeterId>, Unread>
-    ensures { result ≡ within_or_none fields.Meter 0 65535 number }
+    ensures { result ≡ within_or_none fields.Meter 0 greatest_instance number }
 {
     match number {
         None => Ok(None),
@@ -129,19 +130,19 @@ fn meter_or_none(number: Option<u64>) -> Result<Option<MeterId>, Unread>
 }
 
 fn cycle(number: u64) -> Result<Cycle, Unread>
-    ensures { result ≡ within fields.Cycle 1 (10 ^ 12) number }
+    ensures { result ≡ within fields.Cycle 1 longest_cycle number }
 {
     Cycle::new(number).map_err(|_| Unread::Range(Field::Cycle))
 }
 
 fn extension(number: u64) -> Result<Extension, Unread>
-    ensures { result ≡ within fields.Extension 0 (10 ^ 12) number }
+    ensures { result ≡ within fields.Extension 0 longest_extension number }
 {
     Extension::new(number).map_err(|_| Unread::Range(Field::Extension))
 }
 
 fn base(number: u64) -> Result<Instant, Unread>
-    ensures { result ≡ within fields.Base 0 (2 ^ 62) number }
+    ensures { result ≡ within fields.Base 0 greatest_instant number }
 {
     Instant::new(number).map_err(|_| Unread::Range(Field::Base))
 }

@@ -2,7 +2,7 @@ use Rattle.std.proofs.Common.{sym, ◌∙◌, ap}
 use Rattle.std.specs.Option.{option_or}
 use Rattle.tsn_types.specs.Limits.{first_cause}
 use Rattle.tsn_edit.specs.Edits.{early_causes, late_causes}
-use Rattle.tsn_config.proofs.Edits.{first_cause-append}
+use Rattle.tsn_types.proofs.Causes.{first_cause-append}
 use Rattle.tsn_config.proofs.Config.check.Goals as goal
 
 pub returns-in-Some : goal.returns-in-Some

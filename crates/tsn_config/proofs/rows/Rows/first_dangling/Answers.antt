@@ -6,7 +6,7 @@ use Rattle.tsn_types.specs.declared.records.Record.TheVariants.{Filter as Filter
 use Rattle.tsn_table.specs.Firsts.{first_id}
 use Rattle.tsn_edit.specs.Edits.{dangling}
 use Rattle.tsn_config.specs.Opening.{dangling_cause}
-use Rattle.tsn_config.specs.Settings.{Contents}
+use Rattle.tsn_config.specs.Views.{RowsView}
 use Rattle.tsn_config.proofs.Dangling.{dangles, dangling_cause-none, dangling_cause-first, first_there}
 use Rattle.tsn_config.proofs.rows.Rows.first_dangling.Goals as goal
 
@@ -15,9 +15,9 @@ returns-in_err-number c =
     let i = c.self.inside in
     let first = c.first_where.ensures (dangles c.args.self.now.map) (λ x b h. search rules) in
     c.from_residual.ensures
-    ∙ sym (ap (λ (s : Contents). dangling_cause s.map) (sym c.self.view_is)
+    ∙ sym (ap (λ (s : RowsView). dangling_cause s.map) (sym c.self.view_is)
     ∙ dangling_cause-none i.ports.map i.filters.map i.gates.map i.meters.map
-    (ap (λ (s : Contents). first_id (dangles s.map) (entries i.filters.map)) c.self.view_is ∙ sym first ∙ c.in_err-number.was))
+    (ap (λ (s : RowsView). first_id (dangles s.map) (entries i.filters.map)) c.self.view_is ∙ sym first ∙ c.in_err-number.was))
 
 pub returns-in_err-filter : goal.returns-in_err-filter
 returns-in_err-filter c =
@@ -25,7 +25,7 @@ returns-in_err-filter c =
     let first = c.first_where.ensures (dangles c.args.self.now.map) (λ x b h. search rules) in
     let there =
     first_there i.ports.map i.filters.map i.gates.map i.meters.map c.in_ok-number.number
-    (ap (λ (s : Contents). first_id (dangles s.map) (entries i.filters.map)) c.self.view_is ∙ sym first ∙ c.in_ok-number.was) in
+    (ap (λ (s : RowsView). first_id (dangles s.map) (entries i.filters.map)) c.self.view_is ∙ sym first ∙ c.in_ok-number.was) in
     let none = sym c.get.ensures ∙ ap option_copied c.in_err-filter.was in
     let never = sym there ∙ ap is_some none in (cc)
 
@@ -35,8 +35,8 @@ returns c =
     let first = c.first_where.ensures (dangles c.args.self.now.map) (λ x b h. search rules) in
     let r = c.in_ok-filter.filter.now in
     c.dangling_filter.ensures
-    ∙ sym (ap (λ (s : Contents). dangling_cause s.map) (sym c.self.view_is)
+    ∙ sym (ap (λ (s : RowsView). dangling_cause s.map) (sym c.self.view_is)
     ∙ dangling_cause-first i.ports.map i.filters.map i.gates.map i.meters.map c.in_ok-number.number r
-    (ap (λ (s : Contents). first_id (dangles s.map) (entries i.filters.map)) c.self.view_is ∙ sym first ∙ c.in_ok-number.was)
+    (ap (λ (s : RowsView). first_id (dangles s.map) (entries i.filters.map)) c.self.view_is ∙ sym first ∙ c.in_ok-number.was)
     (sym c.get.ensures ∙ ap option_copied c.in_ok-filter.was)
-    ∙ ap (λ (s : Contents). dangling s.map (FilterRecord r)) c.self.view_is)
+    ∙ ap (λ (s : RowsView). dangling s.map (FilterRecord r)) c.self.view_is)

@@ -1,6 +1,6 @@
 use Rattle.std.proofs.Common.{◌≡◌, sym, ◌∙◌, ap, subst, IfOk}
 use Rattle.tsn_types.specs.declared.keys.Kind.TheVariants as kinds
-use Rattle.tsn_config.specs.Settings.{Contents}
+use Rattle.tsn_config.specs.Views.{RowsView}
 use Rattle.tsn_config.specs.Ids.{ids_of}
 use Rattle.tsn_config.proofs.Numbered.{ids_of_ports, ids_of_filters, ids_of_gates, ids_of_meters}
 use Rattle.tsn_config.proofs.rows.Rows.ids.Goals as goal
@@ -9,26 +9,26 @@ pub returns-in-Port : goal.returns-in-Port
 returns-in-Port c =
     let i = c.self.inside in
     subst (λ ns. IfOk c.ids.result (λ ids. ids.items ≡ ns))
-    (sym (ap (λ k. ids_of k c.args.self.now.map) c.in-Port.is ∙ ap (λ (s : Contents). ids_of kinds.Port s.map) (sym c.self.view_is) ∙ ids_of_ports i.ports.map i.filters.map i.gates.map i.meters.map))
+    (sym (ap (λ k. ids_of k c.args.self.now.map) c.in-Port.is ∙ ap (λ (s : RowsView). ids_of kinds.Port s.map) (sym c.self.view_is) ∙ ids_of_ports i.ports.map i.filters.map i.gates.map i.meters.map))
     c.ids.ensures
 
 pub returns-in-Filter : goal.returns-in-Filter
 returns-in-Filter c =
     let i = c.self.inside in
     subst (λ ns. IfOk c.ids-in-Filter.result (λ ids. ids.items ≡ ns))
-    (sym (ap (λ k. ids_of k c.args.self.now.map) c.in-Filter.is ∙ ap (λ (s : Contents). ids_of kinds.Filter s.map) (sym c.self.view_is) ∙ ids_of_filters i.ports.map i.filters.map i.gates.map i.meters.map))
+    (sym (ap (λ k. ids_of k c.args.self.now.map) c.in-Filter.is ∙ ap (λ (s : RowsView). ids_of kinds.Filter s.map) (sym c.self.view_is) ∙ ids_of_filters i.ports.map i.filters.map i.gates.map i.meters.map))
     c.ids-in-Filter.ensures
 
 pub returns-in-Gate : goal.returns-in-Gate
 returns-in-Gate c =
     let i = c.self.inside in
     subst (λ ns. IfOk c.ids-in-Gate.result (λ ids. ids.items ≡ ns))
-    (sym (ap (λ k. ids_of k c.args.self.now.map) c.in-Gate.is ∙ ap (λ (s : Contents). ids_of kinds.Gate s.map) (sym c.self.view_is) ∙ ids_of_gates i.ports.map i.filters.map i.gates.map i.meters.map))
+    (sym (ap (λ k. ids_of k c.args.self.now.map) c.in-Gate.is ∙ ap (λ (s : RowsView). ids_of kinds.Gate s.map) (sym c.self.view_is) ∙ ids_of_gates i.ports.map i.filters.map i.gates.map i.meters.map))
     c.ids-in-Gate.ensures
 
 pub returns-in-Meter : goal.returns-in-Meter
 returns-in-Meter c =
     let i = c.self.inside in
     subst (λ ns. IfOk c.ids-in-Meter.result (λ ids. ids.items ≡ ns))
-    (sym (ap (λ k. ids_of k c.args.self.now.map) c.in-Meter.is ∙ ap (λ (s : Contents). ids_of kinds.Meter s.map) (sym c.self.view_is) ∙ ids_of_meters i.ports.map i.filters.map i.gates.map i.meters.map))
+    (sym (ap (λ k. ids_of k c.args.self.now.map) c.in-Meter.is ∙ ap (λ (s : RowsView). ids_of kinds.Meter s.map) (sym c.self.view_is) ∙ ids_of_meters i.ports.map i.filters.map i.gates.map i.meters.map))
     c.ids-in-Meter.ensures

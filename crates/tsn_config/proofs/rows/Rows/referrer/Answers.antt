@@ -6,8 +6,8 @@ use Rattle.tsn_types.specs.declared.records.Record.TheVariants.{Filter as Filter
 use Rattle.tsn_types.specs.declared.records.StreamFilter.{StreamFilter}
 use Rattle.tsn_types.specs.Keys.{has, refs}
 use Rattle.tsn_edit.specs.Edits.{referrer}
-use Rattle.tsn_config.specs.Settings.{Contents}
-use Rattle.tsn_config.proofs.Listed.{referrer-joined}
+use Rattle.tsn_config.specs.Views.{RowsView}
+use Rattle.tsn_config.proofs.Listed.{referrer-map_of_tables}
 use Rattle.tsn_config.proofs.rows.Rows.referrer.Goals as goal
 
 pub returns : goal.returns
@@ -15,5 +15,5 @@ returns c =
     let i = c.self.inside in
     let p : StreamFilter → Bool = λ r. has (refs (FilterRecord r)) c.args.key.now in
     ap (option_map (λ n. Referred (Filter n))) (c.first_where.ensures p (λ x b h. search rules))
-    ∙ sym (referrer-joined i.ports.map i.filters.map i.gates.map i.meters.map c.args.key.now)
-    ∙ ap (λ (s : Contents). referrer s.map c.args.key.now) c.self.view_is
+    ∙ sym (referrer-map_of_tables i.ports.map i.filters.map i.gates.map i.meters.map c.args.key.now)
+    ∙ ap (λ (s : RowsView). referrer s.map c.args.key.now) c.self.view_is

@@ -1,7 +1,7 @@
 use Rattle.std.proofs.Common.{◌<◌, true, [], ◌∷◌, ◌++◌, length, sym, ◌∙◌, ap, subst}
 use Rattle.tsn_edit.specs.Configuration.{Configuration}
 use Rattle.tsn_edit.specs.Parts.{Change}
-use Rattle.tsn_edit.specs.Changes.{changed}
+use Rattle.tsn_edit.specs.Changes.{after_change}
 use Rattle.tsn_undo.specs.Entries.{made}
 use Rattle.tsn_undo.specs.Ledger.{Ledger}
 use Rattle.tsn_undo.proofs.Rewinding.{fits_now, edited, grown_book, grown_ledger}
@@ -18,7 +18,7 @@ invariant_of-self-2 c =
     (edited i.config.limits i.config.map i.entries.items i.stands.items s e c.self.invariant fits room)
     c.apply.new.self.limits c.apply.new.self.map c.push.new.self.items c.push_mark.new.stands.items
     (c.apply.ensures.limits ∙ c.reserve.ensures.limits)
-    (c.apply.ensures.map ∙ ap (λ (m : Configuration). changed m e) c.reserve.ensures.map)
+    (c.apply.ensures.map ∙ ap (λ (m : Configuration). after_change m e) c.reserve.ensures.map)
     (c.in_ok-push.ensures.items ∙ ap (λ (k : Change). i.entries.items ++ made s k ∷ []) c.requires.same)
     (c.push_mark.ensures ∙ ap (λ bs. bs ++ true ∷ []) c.reserve-2.ensures.items)
 
@@ -33,7 +33,7 @@ returns-clause-after c =
     (edited i.config.limits i.config.map i.entries.items i.stands.items s e c.self.invariant fits room)
     c.apply.new.self.limits c.apply.new.self.map c.push.new.self.items c.push_mark.new.stands.items
     (c.apply.ensures.limits ∙ c.reserve.ensures.limits)
-    (c.apply.ensures.map ∙ ap (λ (m : Configuration). changed m e) c.reserve.ensures.map)
+    (c.apply.ensures.map ∙ ap (λ (m : Configuration). after_change m e) c.reserve.ensures.map)
     (c.in_ok-push.ensures.items ∙ ap (λ (k : Change). i.entries.items ++ made s k ∷ []) c.requires.same)
     (c.push_mark.ensures ∙ ap (λ bs. bs ++ true ∷ []) c.reserve-2.ensures.items)
     c.args.self.now c.self.view_is

@@ -2,7 +2,7 @@ use Rattle.std.proofs.Common.{◌≡◌, ℕ, ◌+◌, ◌<◌, Bool, false, Lis
 use Rattle.tsn_types.specs.declared.limits.Limits.{Limits}
 use Rattle.tsn_edit.specs.Configuration.{Configuration}
 use Rattle.tsn_edit.specs.Parts.{Change, inverse}
-use Rattle.tsn_edit.specs.Changes.{changed, Fits}
+use Rattle.tsn_edit.specs.Changes.{after_change, Fits}
 use Rattle.tsn_undo.specs.declared.entries.Entry.{Entry}
 use Rattle.tsn_undo.specs.declared.entries.What.TheVariants.{Undone}
 use Rattle.tsn_undo.specs.Entries.{Applied, applied_by, undone, last_of, find_conflict}
@@ -48,7 +48,7 @@ invariant_of-self-2 c =
     grown_book i.config.limits i.config.map i.entries.items (undone x) (inverse x.change) (set i.stands.items c.args.place false ++ false ∷ []) is.1
     c.apply.new.self.limits c.apply.new.self.map c.push.new.self.items c.move_mark.new.stands.items
     (c.apply.ensures.limits ∙ c.reserve.ensures.limits)
-    (c.apply.ensures.map ∙ (λ j. changed (c.reserve.ensures.map j) (c.requires.inverse_of some_entry j)))
+    (c.apply.ensures.map ∙ (λ j. after_change (c.reserve.ensures.map j) (c.requires.inverse_of some_entry j)))
     (c.in_ok-push.ensures.items ∙ ap (λ (w : Entry). i.entries.items ++ w ∷ []) (entry c.args.session (c.args.place + 1) c.args.copy c.args.change x is.2 refl c.requires.same (c.requires.inverse_of some_entry)))
     (c.move_mark.ensures ∙ ap (λ bs. set bs c.args.place false ++ false ∷ []) c.reserve-2.ensures.items)
 
@@ -68,7 +68,7 @@ returns-clause-ok c =
       after = grown_ledger i.config.limits i.config.map i.entries.items (undone x) (inverse x.change) (set i.stands.items c.args.place false ++ false ∷ []) is.1
           c.apply.new.self.limits c.apply.new.self.map c.push.new.self.items c.move_mark.new.stands.items
           (c.apply.ensures.limits ∙ c.reserve.ensures.limits)
-          (c.apply.ensures.map ∙ (λ j. changed (c.reserve.ensures.map j) (c.requires.inverse_of some_entry j)))
+          (c.apply.ensures.map ∙ (λ j. after_change (c.reserve.ensures.map j) (c.requires.inverse_of some_entry j)))
           (c.in_ok-push.ensures.items ∙ ap (λ (w : Entry). i.entries.items ++ w ∷ []) (entry c.args.session (c.args.place + 1) c.args.copy c.args.change x is.2 refl c.requires.same (c.requires.inverse_of some_entry)))
           (c.move_mark.ensures ∙ ap (λ bs. set bs c.args.place false ++ false ∷ []) c.reserve-2.ensures.items)
           b c.self.view_is;

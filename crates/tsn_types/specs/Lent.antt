@@ -5,8 +5,8 @@ use Rattle.tsn_types.specs.declared.records.RecordRef.{RecordRef}
 use Rattle.tsn_types.specs.declared.records.RecordRef.TheVariants.{Port, Filter, Gate, Meter}
 
 -- the record that is lent
-abbrev pub whole : RecordRef → Record
-whole (Port r) = PortRecord r.now
-whole (Filter r) = FilterRecord r.now
-whole (Gate r) = GateRecord r.now
-whole (Meter r) = MeterRecord r.now
+abbrev pub lent_record : RecordRef → Record
+lent_record (Port r) = PortRecord r.now
+lent_record (Filter r) = FilterRecord r.now
+lent_record (Gate r) = GateRecord r.now
+lent_record (Meter r) = MeterRecord r.now

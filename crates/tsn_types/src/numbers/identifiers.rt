@@ -1,0 +1,270 @@
+//! Identifiers within their ranges: instances of managed objects, stream handles and priorities.
+ghost use Rattle.std.specs.Prelude.{◌≡◌, ◌↔◌, IsOk, IfOk};
+ghost use Rattle.tsn_types.specs.Numbers.{IsHandle, IsInstanceId, IsPortId, IsPriority};
+
+use super::Range;
+use std::marker::Model;
+
+/// The most ports that a bridge may have, which are numbered from 1.
+pub const MOST_PORTS: u64 = 64;
+
+/// The greatest number of a stream filter, a stream gate or a flow meter, which are numbered from 0.
+pub const GREATEST_INSTANCE: u64 = 65_535;
+
+/// The greatest priority.
+pub const GREATEST_PRIORITY: u64 = 7;
+
+/// The greatest stream handle, of 32 bits.
+pub const GREATEST_HANDLE: u64 = 4_294_967_295;
+
+/// A port of the bridge, 1 to 64.
+#[derive(Clone, Copy, Debug, PartialEq, Eq, PartialOrd, Ord)]
+pub struct PortId {
+    number: u64,
+}
+
+impl Model for PortId {
+    ghost use Rattle.std.specs.Prelude.{ℕ};
+    ghost use Rattle.tsn_types.specs.Numbers.{IsPortId};
+
+    ghost Value = { ℕ };
+
+    ghost view = { λ a. a.number };
+
+    ghost inverse = { λ n. record { number = n } };
+
+    ghost invariant = { λ a. IsPortId a.number };
+}
+
+impl PortId {
+    /// The number as this type, refused outside its range.
+    pub fn new(number: u64) -> Result<PortId, Range>
+        ensures in_range { IsOk result ↔ IsPortId number }
+        ensures same { IfOk result (λ n. n ≡ number) }
+    {
+        if 1 <= number && number <= MOST_PORTS {
+            Ok(PortId { number })
+        } else {
+            Err(Range)
+        }
+    }
+
+    /// The number.
+    pub fn get(self) -> u64
+        ensures same { result ≡ self }
+        ensures in_range { IsPortId self }
+    {
+        let PortId { number } = self;
+        number
+    }
+}
+
+/// A stream filter instance (802.1Q-2018, 8.6.5.1), 0 to 65,535.
+#[derive(Clone, Copy, Debug, PartialEq, Eq, PartialOrd, Ord)]
+pub struct FilterId {
+    number: u64,
+}
+
+impl Model for FilterId {
+    ghost use Rattle.std.specs.Prelude.{ℕ};
+    ghost use Rattle.tsn_types.specs.Numbers.{IsInstanceId};
+
+    ghost Value = { ℕ };
+
+    ghost view = { λ a. a.number };
+
+    ghost inverse = { λ n. record { number = n } };
+
+    ghost invariant = { λ a. IsInstanceId a.number };
+}
+
+impl FilterId {
+    /// The number as this type, refused outside its range.
+    pub fn new(number: u64) -> Result<FilterId, Range>
+        ensures in_range { IsOk result ↔ IsInstanceId number }
+        ensures same { IfOk result (λ n. n ≡ number) }
+    {
+        if number <= GREATEST_INSTANCE {
+            Ok(FilterId { number })
+        } else {
+            Err(Range)
+        }
+    }
+
+    /// The number.
+    pub fn get(self) -> u64
+        ensures same { result ≡ self }
+        ensures in_range { IsInstanceId self }
+    {
+        let FilterId { number } = self;
+        number
+    }
+}
+
+/// A stream gate instance (802.1Q-2018, 8.6.5.2), 0 to 65,535.
+#[derive(Clone, Copy, Debug, PartialEq, Eq, PartialOrd, Ord)]
+pub struct GateId {
+    number: u64,
+}
+
+impl Model for GateId {
+    ghost use Rattle.std.specs.Prelude.{ℕ};
+    ghost use Rattle.tsn_types.specs.Numbers.{IsInstanceId};
+
+    ghost Value = { ℕ };
+
+    ghost view = { λ a. a.number };
+
+    ghost inverse = { λ n. record { number = n } };
+
+    ghost invariant = { λ a. IsInstanceId a.number };
+}
+
+impl GateId {
+    /// The number as this type, refused outside its range.
+    pub fn new(number: u64) -> Result<GateId, Range>
+        ensures in_range { IsOk result ↔ IsInstanceId number }
+        ensures same { IfOk result (λ n. n ≡ number) }
+    {
+        if number <= GREATEST_INSTANCE {
+            Ok(GateId { number })
+        } else {
+            Err(Range)
+        }
+    }
+
+    /// The number.
+    pub fn get(self) -> u64
+        ensures same { result ≡ self }
+        ensures in_range { IsInstanceId self }
+    {
+        let GateId { number } = self;
+        number
+    }
+}
+
+/// A flow meter instance (802.1Q-2018, 8.6.5.3), 0 to 65,535.
+#[derive(Clone, Copy, Debug, PartialEq, Eq, PartialOrd, Ord)]
+pub struct MeterId {
+    number: u64,
+}
+
+impl Model for MeterId {
+    ghost use Rattle.std.specs.Prelude.{ℕ};
+    ghost use Rattle.tsn_types.specs.Numbers.{IsInstanceId};
+
+    ghost Value = { ℕ };
+
+    ghost view = { λ a. a.number };
+
+    ghost inverse = { λ n. record { number = n } };
+
+    ghost invariant = { λ a. IsInstanceId a.number };
+}
+
+impl MeterId {
+    /// The number as this type, refused outside its range.
+    pub fn new(number: u64) -> Result<MeterId, Range>
+        ensures in_range { IsOk result ↔ IsInstanceId number }
+        ensures same { IfOk result (λ n. n ≡ number) }
+    {
+        if number <= GREATEST_INSTANCE {
+            Ok(MeterId { number })
+        } else {
+            Err(Range)
+        }
+    }
+
+    /// The number.
+    pub fn get(self) -> u64
+        ensures same { result ≡ self }
+        ensures in_range { IsInstanceId self }
+    {
+        let MeterId { number } = self;
+        number
+    }
+}
+
+/// A priority or an internal priority value (802.1Q-2018, 12.31.3), 0 to 7.
+#[derive(Clone, Copy, Debug, PartialEq, Eq, PartialOrd, Ord)]
+pub struct Priority {
+    number: u64,
+}
+
+impl Model for Priority {
+    ghost use Rattle.std.specs.Prelude.{ℕ};
+    ghost use Rattle.tsn_types.specs.Numbers.{IsPriority};
+
+    ghost Value = { ℕ };
+
+    ghost view = { λ a. a.number };
+
+    ghost inverse = { λ n. record { number = n } };
+
+    ghost invariant = { λ a. IsPriority a.number };
+}
+
+impl Priority {
+    /// The number as this type, refused outside its range.
+    pub fn new(number: u64) -> Result<Priority, Range>
+        ensures in_range { IsOk result ↔ IsPriority number }
+        ensures same { IfOk result (λ n. n ≡ number) }
+    {
+        if number <= GREATEST_PRIORITY {
+            Ok(Priority { number })
+        } else {
+            Err(Range)
+        }
+    }
+
+    /// The number.
+    pub fn get(self) -> u64
+        ensures same { result ≡ self }
+        ensures in_range { IsPriority self }
+    {
+        let Priority { number } = self;
+        number
+    }
+}
+
+/// A stream handle (802.1Q-2018, 12.31.2), 0 to 4,294,967,295.
+#[derive(Clone, Copy, Debug, PartialEq, Eq, PartialOrd, Ord)]
+pub struct Handle {
+    number: u64,
+}
+
+impl Model for Handle {
+    ghost use Rattle.std.specs.Prelude.{ℕ};
+    ghost use Rattle.tsn_types.specs.Numbers.{IsHandle};
+
+    ghost Value = { ℕ };
+
+    ghost view = { λ a. a.number };
+
+    ghost inverse = { λ n. record { number = n } };
+
+    ghost invariant = { λ a. IsHandle a.number };
+}
+
+impl Handle {
+    /// The number as this type, refused outside its range.
+    pub fn new(number: u64) -> Result<Handle, Range>
+        ensures in_range { IsOk result ↔ IsHandle number }
+        ensures same { IfOk result (λ n. n ≡ number) }
+    {
+        if number <= GREATEST_HANDLE {
+            Ok(Handle { number })
+        } else {
+            Err(Range)
+        }
+    }
+
+    /// The number.
+    pub fn get(self) -> u64
+        ensures same { result ≡ self }
+        ensures in_range { IsHandle self }
+    {
+        let Handle { number } = self;
+        number
+    }
+}
