@@ -97,26 +97,31 @@ fn copies_every_row(rt: HostRuntime) -> Result<(), Fail> {
     Ok(())
 }
 
+#[test]
+fn a_reserve_makes_room_for_10000_rows(rt: HostRuntime) -> Result<(), Fail> {
+    let mut table = three_rows(rt.alloc())?;
+    table.reserve(10_000)?;
+    assert!(rt; table.rows.capacity() >= 10_003);
+    assert_eq!(rt; table.put(9, 90), None);
+    assert_eq!(rt; table.ids(rt.alloc())?.as_slice(), [1, 4, 6, 9].as_slice());
+    Ok(())
+}
+
 // As many rows as the largest table of a bridge has.
 #[test]
 fn the_largest_table_is_listed_and_copied(rt: HostRuntime) -> Result<(), Fail> {
     let mut table = Table::new(rt.alloc());
-    table.reserve(10_000)?;
-    for count in 0..10_000 {
-        let _ = table.put(count, 65_535 - count);
+    for id in 0..65_536 {
+        table.reserve(1)?;
+        let _ = table.put(id, 65_535 - id);
     }
-    table.reserve(55_536)?;
-    for count in 10_000..65_536 {
-        let _ = table.put(count, 65_535 - count);
-    }
-    let ids = table.copy(|row| Ok(*row))?.ids(rt.alloc())?;
+    let copy = table.copy(|row| Ok(*row))?;
+    let ids = copy.ids(rt.alloc())?;
     assert_eq!(rt; ids.len(), 65_536);
-    let mut wanted = 0;
-    for id in &ids {
-        assert_eq!(rt; *id, wanted);
-        wanted += 1;
+    for place in 0..65_536 {
+        assert_eq!(rt; ids.get(place).copied(), Some(place as u64));
     }
-    assert_eq!(rt; table.get(0).copied(), Some(65_535));
-    assert_eq!(rt; table.get(65_535).copied(), Some(0));
+    assert_eq!(rt; copy.get(0).copied(), Some(65_535));
+    assert_eq!(rt; copy.get(65_535).copied(), Some(0));
     Ok(())
 }
