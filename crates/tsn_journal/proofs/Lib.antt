@@ -1,0 +1,4 @@
+pub mod Collecting
+pub mod Finders
+pub mod LastWhere
+pub mod Marking
