@@ -100,7 +100,7 @@ edit_of s w = (w.session == s) && is_made w.what
 abbrev ends : ℕ → MarkedEntry → Bool
 ends s m = (m.entry.session == s) && ends_redo m
 
-abbrev redone_at : MarkedEntry → Option Applied
+abbrev pub redone_at : MarkedEntry → Option Applied
 redone_at m = applied undoes m.entry
 
 -- where the search ends at an edit, there is one
@@ -225,6 +225,20 @@ undone_parts n s (Acted act key now) e h = (cc)
 change_of : (m : MarkedEntry) (n : ℕ) (e : Applied) (k : Change) → IsPicked m n e → applies m.entry.what ≡ Some k → k ≡ e.change
 change_of m n e k picked is = let both : Some k ≡ Some e.change = sym is ∙ picked.change in (cc)
 
+module _ (ms : List MarkedEntry) (n : ℕ) (e : Applied) (m : MarkedEntry) (found : find (λ m. m.entry.number == n) ms ≡ Some m) where
+  at_number : m.entry.number ≡ n
+  at_number = eq_number m.entry.number n (find_passes (λ m. m.entry.number == n) ms m found)
+
+  pub standing_picked_of : stands m ≡ Some e → IsPicked m n e
+  standing_picked_of is =
+      let parts = standing_parts m.is_open m.entry.number m.entry.session m.entry.what e is in
+      record { number = parts.0 ∙ at_number; session = parts.1; change = parts.2 }
+
+  pub undone_picked_of : redone_at m ≡ Some e → IsPicked m n e
+  undone_picked_of is =
+      let parts = undone_parts m.entry.number m.entry.session m.entry.what e is in
+      record { number = parts.0 ∙ at_number; session = parts.1; change = parts.2 }
+
 module _ (ms : List MarkedEntry) (is : IsJournal ms) (n : ℕ) (e : Applied) where
   abbrev looked : Option MarkedEntry
   looked = find (λ m. m.entry.number == n) ms
@@ -236,18 +250,11 @@ module _ (ms : List MarkedEntry) (is : IsJournal ms) (n : ℕ) (e : Applied) whe
   undone_there undone' none = let both : None ≡ Some e = sym (undone_at ms is n ∙ ap (option_and_then redone_at) none) ∙ undone' in (cc)
 
   module _ (m : MarkedEntry) (found : looked ≡ Some m) where
-    at_number : m.entry.number ≡ n
-    at_number = eq_number m.entry.number n (find_passes (λ m. m.entry.number == n) ms m found)
-
     pub standing_picked : standing_entry (entries_of ms) n ≡ Some e → IsPicked m n e
-    standing_picked stands' =
-        let parts = standing_parts m.is_open m.entry.number m.entry.session m.entry.what e (sym (standing_at ms is n ∙ ap (option_and_then stands) found) ∙ stands') in
-        record { number = parts.0 ∙ at_number; session = parts.1; change = parts.2 }
+    standing_picked stands' = standing_picked_of ms n e m found (sym (standing_at ms is n ∙ ap (option_and_then stands) found) ∙ stands')
 
     pub undone_picked : undone_entry (entries_of ms) n ≡ Some e → IsPicked m n e
-    undone_picked undone' =
-        let parts = undone_parts m.entry.number m.entry.session m.entry.what e (sym (undone_at ms is n ∙ ap (option_and_then redone_at) found) ∙ undone') in
-        record { number = parts.0 ∙ at_number; session = parts.1; change = parts.2 }
+    undone_picked undone' = undone_picked_of ms n e m found (sym (undone_at ms is n ∙ ap (option_and_then redone_at) found) ∙ undone')
 
     module _ (picked : IsPicked m n e) (k : Change) (change : applies m.entry.what ≡ Some k) where
       pub conflict_is : at (last_where (λ x. is_some (stands x) && is_in_conflict (applies x.entry.what) k) (drop n ms)) ≡ num (find_conflict (entries_of ms) e)

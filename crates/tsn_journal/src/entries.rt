@@ -1,5 +1,5 @@
 //! Entries of the journal: which session did what.
-ghost use Rattle.std.specs.Prelude.{◌≡◌, IfOk, is_some, option_map};
+ghost use Rattle.std.specs.Prelude.{◌≡◌, ◌==◌, IfOk, is_some, option_map};
 ghost use Rattle.std.specs.Option.{option_copied};
 ghost use Rattle.tsn_journal.specs.Entries.{adds, applied, applies, takes_back, undoes};
 ghost use Rattle.tsn_journal.specs.Marks.{ends_redo, is_in_conflict, names, stands};
@@ -136,6 +136,13 @@ impl MarkedEntry {
         ensures { result ≡ is_some (stands self.now) }
     {
         self.is_open && self.entry.what.may_stand()
+    }
+
+    /// Whether the entry is the session's.
+    pub(crate) fn is_of(&self, session: u32) -> bool
+        ensures { result ≡ (self.now.entry.session == session) }
+    {
+        self.entry.session == session
     }
 
     /// Whether the entry applied a change in conflict with the earlier one.

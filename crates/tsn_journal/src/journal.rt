@@ -119,18 +119,19 @@ impl Journal {
     {
         latest(
             &self.marked,
-            &|marked: &MarkedEntry| { marked.stands() && marked.entry.session == session },
+            &|marked: &MarkedEntry| { marked.stands() && marked.is_of(session) },
         )
     }
 
     /// The session's newest Undone entry that may be redone: it comes after the session's last edit, and no Redone
     /// entry names it. It takes no memory.
     pub fn redo_of(&self, session: u32) -> Option<u64>
-        ensures { result ≡ option_map (λ x. x.number) (redo_of self.now.entries session) }
+        ensures newest { result ≡ option_map (λ x. x.number) (redo_of self.now.entries session) }
+        ensures undone { IfSome result (λ n. IsSome (undone_entry self.now.entries n)) }
     {
         let newest = last(
             &self.marked,
-            &|marked: &MarkedEntry| { marked.entry.session == session && marked.ends_redo() },
+            &|marked: &MarkedEntry| { marked.is_of(session) && marked.ends_redo() },
         );
         match newest {
             Some(marked) => marked.undone_number(),
@@ -164,7 +165,7 @@ impl Journal {
         latest(
             after(&self.marked, number),
             &|later: &MarkedEntry| {
-                later.stands() && later.entry.session != session && later.conflicts_with(change)
+                later.stands() && !later.is_of(session) && later.conflicts_with(change)
             },
         )
     }

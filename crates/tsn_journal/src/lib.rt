@@ -9,3 +9,6 @@
 pub mod entries;
 mod finding;
 pub mod journal;
+pub mod laws;
+#[cfg(test)]
+mod tests;

@@ -1,15 +1,37 @@
-use Rattle.std.proofs.Common.{sym, ◌∙◌, ap, subst}
-use Rattle.tsn_edit.specs.Configuration.{Configuration}
-use Rattle.tsn_edit.specs.Parts.{Change}
+use Rattle.std.proofs.Common.{◌≡◌, ◌+◌, refl, sym, ◌∙◌, ap, subst, length}
 use Rattle.tsn_edit.specs.Changes.{Fits}
-use Rattle.tsn_edit.specs.Edits.{change_of}
-use Rattle.tsn_config.proofs.Edits.{edit_fits}
-use Rattle.tsn_undo.specs.Steps.{present}
-use Rattle.tsn_undo.proofs.Rewinding.{admitted_now}
+use Rattle.tsn_edit.specs.Edits.{change_of, refusal}
+use Rattle.tsn_edit.specs.Parts.{Change}
+use Rattle.tsn_journal.specs.declared.entries.What.TheVariants.{Made}
+use Rattle.tsn_journal.specs.Entries.{with_entry}
+use Rattle.tsn_undo.specs.Ledger.{Ledger, enter, present}
+use Rattle.tsn_undo.specs.Soundness.{IsSound}
+use Rattle.tsn_undo.proofs.Free.{edit_admitted, is_memory}
+use Rattle.tsn_undo.proofs.Making.{edit_fits_now, edit_sound, makes_edit}
 use Rattle.tsn_undo.proofs.book.Book.try_edit.Goals as goal
 
-pub make-requires-clause-fits : goal.make-requires-clause-fits
-make-requires-clause-fits c =
-    let b = c.args.self.now in
-    subst (λ (e : Change). Fits b.limits (present b) e) (sym (c.in_ok-change.ensures ∙ ap (λ (m : Configuration). change_of m c.args.edit) c.config.ensures.map))
-    (edit_fits b.limits (present b) c.config.ensures.kept c.args.edit (admitted_now b c.args.edit c.requires).0)
+pub change_of-requires : goal.change_of-requires
+change_of-requires c = (λ i. refusal (c.config.ensures.limits i) (c.config.ensures.map i) c.args.edit) ∙ (edit_admitted c.args.self.now.ledger c.args.edit c.requires).0
+
+pub returns-in-Err-clause-memory : goal.returns-in-Err-clause-memory
+returns-in-Err-clause-memory c = is_memory _ c.in-Err.why (edit_admitted c.args.self.now.ledger c.args.edit c.requires).1 c.in-Err.ensures.refused
+
+pub append-requires-clause-fits : goal.append-requires-clause-fits
+append-requires-clause-fits c =
+    let b = c.args.self.now.ledger in
+    let change : c.in_ok-change.change ≡ change_of (present b) c.args.edit = c.in_ok-change.ensures ∙ ap (λ m. change_of m c.args.edit) c.config.ensures.map in
+    subst (λ (t : Ledger × Change). Fits t.0.limits (present t.0) t.1) (λ i. (sym c.reserve.ensures.ledger i, sym change i)) (edit_fits_now b c.args.session c.args.edit c.config.ensures.sound c.requires)
+
+pub append-requires-clause-sound : goal.append-requires-clause-sound
+append-requires-clause-sound c =
+    let b = c.args.self.now.ledger in
+    let copy : c.in_ok-copy.copy ≡ change_of (present b) c.args.edit = c.in_ok-copy.ensures ∙ c.in_ok-change.ensures ∙ ap (λ m. change_of m c.args.edit) c.config.ensures.map in
+    subst (λ (t : Ledger × Change). IsSound t.0.limits t.0.opening (with_entry t.0.entries c.args.session (Made t.1))) (λ i. (sym c.reserve.ensures.ledger i, sym copy i)) (edit_sound b c.args.session c.args.edit c.config.ensures.sound c.requires)
+
+pub returns-clause-ok : goal.returns-clause-ok
+returns-clause-ok c =
+    let b = c.args.self.now.ledger in
+    let copy : c.in_ok-copy.copy ≡ change_of (present b) c.args.edit = c.in_ok-copy.ensures ∙ c.in_ok-change.ensures ∙ ap (λ m. change_of m c.args.edit) c.config.ensures.map in
+    makes_edit b c.args.session c.args.edit c.config.ensures.sound c.requires c.append.result c.append.new.self.ledger
+    (c.append.ensures.number ∙ ap (λ (l : Ledger). length l.entries + 1) c.reserve.ensures.ledger)
+    (c.append.ensures.after ∙ (λ i. enter (c.reserve.ensures.ledger i) c.args.session (Made (copy i))))
