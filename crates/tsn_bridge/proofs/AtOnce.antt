@@ -1,106 +1,139 @@
--- An accepted edit and an undo of the same session as the next step.
-use Rattle.std.proofs.Common.{◌≡◌, ℕ, ◌+◌, Bool, true, false, refl, sym, ◌∙◌, ap, Option, Some, None, inl, inr, length}
-use Rattle.std.specs.Prelude.{MatchOption, ◌⊎◌, nat_lt}
-use Rattle.std.specs.Option.{option_or}
+-- The map after a step, and an accepted edit with an undo of the same session after it.
+use Rattle.std.proofs.Common.{◌≡◌, ℕ, ◌+◌, ◌≤◌, Bool, true, false, [], ◌∷◌, refl, sym, ◌∙◌, ap, subst, Option, Some, None, inl, inr, length, arith}
+use Rattle.std.specs.Prelude.{◌&&◌, ◌⊎◌, nat_le, nat_lt, option_map}
+use Rattle.std.proofs.lemmas.Bool.Decides.{nat_tests}
 use Rattle.tsn_types.specs.declared.refusals.Refusal.{Refusal}
-use Rattle.tsn_types.specs.declared.refusals.Refusal.TheVariants.{JournalFull, Memory, NoSession}
-use Rattle.tsn_types.specs.Limits.{unless, first_cause}
+use Rattle.tsn_types.specs.declared.refusals.Refusal.TheVariants.{JournalFull, Memory}
+use Rattle.tsn_types.specs.Limits.{unless}
 use Rattle.tsn_edit.specs.declared.Edit.{Edit}
-use Rattle.tsn_edit.specs.Edits.{EditInRange, early_causes}
-use Rattle.tsn_edit.proofs.KeyFacts.{by_bool}
-use Rattle.tsn_undo.specs.Entries.{Applied, last_of, undone as taken_back}
+use Rattle.tsn_edit.specs.Changes.{Fits, restored}
+use Rattle.tsn_edit.specs.Edits.{EditInRange, change_of, result}
+use Rattle.tsn_edit.specs.Parts.{inverse}
+use Rattle.tsn_edit.proofs.KeyFacts.{by_option}
+use Rattle.tsn_config.proofs.Edits.{edit_fits}
+use Rattle.tsn_journal.specs.declared.entries.What.TheVariants.{Made}
+use Rattle.tsn_journal.specs.Entries.{Applied, most_entries, no_room, undone as taken_back}
+use Rattle.tsn_journal.specs.Finding.{last_of}
+use Rattle.tsn_undo.specs.Ledger.{Ledger, enter, present}
 use Rattle.tsn_undo.specs.Soundness.{IsSound}
-use Rattle.tsn_undo.specs.Steps.{Edits, TakesBack, full, present, undo_cause, with_entry}
+use Rattle.tsn_undo.specs.Steps.{Edits, IsFree, TakesBack, edit_refusal, undo_refusal}
+use Rattle.tsn_undo.proofs.Adding.{configuration_push}
 use Rattle.tsn_undo.proofs.AtOnce.{free_at_once, undone_at_once}
+use Rattle.tsn_undo.proofs.Free.{edit_admitted}
+use Rattle.tsn_undo.proofs.Making.{changed_is_result, edit_sound, kept_now, makes_edit, makes_undo}
 use Rattle.tsn_bridge.specs.declared.reply.Reply.{Reply}
 use Rattle.tsn_bridge.specs.declared.reply.Reply.TheVariants.{Entry, EntryOf, Refused}
-use Rattle.tsn_bridge.specs.Machine.{EditDone, EditStep, UndoStep, edit_causes, is_given, no_session, undo_causes, with_book}
+use Rattle.tsn_bridge.specs.Edits.{edit_rule, next, undo_rule}
+use Rattle.tsn_bridge.specs.Rule.{Allows, is_given}
 use Rattle.tsn_bridge.specs.State.{State}
-use Rattle.tsn_bridge.proofs.Causes.{causes_given, causes_not_given}
+use Rattle.tsn_bridge.proofs.Stepping.{accepted, given, refused, was_given}
 
--- what stands for a step of a command with the least cause o
-abbrev Now : Option Refusal → Type 0 → State → Reply → State → Type 0
-Now o Done s reply new = MatchOption o (Done ⊎ ((reply ≡ Refused Memory) × (new ≡ s))) (λ why. (reply ≡ Refused why) × (new ≡ s))
+done_of : {A : Type 0} (x y : A) → Some x ≡ Some y → x ≡ y
+done_of x y h = (cc)
 
--- what is answered by no refusal has no cause and is done
-accepted : (o : Option Refusal) (Done : Type 0) (s : State) (reply : Reply) (new : State) → ((why : Refusal) → reply ≡ Refused why → ⊥) → Now o Done s reply new → (o ≡ None) × Done
-accepted None Done s reply new other (inl done) = (refl, done)
-accepted None Done s reply new other (inr memory) = absurd (other Memory memory.0)
-accepted (Some why) Done s reply new other cause = absurd (other why cause.0)
+-- ---- an edit that was answered with an entry
 
--- what is refused has that cause, or none and memory was wanting
-refused : (o : Option Refusal) (Done : Type 0) (s : State) (new : State) (why : Refusal) → (Done → ⊥) → Now o Done s (Refused why) new → (o ≡ Some why) ⊎ (why ≡ Memory)
-refused None Done s new why other (inl done) = absurd (other done)
-refused None Done s new why other (inr memory) = inr (cc)
-refused (Some cause) Done s new why other is = let same : Refused why ≡ Refused cause = is.0 in let also : cause ≡ why = (cc) in inl (ap Some also)
+pub record IsEdited (before : State) (session : ℕ) (edit : Edit) (entry : ℕ) (after : State) : Type 0 where
+  pub known : is_given before session ≡ true
+  pub admitted : edit_refusal before.book edit ≡ None
+  pub number_is : entry ≡ next before
+  pub state : after ≡ record before { book = enter before.book session (Made (change_of (present before.book) edit)) }
 
-stranger : (o : Option Refusal) → option_or o (Some NoSession) ≡ None → ⊥
-stranger None h = (cc)
-stranger (Some x) h = (cc)
+pub edited : (before after : State) (session : ℕ) (edit : Edit) (entry : ℕ) → Allows (edit_rule before session edit) before (Entry entry) after → IsEdited before session edit entry after
+edited before after session edit entry step =
+    let is = accepted (edit_rule before session edit) before (Entry entry) after (λ why h. (cc)) step in
+    let causes = was_given (is_given before session) (edit_refusal before.book edit) is.0 in
+    let pair = done_of _ _ is.1 in
+    let reply : Entry (next before) ≡ Entry entry = ap (λ (p : Reply × State). p.0) pair in
+    record { known = causes.0; admitted = causes.1; number_is = (cc); state = sym (ap (λ (p : Reply × State). p.1) pair) }
 
-no_cause : (a b c : Option Refusal) → option_or a (option_or b (option_or c None)) ≡ None → option_or b c ≡ None
-no_cause None None None h = refl
-no_cause None None (Some x) h = (cc)
-no_cause None (Some x) c h = (cc)
-no_cause (Some x) b c h = (cc)
+-- ---- an undo that was answered with an entry
 
-one_cause : (a b c : Option Refusal) → a ≡ None → option_or a (option_or b (option_or c None)) ≡ option_or b c
-one_cause None None None h = refl
-one_cause None None (Some x) h = refl
-one_cause None (Some x) c h = refl
-one_cause (Some x) b c h = (cc)
+abbrev done_by : State → ℕ → Option Applied → Option (Reply × State)
+done_by s session o = option_map (λ (x : Applied). (EntryOf (next s) x.number, record s { book = enter s.book session (taken_back x) })) o
 
-module _ (before edited : State) (session : ℕ) (edit : Edit) (entry : ℕ) (step : EditStep before session edit (Entry entry) edited) where
-  no_causes : (first_cause (edit_causes before session edit) ≡ None) × EditDone before session edit (Entry entry) edited
-  no_causes = accepted (first_cause (edit_causes before session edit)) (EditDone before session edit (Entry entry) edited) before (Entry entry) edited (λ why h. (cc)) step
+no_refusal : (s : State) (session : ℕ) (o : Option Applied) (why : Refusal) (after : State) → done_by s session o ≡ Some (Refused why, after) → ⊥
+no_refusal s session None why after h = (cc)
+no_refusal s session (Some x) why after h =
+    let pair = done_of _ _ h in
+    let reply : EntryOf (next s) x.number ≡ Refused why = ap (λ (p : Reply × State). p.0) pair in (cc)
 
-  given_out : is_given before session ≡ true
-  given_out = by_bool (is_given before session) (λ h. h)
-      (λ h. absurd (stranger (first_cause (early_causes before.book.limits edit)) (sym (causes_not_given before session edit h) ∙ no_causes.0)))
+pub record IsTakenBack (before : State) (session number of : ℕ) (after : State) : Type 0 where
+  pub free : IsFree before.book session of
+  pub number_is : number ≡ next before
+  pub state : after ≡ record before { book = enter before.book session (taken_back free.newest) }
 
-  pub edits : Edits before.book session edit entry edited.book
-  edits = record {
-    admitted = sym (causes_given before session edit given_out) ∙ no_causes.0;
-    number_is = (let is : Entry entry ≡ Entry (length before.book.entries + 1) = no_causes.1.0 in (cc));
-    after = ap (λ (t : State). t.book) no_causes.1.1;
-  }
-
-  still_given : is_given edited session ≡ true
-  still_given = ap (λ (t : State). is_given t session) no_causes.1.1 ∙ given_out
-
--- an undo that makes an entry is one of the book
-taken : (s : State) (n : ℕ) (number of : ℕ) (new : State) → UndoStep s n (EntryOf number of) new → TakesBack s.book n number of new.book
-taken s n number of new step =
-    let Done = (x : Applied) × (last_of s.book.entries n ≡ Some x) × (EntryOf number of ≡ EntryOf (length s.book.entries + 1) x.number) × (new ≡ with_book s (with_entry s.book (taken_back x))) in
-    let now = accepted (first_cause (undo_causes s n)) Done s (EntryOf number of) new (λ why h. (cc)) step in
-    let is : EntryOf number of ≡ EntryOf (length s.book.entries + 1) now.1.0.number = now.1.2 in
+pub taken : (before after : State) (session number of : ℕ) → Allows (undo_rule before session) before (EntryOf number of) after → IsTakenBack before session number of after
+taken before after session number of step =
+    let is = accepted (undo_rule before session) before (EntryOf number of) after (λ why h. (cc)) step in
+    let causes = was_given (is_given before session) (undo_refusal before.book session) is.0 in
+    by_option (last_of before.book.entries session)
+    (λ none. let never : None ≡ Some (EntryOf number of, after) = sym (ap (done_by before session) none) ∙ is.1 in (cc))
+    (λ x some.
+    let pair = done_of _ _ (sym (ap (done_by before session) some) ∙ is.1) in
+    let reply : EntryOf (next before) x.number ≡ EntryOf number of = ap (λ (p : Reply × State). p.0) pair in
     record {
-      newest = now.1.0;
-      newest_is = now.1.1;
-      free = no_cause (no_session s n) (undo_cause s.book.entries (last_of s.book.entries n)) (full s.book) now.0;
+      free = record { newest = x; newest_is = some; free = causes.1; of_is = (cc) };
       number_is = (cc);
-      of_is = (cc);
-      after = ap (λ (t : State). t.book) now.1.3;
-    }
+      state = sym (ap (λ (p : Reply × State). p.1) pair);
+    })
 
-pub undone : (before edited after : State) (session : ℕ) (edit : Edit) (entry number of : ℕ) → EditInRange edit → IsSound before.book.limits before.book.opening before.book.entries → EditStep before session edit (Entry entry) edited → UndoStep edited session (EntryOf number of) after
-    → (of ≡ entry) × (present after.book ≡ present before.book)
-undone before edited after session edit entry number of ranges sound made' back =
-    undone_at_once before.book edited.book after.book session edit entry number of ranges sound (edits before edited session edit entry made') (taken edited session number of after back)
+-- ---- the map after
 
-only_full : (b : Bool) (why : Refusal) → unless b JournalFull ≡ Some why → why ≡ JournalFull
-only_full true why h = (cc)
-only_full false why h = (cc)
+pub edited_map : (before after : State) (session : ℕ) (edit : Edit) (entry : ℕ) → Allows (edit_rule before session edit) before (Entry entry) after → present after.book ≡ result (present before.book) edit
+edited_map before after session edit entry step =
+    let e = change_of (present before.book) edit in
+    ap (λ (s : State). present s.book) (edited before after session edit entry step).state
+    ∙ configuration_push before.book.opening before.book.entries session (Made e) e refl
+    ∙ changed_is_result (present before.book) edit
 
-pub free : (before edited after : State) (session : ℕ) (edit : Edit) (entry : ℕ) (why : Refusal) → IsSound before.book.limits before.book.opening before.book.entries → EditStep before session edit (Entry entry) edited → UndoStep edited session (Refused why) after
-    → (why ≡ JournalFull) ⊎ (why ≡ Memory)
-free before edited after session edit entry why sound made' back =
-    let Done = (x : Applied) × (last_of edited.book.entries session ≡ Some x) × (Refused why ≡ EntryOf (length edited.book.entries + 1) x.number) × (after ≡ with_book edited (with_entry edited.book (taken_back x))) in
-    let given : no_session edited session ≡ None = ap (λ b. unless b NoSession) (still_given before edited session edit entry made') in
-    let causes : first_cause (undo_causes edited session) ≡ full edited.book =
-    one_cause (no_session edited session) (undo_cause edited.book.entries (last_of edited.book.entries session)) (full edited.book) given
-    ∙ free_at_once before.book edited.book session edit entry sound (edits before edited session edit entry made') in
-    elim (refused (first_cause (undo_causes edited session)) Done edited after why (λ done. let is = done.2 in (cc)) back) as (λ _. (why ≡ JournalFull) ⊎ (why ≡ Memory)) [
-      | inl cause ↦ inl (only_full (nat_lt (length edited.book.entries) 65536) why (sym causes ∙ cause))
-      | inr memory ↦ inr memory
-    ]
+pub taken_map : (before after : State) (session number of : ℕ) → Allows (undo_rule before session) before (EntryOf number of) after
+    → (x : Applied) × (last_of before.book.entries session ≡ Some x) × (of ≡ x.number) × (present after.book ≡ restored (present before.book) x.change)
+taken_map before after session number of step =
+    let is = taken before after session number of step in
+    let x = is.free.newest in (
+      x,
+      is.free.newest_is,
+      is.free.of_is,
+      ap (λ (s : State). present s.book) is.state ∙ configuration_push before.book.opening before.book.entries session (taken_back x) (inverse x.change) refl,
+    )
+
+-- ---- an edit, and an undo of the same session after it
+
+module _ (before edited' between : State) (session : ℕ) (edit : Edit) (entry : ℕ) (ranges : EditInRange edit) (sound : IsSound before.book.limits before.book.opening before.book.entries)
+    (made' : Allows (edit_rule before session edit) before (Entry entry) edited') (same : between.book ≡ edited'.book) where
+  fits_now : Fits before.book.limits (present before.book) (change_of (present before.book) edit)
+  fits_now = edit_fits before.book.limits (present before.book) (kept_now before.book sound) edit ranges (edit_admitted before.book edit (edited before edited' session edit entry made').admitted).0
+
+  makes : Edits before.book session edit entry between.book
+  makes =
+      let is = edited before edited' session edit entry made' in
+      makes_edit before.book session edit sound fits_now is.admitted entry between.book is.number_is (same ∙ ap (λ (s : State). s.book) is.state)
+
+  sound_between : IsSound between.book.limits between.book.opening between.book.entries
+  sound_between = subst (λ (b : Ledger). IsSound b.limits b.opening b.entries) (sym makes.after) (edit_sound before.book session edit sound fits_now)
+
+  pub undone : (after : State) (number of : ℕ) → Allows (undo_rule between session) between (EntryOf number of) after → (of ≡ entry) × (present after.book ≡ present before.book)
+  undone after number of back =
+      let is = taken between after session number of back in
+      undone_at_once before.book between.book after.book session edit entry number of sound makes
+      (makes_undo between.book session of sound_between is.free number after.book is.number_is (ap (λ (s : State). s.book) is.state))
+
+  still : (k n m : ℕ) → n ≤ m → (nat_lt 0 k && nat_le k n) ≡ true → (nat_lt 0 k && nat_le k m) ≡ true
+  still k n m le h = grind (arith, nat_tests)
+
+  only_full : (b : Bool) (why : Refusal) → unless b JournalFull ≡ Some why → why ≡ JournalFull
+  only_full true why h = (cc)
+  only_full false why h = (cc)
+
+  pub free : edited'.sessions ≤ between.sessions → (after : State) (why : Refusal) → Allows (undo_rule between session) between (Refused why) after → (why ≡ JournalFull) ⊎ (why ≡ Memory)
+  free more after why back =
+      let is = edited before edited' session edit entry made' in
+      let known : is_given edited' session ≡ true = ap (λ (s : State). is_given s session) is.state ∙ is.known in
+      let causes = given (is_given between session) (undo_refusal between.book session) (still session edited'.sessions between.sessions more known)
+      ∙ free_at_once before.book between.book session edit entry sound makes in
+      elim (refused (undo_rule between session) between after why
+      (λ done. no_refusal between session (last_of between.book.entries session) why after done) back) as (λ _. (why ≡ JournalFull) ⊎ (why ≡ Memory)) [
+        | inl cause ↦ inl (only_full (nat_le (length between.book.entries + 1) most_entries) why (sym causes ∙ cause))
+        | inr memory ↦ inr memory
+      ]

@@ -1,21 +1,24 @@
 //! The bridge: its book and the sessions that it has given out, stepped by one command at a time.
 //!
-//! A step is a step of the machine that `specs/Machine.antt` defines. Contracts see a bridge as the machine's state.
+//! A step is a step of the machine that `specs/Machine.antt` defines, by one rule a command. Contracts see a bridge as
+//! the machine's state.
 //! A refused command changes nothing; of several causes the one of the least number is answered, and want of memory
 //! only where no other cause holds.
-ghost use Rattle.std.specs.Prelude.{◌≡◌, ◌⊎◌, ℕ, IfOk, IfErr, OnOk, IsTrue, Some, None, []};
-ghost use Rattle.std.specs.Option.{option_or};
-ghost use Rattle.tsn_types.specs.Limits.{first_cause};
+ghost use Rattle.std.specs.Prelude.{◌≡◌, ◌⊎◌, ◌∷◌, [], IfOk, IfErr, OnOk, Some, None};
 ghost use Rattle.tsn_types.specs.declared.refusals.Refusal.TheVariants.{Memory, NoSession};
+ghost use Rattle.tsn_types.specs.Refusals.{least};
 ghost use Rattle.tsn_edit.specs.Configuration.{IsWellKept};
-ghost use Rattle.tsn_edit.specs.Edits.{early_causes};
 ghost use Rattle.tsn_edit.specs.Runs.{run, IsGood};
 ghost use Rattle.tsn_config.specs.Opening.{opening_refusal};
-ghost use Rattle.tsn_undo.specs.Entries.{changes, standing};
+ghost use Rattle.tsn_journal.specs.Entries.{changes, standing};
+ghost use Rattle.tsn_undo.specs.Ledger.{present};
 ghost use Rattle.tsn_undo.specs.Soundness.{IsSound};
-ghost use Rattle.tsn_undo.specs.Steps.{present};
 ghost use Rattle.tsn_bridge.specs.Beginning.{begun, standard_limits};
-ghost use Rattle.tsn_bridge.specs.Machine.{Step, HelloStep, EditStep, UndoStep, ShowStep, ListStep, is_given};
+ghost use Rattle.tsn_bridge.specs.Edits.{edit_rule, undo_rule};
+ghost use Rattle.tsn_bridge.specs.Machine.{Step};
+ghost use Rattle.tsn_bridge.specs.Reads.{list_rule, show_rule};
+ghost use Rattle.tsn_bridge.specs.Rule.{Allows, is_given};
+ghost use Rattle.tsn_bridge.specs.Sessions.{hello_rule};
 
 use crate::command::Command;
 use crate::reply::Reply;
@@ -30,7 +33,7 @@ use tsn_types::refusals::{Field, Refusal};
 use tsn_undo::book::Book;
 
 /// How many sessions a bridge gives out at most.
-pub const MOST_SESSIONS: u32 = 1;
+pub const MOST_SESSIONS: u32 = 65_535;
 
 /// What a bridge begins with: its limits, and the records of its first configuration.
 #[derive(Debug, Drop)]
@@ -70,7 +73,7 @@ impl Model for Bridge {
 
     ghost coded = { state_code };
 
-    ghost view = { λ a. record { book = a.book; sessions = a.sessions } };
+    ghost view = { λ a. record { book = a.book.ledger; sessions = a.sessions } };
 }
 
 impl Bridge {
@@ -124,7 +127,7 @@ impl Bridge {
 
     /// Gives out the next session number. It takes no memory.
     fn hello(&mut self) -> Reply
-        ensures { HelloStep self.old result self.new }
+        ensures { Allows (hello_rule self.old) self.old result self.new }
     {
         if self.sessions >= MOST_SESSIONS {
             return Reply::Refused(Refusal::Range(Field::Session));
@@ -143,41 +146,22 @@ impl Bridge {
     }
 
     fn edit(&mut self, session: u32, edit: Edit) -> Reply
-        ensures { EditStep self.old session edit result self.new }
+        ensures { Allows (edit_rule self.old session edit) self.old result self.new }
     {
-        if self.is_given(session) {
-            return self.edit_given(session, edit);
+        if !self.is_given(session) {
+            return Reply::Refused(stranger(&self.book.refuse_edit(&edit)));
         }
-        Reply::Refused(self.refuse_stranger(&edit))
-    }
-
-    /// An edit of a session that was given out.
-    fn edit_given(&mut self, session: u32, edit: Edit) -> Reply
-        requires { IsTrue (is_given self.old session) }
-        ensures { EditStep self.old session edit result self.new }
-    {
-        let entry = match self.book.edit(session, edit) {
-            Ok(entry) => entry,
-            Err(why) => return Reply::Refused(why),
-        };
-        Reply::Entry { entry }
-    }
-
-    /// Why an edit of a session that was not given out is refused: 3 and 4 come before 5.
-    fn refuse_stranger(&self, edit: &Edit) -> Refusal
-        ensures { Some result ≡ option_or (first_cause (early_causes self.now.book.limits edit.now)) (Some NoSession) }
-    {
-        match self.config().check_early(edit) {
-            Some(why) => why,
-            None => Refusal::NoSession,
+        match self.book.edit(session, edit) {
+            Ok(entry) => Reply::Entry { entry },
+            Err(why) => Reply::Refused(why),
         }
     }
 
     fn undo(&mut self, session: u32) -> Reply
-        ensures { UndoStep self.old session result self.new }
+        ensures { Allows (undo_rule self.old session) self.old result self.new }
     {
         if !self.is_given(session) {
-            return Reply::Refused(Refusal::NoSession);
+            return Reply::Refused(stranger(&self.book.refuse_undo(session)));
         }
         match self.book.undo(session) {
             Ok((entry, of)) => Reply::EntryOf { entry, of },
@@ -186,7 +170,7 @@ impl Bridge {
     }
 
     fn show(&self, session: u32, key: &Key) -> Reply
-        ensures { ShowStep self.now session key.now result self.now }
+        ensures { Allows (show_rule self.now session key.now) self.now result self.now }
     {
         if !self.config().limits().holds(*key) {
             return Reply::Refused(Refusal::Range(Field::Key));
@@ -204,7 +188,7 @@ impl Bridge {
     }
 
     fn list(&self, session: u32, kind: Kind) -> Reply
-        ensures { ListStep self.now session kind result self.now }
+        ensures { Allows (list_rule self.now session kind) self.now result self.now }
     {
         if !self.is_given(session) {
             return Reply::Refused(Refusal::NoSession);
@@ -213,5 +197,22 @@ impl Bridge {
             Ok(ids) => Reply::Ids { ids },
             Err(_) => Reply::Refused(Refusal::Memory),
         }
+    }
+}
+
+/// Why a command of a session that was not given out is refused, where the book would refuse it for this: the cause of
+/// the lesser number.
+fn stranger(why: &Option<Refusal>) -> Refusal
+    ensures { Some result ≡ least (Some NoSession ∷ why.now ∷ []) }
+{
+    match why {
+        Some(found) => {
+            if found.number() < 5 {
+                *found
+            } else {
+                Refusal::NoSession
+            }
+        }
+        None => Refusal::NoSession,
     }
 }

@@ -168,8 +168,44 @@ fn limits_come_before_the_session(rt: HostRuntime) -> Result<(), Fail> {
         refusal_of(step(&mut bridge, 0, Command::Undo)?),
         Some(Refusal::NoSession)
     );
-    let again = step(&mut bridge, 0, Command::Hello)?;
-    assert_eq!(rt; refusal_of(again), Some(Refusal::Range(Field::Session)));
+    Ok(())
+}
+
+#[test]
+fn sessions_are_given_out_until_the_last(rt: HostRuntime) -> Result<(), Fail> {
+    let mut bridge = greeted(&rt, rt.alloc())?;
+    for number in 2..65_536u32 {
+        let reply = step(&mut bridge, 0, Command::Hello)?;
+        assert!(rt; matches!(reply, Reply::Session { session } if session == number));
+    }
+    let more = step(&mut bridge, 0, Command::Hello)?;
+    assert_eq!(rt; refusal_of(more), Some(Refusal::Range(Field::Session)));
+    assert!(rt; is_entry(create(&mut bridge, 65_535, 1)?, 1));
+    assert_eq!(rt;
+        refusal_of(create(&mut bridge, 65_536, 2)?),
+        Some(Refusal::NoSession)
+    );
+    Ok(())
+}
+
+/// A planner's undo stands against a colleague's later edit of the same meter, until the colleague takes that back.
+#[test]
+fn sessions_are_kept_apart(rt: HostRuntime) -> Result<(), Fail> {
+    let mut bridge = greeted(&rt, rt.alloc())?;
+    let second = step(&mut bridge, 0, Command::Hello)?;
+    assert!(rt; matches!(second, Reply::Session { session: 2 }));
+    assert!(rt; is_entry(create(&mut bridge, 1, 5)?, 1));
+    let removal = step(&mut bridge, 2, Command::Remove { key: meter_key(5) })?;
+    assert!(rt; is_entry(removal, 2));
+    let conflict = Refusal::Conflict { own: 1, other: 2 };
+    assert_eq!(rt;
+        refusal_of(step(&mut bridge, 1, Command::Undo)?),
+        Some(conflict)
+    );
+    let undone = step(&mut bridge, 2, Command::Undo)?;
+    assert!(rt; matches!(undone, Reply::EntryOf { entry: 3, of: 2 }));
+    let undone = step(&mut bridge, 1, Command::Undo)?;
+    assert!(rt; matches!(undone, Reply::EntryOf { entry: 4, of: 1 }));
     Ok(())
 }
 
@@ -218,4 +254,6 @@ fn a_setup_with_an_absent_gate_is_refused(rt: HostRuntime) -> Result<(), Fail> {
 #[test]
 fn laws_have_nothing_to_run() {
     laws::edit_at_once_undone();
+    laws::maps_after_steps();
+    laws::limits();
 }

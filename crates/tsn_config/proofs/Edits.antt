@@ -18,6 +18,7 @@ use Rattle.tsn_edit.specs.Configuration.{Configuration, put, IsWellKept}
 use Rattle.tsn_types.specs.Limits.{HoldsKey, HoldsRecord, unless, first_cause, holds_key, out_of_limits}
 use Rattle.tsn_edit.specs.Changes.{Fits}
 use Rattle.tsn_edit.specs.Edits.{EditInRange, is_of_kind, is_port, dangling, causes, refusal, change_of}
+use Rattle.tsn_edit.proofs.Ordered.{refusal-first}
 use Rattle.tsn_edit.proofs.KeyFacts.{by_bool, get-put, one_key}
 use Rattle.tsn_types.proofs.Causes.{each_none, option_or_parts, unless-None}
 
@@ -115,13 +116,13 @@ module _ (l : Limits) (c : Configuration) (kept : IsWellKept l c) where
   pub edit_fits : (edit : Edit) → EditInRange edit → refusal l c edit ≡ None → Fits l c (change_of c edit)
   unfolding IsDistinct
   edit_fits (Create k r) ranges h =
-      let none = each_none (causes l c (Create k r)) h in
+      let none = each_none (causes l c (Create k r)) (sym (refusal-first l c (Create k r)) ∙ h) in
       record { distinct = (tt, tt); stands = (refl, tt); kept = fits_put k r ranges (unless-None _ _ none.0) (unless-None _ _ none.1.0) none.1.1.0 none.1.1.1.1.0 }
   edit_fits (Replace k r) ranges h =
-      let none = each_none (causes l c (Replace k r)) h in
+      let none = each_none (causes l c (Replace k r)) (sym (refusal-first l c (Replace k r)) ∙ h) in
       record { distinct = (tt, tt); stands = (refl, tt); kept = fits_put k r ranges (unless-None _ _ none.0) (unless-None _ _ none.1.0) none.1.1.0 none.1.1.1.1.0 }
   edit_fits (Remove k) ranges h =
-      let none = each_none (causes l c (Remove k)) h in
+      let none = each_none (causes l c (Remove k)) (sym (refusal-first l c (Remove k)) ∙ h) in
       record {
         distinct = (tt, tt);
         stands = (refl, tt);

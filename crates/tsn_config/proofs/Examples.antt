@@ -1,5 +1,5 @@
 -- Worked examples of the definitions alone, with literals.
-use Rattle.std.proofs.Common.{◌≡◌, ℕ, true, false, cond, List, [], ◌∷◌, refl, ap, Option, Some, None}
+use Rattle.std.proofs.Common.{◌≡◌, ◌∙◌, ℕ, true, false, cond, List, [], ◌∷◌, refl, ap, Option, Some, None}
 use Rattle.std.specs.Prelude.{find, option_map, replicate}
 use Rattle.std.specs.FinMap.{empty, entries, entries-insert, from_entries, get, get-empty, get-from_entries, get-insert, insert, put}
 use Rattle.tsn_types.specs.declared.keys.Key.{Key}
@@ -13,7 +13,9 @@ use Rattle.tsn_types.specs.declared.refusals.Refusal.TheVariants.{Shape, Range, 
 use Rattle.tsn_types.specs.Keys.{has, key_cmp, refs, same_key}
 use Rattle.tsn_edit.specs.declared.Edit.TheVariants.{Create, Replace, Remove}
 use Rattle.tsn_edit.specs.Configuration.{Configuration}
-use Rattle.tsn_edit.specs.Edits.{referrer, refusal}
+use Rattle.tsn_edit.specs.Edits.{causes, referrer, refusal}
+use Rattle.tsn_edit.proofs.Ordered.{refusal-first}
+use Rattle.tsn_types.specs.Limits.{first_cause}
 use Rattle.tsn_edit.proofs.KeyFacts.{keys_total}
 use Rattle.tsn_config.specs.Opening.{default_port, default_ports, opening, opening_refusal}
 use Rattle.tsn_config.proofs.Listed.{from_sorted_list}
@@ -60,19 +62,19 @@ gate_twice : refusal limits now (Create (Gate 0) gate) ≡ Some (Exists (Gate 0)
 gate_twice = simp (inserted, none_at)
 
 gate_beyond : (c : Configuration) → refusal limits c (Create (Gate 16) gate) ≡ Some (Range fields.Key)
-gate_beyond c = refl
+gate_beyond c = refusal-first limits c (Create (Gate 16) gate)
 
 list_beyond : (c : Configuration) → refusal limits c (Create (Gate 1) (gate_with (replicate 17 entry))) ≡ Some (Range fields.List)
-list_beyond c = refl
+list_beyond c = refusal-first limits c (Create (Gate 1) (gate_with (replicate 17 entry)))
 
 longest_list : refusal limits now (Create (Gate 1) (gate_with (replicate 16 entry))) ≡ None
 longest_list = simp (inserted, none_at)
 
 reference_beyond : (c : Configuration) → refusal limits c (Create (Filter 4) (filter 16 None)) ≡ Some (Range fields.Gate)
-reference_beyond c = refl
+reference_beyond c = refusal-first limits c (Create (Filter 4) (filter 16 None))
 
 meter_beyond : (c : Configuration) → refusal limits c (Create (Filter 4) (filter 9 (Some 16))) ≡ Some (Range fields.Meter)
-meter_beyond c = refl
+meter_beyond c = refusal-first limits c (Create (Filter 4) (filter 9 (Some 16)))
 
 gate_absent : refusal limits now (Create (Filter 4) (filter 9 None)) ≡ Some (Dangling (Gate 9))
 gate_absent = simp (inserted, none_at)
@@ -93,20 +95,20 @@ replace_absent : refusal limits now (Replace (Meter 9) meter) ≡ Some (Missing 
 replace_absent = simp (inserted, none_at)
 
 remove_absent : refusal limits now (Remove (Gate 9)) ≡ Some (Missing (Gate 9))
-remove_absent = simp (inserted, none_at)
+remove_absent = let first : first_cause (causes limits now (Remove (Gate 9))) ≡ Some (Missing (Gate 9)) = simp (inserted, none_at) in refusal-first limits now (Remove (Gate 9)) ∙ first
 
 -- a port is never removed, and one within the limits is there already
 port_removed : (c : Configuration) → refusal limits c (Remove (Port 1)) ≡ Some Shape
-port_removed c = refl
+port_removed c = refusal-first limits c (Remove (Port 1))
 
 port_created : refusal limits now (Create (Port 1) default_port) ≡ Some (Exists (Port 1))
 port_created = simp (inserted, none_at)
 
 port_beyond : (c : Configuration) → refusal limits c (Create (Port 3) default_port) ≡ Some (Range fields.Key)
-port_beyond c = refl
+port_beyond c = refusal-first limits c (Create (Port 3) default_port)
 
 other_kind : (c : Configuration) → refusal limits c (Create (Gate 16) meter) ≡ Some Shape
-other_kind c = refl
+other_kind c = refusal-first limits c (Create (Gate 16) meter)
 
 -- a key in use is not removed; of filters that use it the least is named
 gate_in_use : referrer now (Gate 0) ≡ Some (Referred (Filter 3))

@@ -5,7 +5,8 @@
 ghost use Rattle.std.specs.Prelude.{◌≡◌, IfOk, None};
 ghost use Rattle.tsn_types.specs.Limits.{first_cause};
 ghost use Rattle.tsn_edit.specs.Changes.{Fits};
-ghost use Rattle.tsn_edit.specs.Edits.{refusal, early_causes, late_causes, change_of, referrer, is_of_kind, is_port, limit_causes};
+ghost use Rattle.tsn_edit.specs.Edits.{refusal, causes, change_of, referrer, is_of_kind, is_port, limit_causes};
+ghost use Rattle.tsn_edit.specs.declared.Edit.TheVariants.{Create, Replace, Remove};
 
 use crate::Config;
 use std::alloc::AllocError;
@@ -22,56 +23,53 @@ impl Config {
     pub fn check(&self, edit: &Edit) -> Option<Refusal>
         ensures { result ≡ refusal self.now.limits self.now.map edit.now }
     {
-        if let Some(why) = self.check_early(edit) {
+        match edit {
+            Edit::Create(key, value) => self.refuse_create(key, value),
+            Edit::Replace(key, value) => self.refuse_replace(key, value),
+            Edit::Remove(key) => self.refuse_remove(key),
+        }
+    }
+
+    // Why the record is not created at the key, in the order of the causes' numbers.
+    fn refuse_create(&self, key: &Key, value: &Record) -> Option<Refusal>
+        ensures { result ≡ first_cause (causes self.now.limits self.now.map (Create key.now value.now)) }
+    {
+        if let Some(why) = refuse_limits(self.limits, key, value) {
             return Some(why);
         }
-        self.check_late(edit)
+        if self.rows.has(*key) {
+            return Some(Refusal::Exists(*key));
+        }
+        self.rows.dangling(value)
     }
 
-    /// Why the edit is refused whatever the configuration holds: 3 for a record of another kind than its key and for
-    /// the removal of a port, 4 for what is outside the limits. It takes no memory.
-    pub fn check_early(&self, edit: &Edit) -> Option<Refusal>
-        ensures { result ≡ first_cause (early_causes self.now.limits edit.now) }
+    // Why the record does not take the place of the one at the key.
+    fn refuse_replace(&self, key: &Key, value: &Record) -> Option<Refusal>
+        ensures { result ≡ first_cause (causes self.now.limits self.now.map (Replace key.now value.now)) }
     {
-        match edit {
-            Edit::Create(key, value) => refuse_limits(self.limits, key, value),
-            Edit::Replace(key, value) => refuse_limits(self.limits, key, value),
-            Edit::Remove(key) => {
-                if is_port(key) {
-                    return Some(Refusal::Shape);
-                }
-                if !self.limits.holds(*key) {
-                    return Some(Refusal::Range(Field::Key));
-                }
-                None
-            }
+        if let Some(why) = refuse_limits(self.limits, key, value) {
+            return Some(why);
         }
+        if !self.rows.has(*key) {
+            return Some(Refusal::Missing(*key));
+        }
+        self.rows.dangling(value)
     }
 
-    // Why the edit is refused by what the configuration holds.
-    fn check_late(&self, edit: &Edit) -> Option<Refusal>
-        ensures { result ≡ first_cause (late_causes self.now.map edit.now) }
+    // Why the record at the key is not removed.
+    fn refuse_remove(&self, key: &Key) -> Option<Refusal>
+        ensures { result ≡ first_cause (causes self.now.limits self.now.map (Remove key.now)) }
     {
-        match edit {
-            Edit::Create(key, value) => {
-                if self.rows.has(*key) {
-                    return Some(Refusal::Exists(*key));
-                }
-                self.rows.dangling(value)
-            }
-            Edit::Replace(key, value) => {
-                if !self.rows.has(*key) {
-                    return Some(Refusal::Missing(*key));
-                }
-                self.rows.dangling(value)
-            }
-            Edit::Remove(key) => {
-                if !self.rows.has(*key) {
-                    return Some(Refusal::Missing(*key));
-                }
-                self.referrer(key)
-            }
+        if is_port(key) {
+            return Some(Refusal::Shape);
         }
+        if !self.limits.holds(*key) {
+            return Some(Refusal::Range(Field::Key));
+        }
+        if !self.rows.has(*key) {
+            return Some(Refusal::Missing(*key));
+        }
+        self.referrer(key)
     }
 
     /// The change of an admitted edit: the key with the value that stands there and the one that the edit puts there.

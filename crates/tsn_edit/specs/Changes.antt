@@ -3,7 +3,7 @@ use Rattle.std.specs.Prelude.{◌≡◌, Bool, ◌||◌, List, [], ◌∷◌, ma
 use Rattle.std.specs.List.{AllByRecursion, IsDistinct}
 use Rattle.std.specs.FinMap.{get}
 use Rattle.tsn_types.specs.declared.keys.Key.{Key}
-use Rattle.tsn_edit.specs.Parts.{Change, Part, parts}
+use Rattle.tsn_edit.specs.Parts.{Change, Part, inverse, parts}
 use Rattle.tsn_types.specs.declared.limits.Limits.{Limits}
 use Rattle.tsn_types.specs.Keys.{same_key, meets, refs_of}
 use Rattle.tsn_edit.specs.Configuration.{Configuration, put, IsWellKept}
@@ -26,6 +26,10 @@ put_all c (p ∷ ps) = put (put_all c ps) p.key p.after
 -- what the change leaves of c
 abbrev pub after_change : Configuration → Change → Configuration
 after_change c e = put_all c (parts e)
+
+-- c with the change's values before put back
+abbrev pub restored : Configuration → Change → Configuration
+restored c e = changed c (inverse e)
 
 -- every value before stands in c
 abbrev pub Stands : Configuration → List Part → Type 0

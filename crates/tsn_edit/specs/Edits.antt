@@ -11,10 +11,11 @@ use Rattle.tsn_types.specs.declared.refusals.Refusal.{Refusal}
 use Rattle.tsn_types.specs.declared.refusals.Refusal.TheVariants.{Shape, Range, Missing, Exists, Dangling, Referred}
 use Rattle.tsn_types.specs.InRange.{RecordInRange}
 use Rattle.tsn_types.specs.Keys.{has, refs}
+use Rattle.tsn_types.specs.Refusals.{least}
 use Rattle.tsn_types.specs.Limits.{unless, first_cause, holds_key, out_of_limits}
 use Rattle.tsn_edit.specs.declared.Edit.{Edit}
 use Rattle.tsn_edit.specs.declared.Edit.TheVariants.{Create, Replace, Remove}
-use Rattle.tsn_edit.specs.Configuration.{Configuration}
+use Rattle.tsn_edit.specs.Configuration.{Configuration, put}
 use Rattle.tsn_edit.specs.Parts.{Change}
 
 -- whether the record is of the key's kind
@@ -43,25 +44,16 @@ referrer c k = option_map (λ e. Referred e.0) (find (λ e. has (refs e.1) k) (e
 abbrev pub limit_causes : Limits → Key → Record → List (Option Refusal)
 limit_causes l k r = unless (is_of_kind k r) Shape ∷ unless (holds_key l k) (Range KeyField) ∷ out_of_limits l r ∷ []
 
--- what refuses an edit in every configuration; a port is never removed
-abbrev pub early_causes : Limits → Edit → List (Option Refusal)
-early_causes l (Create k r) = limit_causes l k r
-early_causes l (Replace k r) = limit_causes l k r
-early_causes l (Remove k) = unless (not (is_port k)) Shape ∷ unless (holds_key l k) (Range KeyField) ∷ []
-
--- what refuses it in c: the key is absent or present, a reference is absent, a filter refers to the key
-abbrev pub late_causes : Configuration → Edit → List (Option Refusal)
-late_causes c (Create k r) = unless (is_none (get c k)) (Exists k) ∷ dangling c r ∷ []
-late_causes c (Replace k r) = unless (is_some (get c k)) (Missing k) ∷ dangling c r ∷ []
-late_causes c (Remove k) = unless (is_some (get c k)) (Missing k) ∷ referrer c k ∷ []
-
--- the causes, in the order of their numbers
+-- why an edit is refused in c, in the order of numbers: beside the limits the key is absent or present, a reference is
+-- absent, a filter refers to the key; and a port is never removed
 abbrev pub causes : Limits → Configuration → Edit → List (Option Refusal)
-causes l c edit = early_causes l edit ++ late_causes c edit
+causes l c (Create k r) = limit_causes l k r ++ (unless (is_none (get c k)) (Exists k) ∷ dangling c r ∷ [])
+causes l c (Replace k r) = limit_causes l k r ++ (unless (is_some (get c k)) (Missing k) ∷ dangling c r ∷ [])
+causes l c (Remove k) = unless (not (is_port k)) Shape ∷ unless (holds_key l k) (Range KeyField) ∷ unless (is_some (get c k)) (Missing k) ∷ referrer c k ∷ []
 
 -- the cause of the least number, if there is one; an edit is admitted where there is none
 abbrev pub refusal : Limits → Configuration → Edit → Option Refusal
-refusal l c edit = first_cause (causes l c edit)
+refusal l c edit = least (causes l c edit)
 
 -- the key's value in c before, and what the edit puts there after
 abbrev pub change_of : Configuration → Edit → Change
@@ -74,3 +66,9 @@ abbrev pub EditInRange : Edit → Type 0
 EditInRange (Create k r) = RecordInRange r
 EditInRange (Replace k r) = RecordInRange r
 EditInRange (Remove k) = Unit {0}
+
+-- what an edit makes of c: the key with the record, or without one
+abbrev pub result : Configuration → Edit → Configuration
+result c (Create k r) = put c k (Some r)
+result c (Replace k r) = put c k (Some r)
+result c (Remove k) = put c k None

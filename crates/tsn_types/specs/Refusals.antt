@@ -1,5 +1,5 @@
--- The numbers and names of refusals, and the names of members.
-use Rattle.std.specs.Prelude.{ℕ, List, codes}
+-- The numbers and names of refusals, the least of several, and the names of members.
+use Rattle.std.specs.Prelude.{◌≡◌, ℕ, List, [], ◌∷◌, Option, Some, None, nat_lt, if◌then◌else◌, codes}
 use Rattle.tsn_types.specs.declared.refusals.Field.{Field}
 use Rattle.tsn_types.specs.declared.refusals.Field.TheVariants as fields
 use Rattle.tsn_types.specs.declared.refusals.Refusal.{Refusal}
@@ -25,6 +25,22 @@ number_of refusals.EmptyList = 15
 number_of refusals.Past = 16
 number_of refusals.JournalFull = 17
 number_of refusals.Memory = 18
+
+-- of two causes the one of the lesser number, and of two with one number the first
+abbrev pub lesser : Option Refusal → Option Refusal → Option Refusal
+lesser None b = b
+lesser (Some a) None = Some a
+lesser (Some a) (Some b) = if nat_lt (number_of b) (number_of a) then Some b else Some a
+
+-- of several causes the one of the least number, if there is any
+abbrev pub least : List (Option Refusal) → Option Refusal
+least [] = None
+least (o ∷ os) = lesser o (least os)
+
+-- a call is refused by its least cause, or for want of memory where there is none
+abbrev pub IsLeastOrMemory : Option Refusal → Refusal → Type 0
+IsLeastOrMemory None why = why ≡ refusals.Memory
+IsLeastOrMemory (Some cause) why = why ≡ cause
 
 -- a refusal's name in a reply
 abbrev pub name_of : Refusal → List ℕ

@@ -1,7 +1,6 @@
 pub mod Adding
 pub mod AtOnce
-pub mod Latest
-pub mod Marking
-pub mod Numbers
+pub mod Free
+pub mod Making
 pub mod Rewinding
 pub mod Undoing

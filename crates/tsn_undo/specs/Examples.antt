@@ -1,12 +1,14 @@
 -- Journals of two worked examples, by hand: the first run of a script, and an undo that a colleague's removal blocks.
 use Rattle.std.specs.Prelude.{ℕ, List, [], ◌∷◌, Option, Some, None, true, false}
+use Rattle.std.specs.List.{fold}
 use Rattle.tsn_types.specs.declared.keys.Key.{Key}
 use Rattle.tsn_types.specs.declared.keys.Key.TheVariants.{Filter, Gate}
 use Rattle.tsn_types.specs.declared.records.Record.{Record}
 use Rattle.tsn_types.specs.declared.records.Record.TheVariants.{Filter as FilterRecord, Gate as GateRecord}
 use Rattle.tsn_edit.specs.Parts.{Change}
-use Rattle.tsn_undo.specs.declared.entries.Entry.{Entry}
-use Rattle.tsn_undo.specs.Entries.{Applied, made}
+use Rattle.tsn_journal.specs.declared.entries.Entry.{Entry}
+use Rattle.tsn_journal.specs.declared.entries.What.TheVariants.{Made}
+use Rattle.tsn_journal.specs.Entries.{Applied, with_entry}
 
 -- an open gate with an empty list
 abbrev pub gate : Record
@@ -22,13 +24,13 @@ change k before after = record { key = k; before = before; after = after }
 abbrev pub applied : ℕ → ℕ → Change → Applied
 applied number session e = record { number = number; session = session; change = e }
 
+-- the entries of these edits, each with its session and its change
+abbrev pub edits : List (ℕ × Change) → List Entry
+edits cs = fold (λ es c. with_entry es c.0 (Made c.1)) [] cs
+
 -- create gate 0, create filter 3, remove filter 3
 abbrev pub first_run : List Entry
-first_run =
-    made 1 (change (Gate 0) None (Some gate))
-    ∷ made 1 (change (Filter 3) None (Some (filter 0)))
-    ∷ made 1 (change (Filter 3) (Some (filter 0)) None)
-    ∷ []
+first_run = edits ((1, change (Gate 0) None (Some gate)) ∷ (1, change (Filter 3) None (Some (filter 0))) ∷ (1, change (Filter 3) (Some (filter 0)) None) ∷ [])
 
 abbrev pub removal : Applied
 removal = applied 3 1 (change (Filter 3) (Some (filter 0)) None)
@@ -39,12 +41,12 @@ creation = applied 2 1 (change (Filter 3) None (Some (filter 0)))
 -- session 1 creates gates 0 and 1 and filter 3 on gate 0, and puts the filter on gate 1; session 2 removes gate 0
 abbrev pub blocked : List Entry
 blocked =
-    made 1 (change (Gate 0) None (Some gate))
-    ∷ made 1 (change (Gate 1) None (Some gate))
-    ∷ made 1 (change (Filter 3) None (Some (filter 0)))
-    ∷ made 1 (change (Filter 3) (Some (filter 0)) (Some (filter 1)))
-    ∷ made 2 (change (Gate 0) (Some gate) None)
-    ∷ []
+    edits ((1, change (Gate 0) None (Some gate))
+    ∷ (1, change (Gate 1) None (Some gate))
+    ∷ (1, change (Filter 3) None (Some (filter 0)))
+    ∷ (1, change (Filter 3) (Some (filter 0)) (Some (filter 1)))
+    ∷ (2, change (Gate 0) (Some gate) None)
+    ∷ [])
 
 abbrev pub replacement : Applied
 replacement = applied 4 1 (change (Filter 3) (Some (filter 0)) (Some (filter 1)))

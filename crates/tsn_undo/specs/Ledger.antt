@@ -1,7 +1,7 @@
--- A book as its limits, its opening and its entries. The opening is not kept: it is what rewinding gives.
-use Rattle.std.specs.Prelude.{◌≡◌, ◌≤◌, refl, List, [], ◌∷◌, Bool, length}
+-- A book as its limits, its opening and its entries, with its room. The opening is not kept: it is what rewinding gives.
+use Rattle.std.specs.Prelude.{◌≡◌, ℕ, refl, List, [], ◌∷◌}
 use Rattle.std.specs.FinMap.{code}
-use Rattle.std.specs.Coded.{Coded, code_by, coded×, coded_list}
+use Rattle.std.specs.Coded.{Coded, code_by, coded×, coded_list, coded_ℕ}
 use Rattle.tsn_types.specs.contracts.limits.Limits as limits_row
 use Rattle.tsn_types.specs.contracts.keys.Key as key_row
 use Rattle.tsn_types.specs.contracts.records.Record as record_row
@@ -9,20 +9,36 @@ use Rattle.tsn_types.specs.declared.limits.Limits.{Limits}
 use Rattle.tsn_edit.specs.Parts.{Change, inverse}
 use Rattle.tsn_edit.specs.Configuration.{Configuration}
 use Rattle.tsn_edit.specs.Changes.{after_change}
-use Rattle.tsn_undo.specs.contracts.entries.Entry as entry_row
-use Rattle.tsn_undo.specs.declared.entries.Entry.{Entry}
-use Rattle.tsn_undo.specs.Entries.{changes, collect, applies, configuration}
-use Rattle.tsn_undo.specs.Marks.{marks}
-use Rattle.tsn_undo.specs.Soundness.{IsSound}
+use Rattle.tsn_journal.specs.contracts.entries.Entry as entry_row
+use Rattle.tsn_journal.specs.declared.entries.Entry.{Entry}
+use Rattle.tsn_journal.specs.declared.entries.What.{What}
+use Rattle.tsn_journal.specs.Entries.{applies, changes, collect, with_entry}
+use Rattle.tsn_undo.specs.Soundness.{IsSound, configuration}
 
 pub record Ledger : Type 0 where
   pub limits : Limits
   pub opening : Configuration
   pub entries : List Entry
 
+-- a ledger, and how many entries more the book certainly has room for
+pub record LedgerWithRoom : Type 0 where
+  pub ledger : Ledger
+  pub spare : ℕ
+
 abbrev pub ledger_code : Coded Ledger
 ledger_code =
     code_by (Limits × (Configuration × List Entry)) (coded× limits_row.the_row.coded (coded× (code key_row.the_row.coded record_row.the_row.coded) (coded_list entry_row.the_row.coded))) (λ s. (s.limits, (s.opening, s.entries))) (λ p. record { limits = p.0; opening = p.1.0; entries = p.1.1 }) (λ _. refl)
+
+abbrev pub ledger_with_room_code : Coded LedgerWithRoom
+ledger_with_room_code = code_by (Ledger × ℕ) (coded× ledger_code coded_ℕ) (λ s. (s.ledger, s.spare)) (λ p. record { ledger = p.0; spare = p.1 }) (λ _. refl)
+
+-- the configuration to which the entries have led
+abbrev pub present : Ledger → Configuration
+present b = configuration b.opening b.entries
+
+-- the ledger with one entry more
+abbrev pub enter : Ledger → ℕ → What → Ledger
+enter b s w = record b { entries = with_entry b.entries s w }
 
 -- where changes that ended in c began: their inverses, the last one first
 abbrev pub rewound : Configuration → List Change → Configuration
@@ -30,11 +46,9 @@ rewound c [] = c
 rewound c (e ∷ es) = after_change (rewound c es) (inverse e)
 
 abbrev pub opening_of : Configuration → List Entry → Configuration
-opening_of c es = rewound c (changes (collect applies 1 es))
+opening_of c es = rewound c (changes (collect applies es))
 
--- the entries are sound from the opening and end in c; there is room for no more than 65,536; each is marked
-pub record IsBook (l : Limits) (c : Configuration) (es : List Entry) (stands : List Bool) : Type 0 where
+-- the entries are sound from the opening and end in c
+pub record IsBook (l : Limits) (c : Configuration) (es : List Entry) : Type 0 where
   pub sound : IsSound l (opening_of c es) es
   pub is : configuration (opening_of c es) es ≡ c
-  pub few : length es ≤ 65536
-  pub marked : stands ≡ marks es

@@ -1,13 +1,12 @@
-//! The book: a configuration with the journal of what was done to it.
+//! The book: the configuration with its journal, and undo.
 //!
-//! `Book::edit` makes an admitted edit and `Book::undo` takes back a session's newest standing entry. What entries
-//! mean, which of them stand, and what each call leaves is defined in `specs/`; the law that an edit at once undone
-//! leaves the configuration as it was stands in `laws`.
+//! A `Book` makes the edits that the configuration admits, enters each in its journal, and takes back a session's
+//! newest standing entry. Its definitions stand in `specs/`: what an edit and an undo leave and why they are refused
+//! in `Steps.antt`, what a book always keeps in `Soundness.antt`. Which entries stand and what conflicts is the
+//! journal's to say.
 #![tactic(auto)]
 
 pub mod book;
-pub mod entries;
-mod finding;
 pub mod laws;
 #[cfg(test)]
 mod tests;

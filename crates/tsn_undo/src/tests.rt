@@ -2,13 +2,12 @@
 ghost use Rattle.std.specs.Prelude.{◌≤◌};
 
 use crate::book::Book;
-use crate::entries::What;
 use crate::laws;
 use std::alloc::Global;
 use std::test::Fail;
 use tsn_config::Config;
 use tsn_config::records::Records;
-use tsn_edit::{Change, Edit};
+use tsn_edit::Edit;
 use tsn_types::keys::Key;
 use tsn_types::limits::Limits;
 use tsn_types::numbers::{BitRate, MeterId, Octets};
@@ -74,7 +73,7 @@ fn an_undone_removal_is_whole(rt: HostRuntime) -> Result<(), Fail> {
     assert!(rt; is_meter(&book, meter_key(3)));
     assert_eq!(rt; book.undo(1), Ok((4, 1)));
     assert_eq!(rt; book.undo(1), Err(Refusal::NothingToUndo));
-    assert_eq!(rt; book.len(), 4);
+    assert_eq!(rt; book.journal().len(), 4);
     Ok(())
 }
 
@@ -110,11 +109,41 @@ fn a_full_journal_takes_no_more(rt: HostRuntime) -> Result<(), Fail> {
 }
 
 #[test]
-fn an_entry_tells_its_change(rt: HostRuntime) {
-    let change = Change {
-        key: meter_key(5),
-        before: None,
-        after: Some(meter()),
+fn a_conflict_comes_before_a_full_journal(rt: HostRuntime) -> Result<(), Fail> {
+    let mut book = book(rt.alloc())?;
+    fill(&mut book, 32_767)?;
+    assert_eq!(rt; book.edit(1, create(1)), Ok(65_535));
+    assert_eq!(rt; book.edit(2, remove(1)), Ok(65_536));
+    let conflict = Refusal::Conflict {
+        own: 65_535,
+        other: 65_536,
     };
-    assert_eq!(rt; What::Made(change).change().key, meter_key(5));
+    assert_eq!(rt; book.undo(1), Err(conflict));
+    assert_eq!(rt; book.refuse_undo(1), Some(conflict));
+    assert_eq!(rt; book.undo(2), Err(Refusal::JournalFull));
+    assert_eq!(rt; book.refuse_edit(&create(2)), Some(Refusal::JournalFull));
+    Ok(())
+}
+
+#[test]
+fn a_session_of_any_number_is_kept_apart(rt: HostRuntime) -> Result<(), Fail> {
+    let mut book = book(rt.alloc())?;
+    assert_eq!(rt; book.edit(60_000, create(1)), Ok(1));
+    assert_eq!(rt; book.edit(59_999, create(2)), Ok(2));
+    let first = book.journal().entry(1).ok_or("no first entry")?;
+    assert_eq!(rt; first.session, 60_000);
+    assert_eq!(rt; book.undo(60_001), Err(Refusal::NothingToUndo));
+    assert_eq!(rt; book.undo(60_000), Ok((3, 1)));
+    assert!(rt; !is_meter(&book, meter_key(1)) && is_meter(&book, meter_key(2)));
+    Ok(())
+}
+
+#[test]
+fn room_is_made_for_as_many_as_a_journal_holds(rt: HostRuntime) -> Result<(), Fail> {
+    let mut book = book(rt.alloc())?;
+    assert_eq!(rt; book.reserve(65_537), Err(Refusal::JournalFull));
+    assert_eq!(rt; book.reserve(2), Ok(()));
+    assert_eq!(rt; book.edit(1, create(1)), Ok(1));
+    assert_eq!(rt; book.journal().len(), 1);
+    Ok(())
 }

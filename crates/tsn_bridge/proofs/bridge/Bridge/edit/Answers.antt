@@ -1,12 +1,14 @@
-use Rattle.std.proofs.Common.{refl, sym, ◌∙◌, Some}
-use Rattle.tsn_bridge.specs.Machine.{edit_causes, EditDone}
-use Rattle.tsn_bridge.specs.declared.reply.Reply.TheVariants.{Refused}
-use Rattle.tsn_bridge.proofs.Causes.{causes_not_given, refused}
+use Rattle.std.proofs.Common.{◌≡◌, true, sym}
+use Rattle.tsn_bridge.specs.Rule.{is_given}
+use Rattle.tsn_bridge.proofs.Stepping.{edit_refused, edit_step}
 use Rattle.tsn_bridge.proofs.bridge.Bridge.edit.Goals as goal
+use Rattle.tsn_bridge.proofs.bridge.Bridge.edit.Goals.{in-Ok, in-Err}
 
 pub returns : goal.returns
 returns c =
-    let s = c.args.self.now in
-    let why = c.refuse_stranger.result in
-    refused (edit_causes s c.args.session c.args.edit) (EditDone s c.args.session c.args.edit (Refused why) s) s (Refused why) s (Some why) why
-    (causes_not_given s c.args.session c.args.edit (sym c.is_given.ensures ∙ c.if-is_given.false) ∙ sym c.refuse_stranger.ensures) refl refl refl
+    let i = c.self.inside in
+    let known : is_given c.args.self.now c.args.session ≡ true = sym c.if-not-is_given.ensures in
+    elim c.match-edit-4.branch [
+      | in-Ok w ↦ rw w.result-is (edit_step i.book.ledger c.edit.new.self.ledger i.sessions c.args.self.now c.args.session c.args.edit c.self.view_is known w.in-Ok.entry w.in-Ok.ensures.ok)
+      | in-Err w ↦ rw w.result-is (edit_refused i.book.ledger c.edit.new.self.ledger i.sessions c.args.self.now c.args.session c.args.edit c.self.view_is known w.in-Err.why w.in-Err.ensures.refused w.in-Err.ensures.unchanged)
+    ]

@@ -1,0 +1,88 @@
+-- From what the book did to a step of the machine, and back from a step to what it says.
+use Rattle.std.proofs.Common.{◌≡◌, ◌+◌, ℕ, true, false, Bool, refl, sym, ◌∙◌, ap, subst, [], ◌∷◌, Option, Some, None, inl, inr, length}
+use Rattle.std.specs.Prelude.{MatchOption, ◌⊎◌, IsTrue, cond, nat_lt}
+use Rattle.tsn_types.specs.declared.refusals.Refusal.{Refusal}
+use Rattle.tsn_types.specs.declared.refusals.Refusal.TheVariants.{NoSession, Memory}
+use Rattle.tsn_types.specs.Limits.{unless}
+use Rattle.tsn_types.specs.Refusals.{IsLeastOrMemory, least, number_of}
+use Rattle.tsn_edit.specs.declared.Edit.{Edit}
+use Rattle.tsn_edit.specs.Edits.{change_of}
+use Rattle.tsn_journal.specs.declared.entries.What.TheVariants.{Made}
+use Rattle.tsn_undo.specs.Ledger.{Ledger, enter, present}
+use Rattle.tsn_undo.specs.Steps.{Edits, edit_refusal}
+use Rattle.tsn_bridge.specs.declared.reply.Reply.{Reply}
+use Rattle.tsn_bridge.specs.declared.reply.Reply.TheVariants.{Entry, Refused}
+use Rattle.tsn_bridge.specs.State.{State}
+use Rattle.tsn_bridge.specs.Rule.{Allows, Rule, is_given}
+use Rattle.tsn_bridge.specs.Edits.{edit_rule}
+
+-- what a rule allows where its least cause is o
+abbrev pub AllowsAt : Option Refusal → Rule → State → Reply → State → Type 0
+AllowsAt o rule s reply new = MatchOption o ((rule.done ≡ Some (reply, new)) ⊎ (IsTrue rule.takes_memory × (reply ≡ Refused Memory) × (new ≡ s))) (λ why. (reply ≡ Refused why) × (new ≡ s))
+
+module _ (rule : Rule) (s : State) (reply : Reply) (new : State) where
+  pub is_done : least rule.causes ≡ None → rule.done ≡ Some (reply, new) → Allows rule s reply new
+  is_done none d = subst (λ o. AllowsAt o rule s reply new) (sym none) (inl d)
+
+  pub is_refused : (o : Option Refusal) (why : Refusal) → least rule.causes ≡ o → IsTrue rule.takes_memory → IsLeastOrMemory o why → reply ≡ Refused why → new ≡ s → Allows rule s reply new
+  is_refused None why none takes memory is same = subst (λ o. AllowsAt o rule s reply new) (sym none) (inr (takes, is ∙ ap Refused memory, same))
+  is_refused (Some cause) why some takes least' is same = subst (λ o. AllowsAt o rule s reply new) (sym some) (is ∙ ap Refused least', same)
+
+  -- what is answered by no refusal has no cause and is done
+  accepted_at : (o : Option Refusal) → ((why : Refusal) → reply ≡ Refused why → ⊥) → AllowsAt o rule s reply new → (o ≡ None) × (rule.done ≡ Some (reply, new))
+  accepted_at None other (inl done) = (refl, done)
+  accepted_at None other (inr memory) = absurd (other Memory memory.1)
+  accepted_at (Some why) other cause = absurd (other why cause.0)
+
+  pub accepted : ((why : Refusal) → reply ≡ Refused why → ⊥) → Allows rule s reply new → (least rule.causes ≡ None) × (rule.done ≡ Some (reply, new))
+  accepted other step = accepted_at (least rule.causes) other step
+
+-- what is refused has that cause, or none and memory was wanting
+refused_at : (o : Option Refusal) (rule : Rule) (s new : State) (why : Refusal) → (rule.done ≡ Some (Refused why, new) → ⊥) → AllowsAt o rule s (Refused why) new → (o ≡ Some why) ⊎ (why ≡ Memory)
+refused_at None rule s new why never (inl done) = absurd (never done)
+refused_at None rule s new why never (inr memory) = let same : Refused why ≡ Refused Memory = memory.1 in inr (cc)
+refused_at (Some cause) rule s new why never is = let same : Refused why ≡ Refused cause = is.0 in let also : cause ≡ why = (cc) in inl (ap Some also)
+
+pub refused : (rule : Rule) (s new : State) (why : Refusal) → (rule.done ≡ Some (Refused why, new) → ⊥) → Allows rule s (Refused why) new → (least rule.causes ≡ Some why) ⊎ (why ≡ Memory)
+refused rule s new why never step = refused_at (least rule.causes) rule s new why never step
+
+-- ---- the session was given out
+
+pub given : (b : Bool) (o : Option Refusal) → b ≡ true → least (unless b NoSession ∷ o ∷ []) ≡ o
+given true None e = refl
+given true (Some why) e = refl
+given false o e = (cc)
+
+-- and was, where nothing refuses
+pub was_given : (b : Bool) (o : Option Refusal) → least (unless b NoSession ∷ o ∷ []) ≡ None → (b ≡ true) × (o ≡ None)
+was_given true None h = (refl, refl)
+was_given true (Some why) h = (cc)
+was_given false None h = (cc)
+was_given false (Some why) h = never (nat_lt (number_of why) 5) h
+  where
+    never : (t : Bool) → cond t (Some why) (Some NoSession) ≡ None → (false ≡ true) × (Some why ≡ None)
+    never true h = (cc)
+    never false h = (cc)
+
+-- ---- an edit that the book makes, or refuses, is a step
+
+module _ (b b' : Ledger) (k : ℕ) (s : State) (n : ℕ) (edit : Edit) (view : ◌≡◌ {A = State} (record { book = b; sessions = k }) s) (known : is_given s n ≡ true) where
+  abbrev after : State
+  after = record { book = b'; sessions = k }
+
+  book : b ≡ s.book
+  book = ap (λ (t : State). t.book) view
+
+  pub edit_step : (entry : ℕ) → Edits b n edit entry b' → Allows (edit_rule s n edit) s (Entry entry) after
+  edit_step entry is =
+      let left : b' ≡ enter s.book n (Made (change_of (present s.book) edit)) = is.after ∙ ap (λ (c : Ledger). enter c n (Made (change_of (present c) edit))) book in
+      let number : entry ≡ length s.book.entries + 1 = is.number_is ∙ ap (λ (c : Ledger). length c.entries + 1) book in
+      is_done (edit_rule s n edit) s (Entry entry) after
+      (given (is_given s n) (edit_refusal s.book edit) known ∙ ap (λ (c : Ledger). edit_refusal c edit) (sym book) ∙ is.admitted)
+      (λ i. Some (Entry (sym number i), record { book = sym left i; sessions = ap (λ (t : State). t.sessions) (sym view) i }))
+
+  pub edit_refused : (why : Refusal) → IsLeastOrMemory (edit_refusal b edit) why → b' ≡ b → Allows (edit_rule s n edit) s (Refused why) after
+  edit_refused why least' same =
+      is_refused (edit_rule s n edit) s (Refused why) after (edit_refusal b edit) why
+      (given (is_given s n) (edit_refusal s.book edit) known ∙ ap (λ (c : Ledger). edit_refusal c edit) (sym book)) refl least' refl
+      (ap (λ (c : Ledger). let t : State = record { book = c; sessions = k } in t) same ∙ view)

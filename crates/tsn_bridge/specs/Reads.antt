@@ -1,0 +1,25 @@
+-- The rules of what reads and changes nothing.
+use Rattle.std.specs.Prelude.{ℕ, true, [], ◌∷◌, Some, is_some, option_map}
+use Rattle.std.specs.FinMap.{get}
+use Rattle.tsn_types.specs.declared.keys.Key.{Key}
+use Rattle.tsn_types.specs.declared.keys.Kind.{Kind}
+use Rattle.tsn_types.specs.declared.refusals.Field.TheVariants as fields
+use Rattle.tsn_types.specs.declared.refusals.Refusal.TheVariants.{Range, Missing}
+use Rattle.tsn_types.specs.Limits.{unless, holds_key}
+use Rattle.tsn_config.specs.Ids.{ids_of}
+use Rattle.tsn_undo.specs.Ledger.{present}
+use Rattle.tsn_bridge.specs.declared.reply.Reply.TheVariants.{Ids, Shown}
+use Rattle.tsn_bridge.specs.State.{State}
+use Rattle.tsn_bridge.specs.Rule.{Rule, no_session}
+
+-- a show answers the record at the key
+abbrev pub show_rule : State → ℕ → Key → Rule
+show_rule s n k = record {
+  causes = unless (holds_key s.book.limits k) (Range fields.Key) ∷ no_session s n ∷ unless (is_some (get (present s.book) k)) (Missing k) ∷ [];
+  done = option_map (λ r. (Shown k r, s)) (get (present s.book) k);
+  takes_memory = true;
+}
+
+-- a list answers the numbers of all instances of the kind
+abbrev pub list_rule : State → ℕ → Kind → Rule
+list_rule s n kind = record { causes = no_session s n ∷ []; done = Some (Ids (ids_of kind (present s.book)), s); takes_memory = true }

@@ -1,0 +1,32 @@
+-- The rule of a command: why it is refused, what it answers and leaves where it is not, and whether it takes memory.
+use Rattle.std.specs.Prelude.{◌≡◌, ◌⊎◌, ℕ, Bool, ◌&&◌, nat_lt, nat_le, List, Option, Some, MatchOption, IsTrue}
+use Rattle.tsn_types.specs.declared.refusals.Refusal.{Refusal}
+use Rattle.tsn_types.specs.declared.refusals.Refusal.TheVariants.{NoSession, Memory}
+use Rattle.tsn_types.specs.Limits.{unless}
+use Rattle.tsn_types.specs.Refusals.{least}
+use Rattle.tsn_bridge.specs.declared.reply.Reply.{Reply}
+use Rattle.tsn_bridge.specs.declared.reply.Reply.TheVariants.{Refused}
+use Rattle.tsn_bridge.specs.State.{State}
+
+pub record Rule : Type 0 where
+  -- why the command is refused
+  pub causes : List (Option Refusal)
+  -- the reply and the state after, where no cause holds; none only where one does
+  pub done : Option (Reply × State)
+  -- whether it takes memory
+  pub takes_memory : Bool
+
+-- where a cause holds, the one of the least number is the reply and the state stays; where none holds, it is done, or, of a command that takes memory, 18 is the reply and the state stays
+abbrev pub Allows : Rule → State → Reply → State → Type 0
+Allows rule s reply new =
+    MatchOption (least rule.causes)
+    ((rule.done ≡ Some (reply, new)) ⊎ (IsTrue rule.takes_memory × (reply ≡ Refused Memory) × (new ≡ s)))
+    (λ why. (reply ≡ Refused why) × (new ≡ s))
+
+-- whether the session number was given out
+abbrev pub is_given : State → ℕ → Bool
+is_given s n = nat_lt 0 n && nat_le n s.sessions
+
+-- the session number was not given out
+abbrev pub no_session : State → ℕ → Option Refusal
+no_session s n = unless (is_given s n) NoSession

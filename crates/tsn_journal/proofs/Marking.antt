@@ -1,0 +1,167 @@
+-- The marks of entries: which one a new entry puts off, and what the others say.
+use Rattle.std.proofs.Common.{◌≡◌, ℕ, zero, suc, ◌+◌, ◌<◌, ◌≤◌, ◌⊎◌, inl, inr, Bool, true, false, cond, ◌||◌, ◌&&◌, not, List, [], ◌∷◌, ◌++◌, refl, sym, ◌∙◌, ap, Some, None, arith, length, set, get_or, map, take, min, ◌-◌}
+use Rattle.std.specs.Prelude.{◌==◌, option_map}
+use Rattle.std.specs.List.{find}
+use Rattle.std.proofs.lemmas.Bool.Decides.{nat_tests}
+use Rattle.std.proofs.lemmas.List.{map-append, length-map, length-append, take-append-le, take_all}
+use Rattle.std.proofs.lemmas.List.Folds.{list_any-append}
+use Rattle.tsn_journal.specs.declared.entries.What.{What}
+use Rattle.tsn_journal.specs.declared.entries.What.TheVariants.{Made, Undone, Redone, Acted}
+use Rattle.tsn_journal.specs.declared.entries.Entry.{Entry}
+use Rattle.tsn_journal.specs.declared.entries.MarkedEntry.{MarkedEntry}
+use Rattle.tsn_journal.specs.Entries.{IsNumbered, is_taken_back, takes_back, with_entry}
+use Rattle.tsn_journal.specs.Marks.{AreMarked, IsJournal, entries_of, mark_off, names}
+
+-- ---- looking a number up
+
+same_number : (n k : ℕ) → n ≡ k → (n == k) ≡ true
+same_number n k h = grind (arith, nat_tests)
+
+less_number : (n k : ℕ) → n < k → (n == k) ≡ false
+less_number n k h = grind (arith, nat_tests)
+
+more_number : (n k : ℕ) → k < n → (n == k) ≡ false
+more_number n k h = grind (arith, nat_tests)
+
+pub found_number : (n i k : ℕ) (ms : List MarkedEntry) (m : MarkedEntry) → IsNumbered n (entries_of ms) → n + i ≡ k → i < length ms → m ≡ get_or ms i m → find (λ x. x.entry.number == k) ms ≡ Some m
+found_number n i k [] m h e l at = absurd (omega arith)
+found_number n zero k (x ∷ ms) m h e l at = ap (λ b. cond b (Some x) (find (λ y. y.entry.number == k) ms)) (same_number x.entry.number k (h.0 ∙ (let f : n ≡ k = omega arith in f))) ∙ ap Some (sym at)
+found_number n (suc i) k (x ∷ ms) m h e l at =
+    let here : n ≡ x.entry.number = sym h.0 in
+    ap (λ b. cond b (Some x) (find (λ y. y.entry.number == k) ms)) (less_number x.entry.number k (omega arith))
+    ∙ found_number (n + 1) i k ms m h.1 (omega arith) (omega arith) at
+
+pub no_number : (n k : ℕ) (ms : List MarkedEntry) → IsNumbered n (entries_of ms) → (k < n) ⊎ (n + length ms ≤ k) → find (λ x. x.entry.number == k) ms ≡ None
+no_number n k [] h out = refl
+no_number n k (x ∷ ms) h (inl low) =
+    let here : n ≡ x.entry.number = sym h.0 in
+    ap (λ b. cond b (Some x) (find (λ y. y.entry.number == k) ms)) (more_number x.entry.number k (omega arith)) ∙ no_number (n + 1) k ms h.1 (inl (omega arith))
+no_number n k (x ∷ ms) h (inr high) =
+    let here : n ≡ x.entry.number = sym h.0 in
+    ap (λ b. cond b (Some x) (find (λ y. y.entry.number == k) ms)) (less_number x.entry.number k (omega arith)) ∙ no_number (n + 1) k ms h.1 (inr (omega arith))
+
+pub find_entry : (k : ℕ) (ms : List MarkedEntry) → option_map (λ (m : MarkedEntry). m.entry) (find (λ m. m.entry.number == k) ms) ≡ find (λ e. e.number == k) (entries_of ms)
+find_entry k [] = refl
+find_entry k (m ∷ ms) =
+    elim (m.entry.number == k) as (λ b. option_map (λ (m : MarkedEntry). m.entry) (cond b (Some m) (find (λ m. m.entry.number == k) ms)) ≡ cond b (Some m.entry) (find (λ e. e.number == k) (entries_of ms))) [
+      | true ↦ refl
+      | false ↦ find_entry k ms
+    ]
+
+-- ---- the mark that is put off
+
+abbrev off : Bool → MarkedEntry → MarkedEntry
+off b m = cond b (record { entry = m.entry; is_open = false }) m
+
+and_off : (a b : Bool) → a ≡ false → (a && b) ≡ false
+and_off true b h = (cc)
+and_off false b h = refl
+
+some_of : {A : Type 0} (a b : A) → Some a ≡ Some b → a ≡ b
+some_of a b h = (cc)
+
+other_entry : (w : What) (k : ℕ) (e : Entry) → names w ≡ Some k → (k == e.number) ≡ false → takes_back w e ≡ false
+other_entry (Made c) k e is other = refl
+other_entry (Undone n c) k e is other = and_off (n == e.number) _ (ap (λ m. m == e.number) (some_of n k is) ∙ other)
+other_entry (Redone n c) k e is other = and_off (n == e.number) _ (ap (λ m. m == e.number) (some_of n k is) ∙ other)
+other_entry (Acted act key now) k e is other = refl
+
+nothing_off : (w : What) (e : Entry) → names w ≡ None → takes_back w e ≡ false
+nothing_off (Made c) e is = refl
+nothing_off (Undone n c) e is = (cc)
+nothing_off (Redone n c) e is = (cc)
+nothing_off (Acted act key now) e is = refl
+
+pub all_stay : (w : What) (ms : List MarkedEntry) → names w ≡ None → map (mark_off w) ms ≡ ms
+all_stay w [] is = refl
+all_stay w (m ∷ ms) is = ap (λ b. off b m ∷ map (mark_off w) ms) (nothing_off w m.entry is) ∙ ap (λ xs. m ∷ xs) (all_stay w ms is)
+
+pub out_of_reach : (n k : ℕ) (w : What) (ms : List MarkedEntry) → names w ≡ Some k → IsNumbered n (entries_of ms) → (k < n) ⊎ (n + length ms ≤ k) → map (mark_off w) ms ≡ ms
+out_of_reach n k w [] is h out = refl
+out_of_reach n k w (m ∷ ms) is h (inl low) =
+    let here : n ≡ m.entry.number = sym h.0 in
+    ap (λ b. off b m ∷ map (mark_off w) ms) (other_entry w k m.entry is (less_number k m.entry.number (omega arith))) ∙ ap (λ xs. m ∷ xs) (out_of_reach (n + 1) k w ms is h.1 (inl (omega arith)))
+out_of_reach n k w (m ∷ ms) is h (inr high) =
+    let here : n ≡ m.entry.number = sym h.0 in
+    ap (λ b. off b m ∷ map (mark_off w) ms) (other_entry w k m.entry is (more_number k m.entry.number (omega arith))) ∙ ap (λ xs. m ∷ xs) (out_of_reach (n + 1) k w ms is h.1 (inr (omega arith)))
+
+pub off_at : (n i k : ℕ) (w : What) (ms : List MarkedEntry) (m : MarkedEntry) → names w ≡ Some k → IsNumbered n (entries_of ms) → n + i ≡ k → m ≡ get_or ms i m → map (mark_off w) ms ≡ set ms i (mark_off w m)
+off_at n i k w [] m is h e at = refl
+off_at n zero k w (x ∷ ms) m is h e at = ap (λ y. mark_off w y ∷ map (mark_off w) ms) (sym at) ∙ ap (λ xs. mark_off w m ∷ xs) (out_of_reach (n + 1) k w ms is h.1 (inl (omega arith)))
+off_at n (suc i) k w (x ∷ ms) m is h e at =
+    let here : n ≡ x.entry.number = sym h.0 in
+    ap (λ b. off b x ∷ map (mark_off w) ms) (other_entry w k x.entry is (more_number k x.entry.number (omega arith)))
+    ∙ ap (λ xs. x ∷ xs) (off_at (n + 1) i k w ms m is h.1 (omega arith) at)
+
+-- ---- one entry more
+
+pub entry_stays : (w : What) (m : MarkedEntry) → (mark_off w m).entry ≡ m.entry
+entry_stays w m = elim (takes_back w m.entry) as (λ b. (off b m).entry ≡ m.entry) [ true ↦ refl | false ↦ refl ]
+
+pub entries_stay : (w : What) (ms : List MarkedEntry) → entries_of (map (mark_off w) ms) ≡ entries_of ms
+entries_stay w [] = refl
+entries_stay w (m ∷ ms) = (λ i. entry_stays w m i ∷ entries_stay w ms i)
+
+abbrev pub new_entry : List MarkedEntry → ℕ → What → MarkedEntry
+new_entry ms s w = record { entry = record { number = length ms + 1; session = s; what = w }; is_open = true }
+
+pub entries_pushed : (ms : List MarkedEntry) (s : ℕ) (w : What) → entries_of (map (mark_off w) ms ++ new_entry ms s w ∷ []) ≡ with_entry (entries_of ms) s w
+entries_pushed ms s w =
+    map-append (λ (m : MarkedEntry). m.entry) (map (mark_off w) ms) (new_entry ms s w ∷ [])
+    ∙ ap (λ es. es ++ (new_entry ms s w).entry ∷ []) (entries_stay w ms)
+    ∙ ap (λ n. entries_of ms ++ record { number = n + 1; session = s; what = w } ∷ []) (sym (length-map ms (λ (m : MarkedEntry). m.entry)))
+
+numbered_push : (n : ℕ) (es : List Entry) (e : Entry) → IsNumbered n es → e.number ≡ n + length es → IsNumbered n (es ++ e ∷ [])
+numbered_push n [] e h is = (is ∙ (let f : n + 0 ≡ n = omega arith in f), tt)
+numbered_push n (x ∷ es) e h is = (h.0, numbered_push (n + 1) es e h.1 (is ∙ (let f : n + length (x ∷ es) ≡ (n + 1) + length es = omega arith in f)))
+
+pub IsNumbered-with_entry : (es : List Entry) (s : ℕ) (w : What) → IsNumbered 1 es → IsNumbered 1 (with_entry es s w)
+IsNumbered-with_entry es s w h = numbered_push 1 es (record { number = length es + 1; session = s; what = w }) h (omega arith)
+
+or_false : (a : Bool) → (a || false) ≡ a
+or_false true = refl
+or_false false = refl
+
+not_or : (o a b : Bool) → o ≡ not a → cond b false o ≡ not (a || b)
+not_or o true true h = refl
+not_or o true false h = h
+not_or o false true h = refl
+not_or o false false h = h
+
+pub is_taken_back-push : (e : Entry) (es : List Entry) (w : Entry) → is_taken_back e (es ++ w ∷ []) ≡ (is_taken_back e es || takes_back w.what e)
+is_taken_back-push e es w = list_any-append (λ x. takes_back x.what e) es (w ∷ []) ∙ ap (λ b. is_taken_back e es || b) (or_false (takes_back w.what e))
+
+mark_now : (w : What) (m : MarkedEntry) → (mark_off w m).is_open ≡ cond (takes_back w m.entry) false m.is_open
+mark_now w m = elim (takes_back w m.entry) as (λ b. (off b m).is_open ≡ cond b false m.is_open) [ true ↦ refl | false ↦ refl ]
+
+marked_push : (ms : List MarkedEntry) (x : MarkedEntry) → x.is_open ≡ true → AreMarked ms → AreMarked (map (mark_off x.entry.what) ms ++ x ∷ [])
+marked_push [] x open' h = (open', tt)
+marked_push (m ∷ ms) x open' h =
+    let w = x.entry.what in
+    let later : entries_of (map (mark_off w) ms ++ x ∷ []) ≡ entries_of ms ++ x.entry ∷ [] =
+    map-append (λ (y : MarkedEntry). y.entry) (map (mark_off w) ms) (x ∷ []) ∙ ap (λ es. es ++ x.entry ∷ []) (entries_stay w ms) in (
+      mark_now w m
+          ∙ not_or m.is_open (is_taken_back m.entry (entries_of ms)) (takes_back w m.entry) h.0
+          ∙ ap not (sym (is_taken_back-push m.entry (entries_of ms) x.entry))
+          ∙ (λ i. not (is_taken_back (sym (entry_stays w m) i) (sym later i))),
+      marked_push ms x open' h.1,
+    )
+
+pub journal_push : (ms : List MarkedEntry) (s : ℕ) (w : What) (ns : List MarkedEntry) → IsJournal ms → length ms < 65536 → ns ≡ map (mark_off w) ms ++ new_entry ms s w ∷ [] → IsJournal ns
+journal_push ms s w ns is room pushed = rw pushed (record {
+  numbered = rw (entries_pushed ms s w) (IsNumbered-with_entry (entries_of ms) s w is.numbered);
+  marked = marked_push ms (new_entry ms s w) refl is.marked;
+  few = omega (arith, length-append (map (mark_off w) ms) (new_entry ms s w ∷ []), length-map ms (mark_off w));
+})
+
+-- what a vector holds after a push in its room, once the mark is off
+pub pushed_items : (w : What) (s len n : ℕ) (ms rest off' now : List MarkedEntry) → length ms ≡ len → n ≡ len → off' ≡ map (mark_off w) ms → now ≡ take len (off' ++ rest) ++ record { entry = record { number = n + 1; session = s; what = w }; is_open = true } ∷ []
+    → now ≡ map (mark_off w) ms ++ new_entry ms s w ∷ []
+pushed_items w s len n ms rest off' now same count is pushed =
+    let as_long : length off' ≡ len = ap length is ∙ length-map ms (mark_off w) ∙ same in
+    pushed
+    ∙ ap (λ xs. xs ++ record { entry = record { number = n + 1; session = s; what = w }; is_open = true } ∷ []) (take-append-le len off' rest (omega arith) ∙ take_all len off' (omega arith) ∙ is)
+    ∙ ap (λ k. map (mark_off w) ms ++ record { entry = record { number = k + 1; session = s; what = w }; is_open = true } ∷ []) (count ∙ sym same)
+
+pub room_for_one : (capacity len : ℕ) → 1 ≤ min capacity 65536 - len → len < 65536
+room_for_one capacity len h = omega arith

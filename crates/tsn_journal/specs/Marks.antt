@@ -1,0 +1,57 @@
+-- How a journal keeps its entries: each with a mark that is on until a later entry takes it back.
+use Rattle.std.specs.Prelude.{◌≡◌, ℕ, ◌≤◌, Bool, false, not, ◌||◌, ◌&&◌, is_some, List, [], ◌∷◌, Option, Some, None, map, length, if◌then◌else◌, refl}
+use Rattle.std.specs.Coded.{Coded, code_by, coded×, coded_list, coded_ℕ}
+use Rattle.tsn_edit.specs.Changes.{conflicts}
+use Rattle.tsn_edit.specs.Parts.{Change}
+use Rattle.tsn_journal.specs.contracts.entries.Entry as entry_row
+use Rattle.tsn_journal.specs.declared.entries.Entry.{Entry}
+use Rattle.tsn_journal.specs.declared.entries.MarkedEntry.{MarkedEntry}
+use Rattle.tsn_journal.specs.declared.entries.What.{What}
+use Rattle.tsn_journal.specs.declared.entries.What.TheVariants.{Made, Undone, Redone, Acted}
+use Rattle.tsn_journal.specs.Entries.{Applied, IsNumbered, adds, applied, is_taken_back, most_entries, takes_back, undoes}
+use Rattle.tsn_journal.specs.Finding.{is_made}
+
+-- what contracts see of a journal: its entries, and how many more it certainly has room for
+pub record Log : Type 0 where
+  pub entries : List Entry
+  pub spare : ℕ
+
+abbrev pub log_code : Coded Log
+log_code = code_by (List Entry × ℕ) (coded× (coded_list entry_row.the_row.coded) coded_ℕ) (λ l. (l.entries, l.spare)) (λ p. record { entries = p.0; spare = p.1 }) (λ _. refl)
+
+abbrev pub entries_of : List MarkedEntry → List Entry
+entries_of ms = map (λ m. m.entry) ms
+
+-- each mark is on unless a later entry takes its entry back
+abbrev pub AreMarked : List MarkedEntry → Type 0
+AreMarked [] = Unit {0}
+AreMarked (m ∷ ms) = (m.is_open ≡ not (is_taken_back m.entry (entries_of ms))) × AreMarked ms
+
+pub record IsJournal (ms : List MarkedEntry) : Type 0 where
+  pub numbered : IsNumbered 1 (entries_of ms)
+  pub marked : AreMarked ms
+  pub few : length ms ≤ most_entries
+
+-- the mark of the entry that w takes back is put off
+abbrev pub mark_off : What → MarkedEntry → MarkedEntry
+mark_off w m = if takes_back w m.entry then record { entry = m.entry; is_open = false } else m
+
+-- the change of a marked entry, where it stands
+abbrev pub stands : MarkedEntry → Option Applied
+stands m = if m.is_open then applied adds m.entry else None
+
+-- the number of the entry that w takes back, if it takes one back
+abbrev pub names : What → Option ℕ
+names (Made c) = None
+names (Undone n c) = Some n
+names (Redone n c) = Some n
+names (Acted act key now) = None
+
+-- whether the change, if there is one, is in conflict with the earlier e
+abbrev pub is_in_conflict : Option Change → Change → Bool
+is_in_conflict None e = false
+is_in_conflict (Some f) e = conflicts f e
+
+-- whether a search for what a session may redo ends at this entry of its own: an edit, or an Undone entry that nothing took back
+abbrev pub ends_redo : MarkedEntry → Bool
+ends_redo m = is_made m.entry.what || (is_some (undoes m.entry.what) && m.is_open)

@@ -1,0 +1,179 @@
+//! Entries of the journal: which session did what.
+ghost use Rattle.std.specs.Prelude.{◌≡◌, ◌==◌, IfOk, is_some, option_map};
+ghost use Rattle.std.specs.Option.{option_copied};
+ghost use Rattle.tsn_journal.specs.Entries.{adds, applied, applies, takes_back, undoes};
+ghost use Rattle.tsn_journal.specs.Marks.{ends_redo, is_in_conflict, names, stands};
+
+use std::alloc::AllocError;
+use tsn_edit::{Change, conflicts};
+use tsn_types::keys::Key;
+use tsn_types::numbers::Instant;
+
+/// An act on the gate list of a port or a stream gate (802.1Q-2018, 8.6.9).
+#[derive(Clone, Copy, Debug, PartialEq, Eq)]
+pub enum Act {
+    /// Its gates are enabled.
+    Enable,
+    /// Its gates are disabled.
+    Disable,
+    /// The list of its record becomes pending (ConfigChange).
+    Apply,
+}
+
+/// What an entry did. Changes are of the configuration; an act changes none.
+#[derive(Debug, Drop)]
+pub enum What {
+    /// An edit was accepted, and this change applied.
+    Made(Change),
+    /// The Made or Redone entry of the number `of` was taken back, by this change.
+    Undone { of: u64, change: Change },
+    /// The Undone entry of the number `of` was taken back, by this change.
+    Redone { of: u64, change: Change },
+    /// An act on the key, at the instant that counted.
+    Acted { act: Act, key: Key, now: Instant },
+}
+
+impl What {
+    /// The change that was applied; an act applies none. It takes no memory.
+    pub fn change(&self) -> Option<&Change>
+        ensures { option_copied result ≡ applies self.now }
+    {
+        match self {
+            What::Made(change) => Some(change),
+            What::Undone { change, .. } => Some(change),
+            What::Redone { change, .. } => Some(change),
+            What::Acted { .. } => None,
+        }
+    }
+
+    /// A copy that equals its source.
+    pub fn try_clone(&self) -> Result<What, AllocError>
+        ensures { IfOk result (λ copy. copy ≡ self.now) }
+    {
+        Ok(match self {
+            What::Made(change) => What::Made(change.try_clone()?),
+            What::Undone { of, change } => What::Undone {
+                of: *of,
+                change: change.try_clone()?,
+            },
+            What::Redone { of, change } => What::Redone {
+                of: *of,
+                change: change.try_clone()?,
+            },
+            What::Acted { act, key, now } => What::Acted {
+                act: *act,
+                key: *key,
+                now: *now,
+            },
+        })
+    }
+
+    /// Whether an entry that did this may stand: one that was made or redone.
+    pub(crate) fn may_stand(&self) -> bool
+        ensures { result ≡ is_some (adds self.now) }
+    {
+        matches!(self, What::Made(_) | What::Redone { .. })
+    }
+
+    /// The number of the entry that this takes back.
+    pub(crate) fn names(&self) -> Option<u64>
+        ensures { result ≡ names self.now }
+    {
+        match self {
+            What::Undone { of, .. } => Some(*of),
+            What::Redone { of, .. } => Some(*of),
+            _ => None,
+        }
+    }
+
+    /// Whether this takes back the entry.
+    pub(crate) fn takes_back(&self, entry: &Entry) -> bool
+        ensures { result ≡ takes_back self.now entry.now }
+    {
+        match self {
+            What::Undone { of, .. } => *of == entry.number && entry.what.may_stand(),
+            What::Redone { of, .. } => {
+                *of == entry.number && matches!(entry.what, What::Undone { .. })
+            }
+            _ => false,
+        }
+    }
+}
+
+/// An entry of the journal. Entries are numbered from 1, in the order in which they were made.
+#[derive(Debug, Drop)]
+pub struct Entry {
+    /// The entry's place in the journal, from 1.
+    pub number: u64,
+    /// The session whose command made the entry.
+    pub session: u32,
+    pub what: What,
+}
+
+impl Entry {
+    /// A copy that equals its source.
+    pub fn try_clone(&self) -> Result<Entry, AllocError>
+        ensures { IfOk result (λ copy. copy ≡ self.now) }
+    {
+        Ok(Entry {
+            number: self.number,
+            session: self.session,
+            what: self.what.try_clone()?,
+        })
+    }
+}
+
+/// An entry with a mark that is on until a later entry takes it back.
+#[derive(Debug, Drop)]
+pub(crate) struct MarkedEntry {
+    pub(crate) entry: Entry,
+    pub(crate) is_open: bool,
+}
+
+impl MarkedEntry {
+    /// Whether the entry stands.
+    pub(crate) fn stands(&self) -> bool
+        ensures { result ≡ is_some (stands self.now) }
+    {
+        self.is_open && self.entry.what.may_stand()
+    }
+
+    /// Whether the entry is the session's.
+    pub(crate) fn is_of(&self, session: u32) -> bool
+        ensures { result ≡ (self.now.entry.session == session) }
+    {
+        self.entry.session == session
+    }
+
+    /// Whether the entry applied a change in conflict with the earlier one.
+    pub(crate) fn conflicts_with(&self, earlier: &Change) -> bool
+        ensures { result ≡ is_in_conflict (applies self.now.entry.what) earlier.now }
+    {
+        match self.entry.what.change() {
+            Some(change) => conflicts(change, earlier),
+            None => false,
+        }
+    }
+
+    /// Whether a search for what a session may redo ends at an entry of its own like this: an edit, or an Undone entry
+    /// that nothing took back.
+    pub(crate) fn ends_redo(&self) -> bool
+        ensures { result ≡ ends_redo self.now }
+    {
+        match self.entry.what {
+            What::Made(_) => true,
+            What::Undone { .. } => self.is_open,
+            _ => false,
+        }
+    }
+
+    /// The entry's number, where it is an Undone entry.
+    pub(crate) fn undone_number(&self) -> Option<u64>
+        ensures { result ≡ option_map (λ x. x.number) (applied undoes self.now.entry) }
+    {
+        match self.entry.what {
+            What::Undone { .. } => Some(self.entry.number),
+            _ => None,
+        }
+    }
+}

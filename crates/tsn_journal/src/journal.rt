@@ -1,0 +1,186 @@
+//! The journal: entries numbered from 1, with the finders of undo and redo.
+//!
+//! It keeps a mark with each entry, so that no finder has to look for what took an entry back.
+ghost use Rattle.std.specs.Prelude.{◌≡◌, ◌+◌, ◌≤◌, [], IfErr, IfOk, IfSome, IsOk, IsSome, None, OnErr, OnOk, Some, is_some, length, option_map};
+ghost use Rattle.std.specs.Option.{option_copied};
+ghost use Rattle.tsn_types.specs.Refusals.{IsLeastOrMemory};
+ghost use Rattle.tsn_journal.specs.Entries.{Applied, most_entries, no_room, with_entry};
+ghost use Rattle.tsn_journal.specs.Finding.{entry, find_conflict, find_conflict_of_others, find_redo_conflict, last_of, redo_of, standing_entry, undone_entry};
+
+use crate::entries::{Entry, MarkedEntry, What};
+use crate::finding::{after, at, last, latest, put_off};
+use std::alloc::Global;
+use std::marker::Model;
+use tsn_types::refusals::Refusal;
+
+/// How many entries a journal holds at most.
+pub const MOST_ENTRIES: usize = 65_536;
+
+/// Which session did what, entry by entry. `entries` is the list of its entries, and `spare` the number of entries
+/// that it certainly has room for.
+#[derive(Debug, Drop)]
+pub struct Journal {
+    marked: Vec<MarkedEntry>,
+}
+
+impl Model for Journal {
+    ghost use Rattle.std.specs.Prelude.{◌-◌, min};
+    ghost use Rattle.std.specs.Vec.{vec_capacity, vec_len};
+    ghost use Rattle.tsn_journal.specs.Entries.{most_entries};
+    ghost use Rattle.tsn_journal.specs.Marks.{IsJournal, Log, entries_of, log_code};
+
+    ghost Value = { Log };
+
+    ghost coded = { log_code };
+
+    ghost view = { λ a. record { entries = entries_of a.marked.items; spare = min (vec_capacity a.marked) most_entries - vec_len a.marked } };
+
+    ghost invariant = { λ a. IsJournal a.marked.items };
+}
+
+impl Journal {
+    /// A journal with no entry. It takes no memory and has room for none; the journal keeps the allocator.
+    pub fn new(alloc: Global) -> Journal
+        ensures { result ≡ record { entries = []; spare = 0 } }
+    {
+        Journal {
+            marked: Vec::new(alloc),
+        }
+    }
+
+    /// How many entries there are.
+    pub fn len(&self) -> usize
+        ensures number { result ≡ length self.now.entries }
+        ensures few { result ≤ most_entries }
+    {
+        self.marked.len()
+    }
+
+    /// Makes room for at least `count` entries more. It is refused 17 where the journal never holds so many, then 18,
+    /// and never where there is that room already. The entries stay, and the room never falls.
+    pub fn reserve(&mut self, count: usize) -> Result<(), Refusal>
+        ensures entries { self.new.entries ≡ self.old.entries }
+        ensures free { OnOk result (no_room self.old.entries count ≡ None) }
+        ensures ok { OnOk result (count ≤ self.new.spare) }
+        ensures refused { IfErr result (λ why. IsLeastOrMemory (no_room self.old.entries count) why) }
+        ensures spare { self.old.spare ≤ self.new.spare }
+        ensures enough { count ≤ self.old.spare → IsOk result }
+    {
+        if MOST_ENTRIES - self.marked.len() < count {
+            return Err(Refusal::JournalFull);
+        }
+        self.marked.reserve(count)?;
+        Ok(())
+    }
+
+    /// Puts an entry of the session at the end, in room for one, and answers its number. It takes no memory.
+    pub fn push(&mut self, session: u32, what: What) -> u64
+        requires { 1 ≤ self.old.spare }
+        ensures number { result ≡ length self.old.entries + 1 }
+        ensures entries { self.new.entries ≡ with_entry self.old.entries session what }
+        ensures spare { self.old.spare ≤ self.new.spare + 1 }
+    {
+        put_off(&mut self.marked, &what);
+        let number = self.marked.len() as u64 + 1;
+        self.marked.push_reserved(MarkedEntry {
+            entry: Entry {
+                number,
+                session,
+                what,
+            },
+            is_open: true,
+        });
+        number
+    }
+
+    /// The entry of the number, none where there is none. It takes no memory.
+    pub fn entry(&self, number: u64) -> Option<&Entry>
+        ensures { option_copied result ≡ entry self.now.entries number }
+    {
+        match at(&self.marked, number) {
+            Some(marked) => Some(&marked.entry),
+            None => None,
+        }
+    }
+
+    /// Whether there is an entry of the number and it stands. It takes no memory.
+    pub fn standing(&self, number: u64) -> bool
+        ensures { result ≡ is_some (standing_entry self.now.entries number) }
+    {
+        match at(&self.marked, number) {
+            Some(marked) => marked.stands(),
+            None => false,
+        }
+    }
+
+    /// The session's newest standing entry. It takes no memory.
+    pub fn last_of(&self, session: u32) -> Option<u64>
+        ensures { result ≡ option_map (λ x. x.number) (last_of self.now.entries session) }
+    {
+        latest(
+            &self.marked,
+            &|marked: &MarkedEntry| { marked.stands() && marked.is_of(session) },
+        )
+    }
+
+    /// The session's newest Undone entry that may be redone: it comes after the session's last edit, and no Redone
+    /// entry names it. It takes no memory.
+    pub fn redo_of(&self, session: u32) -> Option<u64>
+        ensures newest { result ≡ option_map (λ x. x.number) (redo_of self.now.entries session) }
+        ensures undone { IfSome result (λ n. IsSome (undone_entry self.now.entries n)) }
+    {
+        let newest = last(
+            &self.marked,
+            &|marked: &MarkedEntry| { marked.is_of(session) && marked.ends_redo() },
+        );
+        match newest {
+            Some(marked) => marked.undone_number(),
+            None => None,
+        }
+    }
+
+    /// The latest later standing entry in conflict with the standing entry of the number. It takes no memory.
+    pub fn find_conflict(&self, number: u64) -> Option<u64>
+        requires { IsSome (standing_entry self.now.entries number) }
+        ensures { (e : Applied) → standing_entry self.now.entries number ≡ Some e
+            → result ≡ option_map (λ x. x.number) (find_conflict self.now.entries e) }
+    {
+        let change = at(&self.marked, number)?.entry.what.change()?;
+        latest(
+            after(&self.marked, number),
+            &|later: &MarkedEntry| { later.stands() && later.conflicts_with(change) },
+        )
+    }
+
+    /// The latest later standing entry of another session in conflict with the standing entry of the number. It takes
+    /// no memory.
+    pub fn find_conflict_of_others(&self, number: u64) -> Option<u64>
+        requires { IsSome (standing_entry self.now.entries number) }
+        ensures { (e : Applied) → standing_entry self.now.entries number ≡ Some e
+            → result ≡ option_map (λ x. x.number) (find_conflict_of_others self.now.entries e) }
+    {
+        let earlier = &at(&self.marked, number)?.entry;
+        let change = earlier.what.change()?;
+        let session = earlier.session;
+        latest(
+            after(&self.marked, number),
+            &|later: &MarkedEntry| {
+                later.stands() && !later.is_of(session) && later.conflicts_with(change)
+            },
+        )
+    }
+
+    /// The latest later entry of any kind whose change is in conflict with that of the Undone entry of the number. It
+    /// takes no memory.
+    pub fn find_redo_conflict(&self, number: u64) -> Option<u64>
+        requires { IsSome (undone_entry self.now.entries number) }
+        ensures { (u : Applied) → undone_entry self.now.entries number ≡ Some u
+            → result ≡ option_map (λ x. x.number) (find_redo_conflict self.now.entries u) }
+    {
+        let change = at(&self.marked, number)?.entry.what.change()?;
+        latest(
+            after(&self.marked, number),
+            &|later: &MarkedEntry| { later.conflicts_with(change) },
+        )
+    }
+}

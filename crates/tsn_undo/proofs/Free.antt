@@ -1,0 +1,121 @@
+-- Why edits and undos are refused, and the entry that an undo takes back.
+use Rattle.std.proofs.Common.{◌≡◌, ℕ, ◌≤◌, true, Bor, List, Option, Some, None, refl, sym, ◌∙◌, ap, arith, length, ◌+◌}
+use Rattle.std.specs.Prelude.{◌==◌, is_some, nat_le, option_map}
+use Rattle.std.specs.Option.{option_copied, option_or}
+use Rattle.tsn_types.specs.declared.refusals.Refusal.{Refusal}
+use Rattle.tsn_types.specs.declared.refusals.Refusal.TheVariants.{Conflict, JournalFull, Memory}
+use Rattle.tsn_types.specs.Refusals.{IsLeastOrMemory}
+use Rattle.tsn_types.proofs.Ordered.{AtMost, least-before}
+use Rattle.tsn_edit.specs.declared.Edit.{Edit}
+use Rattle.tsn_edit.specs.Edits.{refusal}
+use Rattle.tsn_edit.proofs.KeyFacts.{by_option}
+use Rattle.tsn_edit.proofs.Ordered.{refusal-most}
+use Rattle.tsn_journal.specs.declared.entries.Entry.{Entry}
+use Rattle.tsn_journal.specs.Entries.{Applied, IsNumbered, applies, most_entries, no_room}
+use Rattle.tsn_journal.specs.Finding.{entry, find_conflict, last_of, standing_entry}
+use Rattle.tsn_journal.proofs.Standing.{standing_found, standing_is_entry}
+use Rattle.tsn_undo.specs.Ledger.{Ledger, present}
+use Rattle.tsn_undo.specs.Steps.{IsFree, conflict_with, edit_refusal, undo_cause, undo_refusal}
+
+at_most_more : (o : Option Refusal) → AtMost 9 o → AtMost 17 o
+at_most_more None h = tt
+at_most_more (Some why) h = omega arith
+
+-- ---- a cause, and then a full journal
+
+pub edit_refusal-first : (b : Ledger) (edit : Edit) → edit_refusal b edit ≡ option_or (refusal b.limits (present b) edit) (no_room b.entries 1)
+edit_refusal-first b edit = least-before 17 (refusal b.limits (present b) edit) (nat_le (length b.entries + 1) most_entries) JournalFull (at_most_more _ (refusal-most b.limits (present b) edit)) (omega arith)
+
+undo_cause-most : (es : List Entry) (o : Option Applied) → AtMost 17 (undo_cause es o)
+undo_cause-most es None = omega arith
+undo_cause-most es (Some e) = conflict_most (find_conflict es e)
+  where
+    conflict_most : (f : Option Applied) → AtMost 17 (option_map (λ f. Conflict e.number f.number) f)
+    conflict_most None = tt
+    conflict_most (Some f) = omega arith
+
+pub undo_refusal-first : (b : Ledger) (s : ℕ) → undo_refusal b s ≡ option_or (undo_cause b.entries (last_of b.entries s)) (no_room b.entries 1)
+undo_refusal-first b s = least-before 17 (undo_cause b.entries (last_of b.entries s)) (nat_le (length b.entries + 1) most_entries) JournalFull (undo_cause-most b.entries (last_of b.entries s)) (omega arith)
+
+or_none : (o p : Option Refusal) → option_or o p ≡ None → (o ≡ None) × (p ≡ None)
+or_none None p h = (refl, h)
+or_none (Some x) p h = (cc)
+
+pub edit_admitted : (b : Ledger) (edit : Edit) → edit_refusal b edit ≡ None → (refusal b.limits (present b) edit ≡ None) × (no_room b.entries 1 ≡ None)
+edit_admitted b edit h = or_none _ _ (sym (edit_refusal-first b edit) ∙ h)
+
+map_none : (n : ℕ) (o : Option Applied) → option_map (λ f. Conflict n f.number) o ≡ None → o ≡ None
+map_none n None h = refl
+map_none n (Some f) h = (cc)
+
+-- nothing conflicts with what is free, and there is room
+pub undo_free : (b : Ledger) (s : ℕ) (x : Applied) → last_of b.entries s ≡ Some x → undo_refusal b s ≡ None → (find_conflict b.entries x ≡ None) × (no_room b.entries 1 ≡ None)
+undo_free b s x last free =
+    let both = or_none (undo_cause b.entries (last_of b.entries s)) (no_room b.entries 1) (sym (undo_refusal-first b s) ∙ free) in
+    (map_none x.number (find_conflict b.entries x) (sym (ap (undo_cause b.entries) last) ∙ both.0), both.1)
+
+-- ---- the newest standing entry, by its number
+
+pub record IsNewest (es : List Entry) (s own : ℕ) : Type 0 where
+  pub newest : Applied
+  pub last : last_of es s ≡ Some newest
+  pub own_is : own ≡ newest.number
+  pub stands : standing_entry es own ≡ Some newest
+
+pub newest_of : (es : List Entry) (s own : ℕ) → IsNumbered 1 es → Some own ≡ option_map (λ (x : Applied). x.number) (last_of es s) → IsNewest es s own
+newest_of es s own numbered is = by_option (last_of es s)
+    (λ none. let never : Some own ≡ None = is ∙ ap (option_map (λ (x : Applied). x.number)) none in (cc))
+    (λ x some.
+    let both : Some own ≡ Some x.number = is ∙ ap (option_map (λ (x : Applied). x.number)) some in
+    let same : own ≡ x.number = (cc) in
+    record { newest = x; last = some; own_is = same; stands = ap (standing_entry es) same ∙ standing_found es (λ x. x.session == s) x numbered some })
+
+-- what the finder answers, as the cause
+pub conflict_named : (es : List Entry) (x : Applied) (own : ℕ) (r : Option ℕ) → own ≡ x.number → r ≡ option_map (λ (f : Applied). f.number) (find_conflict es x) → conflict_with es x ≡ option_map (λ k. Conflict own k) r
+conflict_named es x own r same is =
+    both (find_conflict es x) ∙ ap (option_map (λ k. Conflict x.number k)) (sym is) ∙ ap (λ n. option_map (λ k. Conflict n k) r) (sym same)
+  where
+    both : (o : Option Applied) → option_map (λ f. Conflict x.number f.number) o ≡ option_map (λ k. Conflict x.number k) (option_map (λ (f : Applied). f.number) o)
+    both None = refl
+    both (Some f) = refl
+
+-- ---- looking up what is taken back
+
+is_some_none : {A : Type 0} (o : Option A) → is_some o ≡ true → o ≡ None → ⊥
+is_some_none None h is = (cc)
+is_some_none (Some x) h is = (cc)
+
+pub record IsLookedUp (es : List Entry) (n : ℕ) (e : Entry) : Type 0 where
+  pub changes : is_some (applies e.what) ≡ true
+  pub same : (x : Applied) → standing_entry es n ≡ Some x → applies e.what ≡ Some x.change
+
+module _ (es : List Entry) (n : ℕ) (numbered : IsNumbered 1 es) (stands : is_some (standing_entry es n) ≡ true) where
+  pub there : is_some (entry es n) ≡ true
+  there = by_option (standing_entry es n) (λ none. absurd (is_some_none _ stands none)) (λ x some. ap is_some (standing_is_entry es n x numbered some).found_is)
+
+  pub looked_up : (e : Entry) → entry es n ≡ Some e → IsLookedUp es n e
+  looked_up e is =
+      let here : (x : Applied) → standing_entry es n ≡ Some x → applies e.what ≡ Some x.change =
+      λ x some.
+      let at = standing_is_entry es n x numbered some in
+      let both : Some e ≡ Some at.found = sym is ∙ at.found_is in
+      let same : e ≡ at.found = (cc) in
+      ap (λ (k : Entry). applies k.what) same ∙ at.change in
+      record {
+        changes = by_option (standing_entry es n) (λ none. absurd (is_some_none _ stands none)) (λ x some. ap is_some (here x some));
+        same = here;
+      }
+
+pub is_memory : (o : Option Refusal) (why : Refusal) → o ≡ None → IsLeastOrMemory o why → why ≡ Memory
+is_memory None why h is = is
+is_memory (Some x) why h is = (cc)
+
+copied : {A : Type 0} (o : Option (Bor A)) → is_some (option_copied o) ≡ is_some o
+copied None = refl
+copied (Some x) = refl
+
+pub some_copied : {A : Type 0} (o : Option (Bor A)) → is_some (option_copied o) ≡ true → is_some o ≡ true
+some_copied o h = sym (copied o) ∙ h
+
+pub free_stands : (b : Ledger) (s of : ℕ) → IsNumbered 1 b.entries → (free : IsFree b s of) → standing_entry b.entries of ≡ Some free.newest
+free_stands b s of numbered free = ap (standing_entry b.entries) free.of_is ∙ standing_found b.entries (λ x. x.session == s) free.newest numbered free.newest_is

@@ -1,0 +1,65 @@
+-- What an edit and an undo leave of a sound ledger.
+use Rattle.std.proofs.Common.{◌≡◌, ℕ, ◌+◌, refl, sym, ◌∙◌, ap, subst, Option, Some, None, length}
+use Rattle.std.specs.Prelude.{◌==◌}
+use Rattle.tsn_edit.specs.declared.Edit.{Edit}
+use Rattle.tsn_edit.specs.declared.Edit.TheVariants.{Create, Replace, Remove}
+use Rattle.tsn_edit.specs.Parts.{Change, inverse}
+use Rattle.tsn_edit.specs.Configuration.{Configuration, IsWellKept}
+use Rattle.tsn_edit.specs.Changes.{Fits, after_change}
+use Rattle.tsn_edit.specs.Edits.{change_of, result}
+use Rattle.tsn_edit.proofs.Inverses.{end_kept}
+use Rattle.tsn_journal.specs.declared.entries.What.TheVariants.{Made}
+use Rattle.tsn_journal.specs.Entries.{applies, changes, collect, standing, undone, with_entry}
+use Rattle.tsn_journal.proofs.Numbers.{last_where_some}
+use Rattle.tsn_undo.specs.Ledger.{Ledger, enter, present}
+use Rattle.tsn_undo.specs.Soundness.{IsSound}
+use Rattle.tsn_undo.specs.Steps.{Edits, IsFree, TakesBack, edit_refusal}
+use Rattle.tsn_undo.proofs.Adding.{configuration_push, sound_added}
+use Rattle.tsn_undo.proofs.Free.{undo_free}
+use Rattle.tsn_undo.proofs.Undoing.{IsUndoStep, undo_step}
+
+abbrev pub SoundLedger : Ledger → Type 0
+SoundLedger b = IsSound b.limits b.opening b.entries
+
+pub kept_now : (b : Ledger) → SoundLedger b → IsWellKept b.limits (present b)
+kept_now b sound = end_kept b.limits b.opening (changes (collect applies b.entries)) sound.kept sound.replays
+
+-- ---- an edit
+
+pub changed_is_result : (c : Configuration) (edit : Edit) → after_change c (change_of c edit) ≡ result c edit
+changed_is_result c (Create k r) = refl
+changed_is_result c (Replace k r) = refl
+changed_is_result c (Remove k) = refl
+
+module _ (b : Ledger) (s : ℕ) (edit : Edit) (sound : SoundLedger b) (fits : Fits b.limits (present b) (change_of (present b) edit)) where
+  pub edit_sound : IsSound b.limits b.opening (with_entry b.entries s (Made (change_of (present b) edit)))
+  edit_sound = sound_added b.limits b.opening b.entries s (Made (change_of (present b) edit)) sound (λ n. refl) (change_of (present b) edit) refl refl fits
+
+  pub makes_edit : edit_refusal b edit ≡ None → (number : ℕ) (new : Ledger) → number ≡ length b.entries + 1 → new ≡ enter b s (Made (change_of (present b) edit)) → Edits b s edit number new
+  makes_edit admitted number new number_is after = record {
+    admitted = admitted;
+    fits = fits;
+    number_is = number_is;
+    after = after;
+    map = ap present after ∙ configuration_push b.opening b.entries s (Made (change_of (present b) edit)) (change_of (present b) edit) refl ∙ changed_is_result (present b) edit;
+  }
+
+-- ---- an undo
+
+module _ (b : Ledger) (s of : ℕ) (sound : SoundLedger b) (free : IsFree b s of) where
+  pub undo_step_now : IsUndoStep b.limits b.opening b.entries s free.newest
+  undo_step_now =
+      let found = last_where_some (λ x. x.session == s) (standing b.entries) free.newest free.newest_is in
+      undo_step b.limits b.opening b.entries s free.newest sound (record { front = found.front; rest = found.rest; is = found.is }) (undo_free b s free.newest free.newest_is free.free).0
+
+  pub makes_undo : (number : ℕ) (new : Ledger) → number ≡ length b.entries + 1 → new ≡ enter b s (undone free.newest) → TakesBack b s number of new
+  makes_undo number new number_is after = record {
+    newest = free.newest;
+    newest_is = free.newest_is;
+    free = free.free;
+    fits = undo_step_now.fits;
+    number_is = number_is;
+    of_is = free.of_is;
+    after = after;
+    map = ap present after ∙ undo_step_now.after;
+  }
