@@ -29,7 +29,7 @@ after_change c e = put_all c (parts e)
 
 -- c with the change's values before put back
 abbrev pub restored : Configuration → Change → Configuration
-restored c e = changed c (inverse e)
+restored c e = after_change c (inverse e)
 
 -- every value before stands in c
 abbrev pub Stands : Configuration → List Part → Type 0
