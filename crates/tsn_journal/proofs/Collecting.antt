@@ -4,13 +4,14 @@ use Rattle.std.specs.Prelude.{◌==◌, option_map, nat_lt}
 use Rattle.std.specs.List.{find, filter_map, cons_option}
 use Rattle.std.specs.Option.{option_and_then, option_or}
 use Rattle.std.proofs.lemmas.Bool.Decides.{nat_tests}
+use Rattle.std.proofs.lemmas.List.{drop-map}
 use Rattle.tsn_edit.specs.Parts.{Change}
 use Rattle.tsn_edit.proofs.KeyFacts.{by_bool, by_option}
 use Rattle.tsn_journal.specs.declared.entries.What.{What}
 use Rattle.tsn_journal.specs.declared.entries.Entry.{Entry}
 use Rattle.tsn_journal.specs.declared.entries.MarkedEntry.{MarkedEntry}
 use Rattle.tsn_journal.specs.Entries.{Applied, IsNumbered, adds, applied, collect, is_taken_back, standing}
-use Rattle.tsn_journal.specs.Finding.{last_where, later_than}
+use Rattle.tsn_journal.specs.Finding.{last_where, later_than, since}
 use Rattle.tsn_journal.specs.Marks.{AreMarked, entries_of, stands}
 use Rattle.tsn_journal.proofs.LastWhere.{or_none}
 use Rattle.tsn_journal.proofs.Marking.{no_number}
@@ -149,3 +150,23 @@ later_from pick k (suc n) (m ∷ ms) own h =
 
 pub later_marked : (pick : MarkedEntry → Option Applied) (n : ℕ) (ms : List MarkedEntry) → IsOwn pick → IsNumbered 1 (entries_of ms) → later_than n (filter_map pick ms) ≡ filter_map pick (drop n ms)
 later_marked pick n ms own h = ap (λ j. later_than j (filter_map pick ms)) (let e : n ≡ 0 + n = omega arith in e) ∙ later_from pick 0 n ms own h
+
+-- ---- the entries of greater numbers
+
+since_every : (k n : ℕ) (es : List Entry) → k < n → IsNumbered n es → since es k ≡ es
+since_every k n [] l h = refl
+since_every k n (e ∷ es) l h =
+    let here : e.number ≡ n = h.0 in
+    ap (λ b. cond b (e ∷ since es k) (since es k)) (above k e.number (omega arith)) ∙ ap (λ xs. e ∷ xs) (since_every k (n + 1) es (omega arith) h.1)
+
+since_from : (k n : ℕ) (es : List Entry) → IsNumbered (k + 1) es → since es (k + n) ≡ drop n es
+since_from k zero es h = ap (since es) (let e : k + 0 ≡ k = omega arith in e) ∙ since_every k (k + 1) es (omega arith) h
+since_from k (suc n) [] h = refl
+since_from k (suc n) (e ∷ es) h =
+    let here : e.number ≡ k + 1 = h.0 in
+    ap (λ b. cond b (e ∷ since es (k + suc n)) (since es (k + suc n))) (not_above (k + suc n) e.number (omega arith))
+    ∙ ap (since es) (let f : k + suc n ≡ (k + 1) + n = omega arith in f)
+    ∙ since_from (k + 1) n es h.1
+
+pub since-drop : (n : ℕ) (ms : List MarkedEntry) → IsNumbered 1 (entries_of ms) → entries_of (drop n ms) ≡ since (entries_of ms) n
+since-drop n ms h = sym (ap (since (entries_of ms)) (let e : n ≡ 0 + n = omega arith in e) ∙ since_from 0 n (entries_of ms) h ∙ drop-map (λ (m : MarkedEntry). m.entry) n ms)

@@ -2,9 +2,10 @@
 ghost use Rattle.std.specs.Prelude.{◌≡◌, ◌==◌, IfOk, is_some, option_map};
 ghost use Rattle.std.specs.Option.{option_copied};
 ghost use Rattle.tsn_journal.specs.Entries.{adds, applied, applies, takes_back, undoes};
-ghost use Rattle.tsn_journal.specs.Marks.{ends_redo, is_in_conflict, names, stands};
+ghost use Rattle.tsn_journal.specs.Marks.{ends_redo, entries_of, is_in_conflict, names, stands};
 
-use std::alloc::AllocError;
+use std::alloc::{AllocError, Global};
+use std::marker::Model;
 use tsn_edit::{Change, conflicts};
 use tsn_types::keys::Key;
 use tsn_types::numbers::Instant;
@@ -121,6 +122,49 @@ impl Entry {
             what: self.what.try_clone()?,
         })
     }
+}
+
+/// Copies of entries, in the order of their numbers, seen as the list of them.
+#[derive(Debug, Drop)]
+pub struct Entries {
+    items: Vec<Entry>,
+}
+
+impl Model for Entries {
+    ghost use Rattle.std.specs.Prelude.{List};
+    ghost use Rattle.tsn_journal.specs.declared.entries.Entry.{Entry};
+
+    ghost Value = { List Entry };
+
+    ghost view = { λ a. a.items.items };
+}
+
+impl Entries {
+    /// The entries.
+    pub fn as_slice(&self) -> &[Entry]
+        ensures { result.now ≡ self.now }
+    {
+        &self.items
+    }
+
+    /// Copies of the marked entries. Refused only for want of memory.
+    pub(crate) fn copies_of(alloc: Global, marked: &[MarkedEntry]) -> Result<Entries, AllocError>
+        ensures { IfOk result (λ copies. copies ≡ entries_of marked.now) }
+    {
+        Ok(Entries {
+            items: copied(alloc, marked)?,
+        })
+    }
+}
+
+fn copied(alloc: Global, marked: &[MarkedEntry]) -> Result<Vec<Entry>, AllocError>
+    ensures { IfOk result (λ copies. copies.items ≡ entries_of marked.now) }
+{
+    let mut copies = Vec::with_capacity(alloc, marked.len())?;
+    for row in marked {
+        copies.push_reserved(row.entry.try_clone()?);
+    }
+    Ok(copies)
 }
 
 /// An entry with a mark that is on until a later entry takes it back.

@@ -5,11 +5,11 @@ ghost use Rattle.std.specs.Prelude.{◌≡◌, ◌+◌, ◌≤◌, [], IfErr, If
 ghost use Rattle.std.specs.Option.{option_copied};
 ghost use Rattle.tsn_types.specs.Refusals.{IsLeastOrMemory};
 ghost use Rattle.tsn_journal.specs.Entries.{Applied, most_entries, no_room, with_entry};
-ghost use Rattle.tsn_journal.specs.Finding.{entry, find_conflict, find_conflict_of_others, find_redo_conflict, last_of, redo_of, standing_entry, undone_entry};
+ghost use Rattle.tsn_journal.specs.Finding.{entry, find_conflict, find_conflict_of_others, find_redo_conflict, last_of, redo_of, since, standing_entry, undone_entry};
 
-use crate::entries::{Entry, MarkedEntry, What};
+use crate::entries::{Entries, Entry, MarkedEntry, What};
 use crate::finding::{after, at, last, latest, put_off};
-use std::alloc::Global;
+use std::alloc::{AllocError, Global};
 use std::marker::Model;
 use tsn_types::refusals::Refusal;
 
@@ -137,6 +137,13 @@ impl Journal {
             Some(marked) => marked.undone_number(),
             None => None,
         }
+    }
+
+    /// Copies of the entries of a greater number. Refused only for want of memory.
+    pub fn since(&self, number: u64) -> Result<Entries, AllocError>
+        ensures { IfOk result (λ copies. copies ≡ since self.now.entries number) }
+    {
+        Entries::copies_of(*self.marked.allocator(), after(&self.marked, number))
     }
 
     /// The latest later standing entry in conflict with the standing entry of the number. It takes no memory.

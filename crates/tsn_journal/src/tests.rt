@@ -91,6 +91,11 @@ fn an_entry_has_its_number_and_session(rt: HostRuntime) -> Result<(), Fail> {
     assert_eq!(rt; change.key, meter_key(6));
     assert!(rt; journal.entry(0).is_none());
     assert!(rt; journal.entry(3).is_none());
+    let later = journal.since(1)?;
+    assert_eq!(rt; later.as_slice().len(), 1);
+    assert_eq!(rt; later.as_slice()[0].number, 2);
+    assert_eq!(rt; journal.since(0)?.as_slice().len(), 2);
+    assert_eq!(rt; journal.since(2)?.as_slice().len(), 0);
     let copy = second.try_clone()?;
     assert_eq!(rt; (copy.number, copy.session), (2, 8));
     Ok(())

@@ -4,3 +4,4 @@ pub mod Free
 pub mod Making
 pub mod Rewinding
 pub mod Undoing
+pub mod Commutation

@@ -1,3 +1,4 @@
+pub mod Commuting
 pub mod Examples
 pub mod Ledger
 pub mod Soundness

@@ -11,6 +11,7 @@ ghost use Rattle.tsn_edit.specs.Changes.{Fits};
 ghost use Rattle.tsn_edit.specs.Configuration.{IsWellKept};
 ghost use Rattle.tsn_edit.specs.Parts.{inverse};
 ghost use Rattle.tsn_edit.specs.Runs.{run, IsGood};
+ghost use Rattle.tsn_journal.specs.declared.entries.What.TheVariants.{Acted};
 ghost use Rattle.tsn_journal.specs.Entries.{Applied, applies, changes, most_entries, no_room, standing, with_entry};
 ghost use Rattle.tsn_journal.specs.Finding.{last_of, standing_entry};
 ghost use Rattle.tsn_undo.specs.Ledger.{enter, present};
@@ -21,8 +22,10 @@ use std::alloc::{AllocError, Global};
 use std::marker::Model;
 use tsn_config::Config;
 use tsn_edit::{Change, Edit};
-use tsn_journal::entries::What;
+use tsn_journal::entries::{Act, What};
 use tsn_journal::journal::{Journal, MOST_ENTRIES};
+use tsn_types::keys::Key;
+use tsn_types::numbers::Instant;
 use tsn_types::refusals::Refusal;
 
 /// A configuration with its journal. `ledger` is what was done to it, and `spare` the number of entries that the book
@@ -126,6 +129,25 @@ impl Book {
             Ok(number) => Ok((number, of)),
             Err(why) => Err(why),
         }
+    }
+
+    /// Enters an act of the session on the key, at the instant that counted; it changes no record. It is refused 17
+    /// where the journal is full, then 18, and never where there is room for an entry; refused, it has changed nothing.
+    pub fn acted(&mut self, session: u32, act: Act, key: Key, now: Instant) -> Result<u64, Refusal>
+        ensures number { IfOk result (λ number. number ≡ length self.old.ledger.entries + 1) }
+        ensures after { OnOk result (self.new.ledger ≡ enter self.old.ledger session (Acted act key now)) }
+        ensures map { OnOk result (present self.new.ledger ≡ present self.old.ledger) }
+        ensures free { OnOk result (no_room self.old.ledger.entries 1 ≡ None) }
+        ensures refused { IfErr result (λ why. IsLeastOrMemory (no_room self.old.ledger.entries 1) why) }
+        ensures unchanged { OnErr result (self.new.ledger ≡ self.old.ledger) }
+        ensures enough { 1 ≤ self.old.spare → IsOk result }
+    {
+        // That the entries are sound is the type's rule, which the proof has where a field is looked at.
+        let _ = &self.journal;
+        if let Err(why) = self.reserve(1) {
+            return Err(why);
+        }
+        Ok(self.append(session, What::Acted { act, key, now }, None))
     }
 
     /// Why the edit would be refused, but for want of memory. It takes no memory.

@@ -1,7 +1,11 @@
 //! Laws of edits and their undoing, as functions whose contracts state them. Their bodies are empty.
-ghost use Rattle.std.specs.Prelude.{◌≡◌, ℕ, Some, None};
+ghost use Rattle.std.specs.Prelude.{◌≡◌, ℕ, Bool, List, Some, None};
+ghost use Rattle.tsn_types.specs.declared.limits.Limits.{Limits as AnyLimits};
+ghost use Rattle.tsn_edit.specs.Configuration.{Configuration, IsWellKept};
+ghost use Rattle.tsn_edit.specs.Runs.{IsGood};
+ghost use Rattle.tsn_undo.specs.Commuting.{Commutes, IsClosed};
 ghost use Rattle.tsn_edit.specs.declared.Edit.{Edit as AnyEdit};
-ghost use Rattle.tsn_journal.specs.Entries.{no_room, undone, with_entry};
+ghost use Rattle.tsn_journal.specs.Entries.{Applied, changes, no_room, undone, with_entry};
 ghost use Rattle.tsn_journal.specs.Finding.{find_conflict, last_of};
 ghost use Rattle.tsn_undo.specs.Examples.{first_run, removal, creation, blocked, replacement, others_removal};
 ghost use Rattle.tsn_undo.specs.Ledger.{Ledger, present};
@@ -36,4 +40,16 @@ pub fn undos_by_hand()
     ensures newest { last_of blocked 1 ≡ Some replacement }
     ensures blocks { find_conflict blocked replacement ≡ Some others_removal }
     ensures unblocks { find_conflict (with_entry blocked 2 (undone others_removal)) replacement ≡ None }
+{}
+
+/// Any set of standing entries that has, with each of its entries, every later standing entry in conflict with it, may be
+/// taken out of the run: the run of the others is good, and it ends, at each key of the set, in the value before the
+/// set's earliest change of that key, and at every other key as the run of all standing entries does. The opening is
+/// well kept, as every book's is.
+pub fn commutation_under_references()
+    ensures { (l : AnyLimits) (opening : Configuration) (xs : List Applied) (out : Applied → Bool) →
+        IsWellKept l opening →
+        IsGood l opening (changes xs) →
+        IsClosed out xs →
+        Commutes l opening out xs }
 {}

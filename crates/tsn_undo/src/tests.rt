@@ -8,9 +8,10 @@ use std::test::Fail;
 use tsn_config::Config;
 use tsn_config::records::Records;
 use tsn_edit::Edit;
+use tsn_journal::entries::Act;
 use tsn_types::keys::Key;
 use tsn_types::limits::Limits;
-use tsn_types::numbers::{BitRate, MeterId, Octets};
+use tsn_types::numbers::{BitRate, Instant, MeterId, Octets};
 use tsn_types::records::{FlowMeter, Record};
 use tsn_types::refusals::Refusal;
 
@@ -65,6 +66,7 @@ fn an_undone_removal_is_whole(rt: HostRuntime) -> Result<(), Fail> {
     laws::edit_at_once_undone();
     laws::undo_at_once_is_free();
     laws::undos_by_hand();
+    laws::commutation_under_references();
     let mut book = book(rt.alloc())?;
     assert_eq!(rt; book.edit(1, create(3)), Ok(1));
     assert_eq!(rt; book.edit(1, remove(3)), Ok(2));
@@ -145,5 +147,17 @@ fn room_is_made_for_as_many_as_a_journal_holds(rt: HostRuntime) -> Result<(), Fa
     assert_eq!(rt; book.reserve(2), Ok(()));
     assert_eq!(rt; book.edit(1, create(1)), Ok(1));
     assert_eq!(rt; book.journal().len(), 1);
+    Ok(())
+}
+
+#[test]
+fn an_act_is_entered_and_changes_nothing(rt: HostRuntime) -> Result<(), Fail> {
+    let mut book = book(rt.alloc())?;
+    assert_eq!(rt; book.edit(1, create(1)), Ok(1));
+    let now = Instant::new(7)?;
+    assert_eq!(rt; book.acted(1, Act::Enable, meter_key(1), now), Ok(2));
+    assert_eq!(rt; book.journal().len(), 2);
+    assert!(rt; is_meter(&book, meter_key(1)));
+    assert_eq!(rt; book.undo(1), Ok((3, 1)));
     Ok(())
 }
