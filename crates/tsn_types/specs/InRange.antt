@@ -14,10 +14,12 @@ use Rattle.tsn_types.specs.declared.records.Record.{Record}
 use Rattle.tsn_types.specs.declared.records.Record.TheVariants as records
 use Rattle.tsn_types.specs.Numbers.{AreGateStates, IsBitRate, IsCycle, IsExtension, IsHandle, IsInstanceId, IsInstant, IsInterval, IsMaxSdu, IsOctets, IsPortId, IsPriority}
 
+-- an entry of a port: the states of eight gates, for at least a nanosecond
 pub record PortEntryInRange (e : PortEntry) : Type 0 where
   pub gates : AreGateStates e.gates
   pub interval : IsInterval e.interval
 
+-- an entry of a stream gate: an internal priority value or none, for at least a nanosecond, with a bound of octets or none
 pub record GateEntryInRange (e : GateEntry) : Type 0 where
   pub ipv : IfSome e.ipv IsPriority
   pub interval : IsInterval e.interval
@@ -30,14 +32,17 @@ pub record ScheduleInRange {E : Type 0} (EntryInRange : E → Type 0) (s : Sched
   pub extension : IsExtension s.extension
   pub base : IsInstant s.base
 
+-- the gate parameters of a port
 pub record PortInRange (r : PortGates) : Type 0 where
   pub gates : AreGateStates r.gates
   pub admin : ScheduleInRange PortEntryInRange r.admin
 
+-- a stream gate
 pub record GateInRange (r : StreamGate) : Type 0 where
   pub ipv : IfSome r.ipv IsPriority
   pub admin : ScheduleInRange GateEntryInRange r.admin
 
+-- a stream filter: none stands for any handle, any priority, no greatest size and no meter
 pub record FilterInRange (r : StreamFilter) : Type 0 where
   pub handle : IfSome r.handle IsHandle
   pub priority : IfSome r.priority IsPriority
@@ -45,6 +50,7 @@ pub record FilterInRange (r : StreamFilter) : Type 0 where
   pub max_sdu : IfSome r.max_sdu IsMaxSdu
   pub meter : IfSome r.meter IsInstanceId
 
+-- a flow meter: two rates and two burst sizes
 pub record MeterInRange (r : FlowMeter) : Type 0 where
   pub cir : IsBitRate r.cir
   pub cbs : IsOctets r.cbs

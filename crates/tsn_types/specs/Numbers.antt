@@ -29,12 +29,14 @@ greatest_gate_states = 255
 abbrev pub greatest_instant : ℕ
 greatest_instant = 2 ^ 62
 
+-- a cycle is at most a thousand seconds, and so is its extension
 abbrev pub longest_cycle : ℕ
 longest_cycle = 10 ^ 12
 
 abbrev pub longest_extension : ℕ
 longest_extension = 10 ^ 12
 
+-- an interval of an entry has 32 bits
 abbrev pub longest_interval : ℕ
 longest_interval = 4294967295
 
@@ -61,6 +63,7 @@ IsInstanceId n = n ≤ greatest_instance
 abbrev pub IsPriority : ℕ → Type 0
 IsPriority n = n ≤ greatest_priority
 
+-- a stream handle
 abbrev pub IsHandle : ℕ → Type 0
 IsHandle n = n ≤ greatest_handle
 
@@ -68,6 +71,7 @@ IsHandle n = n ≤ greatest_handle
 abbrev pub AreGateStates : ℕ → Type 0
 AreGateStates n = n ≤ greatest_gate_states
 
+-- an instant
 abbrev pub IsInstant : ℕ → Type 0
 IsInstant n = n ≤ greatest_instant
 
@@ -75,17 +79,22 @@ IsInstant n = n ≤ greatest_instant
 abbrev pub IsCycle : ℕ → Type 0
 IsCycle n = Within 1 longest_cycle n
 
+-- an extension of a cycle may be of no length
 abbrev pub IsExtension : ℕ → Type 0
 IsExtension n = n ≤ longest_extension
 
+-- an interval is at least a nanosecond
 abbrev pub IsInterval : ℕ → Type 0
 IsInterval n = Within 1 longest_interval n
 
+-- a number of octets in an interval or a burst
 abbrev pub IsOctets : ℕ → Type 0
 IsOctets n = n ≤ most_octets
 
+-- a maximum SDU size is at least an octet
 abbrev pub IsMaxSdu : ℕ → Type 0
 IsMaxSdu n = Within 1 greatest_max_sdu n
 
+-- an information rate
 abbrev pub IsBitRate : ℕ → Type 0
 IsBitRate n = n ≤ greatest_bit_rate
