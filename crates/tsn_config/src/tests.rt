@@ -266,13 +266,12 @@ fn a_copy_has_every_port_and_kind(rt: HostRuntime) -> Result<(), Fail> {
 fn the_change_of_a_replace_has_both_records(rt: HostRuntime) -> Result<(), Fail> {
     let alloc = rt.alloc();
     let config = first_entries(&rt, alloc)?;
-    let moved = filter(0, None);
-    let edit = Edit::Replace(filter_key(3), Record::Filter(moved));
+    let edit = Edit::Replace(filter_key(3), Record::Filter(filter(0, None)));
     assert!(rt; config.check(&edit).is_none());
     let change = config.change_of(edit)?;
     assert_eq!(rt; change.key, filter_key(3));
     assert!(rt; change.before == Some(Record::Filter(filter(0, on_meter(0)))));
-    assert!(rt; change.after == Some(Record::Filter(moved)));
+    assert!(rt; change.after == Some(Record::Filter(filter(0, None))));
     Ok(())
 }
 
