@@ -8,7 +8,7 @@ use Rattle.tsn_types.specs.declared.records.Record.{Record}
 use Rattle.tsn_types.specs.declared.limits.Limits.{Limits}
 use Rattle.tsn_edit.specs.Parts.{Part, parts}
 use Rattle.tsn_edit.specs.Configuration.{Configuration, IsWellKept}
-use Rattle.tsn_edit.specs.Changes.{changed, conflicts}
+use Rattle.tsn_edit.specs.Changes.{after_change, conflicts}
 use Rattle.tsn_edit.specs.Runs.{run, IsGood}
 use Rattle.tsn_edit.proofs.KeyFacts.{before_or, by_bool, part_on}
 use Rattle.tsn_edit.proofs.Apart.{Agrees, Apart, Apart-append, Apart-from_test, agrees_left, agrees_taken, begin_agrees, fits_left}
@@ -37,14 +37,14 @@ left_from l out (x ∷ xs) c d t a apart closed good =
     let both : goes (in_set out (x ∷ xs)) (left out (x ∷ xs)) =
     elim (out x) as (λ b. out x ≡ b → goes (cond b (x ∷ in_set out xs) (in_set out xs)) (cond (not b) (x ∷ left out xs) (left out xs))) [
       | true ↦ λ in'.
-          let rest = left_from l out xs (changed c x.change) d (t ++ parts x.change)
+          let rest = left_from l out xs (after_change c x.change) d (t ++ parts x.change)
           (agrees_taken l c d t x.change a good.0)
           (each_both _ _ _ (λ y p q outside. Apart-append (parts y.change) t (parts x.change) (p outside) (apart_from_closed out x y q outside)) xs apart.1 (closed.0 in'))
           closed.1 good.1 in
           (rest.good, λ k. rest.ends k ∙ ap (λ u. before_or (part_on k u) (get (run c (changes (x ∷ xs))) k)) (append_assoc t (parts x.change) (flat_map parts (changes (in_set out xs)))))
       | false ↦ λ outside.
           let f = x.change in
-          let rest = left_from l out xs (changed c f) (changed d f) t
+          let rest = left_from l out xs (after_change c f) (after_change d f) t
           (agrees_left l c d t f a good.0 (apart.0 outside)) apart.1 closed.1 good.1 in
           ((fits_left l c d t f a good.0 (apart.0 outside), rest.good), rest.ends)
     ] refl in

@@ -116,12 +116,20 @@ fn a_conflict_comes_before_a_full_journal(rt: HostRuntime) -> Result<(), Fail> {
     fill(&mut book, 32_767)?;
     assert_eq!(rt; book.edit(1, create(1)), Ok(65_535));
     assert_eq!(rt; book.edit(2, remove(1)), Ok(65_536));
-    let conflict = Refusal::Conflict {
-        own: 65_535,
-        other: 65_536,
-    };
-    assert_eq!(rt; book.undo(1), Err(conflict));
-    assert_eq!(rt; book.refuse_undo(1), Some(conflict));
+    assert_eq!(rt;
+        book.undo(1),
+        Err(Refusal::Conflict {
+            own: 65_535,
+            other: 65_536
+        })
+    );
+    assert_eq!(rt;
+        book.refuse_undo(1),
+        Some(Refusal::Conflict {
+            own: 65_535,
+            other: 65_536
+        })
+    );
     assert_eq!(rt; book.undo(2), Err(Refusal::JournalFull));
     assert_eq!(rt; book.refuse_edit(&create(2)), Some(Refusal::JournalFull));
     Ok(())
