@@ -1,0 +1,5 @@
+pub mod Cycles
+pub mod Keeps
+pub mod Numbers
+pub mod Recur
+pub mod Restored
