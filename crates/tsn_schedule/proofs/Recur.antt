@@ -14,7 +14,7 @@ use Rattle.tsn_schedule.specs.Times.{change_of}
 use Rattle.tsn_schedule.proofs.Numbers.{grid}
 use Rattle.tsn_schedule.proofs.Cycles.{plain, after_apply}
 
-find-map : {X Y : Type 0} (f : X → Y) (p : Y → Bool) (q : X → Bool) → ((x : X) → p (f x) ≡ q x) → (xs : List X) → find p (map f xs) ≡ option_map f (find q xs)
+pub find-map : {X Y : Type 0} (f : X → Y) (p : Y → Bool) (q : X → Bool) → ((x : X) → p (f x) ≡ q x) → (xs : List X) → find p (map f xs) ≡ option_map f (find q xs)
 find-map f p q same [] = refl
 find-map f p q same (x ∷ xs) =
     rw (same x) (elim (q x) as (λ b. cond b (Some (f x)) (find p (map f xs)) ≡ option_map f (cond b (Some x) (find q xs))) [ true ↦ refl | false ↦ find-map f p q same xs ])
@@ -123,12 +123,12 @@ runs-disable acts a t = rw (ended_none a (took_place t) (starts acts)) refl
 abbrev pub moved : {E : Type 0} → ℕ → ℕ → ℕ → Schedule E × ℕ → Schedule E × ℕ
 moved a change t (schedule, known) = (schedule, start_by schedule.cycle known a (last_free schedule.extension (Some change) t))
 
-found : {X : Type 0} (p : X → Bool) (xs : List X) (x : X) → find p xs ≡ Some x → p x ≡ true
+pub found : {X : Type 0} (p : X → Bool) (xs : List X) (x : X) → find p xs ≡ Some x → p x ≡ true
 found p [] x e = cc
 found p (y ∷ xs) x e =
     let f = elim (p y) as (λ b. p y ≡ b → cond b (Some y) (find p xs) ≡ Some x → p x ≡ true) [ true ↦ λ is g. (let same : y ≡ x = cc in rw (← same) is) | false ↦ λ is g. found p xs x g ] in f refl e
 
-open_some : {E : Type 0} (o : Option (Start E)) (start : Start E) → option_and_then unless_ended o ≡ Some start → o ≡ Some start
+pub open_some : {E : Type 0} (o : Option (Start E)) (start : Start E) → option_and_then unless_ended o ≡ Some start → o ≡ Some start
 open_some None start e = cc
 open_some (Some other) start e =
     let f = elim (is_ended other) as (λ b. cond b None (Some other) ≡ Some start → Some other ≡ Some start) [ true ↦ λ g. cc | false ↦ λ g. g ] in f e

@@ -1,6 +1,8 @@
 pub mod Acts
 pub mod Entries
+pub mod Examples
 pub mod Kept
+pub mod Meaning
 pub mod Refusing
 pub mod Stands
 pub mod Starts

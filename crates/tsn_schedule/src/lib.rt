@@ -7,6 +7,7 @@
 #![tactic(auto)]
 
 pub mod calendar;
+pub mod laws;
 pub mod runner;
 #[cfg(test)]
 mod tests;
