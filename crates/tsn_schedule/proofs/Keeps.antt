@@ -7,7 +7,8 @@ use Rattle.tsn_schedule.specs.declared.runner.Pending.{Pending}
 use Rattle.tsn_schedule.specs.Acts.{Act, Enable, Disable, Apply, IsHistory, HasEffect, is_enabled, last_instant, instant_of, with_act}
 use Rattle.tsn_schedule.specs.Kept.{Kept, fresh}
 use Rattle.tsn_schedule.specs.Stands.{StandsFor, start_by, last_free, held_by, held_with, from_held, runs_by, runs_with, change_by, settled, restart, counted, kept_after}
-use Rattle.tsn_schedule.specs.Starts.{errors_in, past_bases, in_force, change_in, enabled_change, greatest_count}
+use Rattle.tsn_schedule.specs.Counters.{errors_in, past_bases, change_in, enabled_change, greatest_count}
+use Rattle.tsn_schedule.specs.Starts.{in_force}
 use Rattle.tsn_schedule.specs.States.{held_in, runs_in, run_of}
 use Rattle.tsn_schedule.specs.Times.{change_of}
 use Rattle.tsn_schedule.proofs.Numbers.{first_start, start_by-le}

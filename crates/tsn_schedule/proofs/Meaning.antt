@@ -2,20 +2,21 @@
 use Rattle.std.proofs.Common.{◌≡◌, ◌<◌, ◌≤◌, ◌+◌, ◌-◌, ◌*◌, ◌/◌, ◌%◌, ℕ, zero, suc, refl, arith, Bool, true, false, not, ◌&&◌, ◌||◌, cond, ltb, leb, min, length, take, map, List, [], ◌∷◌, ◌++◌, Option, Some, None, sym, ◌∙◌, ap, inl, inr, ◌⊎◌, MatchOption}
 use Rattle.std.specs.Prelude.{slice_get, option_to_list, is_some}
 use Rattle.std.specs.List.{find, list_any, sum_by}
-use Rattle.std.specs.Option.{option_map, option_and_then}
-use Rattle.std.proofs.lemmas.Bool.{le-ltb, lt-ltb, cases_lt, and_parts, or_parts, leb-true, not-true}
+use Rattle.std.specs.Option.{option_map, option_map_or, option_and_then}
+use Rattle.std.proofs.lemmas.Bool.{le-ltb, lt-ltb, le-leb, cases_lt, and_parts, or_parts, leb-true, ltb-false, not-true}
 use Rattle.std.proofs.lemmas.List.Sums.{sum_by-cons}
 use Rattle.std.proofs.Math.Nat.{div-add-mod, mul_comm, mul-le-mul_left}
 use Rattle.tsn_types.specs.declared.records.Schedule.{Schedule}
-use Rattle.tsn_schedule.specs.Acts.{Act, Enable, Disable, Apply, IsHistory}
+use Rattle.tsn_schedule.specs.Acts.{Act, Enable, Disable, Apply, IsHistory, is_enabled}
 use Rattle.tsn_schedule.specs.Entries.{entry_at, earlier_at}
 use Rattle.tsn_schedule.specs.Meaning.{IsChangeTime, IsLatestStart, IsEntryAt}
-use Rattle.tsn_schedule.specs.Starts.{Start, starts, begun, start_of, followed_by, took_place, is_void, is_voiding, is_ended, unless_ended, in_force, errors_in, past_bases, greatest_count}
+use Rattle.tsn_schedule.specs.Counters.{change_in, is_pending, errors_in, past_bases, greatest_count}
+use Rattle.tsn_schedule.specs.Starts.{Start, starts, begun, start_of, followed_by, took_place, is_void, is_voiding, is_ended, unless_ended, in_force}
 use Rattle.tsn_schedule.specs.States.{is_apply_before, is_held_back, nominal, latest_of, cycle_start}
 use Rattle.tsn_schedule.specs.Times.{change_of}
 use Rattle.tsn_schedule.proofs.Cycles.{latest_suc}
 use Rattle.tsn_schedule.proofs.Numbers.{reached, fits, past, nominal_le}
-use Rattle.tsn_schedule.proofs.Recur.{find-map, found, open_some}
+use Rattle.tsn_schedule.proofs.Recur.{find-map, found, open_some, through-enable, after_enable, disabled_none, ended_none}
 
 -- The change time is the least instant of the base's grid that isn't before a.
 least : (base y a n : ℕ) → 0 < y → a ≤ base + n * y → change_of base y a ≤ base + n * y
@@ -172,3 +173,28 @@ pub errors_stay : {E : Type 0} (act : Act E) (acts : List (Act E)) → errors_in
 errors_stay (Enable a) acts h = h
 errors_stay (Disable a) acts h = h
 errors_stay (Apply schedule a) acts h = stays_greatest (past_bases acts) (cond (ltb schedule.base a && is_some (in_force acts a)) 1 0) h
+
+-- Where no change is pending, the change time that is told is that of the list in force.
+told_again : {E : Type 0} (acts : List (Act E)) (a t : ℕ) → IsHistory acts → is_enabled acts ≡ false → (o : Option (Start E))
+    → option_map_or (ltb t) (option_map (λ (start : Start E). start.change) (option_and_then unless_ended (find (λ start. not (is_void start)) (option_to_list (option_map (λ (start : Start E). start_of a start.schedule) o) ++ map (followed_by (Enable a)) (starts acts))))) false ≡ false
+    → option_map (λ (start : Start E). start.change) (option_and_then unless_ended (find (λ start. not (is_void start)) (option_to_list (option_map (λ (start : Start E). start_of a start.schedule) o) ++ map (followed_by (Enable a)) (starts acts))))
+    ≡ option_map (λ (start : Start E). start.change) (option_and_then unless_ended (find (took_place t) (option_to_list (option_map (λ (start : Start E). start_of a start.schedule) o) ++ map (followed_by (Enable a)) (starts acts))))
+told_again acts a t h off None now =
+    rw (
+      find-map (followed_by (Enable a)) (λ start. not (is_void start)) (λ start. not (is_void start)) (λ start. refl) (starts acts),
+      through-enable a (find (λ start. not (is_void start)) (starts acts)),
+      disabled_none acts h off (λ start. not (is_void start)),
+      after_enable a t (starts acts),
+      through-enable a (find (took_place t) (starts acts)),
+      disabled_none acts h off (took_place t),
+    ) refl
+told_again acts a t h off (Some start) now =
+    rw (le-leb (change_of start.schedule.base start.schedule.cycle a) t (ltb-false t (change_of start.schedule.base start.schedule.cycle a) now)) refl
+
+pub told : {E : Type 0} (acts : List (Act E)) (t : ℕ) → IsHistory acts → is_pending acts t ≡ false → change_in acts ≡ option_map (λ (start : Start E). start.change) (in_force acts t)
+told [] t h now = refl
+told (Enable a ∷ acts) t h now = told_again acts a t h.2 h.1 (find (took_place a) (starts acts)) now
+told (Disable a ∷ acts) t h now =
+    rw (ended_none a (λ start. not (is_void start)) (starts acts), ended_none a (took_place t) (starts acts)) refl
+told (Apply schedule a ∷ acts) t h now =
+    rw (le-leb (change_of schedule.base schedule.cycle a) t (ltb-false t (change_of schedule.base schedule.cycle a) now)) refl

@@ -8,7 +8,8 @@ use Rattle.std.proofs.lemmas.Bool.Decides.{nat_tests}
 use Rattle.tsn_types.specs.declared.records.Schedule.{Schedule}
 use Rattle.tsn_schedule.specs.Acts.{Act, Enable, Disable, Apply, IsHistory, is_enabled, last_instant}
 use Rattle.tsn_schedule.specs.Stands.{start_by, last_free}
-use Rattle.tsn_schedule.specs.Starts.{Start, starts, took_place, followed_by, is_void, is_ended, in_force, start_of, unless_ended, change_in}
+use Rattle.tsn_schedule.specs.Counters.{change_in}
+use Rattle.tsn_schedule.specs.Starts.{Start, starts, took_place, followed_by, is_void, is_ended, in_force, start_of, unless_ended}
 use Rattle.tsn_schedule.specs.States.{held_in, runs_in, run_of, cycle_start}
 use Rattle.tsn_schedule.specs.Times.{change_of}
 use Rattle.tsn_schedule.proofs.Numbers.{grid}
@@ -24,14 +25,14 @@ voided : (a t c : ℕ) (v : Bool) → a ≤ t → (not (ltb a c || v) && leb c t
 voided a t c v h = grind (arith, nat_tests)
 
 -- With a disable after it, no start counts.
-ended_none : {E : Type 0} (a : ℕ) (p : Start E → Bool) (all : List (Start E)) → option_and_then unless_ended (find p (map (followed_by (Disable a)) all)) ≡ None
+pub ended_none : {E : Type 0} (a : ℕ) (p : Start E → Bool) (all : List (Start E)) → option_and_then unless_ended (find p (map (followed_by (Disable a)) all)) ≡ None
 ended_none a p [] = refl
 ended_none a p (start ∷ all) =
     elim (p (followed_by (Disable a) start)) as (λ b. option_and_then unless_ended (cond b (Some (followed_by (Disable a) start)) (find p (map (followed_by (Disable a)) all))) ≡ None)
     [ true ↦ refl | false ↦ ended_none a p all ]
 
 -- While disabled, each start has a disable after it.
-disabled_none : {E : Type 0} (acts : List (Act E)) → IsHistory acts → is_enabled acts ≡ false → (p : Start E → Bool) → option_and_then unless_ended (find p (starts acts)) ≡ None
+pub disabled_none : {E : Type 0} (acts : List (Act E)) → IsHistory acts → is_enabled acts ≡ false → (p : Start E → Bool) → option_and_then unless_ended (find p (starts acts)) ≡ None
 disabled_none [] h off p = refl
 disabled_none (Enable a ∷ acts) h off p = absurd (true≢false off)
 disabled_none (Disable a ∷ acts) h off p = ended_none a p (starts acts)
@@ -46,7 +47,7 @@ void_later-apply : {E : Type 0} (schedule : Schedule E) (a t : ℕ) → a ≤ t 
 void_later-apply schedule a t h all =
     find-map (followed_by (Apply schedule a)) (took_place t) (took_place a) (λ start. voided a t start.change (is_void start) h) all
 
-after_enable : {E : Type 0} (a t : ℕ) (all : List (Start E)) → find (took_place t) (map (followed_by (Enable a)) all) ≡ option_map (followed_by (Enable a)) (find (took_place t) all)
+pub after_enable : {E : Type 0} (a t : ℕ) (all : List (Start E)) → find (took_place t) (map (followed_by (Enable a)) all) ≡ option_map (followed_by (Enable a)) (find (took_place t) all)
 after_enable a t all = find-map (followed_by (Enable a)) (took_place t) (took_place t) (λ start. refl) all
 
 -- The schedule held.
@@ -63,7 +64,7 @@ held-apply schedule acts a t h =
     ]
 
 -- A later act that is no disable leaves it open whether a start has ended.
-through-enable : {E : Type 0} (a : ℕ) (o : Option (Start E)) → option_and_then unless_ended (option_map (followed_by (Enable a)) o) ≡ option_map (followed_by (Enable a)) (option_and_then unless_ended o)
+pub through-enable : {E : Type 0} (a : ℕ) (o : Option (Start E)) → option_and_then unless_ended (option_map (followed_by (Enable a)) o) ≡ option_map (followed_by (Enable a)) (option_and_then unless_ended o)
 through-enable a None = refl
 through-enable a (Some start) =
     elim (is_ended start) as (λ b. cond b None (Some (followed_by (Enable a) start)) ≡ option_map (followed_by (Enable a)) (cond b None (Some start))) [ true ↦ refl | false ↦ refl ]

@@ -5,9 +5,9 @@ use Rattle.tsn_types.specs.declared.records.Schedule.{Schedule}
 use Rattle.tsn_schedule.specs.declared.runner.Pending.{Pending}
 use Rattle.tsn_schedule.specs.Acts.{Act, Enable, Disable, Apply, IsHistory, is_enabled, last_instant}
 use Rattle.tsn_schedule.specs.Kept.{Kept}
-use Rattle.tsn_schedule.specs.Starts.{errors_in, change_in, greatest_count}
+use Rattle.tsn_schedule.specs.Counters.{errors_in, change_in, greatest_count}
 use Rattle.tsn_schedule.specs.States.{held_in, runs_in}
-use Rattle.tsn_schedule.specs.Times.{change_of, greatest_instant, longest_cycle}
+use Rattle.tsn_schedule.specs.Times.{change_of, greatest_instant, IsChange}
 
 -- The last instant up to t at which a cycle may start, with a change to come, if any.
 abbrev pub last_free : ℕ → Option ℕ → ℕ → ℕ
@@ -80,10 +80,6 @@ kept_after (Enable a) kept = record (settled kept a) { enabled = true; running =
 kept_after (Disable a) kept = record (settled kept a) { enabled = false; running = None }
 kept_after (Apply schedule a) kept =
     record (settled kept a) { errors = counted kept schedule.base a; pending = Some (record { schedule = schedule; change = change_of schedule.base schedule.cycle a }) }
-
--- an instant at which a change may come: it may lie after the greatest instant
-abbrev pub IsChange : ℕ → Type 0
-IsChange change = change < greatest_instant + longest_cycle
 
 -- the ranges of what a runner keeps
 pub record IsInRange {E : Type 0} (instant : ℕ) (start : Option ℕ) (coming : Option (Pending E)) : Type 0 where

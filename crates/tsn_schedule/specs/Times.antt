@@ -1,5 +1,5 @@
 -- Change times, and the greatest numbers of a schedule's time.
-use Rattle.std.specs.Prelude.{ℕ, ◌+◌, ◌-◌, ◌*◌, ◌/◌, ◌^◌}
+use Rattle.std.specs.Prelude.{ℕ, ◌+◌, ◌-◌, ◌*◌, ◌/◌, ◌^◌, ◌<◌}
 
 -- the greatest instant
 abbrev pub greatest_instant : ℕ
@@ -13,3 +13,7 @@ longest_cycle = 10 ^ 12
 -- instant a whole number of cycles after the base that isn't before it. `-` stops at 0.
 abbrev pub change_of : ℕ → ℕ → ℕ → ℕ
 change_of base cycle instant = base + cycle * ((instant - base + (cycle - 1)) / cycle)
+
+-- An instant at which a change may come: it may lie after the greatest instant.
+abbrev pub IsChange : ℕ → Type 0
+IsChange change = change < greatest_instant + longest_cycle

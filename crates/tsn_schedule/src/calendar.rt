@@ -4,8 +4,7 @@
 ghost use Rattle.std.specs.Prelude.{◌≡◌, ◌≤◌};
 ghost use Rattle.std.specs.Option.{option_copied};
 ghost use Rattle.tsn_schedule.specs.Entries.{entry_at, earlier_at};
-ghost use Rattle.tsn_schedule.specs.Stands.{IsChange};
-ghost use Rattle.tsn_schedule.specs.Times.{change_of};
+ghost use Rattle.tsn_schedule.specs.Times.{change_of, IsChange};
 
 use crate::timed::Timed;
 use tsn_types::lists::ControlList;

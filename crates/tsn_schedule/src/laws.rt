@@ -1,12 +1,14 @@
 //! Laws of the calendar, and worked examples computed of the definitions alone, as functions whose contracts state them.
 //! Their bodies are empty.
 ghost use Rattle.std.specs.Prelude.{◌≡◌, ◌-◌, ◌%◌, ◌≤◌, ◌<◌, ℕ, Some, None, true, false, List, [], ◌∷◌, MatchOption};
+ghost use Rattle.std.specs.Option.{option_map};
 ghost use Rattle.tsn_schedule.specs.Acts.{Act, Enable, Disable, Apply, IsHistory, last_instant};
 ghost use Rattle.tsn_schedule.specs.Entries.{entry_at, earlier_at};
 ghost use Rattle.tsn_schedule.specs.Examples.{plan, one_two, open_shut, gates_at, began_at, ahead, with_cycle, extended, second, third, replaced, restored, ahead_again, disabled, enabled, gate_list, gate_acts, gate_states, gate_begins};
 ghost use Rattle.tsn_schedule.specs.Meaning.{IsChangeTime, IsLatestStart, IsEntryAt};
 ghost use Rattle.tsn_schedule.specs.Refusing.{apply_refusal};
-ghost use Rattle.tsn_schedule.specs.Starts.{Start, in_force, change_in, errors_in, past_bases, is_pending, greatest_count};
+ghost use Rattle.tsn_schedule.specs.Counters.{change_in, errors_in, past_bases, is_pending, greatest_count};
+ghost use Rattle.tsn_schedule.specs.Starts.{Start, in_force};
 ghost use Rattle.tsn_schedule.specs.States.{cycle_start, state_in};
 ghost use Rattle.tsn_schedule.specs.Times.{change_of};
 ghost use Rattle.tsn_types.specs.declared.records.GateEntry.{GateEntry as AnyGateEntry};
@@ -17,7 +19,8 @@ ghost use Rattle.tsn_types.specs.declared.refusals.Refusal.TheVariants.{NotEnabl
 /// The change time is the least instant on the base's grid of cycles that isn't before the act. The entry at an offset
 /// has the offset between the sum of the intervals before it and that with its own, or is the last; only an empty list
 /// has none. The cycle start from which offsets count is the latest that took place. A list whose base is past gives
-/// its own states by the offset from its base. A count of errors that is at its greatest stays there.
+/// its own states by the offset from its base. Where nothing is pending, the change time that is told is that of the list
+/// in force. A count of errors that is at its greatest stays there.
 pub fn calendar<E>()
     ensures change { (base cycle a : ℕ) → 0 < cycle → IsChangeTime base cycle a (change_of base cycle a) }
     ensures entry { (interval : E → ℕ) (list : List E) (offset : ℕ) →
@@ -27,6 +30,7 @@ pub fn calendar<E>()
     ensures restored { (interval : E → ℕ) (schedule : AnySchedule E) (acts : List (Act E)) (a t : ℕ) →
         IsHistory (Apply schedule a ∷ acts) → schedule.base ≤ a → change_of schedule.base schedule.cycle a ≤ t →
         state_in interval (Apply schedule a ∷ acts) t ≡ entry_at interval schedule.list ((t - schedule.base) % schedule.cycle) }
+    ensures told { (acts : List (Act E)) (t : ℕ) → IsHistory acts → is_pending acts t ≡ false → change_in acts ≡ option_map (λ start. start.change) (in_force acts t) }
     ensures errors { (act : Act E) (acts : List (Act E)) → errors_in acts ≡ greatest_count → errors_in (act ∷ acts) ≡ greatest_count }
 {}
 

@@ -7,6 +7,8 @@
 #![tactic(auto)]
 
 pub mod calendar;
+#[cfg(test)]
+mod histories;
 pub mod laws;
 pub mod runner;
 #[cfg(test)]

@@ -4,16 +4,16 @@
 //! place by the last act. From these it answers as the definitions over all acts do. A pending schedule is taken over
 //! by the next act; until then reads tell by its change time whether it has come. An act or a read costs no more than
 //! the length of one list.
-ghost use Rattle.std.specs.Prelude.{◌≡◌, ℕ, ◌+◌, ◌-◌, ◌%◌, ◌≤◌, ◌<◌, ◌^◌, min, ◌&&◌, nat_lt, is_some, if◌then◌else◌, List, [], ◌∷◌, Option, Some, None, MatchResult, IsOkAnd, IfOk, IfErr, IfSome, OnOk, OnErr};
+ghost use Rattle.std.specs.Prelude.{◌≡◌, ℕ, ◌+◌, ◌-◌, ◌%◌, ◌≤◌, ◌<◌, ◌^◌, min, ◌&&◌, nat_lt, is_some, if◌then◌else◌, List, [], ◌∷◌, Option, Some, None, MatchResult, IsTrue, ◌↔◌, IsOkAnd, IfOk, IfErr, IfSome, OnOk, OnErr};
 ghost use Rattle.std.specs.Option.{option_copied, option_map, unwrap_or, ForSome};
 ghost use Rattle.tsn_schedule.specs.Acts.{Act, Enable, Disable, Apply, with_act, is_enabled, last_instant};
 ghost use Rattle.tsn_schedule.specs.Entries.{entry_at};
 ghost use Rattle.tsn_schedule.specs.Kept.{Kept, fresh};
 ghost use Rattle.tsn_schedule.specs.Refusing.{apply_refusal};
-ghost use Rattle.tsn_schedule.specs.Stands.{StandsFor, IsChange, runs_by, settled, restart, counted};
-ghost use Rattle.tsn_schedule.specs.Starts.{change_in, enabled_change, errors_in, is_pending, greatest_count};
+ghost use Rattle.tsn_schedule.specs.Stands.{StandsFor, runs_by, settled, restart, counted};
+ghost use Rattle.tsn_schedule.specs.Counters.{change_in, enabled_change, errors_in, is_pending, greatest_count};
 ghost use Rattle.tsn_schedule.specs.States.{state_in, began_in};
-ghost use Rattle.tsn_schedule.specs.Times.{change_of};
+ghost use Rattle.tsn_schedule.specs.Times.{change_of, IsChange};
 ghost use Rattle.tsn_types.specs.declared.records.Schedule.{Schedule as AnySchedule};
 ghost use Rattle.tsn_types.specs.declared.refusals.Refusal.TheVariants.{Memory};
 
@@ -80,7 +80,8 @@ impl<E: Timed> Runner<E> {
     pub fn is_enabled(&self) -> bool
         ensures { (acts : List (Act E)) → StandsFor self.now acts → result ≡ is_enabled acts }
     {
-        self.enabled
+        let Runner { enabled, .. } = self;
+        *enabled
     }
 
     /// When the latest start that isn't void comes or came in force; none where a disable comes after it.
@@ -107,7 +108,15 @@ impl<E: Timed> Runner<E> {
     pub fn errors(&self) -> u64
         ensures { (acts : List (Act E)) → StandsFor self.now acts → result ≡ errors_in acts }
     {
-        self.errors
+        let Runner { errors, .. } = self;
+        *errors
+    }
+
+    // Whether an instant comes before the last act.
+    fn is_past(&self, t: u64) -> bool
+        ensures { IsTrue result ↔ (t < self.now.last) }
+    {
+        t < self.last
     }
 
     // What runs at t, with its latest cycle start that took place.
@@ -265,7 +274,7 @@ impl<E: Timed> Runner<E> {
             (λ _. t < last_instant acts) }
     {
         let t = t.get();
-        if t < self.last {
+        if self.is_past(t) {
             return Err(Past);
         }
         match self.running_at(t) {
@@ -282,7 +291,7 @@ impl<E: Timed> Runner<E> {
             (λ _. t < last_instant acts) }
     {
         let t = t.get();
-        if t < self.last {
+        if self.is_past(t) {
             return Err(Past);
         }
         match self.running_at(t) {

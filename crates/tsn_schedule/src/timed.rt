@@ -17,7 +17,8 @@ impl Timed for PortEntry {
     ghost interval = { λ entry. entry.interval };
 
     fn interval(&self) -> Interval {
-        self.interval
+        let PortEntry { interval, .. } = *self;
+        interval
     }
 }
 
@@ -25,6 +26,7 @@ impl Timed for GateEntry {
     ghost interval = { λ entry. entry.interval };
 
     fn interval(&self) -> Interval {
-        self.interval
+        let GateEntry { interval, .. } = *self;
+        interval
     }
 }

@@ -1,4 +1,4 @@
-use Rattle.tsn_schedule.proofs.Meaning.{change_is_least, entry_is_at, cycle_start_is_latest, errors_stay}
+use Rattle.tsn_schedule.proofs.Meaning.{change_is_least, entry_is_at, cycle_start_is_latest, errors_stay, told}
 use Rattle.tsn_schedule.proofs.Restored.{restored}
 use Rattle.tsn_schedule.proofs.laws.calendar.Goals as goal
 
@@ -16,3 +16,6 @@ returns-clause-restored g c = λ interval schedule acts a t h past by. restored 
 
 pub returns-clause-errors : goal.returns-clause-errors
 returns-clause-errors g c = errors_stay
+
+pub returns-clause-told : goal.returns-clause-told
+returns-clause-told g c = told
