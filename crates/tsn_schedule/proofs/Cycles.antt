@@ -1,12 +1,12 @@
 -- The latest cycle start that took place, once an apply is one act more.
-use Rattle.std.proofs.Common.{◌≡◌, ◌<◌, ◌≤◌, ◌+◌, ◌-◌, ◌*◌, ◌/◌, ◌%◌, ℕ, zero, suc, refl, arith, Bool, true, false, cond, ltb, leb, min, List, [], ◌∷◌, Option, Some, None, sym, ◌∙◌, inl, inr, ◌⊎◌}
+use Rattle.std.proofs.Common.{◌≡◌, ◌<◌, ◌≤◌, ◌+◌, ◌-◌, ◌/◌, ◌%◌, ℕ, zero, suc, refl, arith, true, false, cond, ltb, min, Some, ◌∙◌, inl, inr, ◌⊎◌}
 use Rattle.std.proofs.Math.Nat.{div-zero, mod-zero}
 use Rattle.std.proofs.lemmas.Bool.{le-ltb, lt-ltb, le-leb, lt-leb, cases_lt}
 use Rattle.tsn_types.specs.declared.records.Schedule.{Schedule}
-use Rattle.tsn_schedule.specs.Acts.{Act, Enable, Disable, Apply}
+use Rattle.tsn_schedule.specs.Acts.{Apply}
 use Rattle.tsn_schedule.specs.Stands.{start_by, last_free}
 use Rattle.tsn_schedule.specs.Starts.{Start, followed_by, start_of}
-use Rattle.tsn_schedule.specs.States.{nominal, is_held_back, latest_of, cycle_start, is_apply_before, is_change_near}
+use Rattle.tsn_schedule.specs.States.{nominal, is_held_back, latest_of, cycle_start}
 use Rattle.tsn_schedule.specs.Times.{change_of}
 use Rattle.tsn_schedule.proofs.Numbers.{grid, fits, past, quotient_le, nominal_le}
 

@@ -1,15 +1,15 @@
 -- What a runner keeps after one act more is what stands for the acts with it.
-use Rattle.std.proofs.Common.{◌≡◌, ◌<◌, ◌≤◌, ◌+◌, ◌-◌, ◌*◌, ◌/◌, ◌%◌, ◌^◌, ℕ, refl, arith, min, Bool, true, false, ◌&&◌, cond, ltb, leb, is_some, List, [], ◌∷◌, Option, Some, None, sym, ◌∙◌, inl, inr, ◌≢◌}
+use Rattle.std.proofs.Common.{◌≡◌, ◌<◌, ◌≤◌, ◌+◌, ◌-◌, ◌%◌, ℕ, refl, arith, min, Bool, true, false, ◌&&◌, cond, ltb, leb, is_some, List, [], ◌∷◌, Option, Some, None, sym, ◌∙◌, inl, inr, ◌≢◌}
 use Rattle.std.specs.Option.{option_map, option_and_then}
 use Rattle.std.proofs.lemmas.Bool.{le-leb, lt-leb, cases_lt}
 use Rattle.tsn_types.specs.declared.records.Schedule.{Schedule}
 use Rattle.tsn_schedule.specs.declared.runner.Pending.{Pending}
-use Rattle.tsn_schedule.specs.Acts.{Act, Enable, Disable, Apply, IsHistory, HasEffect, is_enabled, last_instant, instant_of, with_act}
+use Rattle.tsn_schedule.specs.Acts.{Act, Enable, Disable, Apply, HasEffect, is_enabled, last_instant, with_act}
 use Rattle.tsn_schedule.specs.Kept.{Kept, fresh}
-use Rattle.tsn_schedule.specs.Stands.{StandsFor, start_by, last_free, held_by, held_with, from_held, runs_by, runs_with, change_by, settled, restart, counted, kept_after}
-use Rattle.tsn_schedule.specs.Counters.{errors_in, past_bases, change_in, enabled_change, greatest_count}
+use Rattle.tsn_schedule.specs.Stands.{StandsFor, start_by, last_free, held_by, held_with, from_held, runs_with, restart, kept_after}
+use Rattle.tsn_schedule.specs.Counters.{past_bases, enabled_change, greatest_count}
 use Rattle.tsn_schedule.specs.Starts.{in_force}
-use Rattle.tsn_schedule.specs.States.{held_in, runs_in, run_of}
+use Rattle.tsn_schedule.specs.States.{held_in, run_of}
 use Rattle.tsn_schedule.specs.Times.{change_of}
 use Rattle.tsn_schedule.proofs.Numbers.{first_start, start_by-le}
 use Rattle.tsn_schedule.proofs.Recur.{held-disable, held-apply, held-enable, runs-disable, runs-apply, runs-enable, change-disable, change-enable, moved}

@@ -1,20 +1,18 @@
 -- What the definitions mean, in other words.
-use Rattle.std.proofs.Common.{◌≡◌, ◌<◌, ◌≤◌, ◌+◌, ◌-◌, ◌*◌, ◌/◌, ◌%◌, ℕ, zero, suc, refl, arith, Bool, true, false, not, ◌&&◌, ◌||◌, cond, ltb, leb, min, length, take, map, List, [], ◌∷◌, ◌++◌, Option, Some, None, sym, ◌∙◌, ap, inl, inr, ◌⊎◌, MatchOption}
-use Rattle.std.specs.Prelude.{slice_get, option_to_list, is_some}
-use Rattle.std.specs.List.{find, list_any, sum_by}
+use Rattle.std.proofs.Common.{◌≡◌, ◌<◌, ◌≤◌, ◌+◌, ◌-◌, ◌*◌, ◌/◌, ◌%◌, ℕ, zero, suc, refl, arith, Bool, true, false, not, ◌&&◌, cond, ltb, leb, min, length, take, map, List, [], ◌∷◌, ◌++◌, Option, Some, None, sym, ◌∙◌, ap, inl, inr, MatchOption}
+use Rattle.std.specs.Prelude.{option_to_list, is_some}
+use Rattle.std.specs.List.{find, list_any}
 use Rattle.std.specs.Option.{option_map, option_map_or, option_and_then}
 use Rattle.std.proofs.lemmas.Bool.{le-ltb, lt-ltb, le-leb, cases_lt, and_parts, or_parts, leb-true, ltb-false, not-true}
 use Rattle.std.proofs.lemmas.List.Sums.{sum_by-cons}
 use Rattle.std.proofs.Math.Nat.{div-add-mod, mul_comm, mul-le-mul_left}
-use Rattle.tsn_types.specs.declared.records.Schedule.{Schedule}
 use Rattle.tsn_schedule.specs.Acts.{Act, Enable, Disable, Apply, IsHistory, is_enabled}
 use Rattle.tsn_schedule.specs.Entries.{entry_at, earlier_at}
 use Rattle.tsn_schedule.specs.Meaning.{IsChangeTime, IsLatestStart, IsEntryAt}
 use Rattle.tsn_schedule.specs.Counters.{change_in, is_pending, errors_in, past_bases, greatest_count}
-use Rattle.tsn_schedule.specs.Starts.{Start, starts, begun, start_of, followed_by, took_place, is_void, is_voiding, is_ended, unless_ended, in_force}
+use Rattle.tsn_schedule.specs.Starts.{Start, starts, begun, start_of, followed_by, took_place, is_void, is_voiding, unless_ended, in_force}
 use Rattle.tsn_schedule.specs.States.{is_apply_before, is_held_back, nominal, latest_of, cycle_start}
 use Rattle.tsn_schedule.specs.Times.{change_of}
-use Rattle.tsn_schedule.proofs.Cycles.{latest_suc}
 use Rattle.tsn_schedule.proofs.Numbers.{reached, fits, past, nominal_le}
 use Rattle.tsn_schedule.proofs.Recur.{find-map, found, open_some, through-enable, after_enable, disabled_none, ended_none}
 

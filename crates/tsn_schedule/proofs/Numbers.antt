@@ -1,9 +1,9 @@
 -- Nominal cycle starts and the one that took place last.
-use Rattle.std.proofs.Common.{◌≡◌, ◌<◌, ◌≤◌, ◌+◌, ◌-◌, ◌*◌, ◌/◌, ◌%◌, ℕ, zero, suc, refl, arith, rules, Bool, true, false, sym, ◌∙◌, ap, cond, ltb, inl, inr}
+use Rattle.std.proofs.Common.{◌≡◌, ◌<◌, ◌≤◌, ◌+◌, ◌-◌, ◌*◌, ◌/◌, ◌%◌, ℕ, arith, inl, inr}
 use Rattle.std.proofs.lemmas.Bool.{cases_lt}
 use Rattle.std.proofs.lemmas.Nat.{div-mul-add}
 use Rattle.std.proofs.lemmas.Bool.Decides.{nat_tests}
-use Rattle.std.proofs.Math.Nat.{add-mul-mod_self_right, div-add-mod, mul_comm, mod-add-div, mul-le-mul_left, mod-le, mod-zero}
+use Rattle.std.proofs.Math.Nat.{add-mul-mod_self_right, div-add-mod, mul_comm, mul-le-mul_left, mod-le, mod-zero}
 use Rattle.tsn_schedule.specs.Stands.{start_by}
 use Rattle.tsn_schedule.specs.Times.{change_of}
 

@@ -1,5 +1,5 @@
 -- What the calendar's definitions mean, in other words: the laws of `laws` say that they mean this.
-use Rattle.std.specs.Prelude.{◌≡◌, ℕ, suc, ◌+◌, ◌*◌, ◌<◌, ◌≤◌, ◌⊎◌, false, true, List, length, take, Option, Some, slice_get}
+use Rattle.std.specs.Prelude.{◌≡◌, ℕ, suc, ◌+◌, ◌*◌, ◌<◌, ◌≤◌, ◌⊎◌, false, true, List, length, take, Some, slice_get}
 use Rattle.std.specs.List.{sum_by}
 use Rattle.tsn_schedule.specs.Starts.{Start}
 use Rattle.tsn_schedule.specs.States.{is_held_back, nominal}

@@ -1,6 +1,5 @@
 -- Why an apply is refused.
-use Rattle.std.specs.Prelude.{Bool, true, false, List, [], ◌∷◌, Option, Some, None}
-use Rattle.std.specs.Option.{option_or}
+use Rattle.std.specs.Prelude.{Bool, true, false, List, [], ◌∷◌, Option}
 use Rattle.tsn_types.specs.Limits.{unless, first_cause}
 use Rattle.tsn_types.specs.declared.refusals.Refusal.{Refusal}
 use Rattle.tsn_types.specs.declared.refusals.Refusal.TheVariants.{NotEnabled, EmptyList}

@@ -1,5 +1,5 @@
 -- Of which acts a runner may be.
-use Rattle.std.specs.Prelude.{◌≡◌, ℕ, ◌+◌, ◌-◌, ◌%◌, ◌<◌, ◌≤◌, min, true, false, ◌&&◌, nat_le, nat_lt, is_some, if◌then◌else◌, List, Option, Some, None}
+use Rattle.std.specs.Prelude.{◌≡◌, ℕ, ◌+◌, ◌-◌, ◌%◌, ◌≤◌, min, true, false, ◌&&◌, nat_le, nat_lt, is_some, if◌then◌else◌, List, Option, Some, None}
 use Rattle.std.specs.Option.{option_map, ForSome}
 use Rattle.tsn_types.specs.declared.records.Schedule.{Schedule}
 use Rattle.tsn_schedule.specs.declared.runner.Pending.{Pending}

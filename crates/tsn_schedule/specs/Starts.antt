@@ -1,9 +1,9 @@
 -- What is in force after a list of acts.
-use Rattle.std.specs.Prelude.{ℕ, ◌+◌, ◌-◌, ◌^◌, min, Bool, true, false, not, ◌&&◌, nat_lt, nat_le, if◌then◌else◌, List, [], ◌∷◌, ◌++◌, map, is_some, Option, Some, None, option_to_list}
+use Rattle.std.specs.Prelude.{ℕ, Bool, true, false, not, ◌&&◌, nat_lt, nat_le, if◌then◌else◌, List, [], ◌∷◌, ◌++◌, map, Option, Some, None, option_to_list}
 use Rattle.std.specs.List.{find, list_any}
-use Rattle.std.specs.Option.{option_map, option_map_or, option_and_then}
+use Rattle.std.specs.Option.{option_map, option_and_then}
 use Rattle.tsn_types.specs.declared.records.Schedule.{Schedule}
-use Rattle.tsn_schedule.specs.Acts.{Act, Enable, Disable, Apply, is_enabled}
+use Rattle.tsn_schedule.specs.Acts.{Act, Enable, Disable, Apply}
 use Rattle.tsn_schedule.specs.Times.{change_of}
 
 -- A start: its schedule, its change time, and the acts that come after it, the latest first.

@@ -1,5 +1,5 @@
 -- The cycles of the list in force, and the state at an instant.
-use Rattle.std.specs.Prelude.{ℕ, zero, suc, ◌+◌, ◌-◌, ◌*◌, ◌/◌, Bool, false, ◌&&◌, nat_lt, nat_le, if◌then◌else◌, List, Option, Some, None}
+use Rattle.std.specs.Prelude.{ℕ, zero, suc, ◌+◌, ◌-◌, ◌*◌, ◌/◌, Bool, false, ◌&&◌, nat_lt, nat_le, if◌then◌else◌, List, Option}
 use Rattle.std.specs.List.{find}
 use Rattle.std.specs.Option.{option_map, option_map_or, option_and_then}
 use Rattle.tsn_types.specs.declared.records.Schedule.{Schedule}

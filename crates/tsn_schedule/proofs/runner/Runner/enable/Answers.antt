@@ -1,6 +1,6 @@
-use Rattle.std.proofs.Common.{◌∙◌, ◌≡◌, ap, true, false, ℕ, Option}
+use Rattle.std.proofs.Common.{◌∙◌, ap, true}
 use Rattle.tsn_schedule.specs.Kept.{Kept}
-use Rattle.tsn_schedule.specs.Stands.{restart, settled}
+use Rattle.tsn_schedule.specs.Stands.{restart}
 use Rattle.tsn_schedule.proofs.Keeps.{after_enable, change_enable}
 use Rattle.tsn_schedule.proofs.runner.Runner.enable.Goals as goal
 

@@ -1,4 +1,4 @@
-use Rattle.std.proofs.Common.{◌≡◌, ◌≤◌, ◌-◌, ◌∙◌, ap, arith, ◌∷◌, inl, inr}
+use Rattle.std.proofs.Common.{◌≤◌, ◌-◌, ◌∙◌, ap, arith, ◌∷◌, inl, inr}
 use Rattle.std.proofs.lemmas.Bool.{cases_lt}
 use Rattle.std.specs.Option.{option_and_then}
 use Rattle.tsn_schedule.specs.Acts.{Apply}
