@@ -10,7 +10,7 @@ ghost use Rattle.tsn_schedule.specs.Acts.{Act, Enable, Disable, Apply, with_act,
 ghost use Rattle.tsn_schedule.specs.Entries.{entry_at};
 ghost use Rattle.tsn_schedule.specs.Kept.{Kept, fresh};
 ghost use Rattle.tsn_schedule.specs.Refusing.{apply_refusal};
-ghost use Rattle.tsn_schedule.specs.Stands.{StandsFor, runs_by, settled, restart, counted};
+ghost use Rattle.tsn_schedule.specs.Stands.{StandsFor, counted, held_by, kept_after, restart, runs_by, settled};
 ghost use Rattle.tsn_schedule.specs.Counters.{change_in, enabled_change, errors_in, is_pending, greatest_count};
 ghost use Rattle.tsn_schedule.specs.States.{state_in, began_in};
 ghost use Rattle.tsn_schedule.specs.Times.{change_of, IsChange};
@@ -78,7 +78,8 @@ impl<E: Timed> Runner<E> {
 
     /// Whether the object is enabled.
     pub fn is_enabled(&self) -> bool
-        ensures { (acts : List (Act E)) → StandsFor self.now acts → result ≡ is_enabled acts }
+        ensures kept { result ≡ self.now.enabled }
+        ensures acts { (acts : List (Act E)) → StandsFor self.now acts → result ≡ is_enabled acts }
     {
         let Runner { enabled, .. } = self;
         *enabled
@@ -183,6 +184,17 @@ impl<E: Timed + Drop> Runner<E> {
         }
     }
 
+    // Starts again what is held, and tells when.
+    fn start_again(&mut self, now: Instant) -> Option<u64>
+        ensures kept { self.new ≡ kept_after (Enable now) self.old }
+        ensures change { result ≡ restart now (held_by self.old now) }
+    {
+        self.settle(now);
+        self.running = self.restart_time(now);
+        self.enabled = true;
+        self.running
+    }
+
     /// Enables the object. The change time, where this starts a list again; none where it was enabled already.
     pub fn enable(&mut self, now: Instant) -> Option<u64>
         requires last { self.old.last ≤ now }
@@ -190,13 +202,19 @@ impl<E: Timed + Drop> Runner<E> {
         ensures stands { (acts : List (Act E)) → StandsFor self.old acts → StandsFor self.new (with_act (Enable now) acts) }
         ensures change { (acts : List (Act E)) → StandsFor self.old acts → result ≡ enabled_change now acts }
     {
-        if self.enabled {
+        if self.is_enabled() {
             return None;
         }
+        self.start_again(now)
+    }
+
+    // Drops what is pending, and ends what runs.
+    fn stop(&mut self, now: Instant)
+        ensures { self.new ≡ kept_after (Disable now) self.old }
+    {
         self.settle(now);
-        self.running = self.restart_time(now);
-        self.enabled = true;
-        self.running
+        self.running = None;
+        self.enabled = false;
     }
 
     /// Disables the object: a pending schedule is dropped, and the operational one kept.
@@ -205,12 +223,9 @@ impl<E: Timed + Drop> Runner<E> {
         ensures last { self.new.last ≤ now }
         ensures stands { (acts : List (Act E)) → StandsFor self.old acts → StandsFor self.new (with_act (Disable now) acts) }
     {
-        if !self.enabled {
-            return;
+        if self.is_enabled() {
+            self.stop(now);
         }
-        self.settle(now);
-        self.running = None;
-        self.enabled = false;
     }
 
     // The count of errors after an apply of this base.
@@ -222,6 +237,20 @@ impl<E: Timed + Drop> Runner<E> {
         } else {
             self.errors
         }
+    }
+
+    // Makes a schedule pending, and tells when it comes.
+    fn put(&mut self, schedule: Schedule<E>, now: Instant) -> u64
+        ensures kept { self.new ≡ kept_after (Apply schedule now) self.old }
+        ensures change { result ≡ change_of schedule.base schedule.cycle now }
+        ensures some_cycle { 1 ≤ schedule.cycle }
+    {
+        let change = change_time(schedule.base, schedule.cycle, now);
+        let errors = self.errors_after(schedule.base, now);
+        self.settle(now);
+        self.errors = errors;
+        self.pending = Some(Pending { schedule, change });
+        change
     }
 
     /// Makes a copy of the schedule pending, and gives its change time. An earlier pending schedule that has not come
@@ -241,7 +270,7 @@ impl<E: Timed + Drop> Runner<E> {
             (λ _. apply_refusal (is_enabled acts) schedule.now.list ≡ None)
             (λ why. why ≡ unwrap_or (apply_refusal (is_enabled acts) schedule.now.list) Memory) }
     {
-        if !self.enabled {
+        if !self.is_enabled() {
             return Err(Refusal::NotEnabled);
         }
         if schedule.list.is_empty() {
@@ -250,15 +279,7 @@ impl<E: Timed + Drop> Runner<E> {
         let Ok(copy) = schedule.try_clone() else {
             return Err(Refusal::Memory);
         };
-        let change = change_time(schedule.base, schedule.cycle, now);
-        let errors = self.errors_after(schedule.base, now);
-        self.settle(now);
-        self.errors = errors;
-        self.pending = Some(Pending {
-            schedule: copy,
-            change,
-        });
-        Ok(change)
+        Ok(self.put(copy, now))
     }
 }
 
