@@ -14,7 +14,7 @@ use Rattle.tsn_schedule.specs.Starts.{Start, starts, begun, start_of, followed_b
 use Rattle.tsn_schedule.specs.States.{is_apply_before, is_held_back, nominal, latest_of, cycle_start}
 use Rattle.tsn_schedule.specs.Times.{change_of}
 use Rattle.tsn_schedule.proofs.Numbers.{reached, fits, past, nominal_le}
-use Rattle.tsn_schedule.proofs.Recur.{find-map, found, open_some, through-enable, after_enable, disabled_none, ended_none}
+use Rattle.tsn_schedule.proofs.Recur.{find-map, found, open_some, through, after_enable, disabled_none, ended_none}
 
 -- The change time is the least instant of the base's grid that isn't before a.
 least : (base y a n : ℕ) → 0 < y → a ≤ base + n * y → change_of base y a ≤ base + n * y
@@ -173,17 +173,23 @@ errors_stay (Disable a) acts h = h
 errors_stay (Apply schedule a) acts h = stays_greatest (past_bases acts) (cond (ltb schedule.base a && is_some (in_force acts a)) 1 0) h
 
 -- Where no change is pending, the change time that is told is that of the list in force.
+-- The starts after an enable, given the start that it starts again.
+abbrev with_again : {E : Type 0} → List (Act E) → ℕ → Option (Start E) → List (Start E)
+with_again acts a o = option_to_list (option_map (λ start. start_of a start.schedule) o) ++ map (followed_by (Enable a)) (starts acts)
+
+abbrev change_of_first : {E : Type 0} → (Start E → Bool) → List (Start E) → Option ℕ
+change_of_first p all = option_map (λ start. start.change) (option_and_then unless_ended (find p all))
+
 told_again : {E : Type 0} (acts : List (Act E)) (a t : ℕ) → IsHistory acts → is_enabled acts ≡ false → (o : Option (Start E))
-    → option_map_or (ltb t) (option_map (λ (start : Start E). start.change) (option_and_then unless_ended (find (λ start. not (is_void start)) (option_to_list (option_map (λ (start : Start E). start_of a start.schedule) o) ++ map (followed_by (Enable a)) (starts acts))))) false ≡ false
-    → option_map (λ (start : Start E). start.change) (option_and_then unless_ended (find (λ start. not (is_void start)) (option_to_list (option_map (λ (start : Start E). start_of a start.schedule) o) ++ map (followed_by (Enable a)) (starts acts))))
-    ≡ option_map (λ (start : Start E). start.change) (option_and_then unless_ended (find (took_place t) (option_to_list (option_map (λ (start : Start E). start_of a start.schedule) o) ++ map (followed_by (Enable a)) (starts acts))))
+    → option_map_or (ltb t) (change_of_first (λ start. not (is_void start)) (with_again acts a o)) false ≡ false
+    → change_of_first (λ start. not (is_void start)) (with_again acts a o) ≡ change_of_first (took_place t) (with_again acts a o)
 told_again acts a t h off None now =
     rw (
       find-map (followed_by (Enable a)) (λ start. not (is_void start)) (λ start. not (is_void start)) (λ start. refl) (starts acts),
-      through-enable a (find (λ start. not (is_void start)) (starts acts)),
+      through (Enable a) refl (find (λ start. not (is_void start)) (starts acts)),
       disabled_none acts h off (λ start. not (is_void start)),
       after_enable a t (starts acts),
-      through-enable a (find (took_place t) (starts acts)),
+      through (Enable a) refl (find (took_place t) (starts acts)),
       disabled_none acts h off (took_place t),
     ) refl
 told_again acts a t h off (Some start) now =

@@ -9,7 +9,7 @@ use Rattle.tsn_types.specs.declared.records.Schedule.{Schedule}
 use Rattle.tsn_schedule.specs.Acts.{Act, Enable, Disable, Apply, IsHistory, is_enabled, last_instant}
 use Rattle.tsn_schedule.specs.Stands.{start_by, last_free}
 use Rattle.tsn_schedule.specs.Counters.{change_in}
-use Rattle.tsn_schedule.specs.Starts.{Start, starts, took_place, followed_by, is_void, is_ended, in_force, start_of, unless_ended}
+use Rattle.tsn_schedule.specs.Starts.{Start, starts, took_place, followed_by, is_disable, is_void, is_voiding, is_ended, in_force, start_of, unless_ended}
 use Rattle.tsn_schedule.specs.States.{held_in, runs_in, run_of, cycle_start}
 use Rattle.tsn_schedule.specs.Times.{change_of}
 use Rattle.tsn_schedule.proofs.Numbers.{grid}
@@ -39,40 +39,34 @@ disabled_none (Disable a ∷ acts) h off p = ended_none a p (starts acts)
 disabled_none (Apply schedule a ∷ acts) h off p = absurd (true≢false (sym h.1.0 ∙ off))
 
 -- What an act at a that voids later changes leaves as taken place by t.
-void_later-disable : {E : Type 0} (a t : ℕ) → a ≤ t → (all : List (Start E)) → find (took_place t) (map (followed_by (Disable a)) all) ≡ option_map (followed_by (Disable a)) (find (took_place a) all)
-void_later-disable a t h all =
-    find-map (followed_by (Disable a)) (took_place t) (took_place a) (λ start. voided a t start.change (is_void start) h) all
+void_later : {E : Type 0} (act : Act E) (a t : ℕ) → a ≤ t → ((c : ℕ) → is_voiding c act ≡ ltb a c) → (all : List (Start E)) → find (took_place t) (map (followed_by act) all) ≡ option_map (followed_by act) (find (took_place a) all)
+void_later act a t h voids all =
+    find-map (followed_by act) (took_place t) (took_place a) (λ start. rw (voids start.change) (voided a t start.change (is_void start) h)) all
 
-void_later-apply : {E : Type 0} (schedule : Schedule E) (a t : ℕ) → a ≤ t → (all : List (Start E)) → find (took_place t) (map (followed_by (Apply schedule a)) all) ≡ option_map (followed_by (Apply schedule a)) (find (took_place a) all)
-void_later-apply schedule a t h all =
-    find-map (followed_by (Apply schedule a)) (took_place t) (took_place a) (λ start. voided a t start.change (is_void start) h) all
-
+-- An enable voids nothing.
 pub after_enable : {E : Type 0} (a t : ℕ) (all : List (Start E)) → find (took_place t) (map (followed_by (Enable a)) all) ≡ option_map (followed_by (Enable a)) (find (took_place t) all)
 after_enable a t all = find-map (followed_by (Enable a)) (took_place t) (took_place t) (λ start. refl) all
 
+schedule-followed : {E : Type 0} (act : Act E) (o : Option (Start E)) → option_map (λ (start : Start E). start.schedule) (option_map (followed_by act) o) ≡ option_map (λ (start : Start E). start.schedule) o
+schedule-followed act None = refl
+schedule-followed act (Some start) = refl
+
 -- The schedule held.
 pub held-disable : {E : Type 0} (acts : List (Act E)) (a t : ℕ) → a ≤ t → held_in (Disable a ∷ acts) t ≡ held_in acts a
-held-disable acts a t h =
-    rw (void_later-disable a t h (starts acts))
-    (elim (find (took_place a) (starts acts)) as (λ o. option_map (λ (start : Start _). start.schedule) (option_map (followed_by (Disable a)) o) ≡ option_map (λ (start : Start _). start.schedule) o) [ None ↦ refl | Some start ↦ refl ])
+held-disable acts a t h = rw (void_later (Disable a) a t h (λ c. refl) (starts acts)) (schedule-followed (Disable a) (find (took_place a) (starts acts)))
 
 pub held-apply : {E : Type 0} (schedule : Schedule E) (acts : List (Act E)) (a t : ℕ) → a ≤ t → held_in (Apply schedule a ∷ acts) t ≡ cond (leb (change_of schedule.base schedule.cycle a) t) (Some schedule) (held_in acts a)
 held-apply schedule acts a t h =
     elim (leb (change_of schedule.base schedule.cycle a) t) as (λ b. option_map (λ (start : Start _). start.schedule) (cond b (Some (start_of a schedule)) (find (took_place t) (map (followed_by (Apply schedule a)) (starts acts)))) ≡ cond b (Some schedule) (held_in acts a)) [
       | true ↦ refl
-      | false ↦ rw (void_later-apply schedule a t h (starts acts)) (elim (find (took_place a) (starts acts)) as (λ o. option_map (λ (start : Start _). start.schedule) (option_map (followed_by (Apply schedule a)) o) ≡ option_map (λ (start : Start _). start.schedule) o) [ None ↦ refl | Some start ↦ refl ])
+      | false ↦ rw (void_later (Apply schedule a) a t h (λ c. refl) (starts acts)) (schedule-followed (Apply schedule a) (find (took_place a) (starts acts)))
     ]
 
 -- A later act that is no disable leaves it open whether a start has ended.
-pub through-enable : {E : Type 0} (a : ℕ) (o : Option (Start E)) → option_and_then unless_ended (option_map (followed_by (Enable a)) o) ≡ option_map (followed_by (Enable a)) (option_and_then unless_ended o)
-through-enable a None = refl
-through-enable a (Some start) =
-    elim (is_ended start) as (λ b. cond b None (Some (followed_by (Enable a) start)) ≡ option_map (followed_by (Enable a)) (cond b None (Some start))) [ true ↦ refl | false ↦ refl ]
-
-through-apply : {E : Type 0} (schedule : Schedule E) (a : ℕ) (o : Option (Start E)) → option_and_then unless_ended (option_map (followed_by (Apply schedule a)) o) ≡ option_map (followed_by (Apply schedule a)) (option_and_then unless_ended o)
-through-apply schedule a None = refl
-through-apply schedule a (Some start) =
-    elim (is_ended start) as (λ b. cond b None (Some (followed_by (Apply schedule a) start)) ≡ option_map (followed_by (Apply schedule a)) (cond b None (Some start))) [ true ↦ refl | false ↦ refl ]
+pub through : {E : Type 0} (act : Act E) → is_disable act ≡ false → (o : Option (Start E)) → option_and_then unless_ended (option_map (followed_by act) o) ≡ option_map (followed_by act) (option_and_then unless_ended o)
+through act is_none None = refl
+through act is_none (Some start) =
+    rw is_none (elim (is_ended start) as (λ b. cond b None (Some (followed_by act start)) ≡ option_map (followed_by act) (cond b None (Some start))) [ true ↦ refl | false ↦ refl ])
 
 -- A schedule's cycle start by t, with no act after its start.
 cycle_start-plain : {E : Type 0} (schedule : Schedule E) (a t : ℕ) → change_of schedule.base schedule.cycle a ≤ t → cycle_start (start_of a schedule) t ≡ t - (t - change_of schedule.base schedule.cycle a) % schedule.cycle
@@ -89,10 +83,6 @@ settled (Enable b ∷ acts) a t h off la at = absurd (true≢false off)
 settled (Disable b ∷ acts) a t h off la at = held-disable acts b t (omega arith) ∙ sym (held-disable acts b a la)
 settled (Apply schedule b ∷ acts) a t h off la at = absurd (true≢false (sym h.1.0 ∙ off))
 
-schedule-followed : {E : Type 0} (act : Act E) (o : Option (Start E)) → option_map (λ (start : Start E). start.schedule) (option_map (followed_by act) o) ≡ option_map (λ (start : Start E). start.schedule) o
-schedule-followed act None = refl
-schedule-followed act (Some start) = refl
-
 held_again : {E : Type 0} (a t : ℕ) (all : List (Start E)) (o : Option (Start E)) → option_map (λ (start : Start E). start.schedule) (find (took_place t) all) ≡ option_map (λ (start : Start E). start.schedule) o
     → option_map (λ (start : Start E). start.schedule) (find (took_place t) (option_to_list (option_map (λ (start : Start E). start_of a start.schedule) o) ++ map (followed_by (Enable a)) all)) ≡ option_map (λ (start : Start E). start.schedule) o
 held_again a t all None e = rw (after_enable a t all) (schedule-followed (Enable a) (find (took_place t) all) ∙ e)
@@ -106,10 +96,10 @@ held-enable acts a t h off la at = held_again a t (starts acts) (find (took_plac
 runs_again : {E : Type 0} (a t : ℕ) (all : List (Start E)) (o : Option (Start E)) → option_and_then unless_ended (find (took_place t) all) ≡ None
     → option_map (run_of t) (option_and_then unless_ended (find (took_place t) (option_to_list (option_map (λ (start : Start E). start_of a start.schedule) o) ++ map (followed_by (Enable a)) all)))
     ≡ option_and_then (λ schedule. cond (leb (change_of schedule.base schedule.cycle a) t) (Some (schedule, t - (t - change_of schedule.base schedule.cycle a) % schedule.cycle)) None) (option_map (λ (start : Start E). start.schedule) o)
-runs_again a t all None e = rw (after_enable a t all, through-enable a (find (took_place t) all), e) refl
+runs_again a t all None e = rw (after_enable a t all, through (Enable a) refl (find (took_place t) all), e) refl
 runs_again a t all (Some start) e =
     elim (cases_lt t (change_of start.schedule.base start.schedule.cycle a)) [
-      | inl lt ↦ rw (lt-leb (change_of start.schedule.base start.schedule.cycle a) t lt, after_enable a t all, through-enable a (find (took_place t) all), e) refl
+      | inl lt ↦ rw (lt-leb (change_of start.schedule.base start.schedule.cycle a) t lt, after_enable a t all, through (Enable a) refl (find (took_place t) all), e) refl
       | inr le ↦ rw (le-leb (change_of start.schedule.base start.schedule.cycle a) t le, cycle_start-plain start.schedule a t le) refl
     ]
 
@@ -150,7 +140,7 @@ pub runs-apply : {E : Type 0} (schedule : Schedule E) (acts : List (Act E)) (a t
 runs-apply schedule acts a t h =
     elim (cases_lt t (change_of schedule.base schedule.cycle a)) [
       | inl lt ↦
-          rw (lt-leb (change_of schedule.base schedule.cycle a) t lt, void_later-apply schedule a t h (starts acts), through-apply schedule a (find (took_place a) (starts acts)))
+          rw (lt-leb (change_of schedule.base schedule.cycle a) t lt, void_later (Apply schedule a) a t h (λ c. refl) (starts acts), through (Apply schedule a) refl (find (took_place a) (starts acts)))
           (moved_all schedule a t (in_force acts a) h lt (in_force-change acts a))
       | inr le ↦ rw (le-leb (change_of schedule.base schedule.cycle a) t le, cycle_start-plain schedule a t le) refl
     ]
@@ -165,7 +155,7 @@ change_again : {E : Type 0} (a : ℕ) (all : List (Start E)) (o : Option (Start 
     → option_map (λ (start : Start E). start.change) (option_and_then unless_ended (find (λ start. not (is_void start)) (option_to_list (option_map (λ (start : Start E). start_of a start.schedule) o) ++ map (followed_by (Enable a)) all)))
     ≡ option_map (λ schedule. change_of schedule.base schedule.cycle a) (option_map (λ (start : Start E). start.schedule) o)
 change_again a all None e =
-    rw (find-map (followed_by (Enable a)) (λ start. not (is_void start)) (λ start. not (is_void start)) (λ start. refl) all, through-enable a (find (λ start. not (is_void start)) all), e) refl
+    rw (find-map (followed_by (Enable a)) (λ start. not (is_void start)) (λ start. not (is_void start)) (λ start. refl) all, through (Enable a) refl (find (λ start. not (is_void start)) all), e) refl
 change_again a all (Some start) e = refl
 
 pub change-enable : {E : Type 0} (acts : List (Act E)) (a : ℕ) → IsHistory acts → is_enabled acts ≡ false → change_in (Enable a ∷ acts) ≡ option_map (λ schedule. change_of schedule.base schedule.cycle a) (held_in acts a)

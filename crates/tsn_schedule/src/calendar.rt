@@ -11,7 +11,7 @@ use tsn_types::lists::ControlList;
 use tsn_types::numbers::{Cycle, Instant};
 
 /// When a schedule that is set at `now` comes in force: at its base, or the first whole number of cycles after it that
-/// isn't before `now`. It may lie after the greatest instant.
+/// isn't before `now` (802.1Q-2018, 8.6.9). It may lie after the greatest instant.
 pub fn change_time(base: Instant, cycle: Cycle, now: Instant) -> u64
     ensures value { result ≡ change_of base cycle now }
     ensures reached { now ≤ result }
@@ -44,7 +44,7 @@ pub fn state_at<E: Timed>(list: &ControlList<E>, offset: u64) -> Option<&E>
 }
 
 /// The intervals before the entry at an offset, in nanoseconds.
-pub fn earlier_sum<E: Timed>(list: &ControlList<E>, offset: u64) -> u64
+pub(crate) fn earlier_sum<E: Timed>(list: &ControlList<E>, offset: u64) -> u64
     ensures value { result ≡ earlier_at E.interval list.now offset }
     ensures within { result ≤ offset }
 {

@@ -39,10 +39,14 @@ struct Pending<E> {
 #[derive(Debug, Drop)]
 pub struct Runner<E: Timed> {
     enabled: bool,
+    // the instant of the last act
     last: u64,
     errors: u64,
+    // the operational schedule by the last act, also while disabled
     held: Option<Schedule<E>>,
+    // its latest cycle start by then, or the first one that is to come after an enable; none where it does not run
     running: Option<u64>,
+    // what the last act, an apply, set
     pending: Option<Pending<E>>,
 }
 
@@ -136,12 +140,14 @@ impl<E: Timed> Runner<E> {
                 if t < known {
                     return None;
                 }
+                // a cycle may start until the extension before the change that is to come
                 let free = match &self.pending {
                     None => t,
                     Some(pending) => t.min(pending.change.saturating_sub(held.extension.get() + 1)),
                 };
                 let back = free.saturating_sub(known) % held.cycle.get();
                 let start = free - back;
+                // what was decided by the last act stays
                 if self.last < start {
                     Some((held, start))
                 } else {

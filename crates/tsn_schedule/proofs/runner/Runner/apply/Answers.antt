@@ -1,6 +1,4 @@
 use Rattle.std.proofs.Common.{◌≡◌, ◌≤◌, true}
-use Rattle.tsn_schedule.specs.Acts.{Apply}
-use Rattle.tsn_schedule.specs.Stands.{kept_after}
 use Rattle.tsn_schedule.proofs.Keeps.{after_apply}
 use Rattle.tsn_schedule.proofs.runner.Runner.apply.Goals as goal
 
