@@ -4,7 +4,7 @@ use Rattle.std.proofs.Math.Nat.{div-zero, mod-zero}
 use Rattle.std.proofs.lemmas.Bool.{le-ltb, lt-ltb, le-leb, lt-leb, cases_lt}
 use Rattle.tsn_types.specs.declared.records.Schedule.{Schedule}
 use Rattle.tsn_schedule.specs.Acts.{Apply}
-use Rattle.tsn_schedule.specs.Stands.{start_by, last_free}
+use Rattle.tsn_schedule.specs.Running.{start_by, last_free}
 use Rattle.tsn_schedule.specs.Starts.{Start, followed_by, start_of}
 use Rattle.tsn_schedule.specs.States.{nominal, is_held_back, latest_of, cycle_start}
 use Rattle.tsn_schedule.specs.Times.{change_of}

@@ -6,7 +6,8 @@ use Rattle.tsn_types.specs.declared.records.Schedule.{Schedule}
 use Rattle.tsn_schedule.specs.declared.runner.Pending.{Pending}
 use Rattle.tsn_schedule.specs.Acts.{Act, Enable, Disable, Apply, HasEffect, is_enabled, last_instant, with_act}
 use Rattle.tsn_schedule.specs.Kept.{Kept, fresh}
-use Rattle.tsn_schedule.specs.Stands.{StandsFor, start_by, last_free, held_by, held_with, from_held, runs_with, restart, kept_after}
+use Rattle.tsn_schedule.specs.Running.{start_by, last_free, held_by, held_with, from_held, runs_with, restart, kept_after}
+use Rattle.tsn_schedule.specs.Stands.{StandsFor}
 use Rattle.tsn_schedule.specs.Counters.{past_bases, enabled_change, greatest_count}
 use Rattle.tsn_schedule.specs.Starts.{in_force}
 use Rattle.tsn_schedule.specs.States.{held_in, run_of}

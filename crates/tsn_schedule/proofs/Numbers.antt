@@ -4,7 +4,7 @@ use Rattle.std.proofs.lemmas.Bool.{cases_lt}
 use Rattle.std.proofs.lemmas.Nat.{div-mul-add}
 use Rattle.std.proofs.lemmas.Bool.Decides.{nat_tests}
 use Rattle.std.proofs.Math.Nat.{add-mul-mod_self_right, div-add-mod, mul_comm, mul-le-mul_left, mod-le, mod-zero}
-use Rattle.tsn_schedule.specs.Stands.{start_by}
+use Rattle.tsn_schedule.specs.Running.{start_by}
 use Rattle.tsn_schedule.specs.Times.{change_of}
 
 -- Going back from m to the grid of cycles through one of its points is the same as from its first.

@@ -7,7 +7,7 @@ use Rattle.std.proofs.lemmas.Bool.{true≢false, and_parts, leb-true, le-leb, lt
 use Rattle.std.proofs.lemmas.Bool.Decides.{nat_tests}
 use Rattle.tsn_types.specs.declared.records.Schedule.{Schedule}
 use Rattle.tsn_schedule.specs.Acts.{Act, Enable, Disable, Apply, IsHistory, is_enabled, last_instant}
-use Rattle.tsn_schedule.specs.Stands.{start_by, last_free}
+use Rattle.tsn_schedule.specs.Running.{start_by, last_free}
 use Rattle.tsn_schedule.specs.Counters.{change_in}
 use Rattle.tsn_schedule.specs.Starts.{Start, starts, took_place, followed_by, is_disable, is_void, is_voiding, is_ended, in_force, start_of, unless_ended}
 use Rattle.tsn_schedule.specs.States.{held_in, runs_in, run_of, cycle_start}

@@ -7,7 +7,8 @@ use Rattle.tsn_types.specs.declared.records.Schedule.{Schedule}
 use Rattle.tsn_schedule.specs.Acts.{Act, Apply}
 use Rattle.tsn_schedule.specs.Entries.{entry_at}
 use Rattle.tsn_schedule.specs.Kept.{Kept}
-use Rattle.tsn_schedule.specs.Stands.{StandsFor, runs_by}
+use Rattle.tsn_schedule.specs.Running.{runs_by}
+use Rattle.tsn_schedule.specs.Stands.{StandsFor}
 use Rattle.tsn_schedule.specs.Starts.{Start, in_force}
 use Rattle.tsn_schedule.specs.States.{state_in, entry_of, run_of}
 use Rattle.tsn_schedule.specs.Times.{change_of}

@@ -5,6 +5,7 @@ pub mod Examples
 pub mod Kept
 pub mod Meaning
 pub mod Refusing
+pub mod Running
 pub mod Stands
 pub mod Starts
 pub mod States

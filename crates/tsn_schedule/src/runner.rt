@@ -10,7 +10,8 @@ ghost use Rattle.tsn_schedule.specs.Acts.{Act, Enable, Disable, Apply, with_act,
 ghost use Rattle.tsn_schedule.specs.Entries.{entry_at};
 ghost use Rattle.tsn_schedule.specs.Kept.{Kept, fresh};
 ghost use Rattle.tsn_schedule.specs.Refusing.{apply_refusal};
-ghost use Rattle.tsn_schedule.specs.Stands.{StandsFor, counted, held_by, kept_after, restart, runs_by, settled};
+ghost use Rattle.tsn_schedule.specs.Running.{counted, held_by, kept_after, restart, runs_by, settled};
+ghost use Rattle.tsn_schedule.specs.Stands.{StandsFor};
 ghost use Rattle.tsn_schedule.specs.Counters.{change_in, enabled_change, errors_in, is_pending, greatest_count};
 ghost use Rattle.tsn_schedule.specs.States.{state_in, began_in};
 ghost use Rattle.tsn_schedule.specs.Times.{change_of, IsChange};
@@ -57,7 +58,7 @@ impl<E: Timed> Model for Runner<E> {
 
     ghost coded = { kept_code E.code };
 
-    ghost use Rattle.tsn_schedule.specs.Stands.{IsInRange};
+    ghost use Rattle.tsn_schedule.specs.Running.{IsInRange};
 
     ghost view = { λ a. record { enabled = a.enabled; last = a.last; errors = a.errors; held = a.held; running = a.running; pending = a.pending } };
 
