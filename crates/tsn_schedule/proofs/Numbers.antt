@@ -84,7 +84,3 @@ first_start y base a t ct =
 
 pub start_by-le : (y known last m t : ℕ) → m ≤ t → known ≤ t → start_by y known last m ≤ t
 start_by-le y known last m t mt kt = grind (arith, nat_tests)
-
--- The same, from the numbers that were read.
-pub round_up_get : (base y now b c n : ℕ) → b ≡ base → c ≡ y → n ≡ now → 1 ≤ c → b ≤ n → 0 < (n - b) % c → n + (c - (n - b) % c) ≡ base + y * ((now - base + (y - 1)) / y)
-round_up_get base y now b c n eb ey en p h over = rw (← eb, ← ey, ← en) (round_up b c n p h over)
