@@ -1,0 +1,6 @@
+pub mod Cycles
+pub mod Keeps
+pub mod Meaning
+pub mod Numbers
+pub mod Recur
+pub mod Restored

@@ -1,0 +1,12 @@
+pub mod Acts
+pub mod Counters
+pub mod Entries
+pub mod Examples
+pub mod Kept
+pub mod Meaning
+pub mod Refusing
+pub mod Running
+pub mod Stands
+pub mod Starts
+pub mod States
+pub mod Times
