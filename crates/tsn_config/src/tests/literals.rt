@@ -127,7 +127,6 @@ pub(super) fn limits() -> Limits {
 
 // Checks the edit, and makes its change.
 pub(super) fn make(rt: &impl Abort, config: &mut Config, edit: Edit) -> Result<(), AllocError> {
-    assert!(rt; config.check_early(&edit).is_none());
     assert!(rt; config.check(&edit).is_none());
     let change = config.change_of(edit)?;
     assert!(rt; config.fits(&change));
