@@ -8,6 +8,7 @@
 
 ghost use Rattle.std.specs.Prelude.{◌≡◌, ℕ, IfOk, option_map};
 ghost use Rattle.std.specs.FinMap as map;
+ghost use Rattle.tsn_edit.specs.Configuration.{IsWellKept};
 ghost use Rattle.tsn_types.specs.Lent.{lent_record};
 ghost use Rattle.tsn_types.specs.declared.records.Record.TheVariants.{Filter as FilterRecord};
 
@@ -52,9 +53,10 @@ impl Model for Config {
 }
 
 impl Config {
-    /// The limits, which never change.
+    /// The limits, which never change, and within which everything is well kept.
     pub fn limits(&self) -> Limits
-        ensures { result ≡ self.now.limits }
+        ensures limits { result ≡ self.now.limits }
+        ensures kept { IsWellKept self.now.limits self.now.map }
     {
         self.limits
     }
@@ -79,7 +81,10 @@ impl Config {
 
     /// The stream filters by number, as a table of their own.
     pub fn filters(&self) -> &Table<StreamFilter>
-        ensures { (n : ℕ) → option_map FilterRecord (map.get result.now.map n) ≡ map.get self.now.map (Key.Filter n) }
+        ensures rows { (n : ℕ) → option_map FilterRecord (map.get result.now.map n) ≡ map.get self.now.map (Key.Filter n) }
+
+        // What they refer to is there: a configuration is well kept, by its type.
+        ensures kept { IsWellKept self.now.limits self.now.map }
     {
         self.rows.filters()
     }
