@@ -1,5 +1,5 @@
 -- The standing entries, and those of one kind, among marked entries: each by its own mark.
-use Rattle.std.proofs.Common.{◌≡◌, ℕ, zero, suc, ◌+◌, ◌<◌, ◌≤◌, inl, Bool, true, false, cond, not, List, [], ◌∷◌, refl, sym, ◌∙◌, ap, Option, Some, None, arith, drop}
+use Rattle.std.proofs.Common.{◌≡◌, ℕ, zero, suc, ◌+◌, ◌<◌, ◌≤◌, inl, Bool, true, false, cond, not, List, [], ◌∷◌, refl, sym, ◌∙◌, ap, Option, Some, None, arith, drop, filter, map}
 use Rattle.std.specs.Prelude.{◌==◌, option_map, nat_lt}
 use Rattle.std.specs.List.{find, filter_map, cons_option}
 use Rattle.std.specs.Option.{option_and_then, option_or}
@@ -86,6 +86,26 @@ last_marked pick t p (m ∷ ms) own agree = by_option (pick m)
     ∙ (λ i. option_or (last_marked pick t p ms own agree i) (number_if (t x) x m (own m x some) i))
     ∙ sym (map_or (λ (k : MarkedEntry). k.entry.number) (last_where p ms) (cond (t x) (Some m) None))
     ∙ ap (λ b. at (option_or (last_where p ms) (cond b (Some m) None))) (sym (agree m ∙ ap (passes t) some)))
+
+-- ---- the numbers of those that pass
+
+pub filter_marked : (pick : MarkedEntry → Option Applied) (t : Applied → Bool) (p : MarkedEntry → Bool) (ms : List MarkedEntry) → IsOwn pick → ((m : MarkedEntry) → p m ≡ passes t (pick m))
+    → map (λ (x : Applied). x.number) (filter t (filter_map pick ms)) ≡ map (λ (m : MarkedEntry). m.entry.number) (filter p ms)
+filter_marked pick t p [] own agree = refl
+filter_marked pick t p (m ∷ ms) own agree =
+    let rest = filter_marked pick t p ms own agree in
+    let numbers : Bool → List ℕ = λ b. map (λ (k : MarkedEntry). k.entry.number) (cond b (m ∷ filter p ms) (filter p ms)) in
+    by_option (pick m)
+    (λ none. ap (λ o. map (λ (x : Applied). x.number) (filter t (cons_option o (filter_map pick ms)))) none ∙ rest ∙ ap numbers (sym (agree m ∙ ap (passes t) none)))
+    (λ x some.
+    ap (λ o. map (λ (x : Applied). x.number) (filter t (cons_option o (filter_map pick ms)))) some
+    ∙ number_first (t x) x m (filter t (filter_map pick ms)) (filter p ms) (own m x some) rest
+    ∙ ap numbers (sym (agree m ∙ ap (passes t) some)))
+  where
+    number_first : (b : Bool) (x : Applied) (m : MarkedEntry) (xs : List Applied) (ns : List MarkedEntry) → x.number ≡ m.entry.number → map (λ (x : Applied). x.number) xs ≡ map (λ (m : MarkedEntry). m.entry.number) ns
+        → map (λ (x : Applied). x.number) (cond b (x ∷ xs) xs) ≡ map (λ (m : MarkedEntry). m.entry.number) (cond b (m ∷ ns) ns)
+    number_first true x m xs ns is rest = λ i. is i ∷ rest i
+    number_first false x m xs ns is rest = rest
 
 -- ---- the one of a number
 

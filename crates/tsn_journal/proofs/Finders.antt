@@ -1,8 +1,9 @@
 -- What each finder looks for, among marked entries.
-use Rattle.std.proofs.Common.{◌≡◌, ℕ, Bool, true, false, cond, ◌||◌, ◌&&◌, not, List, [], ◌∷◌, refl, sym, ◌∙◌, ap, Option, Some, None, arith, drop}
+use Rattle.std.proofs.Common.{◌≡◌, ℕ, Bool, true, false, cond, ◌||◌, ◌&&◌, not, List, [], ◌∷◌, refl, sym, ◌∙◌, ap, Option, Some, None, arith, drop, filter, length, map}
 use Rattle.std.proofs.lemmas.Bool.Decides.{nat_tests}
+use Rattle.std.proofs.lemmas.List.{length-map}
 use Rattle.std.specs.Prelude.{◌==◌, is_some, option_map}
-use Rattle.std.specs.List.{find, list_any}
+use Rattle.std.specs.List.{filter_map, find, list_any}
 use Rattle.std.specs.Option.{option_and_then, option_or}
 use Rattle.tsn_edit.specs.Parts.{Change}
 use Rattle.tsn_edit.specs.Changes.{conflicts}
@@ -11,10 +12,10 @@ use Rattle.tsn_journal.specs.declared.entries.What.{What}
 use Rattle.tsn_journal.specs.declared.entries.What.TheVariants.{Made, Undone, Redone, Acted}
 use Rattle.tsn_journal.specs.declared.entries.Entry.{Entry}
 use Rattle.tsn_journal.specs.declared.entries.MarkedEntry.{MarkedEntry}
-use Rattle.tsn_journal.specs.Entries.{Applied, adds, applied, applies, collect, is_taken_back, standing, undoes}
-use Rattle.tsn_journal.specs.Finding.{find_conflict, find_conflict_of_others, find_redo_conflict, is_made, last_where, later_than, may_redo, redo_of, standing_entry, undone_entry}
-use Rattle.tsn_journal.specs.Marks.{AreMarked, IsJournal, ends_redo, entries_of, is_in_conflict, stands}
-use Rattle.tsn_journal.proofs.Collecting.{applied-own, collect-marked, find_marked, last_marked, later_marked, passes, standing-marked, stands-own}
+use Rattle.tsn_journal.specs.Entries.{Applied, adds, applied, applies, is_taken_back, standing, undoes}
+use Rattle.tsn_journal.specs.Finding.{find_conflict_of_others, find_own_in_conflict, is_made, last_where, later_than, may_redo, own_standing, redo_of, standing_entry, undone_entry}
+use Rattle.tsn_journal.specs.Marks.{AreMarked, IsJournal, conflict_of_others, ends_redo, entries_of, is_in_conflict, is_others, is_own, stands}
+use Rattle.tsn_journal.proofs.Collecting.{IsOwn, applied-own, collect-marked, filter_marked, find_marked, last_marked, later_marked, passes, standing-marked, stands-own}
 
 abbrev num : Option Applied → Option ℕ
 num o = option_map (λ x. x.number) o
@@ -30,17 +31,13 @@ module _ (ms : List MarkedEntry) (is : IsJournal ms) where
   pub last_standing : (t : Applied → Bool) (p : MarkedEntry → Bool) → Agrees t p → at (last_where p ms) ≡ num (last_where t (standing (entries_of ms)))
   last_standing t p agree = sym (ap (λ xs. num (last_where t xs)) (standing-marked ms is.marked) ∙ last_marked stands t p ms stands-own agree)
 
-  pub later_standing : (n : ℕ) (t : Applied → Bool) (p : MarkedEntry → Bool) → Agrees t p → at (last_where p (drop n ms)) ≡ num (last_where t (later_than n (standing (entries_of ms))))
-  later_standing n t p agree =
-      sym (ap (λ xs. num (last_where t (later_than n xs))) (standing-marked ms is.marked)
-      ∙ ap (λ xs. num (last_where t xs)) (later_marked stands n ms stands-own is.numbered)
-      ∙ last_marked stands t p (drop n ms) stands-own agree)
-
-  pub later_applied : (n : ℕ) (t : Applied → Bool) (p : MarkedEntry → Bool) → ((m : MarkedEntry) → p m ≡ passes t (applied applies m.entry)) → at (last_where p (drop n ms)) ≡ num (last_where t (later_than n (collect applies (entries_of ms))))
-  later_applied n t p agree =
-      sym (ap (λ xs. num (last_where t (later_than n xs))) (collect-marked applies ms)
-      ∙ ap (λ xs. num (last_where t xs)) (later_marked (λ m. applied applies m.entry) n ms (applied-own applies) is.numbered)
-      ∙ last_marked (λ m. applied applies m.entry) t p (drop n ms) (applied-own applies) agree)
+  -- a search for the latest later one among what is picked of the entries
+  pub later_picked : (pick : MarkedEntry → Option Applied) (xs : List Applied) → IsOwn pick → xs ≡ filter_map pick ms → (n : ℕ) (t : Applied → Bool) (p : MarkedEntry → Bool) → ((m : MarkedEntry) → p m ≡ passes t (pick m))
+      → at (last_where p (drop n ms)) ≡ num (last_where t (later_than n xs))
+  later_picked pick xs own picked n t p agree =
+      sym (ap (λ ys. num (last_where t (later_than n ys))) picked
+      ∙ ap (λ ys. num (last_where t ys)) (later_marked pick n ms own is.numbered)
+      ∙ last_marked pick t p (drop n ms) own agree)
 
   pub standing_at : (n : ℕ) → standing_entry (entries_of ms) n ≡ option_and_then stands (find (λ m. m.entry.number == n) ms)
   standing_at n = ap (find (λ x. x.number == n)) (standing-marked ms is.marked) ∙ find_marked stands 1 n ms stands-own is.numbered
@@ -80,7 +77,7 @@ other true n s k (Undone i c) e = refl
 other true n s k (Redone i c) e = refl
 other true n s k (Acted act key now) e = refl
 
-pub other_agrees : (k : ℕ) (e : Change) → Agrees (λ f. not (f.session == k) && conflicts f.change e) (λ m. (is_some (stands m) && not (m.entry.session == k)) && is_in_conflict (applies m.entry.what) e)
+pub other_agrees : (k : ℕ) (e : Change) → Agrees (λ f. not (f.session == k) && conflicts f.change e) (λ m. is_others k m && is_in_conflict (applies m.entry.what) e)
 other_agrees k e m = other m.is_open m.entry.number m.entry.session k m.entry.what e
 
 any : (n s : ℕ) (w : What) (e : Change) → is_in_conflict (applies w) e ≡ passes (λ f. conflicts f.change e) (option_map (mk n s) (applies w))
@@ -91,6 +88,44 @@ any n s (Acted act key now) e = refl
 
 pub any_agrees : (e : Change) (m : MarkedEntry) → is_in_conflict (applies m.entry.what) e ≡ passes (λ f. conflicts f.change e) (applied applies m.entry)
 any_agrees e m = any m.entry.number m.entry.session m.entry.what e
+
+-- ---- an own entry that is blocked, and the own entries
+
+same_some : (o : Option MarkedEntry) (p : Option Applied) → at o ≡ num p → is_some o ≡ is_some p
+same_some None None h = refl
+same_some None (Some x) h = (cc)
+same_some (Some m) None h = (cc)
+same_some (Some m) (Some x) h = refl
+
+module _ (ms : List MarkedEntry) (is : IsJournal ms) where
+  others_is : (n s : ℕ) (w : What) (c : Change) → applies w ≡ Some c → is_some (conflict_of_others ms (record { number = n; session = s; what = w })) ≡ is_some (find_conflict_of_others (entries_of ms) (mk n s c))
+  others_is n s w c change =
+      let t : Applied → Bool = λ f. not (f.session == s) && conflicts f.change c in
+      let p : MarkedEntry → Bool = λ m. is_others s m && is_in_conflict (applies m.entry.what) c in
+      ap (λ o. is_some (option_and_then (λ c. last_where (λ m. is_others s m && is_in_conflict (applies m.entry.what) c) (drop n ms)) o)) change
+      ∙ same_some (last_where p (drop n ms)) (find_conflict_of_others (entries_of ms) (mk n s c)) (later_picked ms is stands (standing (entries_of ms)) stands-own (standing-marked ms is.marked) n t p (other_agrees s c))
+
+  blocked : (b : Bool) (n s k : ℕ) (w : What) → ((is_some (cond b (option_map (mk n s) (adds w)) None) && (s == k)) && is_some (conflict_of_others ms (record { number = n; session = s; what = w })))
+      ≡ passes (λ x. (x.session == k) && is_some (find_conflict_of_others (entries_of ms) x)) (cond b (option_map (mk n s) (adds w)) None)
+  blocked false n s k w = refl
+  blocked true n s k (Made c) = ap (λ t. (s == k) && t) (others_is n s (Made c) c refl)
+  blocked true n s k (Undone i c) = refl
+  blocked true n s k (Redone i c) = ap (λ t. (s == k) && t) (others_is n s (Redone i c) c refl)
+  blocked true n s k (Acted act key now) = refl
+
+  pub own_in_conflict_is : (s : ℕ) → at (last_where (λ m. is_own s m && is_some (conflict_of_others ms m.entry)) ms) ≡ num (find_own_in_conflict (entries_of ms) s)
+  own_in_conflict_is s =
+      last_standing ms is (λ x. (x.session == s) && is_some (find_conflict_of_others (entries_of ms) x)) (λ m. is_own s m && is_some (conflict_of_others ms m.entry))
+      (λ m. blocked m.is_open m.entry.number m.entry.session s m.entry.what)
+
+  pub own_numbers : (s : ℕ) → map (λ (m : MarkedEntry). m.entry.number) (filter (is_own s) ms) ≡ map (λ (x : Applied). x.number) (own_standing (entries_of ms) s)
+  own_numbers s = sym (ap (λ xs. map (λ (x : Applied). x.number) (filter (λ x. x.session == s) xs)) (standing-marked ms is.marked) ∙ filter_marked stands (λ x. x.session == s) (is_own s) ms stands-own (own_agrees s))
+
+  pub own_count : (s : ℕ) → length (filter (is_own s) ms) ≡ length (own_standing (entries_of ms) s)
+  own_count s =
+      sym (length-map (filter (is_own s) ms) (λ (m : MarkedEntry). m.entry.number))
+      ∙ ap length (own_numbers s)
+      ∙ length-map (own_standing (entries_of ms) s) (λ (x : Applied). x.number)
 
 -- ---- what may be redone
 
@@ -119,7 +154,7 @@ or_right : (a b : Bool) → b ≡ true → (a || b) ≡ true
 or_right true b h = refl
 or_right false b h = h
 
-last_of_two : (o : Option MarkedEntry) (b : Bool) (m x : MarkedEntry) (G : Type 0) → option_or o (cond b (Some m) None) ≡ Some x → ((b ≡ true) → m ≡ x → G) → (o ≡ Some x → G) → G
+pub last_of_two : (o : Option MarkedEntry) (b : Bool) (m x : MarkedEntry) (G : Type 0) → option_or o (cond b (Some m) None) ≡ Some x → ((b ≡ true) → m ≡ x → G) → (o ≡ Some x → G) → G
 last_of_two None true m x G h f g = f refl (cc)
 last_of_two None false m x G h f g = (cc)
 last_of_two (Some y) b m x G h f g = g h
@@ -131,7 +166,7 @@ edit_there s (m ∷ ms) x h none =
     (λ here same. or_left (edit_of s m.entry) _ (made_ends (m.entry.session == s) true m.is_open m.entry.what m.entry.number m.entry.session here (ap redone_at same ∙ none)))
     (λ later. or_right (edit_of s m.entry) _ (edit_there s ms x later none))
 
-neither : (o : Option MarkedEntry) (b : Bool) (m : MarkedEntry) → option_or o (cond b (Some m) None) ≡ None → (o ≡ None) × (b ≡ false)
+pub neither : {A : Type 0} (o : Option A) (b : Bool) (m : A) → option_or o (cond b (Some m) None) ≡ None → (o ≡ None) × (b ≡ false)
 neither None true m h = (cc)
 neither None false m h = (refl, refl)
 neither (Some y) b m h = (cc)
@@ -192,7 +227,7 @@ redo_marked s (m ∷ ms) h =
     (λ y found. ap (λ o. option_or o here) found ∙ sym found)
     ∙ ap (λ o. option_and_then redone_at (option_or o (cond (ends s m) (Some m) None))) (sym some))
 
--- ---- the entry of a number, and what conflicts with it
+-- ---- the entry of a number
 
 find_passes : (p : MarkedEntry → Bool) (ms : List MarkedEntry) (m : MarkedEntry) → find p ms ≡ Some m → p m ≡ true
 find_passes p [] m h = (cc)
@@ -200,11 +235,12 @@ find_passes p (x ∷ ms) m h = by_bool (p x)
     (λ here. let is : Some x ≡ Some m = sym (ap (λ b. cond b (Some x) (find p ms)) here) ∙ h in let same : x ≡ m = (cc) in ap p (sym same) ∙ here)
     (λ off. find_passes p ms m (sym (ap (λ b. cond b (Some x) (find p ms)) off) ∙ h))
 
-eq_number : (a b : ℕ) → (a == b) ≡ true → a ≡ b
+pub eq_number : (a b : ℕ) → (a == b) ≡ true → a ≡ b
 eq_number a b h = grind (arith, nat_tests)
 
 -- what the entry of a number is, as the one that was picked
 pub record IsPicked (m : MarkedEntry) (n : ℕ) (e : Applied) : Type 0 where
+  pub place : m.entry.number ≡ n
   pub number : e.number ≡ n
   pub session : e.session ≡ m.entry.session
   pub change : applies m.entry.what ≡ Some e.change
@@ -222,9 +258,6 @@ undone_parts n s (Undone i c) e h = let same : mk n s c ≡ e = (cc) in (ap (λ 
 undone_parts n s (Redone i c) e h = (cc)
 undone_parts n s (Acted act key now) e h = (cc)
 
-change_of : (m : MarkedEntry) (n : ℕ) (e : Applied) (k : Change) → IsPicked m n e → applies m.entry.what ≡ Some k → k ≡ e.change
-change_of m n e k picked is = let both : Some k ≡ Some e.change = sym is ∙ picked.change in (cc)
-
 module _ (ms : List MarkedEntry) (n : ℕ) (e : Applied) (m : MarkedEntry) (found : find (λ m. m.entry.number == n) ms ≡ Some m) where
   at_number : m.entry.number ≡ n
   at_number = eq_number m.entry.number n (find_passes (λ m. m.entry.number == n) ms m found)
@@ -232,42 +265,9 @@ module _ (ms : List MarkedEntry) (n : ℕ) (e : Applied) (m : MarkedEntry) (foun
   pub standing_picked_of : stands m ≡ Some e → IsPicked m n e
   standing_picked_of is =
       let parts = standing_parts m.is_open m.entry.number m.entry.session m.entry.what e is in
-      record { number = parts.0 ∙ at_number; session = parts.1; change = parts.2 }
+      record { place = at_number; number = parts.0 ∙ at_number; session = parts.1; change = parts.2 }
 
   pub undone_picked_of : redone_at m ≡ Some e → IsPicked m n e
   undone_picked_of is =
       let parts = undone_parts m.entry.number m.entry.session m.entry.what e is in
-      record { number = parts.0 ∙ at_number; session = parts.1; change = parts.2 }
-
-module _ (ms : List MarkedEntry) (is : IsJournal ms) (n : ℕ) (e : Applied) where
-  abbrev looked : Option MarkedEntry
-  looked = find (λ m. m.entry.number == n) ms
-
-  pub standing_there : standing_entry (entries_of ms) n ≡ Some e → looked ≡ None → ⊥
-  standing_there stands' none = let both : None ≡ Some e = sym (standing_at ms is n ∙ ap (option_and_then stands) none) ∙ stands' in (cc)
-
-  pub undone_there : undone_entry (entries_of ms) n ≡ Some e → looked ≡ None → ⊥
-  undone_there undone' none = let both : None ≡ Some e = sym (undone_at ms is n ∙ ap (option_and_then redone_at) none) ∙ undone' in (cc)
-
-  module _ (m : MarkedEntry) (found : looked ≡ Some m) where
-    pub standing_picked : standing_entry (entries_of ms) n ≡ Some e → IsPicked m n e
-    standing_picked stands' = standing_picked_of ms n e m found (sym (standing_at ms is n ∙ ap (option_and_then stands) found) ∙ stands')
-
-    pub undone_picked : undone_entry (entries_of ms) n ≡ Some e → IsPicked m n e
-    undone_picked undone' = undone_picked_of ms n e m found (sym (undone_at ms is n ∙ ap (option_and_then redone_at) found) ∙ undone')
-
-    module _ (picked : IsPicked m n e) (k : Change) (change : applies m.entry.what ≡ Some k) where
-      pub conflict_is : at (last_where (λ x. is_some (stands x) && is_in_conflict (applies x.entry.what) k) (drop n ms)) ≡ num (find_conflict (entries_of ms) e)
-      conflict_is =
-          later_standing ms is n (λ f. conflicts f.change k) (λ x. is_some (stands x) && is_in_conflict (applies x.entry.what) k) (conflict_agrees k)
-          ∙ (λ i. num (last_where (λ f. conflicts f.change (change_of m n e k picked change i)) (later_than (sym picked.number i) (standing (entries_of ms)))))
-
-      pub conflict_of_others_is : at (last_where (λ x. (is_some (stands x) && not (x.entry.session == m.entry.session)) && is_in_conflict (applies x.entry.what) k) (drop n ms)) ≡ num (find_conflict_of_others (entries_of ms) e)
-      conflict_of_others_is =
-          later_standing ms is n (λ f. not (f.session == m.entry.session) && conflicts f.change k) (λ x. (is_some (stands x) && not (x.entry.session == m.entry.session)) && is_in_conflict (applies x.entry.what) k) (other_agrees m.entry.session k)
-          ∙ (λ i. num (last_where (λ f. not (f.session == sym picked.session i) && conflicts f.change (change_of m n e k picked change i)) (later_than (sym picked.number i) (standing (entries_of ms)))))
-
-      pub redo_conflict_is : at (last_where (λ x. is_in_conflict (applies x.entry.what) k) (drop n ms)) ≡ num (find_redo_conflict (entries_of ms) e)
-      redo_conflict_is =
-          later_applied ms is n (λ f. conflicts f.change k) (λ x. is_in_conflict (applies x.entry.what) k) (any_agrees k)
-          ∙ (λ i. num (last_where (λ f. conflicts f.change (change_of m n e k picked change i)) (later_than (sym picked.number i) (collect applies (entries_of ms)))))
+      record { place = at_number; number = parts.0 ∙ at_number; session = parts.1; change = parts.2 }

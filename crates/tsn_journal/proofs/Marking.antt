@@ -93,6 +93,13 @@ off_at n (suc i) k w (x ∷ ms) m is h e at =
     ap (λ b. off b x ∷ map (mark_off w) ms) (other_entry w k x.entry is (more_number k x.entry.number (omega arith)))
     ∙ ap (λ xs. x ∷ xs) (off_at (n + 1) i k w ms m is h.1 (omega arith) at)
 
+-- the entries with the mark at the place as it is to be
+pub set_at : (w : What) (ms : List MarkedEntry) (place k : ℕ) (d : MarkedEntry) (b : Bool) → names w ≡ Some k → IsNumbered 1 (entries_of ms) → place + 1 ≡ k → d ≡ get_or ms place d → takes_back w (get_or ms place d).entry ≡ b
+    → set ms place (off b (get_or ms place d)) ≡ map (mark_off w) ms
+set_at w ms place k d b is h next at taken =
+    let m = get_or ms place d in
+    sym (off_at 1 place k w ms m is h (omega arith) (ap (λ x. get_or ms place x) at) ∙ ap (λ c. set ms place (off c m)) taken)
+
 -- ---- one entry more
 
 pub entry_stays : (w : What) (m : MarkedEntry) → (mark_off w m).entry ≡ m.entry

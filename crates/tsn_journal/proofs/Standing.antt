@@ -8,13 +8,13 @@ use Rattle.tsn_edit.proofs.KeyFacts.{by_bool, by_option}
 use Rattle.tsn_edit.specs.Parts.{Change}
 use Rattle.tsn_journal.specs.declared.entries.Entry.{Entry}
 use Rattle.tsn_journal.specs.declared.entries.MarkedEntry.{MarkedEntry}
-use Rattle.tsn_journal.specs.Entries.{Applied, IsNumbered, adds, applied, applies, collect, is_taken_back, standing, undoes}
-use Rattle.tsn_journal.specs.Finding.{entry, last_where, may_redo, redo_of, standing_entry, undone_entry}
+use Rattle.tsn_journal.specs.Entries.{Applied, IsNumbered, applied, applies, collect, is_taken_back, standing, undoes}
+use Rattle.tsn_journal.specs.Finding.{change_at, entry, last_where, may_redo, redo_of, standing_entry, undone_entry}
 use Rattle.tsn_journal.specs.Marks.{AreMarked, entries_of, stands}
 use Rattle.tsn_journal.proofs.Collecting.{applied-own, collect-marked, find_marked, standing-marked, stands-own}
 use Rattle.tsn_journal.proofs.Finders.{IsPicked, redone_at, standing_picked_of, undone_picked_of}
 use Rattle.tsn_journal.proofs.Marking.{find_entry}
-use Rattle.tsn_journal.proofs.Numbers.{IsLast, Rises, last_where_some, rises_rest, rises_standing}
+use Rattle.tsn_journal.proofs.Numbers.{Rises, last_where_some, rises_rest, rises_standing}
 
 -- ---- what a finder of standing entries gives is the one of its number
 
@@ -29,11 +29,16 @@ behind [] x rest h = ap (λ b. cond b (Some x) (find (λ y. y.number == x.number
 behind (y ∷ front) x rest h =
     ap (λ b. cond b (Some y) (find (λ z. z.number == x.number) (front ++ x ∷ rest))) (other_number y.number x.number h.0) ∙ behind front x rest h.1
 
+-- a standing entry that stands at a place is the one of its number
+pub standing_placed : (es : List Entry) (front : List Applied) (x : Applied) (rest : List Applied) → IsNumbered 1 es → standing es ≡ front ++ x ∷ rest → standing_entry es x.number ≡ Some x
+standing_placed es front x rest numbered is =
+    let parts = rises_rest 1 front x rest (subst (Rises 1) is (rises_standing es numbered)) in
+    ap (find (λ y. y.number == x.number)) is ∙ behind front x rest parts.2
+
 pub standing_found : (es : List Entry) (test : Applied → Bool) (x : Applied) → IsNumbered 1 es → last_where test (standing es) ≡ Some x → standing_entry es x.number ≡ Some x
 standing_found es test x numbered last =
     let found = last_where_some test (standing es) x last in
-    let parts = rises_rest 1 found.front x found.rest (subst (Rises 1) found.is (rises_standing es numbered)) in
-    ap (find (λ y. y.number == x.number)) found.is ∙ behind found.front x found.rest parts.2
+    standing_placed es found.front x found.rest numbered found.is
 
 -- ---- the entry of a standing entry
 
@@ -55,9 +60,17 @@ well_marked (e ∷ es) = (ap (λ fs. not (is_taken_back e fs)) (sym (same_entrie
 pub record IsEntry (es : List Entry) (n : ℕ) (x : Applied) : Type 0 where
   pub found : Entry
   pub found_is : entry es n ≡ Some found
+  pub place : found.number ≡ n
   pub number : x.number ≡ n
   pub session : x.session ≡ found.session
   pub change : applies found.what ≡ Some x.change
+
+-- it is that entry with the change that it applied
+pub entry_applied : (es : List Entry) (n : ℕ) (x : Applied) (at : IsEntry es n x) → applied applies at.found ≡ Some x
+entry_applied es n x at =
+    let e = at.found in
+    ap (option_map (λ (c : Change). record { number = e.number; session = e.session; change = c })) at.change
+    ∙ (λ i. Some (record { number = (at.place ∙ sym at.number) i; session = sym at.session i; change = x.change }))
 
 module _ (es : List Entry) (n : ℕ) (x : Applied) (numbered : IsNumbered 1 es) where
   abbrev looked : Option MarkedEntry
@@ -67,6 +80,7 @@ module _ (es : List Entry) (n : ℕ) (x : Applied) (numbered : IsNumbered 1 es) 
   as_entry m some picked = record {
     found = m.entry;
     found_is = ap (find (λ (e : Entry). e.number == n)) (sym (same_entries es)) ∙ sym (find_entry n (marks_of es)) ∙ ap (option_map (λ (k : MarkedEntry). k.entry)) some;
+    place = picked.place;
     number = picked.number;
     session = picked.session;
     change = picked.change;
@@ -90,6 +104,17 @@ module _ (es : List Entry) (n : ℕ) (x : Applied) (numbered : IsNumbered 1 es) 
       by_option looked
       (λ none. let never : None ≡ Some x = sym (ap (option_and_then redone_at) none) ∙ at in (cc))
       (λ m some. as_entry m some (undone_picked_of (marks_of es) n x m some (sym (ap (option_and_then redone_at) some) ∙ at)))
+
+  -- the change that the entry applied is the one that was picked
+  pub standing_change : standing_entry es n ≡ Some x → change_at es n ≡ Some x.change
+  standing_change is =
+      let at = standing_is_entry is in
+      ap (option_and_then (λ (e : Entry). applies e.what)) at.found_is ∙ at.change
+
+  pub undone_change : undone_entry es n ≡ Some x → change_at es n ≡ Some x.change
+  undone_change is =
+      let at = undone_is_entry is in
+      ap (option_and_then (λ (e : Entry). applies e.what)) at.found_is ∙ at.change
 
 -- ---- what may be redone is an Undone entry
 

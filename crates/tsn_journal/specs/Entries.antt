@@ -79,6 +79,10 @@ with_entry es s w = es ++ record { number = length es + 1; session = s; what = w
 abbrev pub undone : Applied → What
 undone x = Undone x.number (inverse x.change)
 
+-- what an entry does that takes the Undone entry u back: the inverse of u's change
+abbrev pub redone : Applied → What
+redone u = Redone u.number (inverse u.change)
+
 -- the entries are numbered one by one from n
 abbrev pub IsNumbered : ℕ → List Entry → Type 0
 IsNumbered n [] = Unit {0}

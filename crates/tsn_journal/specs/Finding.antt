@@ -1,8 +1,9 @@
 -- What the finders of a journal look for.
 use Rattle.std.specs.Prelude.{ℕ, Bool, true, false, ◌&&◌, not, List, [], ◌∷◌, Option, Some, None, is_some, filter, ◌==◌, nat_lt, if◌then◌else◌}
 use Rattle.std.specs.List.{find, list_any}
-use Rattle.std.specs.Option.{option_or}
+use Rattle.std.specs.Option.{option_and_then, option_or}
 use Rattle.tsn_edit.specs.Changes.{conflicts}
+use Rattle.tsn_edit.specs.Parts.{Change}
 use Rattle.tsn_journal.specs.declared.entries.What.{What}
 use Rattle.tsn_journal.specs.declared.entries.What.TheVariants.{Made, Undone, Redone, Acted}
 use Rattle.tsn_journal.specs.declared.entries.Entry.{Entry}
@@ -16,6 +17,10 @@ last_where test (x ∷ xs) = option_or (last_where test xs) (if test x then Some
 -- the entry of the number
 abbrev pub entry : List Entry → ℕ → Option Entry
 entry es n = find (λ e. e.number == n) es
+
+-- the change that the entry of the number applied
+abbrev pub change_at : List Entry → ℕ → Option Change
+change_at es n = option_and_then (λ e. applies e.what) (entry es n)
 
 -- the entries of a greater number
 abbrev pub since : List Entry → ℕ → List Entry
@@ -36,6 +41,14 @@ undone_entry es n = find (λ x. x.number == n) (collect undoes es)
 abbrev pub last_of : List Entry → ℕ → Option Applied
 last_of es s = last_where (λ x. x.session == s) (standing es)
 
+-- the standing entries of a session
+abbrev pub own_standing : List Entry → ℕ → List Applied
+own_standing es s = filter (λ x. x.session == s) (standing es)
+
+-- the standing entries of the other sessions
+abbrev pub others_standing : List Entry → ℕ → List Applied
+others_standing es s = filter (λ x. not (x.session == s)) (standing es)
+
 -- the latest later standing entry in conflict with e
 abbrev pub find_conflict : List Entry → Applied → Option Applied
 find_conflict es e = last_where (λ f. conflicts f.change e.change) (later_than e.number (standing es))
@@ -43,6 +56,10 @@ find_conflict es e = last_where (λ f. conflicts f.change e.change) (later_than 
 -- the latest later standing entry of another session in conflict with e
 abbrev pub find_conflict_of_others : List Entry → Applied → Option Applied
 find_conflict_of_others es e = last_where (λ f. not (f.session == e.session) && conflicts f.change e.change) (later_than e.number (standing es))
+
+-- the newest standing entry of a session that has a later standing entry of another session in conflict
+abbrev pub find_own_in_conflict : List Entry → ℕ → Option Applied
+find_own_in_conflict es s = last_where (λ x. (x.session == s) && is_some (find_conflict_of_others es x)) (standing es)
 
 abbrev pub is_made : What → Bool
 is_made (Made c) = true

@@ -1,5 +1,6 @@
 -- How a journal keeps its entries: each with a mark that is on until a later entry takes it back.
-use Rattle.std.specs.Prelude.{◌≡◌, ℕ, ◌≤◌, Bool, false, not, ◌||◌, ◌&&◌, is_some, List, [], ◌∷◌, Option, Some, None, map, length, if◌then◌else◌, refl}
+use Rattle.std.specs.Prelude.{◌≡◌, ℕ, ◌≤◌, Bool, false, not, ◌||◌, ◌&&◌, is_some, List, [], ◌∷◌, Option, Some, None, ◌==◌, drop, map, length, nat_lt, option_map, if◌then◌else◌, refl}
+use Rattle.std.specs.Option.{option_and_then}
 use Rattle.std.specs.Coded.{Coded, code_by, coded×, coded_list, coded_ℕ}
 use Rattle.tsn_edit.specs.Changes.{conflicts}
 use Rattle.tsn_edit.specs.Parts.{Change}
@@ -8,8 +9,8 @@ use Rattle.tsn_journal.specs.declared.entries.Entry.{Entry}
 use Rattle.tsn_journal.specs.declared.entries.MarkedEntry.{MarkedEntry}
 use Rattle.tsn_journal.specs.declared.entries.What.{What}
 use Rattle.tsn_journal.specs.declared.entries.What.TheVariants.{Made, Undone, Redone, Acted}
-use Rattle.tsn_journal.specs.Entries.{Applied, IsNumbered, adds, applied, is_taken_back, most_entries, takes_back, undoes}
-use Rattle.tsn_journal.specs.Finding.{is_made}
+use Rattle.tsn_journal.specs.Entries.{Applied, IsNumbered, adds, applied, applies, is_taken_back, most_entries, takes_back, undoes}
+use Rattle.tsn_journal.specs.Finding.{is_made, last_where}
 
 -- what contracts see of a journal: its entries, and how many more it certainly has room for
 pub record Log : Type 0 where
@@ -40,6 +41,10 @@ mark_off w m = if takes_back w m.entry then record { entry = m.entry; is_open = 
 abbrev pub stands : MarkedEntry → Option Applied
 stands m = if m.is_open then applied adds m.entry else None
 
+-- whether a marked entry stands and is the session's
+abbrev pub is_own : ℕ → MarkedEntry → Bool
+is_own s m = is_some (stands m) && (m.entry.session == s)
+
 -- the number of the entry that w takes back, if it takes one back
 abbrev pub names : What → Option ℕ
 names (Made c) = None
@@ -51,6 +56,37 @@ names (Acted act key now) = None
 abbrev pub is_in_conflict : Option Change → Change → Bool
 is_in_conflict None e = false
 is_in_conflict (Some f) e = conflicts f e
+
+-- the latest entry after e that passes the test and applied a change in conflict with e's
+abbrev pub conflict_after : (MarkedEntry → Bool) → List MarkedEntry → Entry → Option MarkedEntry
+conflict_after p ms e = option_and_then (λ c. last_where (λ m. p m && is_in_conflict (applies m.entry.what) c) (drop e.number ms)) (applies e.what)
+
+-- whether a marked entry stands and is another session's
+abbrev pub is_others : ℕ → MarkedEntry → Bool
+is_others s m = is_some (stands m) && not (m.entry.session == s)
+
+-- the latest standing entry of another session after e that is in conflict with e
+abbrev pub conflict_of_others : List MarkedEntry → Entry → Option MarkedEntry
+conflict_of_others ms e = conflict_after (is_others e.session) ms e
+
+-- whether the change, if there is one, is of an entry of the number n before m and in conflict with m's
+abbrev pub is_change_under : ℕ → MarkedEntry → Option Change → Bool
+is_change_under n m None = false
+is_change_under n m (Some c) = nat_lt n m.entry.number && is_in_conflict (applies m.entry.what) c
+
+-- whether m is later than e and applied a change in conflict with e's
+abbrev pub is_under : Entry → MarkedEntry → Bool
+is_under e m = is_change_under e.number m (applies e.what)
+
+-- the number of the newest own standing entry with a later standing entry of another session among `others` in conflict
+abbrev pub newest_blocked : ℕ → List MarkedEntry → List MarkedEntry → Option ℕ
+newest_blocked s others ms = option_map (λ m. m.entry.number) (last_where (λ m. is_own s m && is_some (conflict_of_others others m.entry)) ms)
+
+-- the later of two numbers, or the one that there is
+abbrev pub later_of : Option ℕ → Option ℕ → Option ℕ
+later_of None k = k
+later_of (Some n) None = Some n
+later_of (Some n) (Some k) = Some (if nat_lt n k then k else n)
 
 -- whether a search for what a session may redo ends at this entry of its own: an edit, or an Undone entry that nothing took back
 abbrev pub ends_redo : MarkedEntry → Bool

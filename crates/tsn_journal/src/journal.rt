@@ -1,14 +1,17 @@
 //! The journal: entries numbered from 1, with the finders of undo and redo.
 //!
 //! It keeps a mark with each entry, so that no finder has to look for what took an entry back.
-ghost use Rattle.std.specs.Prelude.{◌≡◌, ◌+◌, ◌≤◌, [], IfErr, IfOk, IfSome, IsOk, IsSome, None, OnErr, OnOk, Some, is_some, length, option_map};
+ghost use Rattle.std.specs.Prelude.{◌≡◌, ◌+◌, ◌≤◌, [], IfErr, IfOk, IfSome, IsOk, IsSome, None, OnErr, OnOk, Some, is_some, length, map, option_map};
 ghost use Rattle.std.specs.Option.{option_copied};
 ghost use Rattle.tsn_types.specs.Refusals.{IsLeastOrMemory};
 ghost use Rattle.tsn_journal.specs.Entries.{Applied, most_entries, no_room, with_entry};
-ghost use Rattle.tsn_journal.specs.Finding.{entry, find_conflict, find_conflict_of_others, find_redo_conflict, last_of, redo_of, since, standing_entry, undone_entry};
+ghost use Rattle.tsn_journal.specs.Finding.{entry, find_conflict, find_conflict_of_others, find_own_in_conflict, find_redo_conflict, last_of, own_standing, redo_of, since, standing_entry, undone_entry};
 
 use crate::entries::{Entries, Entry, MarkedEntry, What};
-use crate::finding::{after, at, last, latest, put_off};
+use crate::finding::{
+    after, at, conflict_after, conflict_of_others, count, last, latest, numbers, own_in_conflict,
+    put_off,
+};
 use std::alloc::{AllocError, Global};
 use std::marker::Model;
 use tsn_types::refusals::Refusal;
@@ -119,7 +122,7 @@ impl Journal {
     {
         latest(
             &self.marked,
-            &|marked: &MarkedEntry| { marked.stands() && marked.is_of(session) },
+            &|marked: &MarkedEntry| { marked.is_own(session) },
         )
     }
 
@@ -139,6 +142,24 @@ impl Journal {
         }
     }
 
+    /// How many standing entries the session has. It takes no memory.
+    pub fn count_of(&self, session: u32) -> usize
+        ensures count { result ≡ length (own_standing self.now.entries session) }
+        ensures few { result ≤ length self.now.entries }
+    {
+        count(
+            &self.marked,
+            &|marked: &MarkedEntry| { marked.is_own(session) },
+        )
+    }
+
+    /// The numbers of the session's standing entries, rising. Refused only for want of memory.
+    pub fn standing_of(&self, session: u32) -> Result<Vec<u64>, AllocError>
+        ensures { IfOk result (λ numbers. numbers.items ≡ map (λ x. x.number) (own_standing self.now.entries session)) }
+    {
+        numbers(*self.marked.allocator(), &self.marked, session)
+    }
+
     /// Copies of the entries of a greater number. Refused only for want of memory.
     pub fn since(&self, number: u64) -> Result<Entries, AllocError>
         ensures { IfOk result (λ copies. copies ≡ since self.now.entries number) }
@@ -152,10 +173,10 @@ impl Journal {
         ensures { (e : Applied) → standing_entry self.now.entries number ≡ Some e
             → result ≡ option_map (λ x. x.number) (find_conflict self.now.entries e) }
     {
-        let change = at(&self.marked, number)?.entry.what.change()?;
-        latest(
-            after(&self.marked, number),
-            &|later: &MarkedEntry| { later.stands() && later.conflicts_with(change) },
+        conflict_after(
+            &self.marked,
+            self.entry(number),
+            &|later: &MarkedEntry| { later.stands() },
         )
     }
 
@@ -166,15 +187,15 @@ impl Journal {
         ensures { (e : Applied) → standing_entry self.now.entries number ≡ Some e
             → result ≡ option_map (λ x. x.number) (find_conflict_of_others self.now.entries e) }
     {
-        let earlier = &at(&self.marked, number)?.entry;
-        let change = earlier.what.change()?;
-        let session = earlier.session;
-        latest(
-            after(&self.marked, number),
-            &|later: &MarkedEntry| {
-                later.stands() && !later.is_of(session) && later.conflicts_with(change)
-            },
-        )
+        conflict_of_others(&self.marked, self.entry(number))
+    }
+
+    /// The session's newest standing entry that has a later standing entry of another session in conflict with it. It
+    /// takes no memory.
+    pub fn find_own_in_conflict(&self, session: u32) -> Option<u64>
+        ensures { result ≡ option_map (λ x. x.number) (find_own_in_conflict self.now.entries session) }
+    {
+        own_in_conflict(&self.marked, session)
     }
 
     /// The latest later entry of any kind whose change is in conflict with that of the Undone entry of the number. It
@@ -184,10 +205,10 @@ impl Journal {
         ensures { (u : Applied) → undone_entry self.now.entries number ≡ Some u
             → result ≡ option_map (λ x. x.number) (find_redo_conflict self.now.entries u) }
     {
-        let change = at(&self.marked, number)?.entry.what.change()?;
-        latest(
-            after(&self.marked, number),
-            &|later: &MarkedEntry| { later.conflicts_with(change) },
+        conflict_after(
+            &self.marked,
+            self.entry(number),
+            &|_later: &MarkedEntry| { true },
         )
     }
 }

@@ -172,6 +172,22 @@ fn an_own_later_edit_is_no_conflict_of_others(rt: HostRuntime) -> Result<(), Fai
 }
 
 #[test]
+fn a_sessions_standing_entries_are_counted_and_listed(rt: HostRuntime) -> Result<(), Fail> {
+    let mut journal = Journal::new(rt.alloc());
+    assert_eq!(rt; enter(&mut journal, 1, What::Made(created(1)))?, 1);
+    assert_eq!(rt; enter(&mut journal, 1, What::Made(created(2)))?, 2);
+    assert_eq!(rt; enter(&mut journal, 2, What::Made(removed(1)))?, 3);
+    assert_eq!(rt; journal.count_of(1), 2);
+    assert_eq!(rt; journal.standing_of(1)?.as_slice(), [1u64, 2].as_slice());
+    assert_eq!(rt; journal.find_own_in_conflict(1), Some(1));
+    assert_eq!(rt; journal.find_own_in_conflict(2), None);
+    assert_eq!(rt; enter(&mut journal, 1, What::Made(created(1)))?, 4);
+    assert_eq!(rt; journal.find_own_in_conflict(1), Some(1));
+    assert_eq!(rt; journal.find_own_in_conflict(2), Some(3));
+    Ok(())
+}
+
+#[test]
 fn an_act_does_not_end_a_redo_and_an_edit_does(rt: HostRuntime) -> Result<(), Fail> {
     let mut journal = Journal::new(rt.alloc());
     assert_eq!(rt; enter(&mut journal, 1, What::Made(created(1)))?, 1);

@@ -1,5 +1,5 @@
-use Rattle.std.proofs.Common.{◌≡◌, ◌+◌, ◌<◌, ◌≤◌, ◌⊎◌, inl, inr, refl, sym, ◌∙◌, ap, cond, false, arith, length, get_or, set}
-use Rattle.tsn_journal.proofs.Marking.{all_stay, out_of_reach, off_at}
+use Rattle.std.proofs.Common.{◌+◌, ◌<◌, ◌≤◌, ◌⊎◌, inl, inr, refl, sym, ◌∙◌, true, false, arith, length}
+use Rattle.tsn_journal.proofs.Marking.{all_stay, out_of_reach, set_at}
 use Rattle.tsn_journal.proofs.finding.put_off.Goals as goal
 
 pub returns-in_default : goal.returns-in_default
@@ -13,16 +13,10 @@ returns-in_default-place_of c =
 
 pub returns-then-takes_back : goal.returns-then-takes_back
 returns-then-takes_back c =
-    let ms = c.args.marked.now in
-    let m = get_or ms c.in-Some-place_of.place c.index-marked-place.result in
-    let next : c.in-Some-place_of.place + 1 ≡ c.in-Some.of = c.in-Some-place_of.ensures.some.0 in
-    sym (off_at 1 c.in-Some-place_of.place c.in-Some.of c.args.what.now ms m (sym c.names.ensures ∙ c.in-Some.is) c.requires (omega arith) (ap (λ d. get_or ms c.in-Some-place_of.place d) c.index-marked-place.is)
-    ∙ ap (λ y. set ms c.in-Some-place_of.place y) (ap (λ b. cond b (record { entry = m.entry; is_open = false }) m) (sym c.takes_back.ensures ∙ c.if-takes_back.true)))
+    set_at c.args.what.now c.args.marked.now c.in-Some-place_of.place c.in-Some.of c.index-marked-place.result true
+    (sym c.names.ensures ∙ c.in-Some.is) c.requires c.in-Some-place_of.ensures.some.0 c.index-marked-place.is (sym c.takes_back.ensures ∙ c.if-takes_back.true)
 
 pub returns-else-takes_back : goal.returns-else-takes_back
 returns-else-takes_back c =
-    let ms = c.args.marked.now in
-    let m = get_or ms c.in-Some-place_of.place c.index-marked-place.result in
-    let next : c.in-Some-place_of.place + 1 ≡ c.in-Some.of = c.in-Some-place_of.ensures.some.0 in
-    sym (off_at 1 c.in-Some-place_of.place c.in-Some.of c.args.what.now ms m (sym c.names.ensures ∙ c.in-Some.is) c.requires (omega arith) (ap (λ d. get_or ms c.in-Some-place_of.place d) c.index-marked-place.is)
-    ∙ ap (λ y. set ms c.in-Some-place_of.place y) (ap (λ b. cond b (record { entry = m.entry; is_open = false }) m) (sym c.takes_back.ensures ∙ c.if-takes_back.false)))
+    set_at c.args.what.now c.args.marked.now c.in-Some-place_of.place c.in-Some.of c.index-marked-place.result false
+    (sym c.names.ensures ∙ c.in-Some.is) c.requires c.in-Some-place_of.ensures.some.0 c.index-marked-place.is (sym c.takes_back.ensures ∙ c.if-takes_back.false)
