@@ -1,5 +1,5 @@
 -- An entry that applies a change that fits keeps a journal sound, and so does one that applies none.
-use Rattle.std.proofs.Common.{◌≡◌, ℕ, ◌+◌, Bool, false, cond, refl, not, List, [], ◌∷◌, ◌++◌, sym, ◌∙◌, ap, subst, Option, Some, None, length}
+use Rattle.std.proofs.Common.{◌≡◌, ℕ, ◌+◌, false, cond, refl, not, List, [], ◌∷◌, ◌++◌, sym, ◌∙◌, ap, subst, Option, Some, None, length}
 use Rattle.std.specs.Prelude.{filter, option_map}
 use Rattle.std.specs.List.{cons_option}
 use Rattle.tsn_edit.specs.Parts.{Change}
@@ -12,7 +12,7 @@ use Rattle.tsn_journal.specs.declared.entries.What.{What}
 use Rattle.tsn_journal.specs.declared.entries.Entry.{Entry}
 use Rattle.tsn_journal.specs.Entries.{Applied, adds, applies, changes, collect, standing, with_entry}
 use Rattle.tsn_journal.proofs.Marking.{IsNumbered-with_entry}
-use Rattle.tsn_journal.proofs.Numbers.{append_nil, changes-append, collect_push, filter_every, standing_push, undoes_number}
+use Rattle.tsn_journal.proofs.Numbers.{append_nil, changes-append, collect_push, standing_push, undoes_number}
 use Rattle.tsn_undo.specs.Soundness.{IsSound, configuration}
 
 -- the entry that comes next

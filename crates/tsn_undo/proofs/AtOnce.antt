@@ -1,6 +1,6 @@
 -- An edit that is at once undone leaves the configuration as it was.
-use Rattle.std.proofs.Common.{◌≡◌, ℕ, ◌+◌, true, cond, List, [], ◌∷◌, ◌++◌, refl, sym, ◌∙◌, ap, subst, Some, None, length}
-use Rattle.std.specs.Prelude.{◌==◌, nat_le, option_map}
+use Rattle.std.proofs.Common.{◌≡◌, ℕ, ◌+◌, true, cond, [], ◌∷◌, ◌++◌, refl, sym, ◌∙◌, ap, subst, Some, None, length}
+use Rattle.std.specs.Prelude.{◌==◌, option_map}
 use Rattle.std.specs.Option.{option_or}
 use Rattle.std.proofs.Common.{arith}
 use Rattle.std.proofs.lemmas.Bool.Decides.{nat_tests}
@@ -11,9 +11,8 @@ use Rattle.tsn_edit.specs.Changes.{after_change, conflicts}
 use Rattle.tsn_edit.specs.Parts.{inverse}
 use Rattle.tsn_edit.specs.Edits.{change_of}
 use Rattle.tsn_edit.proofs.Inverses.{taken_back}
-use Rattle.tsn_journal.specs.declared.entries.Entry.{Entry}
 use Rattle.tsn_journal.specs.declared.entries.What.TheVariants.{Made}
-use Rattle.tsn_journal.specs.Entries.{Applied, IsNumbered, no_room, standing, undone}
+use Rattle.tsn_journal.specs.Entries.{Applied, IsNumbered, no_room, standing}
 use Rattle.tsn_journal.specs.Finding.{find_conflict, last_of, last_where, later_than}
 use Rattle.tsn_journal.proofs.LastWhere.{last_where-append}
 use Rattle.tsn_journal.proofs.Marking.{IsNumbered-with_entry}

@@ -1,7 +1,7 @@
 -- Why edits and undos are refused, and the entry that an undo takes back.
-use Rattle.std.proofs.Common.{◌≡◌, ℕ, ◌≤◌, true, Bor, List, Option, Some, None, refl, sym, ◌∙◌, ap, arith, length, ◌+◌}
+use Rattle.std.proofs.Common.{◌≡◌, ℕ, Bool, true, Bor, List, Option, Some, None, refl, sym, ◌∙◌, ap, arith, length, ◌+◌}
 use Rattle.std.specs.Prelude.{◌==◌, is_some, nat_le, option_map}
-use Rattle.std.specs.Option.{option_copied, option_or}
+use Rattle.std.specs.Option.{option_and_then, option_copied, option_or}
 use Rattle.tsn_types.specs.declared.refusals.Refusal.{Refusal}
 use Rattle.tsn_types.specs.declared.refusals.Refusal.TheVariants.{Conflict, JournalFull, Memory}
 use Rattle.tsn_types.specs.Refusals.{IsLeastOrMemory}
@@ -11,11 +11,11 @@ use Rattle.tsn_edit.specs.Edits.{refusal}
 use Rattle.tsn_edit.proofs.KeyFacts.{by_option}
 use Rattle.tsn_edit.proofs.Ordered.{refusal-most}
 use Rattle.tsn_journal.specs.declared.entries.Entry.{Entry}
-use Rattle.tsn_journal.specs.Entries.{Applied, IsNumbered, applies, most_entries, no_room}
-use Rattle.tsn_journal.specs.Finding.{entry, find_conflict, last_of, standing_entry}
-use Rattle.tsn_journal.proofs.Standing.{standing_found, standing_is_entry}
+use Rattle.tsn_journal.specs.Entries.{Applied, IsNumbered, applies, most_entries, no_room, standing}
+use Rattle.tsn_journal.specs.Finding.{change_at, entry, find_conflict, last_of, last_where, standing_entry}
+use Rattle.tsn_journal.proofs.Standing.{standing_change, standing_found}
 use Rattle.tsn_undo.specs.Ledger.{Ledger, present}
-use Rattle.tsn_undo.specs.Steps.{IsFree, conflict_with, edit_refusal, undo_cause, undo_refusal}
+use Rattle.tsn_undo.specs.Steps.{IsFree, edit_refusal, undo_cause, undo_refusal}
 
 at_most_more : (o : Option Refusal) → AtMost 9 o → AtMost 17 o
 at_most_more None h = tt
@@ -37,7 +37,7 @@ undo_cause-most es (Some e) = conflict_most (find_conflict es e)
 pub undo_refusal-first : (b : Ledger) (s : ℕ) → undo_refusal b s ≡ option_or (undo_cause b.entries (last_of b.entries s)) (no_room b.entries 1)
 undo_refusal-first b s = least-before 17 (undo_cause b.entries (last_of b.entries s)) (nat_le (length b.entries + 1) most_entries) JournalFull (undo_cause-most b.entries (last_of b.entries s)) (omega arith)
 
-or_none : (o p : Option Refusal) → option_or o p ≡ None → (o ≡ None) × (p ≡ None)
+pub or_none : (o p : Option Refusal) → option_or o p ≡ None → (o ≡ None) × (p ≡ None)
 or_none None p h = (refl, h)
 or_none (Some x) p h = (cc)
 
@@ -54,28 +54,31 @@ undo_free b s x last free =
     let both = or_none (undo_cause b.entries (last_of b.entries s)) (no_room b.entries 1) (sym (undo_refusal-first b s) ∙ free) in
     (map_none x.number (find_conflict b.entries x) (sym (ap (undo_cause b.entries) last) ∙ both.0), both.1)
 
--- ---- the newest standing entry, by its number
+-- ---- a standing entry that a finder names, by its number
 
-pub record IsNewest (es : List Entry) (s own : ℕ) : Type 0 where
+abbrev pub number_of : Option Applied → Option ℕ
+number_of o = option_map (λ (x : Applied). x.number) o
+
+pub record IsNewest (es : List Entry) (test : Applied → Bool) (own : ℕ) : Type 0 where
   pub newest : Applied
-  pub last : last_of es s ≡ Some newest
+  pub last : last_where test (standing es) ≡ Some newest
   pub own_is : own ≡ newest.number
   pub stands : standing_entry es own ≡ Some newest
 
-pub newest_of : (es : List Entry) (s own : ℕ) → IsNumbered 1 es → Some own ≡ option_map (λ (x : Applied). x.number) (last_of es s) → IsNewest es s own
-newest_of es s own numbered is = by_option (last_of es s)
-    (λ none. let never : Some own ≡ None = is ∙ ap (option_map (λ (x : Applied). x.number)) none in (cc))
+pub newest_of : (es : List Entry) (test : Applied → Bool) (own : ℕ) → IsNumbered 1 es → Some own ≡ number_of (last_where test (standing es)) → IsNewest es test own
+newest_of es test own numbered is = by_option (last_where test (standing es))
+    (λ none. let never : Some own ≡ None = is ∙ ap number_of none in (cc))
     (λ x some.
-    let both : Some own ≡ Some x.number = is ∙ ap (option_map (λ (x : Applied). x.number)) some in
+    let both : Some own ≡ Some x.number = is ∙ ap number_of some in
     let same : own ≡ x.number = (cc) in
-    record { newest = x; last = some; own_is = same; stands = ap (standing_entry es) same ∙ standing_found es (λ x. x.session == s) x numbered some })
+    record { newest = x; last = some; own_is = same; stands = ap (standing_entry es) same ∙ standing_found es test x numbered some })
 
 -- what the finder answers, as the cause
-pub conflict_named : (es : List Entry) (x : Applied) (own : ℕ) (r : Option ℕ) → own ≡ x.number → r ≡ option_map (λ (f : Applied). f.number) (find_conflict es x) → conflict_with es x ≡ option_map (λ k. Conflict own k) r
-conflict_named es x own r same is =
-    both (find_conflict es x) ∙ ap (option_map (λ k. Conflict x.number k)) (sym is) ∙ ap (λ n. option_map (λ k. Conflict n k) r) (sym same)
+pub conflict_named : (o : Option Applied) (n own : ℕ) (r : Option ℕ) → own ≡ n → r ≡ number_of o → option_map (λ f. Conflict n f.number) o ≡ option_map (λ k. Conflict own k) r
+conflict_named o n own r same is =
+    both o ∙ ap (option_map (λ k. Conflict n k)) (sym is) ∙ ap (λ n. option_map (λ k. Conflict n k) r) (sym same)
   where
-    both : (o : Option Applied) → option_map (λ f. Conflict x.number f.number) o ≡ option_map (λ k. Conflict x.number k) (option_map (λ (f : Applied). f.number) o)
+    both : (o : Option Applied) → option_map (λ f. Conflict n f.number) o ≡ option_map (λ k. Conflict n k) (number_of o)
     both None = refl
     both (Some f) = refl
 
@@ -85,26 +88,13 @@ is_some_none : {A : Type 0} (o : Option A) → is_some o ≡ true → o ≡ None
 is_some_none None h is = (cc)
 is_some_none (Some x) h is = (cc)
 
-pub record IsLookedUp (es : List Entry) (n : ℕ) (e : Entry) : Type 0 where
-  pub changes : is_some (applies e.what) ≡ true
-  pub same : (x : Applied) → standing_entry es n ≡ Some x → applies e.what ≡ Some x.change
+pub change_of_entry : (es : List Entry) (n : ℕ) (e : Entry) → entry es n ≡ Some e → change_at es n ≡ applies e.what
+change_of_entry es n e is = ap (option_and_then (λ (e : Entry). applies e.what)) is
 
-module _ (es : List Entry) (n : ℕ) (numbered : IsNumbered 1 es) (stands : is_some (standing_entry es n) ≡ true) where
-  pub there : is_some (entry es n) ≡ true
-  there = by_option (standing_entry es n) (λ none. absurd (is_some_none _ stands none)) (λ x some. ap is_some (standing_is_entry es n x numbered some).found_is)
-
-  pub looked_up : (e : Entry) → entry es n ≡ Some e → IsLookedUp es n e
-  looked_up e is =
-      let here : (x : Applied) → standing_entry es n ≡ Some x → applies e.what ≡ Some x.change =
-      λ x some.
-      let at = standing_is_entry es n x numbered some in
-      let both : Some e ≡ Some at.found = sym is ∙ at.found_is in
-      let same : e ≡ at.found = (cc) in
-      ap (λ (k : Entry). applies k.what) same ∙ at.change in
-      record {
-        changes = by_option (standing_entry es n) (λ none. absurd (is_some_none _ stands none)) (λ x some. ap is_some (here x some));
-        same = here;
-      }
+pub entry_there : (es : List Entry) (n : ℕ) → is_some (change_at es n) ≡ true → is_some (entry es n) ≡ true
+entry_there es n h = by_option (entry es n)
+    (λ none. absurd (is_some_none _ h (ap (option_and_then (λ (e : Entry). applies e.what)) none)))
+    (λ e some. ap is_some some)
 
 pub is_memory : (o : Option Refusal) (why : Refusal) → o ≡ None → IsLeastOrMemory o why → why ≡ Memory
 is_memory None why h is = is
@@ -119,3 +109,7 @@ some_copied o h = sym (copied o) ∙ h
 
 pub free_stands : (b : Ledger) (s of : ℕ) → IsNumbered 1 b.entries → (free : IsFree b s of) → standing_entry b.entries of ≡ Some free.newest
 free_stands b s of numbered free = ap (standing_entry b.entries) free.of_is ∙ standing_found b.entries (λ x. x.session == s) free.newest numbered free.newest_is
+
+-- what is free to be taken back, by the change of the entry of its number
+pub free_change : (b : Ledger) (s of : ℕ) → IsNumbered 1 b.entries → (free : IsFree b s of) → change_at b.entries of ≡ Some free.newest.change
+free_change b s of numbered free = standing_change b.entries of free.newest numbered (free_stands b s of numbered free)

@@ -5,3 +5,6 @@ pub mod Making
 pub mod Rewinding
 pub mod Undoing
 pub mod Commutation
+pub mod Redone
+pub mod UndoAll
+pub mod Named

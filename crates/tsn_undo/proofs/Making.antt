@@ -1,9 +1,8 @@
 -- What an edit and an undo leave of a sound ledger.
-use Rattle.std.proofs.Common.{◌≡◌, ℕ, ◌+◌, refl, sym, ◌∙◌, ap, subst, Option, Some, None, length}
+use Rattle.std.proofs.Common.{◌≡◌, ℕ, ◌+◌, refl, ◌∙◌, ap, None, length}
 use Rattle.std.specs.Prelude.{◌==◌}
 use Rattle.tsn_edit.specs.declared.Edit.{Edit}
 use Rattle.tsn_edit.specs.declared.Edit.TheVariants.{Create, Replace, Remove}
-use Rattle.tsn_edit.specs.Parts.{Change, inverse}
 use Rattle.tsn_edit.specs.Configuration.{Configuration, IsWellKept}
 use Rattle.tsn_edit.specs.Changes.{Fits, after_change}
 use Rattle.tsn_edit.specs.Edits.{change_of, result}

@@ -1,5 +1,5 @@
 -- An entry more leaves the opening as it was, and the book what it has to be.
-use Rattle.std.proofs.Common.{◌≡◌, ℕ, List, [], ◌∷◌, ◌++◌, refl, sym, ◌∙◌, ap, subst, Option, Some, None}
+use Rattle.std.proofs.Common.{◌≡◌, ℕ, List, [], ◌∷◌, ◌++◌, refl, sym, ◌∙◌, ap, subst, Some, None}
 use Rattle.tsn_types.specs.declared.limits.Limits.{Limits}
 use Rattle.tsn_edit.specs.Parts.{Change, inverse}
 use Rattle.tsn_edit.specs.Configuration.{Configuration, IsWellKept}

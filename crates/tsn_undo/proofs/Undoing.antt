@@ -1,5 +1,5 @@
 -- Taking back a standing entry that nothing later conflicts with keeps a journal sound.
-use Rattle.std.proofs.Common.{◌≡◌, ℕ, ◌+◌, not, List, [], ◌∷◌, ◌++◌, sym, ◌∙◌, ap, subst, Option, Some, None, false, refl}
+use Rattle.std.proofs.Common.{◌≡◌, ℕ, not, List, [], ◌∷◌, ◌++◌, sym, ◌∙◌, ap, subst, None, false, refl}
 use Rattle.std.specs.Prelude.{filter, ◌==◌}
 use Rattle.std.specs.List.{AllByRecursion}
 use Rattle.tsn_edit.specs.Parts.{Change, inverse}
@@ -16,7 +16,7 @@ use Rattle.tsn_journal.proofs.Numbers.{append_nil, changes-append, Rises, rises_
 use Rattle.tsn_undo.specs.Soundness.{IsSound, configuration}
 use Rattle.tsn_undo.proofs.Adding.{applied_push, configuration_push, next}
 
-each_change : (P : Change → Type 0) (xs : List Applied) → AllByRecursion (λ y. P y.change) xs → AllByRecursion P (changes xs)
+pub each_change : (P : Change → Type 0) (xs : List Applied) → AllByRecursion (λ y. P y.change) xs → AllByRecursion P (changes xs)
 each_change P [] h = tt
 each_change P (x ∷ xs) h = (h.0, each_change P xs h.1)
 

@@ -1,5 +1,7 @@
 pub mod Commuting
 pub mod Examples
 pub mod Ledger
+pub mod Redo
 pub mod Soundness
 pub mod Steps
+pub mod UndoAll

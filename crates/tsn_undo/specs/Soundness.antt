@@ -1,5 +1,5 @@
 -- What the entries of a book keep: all their changes replay, the standing ones replay, and both end in one configuration.
-use Rattle.std.specs.Prelude.{◌≡◌, ℕ, List}
+use Rattle.std.specs.Prelude.{◌≡◌, List}
 use Rattle.tsn_types.specs.declared.limits.Limits.{Limits}
 use Rattle.tsn_edit.specs.Configuration.{Configuration, IsWellKept}
 use Rattle.tsn_edit.specs.Runs.{run, IsGood}

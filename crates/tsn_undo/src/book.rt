@@ -9,11 +9,11 @@ ghost use Rattle.tsn_types.specs.declared.refusals.Refusal.TheVariants.{Memory};
 ghost use Rattle.tsn_types.specs.Refusals.{IsLeastOrMemory};
 ghost use Rattle.tsn_edit.specs.Changes.{Fits};
 ghost use Rattle.tsn_edit.specs.Configuration.{IsWellKept};
-ghost use Rattle.tsn_edit.specs.Parts.{inverse};
+ghost use Rattle.tsn_edit.specs.Parts.{Change as AnyChange, inverse};
 ghost use Rattle.tsn_edit.specs.Runs.{run, IsGood};
-ghost use Rattle.tsn_journal.specs.declared.entries.What.TheVariants.{Acted};
+ghost use Rattle.tsn_journal.specs.declared.entries.What.TheVariants.{Acted, Undone};
 ghost use Rattle.tsn_journal.specs.Entries.{Applied, applies, changes, most_entries, no_room, standing, with_entry};
-ghost use Rattle.tsn_journal.specs.Finding.{last_of, standing_entry};
+ghost use Rattle.tsn_journal.specs.Finding.{change_at};
 ghost use Rattle.tsn_undo.specs.Ledger.{enter, present};
 ghost use Rattle.tsn_undo.specs.Soundness.{IsSound};
 ghost use Rattle.tsn_undo.specs.Steps.{Edits, IsFree, TakesBack, edit_refusal, undo_refusal};
@@ -32,8 +32,16 @@ use tsn_types::refusals::Refusal;
 /// certainly has room for.
 #[derive(Drop)]
 pub struct Book {
-    config: Config,
-    journal: Journal,
+    pub(crate) config: Config,
+    pub(crate) journal: Journal,
+}
+
+/// What takes back an entry: its number and the inverse of its change, once for the journal and once to be applied.
+#[derive(Debug, Drop)]
+pub(crate) struct TakingBack {
+    pub(crate) of: u64,
+    pub(crate) entered: Change,
+    pub(crate) applied: Change,
 }
 
 impl Model for Book {
@@ -142,12 +150,10 @@ impl Book {
         ensures unchanged { OnErr result (self.new.ledger ≡ self.old.ledger) }
         ensures enough { 1 ≤ self.old.spare → IsOk result }
     {
-        // That the entries are sound is the type's rule, which the proof has where a field is looked at.
-        let _ = &self.journal;
         if let Err(why) = self.reserve(1) {
             return Err(why);
         }
-        Ok(self.append(session, What::Acted { act, key, now }, None))
+        Ok(self.enter_act(session, act, key, now))
     }
 
     /// Why the edit would be refused, but for want of memory. It takes no memory.
@@ -171,7 +177,7 @@ impl Book {
     }
 
     /// Why so many entries more would be refused: the journal never holds them.
-    fn refuse_entries(&self, count: usize) -> Option<Refusal>
+    pub(crate) fn refuse_entries(&self, count: usize) -> Option<Refusal>
         ensures { result ≡ no_room self.now.ledger.entries count }
     {
         if MOST_ENTRIES - self.journal().len() < count {
@@ -224,31 +230,79 @@ impl Book {
         if let Err(why) = self.reserve(1) {
             return Err(why);
         }
-        let change = self.inverse_of(of)?;
-        let copy = change.try_clone()?;
-        let what = What::Undone { of, change: copy };
-        Ok(self.append(session, what, Some(change)))
+        let back = self.taking_back(of)?;
+        Ok(self.enter_undone(session, back))
     }
 
-    /// The inverse of the change of the standing entry of the number.
-    fn inverse_of(&self, number: u64) -> Result<Change, AllocError>
-        requires { IsSome (standing_entry self.now.ledger.entries number) }
-        ensures { IfOk result (λ change. (e : Applied) → standing_entry self.now.ledger.entries number ≡ Some e → change ≡ inverse e.change) }
+    /// The change that the entry of the number applied.
+    pub(crate) fn change_at(&self, number: u64) -> &Change
+        requires { IsSome (change_at self.now.ledger.entries number) }
+        ensures { change_at self.now.ledger.entries number ≡ Some result.now }
     {
-        let entry = self.journal().entry(number).unwrap();
-        let change = entry.what.change().unwrap();
-        Ok(change.try_clone()?.inverse())
+        self.journal().entry(number).unwrap().what.change().unwrap()
+    }
+
+    /// What takes back the entry of the number. Refused only for want of memory.
+    pub(crate) fn taking_back(&self, number: u64) -> Result<TakingBack, AllocError>
+        requires { IsSome (change_at self.now.ledger.entries number) }
+        ensures { IfOk result (λ back. (e : AnyChange) → change_at self.now.ledger.entries number ≡ Some e
+            → back ≡ record { of = number; entered = inverse e; applied = inverse e }) }
+    {
+        let change = self.change_at(number).try_clone()?.inverse();
+        Ok(TakingBack {
+            of: number,
+            entered: change.try_clone()?,
+            applied: change,
+        })
+    }
+
+    /// Applies what takes an entry back and enters it as undone, in room for one.
+    pub(crate) fn enter_undone(&mut self, session: u32, back: TakingBack) -> u64
+        requires room { 1 ≤ self.old.spare }
+        requires same { back.entered ≡ back.applied }
+        requires fits { Fits self.old.ledger.limits (present self.old.ledger) back.applied }
+        requires sound { IsSound self.old.ledger.limits self.old.ledger.opening (with_entry self.old.ledger.entries session (Undone back.of back.applied)) }
+        ensures number { result ≡ length self.old.ledger.entries + 1 }
+        ensures after { self.new.ledger ≡ enter self.old.ledger session (Undone back.of back.applied) }
+        ensures spare { self.old.spare ≤ self.new.spare + 1 }
+    {
+        let TakingBack {
+            of,
+            entered,
+            applied,
+        } = back;
+        self.append(
+            session,
+            What::Undone {
+                of,
+                change: entered,
+            },
+            Some(applied),
+        )
+    }
+
+    /// Enters an act, which changes no record, in room for one.
+    fn enter_act(&mut self, session: u32, act: Act, key: Key, now: Instant) -> u64
+        requires { 1 ≤ self.old.spare }
+        ensures number { result ≡ length self.old.ledger.entries + 1 }
+        ensures after { self.new.ledger ≡ enter self.old.ledger session (Acted act key now) }
+        ensures map { present self.new.ledger ≡ present self.old.ledger }
+    {
+        // That the entries are sound is the type's rule, which the proof has where a field is looked at.
+        let _ = &self.journal;
+        self.append(session, What::Acted { act, key, now }, None)
     }
 
     /// Applies what the entry applies, if it applies a change, and enters it, in room for one. The change fits, and the
     /// entries stay sound.
-    fn append(&mut self, session: u32, what: What, change: Option<Change>) -> u64
+    pub(crate) fn append(&mut self, session: u32, what: What, change: Option<Change>) -> u64
         requires room { 1 ≤ self.old.spare }
         requires applies { applies what ≡ change }
         requires fits { IfSome change (λ e. Fits self.old.ledger.limits (present self.old.ledger) e) }
         requires sound { IsSound self.old.ledger.limits self.old.ledger.opening (with_entry self.old.ledger.entries session what) }
         ensures number { result ≡ length self.old.ledger.entries + 1 }
         ensures after { self.new.ledger ≡ enter self.old.ledger session what }
+        ensures spare { self.old.spare ≤ self.new.spare + 1 }
     {
         match change {
             Some(change) => {

@@ -8,5 +8,7 @@
 
 pub mod book;
 pub mod laws;
+mod redo;
 #[cfg(test)]
 mod tests;
+mod undo_all;

@@ -1,65 +1,15 @@
 //! Entries of the worked examples, and a full journal.
-ghost use Rattle.std.specs.Prelude.{◌≤◌};
 
-use crate::book::Book;
+mod literals;
+mod replay;
+mod sessions;
+
 use crate::laws;
-use std::alloc::Global;
+use literals::{book, create, fill, meter, meter_key, remove, stands};
 use std::test::Fail;
-use tsn_config::Config;
-use tsn_config::records::Records;
-use tsn_edit::Edit;
 use tsn_journal::entries::Act;
-use tsn_types::keys::Key;
-use tsn_types::limits::Limits;
-use tsn_types::numbers::{BitRate, Instant, MeterId, Octets};
-use tsn_types::records::{FlowMeter, Record};
+use tsn_types::numbers::Instant;
 use tsn_types::refusals::Refusal;
-
-fn meter_key(number: u64) -> Key
-    requires { number ≤ 65535 }
-{
-    Key::Meter(MeterId::new(number).unwrap())
-}
-
-fn meter() -> Record {
-    Record::Meter(FlowMeter {
-        cir: BitRate::new(8_000_000).unwrap(),
-        cbs: Octets::new(1500).unwrap(),
-        eir: BitRate::new(0).unwrap(),
-        ebs: Octets::new(0).unwrap(),
-        cf: false,
-        aware: false,
-        drop_yellow: false,
-        all_red: false,
-    })
-}
-
-fn create(number: u64) -> Edit
-    requires { number ≤ 65535 }
-{
-    Edit::Create(meter_key(number), meter())
-}
-
-fn remove(number: u64) -> Edit
-    requires { number ≤ 65535 }
-{
-    Edit::Remove(meter_key(number))
-}
-
-/// A book over two ports and tables of sixteen.
-fn book(alloc: Global) -> Result<Book, Refusal> {
-    let limits = Limits::new(2, 16, 16, 16, 16).unwrap();
-    Ok(Book::new(alloc, Config::open(alloc, limits, Records::new(alloc))?))
-}
-
-/// Creates meter 1 and takes that back, so many times.
-fn fill(book: &mut Book, pairs: u32) -> Result<(), Refusal> {
-    for _ in 0..pairs {
-        book.edit(1, create(1))?;
-        book.undo(1)?;
-    }
-    Ok(())
-}
 
 #[test]
 fn an_undone_removal_is_whole(rt: HostRuntime) -> Result<(), Fail> {
@@ -67,24 +17,20 @@ fn an_undone_removal_is_whole(rt: HostRuntime) -> Result<(), Fail> {
     laws::undo_at_once_is_free();
     laws::undos_by_hand();
     laws::commutation_under_references();
+    laws::undo_of_all();
+    laws::undo_of_all_names_a_conflict();
+    laws::redo_has_an_entry_to_name();
+    laws::undo_at_once_redone();
     let mut book = book(rt.alloc())?;
     assert_eq!(rt; book.edit(1, create(3)), Ok(1));
     assert_eq!(rt; book.edit(1, remove(3)), Ok(2));
     assert!(rt; book.config().get(meter_key(3)).is_none());
     assert_eq!(rt; book.undo(1), Ok((3, 2)));
-    assert!(rt; is_meter(&book, meter_key(3)));
+    assert!(rt; stands(&book, meter_key(3), &meter()));
     assert_eq!(rt; book.undo(1), Ok((4, 1)));
     assert_eq!(rt; book.undo(1), Err(Refusal::NothingToUndo));
     assert_eq!(rt; book.journal().len(), 4);
     Ok(())
-}
-
-/// Whether the meter of the examples is at the key.
-fn is_meter(book: &Book, key: Key) -> bool {
-    match book.config().get(key) {
-        Some(found) => found.is(&meter()),
-        None => false,
-    }
 }
 
 #[test]
@@ -144,7 +90,7 @@ fn a_session_of_any_number_is_kept_apart(rt: HostRuntime) -> Result<(), Fail> {
     assert_eq!(rt; first.session, 60_000);
     assert_eq!(rt; book.undo(60_001), Err(Refusal::NothingToUndo));
     assert_eq!(rt; book.undo(60_000), Ok((3, 1)));
-    assert!(rt; !is_meter(&book, meter_key(1)) && is_meter(&book, meter_key(2)));
+    assert!(rt; !stands(&book, meter_key(1), &meter()) && stands(&book, meter_key(2), &meter()));
     Ok(())
 }
 
@@ -165,7 +111,7 @@ fn an_act_is_entered_and_changes_nothing(rt: HostRuntime) -> Result<(), Fail> {
     let now = Instant::new(7)?;
     assert_eq!(rt; book.acted(1, Act::Enable, meter_key(1), now), Ok(2));
     assert_eq!(rt; book.journal().len(), 2);
-    assert!(rt; is_meter(&book, meter_key(1)));
+    assert!(rt; stands(&book, meter_key(1), &meter()));
     assert_eq!(rt; book.undo(1), Ok((3, 1)));
     Ok(())
 }

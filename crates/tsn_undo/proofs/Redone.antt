@@ -1,0 +1,185 @@
+-- The inverse of an applied change fits where no later change is in conflict, and what a redo leaves of a sound ledger.
+use Rattle.std.proofs.Common.{◌≡◌, ℕ, ◌+◌, Bool, true, false, cond, List, [], ◌∷◌, ◌++◌, refl, sym, ◌∙◌, ap, subst, Option, Some, None, arith, length}
+use Rattle.std.specs.Prelude.{◌==◌, IsSome, is_some, nat_le, option_map}
+use Rattle.std.specs.List.{AllByRecursion, cons_option, find}
+use Rattle.std.specs.Option.{option_or}
+use Rattle.tsn_types.specs.declared.limits.Limits.{Limits}
+use Rattle.tsn_types.specs.declared.refusals.Refusal.{Refusal}
+use Rattle.tsn_types.specs.declared.refusals.Refusal.TheVariants.{JournalFull, RedoConflict}
+use Rattle.tsn_types.specs.Refusals.{least}
+use Rattle.tsn_types.proofs.Ordered.{AtMost, least-before}
+use Rattle.tsn_edit.specs.Parts.{Change, inverse}
+use Rattle.tsn_edit.specs.Configuration.{Configuration}
+use Rattle.tsn_edit.specs.Changes.{Fits, conflicts}
+use Rattle.tsn_edit.specs.Runs.{run, IsGood}
+use Rattle.tsn_edit.proofs.Inverses.{end_kept, good_front, good_rest, run-append, undoable}
+use Rattle.tsn_edit.proofs.KeyFacts.{by_bool, by_option}
+use Rattle.tsn_journal.specs.declared.entries.What.{What}
+use Rattle.tsn_journal.specs.declared.entries.Entry.{Entry}
+use Rattle.tsn_journal.specs.Entries.{Applied, IsNumbered, applied, applies, changes, collect, most_entries, no_room, redone, with_entry}
+use Rattle.tsn_journal.specs.Finding.{change_at, entry, find_redo_conflict, later_than, redo_of, undone_entry}
+use Rattle.tsn_journal.proofs.Numbers.{Rises, changes-append, last_where_none, later_than_rest, rises_collect}
+use Rattle.tsn_journal.proofs.Standing.{entry_applied, redo_found, undone_change, undone_is_entry}
+use Rattle.tsn_undo.specs.Ledger.{Ledger, enter, present}
+use Rattle.tsn_undo.specs.Redo.{IsRedoable, Redoes, TellsFit, WhyNoRedo, redo_cause}
+use Rattle.tsn_undo.specs.Soundness.{IsSound, configuration}
+use Rattle.tsn_undo.proofs.Adding.{configuration_push, sound_added}
+use Rattle.tsn_undo.proofs.Free.{number_of}
+use Rattle.tsn_undo.proofs.Making.{SoundLedger}
+use Rattle.tsn_undo.proofs.Undoing.{each_change}
+
+-- ---- an applied change and what follows it
+
+pub record IsSplit (xs : List Applied) (x : Applied) : Type 0 where
+  pub front : List Applied
+  pub rest : List Applied
+  pub is : xs ≡ front ++ x ∷ rest
+
+split_after : (o : Option Applied) (xs : List Applied) (x : Applied) → IsSplit xs x → IsSplit (cons_option o xs) x
+split_after None xs x s = s
+split_after (Some y) xs x s = record { front = y ∷ s.front; rest = s.rest; is = ap (λ zs. y ∷ zs) s.is }
+
+split_here : (o : Option Applied) (xs : List Applied) (x : Applied) → o ≡ Some x → IsSplit (cons_option o xs) x
+split_here o xs x is = record { front = []; rest = xs; is = ap (λ p. cons_option p xs) is }
+
+pub split_applied : (pick : What → Option Change) (n : ℕ) (es : List Entry) (e : Entry) (x : Applied) → entry es n ≡ Some e → applied pick e ≡ Some x → IsSplit (collect pick es) x
+split_applied pick n [] e x found is = (cc)
+split_applied pick n (f ∷ es) e x found is = by_bool (f.number == n)
+    (λ here.
+    let both : Some f ≡ Some e = sym (ap (λ b. cond b (Some f) (find (λ g. g.number == n) es)) here) ∙ found in
+    let same : f ≡ e = (cc) in
+    split_here (applied pick f) (collect pick es) x (ap (applied pick) same ∙ is))
+    (λ other.
+    split_after (applied pick f) (collect pick es) x
+    (split_applied pick n es e x (sym (ap (λ b. cond b (Some f) (find (λ g. g.number == n) es)) other) ∙ found) is))
+
+-- ---- where nothing later is in conflict, the inverse fits
+
+module _ (l : Limits) (opening : Configuration) (es : List Entry) (u : Applied) (sound : IsSound l opening es) (p : IsSplit (collect applies es) u) (none : find_redo_conflict es u ≡ None) where
+  apart : AllByRecursion (λ e. conflicts e u.change ≡ false) (changes p.rest)
+  apart =
+      let rises : Rises 1 (p.front ++ u ∷ p.rest) = subst (Rises 1) p.is (rises_collect applies 1 es sound.numbered) in
+      let later : later_than u.number (collect applies es) ≡ p.rest = ap (later_than u.number) p.is ∙ later_than_rest 1 p.front u p.rest rises in
+      each_change (λ e. conflicts e u.change ≡ false) p.rest
+      (subst (AllByRecursion (λ (f : Applied). conflicts f.change u.change ≡ false)) later
+      (last_where_none (λ f. conflicts f.change u.change) (later_than u.number (collect applies es)) none))
+
+  pub inverse_fits : Fits l (configuration opening es) (inverse u.change)
+  inverse_fits =
+      let split : changes (collect applies es) ≡ changes p.front ++ u.change ∷ changes p.rest = ap changes p.is ∙ changes-append p.front (u ∷ p.rest) in
+      let good : IsGood l opening (changes p.front ++ u.change ∷ changes p.rest) = subst (IsGood l opening) split sound.replays in
+      let c = run opening (changes p.front) in
+      let is = undoable l c u.change (changes p.rest)
+      (end_kept l opening (changes p.front) sound.kept (good_front l opening (changes p.front) (u.change ∷ changes p.rest) good))
+      (good_rest l opening (changes p.front) (u.change ∷ changes p.rest) good) apart in
+      subst (λ (m : Configuration). Fits l m (inverse u.change)) (sym (run-append opening (changes p.front) (u.change ∷ changes p.rest)) ∙ ap (run opening) (sym split)) is.fits
+
+-- the change of what a session may redo is among those that were applied
+pub undone_split : (l : Limits) (opening : Configuration) (es : List Entry) (s : ℕ) (u : Applied) → IsSound l opening es → redo_of es s ≡ Some u → IsSplit (collect applies es) u
+undone_split l opening es s u sound is =
+    let at = undone_is_entry es u.number u sound.numbered (redo_found 1 s es u sound.numbered is).1 in
+    split_applied applies u.number es at.found u at.found_is (entry_applied es u.number u at)
+
+-- so where a redo doesn't fit there is an entry to name
+pub redo_names : (l : Limits) (opening : Configuration) (es : List Entry) (s : ℕ) (u : Applied) → IsSound l opening es → redo_of es s ≡ Some u → ¬ (Fits l (configuration opening es) (inverse u.change)) → IsSome (find_redo_conflict es u)
+redo_names l opening es s u sound is not_fits =
+    by_option (find_redo_conflict es u)
+    (λ none. absurd (not_fits (inverse_fits l opening es u sound (undone_split l opening es s u sound is) none)))
+    (λ x some. ap is_some some)
+
+-- ---- why a redo is refused
+
+cause_most : (es : List Entry) (o : Option Applied) (fits : Bool) → AtMost 17 (redo_cause es o fits)
+cause_most es None fits = omega arith
+cause_most es (Some u) true = tt
+cause_most es (Some u) false = conflict_most (find_redo_conflict es u)
+  where
+    conflict_most : (f : Option Applied) → AtMost 17 (option_map (λ f. RedoConflict f.number) f)
+    conflict_most None = tt
+    conflict_most (Some f) = omega arith
+
+pub redo_refusal-first : (es : List Entry) (o : Option Applied) (fits : Bool) → least (redo_cause es o fits ∷ no_room es 1 ∷ []) ≡ option_or (redo_cause es o fits) (no_room es 1)
+redo_refusal-first es o fits = least-before 17 (redo_cause es o fits) (nat_le (length es + 1) most_entries) JournalFull (cause_most es o fits) (omega arith)
+
+-- ---- what a session may redo, by its number
+
+pub record IsNewestUndone (es : List Entry) (s of : ℕ) : Type 0 where
+  pub undone : Applied
+  pub undone_is : redo_of es s ≡ Some undone
+  pub of_is : of ≡ undone.number
+  pub there : undone_entry es of ≡ Some undone
+  pub change : change_at es of ≡ Some undone.change
+
+pub newest_undone : (es : List Entry) (s of : ℕ) → IsNumbered 1 es → Some of ≡ number_of (redo_of es s) → IsNewestUndone es s of
+newest_undone es s of numbered is = by_option (redo_of es s)
+    (λ none. let never : Some of ≡ None = is ∙ ap number_of none in (cc))
+    (λ u some.
+    let both : Some of ≡ Some u.number = is ∙ ap number_of some in
+    let same : of ≡ u.number = (cc) in
+    let there : undone_entry es of ≡ Some u = ap (undone_entry es) same ∙ (redo_found 1 s es u numbered some).1 in
+    record { undone = u; undone_is = some; of_is = same; there = there; change = undone_change es of u numbered there })
+
+is_mapped : (o : Option Applied) → is_some (number_of o) ≡ is_some o
+is_mapped None = refl
+is_mapped (Some x) = refl
+
+-- where it doesn't fit, the finder names an entry
+pub names_one : (b : Ledger) (s : ℕ) (u : Applied) (r : Option ℕ) → SoundLedger b → redo_of b.entries s ≡ Some u → r ≡ number_of (find_redo_conflict b.entries u) → ¬ (Fits b.limits (present b) (inverse u.change)) → is_some r ≡ true
+names_one b s u r sound is found not_fits =
+    ap is_some found ∙ is_mapped (find_redo_conflict b.entries u) ∙ redo_names b.limits b.opening b.entries s u sound is not_fits
+
+named_conflict : (o : Option Applied) (r : Option ℕ) (k : ℕ) → r ≡ number_of o → r ≡ Some k → option_map (λ f. RedoConflict f.number) o ≡ Some (RedoConflict k)
+named_conflict None r k is some = let never : None ≡ Some k = sym is ∙ some in (cc)
+named_conflict (Some f) r k is some = let both : Some f.number ≡ Some k = sym is ∙ some in let same : f.number ≡ k = (cc) in ap (λ n. Some (RedoConflict n)) same
+
+module _ (b : Ledger) (s : ℕ) (u : Applied) (is : redo_of b.entries s ≡ Some u) where
+  pub refused_conflict : (r : Option ℕ) (k : ℕ) → r ≡ number_of (find_redo_conflict b.entries u) → r ≡ Some k → ¬ (Fits b.limits (present b) (inverse u.change)) → WhyNoRedo b s (λ cause. cause ≡ Some (RedoConflict k))
+  refused_conflict r k found some not_fits = record {
+    fits = false;
+    tells = subst (λ o. TellsFit b o false) (sym is) ((λ never. absurd (off never)), (λ f. absurd (not_fits f)));
+    holds =
+        redo_refusal-first b.entries (redo_of b.entries s) false
+        ∙ ap (λ o. option_or (redo_cause b.entries o false) (no_room b.entries 1)) is
+        ∙ ap (λ o. option_or o (no_room b.entries 1)) (named_conflict (find_redo_conflict b.entries u) r k found some);
+  }
+    where
+      off : false ≡ true → ⊥
+      off h = (cc)
+
+  pub refused_room : (why : Refusal) → no_room b.entries 1 ≡ Some why → Fits b.limits (present b) (inverse u.change) → WhyNoRedo b s (λ cause. cause ≡ Some why)
+  refused_room why full f = record {
+    fits = true;
+    tells = subst (λ o. TellsFit b o true) (sym is) ((λ _. f), (λ _. refl));
+    holds =
+        redo_refusal-first b.entries (redo_of b.entries s) true
+        ∙ ap (λ o. option_or (redo_cause b.entries o true) (no_room b.entries 1)) is
+        ∙ full;
+  }
+
+-- what may be redone is refused by nothing
+pub redo_free : (b : Ledger) (s of : ℕ) → IsRedoable b s of → WhyNoRedo b s (λ cause. None ≡ cause)
+redo_free b s of is = record {
+  fits = true;
+  tells = subst (λ o. TellsFit b o true) (sym is.undone_is) ((λ _. is.fits), (λ _. refl));
+  holds = sym (
+      redo_refusal-first b.entries (redo_of b.entries s) true
+      ∙ ap (λ o. option_or (redo_cause b.entries o true) (no_room b.entries 1)) is.undone_is
+      ∙ is.room);
+}
+
+-- ---- what a redo leaves
+
+module _ (b : Ledger) (s of : ℕ) (sound : SoundLedger b) (is : IsRedoable b s of) where
+  pub redo_change : change_at b.entries of ≡ Some is.undone.change
+  redo_change = ap (change_at b.entries) is.of_is ∙ undone_change b.entries is.undone.number is.undone sound.numbered (redo_found 1 s b.entries is.undone sound.numbered is.undone_is).1
+
+  pub redo_sound : IsSound b.limits b.opening (with_entry b.entries s (redone is.undone))
+  redo_sound = sound_added b.limits b.opening b.entries s (redone is.undone) sound (λ n. refl) (inverse is.undone.change) refl refl is.fits
+
+  pub makes_redo : (number : ℕ) (new : Ledger) → number ≡ length b.entries + 1 → new ≡ enter b s (redone is.undone) → Redoes b s number of new
+  makes_redo number new number_is after = record {
+    redoable = is;
+    number_is = number_is;
+    after = after;
+    map = ap present after ∙ configuration_push b.opening b.entries s (redone is.undone) (inverse is.undone.change) refl;
+  }

@@ -1,0 +1,93 @@
+//! Undo of all that a session has standing, in one call: every entry or none.
+ghost use Rattle.std.specs.Prelude.{◌≡◌, ◌≤◌, IfErr, IfOk, OnErr, None, length, map};
+ghost use Rattle.tsn_types.specs.declared.refusals.Refusal.TheVariants.{Memory};
+ghost use Rattle.tsn_types.specs.Refusals.{IsLeastOrMemory};
+ghost use Rattle.tsn_journal.specs.Finding.{find_own_in_conflict, own_standing};
+ghost use Rattle.tsn_undo.specs.Soundness.{IsSound};
+ghost use Rattle.tsn_undo.specs.UndoAll.{TakesAllBack, conflict_with_others, taking_back, undo_all_refusal, with_undone};
+
+use crate::book::{Book, TakingBack};
+use std::alloc::AllocError;
+use tsn_types::refusals::Refusal;
+
+impl Book {
+    /// Takes back all standing entries of the session, newest first, an entry each. The answer is how many there were
+    /// and the number of the last entry that this makes. It is refused 10 where nothing of the session stands, then 11
+    /// where an own standing entry has a later standing entry of another session in conflict, naming the newest such
+    /// own entry and the latest such later one, then 17 where the journal never holds so many entries more, then 18;
+    /// refused, it has changed nothing. All memory is taken before the first entry is made.
+    pub fn undo_all(&mut self, session: u32) -> Result<(u64, u64), Refusal>
+        ensures ok { IfOk result (λ numbers. TakesAllBack self.old.ledger session numbers.0 numbers.1 self.new.ledger) }
+        ensures refused { IfErr result (λ why. IsLeastOrMemory (undo_all_refusal self.old.ledger session) why) }
+        ensures unchanged { OnErr result (self.new.ledger ≡ self.old.ledger) }
+    {
+        if let Some(why) = self.refuse_undo_all(session) {
+            return Err(why);
+        }
+        self.try_undo_all(session)
+    }
+
+    /// Why an undo of all of the session would be refused, but for want of memory. It takes no memory.
+    pub fn refuse_undo_all(&self, session: u32) -> Option<Refusal>
+        ensures { result ≡ undo_all_refusal self.now.ledger session }
+    {
+        let count = self.journal().count_of(session);
+        if count == 0 {
+            return Some(Refusal::NothingToUndo);
+        }
+        if let Some(why) = self.conflict_with_others(session) {
+            return Some(why);
+        }
+        self.refuse_entries(count)
+    }
+
+    /// The newest own standing entry with a later one of another session in conflict, and the latest such.
+    fn conflict_with_others(&self, session: u32) -> Option<Refusal>
+        ensures { result ≡ conflict_with_others self.now.ledger.entries (find_own_in_conflict self.now.ledger.entries session) }
+    {
+        let own = self.journal().find_own_in_conflict(session)?;
+        let other = self.journal().find_conflict_of_others(own)?;
+        Some(Refusal::Conflict { own, other })
+    }
+
+    /// Takes back all standing entries of the session, which nothing but want of memory refuses.
+    fn try_undo_all(&mut self, session: u32) -> Result<(u64, u64), Refusal>
+        requires { undo_all_refusal self.old.ledger session ≡ None }
+        ensures ok { IfOk result (λ numbers. TakesAllBack self.old.ledger session numbers.0 numbers.1 self.new.ledger) }
+        ensures memory { IfErr result (λ why. why ≡ Memory) }
+        ensures unchanged { OnErr result (self.new.ledger ≡ self.old.ledger) }
+    {
+        let count = self.journal().count_of(session);
+        if let Err(why) = self.reserve(count) {
+            return Err(why);
+        }
+        let backs = self.takings_back(session)?;
+        self.enter_all_undone(session, backs);
+        Ok((count as u64, self.journal().len() as u64))
+    }
+
+    /// What takes back the session's standing entries, in the order of their numbers.
+    fn takings_back(&self, session: u32) -> Result<Vec<TakingBack>, AllocError>
+        ensures { IfOk result (λ backs. backs.items ≡ map taking_back (own_standing self.now.ledger.entries session)) }
+    {
+        let numbers = self.journal().standing_of(session)?;
+        let mut backs = Vec::with_capacity(*numbers.allocator(), numbers.len())?;
+        for number in &numbers {
+            backs.push_reserved(self.taking_back(*number)?);
+        }
+        Ok(backs)
+    }
+
+    /// Applies and enters what takes back the session's standing entries, the last one first, in room for all.
+    fn enter_all_undone(&mut self, session: u32, mut backs: Vec<TakingBack>)
+        requires backs { backs.items ≡ map taking_back (own_standing self.old.ledger.entries session) }
+        requires sound { IsSound self.old.ledger.limits self.old.ledger.opening self.old.ledger.entries }
+        requires free { undo_all_refusal self.old.ledger session ≡ None }
+        requires room { length (own_standing self.old.ledger.entries session) ≤ self.old.spare }
+        ensures { self.new.ledger ≡ record self.old.ledger { entries = with_undone self.old.ledger.entries session (own_standing self.old.ledger.entries session) } }
+    {
+        while let Some(back) = backs.pop() {
+            self.enter_undone(session, back);
+        }
+    }
+}
