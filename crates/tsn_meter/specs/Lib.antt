@@ -1,0 +1,4 @@
+pub mod Bucket
+pub mod Colours
+pub mod Examples
+pub mod Rates
