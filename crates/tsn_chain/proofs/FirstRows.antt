@@ -1,0 +1,268 @@
+-- The instance data of a configuration is there for just its keys, and each runner is one that nothing was done to.
+use Rattle.std.proofs.Common.{◌≡◌, ◌<◌, ℕ, zero, suc, length, slice_index_or, arith, Bool, true, false, cond, List, [], ◌∷◌, map, refl, sym, ◌∙◌, ap, subst, Option, Some, None}
+use Rattle.std.specs.Prelude.{◌||◌, IsSome, filter, fold, is_some}
+use Rattle.std.specs.Cmp.{nat_cmp_total}
+use Rattle.std.specs.FinMap.{FinMap, get, empty, keys, contains_key-keys, get-empty, get-insert, get-remove}
+use Rattle.std.specs.List.{AllByRecursion, list_any}
+use Rattle.std.specs.Ordering.{nat_cmp, eq_by_cmp}
+use Rattle.tsn_types.specs.declared.keys.Key.{Key}
+use Rattle.tsn_types.specs.declared.keys.Key.TheVariants.{Port, Filter, Gate, Meter}
+use Rattle.tsn_types.specs.declared.keys.Kind.{Kind}
+use Rattle.tsn_types.specs.declared.keys.Kind.TheVariants as kinds
+use Rattle.tsn_types.specs.declared.limits.Limits.{Limits}
+use Rattle.tsn_types.specs.declared.records.FlowMeter.{FlowMeter}
+use Rattle.tsn_types.specs.declared.records.GateEntry.{GateEntry}
+use Rattle.tsn_types.specs.declared.records.PortEntry.{PortEntry}
+use Rattle.tsn_types.specs.declared.records.Record.{Record}
+use Rattle.tsn_types.specs.declared.records.Record.TheVariants as records
+use Rattle.tsn_types.specs.Keys.{key_cmp, number_of}
+use Rattle.tsn_types.specs.Limits.{HoldsKey, HoldsRecord}
+use Rattle.tsn_config.specs.Ids.{ids_of, is_of}
+use Rattle.tsn_config.specs.Kinds.{meter_of}
+use Rattle.tsn_edit.specs.Configuration.{Configuration, IsWellKept}
+use Rattle.tsn_edit.proofs.KeyFacts.{by_option, same_itself}
+use Rattle.tsn_schedule.specs.Kept.{Kept, fresh}
+use Rattle.tsn_chain.specs.declared.data.FilterData.{FilterData}
+use Rattle.tsn_chain.specs.declared.data.GateData.{GateData}
+use Rattle.tsn_chain.specs.declared.data.MeterData.{MeterData}
+use Rattle.tsn_chain.specs.Begun.{AreFresh, IsNumberOf, begun_frames, begun_runners, first_change, frames_of_kind, key_by, no_frames, no_runners, runners_of_kind}
+use Rattle.tsn_chain.specs.Following.{frames_after, meter_row_after, new_filter, new_gate, new_meter, row_after, runners_after}
+use Rattle.tsn_chain.specs.Instances.{FrameData, HasKeys, Runners}
+
+-- ---- the numbers of a kind are those of its keys
+
+one_more : (kind : Kind) (n : ℕ) (k : Key) (ks : List Key) → list_any (eq_by_cmp nat_cmp n) (map (λ k. number_of k) (filter (λ k. is_of kind k) ks)) ≡ list_any (eq_by_cmp key_cmp (key_by kind n)) ks
+    → list_any (eq_by_cmp nat_cmp n) (map (λ k. number_of k) (filter (λ k. is_of kind k) (k ∷ ks))) ≡ list_any (eq_by_cmp key_cmp (key_by kind n)) (k ∷ ks)
+one_more kinds.Port n (Port m) ks h = ap (λ b. eq_by_cmp nat_cmp n m || b) h
+one_more kinds.Port n (Filter m) ks h = h
+one_more kinds.Port n (Gate m) ks h = h
+one_more kinds.Port n (Meter m) ks h = h
+one_more kinds.Filter n (Port m) ks h = h
+one_more kinds.Filter n (Filter m) ks h = ap (λ b. eq_by_cmp nat_cmp n m || b) h
+one_more kinds.Filter n (Gate m) ks h = h
+one_more kinds.Filter n (Meter m) ks h = h
+one_more kinds.Gate n (Port m) ks h = h
+one_more kinds.Gate n (Filter m) ks h = h
+one_more kinds.Gate n (Gate m) ks h = ap (λ b. eq_by_cmp nat_cmp n m || b) h
+one_more kinds.Gate n (Meter m) ks h = h
+one_more kinds.Meter n (Port m) ks h = h
+one_more kinds.Meter n (Filter m) ks h = h
+one_more kinds.Meter n (Gate m) ks h = h
+one_more kinds.Meter n (Meter m) ks h = ap (λ b. eq_by_cmp nat_cmp n m || b) h
+
+picked : (kind : Kind) (n : ℕ) (ks : List Key) → list_any (eq_by_cmp nat_cmp n) (map (λ k. number_of k) (filter (λ k. is_of kind k) ks)) ≡ list_any (eq_by_cmp key_cmp (key_by kind n)) ks
+picked kind n [] = refl
+picked kind n (k ∷ ks) = one_more kind n k ks (picked kind n ks)
+
+in_ids : (kind : Kind) (c : Configuration) (n : ℕ) → list_any (eq_by_cmp nat_cmp n) (ids_of kind c) ≡ is_some (get c (key_by kind n))
+in_ids kind c n = picked kind n (keys c) ∙ sym (contains_key-keys c (key_by kind n))
+
+or_right : (a b : Bool) → b ≡ true → (a || b) ≡ true
+or_right true b h = refl
+or_right false b h = h
+
+each_in : (P : ℕ → Type 0) (ns : List ℕ) → ((n : ℕ) → list_any (eq_by_cmp nat_cmp n) ns ≡ true → P n) → AllByRecursion P ns
+each_in P [] h = tt
+each_in P (n ∷ ns) h = (h n (ap (λ b. b || list_any (eq_by_cmp nat_cmp n) ns) (same_itself (Filter n))), each_in P ns (λ m e. h m (or_right (eq_by_cmp nat_cmp m n) _ e)))
+
+pub each_there : (kind : Kind) (c : Configuration) → AllByRecursion (λ n. IsSome (get c (key_by kind n))) (ids_of kind c)
+each_there kind c = each_in (λ n. IsSome (get c (key_by kind n))) (ids_of kind c) (λ n e. sym (in_ids kind c n) ∙ e)
+
+-- ---- rows that are created at some numbers
+
+either : {A : Type 0} (b : Bool) (x : A) (o : Option A) → is_some (cond b (Some x) o) ≡ (b || is_some o)
+either true x o = refl
+either false x o = refl
+
+swapped : (a b c : Bool) → (a || (b || c)) ≡ ((b || a) || c)
+swapped true true c = refl
+swapped true false c = refl
+swapped false true c = refl
+swapped false false c = refl
+
+-- where each step makes the row of its number be there and leaves the others, just those of the numbers come
+rows_there : {A : Type 0} (step : FinMap nat_cmp A → ℕ → FinMap nat_cmp A) (P : ℕ → Type 0) → ((t : FinMap nat_cmp A) (m n : ℕ) → P m → is_some (get (step t m) n) ≡ (eq_by_cmp nat_cmp n m || is_some (get t n)))
+    → (ns : List ℕ) (t : FinMap nat_cmp A) (n : ℕ) → AllByRecursion P ns → is_some (get (fold step t ns) n) ≡ (list_any (eq_by_cmp nat_cmp n) ns || is_some (get t n))
+rows_there step P one [] t n each = refl
+rows_there step P one (m ∷ ns) t n each =
+    rows_there step P one ns (step t m) n each.1 ∙ ap (λ b. list_any (eq_by_cmp nat_cmp n) ns || b) (one t m n each.0)
+    ∙ swapped (list_any (eq_by_cmp nat_cmp n) ns) (eq_by_cmp nat_cmp n m) (is_some (get t n))
+
+created : {A : Type 0} (new : A) (v : Option Record) (t : FinMap nat_cmp A) (m n : ℕ) → IsSome v → is_some (get (row_after new None v t m) n) ≡ (eq_by_cmp nat_cmp n m || is_some (get t n))
+created new None t m n there = (cc)
+created new (Some r) t m n there = ap is_some (get-insert nat_cmp_total t m new n) ∙ either (eq_by_cmp nat_cmp n m) new (get t n)
+
+created_meter : (o : Option FlowMeter) (t : FinMap nat_cmp MeterData) (m n : ℕ) → IsSome o → is_some (get (meter_row_after 0 None o t m) n) ≡ (eq_by_cmp nat_cmp n m || is_some (get t n))
+created_meter None t m n there = (cc)
+created_meter (Some r) t m n there = ap is_some (get-insert nat_cmp_total t m (new_meter 0 r) n) ∙ either (eq_by_cmp nat_cmp n m) (new_meter 0 r) (get t n)
+
+or_none : (b : Bool) → (b || false) ≡ b
+or_none true = refl
+or_none false = refl
+
+-- from none, just the rows of a configuration's keys
+rows_of : {A : Type 0} (kind : Kind) (c : Configuration) (step : FinMap nat_cmp A → ℕ → FinMap nat_cmp A) (P : ℕ → Type 0) → ((t : FinMap nat_cmp A) (m n : ℕ) → P m → is_some (get (step t m) n) ≡ (eq_by_cmp nat_cmp n m || is_some (get t n)))
+    → AllByRecursion P (ids_of kind c) → (n : ℕ) → is_some (get (fold step empty (ids_of kind c)) n) ≡ is_some (get c (key_by kind n))
+rows_of {A = A} kind c step P one each n =
+    rows_there step P one (ids_of kind c) empty n each
+    ∙ ap (λ (o : Option A). list_any (eq_by_cmp nat_cmp n) (ids_of kind c) || is_some o) (get-empty {X = A} nat_cmp n)
+    ∙ or_none (list_any (eq_by_cmp nat_cmp n) (ids_of kind c))
+    ∙ in_ids kind c n
+
+-- ---- one table of all: it moves with the keys of its kind, and stays with the others
+
+moves : {A B : Type 0} (g : A → B) (step : A → ℕ → A) (step' : B → ℕ → B) → ((a : A) (n : ℕ) → g (step a n) ≡ step' (g a) n) → (ns : List ℕ) (a : A) → g (fold step a ns) ≡ fold step' (g a) ns
+moves g step step' same [] a = refl
+moves g step step' same (n ∷ ns) a = moves g step step' same ns (step a n) ∙ ap (λ b. fold step' b ns) (same a n)
+
+remains : {A B : Type 0} (g : A → B) (step : A → ℕ → A) → ((a : A) (n : ℕ) → g (step a n) ≡ g a) → (ns : List ℕ) (a : A) → g (fold step a ns) ≡ g a
+remains g step same [] a = refl
+remains g step same (n ∷ ns) a = remains g step same ns (step a n) ∙ same a n
+
+module _ (c : Configuration) where
+  abbrev one : Kind → FrameData → ℕ → FrameData
+  one kind d n = frames_after 0 d (first_change c (key_by kind n))
+
+  abbrev runs : Kind → Runners → ℕ → Runners
+  runs kind d n = runners_after d (first_change c (key_by kind n))
+
+  abbrev filter_rows : FinMap nat_cmp FilterData → ℕ → FinMap nat_cmp FilterData
+  filter_rows t n = row_after new_filter None (get c (Filter n)) t n
+
+  abbrev gate_rows : FinMap nat_cmp GateData → ℕ → FinMap nat_cmp GateData
+  gate_rows t n = row_after new_gate None (get c (Gate n)) t n
+
+  abbrev meter_rows : FinMap nat_cmp MeterData → ℕ → FinMap nat_cmp MeterData
+  meter_rows t n = meter_row_after 0 None (meter_of (get c (Meter n))) t n
+
+  abbrev port_runs : FinMap nat_cmp (Kept PortEntry) → ℕ → FinMap nat_cmp (Kept PortEntry)
+  port_runs t n = row_after fresh None (get c (Port n)) t n
+
+  abbrev gate_runs : FinMap nat_cmp (Kept GateEntry) → ℕ → FinMap nat_cmp (Kept GateEntry)
+  gate_runs t n = row_after fresh None (get c (Gate n)) t n
+
+  abbrev after_ports : FrameData
+  after_ports = frames_of_kind c no_frames kinds.Port
+
+  abbrev after_filters : FrameData
+  after_filters = frames_of_kind c after_ports kinds.Filter
+
+  abbrev after_gates : FrameData
+  after_gates = frames_of_kind c after_filters kinds.Gate
+
+  filters_are : (begun_frames c).filters ≡ fold filter_rows empty (ids_of kinds.Filter c)
+  filters_are =
+      remains (λ d. d.filters) (one kinds.Meter) (λ d n. refl) (ids_of kinds.Meter c) after_gates
+      ∙ remains (λ d. d.filters) (one kinds.Gate) (λ d n. refl) (ids_of kinds.Gate c) after_filters
+      ∙ moves (λ d. d.filters) (one kinds.Filter) filter_rows (λ d n. refl) (ids_of kinds.Filter c) after_ports
+      ∙ ap (λ t. fold filter_rows t (ids_of kinds.Filter c)) (remains (λ d. d.filters) (one kinds.Port) (λ d n. refl) (ids_of kinds.Port c) no_frames)
+
+  gates_are : (begun_frames c).gates ≡ fold gate_rows empty (ids_of kinds.Gate c)
+  gates_are =
+      remains (λ d. d.gates) (one kinds.Meter) (λ d n. refl) (ids_of kinds.Meter c) after_gates
+      ∙ moves (λ d. d.gates) (one kinds.Gate) gate_rows (λ d n. refl) (ids_of kinds.Gate c) after_filters
+      ∙ ap (λ t. fold gate_rows t (ids_of kinds.Gate c))
+      (remains (λ d. d.gates) (one kinds.Filter) (λ d n. refl) (ids_of kinds.Filter c) after_ports ∙ remains (λ d. d.gates) (one kinds.Port) (λ d n. refl) (ids_of kinds.Port c) no_frames)
+
+  meters_are : (begun_frames c).meters ≡ fold meter_rows empty (ids_of kinds.Meter c)
+  meters_are =
+      moves (λ d. d.meters) (one kinds.Meter) meter_rows (λ d n. refl) (ids_of kinds.Meter c) after_gates
+      ∙ ap (λ t. fold meter_rows t (ids_of kinds.Meter c))
+      (remains (λ d. d.meters) (one kinds.Gate) (λ d n. refl) (ids_of kinds.Gate c) after_filters
+      ∙ remains (λ d. d.meters) (one kinds.Filter) (λ d n. refl) (ids_of kinds.Filter c) after_ports
+      ∙ remains (λ d. d.meters) (one kinds.Port) (λ d n. refl) (ids_of kinds.Port c) no_frames)
+
+  abbrev runs_ports : Runners
+  runs_ports = runners_of_kind c no_runners kinds.Port
+
+  abbrev runs_filters : Runners
+  runs_filters = runners_of_kind c runs_ports kinds.Filter
+
+  abbrev runs_gates : Runners
+  runs_gates = runners_of_kind c runs_filters kinds.Gate
+
+  port_runners_are : (begun_runners c).ports ≡ fold port_runs empty (ids_of kinds.Port c)
+  port_runners_are =
+      remains (λ d. d.ports) (runs kinds.Meter) (λ d n. refl) (ids_of kinds.Meter c) runs_gates
+      ∙ remains (λ d. d.ports) (runs kinds.Gate) (λ d n. refl) (ids_of kinds.Gate c) runs_filters
+      ∙ remains (λ d. d.ports) (runs kinds.Filter) (λ d n. refl) (ids_of kinds.Filter c) runs_ports
+      ∙ moves (λ d. d.ports) (runs kinds.Port) port_runs (λ d n. refl) (ids_of kinds.Port c) no_runners
+
+  gate_runners_are : (begun_runners c).gates ≡ fold gate_runs empty (ids_of kinds.Gate c)
+  gate_runners_are =
+      remains (λ d. d.gates) (runs kinds.Meter) (λ d n. refl) (ids_of kinds.Meter c) runs_gates
+      ∙ moves (λ d. d.gates) (runs kinds.Gate) gate_runs (λ d n. refl) (ids_of kinds.Gate c) runs_filters
+      ∙ ap (λ t. fold gate_runs t (ids_of kinds.Gate c))
+      (remains (λ d. d.gates) (runs kinds.Filter) (λ d n. refl) (ids_of kinds.Filter c) runs_ports ∙ remains (λ d. d.gates) (runs kinds.Port) (λ d n. refl) (ids_of kinds.Port c) no_runners)
+
+  meter_there : (l : Limits) → IsWellKept l c → (n : ℕ) → IsSome (get c (Meter n)) → IsSome (meter_of (get c (Meter n)))
+  meter_there l kept n there = by_option (get c (Meter n))
+      (λ none. let never : false ≡ true = ap is_some (sym none) ∙ there in absurd (cc))
+      (λ r some. ap (λ o. is_some (meter_of o)) some ∙ is_meter r (kept.within (Meter n) r some).1)
+    where
+      is_meter : (r : Record) → HoldsRecord l (Meter n) r → IsSome (meter_of (Some r))
+      is_meter (records.Port r) h = absurd h
+      is_meter (records.Filter r) h = absurd h
+      is_meter (records.Gate r) h = absurd h
+      is_meter (records.Meter r) h = refl
+
+  pub begun_keys : (l : Limits) → IsWellKept l c → HasKeys (begun_runners c) (begun_frames c) c
+  begun_keys l kept = record {
+    ports = λ n. ap (λ t. is_some (get t n)) port_runners_are ∙ rows_of kinds.Port c port_runs (λ m. IsSome (get c (Port m))) (λ t m q there. created fresh (get c (Port m)) t m q there) (each_there kinds.Port c) n;
+    gates = λ n. ap (λ t. is_some (get t n)) gate_runners_are ∙ rows_of kinds.Gate c gate_runs (λ m. IsSome (get c (Gate m))) (λ t m q there. created fresh (get c (Gate m)) t m q there) (each_there kinds.Gate c) n;
+    frames = record {
+      filters = λ n. ap (λ t. is_some (get t n)) filters_are ∙ rows_of kinds.Filter c filter_rows (λ m. IsSome (get c (Filter m))) (λ t m q there. created new_filter (get c (Filter m)) t m q there) (each_there kinds.Filter c) n;
+      gates = λ n. ap (λ t. is_some (get t n)) gates_are ∙ rows_of kinds.Gate c gate_rows (λ m. IsSome (get c (Gate m))) (λ t m q there. created new_gate (get c (Gate m)) t m q there) (each_there kinds.Gate c) n;
+      meters = λ n. ap (λ t. is_some (get t n)) meters_are ∙ rows_of kinds.Meter c meter_rows (λ m. IsSome (get c (Meter m))) (λ t m q there. created_meter (meter_of (get c (Meter m))) t m q (meter_there l kept m there)) (each_there kinds.Meter c) n;
+    };
+  }
+
+  -- ---- a runner that is there is fresh
+
+  fresh_row : {E : Type 0} (v : Option Record) (t : FinMap nat_cmp (Kept E)) (m : ℕ) → ((n : ℕ) (k : Kept E) → get t n ≡ Some k → k ≡ fresh) → (n : ℕ) (k : Kept E) → get (row_after fresh None v t m) n ≡ Some k → k ≡ fresh
+  fresh_row {E = E} None t m h n k is = go (eq_by_cmp nat_cmp n m) (sym (get-remove nat_cmp_total t m n) ∙ is)
+    where
+      go : (b : Bool) → cond b None (get t n) ≡ Some k → k ≡ fresh
+      go true e = (cc)
+      go false e = h n k e
+  fresh_row {E = E} (Some r) t m h n k is = go (eq_by_cmp nat_cmp n m) (sym (get-insert nat_cmp_total t m fresh n) ∙ is)
+    where
+      go : (b : Bool) → cond b (Some fresh) (get t n) ≡ Some k → k ≡ fresh
+      go true e = let same : fresh ≡ k = (cc) in sym same
+      go false e = h n k e
+
+  fresh_rows : {E : Type 0} (key : ℕ → Key) (ns : List ℕ) (t : FinMap nat_cmp (Kept E)) → ((n : ℕ) (k : Kept E) → get t n ≡ Some k → k ≡ fresh) → (n : ℕ) (k : Kept E) → get (fold (λ d m. row_after fresh None (get c (key m)) d m) t ns) n ≡ Some k → k ≡ fresh
+  fresh_rows key [] t h n k is = h n k is
+  fresh_rows key (m ∷ ns) t h n k is = fresh_rows key ns (row_after fresh None (get c (key m)) t m) (fresh_row (get c (key m)) t m h) n k is
+
+  nothing : {E : Type 0} (n : ℕ) (k : Kept E) → get (empty {R = nat_cmp}) n ≡ Some k → k ≡ fresh
+  nothing {E = E} n k is = let never : None ≡ Some k = sym (get-empty {X = Kept E} nat_cmp n) ∙ is in (cc)
+
+  pub begun_fresh : AreFresh (begun_runners c)
+  begun_fresh = record {
+    ports = λ n k is. fresh_rows (λ m. Port m) (ids_of kinds.Port c) empty nothing n k (ap (λ t. get t n) (sym port_runners_are) ∙ is);
+    gates = λ n k is. fresh_rows (λ m. Gate m) (ids_of kinds.Gate c) empty nothing n k (ap (λ t. get t n) (sym gate_runners_are) ∙ is);
+  }
+
+-- ---- the numbers of a kind are in its range
+
+each_at : (P : ℕ → Type 0) (ns : List ℕ) (i : ℕ) → i < length ns → AllByRecursion P ns → P (slice_index_or ns i 0)
+each_at P [] i h each = absurd (omega (arith, h))
+each_at P (n ∷ ns) zero h each = each.0
+each_at P (n ∷ ns) (suc i) h each = each_at P ns i (omega (arith, h)) each.1
+
+module _ (l : Limits) (c : Configuration) (kept : IsWellKept l c) where
+  held : (kind : Kind) (n : ℕ) → HoldsKey l (key_by kind n) → IsNumberOf kind n
+  held kinds.Port n h = (h.0, omega (arith, h.1, kept.limits.0.1))
+  held kinds.Filter n h = omega (arith, h, kept.limits.1.0.1)
+  held kinds.Gate n h = omega (arith, h, kept.limits.1.1.0.1)
+  held kinds.Meter n h = omega (arith, h, kept.limits.1.1.1.0.1)
+
+  there : (kind : Kind) (n : ℕ) → IsSome (get c (key_by kind n)) → IsNumberOf kind n
+  there kind n h = by_option (get c (key_by kind n))
+      (λ none. let never : false ≡ true = ap is_some (sym none) ∙ h in absurd (cc))
+      (λ r some. held kind n (kept.within (key_by kind n) r some).0)
+
+  pub number_at : (kind : Kind) (ns : List ℕ) (i : ℕ) → ns ≡ ids_of kind c → i < length ns → IsNumberOf kind (slice_index_or ns i 0)
+  number_at kind ns i is h =
+      each_at (IsNumberOf kind) ns i h (subst (AllByRecursion (IsNumberOf kind)) (sym is) (each_in (IsNumberOf kind) (ids_of kind c) (λ n e. there kind n (sym (in_ids kind c n) ∙ e))))

@@ -1,0 +1,9 @@
+pub mod Answering
+pub mod Beginning
+pub mod FirstRows
+pub mod Framing
+pub mod Keys
+pub mod Least
+pub mod Standing
+pub mod Swapped
+pub mod Timely
