@@ -1,5 +1,5 @@
 -- The map after a step, and an accepted edit with an undo of the same session after it.
-use Rattle.std.proofs.Common.{◌≡◌, ℕ, ◌+◌, ◌≤◌, Bool, true, false, [], ◌∷◌, refl, sym, ◌∙◌, ap, subst, Option, Some, None, inl, inr, length, arith}
+use Rattle.std.proofs.Common.{◌≡◌, ℕ, ◌+◌, ◌≤◌, Bool, true, false, refl, sym, ◌∙◌, ap, subst, Option, Some, None, inl, inr, length, arith}
 use Rattle.std.specs.Prelude.{◌&&◌, ◌⊎◌, nat_le, nat_lt, option_map}
 use Rattle.std.proofs.lemmas.Bool.Decides.{nat_tests}
 use Rattle.tsn_types.specs.declared.refusals.Refusal.{Refusal}
@@ -12,23 +12,23 @@ use Rattle.tsn_edit.specs.Parts.{inverse}
 use Rattle.tsn_edit.proofs.KeyFacts.{by_option}
 use Rattle.tsn_config.proofs.Edits.{edit_fits}
 use Rattle.tsn_journal.specs.declared.entries.What.TheVariants.{Made}
-use Rattle.tsn_journal.specs.Entries.{Applied, most_entries, no_room, undone as taken_back}
+use Rattle.tsn_journal.specs.Entries.{Applied, most_entries, undone as taken_back}
 use Rattle.tsn_journal.specs.Finding.{last_of}
-use Rattle.tsn_undo.specs.Ledger.{Ledger, enter, present}
+use Rattle.tsn_undo.specs.Ledger.{Ledger, present}
 use Rattle.tsn_undo.specs.Soundness.{IsSound}
-use Rattle.tsn_undo.specs.Steps.{Edits, IsFree, TakesBack, edit_refusal, undo_refusal}
+use Rattle.tsn_undo.specs.Steps.{Edits, IsFree, edit_refusal, undo_refusal}
 use Rattle.tsn_undo.proofs.Adding.{configuration_push}
 use Rattle.tsn_undo.proofs.AtOnce.{free_at_once, undone_at_once}
 use Rattle.tsn_undo.proofs.Free.{edit_admitted}
 use Rattle.tsn_undo.proofs.Making.{changed_is_result, edit_sound, kept_now, makes_edit, makes_undo}
 use Rattle.tsn_bridge.specs.declared.reply.Reply.{Reply}
 use Rattle.tsn_bridge.specs.declared.reply.Reply.TheVariants.{Entry, EntryOf, Refused}
-use Rattle.tsn_bridge.specs.Edits.{edit_rule, next, undo_rule}
+use Rattle.tsn_bridge.specs.Edits.{changed_state, edit_rule, next, undo_rule}
 use Rattle.tsn_bridge.specs.Rule.{Allows, is_given}
 use Rattle.tsn_bridge.specs.State.{State}
 use Rattle.tsn_bridge.proofs.Stepping.{accepted, given, refused, was_given}
 
-done_of : {A : Type 0} (x y : A) → Some x ≡ Some y → x ≡ y
+pub done_of : {A : Type 0} (x y : A) → Some x ≡ Some y → x ≡ y
 done_of x y h = (cc)
 
 -- ---- an edit that was answered with an entry
@@ -37,7 +37,7 @@ pub record IsEdited (before : State) (session : ℕ) (edit : Edit) (entry : ℕ)
   pub known : is_given before session ≡ true
   pub admitted : edit_refusal before.book edit ≡ None
   pub number_is : entry ≡ next before
-  pub state : after ≡ record before { book = enter before.book session (Made (change_of (present before.book) edit)) }
+  pub state : after ≡ changed_state before session (Made (change_of (present before.book) edit)) (change_of (present before.book) edit)
 
 pub edited : (before after : State) (session : ℕ) (edit : Edit) (entry : ℕ) → Allows (edit_rule before session edit) before (Entry entry) after → IsEdited before session edit entry after
 edited before after session edit entry step =
@@ -50,7 +50,7 @@ edited before after session edit entry step =
 -- ---- an undo that was answered with an entry
 
 abbrev done_by : State → ℕ → Option Applied → Option (Reply × State)
-done_by s session o = option_map (λ (x : Applied). (EntryOf (next s) x.number, record s { book = enter s.book session (taken_back x) })) o
+done_by s session o = option_map (λ (x : Applied). (EntryOf (next s) x.number, changed_state s session (taken_back x) (inverse x.change))) o
 
 no_refusal : (s : State) (session : ℕ) (o : Option Applied) (why : Refusal) (after : State) → done_by s session o ≡ Some (Refused why, after) → ⊥
 no_refusal s session None why after h = (cc)
@@ -61,7 +61,7 @@ no_refusal s session (Some x) why after h =
 pub record IsTakenBack (before : State) (session number of : ℕ) (after : State) : Type 0 where
   pub free : IsFree before.book session of
   pub number_is : number ≡ next before
-  pub state : after ≡ record before { book = enter before.book session (taken_back free.newest) }
+  pub state : after ≡ changed_state before session (taken_back free.newest) (inverse free.newest.change)
 
 pub taken : (before after : State) (session number of : ℕ) → Allows (undo_rule before session) before (EntryOf number of) after → IsTakenBack before session number of after
 taken before after session number of step =

@@ -1,3 +1,13 @@
 pub mod Accepted
 pub mod Stepping
 pub mod AtOnce
+pub mod Interleaving
+pub mod Following
+pub mod Pushed
+pub mod Tied
+pub mod Framing
+pub mod TiedActs
+pub mod Causes
+pub mod Telling
+pub mod KeySteps
+pub mod Restored

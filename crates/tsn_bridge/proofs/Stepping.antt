@@ -8,13 +8,15 @@ use Rattle.tsn_types.specs.Refusals.{IsLeastOrMemory, least, number_of}
 use Rattle.tsn_edit.specs.declared.Edit.{Edit}
 use Rattle.tsn_edit.specs.Edits.{change_of}
 use Rattle.tsn_journal.specs.declared.entries.What.TheVariants.{Made}
-use Rattle.tsn_undo.specs.Ledger.{Ledger, enter, present}
+use Rattle.tsn_undo.specs.Ledger.{Ledger, present}
 use Rattle.tsn_undo.specs.Steps.{Edits, edit_refusal}
 use Rattle.tsn_bridge.specs.declared.reply.Reply.{Reply}
 use Rattle.tsn_bridge.specs.declared.reply.Reply.TheVariants.{Entry, Refused}
 use Rattle.tsn_bridge.specs.State.{State}
 use Rattle.tsn_bridge.specs.Rule.{Allows, Rule, is_given}
-use Rattle.tsn_bridge.specs.Edits.{edit_rule}
+use Rattle.tsn_chain.specs.Instances.{Instances}
+use Rattle.tsn_bridge.specs.Edits.{changed_state, edit_rule}
+use Rattle.tsn_bridge.specs.Together.{Follows, Stays}
 
 -- what a rule allows where its least cause is o
 abbrev pub AllowsAt : Option Refusal → Rule → State → Reply → State → Type 0
@@ -27,6 +29,9 @@ module _ (rule : Rule) (s : State) (reply : Reply) (new : State) where
   pub is_refused : (o : Option Refusal) (why : Refusal) → least rule.causes ≡ o → IsTrue rule.takes_memory → IsLeastOrMemory o why → reply ≡ Refused why → new ≡ s → Allows rule s reply new
   is_refused None why none takes memory is same = subst (λ o. AllowsAt o rule s reply new) (sym none) (inr (takes, is ∙ ap Refused memory, same))
   is_refused (Some cause) why some takes least' is same = subst (λ o. AllowsAt o rule s reply new) (sym some) (is ∙ ap Refused least', same)
+
+  pub is_surely_refused : (why : Refusal) → least rule.causes ≡ Some why → reply ≡ Refused why → new ≡ s → Allows rule s reply new
+  is_surely_refused why some is same = subst (λ o. AllowsAt o rule s reply new) (sym some) (is, same)
 
   -- what is answered by no refusal has no cause and is done
   accepted_at : (o : Option Refusal) → ((why : Refusal) → reply ≡ Refused why → ⊥) → AllowsAt o rule s reply new → (o ≡ None) × (rule.done ≡ Some (reply, new))
@@ -66,23 +71,26 @@ was_given false (Some why) h = never (nat_lt (number_of why) 5) h
 
 -- ---- an edit that the book makes, or refuses, is a step
 
-module _ (b b' : Ledger) (k : ℕ) (s : State) (n : ℕ) (edit : Edit) (view : ◌≡◌ {A = State} (record { book = b; sessions = k }) s) (known : is_given s n ≡ true) where
-  abbrev after : State
-  after = record { book = b'; sessions = k }
+-- a state by its parts
+abbrev pub seen : Ledger → ℕ → Instances → State
+seen b k t = record { book = b; sessions = k; time = t.time; frames = t.frames }
 
+module _ (b b' : Ledger) (k : ℕ) (t t' : Instances) (s : State) (n : ℕ) (edit : Edit) (view : ◌≡◌ {A = State} (seen b k t) s) (known : is_given s n ≡ true) where
   book : b ≡ s.book
-  book = ap (λ (t : State). t.book) view
+  book = ap (λ (x : State). x.book) view
 
-  pub edit_step : (entry : ℕ) → Edits b n edit entry b' → Allows (edit_rule s n edit) s (Entry entry) after
-  edit_step entry is =
-      let left : b' ≡ enter s.book n (Made (change_of (present s.book) edit)) = is.after ∙ ap (λ (c : Ledger). enter c n (Made (change_of (present c) edit))) book in
+  pub edit_step : (entry : ℕ) → Edits b n edit entry b' → Follows t (change_of (present b) edit) t' → Allows (edit_rule s n edit) s (Entry entry) (seen b' k t')
+  edit_step entry is follows =
       let number : entry ≡ length s.book.entries + 1 = is.number_is ∙ ap (λ (c : Ledger). length c.entries + 1) book in
-      is_done (edit_rule s n edit) s (Entry entry) after
+      let left : seen b' k t' ≡ changed_state s n (Made (change_of (present s.book) edit)) (change_of (present s.book) edit) =
+      (λ i. record { book = is.after i; sessions = k; time = follows.time i; frames = follows.frames i })
+      ∙ ap (λ (x : State). changed_state x n (Made (change_of (present x.book) edit)) (change_of (present x.book) edit)) view in
+      is_done (edit_rule s n edit) s (Entry entry) (seen b' k t')
       (given (is_given s n) (edit_refusal s.book edit) known ∙ ap (λ (c : Ledger). edit_refusal c edit) (sym book) ∙ is.admitted)
-      (λ i. Some (Entry (sym number i), record { book = sym left i; sessions = ap (λ (t : State). t.sessions) (sym view) i }))
+      (λ i. Some (Entry (sym number i), sym left i))
 
-  pub edit_refused : (why : Refusal) → IsLeastOrMemory (edit_refusal b edit) why → b' ≡ b → Allows (edit_rule s n edit) s (Refused why) after
-  edit_refused why least' same =
-      is_refused (edit_rule s n edit) s (Refused why) after (edit_refusal b edit) why
+  pub edit_refused : (why : Refusal) → IsLeastOrMemory (edit_refusal b edit) why → b' ≡ b → Stays t t' → Allows (edit_rule s n edit) s (Refused why) (seen b' k t')
+  edit_refused why least' same stays =
+      is_refused (edit_rule s n edit) s (Refused why) (seen b' k t') (edit_refusal b edit) why
       (given (is_given s n) (edit_refusal s.book edit) known ∙ ap (λ (c : Ledger). edit_refusal c edit) (sym book)) refl least' refl
-      (ap (λ (c : Ledger). let t : State = record { book = c; sessions = k } in t) same ∙ view)
+      ((λ i. record { book = same i; sessions = k; time = stays.time i; frames = stays.frames i }) ∙ view)

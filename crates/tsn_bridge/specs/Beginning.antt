@@ -4,13 +4,16 @@ use Rattle.tsn_types.specs.declared.keys.Key.{Key}
 use Rattle.tsn_types.specs.declared.records.Record.{Record}
 use Rattle.tsn_types.specs.declared.limits.Limits.{Limits}
 use Rattle.tsn_config.specs.Opening.{opening}
+use Rattle.tsn_chain.specs.Begun.{begun_frames}
 use Rattle.tsn_bridge.specs.State.{State}
 
--- The opening of these records, with no entry and no session.
+-- The opening of these records, with no entry and no session, at the instant 0; instance data is new.
 abbrev pub begun : Limits → List (Key × Record) → State
 begun limits records = record {
   book = record { limits = limits; opening = opening limits records; entries = [] };
   sessions = 0;
+  time = 0;
+  frames = begun_frames (opening limits records);
 }
 
 -- 2 ports, tables of 16 instances, lists of up to 16 entries

@@ -1,7 +1,15 @@
+pub mod Acts
 pub mod Beginning
 pub mod Edits
+pub mod Frames
+pub mod Histories
+pub mod Kept
+pub mod Looking
 pub mod Machine
+pub mod Objects
+pub mod Quiet
 pub mod Reads
 pub mod Rule
 pub mod Sessions
 pub mod State
+pub mod Together

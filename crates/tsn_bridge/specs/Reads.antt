@@ -7,8 +7,9 @@ use Rattle.tsn_types.specs.declared.refusals.Field.TheVariants as fields
 use Rattle.tsn_types.specs.declared.refusals.Refusal.TheVariants.{Range, Missing}
 use Rattle.tsn_types.specs.Limits.{unless, holds_key}
 use Rattle.tsn_config.specs.Ids.{ids_of}
+use Rattle.tsn_journal.specs.Finding.{since}
 use Rattle.tsn_undo.specs.Ledger.{present}
-use Rattle.tsn_bridge.specs.declared.reply.Reply.TheVariants.{Ids, Shown}
+use Rattle.tsn_bridge.specs.declared.reply.Reply.TheVariants.{Entries, Ids, Shown}
 use Rattle.tsn_bridge.specs.State.{State}
 use Rattle.tsn_bridge.specs.Rule.{Rule, no_session}
 
@@ -23,3 +24,7 @@ show_rule s n k = record {
 -- a list answers the numbers of all instances of the kind
 abbrev pub list_rule : State → ℕ → Kind → Rule
 list_rule s n kind = record { causes = no_session s n ∷ []; done = Some (Ids (ids_of kind (present s.book)), s); takes_memory = true }
+
+-- a since answers the journal's entries of a greater number
+abbrev pub since_rule : State → ℕ → ℕ → Rule
+since_rule s n after = record { causes = no_session s n ∷ []; done = Some (Entries (since s.book.entries after), s); takes_memory = true }

@@ -1,7 +1,7 @@
-//! The bridge: its book and the sessions that it has given out, stepped by one command at a time.
+//! The bridge: its book, its runtime and the sessions that it has given out, stepped by one command at a time.
 //!
 //! A step is a step of the machine that `specs/Machine.antt` defines, by one rule a command. Contracts see a bridge as
-//! the machine's state.
+//! the machine's state. That the runtime stands for what the journal has is the bridge's type.
 //! A refused command changes nothing; of several causes the one of the least number is answered, and want of memory
 //! only where no other cause holds.
 ghost use Rattle.std.specs.Prelude.{◌≡◌, ◌⊎◌, ◌∷◌, [], IfOk, IfErr, OnOk, Some, None};
@@ -13,22 +13,32 @@ ghost use Rattle.tsn_config.specs.Opening.{opening_refusal};
 ghost use Rattle.tsn_journal.specs.Entries.{changes, standing};
 ghost use Rattle.tsn_undo.specs.Ledger.{present};
 ghost use Rattle.tsn_undo.specs.Soundness.{IsSound};
+ghost use Rattle.tsn_types.specs.Limits.{first_cause};
+ghost use Rattle.tsn_bridge.specs.Acts.{apply_rule, disable_rule, enable_rule, key_causes, list_causes};
 ghost use Rattle.tsn_bridge.specs.Beginning.{begun, standard_limits};
-ghost use Rattle.tsn_bridge.specs.Edits.{edit_rule, undo_rule};
+ghost use Rattle.tsn_bridge.specs.Edits.{AllowsRedo, edit_rule, undo_all_rule, undo_rule};
+ghost use Rattle.tsn_bridge.specs.Frames.{frame_rule};
+ghost use Rattle.tsn_bridge.specs.Looking.{counters_rule, states_rule};
 ghost use Rattle.tsn_bridge.specs.Machine.{Step};
-ghost use Rattle.tsn_bridge.specs.Reads.{list_rule, show_rule};
+ghost use Rattle.tsn_bridge.specs.Reads.{list_rule, show_rule, since_rule};
 ghost use Rattle.tsn_bridge.specs.Rule.{Allows, is_given};
 ghost use Rattle.tsn_bridge.specs.Sessions.{hello_rule};
 
 use crate::command::Command;
 use crate::reply::Reply;
+use crate::{acting, together};
 use std::alloc::Global;
 use std::marker::Model;
+use tsn_chain::frame::Frame;
+use tsn_chain::runtime::{Runtime, police};
 use tsn_config::Config;
 use tsn_config::records::Records;
 use tsn_edit::Edit;
+use tsn_journal::journal::Journal;
+use tsn_schedule::runner::Past;
 use tsn_types::keys::{Key, Kind};
 use tsn_types::limits::Limits;
+use tsn_types::numbers::Instant;
 use tsn_types::refusals::{Field, Refusal};
 use tsn_undo::book::Book;
 
@@ -63,17 +73,21 @@ impl Setup {
 pub struct Bridge {
     alloc: Global,
     book: Book,
+    runtime: Runtime,
     sessions: u32,
 }
 
 impl Model for Bridge {
+    ghost use Rattle.tsn_bridge.specs.Kept.{IsTied};
     ghost use Rattle.tsn_bridge.specs.State.{State, state_code};
 
     ghost Value = { State };
 
     ghost coded = { state_code };
 
-    ghost view = { λ a. record { book = a.book.ledger; sessions = a.sessions } };
+    ghost view = { λ a. record { book = a.book.ledger; sessions = a.sessions; time = a.runtime.time; frames = a.runtime.frames } };
+
+    ghost invariant = { λ a. IsTied a.book.ledger a.runtime.runners a.runtime.frames };
 }
 
 impl Bridge {
@@ -91,9 +105,11 @@ impl Bridge {
             Ok(config) => config,
             Err(why) => return Err(why),
         };
+        let runtime = Runtime::begin(alloc, &config)?;
         Ok(Bridge {
             alloc,
             book: Book::new(alloc, config),
+            runtime,
             sessions: 0,
         })
     }
@@ -108,8 +124,17 @@ impl Bridge {
             Command::Replace { key, value } => self.edit(session, Edit::Replace(key, value)),
             Command::Remove { key } => self.edit(session, Edit::Remove(key)),
             Command::Undo => self.undo(session),
+            Command::UndoAll => self.undo_all(session),
+            Command::Redo => self.redo(session),
+            Command::Enable { key, now } => self.enable(session, &key, now),
+            Command::Disable { key, now } => self.disable(session, &key, now),
+            Command::Apply { key, now } => self.apply(session, &key, now),
+            Command::Frame { frame, now } => self.frame(session, frame, now),
+            Command::States { key, at } => self.states(session, &key, at),
+            Command::Counters { key } => self.counters(session, &key),
             Command::Show { key } => self.show(session, &key),
             Command::List { kind } => self.list(session, kind),
+            Command::Since { after } => self.since(session, after),
         }
     }
 
@@ -123,6 +148,14 @@ impl Bridge {
         ensures stands { result.now.map ≡ run self.now.book.opening (changes (standing self.now.book.entries)) }
     {
         self.book.config()
+    }
+
+    /// The journal of what the sessions did.
+    pub fn journal(&self) -> &Journal
+        ensures entries { result.now.entries ≡ self.now.book.entries }
+        ensures sound { IsSound self.now.book.limits self.now.book.opening self.now.book.entries }
+    {
+        self.book.journal()
     }
 
     /// Gives out the next session number. It takes no memory.
@@ -151,7 +184,7 @@ impl Bridge {
         if !self.is_given(session) {
             return Reply::Refused(stranger(&self.book.refuse_edit(&edit)));
         }
-        match self.book.edit(session, edit) {
+        match together::edit(&mut self.book, &mut self.runtime, session, edit) {
             Ok(entry) => Reply::Entry { entry },
             Err(why) => Reply::Refused(why),
         }
@@ -163,10 +196,143 @@ impl Bridge {
         if !self.is_given(session) {
             return Reply::Refused(stranger(&self.book.refuse_undo(session)));
         }
-        match self.book.undo(session) {
+        match together::undo(&mut self.book, &mut self.runtime, session) {
             Ok((entry, of)) => Reply::EntryOf { entry, of },
             Err(why) => Reply::Refused(why),
         }
+    }
+
+    fn undo_all(&mut self, session: u32) -> Reply
+        ensures { Allows (undo_all_rule self.old session) self.old result self.new }
+    {
+        if !self.is_given(session) {
+            return Reply::Refused(stranger(&self.book.refuse_undo_all(session)));
+        }
+        match together::undo_all(&mut self.book, &mut self.runtime, session) {
+            Ok((count, entry)) => Reply::TakenBack { count, entry },
+            Err(why) => Reply::Refused(why),
+        }
+    }
+
+    fn redo(&mut self, session: u32) -> Reply
+        ensures { AllowsRedo self.old session result self.new }
+    {
+        if !self.is_given(session) {
+            return Reply::Refused(stranger(&self.book.refuse_redo(session)));
+        }
+        match together::redo(&mut self.book, &mut self.runtime, session) {
+            Ok((entry, undone)) => Reply::EntryOf { entry, of: undone },
+            Err(why) => Reply::Refused(why),
+        }
+    }
+
+    fn enable(&mut self, session: u32, key: &Key, now: Instant) -> Reply
+        ensures { Allows (enable_rule self.old session key.now now) self.old result self.new }
+    {
+        if let Some(why) = self.refuse_list(session, key) {
+            return Reply::Refused(why);
+        }
+        match acting::enable(&mut self.book, &mut self.runtime, session, key, now) {
+            Ok(done) => Reply::Acted {
+                change: done.change,
+                entry: done.entry,
+                now: done.now,
+            },
+            Err(why) => Reply::Refused(why),
+        }
+    }
+
+    fn disable(&mut self, session: u32, key: &Key, now: Instant) -> Reply
+        ensures { Allows (disable_rule self.old session key.now now) self.old result self.new }
+    {
+        if let Some(why) = self.refuse_list(session, key) {
+            return Reply::Refused(why);
+        }
+        match acting::disable(&mut self.book, &mut self.runtime, session, key, now) {
+            Ok(done) => Reply::Acted {
+                change: done.change,
+                entry: done.entry,
+                now: done.now,
+            },
+            Err(why) => Reply::Refused(why),
+        }
+    }
+
+    fn apply(&mut self, session: u32, key: &Key, now: Instant) -> Reply
+        ensures { Allows (apply_rule self.old session key.now now) self.old result self.new }
+    {
+        if let Some(why) = self.refuse_list(session, key) {
+            return Reply::Refused(why);
+        }
+        if let Some(why) = acting::refuse_apply(&self.book, &self.runtime, key) {
+            return Reply::Refused(why);
+        }
+        match acting::apply(&mut self.book, &mut self.runtime, session, key, now) {
+            Ok(done) => Reply::Acted {
+                change: done.change,
+                entry: done.entry,
+                now: done.now,
+            },
+            Err(why) => Reply::Refused(why),
+        }
+    }
+
+    /// Hands a frame to the filter chain. It takes no memory.
+    fn frame(&mut self, session: u32, frame: Frame, now: Instant) -> Reply
+        ensures { Allows (frame_rule self.old session frame now) self.old result self.new }
+    {
+        if !self.is_given(session) {
+            return Reply::Refused(Refusal::NoSession);
+        }
+        Reply::Framed(police(self.book.config(), &mut self.runtime, frame, now))
+    }
+
+    fn states(&self, session: u32, key: &Key, at: Instant) -> Reply
+        ensures { Allows (states_rule self.now session key.now at) self.now result self.now }
+    {
+        if let Some(why) = self.refuse_list(session, key) {
+            return Reply::Refused(why);
+        }
+        match self.runtime.states_at(self.book.config(), *key, at) {
+            Ok(state) => Reply::States(state),
+            Err(Past) => Reply::Refused(Refusal::Past),
+        }
+    }
+
+    fn counters(&self, session: u32, key: &Key) -> Reply
+        ensures { Allows (counters_rule self.now session key.now) self.now result self.now }
+    {
+        if let Some(why) = self.refuse_key(session, key) {
+            return Reply::Refused(why);
+        }
+        Reply::Counters(self.runtime.counters(*key))
+    }
+
+    /// Why a command on a list is refused, but for what the command adds: its key has no list, or as `refuse_key` says.
+    fn refuse_list(&self, session: u32, key: &Key) -> Option<Refusal>
+        ensures { result ≡ first_cause (list_causes self.now session key.now []) }
+    {
+        match key {
+            Key::Port(_) | Key::Gate(_) => self.refuse_key(session, key),
+            Key::Filter(_) | Key::Meter(_) => Some(Refusal::Shape),
+        }
+    }
+
+    /// Why a command on a key is refused, but for what the command adds: the key is outside the limits, the session was
+    /// not given out, the key is absent.
+    fn refuse_key(&self, session: u32, key: &Key) -> Option<Refusal>
+        ensures { result ≡ first_cause (key_causes self.now session key.now []) }
+    {
+        if !self.config().limits().holds(*key) {
+            return Some(Refusal::Range(Field::Key));
+        }
+        if !self.is_given(session) {
+            return Some(Refusal::NoSession);
+        }
+        if self.config().get(*key).is_none() {
+            return Some(Refusal::Missing(*key));
+        }
+        None
     }
 
     fn show(&self, session: u32, key: &Key) -> Reply
@@ -195,6 +361,18 @@ impl Bridge {
         }
         match self.config().ids(self.alloc, kind) {
             Ok(ids) => Reply::Ids { ids },
+            Err(_) => Reply::Refused(Refusal::Memory),
+        }
+    }
+
+    fn since(&self, session: u32, after: u32) -> Reply
+        ensures { Allows (since_rule self.now session after) self.now result self.now }
+    {
+        if !self.is_given(session) {
+            return Reply::Refused(Refusal::NoSession);
+        }
+        match self.journal().since(u64::from(after)) {
+            Ok(entries) => Reply::Entries { entries },
             Err(_) => Reply::Refused(Refusal::Memory),
         }
     }

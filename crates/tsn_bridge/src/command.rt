@@ -1,5 +1,7 @@
 //! What a session may ask of the bridge, one variant for each command.
+use tsn_chain::frame::Frame;
 use tsn_types::keys::{Key, Kind};
+use tsn_types::numbers::Instant;
 use tsn_types::records::Record;
 
 /// A command, without the session that gives it.
@@ -15,8 +17,26 @@ pub enum Command {
     Remove { key: Key },
     /// Takes back the newest standing entry of the session.
     Undo,
+    /// Takes back all standing entries of the session, or none.
+    UndoAll,
+    /// Takes back the newest undo of the session that nothing has ended.
+    Redo,
+    /// Enables the gates of a port or a stream gate at an instant.
+    Enable { key: Key, now: Instant },
+    /// Disables the gates of a port or a stream gate at an instant.
+    Disable { key: Key, now: Instant },
+    /// Applies the list of a port's or a stream gate's record at an instant.
+    Apply { key: Key, now: Instant },
+    /// Hands in a frame at an instant.
+    Frame { frame: Frame, now: Instant },
+    /// Asks for the state of a port's or a stream gate's gates at an instant.
+    States { key: Key, at: Instant },
+    /// Asks for the counters, flags and latches at the key.
+    Counters { key: Key },
     /// Asks for the record at the key.
     Show { key: Key },
     /// Asks for the numbers of all instances of the kind.
     List { kind: Kind },
+    /// Asks for the journal's entries of a greater number than `after`.
+    Since { after: u32 },
 }

@@ -1,12 +1,15 @@
 //! The bridge as a machine: commands in, replies out.
 //!
 //! `Bridge::step` answers one command of one session, whole. The machine that it follows is defined in
-//! `specs/Machine.antt` over the journal of `tsn_undo` and the configuration of `tsn_config`.
+//! `specs/Machine.antt` over the journal of `tsn_undo`, the configuration of `tsn_config` and what the filter chain of
+//! `tsn_chain` keeps.
 #![tactic(auto)]
 
+mod acting;
 pub mod bridge;
 pub mod command;
 pub mod laws;
 pub mod reply;
 #[cfg(test)]
 mod tests;
+mod together;

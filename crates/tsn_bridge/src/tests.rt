@@ -1,6 +1,8 @@
 //! Commands of the worked examples: two ports, tables of sixteen, lists of up to sixteen entries. The scripts of
 //! `tsn_serve` try more of them.
-ghost use Rattle.std.specs.Prelude.{◌≤◌, ◌^◌};
+ghost use Rattle.std.specs.Prelude.{◌≡◌, ◌≤◌, ◌^◌};
+
+mod acts;
 
 use crate::bridge::{Bridge, Setup};
 use crate::command::Command;
@@ -10,10 +12,12 @@ use std::alloc::Global;
 use std::process::Abort;
 use std::test::Fail;
 use tsn_config::records::Records;
+use tsn_journal::entries::{Entry, What};
 use tsn_types::keys::{Key, Kind};
 use tsn_types::limits::Limits;
-use tsn_types::numbers::{BitRate, FilterId, GateId, MeterId, Octets};
-use tsn_types::records::{FlowMeter, Record, StreamFilter};
+use tsn_types::lists::ControlList;
+use tsn_types::numbers::{BitRate, Cycle, Extension, FilterId, GateId, Instant, MeterId, Octets};
+use tsn_types::records::{FlowMeter, Record, Schedule, StreamFilter, StreamGate};
 use tsn_types::refusals::{Field, Refusal};
 
 fn meter_key(number: u64) -> Key
@@ -151,6 +155,204 @@ fn a_record_is_shown_and_listed(rt: HostRuntime) -> Result<(), Fail> {
     Ok(())
 }
 
+/// How many entries are told that come after the number.
+fn count_after(bridge: &mut Bridge, after: u32) -> Result<usize, Refusal> {
+    match step(bridge, 1, Command::Since { after })? {
+        Reply::Entries { entries } => Ok(entries.as_slice().len()),
+        _ => Ok(65_537),
+    }
+}
+
+/// Whether they are one entry: the undo of entry 3 by session 1, under the number 4.
+fn are_the_undo(entries: &[Entry]) -> bool {
+    match entries.first() {
+        Some(entry) => {
+            entries.len() == 1
+                && entry.number == 4
+                && entry.session == 1
+                && matches!(&entry.what, What::Undone { of, .. } if *of == 3)
+        }
+        None => false,
+    }
+}
+
+#[test]
+fn entries_of_a_greater_number_are_told(rt: HostRuntime) -> Result<(), Fail> {
+    let mut bridge = greeted(&rt, rt.alloc())?;
+    fill(&mut bridge, 2)?;
+    assert_eq!(rt; bridge.journal().len(), 4);
+    assert_eq!(rt; count_after(&mut bridge, 0)?, 4);
+    assert_eq!(rt; count_after(&mut bridge, 2)?, 2);
+    assert_eq!(rt; count_after(&mut bridge, 4)?, 0);
+    assert_eq!(rt; count_after(&mut bridge, 4_294_967_295)?, 0);
+    Ok(())
+}
+
+/// Whether the reply tells one entry: the undo of entry 3 by session 1, under the number 4.
+fn tells_the_undo(reply: Reply) -> bool {
+    match &reply {
+        Reply::Entries { entries } => are_the_undo(entries.as_slice()),
+        _ => false,
+    }
+}
+
+#[test]
+fn an_entry_is_told_as_it_was_made(rt: HostRuntime) -> Result<(), Fail> {
+    let mut bridge = greeted(&rt, rt.alloc())?;
+    fill(&mut bridge, 2)?;
+    assert!(rt; tells_the_undo(step(&mut bridge, 1, Command::Since { after: 3 })?));
+    let stranger = step(&mut bridge, 2, Command::Since { after: 0 })?;
+    assert_eq!(rt; refusal_of(stranger), Some(Refusal::NoSession));
+    Ok(())
+}
+
+/// Whether so many entries were taken back, the last one by the entry of the number.
+fn took_back(reply: Reply, wanted: u64, last: u64) -> bool {
+    match &reply {
+        Reply::TakenBack { count, entry } => *count == wanted && *entry == last,
+        _ => false,
+    }
+}
+
+/// Whether the entry was made that takes back the other.
+fn took(reply: Reply, number: u64, taken: u64) -> bool {
+    match &reply {
+        Reply::EntryOf { entry, of } => *entry == number && *of == taken,
+        _ => false,
+    }
+}
+
+#[test]
+fn all_that_a_session_did_is_taken_back(rt: HostRuntime) -> Result<(), Fail> {
+    let mut bridge = greeted(&rt, rt.alloc())?;
+    assert!(rt; is_entry(create(&mut bridge, 1, 1)?, 1));
+    assert!(rt; is_entry(create(&mut bridge, 1, 2)?, 2));
+    assert!(rt; took_back(step(&mut bridge, 1, Command::UndoAll)?, 2, 4));
+    assert!(rt; bridge.config().get(meter_key(1)).is_none());
+    assert!(rt; bridge.config().get(meter_key(2)).is_none());
+    let nothing = step(&mut bridge, 1, Command::UndoAll)?;
+    assert_eq!(rt; refusal_of(nothing), Some(Refusal::NothingToUndo));
+    Ok(())
+}
+
+#[test]
+fn what_was_taken_back_is_redone(rt: HostRuntime) -> Result<(), Fail> {
+    let mut bridge = greeted(&rt, rt.alloc())?;
+    assert!(rt; is_entry(create(&mut bridge, 1, 1)?, 1));
+    assert!(rt; took_back(step(&mut bridge, 1, Command::UndoAll)?, 1, 2));
+    assert!(rt; took(step(&mut bridge, 1, Command::Redo)?, 3, 2));
+    assert!(rt; bridge.config().get(meter_key(1)).is_some());
+    let nothing = step(&mut bridge, 1, Command::Redo)?;
+    assert_eq!(rt; refusal_of(nothing), Some(Refusal::NothingToRedo));
+    Ok(())
+}
+
+#[test]
+fn a_stranger_takes_nothing_back(rt: HostRuntime) -> Result<(), Fail> {
+    let mut bridge = greeted(&rt, rt.alloc())?;
+    let all = step(&mut bridge, 2, Command::UndoAll)?;
+    assert_eq!(rt; refusal_of(all), Some(Refusal::NoSession));
+    let one = step(&mut bridge, 2, Command::Redo)?;
+    assert_eq!(rt; refusal_of(one), Some(Refusal::NoSession));
+    Ok(())
+}
+
+fn gate_key(number: u64) -> Key
+    requires { number ≤ 65535 }
+    ensures { result ≡ Key.Gate number }
+{
+    Key::Gate(GateId::new(number).unwrap())
+}
+
+/// An open gate with an empty list.
+fn gate(alloc: Global) -> StreamGate {
+    StreamGate {
+        is_open: true,
+        ipv: None,
+        invalid_rx: false,
+        octets_exceeded: false,
+        admin: Schedule {
+            list: ControlList::new(alloc),
+            cycle: Cycle::new(1_000_000).unwrap(),
+            extension: Extension::new(0).unwrap(),
+            base: Instant::new(0).unwrap(),
+        },
+    }
+}
+
+/// A filter on gate 0.
+fn filter(meter: Option<MeterId>) -> Record {
+    Record::Filter(StreamFilter {
+        handle: None,
+        priority: None,
+        gate: GateId::new(0).unwrap(),
+        max_sdu: None,
+        meter,
+        oversize: false,
+    })
+}
+
+fn filter_key() -> Key {
+    Key::Filter(FilterId::new(0).unwrap())
+}
+
+/// A bridge with gate 0.
+fn with_gate(alloc: Global) -> Result<Bridge, Refusal> {
+    let mut records = Records::new(alloc);
+    records.push(gate_key(0), Record::Gate(gate(alloc)))?;
+    let limits = Limits::new(2, 16, 16, 16, 16).unwrap();
+    Bridge::new(alloc, Setup { limits, records })
+}
+
+/// The second session creates filter 0 on meter 5, and takes it off the meter.
+fn edit_filter(bridge: &mut Bridge) -> Result<bool, Refusal> {
+    let created = Command::Create {
+        key: filter_key(),
+        value: filter(Some(MeterId::new(5).unwrap())),
+    };
+    let replaced = Command::Replace {
+        key: filter_key(),
+        value: filter(None),
+    };
+    let first = is_entry(step(bridge, 2, created)?, 2);
+    Ok(first && is_entry(step(bridge, 2, replaced)?, 3))
+}
+
+/// The first session creates gate 1.
+fn create_gate(alloc: Global, bridge: &mut Bridge) -> Result<bool, Refusal> {
+    let created = Command::Create {
+        key: gate_key(1),
+        value: Record::Gate(gate(alloc)),
+    };
+    Ok(is_entry(step(bridge, 1, created)?, 4))
+}
+
+/// Whether the gates are 0 and 1.
+fn has_both_gates(bridge: &mut Bridge) -> Result<bool, Refusal> {
+    let reply = step(bridge, 1, Command::List { kind: Kind::Gate })?;
+    Ok(match &reply {
+        Reply::Ids { ids } => ids.as_slice() == [0u64, 1].as_slice(),
+        _ => false,
+    })
+}
+
+#[test]
+fn undo_all_or_nothing(rt: HostRuntime) -> Result<(), Fail> {
+    let mut bridge = with_gate(rt.alloc())?;
+    let _ = step(&mut bridge, 0, Command::Hello)?;
+    let _ = step(&mut bridge, 0, Command::Hello)?;
+    assert!(rt; is_entry(create(&mut bridge, 1, 5)?, 1));
+    assert!(rt; edit_filter(&mut bridge)?);
+    assert!(rt; create_gate(rt.alloc(), &mut bridge)?);
+    let all = step(&mut bridge, 1, Command::UndoAll)?;
+    assert_eq!(rt;
+        refusal_of(all),
+        Some(Refusal::Conflict { own: 1, other: 2 })
+    );
+    assert!(rt; has_both_gates(&mut bridge)?);
+    Ok(())
+}
+
 #[test]
 fn limits_come_before_the_session(rt: HostRuntime) -> Result<(), Fail> {
     let mut bridge = greeted(&rt, rt.alloc())?;
@@ -256,4 +458,6 @@ fn laws_have_nothing_to_run() {
     laws::edit_at_once_undone();
     laws::maps_after_steps();
     laws::limits();
+    laws::over_every_interleaving();
+    laws::restored_list();
 }

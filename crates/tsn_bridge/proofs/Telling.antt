@@ -1,0 +1,119 @@
+-- What the runtime tells of a key, for whatever acts its runner stands, is what the key's acts in the journal say.
+use Rattle.std.proofs.Common.{◌≡◌, ◌≤◌, ◌<◌, ℕ, true, refl, sym, ◌∙◌, ap, subst, [], ◌∷◌, Option, Some, None}
+use Rattle.std.specs.Prelude.{Err, IsSome, Ok, is_some, option_map, unwrap_or}
+use Rattle.std.specs.FinMap.{get}
+use Rattle.tsn_types.specs.declared.keys.Key.{Key}
+use Rattle.tsn_types.specs.declared.keys.Key.TheVariants.{Port, Filter, Gate, Meter}
+use Rattle.tsn_types.specs.declared.records.Record.{Record}
+use Rattle.tsn_types.specs.declared.records.Record.TheVariants as records
+use Rattle.tsn_types.specs.declared.refusals.Refusal.{Refusal}
+use Rattle.tsn_types.specs.declared.refusals.Refusal.TheVariants.{EmptyList, Memory, NotEnabled}
+use Rattle.tsn_types.specs.Limits.{HoldsRecord, first_cause, unless}
+use Rattle.tsn_types.specs.Refusals.{IsLeastOrMemory}
+use Rattle.tsn_edit.specs.Configuration.{IsWellKept}
+use Rattle.tsn_schedule.specs.declared.runner.Past.{Past as TooEarly}
+use Rattle.tsn_schedule.specs.Counters.{enabled_change}
+use Rattle.tsn_chain.specs.declared.state.Counters.{Counters}
+use Rattle.tsn_chain.specs.declared.state.Counters.TheVariants as counters
+use Rattle.tsn_chain.specs.declared.state.State.{State as Shown}
+use Rattle.tsn_chain.specs.Acts.{HasList, KeyAnswers, KeyRefuses, KeyStates}
+use Rattle.tsn_chain.specs.Counters.{KeyCounts, gate_counters}
+use Rattle.tsn_chain.specs.Instances.{HasData, HasRunner, Instances, Runners}
+use Rattle.tsn_undo.specs.Ledger.{Ledger, present}
+use Rattle.tsn_bridge.specs.Acts.{enable_change, enabled_at, has_entry, has_list, says_enabled}
+use Rattle.tsn_bridge.specs.Kept.{IsTied}
+use Rattle.tsn_bridge.specs.Looking.{counted_at, last_at, shown_at}
+use Rattle.tsn_bridge.specs.Objects.{gate_at, port_at}
+
+-- what stands at a place that is not empty
+pub held : {A : Type 0} (o : Option A) → IsSome o → (x : A) × (o ≡ Some x)
+held None e = (cc)
+held (Some x) e = (x, refl)
+
+module _ (b : Ledger) (t : Instances) (h : IsTied b t.runners t.frames) where
+  pub runner_of : (key : Key) → has_list key ≡ true → is_some (get (present b) key) ≡ true → HasRunner t.runners key
+  runner_of (Port m) e there = h.keys.ports m ∙ there
+  runner_of (Filter m) e there = (cc)
+  runner_of (Gate m) e there = h.keys.gates m ∙ there
+  runner_of (Meter m) e there = (cc)
+
+  pub data_of : (key : Key) → is_some (get (present b) key) ≡ true → HasData t.runners t.frames key
+  data_of (Port m) there = h.keys.ports m ∙ there
+  data_of (Filter m) there = h.keys.frames.filters m ∙ there
+  data_of (Gate m) there = (h.keys.gates m ∙ there, h.keys.frames.gates m ∙ there)
+  data_of (Meter m) there = h.keys.frames.meters m ∙ there
+
+  pub change_told : (key : Key) (a : ℕ) (change : Option ℕ) → HasRunner t.runners key → KeyAnswers t.runners key (λ acts. change ≡ enabled_change a acts) (λ acts. change ≡ enabled_change a acts) → change ≡ enable_change b key a
+  change_told (Port m) a change there told = let x = held (get t.runners.ports m) there in told x.0 x.1 (port_at b m).acts (h.runs.ports m x.0 x.1)
+  change_told (Filter m) a change there told = absurd there
+  change_told (Gate m) a change there told = let x = held (get t.runners.gates m) there in told x.0 x.1 (gate_at b m).acts (h.runs.gates m x.0 x.1)
+  change_told (Meter m) a change there told = absurd there
+
+  pub shown_told : (key : Key) (v : Option Record) (at : ℕ) (x : Shown) → HasRunner t.runners key → KeyStates t.runners key v at (Ok x) → (last_at b key ≤ at) × (Some x ≡ shown_at b key v at)
+  shown_told (Port m) (Some (records.Port p)) at x there told =
+      let r = held (get t.runners.ports m) there in
+      let f = told r.0 r.1 (port_at b m).acts (h.runs.ports m r.0 r.1) in
+      (f.0, ap Some f.1)
+  shown_told (Gate m) (Some (records.Gate p)) at x there told =
+      let r = held (get t.runners.gates m) there in
+      let f = told r.0 r.1 (gate_at b m).acts (h.runs.gates m r.0 r.1) in
+      (f.0, ap Some f.1)
+  shown_told key v at x there told = absurd told
+
+  pub past_told : (key : Key) (v : Option Record) (at : ℕ) (x : TooEarly) → HasRunner t.runners key → KeyStates t.runners key v at (Err x) → at < last_at b key
+  past_told (Port m) (Some (records.Port p)) at x there told = let r = held (get t.runners.ports m) there in told r.0 r.1 (port_at b m).acts (h.runs.ports m r.0 r.1)
+  past_told (Gate m) (Some (records.Gate p)) at x there told = let r = held (get t.runners.gates m) there in told r.0 r.1 (gate_at b m).acts (h.runs.gates m r.0 r.1)
+  past_told key v at x there told = absurd told
+
+  -- an apply that finds its key enabled and its list with an entry is refused for memory alone
+  pub memory_told : (key : Key) (v : Option Record) (why : Refusal) → HasRunner t.runners key → KeyRefuses t.runners key v (Err why) → first_cause (unless (enabled_at b key) NotEnabled ∷ unless (has_entry v) EmptyList ∷ []) ≡ None → why ≡ Memory
+  memory_told (Port m) (Some (records.Port p)) why there told none =
+      let r = held (get t.runners.ports m) there in
+      told r.0 r.1 (port_at b m).acts (h.runs.ports m r.0 r.1) ∙ ap (λ o. unwrap_or o Memory) none
+  memory_told (Gate m) (Some (records.Gate p)) why there told none =
+      let r = held (get t.runners.gates m) there in
+      told r.0 r.1 (gate_at b m).acts (h.runs.gates m r.0 r.1) ∙ ap (λ o. unwrap_or o Memory) none
+  memory_told key v why there told none = absurd told
+
+  pub counted_told : (key : Key) (now : ℕ) (told : Counters) → HasData t.runners t.frames key → KeyCounts t.runners t.frames now key told → Some told ≡ counted_at b t.frames now key
+  counted_told (Port m) now told there is = let r = held (get t.runners.ports m) there in ap Some (is r.0 r.1 (port_at b m).acts (h.runs.ports m r.0 r.1))
+  counted_told (Filter m) now told there is = let d = held (get t.frames.filters m) there in ap Some (is d.0 d.1) ∙ sym (ap (option_map (λ x. counters.Filter x)) d.1)
+  counted_told (Gate m) now told there is =
+      let r = held (get t.runners.gates m) there.0 in
+      let d = held (get t.frames.gates m) there.1 in
+      ap Some (is d.0 d.1 r.0 r.1 (gate_at b m).acts (h.runs.gates m r.0 r.1)) ∙ sym (ap (option_map (λ x. gate_counters now x (gate_at b m).acts)) d.1)
+  counted_told (Meter m) now told there is = let d = held (get t.frames.meters m) there in ap Some (is d.0 d.1) ∙ sym (ap (option_map (λ x. counters.Meter x.red)) d.1)
+
+  pub enabled_told : (key : Key) (now : ℕ) (told : Counters) → HasData t.runners t.frames key → KeyCounts t.runners t.frames now key told → says_enabled told ≡ enabled_at b key
+  enabled_told (Port m) now told there is = let r = held (get t.runners.ports m) there in ap says_enabled (is r.0 r.1 (port_at b m).acts (h.runs.ports m r.0 r.1))
+  enabled_told (Filter m) now told there is = let d = held (get t.frames.filters m) there in ap says_enabled (is d.0 d.1)
+  enabled_told (Gate m) now told there is =
+      let r = held (get t.runners.gates m) there.0 in
+      let d = held (get t.frames.gates m) there.1 in
+      ap says_enabled (is d.0 d.1 r.0 r.1 (gate_at b m).acts (h.runs.gates m r.0 r.1))
+  enabled_told (Meter m) now told there is = let d = held (get t.frames.meters m) there in ap says_enabled (is d.0 d.1)
+
+-- the record of a key that has a list, in a well kept configuration
+record_of : (b : Ledger) (key : Key) (r : Record) → has_list key ≡ true → HoldsRecord b.limits key r → HasList key (Some r)
+record_of b (Port m) (records.Port r) e h = tt
+record_of b (Gate m) (records.Gate r) e h = tt
+record_of b (Filter m) r e h = (cc)
+record_of b (Meter m) r e h = (cc)
+record_of b key r e h = absurd h
+
+pub list_of : (b : Ledger) (key : Key) → IsWellKept b.limits (present b) → has_list key ≡ true → is_some (get (present b) key) ≡ true → HasList key (get (present b) key)
+list_of b key kept e there =
+    let r = held (get (present b) key) there in
+    subst (λ (v : Option Record). HasList key v) (sym r.1) (record_of b key r.0 e (kept.within key r.0 r.1).1)
+
+runs_list : (r : Runners) (key : Key) → HasRunner r key → has_list key ≡ true
+runs_list r (Port m) h = refl
+runs_list r (Filter m) h = absurd h
+runs_list r (Gate m) h = refl
+runs_list r (Meter m) h = absurd h
+
+pub list_of_runner : (b : Ledger) (r : Runners) (key : Key) → IsWellKept b.limits (present b) → HasRunner r key → is_some (get (present b) key) ≡ true → HasList key (get (present b) key)
+list_of_runner b r key kept runs there = list_of b key kept (runs_list r key runs) there
+
+pub for_memory : (o : Option Refusal) (why : Refusal) → o ≡ None → why ≡ Memory → IsLeastOrMemory o why
+for_memory o why none memory = subst (λ x. IsLeastOrMemory x why) (sym none) memory

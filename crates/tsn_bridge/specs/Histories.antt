@@ -1,0 +1,54 @@
+-- Lists of commands given to the machine by sessions, and where they lead.
+use Rattle.std.specs.Prelude.{◌≡◌, ℕ, List, [], ◌∷◌, ⊤}
+use Rattle.std.specs.List.{AllByRecursion}
+use Rattle.tsn_types.specs.InRange.{RecordInRange}
+use Rattle.tsn_edit.specs.declared.Edit.{Edit}
+use Rattle.tsn_edit.specs.declared.Edit.TheVariants as edits
+use Rattle.tsn_undo.specs.Soundness.{IsSound}
+use Rattle.tsn_bridge.specs.declared.command.Command.{Command}
+use Rattle.tsn_bridge.specs.declared.command.Command.TheVariants as commands
+use Rattle.tsn_bridge.specs.declared.reply.Reply.{Reply}
+use Rattle.tsn_bridge.specs.Machine.{Step}
+use Rattle.tsn_bridge.specs.State.{State}
+
+-- a command of a session, and the reply to it
+pub record Turn : Type 0 where
+  pub session : ℕ
+  pub command : Command
+  pub reply : Reply
+
+-- the turns lead from one state to another, a step each
+abbrev pub Leads : State → List Turn → State → Type 0
+Leads s [] new = new ≡ s
+Leads s (t ∷ ts) new = (between : State) × Step s t.session t.command t.reply between × Leads between ts new
+
+-- the numbers of a command's record are in their ranges
+abbrev pub CommandInRange : Command → Type 0
+CommandInRange commands.Hello = ⊤
+CommandInRange (commands.Create k r) = RecordInRange r
+CommandInRange (commands.Replace k r) = RecordInRange r
+CommandInRange (commands.Remove k) = ⊤
+CommandInRange commands.Undo = ⊤
+CommandInRange commands.UndoAll = ⊤
+CommandInRange commands.Redo = ⊤
+CommandInRange (commands.Enable k now) = ⊤
+CommandInRange (commands.Disable k now) = ⊤
+CommandInRange (commands.Apply k now) = ⊤
+CommandInRange (commands.Frame frame now) = ⊤
+CommandInRange (commands.States k at) = ⊤
+CommandInRange (commands.Counters k) = ⊤
+CommandInRange (commands.Show k) = ⊤
+CommandInRange (commands.List kind) = ⊤
+CommandInRange (commands.Since after) = ⊤
+
+-- the command that asks for an edit
+abbrev pub command_of : Edit → Command
+command_of (edits.Create k r) = commands.Create k r
+command_of (edits.Replace k r) = commands.Replace k r
+command_of (edits.Remove k) = commands.Remove k
+
+abbrev pub AreInRange : List Turn → Type 0
+AreInRange ts = AllByRecursion (λ t. CommandInRange t.command) ts
+
+abbrev pub StateIsSound : State → Type 0
+StateIsSound s = IsSound s.book.limits s.book.opening s.book.entries

@@ -1,0 +1,41 @@
+-- The runtime beside the book: it follows each change that an entry applied.
+use Rattle.std.specs.Prelude.{◌≡◌, ℕ, ◌+◌, zero, suc, List, [], ◌∷◌, Option, Some, None}
+use Rattle.tsn_edit.specs.Parts.{Change, inverse}
+use Rattle.tsn_journal.specs.declared.entries.Entry.{Entry}
+use Rattle.tsn_journal.specs.Entries.{Applied}
+use Rattle.tsn_journal.specs.Finding.{change_at}
+use Rattle.tsn_chain.specs.Instances.{Instances}
+use Rattle.tsn_chain.specs.Following.{frames_after, runners_after}
+
+-- What was kept, after all of xs were taken back, the last of them first; a step makes of it what a change leaves.
+abbrev pub undone_by : {A : Type 0} → (A → Change → A) → A → List Applied → A
+undone_by step a [] = a
+undone_by step a (x ∷ xs) = step (undone_by step a xs) (inverse x.change)
+
+-- what was kept after a change, if there was one
+abbrev pub followed_by : {A : Type 0} → (A → Change → A) → A → Option Change → A
+followed_by step a None = a
+followed_by step a (Some e) = step a e
+
+-- what was kept, after the changes of k entries behind the first n
+abbrev pub followed : {A : Type 0} → (A → Change → A) → List Entry → A → ℕ → ℕ → A
+followed step es a n zero = a
+followed step es a n (suc k) = followed_by step (followed step es a n k) (change_at es (n + k + 1))
+
+-- the runtime followed a change
+pub record Follows (old : Instances) (e : Change) (new : Instances) : Type 0 where
+  pub runners : new.runners ≡ runners_after old.runners e
+  pub frames : new.frames ≡ frames_after old.time old.frames e
+  pub time : new.time ≡ old.time
+
+-- the runtime followed the taking back of all of xs, the last of them first
+pub record FollowsAll (old : Instances) (xs : List Applied) (new : Instances) : Type 0 where
+  pub runners : new.runners ≡ undone_by runners_after old.runners xs
+  pub frames : new.frames ≡ undone_by (frames_after old.time) old.frames xs
+  pub time : new.time ≡ old.time
+
+-- nothing but its room changed
+pub record Stays (old new : Instances) : Type 0 where
+  pub runners : new.runners ≡ old.runners
+  pub frames : new.frames ≡ old.frames
+  pub time : new.time ≡ old.time
