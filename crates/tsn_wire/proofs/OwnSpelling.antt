@@ -1,5 +1,5 @@
 -- A line in the service's own spelling is read as the draft that it spells.
-use Rattle.std.proofs.Common.{◌≡◌, ℕ, ◌≤◌, ◌++◌, List, [], ◌∷◌, map, true, Result, Option, Some, None, option_and_then, Ok, codes, decimal, IfSome, refl, sym, ap, ◌∙◌, arith, append_assoc, append-nil}
+use Rattle.std.proofs.Common.{◌≡◌, ℕ, ◌≤◌, ◌++◌, List, [], ◌∷◌, map, Result, Option, Some, None, option_and_then, inl, inr, Ok, codes, decimal, IfSome, refl, sym, ap, ◌∙◌, arith, append_assoc, append-nil}
 use Rattle.std.specs.Prelude.{IsUtf8}
 use Rattle.std.specs.List.{AllByRecursion}
 use Rattle.json.specs.Lex.{tokens}
@@ -18,29 +18,30 @@ use Rattle.serde_json.proofs.Numbers.{number_of-decimal}
 use Rattle.serde_json.proofs.Texts.{print-outline}
 use Rattle.tsn_types.specs.declared.keys.Kind.{Kind}
 use Rattle.tsn_types.specs.declared.keys.Kind.TheVariants as kinds
-use Rattle.tsn_wire.specs.Answers.{each}
-use Rattle.tsn_wire.specs.Json.{items_list}
-use Rattle.tsn_wire.specs.Keys.{kind_text, spelled_key}
-use Rattle.tsn_wire.specs.Commands.{line_shape, command_shape, create_shape, replace_shape, remove_shape, undo_shape, show_shape, list_shape}
-use Rattle.tsn_wire.specs.Records.{port_entry_shape, gate_entry_shape, list_shape as entries_shape, schedule_shape, port_shape, gate_shape, filter_shape, meter_shape, record_shape}
+use Rattle.tsn_types.specs.Numbers.{IsInstanceId}
+use Rattle.tsn_records.specs.Answers.{each}
+use Rattle.tsn_records.specs.Json.{items_list}
+use Rattle.tsn_records.specs.Keys.{kind_text, spelled_key}
+use Rattle.tsn_wire.specs.Commands.{line_shape, command_shape, keyed_record, create_shape, replace_shape, remove_shape, bare_shape, show_shape, list_shape, since_shape}
+use Rattle.tsn_records.specs.Records.{port_entry_shape, gate_entry_shape, list_shape as entries_shape, schedule_shape, port_shape, gate_shape, filter_shape, meter_shape, record_shape}
 use Rattle.tsn_wire.specs.Reading.{data_of, or_syntax, line_of_draft, reading}
-use Rattle.tsn_wire.specs.Shown.{whole_data, or_null}
-use Rattle.tsn_wire.specs.Spelled.{IsSmall, IsNoPort, port_entry_value, gate_entry_value, port_value, filter_value, gate_value, meter_value, record_value, PortEntryIsSmall, GateEntryIsSmall, PortIsSmall, GateIsSmall, FilterIsSmall, MeterIsSmall, RecordIsSmall, Spells}
-use Rattle.tsn_wire.specs.declared.drafts.PortEntryDraft.{PortEntryDraft}
-use Rattle.tsn_wire.specs.declared.drafts.GateEntryDraft.{GateEntryDraft}
-use Rattle.tsn_wire.specs.declared.drafts.PortDraft.{PortDraft}
-use Rattle.tsn_wire.specs.declared.drafts.GateDraft.{GateDraft}
-use Rattle.tsn_wire.specs.declared.drafts.FilterDraft.{FilterDraft}
-use Rattle.tsn_wire.specs.declared.drafts.MeterDraft.{MeterDraft}
-use Rattle.tsn_wire.specs.declared.drafts.RecordDraft.{RecordDraft}
-use Rattle.tsn_wire.specs.declared.drafts.RecordDraft.TheVariants as records
+use Rattle.tsn_records.specs.Shown.{whole_data, or_null}
+use Rattle.tsn_wire.specs.Spelled.{IsSmall, IsNoPort, port_entry_value, gate_entry_value, port_value, filter_value, gate_value, meter_value, record_value, PortEntryIsSmall, GateEntryIsSmall, PortIsSmall, GateIsSmall, FilterIsSmall, MeterIsSmall, RecordIsSmall, Spells, SpellsFront}
+use Rattle.tsn_records.specs.declared.drafts.PortEntryDraft.{PortEntryDraft}
+use Rattle.tsn_records.specs.declared.drafts.GateEntryDraft.{GateEntryDraft}
+use Rattle.tsn_records.specs.declared.drafts.PortDraft.{PortDraft}
+use Rattle.tsn_records.specs.declared.drafts.GateDraft.{GateDraft}
+use Rattle.tsn_records.specs.declared.drafts.FilterDraft.{FilterDraft}
+use Rattle.tsn_records.specs.declared.drafts.MeterDraft.{MeterDraft}
+use Rattle.tsn_records.specs.declared.drafts.RecordDraft.{RecordDraft}
+use Rattle.tsn_records.specs.declared.drafts.RecordDraft.TheVariants as records
 use Rattle.tsn_wire.specs.declared.drafts.CommandDraft.{CommandDraft}
-use Rattle.tsn_wire.specs.declared.drafts.CommandDraft.TheVariants.{Create, Replace, Remove, Undo, Show, List as ListKind}
+use Rattle.tsn_wire.specs.declared.drafts.CommandDraft.TheVariants.{Create, Replace, Remove, Undo, UndoAll, Redo, Enable, Disable, Apply, Frame, States, Counters, Show, List as ListKind, Since}
 use Rattle.tsn_wire.specs.declared.drafts.LineDraft.{LineDraft}
 use Rattle.tsn_wire.specs.declared.drafts.LineDraft.TheVariants.{Session}
-use Rattle.tsn_wire.specs.declared.unread.Unread.{Unread}
+use Rattle.tsn_records.specs.declared.unread.Unread.{Unread}
 use Rattle.tsn_wire.proofs.Answering.{data_of_read}
-use Rattle.tsn_wire.proofs.Escaping.{escape_key}
+use Rattle.tsn_records.proofs.Escaping.{escape_key}
 use Rattle.tsn_wire.proofs.ReadingBack.{then, decimal_back, whole_or_null_back}
 
 -- ---- what is printed is read
@@ -155,24 +156,39 @@ record_plain kinds.Meter (records.Filter r) small = absurd small
 record_plain kinds.Meter (records.Gate r) small = absurd small
 record_plain kinds.Meter (records.Meter r) small = meter_plain r small
 
+pub port_shaped : (r : PortDraft) → port_shape (port_value r) ≡ Ok r
+unfolding port_shape schedule_shape entries_shape
+port_shaped r = rw (shaped_items port_entry_shape port_entry_value port_entry_shaped r.admin.list) refl
+
+pub filter_shaped : (r : FilterDraft) → filter_shape (filter_value r) ≡ Ok r
+unfolding filter_shape
+filter_shaped r = simp whole_or_null_back
+
+pub gate_shaped : (r : GateDraft) → gate_shape (gate_value r) ≡ Ok r
+unfolding gate_shape schedule_shape entries_shape
+gate_shaped r = rw (whole_or_null_back r.ipv, shaped_items gate_entry_shape gate_entry_value gate_entry_shaped r.admin.list) refl
+
+pub meter_shaped : (r : MeterDraft) → meter_shape (meter_value r) ≡ Ok r
+unfolding meter_shape
+meter_shaped r = refl
+
 record_shaped : (k : Kind) (r : RecordDraft) → RecordIsSmall k r → record_shape k (record_value r) ≡ Ok r
-unfolding port_shape schedule_shape entries_shape filter_shape gate_shape meter_shape
-record_shaped kinds.Port (records.Port r) small = rw (shaped_items port_entry_shape port_entry_value port_entry_shaped r.admin.list) refl
+record_shaped kinds.Port (records.Port r) small = rw (port_shaped r)
 record_shaped kinds.Port (records.Filter r) small = absurd small
 record_shaped kinds.Port (records.Gate r) small = absurd small
 record_shaped kinds.Port (records.Meter r) small = absurd small
 record_shaped kinds.Filter (records.Port r) small = absurd small
-record_shaped kinds.Filter (records.Filter r) small = simp whole_or_null_back
+record_shaped kinds.Filter (records.Filter r) small = rw (filter_shaped r)
 record_shaped kinds.Filter (records.Gate r) small = absurd small
 record_shaped kinds.Filter (records.Meter r) small = absurd small
 record_shaped kinds.Gate (records.Port r) small = absurd small
 record_shaped kinds.Gate (records.Filter r) small = absurd small
-record_shaped kinds.Gate (records.Gate r) small = rw (whole_or_null_back r.ipv, shaped_items gate_entry_shape gate_entry_value gate_entry_shaped r.admin.list) refl
+record_shaped kinds.Gate (records.Gate r) small = rw (gate_shaped r)
 record_shaped kinds.Gate (records.Meter r) small = absurd small
 record_shaped kinds.Meter (records.Port r) small = absurd small
 record_shaped kinds.Meter (records.Filter r) small = absurd small
 record_shaped kinds.Meter (records.Gate r) small = absurd small
-record_shaped kinds.Meter (records.Meter r) small = refl
+record_shaped kinds.Meter (records.Meter r) small = rw (meter_shaped r)
 
 -- ---- commands
 
@@ -193,31 +209,33 @@ recorded_plain word s k n v small p = record {
   shallow = omega (arith, p.shallow);
 }
 
-create_text : (s : ℕ) (k : Kind) (n : ℕ) (v : RecordDraft) → n ≤ 65535 → codes "{\"do\":\"create\",\"key\":\"" ++ (spelled_key k n ++ (codes "\",\"record\":" ++ (compact_text (record_value v) ++ tail s))) ≡ compact_text (recorded (codes "create") s k n v)
-unfolding escape_byte
-create_text s k n v small =
-    sym (ap (λ l. codes "{\"do\":\"create\",\"key\":\"" ++ ((l ++ codes "\"") ++ (codes ",\"record\":" ++ (compact_text (record_value v) ++ tail s)))) (escape_key k n (omega arith))
-    ∙ ap (λ l. codes "{\"do\":\"create\",\"key\":\"" ++ l) (append_assoc (spelled_key k n) (codes "\"") (codes ",\"record\":" ++ (compact_text (record_value v) ++ tail s))))
+-- a key in quotes, between what stands before it and behind it
+quoted_key : (front rest : List ℕ) (k : Kind) (n : ℕ) → IsInstanceId n → front ++ (spelled_key k n ++ (codes "\"" ++ rest)) ≡ front ++ ((escape (spelled_key k n) ++ codes "\"") ++ rest)
+quoted_key front rest k n small =
+    sym (ap (λ l. front ++ ((l ++ codes "\"") ++ rest)) (escape_key k n (omega arith)) ∙ ap (λ l. front ++ l) (append_assoc (spelled_key k n) (codes "\"") rest))
 
-replace_text : (s : ℕ) (k : Kind) (n : ℕ) (v : RecordDraft) → n ≤ 65535 → codes "{\"do\":\"replace\",\"key\":\"" ++ (spelled_key k n ++ (codes "\",\"record\":" ++ (compact_text (record_value v) ++ tail s))) ≡ compact_text (recorded (codes "replace") s k n v)
+create_text : (s : ℕ) (k : Kind) (n : ℕ) (v : RecordDraft) → IsInstanceId n → codes "{\"do\":\"create\",\"key\":\"" ++ (spelled_key k n ++ (codes "\",\"record\":" ++ (compact_text (record_value v) ++ tail s))) ≡ compact_text (recorded (codes "create") s k n v)
 unfolding escape_byte
-replace_text s k n v small =
-    sym (ap (λ l. codes "{\"do\":\"replace\",\"key\":\"" ++ ((l ++ codes "\"") ++ (codes ",\"record\":" ++ (compact_text (record_value v) ++ tail s)))) (escape_key k n (omega arith))
-    ∙ ap (λ l. codes "{\"do\":\"replace\",\"key\":\"" ++ l) (append_assoc (spelled_key k n) (codes "\"") (codes ",\"record\":" ++ (compact_text (record_value v) ++ tail s))))
+create_text s k n v small = quoted_key (codes "{\"do\":\"create\",\"key\":\"") (codes ",\"record\":" ++ (compact_text (record_value v) ++ tail s)) k n small
 
-create_shaped : (s : ℕ) (k : Kind) (n : ℕ) (v : RecordDraft) → n ≤ 65535 → record_shape k (record_value v) ≡ Ok v → line_shape (recorded (codes "create") s k n v) ≡ Ok (Session s (Create (record { kind = k; number = n }) v))
+replace_text : (s : ℕ) (k : Kind) (n : ℕ) (v : RecordDraft) → IsInstanceId n → codes "{\"do\":\"replace\",\"key\":\"" ++ (spelled_key k n ++ (codes "\",\"record\":" ++ (compact_text (record_value v) ++ tail s))) ≡ compact_text (recorded (codes "replace") s k n v)
+unfolding escape_byte
+replace_text s k n v small = quoted_key (codes "{\"do\":\"replace\",\"key\":\"") (codes ",\"record\":" ++ (compact_text (record_value v) ++ tail s)) k n small
+
+keyed_record_shaped : (word : List ℕ) (s : ℕ) (k : Kind) (n : ℕ) (v : RecordDraft) → IsInstanceId n → record_shape k (record_value v) ≡ Ok v → keyed_record (recorded word s k n v) ≡ Ok (record { kind = k; number = n }, v)
+unfolding keyed_record
+keyed_record_shaped word s kinds.Port n v small e = rw (decimal_back n small, e) refl
+keyed_record_shaped word s kinds.Filter n v small e = rw (decimal_back n small, e) refl
+keyed_record_shaped word s kinds.Gate n v small e = rw (decimal_back n small, e) refl
+keyed_record_shaped word s kinds.Meter n v small e = rw (decimal_back n small, e) refl
+
+pub create_shaped : (s : ℕ) (k : Kind) (n : ℕ) (v : RecordDraft) → IsInstanceId n → record_shape k (record_value v) ≡ Ok v → line_shape (recorded (codes "create") s k n v) ≡ Ok (Session s (Create (record { kind = k; number = n }) v))
 unfolding line_shape command_shape create_shape
-create_shaped s kinds.Port n v small e = rw (decimal_back n small, e) refl
-create_shaped s kinds.Filter n v small e = rw (decimal_back n small, e) refl
-create_shaped s kinds.Gate n v small e = rw (decimal_back n small, e) refl
-create_shaped s kinds.Meter n v small e = rw (decimal_back n small, e) refl
+create_shaped s k n v small e = rw (keyed_record_shaped (codes "create") s k n v small e) refl
 
-replace_shaped : (s : ℕ) (k : Kind) (n : ℕ) (v : RecordDraft) → n ≤ 65535 → record_shape k (record_value v) ≡ Ok v → line_shape (recorded (codes "replace") s k n v) ≡ Ok (Session s (Replace (record { kind = k; number = n }) v))
+pub replace_shaped : (s : ℕ) (k : Kind) (n : ℕ) (v : RecordDraft) → IsInstanceId n → record_shape k (record_value v) ≡ Ok v → line_shape (recorded (codes "replace") s k n v) ≡ Ok (Session s (Replace (record { kind = k; number = n }) v))
 unfolding line_shape command_shape replace_shape
-replace_shaped s kinds.Port n v small e = rw (decimal_back n small, e) refl
-replace_shaped s kinds.Filter n v small e = rw (decimal_back n small, e) refl
-replace_shaped s kinds.Gate n v small e = rw (decimal_back n small, e) refl
-replace_shaped s kinds.Meter n v small e = rw (decimal_back n small, e) refl
+replace_shaped s k n v small e = rw (keyed_record_shaped (codes "replace") s k n v small e) refl
 
 abbrev keyed : List ℕ → ℕ → Kind → ℕ → Data
 keyed word s k n = object (member (codes "do") (string word) (member (codes "key") (string (spelled_key k n)) (member (codes "s") (whole_data s) no_members)))
@@ -229,26 +247,22 @@ keyed_plain word s k n small = record {
   shallow = omega arith;
 }
 
-remove_text : (s : ℕ) (k : Kind) (n : ℕ) → n ≤ 65535 → codes "{\"do\":\"remove\",\"key\":\"" ++ (spelled_key k n ++ (codes "\"" ++ tail s)) ≡ compact_text (keyed (codes "remove") s k n)
+remove_text : (s : ℕ) (k : Kind) (n : ℕ) → IsInstanceId n → codes "{\"do\":\"remove\",\"key\":\"" ++ (spelled_key k n ++ (codes "\"" ++ tail s)) ≡ compact_text (keyed (codes "remove") s k n)
 unfolding escape_byte
-remove_text s k n small =
-    sym (ap (λ l. codes "{\"do\":\"remove\",\"key\":\"" ++ ((l ++ codes "\"") ++ tail s)) (escape_key k n (omega arith))
-    ∙ ap (λ l. codes "{\"do\":\"remove\",\"key\":\"" ++ l) (append_assoc (spelled_key k n) (codes "\"") (tail s)))
+remove_text s k n small = quoted_key (codes "{\"do\":\"remove\",\"key\":\"") (tail s) k n small
 
-show_text : (s : ℕ) (k : Kind) (n : ℕ) → n ≤ 65535 → codes "{\"do\":\"show\",\"key\":\"" ++ (spelled_key k n ++ (codes "\"" ++ tail s)) ≡ compact_text (keyed (codes "show") s k n)
+show_text : (s : ℕ) (k : Kind) (n : ℕ) → IsInstanceId n → codes "{\"do\":\"show\",\"key\":\"" ++ (spelled_key k n ++ (codes "\"" ++ tail s)) ≡ compact_text (keyed (codes "show") s k n)
 unfolding escape_byte
-show_text s k n small =
-    sym (ap (λ l. codes "{\"do\":\"show\",\"key\":\"" ++ ((l ++ codes "\"") ++ tail s)) (escape_key k n (omega arith))
-    ∙ ap (λ l. codes "{\"do\":\"show\",\"key\":\"" ++ l) (append_assoc (spelled_key k n) (codes "\"") (tail s)))
+show_text s k n small = quoted_key (codes "{\"do\":\"show\",\"key\":\"") (tail s) k n small
 
-remove_shaped : (s : ℕ) (k : Kind) (n : ℕ) → n ≤ 65535 → IsNoPort k → line_shape (keyed (codes "remove") s k n) ≡ Ok (Session s (Remove (record { kind = k; number = n })))
+pub remove_shaped : (s : ℕ) (k : Kind) (n : ℕ) → IsInstanceId n → IsNoPort k → line_shape (keyed (codes "remove") s k n) ≡ Ok (Session s (Remove (record { kind = k; number = n })))
 unfolding line_shape command_shape remove_shape
 remove_shaped s kinds.Port n small other = absurd other
 remove_shaped s kinds.Filter n small other = rw (decimal_back n small) refl
 remove_shaped s kinds.Gate n small other = rw (decimal_back n small) refl
 remove_shaped s kinds.Meter n small other = rw (decimal_back n small) refl
 
-show_shaped : (s : ℕ) (k : Kind) (n : ℕ) → n ≤ 65535 → line_shape (keyed (codes "show") s k n) ≡ Ok (Session s (Show (record { kind = k; number = n })))
+pub show_shaped : (s : ℕ) (k : Kind) (n : ℕ) → IsInstanceId n → line_shape (keyed (codes "show") s k n) ≡ Ok (Session s (Show (record { kind = k; number = n })))
 unfolding line_shape command_shape show_shape
 show_shaped s kinds.Port n small = rw (decimal_back n small) refl
 show_shaped s kinds.Filter n small = rw (decimal_back n small) refl
@@ -268,30 +282,65 @@ listed_text s kinds.Filter = refl
 listed_text s kinds.Gate = refl
 listed_text s kinds.Meter = refl
 
-listed_shaped : (s : ℕ) (k : Kind) → line_shape (listed s k) ≡ Ok (Session s (ListKind k))
+pub listed_shaped : (s : ℕ) (k : Kind) → line_shape (listed s k) ≡ Ok (Session s (ListKind k))
 unfolding line_shape command_shape list_shape
 listed_shaped s kinds.Port = refl
 listed_shaped s kinds.Filter = refl
 listed_shaped s kinds.Gate = refl
 listed_shaped s kinds.Meter = refl
 
-abbrev undone : ℕ → Data
-undone s = object (member (codes "do") (string (codes "undo")) (member (codes "s") (whole_data s) no_members))
+-- a command of its word alone
+abbrev bare : List ℕ → ℕ → Data
+bare word s = object (member (codes "do") (string word) (member (codes "s") (whole_data s) no_members))
 
-undone_plain : (s : ℕ) → IsSmall s → IsPlain 127 (undone s)
-undone_plain s small = record { same = rw (number_of-decimal s small) refl; numbers = (tt, (IsNumber-decimal s small, tt)); shallow = omega arith }
+bare_plain : (word : List ℕ) (s : ℕ) → IsSmall s → IsPlain 127 (bare word s)
+bare_plain word s small = record { same = rw (number_of-decimal s small) refl; numbers = (tt, (IsNumber-decimal s small, tt)); shallow = omega arith }
 
-undone_text : (s : ℕ) → codes "{\"do\":\"undo\"" ++ tail s ≡ compact_text (undone s)
+undo_text : (s : ℕ) → codes "{\"do\":\"undo\"" ++ tail s ≡ compact_text (bare (codes "undo") s)
 unfolding escape_byte
-undone_text s = refl
+undo_text s = refl
 
-undone_shaped : (s : ℕ) → line_shape (undone s) ≡ Ok (Session s Undo)
-unfolding line_shape command_shape undo_shape
-undone_shaped s = refl
+undo_all_text : (s : ℕ) → codes "{\"do\":\"undo_all\"" ++ tail s ≡ compact_text (bare (codes "undo_all") s)
+unfolding escape_byte
+undo_all_text s = refl
+
+redo_text : (s : ℕ) → codes "{\"do\":\"redo\"" ++ tail s ≡ compact_text (bare (codes "redo") s)
+unfolding escape_byte
+redo_text s = refl
+
+pub undo_shaped : (s : ℕ) → line_shape (bare (codes "undo") s) ≡ Ok (Session s Undo)
+unfolding line_shape command_shape bare_shape
+undo_shaped s = refl
+
+pub undo_all_shaped : (s : ℕ) → line_shape (bare (codes "undo_all") s) ≡ Ok (Session s UndoAll)
+unfolding line_shape command_shape bare_shape
+undo_all_shaped s = refl
+
+pub redo_shaped : (s : ℕ) → line_shape (bare (codes "redo") s) ≡ Ok (Session s Redo)
+unfolding line_shape command_shape bare_shape
+redo_shaped s = refl
+
+abbrev asked : ℕ → ℕ → Data
+asked s after = object (member (codes "after") (whole_data after) (member (codes "do") (string (codes "since")) (member (codes "s") (whole_data s) no_members)))
+
+asked_plain : (s after : ℕ) → IsSmall s → IsSmall after → IsPlain 127 (asked s after)
+asked_plain s after small small_after = record {
+  same = rw (number_of-decimal after small_after, number_of-decimal s small) refl;
+  numbers = (IsNumber-decimal after small_after, (tt, (IsNumber-decimal s small, tt)));
+  shallow = omega arith;
+}
+
+asked_text : (s after : ℕ) → codes "{\"after\":" ++ (decimal after ++ (codes ",\"do\":\"since\"" ++ tail s)) ≡ compact_text (asked s after)
+unfolding escape_byte
+asked_text s after = refl
+
+pub asked_shaped : (s after : ℕ) → line_shape (asked s after) ≡ Ok (Session s (Since after))
+unfolding line_shape command_shape since_shape
+asked_shaped s after = refl
 
 -- ---- the line of any of them
 
-pub spelled_says : (line text rest : List ℕ) (command : CommandDraft) (s : ℕ) → line ≡ codes "{\"do\":\"" ++ text → Spells text command rest → IsSmall s → rest ≡ tail s → IsUtf8 line → reading line ≡ line_of_draft (Session s command)
+spelled_says : (line text rest : List ℕ) (command : CommandDraft) (s : ℕ) → line ≡ codes "{\"do\":\"" ++ text → Spells text command rest → IsSmall s → rest ≡ tail s → IsUtf8 line → reading line ≡ line_of_draft (Session s command)
 spelled_says line text rest (Create key v) s first (behind, word, (k, v_small, is)) small last utf8 =
     let whole_line = first ∙ ap (λ l. codes "{\"do\":\"" ++ l) (word ∙ ap (λ l. codes "create\",\"key\":\"" ++ l) (is ∙ ap (λ l. spelled_key key.kind key.number ++ (codes "\",\"record\":" ++ (compact_text (record_value v) ++ l))) last)) in
     reading_of line (recorded (codes "create") s key.kind key.number v) (Session s (Create key v))
@@ -309,7 +358,13 @@ spelled_says line text rest (Remove key) s first (k, other, is) small last utf8 
     (remove_shaped s key.kind key.number k other)
 spelled_says line text rest Undo s first is small last utf8 =
     let whole_line = first ∙ ap (λ l. codes "{\"do\":\"" ++ l) (is ∙ ap (λ l. codes "undo\"" ++ l) last) in
-    reading_of line (undone s) (Session s Undo) (printed_reads line _ (undone_plain s small) (whole_line ∙ undone_text s) utf8) (undone_shaped s)
+    reading_of line (bare (codes "undo") s) (Session s Undo) (printed_reads line _ (bare_plain (codes "undo") s small) (whole_line ∙ undo_text s) utf8) (undo_shaped s)
+spelled_says line text rest UndoAll s first is small last utf8 =
+    let whole_line = first ∙ ap (λ l. codes "{\"do\":\"" ++ l) (is ∙ ap (λ l. codes "undo_all\"" ++ l) last) in
+    reading_of line (bare (codes "undo_all") s) (Session s UndoAll) (printed_reads line _ (bare_plain (codes "undo_all") s small) (whole_line ∙ undo_all_text s) utf8) (undo_all_shaped s)
+spelled_says line text rest Redo s first is small last utf8 =
+    let whole_line = first ∙ ap (λ l. codes "{\"do\":\"" ++ l) (is ∙ ap (λ l. codes "redo\"" ++ l) last) in
+    reading_of line (bare (codes "redo") s) (Session s Redo) (printed_reads line _ (bare_plain (codes "redo") s small) (whole_line ∙ redo_text s) utf8) (redo_shaped s)
 spelled_says line text rest (Show key) s first (k, is) small last utf8 =
     let whole_line = first ∙ ap (λ l. codes "{\"do\":\"" ++ l) (is ∙ ap (λ l. codes "show\",\"key\":\"" ++ (spelled_key key.kind key.number ++ (codes "\"" ++ l))) last) in
     reading_of line (keyed (codes "show") s key.kind key.number) (Session s (Show key))
@@ -318,3 +373,17 @@ spelled_says line text rest (Show key) s first (k, is) small last utf8 =
 spelled_says line text rest (ListKind k) s first is small last utf8 =
     let whole_line = first ∙ ap (λ l. codes "{\"do\":\"" ++ l) (is ∙ ap (λ l. codes "list\",\"kind\":\"" ++ (kind_text k ++ (codes "\"" ++ l))) last) in
     reading_of line (listed s k) (Session s (ListKind k)) (printed_reads line _ (listed_plain s k small) (whole_line ∙ listed_text s k) utf8) (listed_shaped s k)
+spelled_says line text rest (Enable key now) s first never small last utf8 = absurd never
+spelled_says line text rest (Disable key now) s first never small last utf8 = absurd never
+spelled_says line text rest (Apply key now) s first never small last utf8 = absurd never
+spelled_says line text rest (Frame frame now) s first never small last utf8 = absurd never
+spelled_says line text rest (States key at) s first never small last utf8 = absurd never
+spelled_says line text rest (Counters key) s first never small last utf8 = absurd never
+spelled_says line text rest (Since after) s first never small last utf8 = absurd never
+
+pub front_says : (line rest : List ℕ) (command : CommandDraft) (s : ℕ) → SpellsFront line command rest → IsSmall s → rest ≡ tail s → IsUtf8 line → reading line ≡ line_of_draft (Session s command)
+front_says line rest command s (inl (after, asks, small_after, is)) small last utf8 =
+    let whole_line = is ∙ ap (λ l. codes "{\"after\":" ++ (decimal after ++ (codes ",\"do\":\"since\"" ++ l))) last in
+    reading_of line (asked s after) (Session s (Since after)) (printed_reads line _ (asked_plain s after small small_after) (whole_line ∙ asked_text s after) utf8) (asked_shaped s after)
+    ∙ ap (λ (c : CommandDraft). line_of_draft (Session s c)) (sym asks)
+front_says line rest command s (inr (text, first, spells)) small last utf8 = spelled_says line text rest command s first spells small last utf8

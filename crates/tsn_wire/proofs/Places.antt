@@ -10,7 +10,7 @@ use Rattle.std.proofs.lemmas.List.{drop-drop, take_more, length-take-le}
 use Rattle.std.proofs.lemmas.List.Folds.{list_all-append}
 use Rattle.std.proofs.lemmas.Str.{digit_value_digit}
 use Rattle.std.proofs.Math.Seq.{drop-append_seam}
-use Rattle.tsn_wire.proofs.Digits.{own, and_parts}
+use Rattle.tsn_records.proofs.Digits.{own, and_parts}
 
 -- what is left behind a piece
 pub behind : (text piece rest : List ℕ) (at : ℕ) → at ≤ length text → drop at text ≡ piece ++ rest → drop at text ≡ piece ++ drop (length text - length rest) text
@@ -24,18 +24,18 @@ behind text piece rest at fits is =
 all_digits_more : (ds : List ℕ) (d : ℕ) → list_all is_ascii_digit ds ≡ true → is_ascii_digit d ≡ true → list_all is_ascii_digit (ds ++ d ∷ []) ≡ true
 all_digits_more ds d all one = list_all-append is_ascii_digit ds (d ∷ []) ∙ rw (all, one) refl
 
--- one digit more
-pub digit_more : (text : List ℕ) (count value : ℕ) → count < length text → is_ascii_digit (get_or text count 0) ≡ true → list_all is_ascii_digit (take count text) ≡ true → value ≡ digits_value 10 (take count text)
-    → (list_all is_ascii_digit (take (count + 1) text) ≡ true) × (value * 10 + (get_or text count 0 - 48) ≡ digits_value 10 (take (count + 1) text))
-digit_more text count value within digit all is =
+-- one digit more is digits
+pub digits_more : (text : List ℕ) (count : ℕ) → count < length text → is_ascii_digit (get_or text count 0) ≡ true → list_all is_ascii_digit (take count text) ≡ true → list_all is_ascii_digit (take (count + 1) text) ≡ true
+digits_more text count within digit all = ap (list_all is_ascii_digit) (take_more text count 0 within) ∙ all_digits_more (take count text) (get_or text count 0) all digit
+
+-- and its value is ten times the value before, and the digit
+pub value_more : (text : List ℕ) (count value more : ℕ) → count < length text → is_ascii_digit (get_or text count 0) ≡ true → value ≡ digits_value 10 (take count text) → more ≡ value * 10 + (get_or text count 0 - 48) → more ≡ digits_value 10 (take (count + 1) text)
+value_more text count value more within digit is e =
     let d = get_or text count 0 in
-    let more = take_more text count 0 within in
     let bounds = and_parts _ _ digit in
     let own_value : digit_value d + 48 ≡ d = digit_value_digit d (leb-true _ _ bounds.0, leb-true _ _ bounds.1) in
-    let sum : value * 10 + (d - 48) ≡ digits_value 10 (take count text) * 10 + digit_value d = ap (λ v. v * 10 + (d - 48)) is ∙ ap (λ n. digits_value 10 (take count text) * 10 + n) (omega (arith, own_value)) in (
-      ap (list_all is_ascii_digit) more ∙ all_digits_more (take count text) d all digit,
-      sum ∙ sym (digits_value_push 10 (take count text) d) ∙ sym (ap (digits_value 10) more),
-    )
+    let sum : value * 10 + (d - 48) ≡ digits_value 10 (take count text) * 10 + digit_value d = ap (λ v. v * 10 + (d - 48)) is ∙ ap (λ n. digits_value 10 (take count text) * 10 + n) (omega (arith, own_value)) in
+    e ∙ sum ∙ sym (digits_value_push 10 (take count text) d) ∙ sym (ap (digits_value 10) (take_more text count 0 within))
 
 -- digits with no 0 before another spell their number
 pub spell : (text : List ℕ) (count value : ℕ) → count ≤ length text → list_all is_ascii_digit (take count text) ≡ true → value ≡ digits_value 10 (take count text) → value < 2 ^ 64 → 0 < count → (get_or text 0 0 ≡ 48 → count ≡ 1) → take count text ≡ decimal value

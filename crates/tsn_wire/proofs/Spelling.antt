@@ -5,14 +5,14 @@ use Rattle.json.specs.Print.{escape_byte}
 use Rattle.serde_json.specs.Data.{Data, boolean, member, no_members}
 use Rattle.serde_json.specs.View.{items_of}
 use Rattle.serde_json.specs.Written.{compact_text, members_text, items_text, comma_if}
-use Rattle.tsn_wire.specs.Shown.{or_null}
-use Rattle.tsn_wire.specs.Spelled.{port_entry_value, gate_entry_value, list_value, port_value, filter_value, gate_value, meter_value}
-use Rattle.tsn_wire.specs.declared.drafts.PortEntryDraft.{PortEntryDraft}
-use Rattle.tsn_wire.specs.declared.drafts.GateEntryDraft.{GateEntryDraft}
-use Rattle.tsn_wire.specs.declared.drafts.PortDraft.{PortDraft}
-use Rattle.tsn_wire.specs.declared.drafts.GateDraft.{GateDraft}
-use Rattle.tsn_wire.specs.declared.drafts.FilterDraft.{FilterDraft}
-use Rattle.tsn_wire.specs.declared.drafts.MeterDraft.{MeterDraft}
+use Rattle.tsn_records.specs.Shown.{or_null, list_array}
+use Rattle.tsn_wire.specs.Spelled.{port_entry_value, gate_entry_value, port_value, filter_value, gate_value, meter_value}
+use Rattle.tsn_records.specs.declared.drafts.PortEntryDraft.{PortEntryDraft}
+use Rattle.tsn_records.specs.declared.drafts.GateEntryDraft.{GateEntryDraft}
+use Rattle.tsn_records.specs.declared.drafts.PortDraft.{PortDraft}
+use Rattle.tsn_records.specs.declared.drafts.GateDraft.{GateDraft}
+use Rattle.tsn_records.specs.declared.drafts.FilterDraft.{FilterDraft}
+use Rattle.tsn_records.specs.declared.drafts.MeterDraft.{MeterDraft}
 
 pub filter_text : (r : FilterDraft) (t0 t1 t2 t3 t4 t5 t6 t7 : List ℕ)
     → t0 ≡ codes "{\"gate\":" ++ (decimal r.gate ++ t1)
@@ -69,21 +69,21 @@ pub gate_text : (r : GateDraft) (t0 t1 t2 t3 t4 t5 t6 t7 t8 t9 : List ℕ)
     → t2 ≡ codes ",\"extension\":" ++ (decimal r.admin.extension ++ t3)
     → t3 ≡ codes ",\"invalid_rx\":" ++ (compact_text (boolean r.invalid_rx) ++ t4)
     → t4 ≡ codes ",\"ipv\":" ++ (compact_text (or_null r.ipv) ++ t5)
-    → t5 ≡ codes ",\"list\":" ++ (compact_text (list_value gate_entry_value r.admin.list) ++ t6)
+    → t5 ≡ codes ",\"list\":" ++ (compact_text (list_array gate_entry_value r.admin.list) ++ t6)
     → t6 ≡ codes ",\"octets_exceeded\":" ++ (compact_text (boolean r.octets_exceeded) ++ t7)
     → t7 ≡ codes ",\"open\":" ++ (compact_text (boolean r.is_open) ++ t8)
     → t8 ≡ codes "}" ++ t9
     → t0 ≡ compact_text (gate_value r) ++ t9
 unfolding escape_byte
 gate_text r t0 t1 t2 t3 t4 t5 t6 t7 t8 t9 e0 e1 e2 e3 e4 e5 e6 e7 e8 =
-    gate_front _ _ _ _ _ (compact_text (list_value gate_entry_value r.admin.list)) (gate_rest r) t0 t1 t2 t3 t4 t5 t6 t9 e0 e1 e2 e3 e4 e5 (gate_tail r t6 t7 t8 t9 e6 e7 e8)
+    gate_front _ _ _ _ _ (compact_text (list_array gate_entry_value r.admin.list)) (gate_rest r) t0 t1 t2 t3 t4 t5 t6 t9 e0 e1 e2 e3 e4 e5 (gate_tail r t6 t7 t8 t9 e6 e7 e8)
 
 pub port_text : (r : PortDraft) (t0 t1 t2 t3 t4 t5 t6 : List ℕ)
     → t0 ≡ codes "{\"base\":" ++ (decimal r.admin.base ++ t1)
     → t1 ≡ codes ",\"cycle\":" ++ (decimal r.admin.cycle ++ t2)
     → t2 ≡ codes ",\"extension\":" ++ (decimal r.admin.extension ++ t3)
     → t3 ≡ codes ",\"gates\":" ++ (decimal r.gates ++ t4)
-    → t4 ≡ codes ",\"list\":" ++ (compact_text (list_value port_entry_value r.admin.list) ++ t5)
+    → t4 ≡ codes ",\"list\":" ++ (compact_text (list_array port_entry_value r.admin.list) ++ t5)
     → t5 ≡ codes "}" ++ t6
     → t0 ≡ compact_text (port_value r) ++ t6
 unfolding escape_byte
@@ -129,7 +129,7 @@ closed f (x ∷ es) e later rest =
     ∙ sym (append_assoc (compact_text (f x)) (items_text true (items_of (map f (es ++ e ∷ [])))) rest))
     ∙ sym (append_assoc (comma_if later) (compact_text (f x) ++ items_text true (items_of (map f (es ++ e ∷ [])))) rest)
 
-pub entries_close : {E : Type 0} (f : E → Data) (es : List E) (e : E) (text inside now later rest : List ℕ) → text ≡ codes "[" ++ inside → inside ≡ so_far f es ++ now → now ≡ compact_text (f e) ++ later → later ≡ codes "]" ++ rest → text ≡ compact_text (list_value f (es ++ e ∷ [])) ++ rest
+pub entries_close : {E : Type 0} (f : E → Data) (es : List E) (e : E) (text inside now later rest : List ℕ) → text ≡ codes "[" ++ inside → inside ≡ so_far f es ++ now → now ≡ compact_text (f e) ++ later → later ≡ codes "]" ++ rest → text ≡ compact_text (list_array f (es ++ e ∷ [])) ++ rest
 entries_close f es e text inside now later rest e0 e1 e2 e3 = rw (e0, e1, e2, e3) (ap (λ l. 91 ∷ l) (closed f es e false rest))
 
 pub all_more : {E : Type 0} (P : E → Type 0) (es : List E) (e : E) → AllByRecursion P es → P e → AllByRecursion P (es ++ e ∷ [])

@@ -4,17 +4,19 @@ use Rattle.std.specs.Str.{bytes_eq}
 use Rattle.serde_json.specs.Data.{Data}
 use Rattle.tsn_types.specs.declared.keys.Kind.{Kind}
 use Rattle.tsn_types.specs.declared.keys.Kind.TheVariants as kinds
-use Rattle.tsn_wire.specs.Answers.{◌>>=◌, or_shape}
-use Rattle.tsn_wire.specs.Json.{has_members, number_at, text_at, value_at}
-use Rattle.tsn_wire.specs.Keys.{key_of, kind_of}
-use Rattle.tsn_wire.specs.Records.{record_shape}
-use Rattle.tsn_wire.specs.declared.drafts.KeyDraft.{KeyDraft}
+use Rattle.tsn_records.specs.Answers.{◌>>=◌, or_shape}
+use Rattle.tsn_records.specs.Json.{flag_at, has_members, number_at, text_at, value_at}
+use Rattle.tsn_records.specs.Keys.{key_of, kind_of}
+use Rattle.tsn_records.specs.Records.{record_shape}
+use Rattle.tsn_records.specs.declared.drafts.KeyDraft.{KeyDraft}
+use Rattle.tsn_records.specs.declared.drafts.RecordDraft.{RecordDraft}
 use Rattle.tsn_wire.specs.declared.drafts.CommandDraft.{CommandDraft}
-use Rattle.tsn_wire.specs.declared.drafts.CommandDraft.TheVariants.{Create, Replace, Remove, Undo, Show, List as ListKind}
+use Rattle.tsn_wire.specs.declared.drafts.CommandDraft.TheVariants.{Create, Replace, Remove, Undo, UndoAll, Redo, Enable, Disable, Apply, Frame, States, Counters, Show, List as ListKind, Since}
+use Rattle.tsn_wire.specs.declared.drafts.FrameDraft.{FrameDraft}
 use Rattle.tsn_wire.specs.declared.drafts.LineDraft.{LineDraft}
 use Rattle.tsn_wire.specs.declared.drafts.LineDraft.TheVariants.{Hello, Session}
-use Rattle.tsn_wire.specs.declared.unread.Unread.{Unread}
-use Rattle.tsn_wire.specs.declared.unread.Unread.TheVariants.{Shape}
+use Rattle.tsn_records.specs.declared.unread.Unread.{Unread}
+use Rattle.tsn_records.specs.declared.unread.Unread.TheVariants.{Shape}
 
 abbrev pub key_at : Data → Result KeyDraft Unread
 key_at d = text_at (codes "key") d >>= λ text. or_shape (key_of text)
@@ -26,22 +28,36 @@ removable key kinds.Filter = Ok key
 removable key kinds.Gate = Ok key
 removable key kinds.Meter = Ok key
 
+-- ports and stream gates have a gate control list
+abbrev pub listed : KeyDraft → Kind → Result KeyDraft Unread
+listed key kinds.Port = Ok key
+listed key kinds.Filter = Err Shape
+listed key kinds.Gate = Ok key
+listed key kinds.Meter = Err Shape
+
+-- `key`, of a kind that has a list, and an instant under a name
+unfoldable pub listed_at : List ℕ → Data → Result (KeyDraft × ℕ) Unread
+listed_at name d = do
+  _ ← has_members 4 d
+  named ← key_at d
+  key ← listed named named.kind
+  instant ← number_at name d
+  Ok (key, instant)
+
 -- `key` and `record`, a record of the key's kind
-unfoldable pub create_shape : Data → Result CommandDraft Unread
-create_shape d = do
+unfoldable pub keyed_record : Data → Result (KeyDraft × RecordDraft) Unread
+keyed_record d = do
   _ ← has_members 4 d
   key ← key_at d
   value ← value_at (codes "record") d
   r ← record_shape key.kind value
-  Ok (Create key r)
+  Ok (key, r)
+
+unfoldable pub create_shape : Data → Result CommandDraft Unread
+create_shape d = keyed_record d >>= λ p. Ok (Create p.0 p.1)
 
 unfoldable pub replace_shape : Data → Result CommandDraft Unread
-replace_shape d = do
-  _ ← has_members 4 d
-  key ← key_at d
-  value ← value_at (codes "record") d
-  r ← record_shape key.kind value
-  Ok (Replace key r)
+replace_shape d = keyed_record d >>= λ p. Ok (Replace p.0 p.1)
 
 unfoldable pub remove_shape : Data → Result CommandDraft Unread
 remove_shape d = do
@@ -50,10 +66,46 @@ remove_shape d = do
   removed ← removable key key.kind
   Ok (Remove removed)
 
-unfoldable pub undo_shape : Data → Result CommandDraft Unread
-undo_shape d = do
+-- nothing beside `do` and `s`
+unfoldable pub bare_shape : CommandDraft → Data → Result CommandDraft Unread
+bare_shape command d = do
   _ ← has_members 2 d
-  Ok Undo
+  Ok command
+
+unfoldable pub enable_shape : Data → Result CommandDraft Unread
+enable_shape d = listed_at (codes "now") d >>= λ p. Ok (Enable p.0 p.1)
+
+unfoldable pub disable_shape : Data → Result CommandDraft Unread
+disable_shape d = listed_at (codes "now") d >>= λ p. Ok (Disable p.0 p.1)
+
+unfoldable pub apply_shape : Data → Result CommandDraft Unread
+apply_shape d = listed_at (codes "now") d >>= λ p. Ok (Apply p.0 p.1)
+
+-- a frame's own members
+unfoldable pub frame_members : Data → Result FrameDraft Unread
+frame_members d = do
+  handle ← number_at (codes "handle") d
+  priority ← number_at (codes "priority") d
+  octets ← number_at (codes "octets") d
+  yellow ← flag_at (codes "yellow") d
+  Ok (record { handle = handle; priority = priority; octets = octets; yellow = yellow })
+
+unfoldable pub frame_shape : Data → Result CommandDraft Unread
+frame_shape d = do
+  _ ← has_members 7 d
+  frame ← frame_members d
+  now ← number_at (codes "now") d
+  Ok (Frame frame now)
+
+unfoldable pub states_shape : Data → Result CommandDraft Unread
+states_shape d = listed_at (codes "at") d >>= λ p. Ok (States p.0 p.1)
+
+-- a key of any kind
+unfoldable pub counters_shape : Data → Result CommandDraft Unread
+counters_shape d = do
+  _ ← has_members 3 d
+  key ← key_at d
+  Ok (Counters key)
 
 unfoldable pub show_shape : Data → Result CommandDraft Unread
 show_shape d = do
@@ -68,15 +120,30 @@ list_shape d = do
   kind ← or_shape (kind_of text)
   Ok (ListKind kind)
 
+unfoldable pub since_shape : Data → Result CommandDraft Unread
+since_shape d = do
+  _ ← has_members 3 d
+  after ← number_at (codes "after") d
+  Ok (Since after)
+
 -- the command of a word, with the members `do` and `s` counted
 unfoldable pub command_shape : List ℕ → Data → Result CommandDraft Unread
 command_shape word d =
     if bytes_eq word (codes "create") then create_shape d
     else if bytes_eq word (codes "replace") then replace_shape d
     else if bytes_eq word (codes "remove") then remove_shape d
-    else if bytes_eq word (codes "undo") then undo_shape d
+    else if bytes_eq word (codes "undo") then bare_shape Undo d
+    else if bytes_eq word (codes "undo_all") then bare_shape UndoAll d
+    else if bytes_eq word (codes "redo") then bare_shape Redo d
+    else if bytes_eq word (codes "enable") then enable_shape d
+    else if bytes_eq word (codes "disable") then disable_shape d
+    else if bytes_eq word (codes "apply") then apply_shape d
+    else if bytes_eq word (codes "frame") then frame_shape d
+    else if bytes_eq word (codes "states") then states_shape d
+    else if bytes_eq word (codes "counters") then counters_shape d
     else if bytes_eq word (codes "show") then show_shape d
     else if bytes_eq word (codes "list") then list_shape d
+    else if bytes_eq word (codes "since") then since_shape d
     else Err Shape
 
 -- a hello has the one member `do`; any other command has `s` too

@@ -1,11 +1,8 @@
--- Worked examples: a record of each kind and its text, and the lines round such a text.
-use Rattle.std.specs.Prelude.{ℕ, List, [], ◌∷◌, ◌++◌, true, false, Some, None, Result, Ok, codes}
+-- Worked examples: the line that creates a record, records that are refused, and the line of a frame.
+use Rattle.std.specs.Prelude.{ℕ, List, true, ◌++◌, Result, Ok, codes}
 use Rattle.tsn_bridge.specs.declared.command.Command.TheVariants.{Create}
+use Rattle.tsn_chain.specs.declared.frame.Frame.{Frame}
 use Rattle.tsn_types.specs.declared.keys.Key.{Key}
-use Rattle.tsn_types.specs.declared.records.PortGates.{PortGates}
-use Rattle.tsn_types.specs.declared.records.StreamGate.{StreamGate}
-use Rattle.tsn_types.specs.declared.records.StreamFilter.{StreamFilter}
-use Rattle.tsn_types.specs.declared.records.FlowMeter.{FlowMeter}
 use Rattle.tsn_types.specs.declared.records.Record.{Record}
 use Rattle.tsn_types.specs.declared.refusals.Refusal.{Refusal}
 use Rattle.tsn_wire.specs.declared.reading.Line.{Line}
@@ -18,63 +15,6 @@ create_line key text = codes "{\"do\":\"create\",\"key\":\"" ++ key ++ codes "\"
 abbrev pub created : Key → Record → Result Line Refusal
 created key value = Ok (record { session = 1; command = Create key value })
 
--- the line that shows the record of a text
-abbrev pub shown_line : List ℕ → List ℕ → List ℕ
-shown_line key text = codes "{\"key\":\"" ++ key ++ codes "\",\"record\":" ++ text ++ codes "}\n"
-
--- two entries that fill the cycle
-abbrev pub a_port : PortGates
-a_port = record {
-  gates = 255;
-  admin = record {
-    list = record { gates = 1; interval = 300 } ∷ record { gates = 128; interval = 700 } ∷ [];
-    cycle = 1000;
-    extension = 0;
-    base = 0;
-  };
-}
-
-abbrev pub port_text : List ℕ
-port_text = codes "{\"base\":0,\"cycle\":1000,\"extension\":0,\"gates\":255,\"list\":[[1,"
-    ++ codes "300],[128,700]]}"
-
--- any priority, no meter
-abbrev pub a_filter : StreamFilter
-a_filter = record { handle = Some 7; priority = None; gate = 0; max_sdu = Some 1500; meter = None; oversize = true }
-
-abbrev pub filter_text : List ℕ
-filter_text = codes "{\"gate\":0,\"handle\":7,\"max_sdu\":1500,\"meter\":null,\"oversize\":true,"
-    ++ codes "\"priority\":null}"
-
--- an open entry with an IPV and a bound on its octets, and a closed one without
-abbrev pub a_gate : StreamGate
-a_gate = record {
-  is_open = false;
-  ipv = None;
-  invalid_rx = false;
-  octets_exceeded = true;
-  admin = record {
-    list = record { is_open = true; ipv = Some 5; interval = 1000; octets = Some 150 }
-        ∷ record { is_open = false; ipv = None; interval = 1000; octets = None } ∷ [];
-    cycle = 2000;
-    extension = 0;
-    base = 0;
-  };
-}
-
-abbrev pub gate_text : List ℕ
-gate_text = codes "{\"base\":0,\"cycle\":2000,\"extension\":0,\"invalid_rx\":false,"
-    ++ codes "\"ipv\":null,\"list\":[[true,5,1000,150],[false,null,1000,null]],"
-    ++ codes "\"octets_exceeded\":true,\"open\":false}"
-
--- no excess rate and no excess burst
-abbrev pub a_meter : FlowMeter
-a_meter = record { cir = 8000000; cbs = 1500; eir = 0; ebs = 0; cf = false; aware = false; drop_yellow = false; all_red = false }
-
-abbrev pub meter_text : List ℕ
-meter_text = codes "{\"all_red\":false,\"aware\":false,\"cbs\":1500,\"cf\":false,\"cir\":8000000,"
-    ++ codes "\"drop_yellow\":false,\"ebs\":0,\"eir\":0}"
-
 -- a gate whose cycle time is out of range
 abbrev pub no_cycle_text : List ℕ
 no_cycle_text = codes "{\"base\":0,\"cycle\":0,\"extension\":0,\"invalid_rx\":false,\"ipv\":null,"
@@ -84,3 +24,11 @@ no_cycle_text = codes "{\"base\":0,\"cycle\":0,\"extension\":0,\"invalid_rx\":fa
 abbrev pub no_flag_text : List ℕ
 no_flag_text = codes "{\"base\":0,\"cycle\":0,\"extension\":0,\"invalid_rx\":false,\"ipv\":null,"
     ++ codes "\"list\":[],\"octets_exceeded\":false,\"open\":1}"
+
+-- the line that hands in a frame of that length, priority and drop eligibility, in session 1
+abbrev pub frame_line : List ℕ → List ℕ → List ℕ → List ℕ
+frame_line octets priority yellow =
+    codes "{\"do\":\"frame\",\"handle\":7,\"now\":1000,\"octets\":" ++ octets ++ codes ",\"priority\":" ++ priority ++ codes ",\"s\":1,\"yellow\":" ++ yellow ++ codes "}"
+
+abbrev pub a_frame : Frame
+a_frame = record { handle = 7; priority = 5; octets = 1500; yellow = true }

@@ -4,16 +4,18 @@ use Rattle.std.specs.Str.{is_utf8}
 use Rattle.serde_json.specs.Data.{Data}
 use Rattle.serde_json.specs.Read.{read}
 use Rattle.tsn_bridge.specs.declared.command.Command.TheVariants as commands
+use Rattle.tsn_bridge.specs.Sessions.{most_sessions}
 use Rattle.tsn_types.specs.declared.refusals.Field.TheVariants as fields
 use Rattle.tsn_types.specs.declared.refusals.Refusal.{Refusal}
-use Rattle.tsn_wire.specs.Answers.{◌>>=◌, refusal_of}
+use Rattle.tsn_records.specs.Answers.{◌>>=◌, refusal_of}
 use Rattle.tsn_wire.specs.Commands.{line_shape}
-use Rattle.tsn_wire.specs.Ranges.{within, command_of_draft}
+use Rattle.tsn_records.specs.Ranges.{within}
+use Rattle.tsn_wire.specs.Ranges.{command_of_draft}
 use Rattle.tsn_wire.specs.declared.drafts.LineDraft.{LineDraft}
 use Rattle.tsn_wire.specs.declared.drafts.LineDraft.TheVariants.{Hello, Session}
 use Rattle.tsn_wire.specs.declared.reading.Line.{Line}
-use Rattle.tsn_wire.specs.declared.unread.Unread.{Unread}
-use Rattle.tsn_wire.specs.declared.unread.Unread.TheVariants.{Syntax}
+use Rattle.tsn_records.specs.declared.unread.Unread.{Unread}
+use Rattle.tsn_records.specs.declared.unread.Unread.TheVariants.{Syntax}
 
 -- the one JSON value that the bytes are; bytes that are no UTF-8 are none
 abbrev pub data_of : List ℕ → Option Data
@@ -24,11 +26,11 @@ abbrev pub or_syntax : Option Data → Result Data Unread
 or_syntax None = Err Syntax
 or_syntax (Some d) = Ok d
 
--- sessions are numbered from 1 to 65,535; a hello has none, which is written 0
+-- sessions are numbered from 1; a hello has none, which is written 0
 abbrev pub line_of_draft : LineDraft → Result Line Unread
 line_of_draft Hello = Ok (record { session = 0; command = commands.Hello })
 line_of_draft (Session s wanted) =
-    within fields.S 1 65535 s >>= λ session. command_of_draft wanted >>= λ command. Ok (record { session = session; command = command })
+    within fields.S 1 most_sessions s >>= λ session. command_of_draft wanted >>= λ command. Ok (record { session = session; command = command })
 
 -- syntax first, then the whole shape, then the ranges
 abbrev pub reading : List ℕ → Result Line Unread

@@ -1,32 +1,33 @@
 -- Command lines in the service's own spelling: compact, their members in ascending order of their names. A draft is
 -- seen as the value that such a line is.
-use Rattle.std.specs.Prelude.{◌≡◌, ℕ, ◌^◌, ◌<◌, ◌≤◌, ◌++◌, List, map, codes, decimal, IfSome, ⊤}
+use Rattle.std.specs.Prelude.{◌≡◌, ◌⊎◌, ℕ, ◌^◌, ◌<◌, ◌++◌, List, codes, decimal, IfSome, ⊤}
 use Rattle.std.specs.List.{AllByRecursion}
-use Rattle.serde_json.specs.Data.{Data, boolean, array, object, item, no_items, member, no_members}
-use Rattle.serde_json.specs.View.{items_of}
+use Rattle.serde_json.specs.Data.{Data}
 use Rattle.serde_json.specs.Written.{compact_text}
 use Rattle.tsn_types.specs.declared.keys.Kind.{Kind}
 use Rattle.tsn_types.specs.declared.keys.Kind.TheVariants as kinds
-use Rattle.tsn_wire.specs.Keys.{kind_text, spelled_key}
-use Rattle.tsn_wire.specs.Shown.{whole_data, or_null}
-use Rattle.tsn_wire.specs.declared.drafts.KeyDraft.{KeyDraft}
-use Rattle.tsn_wire.specs.declared.drafts.PortEntryDraft.{PortEntryDraft}
-use Rattle.tsn_wire.specs.declared.drafts.GateEntryDraft.{GateEntryDraft}
-use Rattle.tsn_wire.specs.declared.drafts.PortDraft.{PortDraft}
-use Rattle.tsn_wire.specs.declared.drafts.GateDraft.{GateDraft}
-use Rattle.tsn_wire.specs.declared.drafts.FilterDraft.{FilterDraft}
-use Rattle.tsn_wire.specs.declared.drafts.MeterDraft.{MeterDraft}
-use Rattle.tsn_wire.specs.declared.drafts.RecordDraft.{RecordDraft}
-use Rattle.tsn_wire.specs.declared.drafts.RecordDraft.TheVariants.{Port, Filter, Gate, Meter}
+use Rattle.tsn_types.specs.Numbers.{IsInstanceId}
+use Rattle.tsn_records.specs.Keys.{kind_text, spelled_key}
+use Rattle.tsn_records.specs.Shown.{port_entry_array, gate_entry_array, list_array, port_object, filter_object, gate_object, meter_object}
+use Rattle.tsn_records.specs.declared.drafts.KeyDraft.{KeyDraft}
+use Rattle.tsn_records.specs.declared.drafts.PortEntryDraft.{PortEntryDraft}
+use Rattle.tsn_records.specs.declared.drafts.GateEntryDraft.{GateEntryDraft}
+use Rattle.tsn_records.specs.declared.drafts.PortDraft.{PortDraft}
+use Rattle.tsn_records.specs.declared.drafts.GateDraft.{GateDraft}
+use Rattle.tsn_records.specs.declared.drafts.FilterDraft.{FilterDraft}
+use Rattle.tsn_records.specs.declared.drafts.MeterDraft.{MeterDraft}
+use Rattle.tsn_records.specs.declared.drafts.RecordDraft.{RecordDraft}
+use Rattle.tsn_records.specs.declared.drafts.RecordDraft.TheVariants.{Port, Filter, Gate, Meter}
 use Rattle.tsn_wire.specs.declared.drafts.CommandDraft.{CommandDraft}
-use Rattle.tsn_wire.specs.declared.drafts.CommandDraft.TheVariants.{Create, Replace, Remove, Undo, Show, List as ListKind}
+use Rattle.tsn_wire.specs.declared.drafts.CommandDraft.TheVariants.{Create, Replace, Remove, Undo, UndoAll, Redo, Enable, Disable, Apply, Frame, States, Counters, Show, List as ListKind, Since}
 
 -- a number that a line can hold
 abbrev pub IsSmall : ℕ → Type 0
 IsSmall n = n < 2 ^ 64
 
+-- a number that no key is above
 abbrev pub IsKey : KeyDraft → Type 0
-IsKey k = k.number ≤ 65535
+IsKey k = IsInstanceId k.number
 
 abbrev pub IsNoPort : Kind → Type 0
 IsNoPort kinds.Port = ⊥
@@ -34,53 +35,25 @@ IsNoPort kinds.Filter = ⊤
 IsNoPort kinds.Gate = ⊤
 IsNoPort kinds.Meter = ⊤
 
+-- a draft as the value of a record with its numbers
 abbrev pub port_entry_value : PortEntryDraft → Data
-port_entry_value e = array (item (whole_data e.gates) (item (whole_data e.interval) no_items))
+port_entry_value e = port_entry_array e.gates e.interval
 
 abbrev pub gate_entry_value : GateEntryDraft → Data
-gate_entry_value e = array (item (boolean e.is_open) (item (or_null e.ipv) (item (whole_data e.interval) (item (or_null e.octets) no_items))))
-
-abbrev pub list_value : {E : Type 0} → (E → Data) → List E → Data
-list_value entry es = array (items_of (map entry es))
+gate_entry_value e = gate_entry_array e.is_open e.ipv e.interval e.octets
 
 abbrev pub port_value : PortDraft → Data
-port_value r =
-    object (member (codes "base") (whole_data r.admin.base)
-    (member (codes "cycle") (whole_data r.admin.cycle)
-    (member (codes "extension") (whole_data r.admin.extension)
-    (member (codes "gates") (whole_data r.gates)
-    (member (codes "list") (list_value port_entry_value r.admin.list) no_members)))))
+port_value r = port_object r.admin.base r.admin.cycle r.admin.extension r.gates (list_array port_entry_value r.admin.list)
 
 abbrev pub filter_value : FilterDraft → Data
-filter_value r =
-    object (member (codes "gate") (whole_data r.gate)
-    (member (codes "handle") (or_null r.handle)
-    (member (codes "max_sdu") (or_null r.max_sdu)
-    (member (codes "meter") (or_null r.meter)
-    (member (codes "oversize") (boolean r.oversize)
-    (member (codes "priority") (or_null r.priority) no_members))))))
+filter_value r = filter_object r.gate r.handle r.max_sdu r.meter r.oversize r.priority
 
 abbrev pub gate_value : GateDraft → Data
 gate_value r =
-    object (member (codes "base") (whole_data r.admin.base)
-    (member (codes "cycle") (whole_data r.admin.cycle)
-    (member (codes "extension") (whole_data r.admin.extension)
-    (member (codes "invalid_rx") (boolean r.invalid_rx)
-    (member (codes "ipv") (or_null r.ipv)
-    (member (codes "list") (list_value gate_entry_value r.admin.list)
-    (member (codes "octets_exceeded") (boolean r.octets_exceeded)
-    (member (codes "open") (boolean r.is_open) no_members))))))))
+    gate_object r.admin.base r.admin.cycle r.admin.extension r.invalid_rx r.ipv (list_array gate_entry_value r.admin.list) r.octets_exceeded r.is_open
 
 abbrev pub meter_value : MeterDraft → Data
-meter_value r =
-    object (member (codes "all_red") (boolean r.all_red)
-    (member (codes "aware") (boolean r.aware)
-    (member (codes "cbs") (whole_data r.cbs)
-    (member (codes "cf") (boolean r.cf)
-    (member (codes "cir") (whole_data r.cir)
-    (member (codes "drop_yellow") (boolean r.drop_yellow)
-    (member (codes "ebs") (whole_data r.ebs)
-    (member (codes "eir") (whole_data r.eir) no_members))))))))
+meter_value r = meter_object r.all_red r.aware r.cbs r.cf r.cir r.drop_yellow r.ebs r.eir
 
 abbrev pub record_value : RecordDraft → Data
 record_value (Port r) = port_value r
@@ -142,11 +115,27 @@ SpellsRecord text key value rest =
     IsKey key × RecordIsSmall key.kind value
     × (text ≡ spelled_key key.kind key.number ++ (codes "\",\"record\":" ++ (compact_text (record_value value) ++ rest)))
 
--- The text begins with what follows `{"do":"` in a command's line, up to `,"s":`, and the rest comes after it.
+-- The text begins with what follows `{"do":"` in a command's line, up to `,"s":`, and the rest comes after it. Lines that
+-- act on a list, hand in a frame or look at states or counters are not read so.
 abbrev pub Spells : List ℕ → CommandDraft → List ℕ → Type 0
 Spells text (Create key value) rest = (behind : List ℕ) × (text ≡ codes "create\",\"key\":\"" ++ behind) × SpellsRecord behind key value rest
 Spells text (Replace key value) rest = (behind : List ℕ) × (text ≡ codes "replace\",\"key\":\"" ++ behind) × SpellsRecord behind key value rest
 Spells text (Remove key) rest = IsKey key × IsNoPort key.kind × (text ≡ codes "remove\",\"key\":\"" ++ (spelled_key key.kind key.number ++ (codes "\"" ++ rest)))
 Spells text Undo rest = text ≡ codes "undo\"" ++ rest
+Spells text UndoAll rest = text ≡ codes "undo_all\"" ++ rest
+Spells text Redo rest = text ≡ codes "redo\"" ++ rest
+Spells text (Enable key now) rest = ⊥
+Spells text (Disable key now) rest = ⊥
+Spells text (Apply key now) rest = ⊥
+Spells text (Frame frame now) rest = ⊥
+Spells text (States key at) rest = ⊥
+Spells text (Counters key) rest = ⊥
 Spells text (Show key) rest = IsKey key × (text ≡ codes "show\",\"key\":\"" ++ (spelled_key key.kind key.number ++ (codes "\"" ++ rest)))
 Spells text (ListKind kind) rest = text ≡ codes "list\",\"kind\":\"" ++ (kind_text kind ++ (codes "\"" ++ rest))
+Spells text (Since after) rest = ⊥
+
+-- The line begins with a command's members up to `,"s":`, and the rest comes after them. Of a since the first member is `after`, and of any other command `do`.
+abbrev pub SpellsFront : List ℕ → CommandDraft → List ℕ → Type 0
+SpellsFront line command rest =
+    ((after : ℕ) × (command ≡ Since after) × IsSmall after × (line ≡ codes "{\"after\":" ++ (decimal after ++ (codes ",\"do\":\"since\"" ++ rest))))
+    ⊎ ((text : List ℕ) × (line ≡ codes "{\"do\":\"" ++ text) × Spells text command rest)

@@ -3,17 +3,18 @@
 //! A command has exactly its members, in any order. Every fault is one of shape; numbers are tested later.
 ghost use Rattle.std.specs.Prelude.{◌≡◌, codes, option_and_then};
 ghost use Rattle.serde_json.specs.View.{view};
-ghost use Rattle.tsn_wire.specs.Answers.{Reads};
-ghost use Rattle.tsn_wire.specs.Json.{text_at, value_at};
-ghost use Rattle.tsn_wire.specs.Commands.{key_at, removable, create_shape, replace_shape, remove_shape, undo_shape, show_shape, list_shape, command_shape, line_shape};
+ghost use Rattle.tsn_records.specs.Answers.{Reads};
+ghost use Rattle.tsn_records.specs.Json.{text_at, value_at};
+ghost use Rattle.tsn_wire.specs.Commands.{key_at, removable, listed, listed_at, keyed_record, create_shape, replace_shape, remove_shape, bare_shape, enable_shape, disable_shape, apply_shape, frame_members, frame_shape, states_shape, counters_shape, show_shape, list_shape, since_shape, command_shape, line_shape};
 
-use crate::drafts::{CommandDraft, KeyDraft, LineDraft};
-use crate::keys::{key_of, kind_of};
-use crate::members::{has_members, number_at, text_at, value_at};
-use crate::records::record_shape;
-use crate::unread::Unread;
+use crate::drafts::{CommandDraft, FrameDraft, LineDraft};
 use serde_json::Value;
 use std::alloc::Global;
+use tsn_records::drafts::{KeyDraft, RecordDraft};
+use tsn_records::keys::{key_of, kind_of};
+use tsn_records::members::{flag_at, has_members, number_at, text_at, value_at};
+use tsn_records::records::record_shape;
+use tsn_records::unread::Unread;
 use tsn_types::keys::Kind;
 
 fn key_at(value: &Value) -> Result<KeyDraft, Unread>
@@ -32,13 +33,43 @@ fn removable(key: KeyDraft) -> Result<KeyDraft, Unread>
     }
 }
 
+// A key of a kind that has a gate control list.
+fn listed(key: KeyDraft) -> Result<KeyDraft, Unread>
+    ensures { result ≡ listed key key.kind }
+{
+    match key.kind {
+        Kind::Filter | Kind::Meter => Err(Unread::Shape),
+        Kind::Port | Kind::Gate => Ok(key),
+    }
+}
+
+// Such a key, and an instant under a name.
+#[tactic(auto, unfolding(crate::specs::Commands::listed_at))]
+fn listed_at(name: &str, value: &Value) -> Result<(KeyDraft, u64), Unread>
+    ensures { result ≡ listed_at name.now (view value.now) }
+{
+    has_members(4, value)?;
+    let key = listed(key_at(value)?)?;
+    let instant = number_at(name, value)?;
+    Ok((key, instant))
+}
+
+// A key and a record of its kind.
+#[tactic(auto, unfolding(crate::specs::Commands::keyed_record))]
+fn keyed_record(alloc: Global, value: &Value) -> Result<(KeyDraft, RecordDraft), Unread>
+    ensures { Reads result (keyed_record (view value.now)) }
+{
+    has_members(4, value)?;
+    let key = key_at(value)?;
+    let record = record_shape(alloc, key.kind, value_at("record", value)?)?;
+    Ok((key, record))
+}
+
 #[tactic(auto, unfolding(crate::specs::Commands::create_shape))]
 fn create_shape(alloc: Global, value: &Value) -> Result<CommandDraft, Unread>
     ensures { Reads result (create_shape (view value.now)) }
 {
-    has_members(4, value)?;
-    let key = key_at(value)?;
-    let value = record_shape(alloc, key.kind, value_at("record", value)?)?;
+    let (key, value) = keyed_record(alloc, value)?;
     Ok(CommandDraft::Create { key, value })
 }
 
@@ -46,9 +77,7 @@ fn create_shape(alloc: Global, value: &Value) -> Result<CommandDraft, Unread>
 fn replace_shape(alloc: Global, value: &Value) -> Result<CommandDraft, Unread>
     ensures { Reads result (replace_shape (view value.now)) }
 {
-    has_members(4, value)?;
-    let key = key_at(value)?;
-    let value = record_shape(alloc, key.kind, value_at("record", value)?)?;
+    let (key, value) = keyed_record(alloc, value)?;
     Ok(CommandDraft::Replace { key, value })
 }
 
@@ -61,12 +90,80 @@ fn remove_shape(value: &Value) -> Result<CommandDraft, Unread>
     Ok(CommandDraft::Remove { key })
 }
 
-#[tactic(auto, unfolding(crate::specs::Commands::undo_shape))]
-fn undo_shape(value: &Value) -> Result<CommandDraft, Unread>
-    ensures { result ≡ undo_shape (view value.now) }
+// A command that names nothing.
+#[tactic(auto, unfolding(crate::specs::Commands::bare_shape))]
+fn bare_shape(command: CommandDraft, value: &Value) -> Result<CommandDraft, Unread>
+    ensures { result ≡ bare_shape command (view value.now) }
 {
     has_members(2, value)?;
-    Ok(CommandDraft::Undo)
+    Ok(command)
+}
+
+#[tactic(auto, unfolding(crate::specs::Commands::enable_shape))]
+fn enable_shape(value: &Value) -> Result<CommandDraft, Unread>
+    ensures { result ≡ enable_shape (view value.now) }
+{
+    let (key, now) = listed_at("now", value)?;
+    Ok(CommandDraft::Enable { key, now })
+}
+
+#[tactic(auto, unfolding(crate::specs::Commands::disable_shape))]
+fn disable_shape(value: &Value) -> Result<CommandDraft, Unread>
+    ensures { result ≡ disable_shape (view value.now) }
+{
+    let (key, now) = listed_at("now", value)?;
+    Ok(CommandDraft::Disable { key, now })
+}
+
+#[tactic(auto, unfolding(crate::specs::Commands::apply_shape))]
+fn apply_shape(value: &Value) -> Result<CommandDraft, Unread>
+    ensures { result ≡ apply_shape (view value.now) }
+{
+    let (key, now) = listed_at("now", value)?;
+    Ok(CommandDraft::Apply { key, now })
+}
+
+#[tactic(auto, unfolding(crate::specs::Commands::frame_members))]
+fn frame_members(value: &Value) -> Result<FrameDraft, Unread>
+    ensures { result ≡ frame_members (view value.now) }
+{
+    let handle = number_at("handle", value)?;
+    let priority = number_at("priority", value)?;
+    let octets = number_at("octets", value)?;
+    let yellow = flag_at("yellow", value)?;
+    Ok(FrameDraft {
+        handle,
+        priority,
+        octets,
+        yellow,
+    })
+}
+
+#[tactic(auto, unfolding(crate::specs::Commands::frame_shape))]
+fn frame_shape(value: &Value) -> Result<CommandDraft, Unread>
+    ensures { result ≡ frame_shape (view value.now) }
+{
+    has_members(7, value)?;
+    let frame = frame_members(value)?;
+    let now = number_at("now", value)?;
+    Ok(CommandDraft::Frame { frame, now })
+}
+
+#[tactic(auto, unfolding(crate::specs::Commands::states_shape))]
+fn states_shape(value: &Value) -> Result<CommandDraft, Unread>
+    ensures { result ≡ states_shape (view value.now) }
+{
+    let (key, at) = listed_at("at", value)?;
+    Ok(CommandDraft::States { key, at })
+}
+
+#[tactic(auto, unfolding(crate::specs::Commands::counters_shape))]
+fn counters_shape(value: &Value) -> Result<CommandDraft, Unread>
+    ensures { result ≡ counters_shape (view value.now) }
+{
+    has_members(3, value)?;
+    let key = key_at(value)?;
+    Ok(CommandDraft::Counters { key })
 }
 
 #[tactic(auto, unfolding(crate::specs::Commands::show_shape))]
@@ -88,6 +185,15 @@ fn list_shape(value: &Value) -> Result<CommandDraft, Unread>
     Ok(CommandDraft::List { kind })
 }
 
+#[tactic(auto, unfolding(crate::specs::Commands::since_shape))]
+fn since_shape(value: &Value) -> Result<CommandDraft, Unread>
+    ensures { result ≡ since_shape (view value.now) }
+{
+    has_members(3, value)?;
+    let after = number_at("after", value)?;
+    Ok(CommandDraft::Since { after })
+}
+
 #[tactic(auto, unfolding(crate::specs::Commands::command_shape))]
 fn command_shape(alloc: Global, word: &str, value: &Value) -> Result<CommandDraft, Unread>
     ensures { Reads result (command_shape word.now (view value.now)) }
@@ -96,9 +202,18 @@ fn command_shape(alloc: Global, word: &str, value: &Value) -> Result<CommandDraf
         "create" => create_shape(alloc, value),
         "replace" => replace_shape(alloc, value),
         "remove" => remove_shape(value),
-        "undo" => undo_shape(value),
+        "undo" => bare_shape(CommandDraft::Undo, value),
+        "undo_all" => bare_shape(CommandDraft::UndoAll, value),
+        "redo" => bare_shape(CommandDraft::Redo, value),
+        "enable" => enable_shape(value),
+        "disable" => disable_shape(value),
+        "apply" => apply_shape(value),
+        "frame" => frame_shape(value),
+        "states" => states_shape(value),
+        "counters" => counters_shape(value),
         "show" => show_shape(value),
         "list" => list_shape(value),
+        "since" => since_shape(value),
         _ => Err(Unread::Shape),
     }
 }

@@ -1,5 +1,5 @@
 //! A place in a text that is read from its front.
-ghost use Rattle.std.specs.Prelude.{◌≡◌, ◌++◌, ◌^◌, ◌<◌, ◌≤◌, [], length, take, decimal, false, IfSome, IsTrue, ◌↔◌};
+ghost use Rattle.std.specs.Prelude.{◌≡◌, ◌≢◌, ◌++◌, ◌^◌, ◌<◌, ◌≤◌, ℕ, List, [], length, take, decimal, false, IfSome, MatchOption, IsTrue};
 
 use std::marker::Model;
 
@@ -21,6 +21,7 @@ impl<'a> Model for Cursor<'a> {
 }
 
 // The number that the text begins with, in decimal digits with no 0 before another, and how many digits it has.
+#[tactic(auto, using(crate::proofs::Places::digits_more, crate::proofs::Places::value_more, crate::proofs::Places::spell))]
 fn leading_number(text: &[u8]) -> Option<(u64, usize)>
     ensures digits { IfSome result (λ p. take p.1 text.now ≡ decimal p.0) }
     ensures bound { IfSome result (λ p. (p.1 ≤ length text.now) × (p.0 < 2 ^ 64)) }
@@ -49,6 +50,7 @@ impl<'a> Cursor<'a> {
     /// Goes behind the piece, where what is left begins with it.
     pub fn take(&mut self, piece: &str) -> bool
         ensures took { IsTrue result → self.old ≡ piece.now ++ self.new }
+        ensures missed { result ≡ false → (rest : List ℕ) → self.old ≢ piece.now ++ rest }
         ensures kept { result ≡ false → self.new ≡ self.old }
     {
         match self.text[self.at..].strip_prefix(piece.as_bytes()) {
@@ -60,9 +62,10 @@ impl<'a> Cursor<'a> {
         }
     }
 
-    /// Goes behind the piece, which must come next.
+    /// Goes behind the piece, which must come next; None exactly where it does not.
     pub fn expect(&mut self, piece: &str) -> Option<()>
-        ensures { IfSome result (λ _. self.old ≡ piece.now ++ self.new) }
+        ensures { MatchOption result ((rest : List ℕ) → self.old ≢ piece.now ++ rest)
+            (λ _. self.old ≡ piece.now ++ self.new) }
     {
         if self.take(piece) { Some(()) } else { None }
     }
@@ -76,9 +79,9 @@ impl<'a> Cursor<'a> {
         Some(value)
     }
 
-    /// Nothing must be left.
+    /// Nothing must be left; None exactly where something is.
     pub fn end(&self) -> Option<()>
-        ensures { IfSome result (λ _. self.now ≡ []) }
+        ensures { MatchOption result (0 < length self.now) (λ _. self.now ≡ []) }
     {
         if self.at == self.text.len() {
             Some(())

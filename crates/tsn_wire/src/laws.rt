@@ -1,16 +1,16 @@
 //! What the definitions of this crate say of worked examples, so that a definition and a body that are wrong alike
 //! are found out. Each function does nothing; its contract is what is proved.
-ghost use Rattle.std.specs.Prelude.{◌≡◌, [], ◌∷◌, Ok, Err, codes};
+ghost use Rattle.std.specs.Prelude.{◌≡◌, [], ◌∷◌, Some, Ok, Err, codes};
 ghost use Rattle.tsn_bridge.specs.declared.command.Command.TheVariants as commands;
-ghost use Rattle.tsn_bridge.specs.declared.reply.Reply.TheVariants as replies;
 ghost use Rattle.tsn_types.specs.declared.keys.Key.TheVariants as keys;
 ghost use Rattle.tsn_types.specs.declared.records.Record.TheVariants as records;
 ghost use Rattle.tsn_types.specs.declared.refusals.Field.TheVariants as fields;
 ghost use Rattle.tsn_types.specs.declared.refusals.Refusal.TheVariants as refusals;
-ghost use Rattle.tsn_wire.specs.Examples.{create_line, created, shown_line, a_port, port_text, a_filter, filter_text, a_gate, gate_text, a_meter, meter_text, no_cycle_text, no_flag_text};
-ghost use Rattle.tsn_wire.specs.Reading.{line_of};
+ghost use Rattle.tsn_records.specs.Examples.{a_port, port_text, a_filter, filter_text, a_gate, gate_text, a_meter, meter_text};
+ghost use Rattle.tsn_wire.specs.Examples.{a_frame, create_line, created, frame_line, no_cycle_text, no_flag_text};
+ghost use Rattle.tsn_wire.specs.Reading.{data_of, line_of};
 ghost use Rattle.tsn_wire.specs.ReadingBack.{ReadsBack};
-ghost use Rattle.tsn_wire.specs.Replies.{reply_text};
+ghost use Rattle.tsn_wire.specs.Values.{AcceptsValues, value_of};
 
 /// Lines that are read, and lines that are not.
 pub fn lines_are_read()
@@ -18,6 +18,41 @@ pub fn lines_are_read()
         ≡ Ok (record { session = 0; command = commands.Hello }) }
     ensures undo { line_of (codes "{\"do\":\"undo\",\"s\":1}")
         ≡ Ok (record { session = 1; command = commands.Undo }) }
+    ensures undo_all { line_of (codes "{\"do\":\"undo_all\",\"s\":1}")
+        ≡ Ok (record { session = 1; command = commands.UndoAll }) }
+    ensures redo { line_of (codes "{\"do\":\"redo\",\"s\":1}")
+        ≡ Ok (record { session = 1; command = commands.Redo }) }
+    ensures since { line_of (codes "{\"after\":3,\"do\":\"since\",\"s\":1}")
+        ≡ Ok (record { session = 1; command = commands.Since 3 }) }
+    ensures after { line_of (codes "{\"after\":4294967296,\"do\":\"since\",\"s\":1}")
+        ≡ Err (refusals.Range fields.After) }
+    ensures enable { line_of (codes "{\"do\":\"enable\",\"key\":\"gate 0\",\"now\":7,\"s\":1}")
+        ≡ Ok (record { session = 1; command = commands.Enable (keys.Gate 0) 7 }) }
+    ensures disable { line_of (codes "{\"do\":\"disable\",\"key\":\"port 64\",\"now\":0,\"s\":1}")
+        ≡ Ok (record { session = 1; command = commands.Disable (keys.Port 64) 0 }) }
+    ensures apply { line_of (codes "{\"do\":\"apply\",\"key\":\"port 1\",\"now\":8,\"s\":1}")
+        ≡ Ok (record { session = 1; command = commands.Apply (keys.Port 1) 8 }) }
+    ensures states { line_of (codes "{\"at\":9,\"do\":\"states\",\"key\":\"gate 3\",\"s\":1}")
+        ≡ Ok (record { session = 1; command = commands.States (keys.Gate 3) 9 }) }
+    ensures counters { line_of (codes "{\"do\":\"counters\",\"key\":\"meter 5\",\"s\":1}")
+        ≡ Ok (record { session = 1; command = commands.Counters (keys.Meter 5) }) }
+    ensures frame { line_of (frame_line (codes "1500") (codes "5") (codes "true"))
+        ≡ Ok (record { session = 1; command = commands.Frame a_frame 1000 }) }
+    ensures long_frame { line_of (frame_line (codes "65536") (codes "5") (codes "true"))
+        ≡ Err (refusals.Range fields.Octets) }
+    ensures frame_order { line_of (frame_line (codes "65536") (codes "8") (codes "true"))
+        ≡ Err (refusals.Range fields.Priority) }
+    ensures no_flag { line_of (frame_line (codes "65536") (codes "8") (codes "1")) ≡ Err refusals.Shape }
+    ensures no_list { line_of (codes "{\"do\":\"enable\",\"key\":\"filter 0\",\"now\":7,\"s\":1}")
+        ≡ Err refusals.Shape }
+    ensures at_for_now { line_of (codes "{\"at\":7,\"do\":\"enable\",\"key\":\"gate 0\",\"s\":1}")
+        ≡ Err refusals.Shape }
+    ensures far { line_of (codes "{\"do\":\"apply\",\"key\":\"gate 0\",\"now\":4611686018427387905,\"s\":1}")
+        ≡ Err (refusals.Range fields.Now) }
+    ensures far_look { line_of (codes "{\"at\":4611686018427387905,\"do\":\"states\",\"key\":\"gate 0\",\"s\":1}")
+        ≡ Err (refusals.Range fields.At) }
+    ensures key_order { line_of (codes "{\"at\":4611686018427387905,\"do\":\"states\",\"key\":\"gate 65536\",\"s\":1}")
+        ≡ Err (refusals.Range fields.Key) }
     ensures fraction { line_of (codes "{\"do\":\"undo\",\"s\":1.0}") ≡ Err refusals.Shape }
     ensures sign { line_of (codes "{\"do\":\"undo\",\"s\":-1}") ≡ Err refusals.Shape }
     ensures session { line_of (codes "{\"do\":\"undo\",\"s\":70000}")
@@ -50,37 +85,11 @@ pub fn records_are_read()
     ensures kind { line_of (create_line (codes "gate 0") filter_text) ≡ Err refusals.Shape }
 {}
 
-/// The text of replies.
-pub fn replies_are_spelled()
-    ensures session { reply_text (replies.Session 1) ≡ codes "{\"session\":1}\n" }
-    ensures entry { reply_text (replies.Entry 3) ≡ codes "{\"entry\":3}\n" }
-    ensures of { reply_text (replies.EntryOf 4 3) ≡ codes "{\"entry\":4,\"of\":3}\n" }
-    ensures range { reply_text (replies.Refused (refusals.Range fields.Key))
-        ≡ codes "{\"field\":\"key\",\"refused\":4,\"why\":\"range\"}\n" }
-    ensures dangling { reply_text (replies.Refused (refusals.Dangling (keys.Gate 9)))
-        ≡ codes "{\"key\":\"gate 9\",\"refused\":8,\"why\":\"dangling\"}\n" }
-    ensures referred { reply_text (replies.Refused (refusals.Referred (keys.Filter 3)))
-        ≡ codes "{\"by\":\"filter 3\",\"refused\":9,\"why\":\"referred\"}\n" }
-    ensures conflict { reply_text (replies.Refused (refusals.Conflict 4 5))
-        ≡ codes "{\"other\":5,\"own\":4,\"refused\":11,\"why\":\"conflict\"}\n" }
-    ensures redo { reply_text (replies.Refused (refusals.RedoConflict 4))
-        ≡ codes "{\"other\":4,\"refused\":13,\"why\":\"redo_conflict\"}\n" }
-    ensures memory { reply_text (replies.Refused refusals.Memory)
-        ≡ codes "{\"refused\":18,\"why\":\"memory\"}\n" }
-{}
-
-/// The text of records and of numbers of instances.
-pub fn records_are_shown()
-    ensures port { reply_text (replies.Shown (keys.Port 1) (records.Port a_port))
-        ≡ shown_line (codes "port 1") port_text }
-    ensures filter { reply_text (replies.Shown (keys.Filter 3) (records.Filter a_filter))
-        ≡ shown_line (codes "filter 3") filter_text }
-    ensures gate { reply_text (replies.Shown (keys.Gate 0) (records.Gate a_gate))
-        ≡ shown_line (codes "gate 0") gate_text }
-    ensures meter { reply_text (replies.Shown (keys.Meter 0) (records.Meter a_meter))
-        ≡ shown_line (codes "meter 0") meter_text }
-    ensures ids { reply_text (replies.Ids (0 ∷ 1 ∷ 15 ∷ [])) ≡ codes "{\"ids\":[0,1,15]}\n" }
-    ensures none { reply_text (replies.Ids []) ≡ codes "{\"ids\":[]}\n" }
+/// A line is accepted as a command of a session exactly where it is the value of that command: the members by name,
+/// whatever their order in the line, and the record as it is shown.
+pub fn lines_are_values()
+    ensures law { AcceptsValues }
+    ensures order { data_of (codes "{\"s\":1,\"do\":\"undo\"}") ≡ Some (value_of 1 commands.Undo) }
 {}
 
 /// What is shown of a key and a record, put into a line that creates it, reads back as the same key and record.

@@ -1,28 +1,22 @@
-//! What goes in and out of the service: the command that a line says and the text of a reply.
+//! What goes in and out of the service: the command that a line says, and, handed on from below, the text of a reply
+//! and the readers and writers of bytes.
 //!
-//! A line is read as a command by what `serde_json` reads of it; nothing of the bridge is looked at. A reply is written
-//! to a writer of `tsn_bytes`, whose readers and writers are handed on.
+//! A line is read as a command by what `serde_json` reads of it; nothing of the bridge is looked at. A line in the
+//! service's own spelling that edits, undoes or redoes, or asks for records or entries, is read with no tree.
 #![tactic(auto)]
 
 mod commands;
 mod cursor;
 mod drafts;
-mod keys;
 pub mod laws;
-mod members;
 mod ranges;
 mod reading;
-mod records;
-mod reply;
 #[cfg(test)]
 mod samples;
-mod shown;
 mod spelled;
-mod text;
-mod unread;
 
 pub use reading::{Line, command_of};
-pub use reply::{write_refusal, write_reply};
 pub use tsn_bytes::{
     Buffered, ByteIn, ByteOut, Failed, Failing, Fault, MemIn, MemOut, StdIo, put_all,
 };
+pub use tsn_replies::{write_refusal, write_reply};

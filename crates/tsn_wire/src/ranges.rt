@@ -1,295 +1,67 @@
-//! The ranges of a draft's numbers, tested in the order in which the members are listed.
-//!
-//! The first number outside its range is refused, with its member's name; inside a list entry that is `list`. The
-//! limits of a setup are no ranges: the bridge tests them. Lists of entries take memory; nothing else does.
-ghost use Rattle.std.specs.Prelude.{◌≡◌, ◌^◌, ℕ, List, Result};
+//! The ranges of a command's numbers: those of its key before those of its record.
+ghost use Rattle.std.specs.Prelude.{◌≡◌};
 ghost use Rattle.tsn_types.specs.declared.refusals.Field.TheVariants as fields;
-ghost use Rattle.tsn_wire.specs.declared.unread.Unread.{Unread};
-ghost use Rattle.tsn_wire.specs.Answers.{Reads, each};
-ghost use Rattle.tsn_types.specs.Numbers.{greatest_bit_rate, greatest_gate_states, greatest_handle, greatest_instance, greatest_instant, greatest_max_sdu, greatest_priority, longest_cycle, longest_extension, longest_interval, most_octets, most_ports};
-ghost use Rattle.tsn_wire.specs.Ranges.{within, within_or_none, port_entry, gate_entry, schedule, port, gate, filter, meter, record_of, key, command_of_draft};
+ghost use Rattle.tsn_types.specs.Numbers.{greatest_handle, greatest_instant, greatest_priority};
+ghost use Rattle.tsn_records.specs.Answers.{Reads};
+ghost use Rattle.tsn_records.specs.Ranges.{within};
+ghost use Rattle.tsn_wire.specs.Ranges.{greatest_after, longest_frame, frame_of_draft, command_of_draft};
 
-use crate::drafts::{
-    CommandDraft, FilterDraft, GateDraft, GateEntryDraft, KeyDraft, MeterDraft, PortDraft,
-    PortEntryDraft, RecordDraft, ScheduleDraft,
-};
-use crate::unread::Unread;
+use crate::drafts::{CommandDraft, FrameDraft};
 use std::alloc::Global;
 use tsn_bridge::command::Command;
-use tsn_types::keys::{Key, Kind};
-use tsn_types::lists::ControlList;
-use tsn_types::numbers::{
-    BitRate, Cycle, Extension, FilterId, GateId, Handle, Instant, Interval, MaxSdu, MeterId,
-    Octets, PortId, Priority,
-};
-use tsn_types::records::{
-    FlowMeter, GateEntry, PortEntry, PortGates, Record, Schedule, StreamFilter, StreamGate,
-};
+use tsn_chain::frame::Frame;
+use tsn_records::ranges::{key, record_of};
+use tsn_records::unread::Unread;
+use tsn_types::numbers::{Handle, Instant, Octets, Priority};
 use tsn_types::refusals::Field;
 
-fn gates(number: u64, field: Field) -> Result<u8, Unread>
-    ensures { result ≡ within field 0 greatest_gate_states number }
+fn after(number: u64) -> Result<u32, Unread>
+    ensures { result ≡ within fields.After 0 greatest_after number }
 {
-    u8::try_from(number).map_err(|_| Unread::Range(field))
+    u32::try_from(number).map_err(|_| Unread::Range(Field::After))
 }
 
-fn priority(number: Option<u64>, field: Field) -> Result<Option<Priority>, Unread>
-    ensures { result ≡ within_or_none field 0 greatest_priority number }
+fn instant(number: u64, field: Field) -> Result<Instant, Unread>
+    ensures { result ≡ within field 0 greatest_instant number }
 {
-    match number {
-        None => Ok(None),
-        Some(number) => match Priority::new(number) {
-            Ok(priority) => Ok(Some(priority)),
-            Err(_) => Err(Unread::Range(field)),
-        },
+    Instant::new(number).map_err(|_| Unread::Range(field))
+}
+
+fn handle(number: u64) -> Result<Handle, Unread>
+    ensures { result ≡ within fields.Handle 0 greatest_handle number }
+{
+    Handle::new(number).map_err(|_| Unread::Range(Field::Handle))
+}
+
+fn priority(number: u64) -> Result<Priority, Unread>
+    ensures { result ≡ within fields.Priority 0 greatest_priority number }
+{
+    Priority::new(number).map_err(|_| Unread::Range(Field::Priority))
+}
+
+// A number of octets may be greater elsewhere than a frame is long.
+fn octets(number: u64) -> Result<Octets, Unread>
+    ensures { result ≡ within fields.Octets 0 longest_frame number }
+{
+    if number > 65_535 {
+        return Err(Unread::Range(Field::Octets));
     }
+    Octets::new(number).map_err(|_| Unread::Range(Field::Octets))
 }
 
-fn interval(number: u64) -> Result<Interval, Unread>
-    ensures { result ≡ within fields.List 1 longest_interval number }
+#[tactic(auto, unfolding(crate::specs::Ranges::frame_of_draft))]
+fn frame_of_draft(draft: FrameDraft) -> Result<Frame, Unread>
+    ensures { result ≡ frame_of_draft draft }
 {
-    Interval::new(number).map_err(|_| Unread::Range(Field::List))
-}
-
-fn octets(number: u64, field: Field) -> Result<Octets, Unread>
-    ensures { result ≡ within field 0 most_octets number }
-{
-    Octets::new(number).map_err(|_| Unread::Range(field))
-}
-
-fn octets_or_none(number: Option<u64>, field: Field) -> Result<Option<Octets>, Unread>
-    ensures { result ≡ within_or_none field 0 most_octets number }
-{
-    match number {
-        None => Ok(None),
-        Some(number) => Ok(Some(octets(number, field)?)),
-    }
-}
-
-fn bit_rate(number: u64, field: Field) -> Result<BitRate, Unread>
-    ensures { result ≡ within field 0 greatest_bit_rate number }
-{
-    BitRate::new(number).map_err(|_| Unread::Range(field))
-}
-
-fn handle(number: Option<u64>) -> Result<Option<Handle>, Unread>
-    ensures { result ≡ within_or_none fields.Handle 0 greatest_handle number }
-{
-    match number {
-        None => Ok(None),
-        Some(number) => match Handle::new(number) {
-            Ok(handle) => Ok(Some(handle)),
-            Err(_) => Err(Unread::Range(Field::Handle)),
-        },
-    }
-}
-
-fn max_sdu(number: Option<u64>) -> Result<Option<MaxSdu>, Unread>
-    ensures { result ≡ within_or_none fields.MaxSdu 1 greatest_max_sdu number }
-{
-    match number {
-        None => Ok(None),
-        Some(number) => match MaxSdu::new(number) {
-            Ok(size) => Ok(Some(size)),
-            Err(_) => Err(Unread::Range(Field::MaxSdu)),
-        },
-    }
-}
-
-fn port_id(number: u64) -> Result<PortId, Unread>
-    ensures { result ≡ within fields.Key 1 most_ports number }
-{
-    PortId::new(number).map_err(|_| Unread::Range(Field::Key))
-}
-
-fn filter_id(number: u64) -> Result<FilterId, Unread>
-    ensures { result ≡ within fields.Key 0 greatest_instance number }
-{
-    FilterId::new(number).map_err(|_| Unread::Range(Field::Key))
-}
-
-fn gate_id(number: u64, field: Field) -> Result<GateId, Unread>
-    ensures { result ≡ within field 0 greatest_instance number }
-{
-    GateId::new(number).map_err(|_| Unread::Range(field))
-}
-
-fn meter_id(number: u64, field: Field) -> Result<MeterId, Unread>
-    ensures { result ≡ within field 0 greatest_instance number }
-{
-    MeterId::new(number).map_err(|_| Unread::Range(field))
-}
-
-fn meter_or_none(number: Option<u64>) -> Result<Option<MeterId>, Unread>
-    ensures { result ≡ within_or_none fields.Meter 0 greatest_instance number }
-{
-    match number {
-        None => Ok(None),
-        Some(number) => Ok(Some(meter_id(number, Field::Meter)?)),
-    }
-}
-
-fn cycle(number: u64) -> Result<Cycle, Unread>
-    ensures { result ≡ within fields.Cycle 1 longest_cycle number }
-{
-    Cycle::new(number).map_err(|_| Unread::Range(Field::Cycle))
-}
-
-fn extension(number: u64) -> Result<Extension, Unread>
-    ensures { result ≡ within fields.Extension 0 longest_extension number }
-{
-    Extension::new(number).map_err(|_| Unread::Range(Field::Extension))
-}
-
-fn base(number: u64) -> Result<Instant, Unread>
-    ensures { result ≡ within fields.Base 0 greatest_instant number }
-{
-    Instant::new(number).map_err(|_| Unread::Range(Field::Base))
-}
-
-/// An entry of a gate control list, whose numbers are tested.
-trait EntryRange: Drop {
-    type Draft;
-
-    ghost in_range: { Self.Draft → Result Self Unread };
-
-    fn of_draft(draft: &Self::Draft) -> Result<Self, Unread>
-        ensures { result ≡ in_range draft.now };
-}
-
-impl EntryRange for PortEntry {
-    type Draft = PortEntryDraft;
-
-    ghost in_range = { port_entry };
-
-    #[tactic(auto, unfolding(crate::specs::Ranges::port_entry))]
-    fn of_draft(draft: &PortEntryDraft) -> Result<PortEntry, Unread> {
-        let gates = gates(draft.gates, Field::List)?;
-        let interval = interval(draft.interval)?;
-        Ok(PortEntry { gates, interval })
-    }
-}
-
-impl EntryRange for GateEntry {
-    type Draft = GateEntryDraft;
-
-    ghost in_range = { gate_entry };
-
-    #[tactic(auto, unfolding(crate::specs::Ranges::gate_entry))]
-    fn of_draft(draft: &GateEntryDraft) -> Result<GateEntry, Unread> {
-        Ok(GateEntry {
-            is_open: draft.is_open,
-            ipv: priority(draft.ipv, Field::List)?,
-            interval: interval(draft.interval)?,
-            octets: octets_or_none(draft.octets, Field::List)?,
-        })
-    }
-}
-
-fn entries<E: EntryRange>(alloc: Global, drafts: &[E::Draft]) -> Result<ControlList<E>, Unread>
-    ensures { Reads result (each E.in_range drafts.now) }
-{
-    let mut list = ControlList::new(alloc);
-    'drafts: for draft in drafts {
-        let entry = E::of_draft(draft)?;
-        list.push(entry)?;
-    }
-    Ok(list)
-}
-
-#[tactic(auto, unfolding(crate::specs::Ranges::schedule))]
-fn schedule<E: EntryRange>(
-    alloc: Global,
-    draft: &ScheduleDraft<E::Draft>,
-) -> Result<Schedule<E>, Unread>
-    ensures { Reads result (schedule E.in_range draft.now) }
-{
-    let list = entries(alloc, draft.list.as_slice())?;
-    let cycle = cycle(draft.cycle)?;
-    let extension = extension(draft.extension)?;
-    let base = base(draft.base)?;
-    Ok(Schedule {
-        list,
-        cycle,
-        extension,
-        base,
+    let handle = handle(draft.handle)?;
+    let priority = priority(draft.priority)?;
+    let octets = octets(draft.octets)?;
+    Ok(Frame {
+        handle,
+        priority,
+        octets,
+        yellow: draft.yellow,
     })
-}
-
-#[tactic(auto, unfolding(crate::specs::Ranges::port))]
-fn port(alloc: Global, draft: &PortDraft) -> Result<PortGates, Unread>
-    ensures { Reads result (port draft.now) }
-{
-    let gates = gates(draft.gates, Field::Gates)?;
-    let admin = schedule(alloc, &draft.admin)?;
-    Ok(PortGates { gates, admin })
-}
-
-#[tactic(auto, unfolding(crate::specs::Ranges::gate))]
-fn gate(alloc: Global, draft: &GateDraft) -> Result<StreamGate, Unread>
-    ensures { Reads result (gate draft.now) }
-{
-    let ipv = priority(draft.ipv, Field::Ipv)?;
-    let admin = schedule(alloc, &draft.admin)?;
-    Ok(StreamGate {
-        is_open: draft.is_open,
-        ipv,
-        invalid_rx: draft.invalid_rx,
-        octets_exceeded: draft.octets_exceeded,
-        admin,
-    })
-}
-
-#[tactic(auto, unfolding(crate::specs::Ranges::filter))]
-fn filter(draft: &FilterDraft) -> Result<StreamFilter, Unread>
-    ensures { result ≡ filter draft.now }
-{
-    Ok(StreamFilter {
-        handle: handle(draft.handle)?,
-        priority: priority(draft.priority, Field::Priority)?,
-        gate: gate_id(draft.gate, Field::Gate)?,
-        max_sdu: max_sdu(draft.max_sdu)?,
-        meter: meter_or_none(draft.meter)?,
-        oversize: draft.oversize,
-    })
-}
-
-#[tactic(auto, unfolding(crate::specs::Ranges::meter))]
-fn meter(draft: &MeterDraft) -> Result<FlowMeter, Unread>
-    ensures { result ≡ meter draft.now }
-{
-    Ok(FlowMeter {
-        cir: bit_rate(draft.cir, Field::Cir)?,
-        cbs: octets(draft.cbs, Field::Cbs)?,
-        eir: bit_rate(draft.eir, Field::Eir)?,
-        ebs: octets(draft.ebs, Field::Ebs)?,
-        cf: draft.cf,
-        aware: draft.aware,
-        drop_yellow: draft.drop_yellow,
-        all_red: draft.all_red,
-    })
-}
-
-fn record_of(alloc: Global, draft: &RecordDraft) -> Result<Record, Unread>
-    ensures { Reads result (record_of draft.now) }
-{
-    match draft {
-        RecordDraft::Port(draft) => Ok(Record::Port(port(alloc, draft)?)),
-        RecordDraft::Filter(draft) => Ok(Record::Filter(filter(draft)?)),
-        RecordDraft::Gate(draft) => Ok(Record::Gate(gate(alloc, draft)?)),
-        RecordDraft::Meter(draft) => Ok(Record::Meter(meter(draft)?)),
-    }
-}
-
-fn key(draft: KeyDraft) -> Result<Key, Unread>
-    ensures { result ≡ key draft }
-{
-    match draft.kind {
-        Kind::Port => Ok(Key::Port(port_id(draft.number)?)),
-        Kind::Filter => Ok(Key::Filter(filter_id(draft.number)?)),
-        Kind::Gate => Ok(Key::Gate(gate_id(draft.number, Field::Key)?)),
-        Kind::Meter => Ok(Key::Meter(meter_id(draft.number, Field::Key)?)),
-    }
 }
 
 /// The command that the draft is, or the first number that is outside its range.
@@ -309,7 +81,38 @@ pub fn command_of_draft(alloc: Global, draft: &CommandDraft) -> Result<Command, 
         }
         CommandDraft::Remove { key: draft } => Ok(Command::Remove { key: key(*draft)? }),
         CommandDraft::Undo => Ok(Command::Undo),
+        CommandDraft::UndoAll => Ok(Command::UndoAll),
+        CommandDraft::Redo => Ok(Command::Redo),
+        CommandDraft::Enable { key: draft, now } => {
+            let key = key(*draft)?;
+            let now = instant(*now, Field::Now)?;
+            Ok(Command::Enable { key, now })
+        }
+        CommandDraft::Disable { key: draft, now } => {
+            let key = key(*draft)?;
+            let now = instant(*now, Field::Now)?;
+            Ok(Command::Disable { key, now })
+        }
+        CommandDraft::Apply { key: draft, now } => {
+            let key = key(*draft)?;
+            let now = instant(*now, Field::Now)?;
+            Ok(Command::Apply { key, now })
+        }
+        CommandDraft::Frame { frame: draft, now } => {
+            let frame = frame_of_draft(*draft)?;
+            let now = instant(*now, Field::Now)?;
+            Ok(Command::Frame { frame, now })
+        }
+        CommandDraft::States { key: draft, at } => {
+            let key = key(*draft)?;
+            let at = instant(*at, Field::At)?;
+            Ok(Command::States { key, at })
+        }
+        CommandDraft::Counters { key: draft } => Ok(Command::Counters { key: key(*draft)? }),
         CommandDraft::Show { key: draft } => Ok(Command::Show { key: key(*draft)? }),
         CommandDraft::List { kind } => Ok(Command::List { kind: *kind }),
+        CommandDraft::Since { after: number } => Ok(Command::Since {
+            after: after(*number)?,
+        }),
     }
 }

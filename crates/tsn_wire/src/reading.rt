@@ -4,19 +4,20 @@
 //! fault of shape anywhere comes before a fault of range. Nothing of the bridge is looked at.
 ghost use Rattle.std.specs.Prelude.{◌≡◌};
 ghost use Rattle.serde_json.specs.View.{view};
+ghost use Rattle.tsn_bridge.specs.Sessions.{most_sessions};
 ghost use Rattle.tsn_types.specs.declared.refusals.Field.TheVariants as fields;
-ghost use Rattle.tsn_wire.specs.Answers.{Reads, IsOrMemory, seen};
-ghost use Rattle.tsn_wire.specs.Ranges.{within};
+ghost use Rattle.tsn_records.specs.Answers.{Reads, IsOrMemory, seen};
+ghost use Rattle.tsn_records.specs.Ranges.{within};
 ghost use Rattle.tsn_wire.specs.Reading.{data_of, or_syntax, line_of_draft, reading, line_of};
 
 use crate::commands::line_shape;
 use crate::drafts::LineDraft;
 use crate::ranges::command_of_draft;
 use crate::spelled::spelled_draft;
-use crate::unread::Unread;
 use serde_json::Value;
 use std::alloc::Global;
 use tsn_bridge::command::Command;
+use tsn_records::unread::Unread;
 use tsn_types::refusals::{Field, Refusal};
 
 /// What a command line says.
@@ -38,7 +39,7 @@ fn value_of(alloc: Global, line: &[u8]) -> Result<Value, Unread>
 }
 
 fn session(number: u64) -> Result<u32, Unread>
-    ensures { result ≡ within fields.S 1 65535 number }
+    ensures { result ≡ within fields.S 1 most_sessions number }
 {
     if number < 1 || 65_535 < number {
         return Err(Unread::Range(Field::S));

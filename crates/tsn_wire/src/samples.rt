@@ -15,11 +15,36 @@ pub struct Row {
     pub field: Field,
 }
 
-const NUMBER: &'static str = "null -1 -0 1.0 1e0 18446744073709551616 true \"1\" [1] {}";
+pub const NUMBER: &'static str = "null -1 -0 1.0 1e0 18446744073709551616 true \"1\" [1] {}";
 
 const OR_NULL: &'static str = "-1 -0 1.0 1e0 18446744073709551616 true \"1\" [1] {}";
 
-const FLAG: &'static str = "null 0 1 \"true\" [] {}";
+pub const FLAG: &'static str = "null 0 1 \"true\" [] {}";
+
+// The members that a port and a stream gate share, beside their lists.
+const CYCLE: Row = Row {
+    name: "cycle",
+    good: "1 1000000000000",
+    out: "0 1000000000001 18446744073709551615",
+    wrong: NUMBER,
+    field: Field::Cycle,
+};
+
+const EXTENSION: Row = Row {
+    name: "extension",
+    good: "0 1000000000000",
+    out: "1000000000001 18446744073709551615",
+    wrong: NUMBER,
+    field: Field::Extension,
+};
+
+const BASE: Row = Row {
+    name: "base",
+    good: "0 4611686018427387904",
+    out: "4611686018427387905 18446744073709551615",
+    wrong: NUMBER,
+    field: Field::Base,
+};
 
 pub const PORT: [Row; 5] = [
     Row {
@@ -36,27 +61,9 @@ pub const PORT: [Row; 5] = [
         wrong: "null 0 {} \"[]\" [1] [[]] [[1]] [[1,2,3]] [[null,1]] [[1,null]] [[-1,1]] [[1,-1]] [[1.0,1]] [[true,1]] [{}]",
         field: Field::List,
     },
-    Row {
-        name: "cycle",
-        good: "1 1000000000000",
-        out: "0 1000000000001 18446744073709551615",
-        wrong: NUMBER,
-        field: Field::Cycle,
-    },
-    Row {
-        name: "extension",
-        good: "0 1000000000000",
-        out: "1000000000001 18446744073709551615",
-        wrong: NUMBER,
-        field: Field::Extension,
-    },
-    Row {
-        name: "base",
-        good: "0 4611686018427387904",
-        out: "4611686018427387905 18446744073709551615",
-        wrong: NUMBER,
-        field: Field::Base,
-    },
+    CYCLE,
+    EXTENSION,
+    BASE,
 ];
 
 pub const FILTER: [Row; 6] = [
@@ -126,27 +133,9 @@ pub const GATE: [Row; 8] = [
         wrong: "null 0 {} \"[]\" [1] [[]] [[true,0,1]] [[true,0,1,0,0]] [[1,0,1,0]] [[null,0,1,0]] [[true,-1,1,0]] [[true,0,null,0]] [[true,0,1.0,0]] [[true,0,1,true]] [{}]",
         field: Field::List,
     },
-    Row {
-        name: "cycle",
-        good: "1 1000000000000",
-        out: "0 1000000000001 18446744073709551615",
-        wrong: NUMBER,
-        field: Field::Cycle,
-    },
-    Row {
-        name: "extension",
-        good: "0 1000000000000",
-        out: "1000000000001 18446744073709551615",
-        wrong: NUMBER,
-        field: Field::Extension,
-    },
-    Row {
-        name: "base",
-        good: "0 4611686018427387904",
-        out: "4611686018427387905 18446744073709551615",
-        wrong: NUMBER,
-        field: Field::Base,
-    },
+    CYCLE,
+    EXTENSION,
+    BASE,
     Row {
         name: "invalid_rx",
         good: "true false",
@@ -239,6 +228,30 @@ pub const KINDS: [(&'static str, &'static [Row]); 4] = [
     ("filter 65535", &FILTER),
     ("gate 65535", &GATE),
     ("meter 65535", &METER),
+];
+
+/// Worked records: a key, and the record as it is shown.
+pub const RECORDS: [(&'static str, &'static str); 5] = [
+    (
+        "gate 0",
+        "{\"base\":0,\"cycle\":1000000,\"extension\":0,\"invalid_rx\":false,\"ipv\":null,\"list\":[],\"octets_exceeded\":false,\"open\":true}",
+    ),
+    (
+        "gate 65535",
+        "{\"base\":4611686018427387904,\"cycle\":2000,\"extension\":1,\"invalid_rx\":true,\"ipv\":7,\"list\":[[true,5,1000,150],[false,null,1000,null]],\"octets_exceeded\":true,\"open\":false}",
+    ),
+    (
+        "meter 0",
+        "{\"all_red\":false,\"aware\":false,\"cbs\":1500,\"cf\":false,\"cir\":8000000,\"drop_yellow\":false,\"ebs\":0,\"eir\":0}",
+    ),
+    (
+        "filter 3",
+        "{\"gate\":0,\"handle\":7,\"max_sdu\":1500,\"meter\":0,\"oversize\":true,\"priority\":null}",
+    ),
+    (
+        "port 1",
+        "{\"base\":0,\"cycle\":1000,\"extension\":0,\"gates\":255,\"list\":[[1,300],[128,700]]}",
+    ),
 ];
 
 /// The text of a record with these changes. The empty text leaves a member out; `more` stands behind the members.

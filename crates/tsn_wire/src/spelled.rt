@@ -1,22 +1,24 @@
 //! Lines in the service's own spelling, read with no tree.
 //!
 //! A line that is compact and has its members in ascending order of their names, as the service writes them, is read
-//! piece by piece, and only a list takes memory. Any other line is left to `serde_json`.
+//! piece by piece, and only a list takes memory. Any other line is left to `serde_json`, and so are a hello, acts on
+//! lists, frames and looks at states and counters.
 ghost use Rattle.std.specs.Prelude.{◌≡◌, ◌++◌, IfSome, codes, decimal};
 ghost use Rattle.std.specs.List.{AllByRecursion};
 ghost use Rattle.serde_json.specs.Data.{Data, boolean};
 ghost use Rattle.serde_json.specs.Written.{compact_text};
-ghost use Rattle.tsn_wire.specs.Keys.{kind_text, spelled_key};
+ghost use Rattle.tsn_records.specs.Keys.{kind_text, spelled_key};
 ghost use Rattle.tsn_wire.specs.Reading.{line_of_draft, reading};
-ghost use Rattle.tsn_wire.specs.Shown.{or_null};
-ghost use Rattle.tsn_wire.specs.Spelled.{port_entry_value, gate_entry_value, list_value, port_value, filter_value, gate_value, meter_value, IsSmall, IsKey, PortEntryIsSmall, GateEntryIsSmall, PortIsSmall, GateIsSmall, FilterIsSmall, MeterIsSmall, SpellsRecord, Spells};
+ghost use Rattle.tsn_records.specs.Shown.{or_null, list_array};
+ghost use Rattle.tsn_wire.specs.Spelled.{port_entry_value, gate_entry_value, port_value, filter_value, gate_value, meter_value, IsSmall, IsKey, PortEntryIsSmall, GateEntryIsSmall, PortIsSmall, GateIsSmall, FilterIsSmall, MeterIsSmall, SpellsRecord, Spells, SpellsFront};
 
 use crate::cursor::Cursor;
-use crate::drafts::{
-    CommandDraft, FilterDraft, GateDraft, GateEntryDraft, KeyDraft, LineDraft, MeterDraft,
-    PortDraft, PortEntryDraft, RecordDraft, ScheduleDraft,
-};
+use crate::drafts::{CommandDraft, LineDraft};
 use std::alloc::Global;
+use tsn_records::drafts::{
+    FilterDraft, GateDraft, GateEntryDraft, KeyDraft, MeterDraft, PortDraft, PortEntryDraft,
+    RecordDraft, ScheduleDraft,
+};
 use tsn_types::keys::Kind;
 use tsn_types::lists::ControlList;
 
@@ -99,7 +101,7 @@ const ENTRIES: u32 = 65_536;
 fn entries<E: SpelledEntry>(alloc: Global, text: &mut Cursor<'_>) -> Option<ControlList<E>>
     ensures small { IfSome result (AllByRecursion E.IsFit) }
     ensures text { IfSome result
-        (λ es. text.old ≡ compact_text (list_value E.value es) ++ text.new) }
+        (λ es. text.old ≡ compact_text (list_array E.value es) ++ text.new) }
 {
     text.expect("[")?;
     let mut list = ControlList::new(alloc);
@@ -299,8 +301,35 @@ fn command(alloc: Global, text: &mut Cursor<'_>) -> Option<CommandDraft>
         text.expect("\"")?;
         return Some(CommandDraft::List { kind });
     }
+    if text.take("undo_all\"") {
+        return Some(CommandDraft::UndoAll);
+    }
+    if text.take("redo\"") {
+        return Some(CommandDraft::Redo);
+    }
     text.expect("undo\"")?;
     Some(CommandDraft::Undo)
+}
+
+// What a since asks for, behind its member's name, and the command's word.
+fn after(text: &mut Cursor<'_>) -> Option<u64>
+    ensures { IfSome result (λ n. IsSmall n × (text.old ≡ decimal n ++ (codes ",\"do\":\"since\"" ++ text.new))) }
+{
+    let number = text.number()?;
+    text.expect(",\"do\":\"since\"")?;
+    Some(number)
+}
+
+// What comes before the session. A since begins with the member `after`, any other command with `do`.
+fn front(alloc: Global, text: &mut Cursor<'_>) -> Option<CommandDraft>
+    ensures { IfSome result (λ command. SpellsFront text.old command text.new) }
+{
+    if text.take("{\"after\":") {
+        let after = after(text)?;
+        return Some(CommandDraft::Since { after });
+    }
+    text.expect("{\"do\":\"")?;
+    command(alloc, text)
 }
 
 // The session, and the end of the line.
@@ -319,8 +348,7 @@ pub fn spelled_draft(alloc: Global, line: &[u8]) -> Option<LineDraft>
     ensures { IfSome result (λ draft. reading line.now ≡ line_of_draft draft) }
 {
     let mut text = Cursor::new(line);
-    text.expect("{\"do\":\"")?;
-    let command = command(alloc, &mut text)?;
+    let command = front(alloc, &mut text)?;
     let session = session(&mut text)?;
     match std::str::from_utf8(line) {
         Ok(_) => Some(LineDraft::Session { session, command }),

@@ -1,4 +1,6 @@
 //! Lines as a caller meets them: what is read, and which refusal comes.
+mod acting;
+mod shown;
 mod tables;
 
 use super::command_of;
@@ -6,8 +8,9 @@ use crate::samples::{printed, spaced};
 use std::alloc::Global;
 use std::test::Fail;
 use tsn_bridge::command::Command;
+use tsn_chain::frame::Frame;
 use tsn_types::keys::{Key, Kind};
-use tsn_types::numbers::{FilterId, GateId};
+use tsn_types::numbers::{FilterId, GateId, Handle, Instant, Octets, PortId, Priority};
 use tsn_types::refusals::{Field, Refusal};
 
 /// What a line asks for.
@@ -18,8 +21,17 @@ enum Asked {
     Replace(Key),
     Remove(Key),
     Undo,
+    UndoAll,
+    Redo,
+    Enable(Key, Instant),
+    Disable(Key, Instant),
+    Apply(Key, Instant),
+    Frame(Frame, Instant),
+    States(Key, Instant),
+    Counters(Key),
     Show(Key),
     List(Kind),
+    Since(u32),
 }
 
 fn read_line(alloc: Global, line: &[u8]) -> Result<(u32, Asked), Refusal> {
@@ -30,8 +42,17 @@ fn read_line(alloc: Global, line: &[u8]) -> Result<(u32, Asked), Refusal> {
         Command::Replace { key, .. } => Asked::Replace(*key),
         Command::Remove { key } => Asked::Remove(*key),
         Command::Undo => Asked::Undo,
+        Command::UndoAll => Asked::UndoAll,
+        Command::Redo => Asked::Redo,
+        Command::Enable { key, now } => Asked::Enable(*key, *now),
+        Command::Disable { key, now } => Asked::Disable(*key, *now),
+        Command::Apply { key, now } => Asked::Apply(*key, *now),
+        Command::Frame { frame, now } => Asked::Frame(*frame, *now),
+        Command::States { key, at } => Asked::States(*key, *at),
+        Command::Counters { key } => Asked::Counters(*key),
         Command::Show { key } => Asked::Show(*key),
         Command::List { kind } => Asked::List(*kind),
+        Command::Since { after } => Asked::Since(*after),
     };
     Ok((line.session, asked))
 }
@@ -41,22 +62,93 @@ fn reads_each_command(rt: HostRuntime) -> Result<(), Fail> {
     let alloc = rt.alloc();
     let gate = Key::Gate(GateId::new(0)?);
     let filter = Key::Filter(FilterId::new(65_535)?);
-    let found = read_line(alloc, b"{\"do\":\"hello\"}")?;
-    assert_eq!(rt; found, (0, Asked::Hello));
-    let found = read_line(alloc, b"{\"s\":65535,\"do\":\"undo\"}\r")?;
-    assert_eq!(rt; found, (65_535, Asked::Undo));
-    let found = read_line(
-        alloc,
-        b"{\"do\":\"remove\",\"key\":\"\\u0067ate 0\",\"s\":1}",
-    )?;
-    assert_eq!(rt; found, (1, Asked::Remove(gate)));
-    let found = read_line(
-        alloc,
-        b" {\"do\":\"show\",\"key\":\"filter 65535\",\"s\":2}",
-    )?;
-    assert_eq!(rt; found, (2, Asked::Show(filter)));
-    let found = read_line(alloc, b"{\"do\":\"list\",\"kind\":\"meter\",\"s\":2}")?;
-    assert_eq!(rt; found, (2, Asked::List(Kind::Meter)));
+    for (line, wanted) in [
+        (b"{\"do\":\"hello\"}".as_slice(), (0, Asked::Hello)),
+        (b"{\"s\":65535,\"do\":\"undo\"}\r", (65_535, Asked::Undo)),
+        (
+            b"{\"do\":\"remove\",\"key\":\"\\u0067ate 0\",\"s\":1}",
+            (1, Asked::Remove(gate)),
+        ),
+        (
+            b" {\"do\":\"show\",\"key\":\"filter 65535\",\"s\":2}",
+            (2, Asked::Show(filter)),
+        ),
+        (
+            b"{\"do\":\"list\",\"kind\":\"meter\",\"s\":2}",
+            (2, Asked::List(Kind::Meter)),
+        ),
+        (b"{\"do\":\"undo_all\",\"s\":1}", (1, Asked::UndoAll)),
+        (
+            b"{\"s\":65535,\"do\":\"undo_all\"}",
+            (65_535, Asked::UndoAll),
+        ),
+        (b"{\"do\":\"redo\",\"s\":1}", (1, Asked::Redo)),
+        (b"{\"s\":65535,\"do\":\"redo\"}", (65_535, Asked::Redo)),
+        (
+            b"{\"do\":\"since\",\"s\":1,\"after\":0}",
+            (1, Asked::Since(0)),
+        ),
+        (
+            b"{\"after\":4294967295,\"do\":\"since\",\"s\":65535}",
+            (65_535, Asked::Since(4_294_967_295)),
+        ),
+    ] {
+        assert_eq!(rt; read_line(alloc, line)?, wanted);
+    }
+    Ok(())
+}
+
+#[test]
+fn reads_acts_and_looks(rt: HostRuntime) -> Result<(), Fail> {
+    let alloc = rt.alloc();
+    let gate = Key::Gate(GateId::new(7)?);
+    let port = Key::Port(PortId::new(64)?);
+    let filter = Key::Filter(FilterId::new(0)?);
+    let now = Instant::new(1000)?;
+    let last = Instant::new(4_611_686_018_427_387_904)?;
+    for (line, wanted) in [
+        (
+            b"{\"do\":\"enable\",\"key\":\"gate 7\",\"now\":1000,\"s\":1}".as_slice(),
+            (1, Asked::Enable(gate, now)),
+        ),
+        (
+            b"{\"s\":2, \"now\":4611686018427387904, \"key\":\"port 64\", \"do\":\"disable\"}",
+            (2, Asked::Disable(port, last)),
+        ),
+        (
+            b"{\"do\":\"apply\",\"key\":\"port 64\",\"now\":1000,\"s\":65535}",
+            (65_535, Asked::Apply(port, now)),
+        ),
+        (
+            b"{\"at\":1000,\"do\":\"states\",\"key\":\"gate 7\",\"s\":1}",
+            (1, Asked::States(gate, now)),
+        ),
+        (
+            b"{\"do\":\"counters\",\"key\":\"filter 0\",\"s\":1}",
+            (1, Asked::Counters(filter)),
+        ),
+    ] {
+        assert_eq!(rt; read_line(alloc, line)?, wanted);
+    }
+    Ok(())
+}
+
+#[test]
+fn reads_frames(rt: HostRuntime) -> Result<(), Fail> {
+    let alloc = rt.alloc();
+    let frame = Frame {
+        handle: Handle::new(9)?,
+        priority: Priority::new(3)?,
+        octets: Octets::new(1522)?,
+        yellow: true,
+    };
+    let wanted = (1, Asked::Frame(frame, Instant::new(5)?));
+    for line in [
+        b"{\"do\":\"frame\",\"handle\":9,\"now\":5,\"octets\":1522,\"priority\":3,\"s\":1,\"yellow\":true}".as_slice(),
+        b"{\"yellow\":true, \"s\":1, \"priority\":3, \"octets\":1522, \"now\":5, \"handle\":9, \"do\":\"frame\"}",
+    ] {
+        assert_eq!(rt; read_line(alloc, line)?, wanted);
+    }
     Ok(())
 }
 
@@ -154,6 +246,21 @@ fn refuses_other_shapes(rt: HostRuntime) -> Result<(), Fail> {
         "{\"do\":\"remove\",\"key\":\"port 1\",\"s\":1}",
         "{\"do\":\"remove\",\"key\":\"port 65\",\"s\":70000}",
         "{\"do\":\"list\",\"kind\":\"ports\",\"s\":1}",
+        "{\"do\":\"undo_all\"}",
+        "{\"do\":\"undo_all\",\"key\":\"gate 0\",\"s\":1}",
+        "{\"do\":\"undo_al\",\"s\":1}",
+        "{\"do\":\"redo\"}",
+        "{\"do\":\"redo\",\"key\":\"gate 0\",\"s\":1}",
+        "{\"do\":\"Redo\",\"s\":70000}",
+        "{\"do\":\"since\",\"s\":1}",
+        "{\"after\":0,\"do\":\"since\"}",
+        "{\"after\":0,\"do\":\"undo\",\"s\":1}",
+        "{\"after\":0,\"do\":\"since\",\"key\":\"gate 0\",\"s\":1}",
+        "{\"after\":-1,\"do\":\"since\",\"s\":1}",
+        "{\"after\":1.0,\"do\":\"since\",\"s\":1}",
+        "{\"after\":\"1\",\"do\":\"since\",\"s\":1}",
+        "{\"after\":null,\"do\":\"since\",\"s\":70000}",
+        "{\"after\":18446744073709551616,\"do\":\"since\",\"s\":1}",
     ] {
         assert_eq!(rt;
             refusal(alloc, line.as_bytes())?,
@@ -190,6 +297,17 @@ fn refuses_ranges_in_order(rt: HostRuntime) -> Result<(), Fail> {
         ),
         ("{\"do\":\"show\",\"key\":\"port 0\",\"s\":1}", Field::Key),
         ("{\"do\":\"show\",\"key\":\"port 65\",\"s\":1}", Field::Key),
+        ("{\"do\":\"undo_all\",\"s\":0}", Field::S),
+        ("{\"do\":\"redo\",\"s\":65536}", Field::S),
+        (
+            "{\"after\":4294967296,\"do\":\"since\",\"s\":1}",
+            Field::After,
+        ),
+        (
+            "{\"after\":18446744073709551615,\"do\":\"since\",\"s\":1}",
+            Field::After,
+        ),
+        ("{\"after\":4294967296,\"do\":\"since\",\"s\":0}", Field::S),
     ] {
         let want = Some(Refusal::Range(field));
         assert_eq!(rt; refusal(alloc, line.as_bytes())?, want, "at {line}");

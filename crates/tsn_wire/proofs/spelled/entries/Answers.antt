@@ -1,7 +1,7 @@
 use Rattle.std.proofs.Common.{◌≡◌, ◌++◌, List, sym, subst, ◌∙◌}
 use Rattle.std.specs.List.{AllByRecursion}
 use Rattle.serde_json.specs.Written.{compact_text}
-use Rattle.tsn_wire.specs.Spelled.{list_value}
+use Rattle.tsn_records.specs.Shown.{list_array}
 use Rattle.tsn_wire.proofs.Spelling.{so_far, so_far_more, entries_close, all_more, none_yet}
 use Rattle.tsn_wire.proofs.spelled.entries.Goals as goal
 
@@ -16,7 +16,7 @@ returns-then-take-2-clause-small g c =
 pub returns-then-take-2-clause-text : goal.returns-then-take-2-clause-text
 returns-then-take-2-clause-text g c =
     let f = g.E.SpelledEntry.value in
-    subst (λ (l : List g.row.E.Denot). c.args.text.now ≡ compact_text (list_value f l) ++ c.take-in-entries.new.self) (sym c.in-Ok.ensures.ok)
+    subst (λ (l : List g.row.E.Denot). c.args.text.now ≡ compact_text (list_array f l) ++ c.take-in-entries.new.self) (sym c.in-Ok.ensures.ok)
     (entries_close f c.entries.list c.in_ok-entry.entry c.args.text.now c.expect.new.self c.entries.text c.spelled.new.text c.take-in-entries.new.self
     c.in_ok-expect.ensures (sym (c.take.ensures.kept c.if-take.false) ∙ c.entries.invariant.1) c.in_ok-entry.ensures.1 (c.take-in-entries.ensures.took c.if-take-2.true))
 

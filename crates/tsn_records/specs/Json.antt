@@ -1,0 +1,83 @@
+-- What a JSON value holds, as commands and records are made of it.
+use Rattle.std.specs.Prelude.{ℕ, suc, ◌==◌, List, [], ◌∷◌, Bool, if◌then◌else◌, is_some, Option, Some, None, option_map, option_and_then, Result, Ok, Err}
+use Rattle.serde_json.specs.Data.{Data, null, boolean, number, string, array, object, Items, no_items, item, Members, no_members, member}
+use Rattle.serde_json.specs.Find.{get, at, as_null, as_bool, as_number, as_str, as_array, as_u64}
+use Rattle.tsn_records.specs.declared.unread.Unread.{Unread}
+use Rattle.tsn_records.specs.declared.unread.Unread.TheVariants.{Shape}
+use Rattle.tsn_records.specs.Answers.{or_shape}
+
+abbrev pub members_len : Members → ℕ
+members_len no_members = 0
+members_len (member k d ms) = suc (members_len ms)
+
+-- how many members an object has; an object has each name once
+abbrev pub member_count : Data → ℕ
+member_count null = 0
+member_count (boolean b) = 0
+member_count (number n) = 0
+member_count (string s) = 0
+member_count (array ds) = 0
+member_count (object ms) = members_len ms
+
+-- the items of an array in order
+abbrev pub items_list : Items → List Data
+items_list no_items = []
+items_list (item d ds) = d ∷ items_list ds
+
+abbrev pub items_len : Items → ℕ
+items_len no_items = 0
+items_len (item d ds) = suc (items_len ds)
+
+-- how many items an array has
+abbrev pub item_count : Data → ℕ
+item_count null = 0
+item_count (boolean b) = 0
+item_count (number n) = 0
+item_count (string s) = 0
+item_count (array ds) = items_len ds
+item_count (object ms) = 0
+
+-- a whole number from 0 up, below 2^64, with no sign, fraction or exponent
+abbrev pub whole : Data → Option ℕ
+whole d = option_and_then as_u64 (as_number d)
+
+-- the same, or null for none
+abbrev pub whole_or_null : Data → Option (Option ℕ)
+whole_or_null d = if is_some (as_null d) then Some None else option_map Some (whole d)
+
+-- an object of that many members
+abbrev pub has_members : ℕ → Data → Result (Unit {0}) Unread
+has_members n d = if member_count d == n then Ok tt else Err Shape
+
+-- The member of a name, of the kind that is wanted; a fault of shape where there is none.
+abbrev pub number_at : List ℕ → Data → Result ℕ Unread
+number_at name d = or_shape (option_and_then whole (get name d))
+
+abbrev pub number_or_null_at : List ℕ → Data → Result (Option ℕ) Unread
+number_or_null_at name d = or_shape (option_and_then whole_or_null (get name d))
+
+abbrev pub flag_at : List ℕ → Data → Result Bool Unread
+flag_at name d = or_shape (option_and_then as_bool (get name d))
+
+abbrev pub text_at : List ℕ → Data → Result (List ℕ) Unread
+text_at name d = or_shape (option_and_then as_str (get name d))
+
+abbrev pub value_at : List ℕ → Data → Result Data Unread
+value_at name d = or_shape (get name d)
+
+abbrev pub items_at : List ℕ → Data → Result Items Unread
+items_at name d = or_shape (option_and_then as_array (get name d))
+
+-- The item at an index, of the kind that is wanted; a fault of shape where there is none.
+abbrev pub number_item : ℕ → Data → Result ℕ Unread
+number_item i d = or_shape (option_and_then whole (at i d))
+
+abbrev pub number_or_null_item : ℕ → Data → Result (Option ℕ) Unread
+number_or_null_item i d = or_shape (option_and_then whole_or_null (at i d))
+
+abbrev pub flag_item : ℕ → Data → Result Bool Unread
+flag_item i d = or_shape (option_and_then as_bool (at i d))
+
+-- an array of that many items
+abbrev pub has_items : ℕ → Data → Result (Unit {0}) Unread
+has_items n d = if item_count d == n then Ok tt else Err Shape

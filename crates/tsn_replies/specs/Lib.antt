@@ -1,0 +1,5 @@
+pub mod Examples
+pub mod Pieces
+pub mod Replies
+pub mod Running
+pub mod Told

@@ -1,0 +1,68 @@
+-- What replies tell as JSON values: a record under its key, numbers of instances, entries of the journal.
+use Rattle.std.specs.Prelude.{ℕ, List, map, codes}
+use Rattle.serde_json.specs.Data.{Data, string, array, object, member, no_members}
+use Rattle.serde_json.specs.View.{items_of}
+use Rattle.tsn_journal.specs.declared.entries.Act.{Act}
+use Rattle.tsn_journal.specs.declared.entries.Act.TheVariants.{Enable, Disable, Apply}
+use Rattle.tsn_journal.specs.declared.entries.Entry.{Entry}
+use Rattle.tsn_journal.specs.declared.entries.What.{What}
+use Rattle.tsn_journal.specs.declared.entries.What.TheVariants.{Made, Undone, Redone, Acted}
+use Rattle.tsn_types.specs.declared.keys.Key.{Key}
+use Rattle.tsn_records.specs.Keys.{key_text}
+use Rattle.tsn_types.specs.declared.records.Record.{Record}
+use Rattle.tsn_records.specs.Shown.{whole_data, record_data}
+
+-- `{"key":K,"record":R}`
+abbrev pub shown_data : Key → Record → Data
+shown_data k r = object (member (codes "key") (string (key_text k)) (member (codes "record") (record_data r) no_members))
+
+-- `{"ids":[..]}`
+abbrev pub ids_data : List ℕ → Data
+ids_data ids = object (member (codes "ids") (array (items_of (map whole_data ids))) no_members)
+
+-- the command that gives such an act
+abbrev pub act_name : Act → List ℕ
+act_name Enable = codes "enable"
+act_name Disable = codes "disable"
+act_name Apply = codes "apply"
+
+-- `{"entry":N,"key":K,"session":S,"what":"made"}`
+abbrev pub made_data : ℕ → ℕ → Key → Data
+made_data number session key =
+    object (member (codes "entry") (whole_data number)
+    (member (codes "key") (string (key_text key))
+    (member (codes "session") (whole_data session)
+    (member (codes "what") (string (codes "made")) no_members))))
+
+-- `{"entry":N,"key":K,"of":M,"session":S,"what":W}`, of the entry M that it takes back
+abbrev pub taking_back_data : ℕ → ℕ → ℕ → Key → List ℕ → Data
+taking_back_data number session of key word =
+    object (member (codes "entry") (whole_data number)
+    (member (codes "key") (string (key_text key))
+    (member (codes "of") (whole_data of)
+    (member (codes "session") (whole_data session)
+    (member (codes "what") (string word) no_members)))))
+
+-- `{"act":W,"entry":N,"key":K,"now":A,"session":S,"what":"acted"}`
+abbrev pub acted_data : ℕ → ℕ → Act → Key → ℕ → Data
+acted_data number session act key now =
+    object (member (codes "act") (string (act_name act))
+    (member (codes "entry") (whole_data number)
+    (member (codes "key") (string (key_text key))
+    (member (codes "now") (whole_data now)
+    (member (codes "session") (whole_data session)
+    (member (codes "what") (string (codes "acted")) no_members))))))
+
+-- what was done, under the entry's number and session
+abbrev pub what_data : ℕ → ℕ → What → Data
+what_data number session (Made e) = made_data number session e.key
+what_data number session (Undone of e) = taking_back_data number session of e.key (codes "undone")
+what_data number session (Redone of e) = taking_back_data number session of e.key (codes "redone")
+what_data number session (Acted act key now) = acted_data number session act key now
+
+abbrev pub entry_data : Entry → Data
+entry_data e = what_data e.number e.session e.what
+
+-- `{"entries":[..]}`
+abbrev pub entries_data : List Entry → Data
+entries_data es = object (member (codes "entries") (array (items_of (map entry_data es))) no_members)

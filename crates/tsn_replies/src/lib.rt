@@ -1,0 +1,15 @@
+//! The text of a reply: one line of compact JSON, its members in ascending order of their names.
+//!
+//! A reply is written to a writer of bytes piece by piece. None of it takes memory.
+#![tactic(auto)]
+
+pub mod laws;
+#[cfg(test)]
+mod printing;
+mod reply;
+mod running;
+mod shown;
+mod text;
+mod told;
+
+pub use reply::{write_refusal, write_reply};

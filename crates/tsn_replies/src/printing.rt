@@ -1,0 +1,32 @@
+//! For tests: what `serde_json` prints, and whether a reply is spelled so.
+use crate::reply::write_reply;
+use serde_json::Value;
+use std::alloc::Global;
+use std::process::Abort;
+use std::test::Fail;
+use tsn_bridge::reply::Reply;
+use tsn_bytes::MemOut;
+
+/// The value of a text as `serde_json` prints it: compact, the members in ascending order.
+pub fn printed(alloc: Global, text: &str) -> Result<String, Fail> {
+    match Value::from_str(alloc, text) {
+        Ok(value) => Ok(value.to_string(alloc)?),
+        Err(_) => Err(Fail::from("no value")),
+    }
+}
+
+/// The same, and a line feed.
+pub fn line_of(alloc: Global, text: &str) -> Result<String, Fail> {
+    let mut line = printed(alloc, text)?;
+    line.push_str("\n")?;
+    Ok(line)
+}
+
+/// The text is the line of the reply, and the same as `serde_json` prints of its value.
+pub fn spells(rt: &impl Abort, alloc: Global, reply: &Reply, text: &str) -> Result<(), Fail> {
+    assert_eq!(rt; line_of(alloc, text)?.as_str(), text);
+    let mut writer = MemOut::new(Vec::with_capacity(alloc, text.len())?, 1000, None);
+    write_reply(&mut writer, reply)?;
+    assert_eq!(rt; writer.as_slice(), text.as_bytes());
+    Ok(())
+}

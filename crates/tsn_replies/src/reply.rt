@@ -1,0 +1,224 @@
+//! Replies as lines of text: compact JSON, its members in ascending order of their names.
+//!
+//! A short reply is spelled in a buffer of fixed size and goes out in one piece; a record and a list go out in
+//! as many as they fill. No reply takes memory.
+ghost use Rattle.std.specs.Prelude.{◌≡◌, ◌+◌, ◌≤◌, ◌++◌, [], length, true, IfErr, OnOk, OnErr, codes};
+ghost use Rattle.std.specs.Io.KnownBytes.{Appends};
+ghost use Rattle.tsn_types.specs.Refusals.{name_of, field_name};
+ghost use Rattle.tsn_bytes.specs.Bytes.{IsCut};
+ghost use Rattle.tsn_replies.specs.Replies.{number_member, text_member, members_of, refusal_text, reply_text};
+ghost use Rattle.tsn_records.specs.Keys.{key_text};
+ghost use Rattle.tsn_bytes.specs.declared.bytes.Fault.TheVariants.{Write};
+
+use crate::running::{push_act, push_counters, push_state, push_verdict};
+use crate::shown::{push_key, write_ids, write_shown};
+use crate::text::{CAPACITY, ShortText};
+use crate::told::write_entries;
+use tsn_bridge::reply::Reply;
+use tsn_bytes::{ByteOut, Fault, put_all};
+use tsn_types::keys::Key;
+use tsn_types::refusals::{Field, Refusal};
+
+fn push_number_member(text: &mut ShortText, name: &str, number: u64)
+    requires { length text.old + length name.now + 24 ≤ CAPACITY }
+    ensures text { text.new ≡ text.old ++ number_member name.now number }
+    ensures len { length text.new ≤ length text.old + length name.now + 24 }
+{
+    text.push("\"");
+    text.push(name);
+    text.push("\":");
+    text.push_number(number);
+    text.push(",");
+}
+
+fn push_key_member(text: &mut ShortText, name: &str, key: Key)
+    requires { length text.old + length name.now + 33 ≤ CAPACITY }
+    ensures text { text.new ≡ text.old ++ text_member name.now (key_text key) }
+    ensures len { length text.new ≤ length text.old + length name.now + 33 }
+{
+    text.push("\"");
+    text.push(name);
+    text.push("\":\"");
+    push_key(text, key);
+    text.push("\",");
+}
+
+#[tactic(auto, using(crate::proofs::Names::field_name_short))]
+fn push_field_member(text: &mut ShortText, field: Field)
+    requires { length text.old + 22 ≤ CAPACITY }
+    ensures text { text.new ≡ text.old ++ text_member (codes "field") (field_name field) }
+    ensures len { length text.new ≤ length text.old + 22 }
+{
+    text.push("\"field\":\"");
+    text.push(field.name());
+    text.push("\",");
+}
+
+fn push_members(text: &mut ShortText, refusal: &Refusal)
+    requires { length text.old + 60 ≤ CAPACITY }
+    ensures text { text.new ≡ text.old ++ members_of refusal.now }
+    ensures len { length text.new ≤ length text.old + 60 }
+{
+    match *refusal {
+        Refusal::Range(field) => push_field_member(text, field),
+        Refusal::Missing(key) | Refusal::Exists(key) | Refusal::Dangling(key) => {
+            push_key_member(text, "key", key);
+        }
+        Refusal::Referred(by) => push_key_member(text, "by", by),
+        Refusal::Conflict { own, other } => {
+            push_number_member(text, "other", other);
+            push_number_member(text, "own", own);
+        }
+        Refusal::RedoConflict { other } => push_number_member(text, "other", other),
+        Refusal::TooLong
+        | Refusal::Syntax
+        | Refusal::Shape
+        | Refusal::NoSession
+        | Refusal::NothingToUndo
+        | Refusal::NothingToRedo
+        | Refusal::NotEnabled
+        | Refusal::EmptyList
+        | Refusal::Past
+        | Refusal::JournalFull
+        | Refusal::Memory => {}
+    }
+}
+
+#[tactic(auto, using(crate::proofs::Names::name_short))]
+fn push_refusal(text: &mut ShortText, refusal: &Refusal)
+    requires { text.old ≡ [] }
+    ensures { text.new ≡ refusal_text refusal.now }
+{
+    text.push("{");
+    push_members(text, refusal);
+    text.push("\"refused\":");
+    text.push_number(refusal.number());
+    text.push(",\"why\":\"");
+    text.push(refusal.name());
+    text.push("\"}\n");
+}
+
+fn push_session(text: &mut ShortText, session: u32)
+    requires { text.old ≡ [] }
+    ensures { text.new ≡ reply_text (Reply.Session session) }
+{
+    text.push("{\"session\":");
+    text.push_number(u64::from(session));
+    text.push("}\n");
+}
+
+fn push_entry(text: &mut ShortText, entry: u64)
+    requires { text.old ≡ [] }
+    ensures { text.new ≡ reply_text (Reply.Entry entry) }
+{
+    text.push("{\"entry\":");
+    text.push_number(entry);
+    text.push("}\n");
+}
+
+fn push_entry_of(text: &mut ShortText, entry: u64, of: u64)
+    requires { text.old ≡ [] }
+    ensures { text.new ≡ reply_text (Reply.EntryOf entry of) }
+{
+    text.push("{\"entry\":");
+    text.push_number(entry);
+    text.push(",\"of\":");
+    text.push_number(of);
+    text.push("}\n");
+}
+
+fn push_taken_back(text: &mut ShortText, count: u64, entry: u64)
+    requires { text.old ≡ [] }
+    ensures { text.new ≡ reply_text (Reply.TakenBack count entry) }
+{
+    text.push("{\"count\":");
+    text.push_number(count);
+    text.push(",\"entry\":");
+    text.push_number(entry);
+    text.push("}\n");
+}
+
+fn put_text<W: ByteOut>(writer: &mut W, text: &ShortText) -> Result<(), Fault>
+    ensures ok { OnOk result (Appends (W.taken writer.old) (W.taken writer.new) text.now) }
+    ensures worked { OnOk result (W.has_failed writer.new ≡ W.has_failed writer.old) }
+    ensures fault { IfErr result (λ e. e ≡ Write) }
+    ensures failed { OnErr result (W.has_failed writer.new ≡ true) }
+    ensures cut { OnErr result (IsCut (W.taken writer.old) (W.taken writer.new) text.now) }
+{
+    put_all(writer, text.as_slice())
+}
+
+/// Writes the line of a refusal, its line feed in it. It takes no memory. Its one fault is `Write`; what went out is
+/// then a front of the line.
+pub fn write_refusal<W: ByteOut>(writer: &mut W, refusal: &Refusal) -> Result<(), Fault>
+    ensures ok { OnOk result
+        (Appends (W.taken writer.old) (W.taken writer.new) (refusal_text refusal.now)) }
+    ensures worked { OnOk result (W.has_failed writer.new ≡ W.has_failed writer.old) }
+    ensures fault { IfErr result (λ e. e ≡ Write) }
+    ensures failed { OnErr result (W.has_failed writer.new ≡ true) }
+    ensures cut { OnErr result
+        (IsCut (W.taken writer.old) (W.taken writer.new) (refusal_text refusal.now)) }
+{
+    let mut line = ShortText::new();
+    push_refusal(&mut line, refusal);
+    put_text(writer, &line)
+}
+
+/// Writes the reply's line, its line feed in it. It takes no memory. Its one fault is `Write`; what went out is then a
+/// front of the line.
+pub fn write_reply<W: ByteOut>(writer: &mut W, reply: &Reply) -> Result<(), Fault>
+    ensures ok { OnOk result
+        (Appends (W.taken writer.old) (W.taken writer.new) (reply_text reply.now)) }
+    ensures worked { OnOk result (W.has_failed writer.new ≡ W.has_failed writer.old) }
+    ensures fault { IfErr result (λ e. e ≡ Write) }
+    ensures failed { OnErr result (W.has_failed writer.new ≡ true) }
+    ensures cut { OnErr result
+        (IsCut (W.taken writer.old) (W.taken writer.new) (reply_text reply.now)) }
+{
+    // One text for all: each local text would be cleared at entry.
+    let mut text = ShortText::new();
+    match reply {
+        Reply::Session { session } => {
+            push_session(&mut text, *session);
+            put_text(writer, &text)
+        }
+        Reply::Entry { entry } => {
+            push_entry(&mut text, *entry);
+            put_text(writer, &text)
+        }
+        Reply::EntryOf { entry, of } => {
+            push_entry_of(&mut text, *entry, *of);
+            put_text(writer, &text)
+        }
+        Reply::TakenBack { count, entry } => {
+            push_taken_back(&mut text, *count, *entry);
+            put_text(writer, &text)
+        }
+        Reply::Acted { change, entry, now } => {
+            push_act(&mut text, *change, *entry, *now);
+            put_text(writer, &text)
+        }
+        Reply::Framed(verdict) => {
+            push_verdict(&mut text, verdict);
+            put_text(writer, &text)
+        }
+        Reply::States(state) => {
+            push_state(&mut text, state);
+            put_text(writer, &text)
+        }
+        Reply::Counters(counters) => {
+            push_counters(&mut text, counters);
+            put_text(writer, &text)
+        }
+        Reply::Shown { key, value } => write_shown(writer, &mut text, *key, value),
+        Reply::Ids { ids } => write_ids(writer, &mut text, ids.as_slice()),
+        Reply::Entries { entries } => write_entries(writer, &mut text, entries.as_slice()),
+        Reply::Refused(refusal) => {
+            push_refusal(&mut text, refusal);
+            put_text(writer, &text)
+        }
+    }
+}
+
+#[cfg(test)]
+mod tests;

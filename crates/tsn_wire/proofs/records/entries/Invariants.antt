@@ -1,9 +1,0 @@
-use Rattle.std.proofs.Common.{◌≡◌, drop}
-use Rattle.serde_json.specs.View.{items_view}
-use Rattle.tsn_wire.specs.Answers.{each}
-use Rattle.tsn_wire.specs.Json.{items_list}
-use Rattle.tsn_wire.proofs.Entries.{with_front}
-use Rattle.tsn_wire.proofs.records.entries.Given as goal
-
-abbrev pub invariant-values : goal.invariant-values
-invariant-values g l = with_front l.list (each g.E.EntryShape.shape (items_list (items_view (drop l.value-index l.values)))) ≡ each g.E.EntryShape.shape (items_list (items_view l.values))

@@ -1,0 +1,146 @@
+-- The value of a command: what a line is that asks for it. A value holds each member once, in ascending order of the
+-- names, whatever their order in the line; so two lines with the same members, each of the same value, are one value.
+use Rattle.std.specs.Prelude.{◌≡◌, ◌↔◌, ℕ, ◌≤◌, List, Some, Ok, codes, ⊤}
+use Rattle.serde_json.specs.Data.{Data, boolean, string, object, member, no_members}
+use Rattle.tsn_bridge.specs.declared.command.Command.{Command}
+use Rattle.tsn_bridge.specs.declared.command.Command.TheVariants.{Hello, Create, Replace, Remove, Undo, UndoAll, Redo, Enable, Disable, Apply, Frame as FrameIn, States, Counters, Show, List as ListKind, Since}
+use Rattle.tsn_bridge.specs.Sessions.{most_sessions}
+use Rattle.tsn_chain.specs.declared.frame.Frame.{Frame}
+use Rattle.tsn_types.specs.declared.keys.Key.{Key}
+use Rattle.tsn_types.specs.declared.keys.Key.TheVariants.{Port, Filter, Gate, Meter}
+use Rattle.tsn_types.specs.declared.keys.Kind.{Kind}
+use Rattle.tsn_types.specs.declared.keys.Kind.TheVariants as kinds
+use Rattle.tsn_types.specs.InRange.{KeyedInRange}
+use Rattle.tsn_types.specs.Keys.{kind}
+use Rattle.tsn_types.specs.Numbers.{Within, IsHandle, IsInstanceId, IsInstant, IsPortId, IsPriority}
+use Rattle.tsn_records.specs.Keys.{key_text, kind_text}
+use Rattle.tsn_wire.specs.Ranges.{greatest_after, longest_frame}
+use Rattle.tsn_wire.specs.Reading.{data_of, line_of}
+use Rattle.tsn_records.specs.Shown.{whole_data, record_data}
+use Rattle.tsn_wire.specs.Spelled.{IsNoPort}
+
+-- `{"do":WORD,"s":S}`
+abbrev pub bare_data : List ℕ → ℕ → Data
+bare_data word s = object (member (codes "do") (string word) (member (codes "s") (whole_data s) no_members))
+
+-- `{"do":WORD,"key":K,"s":S}`
+abbrev pub keyed_data : List ℕ → ℕ → List ℕ → Data
+keyed_data word s key = object (member (codes "do") (string word) (member (codes "key") (string key) (member (codes "s") (whole_data s) no_members)))
+
+-- `{"do":WORD,"key":K,"record":R,"s":S}`
+abbrev pub edit_data : List ℕ → ℕ → List ℕ → Data → Data
+edit_data word s key value =
+    object (member (codes "do") (string word)
+    (member (codes "key") (string key)
+    (member (codes "record") value
+    (member (codes "s") (whole_data s) no_members))))
+
+-- `{"do":WORD,"key":K,"now":A,"s":S}`
+abbrev pub act_data : List ℕ → ℕ → List ℕ → ℕ → Data
+act_data word s key now =
+    object (member (codes "do") (string word)
+    (member (codes "key") (string key)
+    (member (codes "now") (whole_data now)
+    (member (codes "s") (whole_data s) no_members))))
+
+-- `{"do":"frame","handle":H,"now":A,"octets":O,"priority":Q,"s":S,"yellow":B}`
+abbrev pub frame_data : ℕ → Frame → ℕ → Data
+frame_data s frame now =
+    object (member (codes "do") (string (codes "frame"))
+    (member (codes "handle") (whole_data frame.handle)
+    (member (codes "now") (whole_data now)
+    (member (codes "octets") (whole_data frame.octets)
+    (member (codes "priority") (whole_data frame.priority)
+    (member (codes "s") (whole_data s)
+    (member (codes "yellow") (boolean frame.yellow) no_members)))))))
+
+-- `{"at":A,"do":"states","key":K,"s":S}`
+abbrev pub states_data : ℕ → List ℕ → ℕ → Data
+states_data s key at =
+    object (member (codes "at") (whole_data at)
+    (member (codes "do") (string (codes "states"))
+    (member (codes "key") (string key)
+    (member (codes "s") (whole_data s) no_members))))
+
+-- `{"do":"list","kind":N,"s":S}`
+abbrev pub listed_data : ℕ → List ℕ → Data
+listed_data s name = object (member (codes "do") (string (codes "list")) (member (codes "kind") (string name) (member (codes "s") (whole_data s) no_members)))
+
+-- `{"after":N,"do":"since","s":S}`
+abbrev pub asked_data : ℕ → ℕ → Data
+asked_data s after = object (member (codes "after") (whole_data after) (member (codes "do") (string (codes "since")) (member (codes "s") (whole_data s) no_members)))
+
+-- the value of a session's command, its record as it is shown; a hello names no session
+abbrev pub value_of : ℕ → Command → Data
+value_of s Hello = object (member (codes "do") (string (codes "hello")) no_members)
+value_of s (Create k r) = edit_data (codes "create") s (key_text k) (record_data r)
+value_of s (Replace k r) = edit_data (codes "replace") s (key_text k) (record_data r)
+value_of s (Remove k) = keyed_data (codes "remove") s (key_text k)
+value_of s Undo = bare_data (codes "undo") s
+value_of s UndoAll = bare_data (codes "undo_all") s
+value_of s Redo = bare_data (codes "redo") s
+value_of s (Enable k now) = act_data (codes "enable") s (key_text k) now
+value_of s (Disable k now) = act_data (codes "disable") s (key_text k) now
+value_of s (Apply k now) = act_data (codes "apply") s (key_text k) now
+value_of s (FrameIn frame now) = frame_data s frame now
+value_of s (States k at) = states_data s (key_text k) at
+value_of s (Counters k) = keyed_data (codes "counters") s (key_text k)
+value_of s (Show k) = keyed_data (codes "show") s (key_text k)
+value_of s (ListKind k) = listed_data s (kind_text k)
+value_of s (Since after) = asked_data s after
+
+-- a key whose number is in its range
+abbrev pub KeyInRange : Key → Type 0
+KeyInRange (Port n) = IsPortId n
+KeyInRange (Filter n) = IsInstanceId n
+KeyInRange (Gate n) = IsInstanceId n
+KeyInRange (Meter n) = IsInstanceId n
+
+-- ports and stream gates have a gate control list
+abbrev pub MayHaveList : Kind → Type 0
+MayHaveList kinds.Port = ⊤
+MayHaveList kinds.Filter = ⊥
+MayHaveList kinds.Gate = ⊤
+MayHaveList kinds.Meter = ⊥
+
+-- a key of a kind that has a list, and an instant
+pub record ListInRange (k : Key) (a : ℕ) : Type 0 where
+  pub key : KeyInRange k
+  pub list : MayHaveList (kind k)
+  pub instant : IsInstant a
+
+-- a frame at an instant
+pub record FrameInRange (f : Frame) (a : ℕ) : Type 0 where
+  pub handle : IsHandle f.handle
+  pub priority : IsPriority f.priority
+  pub octets : f.octets ≤ longest_frame
+  pub now : IsInstant a
+
+-- sessions are numbered from 1
+abbrev pub IsSession : ℕ → Type 0
+IsSession s = Within 1 most_sessions s
+
+-- what may be asked: every number in its range, a record of its key's kind, a port never removed, an act or a
+-- look only at what has a list; a hello has no session, which is written 0
+abbrev pub MayBeAsked : ℕ → Command → Type 0
+MayBeAsked s Hello = s ≡ 0
+MayBeAsked s (Create k r) = IsSession s × KeyedInRange k r
+MayBeAsked s (Replace k r) = IsSession s × KeyedInRange k r
+MayBeAsked s (Remove k) = IsSession s × KeyInRange k × IsNoPort (kind k)
+MayBeAsked s Undo = IsSession s
+MayBeAsked s UndoAll = IsSession s
+MayBeAsked s Redo = IsSession s
+MayBeAsked s (Enable k now) = IsSession s × ListInRange k now
+MayBeAsked s (Disable k now) = IsSession s × ListInRange k now
+MayBeAsked s (Apply k now) = IsSession s × ListInRange k now
+MayBeAsked s (FrameIn frame now) = IsSession s × FrameInRange frame now
+MayBeAsked s (States k at) = IsSession s × ListInRange k at
+MayBeAsked s (Counters k) = IsSession s × KeyInRange k
+MayBeAsked s (Show k) = IsSession s × KeyInRange k
+MayBeAsked s (ListKind k) = IsSession s
+MayBeAsked s (Since after) = IsSession s × (after ≤ greatest_after)
+
+-- A line is accepted as a command of a session exactly where that may be asked and the line is its value.
+abbrev pub AcceptsValues : Type 0
+AcceptsValues = (line : List ℕ) (s : ℕ) (command : Command) →
+    (line_of line ≡ Ok (record { session = s; command = command })) ↔ (MayBeAsked s command × (data_of line ≡ Some (value_of s command)))
