@@ -7,7 +7,7 @@ use Rattle.tsn_bytes.specs.declared.bytes.Fault.{Fault}
 use Rattle.tsn_bytes.specs.declared.bytes.Fault.TheVariants.{Read, Write, Memory, Exhausted}
 use Rattle.tsn_bridge.specs.State.{State}
 use Rattle.tsn_bridge.specs.declared.reply.Reply.{Reply}
-use Rattle.tsn_wire.specs.Replies.{reply_text}
+use Rattle.tsn_replies.specs.Replies.{reply_text}
 use Rattle.tsn_serve.specs.Answers.{Says, Answers, BreaksInWriting}
 use Rattle.tsn_serve.specs.Outcomes.{Moment, Outcome}
 

@@ -9,7 +9,7 @@ use Rattle.tsn_bridge.specs.declared.reply.Reply.TheVariants as replies
 use Rattle.tsn_bridge.specs.Machine.{Step}
 use Rattle.tsn_wire.specs.declared.reading.Line.{Line}
 use Rattle.tsn_wire.specs.Reading.{line_of}
-use Rattle.tsn_wire.specs.Replies.{reply_text}
+use Rattle.tsn_replies.specs.Replies.{reply_text}
 use Rattle.tsn_serve.specs.Script.{Answering, Breaking, IsFront}
 
 -- The reply to what a line reads as: that of a step of the bridge, or the refusal of reading, which changes nothing.

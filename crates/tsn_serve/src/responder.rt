@@ -12,7 +12,7 @@ ghost use Rattle.tsn_serve.specs.Outcomes.{Outcome, moment};
 use crate::line_buffer::{LineBuffer, MAX_LINE};
 use memchr::memchr;
 use std::alloc::Global;
-use tsn_wire::{ByteIn, ByteOut, Failed, Fault};
+use tsn_bytes::{ByteIn, ByteOut, Failed, Fault};
 
 // The most bytes of one read.
 const CHUNK: usize = 65536;

@@ -9,8 +9,10 @@ use crate::responder::{Responder, answer_lines};
 use std::alloc::Global;
 use tsn_bridge::bridge::Bridge;
 use tsn_bridge::reply::Reply;
+use tsn_bytes::{ByteIn, ByteOut, Fault};
+use tsn_replies::write_reply;
 use tsn_types::refusals::Refusal;
-use tsn_wire::{ByteIn, ByteOut, Fault, command_of, write_reply};
+use tsn_wire::command_of;
 
 // The most reads of one script.
 const READS: u64 = 4_294_967_296;

@@ -7,7 +7,7 @@ use crate::{answer_lines, example_cuts, one_cut};
 use fakes::{Lengths, LineFeeds};
 use std::alloc::{AllocError, Global};
 use std::test::Fail;
-use tsn_wire::{Failing, Fault, MemIn, MemOut};
+use tsn_bytes::{Failing, Fault, MemIn, MemOut};
 
 const READS: u64 = 1000000;
 

@@ -9,7 +9,7 @@ ghost use Rattle.tsnd.specs.Asking.{program, Asks};
 use clap::error::ErrorKind;
 use clap::{Command, Error};
 use std::alloc::{AllocError, Global};
-use tsn_wire::Fault;
+use tsn_bytes::Fault;
 
 /// What a command line asks for.
 #[derive(Drop)]

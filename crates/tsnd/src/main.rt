@@ -15,7 +15,7 @@ use std::io::ErrorKind;
 use std::process::ExitCode;
 use std::rt::Env;
 use std::{env, io};
-use tsn_wire::{Buffered, Fault, StdIo};
+use tsn_bytes::{Buffered, Fault, StdIo};
 
 /// The words of the command line, the program's name first; none where a word is no UTF-8.
 fn words_of<R: Env + AllocGlobal>(rt: &R) -> Result<Option<Vec<String>>, Fault> {

@@ -9,7 +9,7 @@ ghost use Rattle.tsnd.specs.Program.{IsTold, Runs, failure_line};
 use crate::arguments::{Asked, read_words};
 use crate::script::answer_script;
 use std::alloc::Global;
-use tsn_wire::{ByteIn, ByteOut, Fault, put_all};
+use tsn_bytes::{ByteIn, ByteOut, Fault, put_all};
 
 // The line that tells of a failure.
 fn failure_line(fault: Fault) -> &'static str

@@ -8,8 +8,8 @@ ghost use Rattle.tsn_serve.specs.Outcomes.{Outcome, moment, most_reads};
 
 use std::alloc::Global;
 use tsn_bridge::bridge::{Bridge, Setup};
+use tsn_bytes::{ByteIn, ByteOut, Fault};
 use tsn_serve::run_script;
-use tsn_wire::{ByteIn, ByteOut, Fault};
 
 /// A bridge with the standard setup. It is refused only for want of memory.
 fn standard_bridge(alloc: Global) -> Result<Bridge, Fault>

@@ -4,7 +4,7 @@ use crate::words_of;
 use std::alloc::{AllocError, Global};
 use std::process::Abort;
 use std::test::Fail;
-use tsn_wire::{Buffered, ByteOut, Failing, Fault, MemIn, MemOut};
+use tsn_bytes::{Buffered, ByteOut, Failing, Fault, MemIn, MemOut};
 
 const SCRIPT: &'static [u8] = b"{\"do\":\"hello\"}\n{\"do\":\"undo\",\"s\":1}\n";
 

@@ -3,7 +3,7 @@ ghost use Rattle.std.specs.Prelude.{◌≡◌, None, false};
 
 use crate::Responder;
 use std::alloc::Global;
-use tsn_wire::{ByteIn, ByteOut, Failed, Fault, put_all};
+use tsn_bytes::{ByteIn, ByteOut, Failed, Fault, put_all};
 
 /// Answers an empty line with `empty`, a line of 65,536 bytes with `longest`, a longer one with `too long`, and any
 /// other with `line`.

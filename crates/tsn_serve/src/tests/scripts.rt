@@ -1,12 +1,14 @@
 //! Whole scripts over a bridge: worked runs, in every spelling and in pieces of every kind, and cut at every call.
 use super::fakes::LineFeeds;
-use super::worked::{Exchange, FIRST_RUN, RECORDS, Spelling, input_of, replies_of};
+use super::worked::{
+    Exchange, FIRST_RUN, OTHERS_KEPT, RECORDS, REDONE, Spelling, input_of, replies_of,
+};
 use crate::{run_script, run_script_up_to};
 use std::alloc::{AllocError, Global};
 use std::process::Abort;
 use std::test::Fail;
 use tsn_bridge::bridge::{Bridge, Setup};
-use tsn_wire::{Buffered, Failing, Fault, MemIn, MemOut};
+use tsn_bytes::{Buffered, Failing, Fault, MemIn, MemOut};
 
 const SYNTAX: &'static [u8] = b"{\"refused\":2,\"why\":\"syntax\"}\n";
 
@@ -56,7 +58,12 @@ fn answers_well(
 
 #[test]
 fn worked_scripts_in_every_spelling(rt: HostRuntime) -> Result<(), Fail> {
-    for script in [FIRST_RUN.as_slice(), RECORDS.as_slice()] {
+    for script in [
+        FIRST_RUN.as_slice(),
+        RECORDS.as_slice(),
+        OTHERS_KEPT.as_slice(),
+        REDONE.as_slice(),
+    ] {
         for spelling in [
             Spelling::Own,
             Spelling::Spaced,

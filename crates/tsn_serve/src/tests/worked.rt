@@ -23,8 +23,8 @@ pub const FIRST_RUN: [Exchange; 6] = [
     (r#"{"do":"undo","s":1}"#, r#"{"entry":5,"of":2}"#),
 ];
 
-/// Records created, refused, listed, shown, removed and put back.
-pub const RECORDS: [Exchange; 25] = [
+/// Records created, refused, listed, shown, removed and put back, and what was done told.
+pub const RECORDS: [Exchange; 27] = [
     (r#"{"do":"hello"}"#, r#"{"session":1}"#),
     (r#"{"do":"list","kind":"filter","s":1}"#, r#"{"ids":[]}"#),
     (
@@ -79,6 +79,10 @@ pub const RECORDS: [Exchange; 25] = [
         r#"{"key":"filter 3","record":{"gate":0,"handle":7,"max_sdu":1500,"meter":0,"oversize":true,"priority":null}}"#,
     ),
     (
+        r#"{"after":3,"do":"since","s":1}"#,
+        r#"{"entries":[{"entry":4,"key":"filter 3","session":1,"what":"made"},{"entry":5,"key":"filter 3","of":4,"session":1,"what":"undone"}]}"#,
+    ),
+    (
         r#"{"do":"create","key":"gate 0","record":{"base":0,"cycle":1000000,"extension":0,"invalid_rx":false,"ipv":null,"list":[],"octets_exceeded":false,"open":true},"s":1}"#,
         r#"{"key":"gate 0","refused":7,"why":"exists"}"#,
     ),
@@ -106,10 +110,58 @@ pub const RECORDS: [Exchange; 25] = [
         r#"{"do":"replace","key":"port 1","record":{"base":0,"cycle":1000,"extension":0,"gates":255,"list":[[1,1],[1,1],[1,1],[1,1],[1,1],[1,1],[1,1],[1,1],[1,1],[1,1],[1,1],[1,1],[1,1],[1,1],[1,1],[1,1],[1,1]]},"s":9}"#,
         r#"{"field":"list","refused":4,"why":"range"}"#,
     ),
+    (r#"{"after":5,"do":"since","s":1}"#, r#"{"entries":[]}"#),
     (
         r#"{"do":"show","key":"gate 1","s":9}"#,
         r#"{"refused":5,"why":"no_session"}"#,
     ),
+];
+
+/// Two sessions' gates and filters, of which one takes back all that is its own.
+pub const OTHERS_KEPT: [Exchange; 9] = [
+    (r#"{"do":"hello"}"#, r#"{"session":1}"#),
+    (r#"{"do":"hello"}"#, r#"{"session":2}"#),
+    (
+        r#"{"do":"create","key":"gate 1","record":{"base":0,"cycle":1000000,"extension":0,"invalid_rx":false,"ipv":null,"list":[],"octets_exceeded":false,"open":true},"s":1}"#,
+        r#"{"entry":1}"#,
+    ),
+    (
+        r#"{"do":"create","key":"gate 2","record":{"base":0,"cycle":1000000,"extension":0,"invalid_rx":false,"ipv":null,"list":[],"octets_exceeded":false,"open":true},"s":2}"#,
+        r#"{"entry":2}"#,
+    ),
+    (
+        r#"{"do":"create","key":"filter 0","record":{"gate":1,"handle":7,"max_sdu":1500,"meter":null,"oversize":true,"priority":null},"s":1}"#,
+        r#"{"entry":3}"#,
+    ),
+    (
+        r#"{"do":"create","key":"filter 1","record":{"gate":2,"handle":7,"max_sdu":1500,"meter":null,"oversize":true,"priority":null},"s":2}"#,
+        r#"{"entry":4}"#,
+    ),
+    (r#"{"do":"undo_all","s":1}"#, r#"{"count":2,"entry":6}"#),
+    (r#"{"do":"list","kind":"filter","s":1}"#, r#"{"ids":[1]}"#),
+    (r#"{"do":"list","kind":"gate","s":1}"#, r#"{"ids":[2]}"#),
+];
+
+/// A redo that a colleague's undo stands against, until the colleague redoes.
+pub const REDONE: [Exchange; 9] = [
+    (r#"{"do":"hello"}"#, r#"{"session":1}"#),
+    (r#"{"do":"hello"}"#, r#"{"session":2}"#),
+    (
+        r#"{"do":"create","key":"meter 2","record":{"all_red":false,"aware":false,"cbs":1500,"cf":false,"cir":8000000,"drop_yellow":false,"ebs":0,"eir":0},"s":2}"#,
+        r#"{"entry":1}"#,
+    ),
+    (
+        r#"{"do":"replace","key":"meter 2","record":{"all_red":false,"aware":false,"cbs":900,"cf":false,"cir":8000000,"drop_yellow":false,"ebs":0,"eir":0},"s":1}"#,
+        r#"{"entry":2}"#,
+    ),
+    (r#"{"do":"undo","s":1}"#, r#"{"entry":3,"of":2}"#),
+    (r#"{"do":"undo","s":2}"#, r#"{"entry":4,"of":1}"#),
+    (
+        r#"{"do":"redo","s":1}"#,
+        r#"{"other":4,"refused":13,"why":"redo_conflict"}"#,
+    ),
+    (r#"{"do":"redo","s":2}"#, r#"{"entry":5,"of":4}"#),
+    (r#"{"do":"redo","s":1}"#, r#"{"entry":6,"of":3}"#),
 ];
 
 /// How a line may be spelled.
