@@ -1,5 +1,7 @@
 //! Commands of the worked examples: two ports, tables of sixteen, lists of up to sixteen entries. The scripts of
 //! `tsn_serve` try more of them.
+//! A test makes a bridge and lends it to a function that steps it: so its proof goes once over the bridge's end, and
+//! not at each place where want of memory ends a step.
 ghost use Rattle.std.specs.Prelude.{◌≡◌, ◌≤◌, ◌^◌};
 
 mod acts;
@@ -73,18 +75,34 @@ fn is_entry(reply: Reply, number: u64) -> bool {
     }
 }
 
-fn refusal_of(reply: Reply) -> Option<Refusal> {
+/// Whether the entry was made that takes back the other.
+fn took(reply: Reply, number: u64, taken: u64) -> bool {
     match &reply {
-        Reply::Refused(refusal) => Some(*refusal),
-        _ => None,
+        Reply::EntryOf { entry, of } => *entry == number && *of == taken,
+        _ => false,
+    }
+}
+
+/// Whether the command was refused for this cause.
+fn is_refused(reply: Reply, wanted: Refusal) -> bool {
+    match &reply {
+        Reply::Refused(why) => *why == wanted,
+        _ => false,
+    }
+}
+
+/// Whether a hello was answered by the session of the number.
+fn is_session(reply: Reply, number: u32) -> bool {
+    match &reply {
+        Reply::Session { session } => *session == number,
+        _ => false,
     }
 }
 
 /// A bridge that has given out session 1.
 fn greeted(rt: &impl Abort, alloc: Global) -> Result<Bridge, Refusal> {
     let mut bridge = Bridge::new(alloc, Setup::standard(alloc))?;
-    let reply = bridge.step(0, Command::Hello);
-    assert!(rt; matches!(reply, Reply::Session { session: 1 }));
+    assert!(rt; is_session(bridge.step(0, Command::Hello), 1));
     Ok(bridge)
 }
 
@@ -97,70 +115,114 @@ fn fill(bridge: &mut Bridge, pairs: u32) -> Result<(), Refusal> {
     Ok(())
 }
 
-#[test]
-fn entries_are_made_and_taken_back(rt: HostRuntime) -> Result<(), Fail> {
-    let mut bridge = greeted(&rt, rt.alloc())?;
-    assert!(rt; is_entry(create(&mut bridge, 1, 5)?, 1));
+fn make_and_take_back(rt: &impl Abort, bridge: &mut Bridge) -> Result<(), Fail> {
+    assert!(rt; is_entry(create(bridge, 1, 5)?, 1));
     assert!(rt; bridge.config().get(meter_key(5)).is_some());
-    let undone = step(&mut bridge, 1, Command::Undo)?;
-    assert!(rt; matches!(undone, Reply::EntryOf { entry: 2, of: 1 }));
+    assert!(rt; took(step(bridge, 1, Command::Undo)?, 2, 1));
     assert!(rt; bridge.config().get(meter_key(5)).is_none());
-    let nothing = step(&mut bridge, 1, Command::Undo)?;
-    assert_eq!(rt; refusal_of(nothing), Some(Refusal::NothingToUndo));
+    assert!(rt; is_refused(step(bridge, 1, Command::Undo)?, Refusal::NothingToUndo));
     Ok(())
 }
 
-// Whether the meter 5 that a show answers has this rate.
+#[test]
+fn entries_are_made_and_taken_back(rt: HostRuntime) -> Result<(), Fail> {
+    let mut bridge = greeted(&rt, rt.alloc())?;
+    make_and_take_back(&rt, &mut bridge)
+}
+
+/// Whether the reply shows meter 5 with this rate.
+fn is_meter(reply: Reply, rate: u64) -> bool
+    requires { rate ≤ 10 ^ 12 }
+{
+    match &reply {
+        Reply::Shown { key, value } => *key == meter_key(5) && *value == meter_of(rate),
+        _ => false,
+    }
+}
+
+/// Whether meter 5 is shown with this rate.
 fn is_shown(bridge: &mut Bridge, rate: u64) -> Result<bool, Refusal>
     requires { rate ≤ 10 ^ 12 }
 {
-    match step(bridge, 1, Command::Show { key: meter_key(5) })? {
-        Reply::Shown { key, value } => Ok(key == meter_key(5) && value == meter_of(rate)),
-        _ => Ok(false),
-    }
+    let reply = step(bridge, 1, Command::Show { key: meter_key(5) })?;
+    Ok(is_meter(reply, rate))
+}
+
+fn replace(bridge: &mut Bridge, session: u32, number: u64, rate: u64) -> Result<Reply, Refusal>
+    requires key { number ≤ 65535 }
+    requires rate { rate ≤ 10 ^ 12 }
+{
+    let command = Command::Replace {
+        key: meter_key(number),
+        value: meter_of(rate),
+    };
+    step(bridge, session, command)
+}
+
+fn remove(bridge: &mut Bridge, session: u32, number: u64) -> Result<Reply, Refusal>
+    requires { number ≤ 65535 }
+{
+    let key = meter_key(number);
+    step(bridge, session, Command::Remove { key })
+}
+
+fn replace_and_remove(rt: &impl Abort, bridge: &mut Bridge) -> Result<(), Fail> {
+    assert!(rt; is_entry(create(bridge, 1, 5)?, 1));
+    assert!(rt; is_shown(bridge, 8_000_000)?);
+    assert!(rt; is_entry(replace(bridge, 1, 5, 9_000_000)?, 2));
+    assert!(rt; is_shown(bridge, 9_000_000)?);
+    assert!(rt; is_entry(remove(bridge, 1, 5)?, 3));
+    assert!(rt; !is_shown(bridge, 9_000_000)?);
+    assert!(rt; took(step(bridge, 1, Command::Undo)?, 4, 3));
+    assert!(rt; is_shown(bridge, 9_000_000)?);
+    Ok(())
 }
 
 #[test]
 fn a_record_is_replaced_and_removed(rt: HostRuntime) -> Result<(), Fail> {
     let mut bridge = greeted(&rt, rt.alloc())?;
-    assert!(rt; is_entry(create(&mut bridge, 1, 5)?, 1));
-    let replace = Command::Replace {
-        key: meter_key(5),
-        value: meter_of(9_000_000),
-    };
-    assert!(rt; is_shown(&mut bridge, 8_000_000)?);
-    assert!(rt; is_entry(step(&mut bridge, 1, replace)?, 2));
-    assert!(rt; is_shown(&mut bridge, 9_000_000)?);
-    let removal = step(&mut bridge, 1, Command::Remove { key: meter_key(5) })?;
-    assert!(rt; is_entry(removal, 3));
-    assert!(rt; !is_shown(&mut bridge, 9_000_000)?);
-    let undone = step(&mut bridge, 1, Command::Undo)?;
-    assert!(rt; matches!(undone, Reply::EntryOf { entry: 4, of: 3 }));
-    assert!(rt; is_shown(&mut bridge, 9_000_000)?);
+    replace_and_remove(&rt, &mut bridge)
+}
+
+/// Whether the reply lists these numbers.
+fn lists(reply: Reply, wanted: &[u64]) -> bool {
+    match &reply {
+        Reply::Ids { ids } => ids.as_slice() == wanted,
+        _ => false,
+    }
+}
+
+fn show_and_list(rt: &impl Abort, bridge: &mut Bridge) -> Result<(), Fail> {
+    assert!(rt; is_entry(create(bridge, 1, 5)?, 1));
+    assert!(rt; is_shown(bridge, 8_000_000)?);
+    assert!(rt;
+        lists(
+            step(bridge, 1, Command::List { kind: Kind::Port })?,
+            &[1, 2]
+        )
+    );
+    assert!(rt; lists(step(bridge, 1, Command::List { kind: Kind::Meter })?, &[5]));
     Ok(())
 }
 
 #[test]
 fn a_record_is_shown_and_listed(rt: HostRuntime) -> Result<(), Fail> {
     let mut bridge = greeted(&rt, rt.alloc())?;
-    assert!(rt; is_entry(create(&mut bridge, 1, 5)?, 1));
-    match step(&mut bridge, 1, Command::Show { key: meter_key(5) })? {
-        Reply::Shown { key, value } => assert!(rt; key == meter_key(5) && value == meter()),
-        _ => assert!(rt; false, "the meter is shown"),
+    show_and_list(&rt, &mut bridge)
+}
+
+/// How many entries the reply tells.
+fn entries_told(reply: Reply) -> Option<usize> {
+    match &reply {
+        Reply::Entries { entries } => Some(entries.as_slice().len()),
+        _ => None,
     }
-    match step(&mut bridge, 1, Command::List { kind: Kind::Port })? {
-        Reply::Ids { ids } => assert!(rt; ids.as_slice() == [1u64, 2].as_slice()),
-        _ => assert!(rt; false, "the ports are listed"),
-    }
-    Ok(())
 }
 
 /// How many entries are told that come after the number.
-fn count_after(bridge: &mut Bridge, after: u32) -> Result<usize, Refusal> {
-    match step(bridge, 1, Command::Since { after })? {
-        Reply::Entries { entries } => Ok(entries.as_slice().len()),
-        _ => Ok(65_537),
-    }
+fn count_after(bridge: &mut Bridge, after: u32) -> Result<Option<usize>, Refusal> {
+    let reply = step(bridge, 1, Command::Since { after })?;
+    Ok(entries_told(reply))
 }
 
 /// Whether they are one entry: the undo of entry 3 by session 1, under the number 4.
@@ -176,16 +238,20 @@ fn are_the_undo(entries: &[Entry]) -> bool {
     }
 }
 
+fn tell_greater_numbers(rt: &impl Abort, bridge: &mut Bridge) -> Result<(), Fail> {
+    fill(bridge, 2)?;
+    assert_eq!(rt; bridge.journal().len(), 4);
+    assert_eq!(rt; count_after(bridge, 0)?, Some(4));
+    assert_eq!(rt; count_after(bridge, 2)?, Some(2));
+    assert_eq!(rt; count_after(bridge, 4)?, Some(0));
+    assert_eq!(rt; count_after(bridge, 4_294_967_295)?, Some(0));
+    Ok(())
+}
+
 #[test]
 fn entries_of_a_greater_number_are_told(rt: HostRuntime) -> Result<(), Fail> {
     let mut bridge = greeted(&rt, rt.alloc())?;
-    fill(&mut bridge, 2)?;
-    assert_eq!(rt; bridge.journal().len(), 4);
-    assert_eq!(rt; count_after(&mut bridge, 0)?, 4);
-    assert_eq!(rt; count_after(&mut bridge, 2)?, 2);
-    assert_eq!(rt; count_after(&mut bridge, 4)?, 0);
-    assert_eq!(rt; count_after(&mut bridge, 4_294_967_295)?, 0);
-    Ok(())
+    tell_greater_numbers(&rt, &mut bridge)
 }
 
 /// Whether the reply tells one entry: the undo of entry 3 by session 1, under the number 4.
@@ -196,14 +262,18 @@ fn tells_the_undo(reply: Reply) -> bool {
     }
 }
 
+fn tell_the_last(rt: &impl Abort, bridge: &mut Bridge) -> Result<(), Fail> {
+    fill(bridge, 2)?;
+    assert!(rt; tells_the_undo(step(bridge, 1, Command::Since { after: 3 })?));
+    let stranger = step(bridge, 2, Command::Since { after: 0 })?;
+    assert!(rt; is_refused(stranger, Refusal::NoSession));
+    Ok(())
+}
+
 #[test]
 fn an_entry_is_told_as_it_was_made(rt: HostRuntime) -> Result<(), Fail> {
     let mut bridge = greeted(&rt, rt.alloc())?;
-    fill(&mut bridge, 2)?;
-    assert!(rt; tells_the_undo(step(&mut bridge, 1, Command::Since { after: 3 })?));
-    let stranger = step(&mut bridge, 2, Command::Since { after: 0 })?;
-    assert_eq!(rt; refusal_of(stranger), Some(Refusal::NoSession));
-    Ok(())
+    tell_the_last(&rt, &mut bridge)
 }
 
 /// Whether so many entries were taken back, the last one by the entry of the number.
@@ -214,47 +284,47 @@ fn took_back(reply: Reply, wanted: u64, last: u64) -> bool {
     }
 }
 
-/// Whether the entry was made that takes back the other.
-fn took(reply: Reply, number: u64, taken: u64) -> bool {
-    match &reply {
-        Reply::EntryOf { entry, of } => *entry == number && *of == taken,
-        _ => false,
-    }
+fn take_all_back(rt: &impl Abort, bridge: &mut Bridge) -> Result<(), Fail> {
+    assert!(rt; is_entry(create(bridge, 1, 1)?, 1));
+    assert!(rt; is_entry(create(bridge, 1, 2)?, 2));
+    assert!(rt; took_back(step(bridge, 1, Command::UndoAll)?, 2, 4));
+    assert!(rt; bridge.config().get(meter_key(1)).is_none());
+    assert!(rt; bridge.config().get(meter_key(2)).is_none());
+    assert!(rt; is_refused(step(bridge, 1, Command::UndoAll)?, Refusal::NothingToUndo));
+    Ok(())
 }
 
 #[test]
 fn all_that_a_session_did_is_taken_back(rt: HostRuntime) -> Result<(), Fail> {
     let mut bridge = greeted(&rt, rt.alloc())?;
-    assert!(rt; is_entry(create(&mut bridge, 1, 1)?, 1));
-    assert!(rt; is_entry(create(&mut bridge, 1, 2)?, 2));
-    assert!(rt; took_back(step(&mut bridge, 1, Command::UndoAll)?, 2, 4));
-    assert!(rt; bridge.config().get(meter_key(1)).is_none());
-    assert!(rt; bridge.config().get(meter_key(2)).is_none());
-    let nothing = step(&mut bridge, 1, Command::UndoAll)?;
-    assert_eq!(rt; refusal_of(nothing), Some(Refusal::NothingToUndo));
+    take_all_back(&rt, &mut bridge)
+}
+
+fn take_back_and_redo(rt: &impl Abort, bridge: &mut Bridge) -> Result<(), Fail> {
+    assert!(rt; is_entry(create(bridge, 1, 1)?, 1));
+    assert!(rt; took_back(step(bridge, 1, Command::UndoAll)?, 1, 2));
+    assert!(rt; took(step(bridge, 1, Command::Redo)?, 3, 2));
+    assert!(rt; bridge.config().get(meter_key(1)).is_some());
+    assert!(rt; is_refused(step(bridge, 1, Command::Redo)?, Refusal::NothingToRedo));
     Ok(())
 }
 
 #[test]
 fn what_was_taken_back_is_redone(rt: HostRuntime) -> Result<(), Fail> {
     let mut bridge = greeted(&rt, rt.alloc())?;
-    assert!(rt; is_entry(create(&mut bridge, 1, 1)?, 1));
-    assert!(rt; took_back(step(&mut bridge, 1, Command::UndoAll)?, 1, 2));
-    assert!(rt; took(step(&mut bridge, 1, Command::Redo)?, 3, 2));
-    assert!(rt; bridge.config().get(meter_key(1)).is_some());
-    let nothing = step(&mut bridge, 1, Command::Redo)?;
-    assert_eq!(rt; refusal_of(nothing), Some(Refusal::NothingToRedo));
+    take_back_and_redo(&rt, &mut bridge)
+}
+
+fn refuse_a_stranger(rt: &impl Abort, bridge: &mut Bridge) -> Result<(), Fail> {
+    assert!(rt; is_refused(step(bridge, 2, Command::UndoAll)?, Refusal::NoSession));
+    assert!(rt; is_refused(step(bridge, 2, Command::Redo)?, Refusal::NoSession));
     Ok(())
 }
 
 #[test]
 fn a_stranger_takes_nothing_back(rt: HostRuntime) -> Result<(), Fail> {
     let mut bridge = greeted(&rt, rt.alloc())?;
-    let all = step(&mut bridge, 2, Command::UndoAll)?;
-    assert_eq!(rt; refusal_of(all), Some(Refusal::NoSession));
-    let one = step(&mut bridge, 2, Command::Redo)?;
-    assert_eq!(rt; refusal_of(one), Some(Refusal::NoSession));
-    Ok(())
+    refuse_a_stranger(&rt, &mut bridge)
 }
 
 fn gate_key(number: u64) -> Key
@@ -327,66 +397,69 @@ fn create_gate(alloc: Global, bridge: &mut Bridge) -> Result<bool, Refusal> {
     Ok(is_entry(step(bridge, 1, created)?, 4))
 }
 
-/// Whether the gates are 0 and 1.
-fn has_both_gates(bridge: &mut Bridge) -> Result<bool, Refusal> {
-    let reply = step(bridge, 1, Command::List { kind: Kind::Gate })?;
-    Ok(match &reply {
-        Reply::Ids { ids } => ids.as_slice() == [0u64, 1].as_slice(),
-        _ => false,
-    })
+fn refuse_all(rt: &impl Abort, alloc: Global, bridge: &mut Bridge) -> Result<(), Fail> {
+    assert!(rt; is_session(step(bridge, 0, Command::Hello)?, 1));
+    assert!(rt; is_session(step(bridge, 0, Command::Hello)?, 2));
+    assert!(rt; is_entry(create(bridge, 1, 5)?, 1));
+    assert!(rt; edit_filter(bridge)?);
+    assert!(rt; create_gate(alloc, bridge)?);
+    let conflict = Refusal::Conflict { own: 1, other: 2 };
+    assert!(rt; is_refused(step(bridge, 1, Command::UndoAll)?, conflict));
+    assert!(rt;
+        lists(
+            step(bridge, 1, Command::List { kind: Kind::Gate })?,
+            &[0, 1]
+        )
+    );
+    Ok(())
 }
 
 #[test]
 fn undo_all_or_nothing(rt: HostRuntime) -> Result<(), Fail> {
     let mut bridge = with_gate(rt.alloc())?;
-    let _ = step(&mut bridge, 0, Command::Hello)?;
-    let _ = step(&mut bridge, 0, Command::Hello)?;
-    assert!(rt; is_entry(create(&mut bridge, 1, 5)?, 1));
-    assert!(rt; edit_filter(&mut bridge)?);
-    assert!(rt; create_gate(rt.alloc(), &mut bridge)?);
-    let all = step(&mut bridge, 1, Command::UndoAll)?;
-    assert_eq!(rt;
-        refusal_of(all),
-        Some(Refusal::Conflict { own: 1, other: 2 })
-    );
-    assert!(rt; has_both_gates(&mut bridge)?);
+    refuse_all(&rt, rt.alloc(), &mut bridge)
+}
+
+fn refuse_beyond_limits(rt: &impl Abort, bridge: &mut Bridge) -> Result<(), Fail> {
+    let key = Refusal::Range(Field::Key);
+    assert!(rt; is_refused(create(bridge, 2, 16)?, key));
+    assert!(rt; is_refused(create(bridge, 2, 0)?, Refusal::NoSession));
+    assert!(rt; is_refused(step(bridge, 2, Command::Show { key: meter_key(16) })?, key));
+    assert!(rt; is_refused(step(bridge, 0, Command::Undo)?, Refusal::NoSession));
     Ok(())
 }
 
 #[test]
 fn limits_come_before_the_session(rt: HostRuntime) -> Result<(), Fail> {
     let mut bridge = greeted(&rt, rt.alloc())?;
-    let key = Some(Refusal::Range(Field::Key));
-    assert_eq!(rt; refusal_of(create(&mut bridge, 2, 16)?), key);
-    assert_eq!(rt;
-        refusal_of(create(&mut bridge, 2, 0)?),
-        Some(Refusal::NoSession)
-    );
-    assert_eq!(rt;
-        refusal_of(step(&mut bridge, 2, Command::Show { key: meter_key(16) })?),
-        key
-    );
-    assert_eq!(rt;
-        refusal_of(step(&mut bridge, 0, Command::Undo)?),
-        Some(Refusal::NoSession)
-    );
+    refuse_beyond_limits(&rt, &mut bridge)
+}
+
+fn give_out_every_session(rt: &impl Abort, bridge: &mut Bridge) -> Result<(), Fail> {
+    for number in 2..65_536u32 {
+        assert!(rt; is_session(step(bridge, 0, Command::Hello)?, number));
+    }
+    let more = Refusal::Range(Field::Session);
+    assert!(rt; is_refused(step(bridge, 0, Command::Hello)?, more));
+    assert!(rt; is_entry(create(bridge, 65_535, 1)?, 1));
+    assert!(rt; is_refused(create(bridge, 65_536, 2)?, Refusal::NoSession));
     Ok(())
 }
 
 #[test]
 fn sessions_are_given_out_until_the_last(rt: HostRuntime) -> Result<(), Fail> {
     let mut bridge = greeted(&rt, rt.alloc())?;
-    for number in 2..65_536u32 {
-        let reply = step(&mut bridge, 0, Command::Hello)?;
-        assert!(rt; matches!(reply, Reply::Session { session } if session == number));
-    }
-    let more = step(&mut bridge, 0, Command::Hello)?;
-    assert_eq!(rt; refusal_of(more), Some(Refusal::Range(Field::Session)));
-    assert!(rt; is_entry(create(&mut bridge, 65_535, 1)?, 1));
-    assert_eq!(rt;
-        refusal_of(create(&mut bridge, 65_536, 2)?),
-        Some(Refusal::NoSession)
-    );
+    give_out_every_session(&rt, &mut bridge)
+}
+
+fn keep_apart(rt: &impl Abort, bridge: &mut Bridge) -> Result<(), Fail> {
+    assert!(rt; is_session(step(bridge, 0, Command::Hello)?, 2));
+    assert!(rt; is_entry(create(bridge, 1, 5)?, 1));
+    assert!(rt; is_entry(remove(bridge, 2, 5)?, 2));
+    let conflict = Refusal::Conflict { own: 1, other: 2 };
+    assert!(rt; is_refused(step(bridge, 1, Command::Undo)?, conflict));
+    assert!(rt; took(step(bridge, 2, Command::Undo)?, 3, 2));
+    assert!(rt; took(step(bridge, 1, Command::Undo)?, 4, 1));
     Ok(())
 }
 
@@ -394,38 +467,22 @@ fn sessions_are_given_out_until_the_last(rt: HostRuntime) -> Result<(), Fail> {
 #[test]
 fn sessions_are_kept_apart(rt: HostRuntime) -> Result<(), Fail> {
     let mut bridge = greeted(&rt, rt.alloc())?;
-    let second = step(&mut bridge, 0, Command::Hello)?;
-    assert!(rt; matches!(second, Reply::Session { session: 2 }));
-    assert!(rt; is_entry(create(&mut bridge, 1, 5)?, 1));
-    let removal = step(&mut bridge, 2, Command::Remove { key: meter_key(5) })?;
-    assert!(rt; is_entry(removal, 2));
-    let conflict = Refusal::Conflict { own: 1, other: 2 };
-    assert_eq!(rt;
-        refusal_of(step(&mut bridge, 1, Command::Undo)?),
-        Some(conflict)
-    );
-    let undone = step(&mut bridge, 2, Command::Undo)?;
-    assert!(rt; matches!(undone, Reply::EntryOf { entry: 3, of: 2 }));
-    let undone = step(&mut bridge, 1, Command::Undo)?;
-    assert!(rt; matches!(undone, Reply::EntryOf { entry: 4, of: 1 }));
+    keep_apart(&rt, &mut bridge)
+}
+
+fn fill_up(rt: &impl Abort, bridge: &mut Bridge) -> Result<(), Fail> {
+    fill(bridge, 32_767)?;
+    assert!(rt; is_entry(create(bridge, 1, 1)?, 65_535));
+    assert!(rt; is_entry(create(bridge, 1, 2)?, 65_536));
+    assert!(rt; is_refused(create(bridge, 1, 3)?, Refusal::JournalFull));
+    assert!(rt; is_refused(step(bridge, 1, Command::Undo)?, Refusal::JournalFull));
     Ok(())
 }
 
 #[test]
 fn a_full_journal_takes_no_more(rt: HostRuntime) -> Result<(), Fail> {
     let mut bridge = greeted(&rt, rt.alloc())?;
-    fill(&mut bridge, 32_767)?;
-    assert!(rt; is_entry(create(&mut bridge, 1, 1)?, 65_535));
-    assert!(rt; is_entry(create(&mut bridge, 1, 2)?, 65_536));
-    assert_eq!(rt;
-        refusal_of(create(&mut bridge, 1, 3)?),
-        Some(Refusal::JournalFull)
-    );
-    assert_eq!(rt;
-        refusal_of(step(&mut bridge, 1, Command::Undo)?),
-        Some(Refusal::JournalFull)
-    );
-    Ok(())
+    fill_up(&rt, &mut bridge)
 }
 
 #[test]

@@ -1,8 +1,8 @@
 //! Acts on gate lists, frames, states and counters, with the values of the worked examples.
 ghost use Rattle.std.specs.Prelude.{◌≡◌, ◌≤◌, ◌^◌};
 
-use super::{gate, step};
-use crate::bridge::{Bridge, Setup};
+use super::{gate, greeted, is_entry, is_refused, step, took, took_back};
+use crate::bridge::Bridge;
 use crate::command::Command;
 use crate::reply::Reply;
 use std::alloc::Global;
@@ -61,15 +61,10 @@ fn two_entries(alloc: Global, first: PortEntry, second: PortEntry) -> Result<Rec
     }))
 }
 
+/// Planner 1 gives port 1 the record.
 fn replace(bridge: &mut Bridge, value: Record) -> Result<Reply, Refusal> {
-    step(
-        bridge,
-        1,
-        Command::Replace {
-            key: port(1),
-            value,
-        },
-    )
+    let key = port(1);
+    step(bridge, 1, Command::Replace { key, value })
 }
 
 fn enable(bridge: &mut Bridge, key: Key, now: Instant) -> Result<Reply, Refusal> {
@@ -84,72 +79,58 @@ fn apply(bridge: &mut Bridge, key: Key, now: Instant) -> Result<Reply, Refusal> 
     step(bridge, 1, Command::Apply { key, now })
 }
 
-fn acted(rt: &impl Abort, reply: &Reply, change: Option<u64>, entry: u64, now: u64) {
-    let wanted = (change, entry, now);
-    match reply {
+/// Whether the act was entered under the number, at the instant, with the change time.
+fn is_act(reply: Reply, time: Option<u64>, number: u64, instant: u64) -> bool {
+    match &reply {
         Reply::Acted { change, entry, now } => {
-            assert_eq!(rt; (*change, *entry, now.get()), wanted);
+            *change == time && *entry == number && now.get() == instant
         }
-        _ => panic!(rt; "no act"),
+        _ => false,
     }
 }
 
-fn refused(rt: &impl Abort, reply: &Reply, wanted: Refusal) {
-    match reply {
-        Reply::Refused(why) => assert_eq!(rt; *why, wanted),
-        _ => panic!(rt; "no refusal"),
+/// Whether these gates of a port are shown.
+fn is_state(reply: Reply, wanted: u8) -> bool {
+    match &reply {
+        Reply::States(state) => *state == State::Port { gates: wanted },
+        _ => false,
     }
 }
 
-fn shows(rt: &impl Abort, bridge: &mut Bridge, instant: Instant, gates: u8) -> Result<(), Refusal> {
+/// Whether port 1 shows the gates at the instant.
+fn shows(bridge: &mut Bridge, instant: Instant, wanted: u8) -> Result<bool, Refusal> {
     let command = Command::States {
         key: port(1),
         at: instant,
     };
-    match step(bridge, 1, command)? {
-        Reply::States(state) => assert_eq!(rt; state, State::Port { gates }),
-        _ => panic!(rt; "no state"),
-    }
-    Ok(())
+    Ok(is_state(step(bridge, 1, command)?, wanted))
 }
 
-fn counted(rt: &impl Abort, bridge: &mut Bridge, wanted: ListCounters) -> Result<(), Refusal> {
-    match step(bridge, 1, Command::Counters { key: port(1) })? {
-        Reply::Counters(told) => assert_eq!(rt; told, Counters::Port(wanted)),
-        _ => panic!(rt; "no counters"),
+/// Whether the reply tells these counters of a port.
+fn tells(reply: Reply, wanted: ListCounters) -> bool {
+    match &reply {
+        Reply::Counters(told) => *told == Counters::Port(wanted),
+        _ => false,
     }
-    Ok(())
 }
 
-// A standard bridge with one session.
-fn begun(rt: &impl Abort, alloc: Global) -> Result<Bridge, Fail> {
-    let mut bridge = Bridge::new(alloc, Setup::standard(alloc))?;
-    match step(&mut bridge, 1, Command::Hello)? {
-        Reply::Session { session } => assert_eq!(rt; session, 1),
-        _ => panic!(rt; "no session"),
-    }
-    Ok(bridge)
+/// Whether these are the counters of port 1.
+fn counts(bridge: &mut Bridge, wanted: ListCounters) -> Result<bool, Refusal> {
+    let reply = step(bridge, 1, Command::Counters { key: port(1) })?;
+    Ok(tells(reply, wanted))
 }
 
-// Port 1 has a list, is enabled at 0, and the list is applied at 2500.
-fn ahead(rt: &impl Abort, alloc: Global) -> Result<Bridge, Fail> {
-    let mut bridge = begun(rt, alloc)?;
+/// Port 1 gets a list, is enabled at 0, and the list is applied at 2500.
+fn apply_ahead(rt: &impl Abort, alloc: Global, bridge: &mut Bridge) -> Result<(), Fail> {
     let value = two_entries(alloc, entry(1, 300)?, entry(128, 700)?)?;
-    replace(&mut bridge, value)?;
-    acted(rt, &enable(&mut bridge, port(1), at(0))?, None, 2, 0);
-    acted(
-        rt,
-        &apply(&mut bridge, port(1), at(2500))?,
-        Some(3000),
-        3,
-        2500,
-    );
-    Ok(bridge)
+    assert!(rt; is_entry(replace(bridge, value)?, 1));
+    assert!(rt; is_act(enable(bridge, port(1), at(0))?, None, 2, 0));
+    assert!(rt; is_act(apply(bridge, port(1), at(2500))?, Some(3000), 3, 2500));
+    Ok(())
 }
 
-#[test]
-fn a_list_is_applied_ahead(rt: HostRuntime) -> Result<(), Fail> {
-    let mut bridge = ahead(&rt, rt.alloc())?;
+fn show_the_list_ahead(rt: &impl Abort, alloc: Global, bridge: &mut Bridge) -> Result<(), Fail> {
+    apply_ahead(rt, alloc, bridge)?;
     for (instant, gates) in [
         (at(2999), 255),
         (at(3000), 1),
@@ -157,133 +138,141 @@ fn a_list_is_applied_ahead(rt: HostRuntime) -> Result<(), Fail> {
         (at(3300), 128),
         (at(4000), 1),
     ] {
-        shows(&rt, &mut bridge, instant, gates)?;
+        assert!(rt; shows(bridge, instant, gates)?);
     }
     Ok(())
 }
 
 #[test]
-fn no_state_is_told_before_the_last_act(rt: HostRuntime) -> Result<(), Fail> {
-    let mut bridge = ahead(&rt, rt.alloc())?;
+fn a_list_is_applied_ahead(rt: HostRuntime) -> Result<(), Fail> {
+    let mut bridge = greeted(&rt, rt.alloc())?;
+    show_the_list_ahead(&rt, rt.alloc(), &mut bridge)
+}
+
+fn refuse_the_past(rt: &impl Abort, alloc: Global, bridge: &mut Bridge) -> Result<(), Fail> {
+    apply_ahead(rt, alloc, bridge)?;
     let command = Command::States {
         key: port(1),
         at: at(2499),
     };
-    refused(&rt, &step(&mut bridge, 1, command)?, Refusal::Past);
+    assert!(rt; is_refused(step(bridge, 1, command)?, Refusal::Past));
     Ok(())
 }
 
-// The list is replaced, applied, the replacement undone and the old list applied again.
-fn restored(rt: &impl Abort, alloc: Global) -> Result<Bridge, Fail> {
-    let mut bridge = ahead(rt, alloc)?;
-    let value = two_entries(alloc, entry(255, 500)?, entry(0, 500)?)?;
-    replace(&mut bridge, value)?;
-    acted(
-        rt,
-        &apply(&mut bridge, port(1), at(5000))?,
-        Some(5000),
-        5,
-        5000,
-    );
-    step(&mut bridge, 1, Command::Undo)?;
-    acted(
-        rt,
-        &apply(&mut bridge, port(1), at(9001))?,
-        Some(10_000),
-        7,
-        9001,
-    );
-    Ok(bridge)
+#[test]
+fn no_state_is_told_before_the_last_act(rt: HostRuntime) -> Result<(), Fail> {
+    let mut bridge = greeted(&rt, rt.alloc())?;
+    refuse_the_past(&rt, rt.alloc(), &mut bridge)
 }
 
-#[test]
-fn a_restored_list_gives_its_states(rt: HostRuntime) -> Result<(), Fail> {
-    let mut bridge = restored(&rt, rt.alloc())?;
+/// The list is replaced and applied, the replacement is undone and the old list is applied again.
+fn restore(rt: &impl Abort, alloc: Global, bridge: &mut Bridge) -> Result<(), Fail> {
+    apply_ahead(rt, alloc, bridge)?;
+    let value = two_entries(alloc, entry(255, 500)?, entry(0, 500)?)?;
+    assert!(rt; is_entry(replace(bridge, value)?, 4));
+    assert!(rt; is_act(apply(bridge, port(1), at(5000))?, Some(5000), 5, 5000));
+    assert!(rt; took(step(bridge, 1, Command::Undo)?, 6, 4));
+    assert!(rt; is_act(apply(bridge, port(1), at(9001))?, Some(10_000), 7, 9001));
+    Ok(())
+}
+
+fn show_the_restored_list(rt: &impl Abort, alloc: Global, bridge: &mut Bridge) -> Result<(), Fail> {
+    restore(rt, alloc, bridge)?;
     for (instant, gates) in [
         (at(9999), 0),
         (at(10_000), 1),
         (at(10_299), 1),
         (at(10_300), 128),
     ] {
-        shows(&rt, &mut bridge, instant, gates)?;
+        assert!(rt; shows(bridge, instant, gates)?);
     }
     Ok(())
 }
 
 #[test]
+fn a_restored_list_gives_its_states(rt: HostRuntime) -> Result<(), Fail> {
+    let mut bridge = greeted(&rt, rt.alloc())?;
+    show_the_restored_list(&rt, rt.alloc(), &mut bridge)
+}
+
+fn count_the_restored_list(
+    rt: &impl Abort,
+    alloc: Global,
+    bridge: &mut Bridge,
+) -> Result<(), Fail> {
+    restore(rt, alloc, bridge)?;
+    let wanted = ListCounters {
+        change_error: 2,
+        change_time: Some(10_000),
+        enabled: true,
+        pending: true,
+    };
+    assert!(rt; counts(bridge, wanted)?);
+    Ok(())
+}
+
+#[test]
 fn errors_and_what_is_pending_are_counted(rt: HostRuntime) -> Result<(), Fail> {
-    let mut bridge = restored(&rt, rt.alloc())?;
-    counted(
-        &rt,
-        &mut bridge,
-        ListCounters {
-            change_error: 2,
-            change_time: Some(10_000),
-            enabled: true,
-            pending: true,
-        },
-    )?;
+    let mut bridge = greeted(&rt, rt.alloc())?;
+    count_the_restored_list(&rt, rt.alloc(), &mut bridge)
+}
+
+fn disable_and_enable(rt: &impl Abort, alloc: Global, bridge: &mut Bridge) -> Result<(), Fail> {
+    apply_ahead(rt, alloc, bridge)?;
+    assert!(rt; is_act(disable(bridge, port(1), at(5500))?, None, 4, 5500));
+    assert!(rt; shows(bridge, at(6000), 255)?);
+    assert!(rt; is_act(enable(bridge, port(1), at(7100))?, Some(8000), 5, 7100));
+    assert!(rt; shows(bridge, at(7999), 255)?);
+    assert!(rt; shows(bridge, at(8300), 128)?);
     Ok(())
 }
 
 #[test]
 fn a_disabled_port_shows_its_record(rt: HostRuntime) -> Result<(), Fail> {
-    let mut bridge = ahead(&rt, rt.alloc())?;
-    acted(
-        &rt,
-        &disable(&mut bridge, port(1), at(5500))?,
-        None,
-        4,
-        5500,
-    );
-    shows(&rt, &mut bridge, at(6000), 255)?;
-    acted(
-        &rt,
-        &enable(&mut bridge, port(1), at(7100))?,
-        Some(8000),
-        5,
-        7100,
-    );
-    shows(&rt, &mut bridge, at(7999), 255)?;
-    shows(&rt, &mut bridge, at(8300), 128)?;
+    let mut bridge = greeted(&rt, rt.alloc())?;
+    disable_and_enable(&rt, rt.alloc(), &mut bridge)
+}
+
+fn enable_at_an_earlier_instant(
+    rt: &impl Abort,
+    alloc: Global,
+    bridge: &mut Bridge,
+) -> Result<(), Fail> {
+    apply_ahead(rt, alloc, bridge)?;
+    assert!(rt; is_act(enable(bridge, port(2), at(7))?, None, 4, 2500));
     Ok(())
 }
 
 #[test]
 fn an_earlier_instant_counts_as_the_bridge_time(rt: HostRuntime) -> Result<(), Fail> {
-    let mut bridge = ahead(&rt, rt.alloc())?;
-    acted(&rt, &enable(&mut bridge, port(2), at(7))?, None, 4, 2500);
+    let mut bridge = greeted(&rt, rt.alloc())?;
+    enable_at_an_earlier_instant(&rt, rt.alloc(), &mut bridge)
+}
+
+fn refuse_to_apply(rt: &impl Abort, bridge: &mut Bridge) -> Result<(), Fail> {
+    assert!(rt; is_refused(apply(bridge, port(1), at(0))?, Refusal::NotEnabled));
+    assert!(rt; is_act(enable(bridge, port(1), at(0))?, None, 1, 0));
+    assert!(rt; is_refused(apply(bridge, port(1), at(0))?, Refusal::EmptyList));
     Ok(())
 }
 
 #[test]
 fn an_apply_needs_an_enabled_key_and_a_list(rt: HostRuntime) -> Result<(), Fail> {
-    let mut bridge = begun(&rt, rt.alloc())?;
-    refused(
-        &rt,
-        &apply(&mut bridge, port(1), at(0))?,
-        Refusal::NotEnabled,
-    );
-    enable(&mut bridge, port(1), at(0))?;
-    refused(
-        &rt,
-        &apply(&mut bridge, port(1), at(0))?,
-        Refusal::EmptyList,
-    );
+    let mut bridge = greeted(&rt, rt.alloc())?;
+    refuse_to_apply(&rt, &mut bridge)
+}
+
+fn refuse_to_enable(rt: &impl Abort, bridge: &mut Bridge) -> Result<(), Fail> {
+    assert!(rt; is_refused(enable(bridge, filter_3(), at(0))?, Refusal::Shape));
+    let missing = Refusal::Missing(gate_0());
+    assert!(rt; is_refused(enable(bridge, gate_0(), at(0))?, missing));
     Ok(())
 }
 
 #[test]
 fn acts_want_a_key_with_a_list_that_is_there(rt: HostRuntime) -> Result<(), Fail> {
-    let mut bridge = begun(&rt, rt.alloc())?;
-    refused(
-        &rt,
-        &enable(&mut bridge, filter_3(), at(0))?,
-        Refusal::Shape,
-    );
-    let missing = Refusal::Missing(gate_0());
-    refused(&rt, &enable(&mut bridge, gate_0(), at(0))?, missing);
-    Ok(())
+    let mut bridge = greeted(&rt, rt.alloc())?;
+    refuse_to_enable(&rt, &mut bridge)
 }
 
 // Filter 3 on gate 0 matches every frame.
@@ -308,77 +297,109 @@ fn frame(bridge: &mut Bridge, now: Instant) -> Result<Reply, Refusal> {
     step(bridge, 1, Command::Frame { frame, now })
 }
 
-fn passed(rt: &impl Abort, reply: &Reply, filter: Option<FilterId>, now: Instant) {
+/// Whether the frame passed by the filter at the instant.
+fn passed(reply: Reply, filter: Option<FilterId>, now: Instant) -> bool {
     let wanted = Verdict::Passed {
         filter,
         now,
         priority: Priority::new(2).unwrap(),
         yellow: false,
     };
-    match reply {
-        Reply::Framed(verdict) => assert_eq!(rt; *verdict, wanted),
-        _ => panic!(rt; "no verdict"),
+    match &reply {
+        Reply::Framed(verdict) => *verdict == wanted,
+        _ => false,
     }
 }
 
-fn with_filter(rt: &impl Abort, alloc: Global) -> Result<Bridge, Fail> {
-    let mut bridge = begun(rt, alloc)?;
+/// Gate 0 and filter 3 are made.
+fn make_filter(rt: &impl Abort, alloc: Global, bridge: &mut Bridge) -> Result<(), Fail> {
     let key = gate_0();
     let value = Record::Gate(gate(alloc));
-    step(&mut bridge, 1, Command::Create { key, value })?;
+    assert!(rt; is_entry(step(bridge, 1, Command::Create { key, value })?, 1));
     let key = filter_3();
     let value = filter();
-    step(&mut bridge, 1, Command::Create { key, value })?;
-    Ok(bridge)
+    assert!(rt; is_entry(step(bridge, 1, Command::Create { key, value })?, 2));
+    Ok(())
+}
+
+fn pass_two_frames(rt: &impl Abort, alloc: Global, bridge: &mut Bridge) -> Result<(), Fail> {
+    make_filter(rt, alloc, bridge)?;
+    let filter = Some(FilterId::new(3)?);
+    assert!(rt; passed(frame(bridge, at(500))?, filter, at(500)));
+    assert!(rt; passed(frame(bridge, at(20))?, filter, at(500)));
+    Ok(())
 }
 
 #[test]
 fn a_frame_passes_and_moves_the_bridge_time(rt: HostRuntime) -> Result<(), Fail> {
-    let mut bridge = with_filter(&rt, rt.alloc())?;
+    let mut bridge = greeted(&rt, rt.alloc())?;
+    pass_two_frames(&rt, rt.alloc(), &mut bridge)
+}
+
+/// The frames that a filter matched, of its counters.
+fn matches_told(reply: Reply) -> Option<u64> {
+    match &reply {
+        Reply::Counters(Counters::Filter(told)) => Some(told.matching),
+        _ => None,
+    }
+}
+
+/// How many frames filter 3 has matched.
+fn matching(bridge: &mut Bridge) -> Result<Option<u64>, Refusal> {
+    let reply = step(bridge, 1, Command::Counters { key: filter_3() })?;
+    Ok(matches_told(reply))
+}
+
+/// Filter 3 is made and has matched one frame.
+fn match_one(rt: &impl Abort, alloc: Global, bridge: &mut Bridge) -> Result<(), Fail> {
+    make_filter(rt, alloc, bridge)?;
     let filter = Some(FilterId::new(3)?);
-    passed(&rt, &frame(&mut bridge, at(500))?, filter, at(500));
-    passed(&rt, &frame(&mut bridge, at(20))?, filter, at(500));
+    assert!(rt; passed(frame(bridge, at(0))?, filter, at(0)));
+    assert_eq!(rt; matching(bridge)?, Some(1));
     Ok(())
 }
 
-// How many frames filter 3 has matched.
-fn matching(bridge: &mut Bridge) -> Result<Option<u64>, Refusal> {
-    match step(bridge, 1, Command::Counters { key: filter_3() })? {
-        Reply::Counters(Counters::Filter(told)) => Ok(Some(told.matching)),
-        _ => Ok(None),
-    }
+fn remove_and_take_back(rt: &impl Abort, alloc: Global, bridge: &mut Bridge) -> Result<(), Fail> {
+    match_one(rt, alloc, bridge)?;
+    let key = filter_3();
+    assert!(rt; is_entry(step(bridge, 1, Command::Remove { key })?, 3));
+    assert_eq!(rt; matching(bridge)?, None);
+    assert!(rt; took(step(bridge, 1, Command::Undo)?, 4, 3));
+    assert_eq!(rt; matching(bridge)?, Some(0));
+    Ok(())
 }
 
 #[test]
 fn what_was_removed_and_comes_back_is_counted_anew(rt: HostRuntime) -> Result<(), Fail> {
-    let mut bridge = with_filter(&rt, rt.alloc())?;
-    frame(&mut bridge, at(0))?;
-    assert_eq!(rt; matching(&mut bridge)?, Some(1));
+    let mut bridge = greeted(&rt, rt.alloc())?;
+    remove_and_take_back(&rt, rt.alloc(), &mut bridge)
+}
+
+fn replace_filter(rt: &impl Abort, alloc: Global, bridge: &mut Bridge) -> Result<(), Fail> {
+    match_one(rt, alloc, bridge)?;
     let key = filter_3();
-    step(&mut bridge, 1, Command::Remove { key })?;
-    assert_eq!(rt; matching(&mut bridge)?, None);
-    step(&mut bridge, 1, Command::Undo)?;
-    assert_eq!(rt; matching(&mut bridge)?, Some(0));
+    let value = filter();
+    assert!(rt; is_entry(step(bridge, 1, Command::Replace { key, value })?, 3));
+    assert_eq!(rt; matching(bridge)?, Some(1));
     Ok(())
 }
 
 #[test]
 fn what_is_replaced_keeps_its_counters(rt: HostRuntime) -> Result<(), Fail> {
-    let mut bridge = with_filter(&rt, rt.alloc())?;
-    frame(&mut bridge, at(0))?;
-    let key = filter_3();
-    let value = filter();
-    step(&mut bridge, 1, Command::Replace { key, value })?;
-    assert_eq!(rt; matching(&mut bridge)?, Some(1));
+    let mut bridge = greeted(&rt, rt.alloc())?;
+    replace_filter(&rt, rt.alloc(), &mut bridge)
+}
+
+fn take_all_back(rt: &impl Abort, alloc: Global, bridge: &mut Bridge) -> Result<(), Fail> {
+    match_one(rt, alloc, bridge)?;
+    assert!(rt; took_back(step(bridge, 1, Command::UndoAll)?, 2, 4));
+    assert_eq!(rt; matching(bridge)?, None);
+    assert!(rt; passed(frame(bridge, at(1))?, None, at(1)));
     Ok(())
 }
 
 #[test]
 fn an_undo_of_all_takes_the_instance_data_too(rt: HostRuntime) -> Result<(), Fail> {
-    let mut bridge = with_filter(&rt, rt.alloc())?;
-    frame(&mut bridge, at(0))?;
-    step(&mut bridge, 1, Command::UndoAll)?;
-    assert_eq!(rt; matching(&mut bridge)?, None);
-    passed(&rt, &frame(&mut bridge, at(1))?, None, at(1));
-    Ok(())
+    let mut bridge = greeted(&rt, rt.alloc())?;
+    take_all_back(&rt, rt.alloc(), &mut bridge)
 }
