@@ -1,2 +1,4 @@
+pub mod Ranges
+pub mod Setups
 pub mod Tables
 pub mod Toml

@@ -8,4 +8,8 @@
 
 mod drafts;
 mod members;
+mod ranges;
+mod setups;
 mod tables;
+
+pub use setups::{LONGEST_SETUP, setup_of};

@@ -1,0 +1,69 @@
+//! Reading a document: bytes to a setup, or the refusal of least number.
+//!
+//! The document's length is tested before its syntax, the whole shape before the ranges. A bridge that begins with the
+//! setup tests what is left.
+ghost use Rattle.std.specs.Prelude.{◌≡◌};
+ghost use Rattle.toml.specs.View.{view};
+ghost use Rattle.tsn_records.specs.Answers.{Reads, IsOrMemory, seen};
+ghost use Rattle.tsn_setup.specs.Setups.{document_of, or_syntax, reading, setup_of};
+
+use crate::members::has_only;
+use crate::ranges::{keyed_records, limits};
+use crate::tables::{limits_shape, tables_shape};
+use std::alloc::Global;
+use toml::Value;
+use tsn_bridge::bridge::Setup;
+use tsn_records::unread::Unread;
+use tsn_types::refusals::Refusal;
+
+/// The bytes of the longest document that is read.
+pub const LONGEST_SETUP: usize = 1_048_576;
+
+fn document_of(alloc: Global, text: &[u8]) -> Result<Value, Unread>
+    ensures { Reads (seen view result) (or_syntax (document_of text.now)) }
+{
+    match toml::table_from_slice(alloc, text) {
+        Ok(table) => Ok(Value::Table(table)),
+        Err(error) if error.is_memory() => Err(Unread::Memory),
+        Err(_) => Err(Unread::Syntax),
+    }
+}
+
+#[tactic(auto, unfolding(crate::specs::Setups::reading))]
+fn reading(alloc: Global, text: &[u8]) -> Result<Setup, Unread>
+    ensures { Reads result (reading text.now) }
+{
+    let document = document_of(alloc, text)?;
+    has_only(
+        &[
+            "ports",
+            "max_filters",
+            "max_gates",
+            "max_meters",
+            "list_max",
+            "port",
+            "filter",
+            "gate",
+            "meter",
+        ],
+        &document,
+    )?;
+    let given = limits_shape(&document)?;
+    let tables = tables_shape(alloc, &document)?;
+    let limits = limits(&given)?;
+    let records = keyed_records(alloc, tables.as_slice())?;
+    Ok(Setup { limits, records })
+}
+
+/// The setup of a document: refusal 1 where it is over 1,048,576 bytes, 2 where it is no TOML document, 3 where it has
+/// other members than a setup or members of other kinds, 4 where a number is outside its range, 18 in place of any of
+/// these where memory is refused. Of ranges, those of the limits are tested before those of the tables, ports before
+/// filters before gates before meters, each in file order.
+pub fn setup_of(alloc: Global, text: &[u8]) -> Result<Setup, Refusal>
+    ensures { IsOrMemory result (setup_of text.now) }
+{
+    if text.len() > LONGEST_SETUP {
+        return Err(Refusal::TooLong);
+    }
+    reading(alloc, text).map_err(Unread::refusal)
+}
