@@ -65,11 +65,11 @@ outcome_at None rule s reply new (inl done) = inr (refl, done)
 outcome_at None rule s reply new (inr memory) = inl memory.2
 outcome_at (Some why) rule s reply new cause = inl cause.1
 
-outcome : (rule : Rule) (s : State) (reply : Reply) (new : State) → Allows rule s reply new → (new ≡ s) ⊎ ((least rule.causes ≡ None) × (◌≡◌ {A = Option (Reply × State)} rule.done (Some (reply, new))))
+pub outcome : (rule : Rule) (s : State) (reply : Reply) (new : State) → Allows rule s reply new → (new ≡ s) ⊎ ((least rule.causes ≡ None) × (◌≡◌ {A = Option (Reply × State)} rule.done (Some (reply, new))))
 outcome rule s reply new step = outcome_at (least rule.causes) rule s reply new step
 
 -- the state that is done
-state_of : (r reply : Reply) (t new : State) → ◌≡◌ {A = Option (Reply × State)} (Some (r, t)) (Some (reply, new)) → t ≡ new
+pub state_of : (r reply : Reply) (t new : State) → ◌≡◌ {A = Option (Reply × State)} (Some (r, t)) (Some (reply, new)) → t ≡ new
 state_of r reply t new h = ap (λ (p : Reply × State). p.1) (done_of _ _ h)
 
 -- a step that is done keeps what its state keeps
@@ -108,7 +108,7 @@ undo_all_follows s n reply new sound step = by_done (undo_all_rule s n) s reply 
     subst (Follows s) (state_of _ reply _ new done) (record { sound = taken.sound; limits = refl; opening = refl }))
 
 -- what nothing refuses to redo fits
-redo_fits : (s : State) (n : ℕ) (u : Applied) (fits : Bool) → StateIsSound s → redo_of s.book.entries n ≡ Some u → TellsFit s.book (Some u) fits → redo_cause s.book.entries (Some u) fits ≡ None → Fits s.book.limits (present s.book) (inverse u.change)
+pub redo_fits : (s : State) (n : ℕ) (u : Applied) (fits : Bool) → StateIsSound s → redo_of s.book.entries n ≡ Some u → TellsFit s.book (Some u) fits → redo_cause s.book.entries (Some u) fits ≡ None → Fits s.book.limits (present s.book) (inverse u.change)
 redo_fits s n u true sound some tells none = tells.0 refl
 redo_fits s n u false sound some tells none = by_option (find_redo_conflict s.book.entries u)
     (λ free. inverse_fits s.book.limits s.book.opening s.book.entries u sound (undone_split s.book.limits s.book.opening s.book.entries n u sound some) free)

@@ -11,3 +11,4 @@ pub mod Causes
 pub mod Telling
 pub mod KeySteps
 pub mod Restored
+pub mod Later

@@ -1,9 +1,10 @@
 -- What a bridge begins with.
-use Rattle.std.specs.Prelude.{List, []}
+use Rattle.std.specs.Prelude.{◌≡◌, List, [], None}
+use Rattle.tsn_types.specs.Bounds.{AreInRange}
 use Rattle.tsn_types.specs.declared.keys.Key.{Key}
 use Rattle.tsn_types.specs.declared.records.Record.{Record}
 use Rattle.tsn_types.specs.declared.limits.Limits.{Limits}
-use Rattle.tsn_config.specs.Opening.{opening}
+use Rattle.tsn_config.specs.Opening.{AreOfKind, RecordsInRange, opening, opening_refusal}
 use Rattle.tsn_chain.specs.Begun.{begun_frames}
 use Rattle.tsn_bridge.specs.State.{State}
 
@@ -15,6 +16,14 @@ begun limits records = record {
   time = 0;
   frames = begun_frames (opening limits records);
 }
+
+-- limits and records that open a bridge: their numbers are in their ranges and the records of their keys' kinds, as their
+-- types keep, and nothing refuses the opening
+pub record Opens (limits : Limits) (records : List (Key × Record)) : Type 0 where
+  pub bounds : AreInRange limits
+  pub kinds : AreOfKind records
+  pub ranges : RecordsInRange records
+  pub admitted : opening_refusal limits records ≡ None
 
 -- 2 ports, tables of 16 instances, lists of up to 16 entries
 abbrev pub standard_limits : Limits

@@ -4,6 +4,7 @@ pub mod Edits
 pub mod Frames
 pub mod Histories
 pub mod Kept
+pub mod Later
 pub mod Looking
 pub mod Machine
 pub mod Objects

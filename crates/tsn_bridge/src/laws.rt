@@ -1,10 +1,13 @@
 //! Laws of the machine, as functions whose contracts state them. Their bodies are empty.
 ghost use Rattle.std.specs.Prelude.{◌≡◌, ◌⊎◌, ◌≤◌, ◌-◌, ◌%◌, ℕ, List, Option, Some};
 ghost use Rattle.std.specs.FinMap as map;
+ghost use Rattle.tsn_types.specs.declared.keys.Key.{Key as AnyKey};
 ghost use Rattle.tsn_types.specs.declared.keys.Key.TheVariants.{Gate, Port};
+ghost use Rattle.tsn_types.specs.declared.limits.Limits.{Limits as AnyLimits};
 ghost use Rattle.tsn_types.specs.declared.records.GateEntry.{GateEntry as AnyGateEntry};
 ghost use Rattle.tsn_types.specs.declared.records.PortEntry.{PortEntry as AnyPortEntry};
 ghost use Rattle.tsn_types.specs.declared.records.PortGates.{PortGates as AnyPort};
+ghost use Rattle.tsn_types.specs.declared.records.Record.{Record as AnyRecord};
 ghost use Rattle.tsn_types.specs.declared.records.Record.TheVariants as records;
 ghost use Rattle.tsn_types.specs.declared.records.StreamGate.{StreamGate as AnyGate};
 ghost use Rattle.tsn_types.specs.declared.refusals.Refusal.{Refusal as AnyRefusal};
@@ -22,12 +25,16 @@ ghost use Rattle.tsn_schedule.specs.Times.{change_of};
 ghost use Rattle.tsn_undo.specs.Ledger.{present};
 ghost use Rattle.tsn_undo.specs.Soundness.{IsSound};
 ghost use Rattle.tsn_undo.specs.UndoAll.{BlocksAll, others_alone};
+ghost use Rattle.tsn_bridge.specs.declared.command.Command.{Command as AnyCommand};
 ghost use Rattle.tsn_bridge.specs.declared.command.Command.TheVariants as commands;
+ghost use Rattle.tsn_bridge.specs.declared.reply.Reply.{Reply as AnyReply};
 ghost use Rattle.tsn_bridge.specs.declared.reply.Reply.TheVariants.{Acted, Entry, EntryOf, Refused, States, TakenBack};
 ghost use Rattle.tsn_bridge.specs.Acts.{instant};
+ghost use Rattle.tsn_bridge.specs.Beginning.{Opens, begun};
 ghost use Rattle.tsn_bridge.specs.Quiet.{SinceQuiet};
 ghost use Rattle.tsn_bridge.specs.Edits.{edit_rule, undo_rule};
-ghost use Rattle.tsn_bridge.specs.Histories.{AreInRange, Leads, StateIsSound, Turn, command_of};
+ghost use Rattle.tsn_bridge.specs.Histories.{AreInRange, CommandInRange, Leads, StateIsSound, Turn, command_of};
+ghost use Rattle.tsn_bridge.specs.Later.{IsLater, IsWhole};
 ghost use Rattle.tsn_bridge.specs.Machine.{Step};
 ghost use Rattle.tsn_bridge.specs.Rule.{Allows};
 ghost use Rattle.tsn_bridge.specs.Sessions.{most_sessions};
@@ -105,6 +112,20 @@ pub fn over_every_interleaving()
         StateIsSound start → AreInRange turns → Leads start turns before →
         Step before session commands.UndoAll (Refused (Conflict own other)) after →
         BlocksAll before.book.entries session own other × (after ≡ before) }
+{}
+
+/// Any state, whether a bridge holds it or it stands for itself. A bridge begins whole: its journal is sound, what the
+/// filter chain keeps is there for just the filters, gates and meters of its configuration, and every act was done by
+/// the bridge time. A step of a whole state leaves a whole state, and a later one: no entry is gone or changed, no
+/// session is taken back, the bridge time goes back by nothing, limits and opening stay. So do any number of steps.
+pub fn steps_keep_states_sound()
+    ensures begins { (limits : AnyLimits) (records : List (AnyKey × AnyRecord)) → Opens limits records → IsWhole (begun limits records) }
+    ensures step { (before after : State) (session : ℕ) (command : AnyCommand) (reply : AnyReply) →
+        IsWhole before → CommandInRange command → Step before session command reply after →
+        IsWhole after × IsLater before after }
+    ensures steps { (start now : State) (turns : List Turn) →
+        IsWhole start → AreInRange turns → Leads start turns now →
+        IsWhole now × IsLater start now }
 {}
 
 /// A list that is restored, by an undo or otherwise, and then applied with its base not after the instant that counts:

@@ -517,4 +517,5 @@ fn laws_have_nothing_to_run() {
     laws::limits();
     laws::over_every_interleaving();
     laws::restored_list();
+    laws::steps_keep_states_sound();
 }

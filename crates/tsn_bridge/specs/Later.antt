@@ -1,0 +1,33 @@
+-- What every state of the machine keeps, and what a later state of the same bridge keeps of an earlier one.
+use Rattle.std.specs.Prelude.{◌≡◌, ◌≤◌, ℕ, List, ◌++◌, ⊤}
+use Rattle.std.specs.List.{AllByRecursion}
+use Rattle.tsn_chain.specs.Instances.{HasFrameKeys}
+use Rattle.tsn_journal.specs.declared.entries.Entry.{Entry}
+use Rattle.tsn_journal.specs.declared.entries.What.{What}
+use Rattle.tsn_journal.specs.declared.entries.What.TheVariants.{Made, Undone, Redone, Acted}
+use Rattle.tsn_undo.specs.Ledger.{present}
+use Rattle.tsn_bridge.specs.Histories.{StateIsSound}
+use Rattle.tsn_bridge.specs.State.{State}
+
+-- an entry whose act, if it is one, was done by this time
+abbrev pub IsBy : ℕ → What → Type 0
+IsBy time (Made e) = ⊤
+IsBy time (Undone n e) = ⊤
+IsBy time (Redone n e) = ⊤
+IsBy time (Acted act key a) = a ≤ time
+
+-- The journal is sound; what the filter chain keeps is there for just the filters, gates and meters of the configuration;
+-- and every act was done by the bridge time.
+pub record IsWhole (s : State) : Type 0 where
+  pub journal : StateIsSound s
+  pub frames : HasFrameKeys s.frames (present s.book)
+  pub acts : AllByRecursion (λ e. IsBy s.time e.what) s.book.entries
+
+-- limits and opening are the same, no entry is gone or changed, no session is taken back, and time went back by nothing
+pub record IsLater (s new : State) : Type 0 where
+  pub limits : new.book.limits ≡ s.book.limits
+  pub opening : new.book.opening ≡ s.book.opening
+  pub more : List Entry
+  pub entries : new.book.entries ≡ s.book.entries ++ more
+  pub sessions : s.sessions ≤ new.sessions
+  pub time : s.time ≤ new.time
