@@ -1,13 +1,12 @@
--- Over every list of commands the journal stays sound, and what an undo of all leaves, or names.
-use Rattle.std.proofs.Common.{◌≡◌, ℕ, Bool, true, false, cond, ◌+◌, List, [], ◌∷◌, refl, sym, ◌∙◌, ap, subst, Option, Some, None, inl, inr, arith, length}
-use Rattle.std.specs.Prelude.{◌⊎◌, nat_lt, option_map}
+-- Over every list of commands the journal stays sound; and what an undo of all leaves.
+use Rattle.std.proofs.Common.{◌≡◌, ℕ, Bool, true, false, ◌+◌, ◌≤◌, List, [], ◌∷◌, refl, sym, ◌∙◌, ap, subst, Option, Some, None, inl, inr, arith, length}
+use Rattle.std.specs.Prelude.{◌⊎◌, option_map}
 use Rattle.std.specs.FinMap.{get}
 use Rattle.tsn_types.specs.declared.keys.Key.{Key}
 use Rattle.tsn_types.specs.declared.records.Record.{Record}
 use Rattle.tsn_types.specs.declared.refusals.Refusal.{Refusal}
-use Rattle.tsn_types.specs.declared.refusals.Refusal.TheVariants.{Conflict, JournalFull, Memory, NoSession, RedoConflict}
-use Rattle.tsn_types.specs.Limits.{unless}
-use Rattle.tsn_types.specs.Refusals.{least, number_of}
+use Rattle.tsn_types.specs.declared.refusals.Refusal.TheVariants.{Conflict, RedoConflict}
+use Rattle.tsn_types.specs.Refusals.{least}
 use Rattle.tsn_edit.specs.declared.Edit.{Edit}
 use Rattle.tsn_edit.specs.declared.Edit.TheVariants as edits
 use Rattle.tsn_edit.specs.Changes.{Fits}
@@ -30,16 +29,15 @@ use Rattle.tsn_bridge.specs.Frames.{acts_of_gates, frame_rule, framed_state}
 use Rattle.tsn_bridge.specs.Looking.{counted_at, counters_rule, shown_at, states_rule}
 use Rattle.tsn_undo.specs.Redo.{IsRedoable, TellsFit, redo_cause}
 use Rattle.tsn_undo.specs.Steps.{IsFree, edit_refusal, undo_refusal}
-use Rattle.tsn_undo.specs.UndoAll.{BlocksAll, TakesAllBack, undo_all_refusal, with_undone}
+use Rattle.tsn_undo.specs.UndoAll.{TakesAllBack, undo_all_refusal, with_undone}
 use Rattle.tsn_undo.proofs.Free.{edit_admitted, or_none}
 use Rattle.tsn_undo.proofs.Making.{edit_sound, kept_now, undo_step_now}
-use Rattle.tsn_undo.proofs.Named.{names_conflict}
 use Rattle.tsn_undo.proofs.Redone.{inverse_fits, redo_refusal-first, redo_sound, undone_split}
 use Rattle.tsn_undo.proofs.UndoAll.{begin_taken, free_of_all, makes_all, taken_to}
 use Rattle.tsn_bridge.specs.declared.command.Command.{Command}
 use Rattle.tsn_bridge.specs.declared.command.Command.TheVariants as commands
 use Rattle.tsn_bridge.specs.declared.reply.Reply.{Reply}
-use Rattle.tsn_bridge.specs.declared.reply.Reply.TheVariants.{Counters, Framed, States, Entries, Entry as EntryReply, EntryOf, Ids, Refused, Session, Shown, TakenBack}
+use Rattle.tsn_bridge.specs.declared.reply.Reply.TheVariants.{Counters, Framed, States, Entries, Entry as EntryReply, EntryOf, Ids, Session, Shown, TakenBack}
 use Rattle.tsn_bridge.specs.Reads.{list_rule, show_rule, since_rule}
 use Rattle.tsn_bridge.specs.Sessions.{hello_rule}
 use Rattle.tsn_bridge.specs.Edits.{AllowsRedo, changed_state, edit_rule, next, redo_rule, undo_all_rule, undo_rule}
@@ -47,17 +45,18 @@ use Rattle.tsn_bridge.specs.Histories.{AreInRange, CommandInRange, Leads, StateI
 use Rattle.tsn_bridge.specs.Machine.{Step}
 use Rattle.tsn_bridge.specs.Rule.{Allows, Rule, is_given}
 use Rattle.tsn_bridge.specs.State.{State}
-use Rattle.tsn_bridge.proofs.AtOnce.{done_of, free, undone as undone_at_once}
-use Rattle.tsn_bridge.proofs.Stepping.{AllowsAt, accepted, refused, was_given}
+use Rattle.tsn_bridge.proofs.AtOnce.{done_of}
+use Rattle.tsn_bridge.proofs.Stepping.{AllowsAt, accepted, was_given}
 
 -- what every step keeps
 pub record Follows (s new : State) : Type 0 where
   pub sound : StateIsSound new
   pub limits : new.book.limits ≡ s.book.limits
   pub opening : new.book.opening ≡ s.book.opening
+  pub sessions : s.sessions ≤ new.sessions
 
 stays : (s new : State) → StateIsSound s → new ≡ s → Follows s new
-stays s new sound same = subst (Follows s) (sym same) (record { sound = sound; limits = refl; opening = refl })
+stays s new sound same = subst (Follows s) (sym same) (record { sound = sound; limits = refl; opening = refl; sessions = omega arith })
 
 -- a step leaves the state, or nothing refuses it and it is done
 outcome_at : (o : Option Refusal) (rule : Rule) (s : State) (reply : Reply) (new : State) → AllowsAt o rule s reply new → (new ≡ s) ⊎ ((o ≡ None) × (◌≡◌ {A = Option (Reply × State)} rule.done (Some (reply, new))))
@@ -86,7 +85,7 @@ edit_follows s n edit reply new sound ranges step = by_done (edit_rule s n edit)
     let admitted = (was_given (is_given s n) (edit_refusal s.book edit) none).1 in
     let fits : Fits s.book.limits (present s.book) (change_of (present s.book) edit) =
     edit_fits s.book.limits (present s.book) (kept_now s.book sound) edit ranges (edit_admitted s.book edit admitted).0 in
-    subst (Follows s) (state_of _ reply _ new done) (record { sound = edit_sound s.book n edit sound fits; limits = refl; opening = refl }))
+    subst (Follows s) (state_of _ reply _ new done) (record { sound = edit_sound s.book n edit sound fits; limits = refl; opening = refl; sessions = omega arith }))
 
 undo_follows : (s : State) (n : ℕ) (reply : Reply) (new : State) → StateIsSound s → Allows (undo_rule s n) s reply new → Follows s new
 undo_follows s n reply new sound step = by_done (undo_rule s n) s reply new sound step (λ none done.
@@ -96,7 +95,7 @@ undo_follows s n reply new sound step = by_done (undo_rule s n) s reply new soun
     (λ empty. let never : ◌≡◌ {A = Option (Reply × State)} None (Some (reply, new)) = sym (ap each empty) ∙ done in (cc))
     (λ x some.
     let found : IsFree s.book n x.number = record { newest = x; newest_is = some; free = admitted; of_is = refl } in
-    subst (Follows s) (state_of _ reply _ new (sym (ap each some) ∙ done)) (record { sound = (undo_step_now s.book n x.number sound found).sound; limits = refl; opening = refl })))
+    subst (Follows s) (state_of _ reply _ new (sym (ap each some) ∙ done)) (record { sound = (undo_step_now s.book n x.number sound found).sound; limits = refl; opening = refl; sessions = omega arith })))
 
 undo_all_follows : (s : State) (n : ℕ) (reply : Reply) (new : State) → StateIsSound s → Allows (undo_all_rule s n) s reply new → Follows s new
 undo_all_follows s n reply new sound step = by_done (undo_all_rule s n) s reply new sound step (λ none done.
@@ -105,7 +104,7 @@ undo_all_follows s n reply new sound step = by_done (undo_all_rule s n) s reply 
     let opening = s.book.opening in
     let es = s.book.entries in
     let taken = taken_to l opening es n [] (own_standing es n) (begin_taken l opening es n sound (free_of_all s.book n admitted).none) in
-    subst (Follows s) (state_of _ reply _ new done) (record { sound = taken.sound; limits = refl; opening = refl }))
+    subst (Follows s) (state_of _ reply _ new done) (record { sound = taken.sound; limits = refl; opening = refl; sessions = omega arith }))
 
 -- what nothing refuses to redo fits
 pub redo_fits : (s : State) (n : ℕ) (u : Applied) (fits : Bool) → StateIsSound s → redo_of s.book.entries n ≡ Some u → TellsFit s.book (Some u) fits → redo_cause s.book.entries (Some u) fits ≡ None → Fits s.book.limits (present s.book) (inverse u.change)
@@ -129,7 +128,7 @@ redo_follows s n reply new sound step =
     (λ u some.
     let fits = redo_fits s n u step.fits sound some (subst (λ o. TellsFit s.book o step.fits) some step.tells) (sym (ap (λ o. redo_cause s.book.entries o step.fits) some) ∙ both.0) in
     let is : IsRedoable s.book n u.number = record { undone = u; undone_is = some; fits = fits; room = both.1; of_is = refl } in
-    subst (Follows s) (state_of _ reply _ new (sym (ap each some) ∙ done)) (record { sound = redo_sound s.book n u.number sound is; limits = refl; opening = refl })))
+    subst (Follows s) (state_of _ reply _ new (sym (ap each some) ∙ done)) (record { sound = redo_sound s.book n u.number sound is; limits = refl; opening = refl; sessions = omega arith })))
 
 shown_follows : (s : State) (k : Key) (reply : Reply) (new : State) → StateIsSound s → (o : Option Record) → ◌≡◌ {A = Option (Reply × State)} (option_map (λ r. (Shown k r, s)) o) (Some (reply, new)) → Follows s new
 shown_follows s k reply new sound None done = (cc)
@@ -140,21 +139,22 @@ acted_follows s n act k now sound = record {
   sound = sound_quiet s.book.limits s.book.opening s.book.entries n (Acted act k (instant s now)) sound (λ m. refl) refl refl;
   limits = refl;
   opening = refl;
+  sessions = omega arith;
 }
 
 -- a step that leaves the book
-looked_follows : {A : Type 0} (s : State) (reply : Reply) (new : State) (f : A → Reply × State) → StateIsSound s → ((x : A) → (f x).1.book ≡ s.book) → (o : Option A) → ◌≡◌ {A = Option (Reply × State)} (option_map f o) (Some (reply, new)) → Follows s new
-looked_follows s reply new f sound same None done = (cc)
-looked_follows s reply new f sound same (Some x) done =
+looked_follows : {A : Type 0} (s : State) (reply : Reply) (new : State) (f : A → Reply × State) → StateIsSound s → ((x : A) → (f x).1.book ≡ s.book) → ((x : A) → (f x).1.sessions ≡ s.sessions) → (o : Option A) → ◌≡◌ {A = Option (Reply × State)} (option_map f o) (Some (reply, new)) → Follows s new
+looked_follows s reply new f sound same given None done = (cc)
+looked_follows s reply new f sound same given (Some x) done =
     let is : (f x).1 ≡ new = ap (λ (p : Reply × State). p.1) (done_of _ _ done) in
     let book : new.book ≡ s.book = ap (λ (t : State). t.book) (sym is) ∙ same x in
-    record { sound = subst (λ (b : Ledger). IsSound b.limits b.opening b.entries) (sym book) sound; limits = ap (λ (b : Ledger). b.limits) book; opening = ap (λ (b : Ledger). b.opening) book }
+    record { sound = subst (λ (b : Ledger). IsSound b.limits b.opening b.entries) (sym book) sound; limits = ap (λ (b : Ledger). b.limits) book; opening = ap (λ (b : Ledger). b.opening) book; sessions = omega (arith, ap (λ (t : State). t.sessions) is, given x) }
 
 -- ---- each step, and each list of them
 
 pub follows : (s : State) (n : ℕ) (command : Command) (reply : Reply) (new : State) → StateIsSound s → CommandInRange command → Step s n command reply new → Follows s new
 follows s n commands.Hello reply new sound ranges step = by_done (hello_rule s) s reply new sound step (λ none done.
-    subst (Follows s) (state_of (Session (s.sessions + 1)) reply (record s { sessions = s.sessions + 1 }) new done) (record { sound = sound; limits = refl; opening = refl }))
+    subst (Follows s) (state_of (Session (s.sessions + 1)) reply (record s { sessions = s.sessions + 1 }) new done) (record { sound = sound; limits = refl; opening = refl; sessions = omega arith }))
 follows s n (commands.Create k r) reply new sound ranges step = edit_follows s n (edits.Create k r) reply new sound ranges step
 follows s n (commands.Replace k r) reply new sound ranges step = edit_follows s n (edits.Replace k r) reply new sound ranges step
 follows s n (commands.Remove k) reply new sound ranges step = edit_follows s n (edits.Remove k) reply new sound ranges step
@@ -164,9 +164,9 @@ follows s n commands.Redo reply new sound ranges step = redo_follows s n reply n
 follows s n (commands.Enable k now) reply new sound ranges step = by_done (enable_rule s n k now) s reply new sound step (λ none done. subst (Follows s) (state_of _ reply _ new done) (acted_follows s n asked.Enable k now sound))
 follows s n (commands.Disable k now) reply new sound ranges step = by_done (disable_rule s n k now) s reply new sound step (λ none done. subst (Follows s) (state_of _ reply _ new done) (acted_follows s n asked.Disable k now sound))
 follows s n (commands.Apply k now) reply new sound ranges step = by_done (apply_rule s n k now) s reply new sound step (λ none done. subst (Follows s) (state_of _ reply _ new done) (acted_follows s n asked.Apply k now sound))
-follows s n (commands.Frame frame now) reply new sound ranges step = by_done (frame_rule s n frame now) s reply new sound step (λ none done. looked_follows s reply new (λ x. (Framed x.0, framed_state s now x.1)) sound (λ x. refl) (framed (present s.book) s.frames (acts_of_gates s.book) frame (instant s now)) done)
-follows s n (commands.States k at) reply new sound ranges step = by_done (states_rule s n k at) s reply new sound step (λ none done. looked_follows s reply new (λ x. (States x, s)) sound (λ x. refl) (shown_at s.book k (get (present s.book) k) at) done)
-follows s n (commands.Counters k) reply new sound ranges step = by_done (counters_rule s n k) s reply new sound step (λ none done. looked_follows s reply new (λ x. (Counters x, s)) sound (λ x. refl) (counted_at s.book s.frames s.time k) done)
+follows s n (commands.Frame frame now) reply new sound ranges step = by_done (frame_rule s n frame now) s reply new sound step (λ none done. looked_follows s reply new (λ x. (Framed x.0, framed_state s now x.1)) sound (λ x. refl) (λ x. refl) (framed (present s.book) s.frames (acts_of_gates s.book) frame (instant s now)) done)
+follows s n (commands.States k at) reply new sound ranges step = by_done (states_rule s n k at) s reply new sound step (λ none done. looked_follows s reply new (λ x. (States x, s)) sound (λ x. refl) (λ x. refl) (shown_at s.book k (get (present s.book) k) at) done)
+follows s n (commands.Counters k) reply new sound ranges step = by_done (counters_rule s n k) s reply new sound step (λ none done. looked_follows s reply new (λ x. (Counters x, s)) sound (λ x. refl) (λ x. refl) (counted_at s.book s.frames s.time k) done)
 follows s n (commands.Show k) reply new sound ranges step = by_done (show_rule s n k) s reply new sound step (λ none done. shown_follows s k reply new sound (get (present s.book) k) done)
 follows s n (commands.List kind) reply new sound ranges step = by_done (list_rule s n kind) s reply new sound step (λ none done. stays s new sound (sym (state_of (Ids (ids_of kind (present s.book))) reply s new done)))
 follows s n (commands.Since after) reply new sound ranges step = by_done (since_rule s n after) s reply new sound step (λ none done. stays s new sound (sym (state_of (Entries (since s.book.entries after)) reply s new done)))
@@ -176,7 +176,7 @@ follow [] s new sound ranges same = stays s new sound same
 follow (t ∷ ts) s new sound ranges (between, step, rest) =
     let one = follows s t.session t.command t.reply between sound ranges.0 step in
     let more = follow ts between new one.sound ranges.1 rest in
-    record { sound = more.sound; limits = more.limits ∙ one.limits; opening = more.opening ∙ one.opening }
+    record { sound = more.sound; limits = more.limits ∙ one.limits; opening = more.opening ∙ one.opening; sessions = omega (arith, one.sessions, more.sessions) }
 
 -- ---- an undo of all
 
@@ -187,46 +187,9 @@ all_taken_back s n count entry new sound step =
     let admitted = (was_given (is_given s n) (undo_all_refusal s.book n) is.0).1 in
     makes_all s.book n sound admitted _ _ new.book refl refl (sym (ap (λ (t : State). t.book) (state_of _ (TakenBack count entry) _ new is.1)))
 
--- ---- an undo of all that is refused for a conflict
+-- ---- an edit that was answered with an entry
 
-conflict_of : (g : Bool) (o : Option Refusal) (own other : ℕ) → least (unless g NoSession ∷ o ∷ []) ≡ Some (Conflict own other) → o ≡ Some (Conflict own other)
-conflict_of true None own other h = h
-conflict_of true (Some why) own other h = h
-conflict_of false None own other h = (cc)
-conflict_of false (Some why) own other h = pick (nat_lt (number_of why) 5) h
-  where
-    pick : (b : Bool) → cond b (Some why) (Some NoSession) ≡ Some (Conflict own other) → Some why ≡ Some (Conflict own other)
-    pick true h = h
-    pick false h = (cc)
-
-pub in_the_way : (s : State) (n own other : ℕ) (new : State) → StateIsSound s → Step s n commands.UndoAll (Refused (Conflict own other)) new → BlocksAll s.book.entries n own other × (new ≡ s)
-in_the_way s n own other new sound step =
-    let never = λ (done : (undo_all_rule s n).done ≡ Some (Refused (Conflict own other), new)). taken_is_none done in
-    elim (refused (undo_all_rule s n) s new (Conflict own other) never step) as (λ _. BlocksAll s.book.entries n own other × (new ≡ s)) [
-      | inl cause ↦ (
-        names_conflict s.book n own other sound (conflict_of (is_given s n) (undo_all_refusal s.book n) own other cause),
-        kept (outcome (undo_all_rule s n) s (Refused (Conflict own other)) new step),
-      )
-      | inr memory ↦ (cc)
-    ]
-  where
-    taken_is_none : {t : State} {count entry : ℕ} → ◌≡◌ {A = Option (Reply × State)} (Some (TakenBack count entry, t)) (Some (Refused (Conflict own other), new)) → ⊥
-    taken_is_none h = let reply : TakenBack _ _ ≡ Refused (Conflict own other) = ap (λ (p : Reply × State). p.0) (done_of _ _ h) in (cc)
-
-    kept : (new ≡ s) ⊎ ((least (undo_all_rule s n).causes ≡ None) × (◌≡◌ {A = Option (Reply × State)} (undo_all_rule s n).done (Some (Refused (Conflict own other), new)))) → new ≡ s
-    kept (inl same) = same
-    kept (inr done) = absurd (taken_is_none done.1)
-
--- ---- an edit at once undone
-
-made_by : (before edited : State) (session : ℕ) (edit : Edit) (entry : ℕ) → Step before session (command_of edit) (EntryReply entry) edited → Allows (edit_rule before session edit) before (EntryReply entry) edited
+pub made_by : (before edited : State) (session : ℕ) (edit : Edit) (entry : ℕ) → Step before session (command_of edit) (EntryReply entry) edited → Allows (edit_rule before session edit) before (EntryReply entry) edited
 made_by before edited session (edits.Create k r) entry step = step
 made_by before edited session (edits.Replace k r) entry step = step
 made_by before edited session (edits.Remove k) entry step = step
-
-module _ (before edited : State) (session : ℕ) (edit : Edit) (entry : ℕ) (sound : StateIsSound before) (ranges : EditInRange edit) (step : Step before session (command_of edit) (EntryReply entry) edited) where
-  pub at_once : (after : State) (number of : ℕ) → Step edited session commands.Undo (EntryOf number of) after → (of ≡ entry) × (present after.book ≡ present before.book)
-  at_once after number of back = undone_at_once before edited edited session edit entry ranges sound (made_by before edited session edit entry step) refl after number of back
-
-  pub at_once_free : (after : State) (why : Refusal) → Step edited session commands.Undo (Refused why) after → (why ≡ JournalFull) ⊎ (why ≡ Memory)
-  at_once_free after why back = free before edited edited session edit entry ranges sound (made_by before edited session edit entry step) refl (omega arith) after why back

@@ -1,5 +1,5 @@
 -- Commands on a key are steps: refused before all else, refused by what they add, or done.
-use Rattle.std.proofs.Common.{◌≡◌, ◌+◌, ℕ, refl, sym, ◌∙◌, ap, subst, arith, List, [], ◌∷◌, Option, Some, None, length, max}
+use Rattle.std.proofs.Common.{◌≡◌, ◌+◌, ℕ, Bool, true, false, refl, sym, ◌∙◌, ap, subst, arith, List, [], ◌∷◌, Option, Some, None, length, max}
 use Rattle.std.specs.Prelude.{Err, Ok, nat_le, option_map}
 use Rattle.std.specs.Option.{option_or}
 use Rattle.std.proofs.lemmas.Bool.{le-leb, lt-leb}
@@ -16,6 +16,7 @@ use Rattle.tsn_journal.specs.declared.entries.Act.TheVariants as asked
 use Rattle.tsn_journal.specs.declared.entries.What.TheVariants.{Acted}
 use Rattle.tsn_journal.specs.Entries.{most_entries, no_room}
 use Rattle.tsn_undo.specs.Ledger.{Ledger, enter, present}
+use Rattle.tsn_undo.proofs.Free.{or_none}
 use Rattle.tsn_chain.specs.declared.state.Counters.{Counters}
 use Rattle.tsn_chain.specs.declared.state.State.{State as Shown}
 use Rattle.tsn_chain.specs.Acts.{KeyStates}
@@ -77,6 +78,18 @@ apply_first s k = grouped (unless (enabled_at s.book k) NotEnabled) (unless (has
     grouped None None m = only m
     grouped (Some a) b m = refl
     grouped None (Some b) m = refl
+
+-- an apply that nothing refuses finds an entry in the list
+pub applied_has_entry : (s : State) (n : ℕ) (k : Key) (now : ℕ) → least (apply_rule s n k now).causes ≡ None → has_entry (get (present s.book) k) ≡ true
+unfolding appliable
+applied_has_entry s n k now none =
+    let both = or_none (first_cause (list_causes s n k [])) (first_cause (causes_of (appliable s k))) (sym (least_list s n k (appliable s k) (appliable_ordered s k)) ∙ none) in
+    second (enabled_at s.book k) (has_entry (get (present s.book) k)) (or_none (first_cause (apply_causes s.book k)) (no_room s.book.entries 1) (sym (apply_first s k) ∙ both.1)).0
+  where
+    second : (a b : Bool) → option_or (unless a NotEnabled) (option_or (unless b EmptyList) None) ≡ None → b ≡ true
+    second true true h = refl
+    second true false h = (cc)
+    second false b h = (cc)
 
 -- ---- a command that is refused before all else
 

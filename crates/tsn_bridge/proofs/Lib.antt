@@ -12,3 +12,5 @@ pub mod Telling
 pub mod KeySteps
 pub mod Restored
 pub mod Later
+pub mod Headline
+pub mod WhyNotAll

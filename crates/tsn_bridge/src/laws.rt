@@ -1,45 +1,49 @@
 //! Laws of the machine, as functions whose contracts state them. Their bodies are empty.
-ghost use Rattle.std.specs.Prelude.{◌≡◌, ◌⊎◌, ◌≤◌, ◌-◌, ◌%◌, ℕ, List, Option, Some};
+ghost use Rattle.std.specs.Prelude.{◌≡◌, ◌⊎◌, ◌≤◌, ℕ, List, Some};
 ghost use Rattle.std.specs.FinMap as map;
 ghost use Rattle.tsn_types.specs.declared.keys.Key.{Key as AnyKey};
 ghost use Rattle.tsn_types.specs.declared.keys.Key.TheVariants.{Gate, Port};
 ghost use Rattle.tsn_types.specs.declared.limits.Limits.{Limits as AnyLimits};
-ghost use Rattle.tsn_types.specs.declared.records.GateEntry.{GateEntry as AnyGateEntry};
-ghost use Rattle.tsn_types.specs.declared.records.PortEntry.{PortEntry as AnyPortEntry};
 ghost use Rattle.tsn_types.specs.declared.records.PortGates.{PortGates as AnyPort};
 ghost use Rattle.tsn_types.specs.declared.records.Record.{Record as AnyRecord};
 ghost use Rattle.tsn_types.specs.declared.records.Record.TheVariants as records;
 ghost use Rattle.tsn_types.specs.declared.records.StreamGate.{StreamGate as AnyGate};
 ghost use Rattle.tsn_types.specs.declared.refusals.Refusal.{Refusal as AnyRefusal};
-ghost use Rattle.tsn_types.specs.declared.refusals.Refusal.TheVariants.{Conflict, JournalFull, Memory};
+ghost use Rattle.tsn_types.specs.declared.refusals.Refusal.TheVariants.{JournalFull, Memory};
 ghost use Rattle.tsn_edit.specs.declared.Edit.{Edit as AnyEdit};
 ghost use Rattle.tsn_edit.specs.Changes.{restored};
 ghost use Rattle.tsn_edit.specs.Edits.{EditInRange, result as edit_result};
-ghost use Rattle.tsn_edit.specs.Runs.{IsGood};
-ghost use Rattle.tsn_journal.specs.Entries.{Applied, changes, standing};
-ghost use Rattle.tsn_journal.specs.Finding.{last_of, others_standing};
-ghost use Rattle.tsn_chain.specs.declared.state.State.{State as AnyShown};
-ghost use Rattle.tsn_chain.specs.declared.state.State.TheVariants as states;
-ghost use Rattle.tsn_schedule.specs.Entries.{entry_at};
-ghost use Rattle.tsn_schedule.specs.Times.{change_of};
+ghost use Rattle.tsn_journal.specs.Entries.{Applied};
+ghost use Rattle.tsn_journal.specs.Finding.{last_of};
 ghost use Rattle.tsn_undo.specs.Ledger.{present};
 ghost use Rattle.tsn_undo.specs.Soundness.{IsSound};
-ghost use Rattle.tsn_undo.specs.UndoAll.{BlocksAll, others_alone};
 ghost use Rattle.tsn_bridge.specs.declared.command.Command.{Command as AnyCommand};
-ghost use Rattle.tsn_bridge.specs.declared.command.Command.TheVariants as commands;
 ghost use Rattle.tsn_bridge.specs.declared.reply.Reply.{Reply as AnyReply};
-ghost use Rattle.tsn_bridge.specs.declared.reply.Reply.TheVariants.{Acted, Entry, EntryOf, Refused, States, TakenBack};
-ghost use Rattle.tsn_bridge.specs.Acts.{instant};
+ghost use Rattle.tsn_bridge.specs.declared.reply.Reply.TheVariants.{Entry, EntryOf, Refused};
 ghost use Rattle.tsn_bridge.specs.Beginning.{Opens, begun};
-ghost use Rattle.tsn_bridge.specs.Quiet.{SinceQuiet};
 ghost use Rattle.tsn_bridge.specs.Edits.{edit_rule, undo_rule};
-ghost use Rattle.tsn_bridge.specs.Histories.{AreInRange, CommandInRange, Leads, StateIsSound, Turn, command_of};
+ghost use Rattle.tsn_bridge.specs.Headline.{AtOnceUndone, GateRuns, OthersAlone, PortRuns, RestoredList};
+ghost use Rattle.tsn_bridge.specs.Histories.{AreInRange, CommandInRange, Leads, StateIsSound, Turn};
 ghost use Rattle.tsn_bridge.specs.Later.{IsLater, IsWhole};
 ghost use Rattle.tsn_bridge.specs.Machine.{Step};
 ghost use Rattle.tsn_bridge.specs.Rule.{Allows};
 ghost use Rattle.tsn_bridge.specs.Sessions.{most_sessions};
 ghost use Rattle.tsn_bridge.specs.State.{State};
 ghost use Rattle.tsn_bridge.specs.declared.bridge.TheConstants.{MOST_SESSIONS};
+
+/// The headline. Over every list of commands that sessions give a bridge, from limits and records that open one: an
+/// accepted edit at once undone leaves the configuration as it was; undoing a session's edits leaves exactly what the
+/// other sessions' standing edits alone give, or is refused naming a later edit that touches or refers to their
+/// instances; and a changeover to the restored list, its base time past, gives that list's gate states at every later
+/// instant. Nothing is asked of the state but that the commands led to it.
+pub fn headline()
+    ensures at_once_undone { (limits : AnyLimits) (records : List (AnyKey × AnyRecord)) (turns : List Turn) (now : State) →
+        Opens limits records → AreInRange turns → Leads (begun limits records) turns now → AtOnceUndone now }
+    ensures others_alone { (limits : AnyLimits) (records : List (AnyKey × AnyRecord)) (turns : List Turn) (now : State) →
+        Opens limits records → AreInRange turns → Leads (begun limits records) turns now → OthersAlone now }
+    ensures restored_list { (limits : AnyLimits) (records : List (AnyKey × AnyRecord)) (turns : List Turn) (now : State) →
+        Opens limits records → AreInRange turns → Leads (begun limits records) turns now → RestoredList now }
+{}
 
 /// The code's limit of sessions is the one of the definitions.
 pub fn limits()
@@ -84,34 +88,19 @@ pub fn edit_at_once_undone()
 
 /// Over every list of commands that sessions give, from a sound state, as every bridge's is: the state is sound, and the
 /// limits and the opening are as they were. After it, a session's edit that is answered with an entry and at once undone
-/// leaves the configuration as it was, every member of every record, and only a full journal or want of memory refuses
-/// that undo. An undo of all that is answered with a count leaves exactly what the other sessions' standing entries
-/// alone give: each of these still fits in its place. One that is refused for a conflict changes nothing, and names a
-/// standing entry of the session and a later standing entry of another session in conflict with it.
+/// leaves the configuration as it was; an undo of all of a session leaves exactly what the other sessions' standing
+/// entries alone give, or names what stands in the way; and a list that an undo restored, once it is applied with its
+/// base past, gives its own states.
 pub fn over_every_interleaving()
     ensures sound { (start now : State) (turns : List Turn) →
         StateIsSound start → AreInRange turns → Leads start turns now →
         StateIsSound now × (now.book.limits ≡ start.book.limits) × (now.book.opening ≡ start.book.opening) }
-    ensures at_once { (start before edited after : State) (turns : List Turn) (session : ℕ) (edit : AnyEdit) (entry number of : ℕ) →
-        StateIsSound start → AreInRange turns → Leads start turns before → EditInRange edit →
-        Step before session (command_of edit) (Entry entry) edited →
-        Step edited session commands.Undo (EntryOf number of) after →
-        (of ≡ entry) × (present after.book ≡ present before.book) }
-    ensures at_once_free { (start before edited after : State) (turns : List Turn) (session : ℕ) (edit : AnyEdit) (entry : ℕ) (why : AnyRefusal) →
-        StateIsSound start → AreInRange turns → Leads start turns before → EditInRange edit →
-        Step before session (command_of edit) (Entry entry) edited →
-        Step edited session commands.Undo (Refused why) after →
-        (why ≡ JournalFull) ⊎ (why ≡ Memory) }
-    ensures others_alone { (start before after : State) (turns : List Turn) (session count entry : ℕ) →
-        StateIsSound start → AreInRange turns → Leads start turns before →
-        Step before session commands.UndoAll (TakenBack count entry) after →
-        (present after.book ≡ others_alone before.book session)
-        × IsGood before.book.limits before.book.opening (changes (others_standing before.book.entries session))
-        × (standing after.book.entries ≡ others_standing before.book.entries session) }
-    ensures in_the_way { (start before after : State) (turns : List Turn) (session own other : ℕ) →
-        StateIsSound start → AreInRange turns → Leads start turns before →
-        Step before session commands.UndoAll (Refused (Conflict own other)) after →
-        BlocksAll before.book.entries session own other × (after ≡ before) }
+    ensures at_once_undone { (start now : State) (turns : List Turn) →
+        StateIsSound start → AreInRange turns → Leads start turns now → AtOnceUndone now }
+    ensures others_alone { (start now : State) (turns : List Turn) →
+        StateIsSound start → AreInRange turns → Leads start turns now → OthersAlone now }
+    ensures restored_list { (start now : State) (turns : List Turn) →
+        StateIsSound start → AreInRange turns → Leads start turns now → RestoredList now }
 {}
 
 /// Any state, whether a bridge holds it or it stands for itself. A bridge begins whole: its journal is sound, what the
@@ -128,23 +117,13 @@ pub fn steps_keep_states_sound()
         IsWhole now × IsLater start now }
 {}
 
-/// A list that is restored, by an undo or otherwise, and then applied with its base not after the instant that counts:
+/// A list that is restored, by an undo or otherwise, and then applied with its base not after the instant that counted:
 /// at each instant from the change time on, while nothing else is done to the list of its port or gate, the states are
 /// those of the list's entry at the time since the base, counted round the cycle, as if the list had run since its base.
 /// Other entries may come between: acts on other keys, edits, undos and redos that create and remove the key no more.
 pub fn restored_list()
-    ensures port { (before applied later : State) (session asker port now at entry t : ℕ) (change : Option ℕ) (p : AnyPort) (shown : AnyShown) (e : AnyPortEntry) →
-        StateIsSound before → map.get (present before.book) (Port port) ≡ Some (records.Port p) → p.admin.base ≤ instant before now →
-        Step before session (commands.Apply (Port port) now) (Acted change entry at) applied →
-        SinceQuiet (Port port) applied.book later.book → change_of p.admin.base p.admin.cycle (instant before now) ≤ t →
-        Step later asker (commands.States (Port port) t) (States shown) later →
-        entry_at (λ (y : AnyPortEntry). y.interval) p.admin.list ((t - p.admin.base) % p.admin.cycle) ≡ Some e →
-        shown ≡ states.Port e.gates }
-    ensures gate { (before applied later : State) (session asker gate now at entry t : ℕ) (change : Option ℕ) (g : AnyGate) (shown : AnyShown) (e : AnyGateEntry) →
-        StateIsSound before → map.get (present before.book) (Gate gate) ≡ Some (records.Gate g) → g.admin.base ≤ instant before now →
-        Step before session (commands.Apply (Gate gate) now) (Acted change entry at) applied →
-        SinceQuiet (Gate gate) applied.book later.book → change_of g.admin.base g.admin.cycle (instant before now) ≤ t →
-        Step later asker (commands.States (Gate gate) t) (States shown) later →
-        entry_at (λ (y : AnyGateEntry). y.interval) g.admin.list ((t - g.admin.base) % g.admin.cycle) ≡ Some e →
-        shown ≡ states.Gate e.is_open e.ipv }
+    ensures port { (ready : State) (port : ℕ) (p : AnyPort) →
+        StateIsSound ready → map.get (present ready.book) (Port port) ≡ Some (records.Port p) → PortRuns ready port p }
+    ensures gate { (ready : State) (gate : ℕ) (g : AnyGate) →
+        StateIsSound ready → map.get (present ready.book) (Gate gate) ≡ Some (records.Gate g) → GateRuns ready gate g }
 {}

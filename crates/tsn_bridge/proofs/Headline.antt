@@ -1,0 +1,151 @@
+-- The three parts of the headline hold of every state with a sound journal.
+use Rattle.std.proofs.Common.{◌≡◌, ◌-◌, ◌%◌, ℕ, true, false, cond, [], ◌∷◌, List, refl, sym, ◌∙◌, ap, Some, arith}
+use Rattle.std.specs.Prelude.{◌⊎◌, ◌==◌, nat_lt}
+use Rattle.std.specs.FinMap.{get}
+use Rattle.tsn_types.specs.declared.keys.Key.{Key}
+use Rattle.tsn_types.specs.declared.keys.Key.TheVariants.{Gate, Port}
+use Rattle.tsn_types.specs.declared.records.GateEntry.{GateEntry}
+use Rattle.tsn_types.specs.declared.records.PortEntry.{PortEntry}
+use Rattle.tsn_types.specs.declared.records.PortGates.{PortGates}
+use Rattle.tsn_types.specs.declared.records.Record.{Record}
+use Rattle.tsn_types.specs.declared.records.Record.TheVariants as records
+use Rattle.tsn_types.specs.declared.records.StreamGate.{StreamGate}
+use Rattle.tsn_types.specs.declared.refusals.Refusal.{Refusal}
+use Rattle.tsn_types.specs.declared.refusals.Refusal.TheVariants.{JournalFull, Memory}
+use Rattle.tsn_edit.specs.declared.Edit.{Edit}
+use Rattle.tsn_edit.specs.declared.Edit.TheVariants as edits
+use Rattle.tsn_edit.specs.Changes.{restored}
+use Rattle.tsn_edit.specs.Configuration.{Configuration}
+use Rattle.tsn_edit.specs.Edits.{EditInRange}
+use Rattle.tsn_edit.proofs.KeyFacts.{get-put, same_itself}
+use Rattle.tsn_schedule.specs.Entries.{entry_at}
+use Rattle.tsn_schedule.specs.Refusing.{has_entries}
+use Rattle.tsn_schedule.specs.Times.{change_of}
+use Rattle.tsn_journal.specs.Entries.{Applied}
+use Rattle.tsn_journal.specs.Finding.{standing_entry}
+use Rattle.tsn_journal.proofs.Standing.{standing_found}
+use Rattle.tsn_undo.specs.Ledger.{present}
+use Rattle.tsn_bridge.specs.declared.command.Command.TheVariants as commands
+use Rattle.tsn_bridge.specs.declared.reply.Reply.{Reply}
+use Rattle.tsn_bridge.specs.declared.reply.Reply.TheVariants.{Acted, Entry, EntryOf, Refused}
+use Rattle.tsn_bridge.specs.Acts.{apply_change, apply_rule, has_entry, instant}
+use Rattle.tsn_bridge.specs.Edits.{undo_rule}
+use Rattle.tsn_bridge.specs.Headline.{AtOnceUndone, EditsLast, GateRuns, OthersAlone, PortRuns, PutsBack, RestoredList}
+use Rattle.tsn_bridge.specs.Histories.{AreInRange, CommandInRange, Leads, StateIsSound, Turn, command_of}
+use Rattle.tsn_bridge.specs.Rule.{Allows}
+use Rattle.tsn_bridge.specs.State.{State}
+use Rattle.tsn_bridge.proofs.AtOnce.{done_of, free, taken_map, undone as undone_at_once}
+use Rattle.tsn_bridge.proofs.Interleaving.{all_taken_back, follow, follows, made_by}
+use Rattle.tsn_bridge.proofs.KeySteps.{applied_has_entry}
+use Rattle.tsn_bridge.proofs.Restored.{restored_gate, restored_port}
+use Rattle.tsn_bridge.proofs.Stepping.{accepted}
+use Rattle.tsn_bridge.proofs.WhyNotAll.{not_all}
+
+-- ---- an edit at once undone
+
+command_in_range : (edit : Edit) → EditInRange edit → CommandInRange (command_of edit)
+command_in_range (edits.Create k r) h = h
+command_in_range (edits.Replace k r) h = h
+command_in_range (edits.Remove k) h = tt
+
+module _ (before between : State) (session : ℕ) (edit : Edit) (entry : ℕ) (sound : StateIsSound before) (last : EditsLast before between session edit entry) where
+  sound_edited : StateIsSound last.edited
+  sound_edited = (follows before session (command_of edit) (Entry entry) last.edited sound (command_in_range edit last.ranges) last.step).sound
+
+  -- nothing came into the book since
+  same_book : between.book ≡ last.edited.book
+  same_book =
+      let on = follow last.turns last.edited between sound_edited last.in_range last.leads in
+      λ i. record { limits = on.limits i; opening = on.opening i; entries = last.none_since i }
+
+  undone_edit : (after : State) (number of : ℕ) → Allows (undo_rule between session) between (EntryOf number of) after → (of ≡ entry) × (present after.book ≡ present before.book)
+  undone_edit after number of back = undone_at_once before last.edited between session edit entry last.ranges sound (made_by before last.edited session edit entry last.step) same_book after number of back
+
+  free_edit : (after : State) (why : Refusal) → Allows (undo_rule between session) between (Refused why) after → (why ≡ JournalFull) ⊎ (why ≡ Memory)
+  free_edit after why back =
+      free before last.edited between session edit entry last.ranges sound (made_by before last.edited session edit entry last.step) same_book
+      (follow last.turns last.edited between sound_edited last.in_range last.leads).sessions after why back
+
+pub at_once_undone : (s : State) → StateIsSound s → AtOnceUndone s
+at_once_undone s sound = record {
+  accepted = λ between after session edit entry number of last back. undone_edit s between session edit entry sound last after number of back;
+  refused = λ between after session edit entry why last back. free_edit s between session edit entry sound last after why back;
+}
+
+-- ---- an undo of all
+
+pub others_alone_left : (s : State) → StateIsSound s → OthersAlone s
+others_alone_left s sound = record {
+  accepted = λ after session count entry back. let is = all_taken_back s session count entry after sound back in (is.map, is.good, is.stands);
+  refused = λ after session why back. not_all s session why after sound back;
+}
+
+-- ---- a restored list
+
+-- a list with an entry has one at each offset
+entry_there : {E : Type 0} (interval : E → ℕ) (list : List E) (offset : ℕ) → has_entries list ≡ true → (e : E) × (entry_at interval list offset ≡ Some e)
+entry_there interval [] offset some = (cc)
+entry_there interval (x ∷ []) offset some = (x, refl)
+entry_there {E = E} interval (x ∷ y ∷ list) offset some =
+    elim (nat_lt offset (interval x)) as (λ b. (e : E) × (cond b (Some x) (entry_at interval (y ∷ list) (offset - interval x)) ≡ Some e)) [
+      | true ↦ (x, refl)
+      | false ↦ entry_there interval (y ∷ list) (offset - interval x) refl
+    ]
+
+-- what an apply that was answered says
+record IsApplied (s : State) (k : Key) (now change at : ℕ) : Type 0 where
+  told : apply_change (get (present s.book) k) (instant s now) ≡ Some change
+  counted : instant s now ≡ at
+  some : has_entry (get (present s.book) k) ≡ true
+
+applied_is : (s applied : State) (n : ℕ) (k : Key) (now change entry at : ℕ) → Allows (apply_rule s n k now) s (Acted (Some change) entry at) applied → IsApplied s k now change at
+applied_is s applied n k now change entry at step =
+    let is = accepted (apply_rule s n k now) s (Acted (Some change) entry at) applied (λ why h. (cc)) step in
+    let reply : Acted _ _ _ ≡ Acted (Some change) entry at = ap (λ (p : Reply × State). p.0) (done_of _ _ is.1) in
+    record { told = (cc); counted = (cc); some = applied_has_entry s n k now is.0 }
+
+change_is : (x y : ℕ) → Some x ≡ Some y → x ≡ y
+change_is x y e = (cc)
+
+pub port_runs : (s : State) (m : ℕ) (p : PortGates) → StateIsSound s → get (present s.book) (Port m) ≡ Some (records.Port p) → PortRuns s m p
+port_runs s m p sound is applied later session asker now change entry at t shown step past quiet after asked =
+    let told = applied_is s applied session (Port m) now change entry at step in
+    let from = change_is (change_of p.admin.base p.admin.cycle (instant s now)) change (ap (λ v. apply_change v (instant s now)) (sym is) ∙ told.told) in
+    let e = entry_there (λ (y : PortEntry). y.interval) p.admin.list ((t - p.admin.base) % p.admin.cycle) (ap has_entry (sym is) ∙ told.some) in
+    (e.0, e.1, restored_port s applied later session asker m now at entry t (Some change) p shown e.0 sound is (omega (arith, past, told.counted)) step quiet (omega (arith, after, from)) asked e.1)
+
+pub gate_runs : (s : State) (m : ℕ) (g : StreamGate) → StateIsSound s → get (present s.book) (Gate m) ≡ Some (records.Gate g) → GateRuns s m g
+gate_runs s m g sound is applied later session asker now change entry at t shown step past quiet after asked =
+    let told = applied_is s applied session (Gate m) now change entry at step in
+    let from = change_is (change_of g.admin.base g.admin.cycle (instant s now)) change (ap (λ v. apply_change v (instant s now)) (sym is) ∙ told.told) in
+    let e = entry_there (λ (y : GateEntry). y.interval) g.admin.list ((t - g.admin.base) % g.admin.cycle) (ap has_entry (sym is) ∙ told.some) in
+    (e.0, e.1, restored_gate s applied later session asker m now at entry t (Some change) g shown e.0 sound is (omega (arith, past, told.counted)) step quiet (omega (arith, after, from)) asked e.1)
+
+same_entry : (x y : Applied) → Some x ≡ Some y → x ≡ y
+same_entry x y e = (cc)
+
+-- the record that an undo put back stands
+put_back : (s undone : State) (k : Key) (r : Record) → StateIsSound s → PutsBack s undone k r → get (present undone.book) k ≡ Some r
+put_back s undone k r sound back =
+    let taken = taken_map s undone back.session back.number back.of back.step in
+    let x = taken.0 in
+    let found = standing_found s.book.entries (λ (y : Applied). y.session == back.session) x sound.numbered taken.1 in
+    let same : x ≡ back.entry = same_entry x back.entry (sym found ∙ ap (standing_entry s.book.entries) (sym taken.2) ∙ back.entry_is) in
+    let map : present undone.book ≡ restored (present s.book) back.entry.change = taken.3 ∙ ap (λ (y : Applied). restored (present s.book) y.change) same in
+    ap (λ (c : Configuration). get c k) map
+    ∙ ap (get (restored (present s.book) back.entry.change)) (sym back.key_is)
+    ∙ get-put (present s.book) back.entry.change.key back.entry.change.before back.entry.change.key
+    ∙ ap (λ b. cond b back.entry.change.before (get (present s.book) back.entry.change.key)) (same_itself back.entry.change.key)
+    ∙ back.stood
+
+module _ (s undone : State) (k : Key) (r : Record) (sound : StateIsSound s) (back : PutsBack s undone k r) where
+  sound_on : (turns : List Turn) (ready : State) → AreInRange turns → Leads undone turns ready → StateIsSound ready
+  sound_on turns ready ranges leads =
+      let one = follows s back.session commands.Undo (EntryOf back.number back.of) undone sound tt back.step in
+      (follow turns undone ready one.sound ranges leads).sound
+
+pub restored_list : (s : State) → StateIsSound s → RestoredList s
+restored_list s sound = record {
+  port = λ undone m p back. (put_back s undone (Port m) (records.Port p) sound back, λ turns ready ranges leads is. port_runs ready m p (sound_on s undone (Port m) (records.Port p) sound back turns ready ranges leads) is);
+  gate = λ undone m g back. (put_back s undone (Gate m) (records.Gate g) sound back, λ turns ready ranges leads is. gate_runs ready m g (sound_on s undone (Gate m) (records.Gate g) sound back turns ready ranges leads) is);
+}
