@@ -14,3 +14,4 @@ pub mod Restored
 pub mod Later
 pub mod Headline
 pub mod WhyNotAll
+pub mod Examples

@@ -1,6 +1,7 @@
 pub mod Acts
 pub mod Beginning
 pub mod Edits
+pub mod Examples
 pub mod Frames
 pub mod Headline
 pub mod Histories
