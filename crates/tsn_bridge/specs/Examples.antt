@@ -1,22 +1,28 @@
 -- Journals of worked examples at the whole bridge, by hand: an undo of all that keeps another session's edits, a list that
 -- is restored and applied again, and a stream gate whose list runs.
-use Rattle.std.specs.Prelude.{ℕ, false, List, [], ◌∷◌, Option, Some, None, map}
+use Rattle.std.specs.Prelude.{ℕ, false, true, List, [], ◌∷◌, Option, Some, None, map}
 use Rattle.std.specs.List.{fold}
+use Rattle.std.specs.FinMap.{insert}
 use Rattle.tsn_types.specs.declared.keys.Key.TheVariants.{Filter, Gate, Port}
 use Rattle.tsn_types.specs.declared.records.PortEntry.{PortEntry}
 use Rattle.tsn_types.specs.declared.records.Record.{Record}
 use Rattle.tsn_types.specs.declared.records.Record.TheVariants as records
 use Rattle.tsn_config.specs.Opening.{default_port, opening}
-use Rattle.tsn_schedule.specs.Examples.{gate_list, one_two, open_shut, plan}
+use Rattle.tsn_schedule.specs.Examples.{gate_acts, gate_list, one_two, open_shut, plan}
 use Rattle.tsn_chain.specs.declared.state.State.{State as Shown}
+use Rattle.tsn_chain.specs.Examples.{Coming, filter_0, frame_of, left_by, no_meter}
+use Rattle.tsn_chain.specs.Following.{frames_after}
+use Rattle.tsn_chain.specs.Instances.{FrameData}
 use Rattle.tsn_journal.specs.declared.entries.Act.TheVariants as asked
 use Rattle.tsn_journal.specs.declared.entries.Entry.{Entry}
 use Rattle.tsn_journal.specs.declared.entries.What.{What}
 use Rattle.tsn_journal.specs.declared.entries.What.TheVariants.{Acted, Made, Undone}
-use Rattle.tsn_journal.specs.Entries.{with_entry}
+use Rattle.tsn_journal.specs.Entries.{Applied, with_entry}
 use Rattle.tsn_undo.specs.Examples.{change, edits, filter, gate}
 use Rattle.tsn_undo.specs.Ledger.{Ledger}
 use Rattle.tsn_bridge.specs.Beginning.{standard, standard_limits}
+use Rattle.tsn_bridge.specs.declared.reply.Reply.{Reply}
+use Rattle.tsn_bridge.specs.Frames.{frame_rule}
 use Rattle.tsn_bridge.specs.Looking.{shown_at}
 use Rattle.tsn_bridge.specs.State.{State}
 
@@ -27,6 +33,9 @@ entered ws = fold (λ es w. with_entry es w.0 w.1) [] ws
 -- a journal of a bridge of which nothing was said
 abbrev pub book_of : List Entry → Ledger
 book_of es = record { limits = standard_limits; opening = opening standard_limits []; entries = es }
+
+abbrev pub numbers : List Applied → List ℕ
+numbers xs = map (λ x. x.number) xs
 
 -- ---- session 1 creates gate 1 and filter 0 on it, session 2 gate 2 and filter 1 on it, in turns
 
@@ -65,10 +74,44 @@ put_ahead = with_entry (with_entry put_back 1 (Made (change (Port 1) (Some (port
 abbrev pub shows : List Entry → Record → List ℕ → List (Option Shown)
 shows es r ts = map (λ t. shown_at (book_of es) (Port 1) (Some r) t) ts
 
--- ---- the list of a closed stream gate is enabled and applied at 0
+-- ---- the list of a closed stream gate is enabled and applied at 0, and frames of any stream meet it
 
+-- it closes for good after a frame with more octets than the interval has left
 abbrev pub closed_gate : Record
-closed_gate = records.Gate (record { is_open = false; ipv = None; invalid_rx = false; octets_exceeded = false; admin = record { list = gate_list; cycle = 2000; extension = 0; base = 0 } })
+closed_gate =
+    records.Gate (record { is_open = false; ipv = None; invalid_rx = false; octets_exceeded = true; admin = record { list = gate_list; cycle = 2000; extension = 0; base = 0 } })
+
+abbrev pub any_stream : Record
+any_stream = records.Filter (record { handle = None; priority = None; gate = 0; max_sdu = None; meter = None; oversize = false })
 
 abbrev pub gate_runs : List Entry
-gate_runs = entered ((1, Made (change (Gate 0) None (Some closed_gate))) ∷ (1, Acted asked.Enable (Gate 0) 0) ∷ (1, Acted asked.Apply (Gate 0) 0) ∷ [])
+gate_runs =
+    entered ((1, Made (change (Gate 0) None (Some closed_gate)))
+    ∷ (1, Made (change (Filter 0) None (Some any_stream)))
+    ∷ (1, Acted asked.Enable (Gate 0) 0)
+    ∷ (1, Acted asked.Apply (Gate 0) 0)
+    ∷ [])
+
+-- what is kept of new instances, and after these frames
+abbrev pub rows_new : FrameData
+rows_new = frames_after 0 (frames_after 0 standard.frames (change (Gate 0) None (Some closed_gate))) (change (Filter 0) None (Some any_stream))
+
+abbrev pub rows_after : List Coming → FrameData → FrameData
+rows_after fs f =
+    let left = left_by (filter_0 true gate_acts) no_meter fs in record f { filters = insert f.filters 0 left.filter; gates = insert f.gates 0 left.gate }
+
+abbrev pub with_rows : ℕ → FrameData → State
+with_rows time f = record { book = book_of gate_runs; sessions = 1; time = time; frames = f }
+
+-- what a frame is answered, and the state after it
+abbrev pub answers : State → Coming → Option (Reply × State)
+answers s x = (frame_rule s 1 (record { handle = 7; priority = 2; octets = x.octets; yellow = false }) x.time).done
+
+abbrev pub rows_1 : FrameData
+rows_1 = rows_after (frame_of 10 100 ∷ []) rows_new
+
+abbrev pub rows_2 : FrameData
+rows_2 = rows_after (frame_of 10 100 ∷ frame_of 20 60 ∷ []) rows_1
+
+abbrev pub rows_3 : FrameData
+rows_3 = rows_after (frame_of 10 100 ∷ frame_of 20 60 ∷ frame_of 2010 10 ∷ []) rows_2

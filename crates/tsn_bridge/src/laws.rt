@@ -1,5 +1,5 @@
 //! Laws of the machine, as functions whose contracts state them. Their bodies are empty.
-ghost use Rattle.std.specs.Prelude.{◌≡◌, ◌⊎◌, ◌≤◌, ℕ, List, [], ◌∷◌, Option, Some, None, false, true, map as each, option_map};
+ghost use Rattle.std.specs.Prelude.{◌≡◌, ◌⊎◌, ◌≤◌, ℕ, List, [], ◌∷◌, Some, None, false, true, option_map};
 ghost use Rattle.std.specs.FinMap as map;
 ghost use Rattle.tsn_types.specs.declared.keys.Key.{Key as AnyKey};
 ghost use Rattle.tsn_types.specs.declared.keys.Key.TheVariants.{Gate, Port};
@@ -10,34 +10,37 @@ ghost use Rattle.tsn_types.specs.declared.records.Record.TheVariants as records;
 ghost use Rattle.tsn_types.specs.declared.records.StreamGate.{StreamGate as AnyGate};
 ghost use Rattle.tsn_types.specs.declared.refusals.Refusal.{Refusal as AnyRefusal};
 ghost use Rattle.tsn_types.specs.declared.refusals.Refusal.TheVariants.{JournalFull, Memory};
+ghost use Rattle.tsn_types.specs.declared.keys.Kind.TheVariants as kinds;
 ghost use Rattle.tsn_edit.specs.declared.Edit.{Edit as AnyEdit};
 ghost use Rattle.tsn_edit.specs.Changes.{restored};
 ghost use Rattle.tsn_edit.specs.Edits.{EditInRange, result as edit_result};
+ghost use Rattle.tsn_config.specs.Ids.{ids_of};
 ghost use Rattle.tsn_journal.specs.Entries.{Applied};
 ghost use Rattle.tsn_journal.specs.Finding.{last_of, others_standing, own_standing};
+ghost use Rattle.tsn_schedule.specs.Examples.{one_two};
+ghost use Rattle.tsn_chain.specs.declared.state.State.TheVariants as states;
+ghost use Rattle.tsn_chain.specs.declared.state.Counters.TheVariants as counters;
+ghost use Rattle.tsn_chain.specs.Examples.{frame_of};
+ghost use Rattle.tsn_chain.specs.declared.frame.Verdict.TheVariants.{Dropped, Passed};
+ghost use Rattle.tsn_chain.specs.declared.frame.DropCause.TheVariants.{Closed, Octets};
 ghost use Rattle.tsn_undo.specs.Ledger.{present};
 ghost use Rattle.tsn_undo.specs.Soundness.{IsSound};
+ghost use Rattle.tsn_undo.specs.UndoAll.{others_alone, undo_all_cause, with_undone};
 ghost use Rattle.tsn_bridge.specs.declared.command.Command.{Command as AnyCommand};
 ghost use Rattle.tsn_bridge.specs.declared.reply.Reply.{Reply as AnyReply};
-ghost use Rattle.tsn_bridge.specs.declared.reply.Reply.TheVariants.{Entry, EntryOf, Refused, TakenBack};
+ghost use Rattle.tsn_bridge.specs.declared.reply.Reply.TheVariants.{Entry, EntryOf, Framed, Refused, TakenBack};
+ghost use Rattle.tsn_bridge.specs.declared.bridge.TheConstants.{MOST_SESSIONS};
 ghost use Rattle.tsn_bridge.specs.Beginning.{Opens, begun, standard};
-ghost use Rattle.tsn_bridge.specs.Edits.{edit_rule, undo_rule, undo_all_rule};
+ghost use Rattle.tsn_bridge.specs.Edits.{edit_rule, undo_all_rule, undo_rule};
+ghost use Rattle.tsn_bridge.specs.Examples.{answers, book_of, closed_gate, gate_runs, in_turns, numbers, one_left, port, put_ahead, put_back, rows_1, rows_2, rows_3, rows_new, shows, two_sessions, with_rows};
 ghost use Rattle.tsn_bridge.specs.Headline.{AtOnceUndone, GateRuns, OthersAlone, PortRuns, RestoredList};
 ghost use Rattle.tsn_bridge.specs.Histories.{AreInRange, CommandInRange, Leads, StateIsSound, Turn};
 ghost use Rattle.tsn_bridge.specs.Later.{IsLater, IsWhole};
+ghost use Rattle.tsn_bridge.specs.Looking.{counted_at, shown_at};
 ghost use Rattle.tsn_bridge.specs.Machine.{Step};
 ghost use Rattle.tsn_bridge.specs.Rule.{Allows};
 ghost use Rattle.tsn_bridge.specs.Sessions.{most_sessions};
 ghost use Rattle.tsn_bridge.specs.State.{State};
-ghost use Rattle.tsn_bridge.specs.declared.bridge.TheConstants.{MOST_SESSIONS};
-ghost use Rattle.tsn_bridge.specs.Examples.{book_of, closed_gate, gate_runs, in_turns, one_left, port, put_ahead, put_back, shows, two_sessions};
-ghost use Rattle.tsn_bridge.specs.Looking.{counted_at, shown_at};
-ghost use Rattle.tsn_undo.specs.UndoAll.{undo_all_cause, with_undone, others_alone};
-ghost use Rattle.tsn_schedule.specs.Examples.{one_two};
-ghost use Rattle.tsn_chain.specs.declared.state.State.TheVariants as states;
-ghost use Rattle.tsn_chain.specs.declared.state.Counters.TheVariants as counters;
-ghost use Rattle.tsn_config.specs.Ids.{ids_of};
-ghost use Rattle.tsn_types.specs.declared.keys.Kind.TheVariants as kinds;
 
 /// The headline. Over every list of commands that sessions give a bridge, from limits and records that open one: an
 /// accepted edit at once undone leaves the configuration as it was; undoing a session's edits leaves exactly what the
@@ -141,7 +144,7 @@ pub fn restored_list()
 pub fn examples()
     ensures undo_all_keeps_others { (option_map (λ (x : AnyReply × State). x.0) (undo_all_rule two_sessions 1).done ≡ Some (TakenBack 2 6)) ×
         (with_undone in_turns 1 (own_standing in_turns 1) ≡ one_left) ×
-        (each (λ (x : Applied). x.number) (others_standing in_turns 1) ≡ 2 ∷ 4 ∷ []) ×
+        (numbers (others_standing in_turns 1) ≡ 2 ∷ 4 ∷ []) ×
         (undo_all_cause in_turns 1 (own_standing in_turns 1) ≡ None) }
     ensures undo_all_leaves { (present (book_of one_left) ≡ others_alone (book_of in_turns) 1) ×
         (ids_of kinds.Filter (present (book_of one_left)) ≡ 1 ∷ []) × (ids_of kinds.Gate (present (book_of one_left)) ≡ 2 ∷ []) }
@@ -151,4 +154,9 @@ pub fn examples()
         (counted_at (book_of put_ahead) standard.frames 12000 (Port 1) ≡ Some (counters.Port (record { change_error = 2; change_time = Some 12000; enabled = true; pending = false }))) }
     ensures gate_octets { (shown_at (book_of gate_runs) (Gate 0) (Some closed_gate) 500 ≡ Some (states.Gate true (Some 5))) ×
         (shown_at (book_of gate_runs) (Gate 0) (Some closed_gate) 1500 ≡ Some (states.Gate false None)) }
+    ensures gate_octets_frames { (answers (with_rows 0 rows_new) (frame_of 10 100) ≡ Some (Framed (Passed (Some 0) 10 5 false), with_rows 10 rows_1)) ×
+        (answers (with_rows 10 rows_1) (frame_of 20 60) ≡ Some (Framed (Dropped 0 20 Octets), with_rows 20 rows_2)) ×
+        (answers (with_rows 20 rows_2) (frame_of 2010 10) ≡ Some (Framed (Dropped 0 2010 Closed), with_rows 2010 rows_3)) ×
+        (counted_at (book_of gate_runs) rows_3 2010 (Gate 0) ≡
+        Some (counters.Gate (record { change_error = 0; change_time = Some 0; enabled = true; pending = false }) false true)) }
 {}

@@ -513,6 +513,7 @@ fn a_setup_with_an_absent_gate_is_refused(rt: HostRuntime) -> Result<(), Fail> {
 #[test]
 fn laws_have_nothing_to_run() {
     laws::edit_at_once_undone();
+    laws::examples();
     laws::headline();
     laws::maps_after_steps();
     laws::limits();
