@@ -63,7 +63,7 @@ use Rattle.tsn_bridge.specs.Beginning.{Opens, begun}
 use Rattle.tsn_bridge.specs.Edits.{AllowsRedo, changed_state, edit_rule, next, redo_rule, undo_all_rule, undo_rule}
 use Rattle.tsn_bridge.specs.Frames.{acts_of_gates, frame_rule, framed_state}
 use Rattle.tsn_bridge.specs.Histories.{AreInRange, CommandInRange, Leads, Turn}
-use Rattle.tsn_bridge.specs.Later.{IsBy, IsLater, IsWhole}
+use Rattle.tsn_bridge.specs.Later.{ActsAreBy, IsBy, IsLater, IsWhole}
 use Rattle.tsn_bridge.specs.Looking.{counted_at, counters_rule, shown_at, states_rule}
 use Rattle.tsn_bridge.specs.Machine.{Step}
 use Rattle.tsn_bridge.specs.Reads.{list_rule, show_rule, since_rule}
@@ -78,7 +78,7 @@ use Rattle.tsn_bridge.proofs.Stepping.{was_given}
 -- what a step keeps besides a sound journal
 record Keeps (s new : State) : Type 0 where
   frames : HasFrameKeys new.frames (present new.book)
-  acts : AllByRecursion (λ e. IsBy new.time e.what) new.book.entries
+  acts : ActsAreBy s → ActsAreBy new
   later : IsLater s new
 
 both : {A : Type 0} (P : A → Type 0) (xs ys : List A) → AllByRecursion P xs → AllByRecursion P ys → AllByRecursion P (xs ++ ys)
@@ -99,7 +99,7 @@ after_both s between new one two = record {
 }
 
 stays : (s new : State) → IsWhole s → new ≡ s → Keeps s new
-stays s new h same = subst (Keeps s) (sym same) (record { frames = h.frames; acts = h.acts; later = itself s })
+stays s new h same = subst (Keeps s) (sym same) (record { frames = h.frames; acts = λ a. a; later = itself s })
 
 by_done : (rule : Rule) (s : State) (reply : Reply) (new : State) → IsWhole s → Allows rule s reply new → (least rule.causes ≡ None → ◌≡◌ {A = Option (Reply × State)} rule.done (Some (reply, new)) → Keeps s new) → Keeps s new
 by_done rule s reply new h step f = elim (outcome rule s reply new step) as (λ _. Keeps s new) [
@@ -125,7 +125,7 @@ changed_keeps : (s : State) (n : ℕ) (w : What) (e : Change) → IsWhole s → 
 changed_keeps s n w e h apply fits = record {
   frames = subst (λ c. HasFrameKeys (frames_after s.time s.frames e) c) (sym (configuration_push s.book.opening s.book.entries n w e apply))
       (frames_fit s.book.limits (present s.book) s.frames s.time e (kept_now s.book h.journal) h.frames fits);
-  acts = both (λ (x : Entry). IsBy s.time x.what) s.book.entries (record { number = length s.book.entries + 1; session = n; what = w } ∷ []) h.acts (by_applied s.time w e apply, tt);
+  acts = λ a. both (λ (x : Entry). IsBy s.time x.what) s.book.entries (record { number = length s.book.entries + 1; session = n; what = w } ∷ []) a (by_applied s.time w e apply, tt);
   later = record { limits = refl; opening = refl; more = record { number = length s.book.entries + 1; session = n; what = w } ∷ []; entries = refl; sessions = omega arith; time = omega arith };
 }
 
@@ -175,9 +175,9 @@ module _ (s : State) (n : ℕ) (h : IsWhole s) where
       (frames_fit s.book.limits (present (record s.book { entries = left ys })) (undone_by (frames_after s.time) s.frames ys) s.time (inverse y.change)
       (kept_now (record s.book { entries = left ys }) so_far.sound) (frames_left (xs ++ y ∷ []) ys more) step.fits)
 
-  acts_left : (ys : List Applied) → AllByRecursion (λ e. IsBy s.time e.what) (left ys)
-  acts_left [] = h.acts
-  acts_left (y ∷ ys) = both (λ (x : Entry). IsBy s.time x.what) (left ys) (record { number = length (left ys) + 1; session = n; what = undone y } ∷ []) (acts_left ys) (tt, tt)
+  acts_left : ActsAreBy s → (ys : List Applied) → AllByRecursion (λ e. IsBy s.time e.what) (left ys)
+  acts_left a [] = a
+  acts_left a (y ∷ ys) = both (λ (x : Entry). IsBy s.time x.what) (left ys) (record { number = length (left ys) + 1; session = n; what = undone y } ∷ []) (acts_left a ys) (tt, tt)
 
   later_left : (ys : List Applied) → (more : List Entry) × (left ys ≡ s.book.entries ++ more)
   later_left [] = ([], sym (append_nil s.book.entries))
@@ -194,7 +194,7 @@ module _ (s : State) (n : ℕ) (h : IsWhole s) where
       let more = later_left own in
       subst (Keeps s) (state_of _ reply _ new done) (record {
         frames = frames_left [] own begun;
-        acts = acts_left own;
+        acts = λ a. acts_left a own;
         later = record { limits = refl; opening = refl; more = more.0; entries = more.1; sessions = omega arith; time = omega arith };
       }))
 
@@ -215,7 +215,7 @@ acted_keeps s n act k now h =
     let one : List Entry = record { number = length s.book.entries + 1; session = n; what = Acted act k (instant s now) } ∷ [] in
     record {
       frames = subst (λ c. HasFrameKeys s.frames c) (sym (ap (run s.book.opening) (nothing_push s.book.entries n (Acted act k (instant s now)) refl))) h.frames;
-      acts = both (λ (x : Entry). IsBy (instant s now) x.what) s.book.entries one (by_later s.time (instant s now) s.book.entries (omega arith) h.acts) (omega arith, tt);
+      acts = λ a. both (λ (x : Entry). IsBy (instant s now) x.what) s.book.entries one (by_later s.time (instant s now) s.book.entries (omega arith) a) (omega arith, tt);
       later = record { limits = refl; opening = refl; more = one; entries = refl; sessions = omega arith; time = omega arith };
     }
 
@@ -270,7 +270,7 @@ framed_keeps : (s : State) (frame : Frame) (now : ℕ) (reply : Reply) (new : St
 framed_keeps s frame now reply new h None is done = (cc)
 framed_keeps s frame now reply new h (Some x) is done = subst (Keeps s) (state_of (Framed x.0) reply (framed_state s now x.1) new done) (record {
   frames = framed_keys s.book.limits (present s.book) s.frames (acts_of_gates s.book) frame (instant s now) (kept_now s.book h.journal) h.frames (chosen frame.handle frame.priority (filters_of (present s.book))) x.0 x.1 is;
-  acts = by_later s.time (instant s now) s.book.entries (omega arith) h.acts;
+  acts = λ a. by_later s.time (instant s now) s.book.entries (omega arith) a;
   later = record { limits = refl; opening = refl; more = []; entries = sym (append_nil s.book.entries); sessions = omega arith; time = omega arith };
 })
 
@@ -285,7 +285,7 @@ keeps : (s : State) (n : ℕ) (command : Command) (reply : Reply) (new : State) 
 keeps s n commands.Hello reply new h ranges step = by_done (hello_rule s) s reply new h step (λ none done.
     subst (Keeps s) (state_of (Session (s.sessions + 1)) reply (record s { sessions = s.sessions + 1 }) new done) (record {
       frames = h.frames;
-      acts = h.acts;
+      acts = λ a. a;
       later = record { limits = refl; opening = refl; more = []; entries = sym (append_nil s.book.entries); sessions = omega arith; time = omega arith };
     }))
 keeps s n (commands.Create k r) reply new h ranges step = edit_keeps s n (edits.Create k r) reply new h ranges step
@@ -304,17 +304,17 @@ keeps s n (commands.Show k) reply new h ranges step = by_done (show_rule s n k) 
 keeps s n (commands.List kind) reply new h ranges step = by_done (list_rule s n kind) s reply new h step (λ none done. stays s new h (sym (state_of (Ids (ids_of kind (present s.book))) reply s new done)))
 keeps s n (commands.Since after) reply new h ranges step = by_done (since_rule s n after) s reply new h step (λ none done. stays s new h (sym (state_of (Entries (since s.book.entries after)) reply s new done)))
 
-pub goes_on : (s : State) (n : ℕ) (command : Command) (reply : Reply) (new : State) → IsWhole s → CommandInRange command → Step s n command reply new → IsWhole new × IsLater s new
+pub goes_on : (s : State) (n : ℕ) (command : Command) (reply : Reply) (new : State) → IsWhole s → CommandInRange command → Step s n command reply new → IsWhole new × IsLater s new × (ActsAreBy s → ActsAreBy new)
 goes_on s n command reply new h ranges step =
     let kept = keeps s n command reply new h ranges step in
-    (record { journal = (follows s n command reply new h.journal ranges step).sound; frames = kept.frames; acts = kept.acts }, kept.later)
+    (record { journal = (follows s n command reply new h.journal ranges step).sound; frames = kept.frames }, kept.later, kept.acts)
 
-pub all_go_on : (ts : List Turn) (s new : State) → IsWhole s → AreInRange ts → Leads s ts new → IsWhole new × IsLater s new
-all_go_on [] s new h ranges same = subst (λ t. IsWhole t × IsLater s t) (sym same) (h, itself s)
+pub all_go_on : (ts : List Turn) (s new : State) → IsWhole s → AreInRange ts → Leads s ts new → IsWhole new × IsLater s new × (ActsAreBy s → ActsAreBy new)
+all_go_on [] s new h ranges same = subst (λ t. IsWhole t × IsLater s t × (ActsAreBy s → ActsAreBy t)) (sym same) (h, itself s, λ a. a)
 all_go_on (t ∷ ts) s new h ranges (between, step, rest) =
     let one = goes_on s t.session t.command t.reply between h ranges.0 step in
     let more = all_go_on ts between new one.0 ranges.1 rest in
-    (more.0, after_both s between new one.1 more.1)
+    (more.0, after_both s between new one.1 more.1, λ a. more.2 (one.2 a))
 
 -- ---- at the beginning
 
@@ -327,5 +327,4 @@ whole_begun l records opens =
     record {
       journal = record { numbered = tt; kept = kept; replays = tt; good = tt; same = refl };
       frames = (begun_keys (opening l records) l kept).frames;
-      acts = tt;
     }

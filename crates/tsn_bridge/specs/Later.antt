@@ -16,14 +16,17 @@ IsBy time (Undone n e) = ⊤
 IsBy time (Redone n e) = ⊤
 IsBy time (Acted act key a) = a ≤ time
 
--- The journal is sound; what the filter chain keeps is there for just the filters, gates and meters of the configuration;
--- and every act was done by the bridge time.
+-- the journal is sound, and what the filter chain keeps is there for just the filters, gates and meters of the
+-- configuration
 pub record IsWhole (s : State) : Type 0 where
   pub journal : StateIsSound s
   pub frames : HasFrameKeys s.frames (present s.book)
-  pub acts : AllByRecursion (λ e. IsBy s.time e.what) s.book.entries
 
--- limits and opening are the same, no entry is gone or changed, no session is taken back, and time went back by nothing
+-- every act was done by the bridge time
+abbrev pub ActsAreBy : State → Type 0
+ActsAreBy s = AllByRecursion (λ e. IsBy s.time e.what) s.book.entries
+
+-- limits and opening are the same, no entry is gone or changed, no session is taken back, and the bridge time is no less
 pub record IsLater (s new : State) : Type 0 where
   pub limits : new.book.limits ≡ s.book.limits
   pub opening : new.book.opening ≡ s.book.opening

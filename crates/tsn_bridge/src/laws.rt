@@ -35,7 +35,7 @@ ghost use Rattle.tsn_bridge.specs.Edits.{edit_rule, undo_all_rule, undo_rule};
 ghost use Rattle.tsn_bridge.specs.Examples.{answers, book_of, closed_gate, gate_runs, in_turns, numbers, one_left, port, put_ahead, put_back, rows_1, rows_2, rows_3, rows_new, shows, two_sessions, with_rows};
 ghost use Rattle.tsn_bridge.specs.Headline.{AtOnceUndone, GateRuns, OthersAlone, PortRuns, RestoredList};
 ghost use Rattle.tsn_bridge.specs.Histories.{AreInRange, CommandInRange, Leads, StateIsSound, Turn};
-ghost use Rattle.tsn_bridge.specs.Later.{IsLater, IsWhole};
+ghost use Rattle.tsn_bridge.specs.Later.{ActsAreBy, IsLater, IsWhole};
 ghost use Rattle.tsn_bridge.specs.Looking.{counted_at, shown_at};
 ghost use Rattle.tsn_bridge.specs.Machine.{Step};
 ghost use Rattle.tsn_bridge.specs.Rule.{Allows};
@@ -114,18 +114,20 @@ pub fn over_every_interleaving()
         StateIsSound start → AreInRange turns → Leads start turns now → RestoredList now }
 {}
 
-/// Any state, whether a bridge holds it or it stands for itself. A bridge begins whole: its journal is sound, what the
-/// filter chain keeps is there for just the filters, gates and meters of its configuration, and every act was done by
-/// the bridge time. A step of a whole state leaves a whole state, and a later one: no entry is gone or changed, no
-/// session is taken back, the bridge time goes back by nothing, limits and opening stay. So do any number of steps.
+/// Any state, whether a bridge holds it or it stands for itself. A bridge begins whole: its journal is sound, and what
+/// the filter chain keeps is there for just the filters, gates and meters of its configuration; and every act was done
+/// by the bridge time. A step of a whole state leaves a whole state, and a later one: no entry is gone or changed, no
+/// session is taken back, the bridge time is no less, limits and opening stay; and where every act was done by the
+/// bridge time, every act still was. So do any number of steps.
 pub fn steps_keep_states_sound()
-    ensures begins { (limits : AnyLimits) (records : List (AnyKey × AnyRecord)) → Opens limits records → IsWhole (begun limits records) }
+    ensures begins { (limits : AnyLimits) (records : List (AnyKey × AnyRecord)) →
+        Opens limits records → IsWhole (begun limits records) × ActsAreBy (begun limits records) }
     ensures step { (before after : State) (session : ℕ) (command : AnyCommand) (reply : AnyReply) →
         IsWhole before → CommandInRange command → Step before session command reply after →
-        IsWhole after × IsLater before after }
+        IsWhole after × IsLater before after × (ActsAreBy before → ActsAreBy after) }
     ensures steps { (start now : State) (turns : List Turn) →
         IsWhole start → AreInRange turns → Leads start turns now →
-        IsWhole now × IsLater start now }
+        IsWhole now × IsLater start now × (ActsAreBy start → ActsAreBy now) }
 {}
 
 /// A list that is restored, by an undo or otherwise, and then applied with its base not after the instant that counted:
@@ -140,7 +142,8 @@ pub fn restored_list()
 {}
 
 /// Worked examples at the whole bridge, of the definitions alone: an undo of all that keeps another session's edits; a
-/// list that is restored and applied again, with what the port's counters tell; and what a stream gate shows.
+/// list that is restored and applied again, with what the port's counters tell; and what a stream gate shows, with the
+/// verdicts on three frames and what its counters tell after them.
 pub fn examples()
     ensures undo_all_keeps_others { (option_map (λ (x : AnyReply × State). x.0) (undo_all_rule two_sessions 1).done ≡ Some (TakenBack 2 6)) ×
         (with_undone in_turns 1 (own_standing in_turns 1) ≡ one_left) ×
