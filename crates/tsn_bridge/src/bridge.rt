@@ -18,6 +18,7 @@ ghost use Rattle.tsn_bridge.specs.Acts.{apply_rule, disable_rule, enable_rule, k
 ghost use Rattle.tsn_bridge.specs.Beginning.{begun, standard_limits};
 ghost use Rattle.tsn_bridge.specs.Edits.{AllowsRedo, edit_rule, undo_all_rule, undo_rule};
 ghost use Rattle.tsn_bridge.specs.Frames.{frame_rule};
+ghost use Rattle.tsn_bridge.specs.Later.{IsWhole};
 ghost use Rattle.tsn_bridge.specs.Looking.{counters_rule, states_rule};
 ghost use Rattle.tsn_bridge.specs.Machine.{Step};
 ghost use Rattle.tsn_bridge.specs.Reads.{list_rule, show_rule, since_rule};
@@ -138,12 +139,14 @@ impl Bridge {
         }
     }
 
-    /// The present configuration. It is the run of the standing entries from the opening, and that run is good.
+    /// The present configuration. It is the run of the standing entries from the opening, and that run is good. There is
+    /// data for just its keys.
     pub fn config(&self) -> &Config
         ensures limits { result.now.limits ≡ self.now.book.limits }
         ensures map { result.now.map ≡ present self.now.book }
         ensures kept { IsWellKept self.now.book.limits (present self.now.book) }
         ensures sound { IsSound self.now.book.limits self.now.book.opening self.now.book.entries }
+        ensures whole { IsWhole self.now }
         ensures good { IsGood self.now.book.limits self.now.book.opening (changes (standing self.now.book.entries)) }
         ensures stands { result.now.map ≡ run self.now.book.opening (changes (standing self.now.book.entries)) }
     {
