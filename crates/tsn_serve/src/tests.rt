@@ -7,7 +7,7 @@ use crate::{answer_lines, example_cuts, one_cut};
 use fakes::{Lengths, LineFeeds};
 use std::alloc::{AllocError, Global};
 use std::test::Fail;
-use tsn_bytes::{Failing, Fault, MemIn, MemOut};
+use tsn_bytes::{Buffered, Failing, Fault, MemIn, MemOut};
 
 const READS: u64 = 1000000;
 
@@ -96,6 +96,22 @@ fn a_failed_write_cuts_one_reply(rt: HostRuntime) -> Result<(), Fail> {
             assert_eq!(rt; writer.as_slice(), want, "at write {call}");
             assert_eq!(rt; lengths.answered, answered);
         }
+    }
+    Ok(())
+}
+
+#[test]
+fn replies_go_out_before_the_next_read(rt: HostRuntime) -> Result<(), Fail> {
+    let alloc = rt.alloc();
+    // Each read gives one line. What the buffer holds is handed on by one write, and that of this number fails.
+    for (call, answered) in [(0, 1), (1, 2), (2, 3)] {
+        let mut reader = MemIn::new(Vec::from_slice(alloc, b"a\nb\nc\n")?, 2, None);
+        let inner = MemOut::new(Vec::new(alloc), 100, Some((call, Failing::Error)));
+        let mut writer = Buffered::new(alloc, inner)?;
+        let mut lengths = Lengths { answered: 0 };
+        let end = answer_lines(alloc, &mut lengths, &mut reader, &mut writer, READS);
+        assert_eq!(rt; end, Err(Fault::Write));
+        assert_eq!(rt; lengths.answered, answered, "at write {call}");
     }
     Ok(())
 }
