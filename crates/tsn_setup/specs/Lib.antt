@@ -1,3 +1,4 @@
+pub mod Examples
 pub mod Ranges
 pub mod Setups
 pub mod Tables

@@ -7,9 +7,12 @@
 #![tactic(auto)]
 
 mod drafts;
+pub mod laws;
 mod members;
 mod ranges;
 mod setups;
 mod tables;
+#[cfg(test)]
+mod tests;
 
 pub use setups::{LONGEST_SETUP, setup_of};
