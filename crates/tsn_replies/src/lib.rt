@@ -13,3 +13,4 @@ mod text;
 mod told;
 
 pub use reply::{write_refusal, write_reply};
+pub use text::{CAPACITY, MOST_DIGITS, ShortText};
