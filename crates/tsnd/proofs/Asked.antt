@@ -1,7 +1,10 @@
 -- The words of worked command lines.
-use Rattle.std.proofs.Common.{◌≡◌, ℕ, List, [], ◌∷◌, codes, refl, ap, subst, ◌∙◌, inl, inr, Result, Ok, Err, IfErr}
+use Rattle.std.proofs.Common.{Bool, true, false, not, ◌&&◌, sym, ◌≡◌, ℕ, List, [], ◌∷◌, codes, refl, ap, subst, ◌∙◌, inl, inr, Result, Ok, Err, IfErr}
 use Rattle.clap.specs.declared.error.Error.{Error}
 use Rattle.clap.specs.declared.error.kind.ErrorKind.TheVariants.{DisplayHelp, MissingSubcommand, OutOfMemory}
+use Rattle.clap.specs.Simple.{has_plain_fields}
+use Rattle.clap.specs.declared.builder.command.Command.{Command}
+use Rattle.clap.specs.declared.builder.command.Command.TheViews.{out-Command}
 use Rattle.clap.specs.Kinds.{FailsBy, IsAmong}
 use Rattle.clap.specs.Values.{kind_of}
 use Rattle.clap.specs.Faults.{fault_of}
@@ -30,3 +33,15 @@ help name = refl
 nothing : (name : List ℕ) → fault_of program (name ∷ []) ≡ MissingSubcommand ∷ []
 unfolding clap_on_literals
 nothing name = refl
+
+-- a command whose shape is plain has no global argument
+third_is_false : (a b g rest : Bool) → (a && (b && (not g && rest))) ≡ true → g ≡ false
+third_is_false true true false rest e = refl
+third_is_false true true true rest e = sym e
+third_is_false true false true rest e = sym e
+third_is_false true false false rest e = refl
+third_is_false false b true rest e = sym e
+third_is_false false b false rest e = refl
+
+pub local_by_shape : (c : Command) → has_plain_fields (out-Command c) ≡ true → (out-Command c).has_globals ≡ false
+local_by_shape c plain = third_is_false _ _ _ _ plain

@@ -1,2 +1,5 @@
 pub mod Asking
+pub mod Failures
+pub mod Listing
+pub mod Opening
 pub mod Program

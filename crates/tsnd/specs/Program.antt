@@ -1,22 +1,21 @@
 -- What a run of the program does to its input, its output and its errors, and the status that it ends with.
-use Rattle.std.specs.Prelude.{◌≡◌, ◌⊎◌, ℕ, ◌≤◌, List, [], Bool, true, length, take, Option, Result, Ok, Err, codes, string_bytes}
+use Rattle.std.specs.Prelude.{◌≡◌, ◌⊎◌, ℕ, ◌≤◌, List, [], Bool, true, length, take, Option, Some, None, Result, Ok, Err, string_bytes}
 use Rattle.std.specs.Io.KnownBytes.{Appends}
-use Rattle.tsn_bytes.specs.declared.bytes.Fault.{Fault}
-use Rattle.tsn_bytes.specs.declared.bytes.Fault.TheVariants.{Read, Write, Memory, Exhausted}
+use Rattle.tsn_types.specs.declared.refusals.Refusal.{Refusal}
+use Rattle.tsn_records.specs.Answers.{IsOrMemory}
+use Rattle.tsn_bytes.specs.declared.bytes.Fault.TheVariants.{Write}
 use Rattle.tsn_bridge.specs.State.{State}
 use Rattle.tsn_bridge.specs.Beginning.{standard}
 use Rattle.tsn_serve.specs.Answers.{Answers, BreaksInWriting}
 use Rattle.tsn_serve.specs.Outcomes.{Moment, Outcome, most_reads}
-use Rattle.tsnd.specs.Asking.{Asks}
+use Rattle.tsnd.specs.Failures.{failure_line}
+use Rattle.tsnd.specs.Listing.{Enables, EnablesNot, EndsEarly, lines, listing_refusal}
+use Rattle.tsnd.specs.Opening.{opened}
 use Rattle.tsnd.specs.declared.arguments.Asked.{Asked}
-use Rattle.tsnd.specs.declared.arguments.Asked.TheVariants.{Script, Shown, Refused}
-
--- The line that tells of a failure.
-abbrev pub failure_line : Fault → List ℕ
-failure_line Read = codes "tsnd: read failed\n"
-failure_line Write = codes "tsnd: write failed\n"
-failure_line Memory = codes "tsnd: out of memory\n"
-failure_line Exhausted = codes "tsnd: no ticket left\n"
+use Rattle.tsnd.specs.declared.arguments.Asked.TheVariants.{Script, States, Shown, Refused}
+use Rattle.tsnd.specs.declared.arguments.Listing.{Listing}
+use Rattle.tsnd.specs.declared.failures.Failure.{Failure}
+use Rattle.tsnd.specs.declared.failures.Failure.TheVariants as failures
 
 -- The text was written, and nothing else; where the writer failed, a front of it.
 abbrev pub IsTold : Option (List ℕ) → Option (List ℕ) → Bool → List ℕ → Type 0
@@ -38,33 +37,87 @@ abbrev pub Tells : Errors → List ℕ → Type 0
 Tells errors text = IsTold errors.old errors.new errors.failed text
 
 -- A run that went well has status 0 and says nothing; a failure has status 1 and its line.
-abbrev pub Reports : Result (Unit {0}) Fault → ℕ → Errors → Type 0
+abbrev pub Reports : Result (Unit {0}) Failure → ℕ → Errors → Type 0
 Reports (Ok u) status errors = (status ≡ 0) × IsSilent errors
-Reports (Err fault) status errors = (status ≡ 1) × Tells errors (failure_line fault)
+Reports (Err failure) status errors = (status ≡ 1) × Tells errors (failure_line failure)
 
 -- A text was shown on the output, whole and handed on, or the writer failed.
-abbrev pub Shows : Moment State → Moment State → List ℕ → Result (Unit {0}) Fault → Type 0
+abbrev pub Shows : Moment State → Moment State → List ℕ → Result (Unit {0}) Failure → Type 0
 Shows old new text (Ok u) = Appends old.taken new.taken text × (new.held_back ≡ [])
-Shows old new text (Err fault) = (fault ≡ Write) × (new.writer_failed ≡ true) × ((n : ℕ) × (n ≤ length text) × Appends old.taken new.taken (take n text))
+Shows old new text (Err failure) = (failure ≡ failures.Fault Write) × (new.writer_failed ≡ true) × ((n : ℕ) × (n ≤ length text) × Appends old.taken new.taken (take n text))
 
--- What was asked for was done: a script is answered from the standard setup, a text shown with no input read, and
--- words that are refused have status 2 and their text, with no input read and nothing written.
-abbrev pub Serves : Asked → Moment State → (State → Moment State) → ℕ → Errors → Type 0
-Serves Script old new status errors =
-    (end : State) × (outcome : Result (Unit {0}) Fault)
-    × Outcome Answers BreaksInWriting most_reads old (new end) outcome
-    × Reports outcome status errors
-Serves (Shown text) old new status errors =
-    (outcome : Result (Unit {0}) Fault)
-    × ((new standard).left ≡ old.left)
-    × Shows old (new standard) (string_bytes text) outcome
-    × Reports outcome status errors
-Serves (Refused text) old new status errors =
-    (new standard ≡ old) × (status ≡ 2) × Tells errors (string_bytes text)
+-- The text opens this state, or is refused so; want of memory stands in place of either.
+abbrev pub Opens : List ℕ → Result State Refusal → Type 0
+Opens text start = IsOrMemory start (opened text)
 
--- What the words ask for was done; or memory was wanting to read them, and nothing was read or written but the line
--- that says so.
-abbrev pub Runs : Option (List (List ℕ)) → Moment State → (State → Moment State) → ℕ → Errors → Type 0
-Runs words old new status errors =
-    ((asked : Asked) × Asks words asked × Serves asked old new status errors)
-    ⊎ ((new standard ≡ old) × Reports (Err Memory) status errors)
+-- A script is answered from the state that the setup opens; where it opens none, nothing is read or written.
+abbrev pub AnswersFrom : Result State Refusal → (State → Moment State) → (State → Moment State) → Result (Unit {0}) Failure → Type 0
+AnswersFrom (Ok start) old new (Ok u) = (end : State) × Outcome Answers BreaksInWriting most_reads (old start) (new end) (Ok u)
+AnswersFrom (Ok start) old new (Err (failures.Fault fault)) = (end : State) × Outcome Answers BreaksInWriting most_reads (old start) (new end) (Err fault)
+AnswersFrom (Ok start) old new (Err (failures.Refused why)) = ⊥
+AnswersFrom (Ok start) old new (Err failures.Setup) = ⊥
+AnswersFrom (Err why) old new outcome = (outcome ≡ Err (failures.Refused why)) × (new standard ≡ old standard)
+
+abbrev pub AnswersScript : List ℕ → (State → Moment State) → (State → Moment State) → Result (Unit {0}) Failure → Type 0
+AnswersScript setup old new outcome = (start : Result State Refusal) × Opens setup start × AnswersFrom start old new outcome
+
+-- An output before and after: the bytes that it took, those of them that it holds back, and whether a call failed.
+pub record Output : Type 0 where
+  pub old : Option (List ℕ)
+  pub new : Option (List ℕ)
+  pub held_back : List ℕ
+  pub failed : Bool
+
+-- The states that this state shows were printed, and handed on.
+abbrev pub PrintsAll : State → Listing → Output → Type 0
+PrintsAll s x output = Appends output.old output.new (lines s x x.count) × (output.held_back ≡ [])
+
+-- Printing broke off in a line, or the writer failed to hand on what it held back.
+abbrev pub PrintsFront : State → Listing → Output → Failure → Type 0
+PrintsFront s x output failure =
+    EndsEarly s x output.old output.new output.failed failure
+    ⊎ ((failure ≡ failures.Fault Write) × (output.failed ≡ true) × Appends output.old output.new (lines s x x.count))
+
+-- Nothing was printed, for a port or an instant outside the limits, or since the port was not enabled or its list not applied.
+abbrev pub PrintsNothing : State → Listing → Output → Refusal → Type 0
+PrintsNothing s x output why =
+    (output.new ≡ output.old)
+    × ((listing_refusal s.book.limits x ≡ Some why) ⊎ ((listing_refusal s.book.limits x ≡ None) × EnablesNot s x.port x.from why))
+
+-- The states of a port from the state that a setup opens. Where it opens none, nothing is printed.
+abbrev pub PrintsFrom : Result State Refusal → Listing → Output → Result (Unit {0}) Failure → Type 0
+PrintsFrom (Err why) x output outcome = (outcome ≡ Err (failures.Refused why)) × (output.new ≡ output.old)
+PrintsFrom (Ok start) x output (Ok u) =
+    (listing_refusal start.book.limits x ≡ None)
+    × ((shown : State) × Enables start x.port x.from shown × PrintsAll shown x output)
+PrintsFrom (Ok start) x output (Err failure) =
+    ((why : Refusal) × (failure ≡ failures.Refused why) × PrintsNothing start x output why)
+    ⊎ ((listing_refusal start.book.limits x ≡ None)
+    × ((shown : State) × Enables start x.port x.from shown × PrintsFront shown x output failure))
+
+abbrev pub PrintsStates : List ℕ → Listing → Output → Result (Unit {0}) Failure → Type 0
+PrintsStates setup x output outcome = (start : Result State Refusal) × Opens setup start × PrintsFrom start x output outcome
+
+-- What is told of an output between two moments.
+abbrev pub output_of : Moment State → Moment State → Output
+output_of old new = record { old = old.taken; new = new.taken; held_back = new.held_back; failed = new.writer_failed }
+
+-- What was asked for was done: a script is answered, or states are printed, from the setup's bridge; a text is shown;
+-- and words that are refused have status 2 and their text. No input is read but that of a script.
+abbrev pub Serves : Asked → List ℕ → (State → Moment State) → (State → Moment State) → ℕ → Errors → Type 0
+Serves (Script file) setup old new status errors =
+    (outcome : Result (Unit {0}) Failure)
+    × AnswersScript setup old new outcome
+    × Reports outcome status errors
+Serves (States file listing) setup old new status errors =
+    (outcome : Result (Unit {0}) Failure)
+    × ((new standard).left ≡ (old standard).left)
+    × PrintsStates setup listing (output_of (old standard) (new standard)) outcome
+    × Reports outcome status errors
+Serves (Shown text) setup old new status errors =
+    (outcome : Result (Unit {0}) Failure)
+    × ((new standard).left ≡ (old standard).left)
+    × Shows (old standard) (new standard) (string_bytes text) outcome
+    × Reports outcome status errors
+Serves (Refused text) setup old new status errors =
+    (new standard ≡ old standard) × (status ≡ 2) × Tells errors (string_bytes text)

@@ -1,20 +1,28 @@
 //! `tsnd`: the configuration service of one time-aware bridge.
 //!
-//! `tsnd script` answers a script of command lines on standard input with one reply line each on standard output. The
-//! status is 0, or 1 after one line on standard error that says why, or 2 for a command line that is refused.
+//! `tsnd script` answers a script of command lines on standard input with one reply line each on standard output, from a
+//! setup in a file or from the standard one. `tsnd states` prints the gate states of a port at even steps. The status is
+//! 0, or 1 after one line on standard error that says why, or 2 for a command line that is refused.
 #![tactic(auto)]
 
 mod arguments;
+mod failures;
+mod files;
+mod opening;
 mod program;
 mod script;
+mod states;
 #[cfg(test)]
 mod tests;
 
+use crate::arguments::{Asked, read_words};
+use crate::failures::Failure;
+use crate::files::read_setup;
 use crate::program::{fail, run};
 use std::io::ErrorKind;
 use std::process::ExitCode;
-use std::rt::Env;
-use std::{env, io};
+use std::rt::{Env, Files};
+use std::{env, fs, io};
 use tsn_bytes::{Buffered, Fault, StdIo};
 
 /// The words of the command line, the program's name first; none where a word is no UTF-8.
@@ -33,18 +41,49 @@ fn words_of<R: Env + AllocGlobal>(rt: &R) -> Result<Option<Vec<String>>, Fault> 
     Ok(Some(words))
 }
 
-/// Hands the process to `run`: its words, its standard input, its standard output behind a buffer, and its standard
-/// error.
+/// What the words of the process ask for.
+fn asked_for<R: Env + AllocGlobal>(rt: &R) -> Result<Asked, Fault> {
+    let words = match words_of(rt) {
+        Ok(words) => words,
+        Err(fault) => return Err(fault),
+    };
+    read_words(rt.alloc(), words.as_ref().map(Vec::as_slice))
+}
+
+/// The text of the setup that is named, empty where none is.
+fn setup_text<R: Files + AllocGlobal>(rt: &R, asked: &Asked) -> Result<Vec<u8>, Failure> {
+    let Some(file) = asked.file() else {
+        return Ok(Vec::new(rt.alloc()));
+    };
+    let Ok(file) = fs::open(rt, file) else {
+        return Err(Failure::Setup);
+    };
+    read_setup(rt.alloc(), &mut StdIo::new(file))
+}
+
+/// Hands the process to `run`: what its words ask for, the text of the setup that they name, its standard input, its
+/// standard output behind a buffer, and its standard error.
 fn main(rt: HostRuntime) -> ExitCode {
     let mut errors = StdIo::new(rt.stderr());
-    let words = match words_of(&rt) {
-        Ok(words) => words,
-        Err(fault) => return ExitCode::from(fail(&mut errors, fault)),
+    let asked = match asked_for(&rt) {
+        Ok(asked) => asked,
+        Err(fault) => return ExitCode::from(fail(&mut errors, Failure::Fault(fault))),
+    };
+    let setup = match setup_text(&rt, &asked) {
+        Ok(setup) => setup,
+        Err(failure) => return ExitCode::from(fail(&mut errors, failure)),
     };
     let Ok(mut output) = Buffered::new(rt.alloc(), StdIo::new(io::writer(&rt))) else {
-        return ExitCode::from(fail(&mut errors, Fault::Memory));
+        return ExitCode::from(fail(&mut errors, Failure::Fault(Fault::Memory)));
     };
     let mut input = StdIo::new(rt.reader());
-    let words = words.as_ref().map(Vec::as_slice);
-    ExitCode::from(run(rt.alloc(), words, &mut input, &mut output, &mut errors))
+    let alloc = rt.alloc();
+    ExitCode::from(run(
+        alloc,
+        &asked,
+        setup.as_slice(),
+        &mut input,
+        &mut output,
+        &mut errors,
+    ))
 }

@@ -1,96 +1,145 @@
-//! The program, from its words, its input and two outputs to its status.
-ghost use Rattle.std.specs.Prelude.{◌≡◌, ◌≤◌, ℕ, [], true, length, take, OnOk, IfErr, OnErr, map, option_map, string_bytes};
+//! The program, from what its words ask for, its setup's text, its input and two outputs to its status.
+ghost use Rattle.std.specs.Prelude.{◌≡◌, ◌≤◌, ℕ, [], true, length, take, OnOk, IfErr, OnErr, Ok};
 ghost use Rattle.std.specs.Io.KnownBytes.{Appends};
 ghost use Rattle.tsn_bytes.specs.declared.bytes.Fault.TheVariants.{Write};
-ghost use Rattle.tsn_bridge.specs.Beginning.{standard};
 ghost use Rattle.tsn_serve.specs.Outcomes.{moment};
-ghost use Rattle.tsnd.specs.Program.{IsTold, Runs, failure_line};
+ghost use Rattle.tsnd.specs.Failures.{failure_line};
+ghost use Rattle.tsnd.specs.Program.{IsTold, PrintsFrom, PrintsStates, Reports, Serves};
+ghost use Rattle.tsnd.specs.declared.failures.Failure.TheVariants as failures;
 
-use crate::arguments::{Asked, read_words};
+use crate::arguments::{Asked, Listing};
+use crate::failures::{Failure, failure_line};
+use crate::opening::bridge_of;
 use crate::script::answer_script;
+use crate::states::{enable_at, first_instant, listed_port, write_states};
 use std::alloc::Global;
+use tsn_bridge::bridge::Bridge;
 use tsn_bytes::{ByteIn, ByteOut, Fault, put_all};
 
-// The line that tells of a failure.
-fn failure_line(fault: Fault) -> &'static str
-    ensures { result.now ≡ failure_line fault }
-{
-    match fault {
-        Fault::Read => "tsnd: read failed\n",
-        Fault::Write => "tsnd: write failed\n",
-        Fault::Memory => "tsnd: out of memory\n",
-        Fault::Exhausted => "tsnd: no ticket left\n",
-    }
-}
-
 // Writes the text and hands it on.
-fn show<W: ByteOut>(writer: &mut W, text: &str) -> Result<(), Fault>
+fn show<W: ByteOut>(writer: &mut W, text: &[u8]) -> Result<(), Failure>
     ensures ok { OnOk result (Appends (W.taken writer.old) (W.taken writer.new) text.now
         × (W.pending writer.new ≡ [])) }
-    ensures fault { IfErr result (λ fault. fault ≡ Write) }
+    ensures fault { IfErr result (λ failure. failure ≡ failures.Fault Write) }
     ensures failed { OnErr result (W.has_failed writer.new ≡ true) }
     ensures cut { OnErr result ((n : ℕ) × (n ≤ length text.now)
         × Appends (W.taken writer.old) (W.taken writer.new) (take n text.now)) }
 {
-    match put_all(writer, text.as_bytes()) {
+    match put_all(writer, text) {
         Ok(()) => {}
-        Err(fault) => return Err(fault),
+        Err(fault) => return Err(Failure::Fault(fault)),
     }
     let Ok(()) = writer.flush() else {
-        return Err(Fault::Write);
+        return Err(Failure::Fault(Fault::Write));
     };
     Ok(())
 }
 
 // Writes the text where it can. Nothing is left to do where it can't.
-fn tell<W: ByteOut>(errors: &mut W, text: &str)
+fn tell<W: ByteOut>(errors: &mut W, text: &[u8])
     ensures { IsTold (W.taken errors.old) (W.taken errors.new) (W.has_failed errors.new) text.now }
 {
     let _ = show(errors, text);
 }
 
 /// Tells of a failure, and gives its status, 1.
-pub fn fail<W: ByteOut>(errors: &mut W, fault: Fault) -> u8
+pub fn fail<W: ByteOut>(errors: &mut W, failure: Failure) -> u8
     ensures status { result ≡ 1 }
     ensures line { IsTold (W.taken errors.old) (W.taken errors.new) (W.has_failed errors.new)
-        (failure_line fault) }
+        (failure_line failure) }
 {
-    tell(errors, failure_line(fault));
+    tell(errors, failure_line(&failure).as_slice());
     1
 }
 
-/// Does what the words ask for, the program's name first, or none where a word is no UTF-8, and gives the status: 0;
-/// 1 after one line that says what failed; 2 after a text that says why the words are refused.
+// The status of a run that ended so, of which a failure is told.
+fn status_of<W: ByteOut>(errors: &mut W, outcome: Result<(), Failure>) -> u8
+    ensures { Reports outcome result
+        (record { old = W.taken errors.old; new = W.taken errors.new; failed = W.has_failed errors.new }) }
+{
+    match outcome {
+        Ok(()) => 0,
+        Err(failure) => fail(errors, failure),
+    }
+}
+
+// Prints the states of a port of the bridge, and hands them on.
+fn list_states<W: ByteOut>(
+    bridge: &mut Bridge,
+    listing: &Listing,
+    writer: &mut W,
+) -> Result<(), Failure>
+    ensures { PrintsFrom (Ok bridge.old) listing.now
+        (record { old = W.taken writer.old; new = W.taken writer.new; held_back = W.pending writer.new; failed = W.has_failed writer.new })
+        result }
+{
+    let port = match listed_port(bridge.config().limits(), listing) {
+        Ok(port) => port,
+        Err(why) => return Err(Failure::Refused(why)),
+    };
+    match enable_at(bridge, port, first_instant(listing)) {
+        Ok(()) => {}
+        Err(why) => return Err(Failure::Refused(why)),
+    }
+    match write_states(bridge, port, listing, writer) {
+        Ok(()) => {}
+        Err(failure) => return Err(failure),
+    }
+    let Ok(()) = writer.flush() else {
+        return Err(Failure::Fault(Fault::Write));
+    };
+    Ok(())
+}
+
+// Prints the states of a port of the bridge that the setup opens.
+fn print_states<W: ByteOut>(
+    alloc: Global,
+    setup: &[u8],
+    listing: &Listing,
+    writer: &mut W,
+) -> Result<(), Failure>
+    ensures { PrintsStates setup.now listing.now
+        (record { old = W.taken writer.old; new = W.taken writer.new; held_back = W.pending writer.new; failed = W.has_failed writer.new })
+        result }
+{
+    let mut bridge = match bridge_of(alloc, setup) {
+        Ok(bridge) => bridge,
+        Err(why) => return Err(Failure::Refused(why)),
+    };
+    list_states(&mut bridge, listing, writer)
+}
+
+/// Does what is asked for, with the setup of this text, and gives the status: 0; 1 after one line that says what
+/// failed; 2 after a text that says why the words are refused.
 pub fn run<R: ByteIn, O: ByteOut, E: ByteOut>(
     alloc: Global,
-    words: Option<&[String]>,
+    asked: &Asked,
+    setup: &[u8],
     input: &mut R,
     output: &mut O,
     errors: &mut E,
 ) -> u8
-    ensures { Runs (option_map (λ w. map string_bytes w.now) words.entry)
-        (moment R.remaining R.calls R.has_failed O.taken O.pending O.has_failed
-        standard input.old output.old)
-        (λ end. moment R.remaining R.calls R.has_failed O.taken O.pending O.has_failed
-        end input.new output.new)
+    ensures { Serves asked.now setup.now
+        (λ s. moment R.remaining R.calls R.has_failed O.taken O.pending O.has_failed s input.old output.old)
+        (λ s. moment R.remaining R.calls R.has_failed O.taken O.pending O.has_failed s input.new output.new)
         result
         (record { old = E.taken errors.old; new = E.taken errors.new; failed = E.has_failed errors.new }) }
 {
-    let asked = match read_words(alloc, words) {
-        Ok(asked) => asked,
-        Err(fault) => return fail(errors, fault),
-    };
     match asked {
-        Asked::Script => match answer_script(alloc, input, output) {
-            Ok(()) => 0,
-            Err(fault) => fail(errors, fault),
-        },
-        Asked::Shown(text) => match show(output, text.as_str()) {
-            Ok(()) => 0,
-            Err(fault) => fail(errors, fault),
-        },
+        Asked::Script { .. } => {
+            let outcome = answer_script(alloc, setup, input, output);
+            status_of(errors, outcome)
+        }
+        Asked::States { listing, .. } => {
+            let outcome = print_states(alloc, setup, listing, output);
+            status_of(errors, outcome)
+        }
+        Asked::Shown(text) => {
+            let outcome = show(output, text.as_bytes());
+            status_of(errors, outcome)
+        }
         Asked::Refused(text) => {
-            tell(errors, text.as_str());
+            tell(errors, text.as_bytes());
             2
         }
     }

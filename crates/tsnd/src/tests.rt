@@ -1,23 +1,59 @@
 //! The program over words and bytes in memory: what it reads, writes and ends with.
+mod states;
+mod words;
+
+use crate::arguments::read_words;
+use crate::failures::Failure;
+use crate::files::read_setup;
 use crate::program::{fail, run};
 use crate::words_of;
 use std::alloc::{AllocError, Global};
 use std::process::Abort;
 use std::test::Fail;
 use tsn_bytes::{Buffered, ByteOut, Failing, Fault, MemIn, MemOut};
+use tsn_types::keys::Key;
+use tsn_types::numbers::GateId;
+use tsn_types::refusals::{Field, Refusal};
 
 const SCRIPT: &'static [u8] = b"{\"do\":\"hello\"}\n{\"do\":\"undo\",\"s\":1}\n";
 
 const REPLIES: &'static [u8] = b"{\"session\":1}\n{\"refused\":10,\"why\":\"nothing_to_undo\"}\n";
 
+// A filter on gate 4, which is not there.
+const DANGLING: &'static [u8] = b"[[filter]]\nid = 0\ngate = 4\noversize = false\n";
+
 // The program's name and these words.
-fn words(alloc: Global, more: &[&str]) -> Result<Vec<String>, AllocError> {
+fn with_name(alloc: Global, more: &[&str]) -> Result<Vec<String>, AllocError> {
     let mut words = Vec::new(alloc);
     words.push(String::from_str(alloc, "tsnd")?)?;
     for word in more {
         words.push(String::from_str(alloc, word)?)?;
     }
     Ok(words)
+}
+
+/// What a run is given: its words, the text of its setup, its input, and the calls at which its input and its output
+/// fail.
+#[derive(Clone, Copy, Drop)]
+struct Given {
+    words: &'static [&'static str],
+    setup: &'static [u8],
+    input: &'static [u8],
+    reads_before: Option<u64>,
+    puts_before: Option<(u64, Failing)>,
+}
+
+impl Given {
+    /// A run of these words with the setup, on the script.
+    fn new(words: &'static [&'static str], setup: &'static [u8]) -> Given {
+        Given {
+            words,
+            setup,
+            input: SCRIPT,
+            reads_before: None,
+            puts_before: None,
+        }
+    }
 }
 
 // What a run left: its status, what it wrote and what it said.
@@ -28,18 +64,24 @@ struct Left {
     errors: Vec<u8>,
 }
 
-// Runs the program on the script, with an output that fails after so many calls.
-fn run_words(
-    alloc: Global,
-    words: Option<&[String]>,
-    reads_before: Option<u64>,
-    puts_before: Option<(u64, Failing)>,
-) -> Result<Left, Fail> {
-    let mut input = MemIn::new(Vec::from_slice(alloc, SCRIPT)?, 15, reads_before);
-    let inner = MemOut::new(Vec::with_capacity(alloc, 1000)?, 1000, puts_before);
+// Runs the program, and fails where memory was wanting.
+fn left_by(alloc: Global, given: &Given) -> Result<Left, Fail> {
+    let words = with_name(alloc, given.words)?;
+    let Ok(asked) = read_words(alloc, Some(words.as_slice())) else {
+        return Err(Fail::from("out of memory"));
+    };
+    let mut input = MemIn::new(Vec::from_slice(alloc, given.input)?, 15, given.reads_before);
+    let inner = MemOut::new(Vec::with_capacity(alloc, 1000)?, 1000, given.puts_before);
     let mut output = Buffered::new(alloc, inner)?;
     let mut errors = MemOut::new(Vec::with_capacity(alloc, 1000)?, 1000, None);
-    let status = run(alloc, words, &mut input, &mut output, &mut errors);
+    let status = run(
+        alloc,
+        &asked,
+        given.setup,
+        &mut input,
+        &mut output,
+        &mut errors,
+    );
     if errors.as_slice() == b"tsnd: out of memory\n".as_slice() {
         return Err(Fail::from("out of memory"));
     }
@@ -50,137 +92,106 @@ fn run_words(
     })
 }
 
-fn contains(text: &[u8], part: &[u8]) -> bool {
-    part.is_empty() || text.windows(part.len().max(1)).any(|window| window == part)
+// Runs the program, which ends with the status, and with just these texts on its output and its errors.
+fn ends(
+    rt: &impl Abort,
+    alloc: Global,
+    given: &Given,
+    status: u8,
+    output: &[u8],
+    errors: &[u8],
+) -> Result<(), Fail> {
+    let left = left_by(alloc, given)?;
+    assert_eq!(rt; left.status, status);
+    assert_eq!(rt; left.output.as_slice(), output);
+    assert_eq!(rt; left.errors.as_slice(), errors);
+    Ok(())
 }
 
 #[test]
 fn a_script_is_answered(rt: HostRuntime) -> Result<(), Fail> {
-    let alloc = rt.alloc();
-    let left = run_words(
-        alloc,
-        Some(words(alloc, &["script"])?.as_slice()),
-        None,
-        None,
-    )?;
-    assert_eq!(rt; left.status, 0);
-    assert_eq!(rt; left.output.as_slice(), REPLIES);
-    assert_eq!(rt; left.errors.as_slice(), b"".as_slice());
-    Ok(())
+    let given = Given::new(&["script"], b"");
+    ends(&rt, rt.alloc(), &given, 0, REPLIES, b"")
 }
 
-#[test]
-fn a_script_begins_with_two_ports(rt: HostRuntime) -> Result<(), Fail> {
-    let alloc = rt.alloc();
-    let script = b"{\"do\":\"hello\"}\n{\"do\":\"list\",\"kind\":\"port\",\"s\":1}\n";
-    let mut input = MemIn::new(Vec::from_slice(alloc, script)?, 1000, None);
-    let mut output = MemOut::new(Vec::with_capacity(alloc, 1000)?, 1000, None);
-    let mut errors = MemOut::new(Vec::with_capacity(alloc, 1000)?, 1000, None);
-    let words = words(alloc, &["script"])?;
-    let status = run(
-        alloc,
-        Some(words.as_slice()),
-        &mut input,
-        &mut output,
-        &mut errors,
-    );
-    assert_eq!(rt; status, 0);
-    let replies = b"{\"session\":1}\n{\"ids\":[1,2]}\n";
-    assert_eq!(rt; output.as_slice(), replies.as_slice());
-    Ok(())
-}
-
-#[test]
-fn help_and_the_version_are_shown(rt: HostRuntime) -> Result<(), Fail> {
-    let alloc = rt.alloc();
-    let left = run_words(
-        alloc,
-        Some(words(alloc, &["--help"])?.as_slice()),
-        None,
-        None,
-    )?;
-    assert_eq!(rt; left.status, 0);
-    assert!(rt; contains(left.output.as_slice(), b"Usage: tsnd <COMMAND>"));
-    assert!(rt; contains(left.output.as_slice(), b"script"));
-    assert_eq!(rt; left.errors.as_slice(), b"".as_slice());
-    let left = run_words(
-        alloc,
-        Some(words(alloc, &["--version"])?.as_slice()),
-        None,
-        None,
-    )?;
-    assert_eq!(rt; left.status, 0);
-    assert_eq!(rt; left.output.as_slice(), b"tsnd 0.1.0\n".as_slice());
-    Ok(())
-}
-
-// The words are refused with a text on standard error that has this part, and nothing is written.
-fn refuses(
+// The ports of a bridge with the setup.
+fn lists_ports(
     rt: &impl Abort,
     alloc: Global,
-    words: Option<&[String]>,
-    part: &[u8],
+    words: &'static [&'static str],
+    setup: &'static [u8],
+    replies: &[u8],
 ) -> Result<(), Fail> {
-    let left = run_words(alloc, words, None, None)?;
-    assert_eq!(rt; left.status, 2);
-    assert_eq!(rt; left.output.as_slice(), b"".as_slice());
-    assert!(rt;
-        contains(left.errors.as_slice(), part),
-        "{left:?}",
-        left = left.errors.as_slice()
-    );
-    Ok(())
+    let given = Given {
+        input: b"{\"do\":\"hello\"}\n{\"do\":\"list\",\"kind\":\"port\",\"s\":1}\n",
+        ..Given::new(words, setup)
+    };
+    ends(rt, alloc, &given, 0, replies, b"")
 }
 
 #[test]
-fn wrong_words_are_refused(rt: HostRuntime) -> Result<(), Fail> {
-    let alloc = rt.alloc();
-    refuses(
+fn a_script_begins_with_its_setup(rt: HostRuntime) -> Result<(), Fail> {
+    let two = b"{\"session\":1}\n{\"ids\":[1,2]}\n";
+    lists_ports(&rt, rt.alloc(), &["script"], b"", two)?;
+    let three = b"{\"session\":1}\n{\"ids\":[1,2,3]}\n";
+    lists_ports(
         &rt,
-        alloc,
-        Some(words(alloc, &[])?.as_slice()),
-        b"Usage: tsnd",
-    )?;
-    refuses(
-        &rt,
-        alloc,
-        Some(words(alloc, &["serve"])?.as_slice()),
-        b"serve",
-    )?;
-    refuses(
-        &rt,
-        alloc,
-        Some(words(alloc, &["script", "more"])?.as_slice()),
-        b"more",
-    )?;
-    refuses(&rt, alloc, None, b"invalid UTF-8")
+        rt.alloc(),
+        &["script", "cell.toml"],
+        b"ports = 3\n",
+        three,
+    )
+}
+
+#[test]
+fn a_setup_that_is_refused_is_told(rt: HostRuntime) -> Result<(), Fail> {
+    let cases = [
+        (DANGLING, b"tsnd: refused 8 dangling\n".as_slice()),
+        (
+            b"ports = \n".as_slice(),
+            b"tsnd: refused 2 syntax\n".as_slice(),
+        ),
+        (
+            b"port = 1\n".as_slice(),
+            b"tsnd: refused 3 shape\n".as_slice(),
+        ),
+        (
+            b"ports = 65\n".as_slice(),
+            b"tsnd: refused 4 range\n".as_slice(),
+        ),
+    ];
+    for (setup, line) in cases {
+        let given = Given::new(&["script", "cell.toml"], setup);
+        ends(&rt, rt.alloc(), &given, 1, b"", line)?;
+    }
+    Ok(())
 }
 
 #[test]
 fn a_failed_read_leaves_the_lines_that_ended(rt: HostRuntime) -> Result<(), Fail> {
-    let alloc = rt.alloc();
-    let left = run_words(
-        alloc,
-        Some(words(alloc, &["script"])?.as_slice()),
-        Some(1),
-        None,
-    )?;
-    assert_eq!(rt; left.status, 1);
-    assert_eq!(rt; left.output.as_slice(), b"{\"session\":1}\n".as_slice());
-    assert_eq!(rt; left.errors.as_slice(), b"tsnd: read failed\n".as_slice());
-    Ok(())
+    let given = Given {
+        reads_before: Some(1),
+        ..Given::new(&["script"], b"")
+    };
+    ends(
+        &rt,
+        rt.alloc(),
+        &given,
+        1,
+        b"{\"session\":1}\n",
+        b"tsnd: read failed\n",
+    )
 }
 
 #[test]
 fn a_failed_write_is_told(rt: HostRuntime) -> Result<(), Fail> {
-    let alloc = rt.alloc();
     for failing in [Failing::Error, Failing::Nothing] {
-        for word in ["script", "--help", "--version"] {
-            let words = words(alloc, &[word])?;
-            let left = run_words(alloc, Some(words.as_slice()), None, Some((0, failing)))?;
-            assert_eq!(rt; left.status, 1, "{word}");
-            assert_eq!(rt; left.output.as_slice(), b"".as_slice());
-            assert_eq!(rt; left.errors.as_slice(), b"tsnd: write failed\n".as_slice());
+        for words in [&["script"], &["--help"], &["--version"]] {
+            let given = Given {
+                puts_before: Some((0, failing)),
+                ..Given::new(words, b"")
+            };
+            ends(&rt, rt.alloc(), &given, 1, b"", b"tsnd: write failed\n")?;
         }
     }
     Ok(())
@@ -189,16 +200,42 @@ fn a_failed_write_is_told(rt: HostRuntime) -> Result<(), Fail> {
 #[test]
 fn each_failure_has_its_line(rt: HostRuntime) -> Result<(), Fail> {
     let cases = [
-        (Fault::Read, "tsnd: read failed\n"),
-        (Fault::Write, "tsnd: write failed\n"),
-        (Fault::Memory, "tsnd: out of memory\n"),
-        (Fault::Exhausted, "tsnd: no ticket left\n"),
+        (Failure::Fault(Fault::Read), "tsnd: read failed\n"),
+        (Failure::Fault(Fault::Write), "tsnd: write failed\n"),
+        (Failure::Fault(Fault::Memory), "tsnd: out of memory\n"),
+        (Failure::Fault(Fault::Exhausted), "tsnd: no ticket left\n"),
+        (Failure::Setup, "tsnd: cannot read the setup\n"),
+        (
+            Failure::Refused(Refusal::TooLong),
+            "tsnd: refused 1 too_long\n",
+        ),
+        (
+            Failure::Refused(Refusal::Range(Field::Ports)),
+            "tsnd: refused 4 range\n",
+        ),
+        (
+            Failure::Refused(Refusal::JournalFull),
+            "tsnd: refused 17 journal_full\n",
+        ),
+        (Failure::Refused(Refusal::Memory), "tsnd: out of memory\n"),
     ];
-    for (fault, line) in cases {
+    for (failure, line) in cases {
         let mut errors = MemOut::new(Vec::with_capacity(rt.alloc(), 100)?, 7, None);
-        assert_eq!(rt; fail(&mut errors, fault), 1);
+        assert_eq!(rt; fail(&mut errors, failure), 1);
         assert_eq!(rt; errors.as_slice(), line.as_bytes());
     }
+    Ok(())
+}
+
+#[test]
+fn a_repeated_key_is_told_by_its_refusal(rt: HostRuntime) -> Result<(), Fail> {
+    let gate = Key::Gate(GateId::new(4)?);
+    let mut errors = MemOut::new(Vec::with_capacity(rt.alloc(), 100)?, 100, None);
+    assert_eq!(rt;
+        fail(&mut errors, Failure::Refused(Refusal::Exists(gate))),
+        1
+    );
+    assert_eq!(rt; errors.as_slice(), b"tsnd: refused 7 exists\n".as_slice());
     Ok(())
 }
 
@@ -206,9 +243,48 @@ fn each_failure_has_its_line(rt: HostRuntime) -> Result<(), Fail> {
 fn a_failed_error_line_changes_no_status(rt: HostRuntime) -> Result<(), Fail> {
     let bytes = Vec::with_capacity(rt.alloc(), 100)?;
     let mut errors = MemOut::new(bytes, 7, Some((0, Failing::Error)));
-    assert_eq!(rt; fail(&mut errors, Fault::Read), 1);
+    assert_eq!(rt; fail(&mut errors, Failure::Fault(Fault::Read)), 1);
     assert_eq!(rt; errors.flush(), Ok(()));
     assert_eq!(rt; errors.as_slice(), b"".as_slice());
+    Ok(())
+}
+
+#[test]
+fn a_setup_is_read_whole(rt: HostRuntime) -> Result<(), Fail> {
+    let mut reader = MemIn::new(Vec::from_slice(rt.alloc(), b"ports = 3\n")?, 4, None);
+    match read_setup(rt.alloc(), &mut reader) {
+        Ok(bytes) => assert_eq!(rt; bytes.as_slice(), b"ports = 3\n".as_slice()),
+        Err(_) => return Err(Fail::from("the setup is not read")),
+    }
+    Ok(())
+}
+
+#[test]
+fn a_setup_that_can_not_be_read_is_told(rt: HostRuntime) -> Result<(), Fail> {
+    let mut reader = MemIn::new(Vec::from_slice(rt.alloc(), b"ports = 3\n")?, 4, Some(1));
+    assert_eq!(rt;
+        read_setup(rt.alloc(), &mut reader).err(),
+        Some(Failure::Setup)
+    );
+    Ok(())
+}
+
+// How many bytes of a setup of so many are read.
+fn count_read(alloc: Global, count: usize) -> Result<usize, Fail> {
+    let mut text = Vec::new(alloc);
+    text.resize(count, b' ')?;
+    let mut reader = MemIn::new(text, 100_000, None);
+    match read_setup(alloc, &mut reader) {
+        Ok(bytes) => Ok(bytes.len()),
+        Err(_) => Err(Fail::from("the setup is not read")),
+    }
+}
+
+#[test]
+fn the_longest_setup_is_read_whole(rt: HostRuntime) -> Result<(), Fail> {
+    assert_eq!(rt; count_read(rt.alloc(), 1_048_576)?, 1_048_576);
+    let more = count_read(rt.alloc(), 2_000_000)?;
+    assert!(rt; 1_048_576 < more && more < 1_060_000);
     Ok(())
 }
 

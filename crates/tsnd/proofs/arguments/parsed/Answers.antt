@@ -5,10 +5,9 @@ use Rattle.tsnd.specs.Asking.{program}
 use Rattle.tsnd.proofs.Asked.{script_parsed}
 use Rattle.tsnd.proofs.arguments.parsed.Goals as goal
 
-pub returns-in_err-try_get_matches_from-clause-script :
-    goal.returns-in_err-try_get_matches_from-clause-script
-returns-in_err-try_get_matches_from-clause-script c =
-    let result = c.from_residual-in_err-try_get_matches_from.result in
+pub returns-clause-script : goal.returns-clause-script
+returns-clause-script c =
+    let result = c.try_get_matches_from.result in
     let words = map string_bytes c.args.words.now in
     let kinds : FailsBy (fault_of program words) result = search rules in
     script_parsed result words kinds
