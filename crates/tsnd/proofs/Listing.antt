@@ -1,5 +1,5 @@
 -- What the machine answers to a look at a port, and lines of instants.
-use Rattle.std.proofs.Common.{◌≡◌, ◌⊎◌, inl, inr, ℕ, zero, suc, ◌+◌, ◌-◌, ◌*◌, ◌<◌, ◌≤◌, ◌++◌, List, [], refl, sym, ap, subst, arith, mul-le-mul_left, Option, Some, None, Result, ◌∙◌, unwrap_or, option_map, false}
+use Rattle.std.proofs.Common.{◌≡◌, ◌⊎◌, inl, inr, ℕ, ◌+◌, ◌-◌, ◌*◌, ◌<◌, ◌≤◌, refl, sym, ap, subst, arith, mul-le-mul_left, Option, Some, None, Result, ◌∙◌, unwrap_or, option_map, false}
 use Rattle.std.specs.Prelude.{MatchBool, MatchOption, IsTrue, Bool, ⊤}
 use Rattle.std.specs.FinMap.{get}
 use Rattle.tsn_types.specs.declared.keys.Key.TheVariants.{Port}
