@@ -93,7 +93,7 @@ fn take(bridge: &mut Bridge, session: u32, command: Command) -> Result<(), Refus
     }
 }
 
-// Whether the list of the port has an entry.
+// Whether the list of the record at the key has an entry.
 fn has_list(bridge: &Bridge, key: Key) -> bool
     ensures { result ≡ has_entry (get (present bridge.now.book) key) }
 {
