@@ -1,7 +1,8 @@
 //! Numbers within their ranges: identifiers, times, sizes and rates.
 //!
 //! Each type is a whole number that contracts see as the number itself. `new` is the one place where its range is
-//! tested, so nothing above asks again. None of them takes memory.
+//! tested, so nothing above asks again. Each is kept in the least type that holds its range, since a journal may keep
+//! tens of thousands of records. None of them takes memory.
 
 pub mod identifiers;
 pub mod sizes;

@@ -20,7 +20,7 @@ pub const GREATEST_HANDLE: u64 = 4_294_967_295;
 /// A port of the bridge, 1 to 64.
 #[derive(Clone, Copy, Debug, PartialEq, Eq, PartialOrd, Ord)]
 pub struct PortId {
-    number: u64,
+    number: u8,
 }
 
 impl Model for PortId {
@@ -43,6 +43,7 @@ impl PortId {
         ensures same { IfOk result (λ n. n ≡ number) }
     {
         if 1 <= number && number <= MOST_PORTS {
+            let number = number as u8;
             Ok(PortId { number })
         } else {
             Err(Range)
@@ -55,14 +56,14 @@ impl PortId {
         ensures in_range { IsPortId self }
     {
         let PortId { number } = self;
-        number
+        u64::from(number)
     }
 }
 
 /// A stream filter instance (802.1Q-2018, 8.6.5.1), 0 to 65,535.
 #[derive(Clone, Copy, Debug, PartialEq, Eq, PartialOrd, Ord)]
 pub struct FilterId {
-    number: u64,
+    number: u16,
 }
 
 impl Model for FilterId {
@@ -85,6 +86,7 @@ impl FilterId {
         ensures same { IfOk result (λ n. n ≡ number) }
     {
         if number <= GREATEST_INSTANCE {
+            let number = number as u16;
             Ok(FilterId { number })
         } else {
             Err(Range)
@@ -97,14 +99,14 @@ impl FilterId {
         ensures in_range { IsInstanceId self }
     {
         let FilterId { number } = self;
-        number
+        u64::from(number)
     }
 }
 
 /// A stream gate instance (802.1Q-2018, 8.6.5.2), 0 to 65,535.
 #[derive(Clone, Copy, Debug, PartialEq, Eq, PartialOrd, Ord)]
 pub struct GateId {
-    number: u64,
+    number: u16,
 }
 
 impl Model for GateId {
@@ -127,6 +129,7 @@ impl GateId {
         ensures same { IfOk result (λ n. n ≡ number) }
     {
         if number <= GREATEST_INSTANCE {
+            let number = number as u16;
             Ok(GateId { number })
         } else {
             Err(Range)
@@ -139,14 +142,14 @@ impl GateId {
         ensures in_range { IsInstanceId self }
     {
         let GateId { number } = self;
-        number
+        u64::from(number)
     }
 }
 
 /// A flow meter instance (802.1Q-2018, 8.6.5.3), 0 to 65,535.
 #[derive(Clone, Copy, Debug, PartialEq, Eq, PartialOrd, Ord)]
 pub struct MeterId {
-    number: u64,
+    number: u16,
 }
 
 impl Model for MeterId {
@@ -169,6 +172,7 @@ impl MeterId {
         ensures same { IfOk result (λ n. n ≡ number) }
     {
         if number <= GREATEST_INSTANCE {
+            let number = number as u16;
             Ok(MeterId { number })
         } else {
             Err(Range)
@@ -181,14 +185,14 @@ impl MeterId {
         ensures in_range { IsInstanceId self }
     {
         let MeterId { number } = self;
-        number
+        u64::from(number)
     }
 }
 
 /// A priority or an internal priority value (802.1Q-2018, 12.31.3), 0 to 7.
 #[derive(Clone, Copy, Debug, PartialEq, Eq, PartialOrd, Ord)]
 pub struct Priority {
-    number: u64,
+    number: u8,
 }
 
 impl Model for Priority {
@@ -211,6 +215,7 @@ impl Priority {
         ensures same { IfOk result (λ n. n ≡ number) }
     {
         if number <= GREATEST_PRIORITY {
+            let number = number as u8;
             Ok(Priority { number })
         } else {
             Err(Range)
@@ -223,14 +228,14 @@ impl Priority {
         ensures in_range { IsPriority self }
     {
         let Priority { number } = self;
-        number
+        u64::from(number)
     }
 }
 
 /// A stream handle (802.1Q-2018, 12.31.2), 0 to 4,294,967,295.
 #[derive(Clone, Copy, Debug, PartialEq, Eq, PartialOrd, Ord)]
 pub struct Handle {
-    number: u64,
+    number: u32,
 }
 
 impl Model for Handle {
@@ -253,6 +258,7 @@ impl Handle {
         ensures same { IfOk result (λ n. n ≡ number) }
     {
         if number <= GREATEST_HANDLE {
+            let number = number as u32;
             Ok(Handle { number })
         } else {
             Err(Range)
@@ -265,6 +271,6 @@ impl Handle {
         ensures in_range { IsHandle self }
     {
         let Handle { number } = self;
-        number
+        u64::from(number)
     }
 }

@@ -17,7 +17,7 @@ pub const GREATEST_BIT_RATE: u64 = 1_000_000_000_000;
 /// A number of octets in an interval or a burst, 0 to 4,294,967,295.
 #[derive(Clone, Copy, Debug, PartialEq, Eq, PartialOrd, Ord)]
 pub struct Octets {
-    number: u64,
+    number: u32,
 }
 
 impl Model for Octets {
@@ -40,6 +40,7 @@ impl Octets {
         ensures same { IfOk result (λ n. n ≡ number) }
     {
         if number <= MOST_OCTETS {
+            let number = number as u32;
             Ok(Octets { number })
         } else {
             Err(Range)
@@ -52,14 +53,14 @@ impl Octets {
         ensures in_range { IsOctets self }
     {
         let Octets { number } = self;
-        number
+        u64::from(number)
     }
 }
 
 /// A maximum SDU size (802.1Q-2018, 12.31.2), 1 to 65,535 octets.
 #[derive(Clone, Copy, Debug, PartialEq, Eq, PartialOrd, Ord)]
 pub struct MaxSdu {
-    number: u64,
+    number: u16,
 }
 
 impl Model for MaxSdu {
@@ -82,6 +83,7 @@ impl MaxSdu {
         ensures same { IfOk result (λ n. n ≡ number) }
     {
         if 1 <= number && number <= GREATEST_MAX_SDU {
+            let number = number as u16;
             Ok(MaxSdu { number })
         } else {
             Err(Range)
@@ -94,7 +96,7 @@ impl MaxSdu {
         ensures in_range { IsMaxSdu self }
     {
         let MaxSdu { number } = self;
-        number
+        u64::from(number)
     }
 }
 

@@ -146,7 +146,7 @@ impl Extension {
 /// A time interval of a gate control entry, 1 to 4,294,967,295 nanoseconds.
 #[derive(Clone, Copy, Debug, PartialEq, Eq, PartialOrd, Ord)]
 pub struct Interval {
-    number: u64,
+    number: u32,
 }
 
 impl Model for Interval {
@@ -169,6 +169,7 @@ impl Interval {
         ensures same { IfOk result (λ n. n ≡ number) }
     {
         if 1 <= number && number <= LONGEST_INTERVAL {
+            let number = number as u32;
             Ok(Interval { number })
         } else {
             Err(Range)
@@ -181,6 +182,6 @@ impl Interval {
         ensures in_range { IsInterval self }
     {
         let Interval { number } = self;
-        number
+        u64::from(number)
     }
 }
