@@ -117,6 +117,19 @@ fn replies_go_out_before_the_next_read(rt: HostRuntime) -> Result<(), Fail> {
 }
 
 #[test]
+fn the_reply_to_a_last_line_without_its_end_goes_out(rt: HostRuntime) -> Result<(), Fail> {
+    let alloc = rt.alloc();
+    let mut reader = MemIn::new(Vec::from_slice(alloc, b"a\nb")?, 100, None);
+    let inner = MemOut::new(Vec::new(alloc), 100, None);
+    let mut writer = Buffered::new(alloc, inner)?;
+    let mut lengths = Lengths { answered: 0 };
+    let end = answer_lines(alloc, &mut lengths, &mut reader, &mut writer, READS);
+    assert_eq!(rt; end, Ok(()));
+    assert_eq!(rt; writer.inner().as_slice(), b"line\nline\n".as_slice());
+    Ok(())
+}
+
+#[test]
 fn input_without_an_end_ends_at_the_bound(rt: HostRuntime) -> Result<(), Fail> {
     let alloc = rt.alloc();
     let mut writer = MemOut::new(Vec::new(alloc), 100, None);
