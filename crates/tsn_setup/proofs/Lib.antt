@@ -1,3 +1,11 @@
+pub mod Accepting
 pub mod Documents
+pub mod Keyed
+pub mod LimitsGiven
 pub mod Naming
+pub mod OfKind
 pub mod OnLiterals
+pub mod Ordered
+pub mod RecordRanges
+pub mod Rows
+pub mod Shapes

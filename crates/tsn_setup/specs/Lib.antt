@@ -3,3 +3,4 @@ pub mod Ranges
 pub mod Setups
 pub mod Tables
 pub mod Toml
+pub mod Values

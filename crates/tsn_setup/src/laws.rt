@@ -1,13 +1,15 @@
 //! What the definitions of this crate say of worked examples, so that a definition and a body that are wrong alike
 //! are found out. Each function does nothing; its contract is what is proved.
-ghost use Rattle.std.specs.Prelude.{◌≡◌, ◌++◌, [], ◌∷◌, Ok, Err, codes};
+ghost use Rattle.std.specs.Prelude.{◌≡◌, ◌++◌, [], ◌∷◌, Some, Ok, Err, codes};
+ghost use Rattle.toml.specs.Data.{table, member, no_members};
 ghost use Rattle.tsn_types.specs.declared.keys.Key.TheVariants as keys;
 ghost use Rattle.tsn_types.specs.declared.records.Record.TheVariants as records;
 ghost use Rattle.tsn_types.specs.declared.refusals.Field.TheVariants as fields;
 ghost use Rattle.tsn_types.specs.declared.refusals.Refusal.TheVariants as refusals;
 ghost use Rattle.tsn_records.specs.Examples.{a_port, a_filter, a_gate, a_meter};
 ghost use Rattle.tsn_setup.specs.Examples.{port_table, filter_table, gate_table, meter_table, sets_up};
-ghost use Rattle.tsn_setup.specs.Setups.{setup_of};
+ghost use Rattle.tsn_setup.specs.Setups.{document_of, setup_of};
+ghost use Rattle.tsn_setup.specs.Values.{AcceptsValues, keyed_rows, tables_of};
 
 /// Documents that are read. The empty one says what `Setup::standard` does. Records come in the order of their kinds,
 /// whatever their order in the file.
@@ -41,4 +43,12 @@ pub fn documents_are_refused()
         ≡ Err (refusals.Range fields.ListMax) }
     ensures id_first { setup_of (codes "[[filter]]\ngate = 65536\nid = 65536\noversize = true")
         ≡ Err (refusals.Range fields.Id) }
+{}
+
+/// A text is accepted as a setup exactly where it is a document of it: each record is a table with just its members, by
+/// name and in whatever order they stand in the text, and a limit is left out only where it is the standard one.
+pub fn documents_are_values()
+    ensures law { AcceptsValues }
+    ensures order { document_of filter_table ≡ Some (table (member (codes "filter")
+        (tables_of keyed_rows ((keys.Filter 3, records.Filter a_filter) ∷ [])) no_members)) }
 {}

@@ -189,6 +189,18 @@ fn limits_are_as_given(rt: HostRuntime) -> Result<(), Fail> {
     Ok(())
 }
 
+// The standard limits and no tables, given and left out.
+#[test]
+fn what_is_standard_may_be_given(rt: HostRuntime) -> Result<(), Fail> {
+    let (last, beyond) = (Key::Gate(GateId::new(15)?), Key::Gate(GateId::new(16)?));
+    let given =
+        "meter = []\nlist_max = 16\nmax_meters = 16\nmax_gates = 16\nmax_filters = 16\nports = 2\nport = []";
+    let found = limits(rt.alloc(), given, last, beyond)?;
+    assert_eq!(rt; found, limits(rt.alloc(), "", last, beyond)?);
+    assert_eq!(rt; found, (2, true, false));
+    Ok(())
+}
+
 // A list of two entries against the limit on lists, which the bridge tests.
 #[test]
 fn lists_are_limited_by_the_bridge(rt: HostRuntime) -> Result<(), Fail> {
