@@ -16,7 +16,7 @@ use Rattle.tsn_records.specs.Answers.{each}
 use Rattle.tsn_records.specs.Keys.{kind_text}
 use Rattle.tsn_records.specs.declared.unread.Unread.{Unread}
 use Rattle.tsn_setup.specs.Ranges.{keyed_record, limits}
-use Rattle.tsn_setup.specs.Setups.{document_of, or_syntax, reading, refused, setup_of, longest_setup}
+use Rattle.tsn_setup.specs.Setups.{document_of, or_syntax, setup_shape, setup_of_draft, reading, refused, setup_of, longest_setup}
 use Rattle.tsn_setup.specs.Tables.{limits_shape, setup_names, tables_of_kind, tables_shape}
 use Rattle.tsn_setup.specs.Toml.{has_only}
 use Rattle.tsn_setup.specs.Values.{of_kind, given_or, tables_of, keyed_rows, IsDocumentOf, MayBeGiven, AcceptsValues}
@@ -178,19 +178,31 @@ Accepted text s = MayBeGiven s × IsSomeAnd (document_of text) (IsDocumentOf s)
 given_accepted : (text : List ℕ) (d : Data) (s : Setup) → document_of text ≡ Some d → IsGiven d s → Accepted text s
 given_accepted text d s is given = (given.setup, subst (λ o. IsSomeAnd o (IsDocumentOf s)) (sym is) given.document)
 
+shape_parts : (d : Data) (draft : LimitsDraft × List TableDraft) → setup_shape d ≡ Ok draft → (has_only setup_names d ≡ Ok tt) × (limits_shape d ≡ Ok draft.0) × (tables_shape d ≡ Ok draft.1)
+unfolding setup_shape
+shape_parts d draft h =
+    steps (has_only setup_names d) _ draft h (λ names names_is names_next.
+    steps (limits_shape d) _ draft names_next (λ given given_is given_next.
+    steps (tables_shape d) _ draft given_next (λ tables tables_is tables_next.
+    let found : LimitsDraft × List TableDraft = (given, tables) in
+    subst (λ (x : LimitsDraft × List TableDraft). (has_only setup_names d ≡ Ok tt) × (limits_shape d ≡ Ok x.0) × (tables_shape d ≡ Ok x.1)) (only (Ok found) found draft refl tables_next) (names_is, given_is, tables_is))))
+
+draft_there : (d : Data) (draft : LimitsDraft × List TableDraft) (s : Setup) → IsOrdered d → setup_shape d ≡ Ok draft → setup_of_draft draft ≡ Ok s → IsGiven d s
+unfolding setup_of_draft
+draft_there d draft s ordered shape range =
+    let parts = shape_parts d draft shape in
+    steps (limits draft.0) _ s range (λ l l_is l_next.
+    steps (each keyed_record draft.1) _ s l_next (λ es es_is es_next.
+    let setup : Setup = record { limits = l; records = es } in
+    let there = all_there d tt l es parts.0 (limits_there d draft.0 l parts.1 l_is) (tables_there d draft.1 es ordered parts.2 es_is) in
+    subst (IsGiven d) (only (Ok setup) setup s refl es_next) there))
+
 read_accepted : (text : List ℕ) (s : Setup) → reading text ≡ Ok s → Accepted text s
-unfolding reading
 read_accepted text s h =
     steps (or_syntax (document_of text)) _ s h (λ d d_is d_next.
-    steps (has_only setup_names d) _ s d_next (λ names names_is names_next.
-    steps (limits_shape d) _ s names_next (λ given given_is given_next.
-    steps (tables_shape d) _ s given_next (λ tables tables_is tables_next.
-    steps (limits given) _ s tables_next (λ l l_is l_next.
-    steps (each keyed_record tables) _ s l_next (λ es es_is es_next.
+    steps (setup_shape d) _ s d_next (λ draft draft_is draft_next.
     let found = syntax_there (document_of text) d d_is in
-    let setup : Setup = record { limits = l; records = es } in
-    let there = all_there d names l es names_is (limits_there d given l given_is l_is) (tables_there d tables es (text_ordered text d found) tables_is es_is) in
-    given_accepted text d s found (subst (IsGiven d) (only (Ok setup) setup s refl es_next) there)))))))
+    given_accepted text d s found (draft_there d draft s (text_ordered text d found) draft_is draft_next)))
 
 short_at : (b : Bool) (text : List ℕ) (s : Setup) → (if b then refused (reading text) else Err TooLong) ≡ Ok s → (b ≡ true) × (reading text ≡ Ok s)
 short_at true text s h = (refl, not_refused (reading text) s h)
@@ -219,16 +231,26 @@ tables_read d es h =
     ap (map keyed_draft) h.order ∙ drafts_joined p (f ++ (g ++ m)) ∙ ap (λ l. map keyed_draft p ++ l) (drafts_joined f (g ++ m) ∙ ap (λ l. map keyed_draft f ++ l) (drafts_joined g m)) in
     tables_from d (map keyed_draft p) (map keyed_draft f) (map keyed_draft g) (map keyed_draft m) (read kinds.Port) (read kinds.Filter) (read kinds.Gate) (read kinds.Meter) ∙ ap (λ l. Ok l) (sym drafts)
 
-read_from : (text : List ℕ) (d : Data) (given : LimitsDraft) (ts : List TableDraft) (s : Setup) → document_of text ≡ Some d → has_only setup_names d ≡ Ok tt → limits_shape d ≡ Ok given → tables_shape d ≡ Ok ts → limits given ≡ Ok s.limits → each keyed_record ts ≡ Ok s.records → reading text ≡ Ok s
-unfolding reading
-read_from text d given ts s is names shape tables ranges records = rw (is, names, shape, tables, ranges, records)
+draft_from : (d : Data) (given : LimitsDraft) (ts : List TableDraft) → has_only setup_names d ≡ Ok tt → limits_shape d ≡ Ok given → tables_shape d ≡ Ok ts → setup_shape d ≡ Ok (given, ts)
+unfolding setup_shape
+draft_from d given ts names shape tables = rw (names, shape, tables)
+
+draft_passes : (given : LimitsDraft) (ts : List TableDraft) (s : Setup) → limits given ≡ Ok s.limits → each keyed_record ts ≡ Ok s.records → setup_of_draft (given, ts) ≡ Ok s
+unfolding setup_of_draft
+draft_passes given ts s ranges records = rw (ranges, records)
+
+read_from : (text : List ℕ) (d : Data) (given : LimitsDraft) (ts : List TableDraft) (s : Setup) → document_of text ≡ Some d → setup_shape d ≡ Ok (given, ts) → setup_of_draft (given, ts) ≡ Ok s → reading text ≡ Ok s
+read_from text d given ts s is shape ranges = rw (is, shape, ranges)
 
 setup_read : (text : List ℕ) (d : Data) (s : Setup) → document_of text ≡ Some d → MayBeGiven s → IsDocumentOf s d → reading text ≡ Ok s
 setup_read text d s is may h =
     let l : LimitsThere d s.limits = record { ports = h.ports; max_filters = h.max_filters; max_gates = h.max_gates; max_meters = h.max_meters; list_max = h.list_max; in_range = may.limits } in
     let read = limits_read d s.limits l in
     let there : TablesThere d s.records = record { kinds_are = h.records; ranges = may.records; order = may.order ∙ in_a_row (of_kind kinds.Port s.records) (of_kind kinds.Filter s.records) (of_kind kinds.Gate s.records) (of_kind kinds.Meter s.records) } in
-    read_from text d read.draft (map keyed_draft s.records) s is (only_setup_names text d is h.nothing_else) read.shape (tables_read d s.records there) read.range (records_back s.records may.records)
+    let ts = map keyed_draft s.records in
+    read_from text d read.draft ts s is
+    (draft_from d read.draft ts (only_setup_names text d is h.nothing_else) read.shape (tables_read d s.records there))
+    (draft_passes read.draft ts s read.range (records_back s.records may.records))
 
 document_read : (text : List ℕ) (s : Setup) (o : Option Data) → document_of text ≡ o → MayBeGiven s → IsSomeAnd o (IsDocumentOf s) → reading text ≡ Ok s
 document_read text s None is may h = absurd h

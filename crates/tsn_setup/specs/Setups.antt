@@ -12,6 +12,8 @@ use Rattle.tsn_records.specs.declared.unread.Unread.TheVariants.{Syntax}
 use Rattle.tsn_setup.specs.Ranges.{keyed_record, limits}
 use Rattle.tsn_setup.specs.Tables.{limits_shape, setup_names, tables_shape}
 use Rattle.tsn_setup.specs.Toml.{has_only}
+use Rattle.tsn_setup.specs.declared.drafts.LimitsDraft.{LimitsDraft}
+use Rattle.tsn_setup.specs.declared.drafts.TableDraft.{TableDraft}
 
 -- the bytes of the longest document that is read
 abbrev pub longest_setup : ℕ
@@ -26,16 +28,24 @@ abbrev pub or_syntax : Option Data → Result Data Unread
 or_syntax None = Err Syntax
 or_syntax (Some d) = Ok d
 
--- syntax first, then the whole shape, then the ranges: those of the limits before those of the tables
-unfoldable pub reading : List ℕ → Result Setup Unread
-reading text = do
-  d ← or_syntax (document_of text)
+-- the whole shape: no members but these, the limits that are given, and the tables
+unfoldable pub setup_shape : Data → Result (LimitsDraft × List TableDraft) Unread
+setup_shape d = do
   _ ← has_only setup_names d
   given ← limits_shape d
   tables ← tables_shape d
-  limits ← limits given
-  records ← each keyed_record tables
+  Ok (given, tables)
+
+-- the ranges: those of the limits before those of the tables
+unfoldable pub setup_of_draft : LimitsDraft × List TableDraft → Result Setup Unread
+setup_of_draft draft = do
+  limits ← limits draft.0
+  records ← each keyed_record draft.1
   Ok (record { limits = limits; records = records })
+
+-- syntax first, then the whole shape, then the ranges
+abbrev pub reading : List ℕ → Result Setup Unread
+reading text = or_syntax (document_of text) >>= λ d. setup_shape d >>= λ draft. setup_of_draft draft
 
 -- an answer, with why there is none as the refusal that is told
 abbrev pub refused : {A : Type 0} → Result A Unread → Result A Refusal

@@ -5,8 +5,9 @@
 ghost use Rattle.std.specs.Prelude.{◌≡◌};
 ghost use Rattle.toml.specs.View.{view};
 ghost use Rattle.tsn_records.specs.Answers.{Reads, IsOrMemory, seen};
-ghost use Rattle.tsn_setup.specs.Setups.{document_of, or_syntax, reading, setup_of};
+ghost use Rattle.tsn_setup.specs.Setups.{document_of, or_syntax, setup_shape, setup_of_draft, reading, setup_of};
 
+use crate::drafts::{LimitsDraft, TableDraft};
 use crate::members::has_only;
 use crate::ranges::{keyed_records, limits};
 use crate::tables::{limits_shape, tables_shape};
@@ -29,11 +30,10 @@ fn document_of(alloc: Global, text: &[u8]) -> Result<Value, Unread>
     }
 }
 
-#[tactic(auto, unfolding(crate::specs::Setups::reading))]
-fn reading(alloc: Global, text: &[u8]) -> Result<Setup, Unread>
-    ensures { Reads result (reading text.now) }
+#[tactic(auto, unfolding(crate::specs::Setups::setup_shape))]
+fn setup_shape(alloc: Global, document: &Value) -> Result<(LimitsDraft, Vec<TableDraft>), Unread>
+    ensures { Reads (seen (λ draft. (draft.0, draft.1.items)) result) (setup_shape (view document.now)) }
 {
-    let document = document_of(alloc, text)?;
     has_only(
         &[
             "ports",
@@ -46,13 +46,32 @@ fn reading(alloc: Global, text: &[u8]) -> Result<Setup, Unread>
             "gate",
             "meter",
         ],
-        &document,
+        document,
     )?;
-    let given = limits_shape(&document)?;
-    let tables = tables_shape(alloc, &document)?;
-    let limits = limits(&given)?;
-    let records = keyed_records(alloc, tables.as_slice())?;
+    let given = limits_shape(document)?;
+    let tables = tables_shape(alloc, document)?;
+    Ok((given, tables))
+}
+
+#[tactic(auto, unfolding(crate::specs::Setups::setup_of_draft))]
+fn setup_of_draft(
+    alloc: Global,
+    given: &LimitsDraft,
+    tables: &[TableDraft],
+) -> Result<Setup, Unread>
+    ensures { Reads result (setup_of_draft (given.now, tables.now)) }
+{
+    let limits = limits(given)?;
+    let records = keyed_records(alloc, tables)?;
     Ok(Setup { limits, records })
+}
+
+fn reading(alloc: Global, text: &[u8]) -> Result<Setup, Unread>
+    ensures { Reads result (reading text.now) }
+{
+    let document = document_of(alloc, text)?;
+    let (given, tables) = setup_shape(alloc, &document)?;
+    setup_of_draft(alloc, &given, tables.as_slice())
 }
 
 /// The setup of a document: refusal 1 where it is over 1,048,576 bytes, 2 where it is no TOML document, 3 where it has
