@@ -17,11 +17,13 @@ use Rattle.tsnd.specs.declared.arguments.Listing.{Listing}
 use Rattle.tsnd.specs.declared.failures.Failure.{Failure}
 use Rattle.tsnd.specs.declared.failures.Failure.TheVariants as failures
 
+-- A front of the text was written, and nothing else.
+abbrev pub IsFront : Option (List ℕ) → Option (List ℕ) → List ℕ → Type 0
+IsFront old new text = (n : ℕ) × (n ≤ length text) × Appends old new (take n text)
+
 -- The text was written, and nothing else; where the writer failed, a front of it.
 abbrev pub IsTold : Option (List ℕ) → Option (List ℕ) → Bool → List ℕ → Type 0
-IsTold old new failed text =
-    Appends old new text
-    ⊎ ((failed ≡ true) × ((n : ℕ) × (n ≤ length text) × Appends old new (take n text)))
+IsTold old new failed text = Appends old new text ⊎ ((failed ≡ true) × IsFront old new text)
 
 -- Standard error before and after: the bytes that it took, and whether a call failed.
 pub record Errors : Type 0 where
@@ -41,10 +43,17 @@ abbrev pub Reports : Result (Unit {0}) Failure → ℕ → Errors → Type 0
 Reports (Ok u) status errors = (status ≡ 0) × IsSilent errors
 Reports (Err failure) status errors = (status ≡ 1) × Tells errors (failure_line failure)
 
--- A text was shown on the output, whole and handed on, or the writer failed.
-abbrev pub Shows : Moment State → Moment State → List ℕ → Result (Unit {0}) Failure → Type 0
-Shows old new text (Ok u) = Appends old.taken new.taken text × (new.held_back ≡ [])
-Shows old new text (Err failure) = (failure ≡ failures.Fault Write) × (new.writer_failed ≡ true) × ((n : ℕ) × (n ≤ length text) × Appends old.taken new.taken (take n text))
+-- An output before and after: the bytes that it took, those of them that it holds back, and whether a call failed.
+pub record Output : Type 0 where
+  pub old : Option (List ℕ)
+  pub new : Option (List ℕ)
+  pub held_back : List ℕ
+  pub failed : Bool
+
+-- A text was shown on the output, whole and handed on, or the writer failed and took a front of it.
+abbrev pub Shows : Output → List ℕ → Result (Unit {0}) Failure → Type 0
+Shows output text (Ok u) = Appends output.old output.new text × (output.held_back ≡ [])
+Shows output text (Err failure) = (failure ≡ failures.Fault Write) × (output.failed ≡ true) × IsFront output.old output.new text
 
 -- The text opens this state, or is refused so; want of memory stands in place of either.
 abbrev pub Opens : List ℕ → Result State Refusal → Type 0
@@ -60,13 +69,6 @@ AnswersFrom (Err why) old new outcome = (outcome ≡ Err (failures.Refused why))
 
 abbrev pub AnswersScript : List ℕ → (State → Moment State) → (State → Moment State) → Result (Unit {0}) Failure → Type 0
 AnswersScript setup old new outcome = (start : Result State Refusal) × Opens setup start × AnswersFrom start old new outcome
-
--- An output before and after: the bytes that it took, those of them that it holds back, and whether a call failed.
-pub record Output : Type 0 where
-  pub old : Option (List ℕ)
-  pub new : Option (List ℕ)
-  pub held_back : List ℕ
-  pub failed : Bool
 
 -- The states that this state shows were printed, and handed on.
 abbrev pub PrintsAll : State → Listing → Output → Type 0
@@ -102,22 +104,44 @@ PrintsStates setup x output outcome = (start : Result State Refusal) × Opens se
 abbrev pub output_of : Moment State → Moment State → Output
 output_of old new = record { old = old.taken; new = new.taken; held_back = new.held_back; failed = new.writer_failed }
 
--- What was asked for was done: a script is answered, or states are printed, from the setup's bridge; a text is shown;
--- and words that are refused have status 2 and their text. No input is read but that of a script.
-abbrev pub Serves : Asked → List ℕ → (State → Moment State) → (State → Moment State) → ℕ → Errors → Type 0
-Serves (Script file) setup old new status errors =
+-- A script was answered, and how that ended is told.
+abbrev pub ServesScript : List ℕ → (State → Moment State) → (State → Moment State) → ℕ → Errors → Type 0
+ServesScript setup old new status errors =
     (outcome : Result (Unit {0}) Failure)
     × AnswersScript setup old new outcome
     × Reports outcome status errors
+
+-- The states of a port were printed, and how that ended is told.
+abbrev pub ServesStates : Listing → List ℕ → Output → ℕ → Errors → Type 0
+ServesStates x setup output status errors =
+    (outcome : Result (Unit {0}) Failure)
+    × PrintsStates setup x output outcome
+    × Reports outcome status errors
+
+-- A text was shown, and how that ended is told.
+abbrev pub ServesText : List ℕ → Output → ℕ → Errors → Type 0
+ServesText text output status errors =
+    (outcome : Result (Unit {0}) Failure)
+    × Shows output text outcome
+    × Reports outcome status errors
+
+-- Words were refused: with status 2, and their text.
+abbrev pub RefusesWords : List ℕ → ℕ → Errors → Type 0
+RefusesWords text status errors = (status ≡ 2) × Tells errors text
+
+-- No read was made.
+abbrev pub ReadsNothing : Moment State → Moment State → Type 0
+ReadsNothing old new = (new.left ≡ old.left) × (new.calls ≡ old.calls)
+
+-- What was asked for was done: a script is answered, or states are printed, from the setup's bridge; a text is shown; or
+-- words are refused. No input is read but that of a script, and nothing is written where words are refused.
+abbrev pub Serves : Asked → List ℕ → (State → Moment State) → (State → Moment State) → ℕ → Errors → Type 0
+Serves (Script file) setup old new status errors = ServesScript setup old new status errors
 Serves (States file listing) setup old new status errors =
-    (outcome : Result (Unit {0}) Failure)
-    × ((new standard).left ≡ (old standard).left)
-    × PrintsStates setup listing (output_of (old standard) (new standard)) outcome
-    × Reports outcome status errors
+    ReadsNothing (old standard) (new standard)
+    × ServesStates listing setup (output_of (old standard) (new standard)) status errors
 Serves (Shown text) setup old new status errors =
-    (outcome : Result (Unit {0}) Failure)
-    × ((new standard).left ≡ (old standard).left)
-    × Shows (old standard) (new standard) (string_bytes text) outcome
-    × Reports outcome status errors
+    ReadsNothing (old standard) (new standard)
+    × ServesText (string_bytes text) (output_of (old standard) (new standard)) status errors
 Serves (Refused text) setup old new status errors =
-    (new standard ≡ old standard) × (status ≡ 2) × Tells errors (string_bytes text)
+    (new standard ≡ old standard) × RefusesWords (string_bytes text) status errors

@@ -1,10 +1,10 @@
 //! The program, from what its words ask for, its setup's text, its input and two outputs to its status.
-ghost use Rattle.std.specs.Prelude.{◌≡◌, ◌≤◌, ℕ, [], true, length, take, OnOk, IfErr, OnErr, Ok};
+ghost use Rattle.std.specs.Prelude.{◌≡◌, [], true, OnOk, IfErr, OnErr, Ok};
 ghost use Rattle.std.specs.Io.KnownBytes.{Appends};
 ghost use Rattle.tsn_bytes.specs.declared.bytes.Fault.TheVariants.{Write};
 ghost use Rattle.tsn_serve.specs.Outcomes.{moment};
 ghost use Rattle.tsnd.specs.Failures.{failure_line};
-ghost use Rattle.tsnd.specs.Program.{IsTold, PrintsFrom, PrintsStates, Reports, Serves};
+ghost use Rattle.tsnd.specs.Program.{IsFront, IsTold, PrintsFrom, PrintsStates, RefusesWords, Reports, Serves, ServesScript, ServesStates, ServesText};
 ghost use Rattle.tsnd.specs.declared.failures.Failure.TheVariants as failures;
 
 use crate::arguments::{Asked, Listing};
@@ -22,8 +22,7 @@ fn show<W: ByteOut>(writer: &mut W, text: &[u8]) -> Result<(), Failure>
         × (W.pending writer.new ≡ [])) }
     ensures fault { IfErr result (λ failure. failure ≡ failures.Fault Write) }
     ensures failed { OnErr result (W.has_failed writer.new ≡ true) }
-    ensures cut { OnErr result ((n : ℕ) × (n ≤ length text.now)
-        × Appends (W.taken writer.old) (W.taken writer.new) (take n text.now)) }
+    ensures cut { OnErr result (IsFront (W.taken writer.old) (W.taken writer.new) text.now) }
 {
     match put_all(writer, text) {
         Ok(()) => {}
@@ -109,6 +108,61 @@ fn print_states<W: ByteOut>(
     list_states(&mut bridge, listing, writer)
 }
 
+// Answers the script on the input, and gives the status.
+fn serve_script<R: ByteIn, O: ByteOut, E: ByteOut>(
+    alloc: Global,
+    setup: &[u8],
+    input: &mut R,
+    output: &mut O,
+    errors: &mut E,
+) -> u8
+    ensures { ServesScript setup.now
+        (λ s. moment R.remaining R.calls R.has_failed O.taken O.pending O.has_failed s input.old output.old)
+        (λ s. moment R.remaining R.calls R.has_failed O.taken O.pending O.has_failed s input.new output.new)
+        result
+        (record { old = E.taken errors.old; new = E.taken errors.new; failed = E.has_failed errors.new }) }
+{
+    let outcome = answer_script(alloc, setup, input, output);
+    status_of(errors, outcome)
+}
+
+// Prints the states that are listed, and gives the status.
+fn serve_states<O: ByteOut, E: ByteOut>(
+    alloc: Global,
+    setup: &[u8],
+    listing: &Listing,
+    output: &mut O,
+    errors: &mut E,
+) -> u8
+    ensures { ServesStates listing.now setup.now
+        (record { old = O.taken output.old; new = O.taken output.new; held_back = O.pending output.new; failed = O.has_failed output.new })
+        result
+        (record { old = E.taken errors.old; new = E.taken errors.new; failed = E.has_failed errors.new }) }
+{
+    let outcome = print_states(alloc, setup, listing, output);
+    status_of(errors, outcome)
+}
+
+// Shows the text, and gives the status.
+fn serve_text<O: ByteOut, E: ByteOut>(text: &[u8], output: &mut O, errors: &mut E) -> u8
+    ensures { ServesText text.now
+        (record { old = O.taken output.old; new = O.taken output.new; held_back = O.pending output.new; failed = O.has_failed output.new })
+        result
+        (record { old = E.taken errors.old; new = E.taken errors.new; failed = E.has_failed errors.new }) }
+{
+    let outcome = show(output, text);
+    status_of(errors, outcome)
+}
+
+// Tells why the words are refused, and gives the status.
+fn refuse_words<E: ByteOut>(text: &[u8], errors: &mut E) -> u8
+    ensures { RefusesWords text.now result
+        (record { old = E.taken errors.old; new = E.taken errors.new; failed = E.has_failed errors.new }) }
+{
+    tell(errors, text);
+    2
+}
+
 /// Does what is asked for, with the setup of this text, and gives the status: 0; 1 after one line that says what
 /// failed; 2 after a text that says why the words are refused.
 pub fn run<R: ByteIn, O: ByteOut, E: ByteOut>(
@@ -126,21 +180,9 @@ pub fn run<R: ByteIn, O: ByteOut, E: ByteOut>(
         (record { old = E.taken errors.old; new = E.taken errors.new; failed = E.has_failed errors.new }) }
 {
     match asked {
-        Asked::Script { .. } => {
-            let outcome = answer_script(alloc, setup, input, output);
-            status_of(errors, outcome)
-        }
-        Asked::States { listing, .. } => {
-            let outcome = print_states(alloc, setup, listing, output);
-            status_of(errors, outcome)
-        }
-        Asked::Shown(text) => {
-            let outcome = show(output, text.as_bytes());
-            status_of(errors, outcome)
-        }
-        Asked::Refused(text) => {
-            tell(errors, text.as_bytes());
-            2
-        }
+        Asked::Script { .. } => serve_script(alloc, setup, input, output, errors),
+        Asked::States { listing, .. } => serve_states(alloc, setup, listing, output, errors),
+        Asked::Shown(text) => serve_text(text.as_bytes(), output, errors),
+        Asked::Refused(text) => refuse_words(text.as_bytes(), errors),
     }
 }
