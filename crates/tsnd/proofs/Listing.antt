@@ -1,5 +1,5 @@
 -- What the machine answers to a look at a port, and lines of instants.
-use Rattle.std.proofs.Common.{◌≡◌, ◌⊎◌, inl, inr, ℕ, ◌+◌, ◌-◌, ◌*◌, ◌<◌, ◌≤◌, refl, sym, ap, subst, arith, mul-le-mul_left, Option, Some, None, Result, ◌∙◌, unwrap_or, option_map, false}
+use Rattle.std.proofs.Common.{◌≡◌, ◌⊎◌, inl, inr, ℕ, ◌+◌, ◌-◌, ◌*◌, ◌<◌, ◌≤◌, refl, sym, ap, subst, arith, mul-le-mul_left, Option, Some, None, ◌∙◌, unwrap_or, option_map, false}
 use Rattle.std.specs.Prelude.{MatchBool, MatchOption, IsTrue, Bool, ⊤}
 use Rattle.std.specs.FinMap.{get}
 use Rattle.tsn_types.specs.declared.keys.Key.TheVariants.{Port}
@@ -9,7 +9,6 @@ use Rattle.tsn_types.specs.declared.records.Record.{Record}
 use Rattle.tsn_types.specs.declared.records.Record.TheVariants as records
 use Rattle.tsn_types.specs.declared.refusals.Refusal.{Refusal}
 use Rattle.tsn_types.specs.declared.refusals.Refusal.TheVariants.{Memory}
-use Rattle.tsn_types.specs.Refusals.{least}
 use Rattle.tsn_chain.specs.declared.state.State.{State as Shown}
 use Rattle.tsn_chain.specs.declared.state.State.TheVariants as shown
 use Rattle.tsn_chain.specs.State.{port_state}
@@ -17,12 +16,14 @@ use Rattle.tsn_undo.specs.Ledger.{Ledger, present}
 use Rattle.tsn_bridge.specs.Looking.{shown_at, states_rule}
 use Rattle.tsn_bridge.specs.Machine.{Step}
 use Rattle.tsn_bridge.specs.State.{State}
+use Rattle.tsn_bridge.proofs.Stepping.{AllowsAt}
 use Rattle.tsn_bridge.specs.declared.command.Command.TheVariants as commands
 use Rattle.tsn_bridge.specs.declared.reply.Reply.{Reply}
 use Rattle.tsn_bridge.specs.declared.reply.Reply.TheVariants as replies
 use Rattle.tsn_types.specs.declared.limits.Limits.{Limits}
-use Rattle.tsnd.specs.Listing.{Enables, EnablesNot, gates_told, listing_refusal, shows}
+use Rattle.tsnd.specs.Listing.{Enables, EnablesNot, IsSeenFrom, gates_told, listing_refusal, shows}
 use Rattle.tsnd.specs.declared.arguments.Listing.{Listing}
+use Rattle.tsnd.proofs.Seen.{unrefused}
 
 -- ---- instants
 
@@ -55,40 +56,41 @@ IsGate : Shown → Type 0
 IsGate (shown.Port g) = ⊥
 IsGate (shown.Gate is_open ipv) = ⊤
 
--- the reply tells the gates that the port shows, or why it is refused
+-- the reply tells the gates that the port shows
 abbrev pub TellsPort : Option Shown → Reply → Type 0
-TellsPort o reply =
-    ((why : Refusal) × (reply ≡ replies.Refused why))
-    ⊎ ((g : ℕ) × (reply ≡ replies.States (shown.Port g)) × (o ≡ Some (shown.Port g)))
+TellsPort o reply = (g : ℕ) × (reply ≡ replies.States (shown.Port g)) × (o ≡ Some (shown.Port g))
 
-told_by : (s new : State) (reply : Reply) (why : Option Refusal) (o : Option Shown) → IsPorts o
-    → MatchOption why
-    ((option_map {U = Reply × State} (λ x. (replies.States x, s)) o ≡ Some (reply, new)) ⊎ (IsTrue false × (reply ≡ replies.Refused Memory) × (new ≡ s)))
-    (λ w. (reply ≡ replies.Refused w) × (new ≡ s))
+told_by : (s new : State) (reply : Reply) (o : Option Shown) → IsPorts o
+    → (option_map {U = Reply × State} (λ x. (replies.States x, s)) o ≡ Some (reply, new)) ⊎ (IsTrue false × (reply ≡ replies.Refused Memory) × (new ≡ s))
     → (new ≡ s) × TellsPort o reply
 unfolding IsPorts IsGate
-told_by s new reply (Some w) o ports h = (h.1, inl (w, h.0))
-told_by s new reply None None ports (inl e) =
+told_by s new reply None ports (inl e) =
     absurd (subst (λ (x : Option (Reply × State)). MatchOption x ⊤ (λ y. ⊥)) e tt)
-told_by s new reply None (Some (shown.Port g)) ports (inl e) =
+told_by s new reply (Some (shown.Port g)) ports (inl e) =
     let both = ap (λ (x : Option (Reply × State)). unwrap_or x (reply, new)) e in
-    (sym (ap (λ (x : Reply × State). x.1) both), inr (g, sym (ap (λ (x : Reply × State). x.0) both), refl))
-told_by s new reply None (Some (shown.Gate is_open ipv)) (inl none) (inl e) =
+    (sym (ap (λ (x : Reply × State). x.1) both), (g, sym (ap (λ (x : Reply × State). x.0) both), refl))
+told_by s new reply (Some (shown.Gate is_open ipv)) (inl none) (inl e) =
     absurd (subst (λ (x : Option Shown). MatchOption x ⊥ (λ y. ⊤)) none tt)
-told_by s new reply None (Some (shown.Gate is_open ipv)) (inr some) (inl e) =
+told_by s new reply (Some (shown.Gate is_open ipv)) (inr some) (inl e) =
     absurd (subst (λ (x : Option Shown). MatchOption x ⊥ (λ y. IsGate y)) (some.1) tt)
-told_by s new reply None o ports (inr h) = absurd (subst (λ (b : Bool). MatchBool b ⊥ ⊤) h.0 tt)
+told_by s new reply o ports (inr h) = absurd (subst (λ (b : Bool). MatchBool b ⊥ ⊤) h.0 tt)
 
--- so a reply tells of gates, or why it is a refusal
+-- so a reply tells of gates
 pub never_untold : (o : Option Shown) (reply : Reply) → TellsPort o reply → gates_told reply ≡ None → ⊥
-never_untold o reply (inl h) none = subst (λ (x : Option (Result ℕ Refusal)). MatchOption x ⊤ (λ y. ⊥)) (sym none ∙ ap gates_told h.1) tt
-never_untold o reply (inr h) none = subst (λ (x : Option (Result ℕ Refusal)). MatchOption x ⊤ (λ y. ⊥)) (sym none ∙ ap gates_told h.1) tt
+never_untold o reply h none = subst (λ (x : Option ℕ). MatchOption x ⊤ (λ y. ⊥)) (sym none ∙ ap gates_told h.1) tt
 
--- what a look at a port is answered, and that it changes nothing
-pub look : (s new : State) (asker port t : ℕ) (reply : Reply) → Step s asker (commands.States (Port port) t) reply new
+-- and of those that the port shows
+pub told_gates : (o : Option Shown) (reply : Reply) (gates : ℕ) → TellsPort o reply → gates_told reply ≡ Some gates → o ≡ Some (shown.Port gates)
+told_gates o reply gates h some =
+    let same : h.0 ≡ gates = ap (λ (x : Option ℕ). unwrap_or x gates) (sym (ap gates_told h.1) ∙ some) in
+    h.2 ∙ ap (λ (g : ℕ). Some (shown.Port g)) same
+
+-- what a look at a port is answered that nothing refuses, and that it changes nothing
+pub look : (s new : State) (port t : ℕ) (reply : Reply) → IsSeenFrom s port t → Step s 1 (commands.States (Port port) t) reply new
     → (new ≡ s) × TellsPort (shows s (Port port) t) reply
-look s new asker port t reply step =
-    told_by s new reply (least (states_rule s asker (Port port) t).causes) _ (shown_by s.book port t (get (present s.book) (Port port))) step
+look s new port t reply seen step =
+    told_by s new reply _ (shown_by s.book port t (get (present s.book) (Port port)))
+    (subst (λ o. AllowsAt o (states_rule s 1 (Port port) t) s reply new) (unrefused s port t seen) step)
 
 -- ---- the listed port and its first instant
 

@@ -1,5 +1,5 @@
 -- The states of a port at even steps, as lines.
-use Rattle.std.specs.Prelude.{◌≡◌, ◌⊎◌, ℕ, zero, suc, ◌+◌, ◌-◌, ◌*◌, ◌/◌, ◌%◌, ◌<◌, nat_le, nat_lt, Bool, true, false, List, [], ◌∷◌, ◌++◌, if◌then◌else◌, Option, Some, None, Result, Ok, Err, codes, decimal}
+use Rattle.std.specs.Prelude.{◌≡◌, ◌⊎◌, ℕ, zero, suc, ◌+◌, ◌-◌, ◌*◌, ◌/◌, ◌%◌, ◌<◌, nat_le, nat_lt, Bool, true, false, List, [], ◌∷◌, ◌++◌, if◌then◌else◌, Option, Some, None, is_some, ◌≤◌, codes, decimal}
 use Rattle.std.specs.FinMap.{get}
 use Rattle.std.specs.Io.KnownBytes.{Appends}
 use Rattle.tsn_types.specs.declared.keys.Key.{Key}
@@ -14,18 +14,16 @@ use Rattle.tsn_chain.specs.declared.state.State.{State as Shown}
 use Rattle.tsn_chain.specs.declared.state.State.TheVariants as shown
 use Rattle.tsn_undo.specs.Ledger.{present}
 use Rattle.tsn_bridge.specs.Acts.{has_entry}
-use Rattle.tsn_bridge.specs.Looking.{shown_at}
+use Rattle.tsn_bridge.specs.Looking.{last_at, shown_at}
 use Rattle.tsn_bridge.specs.Machine.{Step}
+use Rattle.tsn_bridge.specs.Rule.{is_given}
 use Rattle.tsn_bridge.specs.State.{State}
 use Rattle.tsn_bridge.specs.declared.command.Command.{Command}
 use Rattle.tsn_bridge.specs.declared.command.Command.TheVariants as commands
 use Rattle.tsn_bridge.specs.declared.reply.Reply.{Reply}
 use Rattle.tsn_bridge.specs.declared.reply.Reply.TheVariants as replies
 use Rattle.tsn_bytes.specs.Bytes.{IsCut}
-use Rattle.tsn_bytes.specs.declared.bytes.Fault.TheVariants.{Write}
 use Rattle.tsnd.specs.declared.arguments.Listing.{Listing}
-use Rattle.tsnd.specs.declared.failures.Failure.{Failure}
-use Rattle.tsnd.specs.declared.failures.Failure.TheVariants.{Fault, Refused, Setup}
 
 -- the instant of a line; the first line has the number 0
 abbrev pub instant_of : Listing → ℕ → ℕ
@@ -48,10 +46,9 @@ state_line t (Some (shown.Port gates)) = decimal t ++ codes " " ++ hexadecimal (
 state_line t (Some (shown.Gate is_open ipv)) = []
 state_line t None = []
 
--- the gates of a port that a reply tells, or why it is a refusal
-abbrev pub gates_told : Reply → Option (Result ℕ Refusal)
-gates_told (replies.States (shown.Port gates)) = Some (Ok gates)
-gates_told (replies.Refused why) = Some (Err why)
+-- the gates of a port that a reply tells
+abbrev pub gates_told : Reply → Option ℕ
+gates_told (replies.States (shown.Port gates)) = Some gates
 gates_told reply = None
 
 -- what a key shows at an instant
@@ -96,14 +93,19 @@ EnablesNot s port now why =
     ⊎ ((greeted : State) × Takes s 0 commands.Hello greeted × (IsRefused greeted 1 (commands.Enable (Port port) now) why
     ⊎ ((enabled : State) × Takes greeted 1 (commands.Enable (Port port) now) enabled × IsRefused enabled 1 (commands.Apply (Port port) now) why)))
 
--- A line was not written whole: the writer failed in it, or the machine refused to tell the state.
-abbrev pub IsBroken : State → ℕ → ℕ → Option (List ℕ) → Option (List ℕ) → Bool → Failure → Type 0
-IsBroken s port t old new failed (Fault fault) = (fault ≡ Write) × (failed ≡ true) × IsCut old new (state_line t (shows s (Port port) t))
-IsBroken s port t old new failed (Refused why) = (new ≡ old) × Step s 1 (commands.States (Port port) t) (replies.Refused why) s
-IsBroken s port t old new failed Setup = ⊥
+-- Nothing was done with the bridge yet.
+abbrev pub IsNew : State → Type 0
+IsNew s = (s.book.entries ≡ []) × (s.time ≡ 0)
 
--- So it was in one of the lines, and the lines before it were written.
-abbrev pub EndsEarly : State → Listing → Option (List ℕ) → Option (List ℕ) → Bool → Failure → Type 0
-EndsEarly s x old new failed failure = (n : ℕ) × (before : Option (List ℕ)) × (n < x.count)
+-- Nothing refuses session 1 a look at the port from the instant on: both are there, and no act on the port is later.
+pub record IsSeenFrom (s : State) (port from : ℕ) : Type 0 where
+  pub within : holds_key s.book.limits (Port port) ≡ true
+  pub given : is_given s 1 ≡ true
+  pub there : is_some (get (present s.book) (Port port)) ≡ true
+  pub last : last_at s.book (Port port) ≤ from
+
+-- The writer failed in one of the lines; the lines before it were written.
+abbrev pub EndsEarly : State → Listing → Option (List ℕ) → Option (List ℕ) → Type 0
+EndsEarly s x old new = (n : ℕ) × (before : Option (List ℕ)) × (n < x.count)
     × Appends old before (lines s x n)
-    × IsBroken s x.port (instant_of x n) before new failed failure
+    × IsCut before new (state_line (instant_of x n) (shows s (Port x.port) (instant_of x n)))

@@ -74,11 +74,12 @@ AnswersScript setup old new outcome = (start : Result State Refusal) × Opens se
 abbrev pub PrintsAll : State → Listing → Output → Type 0
 PrintsAll s x output = Appends output.old output.new (lines s x x.count) × (output.held_back ≡ [])
 
--- Printing broke off in a line, or the writer failed to hand on what it held back.
+-- The writer failed: in a line, or when it was to hand on what it held back.
 abbrev pub PrintsFront : State → Listing → Output → Failure → Type 0
 PrintsFront s x output failure =
-    EndsEarly s x output.old output.new output.failed failure
-    ⊎ ((failure ≡ failures.Fault Write) × (output.failed ≡ true) × Appends output.old output.new (lines s x x.count))
+    (failure ≡ failures.Fault Write)
+    × (output.failed ≡ true)
+    × (EndsEarly s x output.old output.new ⊎ Appends output.old output.new (lines s x x.count))
 
 -- Nothing was printed, for a port or an instant outside the limits, or since the port was not enabled or its list not applied.
 abbrev pub PrintsNothing : State → Listing → Output → Refusal → Type 0

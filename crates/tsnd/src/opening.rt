@@ -1,6 +1,7 @@
 //! The bridge that a setup's text opens.
-ghost use Rattle.std.specs.Prelude.{◌≡◌};
+ghost use Rattle.std.specs.Prelude.{IfOk};
 ghost use Rattle.tsn_records.specs.Answers.{IsOrMemory};
+ghost use Rattle.tsnd.specs.Listing.{IsNew};
 ghost use Rattle.tsnd.specs.Opening.{opened};
 
 use std::alloc::Global;
@@ -10,7 +11,8 @@ use tsn_types::refusals::Refusal;
 
 /// A bridge that begins with the setup of the text; of the empty text, with the standard setup.
 pub fn bridge_of(alloc: Global, text: &[u8]) -> Result<Bridge, Refusal>
-    ensures { IsOrMemory result (opened text.now) }
+    ensures opened { IsOrMemory result (opened text.now) }
+    ensures new { IfOk result IsNew }
 {
     let setup = match setup_of(alloc, text) {
         Ok(setup) => setup,

@@ -4,6 +4,7 @@ ghost use Rattle.std.specs.Io.KnownBytes.{Appends};
 ghost use Rattle.tsn_bytes.specs.declared.bytes.Fault.TheVariants.{Write};
 ghost use Rattle.tsn_serve.specs.Outcomes.{moment};
 ghost use Rattle.tsnd.specs.Failures.{failure_line};
+ghost use Rattle.tsnd.specs.Listing.{IsNew};
 ghost use Rattle.tsnd.specs.Program.{IsFront, IsTold, PrintsFrom, PrintsStates, RefusesWords, Reports, Serves, ServesScript, ServesStates, ServesText};
 ghost use Rattle.tsnd.specs.declared.failures.Failure.TheVariants as failures;
 
@@ -68,6 +69,7 @@ fn list_states<W: ByteOut>(
     listing: &Listing,
     writer: &mut W,
 ) -> Result<(), Failure>
+    requires { IsNew bridge.old }
     ensures { PrintsFrom (Ok bridge.old) listing.now
         (record { old = W.taken writer.old; new = W.taken writer.new; held_back = W.pending writer.new; failed = W.has_failed writer.new })
         result }
@@ -82,7 +84,7 @@ fn list_states<W: ByteOut>(
     }
     match write_states(bridge, port, listing, writer) {
         Ok(()) => {}
-        Err(failure) => return Err(failure),
+        Err(fault) => return Err(Failure::Fault(fault)),
     }
     let Ok(()) = writer.flush() else {
         return Err(Failure::Fault(Fault::Write));

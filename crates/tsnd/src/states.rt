@@ -1,6 +1,6 @@
 //! The states of a port at even steps, one line each: the instant in decimal, and the eight gates in two hexadecimal
 //! digits.
-ghost use Rattle.std.specs.Prelude.{◌≡◌, ◌-◌, ◌<◌, ◌≤◌, nat_le, if◌then◌else◌, IfErr, IfOk, OnOk, Some, None};
+ghost use Rattle.std.specs.Prelude.{◌≡◌, ◌-◌, ◌<◌, ◌≤◌, nat_le, if◌then◌else◌, true, IfErr, IfOk, OnErr, OnOk, Some, None};
 ghost use Rattle.std.specs.FinMap.{get};
 ghost use Rattle.std.specs.Io.KnownBytes.{Appends};
 ghost use Rattle.tsn_types.specs.declared.keys.Key.TheVariants.{Port};
@@ -9,17 +9,16 @@ ghost use Rattle.tsn_types.specs.Numbers.{greatest_instant};
 ghost use Rattle.tsn_chain.specs.declared.state.State.TheVariants as shown;
 ghost use Rattle.tsn_undo.specs.Ledger.{present};
 ghost use Rattle.tsn_bridge.specs.Acts.{has_entry};
-ghost use Rattle.tsn_bridge.specs.Machine.{Step};
 ghost use Rattle.tsn_bridge.specs.declared.command.Command.TheVariants as commands;
-ghost use Rattle.tsn_bridge.specs.declared.reply.Reply.TheVariants.{Refused};
-ghost use Rattle.tsnd.specs.Listing.{Applies, Enables, EnablesNot, EndsEarly, IsBroken, IsRefused, Takes, gates_told, hexadecimal, instant_of, lines, listing_refusal, refusal_told, shows, state_line};
+ghost use Rattle.tsn_bytes.specs.Bytes.{IsCut};
+ghost use Rattle.tsn_bytes.specs.declared.bytes.Fault.TheVariants.{Write};
+ghost use Rattle.tsnd.specs.Listing.{Applies, Enables, EnablesNot, EndsEarly, IsNew, IsRefused, IsSeenFrom, Takes, gates_told, hexadecimal, instant_of, lines, listing_refusal, refusal_told, shows, state_line};
 
 use crate::arguments::Listing;
-use crate::failures::Failure;
 use tsn_bridge::bridge::Bridge;
 use tsn_bridge::command::Command;
 use tsn_bridge::reply::Reply;
-use tsn_bytes::{ByteOut, put_all};
+use tsn_bytes::{ByteOut, Fault, put_all};
 use tsn_chain::state::State;
 use tsn_replies::ShortText;
 use tsn_types::keys::Key;
@@ -126,7 +125,9 @@ fn apply_listed(
 
 /// Enables the port at the instant, for a first session, and applies its list then, where it has an entry.
 pub fn enable_at(bridge: &mut Bridge, port: PortId, now: Instant) -> Result<(), Refusal>
+    requires { IsNew bridge.old }
     ensures ok { OnOk result (Enables bridge.old port now bridge.new) }
+    ensures seen { OnOk result (IsSeenFrom bridge.new port now) }
     ensures refused { IfErr result (EnablesNot bridge.old port now) }
 {
     let is_listed = has_list(bridge, Key::Port(port));
@@ -185,27 +186,26 @@ fn line_of(at: Instant, gates: u8) -> ShortText
     text
 }
 
-// The gates that a reply tells, or why it is a refusal.
-fn gates_told(reply: Reply) -> Option<Result<u8, Refusal>>
+// The gates that a reply tells.
+fn gates_told(reply: Reply) -> Option<u8>
     ensures { result ≡ gates_told reply }
 {
     match &reply {
-        Reply::States(State::Port { gates }) => Some(Ok(*gates)),
-        Reply::Refused(why) => Some(Err(*why)),
+        Reply::States(State::Port { gates }) => Some(*gates),
         _ => None,
     }
 }
 
 // The gates of the port at the instant.
-fn gates_at(bridge: &mut Bridge, port: PortId, at: Instant) -> Result<u8, Refusal>
-    ensures gates { IfOk result (λ gates. shows bridge.old (Port port) at ≡ Some (shown.Port gates)) }
-    ensures refused { IfErr result (λ why. Step bridge.old 1 (commands.States (Port port) at) (Refused why) bridge.new) }
+fn gates_at(bridge: &mut Bridge, port: PortId, at: Instant) -> u8
+    requires { IsSeenFrom bridge.old port at }
+    ensures gates { shows bridge.old (Port port) at ≡ Some (shown.Port result) }
     ensures stays { bridge.new ≡ bridge.old }
 {
     let key = Key::Port(port);
     let reply = bridge.step(1, Command::States { key, at });
     match gates_told(reply) {
-        Some(told) => told,
+        Some(gates) => gates,
         None => unreachable!(),
     }
 }
@@ -216,34 +216,32 @@ fn write_line<W: ByteOut>(
     port: PortId,
     at: Instant,
     writer: &mut W,
-) -> Result<(), Failure>
+) -> Result<(), Fault>
+    requires { IsSeenFrom bridge.old port at }
     ensures stays { bridge.new ≡ bridge.old }
     ensures ok { OnOk result (Appends (W.taken writer.old) (W.taken writer.new) (state_line at (shows bridge.old (Port port) at))) }
-    ensures cut { IfErr result (λ failure. IsBroken bridge.old port at (W.taken writer.old) (W.taken writer.new) (W.has_failed writer.new) failure) }
+    ensures fault { IfErr result (λ fault. fault ≡ Write) }
+    ensures failed { OnErr result (W.has_failed writer.new ≡ true) }
+    ensures cut { OnErr result (IsCut (W.taken writer.old) (W.taken writer.new) (state_line at (shows bridge.old (Port port) at))) }
 {
-    let gates = match gates_at(bridge, port, at) {
-        Ok(gates) => gates,
-        Err(why) => return Err(Failure::Refused(why)),
-    };
-    match put_all(writer, line_of(at, gates).as_slice()) {
-        Ok(()) => Ok(()),
-        Err(fault) => Err(Failure::Fault(fault)),
-    }
+    let gates = gates_at(bridge, port, at);
+    put_all(writer, line_of(at, gates).as_slice())
 }
 
-/// Writes the line of each instant. Where it fails, the lines before were written, and of this one a front, where the
-/// writer failed.
+/// Writes the line of each instant. Where the writer fails, the lines before were written, and of this one a front.
 pub fn write_states<W: ByteOut>(
     bridge: &mut Bridge,
     port: PortId,
     listing: &Listing,
     writer: &mut W,
-) -> Result<(), Failure>
+) -> Result<(), Fault>
     requires port { port ≡ listing.now.port }
     requires last { instant_of listing.now (listing.now.count - 1) ≤ greatest_instant }
-    ensures stays { bridge.new ≡ bridge.old }
+    requires seen { IsSeenFrom bridge.old port listing.now.from }
     ensures ok { OnOk result (Appends (W.taken writer.old) (W.taken writer.new) (lines bridge.old listing.now listing.now.count)) }
-    ensures cut { IfErr result (λ failure. EndsEarly bridge.old listing.now (W.taken writer.old) (W.taken writer.new) (W.has_failed writer.new) failure) }
+    ensures fault { IfErr result (λ fault. fault ≡ Write) }
+    ensures failed { OnErr result (W.has_failed writer.new ≡ true) }
+    ensures cut { OnErr result (EndsEarly bridge.old listing.now (W.taken writer.old) (W.taken writer.new)) }
 {
     for place in 0..listing.count {
         write_line(bridge, port, instant_at(listing, place), writer)?;

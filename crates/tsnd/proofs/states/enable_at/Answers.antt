@@ -1,5 +1,6 @@
 use Rattle.std.proofs.Common.{inl, inr, subst, Bool}
 use Rattle.tsnd.specs.Listing.{Applies}
+use Rattle.tsnd.proofs.Seen.{applied, enabled, greeted}
 use Rattle.tsnd.proofs.states.enable_at.Goals as goal
 
 pub returns-in-Err-clause-refused : goal.returns-in-Err-clause-refused
@@ -20,3 +21,9 @@ returns-in-Ok-apply_listed-clause-ok c = (
   c.in-Ok-take.ensures.ok,
   subst (λ (b : Bool). Applies b c.take-2.new.bridge c.args.port c.args.now c.apply_listed.new.bridge) c.has_list-is_listed.ensures c.in-Ok-apply_listed.ensures.ok,
 )
+
+pub returns-in-Ok-apply_listed-clause-seen : goal.returns-in-Ok-apply_listed-clause-seen
+returns-in-Ok-apply_listed-clause-seen c =
+    let new = greeted c.args.bridge.now c.take.new.bridge c.requires c.in-Ok.ensures.ok in
+    let on = enabled c.take.new.bridge c.take-2.new.bridge c.args.port c.args.now new c.in-Ok-take.ensures.ok in
+    applied c.has_list-is_listed.result c.take-2.new.bridge c.apply_listed.new.bridge c.args.port c.args.now on.1 on.0 c.in-Ok-apply_listed.ensures.ok
