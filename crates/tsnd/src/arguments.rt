@@ -1,10 +1,10 @@
 //! The command line.
 ghost use Rattle.std.specs.Prelude.{◌≡◌, ℕ, List, [], ◌∷◌, Some, None, false, IfOk, IfErr, codes, map, option_map, string_bytes};
-ghost use Rattle.clap.specs.Words.{app_of, kind_of, rule_of};
+ghost use Rattle.clap.specs.Words.{app_of, first_of, first_value, found_of, kind_of, rows_of, rule_of, subcommand_of, subcommand_rows_of};
 ghost use Rattle.clap.specs.Kinds.{FailsBy};
 ghost use Rattle.clap.specs.Faults.{fault_of};
 ghost use Rattle.tsn_bytes.specs.declared.bytes.Fault.TheVariants.{Memory};
-ghost use Rattle.tsnd.specs.Asking.{number, program, script, setup_file, states, Asks, IsWork};
+ghost use Rattle.tsnd.specs.Asking.{bare, number, number_of, program, script, setup_file, states, Asks, AsksFor, GivesListing, HasStates, IsComplete, IsNumber, IsWork};
 
 use clap::builder::ValueParser;
 use clap::error::ErrorKind;
@@ -102,14 +102,21 @@ fn states<'a>(alloc: Global) -> Result<Command<'a>, AllocError>
         .arg(count)
 }
 
-// The command line that the program takes.
-fn command<'a>(alloc: Global) -> Result<Command<'a>, AllocError>
-    ensures { IfOk result (λ c. app_of c ≡ program) }
+// The program, but for its subcommands.
+fn bare<'a>(alloc: Global) -> Command<'a>
+    ensures { app_of result ≡ bare }
 {
     Command::new(alloc, "tsnd")
         .about("The configuration service of one time-aware bridge")
         .version("0.1.0")
         .subcommand_required(true)
+}
+
+// The command line that the program takes.
+fn command<'a>(alloc: Global) -> Result<Command<'a>, AllocError>
+    ensures { IfOk result (λ c. app_of c ≡ program) }
+{
+    bare(alloc)
         .subcommand(script(alloc)?)?
         .subcommand(states(alloc)?)
 }
@@ -117,48 +124,86 @@ fn command<'a>(alloc: Global) -> Result<Command<'a>, AllocError>
 // What the words give, or what is wrong with them.
 fn parsed<'a>(alloc: Global, words: &'a [String]) -> Result<ArgMatches<'a>, Error>
     ensures kinds { FailsBy (fault_of program (map string_bytes words.now)) result }
+    ensures given { IfOk result (λ m. subcommand_rows_of m
+        ≡ subcommand_of program (map string_bytes words.now)) }
     ensures script { (name : List ℕ) → map string_bytes words.now ≡ name ∷ codes "script" ∷ []
         → IfErr result (λ e. kind_of e ≡ ErrorKind.OutOfMemory) }
 {
     command(alloc)?.try_get_matches_from(words)
 }
 
-// The file that is named, if one is.
-fn file_of(alloc: Global, given: &ArgMatches<'_>) -> Result<Option<String>, AllocError> {
+// A number that is given.
+fn number_of(given: &ArgMatches<'_>, name: &str) -> u64
+    requires { (text : List ℕ) × (first_of name.now (rows_of (found_of given.now)) ≡ Some text) × IsNumber text }
+    ensures { (text : List ℕ) → first_of name.now (rows_of (found_of given.now)) ≡ Some text → result ≡ number_of text }
+{
+    let text = given.get_str(name).unwrap();
+    text.parse::<u64>().unwrap()
+}
+
+// The numbers that are given to `states`.
+fn listing_of(given: &ArgMatches<'_>) -> Listing
+    requires { HasStates (Some (codes "states", rows_of (found_of given.now))) }
+    ensures { GivesListing (Some (codes "states", rows_of (found_of given.now))) result }
+{
+    let port = number_of(given, "port");
+    let from = number_of(given, "from");
+    let step = number_of(given, "step");
+    let count = number_of(given, "count");
+    Listing {
+        port,
+        from,
+        step,
+        count,
+    }
+}
+
+// The file that is given, if one is.
+fn file_of(alloc: Global, given: &ArgMatches<'_>) -> Result<Option<String>, AllocError>
+    ensures { IfOk result (λ file. first_value (found_of given.now) (codes "FILE")
+        ≡ option_map string_bytes file) }
+{
     match given.get_str("FILE") {
-        Some(file) => Ok(Some(String::from_str(alloc, file)?)),
+        Some(name) => {
+            let file = String::from_str(alloc, name)?;
+            Ok(Some(file))
+        }
         None => Ok(None),
     }
 }
 
-// A number that is always given.
-fn number_of(given: &ArgMatches<'_>, name: &str) -> u64 {
-    given.get_one::<u64>(name).unwrap_or(0)
-}
-
-fn listing_of(given: &ArgMatches<'_>) -> Listing {
-    Listing {
-        port: number_of(given, "port"),
-        from: number_of(given, "from"),
-        step: number_of(given, "step"),
-        count: number_of(given, "count"),
+// The states of a port, from the setup and with the numbers that are given.
+fn states_of(alloc: Global, given: &ArgMatches<'_>) -> Result<Asked, AllocError>
+    requires { HasStates (Some (codes "states", rows_of (found_of given.now))) }
+    ensures { IfOk result (AsksFor (Some (codes "states", rows_of (found_of given.now)))) }
+{
+    let listing = listing_of(given);
+    match file_of(alloc, given)? {
+        Some(file) => Ok(Asked::States { file, listing }),
+        None => unreachable!(),
     }
 }
 
-// What words without a fault ask for.
+// A script, from the setup that is given.
+fn script_of(alloc: Global, given: &ArgMatches<'_>) -> Result<Asked, AllocError>
+    ensures { IfOk result (AsksFor (Some (codes "script", rows_of (found_of given.now)))) }
+{
+    let file = file_of(alloc, given)?;
+    Ok(Asked::Script { file })
+}
+
+// What the words ask for, by their subcommand and what they give to it.
 fn asked_of(alloc: Global, matches: &ArgMatches<'_>) -> Result<Asked, AllocError>
-    ensures { IfOk result IsWork }
+    requires { IsComplete (subcommand_rows_of matches.now) }
+    ensures { IfOk result (AsksFor (subcommand_rows_of matches.now)) }
 {
     let Some((name, given)) = matches.subcommand() else {
-        return Ok(Asked::Script { file: None });
+        unreachable!();
     };
-    let file = file_of(alloc, given)?;
-    match file {
-        Some(file) if name == "states" => Ok(Asked::States {
-            file,
-            listing: listing_of(given),
-        }),
-        file => Ok(Asked::Script { file }),
+    if name == "states" {
+        states_of(alloc, given)
+    } else {
+        script_of(alloc, given)
     }
 }
 
