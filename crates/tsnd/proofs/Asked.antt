@@ -1,19 +1,19 @@
 -- The words of worked command lines.
-use Rattle.std.proofs.Common.{Bool, true, false, not, ◌&&◌, sym, ◌≡◌, ℕ, List, [], ◌∷◌, codes, refl, ap, subst, ◌∙◌, inl, inr, Option, Some, None, Result, Ok, Err, IfErr, option_map, unwrap_or}
+use Rattle.std.proofs.Common.{Bool, true, false, not, ◌&&◌, sym, ◌≡◌, ℕ, List, [], ◌∷◌, codes, refl, ap, subst, ◌∙◌, inl, inr, Option, Some, None, Result, Ok, Err, IfErr, map, option_map, unwrap_or}
 use Rattle.std.specs.Prelude.{IsOk, IsSome}
 use Rattle.std.specs.Borrow.{Bor}
 use Rattle.std.specs.Result.{result_unwrap_or}
 use Rattle.std.specs.Str.Parse.{ParsesUnsigned}
 use Rattle.clap.specs.declared.error.Error.{Error}
 use Rattle.clap.specs.declared.error.kind.ErrorKind.TheVariants.{DisplayHelp, MissingSubcommand, OutOfMemory}
-use Rattle.clap.specs.Simple.{has_plain_fields}
+use Rattle.clap.specs.Simple.{has_plain_fields, subcommand_of}
 use Rattle.clap.specs.declared.builder.command.Command.{Command}
 use Rattle.clap.specs.declared.builder.command.Command.TheViews.{out-Command}
 use Rattle.clap.specs.Kinds.{FailsBy, IsAmong}
 use Rattle.clap.specs.Values.{kind_of}
 use Rattle.clap.specs.Faults.{fault_of}
 use Rattle.clap.proofs.OnLiterals.{clap_on_literals}
-use Rattle.tsnd.specs.Asking.{IsNumber, number_of, program}
+use Rattle.tsnd.specs.Asking.{IsNumber, number_of, program, text_given}
 
 -- whatever the program's name, `script` alone has no fault
 pub script : (name : List ℕ) → fault_of program (name ∷ codes "script" ∷ []) ≡ []
@@ -37,6 +37,22 @@ help name = refl
 nothing : (name : List ℕ) → fault_of program (name ∷ []) ≡ MissingSubcommand ∷ []
 unfolding clap_on_literals
 nothing name = refl
+
+-- a port's states, with the numbers in another order than the options have, and an option's value in its word
+abbrev listed : List ℕ → List (List ℕ)
+listed name = name ∷ codes "states" ∷ codes "--step" ∷ codes "400" ∷ codes "cell.toml" ∷ codes "--port=1" ∷ codes "--from" ∷ codes "2500" ∷ codes "--count" ∷ codes "+3" ∷ []
+
+listed_faultless : (name : List ℕ) → fault_of program (listed name) ≡ []
+unfolding clap_on_literals
+listed_faultless name = refl
+
+listed_given : (name : List ℕ) → map (text_given (subcommand_of program (listed name))) (codes "FILE" ∷ codes "port" ∷ codes "from" ∷ codes "step" ∷ codes "count" ∷ [])
+    ≡ Some (codes "cell.toml") ∷ Some (codes "1") ∷ Some (codes "2500") ∷ Some (codes "400") ∷ Some (codes "+3") ∷ []
+unfolding clap_on_literals
+listed_given name = refl
+
+listed_count : number_of (codes "+3") ≡ 3
+listed_count = refl
 
 -- a command whose shape is plain has no global argument
 third_is_false : (a b g rest : Bool) → (a && (b && (not g && rest))) ≡ true → g ≡ false

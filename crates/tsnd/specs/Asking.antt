@@ -61,6 +61,13 @@ IsWork (States file listing) = ⊤
 IsWork (Shown text) = ⊥
 IsWork (Refused text) = ⊥
 
+-- The file of the setup that is asked for, if one is.
+abbrev pub file_of : Asked → Option (List ℕ)
+file_of (Script file) = option_map string_bytes file
+file_of (States file listing) = Some (string_bytes file)
+file_of (Shown text) = None
+file_of (Refused text) = None
+
 -- The subcommand that words name, with what they give to it, as `clap` reads them.
 abbrev pub Given : Type 0
 Given = Option (List ℕ × List Row)

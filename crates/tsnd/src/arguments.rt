@@ -45,8 +45,12 @@ pub enum Asked {
 }
 
 impl Asked {
+    ghost use Rattle.tsnd.specs.Asking.{file_of};
+
     /// The file of the setup that is named, if one is.
-    pub fn file(&self) -> Option<&str> {
+    pub fn file(&self) -> Option<&str>
+        ensures { option_map (λ name. name.now) result ≡ file_of self.now }
+    {
         match self {
             Asked::Script { file } => file.as_ref().map(String::as_str),
             Asked::States { file, .. } => Some(file.as_str()),
