@@ -55,10 +55,14 @@ gates_told reply = None
 abbrev pub shows : State → Key → ℕ → Option Shown
 shows s k t = shown_at s.book k (get (present s.book) k) t
 
+-- the line of a number
+abbrev pub line_at : State → Listing → ℕ → List ℕ
+line_at s x n = state_line (instant_of x n) (shows s (Port x.port) (instant_of x n))
+
 -- the first lines, so many
 abbrev pub lines : State → Listing → ℕ → List ℕ
 lines s x zero = []
-lines s x (suc n) = lines s x n ++ state_line (instant_of x n) (shows s (Port x.port) (instant_of x n))
+lines s x (suc n) = lines s x n ++ line_at s x n
 
 -- why a reply is a refusal, if it is one
 abbrev pub refusal_told : Reply → Option Refusal
@@ -108,4 +112,4 @@ pub record IsSeenFrom (s : State) (port from : ℕ) : Type 0 where
 abbrev pub EndsEarly : State → Listing → Option (List ℕ) → Option (List ℕ) → Type 0
 EndsEarly s x old new = (n : ℕ) × (before : Option (List ℕ)) × (n < x.count)
     × Appends old before (lines s x n)
-    × IsCut before new (state_line (instant_of x n) (shows s (Port x.port) (instant_of x n)))
+    × IsCut before new (line_at s x n)

@@ -12,7 +12,7 @@ ghost use Rattle.tsn_bridge.specs.Acts.{has_entry};
 ghost use Rattle.tsn_bridge.specs.declared.command.Command.TheVariants as commands;
 ghost use Rattle.tsn_bytes.specs.Bytes.{IsCut};
 ghost use Rattle.tsn_bytes.specs.declared.bytes.Fault.TheVariants.{Write};
-ghost use Rattle.tsnd.specs.Listing.{Applies, Enables, EnablesNot, EndsEarly, IsNew, IsRefused, IsSeenFrom, Takes, gates_told, hexadecimal, instant_of, lines, listing_refusal, refusal_told, shows, state_line};
+ghost use Rattle.tsnd.specs.Listing.{Applies, Enables, EnablesNot, EndsEarly, IsNew, IsRefused, IsSeenFrom, Takes, gates_told, hexadecimal, instant_of, line_at, lines, listing_refusal, refusal_told, shows, state_line};
 
 use crate::arguments::Listing;
 use tsn_bridge::bridge::Bridge;
@@ -210,22 +210,18 @@ fn gates_at(bridge: &mut Bridge, port: PortId, at: Instant) -> u8
     }
 }
 
-// Writes the line of an instant.
-fn write_line<W: ByteOut>(
-    bridge: &mut Bridge,
-    port: PortId,
-    at: Instant,
-    writer: &mut W,
-) -> Result<(), Fault>
-    requires { IsSeenFrom bridge.old port at }
+// The line of this number.
+fn line_at(bridge: &mut Bridge, port: PortId, listing: &Listing, place: u64) -> ShortText
+    requires port { port ≡ listing.now.port }
+    requires place { place < listing.now.count }
+    requires last { instant_of listing.now (listing.now.count - 1) ≤ greatest_instant }
+    requires seen { IsSeenFrom bridge.old port listing.now.from }
     ensures stays { bridge.new ≡ bridge.old }
-    ensures ok { OnOk result (Appends (W.taken writer.old) (W.taken writer.new) (state_line at (shows bridge.old (Port port) at))) }
-    ensures fault { IfErr result (λ fault. fault ≡ Write) }
-    ensures failed { OnErr result (W.has_failed writer.new ≡ true) }
-    ensures cut { OnErr result (IsCut (W.taken writer.old) (W.taken writer.new) (state_line at (shows bridge.old (Port port) at))) }
+    ensures line { result ≡ line_at bridge.old listing.now place }
 {
+    let at = instant_at(listing, place);
     let gates = gates_at(bridge, port, at);
-    put_all(writer, line_of(at, gates).as_slice())
+    line_of(at, gates)
 }
 
 /// Writes the line of each instant. Where the writer fails, the lines before were written, and of this one a front.
@@ -244,7 +240,8 @@ pub fn write_states<W: ByteOut>(
     ensures cut { OnErr result (EndsEarly bridge.old listing.now (W.taken writer.old) (W.taken writer.new)) }
 {
     for place in 0..listing.count {
-        write_line(bridge, port, instant_at(listing, place), writer)?;
+        let line = line_at(bridge, port, listing, place);
+        put_all(writer, line.as_slice())?;
     }
     Ok(())
 }
