@@ -17,7 +17,7 @@ use Rattle.tsn_records.specs.Json.{has_members, members_len}
 use Rattle.tsn_wire.specs.Reading.{data_of}
 use Rattle.tsn_records.specs.declared.unread.Unread.TheVariants.{Shape}
 
-abbrev order : List ℕ → List ℕ → Ordering
+abbrev pub order : List ℕ → List ℕ → Ordering
 order = slice_cmp nat_cmp
 
 -- every name is above k
@@ -49,8 +49,16 @@ turned k l e = nat_list_cmp_total.antisymm l k ∙ ap ordering_reverse e
 turned_back : (k l : List ℕ) → order k l ≡ Less → order l k ≡ Greater
 turned_back k l e = nat_list_cmp_total.antisymm l k ∙ ap ordering_reverse e
 
-same_name : (k l : List ℕ) → order k l ≡ Equal → k ≡ l
+pub same_name : (k l : List ℕ) → order k l ≡ Equal → k ≡ l
 same_name k l e = (bytes_eq-Decides k l).0 (sym (is_eq-slice_cmp k l) ∙ ap is_eq e)
+
+own_reverse : (o : Ordering) → o ≡ ordering_reverse o → o ≡ Equal
+own_reverse Less e = absurd (cc)
+own_reverse Equal e = refl
+own_reverse Greater e = absurd (cc)
+
+pub same_order : (k : List ℕ) → order k k ≡ Equal
+same_order k = own_reverse (order k k) (nat_list_cmp_total.antisymm k k)
 
 -- ---- what was read is ordered
 
@@ -160,6 +168,10 @@ all_held no_members no_members ordered rise h = (omega arith, λ same. refl)
 all_held no_members (member k d es) ordered rise h = let none : None ≡ Some d = h.0 in cc
 all_held (member l e ms) no_members ordered rise h = (omega arith, λ same. absurd (omega arith))
 all_held (member l e ms) (member k d es) ordered rise h = all_held_at (order k l) k l d e ms es refl ordered.0 rise h (λ fs r x. all_held ms fs ordered.1.1 r x)
+
+-- ordered members that hold these, and are as many, are these
+pub only_these : (ms es : Members) → AreOrdered ms → Rise es → Holds (object ms) es → members_len ms ≡ members_len es → ms ≡ es
+only_these ms es ordered rise h same = (all_held ms es ordered rise h).1 same
 
 passed : (b : Bool) (u : Unit {0}) → (if b then Ok tt else Err Shape) ≡ Ok u → b ≡ true
 passed true u h = refl

@@ -46,7 +46,7 @@ use Rattle.tsn_wire.proofs.ReadingBack.{then, decimal_back, whole_or_null_back}
 
 -- ---- what is printed is read
 
-abbrev whole : Option (json.Json × List Token) → Option Data
+abbrev pub whole : Option (json.Json × List Token) → Option Data
 whole o = option_and_then of_json (option_and_then (λ p. json.if_last p.0 p.1) o)
 
 -- a value whose numbers are small whole ones, and that nests no deeper than n
@@ -192,7 +192,7 @@ record_shaped kinds.Meter (records.Meter r) small = rw (meter_shaped r)
 
 -- ---- commands
 
-reading_of : (line : List ℕ) (d : Data) (draft : LineDraft) → data_of line ≡ Some d → line_shape d ≡ Ok draft → reading line ≡ line_of_draft draft
+pub reading_of : (line : List ℕ) (d : Data) (draft : LineDraft) → data_of line ≡ Some d → line_shape d ≡ Ok draft → reading line ≡ line_of_draft draft
 reading_of line d draft found shaped = then (or_syntax (data_of line)) _ d _ (ap or_syntax found) (then (line_shape d) _ draft _ shaped refl)
 
 -- what comes behind the command

@@ -1,5 +1,10 @@
 //! A place in a text that is read from its front.
-ghost use Rattle.std.specs.Prelude.{◌≡◌, ◌≢◌, ◌++◌, ◌^◌, ◌<◌, ◌≤◌, ℕ, List, [], length, take, decimal, false, IfSome, MatchOption, IsTrue};
+ghost use Rattle.std.specs.Prelude.{◌≡◌, ◌≢◌, ◌++◌, ◌∷◌, ◌^◌, ◌<◌, ◌≤◌, ℕ, List, [], length, take, drop, decimal, true, false, IfSome, MatchOption, IsTrue};
+ghost use Rattle.json.specs.Lex.{operator_lexeme, token};
+ghost use Rattle.json.specs.Token.{Token};
+ghost use Rattle.json.specs.Word.{is_operator, is_space, ends_word};
+ghost use Rattle.tsn_wire.specs.Lexed.{lexed, is_bare};
+ghost use Rattle.tsn_wire.specs.Spelled.{IsSmall};
 
 use std::marker::Model;
 
@@ -37,6 +42,31 @@ fn leading_number(text: &[u8]) -> Option<(u64, usize)>
         return None;
     }
     Some((value, count))
+}
+
+fn is_space(byte: u8) -> bool
+    ensures { result ≡ is_space byte }
+{
+    byte == b' ' || byte == b'\t' || byte == b'\n' || byte == b'\r'
+}
+
+fn is_mark(byte: u8) -> bool
+    ensures { result ≡ is_operator byte }
+{
+    byte == b'{' || byte == b'}' || byte == b'[' || byte == b']' || byte == b':' || byte == b','
+}
+
+// How many bytes of white space the text begins with.
+#[tactic(auto, using(crate::proofs::Lexing::space_more))]
+fn leading_space(text: &[u8]) -> usize
+    ensures bound { result ≤ length text.now }
+    ensures same { lexed (drop result text.now) ≡ lexed text.now }
+{
+    let mut count: usize = 0;
+    'spaces: while count < text.len() && is_space(text[count]) {
+        count += 1;
+    }
+    count
 }
 
 impl<'a> Cursor<'a> {
@@ -88,5 +118,60 @@ impl<'a> Cursor<'a> {
         } else {
             None
         }
+    }
+
+    /// Goes behind white space.
+    pub fn skip(&mut self)
+        ensures { lexed self.new ≡ lexed self.old }
+    {
+        self.at += leading_space(&self.text[self.at..]);
+    }
+
+    /// Goes behind the mark and the white space before it, where what is left begins with them.
+    pub fn mark(&mut self, mark: u8) -> bool
+        requires { is_operator mark ≡ true }
+        ensures took { IsTrue result → lexed self.old ≡ operator_lexeme mark ∷ lexed self.new }
+        ensures kept { result ≡ false → lexed self.new ≡ lexed self.old }
+    {
+        self.skip();
+        if self.at == self.text.len() || self.text[self.at] != mark {
+            return false;
+        }
+        self.at += 1;
+        true
+    }
+
+    /// Goes behind the name in quotes, where what is left begins with it.
+    pub fn quoted(&mut self, name: &str) -> bool
+        requires { is_bare name.now ≡ true }
+        ensures { IsTrue result → lexed self.old ≡ token (Token.string name.now) ∷ lexed self.new }
+    {
+        if !self.take("\"") {
+            return false;
+        }
+        if !self.take(name) {
+            return false;
+        }
+        self.take("\"")
+    }
+
+    /// The second and the third byte of what is left, for a guess at a name in quotes; zeros where there are none.
+    pub fn letters(&self) -> (u8, u8) {
+        let rest = &self.text[self.at..];
+        if rest.len() < 3 {
+            return (0, 0);
+        }
+        (rest[1], rest[2])
+    }
+
+    /// Whether a number or a word may end here.
+    pub fn ends_word(&self) -> bool
+        ensures { result ≡ ends_word self.now }
+    {
+        if self.text.len() == self.at {
+            return true;
+        }
+        let byte = self.text[self.at];
+        is_mark(byte) || is_space(byte)
     }
 }

@@ -1,19 +1,23 @@
 //! What goes in and out of the service: the command that a line says, and, handed on from below, the text of a reply
 //! and the readers and writers of bytes.
 //!
-//! A line is read as a command by what `serde_json` reads of it; nothing of the bridge is looked at. A line in the
-//! service's own spelling that edits, undoes or redoes, or asks for records or entries, is read with no tree.
+//! A line is read as a command by what `serde_json` reads of it; nothing of the bridge is looked at. A line whose
+//! members stand in any order, each once and with any white space between, is read with no tree.
 #![tactic(auto)]
 
+mod any_line;
+mod any_record;
 mod commands;
 mod cursor;
 mod drafts;
 pub mod laws;
+mod members;
 mod ranges;
 mod reading;
 #[cfg(test)]
 mod samples;
 mod spelled;
+mod values;
 
 pub use reading::{Line, command_of};
 pub use tsn_bytes::{

@@ -1,8 +1,8 @@
 //! Lines in the service's own spelling, read with no tree.
 //!
-//! A line that is compact and has its members in ascending order of their names, as the service writes them, is read
-//! piece by piece, and only a list takes memory. Any other line is left to `serde_json`, and so are a hello, acts on
-//! lists, frames and looks at states and counters.
+//! An edit, an undo or a redo, or a question for records or entries that is compact and has its members in ascending
+//! order of their names, as the service writes them, is read piece by piece, and only a list takes memory. Any other
+//! line is read from its lexemes by `any_line`, and what that does not read is left to `serde_json`.
 ghost use Rattle.std.specs.Prelude.{◌≡◌, ◌++◌, IfSome, codes, decimal};
 ghost use Rattle.std.specs.List.{AllByRecursion};
 ghost use Rattle.serde_json.specs.Data.{Data, boolean};
@@ -10,10 +10,13 @@ ghost use Rattle.serde_json.specs.Written.{compact_text};
 ghost use Rattle.tsn_records.specs.Keys.{kind_text, spelled_key};
 ghost use Rattle.tsn_wire.specs.Reading.{line_of_draft, reading};
 ghost use Rattle.tsn_records.specs.Shown.{or_null, list_array};
+ghost use Rattle.tsn_wire.specs.Lexed.{lexed, ReadsValue};
 ghost use Rattle.tsn_wire.specs.Spelled.{port_entry_value, gate_entry_value, port_value, filter_value, gate_value, meter_value, IsSmall, IsKey, PortEntryIsSmall, GateEntryIsSmall, PortIsSmall, GateIsSmall, FilterIsSmall, MeterIsSmall, SpellsRecord, Spells, SpellsFront};
 
+use crate::any_line::any_draft;
 use crate::cursor::Cursor;
 use crate::drafts::{CommandDraft, LineDraft};
+use crate::values::{scanned_gate_entry, scanned_port_entry};
 use std::alloc::Global;
 use tsn_records::drafts::{
     FilterDraft, GateDraft, GateEntryDraft, KeyDraft, MeterDraft, PortDraft, PortEntryDraft,
@@ -53,13 +56,16 @@ fn flag_member(text: &mut Cursor<'_>, name: &str) -> Option<bool>
 }
 
 /// An entry of a gate control list, in the service's own spelling.
-trait SpelledEntry: Drop {
+pub trait SpelledEntry: Drop {
     ghost value: { Self → Data };
 
     ghost IsFit: { Self → Type 0 };
 
     fn spelled(text: &mut Cursor<'_>) -> Option<Self>
         ensures { IfSome result (λ e. IsFit e × (text.old ≡ compact_text (value e) ++ text.new)) };
+
+    fn scanned(text: &mut Cursor<'_>) -> Option<Self>
+        ensures { IfSome result (λ e. ReadsValue 1 (lexed text.old) (value e) (lexed text.new)) };
 }
 
 impl SpelledEntry for PortEntryDraft {
@@ -72,6 +78,10 @@ impl SpelledEntry for PortEntryDraft {
         let interval = number_member(text, ",")?;
         text.expect("]")?;
         Some(PortEntryDraft { gates, interval })
+    }
+
+    fn scanned(text: &mut Cursor<'_>) -> Option<PortEntryDraft> {
+        scanned_port_entry(text)
     }
 }
 
@@ -93,10 +103,14 @@ impl SpelledEntry for GateEntryDraft {
             octets,
         })
     }
+
+    fn scanned(text: &mut Cursor<'_>) -> Option<GateEntryDraft> {
+        scanned_gate_entry(text)
+    }
 }
 
 // The most entries that are read so.
-const ENTRIES: u32 = 65_536;
+pub const ENTRIES: u32 = 65_536;
 
 fn entries<E: SpelledEntry>(alloc: Global, text: &mut Cursor<'_>) -> Option<ControlList<E>>
     ensures small { IfSome result (AllByRecursion E.IsFit) }
@@ -227,7 +241,7 @@ fn key_of_kind(text: &mut Cursor<'_>, kind: Kind) -> Option<KeyDraft>
     Some(KeyDraft { kind, number })
 }
 
-fn key(text: &mut Cursor<'_>) -> Option<KeyDraft>
+pub fn key(text: &mut Cursor<'_>) -> Option<KeyDraft>
     ensures { IfSome result (λ k. IsKey k × (text.old ≡ spelled_key k.kind k.number ++ text.new)) }
 {
     if text.take("port ") {
@@ -243,7 +257,7 @@ fn key(text: &mut Cursor<'_>) -> Option<KeyDraft>
     key_of_kind(text, Kind::Meter)
 }
 
-fn kind(text: &mut Cursor<'_>) -> Option<Kind>
+pub fn kind(text: &mut Cursor<'_>) -> Option<Kind>
     ensures { IfSome result (λ k. text.old ≡ kind_text k ++ text.new) }
 {
     if text.take("port") {
@@ -343,8 +357,8 @@ fn session(text: &mut Cursor<'_>) -> Option<u64>
     Some(number)
 }
 
-/// The draft that a line in the service's own spelling is; none of any other line.
-pub fn spelled_draft(alloc: Global, line: &[u8]) -> Option<LineDraft>
+// The draft that a line in the service's own spelling is; none of any other line.
+fn own_draft(alloc: Global, line: &[u8]) -> Option<LineDraft>
     ensures { IfSome result (λ draft. reading line.now ≡ line_of_draft draft) }
 {
     let mut text = Cursor::new(line);
@@ -353,5 +367,15 @@ pub fn spelled_draft(alloc: Global, line: &[u8]) -> Option<LineDraft>
     match std::str::from_utf8(line) {
         Ok(_) => Some(LineDraft::Session { session, command }),
         Err(_) => None,
+    }
+}
+
+/// The draft that a line is, in the service's own spelling or in another that is read with no tree.
+pub fn spelled_draft(alloc: Global, line: &[u8]) -> Option<LineDraft>
+    ensures { IfSome result (λ draft. reading line.now ≡ line_of_draft draft) }
+{
+    match own_draft(alloc, line) {
+        Some(draft) => Some(draft),
+        None => any_draft(alloc, line),
     }
 }

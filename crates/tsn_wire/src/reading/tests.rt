@@ -1,6 +1,7 @@
 //! Lines as a caller meets them: what is read, and which refusal comes.
 mod acting;
 mod shown;
+mod spellings;
 mod tables;
 
 use super::command_of;
@@ -170,10 +171,14 @@ fn refusal(alloc: Global, line: &[u8]) -> Result<Option<Refusal>, Fail> {
     let Ok(text) = std::str::from_utf8(line) else {
         return Ok(found);
     };
-    if let Some(text) = printed(alloc, text)?
-        && refusal_as_spelled(alloc, text.as_bytes())? != found
-    {
-        return Err(Fail::from("in the service's own spelling it is read otherwise"));
+    if let Some(text) = printed(alloc, text)? {
+        if refusal_as_spelled(alloc, text.as_bytes())? != found {
+            return Err(Fail::from("in the service's own spelling it is read otherwise"));
+        }
+        let text = spaced(alloc, text.as_bytes())?;
+        if refusal_as_spelled(alloc, text.as_slice())? != found {
+            return Err(Fail::from("with its members in order and spaces it is read otherwise"));
+        }
     }
     Ok(found)
 }

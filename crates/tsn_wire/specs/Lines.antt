@@ -1,0 +1,137 @@
+-- The members of command lines.
+use Rattle.std.specs.Prelude.{◌≡◌, ℕ, List, [], ◌∷◌, option_map, codes, ⊤}
+use Rattle.serde_json.specs.Data.{Data, boolean, string, Members, no_members, member}
+use Rattle.tsn_types.specs.declared.keys.Kind.{Kind}
+use Rattle.tsn_types.specs.declared.keys.Kind.TheVariants as kinds
+use Rattle.tsn_records.specs.Json.{members_len}
+use Rattle.tsn_records.specs.Keys.{kind_text, spelled_key}
+use Rattle.tsn_records.specs.Shown.{whole_data}
+use Rattle.tsn_records.specs.declared.drafts.KeyDraft.{KeyDraft}
+use Rattle.tsn_records.specs.declared.drafts.RecordDraft.{RecordDraft}
+use Rattle.tsn_records.specs.declared.drafts.RecordDraft.TheVariants as records
+use Rattle.tsn_wire.specs.Members.{Rows}
+use Rattle.tsn_wire.specs.Rows.{AllTold}
+use Rattle.tsn_wire.specs.Spelled.{record_value, IsKey, IsNoPort}
+use Rattle.tsn_wire.specs.Values.{MayHaveList}
+use Rattle.tsn_wire.specs.Words.{word_text}
+use Rattle.tsn_wire.specs.declared.any_line.LineMembers.{LineMembers}
+use Rattle.tsn_wire.specs.declared.drafts.CommandDraft.{CommandDraft}
+use Rattle.tsn_wire.specs.declared.drafts.CommandDraft.TheVariants.{Create, Replace, Remove, Undo, UndoAll, Redo, Enable, Disable, Apply, Frame, States, Counters, Show, List as ListKind, Since}
+use Rattle.tsn_wire.specs.declared.drafts.FrameDraft.{FrameDraft}
+use Rattle.tsn_wire.specs.declared.drafts.LineDraft.{LineDraft}
+use Rattle.tsn_wire.specs.declared.drafts.LineDraft.TheVariants.{Hello, Session}
+
+-- a key as a value
+abbrev pub key_value : KeyDraft → Data
+key_value k = string (spelled_key k.kind k.number)
+
+-- the names that a line may have, each with its value where that was read
+abbrev pub line_rows : LineMembers → Rows
+line_rows m =
+    (codes "after", option_map whole_data m.after) ∷
+    (codes "at", option_map whole_data m.at) ∷
+    (codes "do", option_map (λ w. string (word_text w)) m.word) ∷
+    (codes "handle", option_map whole_data m.handle) ∷
+    (codes "key", option_map key_value m.key) ∷
+    (codes "kind", option_map (λ k. string (kind_text k)) m.kind) ∷
+    (codes "now", option_map whole_data m.now) ∷
+    (codes "octets", option_map whole_data m.octets) ∷
+    (codes "priority", option_map whole_data m.priority) ∷
+    (codes "record", option_map record_value m.record) ∷
+    (codes "s", option_map whole_data m.session) ∷
+    (codes "yellow", option_map boolean m.yellow) ∷ []
+
+-- a record of that kind
+abbrev pub IsOf : Kind → RecordDraft → Type 0
+IsOf kinds.Port (records.Port r) = ⊤
+IsOf kinds.Filter (records.Filter r) = ⊤
+IsOf kinds.Gate (records.Gate r) = ⊤
+IsOf kinds.Meter (records.Meter r) = ⊤
+IsOf kinds.Port r = ⊥
+IsOf kinds.Filter r = ⊥
+IsOf kinds.Gate r = ⊥
+IsOf kinds.Meter r = ⊥
+
+-- The members of each line in ascending order of their names: `{"do":WORD,"s":S}` and with a key, with a record, with an instant.
+abbrev pub bare_members : List ℕ → ℕ → Members
+bare_members word s = member (codes "do") (string word) (member (codes "s") (whole_data s) no_members)
+
+abbrev pub keyed_members : List ℕ → ℕ → KeyDraft → Members
+keyed_members word s key = member (codes "do") (string word) (member (codes "key") (key_value key) (member (codes "s") (whole_data s) no_members))
+
+abbrev pub edit_members : List ℕ → ℕ → KeyDraft → RecordDraft → Members
+edit_members word s key value =
+    member (codes "do") (string word) (member (codes "key") (key_value key) (member (codes "record") (record_value value) (member (codes "s") (whole_data s) no_members)))
+
+abbrev pub act_members : List ℕ → ℕ → KeyDraft → ℕ → Members
+act_members word s key now =
+    member (codes "do") (string word) (member (codes "key") (key_value key) (member (codes "now") (whole_data now) (member (codes "s") (whole_data s) no_members)))
+
+abbrev pub states_members : ℕ → KeyDraft → ℕ → Members
+states_members s key at =
+    member (codes "at") (whole_data at) (member (codes "do") (string (codes "states")) (member (codes "key") (key_value key) (member (codes "s") (whole_data s) no_members)))
+
+abbrev pub frame_members : ℕ → FrameDraft → ℕ → Members
+frame_members s frame now =
+    member (codes "do") (string (codes "frame"))
+    (member (codes "handle") (whole_data frame.handle)
+    (member (codes "now") (whole_data now)
+    (member (codes "octets") (whole_data frame.octets)
+    (member (codes "priority") (whole_data frame.priority)
+    (member (codes "s") (whole_data s)
+    (member (codes "yellow") (boolean frame.yellow) no_members))))))
+
+abbrev pub list_members : ℕ → Kind → Members
+list_members s kind = member (codes "do") (string (codes "list")) (member (codes "kind") (string (kind_text kind)) (member (codes "s") (whole_data s) no_members))
+
+abbrev pub since_members : ℕ → ℕ → Members
+since_members s after = member (codes "after") (whole_data after) (member (codes "do") (string (codes "since")) (member (codes "s") (whole_data s) no_members))
+
+abbrev pub command_members : ℕ → CommandDraft → Members
+command_members s (Create key value) = edit_members (codes "create") s key value
+command_members s (Replace key value) = edit_members (codes "replace") s key value
+command_members s (Remove key) = keyed_members (codes "remove") s key
+command_members s Undo = bare_members (codes "undo") s
+command_members s UndoAll = bare_members (codes "undo_all") s
+command_members s Redo = bare_members (codes "redo") s
+command_members s (Enable key now) = act_members (codes "enable") s key now
+command_members s (Disable key now) = act_members (codes "disable") s key now
+command_members s (Apply key now) = act_members (codes "apply") s key now
+command_members s (Frame frame now) = frame_members s frame now
+command_members s (States key at) = states_members s key at
+command_members s (Counters key) = keyed_members (codes "counters") s key
+command_members s (Show key) = keyed_members (codes "show") s key
+command_members s (ListKind kind) = list_members s kind
+command_members s (Since after) = since_members s after
+
+abbrev pub line_members : LineDraft → Members
+line_members Hello = member (codes "do") (string (codes "hello")) no_members
+line_members (Session s command) = command_members s command
+
+-- a key that some table may have, and what its kind must be
+abbrev pub IsSound : CommandDraft → Type 0
+IsSound (Create key value) = IsKey key × IsOf key.kind value
+IsSound (Replace key value) = IsKey key × IsOf key.kind value
+IsSound (Remove key) = IsKey key × IsNoPort key.kind
+IsSound Undo = ⊤
+IsSound UndoAll = ⊤
+IsSound Redo = ⊤
+IsSound (Enable key now) = IsKey key × MayHaveList key.kind
+IsSound (Disable key now) = IsKey key × MayHaveList key.kind
+IsSound (Apply key now) = IsKey key × MayHaveList key.kind
+IsSound (Frame frame now) = ⊤
+IsSound (States key at) = IsKey key × MayHaveList key.kind
+IsSound (Counters key) = IsKey key
+IsSound (Show key) = IsKey key
+IsSound (ListKind kind) = ⊤
+IsSound (Since after) = ⊤
+
+abbrev pub IsSoundLine : LineDraft → Type 0
+IsSoundLine Hello = ⊤
+IsSoundLine (Session s command) = IsSound command
+
+-- so many members were read, which are just those of this line
+pub record IsLine (rows : Rows) (count : ℕ) (draft : LineDraft) : Type 0 where
+  pub told : AllTold rows (line_members draft)
+  pub len : count ≡ members_len (line_members draft)
+  pub sound : IsSoundLine draft

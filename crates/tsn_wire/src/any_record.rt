@@ -1,0 +1,313 @@
+//! Records whose members come in any order.
+ghost use Rattle.std.specs.Prelude.{◌≡◌, true, IfSome};
+ghost use Rattle.tsn_records.specs.Shown.{list_array};
+ghost use Rattle.tsn_wire.specs.Lexed.{lexed, ReadsValue};
+ghost use Rattle.tsn_wire.specs.Rows.{port_rows, filter_rows, gate_rows, meter_rows, AllTold, members_of};
+ghost use Rattle.tsn_wire.specs.Spelled.{port_value, filter_value, gate_value, meter_value, record_value};
+
+use crate::cursor::Cursor;
+use crate::members::{Gathered, members, slot};
+use std::alloc::Global;
+use tsn_records::drafts::{
+    FilterDraft, GateDraft, GateEntryDraft, MeterDraft, PortDraft, PortEntryDraft, RecordDraft,
+    ScheduleDraft,
+};
+use tsn_types::keys::Kind;
+use tsn_types::lists::ControlList;
+
+/// The members of a port's record, as far as they were read.
+#[derive(Drop)]
+pub struct PortMembers {
+    pub base: Option<u64>,
+    pub cycle: Option<u64>,
+    pub extension: Option<u64>,
+    pub gates: Option<u64>,
+    pub list: Option<ControlList<PortEntryDraft>>,
+}
+
+impl Gathered for PortMembers {
+    ghost rows = { port_rows };
+
+    ghost nesting = { 2 };
+
+    fn none() -> PortMembers {
+        PortMembers {
+            base: None,
+            cycle: None,
+            extension: None,
+            gates: None,
+            list: None,
+        }
+    }
+
+    #[tactic(auto, using(crate::proofs::Gathering::row_filled))]
+    fn member(&mut self, alloc: Global, text: &mut Cursor<'_>) -> Option<()> {
+        match text.letters() {
+            (b'b', _) => slot(alloc, text, "base", &mut self.base),
+            (b'c', _) => slot(alloc, text, "cycle", &mut self.cycle),
+            (b'e', _) => slot(alloc, text, "extension", &mut self.extension),
+            (b'g', _) => slot(alloc, text, "gates", &mut self.gates),
+            (b'l', _) => slot(alloc, text, "list", &mut self.list),
+            _ => None,
+        }
+    }
+}
+
+/// The members of a filter's record, as far as they were read.
+#[derive(Drop)]
+pub struct FilterMembers {
+    pub gate: Option<u64>,
+    pub handle: Option<Option<u64>>,
+    pub max_sdu: Option<Option<u64>>,
+    pub meter: Option<Option<u64>>,
+    pub oversize: Option<bool>,
+    pub priority: Option<Option<u64>>,
+}
+
+impl Gathered for FilterMembers {
+    ghost rows = { filter_rows };
+
+    ghost nesting = { 2 };
+
+    fn none() -> FilterMembers {
+        FilterMembers {
+            gate: None,
+            handle: None,
+            max_sdu: None,
+            meter: None,
+            oversize: None,
+            priority: None,
+        }
+    }
+
+    #[tactic(auto, using(crate::proofs::Gathering::row_filled))]
+    fn member(&mut self, alloc: Global, text: &mut Cursor<'_>) -> Option<()> {
+        match text.letters() {
+            (b'g', _) => slot(alloc, text, "gate", &mut self.gate),
+            (b'h', _) => slot(alloc, text, "handle", &mut self.handle),
+            (b'm', b'a') => slot(alloc, text, "max_sdu", &mut self.max_sdu),
+            (b'm', _) => slot(alloc, text, "meter", &mut self.meter),
+            (b'o', _) => slot(alloc, text, "oversize", &mut self.oversize),
+            (b'p', _) => slot(alloc, text, "priority", &mut self.priority),
+            _ => None,
+        }
+    }
+}
+
+/// The members of a gate's record, as far as they were read.
+#[derive(Drop)]
+pub struct GateMembers {
+    pub base: Option<u64>,
+    pub cycle: Option<u64>,
+    pub extension: Option<u64>,
+    pub invalid_rx: Option<bool>,
+    pub ipv: Option<Option<u64>>,
+    pub list: Option<ControlList<GateEntryDraft>>,
+    pub octets_exceeded: Option<bool>,
+    pub open: Option<bool>,
+}
+
+impl Gathered for GateMembers {
+    ghost rows = { gate_rows };
+
+    ghost nesting = { 2 };
+
+    fn none() -> GateMembers {
+        GateMembers {
+            base: None,
+            cycle: None,
+            extension: None,
+            invalid_rx: None,
+            ipv: None,
+            list: None,
+            octets_exceeded: None,
+            open: None,
+        }
+    }
+
+    #[tactic(auto, using(crate::proofs::Gathering::row_filled))]
+    fn member(&mut self, alloc: Global, text: &mut Cursor<'_>) -> Option<()> {
+        match text.letters() {
+            (b'b', _) => slot(alloc, text, "base", &mut self.base),
+            (b'c', _) => slot(alloc, text, "cycle", &mut self.cycle),
+            (b'e', _) => slot(alloc, text, "extension", &mut self.extension),
+            (b'i', b'n') => slot(alloc, text, "invalid_rx", &mut self.invalid_rx),
+            (b'i', _) => slot(alloc, text, "ipv", &mut self.ipv),
+            (b'l', _) => slot(alloc, text, "list", &mut self.list),
+            (b'o', b'c') => slot(alloc, text, "octets_exceeded", &mut self.octets_exceeded),
+            (b'o', _) => slot(alloc, text, "open", &mut self.open),
+            _ => None,
+        }
+    }
+}
+
+/// The members of a meter's record, as far as they were read.
+#[derive(Drop)]
+pub struct MeterMembers {
+    pub all_red: Option<bool>,
+    pub aware: Option<bool>,
+    pub cbs: Option<u64>,
+    pub cf: Option<bool>,
+    pub cir: Option<u64>,
+    pub drop_yellow: Option<bool>,
+    pub ebs: Option<u64>,
+    pub eir: Option<u64>,
+}
+
+impl Gathered for MeterMembers {
+    ghost rows = { meter_rows };
+
+    ghost nesting = { 2 };
+
+    fn none() -> MeterMembers {
+        MeterMembers {
+            all_red: None,
+            aware: None,
+            cbs: None,
+            cf: None,
+            cir: None,
+            drop_yellow: None,
+            ebs: None,
+            eir: None,
+        }
+    }
+
+    #[tactic(auto, using(crate::proofs::Gathering::row_filled))]
+    fn member(&mut self, alloc: Global, text: &mut Cursor<'_>) -> Option<()> {
+        match text.letters() {
+            (b'a', b'l') => slot(alloc, text, "all_red", &mut self.all_red),
+            (b'a', _) => slot(alloc, text, "aware", &mut self.aware),
+            (b'c', b'b') => slot(alloc, text, "cbs", &mut self.cbs),
+            (b'c', b'f') => slot(alloc, text, "cf", &mut self.cf),
+            (b'c', _) => slot(alloc, text, "cir", &mut self.cir),
+            (b'd', _) => slot(alloc, text, "drop_yellow", &mut self.drop_yellow),
+            (b'e', b'b') => slot(alloc, text, "ebs", &mut self.ebs),
+            (b'e', _) => slot(alloc, text, "eir", &mut self.eir),
+            _ => None,
+        }
+    }
+}
+
+fn port_of(found: PortMembers) -> Option<PortDraft>
+    ensures { IfSome result (λ r. AllTold (port_rows found) (members_of (port_value r))) }
+{
+    let gates = found.gates?;
+    let list = found.list?;
+    let cycle = found.cycle?;
+    let extension = found.extension?;
+    let base = found.base?;
+    Some(PortDraft {
+        gates,
+        admin: ScheduleDraft {
+            list,
+            cycle,
+            extension,
+            base,
+        },
+    })
+}
+
+fn filter_of(found: FilterMembers) -> Option<FilterDraft>
+    ensures { IfSome result (λ r. AllTold (filter_rows found) (members_of (filter_value r))) }
+{
+    Some(FilterDraft {
+        handle: found.handle?,
+        priority: found.priority?,
+        gate: found.gate?,
+        max_sdu: found.max_sdu?,
+        meter: found.meter?,
+        oversize: found.oversize?,
+    })
+}
+
+fn gate_of(found: GateMembers) -> Option<GateDraft>
+    ensures { IfSome result (λ r. AllTold (gate_rows found) (members_of (gate_value r))) }
+{
+    let is_open = found.open?;
+    let ipv = found.ipv?;
+    let list = found.list?;
+    let cycle = found.cycle?;
+    let extension = found.extension?;
+    let base = found.base?;
+    let invalid_rx = found.invalid_rx?;
+    let octets_exceeded = found.octets_exceeded?;
+    Some(GateDraft {
+        is_open,
+        ipv,
+        admin: ScheduleDraft {
+            list,
+            cycle,
+            extension,
+            base,
+        },
+        invalid_rx,
+        octets_exceeded,
+    })
+}
+
+fn meter_of(found: MeterMembers) -> Option<MeterDraft>
+    ensures { IfSome result (λ r. AllTold (meter_rows found) (members_of (meter_value r))) }
+{
+    Some(MeterDraft {
+        cir: found.cir?,
+        cbs: found.cbs?,
+        eir: found.eir?,
+        ebs: found.ebs?,
+        cf: found.cf?,
+        aware: found.aware?,
+        drop_yellow: found.drop_yellow?,
+        all_red: found.all_red?,
+    })
+}
+
+fn port(alloc: Global, text: &mut Cursor<'_>) -> Option<PortDraft>
+    ensures { IfSome result (λ r. ReadsValue 3 (lexed text.old) (port_value r) (lexed text.new)) }
+{
+    let (found, count) = members::<PortMembers>(alloc, text)?;
+    if count != 5 {
+        return None;
+    }
+    port_of(found)
+}
+
+fn filter(alloc: Global, text: &mut Cursor<'_>) -> Option<FilterDraft>
+    ensures { IfSome result (λ r. ReadsValue 3 (lexed text.old) (filter_value r) (lexed text.new)) }
+{
+    let (found, count) = members::<FilterMembers>(alloc, text)?;
+    if count != 6 {
+        return None;
+    }
+    filter_of(found)
+}
+
+fn gate(alloc: Global, text: &mut Cursor<'_>) -> Option<GateDraft>
+    ensures { IfSome result (λ r. ReadsValue 3 (lexed text.old) (gate_value r) (lexed text.new)) }
+{
+    let (found, count) = members::<GateMembers>(alloc, text)?;
+    if count != 8 {
+        return None;
+    }
+    gate_of(found)
+}
+
+fn meter(alloc: Global, text: &mut Cursor<'_>) -> Option<MeterDraft>
+    ensures { IfSome result (λ r. ReadsValue 3 (lexed text.old) (meter_value r) (lexed text.new)) }
+{
+    let (found, count) = members::<MeterMembers>(alloc, text)?;
+    if count != 8 {
+        return None;
+    }
+    meter_of(found)
+}
+
+/// A record of that kind.
+pub fn record(alloc: Global, kind: Kind, text: &mut Cursor<'_>) -> Option<RecordDraft>
+    ensures { IfSome result (λ r. ReadsValue 3 (lexed text.old) (record_value r) (lexed text.new)) }
+{
+    match kind {
+        Kind::Port => Some(RecordDraft::Port(port(alloc, text)?)),
+        Kind::Filter => Some(RecordDraft::Filter(filter(alloc, text)?)),
+        Kind::Gate => Some(RecordDraft::Gate(gate(alloc, text)?)),
+        Kind::Meter => Some(RecordDraft::Meter(meter(alloc, text)?)),
+    }
+}

@@ -1,0 +1,76 @@
+//! Objects whose members may come in any order, each once.
+ghost use Rattle.std.specs.Prelude.{◌≡◌, ℕ, true, IfSome, option_map};
+ghost use Rattle.tsn_wire.specs.Lexed.{lexed, is_bare};
+ghost use Rattle.tsn_wire.specs.Members.{Rows, AreOpen, Fills, ReadsMember, ReadsMembers};
+
+use crate::cursor::Cursor;
+use crate::values::Scanned;
+use std::alloc::Global;
+
+/// The members of an object, as far as they were read.
+pub trait Gathered: Drop {
+    ghost rows: { Self → Rows };
+
+    // how many brackets a value may have in one another
+    ghost nesting: { ℕ };
+
+    fn none() -> Self
+        ensures { AreOpen (rows result) };
+
+    /// Reads the next member; None where it is none that may come, or came before.
+    fn member(&mut self, alloc: Global, text: &mut Cursor<'_>) -> Option<()>
+        ensures { IfSome result (λ _. ReadsMember nesting (lexed text.old) (rows self.old)
+            (rows self.new) (lexed text.new)) };
+}
+
+// No object has more members.
+const MOST: u32 = 12;
+
+/// An object, and how many members it has.
+pub fn members<M: Gathered>(alloc: Global, text: &mut Cursor<'_>) -> Option<(M, u32)>
+    ensures { IfSome result (λ p. ReadsMembers M.nesting (lexed text.old) (M.rows p.0) p.1
+        (lexed text.new)) }
+{
+    if !text.mark(b'{') {
+        return None;
+    }
+    let mut found = M::none();
+    let mut count: u32 = 0;
+    'members: while count < MOST {
+        text.skip();
+        found.member(alloc, text)?;
+        count += 1;
+        if text.mark(b'}') {
+            return Some((found, count));
+        }
+        if !text.mark(b',') {
+            return None;
+        }
+    }
+    None
+}
+
+/// Reads the member of that name, which must come next and for the first time.
+pub fn slot<V: Scanned>(
+    alloc: Global,
+    text: &mut Cursor<'_>,
+    name: &str,
+    slot: &mut Option<V>,
+) -> Option<()>
+    requires { is_bare name.now ≡ true }
+    ensures { IfSome result (λ _. Fills 2 (lexed text.old) name.now
+        (option_map V.value slot.old) (option_map V.value slot.new) (lexed text.new)) }
+{
+    if slot.is_some() {
+        return None;
+    }
+    if !text.quoted(name) {
+        return None;
+    }
+    if !text.mark(b':') {
+        return None;
+    }
+    let value = V::scanned(alloc, text)?;
+    *slot = Some(value);
+    Some(())
+}
