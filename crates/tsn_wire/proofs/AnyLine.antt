@@ -53,20 +53,20 @@ counters_line m count s key w e k x len = record { told = (word_row m words.Coun
 pub show_line : (m : LineMembers) (count s : ℕ) (key : KeyDraft) → m.word ≡ Some words.Show → m.session ≡ Some s → IsKey key → m.key ≡ Some key → count ≡ 3 → IsLine (line_rows m) count (Session s (wanted.Show key))
 show_line m count s key w e k x len = record { told = (word_row m words.Show w, (key_row m key x, (session_row m s e, tt))); len = len; sound = k }
 
-pub enable_line : (m : LineMembers) (count s : ℕ) (key : KeyDraft) (now : ℕ) → m.word ≡ Some words.Enable → m.session ≡ Some s → IsKey key → MayHaveList key.kind → m.key ≡ Some key → m.now ≡ Some now → count ≡ 4 → IsLine (line_rows m) count (Session s (wanted.Enable key now))
-enable_line m count s key now w e k r x y len = record { told = (word_row m words.Enable w, (key_row m key x, (row_is whole_data m.now now y, (session_row m s e, tt)))); len = len; sound = (k, r) }
+pub enable_line : (m : LineMembers) (count s : ℕ) (key : KeyDraft) (now : ℕ) → m.word ≡ Some words.Enable → m.session ≡ Some s → IsKey key → MayHaveList key.kind → m.key ≡ Some key → m.instant ≡ Some now → count ≡ 4 → IsLine (line_rows m) count (Session s (wanted.Enable key now))
+enable_line m count s key now w e k r x y len = record { told = (word_row m words.Enable w, (key_row m key x, (row_is whole_data m.instant now y, (session_row m s e, tt)))); len = len; sound = (k, r) }
 
-pub disable_line : (m : LineMembers) (count s : ℕ) (key : KeyDraft) (now : ℕ) → m.word ≡ Some words.Disable → m.session ≡ Some s → IsKey key → MayHaveList key.kind → m.key ≡ Some key → m.now ≡ Some now → count ≡ 4 → IsLine (line_rows m) count (Session s (wanted.Disable key now))
-disable_line m count s key now w e k r x y len = record { told = (word_row m words.Disable w, (key_row m key x, (row_is whole_data m.now now y, (session_row m s e, tt)))); len = len; sound = (k, r) }
+pub disable_line : (m : LineMembers) (count s : ℕ) (key : KeyDraft) (now : ℕ) → m.word ≡ Some words.Disable → m.session ≡ Some s → IsKey key → MayHaveList key.kind → m.key ≡ Some key → m.instant ≡ Some now → count ≡ 4 → IsLine (line_rows m) count (Session s (wanted.Disable key now))
+disable_line m count s key now w e k r x y len = record { told = (word_row m words.Disable w, (key_row m key x, (row_is whole_data m.instant now y, (session_row m s e, tt)))); len = len; sound = (k, r) }
 
-pub apply_line : (m : LineMembers) (count s : ℕ) (key : KeyDraft) (now : ℕ) → m.word ≡ Some words.Apply → m.session ≡ Some s → IsKey key → MayHaveList key.kind → m.key ≡ Some key → m.now ≡ Some now → count ≡ 4 → IsLine (line_rows m) count (Session s (wanted.Apply key now))
-apply_line m count s key now w e k r x y len = record { told = (word_row m words.Apply w, (key_row m key x, (row_is whole_data m.now now y, (session_row m s e, tt)))); len = len; sound = (k, r) }
+pub apply_line : (m : LineMembers) (count s : ℕ) (key : KeyDraft) (now : ℕ) → m.word ≡ Some words.Apply → m.session ≡ Some s → IsKey key → MayHaveList key.kind → m.key ≡ Some key → m.instant ≡ Some now → count ≡ 4 → IsLine (line_rows m) count (Session s (wanted.Apply key now))
+apply_line m count s key now w e k r x y len = record { told = (word_row m words.Apply w, (key_row m key x, (row_is whole_data m.instant now y, (session_row m s e, tt)))); len = len; sound = (k, r) }
 
 pub states_line : (m : LineMembers) (count s : ℕ) (key : KeyDraft) (at : ℕ) → m.word ≡ Some words.States → m.session ≡ Some s → IsKey key → MayHaveList key.kind → m.key ≡ Some key → m.at ≡ Some at → count ≡ 4 → IsLine (line_rows m) count (Session s (wanted.States key at))
 states_line m count s key at w e k r x y len = record { told = (row_is whole_data m.at at y, (word_row m words.States w, (key_row m key x, (session_row m s e, tt)))); len = len; sound = (k, r) }
 
-pub frame_line : (m : LineMembers) (count s : ℕ) (handle : ℕ) (priority : ℕ) (octets : ℕ) (yellow : Bool) (now : ℕ) → m.word ≡ Some words.Frame → m.session ≡ Some s → m.handle ≡ Some handle → m.priority ≡ Some priority → m.octets ≡ Some octets → m.yellow ≡ Some yellow → m.now ≡ Some now → count ≡ 7 → IsLine (line_rows m) count (Session s (wanted.Frame (record { handle = handle; priority = priority; octets = octets; yellow = yellow }) now))
-frame_line m count s handle priority octets yellow now w e h p o y n len = record { told = (word_row m words.Frame w, (row_is whole_data m.handle handle h, (row_is whole_data m.now now n, (row_is whole_data m.octets octets o, (row_is whole_data m.priority priority p, (session_row m s e, (row_is boolean m.yellow yellow y, tt))))))); len = len; sound = tt }
+pub frame_line : (m : LineMembers) (count s : ℕ) (handle : ℕ) (priority : ℕ) (octets : ℕ) (yellow : Bool) (now : ℕ) → m.word ≡ Some words.Frame → m.session ≡ Some s → m.handle ≡ Some handle → m.priority ≡ Some priority → m.octets ≡ Some octets → m.yellow ≡ Some yellow → m.instant ≡ Some now → count ≡ 7 → IsLine (line_rows m) count (Session s (wanted.Frame (record { handle = handle; priority = priority; octets = octets; yellow = yellow }) now))
+frame_line m count s handle priority octets yellow now w e h p o y n len = record { told = (word_row m words.Frame w, (row_is whole_data m.handle handle h, (row_is whole_data m.instant now n, (row_is whole_data m.octets octets o, (row_is whole_data m.priority priority p, (session_row m s e, (row_is boolean m.yellow yellow y, tt))))))); len = len; sound = tt }
 
 pub list_line : (m : LineMembers) (count s : ℕ) (kind : Kind) → m.word ≡ Some words.List → m.session ≡ Some s → m.kind ≡ Some kind → count ≡ 3 → IsLine (line_rows m) count (Session s (wanted.List kind))
 list_line m count s kind w e x len = record { told = (word_row m words.List w, (row_is (λ k. string (kind_text k)) m.kind kind x, (session_row m s e, tt))); len = len; sound = tt }

@@ -34,7 +34,7 @@ line_rows m =
     (codes "handle", option_map whole_data m.handle) ∷
     (codes "key", option_map key_value m.key) ∷
     (codes "kind", option_map (λ k. string (kind_text k)) m.kind) ∷
-    (codes "now", option_map whole_data m.now) ∷
+    (codes "now", option_map whole_data m.instant) ∷
     (codes "octets", option_map whole_data m.octets) ∷
     (codes "priority", option_map whole_data m.priority) ∷
     (codes "record", option_map record_value m.record) ∷

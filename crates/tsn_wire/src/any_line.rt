@@ -25,7 +25,7 @@ pub struct LineMembers {
     pub handle: Option<u64>,
     pub key: Option<KeyDraft>,
     pub kind: Option<Kind>,
-    pub now: Option<u64>,
+    pub instant: Option<u64>,
     pub octets: Option<u64>,
     pub priority: Option<u64>,
     pub record: Option<RecordDraft>,
@@ -70,7 +70,7 @@ impl Gathered for LineMembers {
             handle: None,
             key: None,
             kind: None,
-            now: None,
+            instant: None,
             octets: None,
             priority: None,
             record: None,
@@ -86,7 +86,7 @@ impl Gathered for LineMembers {
             (b's', _) => slot(alloc, text, "s", &mut self.session),
             (b'k', b'e') => slot(alloc, text, "key", &mut self.key),
             (b'r', _) => record_slot(alloc, text, self.key, &mut self.record),
-            (b'n', _) => slot(alloc, text, "now", &mut self.now),
+            (b'n', _) => slot(alloc, text, "now", &mut self.instant),
             (b'h', _) => slot(alloc, text, "handle", &mut self.handle),
             (b'p', _) => slot(alloc, text, "priority", &mut self.priority),
             (b'o', _) => slot(alloc, text, "octets", &mut self.octets),
@@ -162,8 +162,8 @@ fn keyed_record(
 
 // A command that names nothing.
 #[tactic(auto, using(crate::proofs::AnyLine::undo_line, crate::proofs::AnyLine::undo_all_line, crate::proofs::AnyLine::redo_line))]
-fn bare_line(found: LineMembers, count: u32) -> Option<LineDraft>
-    ensures { IfSome result (IsLine (line_rows found) count) }
+fn bare_line(found: &LineMembers, count: u32) -> Option<LineDraft>
+    ensures { IfSome result (IsLine (line_rows found.now) count) }
 {
     let word = found.word?;
     let session = found.session?;
@@ -213,8 +213,8 @@ fn edit_line(found: LineMembers, count: u32) -> Option<LineDraft>
 
 // A key that can be removed.
 #[tactic(auto, using(crate::proofs::AnyLine::remove_line))]
-fn remove_line(found: LineMembers, count: u32) -> Option<LineDraft>
-    ensures { IfSome result (IsLine (line_rows found) count) }
+fn remove_line(found: &LineMembers, count: u32) -> Option<LineDraft>
+    ensures { IfSome result (IsLine (line_rows found.now) count) }
 {
     let word = found.word?;
     let session = found.session?;
@@ -233,8 +233,8 @@ fn remove_line(found: LineMembers, count: u32) -> Option<LineDraft>
 
 // A key of any kind.
 #[tactic(auto, using(crate::proofs::AnyLine::counters_line, crate::proofs::AnyLine::show_line))]
-fn look_line(found: LineMembers, count: u32) -> Option<LineDraft>
-    ensures { IfSome result (IsLine (line_rows found) count) }
+fn look_line(found: &LineMembers, count: u32) -> Option<LineDraft>
+    ensures { IfSome result (IsLine (line_rows found.now) count) }
 {
     let word = found.word?;
     let session = found.session?;
@@ -257,13 +257,13 @@ fn look_line(found: LineMembers, count: u32) -> Option<LineDraft>
 
 // A key that has a list, and an instant.
 #[tactic(auto, using(crate::proofs::AnyLine::enable_line, crate::proofs::AnyLine::disable_line, crate::proofs::AnyLine::apply_line))]
-fn act_line(found: LineMembers, count: u32) -> Option<LineDraft>
-    ensures { IfSome result (IsLine (line_rows found) count) }
+fn act_line(found: &LineMembers, count: u32) -> Option<LineDraft>
+    ensures { IfSome result (IsLine (line_rows found.now) count) }
 {
     let word = found.word?;
     let session = found.session?;
     let key = listed_key(found.key)?;
-    let now = found.now?;
+    let now = found.instant?;
     if count != 4 {
         return None;
     }
@@ -286,8 +286,8 @@ fn act_line(found: LineMembers, count: u32) -> Option<LineDraft>
 
 // A key that has a list, and the instant of the look.
 #[tactic(auto, using(crate::proofs::AnyLine::states_line))]
-fn states_line(found: LineMembers, count: u32) -> Option<LineDraft>
-    ensures { IfSome result (IsLine (line_rows found) count) }
+fn states_line(found: &LineMembers, count: u32) -> Option<LineDraft>
+    ensures { IfSome result (IsLine (line_rows found.now) count) }
 {
     let word = found.word?;
     let session = found.session?;
@@ -307,8 +307,8 @@ fn states_line(found: LineMembers, count: u32) -> Option<LineDraft>
 
 // A frame's members.
 #[tactic(auto, using(crate::proofs::AnyLine::frame_line))]
-fn frame_line(found: LineMembers, count: u32) -> Option<LineDraft>
-    ensures { IfSome result (IsLine (line_rows found) count) }
+fn frame_line(found: &LineMembers, count: u32) -> Option<LineDraft>
+    ensures { IfSome result (IsLine (line_rows found.now) count) }
 {
     let word = found.word?;
     let session = found.session?;
@@ -316,7 +316,7 @@ fn frame_line(found: LineMembers, count: u32) -> Option<LineDraft>
     let priority = found.priority?;
     let octets = found.octets?;
     let yellow = found.yellow?;
-    let now = found.now?;
+    let now = found.instant?;
     if count != 7 {
         return None;
     }
@@ -337,8 +337,8 @@ fn frame_line(found: LineMembers, count: u32) -> Option<LineDraft>
 
 // A kind of records.
 #[tactic(auto, using(crate::proofs::AnyLine::list_line))]
-fn list_line(found: LineMembers, count: u32) -> Option<LineDraft>
-    ensures { IfSome result (IsLine (line_rows found) count) }
+fn list_line(found: &LineMembers, count: u32) -> Option<LineDraft>
+    ensures { IfSome result (IsLine (line_rows found.now) count) }
 {
     let word = found.word?;
     let session = found.session?;
@@ -357,8 +357,8 @@ fn list_line(found: LineMembers, count: u32) -> Option<LineDraft>
 
 // The number after which entries are asked for.
 #[tactic(auto, using(crate::proofs::AnyLine::since_line))]
-fn since_line(found: LineMembers, count: u32) -> Option<LineDraft>
-    ensures { IfSome result (IsLine (line_rows found) count) }
+fn since_line(found: &LineMembers, count: u32) -> Option<LineDraft>
+    ensures { IfSome result (IsLine (line_rows found.now) count) }
 {
     let word = found.word?;
     let session = found.session?;
@@ -377,8 +377,8 @@ fn since_line(found: LineMembers, count: u32) -> Option<LineDraft>
 
 // A hello has no other member.
 #[tactic(auto, using(crate::proofs::AnyLine::hello_line))]
-fn hello_line(found: LineMembers, count: u32) -> Option<LineDraft>
-    ensures { IfSome result (IsLine (line_rows found) count) }
+fn hello_line(found: &LineMembers, count: u32) -> Option<LineDraft>
+    ensures { IfSome result (IsLine (line_rows found.now) count) }
 {
     let word = found.word?;
     if count != 1 {
@@ -396,15 +396,15 @@ fn line_draft(found: LineMembers, count: u32) -> Option<LineDraft>
     let word = found.word?;
     match word {
         Word::Create | Word::Replace => edit_line(found, count),
-        Word::Undo | Word::UndoAll | Word::Redo => bare_line(found, count),
-        Word::Frame => frame_line(found, count),
-        Word::States => states_line(found, count),
-        Word::Enable | Word::Disable | Word::Apply => act_line(found, count),
-        Word::Remove => remove_line(found, count),
-        Word::Counters | Word::Show => look_line(found, count),
-        Word::List => list_line(found, count),
-        Word::Since => since_line(found, count),
-        Word::Hello => hello_line(found, count),
+        Word::Undo | Word::UndoAll | Word::Redo => bare_line(&found, count),
+        Word::Frame => frame_line(&found, count),
+        Word::States => states_line(&found, count),
+        Word::Enable | Word::Disable | Word::Apply => act_line(&found, count),
+        Word::Remove => remove_line(&found, count),
+        Word::Counters | Word::Show => look_line(&found, count),
+        Word::List => list_line(&found, count),
+        Word::Since => since_line(&found, count),
+        Word::Hello => hello_line(&found, count),
     }
 }
 

@@ -17,7 +17,7 @@ use tsn_types::keys::Kind;
 use tsn_types::lists::ControlList;
 
 /// The word of a command.
-#[derive(Clone, Copy, Debug, PartialEq, Eq)]
+#[derive(Clone, Copy)]
 pub enum Word {
     Hello,
     Create,
