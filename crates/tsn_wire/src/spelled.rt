@@ -286,43 +286,67 @@ fn keyed_record(alloc: Global, text: &mut Cursor<'_>) -> Option<(KeyDraft, Recor
     }
 }
 
+// Which command it may be is guessed from its second and third letter.
 fn command(alloc: Global, text: &mut Cursor<'_>) -> Option<CommandDraft>
     ensures { IfSome result (λ command. Spells text.old command text.new) }
 {
-    if text.take("create\",\"key\":\"") {
-        let (key, value) = keyed_record(alloc, text)?;
-        return Some(CommandDraft::Create { key, value });
-    }
-    if text.take("replace\",\"key\":\"") {
-        let (key, value) = keyed_record(alloc, text)?;
-        return Some(CommandDraft::Replace { key, value });
-    }
-    if text.take("remove\",\"key\":\"") {
-        let key = key(text)?;
-        if key.kind == Kind::Port {
-            return None;
+    match text.letters() {
+        (b'r', b'e') => {
+            text.expect("create\",\"key\":\"")?;
+            let (key, value) = keyed_record(alloc, text)?;
+            Some(CommandDraft::Create { key, value })
         }
-        text.expect("\"")?;
-        return Some(CommandDraft::Remove { key });
+        (b'e', b'p') => {
+            text.expect("replace\",\"key\":\"")?;
+            let (key, value) = keyed_record(alloc, text)?;
+            Some(CommandDraft::Replace { key, value })
+        }
+        (b'n', _) => undo(text),
+        (b'e', b'd') => {
+            text.expect("redo\"")?;
+            Some(CommandDraft::Redo)
+        }
+        _ => look(text),
     }
-    if text.take("show\",\"key\":\"") {
-        let key = key(text)?;
-        text.expect("\"")?;
-        return Some(CommandDraft::Show { key });
-    }
-    if text.take("list\",\"kind\":\"") {
-        let kind = kind(text)?;
-        text.expect("\"")?;
-        return Some(CommandDraft::List { kind });
-    }
+}
+
+fn undo(text: &mut Cursor<'_>) -> Option<CommandDraft>
+    ensures { IfSome result (λ command. Spells text.old command text.new) }
+{
     if text.take("undo_all\"") {
         return Some(CommandDraft::UndoAll);
     }
-    if text.take("redo\"") {
-        return Some(CommandDraft::Redo);
-    }
     text.expect("undo\"")?;
     Some(CommandDraft::Undo)
+}
+
+fn look(text: &mut Cursor<'_>) -> Option<CommandDraft>
+    ensures { IfSome result (λ command. Spells text.old command text.new) }
+{
+    match text.letters() {
+        (b'e', b'm') => {
+            text.expect("remove\",\"key\":\"")?;
+            let key = key(text)?;
+            if key.kind == Kind::Port {
+                return None;
+            }
+            text.expect("\"")?;
+            Some(CommandDraft::Remove { key })
+        }
+        (b'h', _) => {
+            text.expect("show\",\"key\":\"")?;
+            let key = key(text)?;
+            text.expect("\"")?;
+            Some(CommandDraft::Show { key })
+        }
+        (b'i', _) => {
+            text.expect("list\",\"kind\":\"")?;
+            let kind = kind(text)?;
+            text.expect("\"")?;
+            Some(CommandDraft::List { kind })
+        }
+        _ => None,
+    }
 }
 
 // What a since asks for, behind its member's name, and the command's word.

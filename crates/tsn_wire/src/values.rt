@@ -141,62 +141,55 @@ fn entries<E: SpelledEntry>(alloc: Global, text: &mut Cursor<'_>) -> Option<Cont
     None
 }
 
-fn command_word(text: &mut Cursor<'_>) -> Option<Word>
+// The word must come next.
+fn named(text: &mut Cursor<'_>, name: &str, word: Word) -> Option<Word>
+    requires { word_text word ≡ name.now }
     ensures { IfSome result (λ w. text.old ≡ word_text w ++ text.new) }
 {
-    if text.take("create") {
-        return Some(Word::Create);
+    text.expect(name)?;
+    Some(word)
+}
+
+// Which word it may be is guessed from its first letters.
+fn command_word(text: &mut Cursor<'_>, letters: (u8, u8)) -> Option<Word>
+    ensures { IfSome result (λ w. text.old ≡ word_text w ++ text.new) }
+{
+    match letters {
+        (b'c', b'r') => named(text, "create", Word::Create),
+        (b'u', _) => undo_word(text),
+        (b'r', _) => other_word(text),
+        (b'f', _) => named(text, "frame", Word::Frame),
+        (b's', b't') => named(text, "states", Word::States),
+        (b's', b'h') => named(text, "show", Word::Show),
+        (b's', _) => named(text, "since", Word::Since),
+        (b'c', _) => named(text, "counters", Word::Counters),
+        (b'e', _) => named(text, "enable", Word::Enable),
+        (b'd', _) => named(text, "disable", Word::Disable),
+        (b'a', _) => named(text, "apply", Word::Apply),
+        (b'l', _) => named(text, "list", Word::List),
+        _ => named(text, "hello", Word::Hello),
     }
+}
+
+fn undo_word(text: &mut Cursor<'_>) -> Option<Word>
+    ensures { IfSome result (λ w. text.old ≡ word_text w ++ text.new) }
+{
+    if text.take("undo_all") {
+        return Some(Word::UndoAll);
+    }
+    named(text, "undo", Word::Undo)
+}
+
+fn other_word(text: &mut Cursor<'_>) -> Option<Word>
+    ensures { IfSome result (λ w. text.old ≡ word_text w ++ text.new) }
+{
     if text.take("replace") {
         return Some(Word::Replace);
     }
     if text.take("remove") {
         return Some(Word::Remove);
     }
-    if text.take("undo_all") {
-        return Some(Word::UndoAll);
-    }
-    if text.take("undo") {
-        return Some(Word::Undo);
-    }
-    if text.take("redo") {
-        return Some(Word::Redo);
-    }
-    late_word(text)
-}
-
-fn late_word(text: &mut Cursor<'_>) -> Option<Word>
-    ensures { IfSome result (λ w. text.old ≡ word_text w ++ text.new) }
-{
-    if text.take("frame") {
-        return Some(Word::Frame);
-    }
-    if text.take("states") {
-        return Some(Word::States);
-    }
-    if text.take("counters") {
-        return Some(Word::Counters);
-    }
-    if text.take("enable") {
-        return Some(Word::Enable);
-    }
-    if text.take("disable") {
-        return Some(Word::Disable);
-    }
-    if text.take("apply") {
-        return Some(Word::Apply);
-    }
-    if text.take("show") {
-        return Some(Word::Show);
-    }
-    if text.take("list") {
-        return Some(Word::List);
-    }
-    if text.take("since") {
-        return Some(Word::Since);
-    }
-    text.expect("hello")?;
-    Some(Word::Hello)
+    named(text, "redo", Word::Redo)
 }
 
 impl Scanned for u64 {
@@ -236,8 +229,9 @@ impl Scanned for Word {
 
     fn scanned(_alloc: Global, text: &mut Cursor<'_>) -> Option<Word> {
         text.skip();
+        let letters = text.letters();
         text.expect("\"")?;
-        let word = command_word(text)?;
+        let word = command_word(text, letters)?;
         text.expect("\"")?;
         Some(word)
     }
