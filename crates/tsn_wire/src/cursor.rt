@@ -127,18 +127,31 @@ impl<'a> Cursor<'a> {
         self.at += leading_space(&self.text[self.at..]);
     }
 
+    // Goes behind the mark, where what is left begins with it.
+    fn pass(&mut self, mark: u8) -> bool
+        requires { is_operator mark ≡ true }
+        ensures took { IsTrue result → lexed self.old ≡ operator_lexeme mark ∷ lexed self.new }
+        ensures kept { result ≡ false → self.new ≡ self.old }
+    {
+        if self.at == self.text.len() || self.text[self.at] != mark {
+            return false;
+        }
+        self.at += 1;
+        true
+    }
+
     /// Goes behind the mark and the white space before it, where what is left begins with them.
     pub fn mark(&mut self, mark: u8) -> bool
         requires { is_operator mark ≡ true }
         ensures took { IsTrue result → lexed self.old ≡ operator_lexeme mark ∷ lexed self.new }
         ensures kept { result ≡ false → lexed self.new ≡ lexed self.old }
     {
-        self.skip();
-        if self.at == self.text.len() || self.text[self.at] != mark {
-            return false;
+        // Most marks have no white space before them.
+        if self.pass(mark) {
+            return true;
         }
-        self.at += 1;
-        true
+        self.skip();
+        self.pass(mark)
     }
 
     /// Goes behind the name in quotes, where what is left begins with it.
