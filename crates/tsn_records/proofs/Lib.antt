@@ -2,3 +2,5 @@ pub mod Counting
 pub mod Digits
 pub mod Entries
 pub mod Escaping
+pub mod RecordRanges
+pub mod Steps

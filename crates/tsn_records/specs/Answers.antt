@@ -28,6 +28,16 @@ abbrev pub or_shape : {A : Type 0} → Option A → Result A Unread
 or_shape None = Err Shape
 or_shape (Some x) = Ok x
 
+-- the same; nothing is a fault of syntax
+abbrev pub or_syntax : {A : Type 0} → Option A → Result A Unread
+or_syntax None = Err Syntax
+or_syntax (Some x) = Ok x
+
+-- an answer, with why there is none as the refusal that is told
+abbrev pub refused : {A : Type 0} → Result A Unread → Result A Refusal
+refused (Ok x) = Ok x
+refused (Err e) = Err (refusal_of e)
+
 -- the answers of all, or the first fault
 abbrev pub each : {A B : Type 0} → (A → Result B Unread) → List A → Result (List B) Unread
 each f [] = Ok []

@@ -1,5 +1,5 @@
 -- A text is accepted as a setup exactly where it is a document of it.
-use Rattle.std.proofs.Common.{◌≡◌, ℕ, zero, suc, ◌<◌, ◌≤◌, ◌||◌, List, [], ◌∷◌, ◌++◌, length, map, slice_index_or, Bool, true, false, nat_le, if◌then◌else◌, Option, Some, None, option_map, Result, Ok, Err, IfSome, bytes_eq, refl, sym, ap, ap₂, subst, ◌∙◌, arith, leb-true, append_assoc}
+use Rattle.std.proofs.Common.{◌≡◌, ℕ, zero, suc, ◌<◌, ◌≤◌, ◌||◌, List, [], ◌∷◌, ◌++◌, length, map, slice_index_or, Bool, true, false, nat_le, if◌then◌else◌, Option, Some, None, option_map, Ok, Err, IfSome, bytes_eq, refl, sym, ap, ap₂, subst, ◌∙◌, arith, leb-true, append_assoc}
 use Rattle.std.specs.Prelude.{Contains, IsSome, IsSomeAnd}
 use Rattle.std.specs.Str.{is_utf8}
 use Rattle.std.proofs.lemmas.Bool.{le-leb}
@@ -12,11 +12,10 @@ use Rattle.tsn_types.specs.declared.limits.Limits.{Limits}
 use Rattle.tsn_types.specs.declared.records.Record.{Record}
 use Rattle.tsn_types.specs.declared.refusals.Refusal.TheVariants.{TooLong}
 use Rattle.tsn_bridge.specs.declared.bridge.Setup.{Setup}
-use Rattle.tsn_records.specs.Answers.{each}
+use Rattle.tsn_records.specs.Answers.{each, or_syntax, refused}
 use Rattle.tsn_records.specs.Keys.{kind_text}
-use Rattle.tsn_records.specs.declared.unread.Unread.{Unread}
 use Rattle.tsn_setup.specs.Ranges.{keyed_record, limits}
-use Rattle.tsn_setup.specs.Setups.{document_of, or_syntax, setup_shape, setup_of_draft, reading, refused, setup_of, longest_setup}
+use Rattle.tsn_setup.specs.Setups.{document_of, setup_shape, setup_of_draft, reading, setup_of, longest_setup}
 use Rattle.tsn_setup.specs.Tables.{limits_shape, setup_names, tables_of_kind, tables_shape}
 use Rattle.tsn_setup.specs.Toml.{has_only}
 use Rattle.tsn_setup.specs.Values.{of_kind, given_or, tables_of, keyed_rows, IsDocumentOf, MayBeGiven, AcceptsValues}
@@ -26,7 +25,7 @@ use Rattle.tsn_setup.proofs.Keyed.{keyed_draft, records_back}
 use Rattle.tsn_setup.proofs.LimitsGiven.{LimitsThere, limits_there, limits_read}
 use Rattle.tsn_setup.proofs.OfKind.{InRange, AllOf, KindThere, kind_there, kind_read, all_joined, all_of, others, of_joined, of_kind_in_range, of_kind_of, nothing_more, each_split, drafts_joined}
 use Rattle.tsn_setup.proofs.Ordered.{IsOrdered, text_ordered}
-use Rattle.tsn_setup.proofs.RecordRanges.{steps, only}
+use Rattle.tsn_records.proofs.Steps.{steps, only, syntax_there, not_refused}
 use Rattle.tsn_setup.proofs.Rows.{is_among, same_text, same_bytes, members_have, all_among}
 
 -- ---- the tables of a document
@@ -163,14 +162,6 @@ all_there d u l es names given there = record {
     nothing_else = nothing_else setup_names d u names;
   };
 }
-
-syntax_there : (o : Option Data) (d : Data) → or_syntax o ≡ Ok d → o ≡ Some d
-syntax_there None d h = cc
-syntax_there (Some e) d h = ap Some (only (Ok e) e d refl h)
-
-not_refused : {A : Type 0} (x : Result A Unread) (a : A) → refused x ≡ Ok a → x ≡ Ok a
-not_refused (Ok b) a h = cc
-not_refused (Err e) a h = cc
 
 abbrev Accepted : List ℕ → Setup → Type 0
 Accepted text s = MayBeGiven s × IsSomeAnd (document_of text) (IsDocumentOf s)

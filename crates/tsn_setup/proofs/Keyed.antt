@@ -24,7 +24,8 @@ use Rattle.tsn_setup.specs.Toml.{items_list, number_at}
 use Rattle.tsn_setup.specs.Values.{table_with, tables_of, port_rows, filter_rows, gate_rows, meter_rows, keyed_rows}
 use Rattle.tsn_setup.specs.declared.drafts.TableDraft.{TableDraft}
 use Rattle.tsn_setup.proofs.Ordered.{IsOrdered, EachOrdered}
-use Rattle.tsn_setup.proofs.RecordRanges.{steps, only, passed, at_most, within_ok, at_most_ok, port_draft, filter_draft, gate_draft, meter_draft, port_passed, filter_passed, gate_passed, meter_passed, port_back, filter_back, gate_back, meter_back}
+use Rattle.tsn_records.proofs.RecordRanges.{passed, at_most, within_ok, at_most_ok, port_draft, filter_draft, gate_draft, meter_draft, port_passed, filter_passed, gate_passed, meter_passed, port_back, filter_back, gate_back, meter_back}
+use Rattle.tsn_records.proofs.Steps.{steps, only}
 use Rattle.tsn_setup.proofs.Shapes.{number_got, port_is, filter_is, gate_is, meter_is, port_shaped, filter_shaped, gate_shaped, meter_shaped}
 
 -- ---- a table that is read

@@ -6,6 +6,5 @@ pub mod Naming
 pub mod OfKind
 pub mod OnLiterals
 pub mod Ordered
-pub mod RecordRanges
 pub mod Rows
 pub mod Shapes

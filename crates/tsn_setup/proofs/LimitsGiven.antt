@@ -12,7 +12,8 @@ use Rattle.tsn_setup.specs.Tables.{limits_shape}
 use Rattle.tsn_setup.specs.Toml.{whole, if_given, number_or_none_at}
 use Rattle.tsn_setup.specs.Values.{number_or_none, HasLimit}
 use Rattle.tsn_setup.specs.declared.drafts.LimitsDraft.{LimitsDraft}
-use Rattle.tsn_setup.proofs.RecordRanges.{steps, only, passed, within_ok}
+use Rattle.tsn_records.proofs.RecordRanges.{passed, within_ok}
+use Rattle.tsn_records.proofs.Steps.{steps, only}
 use Rattle.tsn_setup.proofs.Shapes.{number_or_none_there}
 
 limit_at : (field : Field) (most standard n : ℕ) (name : List ℕ) (d : Data) (o : Option ℕ) → get name d ≡ number_or_none o → limit field most standard o ≡ Ok n → Within 1 most standard → HasLimit name standard n d × Within 1 most n

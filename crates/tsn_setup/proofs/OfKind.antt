@@ -21,7 +21,7 @@ use Rattle.tsn_setup.specs.Values.{table_with, tables_of, keyed_rows, of_kind, g
 use Rattle.tsn_setup.specs.declared.drafts.TableDraft.{TableDraft}
 use Rattle.tsn_setup.proofs.Keyed.{AreRead, tables_read, keyed_draft, tables_shaped}
 use Rattle.tsn_setup.proofs.Ordered.{IsOrdered, EachOrdered}
-use Rattle.tsn_setup.proofs.RecordRanges.{steps, only}
+use Rattle.tsn_records.proofs.Steps.{steps, only}
 use Rattle.tsn_setup.proofs.Shapes.{inner_ordered, items_or_none_there}
 
 -- ---- records of a kind

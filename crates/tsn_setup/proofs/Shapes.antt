@@ -23,7 +23,8 @@ use Rattle.tsn_setup.specs.Toml.{whole, if_given, number_at, number_or_none_at, 
 use Rattle.tsn_setup.specs.Tables.{port_entry_shape, gate_entry_shape, list_shape, schedule_shape, port_shape, gate_shape, filter_shape, meter_shape}
 use Rattle.tsn_setup.specs.Values.{number, number_or_none, flag, Rows, table_with, tables_of, port_entry_rows, gate_entry_rows, port_rows, filter_rows, gate_rows, meter_rows}
 use Rattle.tsn_setup.proofs.Ordered.{order, IsOrdered, EachOrdered, AreOrdered}
-use Rattle.tsn_setup.proofs.RecordRanges.{steps, only, port_entry_draft, gate_entry_draft, schedule_draft, port_draft, gate_draft, filter_draft, meter_draft}
+use Rattle.tsn_records.proofs.RecordRanges.{port_entry_draft, gate_entry_draft, schedule_draft, port_draft, gate_draft, filter_draft, meter_draft}
+use Rattle.tsn_records.proofs.Steps.{steps, only}
 use Rattle.tsn_setup.proofs.Rows.{looked_up, is_rising, at_name, only_these, whole_table}
 
 -- ---- what is at a name

@@ -1,14 +1,13 @@
 -- What a document sets up.
-use Rattle.std.specs.Prelude.{ℕ, nat_le, List, length, if◌then◌else◌, Option, Some, None, option_map, Result, Ok, Err}
+use Rattle.std.specs.Prelude.{ℕ, nat_le, List, length, if◌then◌else◌, Option, None, option_map, Result, Ok, Err}
 use Rattle.std.specs.Str.{is_utf8}
 use Rattle.toml.specs.Data.{Data, table}
 use Rattle.toml.specs.Parse.{parse_document}
 use Rattle.tsn_types.specs.declared.refusals.Refusal.{Refusal}
 use Rattle.tsn_types.specs.declared.refusals.Refusal.TheVariants.{TooLong}
 use Rattle.tsn_bridge.specs.declared.bridge.Setup.{Setup}
-use Rattle.tsn_records.specs.Answers.{◌>>=◌, each, refusal_of}
+use Rattle.tsn_records.specs.Answers.{◌>>=◌, each, or_syntax, refused}
 use Rattle.tsn_records.specs.declared.unread.Unread.{Unread}
-use Rattle.tsn_records.specs.declared.unread.Unread.TheVariants.{Syntax}
 use Rattle.tsn_setup.specs.Ranges.{keyed_record, limits}
 use Rattle.tsn_setup.specs.Tables.{limits_shape, setup_names, tables_shape}
 use Rattle.tsn_setup.specs.Toml.{has_only}
@@ -22,11 +21,6 @@ longest_setup = 1048576
 -- the one table that the bytes are; bytes that are no UTF-8 are none
 abbrev pub document_of : List ℕ → Option Data
 document_of text = if is_utf8 text then option_map table (parse_document text) else None
-
--- what was read; nothing is a fault of syntax
-abbrev pub or_syntax : Option Data → Result Data Unread
-or_syntax None = Err Syntax
-or_syntax (Some d) = Ok d
 
 -- the whole shape: no members but these, the limits that are given, and the tables
 unfoldable pub setup_shape : Data → Result (LimitsDraft × List TableDraft) Unread
@@ -46,11 +40,6 @@ setup_of_draft draft = do
 -- syntax first, then the whole shape, then the ranges
 abbrev pub reading : List ℕ → Result Setup Unread
 reading text = or_syntax (document_of text) >>= λ d. setup_shape d >>= λ draft. setup_of_draft draft
-
--- an answer, with why there is none as the refusal that is told
-abbrev pub refused : {A : Type 0} → Result A Unread → Result A Refusal
-refused (Ok x) = Ok x
-refused (Err e) = Err (refusal_of e)
 
 -- the setup of a document, or why it is refused
 abbrev pub setup_of : List ℕ → Result Setup Refusal

@@ -4,8 +4,8 @@
 //! setup tests what is left.
 ghost use Rattle.std.specs.Prelude.{◌≡◌};
 ghost use Rattle.toml.specs.View.{view};
-ghost use Rattle.tsn_records.specs.Answers.{Reads, IsOrMemory, seen};
-ghost use Rattle.tsn_setup.specs.Setups.{document_of, or_syntax, setup_shape, setup_of_draft, reading, setup_of};
+ghost use Rattle.tsn_records.specs.Answers.{Reads, IsOrMemory, or_syntax, seen};
+ghost use Rattle.tsn_setup.specs.Setups.{document_of, setup_shape, setup_of_draft, reading, setup_of};
 
 use crate::drafts::{LimitsDraft, TableDraft};
 use crate::members::has_only;

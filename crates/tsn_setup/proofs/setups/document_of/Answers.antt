@@ -1,7 +1,7 @@
 use Rattle.std.proofs.Common.{◌≡◌, sym, ap, ◌∙◌, inl, Ok, true, false}
 use Rattle.toml.specs.View.{table_view}
 use Rattle.toml.proofs.Views.{view-Table}
-use Rattle.tsn_setup.specs.Setups.{or_syntax}
+use Rattle.tsn_records.specs.Answers.{or_syntax}
 use Rattle.tsn_setup.proofs.Documents.{document_read, document_refused}
 use Rattle.tsn_setup.proofs.setups.document_of.Goals as goal
 

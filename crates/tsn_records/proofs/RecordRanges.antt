@@ -13,7 +13,7 @@ use Rattle.tsn_types.specs.declared.refusals.Field.{Field}
 use Rattle.tsn_types.specs.declared.refusals.Field.TheVariants as fields
 use Rattle.tsn_types.specs.InRange.{FilterInRange, GateEntryInRange, GateInRange, MeterInRange, PortEntryInRange, PortInRange, ScheduleInRange}
 use Rattle.tsn_types.specs.Numbers.{Within, greatest_bit_rate, greatest_gate_states, greatest_handle, greatest_instance, greatest_instant, greatest_max_sdu, greatest_priority, longest_cycle, longest_extension, longest_interval, most_octets}
-use Rattle.tsn_records.specs.Answers.{◌>>=◌, each}
+use Rattle.tsn_records.specs.Answers.{each}
 use Rattle.tsn_records.specs.Ranges.{within, within_or_none, port_entry, gate_entry, schedule, port, gate, filter, meter}
 use Rattle.tsn_records.specs.declared.drafts.PortEntryDraft.{PortEntryDraft}
 use Rattle.tsn_records.specs.declared.drafts.GateEntryDraft.{GateEntryDraft}
@@ -24,17 +24,7 @@ use Rattle.tsn_records.specs.declared.drafts.FilterDraft.{FilterDraft}
 use Rattle.tsn_records.specs.declared.drafts.MeterDraft.{MeterDraft}
 use Rattle.tsn_records.specs.declared.unread.Unread.{Unread}
 use Rattle.tsn_records.specs.declared.unread.Unread.TheVariants.{Range}
-
--- ---- answers
-
--- where two steps have an answer, the first has one
-pub steps : {A B P : Type 0} (x : Result A Unread) (f : A → Result B Unread) (b : B) → (x >>= f) ≡ Ok b → ((a : A) → x ≡ Ok a → f a ≡ Ok b → P) → P
-steps (Ok a) f b h next = next a refl h
-steps (Err e) f b h next = cc
-
--- one answer
-pub only : {A : Type 0} (x : Result A Unread) (a b : A) → x ≡ Ok a → x ≡ Ok b → a ≡ b
-only x a b p q = cc
+use Rattle.tsn_records.proofs.Steps.{steps, only}
 
 -- ---- drafts of records
 

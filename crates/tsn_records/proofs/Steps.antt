@@ -1,0 +1,25 @@
+-- Answers in steps, each of which may have none.
+use Rattle.std.proofs.Common.{◌≡◌, Option, Some, None, Result, Ok, Err, refl, ap, ◌∙◌}
+use Rattle.tsn_records.specs.Answers.{◌>>=◌, or_syntax, refused}
+use Rattle.tsn_records.specs.declared.unread.Unread.{Unread}
+
+-- one step, and the next
+pub then : {A B : Type 0} (x : Result A Unread) (f : A → Result B Unread) (a : A) (y : Result B Unread) → x ≡ Ok a → f a ≡ y → (x >>= f) ≡ y
+then x f a y first next = ap (λ r. r >>= f) first ∙ next
+
+-- where two steps have an answer, the first has one
+pub steps : {A B P : Type 0} (x : Result A Unread) (f : A → Result B Unread) (b : B) → (x >>= f) ≡ Ok b → ((a : A) → x ≡ Ok a → f a ≡ Ok b → P) → P
+steps (Ok a) f b h next = next a refl h
+steps (Err e) f b h next = cc
+
+-- one answer
+pub only : {A : Type 0} (x : Result A Unread) (a b : A) → x ≡ Ok a → x ≡ Ok b → a ≡ b
+only x a b p q = cc
+
+pub syntax_there : {A : Type 0} (o : Option A) (a : A) → or_syntax o ≡ Ok a → o ≡ Some a
+syntax_there None a h = cc
+syntax_there (Some b) a h = ap Some (only (Ok b) b a refl h)
+
+pub not_refused : {A : Type 0} (x : Result A Unread) (a : A) → refused x ≡ Ok a → x ≡ Ok a
+not_refused (Ok b) a h = cc
+not_refused (Err e) a h = cc
