@@ -288,26 +288,43 @@ fn limits_hold_ports_from_1_and_the_rest_from_0(rt: HostRuntime) -> Result<(), F
     Ok(())
 }
 
+// Why the record is outside the limits of a bridge with one port and one filter, if it is.
+fn refusal_within(
+    gates: u64,
+    meters: u64,
+    list: u64,
+    record: &Record,
+) -> Result<Option<Refusal>, Range> {
+    let limits = Limits::new(1, 1, gates, meters, list)?;
+    Ok(limits.refuse(record))
+}
+
 #[test]
-fn a_reference_or_a_list_outside_the_limits_is_refused(rt: HostRuntime) -> Result<(), Fail> {
+fn a_list_outside_the_limits_is_refused(rt: HostRuntime) -> Result<(), Fail> {
     let port = Record::Port(port(rt.alloc())?);
-    let filter = Record::Filter(filter());
     let gate = Record::Gate(gate(rt.alloc())?);
-    let meter = Record::Meter(meter());
-    for (limits, record, wanted) in [
-        (Limits::new(1, 1, 1, 1, 2)?, &port, None),
-        (Limits::new(1, 1, 1, 1, 1)?, &port, Some(Field::List)),
-        (Limits::new(1, 1, 1, 1, 1)?, &gate, None),
-        (Limits::new(1, 1, 1, 1, 1)?, &meter, None),
-        (Limits::new(1, 1, 10, 6, 1)?, &filter, None),
-        (Limits::new(1, 1, 10, 5, 1)?, &filter, Some(Field::Meter)),
-        (Limits::new(1, 1, 9, 6, 1)?, &filter, Some(Field::Gate)),
-        (Limits::new(1, 1, 9, 5, 1)?, &filter, Some(Field::Gate)),
-    ] {
-        let wanted = wanted.map(Refusal::Range);
-        assert_eq!(rt; limits.refuse(record), wanted, "{limits:?}");
-    }
+    assert_eq!(rt; refusal_within(1, 1, 2, &port), Ok(None));
+    assert_eq!(rt;
+        refusal_within(1, 1, 1, &port),
+        Ok(Some(Refusal::Range(Field::List)))
+    );
+    assert_eq!(rt; refusal_within(1, 1, 1, &gate), Ok(None));
     Ok(())
+}
+
+#[test]
+fn a_reference_outside_the_limits_is_refused(rt: HostRuntime) {
+    let filter = Record::Filter(filter());
+    let meter = Record::Meter(meter());
+    assert_eq!(rt; refusal_within(1, 1, 1, &meter), Ok(None));
+    for (gates, meters, wanted) in [
+        (10, 6, None),
+        (10, 5, Some(Refusal::Range(Field::Meter))),
+        (9, 6, Some(Refusal::Range(Field::Gate))),
+        (9, 5, Some(Refusal::Range(Field::Gate))),
+    ] {
+        assert_eq!(rt; refusal_within(gates, meters, 1, &filter), Ok(wanted));
+    }
 }
 
 #[test]

@@ -1,5 +1,5 @@
 -- A line is accepted exactly where it is the value of a command.
-use Rattle.std.proofs.Common.{◌≡◌, ℕ, ◌≤◌, ◌||◌, ◌==◌, ◌++◌, List, [], ◌∷◌, length, drop, map, Bool, true, false, not, cond, nat_eq, Option, Some, None, option_map, Result, Ok, Err, codes, decimal, bytes_eq, refl, sym, ap, ap₂, subst, ◌∙◌, arith, eqb-true, leb-true, ltb-true}
+use Rattle.std.proofs.Common.{◌≡◌, ℕ, ◌≤◌, ◌||◌, ◌==◌, ◌++◌, List, [], ◌∷◌, length, drop, map, Bool, true, false, not, cond, nat_eq, Option, Some, None, option_map, Ok, codes, decimal, bytes_eq, refl, sym, ap, ap₂, subst, ◌∙◌, arith, eqb-true, leb-true, ltb-true}
 use Rattle.std.specs.List.{starts_with}
 use Rattle.std.specs.Str.Parse.{digits_value}
 use Rattle.std.proofs.lemmas.Bool.Decides.{Decides-eqb}
@@ -25,13 +25,13 @@ use Rattle.tsn_types.specs.declared.refusals.Field.TheVariants as fields
 use Rattle.tsn_types.specs.InRange.{KeyedInRange}
 use Rattle.tsn_types.specs.Keys.{kind, number_of}
 use Rattle.tsn_types.specs.Numbers.{IsHandle, IsInstanceId, IsPriority, greatest_handle, greatest_instance, greatest_instant, greatest_priority, most_ports}
-use Rattle.tsn_records.specs.Answers.{or_shape}
+use Rattle.tsn_records.specs.Answers.{or_shape, or_syntax}
 use Rattle.tsn_wire.specs.Commands.{key_at, removable, listed, listed_at, keyed_record, create_shape, replace_shape, remove_shape, bare_shape, enable_shape, disable_shape, apply_shape, frame_members, frame_shape, states_shape, counters_shape, show_shape, list_shape, since_shape, command_shape, line_shape}
 use Rattle.tsn_records.specs.Json.{flag_at, has_members, number_at, text_at, value_at}
 use Rattle.tsn_records.specs.Keys.{is_decimal, decimal_of, numbered, key_of, kind_of, key_text, kind_text, spelled_key}
 use Rattle.tsn_records.specs.Ranges.{within, port, filter, gate, meter, record_of, key, key_of_kind}
 use Rattle.tsn_wire.specs.Ranges.{greatest_after, longest_frame, frame_of_draft, command_of_draft}
-use Rattle.tsn_wire.specs.Reading.{data_of, or_syntax, line_of_draft, reading, refused, line_of}
+use Rattle.tsn_wire.specs.Reading.{data_of, line_of_draft, reading, line_of}
 use Rattle.tsn_records.specs.Records.{port_shape, filter_shape, gate_shape, meter_shape, record_shape}
 use Rattle.tsn_records.specs.Shown.{whole_data, port_entry_data, gate_entry_data, port_data, gate_data, record_data}
 use Rattle.tsn_wire.specs.Spelled.{IsNoPort, port_entry_value, gate_entry_value, port_value, filter_value, gate_value, meter_value, record_value}
@@ -46,14 +46,14 @@ use Rattle.tsn_wire.specs.declared.drafts.FrameDraft.{FrameDraft}
 use Rattle.tsn_wire.specs.declared.drafts.LineDraft.{LineDraft}
 use Rattle.tsn_wire.specs.declared.drafts.LineDraft.TheVariants.{Hello, Session}
 use Rattle.tsn_wire.specs.declared.reading.Line.{Line}
-use Rattle.tsn_records.specs.declared.unread.Unread.{Unread}
 use Rattle.tsn_records.proofs.Digits.{own, and_parts}
+use Rattle.tsn_records.proofs.RecordRanges.{passed, at_most, port_passed, filter_passed, gate_passed, meter_passed, within_ok, at_most_ok, port_entry_draft, gate_entry_draft, port_draft, gate_draft, filter_draft, meter_draft, port_back, filter_back, gate_back, meter_back}
+use Rattle.tsn_records.proofs.Steps.{only, steps, syntax_there, not_refused}
 use Rattle.tsn_wire.proofs.Acting.{enable_shaped, disable_shaped, apply_shaped, states_shaped, counters_shaped, frame_draft, frame_shaped}
-use Rattle.tsn_wire.proofs.FromRanges.{passed, at_most, port_passed, filter_passed, gate_passed, meter_passed}
-use Rattle.tsn_wire.proofs.FromShapes.{only, steps, number_there, flag_there, text_there, value_there, port_known, filter_known, gate_known, meter_known}
+use Rattle.tsn_wire.proofs.FromShapes.{number_there, flag_there, text_there, value_there, port_known, filter_known, gate_known, meter_known}
 use Rattle.tsn_wire.proofs.Objects.{IsOrdered, inside, whole_object, inner_ordered, line_ordered}
 use Rattle.tsn_wire.proofs.OwnSpelling.{port_shaped, filter_shaped, gate_shaped, meter_shaped, create_shaped, replace_shaped, remove_shaped, show_shaped, listed_shaped, undo_shaped, undo_all_shaped, redo_shaped, asked_shaped}
-use Rattle.tsn_wire.proofs.ReadingBack.{in_steps, within_ok, at_most_ok, port_entry_draft, gate_entry_draft, port_draft, gate_draft, filter_draft, meter_draft, port_back, filter_back, gate_back, meter_back}
+use Rattle.tsn_wire.proofs.ReadingBack.{in_steps}
 
 -- one of two, by a test
 by_test : {A P : Type 0} (b : Bool) (x y z : A) → cond b x y ≡ z → (b ≡ true → x ≡ z → P) → (b ≡ false → y ≡ z → P) → P
@@ -517,14 +517,6 @@ line_known d draft line ordered shape range =
     steps (command_shape word d) _ draft n_next (λ command command_is command_next.
     let whole = Session n command in
     session_known word n d command line ordered there (number_there _ n n_is) command_is (ap line_of_draft (only (Ok whole) whole draft refl command_next) ∙ range)))))
-
-syntax_there : (o : Option Data) (d : Data) → or_syntax o ≡ Ok d → o ≡ Some d
-syntax_there None d h = cc
-syntax_there (Some e) d h = ap Some (only (Ok e) e d refl h)
-
-not_refused : {A : Type 0} (x : Result A Unread) (a : A) → refused x ≡ Ok a → x ≡ Ok a
-not_refused (Ok b) a h = cc
-not_refused (Err e) a h = cc
 
 accepted : (line : List ℕ) (l : Line) → line_of line ≡ Ok l → MayBeAsked l.session l.command × (data_of line ≡ Some (value_of l.session l.command))
 accepted line l h =

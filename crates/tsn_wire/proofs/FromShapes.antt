@@ -1,9 +1,9 @@
 -- A value of an accepted shape is the value of its draft.
-use Rattle.std.proofs.Common.{◌≡◌, ℕ, suc, List, [], ◌∷◌, map, Bool, Option, Some, None, option_and_then, Result, Ok, Err, codes, refl, sym, ap, ap₂, subst, ◌∙◌, arith}
+use Rattle.std.proofs.Common.{◌≡◌, ℕ, suc, List, [], ◌∷◌, map, Bool, Option, Some, None, option_and_then, Result, Ok, codes, refl, sym, ap, ap₂, subst, ◌∙◌, arith}
 use Rattle.serde_json.specs.Data.{Data, null, boolean, number, unsigned, negative, float, string, array, object, Items, no_items, item}
 use Rattle.serde_json.specs.Find.{at, get, get_item, as_bool, as_str, as_array}
 use Rattle.serde_json.specs.View.{items_of}
-use Rattle.tsn_records.specs.Answers.{◌>>=◌, or_shape, each}
+use Rattle.tsn_records.specs.Answers.{or_shape, each}
 use Rattle.tsn_records.specs.Json.{items_list, items_len, whole, whole_or_null, has_members, has_items, number_at, number_or_null_at, flag_at, items_at, number_item, number_or_null_item, flag_item}
 use Rattle.tsn_records.specs.Records.{port_entry_shape, gate_entry_shape, list_shape, schedule_shape, port_shape, gate_shape, filter_shape, meter_shape}
 use Rattle.tsn_records.specs.Shown.{whole_data, or_null, list_array}
@@ -16,18 +16,8 @@ use Rattle.tsn_records.specs.declared.drafts.GateDraft.{GateDraft}
 use Rattle.tsn_records.specs.declared.drafts.FilterDraft.{FilterDraft}
 use Rattle.tsn_records.specs.declared.drafts.MeterDraft.{MeterDraft}
 use Rattle.tsn_records.specs.declared.unread.Unread.{Unread}
+use Rattle.tsn_records.proofs.Steps.{only, steps}
 use Rattle.tsn_wire.proofs.Objects.{IsOrdered, counted, inside, whole_object}
-
--- ---- answers
-
--- where two steps have an answer, the first has one
-pub steps : {A B P : Type 0} (x : Result A Unread) (f : A → Result B Unread) (b : B) → (x >>= f) ≡ Ok b → ((a : A) → x ≡ Ok a → f a ≡ Ok b → P) → P
-steps (Ok a) f b h next = next a refl h
-steps (Err e) f b h next = cc
-
--- one answer
-pub only : {A : Type 0} (x : Result A Unread) (a b : A) → x ≡ Ok a → x ≡ Ok b → a ≡ b
-only x a b p q = cc
 
 -- ---- members and items of one kind
 

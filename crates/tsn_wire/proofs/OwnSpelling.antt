@@ -19,12 +19,12 @@ use Rattle.serde_json.proofs.Texts.{print-outline}
 use Rattle.tsn_types.specs.declared.keys.Kind.{Kind}
 use Rattle.tsn_types.specs.declared.keys.Kind.TheVariants as kinds
 use Rattle.tsn_types.specs.Numbers.{IsInstanceId}
-use Rattle.tsn_records.specs.Answers.{each}
+use Rattle.tsn_records.specs.Answers.{each, or_syntax}
 use Rattle.tsn_records.specs.Json.{items_list}
 use Rattle.tsn_records.specs.Keys.{kind_text, spelled_key}
 use Rattle.tsn_wire.specs.Commands.{line_shape, command_shape, keyed_record, create_shape, replace_shape, remove_shape, bare_shape, show_shape, list_shape, since_shape}
 use Rattle.tsn_records.specs.Records.{port_entry_shape, gate_entry_shape, list_shape as entries_shape, schedule_shape, port_shape, gate_shape, filter_shape, meter_shape, record_shape}
-use Rattle.tsn_wire.specs.Reading.{data_of, or_syntax, line_of_draft, reading}
+use Rattle.tsn_wire.specs.Reading.{data_of, line_of_draft, reading}
 use Rattle.tsn_records.specs.Shown.{whole_data, or_null}
 use Rattle.tsn_wire.specs.Spelled.{IsSmall, IsNoPort, port_entry_value, gate_entry_value, port_value, filter_value, gate_value, meter_value, record_value, PortEntryIsSmall, GateEntryIsSmall, PortIsSmall, GateIsSmall, FilterIsSmall, MeterIsSmall, RecordIsSmall, Spells, SpellsFront}
 use Rattle.tsn_records.specs.declared.drafts.PortEntryDraft.{PortEntryDraft}
@@ -42,7 +42,8 @@ use Rattle.tsn_wire.specs.declared.drafts.LineDraft.TheVariants.{Session}
 use Rattle.tsn_records.specs.declared.unread.Unread.{Unread}
 use Rattle.tsn_wire.proofs.Answering.{data_of_read}
 use Rattle.tsn_records.proofs.Escaping.{escape_key}
-use Rattle.tsn_wire.proofs.ReadingBack.{then, decimal_back, whole_or_null_back}
+use Rattle.tsn_records.proofs.Steps.{then}
+use Rattle.tsn_wire.proofs.ReadingBack.{decimal_back, whole_or_null_back}
 
 -- ---- what is printed is read
 

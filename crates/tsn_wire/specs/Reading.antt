@@ -1,5 +1,5 @@
 -- What a command line says.
-use Rattle.std.specs.Prelude.{ℕ, List, if◌then◌else◌, Option, Some, None, Result, Ok, Err}
+use Rattle.std.specs.Prelude.{ℕ, List, if◌then◌else◌, Option, None, Result, Ok}
 use Rattle.std.specs.Str.{is_utf8}
 use Rattle.serde_json.specs.Data.{Data}
 use Rattle.serde_json.specs.Read.{read}
@@ -7,7 +7,7 @@ use Rattle.tsn_bridge.specs.declared.command.Command.TheVariants as commands
 use Rattle.tsn_bridge.specs.Sessions.{most_sessions}
 use Rattle.tsn_types.specs.declared.refusals.Field.TheVariants as fields
 use Rattle.tsn_types.specs.declared.refusals.Refusal.{Refusal}
-use Rattle.tsn_records.specs.Answers.{◌>>=◌, refusal_of}
+use Rattle.tsn_records.specs.Answers.{◌>>=◌, or_syntax, refused}
 use Rattle.tsn_wire.specs.Commands.{line_shape}
 use Rattle.tsn_records.specs.Ranges.{within}
 use Rattle.tsn_wire.specs.Ranges.{command_of_draft}
@@ -15,16 +15,10 @@ use Rattle.tsn_wire.specs.declared.drafts.LineDraft.{LineDraft}
 use Rattle.tsn_wire.specs.declared.drafts.LineDraft.TheVariants.{Hello, Session}
 use Rattle.tsn_wire.specs.declared.reading.Line.{Line}
 use Rattle.tsn_records.specs.declared.unread.Unread.{Unread}
-use Rattle.tsn_records.specs.declared.unread.Unread.TheVariants.{Syntax}
 
 -- the one JSON value that the bytes are; bytes that are no UTF-8 are none
 abbrev pub data_of : List ℕ → Option Data
 data_of bytes = if is_utf8 bytes then read bytes else None
-
--- what was read; nothing is a fault of syntax
-abbrev pub or_syntax : Option Data → Result Data Unread
-or_syntax None = Err Syntax
-or_syntax (Some d) = Ok d
 
 -- sessions are numbered from 1; a hello has none, which is written 0
 abbrev pub line_of_draft : LineDraft → Result Line Unread
@@ -35,11 +29,6 @@ line_of_draft (Session s wanted) =
 -- syntax first, then the whole shape, then the ranges
 abbrev pub reading : List ℕ → Result Line Unread
 reading bytes = or_syntax (data_of bytes) >>= λ d. line_shape d >>= λ draft. line_of_draft draft
-
--- an answer, with why there is none as the refusal that a reply names
-abbrev pub refused : {A : Type 0} → Result A Unread → Result A Refusal
-refused (Ok x) = Ok x
-refused (Err e) = Err (refusal_of e)
 
 -- what a line says, or why it is refused
 abbrev pub line_of : List ℕ → Result Line Refusal

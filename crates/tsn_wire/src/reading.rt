@@ -6,9 +6,9 @@ ghost use Rattle.std.specs.Prelude.{◌≡◌};
 ghost use Rattle.serde_json.specs.View.{view};
 ghost use Rattle.tsn_bridge.specs.Sessions.{most_sessions};
 ghost use Rattle.tsn_types.specs.declared.refusals.Field.TheVariants as fields;
-ghost use Rattle.tsn_records.specs.Answers.{Reads, IsOrMemory, seen};
+ghost use Rattle.tsn_records.specs.Answers.{Reads, IsOrMemory, or_syntax, seen};
 ghost use Rattle.tsn_records.specs.Ranges.{within};
-ghost use Rattle.tsn_wire.specs.Reading.{data_of, or_syntax, line_of_draft, reading, line_of};
+ghost use Rattle.tsn_wire.specs.Reading.{data_of, line_of_draft, reading, line_of};
 
 use crate::commands::line_shape;
 use crate::drafts::LineDraft;

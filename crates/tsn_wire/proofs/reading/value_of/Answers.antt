@@ -1,6 +1,6 @@
 use Rattle.std.proofs.Common.{◌≡◌, sym, ap, inl, true, false}
 use Rattle.serde_json.specs.View.{view}
-use Rattle.tsn_wire.specs.Reading.{or_syntax}
+use Rattle.tsn_records.specs.Answers.{or_syntax}
 use Rattle.tsn_wire.proofs.Answering.{data_of_refused, data_of_read}
 use Rattle.tsn_wire.proofs.reading.value_of.Goals as goal
 
