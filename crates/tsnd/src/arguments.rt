@@ -212,7 +212,9 @@ fn asked_of(alloc: Global, matches: &ArgMatches<'_>) -> Result<Asked, AllocError
 }
 
 // Why words that are no UTF-8 are refused.
-fn no_text(alloc: Global) -> Result<Error, AllocError> {
+fn no_text(alloc: Global) -> Result<Error, AllocError>
+    ensures { IfOk result (λ e. kind_of e ≡ ErrorKind.InvalidValue) }
+{
     command(alloc)?.error(
         ErrorKind::InvalidValue,
         "invalid UTF-8 was detected in one or more arguments",
