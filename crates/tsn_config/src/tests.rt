@@ -9,6 +9,8 @@ use literals::{
     first_entries, gate, gate_key, gate_with, gates_of, is_default, limits, make, meter, meter_key,
     on_meter, port, port_key, refused, stands,
 };
+use std::alloc::Global;
+use std::process::Abort;
 use std::test::Fail;
 use tsn_edit::{Change, Edit};
 use tsn_types::keys::Kind;
@@ -123,50 +125,67 @@ fn an_opening_is_refused_by_the_least_filters_absent_reference(
     Ok(())
 }
 
+// Why the edit is refused, if it is.
+fn refusal_of(config: &Config, edit: Edit) -> Option<Refusal> {
+    config.check(&edit)
+}
+
+fn refuses_gates(rt: &impl Abort, alloc: Global, config: &Config) -> Result<(), Fail> {
+    let twice = refusal_of(config, create_gate(0, gate(alloc)));
+    assert_eq!(rt; twice, Some(Refusal::Exists(gate_key(0))));
+    let beyond = refusal_of(config, create_gate(16, gate(alloc)));
+    assert_eq!(rt; beyond, Some(Refusal::Range(Field::Key)));
+    let long = refusal_of(config, create_gate(1, gate_with(alloc, 17)?));
+    assert_eq!(rt; long, Some(Refusal::Range(Field::List)));
+    Ok(())
+}
+
+fn refuses_filters(rt: &impl Abort, config: &Config) {
+    let beyond = refusal_of(config, create_filter(4, filter(16, None)));
+    assert_eq!(rt; beyond, Some(Refusal::Range(Field::Gate)));
+    let alone = refusal_of(config, create_filter(4, filter(9, None)));
+    assert_eq!(rt; alone, Some(Refusal::Dangling(gate_key(9))));
+    let metered = refusal_of(config, create_filter(4, filter(9, on_meter(9))));
+    assert_eq!(rt; metered, Some(Refusal::Dangling(gate_key(9))));
+}
+
 #[test]
 fn creates_are_refused_by_their_least_cause(rt: HostRuntime) -> Result<(), Fail> {
-    let alloc = rt.alloc();
-    let config = first_entries(&rt, alloc)?;
-    let check = |edit: Edit| config.check(&edit);
-    let gate_9 = Some(Refusal::Dangling(gate_key(9)));
-    assert_eq!(rt;
-        check(create_gate(0, gate(alloc))),
-        Some(Refusal::Exists(gate_key(0)))
-    );
-    assert_eq!(rt;
-        check(create_gate(16, gate(alloc))),
-        Some(Refusal::Range(Field::Key))
-    );
-    assert_eq!(rt;
-        check(create_gate(1, gate_with(alloc, 17)?)),
-        Some(Refusal::Range(Field::List))
-    );
-    assert_eq!(rt;
-        check(create_filter(4, filter(16, None))),
-        Some(Refusal::Range(Field::Gate))
-    );
-    assert_eq!(rt; check(create_filter(4, filter(9, None))), gate_9);
-    assert_eq!(rt; check(create_filter(4, filter(9, on_meter(9)))), gate_9);
+    let config = first_entries(&rt, rt.alloc())?;
+    refuses_gates(&rt, rt.alloc(), &config)?;
+    refuses_filters(&rt, &config);
     Ok(())
+}
+
+fn refuses_by_presence(rt: &impl Abort, alloc: Global, config: &Config) {
+    let port_1 = Edit::Create(port_key(1), Record::Port(port(alloc, 0)));
+    assert_eq!(rt;
+        refusal_of(config, port_1),
+        Some(Refusal::Exists(port_key(1)))
+    );
+    let meter_9 = Edit::Replace(meter_key(9), Record::Meter(meter()));
+    assert_eq!(rt;
+        refusal_of(config, meter_9),
+        Some(Refusal::Missing(meter_key(9)))
+    );
+}
+
+fn refuses_removals(rt: &impl Abort, config: &Config) {
+    let port_1 = refusal_of(config, Edit::Remove(port_key(1)));
+    assert_eq!(rt; port_1, Some(Refusal::Shape));
+    let gate_9 = refusal_of(config, Edit::Remove(gate_key(9)));
+    assert_eq!(rt; gate_9, Some(Refusal::Missing(gate_key(9))));
+    let gate_0 = refusal_of(config, Edit::Remove(gate_key(0)));
+    assert_eq!(rt; gate_0, Some(Refusal::Referred(filter_key(3))));
+    let meter_0 = refusal_of(config, Edit::Remove(meter_key(0)));
+    assert_eq!(rt; meter_0, Some(Refusal::Referred(filter_key(3))));
 }
 
 #[test]
 fn other_edits_are_refused_by_their_least_cause(rt: HostRuntime) -> Result<(), Fail> {
-    let alloc = rt.alloc();
-    let config = first_entries(&rt, alloc)?;
-    let check = |edit: Edit| config.check(&edit);
-    let filter_3 = Some(Refusal::Referred(filter_key(3)));
-    let port_1 = Edit::Create(port_key(1), Record::Port(port(alloc, 0)));
-    let meter_9 = Edit::Replace(meter_key(9), Record::Meter(meter()));
-    assert_eq!(rt; check(port_1), Some(Refusal::Exists(port_key(1))));
-    assert_eq!(rt; check(meter_9), Some(Refusal::Missing(meter_key(9))));
-    assert_eq!(rt; check(Edit::Remove(port_key(1))), Some(Refusal::Shape));
-    assert_eq!(rt;
-        check(Edit::Remove(gate_key(9))),
-        Some(Refusal::Missing(gate_key(9)))
-    );
-    assert_eq!(rt; check(Edit::Remove(gate_key(0))), filter_3);
-    assert_eq!(rt; check(Edit::Remove(meter_key(0))), filter_3);
+    let config = first_entries(&rt, rt.alloc())?;
+    refuses_by_presence(&rt, rt.alloc(), &config);
+    refuses_removals(&rt, &config);
     Ok(())
 }
 
@@ -181,25 +200,36 @@ fn of_filters_that_refer_the_least_is_named(rt: HostRuntime) -> Result<(), Fail>
     Ok(())
 }
 
-#[test]
-fn a_removal_and_its_inverse_keep_every_member(rt: HostRuntime) -> Result<(), Fail> {
-    let alloc = rt.alloc();
-    let mut config = first_entries(&rt, alloc)?;
-    let whole = Record::Filter(filter(0, on_meter(0)));
-    let change = Change {
-        key: filter_key(3),
-        before: Some(whole.try_clone()?),
-        after: None,
-    };
-    assert!(rt; config.fits(&change));
-    assert!(rt; !config.fits_inverse(&change));
-    make(&rt, &mut config, Edit::Remove(filter_key(3)))?;
+// Removes filter 3, whose removal the change is.
+fn take_out(rt: &impl Abort, config: &mut Config, change: &Change) -> Result<(), Fail> {
+    assert!(rt; config.fits(change));
+    assert!(rt; !config.fits_inverse(change));
+    make(rt, config, Edit::Remove(filter_key(3)))?;
     assert!(rt; config.get(filter_key(3)).is_none());
-    assert!(rt; config.fits_inverse(&change));
+    assert!(rt; config.fits_inverse(change));
+    Ok(())
+}
+
+// Makes the inverse of the change.
+fn put_back(rt: &impl Abort, config: &mut Config, change: Change) -> Result<(), Fail> {
+    config.reserve(1)?;
     let back = change.inverse();
     assert!(rt; config.fits(&back));
-    config.reserve(1)?;
     config.apply(back);
+    Ok(())
+}
+
+#[test]
+fn a_removal_and_its_inverse_keep_every_member(rt: HostRuntime) -> Result<(), Fail> {
+    let mut config = first_entries(&rt, rt.alloc())?;
+    let removal = Change {
+        key: filter_key(3),
+        before: Some(Record::Filter(filter(0, on_meter(0)))),
+        after: None,
+    };
+    take_out(&rt, &mut config, &removal)?;
+    put_back(&rt, &mut config, removal)?;
+    let whole = Record::Filter(filter(0, on_meter(0)));
     assert!(rt; stands(&config, filter_key(3), &whole));
     Ok(())
 }
