@@ -4,8 +4,12 @@ use super::literals::{
     add_gate, book, book_of, create, create_at, fill, filter, filter_key, gate, gate_key, meter,
     meter_key, meter_of, on_meter, remove, remove_at, replace_at, stands,
 };
+use crate::book::Book;
+use std::alloc::Global;
+use std::process::Abort;
 use std::test::Fail;
 use tsn_config::records::Records;
+use tsn_edit::Edit;
 use tsn_types::keys::Kind;
 use tsn_types::refusals::{Field, Refusal};
 
@@ -13,31 +17,48 @@ fn conflict(own: u64, other: u64) -> Refusal {
     Refusal::Conflict { own, other }
 }
 
+// The edit is entered under this number.
+fn enters(rt: &impl Abort, book: &mut Book, session: u32, edit: Edit, entry: u64) {
+    assert_eq!(rt; book.edit(session, edit), Ok(entry));
+}
+
+// The configuration has records of these numbers of the kind.
+fn has_numbers(
+    rt: &impl Abort,
+    alloc: Global,
+    book: &Book,
+    kind: Kind,
+    wanted: &[u64],
+) -> Result<(), Fail> {
+    assert_eq!(rt; book.config().ids(alloc, kind)?.as_slice(), wanted);
+    Ok(())
+}
+
 #[test]
 fn an_undo_of_all_keeps_what_others_made(rt: HostRuntime) -> Result<(), Fail> {
     let alloc = rt.alloc();
     let mut book = book(alloc)?;
-    assert_eq!(rt; book.edit(1, create_at(gate_key(1), gate(alloc))), Ok(1));
-    assert_eq!(rt; book.edit(2, create_at(gate_key(2), gate(alloc))), Ok(2));
-    assert_eq!(rt;
-        book.edit(1, create_at(filter_key(0), filter(1, None))),
-        Ok(3)
+    enters(&rt, &mut book, 1, create_at(gate_key(1), gate(alloc)), 1);
+    enters(&rt, &mut book, 2, create_at(gate_key(2), gate(alloc)), 2);
+    enters(
+        &rt,
+        &mut book,
+        1,
+        create_at(filter_key(0), filter(1, None)),
+        3,
     );
-    assert_eq!(rt;
-        book.edit(2, create_at(filter_key(1), filter(2, None))),
-        Ok(4)
+    enters(
+        &rt,
+        &mut book,
+        2,
+        create_at(filter_key(1), filter(2, None)),
+        4,
     );
     assert_eq!(rt; book.journal().count_of(1), 2);
     assert_eq!(rt; book.refuse_undo_all(1), None);
     assert_eq!(rt; book.undo_all(1), Ok((2, 6)));
-    assert_eq!(rt;
-        book.config().ids(alloc, Kind::Filter)?.as_slice(),
-        [1].as_slice()
-    );
-    assert_eq!(rt;
-        book.config().ids(alloc, Kind::Gate)?.as_slice(),
-        [2].as_slice()
-    );
+    has_numbers(&rt, alloc, &book, Kind::Filter, [1].as_slice())?;
+    has_numbers(&rt, alloc, &book, Kind::Gate, [2].as_slice())?;
     assert!(rt; !book.journal().standing(1) && !book.journal().standing(3));
     assert!(rt; book.journal().standing(2) && book.journal().standing(4));
     assert_eq!(rt; book.undo_all(1), Err(Refusal::NothingToUndo));
@@ -51,20 +72,20 @@ fn an_undo_of_all_takes_back_every_entry_or_none(rt: HostRuntime) -> Result<(), 
     let mut records = Records::new(alloc);
     add_gate(alloc, &mut records, 0)?;
     let mut book = book_of(alloc, records)?;
-    assert_eq!(rt; book.edit(1, create_at(meter_key(5), meter())), Ok(1));
+    enters(&rt, &mut book, 1, create_at(meter_key(5), meter()), 1);
     let on_five = filter(0, on_meter(5));
-    assert_eq!(rt; book.edit(2, create_at(filter_key(0), on_five)), Ok(2));
-    assert_eq!(rt;
-        book.edit(2, replace_at(filter_key(0), filter(0, None))),
-        Ok(3)
+    enters(&rt, &mut book, 2, create_at(filter_key(0), on_five), 2);
+    enters(
+        &rt,
+        &mut book,
+        2,
+        replace_at(filter_key(0), filter(0, None)),
+        3,
     );
-    assert_eq!(rt; book.edit(1, create_at(gate_key(1), gate(alloc))), Ok(4));
+    enters(&rt, &mut book, 1, create_at(gate_key(1), gate(alloc)), 4);
     assert_eq!(rt; book.refuse_undo_all(1), Some(conflict(1, 2)));
     assert_eq!(rt; book.undo_all(1), Err(conflict(1, 2)));
-    assert_eq!(rt;
-        book.config().ids(alloc, Kind::Gate)?.as_slice(),
-        [0, 1].as_slice()
-    );
+    has_numbers(&rt, alloc, &book, Kind::Gate, [0, 1].as_slice())?;
     assert_eq!(rt; book.journal().len(), 4);
     Ok(())
 }
@@ -78,14 +99,11 @@ fn an_undo_keeps_a_new_edit(rt: HostRuntime) -> Result<(), Fail> {
     }
     add_gate(alloc, &mut records, 15)?;
     let mut book = book_of(alloc, records)?;
-    assert_eq!(rt; book.edit(1, remove_at(gate_key(15))), Ok(1));
-    assert_eq!(rt; book.edit(2, create_at(gate_key(14), gate(alloc))), Ok(2));
+    enters(&rt, &mut book, 1, remove_at(gate_key(15)), 1);
+    enters(&rt, &mut book, 2, create_at(gate_key(14), gate(alloc)), 2);
     assert_eq!(rt; book.undo(1), Ok((3, 1)));
     let all = [0, 1, 2, 3, 4, 5, 6, 7, 8, 9, 10, 11, 12, 13, 14, 15];
-    assert_eq!(rt;
-        book.config().ids(alloc, Kind::Gate)?.as_slice(),
-        all.as_slice()
-    );
+    has_numbers(&rt, alloc, &book, Kind::Gate, all.as_slice())?;
     let beyond = create_at(gate_key(16), gate(alloc));
     assert_eq!(rt; book.edit(1, beyond), Err(Refusal::Range(Field::Key)));
     Ok(())
@@ -94,10 +112,13 @@ fn an_undo_keeps_a_new_edit(rt: HostRuntime) -> Result<(), Fail> {
 #[test]
 fn a_redo_keeps_a_value_of_another_session(rt: HostRuntime) -> Result<(), Fail> {
     let mut book = book(rt.alloc())?;
-    assert_eq!(rt; book.edit(2, create(2)), Ok(1));
-    assert_eq!(rt;
-        book.edit(1, replace_at(meter_key(2), meter_of(900))),
-        Ok(2)
+    enters(&rt, &mut book, 2, create(2), 1);
+    enters(
+        &rt,
+        &mut book,
+        1,
+        replace_at(meter_key(2), meter_of(900)),
+        2,
     );
     assert_eq!(rt; book.redo(1), Err(Refusal::NothingToRedo));
     assert_eq!(rt; book.undo(1), Ok((3, 2)));
@@ -120,17 +141,23 @@ fn a_redo_keeps_a_value_of_another_session(rt: HostRuntime) -> Result<(), Fail> 
 fn an_old_reference_blocks_an_undo(rt: HostRuntime) -> Result<(), Fail> {
     let alloc = rt.alloc();
     let mut book = book(alloc)?;
-    assert_eq!(rt; book.edit(1, create_at(gate_key(0), gate(alloc))), Ok(1));
-    assert_eq!(rt; book.edit(1, create_at(gate_key(1), gate(alloc))), Ok(2));
-    assert_eq!(rt;
-        book.edit(1, create_at(filter_key(3), filter(0, None))),
-        Ok(3)
+    enters(&rt, &mut book, 1, create_at(gate_key(0), gate(alloc)), 1);
+    enters(&rt, &mut book, 1, create_at(gate_key(1), gate(alloc)), 2);
+    enters(
+        &rt,
+        &mut book,
+        1,
+        create_at(filter_key(3), filter(0, None)),
+        3,
     );
-    assert_eq!(rt;
-        book.edit(1, replace_at(filter_key(3), filter(1, None))),
-        Ok(4)
+    enters(
+        &rt,
+        &mut book,
+        1,
+        replace_at(filter_key(3), filter(1, None)),
+        4,
     );
-    assert_eq!(rt; book.edit(2, remove_at(gate_key(0))), Ok(5));
+    enters(&rt, &mut book, 2, remove_at(gate_key(0)), 5);
     assert_eq!(rt; book.undo(1), Err(conflict(4, 5)));
     assert_eq!(rt; book.undo_all(1), Err(conflict(4, 5)));
     assert_eq!(rt; book.undo(2), Ok((6, 5)));
@@ -142,10 +169,10 @@ fn an_old_reference_blocks_an_undo(rt: HostRuntime) -> Result<(), Fail> {
 #[test]
 fn own_later_edits_do_not_block_an_undo_of_all(rt: HostRuntime) -> Result<(), Fail> {
     let mut book = book(rt.alloc())?;
-    assert_eq!(rt; book.edit(2, create(9)), Ok(1));
-    assert_eq!(rt; book.edit(1, create(3)), Ok(2));
-    assert_eq!(rt; book.edit(1, remove(3)), Ok(3));
-    assert_eq!(rt; book.edit(1, create_at(meter_key(3), meter_of(900))), Ok(4));
+    enters(&rt, &mut book, 2, create(9), 1);
+    enters(&rt, &mut book, 1, create(3), 2);
+    enters(&rt, &mut book, 1, remove(3), 3);
+    enters(&rt, &mut book, 1, create_at(meter_key(3), meter_of(900)), 4);
     assert_eq!(rt; book.undo_all(1), Ok((3, 7)));
     assert!(rt; book.config().get(meter_key(3)).is_none());
     assert!(rt; stands(&book, meter_key(9), &meter()));
@@ -155,7 +182,7 @@ fn own_later_edits_do_not_block_an_undo_of_all(rt: HostRuntime) -> Result<(), Fa
 #[test]
 fn an_undone_and_redone_entry_is_undone_again(rt: HostRuntime) -> Result<(), Fail> {
     let mut book = book(rt.alloc())?;
-    assert_eq!(rt; book.edit(1, create(3)), Ok(1));
+    enters(&rt, &mut book, 1, create(3), 1);
     assert_eq!(rt; book.undo(1), Ok((2, 1)));
     assert_eq!(rt; book.redo(1), Ok((3, 2)));
     assert_eq!(rt; book.redo(1), Err(Refusal::NothingToRedo));
