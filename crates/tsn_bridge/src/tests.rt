@@ -1,6 +1,6 @@
 //! Commands of the worked examples: two ports, tables of sixteen, lists of up to sixteen entries. The scripts of
 //! `tsn_serve` try more of them.
-//! A test makes a bridge and lends it to a function that steps it: so its proof goes once over the bridge's end, and
+//! One function makes the bridges and lends them to those that step them: so a proof goes once over a bridge's end, and
 //! not at each place where want of memory ends a step.
 ghost use Rattle.std.specs.Prelude.{◌≡◌, ◌≤◌, ◌^◌};
 
@@ -99,11 +99,17 @@ fn is_session(reply: Reply, number: u32) -> bool {
     }
 }
 
-/// A bridge that has given out session 1.
-fn greeted(rt: &impl Abort, alloc: Global) -> Result<Bridge, Refusal> {
+/// Plays on a bridge that has given out session 1.
+fn on_a_bridge<F: FnOnce(&mut Bridge) -> Result<(), Fail>>(
+    rt: &impl Abort,
+    alloc: Global,
+    play: F,
+) -> Result<(), Fail>
+    requires { F.IsAlwaysCallable play }
+{
     let mut bridge = Bridge::new(alloc, Setup::standard(alloc))?;
     assert!(rt; is_session(bridge.step(0, Command::Hello), 1));
-    Ok(bridge)
+    play(&mut bridge)
 }
 
 /// Creates meter 1 and takes that back, so many times.
@@ -126,8 +132,7 @@ fn make_and_take_back(rt: &impl Abort, bridge: &mut Bridge) -> Result<(), Fail> 
 
 #[test]
 fn entries_are_made_and_taken_back(rt: HostRuntime) -> Result<(), Fail> {
-    let mut bridge = greeted(&rt, rt.alloc())?;
-    make_and_take_back(&rt, &mut bridge)
+    on_a_bridge(&rt, rt.alloc(), |bridge| make_and_take_back(&rt, bridge))
 }
 
 /// Whether the reply shows meter 5 with this rate.
@@ -180,8 +185,7 @@ fn replace_and_remove(rt: &impl Abort, bridge: &mut Bridge) -> Result<(), Fail> 
 
 #[test]
 fn a_record_is_replaced_and_removed(rt: HostRuntime) -> Result<(), Fail> {
-    let mut bridge = greeted(&rt, rt.alloc())?;
-    replace_and_remove(&rt, &mut bridge)
+    on_a_bridge(&rt, rt.alloc(), |bridge| replace_and_remove(&rt, bridge))
 }
 
 /// Whether the reply lists these numbers.
@@ -207,8 +211,7 @@ fn show_and_list(rt: &impl Abort, bridge: &mut Bridge) -> Result<(), Fail> {
 
 #[test]
 fn a_record_is_shown_and_listed(rt: HostRuntime) -> Result<(), Fail> {
-    let mut bridge = greeted(&rt, rt.alloc())?;
-    show_and_list(&rt, &mut bridge)
+    on_a_bridge(&rt, rt.alloc(), |bridge| show_and_list(&rt, bridge))
 }
 
 /// How many entries the reply tells.
@@ -250,8 +253,7 @@ fn tell_greater_numbers(rt: &impl Abort, bridge: &mut Bridge) -> Result<(), Fail
 
 #[test]
 fn entries_of_a_greater_number_are_told(rt: HostRuntime) -> Result<(), Fail> {
-    let mut bridge = greeted(&rt, rt.alloc())?;
-    tell_greater_numbers(&rt, &mut bridge)
+    on_a_bridge(&rt, rt.alloc(), |bridge| tell_greater_numbers(&rt, bridge))
 }
 
 /// Whether the reply tells one entry: the undo of entry 3 by session 1, under the number 4.
@@ -272,8 +274,7 @@ fn tell_the_last(rt: &impl Abort, bridge: &mut Bridge) -> Result<(), Fail> {
 
 #[test]
 fn an_entry_is_told_as_it_was_made(rt: HostRuntime) -> Result<(), Fail> {
-    let mut bridge = greeted(&rt, rt.alloc())?;
-    tell_the_last(&rt, &mut bridge)
+    on_a_bridge(&rt, rt.alloc(), |bridge| tell_the_last(&rt, bridge))
 }
 
 /// Whether so many entries were taken back, the last one by the entry of the number.
@@ -296,8 +297,7 @@ fn take_all_back(rt: &impl Abort, bridge: &mut Bridge) -> Result<(), Fail> {
 
 #[test]
 fn all_that_a_session_did_is_taken_back(rt: HostRuntime) -> Result<(), Fail> {
-    let mut bridge = greeted(&rt, rt.alloc())?;
-    take_all_back(&rt, &mut bridge)
+    on_a_bridge(&rt, rt.alloc(), |bridge| take_all_back(&rt, bridge))
 }
 
 fn take_back_and_redo(rt: &impl Abort, bridge: &mut Bridge) -> Result<(), Fail> {
@@ -311,8 +311,7 @@ fn take_back_and_redo(rt: &impl Abort, bridge: &mut Bridge) -> Result<(), Fail> 
 
 #[test]
 fn what_was_taken_back_is_redone(rt: HostRuntime) -> Result<(), Fail> {
-    let mut bridge = greeted(&rt, rt.alloc())?;
-    take_back_and_redo(&rt, &mut bridge)
+    on_a_bridge(&rt, rt.alloc(), |bridge| take_back_and_redo(&rt, bridge))
 }
 
 fn refuse_a_stranger(rt: &impl Abort, bridge: &mut Bridge) -> Result<(), Fail> {
@@ -323,8 +322,7 @@ fn refuse_a_stranger(rt: &impl Abort, bridge: &mut Bridge) -> Result<(), Fail> {
 
 #[test]
 fn a_stranger_takes_nothing_back(rt: HostRuntime) -> Result<(), Fail> {
-    let mut bridge = greeted(&rt, rt.alloc())?;
-    refuse_a_stranger(&rt, &mut bridge)
+    on_a_bridge(&rt, rt.alloc(), |bridge| refuse_a_stranger(&rt, bridge))
 }
 
 fn gate_key(number: u64) -> Key
@@ -431,8 +429,7 @@ fn refuse_beyond_limits(rt: &impl Abort, bridge: &mut Bridge) -> Result<(), Fail
 
 #[test]
 fn limits_come_before_the_session(rt: HostRuntime) -> Result<(), Fail> {
-    let mut bridge = greeted(&rt, rt.alloc())?;
-    refuse_beyond_limits(&rt, &mut bridge)
+    on_a_bridge(&rt, rt.alloc(), |bridge| refuse_beyond_limits(&rt, bridge))
 }
 
 fn give_out_every_session(rt: &impl Abort, bridge: &mut Bridge) -> Result<(), Fail> {
@@ -448,8 +445,11 @@ fn give_out_every_session(rt: &impl Abort, bridge: &mut Bridge) -> Result<(), Fa
 
 #[test]
 fn sessions_are_given_out_until_the_last(rt: HostRuntime) -> Result<(), Fail> {
-    let mut bridge = greeted(&rt, rt.alloc())?;
-    give_out_every_session(&rt, &mut bridge)
+    on_a_bridge(
+        &rt,
+        rt.alloc(),
+        |bridge| give_out_every_session(&rt, bridge),
+    )
 }
 
 fn keep_apart(rt: &impl Abort, bridge: &mut Bridge) -> Result<(), Fail> {
@@ -466,8 +466,7 @@ fn keep_apart(rt: &impl Abort, bridge: &mut Bridge) -> Result<(), Fail> {
 /// A planner's undo stands against a colleague's later edit of the same meter, until the colleague takes that back.
 #[test]
 fn sessions_are_kept_apart(rt: HostRuntime) -> Result<(), Fail> {
-    let mut bridge = greeted(&rt, rt.alloc())?;
-    keep_apart(&rt, &mut bridge)
+    on_a_bridge(&rt, rt.alloc(), |bridge| keep_apart(&rt, bridge))
 }
 
 fn fill_up(rt: &impl Abort, bridge: &mut Bridge) -> Result<(), Fail> {
@@ -481,8 +480,7 @@ fn fill_up(rt: &impl Abort, bridge: &mut Bridge) -> Result<(), Fail> {
 
 #[test]
 fn a_full_journal_takes_no_more(rt: HostRuntime) -> Result<(), Fail> {
-    let mut bridge = greeted(&rt, rt.alloc())?;
-    fill_up(&rt, &mut bridge)
+    on_a_bridge(&rt, rt.alloc(), |bridge| fill_up(&rt, bridge))
 }
 
 #[test]

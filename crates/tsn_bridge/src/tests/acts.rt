@@ -1,7 +1,7 @@
 //! Acts on gate lists, frames, states and counters, with the values of the worked examples.
 ghost use Rattle.std.specs.Prelude.{◌≡◌, ◌≤◌, ◌^◌};
 
-use super::{gate, greeted, is_entry, is_refused, step, took, took_back};
+use super::{gate, is_entry, is_refused, on_a_bridge, step, took, took_back};
 use crate::bridge::Bridge;
 use crate::command::Command;
 use crate::reply::Reply;
@@ -145,8 +145,11 @@ fn show_the_list_ahead(rt: &impl Abort, alloc: Global, bridge: &mut Bridge) -> R
 
 #[test]
 fn a_list_is_applied_ahead(rt: HostRuntime) -> Result<(), Fail> {
-    let mut bridge = greeted(&rt, rt.alloc())?;
-    show_the_list_ahead(&rt, rt.alloc(), &mut bridge)
+    on_a_bridge(
+        &rt,
+        rt.alloc(),
+        |bridge| show_the_list_ahead(&rt, rt.alloc(), bridge),
+    )
 }
 
 fn refuse_the_past(rt: &impl Abort, alloc: Global, bridge: &mut Bridge) -> Result<(), Fail> {
@@ -161,8 +164,11 @@ fn refuse_the_past(rt: &impl Abort, alloc: Global, bridge: &mut Bridge) -> Resul
 
 #[test]
 fn no_state_is_told_before_the_last_act(rt: HostRuntime) -> Result<(), Fail> {
-    let mut bridge = greeted(&rt, rt.alloc())?;
-    refuse_the_past(&rt, rt.alloc(), &mut bridge)
+    on_a_bridge(
+        &rt,
+        rt.alloc(),
+        |bridge| refuse_the_past(&rt, rt.alloc(), bridge),
+    )
 }
 
 /// The list is replaced and applied, the replacement is undone and the old list is applied again.
@@ -191,8 +197,11 @@ fn show_the_restored_list(rt: &impl Abort, alloc: Global, bridge: &mut Bridge) -
 
 #[test]
 fn a_restored_list_gives_its_states(rt: HostRuntime) -> Result<(), Fail> {
-    let mut bridge = greeted(&rt, rt.alloc())?;
-    show_the_restored_list(&rt, rt.alloc(), &mut bridge)
+    on_a_bridge(
+        &rt,
+        rt.alloc(),
+        |bridge| show_the_restored_list(&rt, rt.alloc(), bridge),
+    )
 }
 
 fn count_the_restored_list(
@@ -213,8 +222,11 @@ fn count_the_restored_list(
 
 #[test]
 fn errors_and_what_is_pending_are_counted(rt: HostRuntime) -> Result<(), Fail> {
-    let mut bridge = greeted(&rt, rt.alloc())?;
-    count_the_restored_list(&rt, rt.alloc(), &mut bridge)
+    on_a_bridge(
+        &rt,
+        rt.alloc(),
+        |bridge| count_the_restored_list(&rt, rt.alloc(), bridge),
+    )
 }
 
 fn disable_and_enable(rt: &impl Abort, alloc: Global, bridge: &mut Bridge) -> Result<(), Fail> {
@@ -229,8 +241,11 @@ fn disable_and_enable(rt: &impl Abort, alloc: Global, bridge: &mut Bridge) -> Re
 
 #[test]
 fn a_disabled_port_shows_its_record(rt: HostRuntime) -> Result<(), Fail> {
-    let mut bridge = greeted(&rt, rt.alloc())?;
-    disable_and_enable(&rt, rt.alloc(), &mut bridge)
+    on_a_bridge(
+        &rt,
+        rt.alloc(),
+        |bridge| disable_and_enable(&rt, rt.alloc(), bridge),
+    )
 }
 
 fn enable_at_an_earlier_instant(
@@ -245,8 +260,11 @@ fn enable_at_an_earlier_instant(
 
 #[test]
 fn an_earlier_instant_counts_as_the_bridge_time(rt: HostRuntime) -> Result<(), Fail> {
-    let mut bridge = greeted(&rt, rt.alloc())?;
-    enable_at_an_earlier_instant(&rt, rt.alloc(), &mut bridge)
+    on_a_bridge(
+        &rt,
+        rt.alloc(),
+        |bridge| enable_at_an_earlier_instant(&rt, rt.alloc(), bridge),
+    )
 }
 
 fn refuse_to_apply(rt: &impl Abort, bridge: &mut Bridge) -> Result<(), Fail> {
@@ -258,8 +276,7 @@ fn refuse_to_apply(rt: &impl Abort, bridge: &mut Bridge) -> Result<(), Fail> {
 
 #[test]
 fn an_apply_needs_an_enabled_key_and_a_list(rt: HostRuntime) -> Result<(), Fail> {
-    let mut bridge = greeted(&rt, rt.alloc())?;
-    refuse_to_apply(&rt, &mut bridge)
+    on_a_bridge(&rt, rt.alloc(), |bridge| refuse_to_apply(&rt, bridge))
 }
 
 fn refuse_to_enable(rt: &impl Abort, bridge: &mut Bridge) -> Result<(), Fail> {
@@ -271,8 +288,7 @@ fn refuse_to_enable(rt: &impl Abort, bridge: &mut Bridge) -> Result<(), Fail> {
 
 #[test]
 fn acts_want_a_key_with_a_list_that_is_there(rt: HostRuntime) -> Result<(), Fail> {
-    let mut bridge = greeted(&rt, rt.alloc())?;
-    refuse_to_enable(&rt, &mut bridge)
+    on_a_bridge(&rt, rt.alloc(), |bridge| refuse_to_enable(&rt, bridge))
 }
 
 // Filter 3 on gate 0 matches every frame.
@@ -332,8 +348,11 @@ fn pass_two_frames(rt: &impl Abort, alloc: Global, bridge: &mut Bridge) -> Resul
 
 #[test]
 fn a_frame_passes_and_moves_the_bridge_time(rt: HostRuntime) -> Result<(), Fail> {
-    let mut bridge = greeted(&rt, rt.alloc())?;
-    pass_two_frames(&rt, rt.alloc(), &mut bridge)
+    on_a_bridge(
+        &rt,
+        rt.alloc(),
+        |bridge| pass_two_frames(&rt, rt.alloc(), bridge),
+    )
 }
 
 /// The frames that a filter matched, of its counters.
@@ -371,8 +390,11 @@ fn remove_and_take_back(rt: &impl Abort, alloc: Global, bridge: &mut Bridge) -> 
 
 #[test]
 fn what_was_removed_and_comes_back_is_counted_anew(rt: HostRuntime) -> Result<(), Fail> {
-    let mut bridge = greeted(&rt, rt.alloc())?;
-    remove_and_take_back(&rt, rt.alloc(), &mut bridge)
+    on_a_bridge(
+        &rt,
+        rt.alloc(),
+        |bridge| remove_and_take_back(&rt, rt.alloc(), bridge),
+    )
 }
 
 fn replace_filter(rt: &impl Abort, alloc: Global, bridge: &mut Bridge) -> Result<(), Fail> {
@@ -386,8 +408,11 @@ fn replace_filter(rt: &impl Abort, alloc: Global, bridge: &mut Bridge) -> Result
 
 #[test]
 fn what_is_replaced_keeps_its_counters(rt: HostRuntime) -> Result<(), Fail> {
-    let mut bridge = greeted(&rt, rt.alloc())?;
-    replace_filter(&rt, rt.alloc(), &mut bridge)
+    on_a_bridge(
+        &rt,
+        rt.alloc(),
+        |bridge| replace_filter(&rt, rt.alloc(), bridge),
+    )
 }
 
 fn take_all_back(rt: &impl Abort, alloc: Global, bridge: &mut Bridge) -> Result<(), Fail> {
@@ -400,6 +425,9 @@ fn take_all_back(rt: &impl Abort, alloc: Global, bridge: &mut Bridge) -> Result<
 
 #[test]
 fn an_undo_of_all_takes_the_instance_data_too(rt: HostRuntime) -> Result<(), Fail> {
-    let mut bridge = greeted(&rt, rt.alloc())?;
-    take_all_back(&rt, rt.alloc(), &mut bridge)
+    on_a_bridge(
+        &rt,
+        rt.alloc(),
+        |bridge| take_all_back(&rt, rt.alloc(), bridge),
+    )
 }
