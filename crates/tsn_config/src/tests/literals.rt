@@ -8,7 +8,7 @@ use std::alloc::{AllocError, Global};
 use std::process::Abort;
 use std::test::Fail;
 use tsn_edit::Edit;
-use tsn_types::keys::Key;
+use tsn_types::keys::{Key, Kind};
 use tsn_types::limits::Limits;
 use tsn_types::lists::ControlList;
 use tsn_types::numbers::{
@@ -147,17 +147,62 @@ pub(super) fn create_gate(number: u64, value: StreamGate) -> Edit
     Edit::Create(gate_key(number), Record::Gate(value))
 }
 
-// Gate 0, meter 0, and filter 3 that refers to both.
-pub(super) fn first_entries(rt: &impl Abort, alloc: Global) -> Result<Config, Fail> {
+/// Plays on a configuration that begins with the records. One function makes the configurations and lends them, so that
+/// a proof goes once over a configuration's end.
+pub(super) fn on_a_config<F: FnOnce(&mut Config) -> Result<(), Fail>>(
+    alloc: Global,
+    limits: Limits,
+    records: Records,
+    play: F,
+) -> Result<(), Fail>
+    requires { F.IsAlwaysCallable play }
+{
+    let mut config = Config::open(alloc, limits, records)?;
+    play(&mut config)
+}
+
+/// Plays on gate 0, meter 0, and filter 3 that refers to both.
+pub(super) fn on_first_entries<F: FnOnce(&mut Config) -> Result<(), Fail>>(
+    rt: &impl Abort,
+    alloc: Global,
+    play: F,
+) -> Result<(), Fail>
+    requires { F.IsAlwaysCallable play }
+{
     let mut config = Config::open(alloc, limits(), Records::new(alloc))?;
-    make(rt, &mut config, create_gate(0, gate(alloc)))?;
-    make(
-        rt,
-        &mut config,
-        Edit::Create(meter_key(0), Record::Meter(meter())),
-    )?;
-    make(rt, &mut config, create_filter(3, filter(0, on_meter(0))))?;
-    Ok(config)
+    make_first_entries(rt, alloc, &mut config)?;
+    play(&mut config)
+}
+
+fn make_first_entries(rt: &impl Abort, alloc: Global, config: &mut Config) -> Result<(), Fail> {
+    make(rt, config, create_gate(0, gate(alloc)))?;
+    let metered = Edit::Create(meter_key(0), Record::Meter(meter()));
+    make(rt, config, metered)?;
+    make(rt, config, create_filter(3, filter(0, on_meter(0))))?;
+    Ok(())
+}
+
+/// Plays on a copy of the configuration.
+pub(super) fn on_a_copy<F: FnOnce(&Config) -> Result<(), Fail>>(
+    config: &Config,
+    play: F,
+) -> Result<(), Fail>
+    requires { F.IsAlwaysCallable play }
+{
+    let copy = config.copy()?;
+    play(&copy)
+}
+
+/// The configuration has records of these numbers of the kind.
+pub(super) fn has_ids(
+    rt: &impl Abort,
+    alloc: Global,
+    config: &Config,
+    kind: Kind,
+    wanted: &[u64],
+) -> Result<(), Fail> {
+    assert_eq!(rt; config.ids(alloc, kind)?.as_slice(), wanted, "{kind:?}");
+    Ok(())
 }
 
 pub(super) fn add_gate(

@@ -3,6 +3,8 @@ ghost use Rattle.std.specs.Prelude.{◌≡◌, ◌≤◌};
 
 use crate::book::Book;
 use std::alloc::{AllocError, Global};
+use std::process::Abort;
+use std::test::Fail;
 use tsn_config::Config;
 use tsn_config::records::Records;
 use tsn_edit::Edit;
@@ -127,15 +129,28 @@ pub(super) fn remove(number: u64) -> Edit
     remove_at(meter_key(number))
 }
 
-/// A book that begins with the records.
-pub(super) fn book_of(alloc: Global, records: Records) -> Result<Book, Refusal> {
+/// Plays on a book that begins with the records. One function makes the books and lends them, so that a proof goes
+/// once over a book's end.
+pub(super) fn on_a_book_of<F: FnOnce(&mut Book) -> Result<(), Fail>>(
+    alloc: Global,
+    records: Records,
+    play: F,
+) -> Result<(), Fail>
+    requires { F.IsAlwaysCallable play }
+{
     let limits = Limits::new(2, 16, 16, 16, 16).unwrap();
-    Ok(Book::new(alloc, Config::open(alloc, limits, records)?))
+    let mut book = Book::new(alloc, Config::open(alloc, limits, records)?);
+    play(&mut book)
 }
 
-/// A book that begins with the default ports alone.
-pub(super) fn book(alloc: Global) -> Result<Book, Refusal> {
-    book_of(alloc, Records::new(alloc))
+/// Plays on a book that begins with the default ports alone.
+pub(super) fn on_a_book<F: FnOnce(&mut Book) -> Result<(), Fail>>(
+    alloc: Global,
+    play: F,
+) -> Result<(), Fail>
+    requires { F.IsAlwaysCallable play }
+{
+    on_a_book_of(alloc, Records::new(alloc), play)
 }
 
 /// Creates meter 1 and takes that back, so many times.
@@ -145,6 +160,21 @@ pub(super) fn fill(book: &mut Book, pairs: u32) -> Result<(), Refusal> {
         book.undo(1)?;
     }
     Ok(())
+}
+
+/// The edit is entered under this number.
+pub(super) fn enters(rt: &impl Abort, book: &mut Book, session: u32, edit: Edit, entry: u64) {
+    assert_eq!(rt; book.edit(session, edit), Ok(entry));
+}
+
+/// An entry of this number takes back the other.
+pub(super) fn undoes(rt: &impl Abort, book: &mut Book, session: u32, entry: u64, of: u64) {
+    assert_eq!(rt; book.undo(session), Ok((entry, of)));
+}
+
+/// An entry of this number takes back the other, which took one back.
+pub(super) fn redoes(rt: &impl Abort, book: &mut Book, session: u32, entry: u64, of: u64) {
+    assert_eq!(rt; book.redo(session), Ok((entry, of)));
 }
 
 /// Whether the record of the examples is at the key.

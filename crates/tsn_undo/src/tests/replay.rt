@@ -8,6 +8,7 @@ use super::literals::{
 };
 use crate::book::Book;
 use std::alloc::{AllocError, Global};
+use std::process::Abort;
 use std::test::Fail;
 use tsn_config::Config;
 use tsn_config::records::Records;
@@ -153,21 +154,26 @@ fn command(alloc: Global, dice: &mut Dice, book: &mut Book) -> Result<Done, Refu
     }
 }
 
+/// Applies the change of the entry where it fits.
+fn applies(config: &mut Config, journal: &Journal, number: u64) -> Result<bool, Fail> {
+    let entry = journal.entry(number).ok_or("no such entry")?;
+    let change = entry.what.change().ok_or("no change")?.try_clone()?;
+    if !config.fits(&change) {
+        return Ok(false);
+    }
+    config.reserve(1)?;
+    config.apply(change);
+    Ok(true)
+}
+
 /// The run of the standing entries from the opening, if each of their changes fits.
 fn replayed(opening: &Config, journal: &Journal) -> Result<Option<Config>, Fail> {
     let mut config = opening.copy()?;
     for place in 0..journal.len() {
         let number = place as u64 + 1;
-        if !journal.standing(number) {
-            continue;
-        }
-        let entry = journal.entry(number).ok_or("no such entry")?;
-        let change = entry.what.change().ok_or("no change")?.try_clone()?;
-        if !config.fits(&change) {
+        if journal.standing(number) && !applies(&mut config, journal, number)? {
             return Ok(None);
         }
-        config.reserve(1)?;
-        config.apply(change);
     }
     Ok(Some(config))
 }
@@ -184,29 +190,31 @@ fn agree(left: &Config, right: &Config) -> Result<bool, AllocError> {
     Ok(true)
 }
 
-#[test]
-fn the_configuration_is_the_run_of_the_standing_entries(rt: HostRuntime) -> Result<(), Fail> {
-    let alloc = rt.alloc();
-    let mut records = Records::new(alloc);
-    add_gate(alloc, &mut records, 0)?;
-    add_gate(alloc, &mut records, 1)?;
-    let limits = Limits::new(2, 16, 16, 16, 16)?;
-    let opening = Config::open(alloc, limits, records)?;
-    let mut book = Book::new(alloc, opening.copy()?);
-    let mut dice = Dice { state: 2026 };
-    let mut counts = Counts {
-        edits: 0,
-        undos: 0,
-        undos_of_all: 0,
-        redos: 0,
-        acts: 0,
-        conflicts: 0,
-    };
-    for round in 0..2_000u32 {
-        counts.add(command(alloc, &mut dice, &mut book));
-        let replay = replayed(&opening, book.journal())?.ok_or("a standing change does not fit")?;
-        assert!(rt; agree(&replay, book.config())?, "after command {round}");
+/// Whether the book's configuration is the run of the standing entries from the opening.
+fn is_the_run(opening: &Config, book: &Book) -> Result<bool, Fail> {
+    match replayed(opening, book.journal())? {
+        Some(replay) => Ok(agree(&replay, book.config())?),
+        None => Ok(false),
     }
+}
+
+/// Gives random commands, and compares after each of them.
+fn play(
+    rt: &impl Abort,
+    alloc: Global,
+    opening: &Config,
+    book: &mut Book,
+    counts: &mut Counts,
+) -> Result<(), Fail> {
+    let mut dice = Dice { state: 2026 };
+    for round in 0..2_000u32 {
+        counts.add(command(alloc, &mut dice, book));
+        assert!(rt; is_the_run(opening, book)?, "after command {round}");
+    }
+    Ok(())
+}
+
+fn are_many(rt: &impl Abort, counts: &Counts) {
     assert!(rt;
         counts.edits > 300 && counts.undos > 200 && counts.undos_of_all > 10,
         "{counts:?}"
@@ -215,5 +223,30 @@ fn the_configuration_is_the_run_of_the_standing_entries(rt: HostRuntime) -> Resu
         counts.redos > 50 && counts.acts > 100 && counts.conflicts > 100,
         "{counts:?}"
     );
+}
+
+/// A configuration with two gates.
+fn opening_of_gates(alloc: Global) -> Result<Config, Fail> {
+    let mut records = Records::new(alloc);
+    add_gate(alloc, &mut records, 0)?;
+    add_gate(alloc, &mut records, 1)?;
+    let limits = Limits::new(2, 16, 16, 16, 16).unwrap();
+    Ok(Config::open(alloc, limits, records)?)
+}
+
+#[test]
+fn the_configuration_is_the_run_of_the_standing_entries(rt: HostRuntime) -> Result<(), Fail> {
+    let opening = opening_of_gates(rt.alloc())?;
+    let mut book = Book::new(rt.alloc(), opening.copy()?);
+    let mut counts = Counts {
+        edits: 0,
+        undos: 0,
+        undos_of_all: 0,
+        redos: 0,
+        acts: 0,
+        conflicts: 0,
+    };
+    play(&rt, rt.alloc(), &opening, &mut book, &mut counts)?;
+    are_many(&rt, &counts);
     Ok(())
 }
