@@ -8,9 +8,9 @@ use crate::data::FilterData;
 use crate::frame::{DropCause, Frame, Verdict};
 use crate::state::{Counters, ListCounters, State};
 use bench::{
-    Bench, bench_with, counts, create_filter, create_meter, dropped, filter, filter_id, frame,
-    gate, gate_id, gated_bench, instant, listed_gate, meter, meter_id, metered_bench,
-    metered_filter, passed, passes, port_key, priority,
+    Bench, counts, create_filter, create_meter, dropped, filter, filter_id, frame, gate, gate_id,
+    instant, listed_gate, meter, meter_id, metered_filter, on_a_bench, on_a_gated_bench,
+    on_a_metered_bench, passed, passes, port_key, priority,
 };
 use std::process::Abort;
 use std::test::Fail;
@@ -51,19 +51,20 @@ fn has_flag(rt: &impl Abort, bench: &Bench, all_red: bool) {
 
 #[test]
 fn meter_and_counters(rt: HostRuntime) -> Result<(), Fail> {
-    let mut bench = metered_bench(rt.alloc(), meter(1500, 0))?;
-    passes(&rt, &mut bench, 1000, 0, passed(3, 0, 2, false));
-    passes(
-        &rt,
-        &mut bench,
-        1000,
-        100_000,
-        dropped(3, 100_000, DropCause::Red),
-    );
-    passes(&rt, &mut bench, 1000, 500_000, passed(3, 500_000, 2, false));
-    has_passed(&rt, &bench, 3, 1);
-    has_flag(&rt, &bench, false);
-    Ok(())
+    on_a_metered_bench(rt.alloc(), meter(1500, 0), |bench| {
+        passes(&rt, bench, 1000, 0, passed(3, 0, 2, false));
+        passes(
+            &rt,
+            bench,
+            1000,
+            100_000,
+            dropped(3, 100_000, DropCause::Red),
+        );
+        passes(&rt, bench, 1000, 500_000, passed(3, 500_000, 2, false));
+        has_passed(&rt, bench, 3, 1);
+        has_flag(&rt, bench, false);
+        Ok(())
+    })
 }
 
 #[test]
@@ -72,25 +73,26 @@ fn meter_and_counters_all_red(rt: HostRuntime) -> Result<(), Fail> {
         all_red: true,
         ..meter(1500, 0)
     };
-    let mut bench = metered_bench(rt.alloc(), by)?;
-    passes(&rt, &mut bench, 1000, 0, passed(3, 0, 2, false));
-    passes(
-        &rt,
-        &mut bench,
-        1000,
-        100_000,
-        dropped(3, 100_000, DropCause::Red),
-    );
-    passes(
-        &rt,
-        &mut bench,
-        1000,
-        500_000,
-        dropped(3, 500_000, DropCause::Red),
-    );
-    has_passed(&rt, &bench, 3, 2);
-    has_flag(&rt, &bench, true);
-    Ok(())
+    on_a_metered_bench(rt.alloc(), by, |bench| {
+        passes(&rt, bench, 1000, 0, passed(3, 0, 2, false));
+        passes(
+            &rt,
+            bench,
+            1000,
+            100_000,
+            dropped(3, 100_000, DropCause::Red),
+        );
+        passes(
+            &rt,
+            bench,
+            1000,
+            500_000,
+            dropped(3, 500_000, DropCause::Red),
+        );
+        has_passed(&rt, bench, 3, 2);
+        has_flag(&rt, bench, true);
+        Ok(())
+    })
 }
 
 /// Four frames at two buckets of 100 octets; after 150 microseconds the committed one is full and 50 octets overflow.
@@ -107,36 +109,33 @@ fn coupled_buckets(rt: HostRuntime) -> Result<(), Fail> {
         cf: true,
         ..meter(100, 100)
     };
-    let mut bench = metered_bench(rt.alloc(), by)?;
-    four_frames(&rt, &mut bench);
-    passes(&rt, &mut bench, 50, 150_000, passed(3, 150_000, 2, true));
-    Ok(())
+    on_a_metered_bench(rt.alloc(), by, |bench| {
+        four_frames(&rt, bench);
+        passes(&rt, bench, 50, 150_000, passed(3, 150_000, 2, true));
+        Ok(())
+    })
 }
 
 #[test]
 fn buckets_apart(rt: HostRuntime) -> Result<(), Fail> {
-    let mut bench = metered_bench(rt.alloc(), meter(100, 100))?;
-    four_frames(&rt, &mut bench);
-    passes(
-        &rt,
-        &mut bench,
-        50,
-        150_000,
-        dropped(3, 150_000, DropCause::Red),
-    );
-    Ok(())
+    on_a_metered_bench(rt.alloc(), meter(100, 100), |bench| {
+        four_frames(&rt, bench);
+        passes(&rt, bench, 50, 150_000, dropped(3, 150_000, DropCause::Red));
+        Ok(())
+    })
 }
 
 /// A replaced meter keeps its bucket, clipped.
 #[test]
 fn replaced_meter(rt: HostRuntime) -> Result<(), Fail> {
-    let mut bench = metered_bench(rt.alloc(), meter(1500, 0))?;
-    passes(&rt, &mut bench, 1000, 0, passed(3, 0, 2, false));
-    let replaced = Edit::Replace(Key::Meter(meter_id(0)), Record::Meter(meter(250, 0)));
-    bench.edit(replaced)?;
-    passes(&rt, &mut bench, 250, 0, passed(3, 0, 2, false));
-    passes(&rt, &mut bench, 1, 0, dropped(3, 0, DropCause::Red));
-    Ok(())
+    on_a_metered_bench(rt.alloc(), meter(1500, 0), |bench| {
+        passes(&rt, bench, 1000, 0, passed(3, 0, 2, false));
+        let replaced = Edit::Replace(Key::Meter(meter_id(0)), Record::Meter(meter(250, 0)));
+        bench.edit(replaced)?;
+        passes(&rt, bench, 250, 0, passed(3, 0, 2, false));
+        passes(&rt, bench, 1, 0, dropped(3, 0, DropCause::Red));
+        Ok(())
+    })
 }
 
 /// Removes the meter and the filter that names it, and creates them again.
@@ -150,12 +149,13 @@ fn create_again(bench: &mut Bench) -> Result<(), Fail> {
 /// A meter that is removed and created again has a full bucket, and a filter begins to count anew.
 #[test]
 fn created_again(rt: HostRuntime) -> Result<(), Fail> {
-    let mut bench = metered_bench(rt.alloc(), meter(250, 0))?;
-    passes(&rt, &mut bench, 250, 0, passed(3, 0, 2, false));
-    create_again(&mut bench)?;
-    passes(&rt, &mut bench, 250, 0, passed(3, 0, 2, false));
-    has_passed(&rt, &bench, 1, 0);
-    Ok(())
+    on_a_metered_bench(rt.alloc(), meter(250, 0), |bench| {
+        passes(&rt, bench, 250, 0, passed(3, 0, 2, false));
+        create_again(bench)?;
+        passes(&rt, bench, 250, 0, passed(3, 0, 2, false));
+        has_passed(&rt, bench, 1, 0);
+        Ok(())
+    })
 }
 
 /// Starts the list of gate 0, which is in force from instant 0 on.
@@ -167,48 +167,38 @@ fn start(rt: &impl Abort, bench: &mut Bench) {
 #[test]
 fn gate_octets(rt: HostRuntime) -> Result<(), Fail> {
     let gate = listed_gate(rt.alloc(), true)?;
-    let mut bench = gated_bench(gate, filter(), rt.alloc())?;
-    start(&rt, &mut bench);
-    passes(&rt, &mut bench, 100, 10, passed(0, 10, 5, false));
-    passes(&rt, &mut bench, 60, 20, dropped(0, 20, DropCause::Octets));
-    passes(
-        &rt,
-        &mut bench,
-        10,
-        2010,
-        dropped(0, 2010, DropCause::Closed),
-    );
-    let wanted = Counters::Gate {
-        list: ListCounters {
-            change_error: 0,
-            change_time: Some(0),
-            enabled: true,
-            pending: false,
-        },
-        invalid_rx: false,
-        octets_exceeded: true,
-    };
-    counts(&rt, &bench, Key::Gate(gate_id(0)), wanted);
-    Ok(())
+    on_a_gated_bench(gate, filter(), rt.alloc(), |bench| {
+        start(&rt, bench);
+        passes(&rt, bench, 100, 10, passed(0, 10, 5, false));
+        passes(&rt, bench, 60, 20, dropped(0, 20, DropCause::Octets));
+        passes(&rt, bench, 10, 2010, dropped(0, 2010, DropCause::Closed));
+        let wanted = Counters::Gate {
+            list: ListCounters {
+                change_error: 0,
+                change_time: Some(0),
+                enabled: true,
+                pending: false,
+            },
+            invalid_rx: false,
+            octets_exceeded: true,
+        };
+        counts(&rt, bench, Key::Gate(gate_id(0)), wanted);
+        Ok(())
+    })
 }
 
 #[test]
 fn gate_octets_without_the_enable(rt: HostRuntime) -> Result<(), Fail> {
     let gate = listed_gate(rt.alloc(), false)?;
-    let mut bench = gated_bench(gate, filter(), rt.alloc())?;
-    start(&rt, &mut bench);
-    passes(&rt, &mut bench, 100, 10, passed(0, 10, 5, false));
-    passes(&rt, &mut bench, 60, 20, dropped(0, 20, DropCause::Octets));
-    passes(&rt, &mut bench, 50, 30, passed(0, 30, 5, false));
-    passes(
-        &rt,
-        &mut bench,
-        10,
-        1500,
-        dropped(0, 1500, DropCause::Closed),
-    );
-    passes(&rt, &mut bench, 100, 2010, passed(0, 2010, 5, false));
-    Ok(())
+    on_a_gated_bench(gate, filter(), rt.alloc(), |bench| {
+        start(&rt, bench);
+        passes(&rt, bench, 100, 10, passed(0, 10, 5, false));
+        passes(&rt, bench, 60, 20, dropped(0, 20, DropCause::Octets));
+        passes(&rt, bench, 50, 30, passed(0, 30, 5, false));
+        passes(&rt, bench, 10, 1500, dropped(0, 1500, DropCause::Closed));
+        passes(&rt, bench, 100, 2010, passed(0, 2010, 5, false));
+        Ok(())
+    })
 }
 
 /// The states of the listed gate: by its list, and an instant before the last act is past.
@@ -226,17 +216,12 @@ fn shows(rt: &impl Abort, bench: &mut Bench) {
 #[test]
 fn gate_states(rt: HostRuntime) -> Result<(), Fail> {
     let gate = listed_gate(rt.alloc(), false)?;
-    let mut bench = gated_bench(gate, filter(), rt.alloc())?;
-    start(&rt, &mut bench);
-    shows(&rt, &mut bench);
-    passes(
-        &rt,
-        &mut bench,
-        1,
-        2030,
-        dropped(0, 2030, DropCause::Closed),
-    );
-    Ok(())
+    on_a_gated_bench(gate, filter(), rt.alloc(), |bench| {
+        start(&rt, bench);
+        shows(&rt, bench);
+        passes(&rt, bench, 1, 2030, dropped(0, 2030, DropCause::Closed));
+        Ok(())
+    })
 }
 
 #[test]
@@ -246,25 +231,26 @@ fn oversize_blocks(rt: HostRuntime) -> Result<(), Fail> {
         oversize: true,
         ..filter()
     };
-    let mut bench = gated_bench(gate(rt.alloc()), filter, rt.alloc())?;
-    passes(&rt, &mut bench, 101, 0, dropped(0, 0, DropCause::Oversize));
-    passes(&rt, &mut bench, 50, 0, dropped(0, 0, DropCause::Blocked));
-    let wanted = FilterData {
-        blocked: true,
-        matching: 2,
-        not_passing: 0,
-        not_passing_sdu: 1,
-        passing: 0,
-        passing_sdu: 0,
-        red: 0,
-    };
-    counts(
-        &rt,
-        &bench,
-        Key::Filter(filter_id(0)),
-        Counters::Filter(wanted),
-    );
-    Ok(())
+    on_a_gated_bench(gate(rt.alloc()), filter, rt.alloc(), |bench| {
+        passes(&rt, bench, 101, 0, dropped(0, 0, DropCause::Oversize));
+        passes(&rt, bench, 50, 0, dropped(0, 0, DropCause::Blocked));
+        let wanted = FilterData {
+            blocked: true,
+            matching: 2,
+            not_passing: 0,
+            not_passing_sdu: 1,
+            passing: 0,
+            passing_sdu: 0,
+            red: 0,
+        };
+        counts(
+            &rt,
+            bench,
+            Key::Filter(filter_id(0)),
+            Counters::Filter(wanted),
+        );
+        Ok(())
+    })
 }
 
 /// Creates filters 4, 1 and 6 in this order.
@@ -276,10 +262,11 @@ fn create_three(bench: &mut Bench) -> Result<(), Fail> {
 
 #[test]
 fn least_filter(rt: HostRuntime) -> Result<(), Fail> {
-    let mut bench = bench_with(gate(rt.alloc()), rt.alloc())?;
-    create_three(&mut bench)?;
-    passes(&rt, &mut bench, 1, 0, passed(1, 0, 2, false));
-    Ok(())
+    on_a_bench(gate(rt.alloc()), rt.alloc(), |bench| {
+        create_three(bench)?;
+        passes(&rt, bench, 1, 0, passed(1, 0, 2, false));
+        Ok(())
+    })
 }
 
 /// A drop eligible frame that no filter matches passes as it came, at the bridge time 500.

@@ -332,28 +332,46 @@ pub(super) fn dropped(filter: u64, now: u64, cause: DropCause) -> Verdict
     }
 }
 
-/// A bench with gate 0.
-pub(super) fn bench_with(gate: StreamGate, alloc: Global) -> Result<Bench, Fail> {
+/// Plays on a bench with gate 0. One function makes the benches and lends them, so that a proof goes once over a bench's
+/// end.
+pub(super) fn on_a_bench<F: FnOnce(&mut Bench) -> Result<(), Fail>>(
+    gate: StreamGate,
+    alloc: Global,
+    play: F,
+) -> Result<(), Fail>
+    requires { F.IsAlwaysCallable play }
+{
     let mut bench = Bench::new(alloc)?;
     bench.edit(create_gate(0, gate))?;
-    Ok(bench)
+    play(&mut bench)
 }
 
-/// A bench with an open gate, a meter and filter 3, which names both.
-pub(super) fn metered_bench(alloc: Global, by: FlowMeter) -> Result<Bench, Fail> {
-    let mut bench = bench_with(gate(alloc), alloc)?;
-    bench.edit(create_meter(0, by))?;
-    bench.edit(create_filter(3, metered_filter()))?;
-    Ok(bench)
+/// Plays on a bench with an open gate, a meter and filter 3, which names both.
+pub(super) fn on_a_metered_bench<F: FnOnce(&mut Bench) -> Result<(), Fail>>(
+    alloc: Global,
+    by: FlowMeter,
+    play: F,
+) -> Result<(), Fail>
+    requires { F.IsAlwaysCallable play }
+{
+    on_a_bench(gate(alloc), alloc, |bench| {
+        bench.edit(create_meter(0, by))?;
+        bench.edit(create_filter(3, metered_filter()))?;
+        play(bench)
+    })
 }
 
-/// A bench with a gate and filter 0, which names it.
-pub(super) fn gated_bench(
+/// Plays on a bench with a gate and filter 0, which names it.
+pub(super) fn on_a_gated_bench<F: FnOnce(&mut Bench) -> Result<(), Fail>>(
     gate: StreamGate,
     filter: StreamFilter,
     alloc: Global,
-) -> Result<Bench, Fail> {
-    let mut bench = bench_with(gate, alloc)?;
-    bench.edit(create_filter(0, filter))?;
-    Ok(bench)
+    play: F,
+) -> Result<(), Fail>
+    requires { F.IsAlwaysCallable play }
+{
+    on_a_bench(gate, alloc, |bench| {
+        bench.edit(create_filter(0, filter))?;
+        play(bench)
+    })
 }
