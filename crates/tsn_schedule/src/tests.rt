@@ -4,7 +4,7 @@ ghost use Rattle.std.specs.Prelude.{◌≡◌, ◌<◌, ◌≤◌, ◌^◌, IfOk
 use crate::calendar::{change_time, earlier_sum, state_at};
 use crate::runner::{Past, Runner};
 use crate::timed::Timed;
-use std::alloc::Global;
+use std::alloc::{AllocError, Global};
 use std::process::Abort;
 use std::test::Fail;
 use tsn_types::lists::ControlList;
@@ -53,20 +53,20 @@ const OPEN_SHUT: &'static [(u8, u64)] = &[(255, 500), (0, 500)];
 
 const ALL_OPEN: &'static [(u8, u64)] = &[(255, 1000)];
 
-/// The change time of an apply, or an error where it is refused: a test that finds no memory ends by that.
-fn applied<E: Timed + Clone + Drop>(
+/// An apply is accepted, with this change time.
+fn applies<E: Timed + Clone + Drop>(
+    rt: &impl Abort,
     runner: &mut Runner<E>,
     schedule: &Schedule<E>,
     now: Instant,
-) -> Result<u64, Fail>
+    change: u64,
+)
     requires clones { (x y : E) → E.is_clone x y → y ≡ x }
     requires last { runner.old.last ≤ now }
     ensures last { runner.new.last ≤ now }
 {
-    match runner.apply(schedule, now) {
-        Ok(change) => Ok(change),
-        Err(_) => Err(Fail::from("refused")),
-    }
+    let found = runner.apply(schedule, now);
+    assert!(rt; matches!(found, Ok(at) if at == change));
 }
 
 /// The gates at an instant; none where the admin states stand.
@@ -85,7 +85,7 @@ fn ahead(rt: &impl Abort, alloc: Global, extension: u64) -> Result<Runner<PortEn
     let first = plan(alloc, ONE_TWO, 1000, extension, 0)?;
     let mut runner = Runner::new();
     assert_eq!(rt; runner.enable(instant(0)), None);
-    assert_eq!(rt; applied(&mut runner, &first, instant(2500))?, 3000);
+    applies(rt, &mut runner, &first, instant(2500), 3000);
     Ok(runner)
 }
 
@@ -104,80 +104,125 @@ fn changeover_ahead(rt: HostRuntime) -> Result<(), Fail> {
     Ok(())
 }
 
+/// The list starts again with each cycle, whether its gates were shut before then or not yet.
+fn starts_again(rt: &impl Abort, alloc: Global, cycle: u64, before: u64) -> Result<(), Fail>
+    requires cycle { (1 ≤ cycle) × (cycle ≤ 10 ^ 12) }
+    requires before { before ≤ 2 ^ 62 }
+{
+    let schedule = plan(alloc, ONE_TWO, cycle, 0, 0)?;
+    let mut runner = Runner::new();
+    assert_eq!(rt; runner.enable(instant(0)), None);
+    applies(rt, &mut runner, &schedule, instant(0), 0);
+    assert_eq!(rt; gates_at(&runner, before), Ok(Some(128)));
+    assert_eq!(rt; gates_at(&runner, cycle), Ok(Some(1)));
+    Ok(())
+}
+
 #[test]
 fn short_and_long_cycles(rt: HostRuntime) -> Result<(), Fail> {
-    let alloc = rt.alloc();
-    let long = plan(alloc, ONE_TWO, 1200, 0, 0)?;
-    let mut runner = Runner::new();
-    assert_eq!(rt; runner.enable(instant(0)), None);
-    assert_eq!(rt; applied(&mut runner, &long, instant(0))?, 0);
-    assert_eq!(rt; gates_at(&runner, 1100), Ok(Some(128)));
-    assert_eq!(rt; gates_at(&runner, 1200), Ok(Some(1)));
-    let short = plan(alloc, ONE_TWO, 800, 0, 0)?;
-    let mut runner = Runner::new();
-    assert_eq!(rt; runner.enable(instant(0)), None);
-    assert_eq!(rt; applied(&mut runner, &short, instant(0))?, 0);
-    assert_eq!(rt; gates_at(&runner, 799), Ok(Some(128)));
-    assert_eq!(rt; gates_at(&runner, 800), Ok(Some(1)));
-    Ok(())
+    starts_again(&rt, rt.alloc(), 1200, 1100)?;
+    starts_again(&rt, rt.alloc(), 800, 799)
+}
+
+/// A second list is applied to come into force at 5150, and then a third instead, at 7000. Until the second the first
+/// one's last cycle gives these gates.
+fn is_extended(
+    rt: &impl Abort,
+    runner: &mut Runner<PortEntry>,
+    second: &Schedule<PortEntry>,
+    third: &Schedule<PortEntry>,
+    last: u8,
+)
+    requires { runner.old.last ≤ 2500 }
+{
+    applies(rt, runner, second, instant(3500), 5150);
+    assert_eq!(rt; gates_at(runner, 4000), Ok(Some(1)));
+    assert_eq!(rt; gates_at(runner, 4999), Ok(Some(128)));
+    assert_eq!(rt; gates_at(runner, 5000), Ok(Some(last)));
+    assert_eq!(rt; gates_at(runner, 5149), Ok(Some(last)));
+    assert_eq!(rt; gates_at(runner, 5150), Ok(Some(255)));
+    applies(rt, runner, third, instant(3600), 7000);
+    assert_eq!(rt; gates_at(runner, 5000), Ok(Some(1)));
+    assert_eq!(rt; gates_at(runner, 5150), Ok(Some(1)));
 }
 
 #[test]
 fn cycle_extension(rt: HostRuntime) -> Result<(), Fail> {
-    let alloc = rt.alloc();
-    let second = plan(alloc, ALL_OPEN, 1000, 0, 5150)?;
-    let third = plan(alloc, ONE_TWO, 1000, 0, 7000)?;
+    let second = plan(rt.alloc(), ALL_OPEN, 1000, 0, 5150)?;
+    let third = plan(rt.alloc(), ONE_TWO, 1000, 0, 7000)?;
     for (extension, last) in [(200, 128), (0, 1)] {
-        let mut runner = ahead(&rt, alloc, extension)?;
-        assert_eq!(rt; applied(&mut runner, &second, instant(3500))?, 5150);
-        assert_eq!(rt; gates_at(&runner, 4000), Ok(Some(1)));
-        assert_eq!(rt; gates_at(&runner, 4999), Ok(Some(128)));
-        assert_eq!(rt; gates_at(&runner, 5000), Ok(Some(last)));
-        assert_eq!(rt; gates_at(&runner, 5149), Ok(Some(last)));
-        assert_eq!(rt; gates_at(&runner, 5150), Ok(Some(255)));
-        assert_eq!(rt; applied(&mut runner, &third, instant(3600))?, 7000);
-        assert_eq!(rt; gates_at(&runner, 5000), Ok(Some(1)));
-        assert_eq!(rt; gates_at(&runner, 5150), Ok(Some(1)));
+        let mut runner = ahead(&rt, rt.alloc(), extension)?;
+        is_extended(&rt, &mut runner, &second, &third, last);
     }
     Ok(())
 }
 
-#[test]
-fn start_held_back_stays_held_back(rt: HostRuntime) -> Result<(), Fail> {
-    let alloc = rt.alloc();
-    let second = plan(alloc, ALL_OPEN, 1000, 0, 5150)?;
-    let third = plan(alloc, ONE_TWO, 1000, 0, 7000)?;
-    let mut runner = ahead(&rt, alloc, 200)?;
-    assert_eq!(rt; applied(&mut runner, &second, instant(3500))?, 5150);
-    assert_eq!(rt; applied(&mut runner, &third, instant(5100))?, 7000);
-    assert_eq!(rt; gates_at(&runner, 5120), Ok(Some(128)));
+/// A third list is applied while a start is held back for the second.
+fn stays_held_back(
+    rt: &impl Abort,
+    runner: &mut Runner<PortEntry>,
+    second: &Schedule<PortEntry>,
+    third: &Schedule<PortEntry>,
+)
+    requires { runner.old.last ≤ 2500 }
+{
+    applies(rt, runner, second, instant(3500), 5150);
+    applies(rt, runner, third, instant(5100), 7000);
+    assert_eq!(rt; gates_at(runner, 5120), Ok(Some(128)));
     assert_eq!(rt; runner.begin_at(instant(5120)), Ok(Some(4300)));
-    assert_eq!(rt; gates_at(&runner, 5999), Ok(Some(128)));
-    assert_eq!(rt; gates_at(&runner, 6000), Ok(Some(1)));
-    Ok(())
+    assert_eq!(rt; gates_at(runner, 5999), Ok(Some(128)));
+    assert_eq!(rt; gates_at(runner, 6000), Ok(Some(1)));
 }
 
 #[test]
-fn restored_list(rt: HostRuntime) -> Result<(), Fail> {
-    let alloc = rt.alloc();
-    let other = plan(alloc, OPEN_SHUT, 1000, 0, 0)?;
-    let first = plan(alloc, ONE_TWO, 1000, 0, 0)?;
-    let later = plan(alloc, ONE_TWO, 1000, 0, 12000)?;
-    let mut runner = ahead(&rt, alloc, 0)?;
-    assert_eq!(rt; applied(&mut runner, &other, instant(5000))?, 5000);
-    assert_eq!(rt; applied(&mut runner, &first, instant(9001))?, 10000);
-    assert_eq!(rt; gates_at(&runner, 9999), Ok(Some(0)));
-    assert_eq!(rt; gates_at(&runner, 10000), Ok(Some(1)));
-    assert_eq!(rt; gates_at(&runner, 10299), Ok(Some(1)));
-    assert_eq!(rt; gates_at(&runner, 10300), Ok(Some(128)));
+fn start_held_back_stays_held_back(rt: HostRuntime) -> Result<(), Fail> {
+    let second = plan(rt.alloc(), ALL_OPEN, 1000, 0, 5150)?;
+    let third = plan(rt.alloc(), ONE_TWO, 1000, 0, 7000)?;
+    let mut runner = ahead(&rt, rt.alloc(), 200)?;
+    stays_held_back(&rt, &mut runner, &second, &third);
+    Ok(())
+}
+
+/// The first list is applied again after the other one, with errors counted for its base.
+fn is_restored(
+    rt: &impl Abort,
+    runner: &mut Runner<PortEntry>,
+    other: &Schedule<PortEntry>,
+    first: &Schedule<PortEntry>,
+)
+    requires { runner.old.last ≤ 2500 }
+    ensures { runner.new.last ≤ 9001 }
+{
+    applies(rt, runner, other, instant(5000), 5000);
+    applies(rt, runner, first, instant(9001), 10000);
+    assert_eq!(rt; gates_at(runner, 9999), Ok(Some(0)));
+    assert_eq!(rt; gates_at(runner, 10000), Ok(Some(1)));
+    assert_eq!(rt; gates_at(runner, 10299), Ok(Some(1)));
+    assert_eq!(rt; gates_at(runner, 10300), Ok(Some(128)));
     assert_eq!(rt; runner.errors(), 2);
     assert_eq!(rt; runner.change(), Some(10000));
     assert!(rt; runner.is_enabled());
     assert!(rt; runner.is_pending(instant(9001)));
-    assert_eq!(rt; applied(&mut runner, &later, instant(12000))?, 12000);
+}
+
+/// A base at the instant of the apply is no error, and no change is pending at its own time.
+fn has_no_error(rt: &impl Abort, runner: &mut Runner<PortEntry>, later: &Schedule<PortEntry>)
+    requires { runner.old.last ≤ 9001 }
+{
+    applies(rt, runner, later, instant(12000), 12000);
     assert_eq!(rt; runner.errors(), 2);
     assert_eq!(rt; runner.change(), Some(12000));
     assert!(rt; !runner.is_pending(instant(12000)));
+}
+
+#[test]
+fn restored_list(rt: HostRuntime) -> Result<(), Fail> {
+    let other = plan(rt.alloc(), OPEN_SHUT, 1000, 0, 0)?;
+    let first = plan(rt.alloc(), ONE_TWO, 1000, 0, 0)?;
+    let mut runner = ahead(&rt, rt.alloc(), 0)?;
+    is_restored(&rt, &mut runner, &other, &first);
+    let later = plan(rt.alloc(), ONE_TWO, 1000, 0, 12000)?;
+    has_no_error(&rt, &mut runner, &later);
     Ok(())
 }
 
@@ -194,60 +239,102 @@ fn simple_refusals(rt: HostRuntime) -> Result<(), Fail> {
     Ok(())
 }
 
-#[test]
-fn disable_and_enable(rt: HostRuntime) -> Result<(), Fail> {
-    let alloc = rt.alloc();
-    let other = plan(alloc, OPEN_SHUT, 1000, 0, 0)?;
-    let mut runner = ahead(&rt, alloc, 0)?;
-    assert_eq!(rt; applied(&mut runner, &other, instant(5200))?, 6000);
+/// A disable drops the pending list, and an enable puts the one in force before it in force again.
+fn is_disabled_and_enabled(
+    rt: &impl Abort,
+    runner: &mut Runner<PortEntry>,
+    other: &Schedule<PortEntry>,
+)
+    requires { runner.old.last ≤ 2500 }
+{
+    applies(rt, runner, other, instant(5200), 6000);
     runner.disable(instant(5500));
     assert!(rt; !runner.is_enabled());
     assert_eq!(rt; runner.change(), None);
-    assert_eq!(rt; gates_at(&runner, 6000), Ok(None));
+    assert_eq!(rt; gates_at(runner, 6000), Ok(None));
     assert_eq!(rt; runner.enable(instant(7100)), Some(8000));
     assert!(rt; runner.is_pending(instant(7100)));
-    assert_eq!(rt; gates_at(&runner, 7999), Ok(None));
-    assert_eq!(rt; gates_at(&runner, 8000), Ok(Some(1)));
-    assert_eq!(rt; gates_at(&runner, 8300), Ok(Some(128)));
+    assert_eq!(rt; gates_at(runner, 7999), Ok(None));
+    assert_eq!(rt; gates_at(runner, 8000), Ok(Some(1)));
+    assert_eq!(rt; gates_at(runner, 8300), Ok(Some(128)));
     assert_eq!(rt; runner.enable(instant(8400)), None);
-    assert_eq!(rt; gates_at(&runner, 7100), Ok(None));
-    Ok(())
+    assert_eq!(rt; gates_at(runner, 7100), Ok(None));
 }
 
 #[test]
-fn gate_octets(rt: HostRuntime) -> Result<(), Fail> {
-    let open = GateEntry {
-        is_open: true,
-        ipv: Some(Priority::new(5).unwrap()),
+fn disable_and_enable(rt: HostRuntime) -> Result<(), Fail> {
+    let other = plan(rt.alloc(), OPEN_SHUT, 1000, 0, 0)?;
+    let mut runner = ahead(&rt, rt.alloc(), 0)?;
+    is_disabled_and_enabled(&rt, &mut runner, &other);
+    Ok(())
+}
+
+/// The entry at an instant is this one.
+fn is_at(rt: &impl Abort, runner: &Runner<GateEntry>, t: u64, wanted: &GateEntry)
+    requires { t ≤ 2 ^ 62 }
+{
+    let found = runner.states_at(instant(t));
+    assert!(rt; matches!(found, Ok(Some(entry)) if entry == wanted));
+}
+
+/// A gate's list, in force from instant 0 on.
+fn plays(rt: &impl Abort, runner: &mut Runner<GateEntry>, schedule: &Schedule<GateEntry>)
+    requires { runner.old.last ≤ 0 }
+{
+    assert_eq!(rt; runner.enable(instant(0)), None);
+    applies(rt, runner, schedule, instant(0), 0);
+    assert_eq!(rt; runner.begin_at(instant(20)), Ok(Some(0)));
+    assert_eq!(rt; runner.begin_at(instant(1500)), Ok(Some(1000)));
+    assert_eq!(rt; runner.begin_at(instant(2010)), Ok(Some(2000)));
+    assert_eq!(rt; runner.errors(), 0);
+    assert_eq!(rt; runner.change(), Some(0));
+    assert!(rt; !runner.is_pending(instant(0)));
+}
+
+fn priority_5() -> Option<Priority> {
+    Some(Priority::new(5).unwrap())
+}
+
+fn octets_150() -> Option<Octets> {
+    Some(Octets::new(150).unwrap())
+}
+
+/// An entry of a microsecond.
+fn gate_entry(is_open: bool, ipv: Option<Priority>, octets: Option<Octets>) -> GateEntry {
+    GateEntry {
+        is_open,
+        ipv,
         interval: Interval::new(1000).unwrap(),
-        octets: Some(Octets::new(150).unwrap()),
-    };
-    let shut = GateEntry {
-        is_open: false,
-        ipv: None,
-        interval: Interval::new(1000).unwrap(),
-        octets: None,
-    };
-    let mut list = ControlList::new(rt.alloc());
-    list.push(open)?;
-    list.push(shut)?;
-    let schedule = Schedule {
+        octets,
+    }
+}
+
+/// A gate's list, open with these members and then shut, with a cycle of two microseconds.
+fn gate_plan(
+    alloc: Global,
+    ipv: Option<Priority>,
+    octets: Option<Octets>,
+) -> Result<Schedule<GateEntry>, AllocError> {
+    let mut list = ControlList::new(alloc);
+    list.push(gate_entry(true, ipv, octets))?;
+    list.push(gate_entry(false, None, None))?;
+    Ok(Schedule {
         list,
         cycle: Cycle::new(2000).unwrap(),
         extension: Extension::new(0).unwrap(),
         base: instant(0),
-    };
+    })
+}
+
+#[test]
+fn gate_octets(rt: HostRuntime) -> Result<(), Fail> {
+    let schedule = gate_plan(rt.alloc(), priority_5(), octets_150())?;
     let mut runner = Runner::new();
-    assert_eq!(rt; runner.enable(instant(0)), None);
-    assert_eq!(rt; applied(&mut runner, &schedule, instant(0))?, 0);
-    assert_eq!(rt; runner.states_at(instant(500))?.copied(), Some(open));
-    assert_eq!(rt; runner.states_at(instant(1500))?.copied(), Some(shut));
-    assert_eq!(rt; runner.begin_at(instant(20))?, Some(0));
-    assert_eq!(rt; runner.begin_at(instant(1500))?, Some(1000));
-    assert_eq!(rt; runner.begin_at(instant(2010))?, Some(2000));
-    assert_eq!(rt; runner.errors(), 0);
-    assert_eq!(rt; runner.change(), Some(0));
-    assert!(rt; !runner.is_pending(instant(0)));
+    plays(&rt, &mut runner, &schedule);
+    let open = gate_entry(true, priority_5(), octets_150());
+    is_at(&rt, &runner, 500, &open);
+    let shut = gate_entry(false, None, None);
+    is_at(&rt, &runner, 1500, &shut);
     Ok(())
 }
 
@@ -266,30 +353,47 @@ fn one_list_by_its_offsets(rt: HostRuntime) -> Result<(), Fail> {
     Ok(())
 }
 
-/// No cycle is walked: the greatest instants answer at once. A change time may lie after the greatest instant.
+/// A change time may lie after the greatest instant.
 #[test]
-fn greatest_instants(rt: HostRuntime) -> Result<(), Fail> {
-    let alloc = rt.alloc();
+fn latest_change_time(rt: HostRuntime) {
     let greatest = 1 << 62;
-    let cycle = Cycle::new(1_000_000_000_000)?;
+    let cycle = Cycle::new(1_000_000_000_000).unwrap();
     let late = change_time(instant(greatest - 1), cycle, instant(greatest));
     assert_eq!(rt; late, greatest - 1 + 1_000_000_000_000);
-    let shortest = plan(alloc, ONE_TWO, 1, 0, 0)?;
-    let mut runner = Runner::new();
+}
+
+/// The shortest cycle up to the greatest instant, and then an apply of the longest one.
+fn reaches_the_greatest_instant(
+    rt: &impl Abort,
+    runner: &mut Runner<PortEntry>,
+    shortest: &Schedule<PortEntry>,
+    next: &Schedule<PortEntry>,
+)
+    requires { runner.old.last ≤ 0 }
+{
+    let greatest = 1 << 62;
     assert_eq!(rt; runner.enable(instant(0)), None);
-    assert_eq!(rt; applied(&mut runner, &shortest, instant(0))?, 0);
-    assert_eq!(rt; gates_at(&runner, greatest), Ok(Some(1)));
+    applies(rt, runner, shortest, instant(0), 0);
+    assert_eq!(rt; gates_at(runner, greatest), Ok(Some(1)));
     assert_eq!(rt; runner.begin_at(instant(greatest)), Ok(Some(greatest)));
-    let next = plan(alloc, ALL_OPEN, 1_000_000_000_000, 0, greatest - 1)?;
-    assert_eq!(rt; applied(&mut runner, &next, instant(greatest))?, late);
-    assert_eq!(rt; gates_at(&runner, greatest), Ok(Some(1)));
+    let late = greatest - 1 + 1_000_000_000_000;
+    applies(rt, runner, next, instant(greatest), late);
+    assert_eq!(rt; gates_at(runner, greatest), Ok(Some(1)));
+}
+
+/// No cycle is walked: the greatest instants answer at once.
+#[test]
+fn greatest_instants(rt: HostRuntime) -> Result<(), Fail> {
+    let shortest = plan(rt.alloc(), ONE_TWO, 1, 0, 0)?;
+    let next = plan(rt.alloc(), ALL_OPEN, 1_000_000_000_000, 0, (1 << 62) - 1)?;
+    let mut runner = Runner::new();
+    reaches_the_greatest_instant(&rt, &mut runner, &shortest, &next);
     Ok(())
 }
 
-/// The largest list is copied, and its last entry is reached.
-#[test]
-fn largest_list(rt: HostRuntime) -> Result<(), Fail> {
-    let mut list = ControlList::new(rt.alloc());
+/// A port's schedule of the most entries: gates 1, and 128 in the last one.
+fn largest_plan(alloc: Global) -> Result<Schedule<PortEntry>, Fail> {
+    let mut list = ControlList::new(alloc);
     for _ in 0..1023 {
         list.push(PortEntry {
             gates: 1,
@@ -300,15 +404,21 @@ fn largest_list(rt: HostRuntime) -> Result<(), Fail> {
         gates: 128,
         interval: Interval::new(2).unwrap(),
     })?;
-    let schedule = Schedule {
+    Ok(Schedule {
         list,
         cycle: Cycle::new(2048).unwrap(),
         extension: Extension::new(0).unwrap(),
         base: instant(0),
-    };
+    })
+}
+
+/// The largest list is copied, and its last entry is reached.
+#[test]
+fn largest_list(rt: HostRuntime) -> Result<(), Fail> {
+    let schedule = largest_plan(rt.alloc())?;
     let mut runner = Runner::new();
     assert_eq!(rt; runner.enable(instant(0)), None);
-    assert_eq!(rt; applied(&mut runner, &schedule, instant(1))?, 2048);
+    applies(&rt, &mut runner, &schedule, instant(1), 2048);
     drop(schedule);
     assert_eq!(rt; gates_at(&runner, 2048 + 2045), Ok(Some(1)));
     assert_eq!(rt; gates_at(&runner, 2048 + 2046), Ok(Some(128)));

@@ -2,17 +2,18 @@
 
 mod literals;
 
-use crate::keys::Kind;
+use crate::keys::{Key, Kind};
 use crate::limits::Limits;
 use crate::numbers::{
     BitRate, Cycle, Extension, FilterId, GateId, Handle, Instant, Interval, MaxSdu, MeterId,
     Octets, PortId, Priority, Range,
 };
-use crate::records::{Record, RecordRef, Refs, StreamFilter, StreamGate};
+use crate::records::{PortGates, Record, RecordRef, Refs, StreamFilter, StreamGate};
 use crate::refusals::{Field, Refusal};
 use literals::{filter, filter_key, gate, gate_key, meter, meter_key, port, port_key};
 use std::alloc::{AllocError, AllocFailed};
 use std::cmp::Ordering;
+use std::process::Abort;
 use std::test::Fail;
 
 #[test]
@@ -129,46 +130,53 @@ fn instants_and_cycles_keep_their_ranges(rt: HostRuntime) {
 }
 
 #[test]
-fn a_key_tells_its_kind(rt: HostRuntime) -> Result<(), Fail> {
-    assert_eq!(rt; port_key(1)?.kind(), Kind::Port);
-    assert_eq!(rt; filter_key(1)?.kind(), Kind::Filter);
-    assert_eq!(rt; gate_key(1)?.kind(), Kind::Gate);
-    assert_eq!(rt; meter_key(1)?.kind(), Kind::Meter);
-    Ok(())
+fn a_key_tells_its_kind(rt: HostRuntime) {
+    assert_eq!(rt; port_key(1).kind(), Kind::Port);
+    assert_eq!(rt; filter_key(1).kind(), Kind::Filter);
+    assert_eq!(rt; gate_key(1).kind(), Kind::Gate);
+    assert_eq!(rt; meter_key(1).kind(), Kind::Meter);
 }
 
 #[test]
-fn keys_are_ordered_by_kind_and_then_by_number(rt: HostRuntime) -> Result<(), Fail> {
+fn keys_are_ordered_by_kind_and_then_by_number(rt: HostRuntime) {
     for (left, right, wanted) in [
-        (port_key(64)?, filter_key(0)?, Ordering::Less),
-        (filter_key(65_535)?, gate_key(0)?, Ordering::Less),
-        (gate_key(65_535)?, meter_key(0)?, Ordering::Less),
-        (meter_key(0)?, port_key(64)?, Ordering::Greater),
-        (gate_key(9)?, gate_key(10)?, Ordering::Less),
-        (gate_key(10)?, gate_key(9)?, Ordering::Greater),
-        (gate_key(9)?, gate_key(9)?, Ordering::Equal),
+        (port_key(64), filter_key(0), Ordering::Less),
+        (filter_key(65_535), gate_key(0), Ordering::Less),
+        (gate_key(65_535), meter_key(0), Ordering::Less),
+        (meter_key(0), port_key(64), Ordering::Greater),
+        (gate_key(9), gate_key(10), Ordering::Less),
+        (gate_key(10), gate_key(9), Ordering::Greater),
+        (gate_key(9), gate_key(9), Ordering::Equal),
     ] {
         assert_eq!(rt; left.order(right), wanted, "{left:?} to {right:?}");
     }
+}
+
+fn port_is_copied(rt: &impl Abort, port: &PortGates) -> Result<(), AllocError> {
+    assert!(rt; port.admin.try_clone()? == port.admin);
+    assert!(rt; port.try_clone()? == *port);
+    Ok(())
+}
+
+fn gate_is_copied(rt: &impl Abort, gate: &StreamGate) -> Result<(), AllocError> {
+    assert!(rt; gate.admin.try_clone()? == gate.admin);
+    assert!(rt; gate.try_clone()? == *gate);
+    Ok(())
+}
+
+fn is_copied(rt: &impl Abort, record: &Record) -> Result<(), AllocError> {
+    assert!(rt; record.try_clone()? == *record, "{record:?}");
     Ok(())
 }
 
 #[test]
 fn copies_are_equal(rt: HostRuntime) -> Result<(), Fail> {
-    let port = port(rt.alloc())?;
-    assert!(rt; port.admin.try_clone()? == port.admin);
-    assert!(rt; port.try_clone()? == port);
-    let gate = gate(rt.alloc())?;
-    assert!(rt; gate.admin.try_clone()? == gate.admin);
-    assert!(rt; gate.try_clone()? == gate);
-    for record in [
-        Record::Port(port),
-        Record::Filter(filter()),
-        Record::Gate(gate),
-        Record::Meter(meter()),
-    ] {
-        assert!(rt; record.try_clone()? == record, "{record:?}");
-    }
+    port_is_copied(&rt, &port(rt.alloc())?)?;
+    gate_is_copied(&rt, &gate(rt.alloc())?)?;
+    is_copied(&rt, &Record::Port(port(rt.alloc())?))?;
+    is_copied(&rt, &Record::Filter(filter()))?;
+    is_copied(&rt, &Record::Gate(gate(rt.alloc())?))?;
+    is_copied(&rt, &Record::Meter(meter()))?;
     Ok(())
 }
 
@@ -184,66 +192,74 @@ fn records_differ_by_kind_and_by_member(rt: HostRuntime) {
     assert!(rt; kept != Record::Meter(meter()));
 }
 
-#[test]
-fn a_lent_record_is_the_record(rt: HostRuntime) -> Result<(), Fail> {
-    let (port, filter, gate, meter) = (port(rt.alloc())?, filter(), gate(rt.alloc())?, meter());
-    let closed = Record::Gate(StreamGate {
+/// The lent record is its copy, and no closed gate.
+fn is_its_copy(rt: &impl Abort, lent: RecordRef, closed: &Record) -> Result<(), AllocError> {
+    assert!(rt; lent.is(&lent.try_clone()?), "{lent:?}");
+    assert!(rt; !lent.is(closed), "{lent:?}");
+    Ok(())
+}
+
+/// A closed gate, otherwise as the other.
+fn closed(gate: &StreamGate) -> Result<Record, AllocError> {
+    Ok(Record::Gate(StreamGate {
         is_open: false,
         ..gate.try_clone()?
-    });
-    for lent in [
-        RecordRef::Port(&port),
-        RecordRef::Filter(&filter),
-        RecordRef::Gate(&gate),
-        RecordRef::Meter(&meter),
-    ] {
-        assert!(rt; lent.is(&lent.try_clone()?), "{lent:?}");
-        assert!(rt; !lent.is(&closed), "{lent:?}");
-    }
-    assert!(rt; RecordRef::Gate(&gate).try_clone()? == Record::Gate(gate));
+    }))
+}
+
+#[test]
+fn a_lent_record_is_the_record(rt: HostRuntime) -> Result<(), Fail> {
+    let gate = gate(rt.alloc())?;
+    let closed = closed(&gate)?;
+    is_its_copy(&rt, RecordRef::Port(&port(rt.alloc())?), &closed)?;
+    is_its_copy(&rt, RecordRef::Filter(&filter()), &closed)?;
+    is_its_copy(&rt, RecordRef::Gate(&gate), &closed)?;
+    is_its_copy(&rt, RecordRef::Meter(&meter()), &closed)?;
+    assert!(rt; RecordRef::Gate(&gate).is(&Record::Gate(gate.try_clone()?)));
     Ok(())
+}
+
+/// The record refers to just these keys.
+fn refers_to_just(rt: &impl Abort, record: &Record, first: Option<Key>, second: Option<Key>) {
+    assert_eq!(rt; record.refs(), Refs { first, second }, "{record:?}");
+    for key in [
+        port_key(5),
+        filter_key(9),
+        gate_key(9),
+        gate_key(5),
+        meter_key(5),
+    ] {
+        let wanted = first == Some(key) || second == Some(key);
+        assert_eq!(rt; record.refers_to(&key), wanted, "{record:?} {key:?}");
+    }
 }
 
 #[test]
 fn a_filter_refers_to_its_gate_and_meter(rt: HostRuntime) -> Result<(), Fail> {
+    let gate_9 = Some(gate_key(9));
     let unmetered = StreamFilter {
         meter: None,
         ..filter()
     };
-    for (record, first, second) in [
-        (
-            Record::Filter(filter()),
-            Some(gate_key(9)?),
-            Some(meter_key(5)?),
-        ),
-        (Record::Filter(unmetered), Some(gate_key(9)?), None),
-        (Record::Port(port(rt.alloc())?), None, None),
-        (Record::Gate(gate(rt.alloc())?), None, None),
-        (Record::Meter(meter()), None, None),
-    ] {
-        assert_eq!(rt; record.refs(), Refs { first, second }, "{record:?}");
-        for key in [
-            port_key(5)?,
-            filter_key(9)?,
-            gate_key(9)?,
-            gate_key(5)?,
-            meter_key(5)?,
-        ] {
-            let wanted = first == Some(key) || second == Some(key);
-            assert_eq!(rt; record.refers_to(&key), wanted, "{record:?} {key:?}");
-        }
-    }
+    refers_to_just(&rt, &Record::Filter(filter()), gate_9, Some(meter_key(5)));
+    refers_to_just(&rt, &Record::Filter(unmetered), gate_9, None);
+    refers_to_just(&rt, &Record::Port(port(rt.alloc())?), None, None);
+    refers_to_just(&rt, &Record::Gate(gate(rt.alloc())?), None, None);
+    refers_to_just(&rt, &Record::Meter(meter()), None, None);
     Ok(())
+}
+
+fn tells_ranges(rt: &impl Abort, record: &Record) -> Result<(), AllocError> {
+    record.tell_ranges();
+    is_copied(rt, record)
 }
 
 #[test]
 fn ranges_are_told_of_every_record(rt: HostRuntime) -> Result<(), Fail> {
-    let port = Record::Port(port(rt.alloc())?);
-    port.tell_ranges();
-    Record::Filter(filter()).tell_ranges();
-    Record::Gate(gate(rt.alloc())?).tell_ranges();
-    Record::Meter(meter()).tell_ranges();
-    assert!(rt; port.try_clone()? == port);
+    tells_ranges(&rt, &Record::Port(port(rt.alloc())?))?;
+    tells_ranges(&rt, &Record::Filter(filter()))?;
+    tells_ranges(&rt, &Record::Gate(gate(rt.alloc())?))?;
+    tells_ranges(&rt, &Record::Meter(meter()))?;
     Ok(())
 }
 
@@ -267,24 +283,27 @@ fn limits_keep_their_ranges(rt: HostRuntime) {
     }
 }
 
-#[test]
-fn limits_hold_ports_from_1_and_the_rest_from_0(rt: HostRuntime) -> Result<(), Fail> {
-    let limits = Limits::new(2, 16, 9, 8, 16)?;
+fn holds_its_keys(rt: &impl Abort, limits: &Limits) {
     assert_eq!(rt; limits.ports(), 2);
     for (key, wanted) in [
-        (port_key(1)?, true),
-        (port_key(2)?, true),
-        (port_key(3)?, false),
-        (filter_key(0)?, true),
-        (filter_key(15)?, true),
-        (filter_key(16)?, false),
-        (gate_key(8)?, true),
-        (gate_key(9)?, false),
-        (meter_key(7)?, true),
-        (meter_key(8)?, false),
+        (port_key(1), true),
+        (port_key(2), true),
+        (port_key(3), false),
+        (filter_key(0), true),
+        (filter_key(15), true),
+        (filter_key(16), false),
+        (gate_key(8), true),
+        (gate_key(9), false),
+        (meter_key(7), true),
+        (meter_key(8), false),
     ] {
         assert_eq!(rt; limits.holds(key), wanted, "{key:?}");
     }
+}
+
+#[test]
+fn limits_hold_ports_from_1_and_the_rest_from_0(rt: HostRuntime) -> Result<(), Fail> {
+    holds_its_keys(&rt, &Limits::new(2, 16, 9, 8, 16)?);
     Ok(())
 }
 
@@ -299,16 +318,17 @@ fn refusal_within(
     Ok(limits.refuse(record))
 }
 
+/// A record on a bridge whose lists have at most so many entries.
+fn is_answered(rt: &impl Abort, list: u64, record: &Record, wanted: Option<Refusal>) {
+    assert_eq!(rt; refusal_within(1, 1, list, record), Ok(wanted));
+}
+
 #[test]
 fn a_list_outside_the_limits_is_refused(rt: HostRuntime) -> Result<(), Fail> {
-    let port = Record::Port(port(rt.alloc())?);
-    let gate = Record::Gate(gate(rt.alloc())?);
-    assert_eq!(rt; refusal_within(1, 1, 2, &port), Ok(None));
-    assert_eq!(rt;
-        refusal_within(1, 1, 1, &port),
-        Ok(Some(Refusal::Range(Field::List)))
-    );
-    assert_eq!(rt; refusal_within(1, 1, 1, &gate), Ok(None));
+    is_answered(&rt, 2, &Record::Port(port(rt.alloc())?), None);
+    let wanted = Some(Refusal::Range(Field::List));
+    is_answered(&rt, 1, &Record::Port(port(rt.alloc())?), wanted);
+    is_answered(&rt, 1, &Record::Gate(gate(rt.alloc())?), None);
     Ok(())
 }
 
@@ -328,17 +348,17 @@ fn a_reference_outside_the_limits_is_refused(rt: HostRuntime) {
 }
 
 #[test]
-fn refusals_have_numbers_and_names(rt: HostRuntime) -> Result<(), Fail> {
+fn refusals_have_numbers_and_names(rt: HostRuntime) {
     for (why, number, name) in [
         (Refusal::TooLong, 1, "too_long"),
         (Refusal::Syntax, 2, "syntax"),
         (Refusal::Shape, 3, "shape"),
         (Refusal::Range(Field::Key), 4, "range"),
         (Refusal::NoSession, 5, "no_session"),
-        (Refusal::Missing(gate_key(9)?), 6, "missing"),
-        (Refusal::Exists(gate_key(9)?), 7, "exists"),
-        (Refusal::Dangling(gate_key(9)?), 8, "dangling"),
-        (Refusal::Referred(gate_key(9)?), 9, "referred"),
+        (Refusal::Missing(gate_key(9)), 6, "missing"),
+        (Refusal::Exists(gate_key(9)), 7, "exists"),
+        (Refusal::Dangling(gate_key(9)), 8, "dangling"),
+        (Refusal::Referred(gate_key(9)), 9, "referred"),
         (Refusal::NothingToUndo, 10, "nothing_to_undo"),
         (Refusal::Conflict { own: 1, other: 2 }, 11, "conflict"),
         (Refusal::NothingToRedo, 12, "nothing_to_redo"),
@@ -352,7 +372,6 @@ fn refusals_have_numbers_and_names(rt: HostRuntime) -> Result<(), Fail> {
         assert_eq!(rt; why.number(), number, "{why:?}");
         assert_eq!(rt; why.name(), name);
     }
-    Ok(())
 }
 
 #[test]

@@ -1,10 +1,11 @@
 //! Keys and records of the worked examples.
+ghost use Rattle.std.specs.Prelude.{◌≤◌};
 
 use crate::keys::Key;
 use crate::lists::ControlList;
 use crate::numbers::{
     BitRate, Cycle, Extension, FilterId, GateId, Handle, Instant, Interval, MaxSdu, MeterId,
-    Octets, PortId, Priority, Range,
+    Octets, PortId, Priority,
 };
 use crate::records::{
     FlowMeter, GateEntry, PortEntry, PortGates, Schedule, StreamFilter, StreamGate,
@@ -79,18 +80,26 @@ pub(super) fn gate(alloc: Global) -> Result<StreamGate, AllocError> {
     })
 }
 
-pub(super) fn port_key(number: u64) -> Result<Key, Range> {
-    Ok(Key::Port(PortId::new(number)?))
+pub(super) fn port_key(number: u64) -> Key
+    requires { (1 ≤ number) × (number ≤ 64) }
+{
+    Key::Port(PortId::new(number).unwrap())
 }
 
-pub(super) fn filter_key(number: u64) -> Result<Key, Range> {
-    Ok(Key::Filter(FilterId::new(number)?))
+pub(super) fn filter_key(number: u64) -> Key
+    requires { number ≤ 65535 }
+{
+    Key::Filter(FilterId::new(number).unwrap())
 }
 
-pub(super) fn gate_key(number: u64) -> Result<Key, Range> {
-    Ok(Key::Gate(GateId::new(number)?))
+pub(super) fn gate_key(number: u64) -> Key
+    requires { number ≤ 65535 }
+{
+    Key::Gate(GateId::new(number).unwrap())
 }
 
-pub(super) fn meter_key(number: u64) -> Result<Key, Range> {
-    Ok(Key::Meter(MeterId::new(number)?))
+pub(super) fn meter_key(number: u64) -> Key
+    requires { number ≤ 65535 }
+{
+    Key::Meter(MeterId::new(number).unwrap())
 }
