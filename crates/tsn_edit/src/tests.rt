@@ -1,64 +1,86 @@
+ghost use Rattle.std.specs.Prelude.{◌≤◌};
+
 use crate::{Change, Edit, conflicts};
-use std::alloc::Global;
+use std::alloc::{AllocError, Global};
+use std::process::Abort;
 use std::test::Fail;
 use tsn_types::keys::Key;
 use tsn_types::lists::ControlList;
 use tsn_types::numbers::{
-    BitRate, Cycle, Extension, FilterId, GateId, Instant, Interval, MeterId, Octets, PortId, Range,
+    BitRate, Cycle, Extension, FilterId, GateId, Instant, Interval, MeterId, Octets, PortId,
 };
 use tsn_types::records::{FlowMeter, PortEntry, PortGates, Record, Schedule, StreamFilter};
 
-fn meter(committed_burst: u64) -> Result<Record, Range> {
-    Ok(Record::Meter(FlowMeter {
-        cir: BitRate::new(8_000_000)?,
-        cbs: Octets::new(committed_burst)?,
-        eir: BitRate::new(0)?,
-        ebs: Octets::new(0)?,
+fn meter() -> Record {
+    Record::Meter(FlowMeter {
+        cir: BitRate::new(8_000_000).unwrap(),
+        cbs: Octets::new(1500).unwrap(),
+        eir: BitRate::new(0).unwrap(),
+        ebs: Octets::new(0).unwrap(),
         cf: false,
         aware: false,
         drop_yellow: false,
         all_red: false,
-    }))
+    })
+}
+
+fn meter_key(number: u64) -> Key
+    requires { number ≤ 65535 }
+{
+    Key::Meter(MeterId::new(number).unwrap())
+}
+
+fn port_key() -> Key {
+    Key::Port(PortId::new(2).unwrap())
+}
+
+fn gate_key(number: u64) -> Key
+    requires { number ≤ 65535 }
+{
+    Key::Gate(GateId::new(number).unwrap())
 }
 
 /// A port whose gates are all open, and whose list has this many entries.
-fn port(alloc: Global, gates: u8, length: usize) -> Result<Record, Fail> {
+fn port(alloc: Global, gates: u8, length: usize) -> Result<Record, AllocError> {
     let mut list = ControlList::new(alloc);
     for _ in 0..length {
         list.push(PortEntry {
             gates,
-            interval: Interval::new(300)?,
+            interval: Interval::new(300).unwrap(),
         })?;
     }
     Ok(Record::Port(PortGates {
         gates: 255,
         admin: Schedule {
             list,
-            cycle: Cycle::new(1000)?,
-            extension: Extension::new(0)?,
-            base: Instant::new(0)?,
+            cycle: Cycle::new(1000).unwrap(),
+            extension: Extension::new(0).unwrap(),
+            base: Instant::new(0).unwrap(),
         },
     }))
 }
 
 /// Filter 3 on gate 1 and meter 5, changed from gate 0 and meter 4.
-fn moved_filter() -> Result<Change, Range> {
-    Ok(Change {
-        key: Key::Filter(FilterId::new(3)?),
-        before: Some(filter(0, 4)?),
-        after: Some(filter(1, 5)?),
-    })
+fn moved() -> Change {
+    Change {
+        key: Key::Filter(FilterId::new(3).unwrap()),
+        before: Some(filter(0, 4)),
+        after: Some(filter(1, 5)),
+    }
 }
 
-fn filter(gate: u64, meter: u64) -> Result<Record, Range> {
-    Ok(Record::Filter(StreamFilter {
+fn filter(gate: u64, meter: u64) -> Record
+    requires gate { gate ≤ 65535 }
+    requires meter { meter ≤ 65535 }
+{
+    Record::Filter(StreamFilter {
         handle: None,
         priority: None,
-        gate: GateId::new(gate)?,
+        gate: GateId::new(gate).unwrap(),
         max_sdu: None,
-        meter: Some(MeterId::new(meter)?),
+        meter: Some(MeterId::new(meter).unwrap()),
         oversize: false,
-    }))
+    })
 }
 
 /// The removal of a meter or a gate; what stood there does not matter for a conflict.
@@ -70,69 +92,94 @@ fn removed(key: Key) -> Change {
     }
 }
 
+/// The change is on the key, from the one record to the other.
+fn is_change(
+    rt: &impl Abort,
+    change: &Change,
+    key: Key,
+    before: Option<&Record>,
+    after: Option<&Record>,
+) {
+    assert_eq!(rt; change.key, key);
+    assert!(rt; change.before.as_ref() == before);
+    assert!(rt; change.after.as_ref() == after);
+}
+
 #[test]
-fn an_inverse_swaps_the_values(rt: HostRuntime) -> Result<(), Fail> {
+fn an_inverse_swaps_the_values(rt: HostRuntime) {
     let change = Change {
-        key: Key::Meter(MeterId::new(2)?),
-        before: Some(meter(1500)?),
+        key: meter_key(2),
+        before: Some(meter()),
         after: None,
     };
-    let copy = change.try_clone()?;
     let back = change.inverse();
-    assert_eq!(rt; back.key, copy.key);
-    assert!(rt; back.before.is_none());
-    assert!(rt; back.after == Some(meter(1500)?));
-    assert!(rt; copy.before == Some(meter(1500)?));
-    assert!(rt; copy.after.is_none());
+    is_change(&rt, &back, meter_key(2), None, Some(&meter()));
+}
+
+/// The change and a copy of it are on the port, from the one record to the other.
+fn is_copied(
+    rt: &impl Abort,
+    change: &Change,
+    key: Key,
+    before: &Record,
+    after: &Record,
+) -> Result<(), AllocError> {
+    is_change(rt, &change.try_clone()?, key, Some(before), Some(after));
+    is_change(rt, change, key, Some(before), Some(after));
     Ok(())
+}
+
+fn listed_change(alloc: Global) -> Result<Change, AllocError> {
+    Ok(Change {
+        key: port_key(),
+        before: Some(port(alloc, 1, 1_024)?),
+        after: Some(port(alloc, 128, 1)?),
+    })
 }
 
 #[test]
 fn a_copy_has_the_key_and_both_values(rt: HostRuntime) -> Result<(), Fail> {
-    let change = Change {
-        key: Key::Port(PortId::new(2)?),
-        before: Some(port(rt.alloc(), 1, 1_024)?),
-        after: Some(port(rt.alloc(), 128, 1)?),
-    };
-    let copy = change.try_clone()?;
-    assert_eq!(rt; copy.key, Key::Port(PortId::new(2)?));
-    assert!(rt; copy.before == Some(port(rt.alloc(), 1, 1_024)?));
-    assert!(rt; copy.after == Some(port(rt.alloc(), 128, 1)?));
+    let before = port(rt.alloc(), 1, 1_024)?;
+    let after = port(rt.alloc(), 128, 1)?;
+    let change = listed_change(rt.alloc())?;
+    is_copied(&rt, &change, port_key(), &before, &after)?;
     Ok(())
 }
 
-#[test]
-fn a_later_change_conflicts_by_key_or_reference(rt: HostRuntime) -> Result<(), Fail> {
-    let moved = moved_filter()?;
-    let old_gate = removed(Key::Gate(GateId::new(0)?));
-    let new_gate = removed(Key::Gate(GateId::new(1)?));
-    let old_meter = removed(Key::Meter(MeterId::new(4)?));
-    let new_meter = removed(Key::Meter(MeterId::new(5)?));
-    for (later, earlier, wanted) in [
-        (&moved, &moved, true),
-        (&old_gate, &moved, true),
-        (&new_gate, &moved, false),
-        (&moved, &new_gate, true),
-        (&moved, &old_gate, false),
-        (&old_meter, &moved, true),
-        (&new_meter, &moved, false),
-        (&moved, &new_meter, true),
-        (&moved, &old_meter, false),
-        (&old_meter, &old_gate, false),
-    ] {
-        assert_eq!(rt;
-            conflicts(later, earlier),
-            wanted,
-            "{later:?} after {earlier:?}"
-        );
-    }
-    Ok(())
+fn meets(rt: &impl Abort, later: &Change, earlier: &Change, wanted: bool) {
+    assert_eq!(rt;
+        conflicts(later, earlier),
+        wanted,
+        "{later:?} after {earlier:?}"
+    );
+}
+
+/// Whether the removal at the key conflicts with the moved filter, as the later and as the earlier of the two.
+fn meets_moved(rt: &impl Abort, key: Key, later: bool, earlier: bool) {
+    let (removal, moved) = (removed(key), moved());
+    meets(rt, &removal, &moved, later);
+    meets(rt, &moved, &removal, earlier);
 }
 
 #[test]
-fn ranges_are_told_of_an_edit(rt: HostRuntime) -> Result<(), Fail> {
-    let edit = Edit::Replace(Key::Meter(MeterId::new(2)?), meter(1500)?);
+fn a_later_change_conflicts_by_key_or_reference(rt: HostRuntime) {
+    meets_moved(&rt, Key::Filter(FilterId::new(3).unwrap()), true, true);
+    meets_moved(&rt, gate_key(0), true, false);
+    meets_moved(&rt, gate_key(1), false, true);
+    meets_moved(&rt, meter_key(4), true, false);
+    meets_moved(&rt, meter_key(5), false, true);
+    meets(&rt, &removed(meter_key(4)), &removed(gate_key(0)), false);
+}
+
+#[test]
+fn a_change_conflicts_with_itself(rt: HostRuntime) {
+    let moved = moved();
+    meets(&rt, &moved, &moved, true);
+}
+
+#[test]
+fn ranges_are_told_of_an_edit(rt: HostRuntime) {
+    let edit = Edit::Replace(meter_key(2), meter());
     edit.tell_ranges();
     assert!(rt; matches!(&edit, Edit::Replace(_, _)));
-    Ok(())
 }
