@@ -22,11 +22,21 @@ pub fn line_of(alloc: Global, text: &str) -> Result<String, Fail> {
     Ok(line)
 }
 
-/// The text is the line of the reply, and the same as `serde_json` prints of its value.
-pub fn spells(rt: &impl Abort, alloc: Global, reply: &Reply, text: &str) -> Result<(), Fail> {
+/// The reply is written as this text, which is what `serde_json` prints of its value.
+fn is_spelled(rt: &impl Abort, alloc: Global, reply: &Reply, text: &str) -> Result<(), Fail> {
     assert_eq!(rt; line_of(alloc, text)?.as_str(), text);
+    is_written(rt, alloc, reply, text)
+}
+
+/// The reply is written as this text.
+fn is_written(rt: &impl Abort, alloc: Global, reply: &Reply, text: &str) -> Result<(), Fail> {
     let mut writer = MemOut::new(Vec::with_capacity(alloc, text.len())?, 1000, None);
     write_reply(&mut writer, reply)?;
     assert_eq!(rt; writer.as_slice(), text.as_bytes());
     Ok(())
+}
+
+/// The text is the line of the reply, and the same as `serde_json` prints of its value.
+pub fn spells(rt: &impl Abort, alloc: Global, reply: Reply, text: &str) -> Result<(), Fail> {
+    is_spelled(rt, alloc, &reply, text)
 }

@@ -17,7 +17,7 @@ const GREATEST: u64 = 18_446_744_073_709_551_615;
 #[test]
 fn spells_sessions(rt: HostRuntime) -> Result<(), Fail> {
     for (session, text) in [(1, "{\"session\":1}\n"), (65_535, "{\"session\":65535}\n")] {
-        spells(&rt, rt.alloc(), &Reply::Session { session }, text)?;
+        spells(&rt, rt.alloc(), Reply::Session { session }, text)?;
     }
     Ok(())
 }
@@ -28,7 +28,7 @@ fn spells_entries(rt: HostRuntime) -> Result<(), Fail> {
         (3, "{\"entry\":3}\n"),
         (GREATEST, "{\"entry\":18446744073709551615}\n"),
     ] {
-        spells(&rt, rt.alloc(), &Reply::Entry { entry }, text)?;
+        spells(&rt, rt.alloc(), Reply::Entry { entry }, text)?;
     }
     Ok(())
 }
@@ -40,7 +40,7 @@ fn spells_entries_of_others(rt: HostRuntime) -> Result<(), Fail> {
         (GREATEST, 0, "{\"entry\":18446744073709551615,\"of\":0}\n"),
         (1, GREATEST, "{\"entry\":1,\"of\":18446744073709551615}\n"),
     ] {
-        spells(&rt, rt.alloc(), &Reply::EntryOf { entry, of }, text)?;
+        spells(&rt, rt.alloc(), Reply::EntryOf { entry, of }, text)?;
     }
     Ok(())
 }
@@ -52,7 +52,7 @@ fn spells_counts(rt: HostRuntime) -> Result<(), Fail> {
         (1, 6, "{\"count\":1,\"entry\":6}\n"),
         (GREATEST, GREATEST, most),
     ] {
-        spells(&rt, rt.alloc(), &Reply::TakenBack { count, entry }, text)?;
+        spells(&rt, rt.alloc(), Reply::TakenBack { count, entry }, text)?;
     }
     Ok(())
 }
@@ -72,19 +72,19 @@ fn spells_each_refusal(rt: HostRuntime) -> Result<(), Fail> {
             "{\"refused\":5,\"why\":\"no_session\"}\n",
         ),
         (
-            Refusal::Missing(Key::Port(PortId::new(64)?)),
+            Refusal::Missing(Key::Port(PortId::new(64).unwrap())),
             "{\"key\":\"port 64\",\"refused\":6,\"why\":\"missing\"}\n",
         ),
         (
-            Refusal::Exists(Key::Meter(MeterId::new(0)?)),
+            Refusal::Exists(Key::Meter(MeterId::new(0).unwrap())),
             "{\"key\":\"meter 0\",\"refused\":7,\"why\":\"exists\"}\n",
         ),
         (
-            Refusal::Dangling(Key::Gate(GateId::new(9)?)),
+            Refusal::Dangling(Key::Gate(GateId::new(9).unwrap())),
             "{\"key\":\"gate 9\",\"refused\":8,\"why\":\"dangling\"}\n",
         ),
         (
-            Refusal::Referred(Key::Filter(FilterId::new(3)?)),
+            Refusal::Referred(Key::Filter(FilterId::new(3).unwrap())),
             "{\"by\":\"filter 3\",\"refused\":9,\"why\":\"referred\"}\n",
         ),
         (
@@ -118,7 +118,7 @@ fn spells_each_refusal(rt: HostRuntime) -> Result<(), Fail> {
         ),
         (Refusal::Memory, "{\"refused\":18,\"why\":\"memory\"}\n"),
     ] {
-        spells(&rt, rt.alloc(), &Reply::Refused(refusal), text)?;
+        spells(&rt, rt.alloc(), Reply::Refused(refusal), text)?;
     }
     Ok(())
 }
@@ -135,6 +135,10 @@ fn stops_where_the_writer_fails(rt: HostRuntime) -> Result<(), Fail> {
 
 fn lists(rt: &impl Abort, alloc: Global, ids: &[u64], text: &str) -> Result<(), Fail> {
     assert_eq!(rt; line_of(alloc, text)?.as_str(), text);
+    are_written(rt, alloc, ids, text)
+}
+
+fn are_written(rt: &impl Abort, alloc: Global, ids: &[u64], text: &str) -> Result<(), Fail> {
     let mut writer = MemOut::new(Vec::with_capacity(alloc, text.len())?, 1000, None);
     write_ids(&mut writer, &mut ShortText::new(), ids)?;
     assert_eq!(rt; writer.as_slice(), text.as_bytes());

@@ -8,29 +8,42 @@ use tsn_bridge::command::Command;
 use tsn_bridge::reply::Reply;
 use tsn_bytes::MemOut;
 use tsn_replies::write_reply;
-use tsn_types::keys::Key;
-use tsn_types::records::Record;
 
-fn created(command: Command) -> Option<(Key, Record)> {
+/// The reply that shows what the command creates.
+fn reply_to(command: Command) -> Result<Reply, Fail> {
     match command {
-        Command::Create { key, value } => Some((key, value)),
-        _other => None,
+        Command::Create { key, value } => Ok(Reply::Shown { key, value }),
+        _other => Err(Fail::from("no create")),
     }
+}
+
+fn reply_of(rt: &impl Abort, alloc: Global, line: &[u8]) -> Result<Reply, Fail> {
+    let Line { session, command } = command_of(alloc, line)?;
+    assert_eq!(rt; session, 1);
+    reply_to(command)
+}
+
+/// The line that shows the record, as `serde_json` prints it.
+fn text_of(alloc: Global, key: &str, record: &str) -> Result<String, Fail> {
+    let text = format!(in alloc; "{{\"key\":\"{key}\",\"record\":{record}}}")?;
+    let mut line = printed(alloc, text.as_str())?.ok_or("no value")?;
+    line.push_str("\n")?;
+    Ok(line)
+}
+
+fn is_written(rt: &impl Abort, alloc: Global, reply: &Reply, text: &str) -> Result<(), Fail> {
+    let mut writer = MemOut::new(Vec::with_capacity(alloc, text.len())?, 1000, None);
+    write_reply(&mut writer, reply)?;
+    assert_eq!(rt; writer.as_slice(), text.as_bytes());
+    Ok(())
 }
 
 // Creates the record of this text, and shows it as the same value.
 fn shows(rt: &impl Abort, alloc: Global, key: &str, record: &str) -> Result<(), Fail> {
     let line = create_line(alloc, key, record)?;
-    let text = format!(in alloc; "{{\"key\":\"{key}\",\"record\":{record}}}")?;
-    let mut text = printed(alloc, text.as_str())?.ok_or("no value")?;
-    text.push_str("\n")?;
-    let Line { session, command } = command_of(alloc, line.as_bytes())?;
-    assert_eq!(rt; session, 1);
-    let (key, value) = created(command).ok_or("no create")?;
-    let mut writer = MemOut::new(Vec::with_capacity(alloc, text.len())?, 1000, None);
-    write_reply(&mut writer, &Reply::Shown { key, value })?;
-    assert_eq!(rt; writer.as_slice(), text.as_bytes());
-    Ok(())
+    let text = text_of(alloc, key, record)?;
+    let reply = reply_of(rt, alloc, line.as_bytes())?;
+    is_written(rt, alloc, &reply, text.as_str())
 }
 
 #[test]
@@ -42,16 +55,31 @@ fn shows_each_record(rt: HostRuntime) -> Result<(), Fail> {
     Ok(())
 }
 
+/// Shows the record with this change of a member.
+fn shows_with(
+    rt: &impl Abort,
+    alloc: Global,
+    key: &str,
+    rows: &[Row],
+    change: (usize, &str),
+) -> Result<(), Fail> {
+    let record = record_text(alloc, rows, &[change], "")?;
+    shows(rt, alloc, key, record.as_str())
+}
+
+fn shows_each_good(rt: &impl Abort, alloc: Global, key: &str, rows: &[Row]) -> Result<(), Fail> {
+    for (index, row) in rows.iter().enumerate() {
+        for text in row.good.split(' ') {
+            shows_with(rt, alloc, key, rows, (index, text))?;
+        }
+    }
+    Ok(())
+}
+
 #[test]
 fn shows_each_member_at_both_ends(rt: HostRuntime) -> Result<(), Fail> {
-    let alloc = rt.alloc();
     for (key, rows) in KINDS {
-        for (index, row) in rows.iter().enumerate() {
-            for text in row.good.split(' ') {
-                let record = record_text(alloc, rows, &[(index, text)], "")?;
-                shows(&rt, alloc, key, record.as_str())?;
-            }
-        }
+        shows_each_good(&rt, rt.alloc(), key, rows)?;
     }
     Ok(())
 }
@@ -81,8 +109,7 @@ fn shows_lists_of_each_length(rt: HostRuntime) -> Result<(), Fail> {
     for (key, rows, place, entry) in cases {
         for count in [0u32, 1, 16, 1024] {
             let list = list_text(alloc, entry, count)?;
-            let record = record_text(alloc, rows, &[(place, list.as_str())], "")?;
-            shows(&rt, alloc, key, record.as_str())?;
+            shows_with(&rt, alloc, key, rows, (place, list.as_str()))?;
         }
     }
     Ok(())
