@@ -1,10 +1,13 @@
 //! Documents as an operator writes them: what is read, and which refusal comes.
+ghost use Rattle.std.specs.Prelude.{◌≤◌};
+
 mod members;
 mod samples;
 
 use crate::{LONGEST_SETUP, setup_of};
 use samples::EXAMPLE;
-use std::alloc::Global;
+use std::alloc::{AllocError, Global};
+use std::process::Abort;
 use std::test::Fail;
 use tsn_bridge::bridge::Bridge;
 use tsn_types::keys::Key;
@@ -12,7 +15,7 @@ use tsn_types::numbers::{
     BitRate, Cycle, Extension, FilterId, GateId, Instant, Interval, MeterId, Octets, PortId,
     Priority,
 };
-use tsn_types::records::{FlowMeter, GateEntry, PortEntry, Record, StreamFilter};
+use tsn_types::records::{FlowMeter, GateEntry, PortEntry, RecordRef, StreamFilter};
 use tsn_types::refusals::{Field, Refusal};
 
 /// The refusal of a document, none where it is read; an error where memory is refused.
@@ -24,99 +27,142 @@ fn refusal(alloc: Global, text: &[u8]) -> Result<Option<Refusal>, Fail> {
     }
 }
 
+/// The document is refused so, or is read.
+fn reads(rt: &impl Abort, alloc: Global, text: &[u8], want: Option<Refusal>) -> Result<(), Fail> {
+    assert_eq!(rt; refusal(alloc, text)?, want, "at {text:?}");
+    Ok(())
+}
+
 /// The bridge that begins with a document.
 fn bridge(alloc: Global, text: &str) -> Result<Bridge, Refusal> {
     let setup = setup_of(alloc, text.as_bytes())?;
     Bridge::new(alloc, setup)
 }
 
-/// The record of the key in the bridge that begins with a document.
-fn record(alloc: Global, text: &str, key: Key) -> Result<Record, Fail> {
+/// Lends the record of the key in the bridge that begins with a document, none where there is none.
+fn on_record<F: FnOnce(Option<RecordRef>)>(
+    alloc: Global,
+    text: &str,
+    key: Key,
+    check: F,
+) -> Result<(), Fail>
+    requires { F.IsAlwaysCallable check }
+{
     let bridge = bridge(alloc, text)?;
-    match bridge.config().get(key) {
-        Some(found) => Ok(found.try_clone()?),
-        None => Err(Fail::from("no record")),
+    check(bridge.config().get(key));
+    Ok(())
+}
+
+fn port_entry(gates: u8, interval: u64) -> PortEntry
+    requires low { 1 ≤ interval }
+    requires high { interval ≤ 4294967295 }
+{
+    PortEntry {
+        gates,
+        interval: Interval::new(interval).unwrap(),
     }
+}
+
+fn is_example(rt: &impl Abort, record: Option<RecordRef>) {
+    let Some(RecordRef::Port(port)) = record else {
+        assert!(rt; false, "no port");
+        return;
+    };
+    assert_eq!(rt; port.gates, 255);
+    assert_eq!(rt; port.admin.cycle, Cycle::new(1000).unwrap());
+    assert_eq!(rt; port.admin.extension, Extension::new(0).unwrap());
+    assert_eq!(rt; port.admin.base, Instant::new(0).unwrap());
+    let entries = [port_entry(1, 300), port_entry(128, 700)];
+    assert_eq!(rt; port.admin.list.as_slice(), entries.as_slice());
 }
 
 #[test]
 fn reads_a_port(rt: HostRuntime) -> Result<(), Fail> {
-    let first = PortEntry {
-        gates: 1,
-        interval: Interval::new(300)?,
+    let key = Key::Port(PortId::new(1).unwrap());
+    on_record(rt.alloc(), EXAMPLE, key, |record| is_example(&rt, record))
+}
+
+/// Whether the record is the filter of the full document.
+fn is_filter(record: Option<RecordRef>) -> bool {
+    let wanted = StreamFilter {
+        handle: None,
+        priority: Some(Priority::new(3).unwrap()),
+        gate: GateId::new(4).unwrap(),
+        max_sdu: None,
+        meter: Some(MeterId::new(0).unwrap()),
+        oversize: true,
     };
-    let second = PortEntry {
-        gates: 128,
-        interval: Interval::new(700)?,
-    };
-    let (cycle, extension) = (Cycle::new(1000)?, Extension::new(0)?);
-    let base = Instant::new(0)?;
-    let key = Key::Port(PortId::new(1)?);
-    let Record::Port(port) = record(rt.alloc(), EXAMPLE, key)? else {
-        return Err(Fail::from("no port"));
-    };
-    assert_eq!(rt; port.gates, 255);
-    assert_eq!(rt; port.admin.cycle, cycle);
-    assert_eq!(rt; port.admin.extension, extension);
-    assert_eq!(rt; port.admin.base, base);
-    assert_eq!(rt; port.admin.list.as_slice(), [first, second].as_slice());
-    Ok(())
+    matches!(record, Some(RecordRef::Filter(filter)) if *filter == wanted)
 }
 
 #[test]
 fn reads_a_filter(rt: HostRuntime) -> Result<(), Fail> {
-    let filter = StreamFilter {
-        handle: None,
-        priority: Some(Priority::new(3)?),
-        gate: GateId::new(4)?,
-        max_sdu: None,
-        meter: Some(MeterId::new(0)?),
-        oversize: true,
-    };
-    let key = Key::Filter(FilterId::new(0)?);
-    assert!(rt; record(rt.alloc(), FULL, key)? == Record::Filter(filter));
-    Ok(())
+    let key = Key::Filter(FilterId::new(0).unwrap());
+    on_record(
+        rt.alloc(),
+        FULL,
+        key,
+        |record| assert!(rt; is_filter(record)),
+    )
 }
 
-#[test]
-fn reads_a_meter(rt: HostRuntime) -> Result<(), Fail> {
-    let meter = FlowMeter {
-        cir: BitRate::new(8_000_000)?,
-        cbs: Octets::new(1500)?,
-        eir: BitRate::new(7)?,
-        ebs: Octets::new(9)?,
+/// Whether the record is the meter of the full document.
+fn is_meter(record: Option<RecordRef>) -> bool {
+    let wanted = FlowMeter {
+        cir: BitRate::new(8_000_000).unwrap(),
+        cbs: Octets::new(1500).unwrap(),
+        eir: BitRate::new(7).unwrap(),
+        ebs: Octets::new(9).unwrap(),
         cf: true,
         aware: false,
         drop_yellow: true,
         all_red: false,
     };
-    let key = Key::Meter(MeterId::new(0)?);
-    assert!(rt; record(rt.alloc(), FULL, key)? == Record::Meter(meter));
-    Ok(())
+    matches!(record, Some(RecordRef::Meter(meter)) if *meter == wanted)
 }
 
 #[test]
-fn reads_a_gate(rt: HostRuntime) -> Result<(), Fail> {
+fn reads_a_meter(rt: HostRuntime) -> Result<(), Fail> {
+    let key = Key::Meter(MeterId::new(0).unwrap());
+    on_record(
+        rt.alloc(),
+        FULL,
+        key,
+        |record| assert!(rt; is_meter(record)),
+    )
+}
+
+/// The entries of the full document's gate.
+fn gate_entries() -> [GateEntry; 2] {
     let first = GateEntry {
         is_open: true,
-        ipv: Some(Priority::new(5)?),
-        interval: Interval::new(1000)?,
-        octets: Some(Octets::new(150)?),
+        ipv: Some(Priority::new(5).unwrap()),
+        interval: Interval::new(1000).unwrap(),
+        octets: Some(Octets::new(150).unwrap()),
     };
     let second = GateEntry {
         is_open: false,
         ipv: None,
-        interval: Interval::new(1000)?,
+        interval: Interval::new(1000).unwrap(),
         octets: None,
     };
-    let key = Key::Gate(GateId::new(4)?);
-    let Record::Gate(gate) = record(rt.alloc(), FULL, key)? else {
-        return Err(Fail::from("no gate"));
+    [first, second]
+}
+
+fn is_full_gate(rt: &impl Abort, record: Option<RecordRef>) {
+    let Some(RecordRef::Gate(gate)) = record else {
+        assert!(rt; false, "no gate");
+        return;
     };
     assert!(rt; !gate.is_open && gate.octets_exceeded && !gate.invalid_rx);
     assert_eq!(rt; gate.ipv, None);
-    assert_eq!(rt; gate.admin.list.as_slice(), [first, second].as_slice());
-    Ok(())
+    assert_eq!(rt; gate.admin.list.as_slice(), gate_entries().as_slice());
+}
+
+#[test]
+fn reads_a_gate(rt: HostRuntime) -> Result<(), Fail> {
+    let key = Key::Gate(GateId::new(4).unwrap());
+    on_record(rt.alloc(), FULL, key, |record| is_full_gate(&rt, record))
 }
 
 /// A filter, its gate and its meter; the gate's list is not inline.
@@ -166,25 +212,62 @@ fn limits(alloc: Global, text: &str, last: Key, beyond: Key) -> Result<(u64, boo
     Ok((limits.ports(), limits.holds(last), limits.holds(beyond)))
 }
 
+/// The document gives so many ports, and the first key is within its limits and the other beyond.
+fn has_limits(
+    rt: &impl Abort,
+    alloc: Global,
+    text: &str,
+    ports: u64,
+    last: Key,
+    beyond: Key,
+) -> Result<(), Fail> {
+    assert_eq!(rt;
+        limits(alloc, text, last, beyond)?,
+        (ports, true, false),
+        "{text}"
+    );
+    Ok(())
+}
+
+fn filter_key(number: u64) -> Key
+    requires { number ≤ 65535 }
+{
+    Key::Filter(FilterId::new(number).unwrap())
+}
+
+fn gate_key(number: u64) -> Key
+    requires { number ≤ 65535 }
+{
+    Key::Gate(GateId::new(number).unwrap())
+}
+
+fn meter_key(number: u64) -> Key
+    requires { number ≤ 65535 }
+{
+    Key::Meter(MeterId::new(number).unwrap())
+}
+
+fn port_key(number: u64) -> Key
+    requires low { 1 ≤ number }
+    requires high { number ≤ 64 }
+{
+    Key::Port(PortId::new(number).unwrap())
+}
+
 // The last key within the limits and the first beyond.
 #[test]
 fn limits_are_as_given(rt: HostRuntime) -> Result<(), Fail> {
-    let filter = |number: u64| FilterId::new(number).map(Key::Filter);
-    let gate = |number: u64| GateId::new(number).map(Key::Gate);
-    let meter = |number: u64| MeterId::new(number).map(Key::Meter);
-    let port = |number: u64| PortId::new(number).map(Key::Port);
     for (text, ports, last, beyond) in [
-        ("", 2, gate(15), gate(16)),
-        ("", 2, filter(15), filter(16)),
-        ("", 2, meter(15), meter(16)),
-        ("ports = 7", 7, port(7), port(8)),
-        ("max_filters = 3", 2, filter(2), filter(3)),
-        ("max_gates = 1", 2, gate(0), gate(1)),
-        ("max_meters = 9", 2, meter(8), meter(9)),
-        ("max_meters = 9", 2, gate(15), gate(16)),
+        ("", 2, gate_key(15), gate_key(16)),
+        ("", 2, filter_key(15), filter_key(16)),
+        ("", 2, meter_key(15), meter_key(16)),
+        ("ports = 7", 7, port_key(7), port_key(8)),
+        ("max_filters = 3", 2, filter_key(2), filter_key(3)),
+        ("max_gates = 1", 2, gate_key(0), gate_key(1)),
+        ("max_meters = 9", 2, meter_key(8), meter_key(9)),
+        ("max_meters = 9", 2, gate_key(15), gate_key(16)),
     ] {
-        let found = limits(rt.alloc(), text, last?, beyond?)?;
-        assert_eq!(rt; found, (ports, true, false), "{text}");
+        has_limits(&rt, rt.alloc(), text, ports, last, beyond)?;
     }
     Ok(())
 }
@@ -192,13 +275,25 @@ fn limits_are_as_given(rt: HostRuntime) -> Result<(), Fail> {
 // The standard limits and no tables, given and left out.
 #[test]
 fn what_is_standard_may_be_given(rt: HostRuntime) -> Result<(), Fail> {
-    let (last, beyond) = (Key::Gate(GateId::new(15)?), Key::Gate(GateId::new(16)?));
+    let (last, beyond) = (gate_key(15), gate_key(16));
     let given =
         "meter = []\nlist_max = 16\nmax_meters = 16\nmax_gates = 16\nmax_filters = 16\nports = 2\nport = []";
     let found = limits(rt.alloc(), given, last, beyond)?;
     assert_eq!(rt; found, limits(rt.alloc(), "", last, beyond)?);
     assert_eq!(rt; found, (2, true, false));
     Ok(())
+}
+
+/// The limit, and then the example.
+fn limited_example(alloc: Global, limit: &str) -> Result<String, AllocError> {
+    let mut text = String::from_str(alloc, limit)?;
+    text.push_str(EXAMPLE)?;
+    Ok(text)
+}
+
+/// A bridge with the document is refused so, or is made.
+fn begins(rt: &impl Abort, alloc: Global, text: &str, want: Option<Refusal>) {
+    assert_eq!(rt; bridge(alloc, text).err(), want);
 }
 
 // A list of two entries against the limit on lists, which the bridge tests.
@@ -208,112 +303,146 @@ fn lists_are_limited_by_the_bridge(rt: HostRuntime) -> Result<(), Fail> {
         ("list_max = 1\n", Some(Refusal::Range(Field::List))),
         ("list_max = 2\n", None),
     ] {
-        let mut text = String::from_str(rt.alloc(), limit)?;
-        text.push_str(EXAMPLE)?;
-        assert_eq!(rt; bridge(rt.alloc(), text.as_str()).err(), want);
+        begins(
+            &rt,
+            rt.alloc(),
+            limited_example(rt.alloc(), limit)?.as_str(),
+            want,
+        );
     }
     Ok(())
 }
 
 #[test]
 fn references_are_left_to_the_bridge(rt: HostRuntime) -> Result<(), Fail> {
-    let alloc = rt.alloc();
     let text = "[[filter]]\nid = 0\ngate = 4\noversize = false\n";
-    assert_eq!(rt; refusal(alloc, text.as_bytes())?, None);
-    let gate = Key::Gate(GateId::new(4)?);
-    assert_eq!(rt; bridge(alloc, text).err(), Some(Refusal::Dangling(gate)));
+    reads(&rt, rt.alloc(), text.as_bytes(), None)?;
+    begins(&rt, rt.alloc(), text, Some(Refusal::Dangling(gate_key(4))));
+    Ok(())
+}
+
+/// Documents that are read.
+const READ: &'static [&'static [u8]] = &[
+    b"",
+    b" \t\r\n# nothing\n",
+    b"\xef\xbb\xbfports = 2",
+    b"ports = 2 # two",
+    b"port = []",
+    b"filter = []\ngate = []\nmeter = []",
+    b"meter = [{id=0,cir=1,cbs=1,eir=0,ebs=0,cf=false,aware=false,drop_yellow=false,all_red=false}]",
+    b"\"ports\" = 2",
+];
+
+/// Documents of another shape than a setup.
+const OF_ANOTHER_SHAPE: &'static [&'static [u8]] = &[
+    b"port = [{}]",
+    b"port = [1]",
+    b"port = {}",
+    b"port = 1",
+    b"[port]",
+    b"[[port]]",
+    b"[[ports]]",
+    b"[limits]\nports = 2",
+    b"port.id = 1",
+    b"Ports = 2",
+];
+
+/// Texts that are no TOML.
+const NO_TOML: &'static [&'static [u8]] = &[
+    b"\xff",
+    b"# \xff",
+    b"ports",
+    b"ports =",
+    b"ports = 2 list_max = 2",
+    b"ports = 2\nports = 2",
+    b"ports = 02",
+    b"ports = 9223372036854775808",
+    b"extra = 9223372036854775808",
+    b"[[port]\n",
+    b"{\"do\":\"hello\"}",
+];
+
+/// Documents whose number of ports is out of its range.
+const PORTS_OUT_OF_RANGE: &'static [&'static [u8]] = &[
+    b"ports = -0",
+    b"ports = 9223372036854775807",
+];
+
+/// Each of the documents is refused so, or is read.
+fn reads_each(
+    rt: &impl Abort,
+    alloc: Global,
+    texts: &[&[u8]],
+    want: &Option<Refusal>,
+) -> Result<(), Fail> {
+    for text in texts {
+        reads(rt, alloc, text, *want)?;
+    }
     Ok(())
 }
 
 #[test]
 fn tells_syntax_from_shape(rt: HostRuntime) -> Result<(), Fail> {
     let alloc = rt.alloc();
-    for (text, want) in [
-        (b"".as_slice(), None),
-        (b" \t\r\n# nothing\n", None),
-        (b"\xef\xbb\xbfports = 2", None),
-        (b"ports = 2 # two", None),
-        (b"ports = -0", Some(Refusal::Range(Field::Ports))),
-        (b"port = []", None),
-        (b"filter = []\ngate = []\nmeter = []", None),
-        (
-            b"meter = [{id=0,cir=1,cbs=1,eir=0,ebs=0,cf=false,aware=false,drop_yellow=false,all_red=false}]",
-            None,
-        ),
-        (b"port = [{}]", Some(Refusal::Shape)),
-        (b"port = [1]", Some(Refusal::Shape)),
-        (b"port = {}", Some(Refusal::Shape)),
-        (b"port = 1", Some(Refusal::Shape)),
-        (b"[port]", Some(Refusal::Shape)),
-        (b"[[port]]", Some(Refusal::Shape)),
-        (b"[[ports]]", Some(Refusal::Shape)),
-        (b"[limits]\nports = 2", Some(Refusal::Shape)),
-        (b"port.id = 1", Some(Refusal::Shape)),
-        (b"\"ports\" = 2", None),
-        (b"Ports = 2", Some(Refusal::Shape)),
-        (b"\xff", Some(Refusal::Syntax)),
-        (b"# \xff", Some(Refusal::Syntax)),
-        (b"ports", Some(Refusal::Syntax)),
-        (b"ports =", Some(Refusal::Syntax)),
-        (b"ports = 2 list_max = 2", Some(Refusal::Syntax)),
-        (b"ports = 2\nports = 2", Some(Refusal::Syntax)),
-        (b"ports = 02", Some(Refusal::Syntax)),
-        (
-            b"ports = 9223372036854775807",
-            Some(Refusal::Range(Field::Ports)),
-        ),
-        (b"ports = 9223372036854775808", Some(Refusal::Syntax)),
-        (b"extra = 9223372036854775808", Some(Refusal::Syntax)),
-        (b"[[port]\n", Some(Refusal::Syntax)),
-        (b"{\"do\":\"hello\"}", Some(Refusal::Syntax)),
-    ] {
-        assert_eq!(rt; refusal(alloc, text)?, want, "at {text:?}");
-    }
+    reads_each(&rt, alloc, READ, &None)?;
+    reads_each(&rt, alloc, OF_ANOTHER_SHAPE, &Some(Refusal::Shape))?;
+    reads_each(&rt, alloc, NO_TOML, &Some(Refusal::Syntax))?;
+    let range = Some(Refusal::Range(Field::Ports));
+    reads_each(&rt, alloc, PORTS_OUT_OF_RANGE, &range)
+}
+
+/// The document is no TOML, or has not the shape of a setup.
+fn is_cut(rt: &impl Abort, alloc: Global, text: &[u8]) -> Result<(), Fail> {
+    let found = refusal(alloc, text)?;
+    let is_refused = matches!(found, Some(Refusal::Syntax | Refusal::Shape));
+    assert!(rt; is_refused, "at {}", text.len());
     Ok(())
 }
 
 // Before the last entry of its list ends, the port has no list.
 #[test]
 fn a_document_that_is_cut_is_not_read(rt: HostRuntime) -> Result<(), Fail> {
-    let alloc = rt.alloc();
     let text = EXAMPLE.as_bytes();
     for end in 1..text.len() - 1 {
-        let found = refusal(alloc, &text[..end])?;
-        let is_refused = found == Some(Refusal::Syntax) || found == Some(Refusal::Shape);
-        assert!(rt; is_refused, "at {end}");
+        is_cut(&rt, rt.alloc(), &text[..end])?;
     }
-    assert_eq!(rt; refusal(alloc, &text[..text.len() - 1])?, None);
-    assert_eq!(rt; refusal(alloc, text)?, None);
+    reads(&rt, rt.alloc(), &text[..text.len() - 1], None)?;
+    reads(&rt, rt.alloc(), text, None)
+}
+
+/// The document is read, or is refused by what it says itself.
+fn may_be_cut(rt: &impl Abort, alloc: Global, text: &[u8]) -> Result<(), Fail> {
+    match refusal(alloc, text)? {
+        None | Some(Refusal::Syntax | Refusal::Shape | Refusal::Range(_)) => {}
+        Some(_) => assert!(rt; false, "at {}", text.len()),
+    }
     Ok(())
 }
 
 #[test]
 fn a_document_of_several_tables_may_be_cut(rt: HostRuntime) -> Result<(), Fail> {
-    let alloc = rt.alloc();
     let text = FULL.as_bytes();
     for end in 0..text.len() + 1 {
-        match refusal(alloc, &text[..end])? {
-            None | Some(Refusal::Syntax | Refusal::Shape | Refusal::Range(_)) => {}
-            Some(_) => assert!(rt; false, "at {end}"),
-        }
+        may_be_cut(&rt, rt.alloc(), &text[..end])?;
     }
     Ok(())
 }
 
-/// The refusal of a comment of that many bytes.
-fn with_a_comment(alloc: Global, length: usize) -> Result<Option<Refusal>, Fail> {
-    let mut text = Vec::new(alloc);
-    for _ in 0..length {
-        text.push(b'#')?;
-    }
-    refusal(alloc, text.as_slice())
+/// A comment of that many bytes is refused so, or is read.
+fn reads_comment(
+    rt: &impl Abort,
+    alloc: Global,
+    length: usize,
+    want: Option<Refusal>,
+) -> Result<(), Fail> {
+    let text = vec![in alloc; b'#'; length]?;
+    assert_eq!(rt; refusal(alloc, text.as_slice())?, want, "of {length} bytes");
+    Ok(())
 }
 
 #[test]
 fn length_is_limited(rt: HostRuntime) -> Result<(), Fail> {
     assert_eq!(rt; LONGEST_SETUP, 1_048_576);
-    assert_eq!(rt; with_a_comment(rt.alloc(), 1_048_576)?, None);
-    let longer = with_a_comment(rt.alloc(), 1_048_577)?;
-    assert_eq!(rt; longer, Some(Refusal::TooLong));
-    Ok(())
+    reads_comment(&rt, rt.alloc(), 1_048_576, None)?;
+    reads_comment(&rt, rt.alloc(), 1_048_577, Some(Refusal::TooLong))
 }

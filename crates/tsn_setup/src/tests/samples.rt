@@ -233,8 +233,15 @@ const METER: [Row; 9] = [
     flag_row!("all_red"),
 ];
 
-/// The header of each kind of table, in the order in which they are tested, with its members in that order.
-pub const KINDS: [(&'static str, &'static [Row]); 5] = [
+/// The header of a kind of table, with its members.
+pub type Kind = (&'static str, &'static [Row]);
+
+/// Each kind of table, in the order in which they are tested, with its members in that order.
+pub fn kinds() -> &'static [Kind] {
+    KINDS
+}
+
+const KINDS: &'static [Kind] = &[
     ("", &LIMITS),
     ("[[port]]\n", &PORT),
     ("[[filter]]\n", &FILTER),
