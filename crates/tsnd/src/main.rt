@@ -5,25 +5,16 @@
 //! 0, or 1 after one line on standard error that says why, or 2 for a command line that is refused.
 #![tactic(auto)]
 
-mod arguments;
-mod failures;
-mod files;
-mod opening;
-mod program;
-mod script;
-mod states;
 #[cfg(test)]
 mod tests;
 
-use crate::arguments::{Asked, read_words};
-use crate::failures::Failure;
-use crate::files::read_setup;
-use crate::program::{fail, run};
 use std::io::ErrorKind;
 use std::process::ExitCode;
 use std::rt::{Env, Files};
 use std::{env, fs, io};
 use tsn_bytes::{Buffered, Fault, StdIo};
+use tsn_program::{Failure, fail, read_setup, run};
+use tsn_words::{Asked, read_words};
 
 /// The words of the command line, the program's name first; none where a word is no UTF-8.
 fn words_of<R: Env + AllocGlobal>(rt: &R) -> Result<Option<Vec<String>>, Fault> {

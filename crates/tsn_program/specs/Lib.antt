@@ -1,0 +1,4 @@
+pub mod Failures
+pub mod Listing
+pub mod Opening
+pub mod Program

@@ -1,0 +1,47 @@
+//! Why a run ends with status 1, and the line that says so.
+ghost use Rattle.std.specs.Prelude.{◌≡◌, []};
+ghost use Rattle.tsn_program.specs.Failures.{failure_line, refusal_line};
+
+use tsn_bytes::Fault;
+use tsn_replies::ShortText;
+use tsn_types::refusals::Refusal;
+
+/// Why a run failed.
+#[derive(Clone, Copy, Debug, PartialEq, Eq)]
+pub enum Failure {
+    /// Reading the input or writing the output failed, or memory was wanting.
+    Fault(Fault),
+    /// The file of the setup was not read.
+    Setup,
+    /// The setup, or what is asked of its bridge, is refused.
+    Refused(Refusal),
+}
+
+#[tactic(auto, using(tsn_replies::proofs::Names::name_short))]
+fn push_refusal(text: &mut ShortText, why: &Refusal)
+    requires { text.old ≡ [] }
+    ensures { text.new ≡ refusal_line why.now }
+{
+    text.push("tsnd: refused ");
+    text.push_number(why.number());
+    text.push(" ");
+    text.push(why.name());
+    text.push("\n");
+}
+
+/// The line that says why.
+pub fn failure_line(failure: &Failure) -> ShortText
+    ensures { result ≡ failure_line failure.now }
+{
+    let mut text = ShortText::new();
+    match failure {
+        Failure::Fault(Fault::Read) => text.push("tsnd: read failed\n"),
+        Failure::Fault(Fault::Write) => text.push("tsnd: write failed\n"),
+        Failure::Fault(Fault::Memory) => text.push("tsnd: out of memory\n"),
+        Failure::Fault(Fault::Exhausted) => text.push("tsnd: no ticket left\n"),
+        Failure::Setup => text.push("tsnd: cannot read the setup\n"),
+        Failure::Refused(Refusal::Memory) => text.push("tsnd: out of memory\n"),
+        Failure::Refused(why) => push_refusal(&mut text, why),
+    }
+    text
+}

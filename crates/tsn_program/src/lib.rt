@@ -1,0 +1,16 @@
+//! What the program does with what is asked for: over the text of a setup, a reader and two writers, each of which may
+//! fail, to a status.
+#![tactic(auto)]
+
+mod failures;
+mod files;
+mod opening;
+mod program;
+mod script;
+mod states;
+#[cfg(test)]
+mod tests;
+
+pub use failures::Failure;
+pub use files::read_setup;
+pub use program::{fail, run};

@@ -1,0 +1,190 @@
+//! The program, from what its words ask for, its setup's text, its input and two outputs to its status.
+ghost use Rattle.std.specs.Prelude.{◌≡◌, [], true, OnOk, IfErr, OnErr, Ok};
+ghost use Rattle.std.specs.Io.KnownBytes.{Appends};
+ghost use Rattle.tsn_bytes.specs.declared.bytes.Fault.TheVariants.{Write};
+ghost use Rattle.tsn_serve.specs.Outcomes.{moment};
+ghost use Rattle.tsn_program.specs.Failures.{failure_line};
+ghost use Rattle.tsn_program.specs.Listing.{IsNew};
+ghost use Rattle.tsn_program.specs.Program.{IsFront, IsTold, PrintsFrom, PrintsStates, RefusesWords, Reports, Serves, ServesScript, ServesStates, ServesText};
+ghost use Rattle.tsn_program.specs.declared.failures.Failure.TheVariants as failures;
+
+use crate::failures::{Failure, failure_line};
+use crate::opening::bridge_of;
+use crate::script::answer_script;
+use crate::states::{enable_at, first_instant, listed_port, write_states};
+use std::alloc::Global;
+use tsn_bridge::bridge::Bridge;
+use tsn_bytes::{ByteIn, ByteOut, Fault, put_all};
+use tsn_words::{Asked, Listing};
+
+// Writes the text and hands it on.
+fn show<W: ByteOut>(writer: &mut W, text: &[u8]) -> Result<(), Failure>
+    ensures ok { OnOk result (Appends (W.taken writer.old) (W.taken writer.new) text.now
+        × (W.pending writer.new ≡ [])) }
+    ensures fault { IfErr result (λ failure. failure ≡ failures.Fault Write) }
+    ensures failed { OnErr result (W.has_failed writer.new ≡ true) }
+    ensures cut { OnErr result (IsFront (W.taken writer.old) (W.taken writer.new) text.now) }
+{
+    match put_all(writer, text) {
+        Ok(()) => {}
+        Err(fault) => return Err(Failure::Fault(fault)),
+    }
+    let Ok(()) = writer.flush() else {
+        return Err(Failure::Fault(Fault::Write));
+    };
+    Ok(())
+}
+
+// Writes the text where it can. Nothing is left to do where it can't.
+fn tell<W: ByteOut>(errors: &mut W, text: &[u8])
+    ensures { IsTold (W.taken errors.old) (W.taken errors.new) (W.has_failed errors.new) text.now }
+{
+    let _ = show(errors, text);
+}
+
+/// Tells of a failure, and gives its status, 1.
+pub fn fail<W: ByteOut>(errors: &mut W, failure: Failure) -> u8
+    ensures status { result ≡ 1 }
+    ensures line { IsTold (W.taken errors.old) (W.taken errors.new) (W.has_failed errors.new)
+        (failure_line failure) }
+{
+    tell(errors, failure_line(&failure).as_slice());
+    1
+}
+
+// The status of a run that ended so, of which a failure is told.
+fn status_of<W: ByteOut>(errors: &mut W, outcome: Result<(), Failure>) -> u8
+    ensures { Reports outcome result
+        (record { old = W.taken errors.old; new = W.taken errors.new; failed = W.has_failed errors.new }) }
+{
+    match outcome {
+        Ok(()) => 0,
+        Err(failure) => fail(errors, failure),
+    }
+}
+
+// Prints the states of a port of the bridge, and hands them on.
+fn list_states<W: ByteOut>(
+    bridge: &mut Bridge,
+    listing: &Listing,
+    writer: &mut W,
+) -> Result<(), Failure>
+    requires { IsNew bridge.old }
+    ensures { PrintsFrom (Ok bridge.old) listing.now
+        (record { old = W.taken writer.old; new = W.taken writer.new; held_back = W.pending writer.new; failed = W.has_failed writer.new })
+        result }
+{
+    let port = match listed_port(bridge.config().limits(), listing) {
+        Ok(port) => port,
+        Err(why) => return Err(Failure::Refused(why)),
+    };
+    match enable_at(bridge, port, first_instant(listing)) {
+        Ok(()) => {}
+        Err(why) => return Err(Failure::Refused(why)),
+    }
+    match write_states(bridge, port, listing, writer) {
+        Ok(()) => {}
+        Err(fault) => return Err(Failure::Fault(fault)),
+    }
+    let Ok(()) = writer.flush() else {
+        return Err(Failure::Fault(Fault::Write));
+    };
+    Ok(())
+}
+
+// Prints the states of a port of the bridge that the setup opens.
+fn print_states<W: ByteOut>(
+    alloc: Global,
+    setup: &[u8],
+    listing: &Listing,
+    writer: &mut W,
+) -> Result<(), Failure>
+    ensures { PrintsStates setup.now listing.now
+        (record { old = W.taken writer.old; new = W.taken writer.new; held_back = W.pending writer.new; failed = W.has_failed writer.new })
+        result }
+{
+    let mut bridge = match bridge_of(alloc, setup) {
+        Ok(bridge) => bridge,
+        Err(why) => return Err(Failure::Refused(why)),
+    };
+    list_states(&mut bridge, listing, writer)
+}
+
+// Answers the script on the input, and gives the status.
+fn serve_script<R: ByteIn, O: ByteOut, E: ByteOut>(
+    alloc: Global,
+    setup: &[u8],
+    input: &mut R,
+    output: &mut O,
+    errors: &mut E,
+) -> u8
+    ensures { ServesScript setup.now
+        (λ s. moment R.remaining R.calls R.has_failed O.taken O.pending O.has_failed s input.old output.old)
+        (λ s. moment R.remaining R.calls R.has_failed O.taken O.pending O.has_failed s input.new output.new)
+        result
+        (record { old = E.taken errors.old; new = E.taken errors.new; failed = E.has_failed errors.new }) }
+{
+    let outcome = answer_script(alloc, setup, input, output);
+    status_of(errors, outcome)
+}
+
+// Prints the states that are listed, and gives the status.
+fn serve_states<O: ByteOut, E: ByteOut>(
+    alloc: Global,
+    setup: &[u8],
+    listing: &Listing,
+    output: &mut O,
+    errors: &mut E,
+) -> u8
+    ensures { ServesStates listing.now setup.now
+        (record { old = O.taken output.old; new = O.taken output.new; held_back = O.pending output.new; failed = O.has_failed output.new })
+        result
+        (record { old = E.taken errors.old; new = E.taken errors.new; failed = E.has_failed errors.new }) }
+{
+    let outcome = print_states(alloc, setup, listing, output);
+    status_of(errors, outcome)
+}
+
+// Shows the text, and gives the status.
+fn serve_text<O: ByteOut, E: ByteOut>(text: &[u8], output: &mut O, errors: &mut E) -> u8
+    ensures { ServesText text.now
+        (record { old = O.taken output.old; new = O.taken output.new; held_back = O.pending output.new; failed = O.has_failed output.new })
+        result
+        (record { old = E.taken errors.old; new = E.taken errors.new; failed = E.has_failed errors.new }) }
+{
+    let outcome = show(output, text);
+    status_of(errors, outcome)
+}
+
+// Tells why the words are refused, and gives the status.
+fn refuse_words<E: ByteOut>(text: &[u8], errors: &mut E) -> u8
+    ensures { RefusesWords text.now result
+        (record { old = E.taken errors.old; new = E.taken errors.new; failed = E.has_failed errors.new }) }
+{
+    tell(errors, text);
+    2
+}
+
+/// Does what is asked for, with the setup of this text, and gives the status: 0; 1 after one line that says what
+/// failed; 2 after a text that says why the words are refused.
+pub fn run<R: ByteIn, O: ByteOut, E: ByteOut>(
+    alloc: Global,
+    asked: &Asked,
+    setup: &[u8],
+    input: &mut R,
+    output: &mut O,
+    errors: &mut E,
+) -> u8
+    ensures { Serves asked.now setup.now
+        (λ s. moment R.remaining R.calls R.has_failed O.taken O.pending O.has_failed s input.old output.old)
+        (λ s. moment R.remaining R.calls R.has_failed O.taken O.pending O.has_failed s input.new output.new)
+        result
+        (record { old = E.taken errors.old; new = E.taken errors.new; failed = E.has_failed errors.new }) }
+{
+    match asked {
+        Asked::Script { .. } => serve_script(alloc, setup, input, output, errors),
+        Asked::States { listing, .. } => serve_states(alloc, setup, listing, output, errors),
+        Asked::Shown(text) => serve_text(text.as_bytes(), output, errors),
+        Asked::Refused(text) => refuse_words(text.as_bytes(), errors),
+    }
+}

@@ -1,0 +1,94 @@
+-- The words of worked command lines.
+use Rattle.std.proofs.Common.{Bool, true, false, not, ◌&&◌, sym, ◌≡◌, ℕ, List, [], ◌∷◌, codes, refl, ap, subst, ◌∙◌, inl, inr, Option, Some, None, Result, Ok, Err, IfErr, map, option_map, unwrap_or}
+use Rattle.std.specs.Prelude.{IsOk, IsSome}
+use Rattle.std.specs.Borrow.{Bor}
+use Rattle.std.specs.Result.{result_unwrap_or}
+use Rattle.std.specs.Str.Parse.{ParsesUnsigned}
+use Rattle.clap.specs.declared.error.Error.{Error}
+use Rattle.clap.specs.declared.error.kind.ErrorKind.TheVariants.{DisplayHelp, MissingSubcommand, OutOfMemory}
+use Rattle.clap.specs.Simple.{has_plain_fields, subcommand_of}
+use Rattle.clap.specs.declared.builder.command.Command.{Command}
+use Rattle.clap.specs.declared.builder.command.Command.TheViews.{out-Command}
+use Rattle.clap.specs.Kinds.{FailsBy, IsAmong}
+use Rattle.clap.specs.Values.{kind_of}
+use Rattle.clap.specs.Faults.{fault_of}
+use Rattle.clap.proofs.OnLiterals.{clap_on_literals}
+use Rattle.tsn_words.specs.Asking.{IsNumber, number_of, program, text_given}
+
+-- whatever the program's name, `script` alone has no fault
+pub script : (name : List ℕ) → fault_of program (name ∷ codes "script" ∷ []) ≡ []
+unfolding clap_on_literals
+script name = refl
+
+-- so a parse of that fails only for want of memory
+pub script_parsed : {T : Type 0} (r : Result T Error) (words : List (List ℕ)) → FailsBy (fault_of program words) r → (name : List ℕ) → words ≡ name ∷ codes "script" ∷ [] → IfErr r (λ e. kind_of e ≡ OutOfMemory)
+script_parsed (Ok x) words fails name is = tt
+script_parsed (Err e) words fails name is =
+    elim fails [
+      | inl memory ↦ memory
+      | inr among ↦ absurd (subst (IsAmong (kind_of e)) (ap (fault_of program) is ∙ script name) among)
+    ]
+
+-- `--help` shows help, and no word at all is a subcommand that is missing
+help : (name : List ℕ) → fault_of program (name ∷ codes "--help" ∷ []) ≡ DisplayHelp ∷ []
+unfolding clap_on_literals
+help name = refl
+
+nothing : (name : List ℕ) → fault_of program (name ∷ []) ≡ MissingSubcommand ∷ []
+unfolding clap_on_literals
+nothing name = refl
+
+-- a port's states, with the numbers in another order than the options have, and an option's value in its word
+abbrev listed : List ℕ → List (List ℕ)
+listed name = name ∷ codes "states" ∷ codes "--step" ∷ codes "400" ∷ codes "cell.toml" ∷ codes "--port=1" ∷ codes "--from" ∷ codes "2500" ∷ codes "--count" ∷ codes "+3" ∷ []
+
+listed_faultless : (name : List ℕ) → fault_of program (listed name) ≡ []
+unfolding clap_on_literals
+listed_faultless name = refl
+
+listed_given : (name : List ℕ) → map (text_given (subcommand_of program (listed name))) (codes "FILE" ∷ codes "port" ∷ codes "from" ∷ codes "step" ∷ codes "count" ∷ [])
+    ≡ Some (codes "cell.toml") ∷ Some (codes "1") ∷ Some (codes "2500") ∷ Some (codes "400") ∷ Some (codes "+3") ∷ []
+unfolding clap_on_literals
+listed_given name = refl
+
+listed_count : number_of (codes "+3") ≡ 3
+listed_count = refl
+
+-- a command whose shape is plain has no global argument
+third_is_false : (a b g rest : Bool) → (a && (b && (not g && rest))) ≡ true → g ≡ false
+third_is_false true true false rest e = refl
+third_is_false true true true rest e = sym e
+third_is_false true false true rest e = sym e
+third_is_false true false false rest e = refl
+third_is_false false b true rest e = sym e
+third_is_false false b false rest e = refl
+
+pub local_by_shape : (c : Command) → has_plain_fields (out-Command c) ≡ true → (out-Command c).has_globals ≡ false
+local_by_shape c plain = third_is_false _ _ _ _ plain
+
+-- ---- what is read of a subcommand
+
+-- a text that is there is some reference to it
+pub some_text : (o : Option (Bor (List ℕ))) (text : List ℕ) → option_map (λ s. s.now) o ≡ Some text → IsSome o
+some_text None text e = (cc)
+some_text (Some s) text e = refl
+
+pub same_text : (o : Option (Bor (List ℕ))) (s : Bor (List ℕ)) (text : List ℕ) → o ≡ Some s → option_map (λ s. s.now) o ≡ Some text → s.now ≡ text
+same_text o s text is e =
+    let both : Some s.now ≡ Some text = sym (ap (option_map (λ (x : Bor (List ℕ)). x.now)) is) ∙ e in
+    ap (λ x. unwrap_or x text) both
+
+-- a text that is there is one of something
+pub never_none : {X : Type 0} (f : X → List ℕ) (o : Option X) {got : Option (List ℕ)} (text : List ℕ) → got ≡ option_map f o → got ≡ Some text → o ≡ None → ⊥
+never_none f o text same e none =
+    let bad : Some text ≡ None = sym e ∙ same ∙ ap (option_map f) none in
+    (cc)
+
+-- a number's text is read as that number
+pub is_read : {E : Type 0} (text : List ℕ) (r : Result ℕ E) → ParsesUnsigned 64 10 text r → IsNumber text → IsOk r
+is_read text (Ok n) h number = refl
+is_read text (Err e) h number = absurd (h number)
+
+pub read_number : {E : Type 0} (text : List ℕ) (r : Result ℕ E) (n : ℕ) → ParsesUnsigned 64 10 text r → r ≡ Ok n → n ≡ number_of text
+read_number text (Ok m) n h is = sym (ap (λ x. result_unwrap_or x m) is) ∙ h.1
+read_number text (Err e) n h is = (cc)

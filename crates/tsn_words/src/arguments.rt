@@ -1,0 +1,264 @@
+//! The command line.
+ghost use Rattle.std.specs.Prelude.{◌≡◌, ℕ, List, [], ◌∷◌, Some, None, false, IfOk, IfErr, codes, map, option_map, string_bytes};
+ghost use Rattle.clap.specs.Words.{app_of, first_of, first_value, found_of, kind_of, rows_of, rule_of, subcommand_of, subcommand_rows_of};
+ghost use Rattle.clap.specs.Kinds.{FailsBy};
+ghost use Rattle.clap.specs.Faults.{fault_of};
+ghost use Rattle.tsn_bytes.specs.declared.bytes.Fault.TheVariants.{Memory};
+ghost use Rattle.tsn_words.specs.Asking.{bare, number, number_of, program, script, setup_file, states, Asks, AsksFor, GivesListing, HasStates, IsComplete, IsNumber, IsWork};
+
+use clap::builder::ValueParser;
+use clap::error::ErrorKind;
+use clap::{Arg, ArgMatches, Command, Error};
+use std::alloc::{AllocError, Global};
+use tsn_bytes::Fault;
+
+/// The longest time from one instant of `states` to the next, in nanoseconds.
+const LONGEST_STEP: u64 = 1_000_000_000_000;
+
+/// The most instants of `states`.
+const MOST_INSTANTS: u64 = 1_000_000;
+
+/// Which states of a port are printed: those at an instant, and then at even steps.
+#[derive(Clone, Copy, Debug, PartialEq, Eq)]
+pub struct Listing {
+    /// The port's number.
+    pub port: u64,
+    /// The first instant, in nanoseconds.
+    pub from: u64,
+    /// The time from one instant to the next, 0 to 10^12 nanoseconds.
+    pub step: u64,
+    /// How many instants, 1 to 1,000,000.
+    pub count: u64,
+}
+
+/// What a command line asks for.
+#[derive(Drop)]
+pub enum Asked {
+    /// Answer the script on standard input, from the setup of this file or from the standard one.
+    Script { file: Option<String> },
+    /// Print the states of a port, from the setup of this file.
+    States { file: String, listing: Listing },
+    /// Show this text, help or the version.
+    Shown(String),
+    /// Say by this text why the command line is refused.
+    Refused(String),
+}
+
+impl Asked {
+    ghost use Rattle.tsn_words.specs.Asking.{file_of};
+
+    /// The file of the setup that is named, if one is.
+    pub fn file(&self) -> Option<&str>
+        ensures { option_map (λ name. name.now) result ≡ file_of self.now }
+    {
+        match self {
+            Asked::Script { file } => file.as_ref().map(String::as_str),
+            Asked::States { file, .. } => Some(file.as_str()),
+            Asked::Shown(_) | Asked::Refused(_) => None,
+        }
+    }
+}
+
+// The file of a setup, which may be wanted.
+fn setup_file<'a>(alloc: Global, is_wanted: bool) -> Arg<'a>
+    ensures rule { rule_of result ≡ setup_file is_wanted }
+    ensures local { result.global ≡ false }
+{
+    Arg::new(alloc, "FILE")
+        .required(is_wanted)
+        .help("The setup of the bridge, a TOML document")
+}
+
+fn script<'a>(alloc: Global) -> Result<Command<'a>, AllocError>
+    ensures { IfOk result (λ c. app_of c ≡ script) }
+{
+    Command::new(alloc, "script")
+        .about("Answers the command lines on standard input, one reply line each")
+        .arg(setup_file(alloc, false))
+}
+
+// An option that wants a number in its range.
+fn number<'a>(alloc: Global, name: &'a str, help: &'a str, least: u64, most: u64) -> Arg<'a>
+    ensures rule { rule_of result ≡ number name.entry.now least most }
+    ensures local { result.global ≡ false }
+{
+    Arg::new(alloc, name)
+        .long(name)
+        .required(true)
+        .value_parser(ValueParser::unsigned(least, most))
+        .help(help)
+}
+
+fn states<'a>(alloc: Global) -> Result<Command<'a>, AllocError>
+    ensures { IfOk result (λ c. app_of c ≡ states) }
+{
+    let file = setup_file(alloc, true);
+    let port = number(alloc, "port", "The port", 0, u64::MAX);
+    let from = number(alloc, "from", "The first instant", 0, u64::MAX);
+    let step = number(alloc, "step", "The time to the next", 0, LONGEST_STEP);
+    let count = number(alloc, "count", "How many instants", 1, MOST_INSTANTS);
+    Command::new(alloc, "states")
+        .about("Prints the gate states of a port, enabled at the first instant, one line each")
+        .arg(file)?
+        .arg(port)?
+        .arg(from)?
+        .arg(step)?
+        .arg(count)
+}
+
+// The program, but for its subcommands.
+fn bare<'a>(alloc: Global) -> Command<'a>
+    ensures { app_of result ≡ bare }
+{
+    Command::new(alloc, "tsnd")
+        .about("The configuration service of one time-aware bridge")
+        .version("0.1.0")
+        .subcommand_required(true)
+}
+
+// The command line that the program takes.
+fn command<'a>(alloc: Global) -> Result<Command<'a>, AllocError>
+    ensures { IfOk result (λ c. app_of c ≡ program) }
+{
+    bare(alloc)
+        .subcommand(script(alloc)?)?
+        .subcommand(states(alloc)?)
+}
+
+// What the words give, or what is wrong with them.
+fn parsed<'a>(alloc: Global, words: &'a [String]) -> Result<ArgMatches<'a>, Error>
+    ensures kinds { FailsBy (fault_of program (map string_bytes words.now)) result }
+    ensures given { IfOk result (λ m. subcommand_rows_of m
+        ≡ subcommand_of program (map string_bytes words.now)) }
+    ensures script { (name : List ℕ) → map string_bytes words.now ≡ name ∷ codes "script" ∷ []
+        → IfErr result (λ e. kind_of e ≡ ErrorKind.OutOfMemory) }
+{
+    command(alloc)?.try_get_matches_from(words)
+}
+
+// A number that is given.
+fn number_of(given: &ArgMatches<'_>, name: &str) -> u64
+    requires { (text : List ℕ) × (first_of name.now (rows_of (found_of given.now)) ≡ Some text) × IsNumber text }
+    ensures { (text : List ℕ) → first_of name.now (rows_of (found_of given.now)) ≡ Some text → result ≡ number_of text }
+{
+    let text = given.get_str(name).unwrap();
+    text.parse::<u64>().unwrap()
+}
+
+// The numbers that are given to `states`.
+fn listing_of(given: &ArgMatches<'_>) -> Listing
+    requires { HasStates (Some (codes "states", rows_of (found_of given.now))) }
+    ensures { GivesListing (Some (codes "states", rows_of (found_of given.now))) result }
+{
+    let port = number_of(given, "port");
+    let from = number_of(given, "from");
+    let step = number_of(given, "step");
+    let count = number_of(given, "count");
+    Listing {
+        port,
+        from,
+        step,
+        count,
+    }
+}
+
+// The file that is given, if one is.
+fn file_of(alloc: Global, given: &ArgMatches<'_>) -> Result<Option<String>, AllocError>
+    ensures { IfOk result (λ file. first_value (found_of given.now) (codes "FILE")
+        ≡ option_map string_bytes file) }
+{
+    match given.get_str("FILE") {
+        Some(name) => {
+            let file = String::from_str(alloc, name)?;
+            Ok(Some(file))
+        }
+        None => Ok(None),
+    }
+}
+
+// The states of a port, from the setup and with the numbers that are given.
+fn states_of(alloc: Global, given: &ArgMatches<'_>) -> Result<Asked, AllocError>
+    requires { HasStates (Some (codes "states", rows_of (found_of given.now))) }
+    ensures { IfOk result (AsksFor (Some (codes "states", rows_of (found_of given.now)))) }
+{
+    let listing = listing_of(given);
+    match file_of(alloc, given)? {
+        Some(file) => Ok(Asked::States { file, listing }),
+        None => unreachable!(),
+    }
+}
+
+// A script, from the setup that is given.
+fn script_of(alloc: Global, given: &ArgMatches<'_>) -> Result<Asked, AllocError>
+    ensures { IfOk result (AsksFor (Some (codes "script", rows_of (found_of given.now)))) }
+{
+    let file = file_of(alloc, given)?;
+    Ok(Asked::Script { file })
+}
+
+// What the words ask for, by their subcommand and what they give to it.
+fn asked_of(alloc: Global, matches: &ArgMatches<'_>) -> Result<Asked, AllocError>
+    requires { IsComplete (subcommand_rows_of matches.now) }
+    ensures { IfOk result (AsksFor (subcommand_rows_of matches.now)) }
+{
+    let Some((name, given)) = matches.subcommand() else {
+        unreachable!();
+    };
+    if name == "states" {
+        states_of(alloc, given)
+    } else {
+        script_of(alloc, given)
+    }
+}
+
+// Why words that are no UTF-8 are refused.
+fn no_text(alloc: Global) -> Result<Error, AllocError>
+    ensures { IfOk result (λ e. kind_of e ≡ ErrorKind.InvalidValue) }
+{
+    command(alloc)?.error(
+        ErrorKind::InvalidValue,
+        "invalid UTF-8 was detected in one or more arguments",
+    )
+}
+
+fn refused_as_no_text(alloc: Global) -> Result<Asked, Fault>
+    ensures ok { IfOk result (Asks None) }
+    ensures memory { IfErr result (λ e. e ≡ Memory) }
+{
+    let Ok(error) = no_text(alloc) else {
+        return Err(Fault::Memory);
+    };
+    let Ok(reason) = format!(in alloc; "{error}") else {
+        return Err(Fault::Memory);
+    };
+    Ok(Asked::Refused(reason))
+}
+
+/// What the words ask for, the program's name first, or none where a word is no UTF-8. It is refused only for want of
+/// memory.
+pub fn read_words(alloc: Global, words: Option<&[String]>) -> Result<Asked, Fault>
+    ensures ok { IfOk result (Asks (option_map (λ w. map string_bytes w.now) words.entry)) }
+    ensures script { (name : List ℕ)
+        → option_map (λ w. map string_bytes w.now) words.entry ≡ Some (name ∷ codes "script" ∷ [])
+        → IfOk result IsWork }
+    ensures memory { IfErr result (λ e. e ≡ Memory) }
+{
+    let Some(words) = words else {
+        return refused_as_no_text(alloc);
+    };
+    let error = match parsed(alloc, words) {
+        Ok(matches) => return asked_of(alloc, &matches).map_err(|_| Fault::Memory),
+        Err(error) => error,
+    };
+    if error.kind() == ErrorKind::OutOfMemory {
+        return Err(Fault::Memory);
+    }
+    let Ok(text) = format!(in alloc; "{error}") else {
+        return Err(Fault::Memory);
+    };
+    if error.use_stderr() {
+        Ok(Asked::Refused(text))
+    } else {
+        Ok(Asked::Shown(text))
+    }
+}

@@ -1,0 +1,9 @@
+//! What the words of a command line ask for: to answer a script, to print the states of a port, or to show or refuse by a
+//! text.
+#![tactic(auto)]
+
+mod arguments;
+#[cfg(test)]
+mod tests;
+
+pub use arguments::{Asked, Listing, read_words};

@@ -1,8 +1,0 @@
-use Rattle.std.proofs.Common.{map, string_bytes, subst, sym}
-use Rattle.tsnd.specs.Asking.{IsComplete}
-use Rattle.tsnd.proofs.Given.{complete}
-use Rattle.tsnd.proofs.arguments.read_words.Goals as goal
-
--- words without a fault name a subcommand, and give what it wants
-pub asked_of-requires : goal.asked_of-requires
-asked_of-requires c = subst IsComplete (sym c.in-Ok.ensures.given) (complete (map string_bytes c.in-Some.words.now) c.in-Ok.ensures.kinds)

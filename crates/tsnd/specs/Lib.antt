@@ -1,5 +1,0 @@
-pub mod Asking
-pub mod Failures
-pub mod Listing
-pub mod Opening
-pub mod Program
