@@ -105,15 +105,21 @@ fn is_change(
     assert!(rt; change.after.as_ref() == after);
 }
 
-#[test]
-fn an_inverse_swaps_the_values(rt: HostRuntime) {
-    let change = Change {
+fn removed_meter() -> Change {
+    Change {
         key: meter_key(2),
         before: Some(meter()),
         after: None,
-    };
-    let back = change.inverse();
+    }
+}
+
+#[test]
+fn an_inverse_swaps_the_values(rt: HostRuntime) -> Result<(), Fail> {
+    let copy = removed_meter().try_clone()?;
+    is_change(&rt, &copy, meter_key(2), Some(&meter()), None);
+    let back = removed_meter().inverse();
     is_change(&rt, &back, meter_key(2), None, Some(&meter()));
+    Ok(())
 }
 
 /// The change and a copy of it are on the port, from the one record to the other.
