@@ -190,7 +190,7 @@ impl MeterId {
 }
 
 /// A priority or an internal priority value (802.1Q-2018, 12.31.3), 0 to 7.
-#[derive(Clone, Copy, Debug, PartialEq, Eq, PartialOrd, Ord)]
+#[derive(Clone, Copy, Debug, PartialEq, Eq)]
 pub struct Priority {
     number: u8,
 }
@@ -233,7 +233,7 @@ impl Priority {
 }
 
 /// A stream handle (802.1Q-2018, 12.31.2), 0 to 4,294,967,295.
-#[derive(Clone, Copy, Debug, PartialEq, Eq, PartialOrd, Ord)]
+#[derive(Clone, Copy, Debug, PartialEq, Eq)]
 pub struct Handle {
     number: u32,
 }

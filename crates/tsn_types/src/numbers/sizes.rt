@@ -15,7 +15,7 @@ pub const GREATEST_MAX_SDU: u64 = 65_535;
 pub const GREATEST_BIT_RATE: u64 = 1_000_000_000_000;
 
 /// A number of octets in an interval or a burst, 0 to 4,294,967,295.
-#[derive(Clone, Copy, Debug, PartialEq, Eq, PartialOrd, Ord)]
+#[derive(Clone, Copy, Debug, PartialEq, Eq)]
 pub struct Octets {
     number: u32,
 }
@@ -58,7 +58,7 @@ impl Octets {
 }
 
 /// A maximum SDU size (802.1Q-2018, 12.31.2), 1 to 65,535 octets.
-#[derive(Clone, Copy, Debug, PartialEq, Eq, PartialOrd, Ord)]
+#[derive(Clone, Copy, Debug, PartialEq, Eq)]
 pub struct MaxSdu {
     number: u16,
 }
@@ -101,7 +101,7 @@ impl MaxSdu {
 }
 
 /// An information rate of a flow meter, 0 to 10^12 bits per second.
-#[derive(Clone, Copy, Debug, PartialEq, Eq, PartialOrd, Ord)]
+#[derive(Clone, Copy, Debug, PartialEq, Eq)]
 pub struct BitRate {
     number: u64,
 }

@@ -18,7 +18,7 @@ pub const LONGEST_EXTENSION: u64 = 1_000_000_000_000;
 pub const LONGEST_INTERVAL: u64 = 4_294_967_295;
 
 /// An instant, 0 to 2^62 nanoseconds.
-#[derive(Clone, Copy, Debug, PartialEq, Eq, PartialOrd, Ord)]
+#[derive(Clone, Copy, Debug, PartialEq, Eq)]
 pub struct Instant {
     number: u64,
 }
@@ -60,7 +60,7 @@ impl Instant {
 }
 
 /// A cycle time of a gate control list (802.1Q-2018, 12.29.1), 1 to 10^12 nanoseconds.
-#[derive(Clone, Copy, Debug, PartialEq, Eq, PartialOrd, Ord)]
+#[derive(Clone, Copy, Debug, PartialEq, Eq)]
 pub struct Cycle {
     number: u64,
 }
@@ -102,7 +102,7 @@ impl Cycle {
 }
 
 /// A cycle time extension (802.1Q-2018, 12.29.1), 0 to 10^12 nanoseconds.
-#[derive(Clone, Copy, Debug, PartialEq, Eq, PartialOrd, Ord)]
+#[derive(Clone, Copy, Debug, PartialEq, Eq)]
 pub struct Extension {
     number: u64,
 }
@@ -144,7 +144,7 @@ impl Extension {
 }
 
 /// A time interval of a gate control entry, 1 to 4,294,967,295 nanoseconds.
-#[derive(Clone, Copy, Debug, PartialEq, Eq, PartialOrd, Ord)]
+#[derive(Clone, Copy, Debug, PartialEq, Eq)]
 pub struct Interval {
     number: u32,
 }
