@@ -10,6 +10,4 @@ pub mod bridge;
 pub mod command;
 pub mod laws;
 pub mod reply;
-#[cfg(test)]
-mod tests;
 mod together;

@@ -14,7 +14,7 @@ use tsn_types::records::{StreamFilter, StreamGate};
 
 /// A frame on its way: its chosen filter, the gate that this names, the gate's state, and the instant.
 #[derive(Clone, Copy, Debug)]
-pub(crate) struct Passage<'a> {
+pub struct Passage<'a> {
     pub id: FilterId,
     pub filter: &'a StreamFilter,
     pub gate: &'a StreamGate,
@@ -178,7 +178,7 @@ fn through_meter(passage: &Passage<'_>, met: &mut Met) -> Result<bool, DropCause
 
 /// The verdict on a frame whose filter is chosen. What is kept of the instances that it meets is left as the chain
 /// leaves it.
-pub(crate) fn pass_through(passage: &Passage<'_>, met: &mut Met) -> Verdict
+pub fn pass_through(passage: &Passage<'_>, met: &mut Met) -> Verdict
     ensures { (result, met.new) ≡ through (case_of passage.now met.old) }
 {
     let passed = match through_gate(passage, met) {

@@ -104,14 +104,14 @@ impl MeterData {
 
 /// A flow meter that a filter names: its record, and what is kept of it.
 #[derive(Clone, Copy, Debug)]
-pub(crate) struct Metered {
+pub struct Metered {
     pub by: FlowMeter,
     pub kept: MeterData,
 }
 
 /// What is kept of the instances that a frame meets: the chosen filter, its gate and, if it names one, its meter.
 #[derive(Clone, Copy, Debug)]
-pub(crate) struct Met {
+pub struct Met {
     pub filter: FilterData,
     pub gate: GateData,
     pub meter: Option<Metered>,
@@ -119,14 +119,14 @@ pub(crate) struct Met {
 
 /// The interval of the list in force: the instant at which it began, and its IntervalOctetMax.
 #[derive(Clone, Copy, Debug, PartialEq, Eq)]
-pub(crate) struct Running {
+pub struct Running {
     pub began: u64,
     pub octets: Option<Octets>,
 }
 
 /// The state of a stream gate at an instant, and its interval where a list is in force.
 #[derive(Clone, Copy, Debug, PartialEq, Eq)]
-pub(crate) struct GateState {
+pub struct GateState {
     pub is_open: bool,
     pub ipv: Option<Priority>,
     pub running: Option<Running>,

@@ -8,7 +8,7 @@
 #![tactic(auto)]
 
 mod begin;
-mod chain;
+pub mod chain;
 pub mod choose;
 pub mod data;
 pub mod frame;
@@ -17,5 +17,3 @@ pub mod laws;
 mod rows;
 pub mod runtime;
 pub mod state;
-#[cfg(test)]
-mod tests;

@@ -28,8 +28,6 @@ pub mod laws;
 mod opening;
 pub mod records;
 mod rows;
-#[cfg(test)]
-mod tests;
 
 /// A well kept configuration with its limits. `map` is the map from keys to records, and `spare` the number of
 /// changes that it certainly has room for.

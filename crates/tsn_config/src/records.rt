@@ -61,6 +61,3 @@ impl Records {
         self.items
     }
 }
-
-#[cfg(test)]
-mod tests;

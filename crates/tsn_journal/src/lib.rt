@@ -10,5 +10,3 @@ pub mod entries;
 mod finding;
 pub mod journal;
 pub mod laws;
-#[cfg(test)]
-mod tests;

@@ -8,8 +8,6 @@ mod opening;
 mod program;
 mod script;
 mod states;
-#[cfg(test)]
-mod tests;
 
 pub use failures::Failure;
 pub use files::read_setup;

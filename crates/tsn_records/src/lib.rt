@@ -9,6 +9,4 @@ pub mod keys;
 pub mod members;
 pub mod ranges;
 pub mod records;
-#[cfg(test)]
-mod tests;
 pub mod unread;

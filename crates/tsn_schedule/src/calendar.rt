@@ -45,7 +45,7 @@ pub fn state_at<E: Timed>(list: &ControlList<E>, offset: u64) -> Option<&E>
 }
 
 /// The intervals before the entry at an offset, in nanoseconds.
-pub(crate) fn earlier_sum<E: Timed>(list: &ControlList<E>, offset: u64) -> u64
+pub fn earlier_sum<E: Timed>(list: &ControlList<E>, offset: u64) -> u64
     ensures value { result ≡ earlier_at E.interval list.now offset }
     ensures within { result ≤ offset }
 {

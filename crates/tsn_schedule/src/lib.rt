@@ -7,10 +7,6 @@
 #![tactic(auto)]
 
 pub mod calendar;
-#[cfg(test)]
-mod histories;
 pub mod laws;
 pub mod runner;
-#[cfg(test)]
-mod tests;
 pub mod timed;

@@ -10,6 +10,3 @@ mod script;
 pub use laws::{example_cuts, one_cut};
 pub use responder::{Responder, answer_lines};
 pub use script::{run_script, run_script_up_to};
-
-#[cfg(test)]
-mod tests;

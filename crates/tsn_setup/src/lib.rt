@@ -12,7 +12,5 @@ mod members;
 mod ranges;
 mod setups;
 mod tables;
-#[cfg(test)]
-mod tests;
 
 pub use setups::{LONGEST_SETUP, setup_of};

@@ -13,5 +13,3 @@ pub mod numbers;
 mod ranges;
 pub mod records;
 pub mod refusals;
-#[cfg(test)]
-mod tests;

@@ -91,6 +91,3 @@ impl<E: PartialEq> PartialEq for ControlList<E> {
         self.entries == other.entries
     }
 }
-
-#[cfg(test)]
-mod tests;

@@ -9,6 +9,4 @@
 pub mod book;
 pub mod laws;
 mod redo;
-#[cfg(test)]
-mod tests;
 mod undo_all;

@@ -14,12 +14,12 @@ pub mod laws;
 mod members;
 mod ranges;
 mod reading;
-#[cfg(test)]
-mod samples;
 mod spelled;
 mod values;
 
+pub use drafts::{CommandDraft, FrameDraft, LineDraft};
 pub use reading::{Line, command_of};
+pub use spelled::spelled_draft;
 pub use tsn_bytes::{
     Buffered, ByteIn, ByteOut, Failed, Failing, Fault, MemIn, MemOut, StdIo, put_all,
 };

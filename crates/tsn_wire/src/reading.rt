@@ -85,6 +85,3 @@ pub fn command_of(alloc: Global, line: &[u8]) -> Result<Line, Refusal>
 {
     reading(alloc, line).map_err(Unread::refusal)
 }
-
-#[cfg(test)]
-mod tests;

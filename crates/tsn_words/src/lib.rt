@@ -3,7 +3,5 @@
 #![tactic(auto)]
 
 mod arguments;
-#[cfg(test)]
-mod tests;
 
 pub use arguments::{Asked, Listing, read_words};

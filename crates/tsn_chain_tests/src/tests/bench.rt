@@ -1,0 +1,377 @@
+//! A configuration and the runtime that follows it, as a bridge keeps them, and records of worked examples.
+ghost use Rattle.std.specs.Prelude.{◌≡◌, ◌≤◌, ◌^◌};
+ghost use Rattle.tsn_chain.specs.Instances.{HasKeys};
+
+use std::alloc::{AllocError, Global};
+use std::process::Abort;
+use std::test::Fail;
+use tsn_chain::frame::{DropCause, Frame, Verdict};
+use tsn_chain::runtime::{Runtime, police};
+use tsn_chain::state::{Counters, State};
+use tsn_config::Config;
+use tsn_config::records::Records;
+use tsn_edit::{Change, Edit};
+use tsn_schedule::runner::Past;
+use tsn_types::keys::Key;
+use tsn_types::limits::Limits;
+use tsn_types::lists::ControlList;
+use tsn_types::numbers::{
+    BitRate, Cycle, Extension, FilterId, GateId, Handle, Instant, Interval, MaxSdu, MeterId,
+    Octets, PortId, Priority,
+};
+use tsn_types::records::{
+    FlowMeter, GateEntry, PortGates, Record, RecordRef, Schedule, StreamFilter, StreamGate,
+};
+
+/// One port, sixteen instances of each other kind, lists of up to sixteen entries. The runtime has just the keys of the
+/// configuration.
+#[derive(Drop)]
+pub(super) struct Bench {
+    config: Config,
+    runtime: Runtime,
+    ghost keys: { HasKeys runtime.runners runtime.frames config.map },
+}
+
+impl Bench {
+    pub(super) fn new(alloc: Global) -> Result<Bench, Fail> {
+        let limits = Limits::new(1, 16, 16, 16, 16)?;
+        let config = Config::open(alloc, limits, Records::new(alloc))?;
+        let mut runtime = Runtime::new(alloc, limits)?;
+        runtime.reserve(1)?;
+        runtime.follow(&Change {
+            key: port_key(),
+            before: None,
+            after: Some(Record::Port(PortGates {
+                gates: 255,
+                admin: schedule(alloc),
+            })),
+        });
+        Ok(Bench { config, runtime })
+    }
+
+    /// Makes an edit, or tells that it is refused.
+    pub(super) fn edit(&mut self, edit: Edit) -> Result<(), Fail> {
+        if self.config.check(&edit).is_some() {
+            return Err(Fail::from("refused"));
+        }
+        let change = self.config.change_of(edit)?;
+        self.config.reserve(1)?;
+        self.runtime.reserve(1)?;
+        self.runtime.follow(&change);
+        self.config.apply(change);
+        Ok(())
+    }
+
+    pub(super) fn now(&self) -> u64 {
+        self.runtime.now().get()
+    }
+
+    /// Passes a frame.
+    pub(super) fn pass(&mut self, frame: Frame, now: u64) -> Verdict
+        requires { now ≤ 2 ^ 62 }
+    {
+        police(&self.config, &mut self.runtime, frame, instant(now))
+    }
+
+    // Of an instance that is not there the following calls tell nothing.
+    pub(super) fn counters(&self, key: &Key) -> Option<Counters> {
+        if self.config.get(*key).is_none() {
+            return None;
+        }
+        Some(self.runtime.counters(*key))
+    }
+
+    pub(super) fn enable_gate(&mut self, id: GateId, now: u64) -> Option<Option<u64>>
+        requires { now ≤ 2 ^ 62 }
+    {
+        if self.config.get(Key::Gate(id)).is_none() {
+            return None;
+        }
+        Some(self.runtime.enable(Key::Gate(id), instant(now)))
+    }
+
+    pub(super) fn disable_gate(&mut self, id: GateId, now: u64) -> Option<()>
+        requires { now ≤ 2 ^ 62 }
+    {
+        if self.config.get(Key::Gate(id)).is_none() {
+            return None;
+        }
+        self.runtime.disable(Key::Gate(id), instant(now));
+        Some(())
+    }
+
+    pub(super) fn apply_gate(&mut self, id: GateId, now: u64) -> Option<u64>
+        requires { now ≤ 2 ^ 62 }
+    {
+        let Some(RecordRef::Gate(_)) = self.config.get(Key::Gate(id)) else {
+            return None;
+        };
+        match self
+            .runtime
+            .apply(&self.config, Key::Gate(id), instant(now))
+        {
+            Ok(change) => Some(change),
+            Err(_) => None,
+        }
+    }
+
+    pub(super) fn gate_state(&self, id: GateId, t: u64) -> Option<Result<State, Past>>
+        requires { t ≤ 2 ^ 62 }
+    {
+        let Some(RecordRef::Gate(_)) = self.config.get(Key::Gate(id)) else {
+            return None;
+        };
+        Some(
+            self.runtime
+                .states_at(&self.config, Key::Gate(id), instant(t)),
+        )
+    }
+}
+
+/// The key of the one port.
+pub(super) fn port_key() -> Key
+    ensures { result ≡ Key.Port 1 }
+{
+    Key::Port(PortId::new(1).unwrap())
+}
+
+pub(super) fn instant(number: u64) -> Instant
+    requires { number ≤ 2 ^ 62 }
+    ensures { result ≡ number }
+{
+    Instant::new(number).unwrap()
+}
+
+pub(super) fn octets(number: u64) -> Octets
+    requires { number ≤ 4294967295 }
+{
+    Octets::new(number).unwrap()
+}
+
+pub(super) fn filter_id(number: u64) -> FilterId
+    requires { number ≤ 65535 }
+{
+    FilterId::new(number).unwrap()
+}
+
+pub(super) fn gate_id(number: u64) -> GateId
+    requires { number ≤ 65535 }
+{
+    GateId::new(number).unwrap()
+}
+
+pub(super) fn meter_id(number: u64) -> MeterId
+    requires { number ≤ 65535 }
+{
+    MeterId::new(number).unwrap()
+}
+
+pub(super) fn priority(number: u64) -> Priority
+    requires { number ≤ 7 }
+{
+    Priority::new(number).unwrap()
+}
+
+/// A frame of handle 7 and priority 2 that is not drop eligible.
+pub(super) fn frame(count: u64) -> Frame
+    requires { count ≤ 65535 }
+{
+    Frame {
+        handle: Handle::new(7).unwrap(),
+        priority: priority(2),
+        octets: octets(count),
+        yellow: false,
+    }
+}
+
+/// The empty list with a cycle of a millisecond.
+fn schedule<E: Drop>(alloc: Global) -> Schedule<E> {
+    Schedule {
+        list: ControlList::new(alloc),
+        cycle: Cycle::new(1_000_000).unwrap(),
+        extension: Extension::new(0).unwrap(),
+        base: instant(0),
+    }
+}
+
+/// An open gate with no list and no enable.
+pub(super) fn gate(alloc: Global) -> StreamGate {
+    StreamGate {
+        is_open: true,
+        ipv: None,
+        invalid_rx: false,
+        octets_exceeded: false,
+        admin: schedule(alloc),
+    }
+}
+
+/// A closed gate whose list is open for 1000 ns with priority value 5 and at most 150 octets, and then closed for 1000.
+pub(super) fn listed_gate(alloc: Global, octets_exceeded: bool) -> Result<StreamGate, AllocError> {
+    let mut list = ControlList::new(alloc);
+    list.push(GateEntry {
+        is_open: true,
+        ipv: Some(priority(5)),
+        interval: Interval::new(1000).unwrap(),
+        octets: Some(octets(150)),
+    })?;
+    list.push(GateEntry {
+        is_open: false,
+        ipv: None,
+        interval: Interval::new(1000).unwrap(),
+        octets: None,
+    })?;
+    Ok(StreamGate {
+        is_open: false,
+        ipv: None,
+        invalid_rx: false,
+        octets_exceeded,
+        admin: Schedule {
+            list,
+            cycle: Cycle::new(2000).unwrap(),
+            extension: Extension::new(0).unwrap(),
+            base: instant(0),
+        },
+    })
+}
+
+/// A filter that matches all frames, on gate 0, with no maximum and no meter.
+pub(super) fn filter() -> StreamFilter {
+    StreamFilter {
+        handle: None,
+        priority: None,
+        gate: gate_id(0),
+        max_sdu: None,
+        meter: None,
+        oversize: false,
+    }
+}
+
+/// A filter of handle 7 on gate 0 and meter 0, with at most 1500 octets.
+pub(super) fn metered_filter() -> StreamFilter {
+    StreamFilter {
+        handle: Some(Handle::new(7).unwrap()),
+        priority: None,
+        gate: gate_id(0),
+        max_sdu: Some(MaxSdu::new(1500).unwrap()),
+        meter: Some(meter_id(0)),
+        oversize: true,
+    }
+}
+
+/// A meter with no flag on: a committed rate of 8 Mbit/s, two burst sizes, no excess rate.
+pub(super) fn meter(cbs: u64, ebs: u64) -> FlowMeter
+    requires committed { cbs ≤ 4294967295 }
+    requires excess { ebs ≤ 4294967295 }
+{
+    FlowMeter {
+        cir: BitRate::new(8_000_000).unwrap(),
+        cbs: octets(cbs),
+        eir: BitRate::new(0).unwrap(),
+        ebs: octets(ebs),
+        cf: false,
+        aware: false,
+        drop_yellow: false,
+        all_red: false,
+    }
+}
+
+fn create_gate(number: u64, gate: StreamGate) -> Edit
+    requires { number ≤ 65535 }
+{
+    Edit::Create(Key::Gate(gate_id(number)), Record::Gate(gate))
+}
+
+pub(super) fn create_filter(number: u64, filter: StreamFilter) -> Edit
+    requires { number ≤ 65535 }
+{
+    Edit::Create(Key::Filter(filter_id(number)), Record::Filter(filter))
+}
+
+pub(super) fn create_meter(number: u64, meter: FlowMeter) -> Edit
+    requires { number ≤ 65535 }
+{
+    Edit::Create(Key::Meter(meter_id(number)), Record::Meter(meter))
+}
+
+/// Passes a frame of so many octets, with this verdict.
+pub(super) fn passes(rt: &impl Abort, bench: &mut Bench, count: u64, now: u64, wanted: Verdict)
+    requires count { count ≤ 65535 }
+    requires now { now ≤ 2 ^ 62 }
+{
+    assert_eq!(rt; bench.pass(frame(count), now), wanted);
+}
+
+/// Asks for the counters of an instance, which are these.
+pub(super) fn counts(rt: &impl Abort, bench: &Bench, key: Key, wanted: Counters) {
+    assert_eq!(rt; bench.counters(&key), Some(wanted));
+}
+
+/// The verdict on a frame that its filter passes.
+pub(super) fn passed(filter: u64, now: u64, count: u64, yellow: bool) -> Verdict
+    requires filter { filter ≤ 65535 }
+    requires now { now ≤ 2 ^ 62 }
+    requires count { count ≤ 7 }
+{
+    Verdict::Passed {
+        filter: Some(filter_id(filter)),
+        now: instant(now),
+        priority: priority(count),
+        yellow,
+    }
+}
+
+/// The verdict on a frame that is dropped.
+pub(super) fn dropped(filter: u64, now: u64, cause: DropCause) -> Verdict
+    requires filter { filter ≤ 65535 }
+    requires now { now ≤ 2 ^ 62 }
+{
+    Verdict::Dropped {
+        filter: filter_id(filter),
+        now: instant(now),
+        cause,
+    }
+}
+
+/// Plays on a bench with gate 0. One function makes the benches and lends them, so that a proof goes once over a bench's
+/// end.
+pub(super) fn on_a_bench<F: FnOnce(&mut Bench) -> Result<(), Fail>>(
+    gate: StreamGate,
+    alloc: Global,
+    play: F,
+) -> Result<(), Fail>
+    requires { F.IsAlwaysCallable play }
+{
+    let mut bench = Bench::new(alloc)?;
+    bench.edit(create_gate(0, gate))?;
+    play(&mut bench)
+}
+
+/// Plays on a bench with an open gate, a meter and filter 3, which names both.
+pub(super) fn on_a_metered_bench<F: FnOnce(&mut Bench) -> Result<(), Fail>>(
+    alloc: Global,
+    by: FlowMeter,
+    play: F,
+) -> Result<(), Fail>
+    requires { F.IsAlwaysCallable play }
+{
+    on_a_bench(gate(alloc), alloc, |bench| {
+        bench.edit(create_meter(0, by))?;
+        bench.edit(create_filter(3, metered_filter()))?;
+        play(bench)
+    })
+}
+
+/// Plays on a bench with a gate and filter 0, which names it.
+pub(super) fn on_a_gated_bench<F: FnOnce(&mut Bench) -> Result<(), Fail>>(
+    gate: StreamGate,
+    filter: StreamFilter,
+    alloc: Global,
+    play: F,
+) -> Result<(), Fail>
+    requires { F.IsAlwaysCallable play }
+{
+    on_a_bench(gate, alloc, |bench| {
+        bench.edit(create_filter(0, filter))?;
+        play(bench)
+    })
+}

@@ -1,0 +1,279 @@
+//! Keys, records, limits and configurations of the worked examples: two ports, sixteen instances of each other kind and
+//! lists of up to sixteen entries.
+ghost use Rattle.std.specs.Prelude.{◌≡◌, ◌≤◌};
+
+use std::alloc::{AllocError, Global};
+use std::process::Abort;
+use std::test::Fail;
+use tsn_config::Config;
+use tsn_config::records::Records;
+use tsn_edit::Edit;
+use tsn_types::keys::{Key, Kind};
+use tsn_types::limits::Limits;
+use tsn_types::lists::ControlList;
+use tsn_types::numbers::{
+    BitRate, Cycle, Extension, FilterId, GateId, Handle, Instant, Interval, MaxSdu, MeterId,
+    Octets, PortId,
+};
+use tsn_types::records::{
+    FlowMeter, GateEntry, PortGates, Record, RecordRef, Schedule, StreamFilter, StreamGate,
+};
+use tsn_types::refusals::Refusal;
+
+pub(super) fn port_key(number: u64) -> Key
+    requires low { 1 ≤ number }
+    requires high { number ≤ 64 }
+    ensures { result ≡ Key.Port number }
+{
+    Key::Port(PortId::new(number).unwrap())
+}
+
+pub(super) fn filter_key(number: u64) -> Key
+    requires { number ≤ 65535 }
+    ensures { result ≡ Key.Filter number }
+{
+    Key::Filter(FilterId::new(number).unwrap())
+}
+
+pub(super) fn gate_key(number: u64) -> Key
+    requires { number ≤ 65535 }
+    ensures { result ≡ Key.Gate number }
+{
+    Key::Gate(GateId::new(number).unwrap())
+}
+
+pub(super) fn meter_key(number: u64) -> Key
+    requires { number ≤ 65535 }
+    ensures { result ≡ Key.Meter number }
+{
+    Key::Meter(MeterId::new(number).unwrap())
+}
+
+fn schedule<E: Drop>(alloc: Global) -> Schedule<E> {
+    Schedule {
+        list: ControlList::new(alloc),
+        cycle: Cycle::new(1_000_000).unwrap(),
+        extension: Extension::new(0).unwrap(),
+        base: Instant::new(0).unwrap(),
+    }
+}
+
+pub(super) fn port(alloc: Global, gates: u8) -> PortGates {
+    PortGates {
+        gates,
+        admin: schedule(alloc),
+    }
+}
+
+pub(super) fn gate(alloc: Global) -> StreamGate {
+    StreamGate {
+        is_open: true,
+        ipv: None,
+        invalid_rx: false,
+        octets_exceeded: false,
+        admin: schedule(alloc),
+    }
+}
+
+// A gate whose list has this many entries.
+pub(super) fn gate_with(alloc: Global, length: usize) -> Result<StreamGate, AllocError> {
+    let mut gate = gate(alloc);
+    for _ in 0..length {
+        gate.admin.list.push(GateEntry {
+            is_open: true,
+            ipv: None,
+            interval: Interval::new(1).unwrap(),
+            octets: None,
+        })?;
+    }
+    Ok(gate)
+}
+
+pub(super) fn filter(gate: u64, meter: Option<MeterId>) -> StreamFilter
+    requires { gate ≤ 65535 }
+{
+    StreamFilter {
+        handle: Some(Handle::new(7).unwrap()),
+        priority: None,
+        gate: GateId::new(gate).unwrap(),
+        max_sdu: Some(MaxSdu::new(1500).unwrap()),
+        meter,
+        oversize: true,
+    }
+}
+
+pub(super) fn on_meter(number: u64) -> Option<MeterId>
+    requires { number ≤ 65535 }
+{
+    Some(MeterId::new(number).unwrap())
+}
+
+pub(super) fn meter() -> FlowMeter {
+    FlowMeter {
+        cir: BitRate::new(8_000_000).unwrap(),
+        cbs: Octets::new(1500).unwrap(),
+        eir: BitRate::new(0).unwrap(),
+        ebs: Octets::new(0).unwrap(),
+        cf: false,
+        aware: false,
+        drop_yellow: false,
+        all_red: false,
+    }
+}
+
+pub(super) fn limits() -> Limits {
+    Limits::new(2, 16, 16, 16, 16).unwrap()
+}
+
+// Checks the edit, and makes its change.
+pub(super) fn make(rt: &impl Abort, config: &mut Config, edit: Edit) -> Result<(), AllocError> {
+    assert!(rt; config.check(&edit).is_none());
+    let change = config.change_of(edit)?;
+    assert!(rt; config.fits(&change));
+    config.reserve(1)?;
+    config.apply(change);
+    Ok(())
+}
+
+pub(super) fn create_filter(number: u64, value: StreamFilter) -> Edit
+    requires { number ≤ 65535 }
+{
+    Edit::Create(filter_key(number), Record::Filter(value))
+}
+
+pub(super) fn create_gate(number: u64, value: StreamGate) -> Edit
+    requires { number ≤ 65535 }
+{
+    Edit::Create(gate_key(number), Record::Gate(value))
+}
+
+/// Plays on a configuration that begins with the records. One function makes the configurations and lends them, so that
+/// a proof goes once over a configuration's end.
+pub(super) fn on_a_config<F: FnOnce(&mut Config) -> Result<(), Fail>>(
+    alloc: Global,
+    limits: Limits,
+    records: Records,
+    play: F,
+) -> Result<(), Fail>
+    requires { F.IsAlwaysCallable play }
+{
+    let mut config = Config::open(alloc, limits, records)?;
+    play(&mut config)
+}
+
+/// Plays on gate 0, meter 0, and filter 3 that refers to both.
+pub(super) fn on_first_entries<F: FnOnce(&mut Config) -> Result<(), Fail>>(
+    rt: &impl Abort,
+    alloc: Global,
+    play: F,
+) -> Result<(), Fail>
+    requires { F.IsAlwaysCallable play }
+{
+    let mut config = Config::open(alloc, limits(), Records::new(alloc))?;
+    make_first_entries(rt, alloc, &mut config)?;
+    play(&mut config)
+}
+
+fn make_first_entries(rt: &impl Abort, alloc: Global, config: &mut Config) -> Result<(), Fail> {
+    make(rt, config, create_gate(0, gate(alloc)))?;
+    let metered = Edit::Create(meter_key(0), Record::Meter(meter()));
+    make(rt, config, metered)?;
+    make(rt, config, create_filter(3, filter(0, on_meter(0))))?;
+    Ok(())
+}
+
+/// Plays on a copy of the configuration.
+pub(super) fn on_a_copy<F: FnOnce(&Config) -> Result<(), Fail>>(
+    config: &Config,
+    play: F,
+) -> Result<(), Fail>
+    requires { F.IsAlwaysCallable play }
+{
+    let copy = config.copy()?;
+    play(&copy)
+}
+
+/// The configuration has records of these numbers of the kind.
+pub(super) fn has_ids(
+    rt: &impl Abort,
+    alloc: Global,
+    config: &Config,
+    kind: Kind,
+    wanted: &[u64],
+) -> Result<(), Fail> {
+    assert_eq!(rt; config.ids(alloc, kind)?.as_slice(), wanted, "{kind:?}");
+    Ok(())
+}
+
+pub(super) fn add_gate(
+    records: &mut Records,
+    number: u64,
+    value: StreamGate,
+) -> Result<(), AllocError>
+    requires { number ≤ 65535 }
+{
+    records.push(gate_key(number), Record::Gate(value))
+}
+
+pub(super) fn add_filter(
+    records: &mut Records,
+    number: u64,
+    value: StreamFilter,
+) -> Result<(), AllocError>
+    requires { number ≤ 65535 }
+{
+    records.push(filter_key(number), Record::Filter(value))
+}
+
+pub(super) fn add_port(
+    records: &mut Records,
+    number: u64,
+    value: PortGates,
+) -> Result<(), AllocError>
+    requires low { 1 ≤ number }
+    requires high { number ≤ 64 }
+{
+    records.push(port_key(number), Record::Port(value))
+}
+
+// Why the records are refused.
+pub(super) fn refused(alloc: Global, records: Records) -> Option<Refusal> {
+    Config::open(alloc, limits(), records).err()
+}
+
+// The admin gate states of a port, none where it is absent.
+pub(super) fn gates_of(config: &Config, key: Key) -> Option<u8> {
+    match config.get(key) {
+        Some(RecordRef::Port(port)) => Some(port.gates),
+        _ => None,
+    }
+}
+
+// Whether the port has the default record.
+pub(super) fn is_default(config: &Config, key: Key) -> bool {
+    match config.get(key) {
+        Some(RecordRef::Port(port)) => {
+            port.gates == 255
+                && port.admin.list.is_empty()
+                && port.admin.cycle.get() == 1_000_000
+                && port.admin.extension.get() == 0
+                && port.admin.base.get() == 0
+        }
+        _ => false,
+    }
+}
+
+pub(super) fn add_meter(
+    records: &mut Records,
+    number: u64,
+    value: FlowMeter,
+) -> Result<(), AllocError>
+    requires { number ≤ 65535 }
+{
+    records.push(meter_key(number), Record::Meter(value))
+}
+
+// Whether the record stands at the key, every member of it.
+pub(super) fn stands(config: &Config, key: Key, value: &Record) -> bool {
+    config.get(key).is_some_and(|found| found.is(value))
+}

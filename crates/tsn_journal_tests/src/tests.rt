@@ -1,0 +1,353 @@
+//! Journals of the worked examples, entry by entry: what a session takes back next, what stands in its way, and what
+//! it may redo.
+//! One function makes the journals and lends them, so that a proof goes once over a journal's end.
+ghost use Rattle.std.specs.Prelude.{◌≤◌};
+
+use std::alloc::{AllocError, Global};
+use std::process::Abort;
+use std::test::Fail;
+use tsn_edit::Change;
+use tsn_journal::entries::{Act, Entry, What};
+use tsn_journal::journal::{Journal, MOST_ENTRIES};
+use tsn_journal::laws;
+use tsn_types::keys::Key;
+use tsn_types::numbers::{BitRate, GateId, Instant, MeterId, Octets};
+use tsn_types::records::{FlowMeter, Record, StreamFilter};
+use tsn_types::refusals::Refusal;
+
+fn meter_key(number: u64) -> Key
+    requires { number ≤ 65535 }
+{
+    Key::Meter(MeterId::new(number).unwrap())
+}
+
+fn gate_key(number: u64) -> Key
+    requires { number ≤ 65535 }
+{
+    Key::Gate(GateId::new(number).unwrap())
+}
+
+fn meter() -> Record {
+    Record::Meter(FlowMeter {
+        cir: BitRate::new(8_000_000).unwrap(),
+        cbs: Octets::new(1500).unwrap(),
+        eir: BitRate::new(0).unwrap(),
+        ebs: Octets::new(0).unwrap(),
+        cf: false,
+        aware: false,
+        drop_yellow: false,
+        all_red: false,
+    })
+}
+
+/// A filter on the gate, with no meter.
+fn filter_on(gate: u64) -> Record
+    requires { gate ≤ 65535 }
+{
+    Record::Filter(StreamFilter {
+        handle: None,
+        priority: None,
+        gate: GateId::new(gate).unwrap(),
+        max_sdu: None,
+        meter: None,
+        oversize: false,
+    })
+}
+
+/// The creation of a meter.
+fn created(number: u64) -> Change
+    requires { number ≤ 65535 }
+{
+    Change {
+        key: meter_key(number),
+        before: None,
+        after: Some(meter()),
+    }
+}
+
+/// The removal of a meter, which takes its creation back.
+fn removed(number: u64) -> Change
+    requires { number ≤ 65535 }
+{
+    created(number).inverse()
+}
+
+/// Puts the entry at the end; the answer is its number.
+fn enter(journal: &mut Journal, session: u32, what: What) -> Result<u64, Refusal> {
+    if let Err(why) = journal.reserve(1) {
+        return Err(why);
+    }
+    Ok(journal.push(session, what))
+}
+
+/// Plays on a journal with no entry.
+fn on_a_journal<F: FnOnce(&mut Journal) -> Result<(), Fail>>(
+    alloc: Global,
+    play: F,
+) -> Result<(), Fail>
+    requires { F.IsAlwaysCallable play }
+{
+    let mut journal = Journal::new(alloc);
+    play(&mut journal)
+}
+
+/// The entry at the end gets this number.
+fn enters(rt: &impl Abort, journal: &mut Journal, session: u32, what: What, number: u64) {
+    assert_eq!(rt; enter(journal, session, what), Ok(number));
+}
+
+/// The session creates a meter, by an entry of this number.
+fn creates(rt: &impl Abort, journal: &mut Journal, session: u32, meter: u64, number: u64)
+    requires { meter ≤ 65535 }
+{
+    enters(rt, journal, session, What::Made(created(meter)), number);
+}
+
+/// The session removes a meter, by an entry of this number.
+fn removes(rt: &impl Abort, journal: &mut Journal, session: u32, meter: u64, number: u64)
+    requires { meter ≤ 65535 }
+{
+    enters(rt, journal, session, What::Made(removed(meter)), number);
+}
+
+/// The session takes the creation of a meter back, which was entry `of`, by an entry of this number.
+fn undoes(rt: &impl Abort, journal: &mut Journal, session: u32, of: u64, meter: u64, number: u64)
+    requires { meter ≤ 65535 }
+{
+    let change = removed(meter);
+    enters(rt, journal, session, What::Undone { of, change }, number);
+}
+
+/// The session creates a meter again, which entry `of` took back, by an entry of this number.
+fn redoes(rt: &impl Abort, journal: &mut Journal, session: u32, of: u64, meter: u64, number: u64)
+    requires { meter ≤ 65535 }
+{
+    let change = created(meter);
+    enters(rt, journal, session, What::Redone { of, change }, number);
+}
+
+/// Whether the entry is the session's, and a change at the meter.
+fn changes(entry: &Entry, number: u64, session: u32, meter: u64) -> bool
+    requires { meter ≤ 65535 }
+{
+    let at = match entry.what.change() {
+        Some(change) => Some(change.key),
+        None => None,
+    };
+    entry.number == number && entry.session == session && at == Some(meter_key(meter))
+}
+
+/// Entry 2 is session 8's, and a change at meter 6; there is none before the first and behind the last.
+fn has_two_entries(rt: &impl Abort, journal: &Journal) {
+    assert_eq!(rt; journal.len(), 2);
+    let second = journal.entry(2);
+    assert!(rt; second.is_some_and(|entry| changes(entry, 2, 8, 6)));
+    assert!(rt; journal.entry(0).is_none());
+    assert!(rt; journal.entry(3).is_none());
+}
+
+/// The number and the session of a copy of the entry, none where there is no such entry.
+fn copied(journal: &Journal, number: u64) -> Result<Option<(u64, u32)>, AllocError> {
+    match journal.entry(number) {
+        Some(entry) => {
+            let copy = entry.try_clone()?;
+            Ok(Some((copy.number, copy.session)))
+        }
+        None => Ok(None),
+    }
+}
+
+/// How many entries come after the number, and the number of the first of them.
+fn told_after(journal: &Journal, number: u64) -> Result<(usize, Option<u64>), AllocError> {
+    let later = journal.since(number)?;
+    let first = match later.as_slice().first() {
+        Some(entry) => Some(entry.number),
+        None => None,
+    };
+    Ok((later.as_slice().len(), first))
+}
+
+fn tells_copies(rt: &impl Abort, journal: &Journal) {
+    assert_eq!(rt; copied(journal, 2), Ok(Some((2, 8))));
+    assert_eq!(rt; told_after(journal, 0), Ok((2, Some(1))));
+    assert_eq!(rt; told_after(journal, 1), Ok((1, Some(2))));
+    assert_eq!(rt; told_after(journal, 2), Ok((0, None)));
+}
+
+#[test]
+fn an_entry_has_its_number_and_session(rt: HostRuntime) -> Result<(), Fail> {
+    on_a_journal(rt.alloc(), |journal| {
+        assert_eq!(rt; journal.len(), 0);
+        creates(&rt, journal, 7, 5, 1);
+        creates(&rt, journal, 8, 6, 2);
+        has_two_entries(&rt, journal);
+        tells_copies(&rt, journal);
+        Ok(())
+    })
+}
+
+#[test]
+fn an_entry_stands_until_it_is_taken_back(rt: HostRuntime) -> Result<(), Fail> {
+    on_a_journal(rt.alloc(), |journal| {
+        creates(&rt, journal, 1, 1, 1);
+        creates(&rt, journal, 1, 2, 2);
+        assert_eq!(rt; journal.last_of(1), Some(2));
+        assert_eq!(rt; journal.last_of(2), None);
+        undoes(&rt, journal, 1, 2, 2, 3);
+        assert!(rt; journal.standing(1) && !journal.standing(2) && !journal.standing(3));
+        assert!(rt; !journal.standing(0) && !journal.standing(4));
+        assert_eq!(rt; journal.last_of(1), Some(1));
+        redoes(&rt, journal, 1, 3, 2, 4);
+        assert!(rt; journal.standing(4) && !journal.standing(2));
+        assert_eq!(rt; journal.last_of(1), Some(4));
+        Ok(())
+    })
+}
+
+/// Puts a filter on another gate.
+fn moved() -> Change {
+    Change {
+        key: meter_key(3),
+        before: Some(filter_on(0)),
+        after: Some(filter_on(1)),
+    }
+}
+
+/// The removal of gate 0.
+fn gate_removed() -> Change {
+    Change {
+        key: gate_key(0),
+        before: None,
+        after: None,
+    }
+}
+
+/// Session 1 puts a filter on another gate; session 2 removes the gate on which it was.
+#[test]
+fn a_removal_blocks_what_referred_to_it(rt: HostRuntime) -> Result<(), Fail> {
+    on_a_journal(rt.alloc(), |journal| {
+        enters(&rt, journal, 1, What::Made(moved()), 1);
+        enters(&rt, journal, 2, What::Made(gate_removed()), 2);
+        assert!(rt; journal.standing(1));
+        assert_eq!(rt; journal.find_conflict(1), Some(2));
+        let undone = What::Undone {
+            of: 2,
+            change: gate_removed().inverse(),
+        };
+        enters(&rt, journal, 2, undone, 3);
+        assert!(rt; journal.standing(1));
+        assert_eq!(rt; journal.find_conflict(1), None);
+        Ok(())
+    })
+}
+
+#[test]
+fn an_own_later_edit_is_no_conflict_of_others(rt: HostRuntime) -> Result<(), Fail> {
+    on_a_journal(rt.alloc(), |journal| {
+        creates(&rt, journal, 1, 1, 1);
+        removes(&rt, journal, 1, 1, 2);
+        assert!(rt; journal.standing(1));
+        assert_eq!(rt; journal.find_conflict(1), Some(2));
+        assert_eq!(rt; journal.find_conflict_of_others(1), None);
+        creates(&rt, journal, 2, 1, 3);
+        assert!(rt; journal.standing(1));
+        assert_eq!(rt; journal.find_conflict_of_others(1), Some(3));
+        Ok(())
+    })
+}
+
+/// Whether these are the numbers of the session's standing entries.
+fn stand(journal: &Journal, session: u32, wanted: &[u64]) -> Result<bool, AllocError> {
+    let numbers = journal.standing_of(session)?;
+    Ok(numbers.as_slice() == wanted)
+}
+
+#[test]
+fn a_sessions_standing_entries_are_counted_and_listed(rt: HostRuntime) -> Result<(), Fail> {
+    on_a_journal(rt.alloc(), |journal| {
+        creates(&rt, journal, 1, 1, 1);
+        creates(&rt, journal, 1, 2, 2);
+        removes(&rt, journal, 2, 1, 3);
+        assert_eq!(rt; journal.count_of(1), 2);
+        assert_eq!(rt; stand(journal, 1, &[1, 2]), Ok(true));
+        assert_eq!(rt; journal.find_own_in_conflict(1), Some(1));
+        assert_eq!(rt; journal.find_own_in_conflict(2), None);
+        creates(&rt, journal, 1, 1, 4);
+        assert_eq!(rt; journal.find_own_in_conflict(1), Some(1));
+        assert_eq!(rt; journal.find_own_in_conflict(2), Some(3));
+        Ok(())
+    })
+}
+
+/// An act on gate 0.
+fn act() -> What {
+    What::Acted {
+        act: Act::Enable,
+        key: gate_key(0),
+        now: Instant::new(5).unwrap(),
+    }
+}
+
+fn changes_nothing(what: &What) -> bool {
+    what.change().is_none()
+}
+
+/// The act, which changes nothing, is entered under the number.
+fn acts(rt: &impl Abort, journal: &mut Journal, number: u64) {
+    assert!(rt; changes_nothing(&act()));
+    enters(rt, journal, 1, act(), number);
+}
+
+/// Session 1 may redo entry 2, which this entry is in conflict with.
+fn may_redo(rt: &impl Abort, journal: &Journal, conflict: Option<u64>) {
+    let undone = journal.redo_of(1);
+    assert_eq!(rt; undone, Some(2));
+    if let Some(number) = undone {
+        assert_eq!(rt; journal.find_redo_conflict(number), conflict);
+    }
+}
+
+#[test]
+fn an_act_does_not_end_a_redo_and_an_edit_does(rt: HostRuntime) -> Result<(), Fail> {
+    on_a_journal(rt.alloc(), |journal| {
+        creates(&rt, journal, 1, 1, 1);
+        assert_eq!(rt; journal.redo_of(1), None);
+        undoes(&rt, journal, 1, 1, 1, 2);
+        acts(&rt, journal, 3);
+        creates(&rt, journal, 2, 2, 4);
+        assert_eq!(rt; journal.redo_of(2), None);
+        may_redo(&rt, journal, None);
+        creates(&rt, journal, 2, 1, 5);
+        may_redo(&rt, journal, Some(5));
+        creates(&rt, journal, 1, 3, 6);
+        assert_eq!(rt; journal.redo_of(1), None);
+        Ok(())
+    })
+}
+
+#[test]
+fn a_redone_entry_is_not_redone_again(rt: HostRuntime) -> Result<(), Fail> {
+    on_a_journal(rt.alloc(), |journal| {
+        creates(&rt, journal, 1, 1, 1);
+        creates(&rt, journal, 1, 2, 2);
+        undoes(&rt, journal, 1, 2, 2, 3);
+        undoes(&rt, journal, 1, 1, 1, 4);
+        assert_eq!(rt; journal.redo_of(1), Some(4));
+        redoes(&rt, journal, 1, 4, 1, 5);
+        assert_eq!(rt; journal.redo_of(1), Some(3));
+        Ok(())
+    })
+}
+
+#[test]
+fn a_journal_holds_65536_entries(rt: HostRuntime) -> Result<(), Fail> {
+    laws::limits();
+    on_a_journal(rt.alloc(), |journal| {
+        assert_eq!(rt; MOST_ENTRIES, 65_536);
+        assert_eq!(rt; journal.reserve(65_537), Err(Refusal::JournalFull));
+        creates(&rt, journal, 1, 1, 1);
+        assert_eq!(rt; journal.reserve(65_536), Err(Refusal::JournalFull));
+        assert_eq!(rt; journal.reserve(65_535), Ok(()));
+        Ok(())
+    })
+}

@@ -1,0 +1,430 @@
+//! Worked examples as calls of the runner, and the largest list.
+ghost use Rattle.std.specs.Prelude.{◌≡◌, ◌<◌, ◌≤◌, ◌^◌, IfOk};
+
+use std::alloc::{AllocError, Global};
+use std::process::Abort;
+use std::test::Fail;
+use tsn_schedule::calendar::{change_time, earlier_sum, state_at};
+use tsn_schedule::runner::{Past, Runner};
+use tsn_schedule::timed::Timed;
+use tsn_types::lists::ControlList;
+use tsn_types::numbers::{Cycle, Extension, Instant, Interval, Octets, Priority};
+use tsn_types::records::{GateEntry, PortEntry, Schedule};
+use tsn_types::refusals::Refusal;
+
+fn instant(number: u64) -> Instant
+    requires { number ≤ 2 ^ 62 }
+    ensures { result ≡ number }
+{
+    Instant::new(number).unwrap()
+}
+
+/// A schedule of a port: gates and intervals, its cycle, extension and base.
+fn plan(
+    alloc: Global,
+    rows: &[(u8, u64)],
+    cycle: u64,
+    extension: u64,
+    base: u64,
+) -> Result<Schedule<PortEntry>, Fail>
+    requires cycle { (1 ≤ cycle) × (cycle ≤ 10 ^ 12) }
+    requires extension { extension ≤ 10 ^ 12 }
+    requires base { base ≤ 2 ^ 62 }
+{
+    let mut list = ControlList::new(alloc);
+    for (gates, interval) in rows {
+        list.push(PortEntry {
+            gates: *gates,
+            interval: Interval::new(*interval)?,
+        })?;
+    }
+    Ok(Schedule {
+        list,
+        cycle: Cycle::new(cycle).unwrap(),
+        extension: Extension::new(extension).unwrap(),
+        base: instant(base),
+    })
+}
+
+// Lists of the examples.
+const ONE_TWO: &'static [(u8, u64)] = &[(1, 300), (128, 700)];
+
+const OPEN_SHUT: &'static [(u8, u64)] = &[(255, 500), (0, 500)];
+
+const ALL_OPEN: &'static [(u8, u64)] = &[(255, 1000)];
+
+/// An apply is accepted, with this change time.
+fn applies<E: Timed + Clone + Drop>(
+    rt: &impl Abort,
+    runner: &mut Runner<E>,
+    schedule: &Schedule<E>,
+    now: Instant,
+    change: u64,
+)
+    requires clones { (x y : E) → E.is_clone x y → y ≡ x }
+    requires last { runner.old.last ≤ now }
+    ensures last { runner.new.last ≤ now }
+{
+    let found = runner.apply(schedule, now);
+    assert!(rt; matches!(found, Ok(at) if at == change));
+}
+
+/// The gates at an instant; none where the admin states stand.
+fn gates_at(runner: &Runner<PortEntry>, t: u64) -> Result<Option<u8>, Past>
+    requires { t ≤ 2 ^ 62 }
+{
+    let entry = runner.states_at(instant(t))?;
+    Ok(entry.map(|entry| entry.gates))
+}
+
+/// An enabled runner to which 1 for 300 and then 128 for 700 nanoseconds was applied at 2500.
+fn ahead(rt: &impl Abort, alloc: Global, extension: u64) -> Result<Runner<PortEntry>, Fail>
+    requires { extension ≤ 10 ^ 12 }
+    ensures { IfOk result (λ runner. runner.last ≤ 2500) }
+{
+    let first = plan(alloc, ONE_TWO, 1000, extension, 0)?;
+    let mut runner = Runner::new();
+    assert_eq!(rt; runner.enable(instant(0)), None);
+    applies(rt, &mut runner, &first, instant(2500), 3000);
+    Ok(runner)
+}
+
+#[test]
+fn changeover_ahead(rt: HostRuntime) -> Result<(), Fail> {
+    let runner = ahead(&rt, rt.alloc(), 0)?;
+    assert_eq!(rt; gates_at(&runner, 2999), Ok(None));
+    assert_eq!(rt; gates_at(&runner, 3000), Ok(Some(1)));
+    assert_eq!(rt; gates_at(&runner, 3299), Ok(Some(1)));
+    assert_eq!(rt; gates_at(&runner, 3300), Ok(Some(128)));
+    assert_eq!(rt; gates_at(&runner, 4000), Ok(Some(1)));
+    assert_eq!(rt; gates_at(&runner, 2499), Err(Past));
+    assert_eq!(rt; runner.begin_at(instant(2499)), Err(Past));
+    assert_eq!(rt; runner.begin_at(instant(2999)), Ok(None));
+    assert_eq!(rt; runner.begin_at(instant(4000)), Ok(Some(4000)));
+    Ok(())
+}
+
+/// The list starts again with each cycle, whether its gates were shut before then or not yet.
+fn starts_again(rt: &impl Abort, alloc: Global, cycle: u64, before: u64) -> Result<(), Fail>
+    requires cycle { (1 ≤ cycle) × (cycle ≤ 10 ^ 12) }
+    requires before { before ≤ 2 ^ 62 }
+{
+    let schedule = plan(alloc, ONE_TWO, cycle, 0, 0)?;
+    let mut runner = Runner::new();
+    assert_eq!(rt; runner.enable(instant(0)), None);
+    applies(rt, &mut runner, &schedule, instant(0), 0);
+    assert_eq!(rt; gates_at(&runner, before), Ok(Some(128)));
+    assert_eq!(rt; gates_at(&runner, cycle), Ok(Some(1)));
+    Ok(())
+}
+
+#[test]
+fn short_and_long_cycles(rt: HostRuntime) -> Result<(), Fail> {
+    starts_again(&rt, rt.alloc(), 1200, 1100)?;
+    starts_again(&rt, rt.alloc(), 800, 799)
+}
+
+/// A second list is applied to come into force at 5150, and then a third instead, at 7000. Until the second the first
+/// one's last cycle gives these gates.
+fn is_extended(
+    rt: &impl Abort,
+    runner: &mut Runner<PortEntry>,
+    second: &Schedule<PortEntry>,
+    third: &Schedule<PortEntry>,
+    last: u8,
+)
+    requires { runner.old.last ≤ 2500 }
+{
+    applies(rt, runner, second, instant(3500), 5150);
+    assert_eq!(rt; gates_at(runner, 4000), Ok(Some(1)));
+    assert_eq!(rt; gates_at(runner, 4999), Ok(Some(128)));
+    assert_eq!(rt; gates_at(runner, 5000), Ok(Some(last)));
+    assert_eq!(rt; gates_at(runner, 5149), Ok(Some(last)));
+    assert_eq!(rt; gates_at(runner, 5150), Ok(Some(255)));
+    applies(rt, runner, third, instant(3600), 7000);
+    assert_eq!(rt; gates_at(runner, 5000), Ok(Some(1)));
+    assert_eq!(rt; gates_at(runner, 5150), Ok(Some(1)));
+}
+
+#[test]
+fn cycle_extension(rt: HostRuntime) -> Result<(), Fail> {
+    let second = plan(rt.alloc(), ALL_OPEN, 1000, 0, 5150)?;
+    let third = plan(rt.alloc(), ONE_TWO, 1000, 0, 7000)?;
+    for (extension, last) in [(200, 128), (0, 1)] {
+        let mut runner = ahead(&rt, rt.alloc(), extension)?;
+        is_extended(&rt, &mut runner, &second, &third, last);
+    }
+    Ok(())
+}
+
+/// A third list is applied while a start is held back for the second.
+fn stays_held_back(
+    rt: &impl Abort,
+    runner: &mut Runner<PortEntry>,
+    second: &Schedule<PortEntry>,
+    third: &Schedule<PortEntry>,
+)
+    requires { runner.old.last ≤ 2500 }
+{
+    applies(rt, runner, second, instant(3500), 5150);
+    applies(rt, runner, third, instant(5100), 7000);
+    assert_eq!(rt; gates_at(runner, 5120), Ok(Some(128)));
+    assert_eq!(rt; runner.begin_at(instant(5120)), Ok(Some(4300)));
+    assert_eq!(rt; gates_at(runner, 5999), Ok(Some(128)));
+    assert_eq!(rt; gates_at(runner, 6000), Ok(Some(1)));
+}
+
+#[test]
+fn start_held_back_stays_held_back(rt: HostRuntime) -> Result<(), Fail> {
+    let second = plan(rt.alloc(), ALL_OPEN, 1000, 0, 5150)?;
+    let third = plan(rt.alloc(), ONE_TWO, 1000, 0, 7000)?;
+    let mut runner = ahead(&rt, rt.alloc(), 200)?;
+    stays_held_back(&rt, &mut runner, &second, &third);
+    Ok(())
+}
+
+/// The first list is applied again after the other one, with errors counted for its base.
+fn is_restored(
+    rt: &impl Abort,
+    runner: &mut Runner<PortEntry>,
+    other: &Schedule<PortEntry>,
+    first: &Schedule<PortEntry>,
+)
+    requires { runner.old.last ≤ 2500 }
+    ensures { runner.new.last ≤ 9001 }
+{
+    applies(rt, runner, other, instant(5000), 5000);
+    applies(rt, runner, first, instant(9001), 10000);
+    assert_eq!(rt; gates_at(runner, 9999), Ok(Some(0)));
+    assert_eq!(rt; gates_at(runner, 10000), Ok(Some(1)));
+    assert_eq!(rt; gates_at(runner, 10299), Ok(Some(1)));
+    assert_eq!(rt; gates_at(runner, 10300), Ok(Some(128)));
+    assert_eq!(rt; runner.errors(), 2);
+    assert_eq!(rt; runner.change(), Some(10000));
+    assert!(rt; runner.is_enabled());
+    assert!(rt; runner.is_pending(instant(9001)));
+}
+
+/// A base at the instant of the apply is no error, and no change is pending at its own time.
+fn has_no_error(rt: &impl Abort, runner: &mut Runner<PortEntry>, later: &Schedule<PortEntry>)
+    requires { runner.old.last ≤ 9001 }
+{
+    applies(rt, runner, later, instant(12000), 12000);
+    assert_eq!(rt; runner.errors(), 2);
+    assert_eq!(rt; runner.change(), Some(12000));
+    assert!(rt; !runner.is_pending(instant(12000)));
+}
+
+#[test]
+fn restored_list(rt: HostRuntime) -> Result<(), Fail> {
+    let other = plan(rt.alloc(), OPEN_SHUT, 1000, 0, 0)?;
+    let first = plan(rt.alloc(), ONE_TWO, 1000, 0, 0)?;
+    let mut runner = ahead(&rt, rt.alloc(), 0)?;
+    is_restored(&rt, &mut runner, &other, &first);
+    let later = plan(rt.alloc(), ONE_TWO, 1000, 0, 12000)?;
+    has_no_error(&rt, &mut runner, &later);
+    Ok(())
+}
+
+#[test]
+fn simple_refusals(rt: HostRuntime) -> Result<(), Fail> {
+    let alloc = rt.alloc();
+    let first = plan(alloc, ONE_TWO, 1000, 0, 0)?;
+    let empty = plan(alloc, &[], 1000, 0, 0)?;
+    let mut runner = Runner::new();
+    assert!(rt; matches!(runner.apply(&first, instant(0)), Err(Refusal::NotEnabled)));
+    assert!(rt; matches!(runner.apply(&empty, instant(0)), Err(Refusal::NotEnabled)));
+    assert_eq!(rt; runner.enable(instant(0)), None);
+    assert!(rt; matches!(runner.apply(&empty, instant(0)), Err(Refusal::EmptyList)));
+    Ok(())
+}
+
+/// A disable drops the pending list, and an enable puts the one in force before it in force again.
+fn is_disabled_and_enabled(
+    rt: &impl Abort,
+    runner: &mut Runner<PortEntry>,
+    other: &Schedule<PortEntry>,
+)
+    requires { runner.old.last ≤ 2500 }
+{
+    applies(rt, runner, other, instant(5200), 6000);
+    runner.disable(instant(5500));
+    assert!(rt; !runner.is_enabled());
+    assert_eq!(rt; runner.change(), None);
+    assert_eq!(rt; gates_at(runner, 6000), Ok(None));
+    assert_eq!(rt; runner.enable(instant(7100)), Some(8000));
+    assert!(rt; runner.is_pending(instant(7100)));
+    assert_eq!(rt; gates_at(runner, 7999), Ok(None));
+    assert_eq!(rt; gates_at(runner, 8000), Ok(Some(1)));
+    assert_eq!(rt; gates_at(runner, 8300), Ok(Some(128)));
+    assert_eq!(rt; runner.enable(instant(8400)), None);
+    assert_eq!(rt; gates_at(runner, 7100), Ok(None));
+}
+
+#[test]
+fn disable_and_enable(rt: HostRuntime) -> Result<(), Fail> {
+    let other = plan(rt.alloc(), OPEN_SHUT, 1000, 0, 0)?;
+    let mut runner = ahead(&rt, rt.alloc(), 0)?;
+    is_disabled_and_enabled(&rt, &mut runner, &other);
+    Ok(())
+}
+
+/// The entry at an instant is this one.
+fn is_at(rt: &impl Abort, runner: &Runner<GateEntry>, t: u64, wanted: &GateEntry)
+    requires { t ≤ 2 ^ 62 }
+{
+    let found = runner.states_at(instant(t));
+    assert!(rt; matches!(found, Ok(Some(entry)) if entry == wanted));
+}
+
+/// A gate's list, in force from instant 0 on.
+fn plays(rt: &impl Abort, runner: &mut Runner<GateEntry>, schedule: &Schedule<GateEntry>)
+    requires { runner.old.last ≤ 0 }
+{
+    assert_eq!(rt; runner.enable(instant(0)), None);
+    applies(rt, runner, schedule, instant(0), 0);
+    assert_eq!(rt; runner.begin_at(instant(20)), Ok(Some(0)));
+    assert_eq!(rt; runner.begin_at(instant(1500)), Ok(Some(1000)));
+    assert_eq!(rt; runner.begin_at(instant(2010)), Ok(Some(2000)));
+    assert_eq!(rt; runner.errors(), 0);
+    assert_eq!(rt; runner.change(), Some(0));
+    assert!(rt; !runner.is_pending(instant(0)));
+}
+
+fn priority_5() -> Option<Priority> {
+    Some(Priority::new(5).unwrap())
+}
+
+fn octets_150() -> Option<Octets> {
+    Some(Octets::new(150).unwrap())
+}
+
+/// An entry of a microsecond.
+fn gate_entry(is_open: bool, ipv: Option<Priority>, octets: Option<Octets>) -> GateEntry {
+    GateEntry {
+        is_open,
+        ipv,
+        interval: Interval::new(1000).unwrap(),
+        octets,
+    }
+}
+
+/// A gate's list, open with these members and then shut, with a cycle of two microseconds.
+fn gate_plan(
+    alloc: Global,
+    ipv: Option<Priority>,
+    octets: Option<Octets>,
+) -> Result<Schedule<GateEntry>, AllocError> {
+    let mut list = ControlList::new(alloc);
+    list.push(gate_entry(true, ipv, octets))?;
+    list.push(gate_entry(false, None, None))?;
+    Ok(Schedule {
+        list,
+        cycle: Cycle::new(2000).unwrap(),
+        extension: Extension::new(0).unwrap(),
+        base: instant(0),
+    })
+}
+
+#[test]
+fn gate_octets(rt: HostRuntime) -> Result<(), Fail> {
+    let schedule = gate_plan(rt.alloc(), priority_5(), octets_150())?;
+    let mut runner = Runner::new();
+    plays(&rt, &mut runner, &schedule);
+    let open = gate_entry(true, priority_5(), octets_150());
+    is_at(&rt, &runner, 500, &open);
+    let shut = gate_entry(false, None, None);
+    is_at(&rt, &runner, 1500, &shut);
+    Ok(())
+}
+
+#[test]
+fn one_list_by_its_offsets(rt: HostRuntime) -> Result<(), Fail> {
+    let schedule = plan(rt.alloc(), ONE_TWO, 1000, 0, 0)?;
+    for (offset, gates, earlier) in [(0, 1, 0), (299, 1, 0), (300, 128, 300), (1 << 63, 128, 300)] {
+        let entry = state_at(&schedule.list, offset);
+        assert_eq!(rt; entry.map(|entry| entry.gates), Some(gates));
+        assert_eq!(rt;
+            entry.map(|entry| entry.interval()),
+            Interval::new(if gates == 1 { 300 } else { 700 }).ok()
+        );
+        assert_eq!(rt; earlier_sum(&schedule.list, offset), earlier);
+    }
+    Ok(())
+}
+
+/// A change time may lie after the greatest instant.
+#[test]
+fn latest_change_time(rt: HostRuntime) {
+    let greatest = 1 << 62;
+    let cycle = Cycle::new(1_000_000_000_000).unwrap();
+    let late = change_time(instant(greatest - 1), cycle, instant(greatest));
+    assert_eq!(rt; late, greatest - 1 + 1_000_000_000_000);
+}
+
+/// The shortest cycle up to the greatest instant, and then an apply of the longest one.
+fn reaches_the_greatest_instant(
+    rt: &impl Abort,
+    runner: &mut Runner<PortEntry>,
+    shortest: &Schedule<PortEntry>,
+    next: &Schedule<PortEntry>,
+)
+    requires { runner.old.last ≤ 0 }
+{
+    let greatest = 1 << 62;
+    assert_eq!(rt; runner.enable(instant(0)), None);
+    applies(rt, runner, shortest, instant(0), 0);
+    assert_eq!(rt; gates_at(runner, greatest), Ok(Some(1)));
+    assert_eq!(rt; runner.begin_at(instant(greatest)), Ok(Some(greatest)));
+    let late = greatest - 1 + 1_000_000_000_000;
+    applies(rt, runner, next, instant(greatest), late);
+    assert_eq!(rt; gates_at(runner, greatest), Ok(Some(1)));
+}
+
+/// No cycle is walked: the greatest instants answer at once.
+#[test]
+fn greatest_instants(rt: HostRuntime) -> Result<(), Fail> {
+    let shortest = plan(rt.alloc(), ONE_TWO, 1, 0, 0)?;
+    let next = plan(rt.alloc(), ALL_OPEN, 1_000_000_000_000, 0, (1 << 62) - 1)?;
+    let mut runner = Runner::new();
+    reaches_the_greatest_instant(&rt, &mut runner, &shortest, &next);
+    Ok(())
+}
+
+/// A port's schedule of the most entries: gates 1, and 128 in the last one.
+fn largest_plan(alloc: Global) -> Result<Schedule<PortEntry>, Fail> {
+    let mut list = ControlList::new(alloc);
+    for _ in 0..1023 {
+        list.push(PortEntry {
+            gates: 1,
+            interval: Interval::new(2).unwrap(),
+        })?;
+    }
+    list.push(PortEntry {
+        gates: 128,
+        interval: Interval::new(2).unwrap(),
+    })?;
+    Ok(Schedule {
+        list,
+        cycle: Cycle::new(2048).unwrap(),
+        extension: Extension::new(0).unwrap(),
+        base: instant(0),
+    })
+}
+
+/// The largest list is copied, and its last entry is reached.
+#[test]
+fn largest_list(rt: HostRuntime) -> Result<(), Fail> {
+    let schedule = largest_plan(rt.alloc())?;
+    let mut runner = Runner::new();
+    assert_eq!(rt; runner.enable(instant(0)), None);
+    applies(&rt, &mut runner, &schedule, instant(1), 2048);
+    drop(schedule);
+    assert_eq!(rt; gates_at(&runner, 2048 + 2045), Ok(Some(1)));
+    assert_eq!(rt; gates_at(&runner, 2048 + 2046), Ok(Some(128)));
+    assert_eq!(rt;
+        runner.begin_at(instant(2048 + 2047)),
+        Ok(Some(2048 + 2046))
+    );
+    Ok(())
+}

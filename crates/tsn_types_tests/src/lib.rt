@@ -1,0 +1,7 @@
+//! Tests of `tsn_types` over its public calls alone.
+//!
+//! They stand beside the crate and not in it, so that proving them does not prove the crate again.
+#![tactic(auto)]
+
+#[cfg(test)]
+mod tests;

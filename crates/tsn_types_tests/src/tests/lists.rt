@@ -1,0 +1,45 @@
+//! The calls of a list, up to the greatest length that limits may allow.
+
+use std::test::Fail;
+use tsn_types::limits::LONGEST_LIST;
+use tsn_types::lists::ControlList;
+
+#[test]
+fn a_list_grows_at_its_end(rt: HostRuntime) -> Result<(), Fail> {
+    let mut list = ControlList::new(rt.alloc());
+    assert!(rt; list.is_empty());
+    assert_eq!(rt; list.len(), 0);
+    list.push(300)?;
+    list.push(700)?;
+    assert!(rt; !list.is_empty());
+    assert_eq!(rt; list.len(), 2);
+    assert_eq!(rt; list.get(0).copied(), Some(300));
+    assert_eq!(rt; list.get(1).copied(), Some(700));
+    assert_eq!(rt; list.get(2).copied(), None);
+    assert_eq!(rt; list.as_slice(), [300, 700].as_slice());
+    Ok(())
+}
+
+#[test]
+fn a_list_grows_to_its_greatest_length(rt: HostRuntime) -> Result<(), Fail> {
+    let mut list = ControlList::new(rt.alloc());
+    for entry in 0..LONGEST_LIST {
+        list.push(entry)?;
+    }
+    assert_eq!(rt; list.len(), 1_024);
+    assert_eq!(rt; list.get(1_023).copied(), Some(1_023));
+    assert_eq!(rt; list.get(1_024).copied(), None);
+    assert!(rt; list.try_clone()? == list);
+    Ok(())
+}
+
+#[test]
+fn lists_are_equal_where_their_entries_are(rt: HostRuntime) -> Result<(), Fail> {
+    let mut list = ControlList::new(rt.alloc());
+    list.push(300)?;
+    let mut other = list.try_clone()?;
+    assert!(rt; other == list);
+    other.push(1)?;
+    assert!(rt; other != list);
+    Ok(())
+}

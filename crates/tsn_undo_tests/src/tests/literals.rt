@@ -1,0 +1,195 @@
+//! Keys, records and books of the worked examples: two ports, sixteen instances of each other kind.
+ghost use Rattle.std.specs.Prelude.{◌≡◌, ◌≤◌};
+
+use std::alloc::{AllocError, Global};
+use std::process::Abort;
+use std::test::Fail;
+use tsn_config::Config;
+use tsn_config::records::Records;
+use tsn_edit::Edit;
+use tsn_types::keys::Key;
+use tsn_types::limits::Limits;
+use tsn_types::lists::ControlList;
+use tsn_types::numbers::{
+    BitRate, Cycle, Extension, FilterId, GateId, Handle, Instant, MaxSdu, MeterId, Octets,
+};
+use tsn_types::records::{FlowMeter, Record, Schedule, StreamFilter, StreamGate};
+use tsn_types::refusals::Refusal;
+use tsn_undo::book::Book;
+
+pub(super) fn filter_key(number: u64) -> Key
+    requires { number ≤ 65535 }
+{
+    Key::Filter(FilterId::new(number).unwrap())
+}
+
+pub(super) fn gate_key(number: u64) -> Key
+    requires { number ≤ 65535 }
+    ensures { result ≡ Key.Gate number }
+{
+    Key::Gate(GateId::new(number).unwrap())
+}
+
+pub(super) fn meter_key(number: u64) -> Key
+    requires { number ≤ 65535 }
+{
+    Key::Meter(MeterId::new(number).unwrap())
+}
+
+/// An open gate with an empty list.
+pub(super) fn gate(alloc: Global) -> Record {
+    Record::Gate(stream_gate(alloc))
+}
+
+fn stream_gate(alloc: Global) -> StreamGate {
+    StreamGate {
+        is_open: true,
+        ipv: None,
+        invalid_rx: false,
+        octets_exceeded: false,
+        admin: Schedule {
+            list: ControlList::new(alloc),
+            cycle: Cycle::new(1_000_000).unwrap(),
+            extension: Extension::new(0).unwrap(),
+            base: Instant::new(0).unwrap(),
+        },
+    }
+}
+
+/// Puts an open gate with an empty list to the records.
+pub(super) fn add_gate(alloc: Global, records: &mut Records, number: u64) -> Result<(), AllocError>
+    requires { number ≤ 65535 }
+{
+    records.push(gate_key(number), Record::Gate(stream_gate(alloc)))
+}
+
+/// A meter of this committed burst size.
+pub(super) fn meter_of(cbs: u64) -> Record
+    requires { cbs ≤ 1000000 }
+{
+    Record::Meter(FlowMeter {
+        cir: BitRate::new(8_000_000).unwrap(),
+        cbs: Octets::new(cbs).unwrap(),
+        eir: BitRate::new(0).unwrap(),
+        ebs: Octets::new(0).unwrap(),
+        cf: false,
+        aware: false,
+        drop_yellow: false,
+        all_red: false,
+    })
+}
+
+pub(super) fn meter() -> Record {
+    meter_of(1500)
+}
+
+/// A filter of stream handle 7 on the gate and, if given, the meter.
+pub(super) fn filter(gate: u64, meter: Option<MeterId>) -> Record
+    requires { gate ≤ 65535 }
+{
+    Record::Filter(StreamFilter {
+        handle: Some(Handle::new(7).unwrap()),
+        priority: None,
+        gate: GateId::new(gate).unwrap(),
+        max_sdu: Some(MaxSdu::new(1500).unwrap()),
+        meter,
+        oversize: true,
+    })
+}
+
+pub(super) fn on_meter(number: u64) -> Option<MeterId>
+    requires { number ≤ 65535 }
+{
+    Some(MeterId::new(number).unwrap())
+}
+
+pub(super) fn create_at(key: Key, record: Record) -> Edit {
+    Edit::Create(key, record)
+}
+
+pub(super) fn replace_at(key: Key, record: Record) -> Edit {
+    Edit::Replace(key, record)
+}
+
+pub(super) fn remove_at(key: Key) -> Edit {
+    Edit::Remove(key)
+}
+
+/// The creation of a meter.
+pub(super) fn create(number: u64) -> Edit
+    requires { number ≤ 65535 }
+{
+    create_at(meter_key(number), meter())
+}
+
+/// The removal of a meter.
+pub(super) fn remove(number: u64) -> Edit
+    requires { number ≤ 65535 }
+{
+    remove_at(meter_key(number))
+}
+
+/// Plays on a book that begins with the records. One function makes the books and lends them, so that a proof goes
+/// once over a book's end.
+pub(super) fn on_a_book_of<F: FnOnce(&mut Book) -> Result<(), Fail>>(
+    alloc: Global,
+    records: Records,
+    play: F,
+) -> Result<(), Fail>
+    requires { F.IsAlwaysCallable play }
+{
+    let limits = Limits::new(2, 16, 16, 16, 16).unwrap();
+    let mut book = Book::new(alloc, Config::open(alloc, limits, records)?);
+    play(&mut book)
+}
+
+/// Plays on a book that begins with the default ports alone.
+pub(super) fn on_a_book<F: FnOnce(&mut Book) -> Result<(), Fail>>(
+    alloc: Global,
+    play: F,
+) -> Result<(), Fail>
+    requires { F.IsAlwaysCallable play }
+{
+    on_a_book_of(alloc, Records::new(alloc), play)
+}
+
+/// Creates meter 1 and takes that back, so many times.
+pub(super) fn fill(book: &mut Book, pairs: u32) -> Result<(), Refusal> {
+    for _ in 0..pairs {
+        book.edit(1, create(1))?;
+        book.undo(1)?;
+    }
+    Ok(())
+}
+
+/// The edit is entered under this number.
+pub(super) fn enters(rt: &impl Abort, book: &mut Book, session: u32, edit: Edit, entry: u64) {
+    assert_eq!(rt; book.edit(session, edit), Ok(entry));
+}
+
+/// An entry of this number takes back the other.
+pub(super) fn undoes(rt: &impl Abort, book: &mut Book, session: u32, entry: u64, of: u64) {
+    assert_eq!(rt; book.undo(session), Ok((entry, of)));
+}
+
+/// An entry of this number takes back the other, which took one back.
+pub(super) fn redoes(rt: &impl Abort, book: &mut Book, session: u32, entry: u64, of: u64) {
+    assert_eq!(rt; book.redo(session), Ok((entry, of)));
+}
+
+/// Whether the record of the examples is at the key.
+pub(super) fn stands(book: &Book, key: Key, wanted: &Record) -> bool {
+    match book.config().get(key) {
+        Some(found) => found.is(wanted),
+        None => false,
+    }
+}
+
+/// Whether the two configurations have the same value at the key.
+pub(super) fn agree_at(left: &Config, right: &Config, key: Key) -> Result<bool, AllocError> {
+    Ok(match (left.get(key), right.get(key)) {
+        (Some(one), Some(other)) => one.is(&other.try_clone()?),
+        (None, None) => true,
+        _ => false,
+    })
+}

@@ -1,0 +1,192 @@
+//! Worked examples with several sessions: A is session 1, B session 2.
+
+use super::literals::{
+    add_gate, create, create_at, enters, fill, filter, filter_key, gate, gate_key, meter,
+    meter_key, meter_of, on_a_book, on_a_book_of, on_meter, redoes, remove, remove_at, replace_at,
+    stands, undoes,
+};
+use std::alloc::Global;
+use std::process::Abort;
+use std::test::Fail;
+use tsn_config::records::Records;
+use tsn_types::keys::Kind;
+use tsn_types::refusals::{Field, Refusal};
+use tsn_undo::book::Book;
+
+fn conflict(own: u64, other: u64) -> Refusal {
+    Refusal::Conflict { own, other }
+}
+
+// The configuration has records of these numbers of the kind.
+fn has_numbers(
+    rt: &impl Abort,
+    alloc: Global,
+    book: &Book,
+    kind: Kind,
+    wanted: &[u64],
+) -> Result<(), Fail> {
+    assert_eq!(rt; book.config().ids(alloc, kind)?.as_slice(), wanted);
+    Ok(())
+}
+
+#[test]
+fn an_undo_of_all_keeps_what_others_made(rt: HostRuntime) -> Result<(), Fail> {
+    let alloc = rt.alloc();
+    on_a_book(alloc, |book| {
+        enters(&rt, book, 1, create_at(gate_key(1), gate(alloc)), 1);
+        enters(&rt, book, 2, create_at(gate_key(2), gate(alloc)), 2);
+        enters(&rt, book, 1, create_at(filter_key(0), filter(1, None)), 3);
+        enters(&rt, book, 2, create_at(filter_key(1), filter(2, None)), 4);
+        assert_eq!(rt; book.journal().count_of(1), 2);
+        assert_eq!(rt; book.refuse_undo_all(1), None);
+        assert_eq!(rt; book.undo_all(1), Ok((2, 6)));
+        has_numbers(&rt, alloc, book, Kind::Filter, [1].as_slice())?;
+        has_numbers(&rt, alloc, book, Kind::Gate, [2].as_slice())?;
+        assert!(rt; !book.journal().standing(1) && !book.journal().standing(3));
+        assert!(rt; book.journal().standing(2) && book.journal().standing(4));
+        assert_eq!(rt; book.undo_all(1), Err(Refusal::NothingToUndo));
+        assert_eq!(rt; book.journal().len(), 6);
+        Ok(())
+    })
+}
+
+#[test]
+fn an_undo_of_all_takes_back_every_entry_or_none(rt: HostRuntime) -> Result<(), Fail> {
+    let alloc = rt.alloc();
+    let mut records = Records::new(alloc);
+    add_gate(alloc, &mut records, 0)?;
+    on_a_book_of(alloc, records, |book| {
+        enters(&rt, book, 1, create_at(meter_key(5), meter()), 1);
+        let on_five = filter(0, on_meter(5));
+        enters(&rt, book, 2, create_at(filter_key(0), on_five), 2);
+        enters(&rt, book, 2, replace_at(filter_key(0), filter(0, None)), 3);
+        enters(&rt, book, 1, create_at(gate_key(1), gate(alloc)), 4);
+        assert_eq!(rt; book.refuse_undo_all(1), Some(conflict(1, 2)));
+        assert_eq!(rt; book.undo_all(1), Err(conflict(1, 2)));
+        has_numbers(&rt, alloc, book, Kind::Gate, [0, 1].as_slice())?;
+        assert_eq!(rt; book.journal().len(), 4);
+        Ok(())
+    })
+}
+
+#[test]
+fn an_undo_keeps_a_new_edit(rt: HostRuntime) -> Result<(), Fail> {
+    let alloc = rt.alloc();
+    let mut records = Records::new(alloc);
+    for number in 0..14u64 {
+        add_gate(alloc, &mut records, number)?;
+    }
+    add_gate(alloc, &mut records, 15)?;
+    on_a_book_of(alloc, records, |book| {
+        enters(&rt, book, 1, remove_at(gate_key(15)), 1);
+        enters(&rt, book, 2, create_at(gate_key(14), gate(alloc)), 2);
+        undoes(&rt, book, 1, 3, 1);
+        let all = [0, 1, 2, 3, 4, 5, 6, 7, 8, 9, 10, 11, 12, 13, 14, 15];
+        has_numbers(&rt, alloc, book, Kind::Gate, all.as_slice())?;
+        let beyond = create_at(gate_key(16), gate(alloc));
+        assert_eq!(rt; book.edit(1, beyond), Err(Refusal::Range(Field::Key)));
+        Ok(())
+    })
+}
+
+#[test]
+fn a_redo_keeps_a_value_of_another_session(rt: HostRuntime) -> Result<(), Fail> {
+    on_a_book(rt.alloc(), |book| {
+        enters(&rt, book, 2, create(2), 1);
+        enters(&rt, book, 1, replace_at(meter_key(2), meter_of(900)), 2);
+        assert_eq!(rt; book.redo(1), Err(Refusal::NothingToRedo));
+        undoes(&rt, book, 1, 3, 2);
+        undoes(&rt, book, 2, 4, 1);
+        assert_eq!(rt;
+            book.refuse_redo(1),
+            Some(Refusal::RedoConflict { other: 4 })
+        );
+        assert_eq!(rt; book.redo(1), Err(Refusal::RedoConflict { other: 4 }));
+        assert!(rt; book.config().get(meter_key(2)).is_none());
+        redoes(&rt, book, 2, 5, 4);
+        assert!(rt; stands(book, meter_key(2), &meter()));
+        assert_eq!(rt; book.refuse_redo(1), None);
+        redoes(&rt, book, 1, 6, 3);
+        assert!(rt; stands(book, meter_key(2), &meter_of(900)));
+        Ok(())
+    })
+}
+
+#[test]
+fn an_old_reference_blocks_an_undo(rt: HostRuntime) -> Result<(), Fail> {
+    let alloc = rt.alloc();
+    on_a_book(alloc, |book| {
+        enters(&rt, book, 1, create_at(gate_key(0), gate(alloc)), 1);
+        enters(&rt, book, 1, create_at(gate_key(1), gate(alloc)), 2);
+        enters(&rt, book, 1, create_at(filter_key(3), filter(0, None)), 3);
+        enters(&rt, book, 1, replace_at(filter_key(3), filter(1, None)), 4);
+        enters(&rt, book, 2, remove_at(gate_key(0)), 5);
+        assert_eq!(rt; book.undo(1), Err(conflict(4, 5)));
+        assert_eq!(rt; book.undo_all(1), Err(conflict(4, 5)));
+        undoes(&rt, book, 2, 6, 5);
+        undoes(&rt, book, 1, 7, 4);
+        assert!(rt; stands(book, filter_key(3), &filter(0, None)));
+        Ok(())
+    })
+}
+
+#[test]
+fn own_later_edits_do_not_block_an_undo_of_all(rt: HostRuntime) -> Result<(), Fail> {
+    on_a_book(rt.alloc(), |book| {
+        enters(&rt, book, 2, create(9), 1);
+        enters(&rt, book, 1, create(3), 2);
+        enters(&rt, book, 1, remove(3), 3);
+        enters(&rt, book, 1, create_at(meter_key(3), meter_of(900)), 4);
+        assert_eq!(rt; book.undo_all(1), Ok((3, 7)));
+        assert!(rt; book.config().get(meter_key(3)).is_none());
+        assert!(rt; stands(book, meter_key(9), &meter()));
+        Ok(())
+    })
+}
+
+#[test]
+fn an_undone_and_redone_entry_is_undone_again(rt: HostRuntime) -> Result<(), Fail> {
+    on_a_book(rt.alloc(), |book| {
+        enters(&rt, book, 1, create(3), 1);
+        undoes(&rt, book, 1, 2, 1);
+        redoes(&rt, book, 1, 3, 2);
+        assert_eq!(rt; book.redo(1), Err(Refusal::NothingToRedo));
+        undoes(&rt, book, 1, 4, 3);
+        assert!(rt; book.config().get(meter_key(3)).is_none());
+        redoes(&rt, book, 1, 5, 4);
+        assert!(rt; stands(book, meter_key(3), &meter()));
+        Ok(())
+    })
+}
+
+#[test]
+fn an_undo_of_all_needs_room_for_all_its_entries(rt: HostRuntime) -> Result<(), Fail> {
+    on_a_book(rt.alloc(), |book| {
+        fill(book, 32_766)?;
+        enters(&rt, book, 2, create(9), 65_533);
+        enters(&rt, book, 1, create(1), 65_534);
+        enters(&rt, book, 1, create(2), 65_535);
+        assert_eq!(rt; book.undo_all(1), Err(Refusal::JournalFull));
+        assert_eq!(rt; book.journal().count_of(1), 2);
+        undoes(&rt, book, 1, 65_536, 65_535);
+        assert_eq!(rt; book.redo(1), Err(Refusal::JournalFull));
+        assert_eq!(rt; book.undo_all(1), Err(Refusal::JournalFull));
+        assert_eq!(rt; book.undo_all(3), Err(Refusal::NothingToUndo));
+        Ok(())
+    })
+}
+
+#[test]
+fn an_undo_of_all_may_fill_the_journal(rt: HostRuntime) -> Result<(), Fail> {
+    on_a_book(rt.alloc(), |book| {
+        fill(book, 28_672)?;
+        for _ in 0..2_048u32 {
+            book.edit(2, create(1))?;
+            book.edit(2, remove(1))?;
+        }
+        assert_eq!(rt; book.undo_all(2), Ok((4_096, 65_536)));
+        assert!(rt; book.config().get(meter_key(1)).is_none());
+        assert_eq!(rt; book.journal().count_of(2), 0);
+        Ok(())
+    })
+}
