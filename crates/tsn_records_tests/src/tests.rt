@@ -2,6 +2,7 @@
 //! is read in the tests of command lines.
 use serde_json::Value;
 use std::alloc::Global;
+use std::process::Abort;
 use std::test::Fail;
 use tsn_records::drafts::{KeyDraft, MeterDraft, RecordDraft};
 use tsn_records::keys::{key_of, kind_of};
@@ -13,10 +14,8 @@ use tsn_records::ranges::{key, record_of};
 use tsn_records::records::record_shape;
 use tsn_records::unread::Unread;
 use tsn_types::keys::{Key, Kind};
-use tsn_types::numbers::{
-    Cycle, Extension, FilterId, GateId, Instant, Interval, MeterId, PortId, Priority,
-};
-use tsn_types::records::{GateEntry, PortEntry, Record};
+use tsn_types::numbers::{FilterId, GateId, Interval, MeterId, PortId, Priority};
+use tsn_types::records::{GateEntry, PortEntry, PortGates, Record, StreamFilter, StreamGate};
 use tsn_types::refusals::{Field, Refusal};
 
 fn value(alloc: Global, text: &str) -> Result<Value, Fail> {
@@ -57,31 +56,45 @@ fn kinds_are_named(rt: HostRuntime) {
     }
 }
 
+// The value has members `a` 7, `b` null, `c` true and `d` the text x.
+fn has_its_members(rt: &impl Abort, value: &Value) {
+    assert_eq!(rt; has_members(4, value), Ok(()));
+    assert_eq!(rt; has_members(3, value), Err(Unread::Shape));
+    assert_eq!(rt; flag_at("c", value), Ok(true));
+    assert_eq!(rt; text_at("d", value), Ok("x"));
+    assert_eq!(rt; value_at("a", value).ok().and_then(Value::as_u64), Some(7));
+    assert!(rt; value_at("e", value).is_err());
+}
+
+fn has_its_numbers(rt: &impl Abort, value: &Value) {
+    assert_eq!(rt; number_at("a", value), Ok(7));
+    assert_eq!(rt; number_at("b", value), Err(Unread::Shape));
+    assert_eq!(rt; number_or_null_at("b", value), Ok(None));
+    assert_eq!(rt; number_or_null_at("c", value), Err(Unread::Shape));
+}
+
 #[test]
 fn members_have_their_kinds(rt: HostRuntime) -> Result<(), Fail> {
     let value = value(rt.alloc(), "{\"a\":7,\"b\":null,\"c\":true,\"d\":\"x\"}")?;
-    assert_eq!(rt; has_members(4, &value), Ok(()));
-    assert_eq!(rt; has_members(3, &value), Err(Unread::Shape));
-    assert_eq!(rt; number_at("a", &value), Ok(7));
-    assert_eq!(rt; number_at("b", &value), Err(Unread::Shape));
-    assert_eq!(rt; number_or_null_at("b", &value), Ok(None));
-    assert_eq!(rt; number_or_null_at("c", &value), Err(Unread::Shape));
-    assert_eq!(rt; flag_at("c", &value), Ok(true));
-    assert_eq!(rt; text_at("d", &value), Ok("x"));
-    assert_eq!(rt; value_at("a", &value)?.as_u64(), Some(7));
-    assert!(rt; value_at("e", &value).is_err());
+    has_its_members(&rt, &value);
+    has_its_numbers(&rt, &value);
     Ok(())
+}
+
+// The value has the items false, null and the greatest number.
+fn has_its_items(rt: &impl Abort, value: &Value) {
+    assert_eq!(rt; has_items(3, value), Ok(()));
+    assert_eq!(rt; has_items(4, value), Err(Unread::Shape));
+    assert_eq!(rt; flag_item(0, value), Ok(false));
+    assert_eq!(rt; number_or_null_item(1, value), Ok(None));
+    assert_eq!(rt; number_item(2, value), Ok(18_446_744_073_709_551_615));
+    assert_eq!(rt; number_item(3, value), Err(Unread::Shape));
 }
 
 #[test]
 fn items_have_their_kinds(rt: HostRuntime) -> Result<(), Fail> {
     let value = value(rt.alloc(), "[false,null,18446744073709551615]")?;
-    assert_eq!(rt; has_items(3, &value), Ok(()));
-    assert_eq!(rt; has_items(4, &value), Err(Unread::Shape));
-    assert_eq!(rt; flag_item(0, &value), Ok(false));
-    assert_eq!(rt; number_or_null_item(1, &value), Ok(None));
-    assert_eq!(rt; number_item(2, &value), Ok(18_446_744_073_709_551_615));
-    assert_eq!(rt; number_item(3, &value), Err(Unread::Shape));
+    has_its_items(&rt, &value);
     Ok(())
 }
 
@@ -117,42 +130,59 @@ fn record(alloc: Global, kind: Kind, text: &str) -> Result<Record, Unread> {
     record_of(alloc, &draft)
 }
 
+fn is_the_port(rt: &impl Abort, port: &PortGates) {
+    let second = PortEntry {
+        gates: 128,
+        interval: Interval::new(700).unwrap(),
+    };
+    assert_eq!(rt; port.gates, 255);
+    assert_eq!(rt; port.admin.cycle.get(), 1000);
+    assert_eq!(rt; port.admin.extension.get(), 2);
+    assert_eq!(rt; port.admin.base.get(), 9);
+    assert_eq!(rt; port.admin.list.as_slice().last(), Some(&second));
+}
+
 #[test]
 fn a_port_is_read(rt: HostRuntime) -> Result<(), Fail> {
     let text =
         "{\"base\":9,\"cycle\":1000,\"extension\":2,\"gates\":255,\"list\":[[1,300],[128,700]]}";
-    let Ok(Record::Port(port)) = record(rt.alloc(), Kind::Port, text) else {
+    let read = record(rt.alloc(), Kind::Port, text);
+    let Ok(Record::Port(port)) = &read else {
         return Err(Fail::from("no port"));
     };
-    let second = PortEntry {
-        gates: 128,
-        interval: Interval::new(700)?,
-    };
-    assert_eq!(rt; port.gates, 255);
-    assert_eq!(rt; port.admin.cycle, Cycle::new(1000)?);
-    assert_eq!(rt; port.admin.extension, Extension::new(2)?);
-    assert_eq!(rt; port.admin.base, Instant::new(9)?);
-    assert_eq!(rt; port.admin.list.as_slice().last(), Some(&second));
+    is_the_port(&rt, port);
     Ok(())
+}
+
+fn is_the_gate(rt: &impl Abort, gate: &StreamGate) {
+    assert!(rt; gate.is_open && gate.invalid_rx && !gate.octets_exceeded);
+    assert_eq!(rt; gate.ipv, Some(Priority::new(5).unwrap()));
+    let entry = GateEntry {
+        is_open: true,
+        ipv: Some(Priority::new(7).unwrap()),
+        interval: Interval::new(1).unwrap(),
+        octets: None,
+    };
+    assert_eq!(rt; gate.admin.list.as_slice().first(), Some(&entry));
 }
 
 #[test]
 fn a_gate_is_read(rt: HostRuntime) -> Result<(), Fail> {
     let text =
         "{\"base\":0,\"cycle\":1,\"extension\":0,\"invalid_rx\":true,\"ipv\":5,\"list\":[[true,7,1,null]],\"octets_exceeded\":false,\"open\":true}";
-    let Ok(Record::Gate(gate)) = record(rt.alloc(), Kind::Gate, text) else {
+    let read = record(rt.alloc(), Kind::Gate, text);
+    let Ok(Record::Gate(gate)) = &read else {
         return Err(Fail::from("no gate"));
     };
-    assert!(rt; gate.is_open && gate.invalid_rx && !gate.octets_exceeded);
-    assert_eq!(rt; gate.ipv, Some(Priority::new(5)?));
-    let entry = GateEntry {
-        is_open: true,
-        ipv: Some(Priority::new(7)?),
-        interval: Interval::new(1)?,
-        octets: None,
-    };
-    assert_eq!(rt; gate.admin.list.as_slice().first(), Some(&entry));
+    is_the_gate(&rt, gate);
     Ok(())
+}
+
+fn is_the_filter(rt: &impl Abort, filter: &StreamFilter) {
+    assert_eq!(rt; filter.gate.get(), 3);
+    assert_eq!(rt; filter.priority, None);
+    assert_eq!(rt; filter.meter, None);
+    assert!(rt; filter.oversize);
 }
 
 #[test]
@@ -163,10 +193,7 @@ fn a_filter_is_read(rt: HostRuntime) -> Result<(), Fail> {
     let Ok(Record::Filter(filter)) = &read else {
         return Err(Fail::from("no filter"));
     };
-    assert_eq!(rt; filter.gate, GateId::new(3)?);
-    assert_eq!(rt; filter.priority, None);
-    assert_eq!(rt; filter.meter, None);
-    assert!(rt; filter.oversize);
+    is_the_filter(&rt, filter);
     Ok(())
 }
 

@@ -77,6 +77,13 @@ fn gates_at(runner: &Runner<PortEntry>, t: u64) -> Result<Option<u8>, Past>
     Ok(entry.map(|entry| entry.gates))
 }
 
+/// The port's gates at an instant are these, none where no list is in force.
+fn shows(rt: &impl Abort, runner: &Runner<PortEntry>, t: u64, wanted: Result<Option<u8>, Past>)
+    requires { t ≤ 2 ^ 62 }
+{
+    assert_eq!(rt; gates_at(runner, t), wanted);
+}
+
 /// An enabled runner to which 1 for 300 and then 128 for 700 nanoseconds was applied at 2500.
 fn ahead(rt: &impl Abort, alloc: Global, extension: u64) -> Result<Runner<PortEntry>, Fail>
     requires { extension ≤ 10 ^ 12 }
@@ -89,18 +96,23 @@ fn ahead(rt: &impl Abort, alloc: Global, extension: u64) -> Result<Runner<PortEn
     Ok(runner)
 }
 
-#[test]
-fn changeover_ahead(rt: HostRuntime) -> Result<(), Fail> {
-    let runner = ahead(&rt, rt.alloc(), 0)?;
-    assert_eq!(rt; gates_at(&runner, 2999), Ok(None));
-    assert_eq!(rt; gates_at(&runner, 3000), Ok(Some(1)));
-    assert_eq!(rt; gates_at(&runner, 3299), Ok(Some(1)));
-    assert_eq!(rt; gates_at(&runner, 3300), Ok(Some(128)));
-    assert_eq!(rt; gates_at(&runner, 4000), Ok(Some(1)));
-    assert_eq!(rt; gates_at(&runner, 2499), Err(Past));
+/// The list of `ahead` comes at 3000 and starts again each 1000 nanoseconds.
+fn comes_at_3000(rt: &impl Abort, runner: &Runner<PortEntry>) {
+    shows(rt, runner, 2999, Ok(None));
+    shows(rt, runner, 3000, Ok(Some(1)));
+    shows(rt, runner, 3299, Ok(Some(1)));
+    shows(rt, runner, 3300, Ok(Some(128)));
+    shows(rt, runner, 4000, Ok(Some(1)));
+    shows(rt, runner, 2499, Err(Past));
     assert_eq!(rt; runner.begin_at(instant(2499)), Err(Past));
     assert_eq!(rt; runner.begin_at(instant(2999)), Ok(None));
     assert_eq!(rt; runner.begin_at(instant(4000)), Ok(Some(4000)));
+}
+
+#[test]
+fn changeover_ahead(rt: HostRuntime) -> Result<(), Fail> {
+    let runner = ahead(&rt, rt.alloc(), 0)?;
+    comes_at_3000(&rt, &runner);
     Ok(())
 }
 
@@ -113,8 +125,8 @@ fn starts_again(rt: &impl Abort, alloc: Global, cycle: u64, before: u64) -> Resu
     let mut runner = Runner::new();
     assert_eq!(rt; runner.enable(instant(0)), None);
     applies(rt, &mut runner, &schedule, instant(0), 0);
-    assert_eq!(rt; gates_at(&runner, before), Ok(Some(128)));
-    assert_eq!(rt; gates_at(&runner, cycle), Ok(Some(1)));
+    shows(rt, &runner, before, Ok(Some(128)));
+    shows(rt, &runner, cycle, Ok(Some(1)));
     Ok(())
 }
 
@@ -136,14 +148,14 @@ fn is_extended(
     requires { runner.old.last ≤ 2500 }
 {
     applies(rt, runner, second, instant(3500), 5150);
-    assert_eq!(rt; gates_at(runner, 4000), Ok(Some(1)));
-    assert_eq!(rt; gates_at(runner, 4999), Ok(Some(128)));
-    assert_eq!(rt; gates_at(runner, 5000), Ok(Some(last)));
-    assert_eq!(rt; gates_at(runner, 5149), Ok(Some(last)));
-    assert_eq!(rt; gates_at(runner, 5150), Ok(Some(255)));
+    shows(rt, runner, 4000, Ok(Some(1)));
+    shows(rt, runner, 4999, Ok(Some(128)));
+    shows(rt, runner, 5000, Ok(Some(last)));
+    shows(rt, runner, 5149, Ok(Some(last)));
+    shows(rt, runner, 5150, Ok(Some(255)));
     applies(rt, runner, third, instant(3600), 7000);
-    assert_eq!(rt; gates_at(runner, 5000), Ok(Some(1)));
-    assert_eq!(rt; gates_at(runner, 5150), Ok(Some(1)));
+    shows(rt, runner, 5000, Ok(Some(1)));
+    shows(rt, runner, 5150, Ok(Some(1)));
 }
 
 #[test]
@@ -168,10 +180,10 @@ fn stays_held_back(
 {
     applies(rt, runner, second, instant(3500), 5150);
     applies(rt, runner, third, instant(5100), 7000);
-    assert_eq!(rt; gates_at(runner, 5120), Ok(Some(128)));
+    shows(rt, runner, 5120, Ok(Some(128)));
     assert_eq!(rt; runner.begin_at(instant(5120)), Ok(Some(4300)));
-    assert_eq!(rt; gates_at(runner, 5999), Ok(Some(128)));
-    assert_eq!(rt; gates_at(runner, 6000), Ok(Some(1)));
+    shows(rt, runner, 5999, Ok(Some(128)));
+    shows(rt, runner, 6000, Ok(Some(1)));
 }
 
 #[test]
@@ -195,10 +207,10 @@ fn is_restored(
 {
     applies(rt, runner, other, instant(5000), 5000);
     applies(rt, runner, first, instant(9001), 10000);
-    assert_eq!(rt; gates_at(runner, 9999), Ok(Some(0)));
-    assert_eq!(rt; gates_at(runner, 10000), Ok(Some(1)));
-    assert_eq!(rt; gates_at(runner, 10299), Ok(Some(1)));
-    assert_eq!(rt; gates_at(runner, 10300), Ok(Some(128)));
+    shows(rt, runner, 9999, Ok(Some(0)));
+    shows(rt, runner, 10000, Ok(Some(1)));
+    shows(rt, runner, 10299, Ok(Some(1)));
+    shows(rt, runner, 10300, Ok(Some(128)));
     assert_eq!(rt; runner.errors(), 2);
     assert_eq!(rt; runner.change(), Some(10000));
     assert!(rt; runner.is_enabled());
@@ -251,14 +263,14 @@ fn is_disabled_and_enabled(
     runner.disable(instant(5500));
     assert!(rt; !runner.is_enabled());
     assert_eq!(rt; runner.change(), None);
-    assert_eq!(rt; gates_at(runner, 6000), Ok(None));
+    shows(rt, runner, 6000, Ok(None));
     assert_eq!(rt; runner.enable(instant(7100)), Some(8000));
     assert!(rt; runner.is_pending(instant(7100)));
-    assert_eq!(rt; gates_at(runner, 7999), Ok(None));
-    assert_eq!(rt; gates_at(runner, 8000), Ok(Some(1)));
-    assert_eq!(rt; gates_at(runner, 8300), Ok(Some(128)));
+    shows(rt, runner, 7999, Ok(None));
+    shows(rt, runner, 8000, Ok(Some(1)));
+    shows(rt, runner, 8300, Ok(Some(128)));
     assert_eq!(rt; runner.enable(instant(8400)), None);
-    assert_eq!(rt; gates_at(runner, 7100), Ok(None));
+    shows(rt, runner, 7100, Ok(None));
 }
 
 #[test]
@@ -374,11 +386,11 @@ fn reaches_the_greatest_instant(
     let greatest = 1 << 62;
     assert_eq!(rt; runner.enable(instant(0)), None);
     applies(rt, runner, shortest, instant(0), 0);
-    assert_eq!(rt; gates_at(runner, greatest), Ok(Some(1)));
+    shows(rt, runner, greatest, Ok(Some(1)));
     assert_eq!(rt; runner.begin_at(instant(greatest)), Ok(Some(greatest)));
     let late = greatest - 1 + 1_000_000_000_000;
     applies(rt, runner, next, instant(greatest), late);
-    assert_eq!(rt; gates_at(runner, greatest), Ok(Some(1)));
+    shows(rt, runner, greatest, Ok(Some(1)));
 }
 
 /// No cycle is walked: the greatest instants answer at once.
@@ -420,8 +432,8 @@ fn largest_list(rt: HostRuntime) -> Result<(), Fail> {
     assert_eq!(rt; runner.enable(instant(0)), None);
     applies(&rt, &mut runner, &schedule, instant(1), 2048);
     drop(schedule);
-    assert_eq!(rt; gates_at(&runner, 2048 + 2045), Ok(Some(1)));
-    assert_eq!(rt; gates_at(&runner, 2048 + 2046), Ok(Some(128)));
+    shows(&rt, &runner, 2048 + 2045, Ok(Some(1)));
+    shows(&rt, &runner, 2048 + 2046, Ok(Some(128)));
     assert_eq!(rt;
         runner.begin_at(instant(2048 + 2047)),
         Ok(Some(2048 + 2046))

@@ -1,4 +1,5 @@
 //! Worked examples with several sessions: A is session 1, B session 2.
+ghost use Rattle.std.specs.Prelude.{◌≤◌};
 
 use super::literals::{
     add_gate, create, create_at, enters, fill, filter, filter_key, gate, gate_key, meter,
@@ -29,6 +30,38 @@ fn has_numbers(
     Ok(())
 }
 
+/// The undo of all answers so, and `refuse_undo_all` tells the refusal beforehand.
+fn undoes_all(rt: &impl Abort, book: &mut Book, session: u32, wanted: Result<(u64, u64), Refusal>) {
+    assert_eq!(rt; book.refuse_undo_all(session), wanted.err());
+    assert_eq!(rt; book.undo_all(session), wanted);
+}
+
+/// The redo is refused so, and `refuse_redo` tells it beforehand.
+fn is_not_redone(rt: &impl Abort, book: &mut Book, session: u32, why: &Refusal) {
+    assert_eq!(rt; book.refuse_redo(session).as_ref(), Some(why));
+    assert_eq!(rt; book.redo(session).as_ref().err(), Some(why));
+}
+
+/// Of the first four entries just the second and the fourth stand.
+fn others_stand(rt: &impl Abort, book: &Book) {
+    let stands = |entry| book.journal().standing(entry);
+    assert!(rt; !stands(1) && stands(2) && !stands(3) && stands(4));
+}
+
+fn has_entries(rt: &impl Abort, book: &Book, count: usize) {
+    assert_eq!(rt; book.journal().len(), count);
+}
+
+fn has_standing(rt: &impl Abort, book: &Book, session: u32, count: usize) {
+    assert_eq!(rt; book.journal().count_of(session), count);
+}
+
+fn has_no_meter(rt: &impl Abort, book: &Book, number: u64)
+    requires { number ≤ 65535 }
+{
+    assert!(rt; book.config().get(meter_key(number)).is_none());
+}
+
 #[test]
 fn an_undo_of_all_keeps_what_others_made(rt: HostRuntime) -> Result<(), Fail> {
     let alloc = rt.alloc();
@@ -37,15 +70,13 @@ fn an_undo_of_all_keeps_what_others_made(rt: HostRuntime) -> Result<(), Fail> {
         enters(&rt, book, 2, create_at(gate_key(2), gate(alloc)), 2);
         enters(&rt, book, 1, create_at(filter_key(0), filter(1, None)), 3);
         enters(&rt, book, 2, create_at(filter_key(1), filter(2, None)), 4);
-        assert_eq!(rt; book.journal().count_of(1), 2);
-        assert_eq!(rt; book.refuse_undo_all(1), None);
-        assert_eq!(rt; book.undo_all(1), Ok((2, 6)));
+        has_standing(&rt, book, 1, 2);
+        undoes_all(&rt, book, 1, Ok((2, 6)));
         has_numbers(&rt, alloc, book, Kind::Filter, [1].as_slice())?;
         has_numbers(&rt, alloc, book, Kind::Gate, [2].as_slice())?;
-        assert!(rt; !book.journal().standing(1) && !book.journal().standing(3));
-        assert!(rt; book.journal().standing(2) && book.journal().standing(4));
-        assert_eq!(rt; book.undo_all(1), Err(Refusal::NothingToUndo));
-        assert_eq!(rt; book.journal().len(), 6);
+        others_stand(&rt, book);
+        undoes_all(&rt, book, 1, Err(Refusal::NothingToUndo));
+        has_entries(&rt, book, 6);
         Ok(())
     })
 }
@@ -61,10 +92,9 @@ fn an_undo_of_all_takes_back_every_entry_or_none(rt: HostRuntime) -> Result<(), 
         enters(&rt, book, 2, create_at(filter_key(0), on_five), 2);
         enters(&rt, book, 2, replace_at(filter_key(0), filter(0, None)), 3);
         enters(&rt, book, 1, create_at(gate_key(1), gate(alloc)), 4);
-        assert_eq!(rt; book.refuse_undo_all(1), Some(conflict(1, 2)));
-        assert_eq!(rt; book.undo_all(1), Err(conflict(1, 2)));
+        undoes_all(&rt, book, 1, Err(conflict(1, 2)));
         has_numbers(&rt, alloc, book, Kind::Gate, [0, 1].as_slice())?;
-        assert_eq!(rt; book.journal().len(), 4);
+        has_entries(&rt, book, 4);
         Ok(())
     })
 }
@@ -94,15 +124,11 @@ fn a_redo_keeps_a_value_of_another_session(rt: HostRuntime) -> Result<(), Fail> 
     on_a_book(rt.alloc(), |book| {
         enters(&rt, book, 2, create(2), 1);
         enters(&rt, book, 1, replace_at(meter_key(2), meter_of(900)), 2);
-        assert_eq!(rt; book.redo(1), Err(Refusal::NothingToRedo));
+        is_not_redone(&rt, book, 1, &Refusal::NothingToRedo);
         undoes(&rt, book, 1, 3, 2);
         undoes(&rt, book, 2, 4, 1);
-        assert_eq!(rt;
-            book.refuse_redo(1),
-            Some(Refusal::RedoConflict { other: 4 })
-        );
-        assert_eq!(rt; book.redo(1), Err(Refusal::RedoConflict { other: 4 }));
-        assert!(rt; book.config().get(meter_key(2)).is_none());
+        is_not_redone(&rt, book, 1, &Refusal::RedoConflict { other: 4 });
+        has_no_meter(&rt, book, 2);
         redoes(&rt, book, 2, 5, 4);
         assert!(rt; stands(book, meter_key(2), &meter()));
         assert_eq!(rt; book.refuse_redo(1), None);
@@ -122,7 +148,7 @@ fn an_old_reference_blocks_an_undo(rt: HostRuntime) -> Result<(), Fail> {
         enters(&rt, book, 1, replace_at(filter_key(3), filter(1, None)), 4);
         enters(&rt, book, 2, remove_at(gate_key(0)), 5);
         assert_eq!(rt; book.undo(1), Err(conflict(4, 5)));
-        assert_eq!(rt; book.undo_all(1), Err(conflict(4, 5)));
+        undoes_all(&rt, book, 1, Err(conflict(4, 5)));
         undoes(&rt, book, 2, 6, 5);
         undoes(&rt, book, 1, 7, 4);
         assert!(rt; stands(book, filter_key(3), &filter(0, None)));
@@ -137,8 +163,8 @@ fn own_later_edits_do_not_block_an_undo_of_all(rt: HostRuntime) -> Result<(), Fa
         enters(&rt, book, 1, create(3), 2);
         enters(&rt, book, 1, remove(3), 3);
         enters(&rt, book, 1, create_at(meter_key(3), meter_of(900)), 4);
-        assert_eq!(rt; book.undo_all(1), Ok((3, 7)));
-        assert!(rt; book.config().get(meter_key(3)).is_none());
+        undoes_all(&rt, book, 1, Ok((3, 7)));
+        has_no_meter(&rt, book, 3);
         assert!(rt; stands(book, meter_key(9), &meter()));
         Ok(())
     })
@@ -150,9 +176,9 @@ fn an_undone_and_redone_entry_is_undone_again(rt: HostRuntime) -> Result<(), Fai
         enters(&rt, book, 1, create(3), 1);
         undoes(&rt, book, 1, 2, 1);
         redoes(&rt, book, 1, 3, 2);
-        assert_eq!(rt; book.redo(1), Err(Refusal::NothingToRedo));
+        is_not_redone(&rt, book, 1, &Refusal::NothingToRedo);
         undoes(&rt, book, 1, 4, 3);
-        assert!(rt; book.config().get(meter_key(3)).is_none());
+        has_no_meter(&rt, book, 3);
         redoes(&rt, book, 1, 5, 4);
         assert!(rt; stands(book, meter_key(3), &meter()));
         Ok(())
@@ -166,12 +192,12 @@ fn an_undo_of_all_needs_room_for_all_its_entries(rt: HostRuntime) -> Result<(), 
         enters(&rt, book, 2, create(9), 65_533);
         enters(&rt, book, 1, create(1), 65_534);
         enters(&rt, book, 1, create(2), 65_535);
-        assert_eq!(rt; book.undo_all(1), Err(Refusal::JournalFull));
-        assert_eq!(rt; book.journal().count_of(1), 2);
+        undoes_all(&rt, book, 1, Err(Refusal::JournalFull));
+        has_standing(&rt, book, 1, 2);
         undoes(&rt, book, 1, 65_536, 65_535);
-        assert_eq!(rt; book.redo(1), Err(Refusal::JournalFull));
-        assert_eq!(rt; book.undo_all(1), Err(Refusal::JournalFull));
-        assert_eq!(rt; book.undo_all(3), Err(Refusal::NothingToUndo));
+        is_not_redone(&rt, book, 1, &Refusal::JournalFull);
+        undoes_all(&rt, book, 1, Err(Refusal::JournalFull));
+        undoes_all(&rt, book, 3, Err(Refusal::NothingToUndo));
         Ok(())
     })
 }
@@ -184,9 +210,9 @@ fn an_undo_of_all_may_fill_the_journal(rt: HostRuntime) -> Result<(), Fail> {
             book.edit(2, create(1))?;
             book.edit(2, remove(1))?;
         }
-        assert_eq!(rt; book.undo_all(2), Ok((4_096, 65_536)));
-        assert!(rt; book.config().get(meter_key(1)).is_none());
-        assert_eq!(rt; book.journal().count_of(2), 0);
+        undoes_all(&rt, book, 2, Ok((4_096, 65_536)));
+        has_no_meter(&rt, book, 1);
+        has_standing(&rt, book, 2, 0);
         Ok(())
     })
 }
