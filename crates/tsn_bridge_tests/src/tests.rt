@@ -6,6 +6,7 @@ ghost use Rattle.std.specs.Prelude.{◌≡◌, ◌≤◌, ◌^◌};
 
 mod acts;
 
+use crate::comparing::same;
 use std::alloc::Global;
 use std::process::Abort;
 use std::test::Fail;
@@ -243,11 +244,11 @@ fn are_the_undo(entries: &[Entry]) -> bool {
 
 fn tell_greater_numbers(rt: &impl Abort, bridge: &mut Bridge) -> Result<(), Fail> {
     fill(bridge, 2)?;
-    assert_eq!(rt; bridge.journal().len(), 4);
-    assert_eq!(rt; count_after(bridge, 0)?, Some(4));
-    assert_eq!(rt; count_after(bridge, 2)?, Some(2));
-    assert_eq!(rt; count_after(bridge, 4)?, Some(0));
-    assert_eq!(rt; count_after(bridge, 4_294_967_295)?, Some(0));
+    same(rt, &bridge.journal().len(), &4);
+    same(rt, &count_after(bridge, 0)?, &Some(4));
+    same(rt, &count_after(bridge, 2)?, &Some(2));
+    same(rt, &count_after(bridge, 4)?, &Some(0));
+    same(rt, &count_after(bridge, 4_294_967_295)?, &Some(0));
     Ok(())
 }
 
@@ -504,7 +505,7 @@ fn a_setup_with_an_absent_gate_is_refused(rt: HostRuntime) -> Result<(), Fail> {
         other => other.err(),
     };
     let gate = Key::Gate(GateId::new(4).unwrap());
-    assert_eq!(rt; refused, Some(Refusal::Dangling(gate)));
+    same(&rt, &refused, &Some(Refusal::Dangling(gate)));
     Ok(())
 }
 

@@ -4,6 +4,7 @@ ghost use Rattle.std.specs.Prelude.{◌≤◌, ◌^◌};
 mod bench;
 mod table;
 
+use crate::comparing::same;
 use bench::{
     Bench, counts, create_filter, create_meter, dropped, filter, filter_id, frame, gate, gate_id,
     instant, listed_gate, meter, meter_id, metered_filter, on_a_bench, on_a_gated_bench,
@@ -160,8 +161,8 @@ fn created_again(rt: HostRuntime) -> Result<(), Fail> {
 
 /// Starts the list of gate 0, which is in force from instant 0 on.
 fn start(rt: &impl Abort, bench: &mut Bench) {
-    assert_eq!(rt; bench.enable_gate(gate_id(0), 0), Some(None));
-    assert_eq!(rt; bench.apply_gate(gate_id(0), 0), Some(0));
+    same(rt, &bench.enable_gate(gate_id(0), 0), &Some(None));
+    same(rt, &bench.apply_gate(gate_id(0), 0), &Some(0));
 }
 
 #[test]
@@ -207,9 +208,9 @@ fn shows(rt: &impl Abort, bench: &mut Bench) {
         is_open: true,
         ipv: Some(priority(5)),
     };
-    assert_eq!(rt; bench.gate_state(gate_id(0), 500), Some(Ok(open)));
+    same(rt, &bench.gate_state(gate_id(0), 500), &Some(Ok(open)));
     assert!(rt; bench.disable_gate(gate_id(0), 2020).is_some());
-    assert_eq!(rt; bench.gate_state(gate_id(0), 2019), Some(Err(Past)));
+    same(rt, &bench.gate_state(gate_id(0), 2019), &Some(Err(Past)));
 }
 
 /// Disabled, the gate is as its record says, which is closed.
@@ -284,7 +285,7 @@ fn pass_unmatched(rt: &impl Abort, bench: &mut Bench, now: u64)
         priority: priority(2),
         yellow: true,
     };
-    assert_eq!(rt; verdict, wanted);
+    same(rt, &verdict, &wanted);
 }
 
 /// A frame moves the bridge time, and an earlier instant counts as that.
@@ -293,7 +294,7 @@ fn unmatched(rt: HostRuntime) -> Result<(), Fail> {
     let mut bench = Bench::new(rt.alloc())?;
     pass_unmatched(&rt, &mut bench, 500);
     pass_unmatched(&rt, &mut bench, 400);
-    assert_eq!(rt; bench.now(), 500);
+    same(&rt, &bench.now(), &500);
     let wanted = ListCounters {
         change_error: 0,
         change_time: None,

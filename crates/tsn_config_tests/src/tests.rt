@@ -2,6 +2,7 @@
 
 mod literals;
 
+use crate::comparing::same;
 use literals::{
     add_filter, add_gate, add_meter, add_port, create_filter, create_gate, filter, filter_key,
     gate, gate_key, gate_with, gates_of, has_ids, is_default, limits, make, meter, meter_key,
@@ -26,7 +27,7 @@ fn opens_with_the_default_ports(rt: HostRuntime) -> Result<(), Fail> {
         assert!(rt; is_default(config, port_key(2)));
         assert!(rt; config.get(port_key(3)).is_none());
         assert!(rt; config.get(gate_key(0)).is_none());
-        assert_eq!(rt; config.limits().ports(), 2);
+        same(&rt, &config.limits().ports(), &2);
         Ok(())
     })
 }
@@ -47,7 +48,7 @@ fn has_filters(
     config: &Config,
     wanted: &[u64],
 ) -> Result<(), Fail> {
-    assert_eq!(rt; config.filters().ids(alloc)?.as_slice(), wanted);
+    same(rt, &config.filters().ids(alloc)?.as_slice(), &wanted);
     Ok(())
 }
 
@@ -64,7 +65,7 @@ fn opens_with_the_records_given(rt: HostRuntime) -> Result<(), Fail> {
         has_ids(&rt, alloc, config, Kind::Gate, &[0])?;
         has_ids(&rt, alloc, config, Kind::Meter, &[15])?;
         assert!(rt; is_default(config, port_key(1)));
-        assert_eq!(rt; gates_of(config, port_key(2)), Some(15));
+        same(&rt, &gates_of(config, port_key(2)), &Some(15));
         Ok(())
     })
 }
@@ -80,7 +81,11 @@ fn an_opening_is_refused_by_the_first_record_beyond_the_limits(
     add_gate(&mut records, 0, gate(alloc))?;
     add_filter(&mut records, 1, filter(16, None))?;
     add_gate(&mut records, 16, gate(alloc))?;
-    assert_eq!(rt; refused(alloc, records), Some(Refusal::Range(Field::Gate)));
+    same(
+        &rt,
+        &refused(alloc, records),
+        &Some(Refusal::Range(Field::Gate)),
+    );
     Ok(())
 }
 
@@ -91,16 +96,32 @@ fn an_opening_is_refused_by_an_identifier_a_meter_or_a_list_beyond_the_limits(
     let alloc = rt.alloc();
     let mut records = Records::new(alloc);
     add_gate(&mut records, 16, gate_with(alloc, 17)?)?;
-    assert_eq!(rt; refused(alloc, records), Some(Refusal::Range(Field::Id)));
+    same(
+        &rt,
+        &refused(alloc, records),
+        &Some(Refusal::Range(Field::Id)),
+    );
     let mut records = Records::new(alloc);
     add_port(&mut records, 3, port(alloc, 15))?;
-    assert_eq!(rt; refused(alloc, records), Some(Refusal::Range(Field::Id)));
+    same(
+        &rt,
+        &refused(alloc, records),
+        &Some(Refusal::Range(Field::Id)),
+    );
     let mut records = Records::new(alloc);
     add_filter(&mut records, 1, filter(9, on_meter(16)))?;
-    assert_eq!(rt; refused(alloc, records), Some(Refusal::Range(Field::Meter)));
+    same(
+        &rt,
+        &refused(alloc, records),
+        &Some(Refusal::Range(Field::Meter)),
+    );
     let mut records = Records::new(alloc);
     add_gate(&mut records, 1, gate_with(alloc, 17)?)?;
-    assert_eq!(rt; refused(alloc, records), Some(Refusal::Range(Field::List)));
+    same(
+        &rt,
+        &refused(alloc, records),
+        &Some(Refusal::Range(Field::List)),
+    );
     Ok(())
 }
 
@@ -114,7 +135,11 @@ fn an_opening_is_refused_by_the_first_repetition(rt: HostRuntime) -> Result<(), 
     add_port(&mut records, 1, port(alloc, 1))?;
     add_port(&mut records, 1, port(alloc, 2))?;
     add_gate(&mut records, 2, gate(alloc))?;
-    assert_eq!(rt; refused(alloc, records), Some(Refusal::Exists(port_key(1))));
+    same(
+        &rt,
+        &refused(alloc, records),
+        &Some(Refusal::Exists(port_key(1))),
+    );
     Ok(())
 }
 
@@ -125,17 +150,19 @@ fn an_opening_is_refused_by_the_least_filters_absent_reference(
     let alloc = rt.alloc();
     let mut records = Records::new(alloc);
     add_filter(&mut records, 0, filter(4, None))?;
-    assert_eq!(rt;
-        refused(alloc, records),
-        Some(Refusal::Dangling(gate_key(4)))
+    same(
+        &rt,
+        &refused(alloc, records),
+        &Some(Refusal::Dangling(gate_key(4))),
     );
     let mut records = Records::new(alloc);
     add_filter(&mut records, 4, filter(9, None))?;
     add_filter(&mut records, 1, filter(0, on_meter(8)))?;
     add_gate(&mut records, 0, gate(alloc))?;
-    assert_eq!(rt;
-        refused(alloc, records),
-        Some(Refusal::Dangling(meter_key(8)))
+    same(
+        &rt,
+        &refused(alloc, records),
+        &Some(Refusal::Dangling(meter_key(8))),
     );
     Ok(())
 }
@@ -147,21 +174,21 @@ fn refusal_of(config: &Config, edit: Edit) -> Option<Refusal> {
 
 fn refuses_gates(rt: &impl Abort, alloc: Global, config: &Config) -> Result<(), Fail> {
     let twice = refusal_of(config, create_gate(0, gate(alloc)));
-    assert_eq!(rt; twice, Some(Refusal::Exists(gate_key(0))));
+    same(rt, &twice, &Some(Refusal::Exists(gate_key(0))));
     let beyond = refusal_of(config, create_gate(16, gate(alloc)));
-    assert_eq!(rt; beyond, Some(Refusal::Range(Field::Key)));
+    same(rt, &beyond, &Some(Refusal::Range(Field::Key)));
     let long = refusal_of(config, create_gate(1, gate_with(alloc, 17)?));
-    assert_eq!(rt; long, Some(Refusal::Range(Field::List)));
+    same(rt, &long, &Some(Refusal::Range(Field::List)));
     Ok(())
 }
 
 fn refuses_filters(rt: &impl Abort, config: &Config) {
     let beyond = refusal_of(config, create_filter(4, filter(16, None)));
-    assert_eq!(rt; beyond, Some(Refusal::Range(Field::Gate)));
+    same(rt, &beyond, &Some(Refusal::Range(Field::Gate)));
     let alone = refusal_of(config, create_filter(4, filter(9, None)));
-    assert_eq!(rt; alone, Some(Refusal::Dangling(gate_key(9))));
+    same(rt, &alone, &Some(Refusal::Dangling(gate_key(9))));
     let metered = refusal_of(config, create_filter(4, filter(9, on_meter(9))));
-    assert_eq!(rt; metered, Some(Refusal::Dangling(gate_key(9))));
+    same(rt, &metered, &Some(Refusal::Dangling(gate_key(9))));
 }
 
 #[test]
@@ -175,26 +202,28 @@ fn creates_are_refused_by_their_least_cause(rt: HostRuntime) -> Result<(), Fail>
 
 fn refuses_by_presence(rt: &impl Abort, alloc: Global, config: &Config) {
     let port_1 = Edit::Create(port_key(1), Record::Port(port(alloc, 0)));
-    assert_eq!(rt;
-        refusal_of(config, port_1),
-        Some(Refusal::Exists(port_key(1)))
+    same(
+        rt,
+        &refusal_of(config, port_1),
+        &Some(Refusal::Exists(port_key(1))),
     );
     let meter_9 = Edit::Replace(meter_key(9), Record::Meter(meter()));
-    assert_eq!(rt;
-        refusal_of(config, meter_9),
-        Some(Refusal::Missing(meter_key(9)))
+    same(
+        rt,
+        &refusal_of(config, meter_9),
+        &Some(Refusal::Missing(meter_key(9))),
     );
 }
 
 fn refuses_removals(rt: &impl Abort, config: &Config) {
     let port_1 = refusal_of(config, Edit::Remove(port_key(1)));
-    assert_eq!(rt; port_1, Some(Refusal::Shape));
+    same(rt, &port_1, &Some(Refusal::Shape));
     let gate_9 = refusal_of(config, Edit::Remove(gate_key(9)));
-    assert_eq!(rt; gate_9, Some(Refusal::Missing(gate_key(9))));
+    same(rt, &gate_9, &Some(Refusal::Missing(gate_key(9))));
     let gate_0 = refusal_of(config, Edit::Remove(gate_key(0)));
-    assert_eq!(rt; gate_0, Some(Refusal::Referred(filter_key(3))));
+    same(rt, &gate_0, &Some(Refusal::Referred(filter_key(3))));
     let meter_0 = refusal_of(config, Edit::Remove(meter_key(0)));
-    assert_eq!(rt; meter_0, Some(Refusal::Referred(filter_key(3))));
+    same(rt, &meter_0, &Some(Refusal::Referred(filter_key(3))));
 }
 
 #[test]
@@ -212,7 +241,7 @@ fn of_filters_that_refer_the_least_is_named(rt: HostRuntime) -> Result<(), Fail>
         make(&rt, config, create_filter(7, filter(0, None)))?;
         make(&rt, config, create_filter(1, filter(0, None)))?;
         let why = refusal_of(config, Edit::Remove(gate_key(0)));
-        assert_eq!(rt; why, Some(Refusal::Referred(filter_key(1))));
+        same(&rt, &why, &Some(Refusal::Referred(filter_key(1))));
         Ok(())
     })
 }
@@ -278,7 +307,7 @@ fn laws_have_nothing_to_run() {
 }
 
 fn has_first_entries(rt: &impl Abort, alloc: Global, config: &Config) -> Result<(), Fail> {
-    assert_eq!(rt; config.limits().ports(), 2);
+    same(rt, &config.limits().ports(), &2);
     has_ids(rt, alloc, config, Kind::Gate, &[0])?;
     let whole = Record::Filter(filter(0, on_meter(0)));
     assert!(rt; stands(config, filter_key(3), &whole));
@@ -310,7 +339,7 @@ fn has_every_port(rt: &impl Abort, alloc: Global, config: &Config) -> Result<(),
         let port = Record::Port(port(alloc, number as u8));
         assert!(rt; stands(config, port_key(number), &port), "port {number}");
     }
-    assert_eq!(rt; config.ids(alloc, Kind::Port)?.as_slice().len(), 64);
+    same(rt, &config.ids(alloc, Kind::Port)?.as_slice().len(), &64);
     Ok(())
 }
 
@@ -346,7 +375,7 @@ fn changes(
 ) -> Result<(), Fail> {
     assert!(rt; config.check(&edit).is_none());
     let change = config.change_of(edit)?;
-    assert_eq!(rt; change.key, key);
+    same(rt, &change.key, &key);
     assert!(rt; change.before.as_ref() == Some(before));
     assert!(rt; change.after.as_ref() == Some(after));
     Ok(())
@@ -406,10 +435,10 @@ fn has_every_number(
     kind: Kind,
 ) -> Result<(), Fail> {
     let ids = config.ids(alloc, kind)?;
-    assert_eq!(rt; ids.as_slice().len(), 65_536);
+    same(rt, &ids.as_slice().len(), &65_536);
     for place in 0..65_536 {
         let number = ids.as_slice().get(place).copied();
-        assert_eq!(rt; number, Some(place as u64));
+        same(rt, &number, &Some(place as u64));
     }
     Ok(())
 }

@@ -3,6 +3,7 @@
 //! One function makes the journals and lends them, so that a proof goes once over a journal's end.
 ghost use Rattle.std.specs.Prelude.{◌≤◌};
 
+use crate::comparing::same;
 use std::alloc::{AllocError, Global};
 use std::process::Abort;
 use std::test::Fail;
@@ -93,7 +94,7 @@ fn on_a_journal<F: FnOnce(&mut Journal) -> Result<(), Fail>>(
 
 /// The entry at the end gets this number.
 fn enters(rt: &impl Abort, journal: &mut Journal, session: u32, what: What, number: u64) {
-    assert_eq!(rt; enter(journal, session, what), Ok(number));
+    same(rt, &enter(journal, session, what), &Ok(number));
 }
 
 /// The session creates a meter, by an entry of this number.
@@ -139,7 +140,7 @@ fn changes(entry: &Entry, number: u64, session: u32, meter: u64) -> bool
 
 /// Entry 2 is session 8's, and a change at meter 6; there is none before the first and behind the last.
 fn has_two_entries(rt: &impl Abort, journal: &Journal) {
-    assert_eq!(rt; journal.len(), 2);
+    same(rt, &journal.len(), &2);
     let second = journal.entry(2);
     assert!(rt; second.is_some_and(|entry| changes(entry, 2, 8, 6)));
     assert!(rt; journal.entry(0).is_none());
@@ -168,16 +169,16 @@ fn told_after(journal: &Journal, number: u64) -> Result<(usize, Option<u64>), Al
 }
 
 fn tells_copies(rt: &impl Abort, journal: &Journal) {
-    assert_eq!(rt; copied(journal, 2), Ok(Some((2, 8))));
-    assert_eq!(rt; told_after(journal, 0), Ok((2, Some(1))));
-    assert_eq!(rt; told_after(journal, 1), Ok((1, Some(2))));
-    assert_eq!(rt; told_after(journal, 2), Ok((0, None)));
+    same(rt, &copied(journal, 2), &Ok(Some((2, 8))));
+    same(rt, &told_after(journal, 0), &Ok((2, Some(1))));
+    same(rt, &told_after(journal, 1), &Ok((1, Some(2))));
+    same(rt, &told_after(journal, 2), &Ok((0, None)));
 }
 
 #[test]
 fn an_entry_has_its_number_and_session(rt: HostRuntime) -> Result<(), Fail> {
     on_a_journal(rt.alloc(), |journal| {
-        assert_eq!(rt; journal.len(), 0);
+        same(&rt, &journal.len(), &0);
         creates(&rt, journal, 7, 5, 1);
         creates(&rt, journal, 8, 6, 2);
         has_two_entries(&rt, journal);
@@ -191,15 +192,15 @@ fn an_entry_stands_until_it_is_taken_back(rt: HostRuntime) -> Result<(), Fail> {
     on_a_journal(rt.alloc(), |journal| {
         creates(&rt, journal, 1, 1, 1);
         creates(&rt, journal, 1, 2, 2);
-        assert_eq!(rt; journal.last_of(1), Some(2));
-        assert_eq!(rt; journal.last_of(2), None);
+        same(&rt, &journal.last_of(1), &Some(2));
+        same(&rt, &journal.last_of(2), &None);
         undoes(&rt, journal, 1, 2, 2, 3);
         assert!(rt; journal.standing(1) && !journal.standing(2) && !journal.standing(3));
         assert!(rt; !journal.standing(0) && !journal.standing(4));
-        assert_eq!(rt; journal.last_of(1), Some(1));
+        same(&rt, &journal.last_of(1), &Some(1));
         redoes(&rt, journal, 1, 3, 2, 4);
         assert!(rt; journal.standing(4) && !journal.standing(2));
-        assert_eq!(rt; journal.last_of(1), Some(4));
+        same(&rt, &journal.last_of(1), &Some(4));
         Ok(())
     })
 }
@@ -229,14 +230,14 @@ fn a_removal_blocks_what_referred_to_it(rt: HostRuntime) -> Result<(), Fail> {
         enters(&rt, journal, 1, What::Made(moved()), 1);
         enters(&rt, journal, 2, What::Made(gate_removed()), 2);
         assert!(rt; journal.standing(1));
-        assert_eq!(rt; journal.find_conflict(1), Some(2));
+        same(&rt, &journal.find_conflict(1), &Some(2));
         let undone = What::Undone {
             of: 2,
             change: gate_removed().inverse(),
         };
         enters(&rt, journal, 2, undone, 3);
         assert!(rt; journal.standing(1));
-        assert_eq!(rt; journal.find_conflict(1), None);
+        same(&rt, &journal.find_conflict(1), &None);
         Ok(())
     })
 }
@@ -247,11 +248,11 @@ fn an_own_later_edit_is_no_conflict_of_others(rt: HostRuntime) -> Result<(), Fai
         creates(&rt, journal, 1, 1, 1);
         removes(&rt, journal, 1, 1, 2);
         assert!(rt; journal.standing(1));
-        assert_eq!(rt; journal.find_conflict(1), Some(2));
-        assert_eq!(rt; journal.find_conflict_of_others(1), None);
+        same(&rt, &journal.find_conflict(1), &Some(2));
+        same(&rt, &journal.find_conflict_of_others(1), &None);
         creates(&rt, journal, 2, 1, 3);
         assert!(rt; journal.standing(1));
-        assert_eq!(rt; journal.find_conflict_of_others(1), Some(3));
+        same(&rt, &journal.find_conflict_of_others(1), &Some(3));
         Ok(())
     })
 }
@@ -268,13 +269,13 @@ fn a_sessions_standing_entries_are_counted_and_listed(rt: HostRuntime) -> Result
         creates(&rt, journal, 1, 1, 1);
         creates(&rt, journal, 1, 2, 2);
         removes(&rt, journal, 2, 1, 3);
-        assert_eq!(rt; journal.count_of(1), 2);
-        assert_eq!(rt; stand(journal, 1, &[1, 2]), Ok(true));
-        assert_eq!(rt; journal.find_own_in_conflict(1), Some(1));
-        assert_eq!(rt; journal.find_own_in_conflict(2), None);
+        same(&rt, &journal.count_of(1), &2);
+        same(&rt, &stand(journal, 1, &[1, 2]), &Ok(true));
+        same(&rt, &journal.find_own_in_conflict(1), &Some(1));
+        same(&rt, &journal.find_own_in_conflict(2), &None);
         creates(&rt, journal, 1, 1, 4);
-        assert_eq!(rt; journal.find_own_in_conflict(1), Some(1));
-        assert_eq!(rt; journal.find_own_in_conflict(2), Some(3));
+        same(&rt, &journal.find_own_in_conflict(1), &Some(1));
+        same(&rt, &journal.find_own_in_conflict(2), &Some(3));
         Ok(())
     })
 }
@@ -301,9 +302,9 @@ fn acts(rt: &impl Abort, journal: &mut Journal, number: u64) {
 /// Session 1 may redo entry 2, which this entry is in conflict with.
 fn may_redo(rt: &impl Abort, journal: &Journal, conflict: Option<u64>) {
     let undone = journal.redo_of(1);
-    assert_eq!(rt; undone, Some(2));
+    same(rt, &undone, &Some(2));
     if let Some(number) = undone {
-        assert_eq!(rt; journal.find_redo_conflict(number), conflict);
+        same(rt, &journal.find_redo_conflict(number), &conflict);
     }
 }
 
@@ -311,16 +312,16 @@ fn may_redo(rt: &impl Abort, journal: &Journal, conflict: Option<u64>) {
 fn an_act_does_not_end_a_redo_and_an_edit_does(rt: HostRuntime) -> Result<(), Fail> {
     on_a_journal(rt.alloc(), |journal| {
         creates(&rt, journal, 1, 1, 1);
-        assert_eq!(rt; journal.redo_of(1), None);
+        same(&rt, &journal.redo_of(1), &None);
         undoes(&rt, journal, 1, 1, 1, 2);
         acts(&rt, journal, 3);
         creates(&rt, journal, 2, 2, 4);
-        assert_eq!(rt; journal.redo_of(2), None);
+        same(&rt, &journal.redo_of(2), &None);
         may_redo(&rt, journal, None);
         creates(&rt, journal, 2, 1, 5);
         may_redo(&rt, journal, Some(5));
         creates(&rt, journal, 1, 3, 6);
-        assert_eq!(rt; journal.redo_of(1), None);
+        same(&rt, &journal.redo_of(1), &None);
         Ok(())
     })
 }
@@ -332,9 +333,9 @@ fn a_redone_entry_is_not_redone_again(rt: HostRuntime) -> Result<(), Fail> {
         creates(&rt, journal, 1, 2, 2);
         undoes(&rt, journal, 1, 2, 2, 3);
         undoes(&rt, journal, 1, 1, 1, 4);
-        assert_eq!(rt; journal.redo_of(1), Some(4));
+        same(&rt, &journal.redo_of(1), &Some(4));
         redoes(&rt, journal, 1, 4, 1, 5);
-        assert_eq!(rt; journal.redo_of(1), Some(3));
+        same(&rt, &journal.redo_of(1), &Some(3));
         Ok(())
     })
 }
@@ -343,11 +344,11 @@ fn a_redone_entry_is_not_redone_again(rt: HostRuntime) -> Result<(), Fail> {
 fn a_journal_holds_65536_entries(rt: HostRuntime) -> Result<(), Fail> {
     laws::limits();
     on_a_journal(rt.alloc(), |journal| {
-        assert_eq!(rt; MOST_ENTRIES, 65_536);
-        assert_eq!(rt; journal.reserve(65_537), Err(Refusal::JournalFull));
+        same(&rt, &MOST_ENTRIES, &65_536);
+        same(&rt, &journal.reserve(65_537), &Err(Refusal::JournalFull));
         creates(&rt, journal, 1, 1, 1);
-        assert_eq!(rt; journal.reserve(65_536), Err(Refusal::JournalFull));
-        assert_eq!(rt; journal.reserve(65_535), Ok(()));
+        same(&rt, &journal.reserve(65_536), &Err(Refusal::JournalFull));
+        same(&rt, &journal.reserve(65_535), &Ok(()));
         Ok(())
     })
 }

@@ -4,6 +4,7 @@ ghost use Rattle.std.specs.Prelude.{◌≤◌};
 mod states;
 mod words;
 
+use crate::comparing::same;
 use std::alloc::{AllocError, Global};
 use std::process::Abort;
 use std::test::Fail;
@@ -124,9 +125,9 @@ fn ends(
     errors: &[u8],
 ) -> Result<(), Fail> {
     let left = left_by(alloc, given)?;
-    assert_eq!(rt; left.status, status);
-    assert_eq!(rt; left.output.inner().as_slice(), output);
-    assert_eq!(rt; left.errors.as_slice(), errors);
+    same(rt, &left.status, &status);
+    same(rt, &left.output.inner().as_slice(), &output);
+    same(rt, &left.errors.as_slice(), &errors);
     Ok(())
 }
 
@@ -230,8 +231,8 @@ fn tells(
     requires { 1 ≤ most }
 {
     let mut errors = MemOut::new(Vec::with_capacity(alloc, 100)?, most, None);
-    assert_eq!(rt; fail(&mut errors, failure), 1);
-    assert_eq!(rt; errors.as_slice(), line);
+    same(rt, &fail(&mut errors, failure), &1);
+    same(rt, &errors.as_slice(), &line);
     Ok(())
 }
 
@@ -274,9 +275,9 @@ fn a_repeated_key_is_told_by_its_refusal(rt: HostRuntime) -> Result<(), Fail> {
 fn a_failed_error_line_changes_no_status(rt: HostRuntime) -> Result<(), Fail> {
     let bytes = Vec::with_capacity(rt.alloc(), 100)?;
     let mut errors = MemOut::new(bytes, 7, Some((0, Failing::Error)));
-    assert_eq!(rt; fail(&mut errors, Failure::Fault(Fault::Read)), 1);
-    assert_eq!(rt; errors.flush(), Ok(()));
-    assert_eq!(rt; errors.as_slice(), b"".as_slice());
+    same(&rt, &fail(&mut errors, Failure::Fault(Fault::Read)), &1);
+    same(&rt, &errors.flush(), &Ok(()));
+    same(&rt, &errors.as_slice(), &b"".as_slice());
     Ok(())
 }
 
@@ -284,7 +285,7 @@ fn a_failed_error_line_changes_no_status(rt: HostRuntime) -> Result<(), Fail> {
 fn a_setup_is_read_whole(rt: HostRuntime) -> Result<(), Fail> {
     let mut reader = MemIn::new(Vec::from_slice(rt.alloc(), b"ports = 3\n")?, 4, None);
     match read_setup(rt.alloc(), &mut reader) {
-        Ok(bytes) => assert_eq!(rt; bytes.as_slice(), b"ports = 3\n".as_slice()),
+        Ok(bytes) => same(&rt, &bytes.as_slice(), &b"ports = 3\n".as_slice()),
         Err(_) => return Err(Fail::from("the setup is not read")),
     }
     Ok(())
@@ -293,9 +294,10 @@ fn a_setup_is_read_whole(rt: HostRuntime) -> Result<(), Fail> {
 #[test]
 fn a_setup_that_can_not_be_read_is_told(rt: HostRuntime) -> Result<(), Fail> {
     let mut reader = MemIn::new(Vec::from_slice(rt.alloc(), b"ports = 3\n")?, 4, Some(1));
-    assert_eq!(rt;
-        read_setup(rt.alloc(), &mut reader).err(),
-        Some(Failure::Setup)
+    same(
+        &rt,
+        &read_setup(rt.alloc(), &mut reader).err(),
+        &Some(Failure::Setup),
     );
     Ok(())
 }
@@ -313,7 +315,7 @@ fn count_read(alloc: Global, count: usize) -> Result<usize, Fail> {
 
 #[test]
 fn the_longest_setup_is_read_whole(rt: HostRuntime) -> Result<(), Fail> {
-    assert_eq!(rt; count_read(rt.alloc(), 1_048_576)?, 1_048_576);
+    same(&rt, &count_read(rt.alloc(), 1_048_576)?, &1_048_576);
     let more = count_read(rt.alloc(), 2_000_000)?;
     assert!(rt; 1_048_576 < more && more < 1_060_000);
     Ok(())

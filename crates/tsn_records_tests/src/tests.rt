@@ -1,5 +1,6 @@
 //! Texts of keys, shapes and ranges, each called on its own. Every member of every record at both ends of its range
 //! is read in the tests of command lines.
+use crate::comparing::same;
 use serde_json::Value;
 use std::alloc::Global;
 use std::process::Abort;
@@ -38,7 +39,7 @@ fn keys_are_a_kind_and_a_number(rt: HostRuntime) {
         ("Gate 0", None),
         ("", None),
     ] {
-        assert_eq!(rt; key_of(text), wanted);
+        same(&rt, &key_of(text), &wanted);
     }
 }
 
@@ -52,25 +53,29 @@ fn kinds_are_named(rt: HostRuntime) {
         ("ports", None),
         ("", None),
     ] {
-        assert_eq!(rt; kind_of(text), wanted);
+        same(&rt, &kind_of(text), &wanted);
     }
 }
 
 // The value has members `a` 7, `b` null, `c` true and `d` the text x.
 fn has_its_members(rt: &impl Abort, value: &Value) {
-    assert_eq!(rt; has_members(4, value), Ok(()));
-    assert_eq!(rt; has_members(3, value), Err(Unread::Shape));
-    assert_eq!(rt; flag_at("c", value), Ok(true));
-    assert_eq!(rt; text_at("d", value), Ok("x"));
-    assert_eq!(rt; value_at("a", value).ok().and_then(Value::as_u64), Some(7));
+    same(rt, &has_members(4, value), &Ok(()));
+    same(rt, &has_members(3, value), &Err(Unread::Shape));
+    same(rt, &flag_at("c", value), &Ok(true));
+    same(rt, &text_at("d", value), &Ok("x"));
+    same(
+        rt,
+        &value_at("a", value).ok().and_then(Value::as_u64),
+        &Some(7),
+    );
     assert!(rt; value_at("e", value).is_err());
 }
 
 fn has_its_numbers(rt: &impl Abort, value: &Value) {
-    assert_eq!(rt; number_at("a", value), Ok(7));
-    assert_eq!(rt; number_at("b", value), Err(Unread::Shape));
-    assert_eq!(rt; number_or_null_at("b", value), Ok(None));
-    assert_eq!(rt; number_or_null_at("c", value), Err(Unread::Shape));
+    same(rt, &number_at("a", value), &Ok(7));
+    same(rt, &number_at("b", value), &Err(Unread::Shape));
+    same(rt, &number_or_null_at("b", value), &Ok(None));
+    same(rt, &number_or_null_at("c", value), &Err(Unread::Shape));
 }
 
 #[test]
@@ -83,12 +88,12 @@ fn members_have_their_kinds(rt: HostRuntime) -> Result<(), Fail> {
 
 // The value has the items false, null and the greatest number.
 fn has_its_items(rt: &impl Abort, value: &Value) {
-    assert_eq!(rt; has_items(3, value), Ok(()));
-    assert_eq!(rt; has_items(4, value), Err(Unread::Shape));
-    assert_eq!(rt; flag_item(0, value), Ok(false));
-    assert_eq!(rt; number_or_null_item(1, value), Ok(None));
-    assert_eq!(rt; number_item(2, value), Ok(18_446_744_073_709_551_615));
-    assert_eq!(rt; number_item(3, value), Err(Unread::Shape));
+    same(rt, &has_items(3, value), &Ok(()));
+    same(rt, &has_items(4, value), &Err(Unread::Shape));
+    same(rt, &flag_item(0, value), &Ok(false));
+    same(rt, &number_or_null_item(1, value), &Ok(None));
+    same(rt, &number_item(2, value), &Ok(18_446_744_073_709_551_615));
+    same(rt, &number_item(3, value), &Err(Unread::Shape));
 }
 
 #[test]
@@ -115,7 +120,7 @@ fn keys_have_their_ranges(rt: HostRuntime) -> Result<(), Fail> {
         (Kind::Meter, 0, Ok(Key::Meter(MeterId::new(0)?))),
         (Kind::Meter, 9_999_999_999, out),
     ] {
-        assert_eq!(rt; key(KeyDraft { kind, number }), wanted);
+        same(&rt, &key(KeyDraft { kind, number }), &wanted);
     }
     Ok(())
 }
@@ -135,11 +140,11 @@ fn is_the_port(rt: &impl Abort, port: &PortGates) {
         gates: 128,
         interval: Interval::new(700).unwrap(),
     };
-    assert_eq!(rt; port.gates, 255);
-    assert_eq!(rt; port.admin.cycle.get(), 1000);
-    assert_eq!(rt; port.admin.extension.get(), 2);
-    assert_eq!(rt; port.admin.base.get(), 9);
-    assert_eq!(rt; port.admin.list.as_slice().last(), Some(&second));
+    same(rt, &port.gates, &255);
+    same(rt, &port.admin.cycle.get(), &1000);
+    same(rt, &port.admin.extension.get(), &2);
+    same(rt, &port.admin.base.get(), &9);
+    same(rt, &port.admin.list.as_slice().last(), &Some(&second));
 }
 
 #[test]
@@ -156,14 +161,14 @@ fn a_port_is_read(rt: HostRuntime) -> Result<(), Fail> {
 
 fn is_the_gate(rt: &impl Abort, gate: &StreamGate) {
     assert!(rt; gate.is_open && gate.invalid_rx && !gate.octets_exceeded);
-    assert_eq!(rt; gate.ipv, Some(Priority::new(5).unwrap()));
+    same(rt, &gate.ipv, &Some(Priority::new(5).unwrap()));
     let entry = GateEntry {
         is_open: true,
         ipv: Some(Priority::new(7).unwrap()),
         interval: Interval::new(1).unwrap(),
         octets: None,
     };
-    assert_eq!(rt; gate.admin.list.as_slice().first(), Some(&entry));
+    same(rt, &gate.admin.list.as_slice().first(), &Some(&entry));
 }
 
 #[test]
@@ -179,9 +184,9 @@ fn a_gate_is_read(rt: HostRuntime) -> Result<(), Fail> {
 }
 
 fn is_the_filter(rt: &impl Abort, filter: &StreamFilter) {
-    assert_eq!(rt; filter.gate.get(), 3);
-    assert_eq!(rt; filter.priority, None);
-    assert_eq!(rt; filter.meter, None);
+    same(rt, &filter.gate.get(), &3);
+    same(rt, &filter.priority, &None);
+    same(rt, &filter.meter, &None);
     assert!(rt; filter.oversize);
 }
 
@@ -206,7 +211,7 @@ fn a_record_has_its_shape_and_its_ranges(rt: HostRuntime) {
         (Kind::Filter, Unread::Range(Field::Priority)),
         (Kind::Meter, Unread::Shape),
     ] {
-        assert_eq!(rt; record(alloc, kind, text).err(), Some(wanted));
+        same(&rt, &record(alloc, kind, text).err(), &Some(wanted));
     }
 }
 
@@ -223,7 +228,7 @@ fn a_meter_has_its_range(rt: HostRuntime) {
         all_red: false,
     };
     let answer = record_of(rt.alloc(), &RecordDraft::Meter(draft));
-    assert_eq!(rt; answer.err(), Some(Unread::Range(Field::Cir)));
+    same(&rt, &answer.err(), &Some(Unread::Range(Field::Cir)));
 }
 
 #[test]
@@ -234,6 +239,6 @@ fn what_is_not_read_is_refused(rt: HostRuntime) {
         (Unread::Range(Field::Cbs), Refusal::Range(Field::Cbs)),
         (Unread::Memory, Refusal::Memory),
     ] {
-        assert_eq!(rt; unread.refusal(), wanted);
+        same(&rt, &unread.refusal(), &wanted);
     }
 }

@@ -2,6 +2,7 @@
 //! all the acts and then all the cycle starts.
 ghost use Rattle.std.specs.Prelude.{◌≡◌, ◌<◌, ◌≤◌, ◌^◌, IfOk};
 
+use crate::comparing::same;
 use std::alloc::{AllocError, Global};
 use std::process::Abort;
 use std::test::Fail;
@@ -258,7 +259,7 @@ fn come<'a>(
                 acts.push(act)?;
                 change = change_in(acts, &starts_of(alloc, acts)?);
             }
-            assert_eq!(rt; answer, change);
+            same(rt, &answer, &change);
         }
         What::Disable => {
             runner.disable(now);
@@ -269,7 +270,7 @@ fn come<'a>(
         What::Apply(plan) => match runner.apply(&schedule_of(alloc, plan)?, now) {
             Ok(change) => {
                 assert!(rt; was_enabled);
-                assert_eq!(rt; change, change_of(plan, act.at));
+                same(rt, &change, &change_of(plan, act.at));
                 acts.push(act)?;
             }
             Err(Refusal::NotEnabled) => assert!(rt; !was_enabled),
@@ -287,10 +288,10 @@ fn compare(
     acts: &[Act],
 ) -> Result<(), Fail> {
     let starts = starts_of(alloc, acts)?;
-    assert_eq!(rt; runner.is_enabled(), is_enabled(acts));
-    assert_eq!(rt; runner.errors(), errors_in(alloc, acts)?);
+    same(rt, &runner.is_enabled(), &is_enabled(acts));
+    same(rt, &runner.errors(), &errors_in(alloc, acts)?);
     let change = change_in(acts, &starts);
-    assert_eq!(rt; runner.change(), change);
+    same(rt, &runner.change(), &change);
     let last = acts.last().map_or(0, |act| act.at);
     let mut end = last;
     for start in &starts {
@@ -307,14 +308,16 @@ fn compare(
             .states_at(at)
             .ok()
             .map(|entry| entry.map(|entry| u64::from(entry.gates)));
-        assert_eq!(rt; place, want.map(|want| want.map(|(place, _)| place)));
-        assert_eq!(rt;
-            runner.begin_at(at).ok(),
-            want.map(|want| want.map(|(_, begin)| begin))
+        same(rt, &place, &want.map(|want| want.map(|(place, _)| place)));
+        same(
+            rt,
+            &runner.begin_at(at).ok(),
+            &want.map(|want| want.map(|(_, begin)| begin)),
         );
-        assert_eq!(rt;
-            runner.is_pending(at),
-            change.is_some_and(|change| t < change)
+        same(
+            rt,
+            &runner.is_pending(at),
+            &change.is_some_and(|change| t < change),
         );
     }
     Ok(())

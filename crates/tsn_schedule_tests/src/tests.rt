@@ -1,6 +1,7 @@
 //! Worked examples as calls of the runner, and the largest list.
 ghost use Rattle.std.specs.Prelude.{◌≡◌, ◌<◌, ◌≤◌, ◌^◌, IfOk};
 
+use crate::comparing::same;
 use std::alloc::{AllocError, Global};
 use std::process::Abort;
 use std::test::Fail;
@@ -81,7 +82,7 @@ fn gates_at(runner: &Runner<PortEntry>, t: u64) -> Result<Option<u8>, Past>
 fn shows(rt: &impl Abort, runner: &Runner<PortEntry>, t: u64, wanted: Result<Option<u8>, Past>)
     requires { t ≤ 2 ^ 62 }
 {
-    assert_eq!(rt; gates_at(runner, t), wanted);
+    same(rt, &gates_at(runner, t), &wanted);
 }
 
 /// An enabled runner to which 1 for 300 and then 128 for 700 nanoseconds was applied at 2500.
@@ -91,7 +92,7 @@ fn ahead(rt: &impl Abort, alloc: Global, extension: u64) -> Result<Runner<PortEn
 {
     let first = plan(alloc, ONE_TWO, 1000, extension, 0)?;
     let mut runner = Runner::new();
-    assert_eq!(rt; runner.enable(instant(0)), None);
+    same(rt, &runner.enable(instant(0)), &None);
     applies(rt, &mut runner, &first, instant(2500), 3000);
     Ok(runner)
 }
@@ -104,9 +105,9 @@ fn comes_at_3000(rt: &impl Abort, runner: &Runner<PortEntry>) {
     shows(rt, runner, 3300, Ok(Some(128)));
     shows(rt, runner, 4000, Ok(Some(1)));
     shows(rt, runner, 2499, Err(Past));
-    assert_eq!(rt; runner.begin_at(instant(2499)), Err(Past));
-    assert_eq!(rt; runner.begin_at(instant(2999)), Ok(None));
-    assert_eq!(rt; runner.begin_at(instant(4000)), Ok(Some(4000)));
+    same(rt, &runner.begin_at(instant(2499)), &Err(Past));
+    same(rt, &runner.begin_at(instant(2999)), &Ok(None));
+    same(rt, &runner.begin_at(instant(4000)), &Ok(Some(4000)));
 }
 
 #[test]
@@ -123,7 +124,7 @@ fn starts_again(rt: &impl Abort, alloc: Global, cycle: u64, before: u64) -> Resu
 {
     let schedule = plan(alloc, ONE_TWO, cycle, 0, 0)?;
     let mut runner = Runner::new();
-    assert_eq!(rt; runner.enable(instant(0)), None);
+    same(rt, &runner.enable(instant(0)), &None);
     applies(rt, &mut runner, &schedule, instant(0), 0);
     shows(rt, &runner, before, Ok(Some(128)));
     shows(rt, &runner, cycle, Ok(Some(1)));
@@ -181,7 +182,7 @@ fn stays_held_back(
     applies(rt, runner, second, instant(3500), 5150);
     applies(rt, runner, third, instant(5100), 7000);
     shows(rt, runner, 5120, Ok(Some(128)));
-    assert_eq!(rt; runner.begin_at(instant(5120)), Ok(Some(4300)));
+    same(rt, &runner.begin_at(instant(5120)), &Ok(Some(4300)));
     shows(rt, runner, 5999, Ok(Some(128)));
     shows(rt, runner, 6000, Ok(Some(1)));
 }
@@ -211,8 +212,8 @@ fn is_restored(
     shows(rt, runner, 10000, Ok(Some(1)));
     shows(rt, runner, 10299, Ok(Some(1)));
     shows(rt, runner, 10300, Ok(Some(128)));
-    assert_eq!(rt; runner.errors(), 2);
-    assert_eq!(rt; runner.change(), Some(10000));
+    same(rt, &runner.errors(), &2);
+    same(rt, &runner.change(), &Some(10000));
     assert!(rt; runner.is_enabled());
     assert!(rt; runner.is_pending(instant(9001)));
 }
@@ -222,8 +223,8 @@ fn has_no_error(rt: &impl Abort, runner: &mut Runner<PortEntry>, later: &Schedul
     requires { runner.old.last ≤ 9001 }
 {
     applies(rt, runner, later, instant(12000), 12000);
-    assert_eq!(rt; runner.errors(), 2);
-    assert_eq!(rt; runner.change(), Some(12000));
+    same(rt, &runner.errors(), &2);
+    same(rt, &runner.change(), &Some(12000));
     assert!(rt; !runner.is_pending(instant(12000)));
 }
 
@@ -246,7 +247,7 @@ fn simple_refusals(rt: HostRuntime) -> Result<(), Fail> {
     let mut runner = Runner::new();
     assert!(rt; matches!(runner.apply(&first, instant(0)), Err(Refusal::NotEnabled)));
     assert!(rt; matches!(runner.apply(&empty, instant(0)), Err(Refusal::NotEnabled)));
-    assert_eq!(rt; runner.enable(instant(0)), None);
+    same(&rt, &runner.enable(instant(0)), &None);
     assert!(rt; matches!(runner.apply(&empty, instant(0)), Err(Refusal::EmptyList)));
     Ok(())
 }
@@ -262,14 +263,14 @@ fn is_disabled_and_enabled(
     applies(rt, runner, other, instant(5200), 6000);
     runner.disable(instant(5500));
     assert!(rt; !runner.is_enabled());
-    assert_eq!(rt; runner.change(), None);
+    same(rt, &runner.change(), &None);
     shows(rt, runner, 6000, Ok(None));
-    assert_eq!(rt; runner.enable(instant(7100)), Some(8000));
+    same(rt, &runner.enable(instant(7100)), &Some(8000));
     assert!(rt; runner.is_pending(instant(7100)));
     shows(rt, runner, 7999, Ok(None));
     shows(rt, runner, 8000, Ok(Some(1)));
     shows(rt, runner, 8300, Ok(Some(128)));
-    assert_eq!(rt; runner.enable(instant(8400)), None);
+    same(rt, &runner.enable(instant(8400)), &None);
     shows(rt, runner, 7100, Ok(None));
 }
 
@@ -293,13 +294,13 @@ fn is_at(rt: &impl Abort, runner: &Runner<GateEntry>, t: u64, wanted: &GateEntry
 fn plays(rt: &impl Abort, runner: &mut Runner<GateEntry>, schedule: &Schedule<GateEntry>)
     requires { runner.old.last ≤ 0 }
 {
-    assert_eq!(rt; runner.enable(instant(0)), None);
+    same(rt, &runner.enable(instant(0)), &None);
     applies(rt, runner, schedule, instant(0), 0);
-    assert_eq!(rt; runner.begin_at(instant(20)), Ok(Some(0)));
-    assert_eq!(rt; runner.begin_at(instant(1500)), Ok(Some(1000)));
-    assert_eq!(rt; runner.begin_at(instant(2010)), Ok(Some(2000)));
-    assert_eq!(rt; runner.errors(), 0);
-    assert_eq!(rt; runner.change(), Some(0));
+    same(rt, &runner.begin_at(instant(20)), &Ok(Some(0)));
+    same(rt, &runner.begin_at(instant(1500)), &Ok(Some(1000)));
+    same(rt, &runner.begin_at(instant(2010)), &Ok(Some(2000)));
+    same(rt, &runner.errors(), &0);
+    same(rt, &runner.change(), &Some(0));
     assert!(rt; !runner.is_pending(instant(0)));
 }
 
@@ -355,12 +356,13 @@ fn one_list_by_its_offsets(rt: HostRuntime) -> Result<(), Fail> {
     let schedule = plan(rt.alloc(), ONE_TWO, 1000, 0, 0)?;
     for (offset, gates, earlier) in [(0, 1, 0), (299, 1, 0), (300, 128, 300), (1 << 63, 128, 300)] {
         let entry = state_at(&schedule.list, offset);
-        assert_eq!(rt; entry.map(|entry| entry.gates), Some(gates));
-        assert_eq!(rt;
-            entry.map(|entry| entry.interval()),
-            Interval::new(if gates == 1 { 300 } else { 700 }).ok()
+        same(&rt, &entry.map(|entry| entry.gates), &Some(gates));
+        same(
+            &rt,
+            &entry.map(|entry| entry.interval()),
+            &Interval::new(if gates == 1 { 300 } else { 700 }).ok(),
         );
-        assert_eq!(rt; earlier_sum(&schedule.list, offset), earlier);
+        same(&rt, &earlier_sum(&schedule.list, offset), &earlier);
     }
     Ok(())
 }
@@ -371,7 +373,7 @@ fn latest_change_time(rt: HostRuntime) {
     let greatest = 1 << 62;
     let cycle = Cycle::new(1_000_000_000_000).unwrap();
     let late = change_time(instant(greatest - 1), cycle, instant(greatest));
-    assert_eq!(rt; late, greatest - 1 + 1_000_000_000_000);
+    same(&rt, &late, &(greatest - 1 + 1_000_000_000_000));
 }
 
 /// The shortest cycle up to the greatest instant, and then an apply of the longest one.
@@ -384,10 +386,10 @@ fn reaches_the_greatest_instant(
     requires { runner.old.last ≤ 0 }
 {
     let greatest = 1 << 62;
-    assert_eq!(rt; runner.enable(instant(0)), None);
+    same(rt, &runner.enable(instant(0)), &None);
     applies(rt, runner, shortest, instant(0), 0);
     shows(rt, runner, greatest, Ok(Some(1)));
-    assert_eq!(rt; runner.begin_at(instant(greatest)), Ok(Some(greatest)));
+    same(rt, &runner.begin_at(instant(greatest)), &Ok(Some(greatest)));
     let late = greatest - 1 + 1_000_000_000_000;
     applies(rt, runner, next, instant(greatest), late);
     shows(rt, runner, greatest, Ok(Some(1)));
@@ -429,14 +431,15 @@ fn largest_plan(alloc: Global) -> Result<Schedule<PortEntry>, Fail> {
 fn largest_list(rt: HostRuntime) -> Result<(), Fail> {
     let schedule = largest_plan(rt.alloc())?;
     let mut runner = Runner::new();
-    assert_eq!(rt; runner.enable(instant(0)), None);
+    same(&rt, &runner.enable(instant(0)), &None);
     applies(&rt, &mut runner, &schedule, instant(1), 2048);
     drop(schedule);
     shows(&rt, &runner, 2048 + 2045, Ok(Some(1)));
     shows(&rt, &runner, 2048 + 2046, Ok(Some(128)));
-    assert_eq!(rt;
-        runner.begin_at(instant(2048 + 2047)),
-        Ok(Some(2048 + 2046))
+    same(
+        &rt,
+        &runner.begin_at(instant(2048 + 2047)),
+        &Ok(Some(2048 + 2046)),
     );
     Ok(())
 }

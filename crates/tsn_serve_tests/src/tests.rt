@@ -7,6 +7,7 @@ mod fakes;
 mod scripts;
 mod worked;
 
+use crate::comparing::same;
 use fakes::{Lengths, LineFeeds};
 use std::alloc::{AllocError, Global};
 use std::process::Abort;
@@ -47,7 +48,7 @@ fn cut_in_pieces(
     let mut reader = MemIn::new(Vec::from_slice(alloc, input)?, most, None);
     let mut writer = MemOut::new(Vec::new(alloc), most, None);
     let (end, _) = run(alloc, &mut reader, &mut writer, READS);
-    assert_eq!(rt; end, Ok(()));
+    same(rt, &end, &Ok(()));
     assert_eq!(rt; writer.as_slice(), want, "in pieces of {most}");
     Ok(())
 }
@@ -79,7 +80,7 @@ fn cut_long_line(
     let mut reader = MemIn::new(line_of(alloc, count, rest)?, 100000, None);
     let mut writer = MemOut::new(Vec::new(alloc), 100, None);
     let (end, _) = run(alloc, &mut reader, &mut writer, READS);
-    assert_eq!(rt; end, Ok(()));
+    same(rt, &end, &Ok(()));
     assert_eq!(rt; writer.as_slice(), want, "after {count} bytes");
     Ok(())
 }
@@ -103,7 +104,7 @@ fn fail_at_read(rt: &impl Abort, alloc: Global, call: u64, want: &[u8]) -> Resul
     let mut reader = MemIn::new(Vec::from_slice(alloc, b"ab\nc\nd")?, 2, Some(call));
     let mut writer = MemOut::new(Vec::new(alloc), 100, None);
     let (end, _) = run(alloc, &mut reader, &mut writer, READS);
-    assert_eq!(rt; end, Err(Fault::Read));
+    same(rt, &end, &Err(Fault::Read));
     assert_eq!(rt; writer.as_slice(), want, "at read {call}");
     Ok(())
 }
@@ -128,9 +129,9 @@ fn fail_at_write(
     let mut reader = MemIn::new(Vec::from_slice(alloc, b"ab\n\nd")?, 100, None);
     let mut writer = MemOut::new(Vec::new(alloc), 3, Some((call, failing)));
     let (end, count) = run(alloc, &mut reader, &mut writer, READS);
-    assert_eq!(rt; end, Err(Fault::Write));
+    same(rt, &end, &Err(Fault::Write));
     assert_eq!(rt; writer.as_slice(), want, "at write {call}");
-    assert_eq!(rt; count, answered);
+    same(rt, &count, &answered);
     Ok(())
 }
 
@@ -166,7 +167,7 @@ fn fail_at_hand_over(rt: &impl Abort, alloc: Global, call: u64, answered: u32) -
     let mut writer = buffered(alloc, 100, Some((call, Failing::Error)))?;
     let mut reader = MemIn::new(Vec::from_slice(alloc, b"a\nb\nc\n")?, 2, None);
     let (end, count) = run(alloc, &mut reader, &mut writer, READS);
-    assert_eq!(rt; end, Err(Fault::Write));
+    same(rt, &end, &Err(Fault::Write));
     assert_eq!(rt; count, answered, "at write {call}");
     Ok(())
 }
@@ -185,8 +186,8 @@ fn the_reply_to_a_last_line_without_its_end_goes_out(rt: HostRuntime) -> Result<
     let mut writer = buffered(alloc, 100, None)?;
     let mut reader = MemIn::new(Vec::from_slice(alloc, b"a\nb")?, 100, None);
     let (end, _) = run(alloc, &mut reader, &mut writer, READS);
-    assert_eq!(rt; end, Ok(()));
-    assert_eq!(rt; writer.inner().as_slice(), b"line\nline\n".as_slice());
+    same(&rt, &end, &Ok(()));
+    same(&rt, &writer.inner().as_slice(), &b"line\nline\n".as_slice());
     Ok(())
 }
 
@@ -196,10 +197,10 @@ fn input_without_an_end_ends_at_the_bound(rt: HostRuntime) -> Result<(), Fail> {
     let mut writer = MemOut::new(Vec::new(alloc), 100, None);
     let mut line_feeds = LineFeeds { calls: 0 };
     let (end, answered) = run(alloc, &mut line_feeds, &mut writer, 1000);
-    assert_eq!(rt; end, Err(Fault::Read));
-    assert_eq!(rt; line_feeds.calls, 1000);
-    assert_eq!(rt; answered, 1000);
-    assert_eq!(rt; writer.as_slice().len(), 6000);
+    same(&rt, &end, &Err(Fault::Read));
+    same(&rt, &line_feeds.calls, &1000);
+    same(&rt, &answered, &1000);
+    same(&rt, &writer.as_slice().len(), &6000);
     Ok(())
 }
 

@@ -4,6 +4,7 @@ ghost use Rattle.std.specs.Prelude.{◌≤◌};
 mod members;
 mod samples;
 
+use crate::comparing::same;
 use samples::EXAMPLE;
 use std::alloc::{AllocError, Global};
 use std::process::Abort;
@@ -68,12 +69,12 @@ fn is_example(rt: &impl Abort, record: Option<RecordRef>) {
         assert!(rt; false, "no port");
         return;
     };
-    assert_eq!(rt; port.gates, 255);
-    assert_eq!(rt; port.admin.cycle, Cycle::new(1000).unwrap());
-    assert_eq!(rt; port.admin.extension, Extension::new(0).unwrap());
-    assert_eq!(rt; port.admin.base, Instant::new(0).unwrap());
+    same(rt, &port.gates, &255);
+    same(rt, &port.admin.cycle, &Cycle::new(1000).unwrap());
+    same(rt, &port.admin.extension, &Extension::new(0).unwrap());
+    same(rt, &port.admin.base, &Instant::new(0).unwrap());
     let entries = [port_entry(1, 300), port_entry(128, 700)];
-    assert_eq!(rt; port.admin.list.as_slice(), entries.as_slice());
+    same(rt, &port.admin.list.as_slice(), &entries.as_slice());
 }
 
 #[test]
@@ -155,8 +156,8 @@ fn is_full_gate(rt: &impl Abort, record: Option<RecordRef>) {
         return;
     };
     assert!(rt; !gate.is_open && gate.octets_exceeded && !gate.invalid_rx);
-    assert_eq!(rt; gate.ipv, None);
-    assert_eq!(rt; gate.admin.list.as_slice(), gate_entries().as_slice());
+    same(rt, &gate.ipv, &None);
+    same(rt, &gate.admin.list.as_slice(), &gate_entries().as_slice());
 }
 
 #[test]
@@ -279,8 +280,8 @@ fn what_is_standard_may_be_given(rt: HostRuntime) -> Result<(), Fail> {
     let given =
         "meter = []\nlist_max = 16\nmax_meters = 16\nmax_gates = 16\nmax_filters = 16\nports = 2\nport = []";
     let found = limits(rt.alloc(), given, last, beyond)?;
-    assert_eq!(rt; found, limits(rt.alloc(), "", last, beyond)?);
-    assert_eq!(rt; found, (2, true, false));
+    same(&rt, &found, &limits(rt.alloc(), "", last, beyond)?);
+    same(&rt, &found, &((2, true, false)));
     Ok(())
 }
 
@@ -293,7 +294,7 @@ fn limited_example(alloc: Global, limit: &str) -> Result<String, AllocError> {
 
 /// A bridge with the document is refused so, or is made.
 fn begins(rt: &impl Abort, alloc: Global, text: &str, want: Option<Refusal>) {
-    assert_eq!(rt; bridge(alloc, text).err(), want);
+    same(rt, &bridge(alloc, text).err(), &want);
 }
 
 // A list of two entries against the limit on lists, which the bridge tests.
@@ -442,7 +443,7 @@ fn reads_comment(
 
 #[test]
 fn length_is_limited(rt: HostRuntime) -> Result<(), Fail> {
-    assert_eq!(rt; LONGEST_SETUP, 1_048_576);
+    same(&rt, &LONGEST_SETUP, &1_048_576);
     reads_comment(&rt, rt.alloc(), 1_048_576, None)?;
     reads_comment(&rt, rt.alloc(), 1_048_577, Some(Refusal::TooLong))
 }

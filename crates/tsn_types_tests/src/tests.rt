@@ -3,6 +3,7 @@
 mod lists;
 mod literals;
 
+use crate::comparing::same;
 use literals::{filter, filter_key, gate, gate_key, meter, meter_key, port, port_key};
 use std::alloc::{AllocError, AllocFailed};
 use std::cmp::Ordering;
@@ -28,7 +29,7 @@ fn ports_and_priorities_keep_their_ranges(rt: HostRuntime) {
         (Priority::new(7).map(Priority::get), Ok(7)),
         (Priority::new(8).map(Priority::get), Err(Range)),
     ] {
-        assert_eq!(rt; made, wanted);
+        same(&rt, &made, &wanted);
     }
 }
 
@@ -45,7 +46,7 @@ fn instances_are_numbered_from_0_to_65535(rt: HostRuntime) {
         (MeterId::new(65_535).map(MeterId::get), Ok(65_535)),
         (MeterId::new(65_536).map(MeterId::get), Err(Range)),
     ] {
-        assert_eq!(rt; made, wanted);
+        same(&rt, &made, &wanted);
     }
 }
 
@@ -72,7 +73,7 @@ fn handles_octets_and_intervals_keep_their_ranges(rt: HostRuntime) {
         ),
         (Interval::new(4_294_967_296).map(Interval::get), Err(Range)),
     ] {
-        assert_eq!(rt; made, wanted);
+        same(&rt, &made, &wanted);
     }
 }
 
@@ -93,7 +94,7 @@ fn sizes_and_rates_keep_their_ranges(rt: HostRuntime) {
             Err(Range),
         ),
     ] {
-        assert_eq!(rt; made, wanted);
+        same(&rt, &made, &wanted);
     }
 }
 
@@ -126,16 +127,16 @@ fn instants_and_cycles_keep_their_ranges(rt: HostRuntime) {
             Err(Range),
         ),
     ] {
-        assert_eq!(rt; made, wanted);
+        same(&rt, &made, &wanted);
     }
 }
 
 #[test]
 fn a_key_tells_its_kind(rt: HostRuntime) {
-    assert_eq!(rt; port_key(1).kind(), Kind::Port);
-    assert_eq!(rt; filter_key(1).kind(), Kind::Filter);
-    assert_eq!(rt; gate_key(1).kind(), Kind::Gate);
-    assert_eq!(rt; meter_key(1).kind(), Kind::Meter);
+    same(&rt, &port_key(1).kind(), &Kind::Port);
+    same(&rt, &filter_key(1).kind(), &Kind::Filter);
+    same(&rt, &gate_key(1).kind(), &Kind::Gate);
+    same(&rt, &meter_key(1).kind(), &Kind::Meter);
 }
 
 #[test]
@@ -285,7 +286,7 @@ fn limits_keep_their_ranges(rt: HostRuntime) {
 }
 
 fn holds_its_keys(rt: &impl Abort, limits: &Limits) {
-    assert_eq!(rt; limits.ports(), 2);
+    same(rt, &limits.ports(), &2);
     for (key, wanted) in [
         (port_key(1), true),
         (port_key(2), true),
@@ -321,7 +322,7 @@ fn refusal_within(
 
 /// A record on a bridge whose lists have at most so many entries.
 fn is_answered(rt: &impl Abort, list: u64, record: &Record, wanted: Option<Refusal>) {
-    assert_eq!(rt; refusal_within(1, 1, list, record), Ok(wanted));
+    same(rt, &refusal_within(1, 1, list, record), &Ok(wanted));
 }
 
 #[test]
@@ -337,14 +338,14 @@ fn a_list_outside_the_limits_is_refused(rt: HostRuntime) -> Result<(), Fail> {
 fn a_reference_outside_the_limits_is_refused(rt: HostRuntime) {
     let filter = Record::Filter(filter());
     let meter = Record::Meter(meter());
-    assert_eq!(rt; refusal_within(1, 1, 1, &meter), Ok(None));
+    same(&rt, &refusal_within(1, 1, 1, &meter), &Ok(None));
     for (gates, meters, wanted) in [
         (10, 6, None),
         (10, 5, Some(Refusal::Range(Field::Meter))),
         (9, 6, Some(Refusal::Range(Field::Gate))),
         (9, 5, Some(Refusal::Range(Field::Gate))),
     ] {
-        assert_eq!(rt; refusal_within(gates, meters, 1, &filter), Ok(wanted));
+        same(&rt, &refusal_within(gates, meters, 1, &filter), &Ok(wanted));
     }
 }
 
@@ -371,7 +372,7 @@ fn refusals_have_numbers_and_names(rt: HostRuntime) {
         (Refusal::Memory, 18, "memory"),
     ] {
         assert_eq!(rt; why.number(), number, "{why:?}");
-        assert_eq!(rt; why.name(), name);
+        same(&rt, &why.name(), &name);
     }
 }
 
@@ -385,12 +386,16 @@ fn members_have_names(rt: HostRuntime) {
         (Field::MaxFilters, "max_filters"),
         (Field::ListMax, "list_max"),
     ] {
-        assert_eq!(rt; field.name(), name);
+        same(&rt, &field.name(), &name);
     }
 }
 
 #[test]
 fn a_refused_growth_is_told_as_memory(rt: HostRuntime) {
-    assert_eq!(rt; Refusal::from(AllocError), Refusal::Memory);
-    assert_eq!(rt; Refusal::from(AllocFailed { value: 7 }), Refusal::Memory);
+    same(&rt, &Refusal::from(AllocError), &Refusal::Memory);
+    same(
+        &rt,
+        &Refusal::from(AllocFailed { value: 7 }),
+        &Refusal::Memory,
+    );
 }

@@ -4,6 +4,7 @@ mod literals;
 mod replay;
 mod sessions;
 
+use crate::comparing::same;
 use literals::{create, enters, fill, meter, meter_key, on_a_book, remove, stands, undoes};
 use std::test::Fail;
 use tsn_journal::entries::Act;
@@ -28,8 +29,8 @@ fn an_undone_removal_is_whole(rt: HostRuntime) -> Result<(), Fail> {
         undoes(&rt, book, 1, 3, 2);
         assert!(rt; stands(book, meter_key(3), &meter()));
         undoes(&rt, book, 1, 4, 1);
-        assert_eq!(rt; book.undo(1), Err(Refusal::NothingToUndo));
-        assert_eq!(rt; book.journal().len(), 4);
+        same(&rt, &book.undo(1), &Err(Refusal::NothingToUndo));
+        same(&rt, &book.journal().len(), &4);
         Ok(())
     })
 }
@@ -39,7 +40,11 @@ fn another_session_blocks_an_undo(rt: HostRuntime) -> Result<(), Fail> {
     on_a_book(rt.alloc(), |book| {
         enters(&rt, book, 1, create(0), 1);
         enters(&rt, book, 2, remove(0), 2);
-        assert_eq!(rt; book.undo(1), Err(Refusal::Conflict { own: 1, other: 2 }));
+        same(
+            &rt,
+            &book.undo(1),
+            &Err(Refusal::Conflict { own: 1, other: 2 }),
+        );
         undoes(&rt, book, 2, 3, 2);
         undoes(&rt, book, 1, 4, 1);
         Ok(())
@@ -52,9 +57,9 @@ fn a_full_journal_takes_no_more(rt: HostRuntime) -> Result<(), Fail> {
         fill(book, 32_767)?;
         enters(&rt, book, 1, create(1), 65_535);
         enters(&rt, book, 1, create(2), 65_536);
-        assert_eq!(rt; book.edit(1, create(3)), Err(Refusal::JournalFull));
-        assert_eq!(rt; book.undo(1), Err(Refusal::JournalFull));
-        assert_eq!(rt; book.undo(2), Err(Refusal::NothingToUndo));
+        same(&rt, &book.edit(1, create(3)), &Err(Refusal::JournalFull));
+        same(&rt, &book.undo(1), &Err(Refusal::JournalFull));
+        same(&rt, &book.undo(2), &Err(Refusal::NothingToUndo));
         Ok(())
     })
 }
@@ -65,22 +70,28 @@ fn a_conflict_comes_before_a_full_journal(rt: HostRuntime) -> Result<(), Fail> {
         fill(book, 32_767)?;
         enters(&rt, book, 1, create(1), 65_535);
         enters(&rt, book, 2, remove(1), 65_536);
-        assert_eq!(rt;
-            book.undo(1),
-            Err(Refusal::Conflict {
+        same(
+            &rt,
+            &book.undo(1),
+            &Err(Refusal::Conflict {
                 own: 65_535,
-                other: 65_536
-            })
+                other: 65_536,
+            }),
         );
-        assert_eq!(rt;
-            book.refuse_undo(1),
-            Some(Refusal::Conflict {
+        same(
+            &rt,
+            &book.refuse_undo(1),
+            &Some(Refusal::Conflict {
                 own: 65_535,
-                other: 65_536
-            })
+                other: 65_536,
+            }),
         );
-        assert_eq!(rt; book.undo(2), Err(Refusal::JournalFull));
-        assert_eq!(rt; book.refuse_edit(&create(2)), Some(Refusal::JournalFull));
+        same(&rt, &book.undo(2), &Err(Refusal::JournalFull));
+        same(
+            &rt,
+            &book.refuse_edit(&create(2)),
+            &Some(Refusal::JournalFull),
+        );
         Ok(())
     })
 }
@@ -91,8 +102,8 @@ fn a_session_of_any_number_is_kept_apart(rt: HostRuntime) -> Result<(), Fail> {
         enters(&rt, book, 60_000, create(1), 1);
         enters(&rt, book, 59_999, create(2), 2);
         let first = book.journal().entry(1).ok_or("no first entry")?;
-        assert_eq!(rt; first.session, 60_000);
-        assert_eq!(rt; book.undo(60_001), Err(Refusal::NothingToUndo));
+        same(&rt, &first.session, &60_000);
+        same(&rt, &book.undo(60_001), &Err(Refusal::NothingToUndo));
         undoes(&rt, book, 60_000, 3, 1);
         assert!(rt; !stands(book, meter_key(1), &meter()) && stands(book, meter_key(2), &meter()));
         Ok(())
@@ -102,10 +113,10 @@ fn a_session_of_any_number_is_kept_apart(rt: HostRuntime) -> Result<(), Fail> {
 #[test]
 fn room_is_made_for_as_many_as_a_journal_holds(rt: HostRuntime) -> Result<(), Fail> {
     on_a_book(rt.alloc(), |book| {
-        assert_eq!(rt; book.reserve(65_537), Err(Refusal::JournalFull));
-        assert_eq!(rt; book.reserve(2), Ok(()));
+        same(&rt, &book.reserve(65_537), &Err(Refusal::JournalFull));
+        same(&rt, &book.reserve(2), &Ok(()));
         enters(&rt, book, 1, create(1), 1);
-        assert_eq!(rt; book.journal().len(), 1);
+        same(&rt, &book.journal().len(), &1);
         Ok(())
     })
 }
@@ -115,8 +126,8 @@ fn an_act_is_entered_and_changes_nothing(rt: HostRuntime) -> Result<(), Fail> {
     on_a_book(rt.alloc(), |book| {
         enters(&rt, book, 1, create(1), 1);
         let now = Instant::new(7)?;
-        assert_eq!(rt; book.acted(1, Act::Enable, meter_key(1), now), Ok(2));
-        assert_eq!(rt; book.journal().len(), 2);
+        same(&rt, &book.acted(1, Act::Enable, meter_key(1), now), &Ok(2));
+        same(&rt, &book.journal().len(), &2);
         assert!(rt; stands(book, meter_key(1), &meter()));
         undoes(&rt, book, 1, 3, 1);
         Ok(())

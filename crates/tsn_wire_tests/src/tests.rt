@@ -6,6 +6,7 @@ mod shown;
 mod spellings;
 mod tables;
 
+use crate::comparing::same;
 use crate::samples::{printed, spaced};
 use std::alloc::{AllocError, Global};
 use std::process::Abort;
@@ -104,7 +105,7 @@ fn frame() -> Frame {
 
 /// The line asks for this.
 fn asks(rt: &impl Abort, alloc: Global, line: &[u8], wanted: &(u32, Asked)) {
-    assert_eq!(rt; read_line(alloc, line), Ok(*wanted));
+    same(rt, &read_line(alloc, line), &Ok(*wanted));
 }
 
 #[test]

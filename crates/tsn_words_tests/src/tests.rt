@@ -1,4 +1,5 @@
 //! Words, and what they ask for. What is shown or refused is tested with the program too.
+use crate::comparing::same;
 use std::alloc::{AllocError, Global};
 use std::process::Abort;
 use std::test::Fail;
@@ -59,20 +60,20 @@ fn each_number_is_read(rt: HostRuntime) -> Result<(), Fail> {
         "1000000",
     ];
     let (file, listing) = listing_asked(rt.alloc(), words.as_slice())?;
-    assert_eq!(rt; file.as_str(), "cell.toml");
+    same(&rt, &file.as_str(), &("cell.toml"));
     let wanted = Listing {
         port: 7,
         from: u64::MAX,
         step: 1_000_000_000_000,
         count: 1_000_000,
     };
-    assert_eq!(rt; listing, wanted);
+    same(&rt, &listing, &wanted);
     Ok(())
 }
 
 // The words name this file, or none.
 fn names(rt: &impl Abort, alloc: Global, words: &[&str], file: Option<&str>) -> Result<(), Fail> {
-    assert_eq!(rt; asked(alloc, words)?.file(), file);
+    same(rt, &asked(alloc, words)?.file(), &file);
     Ok(())
 }
 

@@ -2,6 +2,7 @@
 ghost use Rattle.std.specs.Prelude.{◌≡◌, ◌≤◌, ◌^◌};
 
 use super::{gate, is_entry, is_refused, on_a_bridge, step, took, took_back};
+use crate::comparing::same;
 use std::alloc::Global;
 use std::process::Abort;
 use std::test::Fail;
@@ -374,7 +375,7 @@ fn match_one(rt: &impl Abort, alloc: Global, bridge: &mut Bridge) -> Result<(), 
     make_filter(rt, alloc, bridge)?;
     let filter = Some(FilterId::new(3)?);
     assert!(rt; passed(frame(bridge, at(0))?, filter, at(0)));
-    assert_eq!(rt; matching(bridge)?, Some(1));
+    same(rt, &matching(bridge)?, &Some(1));
     Ok(())
 }
 
@@ -382,9 +383,9 @@ fn remove_and_take_back(rt: &impl Abort, alloc: Global, bridge: &mut Bridge) -> 
     match_one(rt, alloc, bridge)?;
     let key = filter_3();
     assert!(rt; is_entry(step(bridge, 1, Command::Remove { key })?, 3));
-    assert_eq!(rt; matching(bridge)?, None);
+    same(rt, &matching(bridge)?, &None);
     assert!(rt; took(step(bridge, 1, Command::Undo)?, 4, 3));
-    assert_eq!(rt; matching(bridge)?, Some(0));
+    same(rt, &matching(bridge)?, &Some(0));
     Ok(())
 }
 
@@ -402,7 +403,7 @@ fn replace_filter(rt: &impl Abort, alloc: Global, bridge: &mut Bridge) -> Result
     let key = filter_3();
     let value = filter();
     assert!(rt; is_entry(step(bridge, 1, Command::Replace { key, value })?, 3));
-    assert_eq!(rt; matching(bridge)?, Some(1));
+    same(rt, &matching(bridge)?, &Some(1));
     Ok(())
 }
 
@@ -418,7 +419,7 @@ fn what_is_replaced_keeps_its_counters(rt: HostRuntime) -> Result<(), Fail> {
 fn take_all_back(rt: &impl Abort, alloc: Global, bridge: &mut Bridge) -> Result<(), Fail> {
     match_one(rt, alloc, bridge)?;
     assert!(rt; took_back(step(bridge, 1, Command::UndoAll)?, 2, 4));
-    assert_eq!(rt; matching(bridge)?, None);
+    same(rt, &matching(bridge)?, &None);
     assert!(rt; passed(frame(bridge, at(1))?, None, at(1)));
     Ok(())
 }

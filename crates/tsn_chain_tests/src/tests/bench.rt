@@ -2,6 +2,7 @@
 ghost use Rattle.std.specs.Prelude.{◌≡◌, ◌≤◌, ◌^◌};
 ghost use Rattle.tsn_chain.specs.Instances.{HasKeys};
 
+use crate::comparing::same;
 use std::alloc::{AllocError, Global};
 use std::process::Abort;
 use std::test::Fail;
@@ -298,12 +299,12 @@ pub(super) fn passes(rt: &impl Abort, bench: &mut Bench, count: u64, now: u64, w
     requires count { count ≤ 65535 }
     requires now { now ≤ 2 ^ 62 }
 {
-    assert_eq!(rt; bench.pass(frame(count), now), wanted);
+    same(rt, &bench.pass(frame(count), now), &wanted);
 }
 
 /// Asks for the counters of an instance, which are these.
 pub(super) fn counts(rt: &impl Abort, bench: &Bench, key: Key, wanted: Counters) {
-    assert_eq!(rt; bench.counters(&key), Some(wanted));
+    same(rt, &bench.counters(&key), &Some(wanted));
 }
 
 /// The verdict on a frame that its filter passes.

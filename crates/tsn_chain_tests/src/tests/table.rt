@@ -4,6 +4,7 @@ ghost use Rattle.std.specs.Prelude.{◌≤◌};
 use super::bench::{
     dropped, filter, filter_id, frame, gate, instant, meter, octets, passed, priority,
 };
+use crate::comparing::same;
 use std::process::Abort;
 use tsn_chain::chain::{Passage, pass_through};
 use tsn_chain::data::{FilterData, GateData, GateState, Met, MeterData, Metered, Running};
@@ -150,9 +151,9 @@ fn leaves(
     gate: GateData,
 ) {
     let mut met = before;
-    assert_eq!(rt; pass_through(passage, &mut met), wanted);
-    assert_eq!(rt; met.filter, filter);
-    assert_eq!(rt; met.gate, gate);
+    same(rt, &pass_through(passage, &mut met), &wanted);
+    same(rt, &met.filter, &filter);
+    same(rt, &met.gate, &gate);
 }
 
 /// The flag of a meter, which is there.
@@ -176,8 +177,8 @@ fn next_mark(met: &Met) -> Option<Colour> {
 
 /// The chain says this of a frame, and leaves the meter's flag so.
 fn marks(rt: &impl Abort, passage: &Passage<'_>, met: &mut Met, wanted: Verdict, all_red: bool) {
-    assert_eq!(rt; pass_through(passage, met), wanted);
-    assert_eq!(rt; flag(met), Some(all_red));
+    same(rt, &pass_through(passage, met), &wanted);
+    same(rt, &flag(met), &Some(all_red));
 }
 
 /// The flag of a blocked stream has an effect where `oversize` is on, and stays where it is off.
@@ -494,11 +495,11 @@ fn red_flag(rt: HostRuntime) {
     let frame = passage(&filter, &gate, unlisted(true), 100);
     let mut on = metered(meter_of_100(true), true);
     marks(&rt, &frame, &mut on, dropped(3, 500, DropCause::Red), true);
-    assert_eq!(rt; on.filter, counted_passed(1));
-    assert_eq!(rt; next_mark(&on), Some(Colour::Green));
+    same(&rt, &on.filter, &counted_passed(1));
+    same(&rt, &next_mark(&on), &Some(Colour::Green));
     let mut off = metered(meter_of_100(false), true);
     marks(&rt, &frame, &mut off, passed(3, 500, 2, false), true);
-    assert_eq!(rt; next_mark(&off), Some(Colour::Red));
+    same(&rt, &next_mark(&off), &Some(Colour::Red));
 }
 
 /// A frame that is marked red sets the flag where `all_red` is on.
@@ -508,7 +509,7 @@ fn is_red(rt: &impl Abort, gate: &StreamGate, all_red: bool) {
     let frame = passage(&filter, gate, unlisted(true), 101);
     let red = dropped(3, 500, DropCause::Red);
     marks(rt, &frame, &mut met, red, all_red);
-    assert_eq!(rt; met.filter, counted_passed(1));
+    same(rt, &met.filter, &counted_passed(1));
 }
 
 #[test]
@@ -534,7 +535,7 @@ fn is_yellow(rt: &impl Abort, gate: &StreamGate, drop_yellow: bool) {
     let mut met = metered(by, false);
     let frame = passage(&filter, gate, unlisted(true), 100);
     marks(rt, &frame, &mut met, wanted, false);
-    assert_eq!(rt; met.filter, counted_passed(u64::from(drop_yellow)));
+    same(rt, &met.filter, &counted_passed(u64::from(drop_yellow)));
 }
 
 #[test]
@@ -584,8 +585,8 @@ fn stopped_before_the_meter(rt: HostRuntime) {
     let frame = passage(&filter, &gate, unlisted(false), 100);
     let stopped = dropped(3, 500, DropCause::Closed);
     marks(&rt, &frame, &mut met, stopped, false);
-    assert_eq!(rt; met.filter, counted_stopped());
-    assert_eq!(rt; next_mark(&met), Some(Colour::Green));
+    same(&rt, &met.filter, &counted_stopped());
+    same(&rt, &next_mark(&met), &Some(Colour::Green));
 }
 
 /// Every counter at the greatest number.
@@ -607,8 +608,8 @@ fn stays(rt: &impl Abort, passage: &Passage<'_>, wanted: Verdict) {
         filter: greatest(),
         ..metered(meter_of_100(false), false)
     };
-    assert_eq!(rt; pass_through(passage, &mut met), wanted);
-    assert_eq!(rt; met.filter, greatest());
+    same(rt, &pass_through(passage, &mut met), &wanted);
+    same(rt, &met.filter, &greatest());
 }
 
 #[test]

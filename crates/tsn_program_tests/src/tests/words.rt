@@ -1,5 +1,6 @@
 //! Command lines, and what they ask for.
 use super::{Given, left_by};
+use crate::comparing::same;
 use std::alloc::Global;
 use std::process::Abort;
 use std::test::Fail;
@@ -16,9 +17,9 @@ fn shows(
     part: &[u8],
 ) -> Result<(), Fail> {
     let left = left_by(alloc, &Given::new(words, b""))?;
-    assert_eq!(rt; left.status, 0);
+    same(rt, &left.status, &0);
     assert!(rt; contains(left.output.inner().as_slice(), part));
-    assert_eq!(rt; left.errors.as_slice(), b"".as_slice());
+    same(rt, &left.errors.as_slice(), &b"".as_slice());
     Ok(())
 }
 
@@ -44,8 +45,8 @@ fn refuses(
     part: &[u8],
 ) -> Result<(), Fail> {
     let left = left_by(alloc, &Given::new(words, b""))?;
-    assert_eq!(rt; left.status, 2);
-    assert_eq!(rt; left.output.inner().as_slice(), b"".as_slice());
+    same(rt, &left.status, &2);
+    same(rt, &left.output.inner().as_slice(), &b"".as_slice());
     assert!(rt; contains(left.errors.as_slice(), part));
     Ok(())
 }

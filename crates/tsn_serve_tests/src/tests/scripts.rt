@@ -6,6 +6,7 @@ use super::fakes::LineFeeds;
 use super::worked::{
     Exchange, FIRST_RUN, OTHERS_KEPT, RECORDS, REDONE, Spelling, input_of, replies_of,
 };
+use crate::comparing::same;
 use std::alloc::{AllocError, Global};
 use std::process::Abort;
 use std::test::Fail;
@@ -56,7 +57,7 @@ fn has_replies(
 ) -> Result<(), Fail> {
     let mut reader = MemIn::new(Vec::from_slice(alloc, input)?, most.max(1), None);
     let mut writer = MemOut::new(Vec::new(alloc), most.max(1), None);
-    assert_eq!(rt; run(alloc, &mut reader, &mut writer)?, Ok(()));
+    same(rt, &run(alloc, &mut reader, &mut writer)?, &Ok(()));
     assert_eq!(rt; writer.as_slice(), want, "{spelling:?} in pieces of {most}");
     Ok(())
 }
@@ -129,7 +130,11 @@ fn cut_at_read(
 ) -> Result<(), Fail> {
     let mut reader = MemIn::new(Vec::from_slice(alloc, input)?, 7, Some(call));
     let mut writer = MemOut::new(Vec::new(alloc), 1, None);
-    assert_eq!(rt; run(alloc, &mut reader, &mut writer)?, Err(Fault::Read));
+    same(
+        rt,
+        &run(alloc, &mut reader, &mut writer)?,
+        &Err(Fault::Read),
+    );
     assert_eq!(rt; writer.as_slice(), want, "at read {call}");
     Ok(())
 }
@@ -169,7 +174,11 @@ fn cut_at_write(
 ) -> Result<(), Fail> {
     let mut reader = MemIn::new(Vec::from_slice(alloc, input)?, 7, None);
     let mut writer = MemOut::new(Vec::new(alloc), 1, Some((call, failing)));
-    assert_eq!(rt; run(alloc, &mut reader, &mut writer)?, Err(Fault::Write));
+    same(
+        rt,
+        &run(alloc, &mut reader, &mut writer)?,
+        &Err(Fault::Write),
+    );
     assert_eq!(rt; writer.as_slice(), want, "at write {call}");
     Ok(())
 }
@@ -208,8 +217,12 @@ fn cut_at_reply(
 ) -> Result<(), Fail> {
     let mut reader = MemIn::new(Vec::from_slice(alloc, input)?, 7, None);
     let mut writer = MemOut::new(Vec::new(alloc), 1000, Some((call, Failing::Error)));
-    assert_eq!(rt; run(alloc, &mut reader, &mut writer)?, Err(Fault::Write));
-    assert_eq!(rt; writer.as_slice(), want);
+    same(
+        rt,
+        &run(alloc, &mut reader, &mut writer)?,
+        &Err(Fault::Write),
+    );
+    same(rt, &writer.as_slice(), &want);
     Ok(())
 }
 
@@ -239,7 +252,7 @@ fn is_front(rt: &impl Abort, end: Result<(), Fault>, taken: &[u8], replies: &[u8
     if end == Ok(()) {
         assert_eq!(rt; taken, replies, "at call {call}");
     } else {
-        assert_eq!(rt; end, Err(Fault::Write));
+        same(rt, &end, &Err(Fault::Write));
         assert!(rt; taken.len() < replies.len(), "at call {call}");
         assert!(rt; replies.starts_with(taken), "at call {call}");
     }
@@ -300,7 +313,7 @@ fn has_replies_behind_buffer(
 ) -> Result<(), Fail> {
     let mut writer = buffered(alloc, 100_000, None)?;
     let mut reader = MemIn::new(Vec::from_slice(alloc, input)?, 100_000, None);
-    assert_eq!(rt; run(alloc, &mut reader, &mut writer)?, Ok(()));
+    same(rt, &run(alloc, &mut reader, &mut writer)?, &Ok(()));
     assert!(rt; writer.inner().as_slice() == want);
     Ok(())
 }
@@ -335,8 +348,8 @@ fn handle_lines(rt: &impl Abort, alloc: Global, most: usize) -> Result<(), Fail>
 {
     let mut reader = MemIn::new(handled_lines(alloc)?, most, None);
     let mut writer = MemOut::new(Vec::new(alloc), 1000, None);
-    assert_eq!(rt; run(alloc, &mut reader, &mut writer)?, Ok(()));
-    assert_eq!(rt; writer.as_slice(), HANDLED);
+    same(rt, &run(alloc, &mut reader, &mut writer)?, &Ok(()));
+    same(rt, &writer.as_slice(), &HANDLED);
     Ok(())
 }
 
@@ -357,7 +370,7 @@ fn refuse_line(
 ) -> Result<(), Fail> {
     let mut reader = MemIn::new(bytes_of(alloc, byte, count)?, 100_000, None);
     let mut writer = MemOut::new(Vec::new(alloc), 1000, None);
-    assert_eq!(rt; run(alloc, &mut reader, &mut writer)?, Ok(()));
+    same(rt, &run(alloc, &mut reader, &mut writer)?, &Ok(()));
     assert_eq!(rt; writer.as_slice(), want, "{count} times {byte}");
     Ok(())
 }
@@ -390,9 +403,9 @@ fn end_at_the_bound(rt: &impl Abort, alloc: Global, want: &[u8]) -> Result<(), F
     let mut reader = LineFeeds { calls: 0 };
     let mut writer = MemOut::new(Vec::new(alloc), 1000, None);
     let end = run_to_the_bound(alloc, &mut reader, &mut writer)?;
-    assert_eq!(rt; end, Err(Fault::Read));
-    assert_eq!(rt; reader.calls, 1000);
-    assert_eq!(rt; writer.as_slice(), want);
+    same(rt, &end, &Err(Fault::Read));
+    same(rt, &reader.calls, &1000);
+    same(rt, &writer.as_slice(), &want);
     Ok(())
 }
 

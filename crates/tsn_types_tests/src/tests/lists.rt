@@ -1,5 +1,6 @@
 //! The calls of a list, up to the greatest length that limits may allow.
 
+use crate::comparing::same;
 use std::test::Fail;
 use tsn_types::limits::LONGEST_LIST;
 use tsn_types::lists::ControlList;
@@ -8,15 +9,15 @@ use tsn_types::lists::ControlList;
 fn a_list_grows_at_its_end(rt: HostRuntime) -> Result<(), Fail> {
     let mut list = ControlList::new(rt.alloc());
     assert!(rt; list.is_empty());
-    assert_eq!(rt; list.len(), 0);
+    same(&rt, &list.len(), &0);
     list.push(300)?;
     list.push(700)?;
     assert!(rt; !list.is_empty());
-    assert_eq!(rt; list.len(), 2);
-    assert_eq!(rt; list.get(0).copied(), Some(300));
-    assert_eq!(rt; list.get(1).copied(), Some(700));
-    assert_eq!(rt; list.get(2).copied(), None);
-    assert_eq!(rt; list.as_slice(), [300, 700].as_slice());
+    same(&rt, &list.len(), &2);
+    same(&rt, &list.get(0).copied(), &Some(300));
+    same(&rt, &list.get(1).copied(), &Some(700));
+    same(&rt, &list.get(2).copied(), &None);
+    same(&rt, &list.as_slice(), &([300, 700].as_slice()));
     Ok(())
 }
 
@@ -26,9 +27,9 @@ fn a_list_grows_to_its_greatest_length(rt: HostRuntime) -> Result<(), Fail> {
     for entry in 0..LONGEST_LIST {
         list.push(entry)?;
     }
-    assert_eq!(rt; list.len(), 1_024);
-    assert_eq!(rt; list.get(1_023).copied(), Some(1_023));
-    assert_eq!(rt; list.get(1_024).copied(), None);
+    same(&rt, &list.len(), &1_024);
+    same(&rt, &list.get(1_023).copied(), &Some(1_023));
+    same(&rt, &list.get(1_024).copied(), &None);
     assert!(rt; list.try_clone()? == list);
     Ok(())
 }

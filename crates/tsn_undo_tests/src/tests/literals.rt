@@ -1,6 +1,7 @@
 //! Keys, records and books of the worked examples: two ports, sixteen instances of each other kind.
 ghost use Rattle.std.specs.Prelude.{◌≡◌, ◌≤◌};
 
+use crate::comparing::same;
 use std::alloc::{AllocError, Global};
 use std::process::Abort;
 use std::test::Fail;
@@ -164,17 +165,17 @@ pub(super) fn fill(book: &mut Book, pairs: u32) -> Result<(), Refusal> {
 
 /// The edit is entered under this number.
 pub(super) fn enters(rt: &impl Abort, book: &mut Book, session: u32, edit: Edit, entry: u64) {
-    assert_eq!(rt; book.edit(session, edit), Ok(entry));
+    same(rt, &book.edit(session, edit), &Ok(entry));
 }
 
 /// An entry of this number takes back the other.
 pub(super) fn undoes(rt: &impl Abort, book: &mut Book, session: u32, entry: u64, of: u64) {
-    assert_eq!(rt; book.undo(session), Ok((entry, of)));
+    same(rt, &book.undo(session), &Ok((entry, of)));
 }
 
 /// An entry of this number takes back the other, which took one back.
 pub(super) fn redoes(rt: &impl Abort, book: &mut Book, session: u32, entry: u64, of: u64) {
-    assert_eq!(rt; book.redo(session), Ok((entry, of)));
+    same(rt, &book.redo(session), &Ok((entry, of)));
 }
 
 /// Whether the record of the examples is at the key.

@@ -6,6 +6,7 @@ use super::literals::{
     meter_key, meter_of, on_a_book, on_a_book_of, on_meter, redoes, remove, remove_at, replace_at,
     stands, undoes,
 };
+use crate::comparing::same;
 use std::alloc::Global;
 use std::process::Abort;
 use std::test::Fail;
@@ -26,20 +27,20 @@ fn has_numbers(
     kind: Kind,
     wanted: &[u64],
 ) -> Result<(), Fail> {
-    assert_eq!(rt; book.config().ids(alloc, kind)?.as_slice(), wanted);
+    same(rt, &book.config().ids(alloc, kind)?.as_slice(), &wanted);
     Ok(())
 }
 
 /// The undo of all answers so, and `refuse_undo_all` tells the refusal beforehand.
 fn undoes_all(rt: &impl Abort, book: &mut Book, session: u32, wanted: Result<(u64, u64), Refusal>) {
-    assert_eq!(rt; book.refuse_undo_all(session), wanted.err());
-    assert_eq!(rt; book.undo_all(session), wanted);
+    same(rt, &book.refuse_undo_all(session), &wanted.err());
+    same(rt, &book.undo_all(session), &wanted);
 }
 
 /// The redo is refused so, and `refuse_redo` tells it beforehand.
 fn is_not_redone(rt: &impl Abort, book: &mut Book, session: u32, why: &Refusal) {
-    assert_eq!(rt; book.refuse_redo(session).as_ref(), Some(why));
-    assert_eq!(rt; book.redo(session).as_ref().err(), Some(why));
+    same(rt, &book.refuse_redo(session).as_ref(), &Some(why));
+    same(rt, &book.redo(session).as_ref().err(), &Some(why));
 }
 
 /// Of the first four entries just the second and the fourth stand.
@@ -49,11 +50,11 @@ fn others_stand(rt: &impl Abort, book: &Book) {
 }
 
 fn has_entries(rt: &impl Abort, book: &Book, count: usize) {
-    assert_eq!(rt; book.journal().len(), count);
+    same(rt, &book.journal().len(), &count);
 }
 
 fn has_standing(rt: &impl Abort, book: &Book, session: u32, count: usize) {
-    assert_eq!(rt; book.journal().count_of(session), count);
+    same(rt, &book.journal().count_of(session), &count);
 }
 
 fn has_no_meter(rt: &impl Abort, book: &Book, number: u64)
@@ -114,7 +115,7 @@ fn an_undo_keeps_a_new_edit(rt: HostRuntime) -> Result<(), Fail> {
         let all = [0, 1, 2, 3, 4, 5, 6, 7, 8, 9, 10, 11, 12, 13, 14, 15];
         has_numbers(&rt, alloc, book, Kind::Gate, all.as_slice())?;
         let beyond = create_at(gate_key(16), gate(alloc));
-        assert_eq!(rt; book.edit(1, beyond), Err(Refusal::Range(Field::Key)));
+        same(&rt, &book.edit(1, beyond), &Err(Refusal::Range(Field::Key)));
         Ok(())
     })
 }
@@ -131,7 +132,7 @@ fn a_redo_keeps_a_value_of_another_session(rt: HostRuntime) -> Result<(), Fail> 
         has_no_meter(&rt, book, 2);
         redoes(&rt, book, 2, 5, 4);
         assert!(rt; stands(book, meter_key(2), &meter()));
-        assert_eq!(rt; book.refuse_redo(1), None);
+        same(&rt, &book.refuse_redo(1), &None);
         redoes(&rt, book, 1, 6, 3);
         assert!(rt; stands(book, meter_key(2), &meter_of(900)));
         Ok(())
@@ -147,7 +148,7 @@ fn an_old_reference_blocks_an_undo(rt: HostRuntime) -> Result<(), Fail> {
         enters(&rt, book, 1, create_at(filter_key(3), filter(0, None)), 3);
         enters(&rt, book, 1, replace_at(filter_key(3), filter(1, None)), 4);
         enters(&rt, book, 2, remove_at(gate_key(0)), 5);
-        assert_eq!(rt; book.undo(1), Err(conflict(4, 5)));
+        same(&rt, &book.undo(1), &Err(conflict(4, 5)));
         undoes_all(&rt, book, 1, Err(conflict(4, 5)));
         undoes(&rt, book, 2, 6, 5);
         undoes(&rt, book, 1, 7, 4);

@@ -1,4 +1,5 @@
 //! Records that are read from a line and shown again: the text is what `serde_json` prints of the same value.
+use crate::comparing::same;
 use crate::samples::{GATE, KINDS, PORT, RECORDS, Row, create_line, printed, record_text};
 use std::alloc::{AllocError, Global};
 use std::process::Abort;
@@ -19,7 +20,7 @@ fn reply_to(command: Command) -> Result<Reply, Fail> {
 
 fn reply_of(rt: &impl Abort, alloc: Global, line: &[u8]) -> Result<Reply, Fail> {
     let Line { session, command } = command_of(alloc, line)?;
-    assert_eq!(rt; session, 1);
+    same(rt, &session, &1);
     reply_to(command)
 }
 
@@ -34,7 +35,7 @@ fn text_of(alloc: Global, key: &str, record: &str) -> Result<String, Fail> {
 fn is_written(rt: &impl Abort, alloc: Global, reply: &Reply, text: &str) -> Result<(), Fail> {
     let mut writer = MemOut::new(Vec::with_capacity(alloc, text.len())?, 1000, None);
     write_reply(&mut writer, reply)?;
-    assert_eq!(rt; writer.as_slice(), text.as_bytes());
+    same(rt, &writer.as_slice(), &text.as_bytes());
     Ok(())
 }
 

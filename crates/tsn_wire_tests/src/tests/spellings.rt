@@ -1,6 +1,7 @@
 //! Each command in each of its spellings: compact with its members in ascending order, with spaces, with its members in
 //! the order in which the documents list them, and in no order with letters escaped.
 use super::{Asked, filter_key, frame, gate_key, instant, meter_key, port_key, read_line};
+use crate::comparing::same;
 use crate::samples::spaced;
 use std::alloc::Global;
 use std::process::Abort;
@@ -49,7 +50,7 @@ fn are_read(
     wanted: (u32, Asked),
 ) -> Result<(), Fail> {
     let own = lines[0].as_bytes();
-    assert_eq!(rt; read_line(alloc, own), Ok(wanted));
+    same(rt, &read_line(alloc, own), &Ok(wanted));
     let text = said(alloc, own)?;
     say_the_same(rt, alloc, lines, text.as_str())
 }
