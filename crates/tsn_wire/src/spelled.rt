@@ -395,6 +395,7 @@ fn own_draft(alloc: Global, line: &[u8]) -> Option<LineDraft>
 }
 
 /// The draft that a line is, in the service's own spelling or in another that is read with no tree.
+/// None says nothing of the line: `command_of` then reads it as a tree.
 pub fn spelled_draft(alloc: Global, line: &[u8]) -> Option<LineDraft>
     ensures { IfSome result (λ draft. reading line.now ≡ line_of_draft draft) }
 {
