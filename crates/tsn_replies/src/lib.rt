@@ -13,4 +13,6 @@ mod text;
 mod told;
 
 pub use reply::{write_refusal, write_reply};
+pub use shown::write_ids;
 pub use text::{CAPACITY, MOST_DIGITS, ShortText};
+pub use told::write_entries;
