@@ -110,6 +110,3 @@ fn try_clone_of(value: &Option<Record>) -> Result<Option<Record>, AllocError>
         None => Ok(None),
     }
 }
-
-#[cfg(test)]
-mod tests;

@@ -8,5 +8,3 @@
 
 pub mod bucket;
 pub mod laws;
-#[cfg(test)]
-mod tests;

@@ -4,8 +4,6 @@
 #![tactic(auto)]
 
 pub mod laws;
-#[cfg(test)]
-mod printing;
 mod reply;
 mod running;
 mod shown;

@@ -219,6 +219,3 @@ pub fn write_reply<W: ByteOut>(writer: &mut W, reply: &Reply) -> Result<(), Faul
         }
     }
 }
-
-#[cfg(test)]
-mod tests;

@@ -196,6 +196,3 @@ pub fn push_counters(text: &mut ShortText, counters: &Counters)
         Counters::Meter { all_red } => push_meter_counters(text, *all_red),
     }
 }
-
-#[cfg(test)]
-mod tests;

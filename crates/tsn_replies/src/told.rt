@@ -139,6 +139,3 @@ pub fn write_entries<W: ByteOut>(
     text.push("{\"entries\":[");
     write_listed(writer, text, entries, b"}\n")
 }
-
-#[cfg(test)]
-mod tests;

@@ -18,9 +18,6 @@ use std::alloc::{AllocError, Global};
 use std::marker::Model;
 use std::mem;
 
-#[cfg(test)]
-mod tests;
-
 /// A finite map from numbers to rows. `map` is the map, and `spare` the number of rows of new numbers that
 /// can come in with no more memory.
 #[derive(Debug, Drop)]

@@ -1,13 +1,12 @@
 //! The line of each form of reply.
-use super::{write_refusal, write_reply};
+use crate::comparing::same;
 use crate::printing::{line_of, spells};
-use crate::shown::write_ids;
-use crate::text::ShortText;
 use std::alloc::Global;
 use std::process::Abort;
 use std::test::Fail;
 use tsn_bridge::reply::Reply;
 use tsn_bytes::{Failing, Fault, MemOut};
+use tsn_replies::{ShortText, write_ids, write_refusal, write_reply};
 use tsn_types::keys::Key;
 use tsn_types::numbers::{FilterId, GateId, MeterId, PortId};
 use tsn_types::refusals::{Field, Refusal};
@@ -128,20 +127,16 @@ fn stops_where_the_writer_fails(rt: HostRuntime) -> Result<(), Fail> {
     let bytes = Vec::with_capacity(rt.alloc(), 20)?;
     let mut writer = MemOut::new(bytes, 5, Some((2, Failing::Error)));
     let reply = Reply::Entry { entry: 10 };
-    assert_eq!(rt; write_reply(&mut writer, &reply), Err(Fault::Write));
-    assert_eq!(rt; writer.as_slice(), b"{\"entry\":1".as_slice());
+    same(&rt, &write_reply(&mut writer, &reply), &Err(Fault::Write));
+    same(&rt, &writer.as_slice(), &b"{\"entry\":1".as_slice());
     Ok(())
 }
 
 fn lists(rt: &impl Abort, alloc: Global, ids: &[u64], text: &str) -> Result<(), Fail> {
-    assert_eq!(rt; line_of(alloc, text)?.as_str(), text);
-    are_written(rt, alloc, ids, text)
-}
-
-fn are_written(rt: &impl Abort, alloc: Global, ids: &[u64], text: &str) -> Result<(), Fail> {
+    same(rt, &line_of(alloc, text)?.as_str(), &text);
     let mut writer = MemOut::new(Vec::with_capacity(alloc, text.len())?, 1000, None);
     write_ids(&mut writer, &mut ShortText::new(), ids)?;
-    assert_eq!(rt; writer.as_slice(), text.as_bytes());
+    same(rt, &writer.as_slice(), &text.as_bytes());
     Ok(())
 }
 
@@ -180,28 +175,31 @@ fn lists_more_numbers_than_fit_at_once(rt: HostRuntime) -> Result<(), Fail> {
     Ok(())
 }
 
-#[test]
-fn stops_in_a_list_where_the_writer_fails(rt: HostRuntime) -> Result<(), Fail> {
-    let alloc = rt.alloc();
-    let (ids, text) = numbers(alloc, 1000)?;
+// The writer takes a part of the line and no more: what it took begins the text.
+fn stops(rt: &impl Abort, alloc: Global, ids: &[u64], text: &str) -> Result<(), Fail> {
     let bytes = Vec::with_capacity(alloc, 2000)?;
     let mut writer = MemOut::new(bytes, 1000, Some((2, Failing::Nothing)));
-    assert_eq!(rt;
-        write_ids(&mut writer, &mut ShortText::new(), ids.as_slice()),
-        Err(Fault::Write)
-    );
+    let fault = write_ids(&mut writer, &mut ShortText::new(), ids);
+    same(rt, &fault, &Err(Fault::Write));
     assert!(rt; writer.as_slice().len() > 600);
     assert!(rt; text.as_bytes().starts_with(writer.as_slice()));
     Ok(())
 }
 
 #[test]
+fn stops_in_a_list_where_the_writer_fails(rt: HostRuntime) -> Result<(), Fail> {
+    let (ids, text) = numbers(rt.alloc(), 1000)?;
+    stops(&rt, rt.alloc(), ids.as_slice(), text.as_str())
+}
+
+#[test]
 fn refuses_in_place_of_a_reply(rt: HostRuntime) -> Result<(), Fail> {
     let mut writer = MemOut::new(Vec::with_capacity(rt.alloc(), 40)?, 1, None);
-    assert_eq!(rt; write_refusal(&mut writer, &Refusal::Memory), Ok(()));
-    assert_eq!(rt;
-        writer.as_slice(),
-        b"{\"refused\":18,\"why\":\"memory\"}\n".as_slice()
+    same(&rt, &write_refusal(&mut writer, &Refusal::Memory), &Ok(()));
+    same(
+        &rt,
+        &writer.as_slice(),
+        &b"{\"refused\":18,\"why\":\"memory\"}\n".as_slice(),
     );
     Ok(())
 }

@@ -1,11 +1,12 @@
 //! For tests: what `serde_json` prints, and whether a reply is spelled so.
-use crate::reply::write_reply;
+use crate::comparing::same;
 use serde_json::Value;
 use std::alloc::Global;
 use std::process::Abort;
 use std::test::Fail;
 use tsn_bridge::reply::Reply;
 use tsn_bytes::MemOut;
+use tsn_replies::write_reply;
 
 /// The value of a text as `serde_json` prints it: compact, the members in ascending order.
 pub fn printed(alloc: Global, text: &str) -> Result<String, Fail> {
@@ -23,8 +24,8 @@ pub fn line_of(alloc: Global, text: &str) -> Result<String, Fail> {
 }
 
 /// The reply is written as this text, which is what `serde_json` prints of its value.
-fn is_spelled(rt: &impl Abort, alloc: Global, reply: &Reply, text: &str) -> Result<(), Fail> {
-    assert_eq!(rt; line_of(alloc, text)?.as_str(), text);
+pub fn is_spelled(rt: &impl Abort, alloc: Global, reply: &Reply, text: &str) -> Result<(), Fail> {
+    same(rt, &line_of(alloc, text)?.as_str(), &text);
     is_written(rt, alloc, reply, text)
 }
 
@@ -32,7 +33,7 @@ fn is_spelled(rt: &impl Abort, alloc: Global, reply: &Reply, text: &str) -> Resu
 fn is_written(rt: &impl Abort, alloc: Global, reply: &Reply, text: &str) -> Result<(), Fail> {
     let mut writer = MemOut::new(Vec::with_capacity(alloc, text.len())?, 1000, None);
     write_reply(&mut writer, reply)?;
-    assert_eq!(rt; writer.as_slice(), text.as_bytes());
+    same(rt, &writer.as_slice(), &text.as_bytes());
     Ok(())
 }
 

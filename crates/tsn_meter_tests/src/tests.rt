@@ -1,8 +1,9 @@
 //! Worked examples as calls of a bucket, and its edges.
 ghost use Rattle.std.specs.Prelude.{◌≡◌, ◌≤◌, ◌^◌};
 
-use crate::bucket::{Bucket, Colour};
+use crate::comparing::same;
 use std::process::Abort;
+use tsn_meter::bucket::{Bucket, Colour};
 use tsn_types::numbers::{BitRate, Instant, Octets};
 use tsn_types::records::FlowMeter;
 
@@ -47,13 +48,17 @@ fn mark(bucket: &mut Bucket, meter: &FlowMeter, now: u64, count: u64) -> Colour
 fn meter_and_counters(rt: HostRuntime) {
     let meter = meter(1500, 0);
     let mut bucket = Bucket::full(&meter, instant(0));
-    assert_eq!(rt; mark(&mut bucket, &meter, 0, 1000), Colour::Green);
-    assert_eq!(rt; mark(&mut bucket, &meter, 100_000, 1000), Colour::Red);
+    same(&rt, &mark(&mut bucket, &meter, 0, 1000), &Colour::Green);
+    same(&rt, &mark(&mut bucket, &meter, 100_000, 1000), &Colour::Red);
     // the tokens of a nanosecond are missing, and then there are exactly enough
     let mut early = bucket;
-    assert_eq!(rt; mark(&mut early, &meter, 499_999, 1000), Colour::Red);
-    assert_eq!(rt; mark(&mut bucket, &meter, 500_000, 1000), Colour::Green);
-    assert_eq!(rt; mark(&mut bucket, &meter, 500_000, 1), Colour::Red);
+    same(&rt, &mark(&mut early, &meter, 499_999, 1000), &Colour::Red);
+    same(
+        &rt,
+        &mark(&mut bucket, &meter, 500_000, 1000),
+        &Colour::Green,
+    );
+    same(&rt, &mark(&mut bucket, &meter, 500_000, 1), &Colour::Red);
 }
 
 #[test]
@@ -64,11 +69,15 @@ fn coupled_buckets(rt: HostRuntime) {
             ..meter(100, 100)
         };
         let mut bucket = Bucket::full(&meter, instant(0));
-        assert_eq!(rt; mark(&mut bucket, &meter, 0, 100), Colour::Green);
-        assert_eq!(rt; mark(&mut bucket, &meter, 0, 100), Colour::Yellow);
-        assert_eq!(rt; mark(&mut bucket, &meter, 0, 100), Colour::Red);
-        assert_eq!(rt; mark(&mut bucket, &meter, 150_000, 100), Colour::Green);
-        assert_eq!(rt; mark(&mut bucket, &meter, 150_000, 50), last);
+        same(&rt, &mark(&mut bucket, &meter, 0, 100), &Colour::Green);
+        same(&rt, &mark(&mut bucket, &meter, 0, 100), &Colour::Yellow);
+        same(&rt, &mark(&mut bucket, &meter, 0, 100), &Colour::Red);
+        same(
+            &rt,
+            &mark(&mut bucket, &meter, 150_000, 100),
+            &Colour::Green,
+        );
+        same(&rt, &mark(&mut bucket, &meter, 150_000, 50), &last);
     }
 }
 
@@ -77,13 +86,13 @@ fn clip(rt: HostRuntime) {
     let larger = meter(1500, 0);
     let smaller = meter(250, 0);
     let mut bucket = Bucket::full(&larger, instant(0));
-    assert_eq!(rt; mark(&mut bucket, &larger, 0, 1000), Colour::Green);
+    same(&rt, &mark(&mut bucket, &larger, 0, 1000), &Colour::Green);
     bucket.clip(&smaller);
-    assert_eq!(rt; mark(&mut bucket, &smaller, 0, 250), Colour::Green);
-    assert_eq!(rt; mark(&mut bucket, &smaller, 0, 1), Colour::Red);
+    same(&rt, &mark(&mut bucket, &smaller, 0, 250), &Colour::Green);
+    same(&rt, &mark(&mut bucket, &smaller, 0, 1), &Colour::Red);
     // a clip by a larger size fills nothing
     bucket.clip(&larger);
-    assert_eq!(rt; mark(&mut bucket, &larger, 0, 1), Colour::Red);
+    same(&rt, &mark(&mut bucket, &larger, 0, 1), &Colour::Red);
 }
 
 /// In colour-aware mode a drop eligible frame tries the excess alone, and a red one stays red; in blind mode every
@@ -96,21 +105,25 @@ fn modes(rt: HostRuntime) {
         ..blind
     };
     let mut bucket = Bucket::full(&aware, instant(0));
-    assert_eq!(rt;
-        bucket.mark(&aware, instant(0), octets(100), Colour::Red),
-        Colour::Red
+    same(
+        &rt,
+        &bucket.mark(&aware, instant(0), octets(100), Colour::Red),
+        &Colour::Red,
     );
-    assert_eq!(rt;
-        bucket.mark(&aware, instant(0), octets(100), Colour::Yellow),
-        Colour::Yellow
+    same(
+        &rt,
+        &bucket.mark(&aware, instant(0), octets(100), Colour::Yellow),
+        &Colour::Yellow,
     );
-    assert_eq!(rt;
-        bucket.mark(&aware, instant(0), octets(1), Colour::Yellow),
-        Colour::Red
+    same(
+        &rt,
+        &bucket.mark(&aware, instant(0), octets(1), Colour::Yellow),
+        &Colour::Red,
     );
-    assert_eq!(rt;
-        bucket.mark(&blind, instant(0), octets(100), Colour::Yellow),
-        Colour::Green
+    same(
+        &rt,
+        &bucket.mark(&blind, instant(0), octets(100), Colour::Yellow),
+        &Colour::Green,
     );
 }
 
@@ -118,9 +131,9 @@ fn modes(rt: HostRuntime) {
 fn no_octets_and_no_size(rt: HostRuntime) {
     let meter = meter(0, 0);
     let mut bucket = Bucket::full(&meter, instant(0));
-    assert_eq!(rt; mark(&mut bucket, &meter, 0, 0), Colour::Green);
-    assert_eq!(rt; mark(&mut bucket, &meter, 1 << 62, 1), Colour::Red);
-    assert_eq!(rt; mark(&mut bucket, &meter, 1 << 62, 0), Colour::Green);
+    same(&rt, &mark(&mut bucket, &meter, 0, 0), &Colour::Green);
+    same(&rt, &mark(&mut bucket, &meter, 1 << 62, 1), &Colour::Red);
+    same(&rt, &mark(&mut bucket, &meter, 1 << 62, 0), &Colour::Green);
 }
 
 /// The greatest rates and sizes over the longest time: the excess is full again by what overflows, and no more.
@@ -135,9 +148,9 @@ fn greatest_numbers(rt: HostRuntime) {
     };
     let mut bucket = Bucket::full(&meter, instant(0));
     for now in [0, 1 << 62] {
-        assert_eq!(rt; mark(&mut bucket, &meter, now, most), Colour::Green);
-        assert_eq!(rt; mark(&mut bucket, &meter, now, most), Colour::Yellow);
-        assert_eq!(rt; mark(&mut bucket, &meter, now, 1), Colour::Red);
+        same(&rt, &mark(&mut bucket, &meter, now, most), &Colour::Green);
+        same(&rt, &mark(&mut bucket, &meter, now, most), &Colour::Yellow);
+        same(&rt, &mark(&mut bucket, &meter, now, 1), &Colour::Red);
     }
 }
 
@@ -146,17 +159,25 @@ fn greatest_numbers(rt: HostRuntime) {
 fn earlier_instant(rt: HostRuntime) {
     let meter = meter(100, 0);
     let mut bucket = Bucket::full(&meter, instant(1_000_000));
-    assert_eq!(rt; mark(&mut bucket, &meter, 1_000_000, 100), Colour::Green);
-    assert_eq!(rt; mark(&mut bucket, &meter, 0, 1), Colour::Red);
+    same(
+        &rt,
+        &mark(&mut bucket, &meter, 1_000_000, 100),
+        &Colour::Green,
+    );
+    same(&rt, &mark(&mut bucket, &meter, 0, 1), &Colour::Red);
 }
 
 /// Takes the only octet that the size holds at 0, and again when its tokens are there, which come one a nanosecond: 8
 /// billion are enough, and one less is too few.
 fn lacks_one_token(rt: &impl Abort, meter: &FlowMeter, paid: Colour) {
     let mut bucket = Bucket::full(meter, instant(0));
-    assert_eq!(rt; mark(&mut bucket, meter, 0, 1), paid);
-    assert_eq!(rt; mark(&mut bucket, meter, 7_999_999_999, 1), Colour::Red);
-    assert_eq!(rt; mark(&mut bucket, meter, 8_000_000_000, 1), paid);
+    same(rt, &mark(&mut bucket, meter, 0, 1), &paid);
+    same(
+        rt,
+        &mark(&mut bucket, meter, 7_999_999_999, 1),
+        &Colour::Red,
+    );
+    same(rt, &mark(&mut bucket, meter, 8_000_000_000, 1), &paid);
 }
 
 /// By the committed rate, by the excess rate, and by what overflows.

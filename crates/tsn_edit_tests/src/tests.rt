@@ -1,9 +1,10 @@
 ghost use Rattle.std.specs.Prelude.{◌≤◌};
 
-use crate::{Change, Edit, conflicts};
+use crate::comparing::same;
 use std::alloc::{AllocError, Global};
 use std::process::Abort;
 use std::test::Fail;
+use tsn_edit::{Change, Edit, conflicts};
 use tsn_types::keys::Key;
 use tsn_types::lists::ControlList;
 use tsn_types::numbers::{
@@ -100,9 +101,9 @@ fn is_change(
     before: Option<&Record>,
     after: Option<&Record>,
 ) {
-    assert_eq!(rt; change.key, key);
-    assert!(rt; change.before.as_ref() == before);
-    assert!(rt; change.after.as_ref() == after);
+    same(rt, &change.key, &key);
+    same(rt, &change.before.as_ref(), &before);
+    same(rt, &change.after.as_ref(), &after);
 }
 
 fn removed_meter() -> Change {
@@ -153,11 +154,7 @@ fn a_copy_has_the_key_and_both_values(rt: HostRuntime) -> Result<(), Fail> {
 }
 
 fn meets(rt: &impl Abort, later: &Change, earlier: &Change, wanted: bool) {
-    assert_eq!(rt;
-        conflicts(later, earlier),
-        wanted,
-        "{later:?} after {earlier:?}"
-    );
+    same(rt, &conflicts(later, earlier), &wanted);
 }
 
 /// Whether the removal at the key conflicts with the moved filter, as the later and as the earlier of the two.

@@ -1,10 +1,8 @@
 //! The line of entries: each form of entry with each member at both ends of its range, and lists of many lengths.
 ghost use Rattle.std.specs.Prelude.{◌≤◌};
 
-use super::write_entries;
-use crate::printing::printed;
-use crate::text::ShortText;
-use crate::write_reply;
+use crate::comparing::same;
+use crate::printing::{is_spelled, printed};
 use std::alloc::{AllocError, Global};
 use std::process::Abort;
 use std::test::Fail;
@@ -13,6 +11,7 @@ use tsn_bytes::{Failing, Fault, MemOut};
 use tsn_edit::Change;
 use tsn_journal::entries::{Act, Entry, What};
 use tsn_journal::journal::Journal;
+use tsn_replies::{ShortText, write_entries, write_reply};
 use tsn_types::keys::Key;
 use tsn_types::numbers::{FilterId, GateId, Instant, MeterId, PortId};
 use tsn_types::refusals::Refusal;
@@ -92,24 +91,19 @@ fn acted(number: u64, session: u32, act: Act, key: Key, now: Instant) -> Entry {
     }
 }
 
-fn is_printed(rt: &impl Abort, alloc: Global, text: &str) -> Result<(), Fail> {
-    assert_eq!(rt; printed(alloc, text)?.as_str(), text);
-    Ok(())
-}
-
-// The entries are told in this text, which is what `serde_json` prints of its value.
-fn are_told(rt: &impl Abort, alloc: Global, entries: &[Entry], text: &str) -> Result<(), Fail> {
-    is_printed(rt, alloc, text)?;
-    let line = format!(in alloc; "{{\"entries\":[{text}]}}\n")?;
-    let mut writer = MemOut::new(Vec::with_capacity(alloc, line.len())?, 1000, None);
-    write_entries(&mut writer, &mut ShortText::new(), entries)?;
-    assert_eq!(rt; writer.as_slice(), line.as_bytes());
-    Ok(())
-}
-
-// The entry alone is told in this text.
+// The entry is told in this text, which is what `serde_json` prints of its value.
 fn tells(rt: &impl Abort, alloc: Global, entry: Entry, text: &str) -> Result<(), Fail> {
-    are_told(rt, alloc, &[entry], text)
+    same(rt, &printed(alloc, text)?.as_str(), &text);
+    let line = format!(in alloc; "{{\"entries\":[{text}]}}\n")?;
+    are_told(rt, alloc, &[entry], line.as_str())
+}
+
+// The line of these entries is this text.
+fn are_told(rt: &impl Abort, alloc: Global, entries: &[Entry], text: &str) -> Result<(), Fail> {
+    let mut writer = MemOut::new(Vec::with_capacity(alloc, text.len())?, 1000, None);
+    write_entries(&mut writer, &mut ShortText::new(), entries)?;
+    same(rt, &writer.as_slice(), &text.as_bytes());
+    Ok(())
 }
 
 #[test]
@@ -233,33 +227,20 @@ fn push_next(alloc: Global, text: &mut String, before: u64) -> Result<(), AllocE
     text.push_str(entry.as_str())
 }
 
-// The line of so many entries, without its line feed.
+// The line of so many entries.
 fn line(alloc: Global, count: u64) -> Result<String, AllocError> {
     let mut text = String::from_str(alloc, "{\"entries\":[")?;
     for before in 0..count {
         push_next(alloc, &mut text, before)?;
     }
-    text.push_str("]}")?;
+    text.push_str("]}\n")?;
     Ok(text)
-}
-
-// The reply is written as this text and a line feed.
-fn is_written(rt: &impl Abort, alloc: Global, reply: &Reply, text: &str) -> Result<(), Fail> {
-    let bytes = Vec::with_capacity(alloc, text.len().saturating_add(1))?;
-    let mut writer = MemOut::new(bytes, 1000, None);
-    write_reply(&mut writer, reply)?;
-    assert_eq!(rt;
-        writer.as_slice().strip_suffix(b"\n".as_slice()),
-        Some(text.as_bytes())
-    );
-    Ok(())
 }
 
 fn tells_all(rt: &impl Abort, alloc: Global, count: u64) -> Result<(), Fail> {
     let text = line(alloc, count)?;
-    is_printed(rt, alloc, text.as_str())?;
     let reply = reply(alloc, count)?;
-    is_written(rt, alloc, &reply, text.as_str())
+    is_spelled(rt, alloc, &reply, text.as_str())
 }
 
 #[test]
@@ -274,7 +255,7 @@ fn tells_more_entries_than_fit_at_once(rt: HostRuntime) -> Result<(), Fail> {
 fn stops(rt: &impl Abort, alloc: Global, reply: &Reply, text: &str) -> Result<(), Fail> {
     let bytes = Vec::with_capacity(alloc, 2000)?;
     let mut writer = MemOut::new(bytes, 1000, Some((2, Failing::Nothing)));
-    assert_eq!(rt; write_reply(&mut writer, reply), Err(Fault::Write));
+    same(rt, &write_reply(&mut writer, reply), &Err(Fault::Write));
     assert!(rt; !writer.as_slice().is_empty());
     assert!(rt; text.as_bytes().starts_with(writer.as_slice()));
     Ok(())

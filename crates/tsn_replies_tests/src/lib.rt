@@ -1,0 +1,15 @@
+//! Tests of `tsn_replies` over its public calls alone.
+//!
+//! They stand beside the crate and not in it, so that proving them does not prove the crate again.
+#![tactic(auto)]
+
+#[cfg(test)]
+mod comparing;
+#[cfg(test)]
+mod printing;
+#[cfg(test)]
+mod reply;
+#[cfg(test)]
+mod running;
+#[cfg(test)]
+mod told;
