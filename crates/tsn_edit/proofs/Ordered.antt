@@ -12,7 +12,7 @@ use Rattle.tsn_types.specs.declared.refusals.Refusal.{Refusal}
 use Rattle.tsn_types.specs.declared.refusals.Refusal.TheVariants.{Shape, Range, Missing, Exists, Dangling, Referred}
 use Rattle.tsn_types.specs.Keys.{has, refs}
 use Rattle.tsn_types.specs.Limits.{field_of, first_cause, holds_key, out_of_limits, unless}
-use Rattle.tsn_types.specs.Refusals.{least, number_of}
+use Rattle.tsn_types.specs.Refusals.{least}
 use Rattle.tsn_types.proofs.Ordered.{AreAtMost, AtMost, Is, IsOrdered, causes_of, first-most, is_either, is_unless, least-ordered}
 use Rattle.tsn_edit.specs.declared.Edit.{Edit}
 use Rattle.tsn_edit.specs.declared.Edit.TheVariants.{Create, Replace, Remove}

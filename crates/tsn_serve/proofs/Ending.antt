@@ -1,10 +1,10 @@
 -- How a run over lines ends, from where it was before its last read.
-use Rattle.std.proofs.Common.{◌≡◌, ◌≢◌, ◌⊎◌, inl, inr, ℕ, ◌+◌, ◌≤◌, ◌<◌, ◌++◌, List, [], length, Bool, true, false, Option, Some, Result, Ok, Err, refl, sym, ap, ◌∙◌, subst, arith, append-nil, length-append}
+use Rattle.std.proofs.Common.{◌≡◌, ◌≢◌, ◌⊎◌, inl, inr, ℕ, ◌+◌, ◌≤◌, ◌<◌, ◌++◌, List, [], length, true, false, Option, Some, Err, refl, sym, ◌∙◌, subst, arith, append-nil, length-append}
 use Rattle.std.proofs.KnownBytes.{Appends-nil, Appends-trans, Appends-kept, Consumes-nil, Consumes-kept, Consumes-trans}
 use Rattle.std.specs.Io.KnownBytes.{Appends, Consumes, Keeps, IsAtEnd}
 use Rattle.tsn_bytes.specs.Bytes.{Counts}
 use Rattle.tsn_bytes.specs.declared.bytes.Fault.{Fault}
-use Rattle.tsn_bytes.specs.declared.bytes.Fault.TheVariants.{Read, Write, Memory, Exhausted}
+use Rattle.tsn_bytes.specs.declared.bytes.Fault.TheVariants.{Write, Exhausted}
 use Rattle.tsn_serve.specs.Script.{Answering, Breaking, Run}
 use Rattle.tsn_serve.specs.Pieces.{Going, Feeds, Ends, Breaks, EndBreaks}
 use Rattle.tsn_serve.specs.Outcomes.{Moment, Moves, Completes, BreaksOff, IsBroken, Outcome}

@@ -1,4 +1,4 @@
-use Rattle.std.proofs.Common.{◌≡◌, ◌<◌, ◌∙◌, [], length, take, refl, arith}
+use Rattle.std.proofs.Common.{◌≡◌, ◌<◌, ◌∙◌, length, take, refl, arith}
 use Rattle.std.proofs.lemmas.List.{length-take-le}
 use Rattle.tsn_bytes.specs.declared.bytes.Fault.TheVariants.{Write}
 use Rattle.tsn_serve.proofs.Ending.{begun, flush_failed, read_failed, fed, feed_broke, finish_broke, last_flush_failed, completed, broken_by}
