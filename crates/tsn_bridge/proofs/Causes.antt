@@ -43,16 +43,26 @@ module _ (s : State) (n : ℕ) (k : Key) (more : List (ℕ × Option Refusal)) (
       least-ordered ((3, unless (has_list k) Shape) ∷ numbered_key) (omega arith, is_unless (has_list k) Shape, ordered_key)
       ∙ grouped (unless (has_list k) Shape) (unless (holds_key s.book.limits k) (Range fields.Key)) (unless (is_given s n) NoSession) (unless (is_some (get (present s.book) k)) (Missing k)) (first_cause (causes_of more))
 
--- nothing refuses: the key is there, and has a list
-passed : (a b c d : Bool) (w x y z : Refusal) → option_or (unless a w) (option_or (unless b x) (option_or (unless c y) (option_or (unless d z) None))) ≡ None → (a ≡ true) × (d ≡ true)
-passed true true true true w x y z e = (refl, refl)
+-- nothing refuses: the key is within the limits and there, and has a list
+passed : (a b c d : Bool) (w x y z : Refusal) → option_or (unless a w) (option_or (unless b x) (option_or (unless c y) (option_or (unless d z) None))) ≡ None → (a ≡ true) × (b ≡ true) × (d ≡ true)
+passed true true true true w x y z e = (refl, refl, refl)
 passed true true true false w x y z e = (cc)
 passed true true false d w x y z e = (cc)
 passed true false c d w x y z e = (cc)
 passed false b c d w x y z e = (cc)
 
 pub there_key : (s : State) (n : ℕ) (k : Key) → first_cause (key_causes s n k []) ≡ None → is_some (get (present s.book) k) ≡ true
-there_key s n k e = (passed true (holds_key s.book.limits k) (is_given s n) (is_some (get (present s.book) k)) Shape (Range fields.Key) NoSession (Missing k) e).1
+there_key s n k e = (passed true (holds_key s.book.limits k) (is_given s n) (is_some (get (present s.book) k)) Shape (Range fields.Key) NoSession (Missing k) e).2
+
+passed_list : (s : State) (n : ℕ) (k : Key) → first_cause (list_causes s n k []) ≡ None → (has_list k ≡ true) × (holds_key s.book.limits k ≡ true) × (is_some (get (present s.book) k) ≡ true)
+passed_list s n k e = passed (has_list k) (holds_key s.book.limits k) (is_given s n) (is_some (get (present s.book) k)) Shape (Range fields.Key) NoSession (Missing k) e
 
 pub there_list : (s : State) (n : ℕ) (k : Key) → first_cause (list_causes s n k []) ≡ None → (has_list k ≡ true) × (is_some (get (present s.book) k) ≡ true)
-there_list s n k e = passed (has_list k) (holds_key s.book.limits k) (is_given s n) (is_some (get (present s.book) k)) Shape (Range fields.Key) NoSession (Missing k) e
+there_list s n k e = let p = passed_list s n k e in (p.0, p.2)
+
+pub within_list : (s : State) (n : ℕ) (k : Key) → first_cause (list_causes s n k []) ≡ None → holds_key s.book.limits k ≡ true
+within_list s n k e = (passed_list s n k e).1
+
+-- and the other way round
+pub none_of_list : (s : State) (n : ℕ) (k : Key) → has_list k ≡ true → holds_key s.book.limits k ≡ true → is_given s n ≡ true → is_some (get (present s.book) k) ≡ true → first_cause (list_causes s n k []) ≡ None
+none_of_list s n k listed within given there = λ i. first_cause (unless (listed i) Shape ∷ unless (within i) (Range fields.Key) ∷ unless (given i) NoSession ∷ unless (there i) (Missing k) ∷ [])

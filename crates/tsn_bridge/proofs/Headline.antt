@@ -1,5 +1,5 @@
 -- The three parts of the headline hold of every state with a sound journal.
-use Rattle.std.proofs.Common.{◌≡◌, ◌-◌, ◌%◌, ℕ, true, false, cond, [], ◌∷◌, List, refl, sym, ◌∙◌, ap, Some, arith}
+use Rattle.std.proofs.Common.{◌≡◌, ◌≤◌, ◌-◌, ◌%◌, ℕ, true, false, cond, [], ◌∷◌, List, refl, sym, ◌∙◌, ap, subst, Option, Some}
 use Rattle.std.specs.Prelude.{◌⊎◌, ◌==◌, nat_lt}
 use Rattle.std.specs.FinMap.{get}
 use Rattle.tsn_types.specs.declared.keys.Key.{Key}
@@ -25,19 +25,22 @@ use Rattle.tsn_journal.specs.Entries.{Applied}
 use Rattle.tsn_journal.specs.Finding.{standing_entry}
 use Rattle.tsn_journal.proofs.Standing.{standing_found}
 use Rattle.tsn_undo.specs.Ledger.{present}
+use Rattle.tsn_undo.proofs.Making.{kept_now, makes_undo}
 use Rattle.tsn_bridge.specs.declared.command.Command.TheVariants as commands
 use Rattle.tsn_bridge.specs.declared.reply.Reply.{Reply}
 use Rattle.tsn_bridge.specs.declared.reply.Reply.TheVariants.{Acted, Entry, EntryOf, Refused}
 use Rattle.tsn_bridge.specs.Acts.{apply_change, apply_rule, has_entry, instant}
 use Rattle.tsn_bridge.specs.Edits.{undo_rule}
-use Rattle.tsn_bridge.specs.Headline.{AtOnceUndone, EditsLast, GateRuns, OthersAlone, PortRuns, PutsBack, RestoredList}
+use Rattle.tsn_bridge.specs.Headline.{AtOnceUndone, EditsLast, GateRuns, OthersAlone, OthersLeft, PortRuns, PutsBack, RestoredList}
 use Rattle.tsn_bridge.specs.Histories.{AreInRange, CommandInRange, Leads, StateIsSound, Turn, command_of}
+use Rattle.tsn_bridge.specs.Machine.{Step}
+use Rattle.tsn_bridge.specs.Quiet.{SinceQuiet}
 use Rattle.tsn_bridge.specs.Rule.{Allows}
 use Rattle.tsn_bridge.specs.State.{State}
-use Rattle.tsn_bridge.proofs.AtOnce.{done_of, free, taken_map, undone as undone_at_once}
+use Rattle.tsn_bridge.proofs.AtOnce.{done_of, free, taken, taken_map, undone as undone_at_once}
 use Rattle.tsn_bridge.proofs.Interleaving.{all_taken_back, follow, follows, made_by}
-use Rattle.tsn_bridge.proofs.KeySteps.{applied_has_entry}
-use Rattle.tsn_bridge.proofs.Restored.{restored_gate, restored_port}
+use Rattle.tsn_bridge.proofs.KeySteps.{applied_finds}
+use Rattle.tsn_bridge.proofs.Restored.{GoesOn, restored_gate, restored_port}
 use Rattle.tsn_bridge.proofs.Stepping.{accepted}
 use Rattle.tsn_bridge.proofs.WhyNotAll.{not_all}
 
@@ -80,6 +83,13 @@ others_alone_left s sound = record {
   refused = λ after session why back. not_all s session why after sound back;
 }
 
+-- ---- an undo of one entry
+
+pub others_left : (s : State) → StateIsSound s → OthersLeft s
+others_left s sound after session number of back =
+    let is = taken s after session number of back in
+    (makes_undo s.book session of sound is.free number after.book is.number_is (ap (λ (t : State). t.book) is.state)).leaves
+
 -- ---- a restored list
 
 -- a list with an entry has one at each offset
@@ -93,33 +103,51 @@ entry_there {E = E} interval (x ∷ y ∷ list) offset some =
     ]
 
 -- what an apply that was answered says
-record IsApplied (s : State) (k : Key) (now change at : ℕ) : Type 0 where
-  told : apply_change (get (present s.book) k) (instant s now) ≡ Some change
+record IsApplied (s : State) (n : ℕ) (k : Key) (now at : ℕ) (change : Option ℕ) : Type 0 where
+  told : change ≡ apply_change (get (present s.book) k) (instant s now)
   counted : instant s now ≡ at
   some : has_entry (get (present s.book) k) ≡ true
 
-applied_is : (s applied : State) (n : ℕ) (k : Key) (now change entry at : ℕ) → Allows (apply_rule s n k now) s (Acted (Some change) entry at) applied → IsApplied s k now change at
-applied_is s applied n k now change entry at step =
-    let is = accepted (apply_rule s n k now) s (Acted (Some change) entry at) applied (λ why h. (cc)) step in
-    let reply : Acted _ _ _ ≡ Acted (Some change) entry at = ap (λ (p : Reply × State). p.0) (done_of _ _ is.1) in
-    record { told = (cc); counted = (cc); some = applied_has_entry s n k now is.0 }
+applied_is : (s applied : State) (n : ℕ) (k : Key) (now entry at : ℕ) (change : Option ℕ) → Allows (apply_rule s n k now) s (Acted change entry at) applied → IsApplied s n k now at change
+applied_is s applied n k now entry at change step =
+    let is = accepted (apply_rule s n k now) s (Acted change entry at) applied (λ why h. (cc)) step in
+    let reply : Acted _ _ _ ≡ Acted change entry at = ap (λ (p : Reply × State). p.0) (done_of _ _ is.1) in
+    record { told = (cc); counted = (cc); some = (applied_finds s n k now is.0).some }
 
-change_is : (x y : ℕ) → Some x ≡ Some y → x ≡ y
-change_is x y e = (cc)
+-- the later state keeps what the apply left
+goes_on : (s applied later : State) (n : ℕ) (k : Key) (now : ℕ) (reply : Reply) → StateIsSound s → Step s n (commands.Apply k now) reply applied → SinceQuiet k applied later → GoesOn k applied.book later.book
+goes_on s applied later n k now reply sound step quiet =
+    let first = follows s n (commands.Apply k now) reply applied sound tt step in
+    let on = follow quiet.turns applied later first.sound quiet.in_range quiet.leads in
+    record { limits = on.limits; opening = on.opening; more = quiet.more; entries = quiet.entries; quiet = quiet.quiet; kept = kept_now later.book on.sound }
 
 pub port_runs : (s : State) (m : ℕ) (p : PortGates) → StateIsSound s → get (present s.book) (Port m) ≡ Some (records.Port p) → PortRuns s m p
-port_runs s m p sound is applied later session asker now change entry at t shown step past quiet after asked =
-    let told = applied_is s applied session (Port m) now change entry at step in
-    let from = change_is (change_of p.admin.base p.admin.cycle (instant s now)) change (ap (λ v. apply_change v (instant s now)) (sym is) ∙ told.told) in
-    let e = entry_there (λ (y : PortEntry). y.interval) p.admin.list ((t - p.admin.base) % p.admin.cycle) (ap has_entry (sym is) ∙ told.some) in
-    (e.0, e.1, restored_port s applied later session asker m now at entry t (Some change) p shown e.0 sound is (omega (arith, past, told.counted)) step quiet (omega (arith, after, from)) asked e.1)
+port_runs s m p sound is applied session now entry at change step past =
+    let done = applied_is s applied session (Port m) now entry at change step in
+    let at_is = done.counted in (
+      done.told ∙ ap (λ v. apply_change v (instant s now)) is ∙ ap (λ a. Some (change_of p.admin.base p.admin.cycle a)) at_is,
+      λ later asker t reply quiet after given asked.
+          let e = entry_there (λ (y : PortEntry). y.interval) p.admin.list ((t - p.admin.base) % p.admin.cycle) (ap has_entry (sym is) ∙ done.some) in (
+            e.0,
+            e.1,
+            restored_port s applied later session m now at entry change p sound is step (goes_on s applied later session (Port m) now (Acted change entry at) sound step quiet)
+                asker t reply e.0 (subst (λ a. p.admin.base ≤ a) (sym at_is) past) (subst (λ a. change_of p.admin.base p.admin.cycle a ≤ t) (sym at_is) after) given asked e.1,
+          ),
+    )
 
 pub gate_runs : (s : State) (m : ℕ) (g : StreamGate) → StateIsSound s → get (present s.book) (Gate m) ≡ Some (records.Gate g) → GateRuns s m g
-gate_runs s m g sound is applied later session asker now change entry at t shown step past quiet after asked =
-    let told = applied_is s applied session (Gate m) now change entry at step in
-    let from = change_is (change_of g.admin.base g.admin.cycle (instant s now)) change (ap (λ v. apply_change v (instant s now)) (sym is) ∙ told.told) in
-    let e = entry_there (λ (y : GateEntry). y.interval) g.admin.list ((t - g.admin.base) % g.admin.cycle) (ap has_entry (sym is) ∙ told.some) in
-    (e.0, e.1, restored_gate s applied later session asker m now at entry t (Some change) g shown e.0 sound is (omega (arith, past, told.counted)) step quiet (omega (arith, after, from)) asked e.1)
+gate_runs s m g sound is applied session now entry at change step past =
+    let done = applied_is s applied session (Gate m) now entry at change step in
+    let at_is = done.counted in (
+      done.told ∙ ap (λ v. apply_change v (instant s now)) is ∙ ap (λ a. Some (change_of g.admin.base g.admin.cycle a)) at_is,
+      λ later asker t reply quiet after given asked.
+          let e = entry_there (λ (y : GateEntry). y.interval) g.admin.list ((t - g.admin.base) % g.admin.cycle) (ap has_entry (sym is) ∙ done.some) in (
+            e.0,
+            e.1,
+            restored_gate s applied later session m now at entry change g sound is step (goes_on s applied later session (Gate m) now (Acted change entry at) sound step quiet)
+                asker t reply e.0 (subst (λ a. g.admin.base ≤ a) (sym at_is) past) (subst (λ a. change_of g.admin.base g.admin.cycle a ≤ t) (sym at_is) after) given asked e.1,
+          ),
+    )
 
 same_entry : (x y : Applied) → Some x ≡ Some y → x ≡ y
 same_entry x y e = (cc)

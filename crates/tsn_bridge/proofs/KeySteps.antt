@@ -1,5 +1,5 @@
 -- Commands on a key are steps: refused before all else, refused by what they add, or done.
-use Rattle.std.proofs.Common.{◌≡◌, ◌+◌, ℕ, Bool, true, false, refl, sym, ◌∙◌, ap, subst, arith, List, [], ◌∷◌, Option, Some, None, length, max}
+use Rattle.std.proofs.Common.{◌≡◌, ◌≤◌, ◌+◌, ℕ, Bool, true, false, refl, sym, ◌∙◌, ap, subst, arith, List, [], ◌∷◌, Option, Some, None, length, max}
 use Rattle.std.specs.Prelude.{Err, Ok, nat_le, option_map}
 use Rattle.std.specs.Option.{option_or}
 use Rattle.std.proofs.lemmas.Bool.{le-leb, lt-leb}
@@ -79,17 +79,29 @@ apply_first s k = grouped (unless (enabled_at s.book k) NotEnabled) (unless (has
     grouped (Some a) b m = refl
     grouped None (Some b) m = refl
 
--- an apply that nothing refuses finds an entry in the list
-pub applied_has_entry : (s : State) (n : ℕ) (k : Key) (now : ℕ) → least (apply_rule s n k now).causes ≡ None → has_entry (get (present s.book) k) ≡ true
+-- an apply that nothing refuses finds its key there, enabled, and an entry in the list
+pub record FindsList (s : State) (n : ℕ) (k : Key) : Type 0 where
+  pub none : first_cause (list_causes s n k []) ≡ None
+  pub enabled : enabled_at s.book k ≡ true
+  pub some : has_entry (get (present s.book) k) ≡ true
+
+pub applied_finds : (s : State) (n : ℕ) (k : Key) (now : ℕ) → least (apply_rule s n k now).causes ≡ None → FindsList s n k
 unfolding appliable
-applied_has_entry s n k now none =
+applied_finds s n k now none =
     let both = or_none (first_cause (list_causes s n k [])) (first_cause (causes_of (appliable s k))) (sym (least_list s n k (appliable s k) (appliable_ordered s k)) ∙ none) in
-    second (enabled_at s.book k) (has_entry (get (present s.book) k)) (or_none (first_cause (apply_causes s.book k)) (no_room s.book.entries 1) (sym (apply_first s k) ∙ both.1)).0
+    let found = passed (enabled_at s.book k) (has_entry (get (present s.book) k)) (or_none (first_cause (apply_causes s.book k)) (no_room s.book.entries 1) (sym (apply_first s k) ∙ both.1)).0 in
+    record { none = both.0; enabled = found.0; some = found.1 }
   where
-    second : (a b : Bool) → option_or (unless a NotEnabled) (option_or (unless b EmptyList) None) ≡ None → b ≡ true
-    second true true h = refl
-    second true false h = (cc)
-    second false b h = (cc)
+    passed : (a b : Bool) → option_or (unless a NotEnabled) (option_or (unless b EmptyList) None) ≡ None → (a ≡ true) × (b ≡ true)
+    passed true true h = (refl, refl)
+    passed true false h = (cc)
+    passed false b h = (cc)
+
+-- a look not before the last act, of a key that nothing else refuses, is not refused
+pub states_free : (s : State) (n : ℕ) (k : Key) (t : ℕ) → first_cause (list_causes s n k []) ≡ None → last_at s.book k ≤ t → least (states_rule s n k t).causes ≡ None
+unfolding early
+states_free s n k t none le =
+    least_list s n k (early s k t) (early_ordered s k t) ∙ ap (λ o. option_or o (first_cause (causes_of (early s k t)))) none ∙ ap (λ g. option_or (unless g Past) None) (le-leb (last_at s.book k) t le)
 
 -- ---- a command that is refused before all else
 
@@ -137,12 +149,10 @@ module _ (b : Ledger) (k : ℕ) (t : Instances) (h : IsTied b t.runners t.frames
       (ap (option_map {T = Counters} {U = Reply × State} (λ x. (replies.Counters x, s))) (sym (counted_told b t h key t.time told (data_of b t h key (there_key s n key none)) is)))
 
   shown : (at : ℕ) (x : Shown) → first_cause (list_causes s n key []) ≡ None → KeyStates t.runners key (get (present b) key) at (Ok x) → Allows (states_rule s n key at) s (replies.States x) s
-  unfolding early
   shown at x none is =
       let there = there_list s n key none in
       let two = shown_told b t h key (get (present b) key) at x (runner_of b t h key there.0 there.1) is in
-      is_done (states_rule s n key at) s (replies.States x) s
-      (least_list s n key (early s key at) (early_ordered s key at) ∙ ap (λ o. option_or o (first_cause (causes_of (early s key at)))) none ∙ ap (λ g. option_or (unless g Past) None) (le-leb (last_at b key) at two.0))
+      is_done (states_rule s n key at) s (replies.States x) s (states_free s n key at none two.0)
       (ap (option_map {T = Shown} {U = Reply × State} (λ y. (replies.States y, s))) (sym two.1))
 
   past : (at : ℕ) (x : TooEarly) → first_cause (list_causes s n key []) ≡ None → KeyStates t.runners key (get (present b) key) at (Err x) → Allows (states_rule s n key at) s (replies.Refused Past) s

@@ -1,6 +1,6 @@
 -- A list applied with its base past gives its states at every later instant, until the next act on its key.
-use Rattle.std.proofs.Common.{◌≡◌, ◌<◌, ◌≤◌, ◌-◌, ◌%◌, ℕ, true, false, Bool, cond, refl, sym, ◌∙◌, ap, List, [], ◌∷◌, Option, Some, None}
-use Rattle.std.specs.Prelude.{IsSome, option_map}
+use Rattle.std.proofs.Common.{◌≡◌, ◌<◌, ◌≤◌, ◌-◌, ◌%◌, ℕ, true, false, Bool, cond, refl, sym, ◌∙◌, ap, List, [], ◌∷◌, Option, Some, None, subst, inl, inr, arith}
+use Rattle.std.specs.Prelude.{IsSome, IsTrue, ◌++◌, ◌⊎◌, option_map}
 use Rattle.std.specs.List.{AllByRecursion, fold}
 use Rattle.std.proofs.lemmas.List.Sums.{fold-append}
 use Rattle.std.specs.FinMap.{get}
@@ -13,37 +13,45 @@ use Rattle.tsn_types.specs.declared.records.Record.{Record}
 use Rattle.tsn_types.specs.declared.records.Record.TheVariants as records
 use Rattle.tsn_types.specs.declared.records.Schedule.{Schedule}
 use Rattle.tsn_types.specs.declared.records.StreamGate.{StreamGate}
+use Rattle.tsn_types.specs.declared.refusals.Refusal.TheVariants.{Memory}
 use Rattle.tsn_types.specs.Keys.{same_key}
+use Rattle.tsn_types.specs.Limits.{HoldsRecord, first_cause, holds_key}
+use Rattle.tsn_edit.specs.Configuration.{IsWellKept}
+use Rattle.tsn_edit.specs.Runs.{run}
 use Rattle.tsn_edit.proofs.KeyFacts.{same_itself}
-use Rattle.tsn_schedule.specs.Acts.{Act, Apply}
+use Rattle.tsn_schedule.specs.Acts.{Act, Apply, Enable, is_enabled, last_instant, with_act}
 use Rattle.tsn_schedule.specs.Entries.{entry_at}
 use Rattle.tsn_schedule.specs.States.{state_in}
 use Rattle.tsn_schedule.specs.Times.{change_of}
+use Rattle.tsn_schedule.proofs.Meaning.{change_is_least}
 use Rattle.tsn_schedule.proofs.Restored.{restored}
 use Rattle.tsn_journal.specs.declared.entries.Act.TheVariants as asked
 use Rattle.tsn_journal.specs.declared.entries.Entry.{Entry}
 use Rattle.tsn_journal.specs.declared.entries.What.{What}
 use Rattle.tsn_journal.specs.declared.entries.What.TheVariants.{Made, Undone, Redone, Acted}
 use Rattle.tsn_undo.specs.Ledger.{Ledger, present}
+use Rattle.tsn_undo.proofs.Adding.{nothing_push}
 use Rattle.tsn_undo.proofs.Making.{kept_now}
 use Rattle.tsn_chain.specs.declared.state.State.{State as Shown}
 use Rattle.tsn_chain.specs.declared.state.State.TheVariants as states
 use Rattle.tsn_chain.specs.State.{gate_state, port_state}
 use Rattle.tsn_bridge.specs.declared.reply.Reply.{Reply}
 use Rattle.tsn_bridge.specs.declared.reply.Reply.TheVariants as replies
-use Rattle.tsn_bridge.specs.Acts.{acted_state, apply_rule, instant}
+use Rattle.tsn_bridge.specs.Acts.{acted_state, apply_rule, instant, list_causes}
 use Rattle.tsn_bridge.specs.Histories.{StateIsSound}
-use Rattle.tsn_bridge.specs.Looking.{shown_at, states_rule}
+use Rattle.tsn_bridge.specs.Looking.{last_at, shown_at, states_rule}
 use Rattle.tsn_bridge.specs.Objects.{Object, after_entry, gate_at, gate_schedule, lived, object, port_at, port_schedule, with_asked}
-use Rattle.tsn_bridge.specs.Quiet.{IsQuiet, SinceQuiet}
-use Rattle.tsn_bridge.specs.Rule.{Allows}
+use Rattle.tsn_bridge.specs.Quiet.{IsQuiet}
+use Rattle.tsn_bridge.specs.Rule.{Allows, is_given}
 use Rattle.tsn_bridge.specs.State.{State}
 use Rattle.tsn_bridge.proofs.AtOnce.{done_of}
+use Rattle.tsn_bridge.proofs.Causes.{none_of_list, within_list}
 use Rattle.tsn_bridge.proofs.Following.{object_push}
-use Rattle.tsn_bridge.proofs.Stepping.{accepted}
+use Rattle.tsn_bridge.proofs.KeySteps.{FindsList, applied_finds, states_free}
+use Rattle.tsn_bridge.proofs.Stepping.{AllowsAt, accepted}
 use Rattle.tsn_bridge.proofs.TiedActs.{value_is}
 
--- ---- quiet entries leave the acts
+-- ---- quiet entries leave the acts, and the key there
 
 kept : {A : Type 0} (before after : Option Record) (acts : List A) → IsSome before → IsSome after → lived before after acts ≡ acts
 kept None after acts a b = (cc)
@@ -58,108 +66,181 @@ act_kept : {E : Type 0} (b : Bool) (o : Object E) (acts : List (Act E)) → b �
 act_kept true o acts e = (cc)
 act_kept false o acts e = refl
 
-quiet_entry : {E : Type 0} (admin : Option Record → Option (Schedule E)) (k : Key) (o : Object E) (w : What) → IsQuiet k w → (after_entry admin k o w).acts ≡ o.acts
-quiet_entry admin k o (Made e) h = part_kept (same_key k e.key) o e.before e.after h
-quiet_entry admin k o (Undone n e) h = part_kept (same_key k e.key) o e.before e.after h
-quiet_entry admin k o (Redone n e) h = part_kept (same_key k e.key) o e.before e.after h
-quiet_entry admin k o (Acted act key a) h = act_kept (same_key k key) o (with_asked act (admin o.value) a o.acts) h
+-- an enable of an enabled key is no act
+enable_kept : {E : Type 0} (b : Bool) (o : Object E) (a : ℕ) → is_enabled o.acts ≡ true → (cond b (record { value = o.value; acts = with_act (Enable a) o.acts }) o).acts ≡ o.acts
+enable_kept true o a on = ap (λ is. cond is o.acts (Enable a ∷ o.acts)) on
+enable_kept false o a on = refl
 
-quiet_run : {E : Type 0} (admin : Option Record → Option (Schedule E)) (k : Key) (es : List Entry) (o : Object E) → AllByRecursion (λ e. IsQuiet k e.what) es → (fold (λ (o : Object E) (e : Entry). after_entry admin k o e.what) o es).acts ≡ o.acts
-quiet_run admin k [] o h = refl
-quiet_run admin k (e ∷ es) o h = quiet_run admin k es (after_entry admin k o e.what) h.1 ∙ quiet_entry admin k o e.what h.0
+quiet_entry : {E : Type 0} (admin : Option Record → Option (Schedule E)) (k : Key) (o : Object E) (w : What) → is_enabled o.acts ≡ true → IsQuiet k w → (after_entry admin k o w).acts ≡ o.acts
+quiet_entry admin k o (Made e) on h = part_kept (same_key k e.key) o e.before e.after h
+quiet_entry admin k o (Undone n e) on h = part_kept (same_key k e.key) o e.before e.after h
+quiet_entry admin k o (Redone n e) on h = part_kept (same_key k e.key) o e.before e.after h
+quiet_entry admin k o (Acted asked.Enable key a) on h = enable_kept (same_key k key) o a on
+quiet_entry admin k o (Acted asked.Disable key a) on h = act_kept (same_key k key) o (with_asked asked.Disable (admin o.value) a o.acts) h
+quiet_entry admin k o (Acted asked.Apply key a) on h = act_kept (same_key k key) o (with_asked asked.Apply (admin o.value) a o.acts) h
+
+quiet_run : {E : Type 0} (admin : Option Record → Option (Schedule E)) (k : Key) (es : List Entry) (o : Object E) → is_enabled o.acts ≡ true → AllByRecursion (λ e. IsQuiet k e.what) es → (fold (λ (o : Object E) (e : Entry). after_entry admin k o e.what) o es).acts ≡ o.acts
+quiet_run admin k [] o on h = refl
+quiet_run {E = E} admin k (e ∷ es) o on h =
+    let one = quiet_entry admin k o e.what on h.0 in
+    quiet_run admin k es (after_entry admin k o e.what) (ap (λ (acts : List (Act E)). is_enabled acts) one ∙ on) h.1 ∙ one
+
+part_there : {E : Type 0} (b : Bool) (o : Object E) (before after : Option Record) (acts : List (Act E)) → (b ≡ true → IsSome before × IsSome after) → IsSome o.value → IsSome (cond b (record { value = after; acts = acts }) o).value
+part_there true o before after acts h some = (h refl).1
+part_there false o before after acts h some = some
+
+act_there : {E : Type 0} (b : Bool) (o : Object E) (acts : List (Act E)) → IsSome o.value → IsSome (cond b (record { value = o.value; acts = acts }) o).value
+act_there true o acts some = some
+act_there false o acts some = some
+
+there_entry : {E : Type 0} (admin : Option Record → Option (Schedule E)) (k : Key) (o : Object E) (w : What) → IsQuiet k w → IsSome o.value → IsSome (after_entry admin k o w).value
+there_entry admin k o (Made e) h some = part_there (same_key k e.key) o e.before e.after (lived e.before e.after o.acts) h some
+there_entry admin k o (Undone n e) h some = part_there (same_key k e.key) o e.before e.after (lived e.before e.after o.acts) h some
+there_entry admin k o (Redone n e) h some = part_there (same_key k e.key) o e.before e.after (lived e.before e.after o.acts) h some
+there_entry admin k o (Acted act key a) h some = act_there (same_key k key) o (with_asked act (admin o.value) a o.acts) some
+
+there_run : {E : Type 0} (admin : Option Record → Option (Schedule E)) (k : Key) (es : List Entry) (o : Object E) → AllByRecursion (λ e. IsQuiet k e.what) es → IsSome o.value → IsSome (fold (λ (o : Object E) (e : Entry). after_entry admin k o e.what) o es).value
+there_run admin k [] o h some = some
+there_run admin k (e ∷ es) o h some = there_run admin k es (after_entry admin k o e.what) h.1 (there_entry admin k o e.what h.0 some)
+
+-- a later state with a sound journal, before which only quiet entries came
+pub record GoesOn (k : Key) (b later : Ledger) : Type 0 where
+  pub limits : later.limits ≡ b.limits
+  pub opening : later.opening ≡ b.opening
+  pub more : List Entry
+  pub entries : later.entries ≡ b.entries ++ more
+  pub quiet : AllByRecursion (λ e. IsQuiet k e.what) more
+  pub kept : IsWellKept later.limits (present later)
+
+module _ {E : Type 0} (admin : Option Record → Option (Schedule E)) (k : Key) (b later : Ledger) (on : GoesOn k b later) where
+  object_on : object admin k (get later.opening k) later.entries ≡ fold (λ (o : Object E) (e : Entry). after_entry admin k o e.what) (object admin k (get b.opening k) b.entries) on.more
+  object_on =
+      ap (λ c. object admin k (get c k) later.entries) on.opening ∙ ap (object admin k (get b.opening k)) on.entries
+      ∙ fold-append (λ (o : Object E) (e : Entry). after_entry admin k o e.what) (record { value = get b.opening k; acts = [] }) b.entries on.more
+
+  acts_on : is_enabled (object admin k (get b.opening k) b.entries).acts ≡ true → (object admin k (get later.opening k) later.entries).acts ≡ (object admin k (get b.opening k) b.entries).acts
+  acts_on enabled = ap (λ (o : Object E). o.acts) object_on ∙ quiet_run admin k on.more (object admin k (get b.opening k) b.entries) enabled on.quiet
+
+  there_on : IsSome (get (present b) k) → IsSome (get (present later) k)
+  there_on some =
+      subst (λ v. IsSome v) (ap (λ (o : Object E). o.value) (sym object_on) ∙ value_is admin k later)
+      (there_run admin k on.more (object admin k (get b.opening k) b.entries) on.quiet (subst (λ v. IsSome v) (sym (value_is admin k b)) some))
 
 -- ---- what is done and told
-
-some_of : {A : Type 0} (x y : A) → Some x ≡ Some y → x ≡ y
-some_of x y e = (cc)
-
-told_is : (x y : Shown) → replies.States x ≡ replies.States y → x ≡ y
-told_is x y e = (cc)
-
-shown_is : (o : Option Shown) (s : State) (x : Shown) (new : State) → ◌≡◌ {A = Option (Reply × State)} (option_map (λ x. (replies.States x, s)) o) (Some (replies.States x, new)) → o ≡ Some x
-shown_is None s x new e = (cc)
-shown_is (Some y) s x new e = ap Some (told_is y x (ap (λ (p : Reply × State). p.0) (done_of _ _ e)))
 
 applied_state : (s applied : State) (n : ℕ) (k : Key) (now at entry : ℕ) (change : Option ℕ) → Allows (apply_rule s n k now) s (replies.Acted change entry at) applied → applied ≡ acted_state s n asked.Apply k now
 applied_state s applied n k now at entry change step =
     let is = accepted (apply_rule s n k now) s (replies.Acted change entry at) applied (λ why h. (cc)) step in
     sym (ap (λ (p : Reply × State). p.1) (done_of _ _ is.1))
 
-told_shown : (later : State) (n : ℕ) (k : Key) (t : ℕ) (x : Shown) → Allows (states_rule later n k t) later (replies.States x) later → shown_at later.book k (get (present later.book) k) t ≡ Some x
-told_shown later n k t x step =
-    let is = accepted (states_rule later n k t) later (replies.States x) later (λ why h. (cc)) step in
-    shown_is (shown_at later.book k (get (present later.book) k) t) later x later is.1
+-- a look that nothing refuses is told what there is
+abbrev Tells : State → Reply → Option Shown → Type 0
+Tells s reply o = (◌≡◌ {A = Option (Reply × State)} (option_map {T = Shown} {U = Reply × State} (λ x. (replies.States x, s)) o) (Some (reply, s))) ⊎ (IsTrue false × (reply ≡ replies.Refused Memory) × (s ≡ s))
+
+told_at : (s : State) (x : Shown) (reply : Reply) → Tells s reply (Some x) → reply ≡ replies.States x
+told_at s x reply (inl done) = sym (ap (λ (p : Reply × State). p.0) (done_of _ _ done))
+told_at s x reply (inr memory) = let never = memory.0 in (cc)
+
+told : (s : State) (n : ℕ) (k : Key) (t : ℕ) (x : Shown) (reply : Reply) → first_cause (list_causes s n k []) ≡ None → last_at s.book k ≤ t → shown_at s.book k (get (present s.book) k) t ≡ Some x → Allows (states_rule s n k t) s reply s → reply ≡ replies.States x
+told s n k t x reply none after is step =
+    told_at s x reply (subst (Tells s reply) is (subst (λ o. AllowsAt o (states_rule s n k t) s reply s) (states_free s n k t none after) step))
+
+-- an act leaves the configuration
+stays_there : (s : State) (n : ℕ) (k : Key) (now : ℕ) (q : Key) → get (present (acted_state s n asked.Apply k now).book) q ≡ get (present s.book) q
+stays_there s n k now q = ap (λ es. get (run s.book.opening es) q) (nothing_push s.book.entries n (Acted asked.Apply k (instant s now)) refl)
 
 -- ---- a port
 
--- its acts stay while its list is left alone
-quiet_port : (m : ℕ) (b later : Ledger) → SinceQuiet (Port m) b later → (port_at later m).acts ≡ (port_at b m).acts
-quiet_port m b later q =
-    ap (λ (o : Object PortEntry). o.acts)
-    (ap (λ c. object port_schedule (Port m) (get c (Port m)) later.entries) q.opening ∙ ap (object port_schedule (Port m) (get b.opening (Port m))) q.entries
-    ∙ fold-append (λ (o : Object PortEntry) (e : Entry). after_entry port_schedule (Port m) o e.what) (record { value = get b.opening (Port m); acts = [] }) b.entries q.more)
-    ∙ quiet_run port_schedule (Port m) q.more (port_at b m) q.quiet
-
--- and after an apply they begin with it
+-- after an apply its acts begin with it
 applied_port : (s : State) (n m now : ℕ) (p : PortGates) → get (present s.book) (Port m) ≡ Some (records.Port p) → (port_at (acted_state s n asked.Apply (Port m) now).book m).acts ≡ Apply p.admin (instant s now) ∷ (port_at s.book m).acts
 applied_port s n m now p is =
     ap (λ (o : Object PortEntry). o.acts) (object_push port_schedule (Port m) (get s.book.opening (Port m)) s.book.entries _)
     ∙ ap (λ b. (cond b (record { value = (port_at s.book m).value; acts = with_asked asked.Apply (port_schedule (port_at s.book m).value) (instant s now) (port_at s.book m).acts }) (port_at s.book m)).acts) (same_itself (Port m))
     ∙ ap (λ v. with_asked asked.Apply (port_schedule v) (instant s now) (port_at s.book m).acts) (value_is port_schedule (Port m) s.book ∙ is)
 
--- what it shows, from its acts
-shown_port : (s : State) (m t : ℕ) (v : Option Record) (x : Shown) (e : PortEntry) → shown_at s.book (Port m) v t ≡ Some x → state_in (λ e. e.interval) (port_at s.book m).acts t ≡ Some e → x ≡ states.Port e.gates
-shown_port s m t (Some (records.Port q)) x e is by = some_of x (states.Port e.gates) (sym is ∙ ap (λ o. Some (port_state q o)) by)
-shown_port s m t None x e is by = (cc)
-shown_port s m t (Some (records.Filter q)) x e is by = (cc)
-shown_port s m t (Some (records.Gate q)) x e is by = (cc)
-shown_port s m t (Some (records.Meter q)) x e is by = (cc)
+-- what it shows, from its acts: its record is one of a port
+shown_port : (b : Ledger) (m t : ℕ) (v : Option Record) (e : PortEntry) → IsSome v → ((r : Record) → v ≡ Some r → HoldsRecord b.limits (Port m) r) → state_in (λ e. e.interval) (port_at b m).acts t ≡ Some e → shown_at b (Port m) v t ≡ Some (states.Port e.gates)
+shown_port b m t (Some (records.Port q)) e some kind by = ap (λ o. Some (port_state q o)) by
+shown_port b m t None e some kind by = (cc)
+shown_port b m t (Some (records.Filter q)) e some kind by = absurd (kind (records.Filter q) refl)
+shown_port b m t (Some (records.Gate q)) e some kind by = absurd (kind (records.Gate q) refl)
+shown_port b m t (Some (records.Meter q)) e some kind by = absurd (kind (records.Meter q) refl)
 
-pub restored_port : (s applied later : State) (n asker m now at entry t : ℕ) (change : Option ℕ) (p : PortGates) (x : Shown) (e : PortEntry) → StateIsSound s
-    → get (present s.book) (Port m) ≡ Some (records.Port p) → p.admin.base ≤ instant s now → Allows (apply_rule s n (Port m) now) s (replies.Acted change entry at) applied
-    → SinceQuiet (Port m) applied.book later.book → change_of p.admin.base p.admin.cycle (instant s now) ≤ t → Allows (states_rule later asker (Port m) t) later (replies.States x) later
-    → entry_at (λ (y : PortEntry). y.interval) p.admin.list ((t - p.admin.base) % p.admin.cycle) ≡ Some e → x ≡ states.Port e.gates
-restored_port s applied later n asker m now at entry t change p x e sound is past apply quiet after asked' found =
-    let some : 0 < p.admin.cycle = ((kept_now s.book sound).in_range (Port m) (records.Port p) is).admin.cycle.0 in
-    let acts : (port_at later.book m).acts ≡ Apply p.admin (instant s now) ∷ (port_at s.book m).acts =
-    quiet_port m applied.book later.book quiet ∙ ap (λ (z : State). (port_at z.book m).acts) (applied_state s applied n (Port m) now at entry change apply) ∙ applied_port s n m now p is in
-    let by : state_in (λ (y : PortEntry). y.interval) (port_at later.book m).acts t ≡ Some e =
-    ap (λ xs. state_in (λ (y : PortEntry). y.interval) xs t) acts ∙ restored (λ (y : PortEntry). y.interval) p.admin (port_at s.book m).acts (instant s now) t some past after ∙ found in
-    shown_port later m t (get (present later.book) (Port m)) x e (told_shown later asker (Port m) t x asked') by
+module _ (s applied later : State) (n m now at entry : ℕ) (change : Option ℕ) (p : PortGates) (sound : StateIsSound s) (is : get (present s.book) (Port m) ≡ Some (records.Port p))
+    (apply : Allows (apply_rule s n (Port m) now) s (replies.Acted change entry at) applied) (on : GoesOn (Port m) applied.book later.book) where
+  finds_port : FindsList s n (Port m)
+  finds_port = applied_finds s n (Port m) now (accepted (apply_rule s n (Port m) now) s (replies.Acted change entry at) applied (λ why h. (cc)) apply).0
+
+  -- its acts later are those of the apply
+  acts_port : (port_at later.book m).acts ≡ Apply p.admin (instant s now) ∷ (port_at s.book m).acts
+  acts_port =
+      let first : (port_at applied.book m).acts ≡ Apply p.admin (instant s now) ∷ (port_at s.book m).acts = ap (λ (z : State). (port_at z.book m).acts) (applied_state s applied n (Port m) now at entry change apply) ∙ applied_port s n m now p is in
+      acts_on port_schedule (Port m) applied.book later.book on (ap (λ (acts : List (Act PortEntry)). is_enabled acts) first ∙ finds_port.enabled) ∙ first
+
+  there_port : IsSome (get (present later.book) (Port m))
+  there_port =
+      there_on port_schedule (Port m) applied.book later.book on
+      (subst (λ (z : State). IsSome (get (present z.book) (Port m))) (sym (applied_state s applied n (Port m) now at entry change apply))
+      (subst (λ v. IsSome v) (sym (stays_there s n (Port m) now (Port m) ∙ is)) refl))
+
+  cycle_port : 0 < p.admin.cycle
+  cycle_port = ((kept_now s.book sound).in_range (Port m) (records.Port p) is).admin.cycle.0
+
+  pub restored_port : (asker t : ℕ) (reply : Reply) (e : PortEntry) → p.admin.base ≤ instant s now → change_of p.admin.base p.admin.cycle (instant s now) ≤ t → is_given later asker ≡ true
+      → Allows (states_rule later asker (Port m) t) later reply later → entry_at (λ (y : PortEntry). y.interval) p.admin.list ((t - p.admin.base) % p.admin.cycle) ≡ Some e → reply ≡ replies.States (states.Port e.gates)
+  restored_port asker t reply e past after given step found =
+      let by : state_in (λ (y : PortEntry). y.interval) (port_at later.book m).acts t ≡ Some e =
+      ap (λ xs. state_in (λ (y : PortEntry). y.interval) xs t) acts_port ∙ restored (λ (y : PortEntry). y.interval) p.admin (port_at s.book m).acts (instant s now) t cycle_port past after ∙ found in
+      let within = ap (λ l. holds_key l (Port m)) (on.limits ∙ ap (λ (z : State). z.book.limits) (applied_state s applied n (Port m) now at entry change apply)) ∙ within_list s n (Port m) finds_port.none in
+      let last : last_at later.book (Port m) ≡ instant s now = ap (λ (acts : List (Act PortEntry)). last_instant acts) acts_port in
+      told later asker (Port m) t (states.Port e.gates) reply (none_of_list later asker (Port m) refl within given there_port)
+      (omega (arith, last, after, (change_is_least p.admin.base p.admin.cycle (instant s now) cycle_port).reached))
+      (shown_port later.book m t (get (present later.book) (Port m)) e there_port (λ r h. (on.kept.within (Port m) r h).1) by) step
 
 -- ---- a gate
 
--- its acts stay while its list is left alone
-quiet_gate : (m : ℕ) (b later : Ledger) → SinceQuiet (Gate m) b later → (gate_at later m).acts ≡ (gate_at b m).acts
-quiet_gate m b later q =
-    ap (λ (o : Object GateEntry). o.acts)
-    (ap (λ c. object gate_schedule (Gate m) (get c (Gate m)) later.entries) q.opening ∙ ap (object gate_schedule (Gate m) (get b.opening (Gate m))) q.entries
-    ∙ fold-append (λ (o : Object GateEntry) (e : Entry). after_entry gate_schedule (Gate m) o e.what) (record { value = get b.opening (Gate m); acts = [] }) b.entries q.more)
-    ∙ quiet_run gate_schedule (Gate m) q.more (gate_at b m) q.quiet
-
--- and after an apply they begin with it
+-- after an apply its acts begin with it
 applied_gate : (s : State) (n m now : ℕ) (p : StreamGate) → get (present s.book) (Gate m) ≡ Some (records.Gate p) → (gate_at (acted_state s n asked.Apply (Gate m) now).book m).acts ≡ Apply p.admin (instant s now) ∷ (gate_at s.book m).acts
 applied_gate s n m now p is =
     ap (λ (o : Object GateEntry). o.acts) (object_push gate_schedule (Gate m) (get s.book.opening (Gate m)) s.book.entries _)
     ∙ ap (λ b. (cond b (record { value = (gate_at s.book m).value; acts = with_asked asked.Apply (gate_schedule (gate_at s.book m).value) (instant s now) (gate_at s.book m).acts }) (gate_at s.book m)).acts) (same_itself (Gate m))
     ∙ ap (λ v. with_asked asked.Apply (gate_schedule v) (instant s now) (gate_at s.book m).acts) (value_is gate_schedule (Gate m) s.book ∙ is)
 
--- what it shows, from its acts
-shown_gate : (s : State) (m t : ℕ) (v : Option Record) (x : Shown) (e : GateEntry) → shown_at s.book (Gate m) v t ≡ Some x → state_in (λ e. e.interval) (gate_at s.book m).acts t ≡ Some e → x ≡ states.Gate e.is_open e.ipv
-shown_gate s m t (Some (records.Gate q)) x e is by = some_of x (states.Gate e.is_open e.ipv) (sym is ∙ ap (λ o. Some (gate_state q o)) by)
-shown_gate s m t None x e is by = (cc)
-shown_gate s m t (Some (records.Port q)) x e is by = (cc)
-shown_gate s m t (Some (records.Filter q)) x e is by = (cc)
-shown_gate s m t (Some (records.Meter q)) x e is by = (cc)
+-- what it shows, from its acts: its record is one of a gate
+shown_gate : (b : Ledger) (m t : ℕ) (v : Option Record) (e : GateEntry) → IsSome v → ((r : Record) → v ≡ Some r → HoldsRecord b.limits (Gate m) r) → state_in (λ e. e.interval) (gate_at b m).acts t ≡ Some e → shown_at b (Gate m) v t ≡ Some (states.Gate e.is_open e.ipv)
+shown_gate b m t (Some (records.Gate q)) e some kind by = ap (λ o. Some (gate_state q o)) by
+shown_gate b m t None e some kind by = (cc)
+shown_gate b m t (Some (records.Filter q)) e some kind by = absurd (kind (records.Filter q) refl)
+shown_gate b m t (Some (records.Port q)) e some kind by = absurd (kind (records.Port q) refl)
+shown_gate b m t (Some (records.Meter q)) e some kind by = absurd (kind (records.Meter q) refl)
 
-pub restored_gate : (s applied later : State) (n asker m now at entry t : ℕ) (change : Option ℕ) (p : StreamGate) (x : Shown) (e : GateEntry) → StateIsSound s
-    → get (present s.book) (Gate m) ≡ Some (records.Gate p) → p.admin.base ≤ instant s now → Allows (apply_rule s n (Gate m) now) s (replies.Acted change entry at) applied
-    → SinceQuiet (Gate m) applied.book later.book → change_of p.admin.base p.admin.cycle (instant s now) ≤ t → Allows (states_rule later asker (Gate m) t) later (replies.States x) later
-    → entry_at (λ (y : GateEntry). y.interval) p.admin.list ((t - p.admin.base) % p.admin.cycle) ≡ Some e → x ≡ states.Gate e.is_open e.ipv
-restored_gate s applied later n asker m now at entry t change p x e sound is past apply quiet after asked' found =
-    let some : 0 < p.admin.cycle = ((kept_now s.book sound).in_range (Gate m) (records.Gate p) is).admin.cycle.0 in
-    let acts : (gate_at later.book m).acts ≡ Apply p.admin (instant s now) ∷ (gate_at s.book m).acts =
-    quiet_gate m applied.book later.book quiet ∙ ap (λ (z : State). (gate_at z.book m).acts) (applied_state s applied n (Gate m) now at entry change apply) ∙ applied_gate s n m now p is in
-    let by : state_in (λ (y : GateEntry). y.interval) (gate_at later.book m).acts t ≡ Some e =
-    ap (λ xs. state_in (λ (y : GateEntry). y.interval) xs t) acts ∙ restored (λ (y : GateEntry). y.interval) p.admin (gate_at s.book m).acts (instant s now) t some past after ∙ found in
-    shown_gate later m t (get (present later.book) (Gate m)) x e (told_shown later asker (Gate m) t x asked') by
+module _ (s applied later : State) (n m now at entry : ℕ) (change : Option ℕ) (p : StreamGate) (sound : StateIsSound s) (is : get (present s.book) (Gate m) ≡ Some (records.Gate p))
+    (apply : Allows (apply_rule s n (Gate m) now) s (replies.Acted change entry at) applied) (on : GoesOn (Gate m) applied.book later.book) where
+  finds_gate : FindsList s n (Gate m)
+  finds_gate = applied_finds s n (Gate m) now (accepted (apply_rule s n (Gate m) now) s (replies.Acted change entry at) applied (λ why h. (cc)) apply).0
+
+  -- its acts later are those of the apply
+  acts_gate : (gate_at later.book m).acts ≡ Apply p.admin (instant s now) ∷ (gate_at s.book m).acts
+  acts_gate =
+      let first : (gate_at applied.book m).acts ≡ Apply p.admin (instant s now) ∷ (gate_at s.book m).acts = ap (λ (z : State). (gate_at z.book m).acts) (applied_state s applied n (Gate m) now at entry change apply) ∙ applied_gate s n m now p is in
+      acts_on gate_schedule (Gate m) applied.book later.book on (ap (λ (acts : List (Act GateEntry)). is_enabled acts) first ∙ finds_gate.enabled) ∙ first
+
+  there_gate : IsSome (get (present later.book) (Gate m))
+  there_gate =
+      there_on gate_schedule (Gate m) applied.book later.book on
+      (subst (λ (z : State). IsSome (get (present z.book) (Gate m))) (sym (applied_state s applied n (Gate m) now at entry change apply))
+      (subst (λ v. IsSome v) (sym (stays_there s n (Gate m) now (Gate m) ∙ is)) refl))
+
+  cycle_gate : 0 < p.admin.cycle
+  cycle_gate = ((kept_now s.book sound).in_range (Gate m) (records.Gate p) is).admin.cycle.0
+
+  pub restored_gate : (asker t : ℕ) (reply : Reply) (e : GateEntry) → p.admin.base ≤ instant s now → change_of p.admin.base p.admin.cycle (instant s now) ≤ t → is_given later asker ≡ true
+      → Allows (states_rule later asker (Gate m) t) later reply later → entry_at (λ (y : GateEntry). y.interval) p.admin.list ((t - p.admin.base) % p.admin.cycle) ≡ Some e → reply ≡ replies.States (states.Gate e.is_open e.ipv)
+  restored_gate asker t reply e past after given step found =
+      let by : state_in (λ (y : GateEntry). y.interval) (gate_at later.book m).acts t ≡ Some e =
+      ap (λ xs. state_in (λ (y : GateEntry). y.interval) xs t) acts_gate ∙ restored (λ (y : GateEntry). y.interval) p.admin (gate_at s.book m).acts (instant s now) t cycle_gate past after ∙ found in
+      let within = ap (λ l. holds_key l (Gate m)) (on.limits ∙ ap (λ (z : State). z.book.limits) (applied_state s applied n (Gate m) now at entry change apply)) ∙ within_list s n (Gate m) finds_gate.none in
+      let last : last_at later.book (Gate m) ≡ instant s now = ap (λ (acts : List (Act GateEntry)). last_instant acts) acts_gate in
+      told later asker (Gate m) t (states.Gate e.is_open e.ipv) reply (none_of_list later asker (Gate m) refl within given there_gate)
+      (omega (arith, last, after, (change_is_least p.admin.base p.admin.cycle (instant s now) cycle_gate).reached))
+      (shown_gate later.book m t (get (present later.book) (Gate m)) e there_gate (λ r h. (on.kept.within (Gate m) r h).1) by) step

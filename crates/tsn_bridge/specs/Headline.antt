@@ -1,5 +1,5 @@
 -- The three parts of the headline, each said of a state to which commands have led.
-use Rattle.std.specs.Prelude.{◌≡◌, ◌⊎◌, ◌≤◌, ◌-◌, ◌%◌, ℕ, false, ⊤, List, [], Some, length}
+use Rattle.std.specs.Prelude.{◌≡◌, ◌⊎◌, ◌≤◌, ◌-◌, ◌%◌, ℕ, true, false, ⊤, List, [], Option, Some, length}
 use Rattle.std.specs.FinMap.{get}
 use Rattle.tsn_types.specs.declared.keys.Key.{Key}
 use Rattle.tsn_types.specs.declared.keys.Key.TheVariants.{Gate, Port}
@@ -15,13 +15,15 @@ use Rattle.tsn_edit.specs.declared.Edit.{Edit}
 use Rattle.tsn_edit.specs.Edits.{EditInRange}
 use Rattle.tsn_edit.specs.Runs.{IsGood}
 use Rattle.tsn_schedule.specs.Entries.{entry_at}
+use Rattle.tsn_schedule.specs.Times.{change_of}
 use Rattle.tsn_journal.specs.Entries.{Applied, changes, no_room, standing}
 use Rattle.tsn_journal.specs.Finding.{others_standing, own_standing, standing_entry}
-use Rattle.tsn_chain.specs.declared.state.State.{State as Shown}
 use Rattle.tsn_chain.specs.declared.state.State.TheVariants as states
 use Rattle.tsn_undo.specs.Ledger.{present}
+use Rattle.tsn_undo.specs.Steps.{LeavesStanding, standing_without}
 use Rattle.tsn_undo.specs.UndoAll.{BlocksAll, others_alone}
 use Rattle.tsn_bridge.specs.declared.command.Command.TheVariants as commands
+use Rattle.tsn_bridge.specs.declared.reply.Reply.{Reply}
 use Rattle.tsn_bridge.specs.declared.reply.Reply.TheVariants.{Acted, Entry, EntryOf, Refused, States, TakenBack}
 use Rattle.tsn_bridge.specs.Histories.{AreInRange, Leads, Turn, command_of}
 use Rattle.tsn_bridge.specs.Machine.{Step}
@@ -72,27 +74,40 @@ pub record OthersAlone (before : State) : Type 0 where
   pub refused : (after : State) (session : ℕ) (why : Refusal) → Step before session commands.UndoAll (Refused why) after
       → (after ≡ before) × WhyNotAll before session why
 
+-- ---- an undo of one entry leaves what the other standing entries give
+
+-- An undo that was answered with an entry leaves all other standing entries, of every session: their run from the opening is
+-- good, and is the configuration.
+abbrev pub OthersLeft : State → Type 0
+OthersLeft before =
+    (after : State) (session number of : ℕ) → Step before session commands.Undo (EntryOf number of) after → LeavesStanding after.book (standing_without before.book.entries of)
+
 -- ---- a list that an undo restored, once applied with its base past, gives its states at every later instant
 
 -- The list of a port's record, once it is applied with its base not after the instant that counted, runs as if it had run
--- since its base: at each instant from the change time on, while nothing else is done to the port's list, the states are
--- those of the entry at the time since the base, counted round the cycle.
+-- since its base. The apply tells the change time; and at each instant from then on, until the next act on the port's list,
+-- the states are told, to any session that was given out, and are those of the entry at the time since the base, counted
+-- round the cycle.
 abbrev pub PortRuns : State → ℕ → PortGates → Type 0
 PortRuns ready port p =
-    (applied later : State) (session asker now change entry at t : ℕ) (shown : Shown)
-    → Step ready session (commands.Apply (Port port) now) (Acted (Some change) entry at) applied → p.admin.base ≤ at
-    → SinceQuiet (Port port) applied.book later.book → change ≤ t
-    → Step later asker (commands.States (Port port) t) (States shown) later
-    → (e : PortEntry) × (entry_at (λ (y : PortEntry). y.interval) p.admin.list ((t - p.admin.base) % p.admin.cycle) ≡ Some e) × (shown ≡ states.Port e.gates)
+    (applied : State) (session now entry at : ℕ) (told : Option ℕ)
+    → Step ready session (commands.Apply (Port port) now) (Acted told entry at) applied → p.admin.base ≤ at
+    → (told ≡ Some (change_of p.admin.base p.admin.cycle at))
+    × ((later : State) (asker t : ℕ) (reply : Reply)
+    → SinceQuiet (Port port) applied later → change_of p.admin.base p.admin.cycle at ≤ t → is_given later asker ≡ true
+    → Step later asker (commands.States (Port port) t) reply later
+    → (e : PortEntry) × (entry_at (λ (y : PortEntry). y.interval) p.admin.list ((t - p.admin.base) % p.admin.cycle) ≡ Some e) × (reply ≡ States (states.Port e.gates)))
 
 -- the list of a stream gate's record likewise
 abbrev pub GateRuns : State → ℕ → StreamGate → Type 0
 GateRuns ready gate g =
-    (applied later : State) (session asker now change entry at t : ℕ) (shown : Shown)
-    → Step ready session (commands.Apply (Gate gate) now) (Acted (Some change) entry at) applied → g.admin.base ≤ at
-    → SinceQuiet (Gate gate) applied.book later.book → change ≤ t
-    → Step later asker (commands.States (Gate gate) t) (States shown) later
-    → (e : GateEntry) × (entry_at (λ (y : GateEntry). y.interval) g.admin.list ((t - g.admin.base) % g.admin.cycle) ≡ Some e) × (shown ≡ states.Gate e.is_open e.ipv)
+    (applied : State) (session now entry at : ℕ) (told : Option ℕ)
+    → Step ready session (commands.Apply (Gate gate) now) (Acted told entry at) applied → g.admin.base ≤ at
+    → (told ≡ Some (change_of g.admin.base g.admin.cycle at))
+    × ((later : State) (asker t : ℕ) (reply : Reply)
+    → SinceQuiet (Gate gate) applied later → change_of g.admin.base g.admin.cycle at ≤ t → is_given later asker ≡ true
+    → Step later asker (commands.States (Gate gate) t) reply later
+    → (e : GateEntry) × (entry_at (λ (y : GateEntry). y.interval) g.admin.list ((t - g.admin.base) % g.admin.cycle) ≡ Some e) × (reply ≡ States (states.Gate e.is_open e.ipv)))
 
 -- an undo that was answered with an entry, and took back one before which the key had this record
 pub record PutsBack (before undone : State) (k : Key) (r : Record) : Type 0 where

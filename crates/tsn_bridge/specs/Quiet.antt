@@ -1,27 +1,35 @@
--- Entries that leave the acts of a key: no act on it, and no change that creates or removes it.
-use Rattle.std.specs.Prelude.{◌≡◌, false, true, List, ◌++◌, IsSome}
+-- Entries that leave the list of an enabled key as it runs: no act on it, and no change that creates or removes the key.
+use Rattle.std.specs.Prelude.{◌≡◌, false, true, List, ◌++◌, IsSome, ⊤}
 use Rattle.std.specs.List.{AllByRecursion}
 use Rattle.tsn_types.specs.declared.keys.Key.{Key}
 use Rattle.tsn_types.specs.Keys.{same_key}
 use Rattle.tsn_edit.specs.Parts.{Change}
+use Rattle.tsn_journal.specs.declared.entries.Act.TheVariants as asked
 use Rattle.tsn_journal.specs.declared.entries.Entry.{Entry}
 use Rattle.tsn_journal.specs.declared.entries.What.{What}
 use Rattle.tsn_journal.specs.declared.entries.What.TheVariants.{Made, Undone, Redone, Acted}
-use Rattle.tsn_undo.specs.Ledger.{Ledger}
+use Rattle.tsn_bridge.specs.Histories.{AreInRange, Leads, Turn}
+use Rattle.tsn_bridge.specs.State.{State}
 
 -- a change that creates and removes nothing at the key
 abbrev pub IsReplacement : Key → Change → Type 0
 IsReplacement k e = same_key k e.key ≡ true → IsSome e.before × IsSome e.after
 
+-- of a key that is enabled: an enable finds it so and is no act of it; a disable and an apply are acts
 abbrev pub IsQuiet : Key → What → Type 0
 IsQuiet k (Made e) = IsReplacement k e
 IsQuiet k (Undone n e) = IsReplacement k e
 IsQuiet k (Redone n e) = IsReplacement k e
-IsQuiet k (Acted act key a) = same_key k key ≡ false
+IsQuiet k (Acted asked.Enable key a) = ⊤
+IsQuiet k (Acted asked.Disable key a) = same_key k key ≡ false
+IsQuiet k (Acted asked.Apply key a) = same_key k key ≡ false
 
--- a later journal of the same bridge, in which nothing was done to the key's list since
-pub record SinceQuiet (k : Key) (b later : Ledger) : Type 0 where
-  pub opening : later.opening ≡ b.opening
+-- turns of any sessions lead from one state to a later one, and no entry between them is an act on the key or creates or
+-- removes it
+pub record SinceQuiet (k : Key) (s later : State) : Type 0 where
+  pub turns : List Turn
+  pub in_range : AreInRange turns
+  pub leads : Leads s turns later
   pub more : List Entry
-  pub entries : later.entries ≡ b.entries ++ more
+  pub entries : later.book.entries ≡ s.book.entries ++ more
   pub quiet : AllByRecursion (λ e. IsQuiet k e.what) more

@@ -33,7 +33,7 @@ ghost use Rattle.tsn_bridge.specs.declared.bridge.TheConstants.{MOST_SESSIONS};
 ghost use Rattle.tsn_bridge.specs.Beginning.{Opens, begun, standard};
 ghost use Rattle.tsn_bridge.specs.Edits.{edit_rule, undo_all_rule, undo_rule};
 ghost use Rattle.tsn_bridge.specs.Examples.{answers, book_of, closed_gate, gate_runs, in_turns, numbers, one_left, port, put_ahead, put_back, rows_1, rows_2, rows_3, rows_new, shows, two_sessions, with_rows};
-ghost use Rattle.tsn_bridge.specs.Headline.{AtOnceUndone, GateRuns, OthersAlone, PortRuns, RestoredList};
+ghost use Rattle.tsn_bridge.specs.Headline.{AtOnceUndone, GateRuns, OthersAlone, OthersLeft, PortRuns, RestoredList};
 ghost use Rattle.tsn_bridge.specs.Histories.{AreInRange, CommandInRange, Leads, StateIsSound, Turn};
 ghost use Rattle.tsn_bridge.specs.Later.{ActsAreBy, IsLater, IsWhole};
 ghost use Rattle.tsn_bridge.specs.Looking.{counted_at, shown_at};
@@ -46,12 +46,17 @@ ghost use Rattle.tsn_bridge.specs.State.{State};
 /// accepted edit at once undone leaves the configuration as it was; undoing a session's edits leaves exactly what the
 /// other sessions' standing edits alone give, or is refused naming a later edit that touches or refers to their
 /// instances; and a changeover to the restored list, its base time past, gives that list's gate states at every later
-/// instant. Nothing is asked of the state but that the commands led to it.
+/// instant: from the change time, which the apply tells, until the next act on that list, while its port or gate is
+/// there. An undo of one entry leaves what all other standing entries give. Every refusal is pinned: an undo at once is
+/// refused for a full journal or want of memory alone; an undo of all as `WhyNotAll` says, and then it changed nothing;
+/// a look at the states not at all. Nothing is asked of the state but that the commands led to it.
 pub fn headline()
     ensures at_once_undone { (limits : AnyLimits) (records : List (AnyKey × AnyRecord)) (turns : List Turn) (now : State) →
         Opens limits records → AreInRange turns → Leads (begun limits records) turns now → AtOnceUndone now }
     ensures others_alone { (limits : AnyLimits) (records : List (AnyKey × AnyRecord)) (turns : List Turn) (now : State) →
         Opens limits records → AreInRange turns → Leads (begun limits records) turns now → OthersAlone now }
+    ensures others_left { (limits : AnyLimits) (records : List (AnyKey × AnyRecord)) (turns : List Turn) (now : State) →
+        Opens limits records → AreInRange turns → Leads (begun limits records) turns now → OthersLeft now }
     ensures restored_list { (limits : AnyLimits) (records : List (AnyKey × AnyRecord)) (turns : List Turn) (now : State) →
         Opens limits records → AreInRange turns → Leads (begun limits records) turns now → RestoredList now }
 {}
@@ -100,8 +105,8 @@ pub fn edit_at_once_undone()
 /// Over every list of commands that sessions give, from a sound state, as every bridge's is: the state is sound, and the
 /// limits and the opening are as they were. After it, a session's edit that is answered with an entry and at once undone
 /// leaves the configuration as it was; an undo of all of a session leaves exactly what the other sessions' standing
-/// entries alone give, or names what stands in the way; and a list that an undo restored, once it is applied with its
-/// base past, gives its own states.
+/// entries alone give, or names what stands in the way; an undo of one entry leaves what all others give; and a list that
+/// an undo restored, once it is applied with its base past, gives its own states.
 pub fn over_every_interleaving()
     ensures sound { (start now : State) (turns : List Turn) →
         StateIsSound start → AreInRange turns → Leads start turns now →
@@ -110,6 +115,8 @@ pub fn over_every_interleaving()
         StateIsSound start → AreInRange turns → Leads start turns now → AtOnceUndone now }
     ensures others_alone { (start now : State) (turns : List Turn) →
         StateIsSound start → AreInRange turns → Leads start turns now → OthersAlone now }
+    ensures others_left { (start now : State) (turns : List Turn) →
+        StateIsSound start → AreInRange turns → Leads start turns now → OthersLeft now }
     ensures restored_list { (start now : State) (turns : List Turn) →
         StateIsSound start → AreInRange turns → Leads start turns now → RestoredList now }
 {}
@@ -131,9 +138,10 @@ pub fn steps_keep_states_sound()
 {}
 
 /// A list that is restored, by an undo or otherwise, and then applied with its base not after the instant that counted:
-/// at each instant from the change time on, while nothing else is done to the list of its port or gate, the states are
-/// those of the list's entry at the time since the base, counted round the cycle, as if the list had run since its base.
-/// Other entries may come between: acts on other keys, edits, undos and redos that create and remove the key no more.
+/// the apply tells the change time; and at each instant from then on, until the next act on the list of its port or gate,
+/// every session that was given out is told the states of the list's entry at the time since the base, counted round the
+/// cycle, as if the list had run since its base. Other entries may come between: acts on other keys, enables of this one,
+/// which is enabled, and edits, undos and redos that do not create or remove the key.
 pub fn restored_list()
     ensures port { (ready : State) (port : ℕ) (p : AnyPort) →
         StateIsSound ready → map.get (present ready.book) (Port port) ≡ Some (records.Port p) → PortRuns ready port p }

@@ -1,18 +1,19 @@
 -- What an edit and an undo leave of a sound ledger.
-use Rattle.std.proofs.Common.{◌≡◌, ℕ, ◌+◌, refl, ◌∙◌, ap, None, length}
+use Rattle.std.proofs.Common.{◌≡◌, ℕ, ◌+◌, refl, sym, subst, ◌∙◌, ap, None, length}
 use Rattle.std.specs.Prelude.{◌==◌}
 use Rattle.tsn_edit.specs.declared.Edit.{Edit}
 use Rattle.tsn_edit.specs.declared.Edit.TheVariants.{Create, Replace, Remove}
 use Rattle.tsn_edit.specs.Configuration.{Configuration, IsWellKept}
 use Rattle.tsn_edit.specs.Changes.{Fits, after_change}
 use Rattle.tsn_edit.specs.Edits.{change_of, result}
+use Rattle.tsn_edit.specs.Runs.{run, IsGood}
 use Rattle.tsn_edit.proofs.Inverses.{end_kept}
 use Rattle.tsn_journal.specs.declared.entries.What.TheVariants.{Made}
 use Rattle.tsn_journal.specs.Entries.{applies, changes, collect, standing, undone, with_entry}
 use Rattle.tsn_journal.proofs.Numbers.{last_where_some}
 use Rattle.tsn_undo.specs.Ledger.{Ledger, enter, present}
 use Rattle.tsn_undo.specs.Soundness.{IsSound}
-use Rattle.tsn_undo.specs.Steps.{Edits, IsFree, TakesBack, edit_refusal}
+use Rattle.tsn_undo.specs.Steps.{Edits, IsFree, LeavesStanding, TakesBack, edit_refusal, standing_without}
 use Rattle.tsn_undo.proofs.Adding.{configuration_push, sound_added}
 use Rattle.tsn_undo.proofs.Free.{undo_free}
 use Rattle.tsn_undo.proofs.Undoing.{IsUndoStep, undo_step}
@@ -51,6 +52,16 @@ module _ (b : Ledger) (s of : ℕ) (sound : SoundLedger b) (free : IsFree b s of
       let found = last_where_some (λ x. x.session == s) (standing b.entries) free.newest free.newest_is in
       undo_step b.limits b.opening b.entries s free.newest sound (record { front = found.front; rest = found.rest; is = found.is }) (undo_free b s free.newest free.newest_is free.free).0
 
+  -- what is left standing, and that its run gives the map
+  left_standing : (new : Ledger) → new ≡ enter b s (undone free.newest) → LeavesStanding new (standing_without b.entries of)
+  left_standing new after =
+      let left : standing (with_entry b.entries s (undone free.newest)) ≡ standing_without b.entries of = undo_step_now.stands ∙ ap (standing_without b.entries) (sym free.of_is) in
+      subst (λ (l : Ledger). LeavesStanding l (standing_without b.entries of)) (sym after) (record {
+        stands = left;
+        good = subst (λ xs. IsGood b.limits b.opening (changes xs)) left undo_step_now.sound.good;
+        run_is = sym undo_step_now.sound.same ∙ ap (λ xs. run b.opening (changes xs)) left;
+      })
+
   pub makes_undo : (number : ℕ) (new : Ledger) → number ≡ length b.entries + 1 → new ≡ enter b s (undone free.newest) → TakesBack b s number of new
   makes_undo number new number_is after = record {
     newest = free.newest;
@@ -61,4 +72,5 @@ module _ (b : Ledger) (s of : ℕ) (sound : SoundLedger b) (free : IsFree b s of
     of_is = free.of_is;
     after = after;
     map = ap present after ∙ undo_step_now.after;
+    leaves = left_standing new after;
   }

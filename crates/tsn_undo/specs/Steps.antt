@@ -1,5 +1,5 @@
 -- What an edit and an undo do to a book, and why they are refused.
-use Rattle.std.specs.Prelude.{◌≡◌, ℕ, ◌+◌, List, [], ◌∷◌, Option, Some, None, option_map, length}
+use Rattle.std.specs.Prelude.{◌≡◌, ℕ, ◌+◌, ◌==◌, not, filter, List, [], ◌∷◌, Option, Some, None, option_map, length}
 use Rattle.tsn_types.specs.declared.refusals.Refusal.{Refusal}
 use Rattle.tsn_types.specs.declared.refusals.Refusal.TheVariants.{NothingToUndo, Conflict}
 use Rattle.tsn_types.specs.Refusals.{least}
@@ -7,9 +7,10 @@ use Rattle.tsn_edit.specs.declared.Edit.{Edit}
 use Rattle.tsn_edit.specs.Changes.{Fits, restored}
 use Rattle.tsn_edit.specs.Edits.{change_of, refusal, result}
 use Rattle.tsn_edit.specs.Parts.{inverse}
+use Rattle.tsn_edit.specs.Runs.{run, IsGood}
 use Rattle.tsn_journal.specs.declared.entries.Entry.{Entry}
 use Rattle.tsn_journal.specs.declared.entries.What.TheVariants.{Made}
-use Rattle.tsn_journal.specs.Entries.{Applied, no_room, undone}
+use Rattle.tsn_journal.specs.Entries.{Applied, changes, no_room, standing, undone}
 use Rattle.tsn_journal.specs.Finding.{find_conflict, last_of}
 use Rattle.tsn_undo.specs.Ledger.{Ledger, enter, present}
 
@@ -38,8 +39,18 @@ pub record Edits (b : Ledger) (s : ℕ) (edit : Edit) (number : ℕ) (new : Ledg
   pub after : new ≡ enter b s (Made (change_of (present b) edit))
   pub map : present new ≡ result (present b) edit
 
+-- the standing entries but the one of the number
+abbrev pub standing_without : List Entry → ℕ → List Applied
+standing_without es n = filter (λ x. not (n == x.number)) (standing es)
+
+-- a ledger in which just these entries stand: their run from the opening is good, and gives the map
+pub record LeavesStanding (new : Ledger) (xs : List Applied) : Type 0 where
+  pub stands : standing new.entries ≡ xs
+  pub good : IsGood new.limits new.opening (changes xs)
+  pub run_is : present new ≡ run new.opening (changes xs)
+
 -- an undo makes one entry, which takes back the session's newest standing entry: the map is the one before, with the
--- value before that entry's change put back
+-- value before that entry's change put back, and the good run of the standing entries without it
 pub record TakesBack (b : Ledger) (s number of : ℕ) (new : Ledger) : Type 0 where
   pub newest : Applied
   pub newest_is : last_of b.entries s ≡ Some newest
@@ -49,6 +60,7 @@ pub record TakesBack (b : Ledger) (s number of : ℕ) (new : Ledger) : Type 0 wh
   pub of_is : of ≡ newest.number
   pub after : new ≡ enter b s (undone newest)
   pub map : present new ≡ restored (present b) newest.change
+  pub leaves : LeavesStanding new (standing_without b.entries of)
 
 -- the entry of the number is the session's newest standing one, and may be taken back
 pub record IsFree (b : Ledger) (s of : ℕ) : Type 0 where

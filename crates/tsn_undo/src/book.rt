@@ -114,6 +114,7 @@ impl Book {
         ensures ok { IfOk result (λ number. Edits self.old.ledger session edit number self.new.ledger) }
         ensures refused { IfErr result (λ why. IsLeastOrMemory (edit_refusal self.old.ledger edit) why) }
         ensures unchanged { OnErr result (self.new.ledger ≡ self.old.ledger) }
+        ensures kept { OnErr result (self.old.spare ≤ self.new.spare) }
     {
         if let Some(why) = self.refuse_edit(&edit) {
             return Err(why);
@@ -128,6 +129,7 @@ impl Book {
         ensures ok { IfOk result (λ numbers. TakesBack self.old.ledger session numbers.0 numbers.1 self.new.ledger) }
         ensures refused { IfErr result (λ why. IsLeastOrMemory (undo_refusal self.old.ledger session) why) }
         ensures unchanged { OnErr result (self.new.ledger ≡ self.old.ledger) }
+        ensures kept { OnErr result (self.old.spare ≤ self.new.spare) }
     {
         let of = match self.newest_free(session) {
             Ok(of) => of,
@@ -148,6 +150,8 @@ impl Book {
         ensures free { OnOk result (no_room self.old.ledger.entries 1 ≡ None) }
         ensures refused { IfErr result (λ why. IsLeastOrMemory (no_room self.old.ledger.entries 1) why) }
         ensures unchanged { OnErr result (self.new.ledger ≡ self.old.ledger) }
+        ensures kept { OnErr result (self.old.spare ≤ self.new.spare) }
+        ensures spare { self.old.spare ≤ self.new.spare + 1 }
         ensures enough { 1 ≤ self.old.spare → IsOk result }
     {
         if let Err(why) = self.reserve(1) {
@@ -209,6 +213,7 @@ impl Book {
         ensures ok { IfOk result (λ number. Edits self.old.ledger session edit number self.new.ledger) }
         ensures memory { IfErr result (λ why. why ≡ Memory) }
         ensures unchanged { OnErr result (self.new.ledger ≡ self.old.ledger) }
+        ensures kept { OnErr result (self.old.spare ≤ self.new.spare) }
     {
         let change = self.config().change_of(edit)?;
         if let Err(why) = self.reserve(1) {
@@ -224,6 +229,7 @@ impl Book {
         ensures ok { IfOk result (λ number. TakesBack self.old.ledger session number of self.new.ledger) }
         ensures memory { IfErr result (λ why. why ≡ Memory) }
         ensures unchanged { OnErr result (self.new.ledger ≡ self.old.ledger) }
+        ensures kept { OnErr result (self.old.spare ≤ self.new.spare) }
     {
         // That the entries are sound is the type's rule, which the proof has where a field is looked at.
         let _ = &self.journal;
@@ -287,6 +293,7 @@ impl Book {
         ensures number { result ≡ length self.old.ledger.entries + 1 }
         ensures after { self.new.ledger ≡ enter self.old.ledger session (Acted act key now) }
         ensures map { present self.new.ledger ≡ present self.old.ledger }
+        ensures spare { self.old.spare ≤ self.new.spare + 1 }
     {
         // That the entries are sound is the type's rule, which the proof has where a field is looked at.
         let _ = &self.journal;

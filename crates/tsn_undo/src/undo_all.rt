@@ -20,6 +20,7 @@ impl Book {
         ensures ok { IfOk result (λ numbers. TakesAllBack self.old.ledger session numbers.0 numbers.1 self.new.ledger) }
         ensures refused { IfErr result (λ why. IsLeastOrMemory (undo_all_refusal self.old.ledger session) why) }
         ensures unchanged { OnErr result (self.new.ledger ≡ self.old.ledger) }
+        ensures kept { OnErr result (self.old.spare ≤ self.new.spare) }
     {
         if let Some(why) = self.refuse_undo_all(session) {
             return Err(why);
@@ -56,6 +57,7 @@ impl Book {
         ensures ok { IfOk result (λ numbers. TakesAllBack self.old.ledger session numbers.0 numbers.1 self.new.ledger) }
         ensures memory { IfErr result (λ why. why ≡ Memory) }
         ensures unchanged { OnErr result (self.new.ledger ≡ self.old.ledger) }
+        ensures kept { OnErr result (self.old.spare ≤ self.new.spare) }
     {
         let count = self.journal().count_of(session);
         if let Err(why) = self.reserve(count) {
