@@ -115,7 +115,8 @@ impl Bridge {
         })
     }
 
-    /// Answers a command of the session. A session of a hello is not looked at.
+    /// Answers a command of the session. One that was not given out is refused 5; that of a hello is not looked at. A
+    /// refusal is the reply `Refused`, and changes nothing.
     pub fn step(&mut self, session: u32, command: Command) -> Reply
         ensures { Step self.old session command result self.new }
     {

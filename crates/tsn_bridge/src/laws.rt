@@ -121,7 +121,7 @@ pub fn over_every_interleaving()
         StateIsSound start → AreInRange turns → Leads start turns now → RestoredList now }
 {}
 
-/// Any state, whether a bridge holds it or it stands for itself. A bridge begins whole: its journal is sound, and what
+/// This holds of every state of the machine, not only of those that a bridge comes to. A bridge begins whole: its journal is sound, and what
 /// the filter chain keeps is there for just the filters, gates and meters of its configuration; and every act was done
 /// by the bridge time. A step of a whole state leaves a whole state, and a later one: no entry is gone or changed, no
 /// session is taken back, the bridge time is no less, limits and opening stay; and where every act was done by the

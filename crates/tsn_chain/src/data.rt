@@ -117,7 +117,7 @@ pub struct Met {
     pub meter: Option<Metered>,
 }
 
-/// The interval of the list in force: the instant at which it began, and its IntervalOctetMax.
+/// The interval of the list in force: the instant at which it began, in nanoseconds, and its IntervalOctetMax.
 #[derive(Clone, Copy, Debug, PartialEq, Eq)]
 pub struct Running {
     pub began: u64,

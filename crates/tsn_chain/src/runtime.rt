@@ -172,8 +172,8 @@ impl Runtime {
         }
     }
 
-    /// Enables the gates of a port or a stream gate at `now`, or at the bridge time where that is later. The change
-    /// time, in nanoseconds, where this starts a list again.
+    /// Enables the gates of a port or a stream gate, which is there, at `now`, or at the bridge time where that is
+    /// later. The change time, in nanoseconds, where this starts a list again.
     pub fn enable(&mut self, key: Key, now: Instant) -> Option<u64>
         requires { HasRunner self.old.runners key }
         ensures time { self.new.time ≡ max self.old.time now }
@@ -190,7 +190,8 @@ impl Runtime {
         }
     }
 
-    /// Disables the gates of a port or a stream gate at `now`, or at the bridge time where that is later.
+    /// Disables the gates of a port or a stream gate, which is there, at `now`, or at the bridge time where that is
+    /// later.
     pub fn disable(&mut self, key: Key, now: Instant)
         requires { HasRunner self.old.runners key }
         ensures time { self.new.time ≡ max self.old.time now }
@@ -207,8 +208,8 @@ impl Runtime {
     }
 
     /// Applies the list of the key's record at `now`, or at the bridge time where that is later, and gives its change
-    /// time. Refused 14 where the object is disabled, then 15 where the list is empty, then 18; refused, it has changed
-    /// nothing, bridge time included.
+    /// time in nanoseconds. Refused 14 where the object is disabled, then 15 where the list is empty, then 18;
+    /// refused, it has changed nothing, bridge time included.
     pub fn apply(&mut self, config: &Config, key: Key, now: Instant) -> Result<u64, Refusal>
         requires runner { HasRunner self.old.runners key }
         requires list { HasList key (map.get config.now.map key) }
@@ -242,8 +243,8 @@ impl Runtime {
         }
     }
 
-    /// The state of a port or a stream gate at an instant, by its list or its record; latches are not looked at. Past
-    /// where the instant comes before the last act on it.
+    /// The state of a port or a stream gate, which is there, at an instant, by its list or its record; latches are not
+    /// looked at. Past where the instant comes before the last act on it.
     pub fn states_at(&self, config: &Config, key: Key, t: Instant) -> Result<State, Past>
         requires runner { HasRunner self.now.runners key }
         requires list { HasList key (map.get config.now.map key) }
@@ -262,7 +263,7 @@ impl Runtime {
         }
     }
 
-    /// The counters, flags and latches of an instance, at the bridge time.
+    /// The counters, flags and latches of an instance, which is there, at the bridge time.
     pub fn counters(&self, key: Key) -> Counters
         requires { HasData self.now.runners self.now.frames key }
         ensures { KeyCounts self.now.runners self.now.frames self.now.time key result }

@@ -116,7 +116,7 @@ impl Journal {
         }
     }
 
-    /// The session's newest standing entry. It takes no memory.
+    /// The number of the session's newest standing entry, if it has one. It takes no memory.
     pub fn last_of(&self, session: u32) -> Option<u64>
         ensures { result ≡ option_map (λ x. x.number) (last_of self.now.entries session) }
     {
@@ -126,7 +126,7 @@ impl Journal {
         )
     }
 
-    /// The session's newest Undone entry that may be redone: it comes after the session's last edit, and no Redone
+    /// The number of the session's newest Undone entry that may be redone, if there is one: it comes after the session's last edit, and no Redone
     /// entry names it. It takes no memory.
     pub fn redo_of(&self, session: u32) -> Option<u64>
         ensures newest { result ≡ option_map (λ x. x.number) (redo_of self.now.entries session) }
@@ -167,7 +167,8 @@ impl Journal {
         Entries::copies_of(*self.marked.allocator(), after(&self.marked, number))
     }
 
-    /// The latest later standing entry in conflict with the standing entry of the number. It takes no memory.
+    /// The number of the latest later standing entry in conflict with the standing entry of the number, if there is one.
+    /// It takes no memory.
     pub fn find_conflict(&self, number: u64) -> Option<u64>
         requires { IsSome (standing_entry self.now.entries number) }
         ensures { (e : Applied) → standing_entry self.now.entries number ≡ Some e
@@ -180,8 +181,8 @@ impl Journal {
         )
     }
 
-    /// The latest later standing entry of another session in conflict with the standing entry of the number. It takes
-    /// no memory.
+    /// The number of the latest later standing entry of another session in conflict with the standing entry of the
+    /// number, if there is one. It takes no memory.
     pub fn find_conflict_of_others(&self, number: u64) -> Option<u64>
         requires { IsSome (standing_entry self.now.entries number) }
         ensures { (e : Applied) → standing_entry self.now.entries number ≡ Some e
@@ -190,16 +191,16 @@ impl Journal {
         conflict_of_others(&self.marked, self.entry(number))
     }
 
-    /// The session's newest standing entry that has a later standing entry of another session in conflict with it. It
-    /// takes no memory.
+    /// The number of the session's newest standing entry that has a later standing entry of another session in conflict
+    /// with it, if there is one. It takes no memory.
     pub fn find_own_in_conflict(&self, session: u32) -> Option<u64>
         ensures { result ≡ option_map (λ x. x.number) (find_own_in_conflict self.now.entries session) }
     {
         own_in_conflict(&self.marked, session)
     }
 
-    /// The latest later entry of any kind whose change is in conflict with that of the Undone entry of the number. It
-    /// takes no memory.
+    /// The number of the latest later entry of any kind whose change is in conflict with that of the Undone entry of the
+    /// number, if there is one. It takes no memory.
     pub fn find_redo_conflict(&self, number: u64) -> Option<u64>
         requires { IsSome (undone_entry self.now.entries number) }
         ensures { (u : Applied) → undone_entry self.now.entries number ≡ Some u

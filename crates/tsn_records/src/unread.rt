@@ -1,4 +1,4 @@
-//! Why a line is not read.
+//! Why a line or a setup is not read.
 ghost use Rattle.std.specs.Prelude.{◌≡◌};
 ghost use Rattle.tsn_records.specs.Answers.{refusal_of};
 ghost use Rattle.tsn_records.specs.declared.unread.Unread.TheVariants.{Memory};
@@ -9,9 +9,9 @@ use tsn_types::refusals::{Field, Refusal};
 /// The four refusals of reading.
 #[derive(Clone, Copy, Debug, PartialEq, Eq)]
 pub enum Unread {
-    /// The bytes are no JSON value.
+    /// The bytes are no JSON value, or no TOML document.
     Syntax,
-    /// The members, or their kinds, are not those of a command.
+    /// The members, or their kinds, are not those of a command, a record or a setup.
     Shape,
     /// A number is outside its range.
     Range(Field),

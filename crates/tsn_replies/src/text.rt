@@ -38,7 +38,7 @@ impl ShortText {
         }
     }
 
-    /// Puts the bytes at the end.
+    /// Puts the bytes at the end. There must be room for them.
     pub fn push_bytes(&mut self, piece: &[u8])
         requires { length self.old + length piece.now ≤ CAPACITY }
         ensures text { self.new ≡ self.old ++ piece.now }
@@ -49,7 +49,7 @@ impl ShortText {
         self.len = end;
     }
 
-    /// Puts the piece at the end.
+    /// Puts the piece at the end. There must be room for it.
     pub fn push(&mut self, piece: &str)
         requires { length self.old + length piece.now ≤ CAPACITY }
         ensures text { self.new ≡ self.old ++ piece.now }
@@ -58,7 +58,7 @@ impl ShortText {
         self.push_bytes(piece.as_bytes());
     }
 
-    /// Puts the number at the end, in decimal digits.
+    /// Puts the number at the end, in decimal digits. There must be room for 20.
     pub fn push_number(&mut self, number: u64)
         requires { length self.old + MOST_DIGITS ≤ CAPACITY }
         ensures text { self.new ≡ self.old ++ decimal number }

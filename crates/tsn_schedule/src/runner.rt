@@ -90,7 +90,7 @@ impl<E: Timed> Runner<E> {
         *enabled
     }
 
-    /// When the latest start that isn't void comes or came in force; none where a disable comes after it.
+    /// When the latest start that isn't void comes or came in force, in nanoseconds; none where a disable comes after it.
     pub fn change(&self) -> Option<u64>
         ensures { (acts : List (Act E)) → StandsFor self.now acts → result ≡ change_in acts }
     {
@@ -202,7 +202,8 @@ impl<E: Timed + Drop> Runner<E> {
         self.running
     }
 
-    /// Enables the object. The change time, where this starts a list again; none where it was enabled already.
+    /// Enables the object, at an instant not before its last act. The change time in nanoseconds, where this starts a
+    /// list again; none where it was enabled already.
     pub fn enable(&mut self, now: Instant) -> Option<u64>
         requires last { self.old.last ≤ now }
         ensures last { self.new.last ≤ now }
@@ -224,7 +225,8 @@ impl<E: Timed + Drop> Runner<E> {
         self.enabled = false;
     }
 
-    /// Disables the object: a pending schedule is dropped, and the operational one kept.
+    /// Disables the object, at an instant not before its last act: a pending schedule is dropped, and the operational
+    /// one kept.
     pub fn disable(&mut self, now: Instant)
         requires last { self.old.last ≤ now }
         ensures last { self.new.last ≤ now }
@@ -260,8 +262,8 @@ impl<E: Timed + Drop> Runner<E> {
         change
     }
 
-    /// Makes a copy of the schedule pending, and gives its change time. An earlier pending schedule that has not come
-    /// is dropped. Refused 14 while disabled, then 15 for an empty list, then 18 for want of memory; the runner then
+    /// Makes a copy of the schedule pending, at an instant not before the last act, and gives its change time in
+    /// nanoseconds. An earlier pending schedule that has not come is dropped. Refused 14 while disabled, then 15 for an empty list, then 18 for want of memory; the runner then
     /// stays as it was.
     pub fn apply(&mut self, schedule: &Schedule<E>, now: Instant) -> Result<u64, Refusal>
     where
@@ -311,7 +313,8 @@ impl<E: Timed> Runner<E> {
         }
     }
 
-    /// The instant at which the interval at `t` began; none where nothing is in force. Past before the last act.
+    /// The instant, in nanoseconds, at which the interval at `t` began; none where nothing is in force. Past before the
+    /// last act.
     pub fn begin_at(&self, t: Instant) -> Result<Option<u64>, Past>
         ensures { (acts : List (Act E)) → StandsFor self.now acts →
             MatchResult result

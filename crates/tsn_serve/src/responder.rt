@@ -201,7 +201,7 @@ fn pull<R: ByteIn, W: ByteOut>(
 /// Answers each line of the input, with at most so many reads. The memory for a line is taken before the first of
 /// them. What the writer holds back is handed on before each read and at the end. After a fault the lines that ended
 /// were answered; `Write` and `Exhausted` break off the last of these answers, or `Write` leaves some of them held
-/// back; `Memory` comes before anything is read.
+/// back; `Memory` comes before anything is read, and `Read` where the reader failed or so many reads came to no end.
 pub fn answer_lines<A: Responder, R: ByteIn, W: ByteOut>(
     alloc: Global,
     responder: &mut A,

@@ -42,7 +42,8 @@ impl Model for Limits {
 }
 
 impl Limits {
-    /// The limits, refused where one is outside its range.
+    /// The limits: 1 to 64 ports; 1 to 65,536 stream filters, stream gates and flow meters; lists of up to 1 to 1,024
+    /// entries. Refused where one is outside its range.
     pub fn new(
         ports: u64,
         filters: u64,

@@ -35,9 +35,13 @@ pub struct GateEntry {
 /// The admin values of a gate control list: the list, how long its cycle is and when it starts.
 #[derive(Debug, Drop, PartialEq)]
 pub struct Schedule<E> {
+    /// AdminControlList.
     pub list: ControlList<E>,
+    /// AdminCycleTime.
     pub cycle: Cycle,
+    /// AdminCycleTimeExtension.
     pub extension: Extension,
+    /// AdminBaseTime.
     pub base: Instant,
 }
 
@@ -112,9 +116,11 @@ pub struct StreamFilter {
     pub handle: Option<Handle>,
     /// The priority specification; none is any priority.
     pub priority: Option<Priority>,
+    /// The stream gate instance that it refers to.
     pub gate: GateId,
     /// The maximum SDU size; none is no bound.
     pub max_sdu: Option<MaxSdu>,
+    /// The flow meter instance that it refers to; none is no meter.
     pub meter: Option<MeterId>,
     /// StreamBlockedDueToOversizeFrameEnable.
     pub oversize: bool,

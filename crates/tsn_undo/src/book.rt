@@ -141,8 +141,9 @@ impl Book {
         }
     }
 
-    /// Enters an act of the session on the key, at the instant that counted; it changes no record. It is refused 17
-    /// where the journal is full, then 18, and never where there is room for an entry; refused, it has changed nothing.
+    /// Enters an act of the session on the key, at the instant that counted, and answers the entry's number; it changes
+    /// no record. It is refused 17 where the journal is full, then 18, and never where there is room for an entry, of
+    /// which it takes one; refused, it has changed nothing.
     pub fn acted(&mut self, session: u32, act: Act, key: Key, now: Instant) -> Result<u64, Refusal>
         ensures number { IfOk result (λ number. number ≡ length self.old.ledger.entries + 1) }
         ensures after { OnOk result (self.new.ledger ≡ enter self.old.ledger session (Acted act key now)) }

@@ -21,9 +21,9 @@ const MOST_INSTANTS: u64 = 1_000_000;
 /// Which states of a port are printed: those at an instant, and then at even steps.
 #[derive(Clone, Copy, Debug, PartialEq, Eq)]
 pub struct Listing {
-    /// The port's number.
+    /// The port's number; whether the bridge has it is asked later.
     pub port: u64,
-    /// The first instant, in nanoseconds.
+    /// The first instant, in nanoseconds; whether it is one, at most 2^62, is asked later.
     pub from: u64,
     /// The time from one instant to the next, 0 to 10^12 nanoseconds.
     pub step: u64,

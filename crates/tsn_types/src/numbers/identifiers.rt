@@ -37,7 +37,7 @@ impl Model for PortId {
 }
 
 impl PortId {
-    /// The number as this type, refused outside its range.
+    /// The port of the number, refused outside 1 to 64.
     pub fn new(number: u64) -> Result<PortId, Range>
         ensures in_range { IsOk result ↔ IsPortId number }
         ensures same { IfOk result (λ n. n ≡ number) }
@@ -80,7 +80,7 @@ impl Model for FilterId {
 }
 
 impl FilterId {
-    /// The number as this type, refused outside its range.
+    /// The stream filter of the number, refused beyond 65,535.
     pub fn new(number: u64) -> Result<FilterId, Range>
         ensures in_range { IsOk result ↔ IsInstanceId number }
         ensures same { IfOk result (λ n. n ≡ number) }
@@ -123,7 +123,7 @@ impl Model for GateId {
 }
 
 impl GateId {
-    /// The number as this type, refused outside its range.
+    /// The stream gate of the number, refused beyond 65,535.
     pub fn new(number: u64) -> Result<GateId, Range>
         ensures in_range { IsOk result ↔ IsInstanceId number }
         ensures same { IfOk result (λ n. n ≡ number) }
@@ -166,7 +166,7 @@ impl Model for MeterId {
 }
 
 impl MeterId {
-    /// The number as this type, refused outside its range.
+    /// The flow meter of the number, refused beyond 65,535.
     pub fn new(number: u64) -> Result<MeterId, Range>
         ensures in_range { IsOk result ↔ IsInstanceId number }
         ensures same { IfOk result (λ n. n ≡ number) }
@@ -209,7 +209,7 @@ impl Model for Priority {
 }
 
 impl Priority {
-    /// The number as this type, refused outside its range.
+    /// The priority of the number, refused beyond 7.
     pub fn new(number: u64) -> Result<Priority, Range>
         ensures in_range { IsOk result ↔ IsPriority number }
         ensures same { IfOk result (λ n. n ≡ number) }
@@ -252,7 +252,7 @@ impl Model for Handle {
 }
 
 impl Handle {
-    /// The number as this type, refused outside its range.
+    /// The handle of the number, refused beyond 4,294,967,295.
     pub fn new(number: u64) -> Result<Handle, Range>
         ensures in_range { IsOk result ↔ IsHandle number }
         ensures same { IfOk result (λ n. n ≡ number) }

@@ -34,7 +34,7 @@ impl Model for Octets {
 }
 
 impl Octets {
-    /// The number as this type, refused outside its range.
+    /// So many octets, refused beyond 4,294,967,295.
     pub fn new(number: u64) -> Result<Octets, Range>
         ensures in_range { IsOk result ↔ IsOctets number }
         ensures same { IfOk result (λ n. n ≡ number) }
@@ -47,7 +47,7 @@ impl Octets {
         }
     }
 
-    /// The number.
+    /// The octets.
     pub fn get(self) -> u64
         ensures same { result ≡ self }
         ensures in_range { IsOctets self }
@@ -77,7 +77,7 @@ impl Model for MaxSdu {
 }
 
 impl MaxSdu {
-    /// The number as this type, refused outside its range.
+    /// A size of so many octets, refused outside 1 to 65,535.
     pub fn new(number: u64) -> Result<MaxSdu, Range>
         ensures in_range { IsOk result ↔ IsMaxSdu number }
         ensures same { IfOk result (λ n. n ≡ number) }
@@ -90,7 +90,7 @@ impl MaxSdu {
         }
     }
 
-    /// The number.
+    /// The octets.
     pub fn get(self) -> u64
         ensures same { result ≡ self }
         ensures in_range { IsMaxSdu self }
@@ -120,7 +120,7 @@ impl Model for BitRate {
 }
 
 impl BitRate {
-    /// The number as this type, refused outside its range.
+    /// A rate of so many bits per second, refused beyond 10^12.
     pub fn new(number: u64) -> Result<BitRate, Range>
         ensures in_range { IsOk result ↔ IsBitRate number }
         ensures same { IfOk result (λ n. n ≡ number) }
@@ -132,7 +132,7 @@ impl BitRate {
         }
     }
 
-    /// The number.
+    /// The bits per second.
     pub fn get(self) -> u64
         ensures same { result ≡ self }
         ensures in_range { IsBitRate self }

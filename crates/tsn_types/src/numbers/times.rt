@@ -37,7 +37,7 @@ impl Model for Instant {
 }
 
 impl Instant {
-    /// The number as this type, refused outside its range.
+    /// The instant at so many nanoseconds, refused beyond 2^62.
     pub fn new(number: u64) -> Result<Instant, Range>
         ensures in_range { IsOk result ↔ IsInstant number }
         ensures same { IfOk result (λ n. n ≡ number) }
@@ -49,7 +49,7 @@ impl Instant {
         }
     }
 
-    /// The number.
+    /// The nanoseconds.
     pub fn get(self) -> u64
         ensures same { result ≡ self }
         ensures in_range { IsInstant self }
@@ -79,7 +79,7 @@ impl Model for Cycle {
 }
 
 impl Cycle {
-    /// The number as this type, refused outside its range.
+    /// A cycle of so many nanoseconds, refused outside 1 to 10^12.
     pub fn new(number: u64) -> Result<Cycle, Range>
         ensures in_range { IsOk result ↔ IsCycle number }
         ensures same { IfOk result (λ n. n ≡ number) }
@@ -91,7 +91,7 @@ impl Cycle {
         }
     }
 
-    /// The number.
+    /// The nanoseconds.
     pub fn get(self) -> u64
         ensures same { result ≡ self }
         ensures in_range { IsCycle self }
@@ -121,7 +121,7 @@ impl Model for Extension {
 }
 
 impl Extension {
-    /// The number as this type, refused outside its range.
+    /// An extension of so many nanoseconds, refused beyond 10^12.
     pub fn new(number: u64) -> Result<Extension, Range>
         ensures in_range { IsOk result ↔ IsExtension number }
         ensures same { IfOk result (λ n. n ≡ number) }
@@ -133,7 +133,7 @@ impl Extension {
         }
     }
 
-    /// The number.
+    /// The nanoseconds.
     pub fn get(self) -> u64
         ensures same { result ≡ self }
         ensures in_range { IsExtension self }
@@ -163,7 +163,7 @@ impl Model for Interval {
 }
 
 impl Interval {
-    /// The number as this type, refused outside its range.
+    /// An interval of so many nanoseconds, refused outside 1 to 4,294,967,295.
     pub fn new(number: u64) -> Result<Interval, Range>
         ensures in_range { IsOk result ↔ IsInterval number }
         ensures same { IfOk result (λ n. n ≡ number) }
@@ -176,7 +176,7 @@ impl Interval {
         }
     }
 
-    /// The number.
+    /// The nanoseconds.
     pub fn get(self) -> u64
         ensures same { result ≡ self }
         ensures in_range { IsInterval self }
