@@ -1,4 +1,4 @@
-//! The calls of a configuration on literals of the worked examples.
+//! The calls of a configuration on literals of the sessions in `examples/`.
 
 mod literals;
 

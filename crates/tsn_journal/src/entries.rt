@@ -10,7 +10,7 @@ use tsn_edit::{Change, conflicts};
 use tsn_types::keys::Key;
 use tsn_types::numbers::Instant;
 
-/// An act on the gate list of a port or a stream gate (802.1Q-2018, 8.6.9).
+/// An act on the gate control list of a port or a stream gate (802.1Q-2018, 8.6.9).
 #[derive(Clone, Copy, Debug, PartialEq, Eq)]
 pub enum Act {
     /// Its gates are enabled.

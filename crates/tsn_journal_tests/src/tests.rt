@@ -1,5 +1,5 @@
-//! Journals of the worked examples, entry by entry: what a session takes back next, what stands in its way, and what
-//! it may redo.
+//! Journals of the sessions in `examples/`, entry by entry: what a session takes back next, what stands in its way, and
+//! what it may redo.
 //! One function makes the journals and lends them, so that a proof goes once over a journal's end.
 ghost use Rattle.std.specs.Prelude.{◌≤◌};
 

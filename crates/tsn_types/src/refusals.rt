@@ -108,9 +108,9 @@ pub enum Refusal {
     NothingToRedo,
     /// A later entry, `other`, conflicts with what would be redone.
     RedoConflict { other: u64 },
-    /// A gate list is applied where gates are not enabled.
+    /// A gate control list is applied where gates are not enabled.
     NotEnabled,
-    /// An empty gate list is applied.
+    /// An empty gate control list is applied.
     EmptyList,
     /// An instant before the last act.
     Past,

@@ -1,4 +1,4 @@
-//! The calls of the types on numbers of the worked examples.
+//! The calls of the types on numbers of the sessions in `examples/`.
 
 mod lists;
 mod literals;

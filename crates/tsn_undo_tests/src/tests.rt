@@ -1,4 +1,4 @@
-//! Entries of the worked examples, and a full journal.
+//! Entries of the sessions in `examples/`, and a full journal.
 
 mod literals;
 mod replay;

@@ -1,4 +1,4 @@
-//! Acts on gate lists, frames, states and counters, with the values of the worked examples.
+//! Acts on gate lists, frames, states and counters, with the values of the sessions in `examples/`.
 ghost use Rattle.std.specs.Prelude.{◌≡◌, ◌≤◌, ◌^◌};
 
 use super::{gate, is_entry, is_refused, on_a_bridge, step, took, took_back};

@@ -1,4 +1,4 @@
-//! A configuration and the runtime that follows it, as a bridge keeps them, and records of worked examples.
+//! A configuration and the runtime that follows it, as a bridge keeps them, and records of the sessions in `examples/`.
 ghost use Rattle.std.specs.Prelude.{◌≡◌, ◌≤◌, ◌^◌};
 ghost use Rattle.tsn_chain.specs.Instances.{HasKeys};
 

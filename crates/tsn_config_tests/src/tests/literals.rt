@@ -1,5 +1,5 @@
-//! Keys, records, limits and configurations of the worked examples: two ports, sixteen instances of each other kind and
-//! lists of up to sixteen entries.
+//! Keys, records, limits and configurations of the sessions in `examples/`: two ports, sixteen instances of each other
+//! kind and lists of up to sixteen entries.
 ghost use Rattle.std.specs.Prelude.{◌≡◌, ◌≤◌};
 
 use std::alloc::{AllocError, Global};

@@ -1,4 +1,4 @@
-//! Keys and records of the worked examples.
+//! Keys and records of the sessions in `examples/`.
 ghost use Rattle.std.specs.Prelude.{◌≤◌};
 
 use std::alloc::{AllocError, Global};

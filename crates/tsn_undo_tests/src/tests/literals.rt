@@ -1,4 +1,4 @@
-//! Keys, records and books of the worked examples: two ports, sixteen instances of each other kind.
+//! Keys, records and books of the sessions in `examples/`: two ports, sixteen instances of each other kind.
 ghost use Rattle.std.specs.Prelude.{◌≡◌, ◌≤◌};
 
 use crate::comparing::same;
