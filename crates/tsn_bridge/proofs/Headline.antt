@@ -1,4 +1,4 @@
--- The three parts of the headline hold of every state with a sound journal.
+-- The parts of the headline hold of every state with a sound journal.
 use Rattle.std.proofs.Common.{◌≡◌, ◌≤◌, ◌-◌, ◌%◌, ℕ, true, false, cond, [], ◌∷◌, List, refl, sym, ◌∙◌, ap, subst, Option, Some}
 use Rattle.std.specs.Prelude.{◌⊎◌, ◌==◌, nat_lt}
 use Rattle.std.specs.FinMap.{get}

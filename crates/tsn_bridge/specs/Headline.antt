@@ -1,4 +1,4 @@
--- The three parts of the headline, each said of a state to which commands have led.
+-- The parts of the headline, each said of a state to which commands have led.
 use Rattle.std.specs.Prelude.{◌≡◌, ◌⊎◌, ◌≤◌, ◌-◌, ◌%◌, ℕ, true, false, ⊤, List, [], Option, Some, length}
 use Rattle.std.specs.FinMap.{get}
 use Rattle.tsn_types.specs.declared.keys.Key.{Key}
