@@ -103,7 +103,7 @@ there_run : {E : Type 0} (admin : Option Record → Option (Schedule E)) (k : Ke
 there_run admin k [] o h some = some
 there_run admin k (e ∷ es) o h some = there_run admin k es (after_entry admin k o e.what) h.1 (there_entry admin k o e.what h.0 some)
 
--- a later state with a sound journal, before which only quiet entries came
+-- a later ledger of the same bridge, its map well kept, to which only quiet entries led
 pub record GoesOn (k : Key) (b later : Ledger) : Type 0 where
   pub limits : later.limits ≡ b.limits
   pub opening : later.opening ≡ b.opening

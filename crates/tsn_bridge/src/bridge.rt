@@ -140,8 +140,8 @@ impl Bridge {
         }
     }
 
-    /// The present configuration. It is the run of the standing entries from the opening, and that run is good. There is
-    /// data for just its keys.
+    /// The present configuration. It is the run of the standing entries from the opening, and that run is good. There
+    /// is data for just its keys.
     pub fn config(&self) -> &Config
         ensures limits { result.now.limits ≡ self.now.book.limits }
         ensures map { result.now.map ≡ present self.now.book }

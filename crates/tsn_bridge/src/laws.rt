@@ -47,9 +47,10 @@ ghost use Rattle.tsn_bridge.specs.State.{State};
 /// other sessions' standing edits alone give, or is refused naming a later edit that touches or refers to their
 /// instances; and a changeover to the restored list, its base time past, gives that list's gate states at every later
 /// instant: from the change time, which the apply tells, until the next act on that list, while its port or gate is
-/// there. An undo of one entry leaves what all other standing entries give. Every refusal is pinned: an undo at once is
-/// refused for a full journal or want of memory alone; an undo of all as `WhyNotAll` says, and then it changed nothing;
-/// a look at the states not at all. Nothing is asked of the state but that the commands led to it.
+/// there. An undo of one entry that is answered leaves what all other standing entries give. Of refusals: an undo at
+/// once is refused for a full journal or want of memory alone; an undo of all as `WhyNotAll` says, and then it changed
+/// nothing; a look at the restored list's states, by a session that was given out, not at all. Nothing is asked of the
+/// state but that the commands led to it.
 pub fn headline()
     ensures at_once_undone { (limits : AnyLimits) (records : List (AnyKey × AnyRecord)) (turns : List Turn) (now : State) →
         Opens limits records → AreInRange turns → Leads (begun limits records) turns now → AtOnceUndone now }
@@ -82,8 +83,8 @@ pub fn maps_after_steps()
 /// A session's edit that was answered with an entry, and the same session's undo after it, with no entry between: only
 /// sessions may have been given out. Where the undo is answered with an entry, it took that edit back, and the
 /// configuration is the one before the edit: the whole map, every member of every record. It is refused only where the
-/// journal is full or memory was wanting. Every bridge is sound, as `Bridge::config` says, and the numbers of every edit
-/// are in their ranges, as `Edit::tell_ranges` says.
+/// journal is full or memory was wanting. Every bridge is sound, as `Bridge::config` says, and the numbers of every
+/// edit are in their ranges, as `Edit::tell_ranges` says.
 pub fn edit_at_once_undone()
     ensures undone { (before edited between after : State) (session : ℕ) (edit : AnyEdit) (entry number of : ℕ) →
         EditInRange edit →
@@ -102,11 +103,11 @@ pub fn edit_at_once_undone()
         (why ≡ JournalFull) ⊎ (why ≡ Memory) }
 {}
 
-/// Over every list of commands that sessions give, from a sound state, as every bridge's is: the state is sound, and the
-/// limits and the opening are as they were. After it, a session's edit that is answered with an entry and at once undone
-/// leaves the configuration as it was; an undo of all of a session leaves exactly what the other sessions' standing
-/// entries alone give, or names what stands in the way; an undo of one entry leaves what all others give; and a list that
-/// an undo restored, once it is applied with its base past, gives its own states.
+/// Over every list of commands that sessions give, from a sound state, as every bridge's is: the state is sound, and
+/// the limits and the opening are as they were. After it, a session's edit that is answered with an entry and at once
+/// undone leaves the configuration as it was; an undo of all of a session leaves exactly what the other sessions'
+/// standing entries alone give, or names what stands in the way; an undo of one entry leaves what all others give; and
+/// a list that an undo restored, once it is applied with its base past, gives its own states.
 pub fn over_every_interleaving()
     ensures sound { (start now : State) (turns : List Turn) →
         StateIsSound start → AreInRange turns → Leads start turns now →
@@ -121,11 +122,11 @@ pub fn over_every_interleaving()
         StateIsSound start → AreInRange turns → Leads start turns now → RestoredList now }
 {}
 
-/// This holds of every state of the machine, not only of those that a bridge comes to. A bridge begins whole: its journal is sound, and what
-/// the filter chain keeps is there for just the filters, gates and meters of its configuration; and every act was done
-/// by the bridge time. A step of a whole state leaves a whole state, and a later one: no entry is gone or changed, no
-/// session is taken back, the bridge time is no less, limits and opening stay; and where every act was done by the
-/// bridge time, every act still was. So do any number of steps.
+/// This holds of every state of the machine, not only of those that a bridge comes to. A bridge begins whole: its
+/// journal is sound, and what the filter chain keeps is there for just the filters, gates and meters of its
+/// configuration; and every act was done by the bridge time. A step of a whole state leaves a whole state, and a later
+/// one: no entry is gone or changed, no session is taken back, the bridge time is no less, limits and opening stay;
+/// and where every act was done by the bridge time, every act still was. So do any number of steps.
 pub fn steps_keep_states_sound()
     ensures begins { (limits : AnyLimits) (records : List (AnyKey × AnyRecord)) →
         Opens limits records → IsWhole (begun limits records) × ActsAreBy (begun limits records) }
@@ -138,10 +139,10 @@ pub fn steps_keep_states_sound()
 {}
 
 /// A list that is restored, by an undo or otherwise, and then applied with its base not after the instant that counted:
-/// the apply tells the change time; and at each instant from then on, until the next act on the list of its port or gate,
-/// every session that was given out is told the states of the list's entry at the time since the base, counted round the
-/// cycle, as if the list had run since its base. Other entries may come between: acts on other keys, enables of this one,
-/// which is enabled, and edits, undos and redos that do not create or remove the key.
+/// the apply tells the change time; and at each instant from then on, until the next act on the list of its port or
+/// gate, every session that was given out is told the states of the list's entry at the time since the base, counted
+/// round the cycle, as if the list had run since its base. Other entries may come between: acts on other keys, enables
+/// of this one, which is enabled, and edits, undos and redos that do not create or remove the key.
 pub fn restored_list()
     ensures port { (ready : State) (port : ℕ) (p : AnyPort) →
         StateIsSound ready → map.get (present ready.book) (Port port) ≡ Some (records.Port p) → PortRuns ready port p }

@@ -1,7 +1,6 @@
-//! Commands as in the sessions of `examples/`: two ports, tables of sixteen, lists of up to sixteen entries. The scripts
-//! of `tsn_serve` try more of them.
-//! One function makes the bridges and lends them to those that step them: so a proof goes once over a bridge's end, and
-//! not at each place where want of memory ends a step.
+//! Commands as in the sessions of `examples/`: two ports, tables of sixteen, lists of up to sixteen entries. The
+//! scripts of `tsn_serve` try more of them. One function makes the bridges and lends them to those that step them: so a
+//! proof goes once over a bridge's end, and not at each place where want of memory ends a step.
 ghost use Rattle.std.specs.Prelude.{◌≡◌, ◌≤◌, ◌^◌};
 
 mod acts;

@@ -126,8 +126,8 @@ impl Journal {
         )
     }
 
-    /// The number of the session's newest Undone entry that may be redone, if there is one: it comes after the session's last edit, and no Redone
-    /// entry names it. It takes no memory.
+    /// The number of the session's newest Undone entry that may be redone, if there is one: it comes after the
+    /// session's last edit, and no Redone entry names it. It takes no memory.
     pub fn redo_of(&self, session: u32) -> Option<u64>
         ensures newest { result ≡ option_map (λ x. x.number) (redo_of self.now.entries session) }
         ensures undone { IfSome result (λ n. IsSome (undone_entry self.now.entries n)) }
@@ -167,8 +167,8 @@ impl Journal {
         Entries::copies_of(*self.marked.allocator(), after(&self.marked, number))
     }
 
-    /// The number of the latest later standing entry in conflict with the standing entry of the number, if there is one.
-    /// It takes no memory.
+    /// The number of the latest later standing entry in conflict with the standing entry of the number, if there is
+    /// one. It takes no memory.
     pub fn find_conflict(&self, number: u64) -> Option<u64>
         requires { IsSome (standing_entry self.now.entries number) }
         ensures { (e : Applied) → standing_entry self.now.entries number ≡ Some e
@@ -199,8 +199,8 @@ impl Journal {
         own_in_conflict(&self.marked, session)
     }
 
-    /// The number of the latest later entry of any kind whose change is in conflict with that of the Undone entry of the
-    /// number, if there is one. It takes no memory.
+    /// The number of the latest later entry of any kind whose change is in conflict with that of the Undone entry of
+    /// the number, if there is one. It takes no memory.
     pub fn find_redo_conflict(&self, number: u64) -> Option<u64>
         requires { IsSome (undone_entry self.now.entries number) }
         ensures { (u : Applied) → undone_entry self.now.entries number ≡ Some u

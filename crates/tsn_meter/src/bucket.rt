@@ -95,8 +95,8 @@ impl Bucket {
     }
 
     /// Refills up to `now`, marks a frame of so many octets and takes its tokens; a red frame takes none. `colour` is
-    /// the frame's own, which counts in colour-aware mode alone (802.1Q-2018, 8.6.5). A `now` before the last mark refills
-    /// nothing, and is the instant of the last mark from then on.
+    /// the frame's own, which counts in colour-aware mode alone (802.1Q-2018, 8.6.5). A `now` before the last mark
+    /// refills nothing, and is the instant of the last mark from then on.
     pub fn mark(
         &mut self,
         meter: &FlowMeter,

@@ -12,8 +12,8 @@ use tsn_setup::LONGEST_SETUP;
 // How many bytes are asked for at once.
 const PIECE: usize = 4096;
 
-/// All bytes of the reader, or so many that they are more than a setup has, by a piece at most. `Failure::Setup` where a
-/// read fails, `Fault::Memory` where memory is wanting.
+/// All bytes of the reader, or so many that they are more than a setup has, by a piece at most. `Failure::Setup` where
+/// a read fails, `Fault::Memory` where memory is wanting.
 pub fn read_setup<R: ByteIn>(alloc: Global, reader: &mut R) -> Result<Vec<u8>, Failure>
     ensures read { IfOk result (λ bytes. Consumes (R.remaining reader.old) (R.remaining reader.new) bytes.items) }
     ensures whole { IfOk result (λ bytes. (LONGEST_SETUP < length bytes.items) ⊎ IsAtEnd (R.remaining reader.new)) }

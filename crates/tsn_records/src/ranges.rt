@@ -1,7 +1,8 @@
 //! The ranges of a draft's numbers, tested in the order in which the members are listed.
 //!
-//! The first number outside its range is refused, with its member's name; inside a list entry that is `list`. Whether an
-//! identifier or a list is within a bridge's limits is not tested here. Lists of entries take memory; nothing else does.
+//! The first number outside its range is refused, with its member's name; inside a list entry that is `list`. Whether
+//! an identifier or a list is within a bridge's limits is not tested here. Lists of entries take memory; nothing else
+//! does.
 ghost use Rattle.std.specs.Prelude.{◌≡◌, ◌^◌, ℕ, List, Result};
 ghost use Rattle.tsn_types.specs.declared.refusals.Field.TheVariants as fields;
 ghost use Rattle.tsn_records.specs.declared.unread.Unread.{Unread};

@@ -10,8 +10,8 @@ use crate::timed::Timed;
 use tsn_types::lists::ControlList;
 use tsn_types::numbers::{Cycle, Instant};
 
-/// When, in nanoseconds, a schedule that is set at `now` comes in force: at its base, or the first whole number of cycles after it that
-/// isn't before `now` (802.1Q-2018, 8.6.9). It may lie after the greatest instant.
+/// When, in nanoseconds, a schedule that is set at `now` comes in force: at its base, or the first whole number of
+/// cycles after it that isn't before `now` (802.1Q-2018, 8.6.9). It may lie after the greatest instant.
 #[tactic(auto, using(crate::proofs::Numbers::round_up))]
 pub fn change_time(base: Instant, cycle: Cycle, now: Instant) -> u64
     ensures value { result ≡ change_of base cycle now }

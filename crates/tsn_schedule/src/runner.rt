@@ -1,9 +1,9 @@
 //! The runner of one port or stream gate.
 //!
-//! It keeps no list of acts: one operational and one pending schedule, and of the cycles only the latest start that took
-//! place by the last act. From these it answers as the definitions over all acts do. A pending schedule is taken over
-//! by the next act; until then reads tell by its change time whether it has come. An act or a read costs no more than
-//! the length of one list.
+//! It keeps no list of acts: one operational and one pending schedule, and of the cycles only the latest start that
+//! took place by the last act. From these it answers as the definitions over all acts do. A pending schedule is taken
+//! over by the next act; until then reads tell by its change time whether it has come. An act or a read costs no more
+//! than the length of one list.
 ghost use Rattle.std.specs.Prelude.{◌≡◌, ℕ, ◌+◌, ◌-◌, ◌%◌, ◌≤◌, ◌<◌, ◌^◌, min, ◌&&◌, nat_lt, is_some, if◌then◌else◌, List, [], ◌∷◌, Option, Some, None, MatchResult, IsTrue, ◌↔◌, IsOkAnd, IfOk, IfErr, IfSome, OnOk, OnErr};
 ghost use Rattle.std.specs.Option.{option_copied, option_map, unwrap_or, ForSome};
 ghost use Rattle.tsn_schedule.specs.Acts.{Act, Enable, Disable, Apply, with_act, is_enabled, last_instant};
@@ -90,7 +90,8 @@ impl<E: Timed> Runner<E> {
         *enabled
     }
 
-    /// When the latest start that isn't void comes or came in force, in nanoseconds; none where a disable comes after it.
+    /// When the latest start that isn't void comes or came in force, in nanoseconds; none where a disable comes after
+    /// it.
     pub fn change(&self) -> Option<u64>
         ensures { (acts : List (Act E)) → StandsFor self.now acts → result ≡ change_in acts }
     {
@@ -263,8 +264,8 @@ impl<E: Timed + Drop> Runner<E> {
     }
 
     /// Makes a copy of the schedule pending, at an instant not before the last act, and gives its change time in
-    /// nanoseconds. An earlier pending schedule that has not come is dropped. Refused 14 while disabled, then 15 for an empty list, then 18 for want of memory; the runner then
-    /// stays as it was.
+    /// nanoseconds. An earlier pending schedule that has not come is dropped. Refused 14 while disabled, then 15 for an
+    /// empty list, then 18 for want of memory; the runner then stays as it was.
     pub fn apply(&mut self, schedule: &Schedule<E>, now: Instant) -> Result<u64, Refusal>
     where
         E: Clone,

@@ -1,6 +1,6 @@
-//! The run of a script: command lines in, reply lines out, over any reader and writer of bytes.
-//! It relies on `tsn_bytes` for readers and writers, on `tsn_wire` for the reading of a line and on `tsn_replies` for the
-//! text of a reply.
+//! The run of a script: command lines in, reply lines out, over any reader and writer of bytes. It relies on
+//! `tsn_bytes` for readers and writers, on `tsn_wire` for the reading of a line and on `tsn_replies` for the text of a
+//! reply.
 #![tactic(auto)]
 
 mod laws;

@@ -1,8 +1,8 @@
 //! What goes in and out of the service: the command that a line says, and, handed on from below, the text of a reply
 //! and the readers and writers of bytes.
 //!
-//! What a line says is defined by what `serde_json` reads of it; nothing of the bridge is looked at. A line whose members
-//! stand each once, in any order and with any white space between, is read without building that tree.
+//! What a line says is defined by what `serde_json` reads of it; nothing of the bridge is looked at. A line whose
+//! members stand each once, in any order and with any white space between, is read without building that tree.
 #![tactic(auto)]
 
 mod any_line;

@@ -333,8 +333,8 @@ pub(super) fn dropped(filter: u64, now: u64, cause: DropCause) -> Verdict
     }
 }
 
-/// Plays on a bench with gate 0. One function makes the benches and lends them, so that a proof goes once over a bench's
-/// end.
+/// Plays on a bench with gate 0. One function makes the benches and lends them, so that a proof goes once over a
+/// bench's end.
 pub(super) fn on_a_bench<F: FnOnce(&mut Bench) -> Result<(), Fail>>(
     gate: StreamGate,
     alloc: Global,
