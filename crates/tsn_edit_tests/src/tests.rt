@@ -1,3 +1,5 @@
+//! What the program does not show of a change by itself: a copy of it, its inverse and its conflict with itself. How
+//! changes conflict is seen through the program (`examples/tables/edits-conflicts.txt`).
 ghost use Rattle.std.specs.Prelude.{◌≤◌};
 
 use crate::comparing::same;
@@ -35,12 +37,6 @@ fn port_key() -> Key {
     Key::Port(PortId::new(2).unwrap())
 }
 
-fn gate_key(number: u64) -> Key
-    requires { number ≤ 65535 }
-{
-    Key::Gate(GateId::new(number).unwrap())
-}
-
 /// A port whose gates are all open, and whose list has this many entries.
 fn port(alloc: Global, gates: u8, length: usize) -> Result<Record, AllocError> {
     let mut list = ControlList::new(alloc);
@@ -61,15 +57,6 @@ fn port(alloc: Global, gates: u8, length: usize) -> Result<Record, AllocError> {
     }))
 }
 
-/// Filter 3 on gate 1 and meter 5, changed from gate 0 and meter 4.
-fn moved() -> Change {
-    Change {
-        key: Key::Filter(FilterId::new(3).unwrap()),
-        before: Some(filter(0, 4)),
-        after: Some(filter(1, 5)),
-    }
-}
-
 fn filter(gate: u64, meter: u64) -> Record
     requires gate { gate ≤ 65535 }
     requires meter { meter ≤ 65535 }
@@ -84,12 +71,12 @@ fn filter(gate: u64, meter: u64) -> Record
     })
 }
 
-/// The removal of a meter or a gate; what stood there does not matter for a conflict.
-fn removed(key: Key) -> Change {
+/// Filter 3 on gate 1 and meter 5, changed from gate 0 and meter 4.
+fn moved() -> Change {
     Change {
-        key,
-        before: None,
-        after: None,
+        key: Key::Filter(FilterId::new(3).unwrap()),
+        before: Some(filter(0, 4)),
+        after: Some(filter(1, 5)),
     }
 }
 
@@ -114,15 +101,6 @@ fn removed_meter() -> Change {
     }
 }
 
-#[test]
-fn an_inverse_swaps_the_values(rt: HostRuntime) -> Result<(), Fail> {
-    let copy = removed_meter().try_clone()?;
-    is_change(&rt, &copy, meter_key(2), Some(&meter()), None);
-    let back = removed_meter().inverse();
-    is_change(&rt, &back, meter_key(2), None, Some(&meter()));
-    Ok(())
-}
-
 /// The change and a copy of it are on the port, from the one record to the other.
 fn is_copied(
     rt: &impl Abort,
@@ -144,44 +122,25 @@ fn listed_change(alloc: Global) -> Result<Change, AllocError> {
     })
 }
 
+/// A change of a port with the longest list, and one that has no value after it.
 #[test]
 fn a_copy_has_the_key_and_both_values(rt: HostRuntime) -> Result<(), Fail> {
     let before = port(rt.alloc(), 1, 1_024)?;
     let after = port(rt.alloc(), 128, 1)?;
     let change = listed_change(rt.alloc())?;
     is_copied(&rt, &change, port_key(), &before, &after)?;
+    let copy = removed_meter().try_clone()?;
+    is_change(&rt, &copy, meter_key(2), Some(&meter()), None);
     Ok(())
 }
 
-fn meets(rt: &impl Abort, later: &Change, earlier: &Change, wanted: bool) {
-    same(rt, &conflicts(later, earlier), &wanted);
-}
-
-/// Whether the removal at the key conflicts with the moved filter, as the later and as the earlier of the two.
-fn meets_moved(rt: &impl Abort, key: Key, later: bool, earlier: bool) {
-    let (removal, moved) = (removed(key), moved());
-    meets(rt, &removal, &moved, later);
-    meets(rt, &moved, &removal, earlier);
-}
-
+/// An inverse swaps the values, a change conflicts with itself, and the ranges of an edit's numbers are told.
 #[test]
-fn a_later_change_conflicts_by_key_or_reference(rt: HostRuntime) {
-    meets_moved(&rt, Key::Filter(FilterId::new(3).unwrap()), true, true);
-    meets_moved(&rt, gate_key(0), true, false);
-    meets_moved(&rt, gate_key(1), false, true);
-    meets_moved(&rt, meter_key(4), true, false);
-    meets_moved(&rt, meter_key(5), false, true);
-    meets(&rt, &removed(meter_key(4)), &removed(gate_key(0)), false);
-}
-
-#[test]
-fn a_change_conflicts_with_itself(rt: HostRuntime) {
+fn calls_that_take_one_change(rt: HostRuntime) {
     let moved = moved();
-    meets(&rt, &moved, &moved, true);
-}
-
-#[test]
-fn ranges_are_told_of_an_edit(rt: HostRuntime) {
+    same(&rt, &conflicts(&moved, &moved), &true);
+    let back = removed_meter().inverse();
+    is_change(&rt, &back, meter_key(2), None, Some(&meter()));
     let edit = Edit::Replace(meter_key(2), meter());
     edit.tell_ranges();
     assert!(rt; matches!(&edit, Edit::Replace(_, _)));

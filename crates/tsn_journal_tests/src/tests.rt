@@ -1,5 +1,5 @@
-//! Journals of the sessions in `examples/`, entry by entry: what a session takes back next, what stands in its way, and
-//! what it may redo.
+//! What only a journal's own calls show, entry by entry: which numbers stand, what is found of them, what is copied, and
+//! for how many more there is room. `examples/tables/undo-*.txt` have what sessions are told.
 //! One function makes the journals and lends them, so that a proof goes once over a journal's end.
 ghost use Rattle.std.specs.Prelude.{◌≤◌};
 
@@ -13,7 +13,7 @@ use tsn_journal::journal::{Journal, MOST_ENTRIES};
 use tsn_journal::laws;
 use tsn_types::keys::Key;
 use tsn_types::numbers::{BitRate, GateId, Instant, MeterId, Octets};
-use tsn_types::records::{FlowMeter, Record, StreamFilter};
+use tsn_types::records::{FlowMeter, Record};
 use tsn_types::refusals::Refusal;
 
 fn meter_key(number: u64) -> Key
@@ -38,20 +38,6 @@ fn meter() -> Record {
         aware: false,
         drop_yellow: false,
         all_red: false,
-    })
-}
-
-/// A filter on the gate, with no meter.
-fn filter_on(gate: u64) -> Record
-    requires { gate ≤ 65535 }
-{
-    Record::Filter(StreamFilter {
-        handle: None,
-        priority: None,
-        gate: GateId::new(gate).unwrap(),
-        max_sdu: None,
-        meter: None,
-        oversize: false,
     })
 }
 
@@ -177,82 +163,17 @@ fn tells_copies(rt: &impl Abort, journal: &Journal) {
 
 #[test]
 fn an_entry_has_its_number_and_session(rt: HostRuntime) -> Result<(), Fail> {
+    laws::limits();
     on_a_journal(rt.alloc(), |journal| {
         same(&rt, &journal.len(), &0);
+        same(&rt, &MOST_ENTRIES, &65_536);
+        same(&rt, &journal.reserve(65_537), &Err(Refusal::JournalFull));
         creates(&rt, journal, 7, 5, 1);
+        same(&rt, &journal.reserve(65_536), &Err(Refusal::JournalFull));
+        same(&rt, &journal.reserve(65_535), &Ok(()));
         creates(&rt, journal, 8, 6, 2);
         has_two_entries(&rt, journal);
         tells_copies(&rt, journal);
-        Ok(())
-    })
-}
-
-#[test]
-fn an_entry_stands_until_it_is_taken_back(rt: HostRuntime) -> Result<(), Fail> {
-    on_a_journal(rt.alloc(), |journal| {
-        creates(&rt, journal, 1, 1, 1);
-        creates(&rt, journal, 1, 2, 2);
-        same(&rt, &journal.last_of(1), &Some(2));
-        same(&rt, &journal.last_of(2), &None);
-        undoes(&rt, journal, 1, 2, 2, 3);
-        assert!(rt; journal.standing(1) && !journal.standing(2) && !journal.standing(3));
-        assert!(rt; !journal.standing(0) && !journal.standing(4));
-        same(&rt, &journal.last_of(1), &Some(1));
-        redoes(&rt, journal, 1, 3, 2, 4);
-        assert!(rt; journal.standing(4) && !journal.standing(2));
-        same(&rt, &journal.last_of(1), &Some(4));
-        Ok(())
-    })
-}
-
-/// Puts a filter on another gate.
-fn moved() -> Change {
-    Change {
-        key: meter_key(3),
-        before: Some(filter_on(0)),
-        after: Some(filter_on(1)),
-    }
-}
-
-/// The removal of gate 0.
-fn gate_removed() -> Change {
-    Change {
-        key: gate_key(0),
-        before: None,
-        after: None,
-    }
-}
-
-/// Session 1 puts a filter on another gate; session 2 removes the gate on which it was.
-#[test]
-fn a_removal_blocks_what_referred_to_it(rt: HostRuntime) -> Result<(), Fail> {
-    on_a_journal(rt.alloc(), |journal| {
-        enters(&rt, journal, 1, What::Made(moved()), 1);
-        enters(&rt, journal, 2, What::Made(gate_removed()), 2);
-        assert!(rt; journal.standing(1));
-        same(&rt, &journal.find_conflict(1), &Some(2));
-        let undone = What::Undone {
-            of: 2,
-            change: gate_removed().inverse(),
-        };
-        enters(&rt, journal, 2, undone, 3);
-        assert!(rt; journal.standing(1));
-        same(&rt, &journal.find_conflict(1), &None);
-        Ok(())
-    })
-}
-
-#[test]
-fn an_own_later_edit_is_no_conflict_of_others(rt: HostRuntime) -> Result<(), Fail> {
-    on_a_journal(rt.alloc(), |journal| {
-        creates(&rt, journal, 1, 1, 1);
-        removes(&rt, journal, 1, 1, 2);
-        assert!(rt; journal.standing(1));
-        same(&rt, &journal.find_conflict(1), &Some(2));
-        same(&rt, &journal.find_conflict_of_others(1), &None);
-        creates(&rt, journal, 2, 1, 3);
-        assert!(rt; journal.standing(1));
-        same(&rt, &journal.find_conflict_of_others(1), &Some(3));
         Ok(())
     })
 }
@@ -261,23 +182,6 @@ fn an_own_later_edit_is_no_conflict_of_others(rt: HostRuntime) -> Result<(), Fai
 fn stand(journal: &Journal, session: u32, wanted: &[u64]) -> Result<bool, AllocError> {
     let numbers = journal.standing_of(session)?;
     Ok(numbers.as_slice() == wanted)
-}
-
-#[test]
-fn a_sessions_standing_entries_are_counted_and_listed(rt: HostRuntime) -> Result<(), Fail> {
-    on_a_journal(rt.alloc(), |journal| {
-        creates(&rt, journal, 1, 1, 1);
-        creates(&rt, journal, 1, 2, 2);
-        removes(&rt, journal, 2, 1, 3);
-        same(&rt, &journal.count_of(1), &2);
-        same(&rt, &stand(journal, 1, &[1, 2]), &Ok(true));
-        same(&rt, &journal.find_own_in_conflict(1), &Some(1));
-        same(&rt, &journal.find_own_in_conflict(2), &None);
-        creates(&rt, journal, 1, 1, 4);
-        same(&rt, &journal.find_own_in_conflict(1), &Some(1));
-        same(&rt, &journal.find_own_in_conflict(2), &Some(3));
-        Ok(())
-    })
 }
 
 /// An act on gate 0.
@@ -293,62 +197,61 @@ fn changes_nothing(what: &What) -> bool {
     what.change().is_none()
 }
 
-/// The act, which changes nothing, is entered under the number.
-fn acts(rt: &impl Abort, journal: &mut Journal, number: u64) {
-    assert!(rt; changes_nothing(&act()));
-    enters(rt, journal, 1, act(), number);
+/// Session 1 created and removed meter 1, session 2 created it again: entries 1 to 3.
+fn has_three_standing(rt: &impl Abort, journal: &Journal) {
+    same(rt, &journal.count_of(1), &2);
+    same(rt, &stand(journal, 1, &[1, 2]), &Ok(true));
+    same(rt, &journal.last_of(1), &Some(2));
+    same(rt, &journal.last_of(3), &None);
+    same(rt, &journal.find_own_in_conflict(1), &Some(2));
+    same(rt, &journal.find_own_in_conflict(2), &None);
+    same(rt, &journal.redo_of(2), &None);
 }
 
-/// Session 1 may redo entry 2, which this entry is in conflict with.
-fn may_redo(rt: &impl Abort, journal: &Journal, conflict: Option<u64>) {
-    let undone = journal.redo_of(1);
-    same(rt, &undone, &Some(2));
+/// Session 2 took entry 3 back by entry 4, which it may do again.
+fn has_two_standing(rt: &impl Abort, journal: &Journal) {
+    let stands = |entry| journal.standing(entry);
+    assert!(rt; stands(1) && stands(2) && !stands(3) && !stands(4));
+    assert!(rt; !stands(0) && !stands(5));
+    same(rt, &journal.last_of(2), &None);
+    let undone = journal.redo_of(2);
+    same(rt, &undone, &Some(4));
     if let Some(number) = undone {
-        same(rt, &journal.find_redo_conflict(number), &conflict);
+        same(rt, &journal.find_redo_conflict(number), &None);
     }
 }
 
-#[test]
-fn an_act_does_not_end_a_redo_and_an_edit_does(rt: HostRuntime) -> Result<(), Fail> {
-    on_a_journal(rt.alloc(), |journal| {
-        creates(&rt, journal, 1, 1, 1);
-        same(&rt, &journal.redo_of(1), &None);
-        undoes(&rt, journal, 1, 1, 1, 2);
-        acts(&rt, journal, 3);
-        creates(&rt, journal, 2, 2, 4);
-        same(&rt, &journal.redo_of(2), &None);
-        may_redo(&rt, journal, None);
-        creates(&rt, journal, 2, 1, 5);
-        may_redo(&rt, journal, Some(5));
-        creates(&rt, journal, 1, 3, 6);
-        same(&rt, &journal.redo_of(1), &None);
-        Ok(())
-    })
+/// Session 2 did it again by entry 5, and an act came after that.
+fn has_a_redone_entry(rt: &impl Abort, journal: &Journal) {
+    let stands = |entry| journal.standing(entry);
+    assert!(rt; !stands(3) && !stands(4) && stands(5) && !stands(6));
+    same(rt, &journal.last_of(2), &Some(5));
+    same(rt, &journal.redo_of(2), &None);
+}
+
+/// An own later edit is in conflict, and in no conflict of others.
+fn create_and_remove(rt: &impl Abort, journal: &mut Journal) {
+    creates(rt, journal, 1, 1, 1);
+    removes(rt, journal, 1, 1, 2);
+    assert!(rt; journal.standing(1));
+    same(rt, &journal.find_conflict(1), &Some(2));
+    same(rt, &journal.find_conflict_of_others(1), &None);
+    creates(rt, journal, 2, 1, 3);
+    assert!(rt; journal.standing(1));
+    same(rt, &journal.find_conflict_of_others(1), &Some(3));
 }
 
 #[test]
-fn a_redone_entry_is_not_redone_again(rt: HostRuntime) -> Result<(), Fail> {
+fn what_stands_is_found(rt: HostRuntime) -> Result<(), Fail> {
     on_a_journal(rt.alloc(), |journal| {
-        creates(&rt, journal, 1, 1, 1);
-        creates(&rt, journal, 1, 2, 2);
-        undoes(&rt, journal, 1, 2, 2, 3);
-        undoes(&rt, journal, 1, 1, 1, 4);
-        same(&rt, &journal.redo_of(1), &Some(4));
-        redoes(&rt, journal, 1, 4, 1, 5);
-        same(&rt, &journal.redo_of(1), &Some(3));
-        Ok(())
-    })
-}
-
-#[test]
-fn a_journal_holds_65536_entries(rt: HostRuntime) -> Result<(), Fail> {
-    laws::limits();
-    on_a_journal(rt.alloc(), |journal| {
-        same(&rt, &MOST_ENTRIES, &65_536);
-        same(&rt, &journal.reserve(65_537), &Err(Refusal::JournalFull));
-        creates(&rt, journal, 1, 1, 1);
-        same(&rt, &journal.reserve(65_536), &Err(Refusal::JournalFull));
-        same(&rt, &journal.reserve(65_535), &Ok(()));
+        create_and_remove(&rt, journal);
+        has_three_standing(&rt, journal);
+        undoes(&rt, journal, 2, 3, 1, 4);
+        has_two_standing(&rt, journal);
+        redoes(&rt, journal, 2, 4, 1, 5);
+        assert!(rt; changes_nothing(&act()));
+        enters(&rt, journal, 1, act(), 6);
+        has_a_redone_entry(&rt, journal);
         Ok(())
     })
 }

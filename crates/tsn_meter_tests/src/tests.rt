@@ -1,4 +1,5 @@
-//! Worked examples as calls of a bucket, and its edges.
+//! Marks that no frame gets from a script: of a frame that is red already, of more octets than a frame has, and at an
+//! instant that falls. `examples/tables/frames-meters.txt` has the others.
 ghost use Rattle.std.specs.Prelude.{◌≡◌, ◌≤◌, ◌^◌};
 
 use crate::comparing::same;
@@ -44,101 +45,27 @@ fn mark(bucket: &mut Bucket, meter: &FlowMeter, now: u64, count: u64) -> Colour
     bucket.mark(meter, instant(now), octets(count), Colour::Green)
 }
 
-#[test]
-fn meter_and_counters(rt: HostRuntime) {
-    let meter = meter(1500, 0);
-    let mut bucket = Bucket::full(&meter, instant(0));
-    same(&rt, &mark(&mut bucket, &meter, 0, 1000), &Colour::Green);
-    same(&rt, &mark(&mut bucket, &meter, 100_000, 1000), &Colour::Red);
-    // the tokens of a nanosecond are missing, and then there are exactly enough
-    let mut early = bucket;
-    same(&rt, &mark(&mut early, &meter, 499_999, 1000), &Colour::Red);
-    same(
-        &rt,
-        &mark(&mut bucket, &meter, 500_000, 1000),
-        &Colour::Green,
-    );
-    same(&rt, &mark(&mut bucket, &meter, 500_000, 1), &Colour::Red);
-}
-
-#[test]
-fn coupled_buckets(rt: HostRuntime) {
-    for (cf, last) in [(true, Colour::Yellow), (false, Colour::Red)] {
-        let meter = FlowMeter {
-            cf,
-            ..meter(100, 100)
-        };
-        let mut bucket = Bucket::full(&meter, instant(0));
-        same(&rt, &mark(&mut bucket, &meter, 0, 100), &Colour::Green);
-        same(&rt, &mark(&mut bucket, &meter, 0, 100), &Colour::Yellow);
-        same(&rt, &mark(&mut bucket, &meter, 0, 100), &Colour::Red);
-        same(
-            &rt,
-            &mark(&mut bucket, &meter, 150_000, 100),
-            &Colour::Green,
-        );
-        same(&rt, &mark(&mut bucket, &meter, 150_000, 50), &last);
-    }
-}
-
-#[test]
-fn clip(rt: HostRuntime) {
-    let larger = meter(1500, 0);
-    let smaller = meter(250, 0);
-    let mut bucket = Bucket::full(&larger, instant(0));
-    same(&rt, &mark(&mut bucket, &larger, 0, 1000), &Colour::Green);
-    bucket.clip(&smaller);
-    same(&rt, &mark(&mut bucket, &smaller, 0, 250), &Colour::Green);
-    same(&rt, &mark(&mut bucket, &smaller, 0, 1), &Colour::Red);
-    // a clip by a larger size fills nothing
-    bucket.clip(&larger);
-    same(&rt, &mark(&mut bucket, &larger, 0, 1), &Colour::Red);
-}
-
-/// In colour-aware mode a drop eligible frame tries the excess alone, and a red one stays red; in blind mode every
-/// frame counts as green.
-#[test]
-fn modes(rt: HostRuntime) {
+/// In colour-aware mode a red frame stays red and takes nothing, and a drop eligible one tries the excess alone; in
+/// blind mode every frame counts as green.
+fn colours_count(rt: &impl Abort) {
     let blind = meter(100, 100);
     let aware = FlowMeter {
         aware: true,
         ..blind
     };
     let mut bucket = Bucket::full(&aware, instant(0));
-    same(
-        &rt,
-        &bucket.mark(&aware, instant(0), octets(100), Colour::Red),
-        &Colour::Red,
-    );
-    same(
-        &rt,
-        &bucket.mark(&aware, instant(0), octets(100), Colour::Yellow),
-        &Colour::Yellow,
-    );
-    same(
-        &rt,
-        &bucket.mark(&aware, instant(0), octets(1), Colour::Yellow),
-        &Colour::Red,
-    );
-    same(
-        &rt,
-        &bucket.mark(&blind, instant(0), octets(100), Colour::Yellow),
-        &Colour::Green,
-    );
-}
-
-#[test]
-fn no_octets_and_no_size(rt: HostRuntime) {
-    let meter = meter(0, 0);
-    let mut bucket = Bucket::full(&meter, instant(0));
-    same(&rt, &mark(&mut bucket, &meter, 0, 0), &Colour::Green);
-    same(&rt, &mark(&mut bucket, &meter, 1 << 62, 1), &Colour::Red);
-    same(&rt, &mark(&mut bucket, &meter, 1 << 62, 0), &Colour::Green);
+    for (by, count, colour, marked) in [
+        (aware, octets(100), Colour::Red, Colour::Red),
+        (aware, octets(100), Colour::Yellow, Colour::Yellow),
+        (aware, octets(1), Colour::Yellow, Colour::Red),
+        (blind, octets(100), Colour::Yellow, Colour::Green),
+    ] {
+        same(rt, &bucket.mark(&by, instant(0), count, colour), &marked);
+    }
 }
 
 /// The greatest rates and sizes over the longest time: the excess is full again by what overflows, and no more.
-#[test]
-fn greatest_numbers(rt: HostRuntime) {
+fn greatest_numbers(rt: &impl Abort) {
     let most = 4_294_967_295;
     let meter = FlowMeter {
         cir: BitRate::new(1_000_000_000_000).unwrap(),
@@ -148,59 +75,24 @@ fn greatest_numbers(rt: HostRuntime) {
     };
     let mut bucket = Bucket::full(&meter, instant(0));
     for now in [0, 1 << 62] {
-        same(&rt, &mark(&mut bucket, &meter, now, most), &Colour::Green);
-        same(&rt, &mark(&mut bucket, &meter, now, most), &Colour::Yellow);
-        same(&rt, &mark(&mut bucket, &meter, now, 1), &Colour::Red);
+        same(rt, &mark(&mut bucket, &meter, now, most), &Colour::Green);
+        same(rt, &mark(&mut bucket, &meter, now, most), &Colour::Yellow);
+        same(rt, &mark(&mut bucket, &meter, now, 1), &Colour::Red);
     }
 }
 
 /// An instant before the last one adds nothing.
-#[test]
-fn earlier_instant(rt: HostRuntime) {
+fn earlier_instant(rt: &impl Abort) {
     let meter = meter(100, 0);
     let mut bucket = Bucket::full(&meter, instant(1_000_000));
-    same(
-        &rt,
-        &mark(&mut bucket, &meter, 1_000_000, 100),
-        &Colour::Green,
-    );
-    same(&rt, &mark(&mut bucket, &meter, 0, 1), &Colour::Red);
+    let first = mark(&mut bucket, &meter, 1_000_000, 100);
+    same(rt, &first, &Colour::Green);
+    same(rt, &mark(&mut bucket, &meter, 0, 1), &Colour::Red);
 }
 
-/// Takes the only octet that the size holds at 0, and again when its tokens are there, which come one a nanosecond: 8
-/// billion are enough, and one less is too few.
-fn lacks_one_token(rt: &impl Abort, meter: &FlowMeter, paid: Colour) {
-    let mut bucket = Bucket::full(meter, instant(0));
-    same(rt, &mark(&mut bucket, meter, 0, 1), &paid);
-    same(
-        rt,
-        &mark(&mut bucket, meter, 7_999_999_999, 1),
-        &Colour::Red,
-    );
-    same(rt, &mark(&mut bucket, meter, 8_000_000_000, 1), &paid);
-}
-
-/// By the committed rate, by the excess rate, and by what overflows.
 #[test]
-fn one_token(rt: HostRuntime) {
-    let bit = BitRate::new(1).unwrap();
-    let none = BitRate::new(0).unwrap();
-    let committed = FlowMeter {
-        cir: bit,
-        ..meter(1, 0)
-    };
-    let excess = FlowMeter {
-        cir: none,
-        eir: bit,
-        ..meter(0, 1)
-    };
-    let coupled = FlowMeter {
-        cir: bit,
-        eir: none,
-        cf: true,
-        ..excess
-    };
-    lacks_one_token(&rt, &committed, Colour::Green);
-    lacks_one_token(&rt, &excess, Colour::Yellow);
-    lacks_one_token(&rt, &coupled, Colour::Yellow);
+fn marks_that_no_frame_gets(rt: HostRuntime) {
+    colours_count(&rt);
+    greatest_numbers(&rt);
+    earlier_instant(&rt);
 }

@@ -1,9 +1,6 @@
-//! The program over words and bytes in memory: what it reads, writes and ends with.
-ghost use Rattle.std.specs.Prelude.{◌≤◌};
-
-mod states;
-mod words;
-
+//! The program over words and bytes in memory: a script, states and a refused setup, as `main` hands them in, and what no
+//! run of the program brings about: a reader and a writer that fail, how much of a setup is read, and the line of each
+//! failure. Words, setups and states are seen through the program (`examples/tables`, `examples/check`).
 use crate::comparing::same;
 use std::alloc::{AllocError, Global};
 use std::process::Abort;
@@ -21,6 +18,23 @@ const REPLIES: &'static [u8] = b"{\"session\":1}\n{\"refused\":10,\"why\":\"noth
 
 // A filter on gate 4, which is not there.
 const DANGLING: &'static [u8] = b"[[filter]]\nid = 0\ngate = 4\noversize = false\n";
+
+// A port with two entries and a cycle of a microsecond.
+const TWO_ENTRIES: &'static [u8] =
+    b"[[port]]\nid = 1\ngates = 255\ncycle = 1000\nextension = 0\nbase = 0\nlist = [{gates = 1, interval = 300}, {gates = 128, interval = 700}]\n";
+
+const STATES: &'static [&'static str] = &[
+    "states",
+    "cell.toml",
+    "--port",
+    "1",
+    "--from",
+    "2500",
+    "--step",
+    "400",
+    "--count",
+    "3",
+];
 
 // The program's name and these words.
 fn with_name(alloc: Global, more: &[&str]) -> Result<Vec<String>, AllocError> {
@@ -131,39 +145,24 @@ fn ends(
     Ok(())
 }
 
+/// All lines are answered, and where a read fails, those that ended by then.
 #[test]
 fn a_script_is_answered(rt: HostRuntime) -> Result<(), Fail> {
     let given = Given::new(&["script"], b"");
-    ends(&rt, rt.alloc(), &given, 0, REPLIES, b"")
-}
-
-// The ports of a bridge with the setup.
-fn lists_ports(
-    rt: &impl Abort,
-    alloc: Global,
-    words: &'static [&'static str],
-    setup: &'static [u8],
-    replies: &[u8],
-) -> Result<(), Fail> {
-    let given = Given {
-        input: b"{\"do\":\"hello\"}\n{\"do\":\"list\",\"kind\":\"port\",\"s\":1}\n",
-        ..Given::new(words, setup)
+    ends(&rt, rt.alloc(), &given, 0, REPLIES, b"")?;
+    let failing = Given {
+        reads_before: Some(1),
+        ..given
     };
-    ends(rt, alloc, &given, 0, replies, b"")
+    let (one, line) = (b"{\"session\":1}\n", b"tsnd: read failed\n");
+    ends(&rt, rt.alloc(), &failing, 1, one, line)
 }
 
 #[test]
-fn a_script_begins_with_its_setup(rt: HostRuntime) -> Result<(), Fail> {
-    let two = b"{\"session\":1}\n{\"ids\":[1,2]}\n";
-    lists_ports(&rt, rt.alloc(), &["script"], b"", two)?;
-    let three = b"{\"session\":1}\n{\"ids\":[1,2,3]}\n";
-    lists_ports(
-        &rt,
-        rt.alloc(),
-        &["script", "cell.toml"],
-        b"ports = 3\n",
-        three,
-    )
+fn states_are_printed(rt: HostRuntime) -> Result<(), Fail> {
+    let given = Given::new(STATES, TWO_ENTRIES);
+    let lines = b"2500 ff\n2900 ff\n3300 80\n";
+    ends(&rt, rt.alloc(), &given, 0, lines, b"")
 }
 
 #[test]
@@ -191,28 +190,13 @@ fn a_setup_that_is_refused_is_told(rt: HostRuntime) -> Result<(), Fail> {
 }
 
 #[test]
-fn a_failed_read_leaves_the_lines_that_ended(rt: HostRuntime) -> Result<(), Fail> {
-    let given = Given {
-        reads_before: Some(1),
-        ..Given::new(&["script"], b"")
-    };
-    ends(
-        &rt,
-        rt.alloc(),
-        &given,
-        1,
-        b"{\"session\":1}\n",
-        b"tsnd: read failed\n",
-    )
-}
-
-#[test]
 fn a_failed_write_is_told(rt: HostRuntime) -> Result<(), Fail> {
+    let cases: [&'static [&'static str]; 4] = [&["script"], STATES, &["--help"], &["--version"]];
     for failing in [Failing::Error, Failing::Nothing] {
-        for words in [&["script"], &["--help"], &["--version"]] {
+        for words in cases {
             let given = Given {
                 puts_before: Some((0, failing)),
-                ..Given::new(words, b"")
+                ..Given::new(words, TWO_ENTRIES)
             };
             ends(&rt, rt.alloc(), &given, 1, b"", b"tsnd: write failed\n")?;
         }
@@ -220,24 +204,25 @@ fn a_failed_write_is_told(rt: HostRuntime) -> Result<(), Fail> {
     Ok(())
 }
 
-/// The failure ends with status 1 and this line, written in pieces of so many bytes.
+/// The failure ends with status 1 and this line, written in pieces of seven bytes.
 fn tells(
     rt: &impl Abort,
     alloc: Global,
-    most: usize,
+    fails: Option<(u64, Failing)>,
     failure: Failure,
     line: &[u8],
-) -> Result<(), Fail>
-    requires { 1 ≤ most }
-{
-    let mut errors = MemOut::new(Vec::with_capacity(alloc, 100)?, most, None);
+) -> Result<(), Fail> {
+    let mut errors = MemOut::new(Vec::with_capacity(alloc, 100)?, 7, fails);
     same(rt, &fail(&mut errors, failure), &1);
+    same(rt, &errors.flush(), &Ok(()));
     same(rt, &errors.as_slice(), &line);
     Ok(())
 }
 
+/// The status stays where the line can't be written.
 #[test]
 fn each_failure_has_its_line(rt: HostRuntime) -> Result<(), Fail> {
+    let gate_4 = Key::Gate(GateId::new(4).unwrap());
     let cases = [
         (Failure::Fault(Fault::Read), "tsnd: read failed\n"),
         (Failure::Fault(Fault::Write), "tsnd: write failed\n"),
@@ -253,56 +238,23 @@ fn each_failure_has_its_line(rt: HostRuntime) -> Result<(), Fail> {
             "tsnd: refused 4 range\n",
         ),
         (
+            Failure::Refused(Refusal::Exists(gate_4)),
+            "tsnd: refused 7 exists\n",
+        ),
+        (
             Failure::Refused(Refusal::JournalFull),
             "tsnd: refused 17 journal_full\n",
         ),
         (Failure::Refused(Refusal::Memory), "tsnd: out of memory\n"),
     ];
     for (failure, line) in cases {
-        tells(&rt, rt.alloc(), 7, failure, line.as_bytes())?;
+        tells(&rt, rt.alloc(), None, failure, line.as_bytes())?;
     }
-    Ok(())
+    let fails = Some((0, Failing::Error));
+    tells(&rt, rt.alloc(), fails, Failure::Fault(Fault::Read), b"")
 }
 
-#[test]
-fn a_repeated_key_is_told_by_its_refusal(rt: HostRuntime) -> Result<(), Fail> {
-    let gate = Key::Gate(GateId::new(4).unwrap());
-    let failure = Failure::Refused(Refusal::Exists(gate));
-    tells(&rt, rt.alloc(), 100, failure, b"tsnd: refused 7 exists\n")
-}
-
-#[test]
-fn a_failed_error_line_changes_no_status(rt: HostRuntime) -> Result<(), Fail> {
-    let bytes = Vec::with_capacity(rt.alloc(), 100)?;
-    let mut errors = MemOut::new(bytes, 7, Some((0, Failing::Error)));
-    same(&rt, &fail(&mut errors, Failure::Fault(Fault::Read)), &1);
-    same(&rt, &errors.flush(), &Ok(()));
-    same(&rt, &errors.as_slice(), &b"".as_slice());
-    Ok(())
-}
-
-#[test]
-fn a_setup_is_read_whole(rt: HostRuntime) -> Result<(), Fail> {
-    let mut reader = MemIn::new(Vec::from_slice(rt.alloc(), b"ports = 3\n")?, 4, None);
-    match read_setup(rt.alloc(), &mut reader) {
-        Ok(bytes) => same(&rt, &bytes.as_slice(), &b"ports = 3\n".as_slice()),
-        Err(_) => return Err(Fail::from("the setup is not read")),
-    }
-    Ok(())
-}
-
-#[test]
-fn a_setup_that_can_not_be_read_is_told(rt: HostRuntime) -> Result<(), Fail> {
-    let mut reader = MemIn::new(Vec::from_slice(rt.alloc(), b"ports = 3\n")?, 4, Some(1));
-    same(
-        &rt,
-        &read_setup(rt.alloc(), &mut reader).err(),
-        &Some(Failure::Setup),
-    );
-    Ok(())
-}
-
-// How many bytes of a setup of so many are read.
+// How many bytes are read of a setup of so many.
 fn count_read(alloc: Global, count: usize) -> Result<usize, Fail> {
     let mut text = Vec::new(alloc);
     text.resize(count, b' ')?;
@@ -313,8 +265,22 @@ fn count_read(alloc: Global, count: usize) -> Result<usize, Fail> {
     }
 }
 
+/// A setup in pieces is read whole, or not at all where a read fails; of one that is too long, little more than the
+/// longest there may be is read.
 #[test]
-fn the_longest_setup_is_read_whole(rt: HostRuntime) -> Result<(), Fail> {
+fn a_setup_is_read_to_its_end(rt: HostRuntime) -> Result<(), Fail> {
+    let text = b"ports = 3\n";
+    let mut reader = MemIn::new(Vec::from_slice(rt.alloc(), text)?, 4, None);
+    match read_setup(rt.alloc(), &mut reader) {
+        Ok(bytes) => same(&rt, &bytes.as_slice(), &text.as_slice()),
+        Err(_) => return Err(Fail::from("the setup is not read")),
+    }
+    let mut reader = MemIn::new(Vec::from_slice(rt.alloc(), text)?, 4, Some(1));
+    same(
+        &rt,
+        &read_setup(rt.alloc(), &mut reader).err(),
+        &Some(Failure::Setup),
+    );
     same(&rt, &count_read(rt.alloc(), 1_048_576)?, &1_048_576);
     let more = count_read(rt.alloc(), 2_000_000)?;
     assert!(rt; 1_048_576 < more && more < 1_060_000);

@@ -17,16 +17,10 @@ pub fn printed(alloc: Global, text: &str) -> Result<String, Fail> {
 }
 
 /// The same, and a line feed.
-pub fn line_of(alloc: Global, text: &str) -> Result<String, Fail> {
+fn line_of(alloc: Global, text: &str) -> Result<String, Fail> {
     let mut line = printed(alloc, text)?;
     line.push_str("\n")?;
     Ok(line)
-}
-
-/// The reply is written as this text, which is what `serde_json` prints of its value.
-pub fn is_spelled(rt: &impl Abort, alloc: Global, reply: &Reply, text: &str) -> Result<(), Fail> {
-    same(rt, &line_of(alloc, text)?.as_str(), &text);
-    is_written(rt, alloc, reply, text)
 }
 
 /// The reply is written as this text.
@@ -39,5 +33,6 @@ fn is_written(rt: &impl Abort, alloc: Global, reply: &Reply, text: &str) -> Resu
 
 /// The text is the line of the reply, and the same as `serde_json` prints of its value.
 pub fn spells(rt: &impl Abort, alloc: Global, reply: Reply, text: &str) -> Result<(), Fail> {
-    is_spelled(rt, alloc, &reply, text)
+    same(rt, &line_of(alloc, text)?.as_str(), &text);
+    is_written(rt, alloc, &reply, text)
 }

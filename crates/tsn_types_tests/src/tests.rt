@@ -1,4 +1,6 @@
-//! The calls of the types on numbers of the sessions in `examples/`.
+//! What no line shows of the types: the order of keys, copies of records, what is told of their ranges, and the names
+//! that no reply has. The ranges of numbers, references, limits and the other names are seen through the program
+//! (`examples/tables`).
 
 mod lists;
 mod literals;
@@ -9,135 +11,8 @@ use std::alloc::{AllocError, AllocFailed};
 use std::cmp::Ordering;
 use std::process::Abort;
 use std::test::Fail;
-use tsn_types::keys::{Key, Kind};
-use tsn_types::limits::Limits;
-use tsn_types::numbers::{
-    BitRate, Cycle, Extension, FilterId, GateId, Handle, Instant, Interval, MaxSdu, MeterId,
-    Octets, PortId, Priority, Range,
-};
-use tsn_types::records::{PortGates, Record, RecordRef, Refs, StreamFilter, StreamGate};
+use tsn_types::records::{PortGates, Record, RecordRef, StreamFilter, StreamGate};
 use tsn_types::refusals::{Field, Refusal};
-
-#[test]
-fn ports_and_priorities_keep_their_ranges(rt: HostRuntime) {
-    for (made, wanted) in [
-        (PortId::new(0).map(PortId::get), Err(Range)),
-        (PortId::new(1).map(PortId::get), Ok(1)),
-        (PortId::new(64).map(PortId::get), Ok(64)),
-        (PortId::new(65).map(PortId::get), Err(Range)),
-        (Priority::new(0).map(Priority::get), Ok(0)),
-        (Priority::new(7).map(Priority::get), Ok(7)),
-        (Priority::new(8).map(Priority::get), Err(Range)),
-    ] {
-        same(&rt, &made, &wanted);
-    }
-}
-
-#[test]
-fn instances_are_numbered_from_0_to_65535(rt: HostRuntime) {
-    for (made, wanted) in [
-        (FilterId::new(0).map(FilterId::get), Ok(0)),
-        (FilterId::new(65_535).map(FilterId::get), Ok(65_535)),
-        (FilterId::new(65_536).map(FilterId::get), Err(Range)),
-        (GateId::new(0).map(GateId::get), Ok(0)),
-        (GateId::new(65_535).map(GateId::get), Ok(65_535)),
-        (GateId::new(65_536).map(GateId::get), Err(Range)),
-        (MeterId::new(0).map(MeterId::get), Ok(0)),
-        (MeterId::new(65_535).map(MeterId::get), Ok(65_535)),
-        (MeterId::new(65_536).map(MeterId::get), Err(Range)),
-    ] {
-        same(&rt, &made, &wanted);
-    }
-}
-
-#[test]
-fn handles_octets_and_intervals_keep_their_ranges(rt: HostRuntime) {
-    for (made, wanted) in [
-        (Handle::new(0).map(Handle::get), Ok(0)),
-        (
-            Handle::new(4_294_967_295).map(Handle::get),
-            Ok(4_294_967_295),
-        ),
-        (Handle::new(4_294_967_296).map(Handle::get), Err(Range)),
-        (Octets::new(0).map(Octets::get), Ok(0)),
-        (
-            Octets::new(4_294_967_295).map(Octets::get),
-            Ok(4_294_967_295),
-        ),
-        (Octets::new(4_294_967_296).map(Octets::get), Err(Range)),
-        (Interval::new(0).map(Interval::get), Err(Range)),
-        (Interval::new(1).map(Interval::get), Ok(1)),
-        (
-            Interval::new(4_294_967_295).map(Interval::get),
-            Ok(4_294_967_295),
-        ),
-        (Interval::new(4_294_967_296).map(Interval::get), Err(Range)),
-    ] {
-        same(&rt, &made, &wanted);
-    }
-}
-
-#[test]
-fn sizes_and_rates_keep_their_ranges(rt: HostRuntime) {
-    for (made, wanted) in [
-        (MaxSdu::new(0).map(MaxSdu::get), Err(Range)),
-        (MaxSdu::new(1).map(MaxSdu::get), Ok(1)),
-        (MaxSdu::new(65_535).map(MaxSdu::get), Ok(65_535)),
-        (MaxSdu::new(65_536).map(MaxSdu::get), Err(Range)),
-        (BitRate::new(0).map(BitRate::get), Ok(0)),
-        (
-            BitRate::new(1_000_000_000_000).map(BitRate::get),
-            Ok(1_000_000_000_000),
-        ),
-        (
-            BitRate::new(1_000_000_000_001).map(BitRate::get),
-            Err(Range),
-        ),
-    ] {
-        same(&rt, &made, &wanted);
-    }
-}
-
-#[test]
-fn instants_and_cycles_keep_their_ranges(rt: HostRuntime) {
-    for (made, wanted) in [
-        (Instant::new(0).map(Instant::get), Ok(0)),
-        (
-            Instant::new(4_611_686_018_427_387_904).map(Instant::get),
-            Ok(4_611_686_018_427_387_904),
-        ),
-        (
-            Instant::new(4_611_686_018_427_387_905).map(Instant::get),
-            Err(Range),
-        ),
-        (Cycle::new(0).map(Cycle::get), Err(Range)),
-        (Cycle::new(1).map(Cycle::get), Ok(1)),
-        (
-            Cycle::new(1_000_000_000_000).map(Cycle::get),
-            Ok(1_000_000_000_000),
-        ),
-        (Cycle::new(1_000_000_000_001).map(Cycle::get), Err(Range)),
-        (Extension::new(0).map(Extension::get), Ok(0)),
-        (
-            Extension::new(1_000_000_000_000).map(Extension::get),
-            Ok(1_000_000_000_000),
-        ),
-        (
-            Extension::new(1_000_000_000_001).map(Extension::get),
-            Err(Range),
-        ),
-    ] {
-        same(&rt, &made, &wanted);
-    }
-}
-
-#[test]
-fn a_key_tells_its_kind(rt: HostRuntime) {
-    same(&rt, &port_key(1).kind(), &Kind::Port);
-    same(&rt, &filter_key(1).kind(), &Kind::Filter);
-    same(&rt, &gate_key(1).kind(), &Kind::Gate);
-    same(&rt, &meter_key(1).kind(), &Kind::Meter);
-}
 
 #[test]
 fn keys_are_ordered_by_kind_and_then_by_number(rt: HostRuntime) {
@@ -166,38 +41,19 @@ fn gate_is_copied(rt: &impl Abort, gate: &StreamGate) -> Result<(), AllocError> 
     Ok(())
 }
 
-fn is_copied(rt: &impl Abort, record: &Record) -> Result<(), AllocError> {
+/// The record and the same one lent equal their copies, and are not the other one.
+fn is_copied(
+    rt: &impl Abort,
+    record: &Record,
+    lent: RecordRef,
+    other: &Record,
+) -> Result<(), AllocError> {
+    record.tell_ranges();
     assert!(rt; record.try_clone()? == *record, "{record:?}");
-    Ok(())
-}
-
-#[test]
-fn copies_are_equal(rt: HostRuntime) -> Result<(), Fail> {
-    port_is_copied(&rt, &port(rt.alloc())?)?;
-    gate_is_copied(&rt, &gate(rt.alloc())?)?;
-    is_copied(&rt, &Record::Port(port(rt.alloc())?))?;
-    is_copied(&rt, &Record::Filter(filter()))?;
-    is_copied(&rt, &Record::Gate(gate(rt.alloc())?))?;
-    is_copied(&rt, &Record::Meter(meter()))?;
-    Ok(())
-}
-
-#[test]
-fn records_differ_by_kind_and_by_member(rt: HostRuntime) {
-    let kept = Record::Filter(filter());
-    let unmetered = Record::Filter(StreamFilter {
-        meter: None,
-        ..filter()
-    });
-    assert!(rt; kept == Record::Filter(filter()));
-    assert!(rt; kept != unmetered);
-    assert!(rt; kept != Record::Meter(meter()));
-}
-
-/// The lent record is its copy, and no closed gate.
-fn is_its_copy(rt: &impl Abort, lent: RecordRef, closed: &Record) -> Result<(), AllocError> {
+    assert!(rt; *record != *other, "{record:?}");
+    assert!(rt; lent.try_clone()? == *record, "{lent:?}");
     assert!(rt; lent.is(&lent.try_clone()?), "{lent:?}");
-    assert!(rt; !lent.is(closed), "{lent:?}");
+    assert!(rt; !lent.is(other), "{lent:?}");
     Ok(())
 }
 
@@ -210,188 +66,42 @@ fn closed(gate: &StreamGate) -> Result<Record, AllocError> {
 }
 
 #[test]
-fn a_lent_record_is_the_record(rt: HostRuntime) -> Result<(), Fail> {
-    let gate = gate(rt.alloc())?;
-    let closed = closed(&gate)?;
-    is_its_copy(&rt, RecordRef::Port(&port(rt.alloc())?), &closed)?;
-    is_its_copy(&rt, RecordRef::Filter(&filter()), &closed)?;
-    is_its_copy(&rt, RecordRef::Gate(&gate), &closed)?;
-    is_its_copy(&rt, RecordRef::Meter(&meter()), &closed)?;
-    assert!(rt; RecordRef::Gate(&gate).try_clone()? == Record::Gate(gate));
-    Ok(())
-}
-
-/// The record refers to just these keys.
-fn refers_to_just(rt: &impl Abort, record: &Record, first: Option<Key>, second: Option<Key>) {
-    assert_eq!(rt; record.refs(), Refs { first, second }, "{record:?}");
-    for key in [
-        port_key(5),
-        filter_key(9),
-        gate_key(9),
-        gate_key(5),
-        meter_key(5),
-    ] {
-        let wanted = first == Some(key) || second == Some(key);
-        assert_eq!(rt; record.refers_to(&key), wanted, "{record:?} {key:?}");
-    }
-}
-
-#[test]
-fn a_filter_refers_to_its_gate_and_meter(rt: HostRuntime) -> Result<(), Fail> {
-    let gate_9 = Some(gate_key(9));
-    let unmetered = StreamFilter {
+fn records_are_copied_and_told_apart(rt: HostRuntime) -> Result<(), Fail> {
+    let (one_port, one_gate) = (port(rt.alloc())?, gate(rt.alloc())?);
+    let closed = closed(&one_gate)?;
+    let unmetered = Record::Filter(StreamFilter {
         meter: None,
         ..filter()
-    };
-    refers_to_just(&rt, &Record::Filter(filter()), gate_9, Some(meter_key(5)));
-    refers_to_just(&rt, &Record::Filter(unmetered), gate_9, None);
-    refers_to_just(&rt, &Record::Port(port(rt.alloc())?), None, None);
-    refers_to_just(&rt, &Record::Gate(gate(rt.alloc())?), None, None);
-    refers_to_just(&rt, &Record::Meter(meter()), None, None);
+    });
+    let a_port = Record::Port(port(rt.alloc())?);
+    let a_gate = Record::Gate(gate(rt.alloc())?);
+    let (a_filter, a_meter) = (Record::Filter(filter()), Record::Meter(meter()));
+    port_is_copied(&rt, &one_port)?;
+    gate_is_copied(&rt, &one_gate)?;
+    is_copied(&rt, &a_port, RecordRef::Port(&one_port), &closed)?;
+    is_copied(&rt, &a_gate, RecordRef::Gate(&one_gate), &closed)?;
+    is_copied(&rt, &a_meter, RecordRef::Meter(&meter()), &closed)?;
+    for other in [&closed, &unmetered, &a_meter] {
+        is_copied(&rt, &a_filter, RecordRef::Filter(&filter()), other)?;
+    }
     Ok(())
 }
 
-fn tells_ranges(rt: &impl Abort, record: &Record) -> Result<(), AllocError> {
-    record.tell_ranges();
-    is_copied(rt, record)
-}
-
+/// A setup's refusal has no member, and want of memory is brought about by no line.
 #[test]
-fn ranges_are_told_of_every_record(rt: HostRuntime) -> Result<(), Fail> {
-    tells_ranges(&rt, &Record::Port(port(rt.alloc())?))?;
-    tells_ranges(&rt, &Record::Filter(filter()))?;
-    tells_ranges(&rt, &Record::Gate(gate(rt.alloc())?))?;
-    tells_ranges(&rt, &Record::Meter(meter()))?;
-    Ok(())
-}
-
-#[test]
-fn limits_keep_their_ranges(rt: HostRuntime) {
-    for (made, is_made) in [
-        (Limits::new(1, 1, 1, 1, 1), true),
-        (Limits::new(64, 65_536, 65_536, 65_536, 1_024), true),
-        (Limits::new(0, 1, 1, 1, 1), false),
-        (Limits::new(65, 1, 1, 1, 1), false),
-        (Limits::new(1, 0, 1, 1, 1), false),
-        (Limits::new(1, 65_537, 1, 1, 1), false),
-        (Limits::new(1, 1, 0, 1, 1), false),
-        (Limits::new(1, 1, 65_537, 1, 1), false),
-        (Limits::new(1, 1, 1, 0, 1), false),
-        (Limits::new(1, 1, 1, 65_537, 1), false),
-        (Limits::new(1, 1, 1, 1, 0), false),
-        (Limits::new(1, 1, 1, 1, 1_025), false),
-    ] {
-        assert_eq!(rt; made.is_ok(), is_made, "{made:?}");
-    }
-}
-
-fn holds_its_keys(rt: &impl Abort, limits: &Limits) {
-    same(rt, &limits.ports(), &2);
-    for (key, wanted) in [
-        (port_key(1), true),
-        (port_key(2), true),
-        (port_key(3), false),
-        (filter_key(0), true),
-        (filter_key(15), true),
-        (filter_key(16), false),
-        (gate_key(8), true),
-        (gate_key(9), false),
-        (meter_key(7), true),
-        (meter_key(8), false),
-    ] {
-        assert_eq!(rt; limits.holds(key), wanted, "{key:?}");
-    }
-}
-
-#[test]
-fn limits_hold_ports_from_1_and_the_rest_from_0(rt: HostRuntime) -> Result<(), Fail> {
-    holds_its_keys(&rt, &Limits::new(2, 16, 9, 8, 16)?);
-    Ok(())
-}
-
-// Why the record is outside the limits of a bridge with one port and one filter, if it is.
-fn refusal_within(
-    gates: u64,
-    meters: u64,
-    list: u64,
-    record: &Record,
-) -> Result<Option<Refusal>, Range> {
-    let limits = Limits::new(1, 1, gates, meters, list)?;
-    Ok(limits.refuse(record))
-}
-
-/// A record on a bridge whose lists have at most so many entries.
-fn is_answered(rt: &impl Abort, list: u64, record: &Record, wanted: Option<Refusal>) {
-    same(rt, &refusal_within(1, 1, list, record), &Ok(wanted));
-}
-
-#[test]
-fn a_list_outside_the_limits_is_refused(rt: HostRuntime) -> Result<(), Fail> {
-    is_answered(&rt, 2, &Record::Port(port(rt.alloc())?), None);
-    let wanted = Some(Refusal::Range(Field::List));
-    is_answered(&rt, 1, &Record::Port(port(rt.alloc())?), wanted);
-    is_answered(&rt, 1, &Record::Gate(gate(rt.alloc())?), None);
-    Ok(())
-}
-
-#[test]
-fn a_reference_outside_the_limits_is_refused(rt: HostRuntime) {
-    let filter = Record::Filter(filter());
-    let meter = Record::Meter(meter());
-    same(&rt, &refusal_within(1, 1, 1, &meter), &Ok(None));
-    for (gates, meters, wanted) in [
-        (10, 6, None),
-        (10, 5, Some(Refusal::Range(Field::Meter))),
-        (9, 6, Some(Refusal::Range(Field::Gate))),
-        (9, 5, Some(Refusal::Range(Field::Gate))),
-    ] {
-        same(&rt, &refusal_within(gates, meters, 1, &filter), &Ok(wanted));
-    }
-}
-
-#[test]
-fn refusals_have_numbers_and_names(rt: HostRuntime) {
-    for (why, number, name) in [
-        (Refusal::TooLong, 1, "too_long"),
-        (Refusal::Syntax, 2, "syntax"),
-        (Refusal::Shape, 3, "shape"),
-        (Refusal::Range(Field::Key), 4, "range"),
-        (Refusal::NoSession, 5, "no_session"),
-        (Refusal::Missing(gate_key(9)), 6, "missing"),
-        (Refusal::Exists(gate_key(9)), 7, "exists"),
-        (Refusal::Dangling(gate_key(9)), 8, "dangling"),
-        (Refusal::Referred(gate_key(9)), 9, "referred"),
-        (Refusal::NothingToUndo, 10, "nothing_to_undo"),
-        (Refusal::Conflict { own: 1, other: 2 }, 11, "conflict"),
-        (Refusal::NothingToRedo, 12, "nothing_to_redo"),
-        (Refusal::RedoConflict { other: 2 }, 13, "redo_conflict"),
-        (Refusal::NotEnabled, 14, "not_enabled"),
-        (Refusal::EmptyList, 15, "empty_list"),
-        (Refusal::Past, 16, "past"),
-        (Refusal::JournalFull, 17, "journal_full"),
-        (Refusal::Memory, 18, "memory"),
-    ] {
-        assert_eq!(rt; why.number(), number, "{why:?}");
-        same(&rt, &why.name(), &name);
-    }
-}
-
-#[test]
-fn members_have_names(rt: HostRuntime) {
+fn names_that_no_reply_has(rt: HostRuntime) {
     for (field, name) in [
-        (Field::S, "s"),
-        (Field::Session, "session"),
-        (Field::MaxSdu, "max_sdu"),
-        (Field::Octets, "octets"),
+        (Field::Id, "id"),
+        (Field::Ports, "ports"),
         (Field::MaxFilters, "max_filters"),
+        (Field::MaxGates, "max_gates"),
+        (Field::MaxMeters, "max_meters"),
         (Field::ListMax, "list_max"),
     ] {
         same(&rt, &field.name(), &name);
     }
-}
-
-#[test]
-fn a_refused_growth_is_told_as_memory(rt: HostRuntime) {
+    same(&rt, &Refusal::Memory.number(), &18);
+    same(&rt, &Refusal::Memory.name(), &"memory");
     same(&rt, &Refusal::from(AllocError), &Refusal::Memory);
     same(
         &rt,

@@ -1,19 +1,66 @@
-//! Entries of the sessions in `examples/`, and a full journal.
+//! What no script shows of a book: a refusal that is told beforehand, room that is made by itself, and an act in a full
+//! journal. `examples/tables/undo-*.txt` have what commands answer.
 
 mod literals;
 mod replay;
-mod sessions;
 
 use crate::comparing::same;
-use literals::{create, enters, fill, meter, meter_key, on_a_book, remove, stands, undoes};
+use literals::{
+    create, enters, fill, meter, meter_key, meter_of, on_a_book, redoes, remove, replace_at,
+    stands, undoes,
+};
+use std::process::Abort;
 use std::test::Fail;
 use tsn_journal::entries::Act;
 use tsn_types::numbers::Instant;
 use tsn_types::refusals::Refusal;
+use tsn_undo::book::Book;
 use tsn_undo::laws;
 
+fn conflict(own: u64, other: u64) -> Refusal {
+    Refusal::Conflict { own, other }
+}
+
+/// The undo is refused so, and `refuse_undo` tells it beforehand.
+fn is_not_undone(rt: &impl Abort, book: &mut Book, session: u32, why: &Refusal) {
+    same(rt, &book.refuse_undo(session).as_ref(), &Some(why));
+    same(rt, &book.undo(session).as_ref().err(), &Some(why));
+}
+
+/// The undo of all answers so, and `refuse_undo_all` tells the refusal beforehand.
+fn undoes_all(rt: &impl Abort, book: &mut Book, session: u32, wanted: Result<(u64, u64), Refusal>) {
+    same(rt, &book.refuse_undo_all(session), &wanted.err());
+    same(rt, &book.undo_all(session), &wanted);
+}
+
+/// The redo is refused so, and `refuse_redo` tells it beforehand.
+fn is_not_redone(rt: &impl Abort, book: &mut Book, session: u32, why: &Refusal) {
+    same(rt, &book.refuse_redo(session).as_ref(), &Some(why));
+    same(rt, &book.redo(session).as_ref().err(), &Some(why));
+}
+
+/// Session 1 replaces what session 2 made: each takes its own back, and does it again.
+fn replace_and_redo(rt: &impl Abort, book: &mut Book) {
+    is_not_undone(rt, book, 1, &Refusal::NothingToUndo);
+    undoes_all(rt, book, 1, Err(Refusal::NothingToUndo));
+    enters(rt, book, 2, create(2), 1);
+    enters(rt, book, 1, replace_at(meter_key(2), meter_of(900)), 2);
+    is_not_undone(rt, book, 2, &conflict(1, 2));
+    undoes_all(rt, book, 2, Err(conflict(1, 2)));
+    is_not_redone(rt, book, 1, &Refusal::NothingToRedo);
+    undoes(rt, book, 1, 3, 2);
+    undoes(rt, book, 2, 4, 1);
+    is_not_redone(rt, book, 1, &Refusal::RedoConflict { other: 4 });
+    redoes(rt, book, 2, 5, 4);
+    same(rt, &book.refuse_redo(1), &None);
+    redoes(rt, book, 1, 6, 3);
+    assert!(rt; stands(book, meter_key(2), &meter_of(900)));
+    undoes_all(rt, book, 1, Ok((1, 7)));
+    assert!(rt; stands(book, meter_key(2), &meter()));
+}
+
 #[test]
-fn an_undone_removal_is_whole(rt: HostRuntime) -> Result<(), Fail> {
+fn a_refusal_is_told_beforehand(rt: HostRuntime) -> Result<(), Fail> {
     laws::edit_at_once_undone();
     laws::undo_at_once_is_free();
     laws::undos_by_hand();
@@ -23,113 +70,75 @@ fn an_undone_removal_is_whole(rt: HostRuntime) -> Result<(), Fail> {
     laws::redo_has_an_entry_to_name();
     laws::undo_at_once_redone();
     on_a_book(rt.alloc(), |book| {
-        enters(&rt, book, 1, create(3), 1);
-        enters(&rt, book, 1, remove(3), 2);
-        assert!(rt; book.config().get(meter_key(3)).is_none());
-        undoes(&rt, book, 1, 3, 2);
-        assert!(rt; stands(book, meter_key(3), &meter()));
-        undoes(&rt, book, 1, 4, 1);
-        same(&rt, &book.undo(1), &Err(Refusal::NothingToUndo));
-        same(&rt, &book.journal().len(), &4);
+        replace_and_redo(&rt, book);
         Ok(())
     })
 }
 
-#[test]
-fn another_session_blocks_an_undo(rt: HostRuntime) -> Result<(), Fail> {
-    on_a_book(rt.alloc(), |book| {
-        enters(&rt, book, 1, create(0), 1);
-        enters(&rt, book, 2, remove(0), 2);
-        same(
-            &rt,
-            &book.undo(1),
-            &Err(Refusal::Conflict { own: 1, other: 2 }),
-        );
-        undoes(&rt, book, 2, 3, 2);
-        undoes(&rt, book, 1, 4, 1);
-        Ok(())
-    })
+/// An enable, which is entered or refused so. A book takes a key of any kind.
+fn acts(rt: &impl Abort, book: &mut Book, wanted: Result<u64, Refusal>) {
+    let now = Instant::new(7).unwrap();
+    same(rt, &book.acted(1, Act::Enable, meter_key(1), now), &wanted);
+}
+
+/// Room is made for as many entries as a journal holds, and an act is an entry that changes nothing.
+fn make_room(rt: &impl Abort, book: &mut Book) {
+    same(rt, &book.reserve(65_537), &Err(Refusal::JournalFull));
+    same(rt, &book.reserve(2), &Ok(()));
+    enters(rt, book, 1, create(1), 1);
+    same(rt, &book.journal().len(), &1);
+    acts(rt, book, Ok(2));
+    same(rt, &book.journal().len(), &2);
+    assert!(rt; stands(book, meter_key(1), &meter()));
+    undoes(rt, book, 1, 3, 1);
+}
+
+/// Session 2 removes what session 3 made, and the journal is filled but for three entries.
+fn fill_up(rt: &impl Abort, book: &mut Book) -> Result<(), Refusal> {
+    enters(rt, book, 3, create(7), 4);
+    enters(rt, book, 2, remove(7), 5);
+    fill(book, 32_764)
+}
+
+/// With one entry free two are not taken back.
+fn use_the_last_entry(rt: &impl Abort, book: &mut Book) {
+    enters(rt, book, 1, create(1), 65_534);
+    enters(rt, book, 1, create(2), 65_535);
+    undoes_all(rt, book, 1, Err(Refusal::JournalFull));
+    same(rt, &book.journal().count_of(1), &2);
+    undoes(rt, book, 1, 65_536, 65_535);
+}
+
+/// In a full journal nothing is entered; that nothing stands and that something is in conflict is told first.
+fn is_full(rt: &impl Abort, book: &mut Book) {
+    same(
+        rt,
+        &book.refuse_edit(&create(3)),
+        &Some(Refusal::JournalFull),
+    );
+    same(rt, &book.edit(1, create(3)), &Err(Refusal::JournalFull));
+    is_not_redone(rt, book, 1, &Refusal::JournalFull);
+    is_not_undone(rt, book, 1, &Refusal::JournalFull);
+    undoes_all(rt, book, 1, Err(Refusal::JournalFull));
+    is_not_undone(rt, book, 3, &conflict(4, 5));
+    undoes_all(rt, book, 3, Err(conflict(4, 5)));
+    is_not_undone(rt, book, 4, &Refusal::NothingToUndo);
+    undoes_all(rt, book, 4, Err(Refusal::NothingToUndo));
+    acts(rt, book, Err(Refusal::JournalFull));
+    same(rt, &book.reserve(1), &Err(Refusal::JournalFull));
+    same(rt, &book.reserve(0), &Ok(()));
+}
+
+/// From the first entry to the last.
+fn use_every_entry(rt: &impl Abort, book: &mut Book) -> Result<(), Fail> {
+    make_room(rt, book);
+    fill_up(rt, book)?;
+    use_the_last_entry(rt, book);
+    is_full(rt, book);
+    Ok(())
 }
 
 #[test]
 fn a_full_journal_takes_no_more(rt: HostRuntime) -> Result<(), Fail> {
-    on_a_book(rt.alloc(), |book| {
-        fill(book, 32_767)?;
-        enters(&rt, book, 1, create(1), 65_535);
-        enters(&rt, book, 1, create(2), 65_536);
-        same(&rt, &book.edit(1, create(3)), &Err(Refusal::JournalFull));
-        same(&rt, &book.undo(1), &Err(Refusal::JournalFull));
-        same(&rt, &book.undo(2), &Err(Refusal::NothingToUndo));
-        Ok(())
-    })
-}
-
-#[test]
-fn a_conflict_comes_before_a_full_journal(rt: HostRuntime) -> Result<(), Fail> {
-    on_a_book(rt.alloc(), |book| {
-        fill(book, 32_767)?;
-        enters(&rt, book, 1, create(1), 65_535);
-        enters(&rt, book, 2, remove(1), 65_536);
-        same(
-            &rt,
-            &book.undo(1),
-            &Err(Refusal::Conflict {
-                own: 65_535,
-                other: 65_536,
-            }),
-        );
-        same(
-            &rt,
-            &book.refuse_undo(1),
-            &Some(Refusal::Conflict {
-                own: 65_535,
-                other: 65_536,
-            }),
-        );
-        same(&rt, &book.undo(2), &Err(Refusal::JournalFull));
-        same(
-            &rt,
-            &book.refuse_edit(&create(2)),
-            &Some(Refusal::JournalFull),
-        );
-        Ok(())
-    })
-}
-
-#[test]
-fn a_session_of_any_number_is_kept_apart(rt: HostRuntime) -> Result<(), Fail> {
-    on_a_book(rt.alloc(), |book| {
-        enters(&rt, book, 60_000, create(1), 1);
-        enters(&rt, book, 59_999, create(2), 2);
-        let first = book.journal().entry(1).ok_or("no first entry")?;
-        same(&rt, &first.session, &60_000);
-        same(&rt, &book.undo(60_001), &Err(Refusal::NothingToUndo));
-        undoes(&rt, book, 60_000, 3, 1);
-        assert!(rt; !stands(book, meter_key(1), &meter()) && stands(book, meter_key(2), &meter()));
-        Ok(())
-    })
-}
-
-#[test]
-fn room_is_made_for_as_many_as_a_journal_holds(rt: HostRuntime) -> Result<(), Fail> {
-    on_a_book(rt.alloc(), |book| {
-        same(&rt, &book.reserve(65_537), &Err(Refusal::JournalFull));
-        same(&rt, &book.reserve(2), &Ok(()));
-        enters(&rt, book, 1, create(1), 1);
-        same(&rt, &book.journal().len(), &1);
-        Ok(())
-    })
-}
-
-#[test]
-fn an_act_is_entered_and_changes_nothing(rt: HostRuntime) -> Result<(), Fail> {
-    on_a_book(rt.alloc(), |book| {
-        enters(&rt, book, 1, create(1), 1);
-        let now = Instant::new(7)?;
-        same(&rt, &book.acted(1, Act::Enable, meter_key(1), now), &Ok(2));
-        same(&rt, &book.journal().len(), &2);
-        assert!(rt; stands(book, meter_key(1), &meter()));
-        undoes(&rt, book, 1, 3, 1);
-        Ok(())
-    })
+    on_a_book(rt.alloc(), |book| use_every_entry(&rt, book))
 }

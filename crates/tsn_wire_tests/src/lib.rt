@@ -1,11 +1,8 @@
-//! Tests of `tsn_wire` over its public calls alone.
+//! The test of `tsn_wire` that only its public calls can make: which lines it reads with no tree. What a line says is
+//! tested through the program, in the tables `lines-*.txt` and `records-*.txt` of `examples/tables`.
 //!
-//! They stand beside the crate and not in it, so that proving them does not prove the crate again.
+//! It stands beside the crate and not in it, so that proving it does not prove the crate again.
 #![tactic(auto)]
 
 #[cfg(test)]
-mod comparing;
-#[cfg(test)]
-mod samples;
-#[cfg(test)]
-mod tests;
+mod spellings;

@@ -8,11 +8,10 @@ use std::process::Abort;
 use std::test::Fail;
 use tsn_chain::frame::{DropCause, Frame, Verdict};
 use tsn_chain::runtime::{Runtime, police};
-use tsn_chain::state::{Counters, State};
+use tsn_chain::state::Counters;
 use tsn_config::Config;
 use tsn_config::records::Records;
 use tsn_edit::{Change, Edit};
-use tsn_schedule::runner::Past;
 use tsn_types::keys::Key;
 use tsn_types::limits::Limits;
 use tsn_types::lists::ControlList;
@@ -63,10 +62,6 @@ impl Bench {
         Ok(())
     }
 
-    pub(super) fn now(&self) -> u64 {
-        self.runtime.now().get()
-    }
-
     /// Passes a frame.
     pub(super) fn pass(&mut self, frame: Frame, now: u64) -> Verdict
         requires { now ≤ 2 ^ 62 }
@@ -91,16 +86,6 @@ impl Bench {
         Some(self.runtime.enable(Key::Gate(id), instant(now)))
     }
 
-    pub(super) fn disable_gate(&mut self, id: GateId, now: u64) -> Option<()>
-        requires { now ≤ 2 ^ 62 }
-    {
-        if self.config.get(Key::Gate(id)).is_none() {
-            return None;
-        }
-        self.runtime.disable(Key::Gate(id), instant(now));
-        Some(())
-    }
-
     pub(super) fn apply_gate(&mut self, id: GateId, now: u64) -> Option<u64>
         requires { now ≤ 2 ^ 62 }
     {
@@ -115,22 +100,10 @@ impl Bench {
             Err(_) => None,
         }
     }
-
-    pub(super) fn gate_state(&self, id: GateId, t: u64) -> Option<Result<State, Past>>
-        requires { t ≤ 2 ^ 62 }
-    {
-        let Some(RecordRef::Gate(_)) = self.config.get(Key::Gate(id)) else {
-            return None;
-        };
-        Some(
-            self.runtime
-                .states_at(&self.config, Key::Gate(id), instant(t)),
-        )
-    }
 }
 
 /// The key of the one port.
-pub(super) fn port_key() -> Key
+fn port_key() -> Key
     ensures { result ≡ Key.Port 1 }
 {
     Key::Port(PortId::new(1).unwrap())
@@ -248,7 +221,7 @@ pub(super) fn filter() -> StreamFilter {
 }
 
 /// A filter of handle 7 on gate 0 and meter 0, with at most 1500 octets.
-pub(super) fn metered_filter() -> StreamFilter {
+fn metered_filter() -> StreamFilter {
     StreamFilter {
         handle: Some(Handle::new(7).unwrap()),
         priority: None,
@@ -288,7 +261,7 @@ pub(super) fn create_filter(number: u64, filter: StreamFilter) -> Edit
     Edit::Create(Key::Filter(filter_id(number)), Record::Filter(filter))
 }
 
-pub(super) fn create_meter(number: u64, meter: FlowMeter) -> Edit
+fn create_meter(number: u64, meter: FlowMeter) -> Edit
     requires { number ≤ 65535 }
 {
     Edit::Create(Key::Meter(meter_id(number)), Record::Meter(meter))

@@ -130,28 +130,17 @@ pub(super) fn remove(number: u64) -> Edit
     remove_at(meter_key(number))
 }
 
-/// Plays on a book that begins with the records. One function makes the books and lends them, so that a proof goes
-/// once over a book's end.
-pub(super) fn on_a_book_of<F: FnOnce(&mut Book) -> Result<(), Fail>>(
-    alloc: Global,
-    records: Records,
-    play: F,
-) -> Result<(), Fail>
-    requires { F.IsAlwaysCallable play }
-{
-    let limits = Limits::new(2, 16, 16, 16, 16).unwrap();
-    let mut book = Book::new(alloc, Config::open(alloc, limits, records)?);
-    play(&mut book)
-}
-
-/// Plays on a book that begins with the default ports alone.
+/// Plays on a book that begins with the default ports alone. One function makes the books and lends them, so that a
+/// proof goes once over a book's end.
 pub(super) fn on_a_book<F: FnOnce(&mut Book) -> Result<(), Fail>>(
     alloc: Global,
     play: F,
 ) -> Result<(), Fail>
     requires { F.IsAlwaysCallable play }
 {
-    on_a_book_of(alloc, Records::new(alloc), play)
+    let limits = Limits::new(2, 16, 16, 16, 16).unwrap();
+    let mut book = Book::new(alloc, Config::open(alloc, limits, Records::new(alloc))?);
+    play(&mut book)
 }
 
 /// Creates meter 1 and takes that back, so many times.

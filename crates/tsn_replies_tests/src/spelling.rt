@@ -1,0 +1,201 @@
+//! Replies that no script brings about, as numbers up to 2^64 - 1 are: their lines are what `serde_json` prints of the
+//! same values.
+use crate::comparing::same;
+use crate::printing::{printed, spells};
+use std::alloc::Global;
+use std::process::Abort;
+use std::test::Fail;
+use tsn_bridge::reply::Reply;
+use tsn_bytes::MemOut;
+use tsn_chain::data::FilterData;
+use tsn_chain::state::{Counters, ListCounters};
+use tsn_edit::Change;
+use tsn_journal::entries::{Act, Entry, What};
+use tsn_replies::{ShortText, write_entries};
+use tsn_types::keys::Key;
+use tsn_types::numbers::{FilterId, GateId, Instant, PortId};
+use tsn_types::refusals::Refusal;
+
+const GREATEST: u64 = 18_446_744_073_709_551_615;
+
+fn spells_entries(rt: &impl Abort, alloc: Global) -> Result<(), Fail> {
+    let text = "{\"entry\":18446744073709551615}\n";
+    spells(rt, alloc, Reply::Entry { entry: GREATEST }, text)?;
+    for (entry, of, text) in [
+        (GREATEST, 0, "{\"entry\":18446744073709551615,\"of\":0}\n"),
+        (1, GREATEST, "{\"entry\":1,\"of\":18446744073709551615}\n"),
+    ] {
+        spells(rt, alloc, Reply::EntryOf { entry, of }, text)?;
+    }
+    let most = Reply::TakenBack {
+        count: GREATEST,
+        entry: GREATEST,
+    };
+    let text = "{\"count\":18446744073709551615,\"entry\":18446744073709551615}\n";
+    spells(rt, alloc, most, text)
+}
+
+fn spells_acts(rt: &impl Abort, alloc: Global) -> Result<(), Fail> {
+    let text = "{\"change\":18446744073709551615,\"entry\":18446744073709551615,\
+        \"now\":4611686018427387904}\n";
+    let now = Instant::new(4_611_686_018_427_387_904).unwrap();
+    let most = Reply::Acted {
+        change: Some(GREATEST),
+        entry: GREATEST,
+        now,
+    };
+    spells(rt, alloc, most, text)?;
+    let least = Reply::Acted {
+        change: Some(0),
+        entry: 1,
+        now: Instant::new(0).unwrap(),
+    };
+    spells(rt, alloc, least, "{\"change\":0,\"entry\":1,\"now\":0}\n")
+}
+
+fn spells_refusals(rt: &impl Abort, alloc: Global) -> Result<(), Fail> {
+    for (refusal, text) in [
+        (
+            Refusal::Missing(Key::Port(PortId::new(64).unwrap())),
+            "{\"key\":\"port 64\",\"refused\":6,\"why\":\"missing\"}\n",
+        ),
+        (Refusal::Memory, "{\"refused\":18,\"why\":\"memory\"}\n"),
+    ] {
+        spells(rt, alloc, Reply::Refused(refusal), text)?;
+    }
+    Ok(())
+}
+
+fn list(change_error: u64, change_time: Option<u64>, enabled: bool, pending: bool) -> ListCounters {
+    ListCounters {
+        change_error,
+        change_time,
+        enabled,
+        pending,
+    }
+}
+
+fn spells_counters_of_ports(rt: &impl Abort, alloc: Global) -> Result<(), Fail> {
+    let least = "{\"change_error\":0,\"change_time\":0,\"enabled\":false,\"pending\":true}\n";
+    let to_come = Reply::Counters(Counters::Port(list(0, Some(0), false, true)));
+    spells(rt, alloc, to_come, least)?;
+    let most = "{\"change_error\":18446744073709551615,\"change_time\":18446744073709551615,\
+        \"enabled\":true,\"pending\":false}\n";
+    let full = Reply::Counters(Counters::Port(list(GREATEST, Some(GREATEST), true, false)));
+    spells(rt, alloc, full, most)
+}
+
+fn spells_counters_of_gates(rt: &impl Abort, alloc: Global) -> Result<(), Fail> {
+    let most = "{\"change_error\":18446744073709551615,\"change_time\":18446744073709551615,\
+        \"enabled\":false,\"invalid_rx\":true,\"octets_exceeded\":false,\"pending\":true}\n";
+    let full = Reply::Counters(Counters::Gate {
+        list: list(GREATEST, Some(GREATEST), false, true),
+        invalid_rx: true,
+        octets_exceeded: false,
+    });
+    spells(rt, alloc, full, most)
+}
+
+fn filter(blocked: bool, counts: [u64; 6]) -> Reply {
+    let [
+        matching,
+        not_passing,
+        not_passing_sdu,
+        passing,
+        passing_sdu,
+        red,
+    ] = counts;
+    Reply::Counters(Counters::Filter(FilterData {
+        blocked,
+        matching,
+        not_passing,
+        not_passing_sdu,
+        passing,
+        passing_sdu,
+        red,
+    }))
+}
+
+fn spells_counters_of_filters(rt: &impl Abort, alloc: Global) -> Result<(), Fail> {
+    let apart =
+        "{\"blocked\":true,\"matching\":10,\"not_passing\":4,\"not_passing_sdu\":1,\"passing\":6,\
+        \"passing_sdu\":9,\"red\":2}\n";
+    spells(rt, alloc, filter(true, [10, 4, 1, 6, 9, 2]), apart)?;
+    let most =
+        "{\"blocked\":true,\"matching\":18446744073709551615,\"not_passing\":18446744073709551615,\
+        \"not_passing_sdu\":18446744073709551615,\"passing\":18446744073709551615,\
+        \"passing_sdu\":18446744073709551615,\"red\":18446744073709551615}\n";
+    spells(rt, alloc, filter(true, [GREATEST; 6]), most)
+}
+
+fn change() -> Change {
+    Change {
+        key: Key::Filter(FilterId::new(65_535).unwrap()),
+        before: None,
+        after: None,
+    }
+}
+
+// The greatest entry of the greatest session is told in this text, which is what `serde_json` prints of its value.
+fn tells(rt: &impl Abort, alloc: Global, what: What, text: &str) -> Result<(), Fail> {
+    same(rt, &printed(alloc, text)?.as_str(), &text);
+    let line = format!(in alloc; "{{\"entries\":[{text}]}}\n")?;
+    let entry = Entry {
+        number: GREATEST,
+        session: 4_294_967_295,
+        what,
+    };
+    are_told(rt, alloc, &[entry], line.as_str())
+}
+
+// The line of these entries is this text.
+fn are_told(rt: &impl Abort, alloc: Global, entries: &[Entry], text: &str) -> Result<(), Fail> {
+    let mut writer = MemOut::new(Vec::with_capacity(alloc, text.len())?, 1000, None);
+    write_entries(&mut writer, &mut ShortText::new(), entries)?;
+    same(rt, &writer.as_slice(), &text.as_bytes());
+    Ok(())
+}
+
+fn tells_changes(rt: &impl Abort, alloc: Global) -> Result<(), Fail> {
+    let text =
+        "{\"entry\":18446744073709551615,\"key\":\"filter 65535\",\"session\":4294967295,\"what\":\"made\"}";
+    tells(rt, alloc, What::Made(change()), text)?;
+    let text =
+        "{\"entry\":18446744073709551615,\"key\":\"filter 65535\",\"of\":18446744073709551615,\"session\":4294967295,\"what\":\"undone\"}";
+    let undone = What::Undone {
+        of: GREATEST,
+        change: change(),
+    };
+    tells(rt, alloc, undone, text)?;
+    let text =
+        "{\"entry\":18446744073709551615,\"key\":\"filter 65535\",\"of\":18446744073709551615,\"session\":4294967295,\"what\":\"redone\"}";
+    let redone = What::Redone {
+        of: GREATEST,
+        change: change(),
+    };
+    tells(rt, alloc, redone, text)
+}
+
+fn tells_an_act(rt: &impl Abort, alloc: Global) -> Result<(), Fail> {
+    let text =
+        "{\"act\":\"disable\",\"entry\":18446744073709551615,\"key\":\"gate 65535\",\"now\":4611686018427387904,\"session\":4294967295,\"what\":\"acted\"}";
+    let acted = What::Acted {
+        act: Act::Disable,
+        key: Key::Gate(GateId::new(65_535).unwrap()),
+        now: Instant::new(4_611_686_018_427_387_904).unwrap(),
+    };
+    tells(rt, alloc, acted, text)
+}
+
+#[test]
+fn spells_what_no_script_brings_about(rt: HostRuntime) -> Result<(), Fail> {
+    let alloc = rt.alloc();
+    spells_entries(&rt, alloc)?;
+    spells_acts(&rt, alloc)?;
+    spells_refusals(&rt, alloc)?;
+    spells_counters_of_ports(&rt, alloc)?;
+    spells_counters_of_gates(&rt, alloc)?;
+    spells_counters_of_filters(&rt, alloc)?;
+    tells_changes(&rt, alloc)?;
+    tells_an_act(&rt, alloc)
+}
