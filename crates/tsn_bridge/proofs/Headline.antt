@@ -32,7 +32,7 @@ use Rattle.tsn_bridge.specs.declared.reply.Reply.TheVariants.{Acted, Entry, Entr
 use Rattle.tsn_bridge.specs.Acts.{apply_change, apply_rule, has_entry, instant}
 use Rattle.tsn_bridge.specs.Edits.{undo_rule}
 use Rattle.tsn_bridge.specs.Headline.{AtOnceUndone, EditsLast, GateRuns, OthersAlone, OthersLeft, PortRuns, PutsBack, RestoredList}
-use Rattle.tsn_bridge.specs.Histories.{AreInRange, CommandInRange, Leads, StateIsSound, Turn, command_of}
+use Rattle.tsn_bridge.specs.Histories.{AreInRange, CommandInRange, Leads, StateIsSound, Answered, command_of}
 use Rattle.tsn_bridge.specs.Machine.{Step}
 use Rattle.tsn_bridge.specs.Quiet.{SinceQuiet}
 use Rattle.tsn_bridge.specs.Rule.{Allows}
@@ -58,7 +58,7 @@ module _ (before between : State) (session : ℕ) (edit : Edit) (entry : ℕ) (s
   -- nothing came into the book since
   same_book : between.book ≡ last.edited.book
   same_book =
-      let on = follow last.turns last.edited between sound_edited last.in_range last.leads in
+      let on = follow last.asks last.edited between sound_edited last.in_range last.leads in
       λ i. record { limits = on.limits i; opening = on.opening i; entries = last.none_since i }
 
   undone_edit : (after : State) (number of : ℕ) → Allows (undo_rule between session) between (EntryOf number of) after → (of ≡ entry) × (present after.book ≡ present before.book)
@@ -67,7 +67,7 @@ module _ (before between : State) (session : ℕ) (edit : Edit) (entry : ℕ) (s
   free_edit : (after : State) (why : Refusal) → Allows (undo_rule between session) between (Refused why) after → (why ≡ JournalFull) ⊎ (why ≡ Memory)
   free_edit after why back =
       free before last.edited between session edit entry last.ranges sound (made_by before last.edited session edit entry last.step) same_book
-      (follow last.turns last.edited between sound_edited last.in_range last.leads).sessions after why back
+      (follow last.asks last.edited between sound_edited last.in_range last.leads).sessions after why back
 
 pub at_once_undone : (s : State) → StateIsSound s → AtOnceUndone s
 at_once_undone s sound = record {
@@ -118,7 +118,7 @@ applied_is s applied n k now entry at change step =
 goes_on : (s applied later : State) (n : ℕ) (k : Key) (now : ℕ) (reply : Reply) → StateIsSound s → Step s n (commands.Apply k now) reply applied → SinceQuiet k applied later → GoesOn k applied.book later.book
 goes_on s applied later n k now reply sound step quiet =
     let first = follows s n (commands.Apply k now) reply applied sound tt step in
-    let on = follow quiet.turns applied later first.sound quiet.in_range quiet.leads in
+    let on = follow quiet.asks applied later first.sound quiet.in_range quiet.leads in
     record { limits = on.limits; opening = on.opening; more = quiet.more; entries = quiet.entries; quiet = quiet.quiet; kept = kept_now later.book on.sound }
 
 pub port_runs : (s : State) (m : ℕ) (p : PortGates) → StateIsSound s → get (present s.book) (Port m) ≡ Some (records.Port p) → PortRuns s m p
@@ -167,13 +167,13 @@ put_back s undone k r sound back =
     ∙ back.stood
 
 module _ (s undone : State) (k : Key) (r : Record) (sound : StateIsSound s) (back : PutsBack s undone k r) where
-  sound_on : (turns : List Turn) (ready : State) → AreInRange turns → Leads undone turns ready → StateIsSound ready
-  sound_on turns ready ranges leads =
+  sound_on : (asks : List Answered) (ready : State) → AreInRange asks → Leads undone asks ready → StateIsSound ready
+  sound_on asks ready ranges leads =
       let one = follows s back.session commands.Undo (EntryOf back.number back.of) undone sound tt back.step in
-      (follow turns undone ready one.sound ranges leads).sound
+      (follow asks undone ready one.sound ranges leads).sound
 
 pub restored_list : (s : State) → StateIsSound s → RestoredList s
 restored_list s sound = record {
-  port = λ undone m p back. (put_back s undone (Port m) (records.Port p) sound back, λ turns ready ranges leads is. port_runs ready m p (sound_on s undone (Port m) (records.Port p) sound back turns ready ranges leads) is);
-  gate = λ undone m g back. (put_back s undone (Gate m) (records.Gate g) sound back, λ turns ready ranges leads is. gate_runs ready m g (sound_on s undone (Gate m) (records.Gate g) sound back turns ready ranges leads) is);
+  port = λ undone m p back. (put_back s undone (Port m) (records.Port p) sound back, λ asks ready ranges leads is. port_runs ready m p (sound_on s undone (Port m) (records.Port p) sound back asks ready ranges leads) is);
+  gate = λ undone m g back. (put_back s undone (Gate m) (records.Gate g) sound back, λ asks ready ranges leads is. gate_runs ready m g (sound_on s undone (Gate m) (records.Gate g) sound back asks ready ranges leads) is);
 }

@@ -41,7 +41,7 @@ use Rattle.tsn_bridge.specs.declared.reply.Reply.TheVariants.{Counters, Framed, 
 use Rattle.tsn_bridge.specs.Reads.{list_rule, show_rule, since_rule}
 use Rattle.tsn_bridge.specs.Sessions.{hello_rule}
 use Rattle.tsn_bridge.specs.Edits.{AllowsRedo, changed_state, edit_rule, next, redo_rule, undo_all_rule, undo_rule}
-use Rattle.tsn_bridge.specs.Histories.{AreInRange, CommandInRange, Leads, StateIsSound, Turn, command_of}
+use Rattle.tsn_bridge.specs.Histories.{AreInRange, CommandInRange, Leads, StateIsSound, Answered, command_of}
 use Rattle.tsn_bridge.specs.Machine.{Step}
 use Rattle.tsn_bridge.specs.Rule.{Allows, Rule, is_given}
 use Rattle.tsn_bridge.specs.State.{State}
@@ -171,10 +171,10 @@ follows s n (commands.Show k) reply new sound ranges step = by_done (show_rule s
 follows s n (commands.List kind) reply new sound ranges step = by_done (list_rule s n kind) s reply new sound step (λ none done. stays s new sound (sym (state_of (Ids (ids_of kind (present s.book))) reply s new done)))
 follows s n (commands.Since after) reply new sound ranges step = by_done (since_rule s n after) s reply new sound step (λ none done. stays s new sound (sym (state_of (Entries (since s.book.entries after)) reply s new done)))
 
-pub follow : (ts : List Turn) (s new : State) → StateIsSound s → AreInRange ts → Leads s ts new → Follows s new
+pub follow : (ts : List Answered) (s new : State) → StateIsSound s → AreInRange ts → Leads s ts new → Follows s new
 follow [] s new sound ranges same = stays s new sound same
 follow (t ∷ ts) s new sound ranges (between, step, rest) =
-    let one = follows s t.session t.command t.reply between sound ranges.0 step in
+    let one = follows s t.ask.session t.ask.command t.reply between sound ranges.0 step in
     let more = follow ts between new one.sound ranges.1 rest in
     record { sound = more.sound; limits = more.limits ∙ one.limits; opening = more.opening ∙ one.opening; sessions = omega (arith, one.sessions, more.sessions) }
 

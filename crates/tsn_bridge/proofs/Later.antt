@@ -62,7 +62,7 @@ use Rattle.tsn_bridge.specs.Acts.{acted_state, apply_rule, disable_rule, enable_
 use Rattle.tsn_bridge.specs.Beginning.{Opens, begun}
 use Rattle.tsn_bridge.specs.Edits.{AllowsRedo, changed_state, edit_rule, next, redo_rule, undo_all_rule, undo_rule}
 use Rattle.tsn_bridge.specs.Frames.{acts_of_gates, frame_rule, framed_state}
-use Rattle.tsn_bridge.specs.Histories.{AreInRange, CommandInRange, Leads, Turn}
+use Rattle.tsn_bridge.specs.Histories.{AreInRange, CommandInRange, Leads, Answered}
 use Rattle.tsn_bridge.specs.Later.{ActsAreBy, IsBy, IsLater, IsWhole}
 use Rattle.tsn_bridge.specs.Looking.{counted_at, counters_rule, shown_at, states_rule}
 use Rattle.tsn_bridge.specs.Machine.{Step}
@@ -309,10 +309,10 @@ goes_on s n command reply new h ranges step =
     let kept = keeps s n command reply new h ranges step in
     (record { journal = (follows s n command reply new h.journal ranges step).sound; frames = kept.frames }, kept.later, kept.acts)
 
-pub all_go_on : (ts : List Turn) (s new : State) → IsWhole s → AreInRange ts → Leads s ts new → IsWhole new × IsLater s new × (ActsAreBy s → ActsAreBy new)
+pub all_go_on : (ts : List Answered) (s new : State) → IsWhole s → AreInRange ts → Leads s ts new → IsWhole new × IsLater s new × (ActsAreBy s → ActsAreBy new)
 all_go_on [] s new h ranges same = subst (λ t. IsWhole t × IsLater s t × (ActsAreBy s → ActsAreBy t)) (sym same) (h, itself s, λ a. a)
 all_go_on (t ∷ ts) s new h ranges (between, step, rest) =
-    let one = goes_on s t.session t.command t.reply between h ranges.0 step in
+    let one = goes_on s t.ask.session t.ask.command t.reply between h ranges.0 step in
     let more = all_go_on ts between new one.0 ranges.1 rest in
     (more.0, after_both s between new one.1 more.1, λ a. more.2 (one.2 a))
 

@@ -25,7 +25,7 @@ use Rattle.tsn_undo.specs.UndoAll.{BlocksAll, others_alone}
 use Rattle.tsn_bridge.specs.declared.command.Command.TheVariants as commands
 use Rattle.tsn_bridge.specs.declared.reply.Reply.{Reply}
 use Rattle.tsn_bridge.specs.declared.reply.Reply.TheVariants.{Acted, Entry, EntryOf, Refused, States, TakenBack}
-use Rattle.tsn_bridge.specs.Histories.{AreInRange, Leads, Turn, command_of}
+use Rattle.tsn_bridge.specs.Histories.{AreInRange, Leads, Answered, command_of}
 use Rattle.tsn_bridge.specs.Machine.{Step}
 use Rattle.tsn_bridge.specs.Quiet.{SinceQuiet}
 use Rattle.tsn_bridge.specs.Rule.{is_given}
@@ -33,14 +33,14 @@ use Rattle.tsn_bridge.specs.State.{State}
 
 -- ---- an accepted edit at once undone leaves the configuration as it was
 
--- an edit of a session that was answered with an entry, and turns of any sessions after it that made none
+-- an edit of a session that was answered with an entry, and asks of any sessions after it that made none
 pub record EditsLast (before between : State) (session : ℕ) (edit : Edit) (entry : ℕ) : Type 0 where
   pub edited : State
-  pub turns : List Turn
+  pub asks : List Answered
   pub ranges : EditInRange edit
   pub step : Step before session (command_of edit) (Entry entry) edited
-  pub in_range : AreInRange turns
-  pub leads : Leads edited turns between
+  pub in_range : AreInRange asks
+  pub leads : Leads edited asks between
   pub none_since : between.book.entries ≡ edited.book.entries
 
 -- An undo by the session of that edit, answered with an entry, took the edit back, and the configuration is the one before
@@ -120,11 +120,11 @@ pub record PutsBack (before undone : State) (k : Key) (r : Record) : Type 0 wher
   pub key_is : entry.change.key ≡ k
   pub stood : entry.change.before ≡ Some r
 
--- The record stands at its key after that undo; and wherever turns lead from there, while it stands its list runs so.
+-- The record stands at its key after that undo; and wherever asks lead from there, while it stands its list runs so.
 pub record RestoredList (before : State) : Type 0 where
   pub port : (undone : State) (port : ℕ) (p : PortGates) → PutsBack before undone (Port port) (records.Port p)
       → (get (present undone.book) (Port port) ≡ Some (records.Port p))
-      × ((turns : List Turn) (ready : State) → AreInRange turns → Leads undone turns ready → get (present ready.book) (Port port) ≡ Some (records.Port p) → PortRuns ready port p)
+      × ((asks : List Answered) (ready : State) → AreInRange asks → Leads undone asks ready → get (present ready.book) (Port port) ≡ Some (records.Port p) → PortRuns ready port p)
   pub gate : (undone : State) (gate : ℕ) (g : StreamGate) → PutsBack before undone (Gate gate) (records.Gate g)
       → (get (present undone.book) (Gate gate) ≡ Some (records.Gate g))
-      × ((turns : List Turn) (ready : State) → AreInRange turns → Leads undone turns ready → get (present ready.book) (Gate gate) ≡ Some (records.Gate g) → GateRuns ready gate g)
+      × ((asks : List Answered) (ready : State) → AreInRange asks → Leads undone asks ready → get (present ready.book) (Gate gate) ≡ Some (records.Gate g) → GateRuns ready gate g)

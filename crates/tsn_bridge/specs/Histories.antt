@@ -5,22 +5,26 @@ use Rattle.tsn_types.specs.InRange.{RecordInRange}
 use Rattle.tsn_edit.specs.declared.Edit.{Edit}
 use Rattle.tsn_edit.specs.declared.Edit.TheVariants as edits
 use Rattle.tsn_undo.specs.Soundness.{IsSound}
+use Rattle.tsn_bridge.specs.declared.command.Ask.{Ask}
 use Rattle.tsn_bridge.specs.declared.command.Command.{Command}
 use Rattle.tsn_bridge.specs.declared.command.Command.TheVariants as commands
 use Rattle.tsn_bridge.specs.declared.reply.Reply.{Reply}
 use Rattle.tsn_bridge.specs.Machine.{Step}
 use Rattle.tsn_bridge.specs.State.{State}
 
--- a command of a session, and the reply to it
-pub record Turn : Type 0 where
-  pub session : ℕ
-  pub command : Command
+-- a step of the machine at what a session asks
+abbrev pub Answers : State → Ask → Reply → State → Type 0
+Answers s a reply new = Step s a.session a.command reply new
+
+-- what a session asked, and the reply to it
+pub record Answered : Type 0 where
+  pub ask : Ask
   pub reply : Reply
 
--- the turns lead from one state to another, a step each
-abbrev pub Leads : State → List Turn → State → Type 0
+-- what was asked leads from one state to another, a step each
+abbrev pub Leads : State → List Answered → State → Type 0
 Leads s [] new = new ≡ s
-Leads s (t ∷ ts) new = (between : State) × Step s t.session t.command t.reply between × Leads between ts new
+Leads s (t ∷ ts) new = (between : State) × Answers s t.ask t.reply between × Leads between ts new
 
 -- the numbers of a command's record are in their ranges
 abbrev pub CommandInRange : Command → Type 0
@@ -47,8 +51,8 @@ command_of (edits.Create k r) = commands.Create k r
 command_of (edits.Replace k r) = commands.Replace k r
 command_of (edits.Remove k) = commands.Remove k
 
-abbrev pub AreInRange : List Turn → Type 0
-AreInRange ts = AllByRecursion (λ t. CommandInRange t.command) ts
+abbrev pub AreInRange : List Answered → Type 0
+AreInRange ts = AllByRecursion (λ t. CommandInRange t.ask.command) ts
 
 abbrev pub StateIsSound : State → Type 0
 StateIsSound s = IsSound s.book.limits s.book.opening s.book.entries

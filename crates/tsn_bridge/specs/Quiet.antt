@@ -8,7 +8,7 @@ use Rattle.tsn_journal.specs.declared.entries.Act.TheVariants as asked
 use Rattle.tsn_journal.specs.declared.entries.Entry.{Entry}
 use Rattle.tsn_journal.specs.declared.entries.What.{What}
 use Rattle.tsn_journal.specs.declared.entries.What.TheVariants.{Made, Undone, Redone, Acted}
-use Rattle.tsn_bridge.specs.Histories.{AreInRange, Leads, Turn}
+use Rattle.tsn_bridge.specs.Histories.{AreInRange, Leads, Answered}
 use Rattle.tsn_bridge.specs.State.{State}
 
 -- a change that creates and removes nothing at the key
@@ -24,12 +24,12 @@ IsQuiet k (Acted asked.Enable key a) = ⊤
 IsQuiet k (Acted asked.Disable key a) = same_key k key ≡ false
 IsQuiet k (Acted asked.Apply key a) = same_key k key ≡ false
 
--- turns of any sessions lead from one state to a later one, and no entry between them is an act on the key or creates or
+-- asks of any sessions lead from one state to a later one, and no entry between them is an act on the key or creates or
 -- removes it
 pub record SinceQuiet (k : Key) (s later : State) : Type 0 where
-  pub turns : List Turn
-  pub in_range : AreInRange turns
-  pub leads : Leads s turns later
+  pub asks : List Answered
+  pub in_range : AreInRange asks
+  pub leads : Leads s asks later
   pub more : List Entry
   pub entries : later.book.entries ≡ s.book.entries ++ more
   pub quiet : AllByRecursion (λ e. IsQuiet k e.what) more

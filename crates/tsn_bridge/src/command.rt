@@ -4,6 +4,14 @@ use tsn_types::keys::{Key, Kind};
 use tsn_types::numbers::Instant;
 use tsn_types::records::Record;
 
+/// What is asked of the bridge at a time: a command of a session.
+#[derive(Debug, Drop)]
+pub struct Ask {
+    /// The session that gives the command, 1 to 65,535. That of a hello is not looked at.
+    pub session: u32,
+    pub command: Command,
+}
+
 /// A command, without the session that gives it.
 #[derive(Debug, Drop)]
 pub enum Command {

@@ -34,7 +34,7 @@ ghost use Rattle.tsn_bridge.specs.Beginning.{Opens, begun, standard};
 ghost use Rattle.tsn_bridge.specs.Edits.{edit_rule, undo_all_rule, undo_rule};
 ghost use Rattle.tsn_bridge.specs.Examples.{answers, book_of, closed_gate, gate_runs, in_turns, numbers, one_left, port, put_ahead, put_back, rows_1, rows_2, rows_3, rows_new, shows, two_sessions, with_rows};
 ghost use Rattle.tsn_bridge.specs.Headline.{AtOnceUndone, GateRuns, OthersAlone, OthersLeft, PortRuns, RestoredList};
-ghost use Rattle.tsn_bridge.specs.Histories.{AreInRange, CommandInRange, Leads, StateIsSound, Turn};
+ghost use Rattle.tsn_bridge.specs.Histories.{AreInRange, CommandInRange, Leads, StateIsSound, Answered};
 ghost use Rattle.tsn_bridge.specs.Later.{ActsAreBy, IsLater, IsWhole};
 ghost use Rattle.tsn_bridge.specs.Looking.{counted_at, shown_at};
 ghost use Rattle.tsn_bridge.specs.Machine.{Step};
@@ -52,14 +52,14 @@ ghost use Rattle.tsn_bridge.specs.State.{State};
 /// nothing; a look at the restored list's states, by a session that was given out, not at all. Nothing is asked of the
 /// state but that the commands led to it.
 pub fn headline()
-    ensures at_once_undone { (limits : AnyLimits) (records : List (AnyKey × AnyRecord)) (turns : List Turn) (now : State) →
-        Opens limits records → AreInRange turns → Leads (begun limits records) turns now → AtOnceUndone now }
-    ensures others_alone { (limits : AnyLimits) (records : List (AnyKey × AnyRecord)) (turns : List Turn) (now : State) →
-        Opens limits records → AreInRange turns → Leads (begun limits records) turns now → OthersAlone now }
-    ensures others_left { (limits : AnyLimits) (records : List (AnyKey × AnyRecord)) (turns : List Turn) (now : State) →
-        Opens limits records → AreInRange turns → Leads (begun limits records) turns now → OthersLeft now }
-    ensures restored_list { (limits : AnyLimits) (records : List (AnyKey × AnyRecord)) (turns : List Turn) (now : State) →
-        Opens limits records → AreInRange turns → Leads (begun limits records) turns now → RestoredList now }
+    ensures at_once_undone { (limits : AnyLimits) (records : List (AnyKey × AnyRecord)) (asks : List Answered) (now : State) →
+        Opens limits records → AreInRange asks → Leads (begun limits records) asks now → AtOnceUndone now }
+    ensures others_alone { (limits : AnyLimits) (records : List (AnyKey × AnyRecord)) (asks : List Answered) (now : State) →
+        Opens limits records → AreInRange asks → Leads (begun limits records) asks now → OthersAlone now }
+    ensures others_left { (limits : AnyLimits) (records : List (AnyKey × AnyRecord)) (asks : List Answered) (now : State) →
+        Opens limits records → AreInRange asks → Leads (begun limits records) asks now → OthersLeft now }
+    ensures restored_list { (limits : AnyLimits) (records : List (AnyKey × AnyRecord)) (asks : List Answered) (now : State) →
+        Opens limits records → AreInRange asks → Leads (begun limits records) asks now → RestoredList now }
 {}
 
 /// The code's limit of sessions is the one of the definitions.
@@ -109,17 +109,17 @@ pub fn edit_at_once_undone()
 /// standing entries alone give, or names what stands in the way; an undo of one entry leaves what all others give; and
 /// a list that an undo restored, once it is applied with its base past, gives its own states.
 pub fn over_every_interleaving()
-    ensures sound { (start now : State) (turns : List Turn) →
-        StateIsSound start → AreInRange turns → Leads start turns now →
+    ensures sound { (start now : State) (asks : List Answered) →
+        StateIsSound start → AreInRange asks → Leads start asks now →
         StateIsSound now × (now.book.limits ≡ start.book.limits) × (now.book.opening ≡ start.book.opening) }
-    ensures at_once_undone { (start now : State) (turns : List Turn) →
-        StateIsSound start → AreInRange turns → Leads start turns now → AtOnceUndone now }
-    ensures others_alone { (start now : State) (turns : List Turn) →
-        StateIsSound start → AreInRange turns → Leads start turns now → OthersAlone now }
-    ensures others_left { (start now : State) (turns : List Turn) →
-        StateIsSound start → AreInRange turns → Leads start turns now → OthersLeft now }
-    ensures restored_list { (start now : State) (turns : List Turn) →
-        StateIsSound start → AreInRange turns → Leads start turns now → RestoredList now }
+    ensures at_once_undone { (start now : State) (asks : List Answered) →
+        StateIsSound start → AreInRange asks → Leads start asks now → AtOnceUndone now }
+    ensures others_alone { (start now : State) (asks : List Answered) →
+        StateIsSound start → AreInRange asks → Leads start asks now → OthersAlone now }
+    ensures others_left { (start now : State) (asks : List Answered) →
+        StateIsSound start → AreInRange asks → Leads start asks now → OthersLeft now }
+    ensures restored_list { (start now : State) (asks : List Answered) →
+        StateIsSound start → AreInRange asks → Leads start asks now → RestoredList now }
 {}
 
 /// This holds of every state of the machine, not only of those that a bridge comes to. A bridge begins whole: its
@@ -133,8 +133,8 @@ pub fn steps_keep_states_sound()
     ensures step { (before after : State) (session : ℕ) (command : AnyCommand) (reply : AnyReply) →
         IsWhole before → CommandInRange command → Step before session command reply after →
         IsWhole after × IsLater before after × (ActsAreBy before → ActsAreBy after) }
-    ensures steps { (start now : State) (turns : List Turn) →
-        IsWhole start → AreInRange turns → Leads start turns now →
+    ensures steps { (start now : State) (asks : List Answered) →
+        IsWhole start → AreInRange asks → Leads start asks now →
         IsWhole now × IsLater start now × (ActsAreBy start → ActsAreBy now) }
 {}
 

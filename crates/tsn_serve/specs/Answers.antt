@@ -6,15 +6,15 @@ use Rattle.tsn_bytes.specs.declared.bytes.Fault.TheVariants.{Write}
 use Rattle.tsn_bridge.specs.State.{State}
 use Rattle.tsn_bridge.specs.declared.reply.Reply.{Reply}
 use Rattle.tsn_bridge.specs.declared.reply.Reply.TheVariants as replies
-use Rattle.tsn_bridge.specs.Machine.{Step}
-use Rattle.tsn_wire.specs.declared.reading.Line.{Line}
+use Rattle.tsn_bridge.specs.Histories as machine
+use Rattle.tsn_bridge.specs.declared.command.Ask.{Ask}
 use Rattle.tsn_wire.specs.Reading.{line_of}
 use Rattle.tsn_replies.specs.Replies.{reply_text}
 use Rattle.tsn_serve.specs.Script.{Answering, Breaking, IsFront}
 
 -- The reply to what a line reads as: that of a step of the bridge, or the refusal of reading, which changes nothing.
-abbrev pub Replies : State → Result Line Refusal → Reply → State → Type 0
-Replies old (Ok line) reply new = Step old line.session line.command reply new
+abbrev pub Replies : State → Result Ask Refusal → Reply → State → Type 0
+Replies old (Ok ask) reply new = machine.Answers old ask reply new
 Replies old (Err refusal) reply new = (reply ≡ replies.Refused refusal) × (new ≡ old)
 
 -- The reply to a line. A line that is too long is refused, by refusal 1, and changes nothing. In reading, want of

@@ -25,7 +25,7 @@ fn reply_to(alloc: Global, bridge: &mut Bridge, line: Option<&[u8]>) -> Reply
         return Reply::Refused(Refusal::TooLong);
     };
     match command_of(alloc, line) {
-        Ok(line) => bridge.step(line.session, line.command),
+        Ok(ask) => bridge.step(ask.session, ask.command),
         Err(refusal) => Reply::Refused(refusal),
     }
 }

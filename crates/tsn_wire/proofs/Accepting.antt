@@ -45,7 +45,7 @@ use Rattle.tsn_wire.specs.declared.drafts.CommandDraft.TheVariants as wanted
 use Rattle.tsn_wire.specs.declared.drafts.FrameDraft.{FrameDraft}
 use Rattle.tsn_wire.specs.declared.drafts.LineDraft.{LineDraft}
 use Rattle.tsn_wire.specs.declared.drafts.LineDraft.TheVariants.{Hello, Session}
-use Rattle.tsn_wire.specs.declared.reading.Line.{Line}
+use Rattle.tsn_bridge.specs.declared.command.Ask.{Ask}
 use Rattle.tsn_records.proofs.Digits.{own, and_parts}
 use Rattle.tsn_records.proofs.RecordRanges.{passed, at_most, port_passed, filter_passed, gate_passed, meter_passed, within_ok, at_most_ok, port_entry_draft, gate_entry_draft, port_draft, gate_draft, filter_draft, meter_draft, port_back, filter_back, gate_back, meter_back}
 use Rattle.tsn_records.proofs.Steps.{only, steps, syntax_there, not_refused}
@@ -487,25 +487,25 @@ command_known word s d draft c of shape range =
     (λ _ h14. by_test _ _ _ _ h14 (λ e h. since_known s d draft c (named word _ s d of e) h range) (λ _ h15. cc)))))))))))))))
 
 -- a value that asks for what a line says
-abbrev SaysLine : Data → Line → Type 0
-SaysLine d line = IsValue line.session d line.command
+abbrev SaysAsk : Data → Ask → Type 0
+SaysAsk d line = IsValue line.session d line.command
 
-hello_known : (d : Data) (u : Unit {0}) (line : Line) → IsOrdered d → get (codes "do") d ≡ Some (string (codes "hello")) → has_members 1 d ≡ Ok u → line_of_draft Hello ≡ Ok line → SaysLine d line
+hello_known : (d : Data) (u : Unit {0}) (line : Ask) → IsOrdered d → get (codes "do") d ≡ Some (string (codes "hello")) → has_members 1 d ≡ Ok u → line_of_draft Hello ≡ Ok line → SaysAsk d line
 hello_known d u line ordered word count range =
-    let found : Line = record { session = 0; command = commands.Hello } in
-    subst (SaysLine d) (only (Ok found) found line refl range) (refl, whole_object 0 d (inside (value_of 0 commands.Hello)) u ordered count refl tt (word, tt))
+    let found : Ask = record { session = 0; command = commands.Hello } in
+    subst (SaysAsk d) (only (Ok found) found line refl range) (refl, whole_object 0 d (inside (value_of 0 commands.Hello)) u ordered count refl tt (word, tt))
 
-session_known : (word : List ℕ) (n : ℕ) (d : Data) (draft : CommandDraft) (line : Line) → IsOrdered d → get (codes "do") d ≡ Some (string word) → get (codes "s") d ≡ Some (whole_data n)
-    → command_shape word d ≡ Ok draft → line_of_draft (Session n draft) ≡ Ok line → SaysLine d line
+session_known : (word : List ℕ) (n : ℕ) (d : Data) (draft : CommandDraft) (line : Ask) → IsOrdered d → get (codes "do") d ≡ Some (string word) → get (codes "s") d ≡ Some (whole_data n)
+    → command_shape word d ≡ Ok draft → line_of_draft (Session n draft) ≡ Ok line → SaysAsk d line
 session_known word n d draft line ordered there session shape range =
     steps (within fields.S 1 most_sessions n) _ line range (λ s s_is s_next.
     steps (command_of_draft draft) _ line s_next (λ c c_is c_next.
     let fits = passed fields.S 1 most_sessions n s s_is in
     let of : IsOf word s d = record { ordered = ordered; word_there = there; session_there = session ∙ ap (λ m. Some (whole_data m)) fits.0; session = fits.1 } in
-    let found : Line = record { session = s; command = c } in
-    subst (SaysLine d) (only (Ok found) found line refl c_next) (command_known word s d draft c of shape c_is)))
+    let found : Ask = record { session = s; command = c } in
+    subst (SaysAsk d) (only (Ok found) found line refl c_next) (command_known word s d draft c of shape c_is)))
 
-line_known : (d : Data) (draft : LineDraft) (line : Line) → IsOrdered d → line_shape d ≡ Ok draft → line_of_draft draft ≡ Ok line → SaysLine d line
+line_known : (d : Data) (draft : LineDraft) (line : Ask) → IsOrdered d → line_shape d ≡ Ok draft → line_of_draft draft ≡ Ok line → SaysAsk d line
 unfolding line_shape
 line_known d draft line ordered shape range =
     steps (text_at (codes "do") d) _ draft shape (λ word word_is word_next.
@@ -518,7 +518,7 @@ line_known d draft line ordered shape range =
     let whole = Session n command in
     session_known word n d command line ordered there (number_there _ n n_is) command_is (ap line_of_draft (only (Ok whole) whole draft refl command_next) ∙ range)))))
 
-accepted : (line : List ℕ) (l : Line) → line_of line ≡ Ok l → MayBeAsked l.session l.command × (data_of line ≡ Some (value_of l.session l.command))
+accepted : (line : List ℕ) (l : Ask) → line_of line ≡ Ok l → MayBeAsked l.session l.command × (data_of line ≡ Some (value_of l.session l.command))
 accepted line l h =
     steps (or_syntax (data_of line)) _ l (not_refused (reading line) l h) (λ d d_is d_next.
     steps (line_shape d) _ l d_next (λ draft draft_is draft_next.

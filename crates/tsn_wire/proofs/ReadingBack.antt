@@ -12,7 +12,7 @@ use Rattle.tsn_wire.specs.Reading.{data_of, line_of_draft, line_of}
 use Rattle.tsn_records.proofs.Digits.{own}
 use Rattle.tsn_types.specs.Numbers.{IsInstanceId}
 use Rattle.tsn_records.specs.Shown.{or_null}
-use Rattle.tsn_wire.specs.declared.reading.Line.{Line}
+use Rattle.tsn_bridge.specs.declared.command.Ask.{Ask}
 use Rattle.tsn_wire.specs.declared.drafts.LineDraft.{LineDraft}
 use Rattle.tsn_records.proofs.Steps.{then}
 use Rattle.std.proofs.lemmas.Bool.{le-leb, lt-ltb, ne_eqb}
@@ -51,5 +51,5 @@ decimal_back n small =
     ap (λ b. cond b (Some (digits_value 10 (decimal n))) None) (is_decimal_back n small) ∙ ap Some (digits_value-decimal own n fits)
 
 -- the shape, and then the ranges
-pub in_steps : (line : List ℕ) (d : Data) (draft : LineDraft) (found : Line) → data_of line ≡ Some d → line_shape d ≡ Ok draft → line_of_draft draft ≡ Ok found → line_of line ≡ Ok found
+pub in_steps : (line : List ℕ) (d : Data) (draft : LineDraft) (found : Ask) → data_of line ≡ Some d → line_shape d ≡ Ok draft → line_of_draft draft ≡ Ok found → line_of line ≡ Ok found
 in_steps line d draft found read shape ranges = ap refused (then (or_syntax (data_of line)) _ d _ (ap or_syntax read) (then (line_shape d) _ draft _ shape ranges))

@@ -5,14 +5,14 @@ use Rattle.tsn_chain.specs.declared.frame.Frame.{Frame}
 use Rattle.tsn_types.specs.declared.keys.Key.{Key}
 use Rattle.tsn_types.specs.declared.records.Record.{Record}
 use Rattle.tsn_types.specs.declared.refusals.Refusal.{Refusal}
-use Rattle.tsn_wire.specs.declared.reading.Line.{Line}
+use Rattle.tsn_bridge.specs.declared.command.Ask.{Ask}
 
 -- the line that creates the record of a text, in session 1
 abbrev pub create_line : List ℕ → List ℕ → List ℕ
 create_line key text = codes "{\"do\":\"create\",\"key\":\"" ++ key ++ codes "\",\"record\":" ++ text ++ codes ",\"s\":1}"
 
 -- what that line says
-abbrev pub created : Key → Record → Result Line Refusal
+abbrev pub created : Key → Record → Result Ask Refusal
 created key value = Ok (record { session = 1; command = Create key value })
 
 -- a gate whose cycle time is out of range

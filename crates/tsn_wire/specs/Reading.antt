@@ -13,7 +13,7 @@ use Rattle.tsn_records.specs.Ranges.{within}
 use Rattle.tsn_wire.specs.Ranges.{command_of_draft}
 use Rattle.tsn_wire.specs.declared.drafts.LineDraft.{LineDraft}
 use Rattle.tsn_wire.specs.declared.drafts.LineDraft.TheVariants.{Hello, Session}
-use Rattle.tsn_wire.specs.declared.reading.Line.{Line}
+use Rattle.tsn_bridge.specs.declared.command.Ask.{Ask}
 use Rattle.tsn_records.specs.declared.unread.Unread.{Unread}
 
 -- the one JSON value that the bytes are; bytes that are no UTF-8 are none
@@ -21,15 +21,15 @@ abbrev pub data_of : List ℕ → Option Data
 data_of bytes = if is_utf8 bytes then read bytes else None
 
 -- sessions are numbered from 1; a hello has none, which is written 0
-abbrev pub line_of_draft : LineDraft → Result Line Unread
+abbrev pub line_of_draft : LineDraft → Result Ask Unread
 line_of_draft Hello = Ok (record { session = 0; command = commands.Hello })
 line_of_draft (Session s wanted) =
     within fields.S 1 most_sessions s >>= λ session. command_of_draft wanted >>= λ command. Ok (record { session = session; command = command })
 
 -- syntax first, then the whole shape, then the ranges
-abbrev pub reading : List ℕ → Result Line Unread
+abbrev pub reading : List ℕ → Result Ask Unread
 reading bytes = or_syntax (data_of bytes) >>= λ d. line_shape d >>= λ draft. line_of_draft draft
 
 -- what a line says, or why it is refused
-abbrev pub line_of : List ℕ → Result Line Refusal
+abbrev pub line_of : List ℕ → Result Ask Refusal
 line_of bytes = refused (reading bytes)

@@ -18,8 +18,9 @@ mod spelled;
 mod values;
 
 pub use drafts::{CommandDraft, FrameDraft, LineDraft};
-pub use reading::{Line, command_of};
+pub use reading::command_of;
 pub use spelled::spelled_draft;
+pub use tsn_bridge::command::Ask;
 pub use tsn_bytes::{
     Buffered, ByteIn, ByteOut, Failed, Failing, Fault, MemIn, MemOut, StdIo, put_all,
 };

@@ -16,17 +16,9 @@ use crate::ranges::command_of_draft;
 use crate::spelled::spelled_draft;
 use serde_json::Value;
 use std::alloc::Global;
-use tsn_bridge::command::Command;
+use tsn_bridge::command::{Ask, Command};
 use tsn_records::unread::Unread;
 use tsn_types::refusals::{Field, Refusal};
-
-/// What a command line says.
-#[derive(Debug, Drop)]
-pub struct Line {
-    /// The session, 1 to 65,535; 0 for a hello, which has none.
-    pub session: u32,
-    pub command: Command,
-}
 
 fn value_of(alloc: Global, line: &[u8]) -> Result<Value, Unread>
     ensures { Reads (seen view result) (or_syntax (data_of line.now)) }
@@ -47,11 +39,11 @@ fn session(number: u64) -> Result<u32, Unread>
     Ok(number as u32)
 }
 
-fn line_of_draft(alloc: Global, draft: &LineDraft) -> Result<Line, Unread>
+fn line_of_draft(alloc: Global, draft: &LineDraft) -> Result<Ask, Unread>
     ensures { Reads result (line_of_draft draft.now) }
 {
     match draft {
-        LineDraft::Hello => Ok(Line {
+        LineDraft::Hello => Ok(Ask {
             session: 0,
             command: Command::Hello,
         }),
@@ -61,12 +53,12 @@ fn line_of_draft(alloc: Global, draft: &LineDraft) -> Result<Line, Unread>
         } => {
             let session = session(*number)?;
             let command = command_of_draft(alloc, command)?;
-            Ok(Line { session, command })
+            Ok(Ask { session, command })
         }
     }
 }
 
-fn reading(alloc: Global, line: &[u8]) -> Result<Line, Unread>
+fn reading(alloc: Global, line: &[u8]) -> Result<Ask, Unread>
     ensures { Reads result (reading line.now) }
 {
     if let Some(draft) = spelled_draft(alloc, line) {
@@ -77,10 +69,10 @@ fn reading(alloc: Global, line: &[u8]) -> Result<Line, Unread>
     line_of_draft(alloc, &draft)
 }
 
-/// The session and the command of a line without its line feed: refusal 2 where it is no JSON value, 3 where it has
+/// What a line without its line feed asks, of session 0 where it is a hello, which has none: refusal 2 where it is no JSON value, 3 where it has
 /// other members than a command, 4 where a number is outside its range, 18 in place of any of these where memory is
 /// refused.
-pub fn command_of(alloc: Global, line: &[u8]) -> Result<Line, Refusal>
+pub fn command_of(alloc: Global, line: &[u8]) -> Result<Ask, Refusal>
     ensures { IsOrMemory result (line_of line.now) }
 {
     reading(alloc, line).map_err(Unread::refusal)
