@@ -1,20 +1,17 @@
 -- What every state of the machine keeps, and what a later state of the same bridge keeps of an earlier one.
-use Rattle.std.specs.Prelude.{◌≡◌, ◌≤◌, ℕ, List, ◌++◌, ⊤}
+use Rattle.std.specs.Prelude.{◌≡◌, ◌≤◌, ℕ, List, ◌++◌, MatchOption, ⊤}
 use Rattle.std.specs.List.{AllByRecursion}
 use Rattle.tsn_chain.specs.Instances.{HasFrameKeys}
 use Rattle.tsn_journal.specs.declared.entries.Entry.{Entry}
 use Rattle.tsn_journal.specs.declared.entries.What.{What}
-use Rattle.tsn_journal.specs.declared.entries.What.TheVariants.{Made, Undone, Redone, Acted}
+use Rattle.tsn_journal.specs.Entries.{act_of}
 use Rattle.tsn_undo.specs.Ledger.{present}
 use Rattle.tsn_bridge.specs.Histories.{StateIsSound}
 use Rattle.tsn_bridge.specs.State.{State}
 
 -- an entry whose act, if it is one, was done by this time
 abbrev pub IsBy : ℕ → What → Type 0
-IsBy time (Made e) = ⊤
-IsBy time (Undone n e) = ⊤
-IsBy time (Redone n e) = ⊤
-IsBy time (Acted act key a) = a ≤ time
+IsBy time w = MatchOption (act_of w) ⊤ (λ a. a.now ≤ time)
 
 -- the journal is sound, and what the filter chain keeps is there for just the filters, gates and meters of the
 -- configuration

@@ -10,12 +10,12 @@ use Rattle.tsn_types.specs.declared.records.Schedule.{Schedule}
 use Rattle.tsn_types.specs.declared.records.PortEntry.{PortEntry}
 use Rattle.tsn_types.specs.declared.records.GateEntry.{GateEntry}
 use Rattle.tsn_types.specs.Keys.{same_key}
-use Rattle.tsn_edit.specs.Parts.{Part, parts}
+use Rattle.tsn_edit.specs.Parts.{Change, Part, parts}
 use Rattle.tsn_schedule.specs.Acts.{Act, Enable, Disable, Apply, with_act}
-use Rattle.tsn_journal.specs.declared.entries.Act.{Act as Asked}
+use Rattle.tsn_journal.specs.Entries.{Asked, act_of, applies}
+use Rattle.tsn_journal.specs.declared.entries.Act.{Act as AskedAct}
 use Rattle.tsn_journal.specs.declared.entries.Act.TheVariants as asked
 use Rattle.tsn_journal.specs.declared.entries.What.{What}
-use Rattle.tsn_journal.specs.declared.entries.What.TheVariants.{Made, Undone, Redone, Acted}
 use Rattle.tsn_journal.specs.declared.entries.Entry.{Entry}
 use Rattle.tsn_undo.specs.Ledger.{Ledger}
 
@@ -35,18 +35,25 @@ abbrev pub after_part : {E : Type 0} → Key → Object E → Part → Object E
 after_part k o p = if same_key k p.key then record { value = p.after; acts = lived p.before p.after o.acts } else o
 
 -- the acts with one that was asked for; an apply takes the schedule of the record at that entry
-abbrev pub with_asked : {E : Type 0} → Asked → Option (Schedule E) → ℕ → List (Act E) → List (Act E)
+abbrev pub with_asked : {E : Type 0} → AskedAct → Option (Schedule E) → ℕ → List (Act E) → List (Act E)
 with_asked asked.Enable schedule a acts = with_act (Enable a) acts
 with_asked asked.Disable schedule a acts = with_act (Disable a) acts
 with_asked asked.Apply None a acts = acts
 with_asked asked.Apply (Some schedule) a acts = with_act (Apply schedule a) acts
 
--- an object after an entry, where `admin` is the schedule in a record of its kind; an entry keeps the instant that counted
+-- an object after the change that an entry applied, if it applied one
+abbrev pub after_changed : {E : Type 0} → Key → Object E → Option Change → Object E
+after_changed k o None = o
+after_changed k o (Some e) = fold (after_part k) o (parts e)
+
+-- an object after the act that an entry is, if it is one, where `admin` is the schedule in a record of its kind
+abbrev pub after_asked : {E : Type 0} → (Option Record → Option (Schedule E)) → Key → Object E → Option Asked → Object E
+after_asked admin k o None = o
+after_asked admin k o (Some a) = if same_key k a.key then record { value = o.value; acts = with_asked a.act (admin o.value) a.now o.acts } else o
+
+-- an object after an entry
 abbrev pub after_entry : {E : Type 0} → (Option Record → Option (Schedule E)) → Key → Object E → What → Object E
-after_entry admin k o (Made e) = fold (after_part k) o (parts e)
-after_entry admin k o (Undone n e) = fold (after_part k) o (parts e)
-after_entry admin k o (Redone n e) = fold (after_part k) o (parts e)
-after_entry admin k o (Acted act key a) = if same_key k key then record { value = o.value; acts = with_asked act (admin o.value) a o.acts } else o
+after_entry admin k o w = after_asked admin k (after_changed k o (applies w)) (act_of w)
 
 -- the object of a key after the entries, from its record in the opening
 abbrev pub object : {E : Type 0} → (Option Record → Option (Schedule E)) → Key → Option Record → List Entry → Object E

@@ -1,13 +1,14 @@
 -- Entries that leave the list of an enabled key as it runs: no act on it, and no change that creates or removes the key.
-use Rattle.std.specs.Prelude.{◌≡◌, false, true, List, ◌++◌, IsSome, ⊤}
+use Rattle.std.specs.Prelude.{◌≡◌, false, true, List, ◌++◌, IsSome, MatchOption, ⊤}
 use Rattle.std.specs.List.{AllByRecursion}
 use Rattle.tsn_types.specs.declared.keys.Key.{Key}
 use Rattle.tsn_types.specs.Keys.{same_key}
 use Rattle.tsn_edit.specs.Parts.{Change}
+use Rattle.tsn_journal.specs.Entries.{act_of, applies}
+use Rattle.tsn_journal.specs.declared.entries.Act.{Act}
 use Rattle.tsn_journal.specs.declared.entries.Act.TheVariants as asked
 use Rattle.tsn_journal.specs.declared.entries.Entry.{Entry}
 use Rattle.tsn_journal.specs.declared.entries.What.{What}
-use Rattle.tsn_journal.specs.declared.entries.What.TheVariants.{Made, Undone, Redone, Acted}
 use Rattle.tsn_bridge.specs.Histories.{AreInRange, Leads, Answered}
 use Rattle.tsn_bridge.specs.State.{State}
 
@@ -16,13 +17,13 @@ abbrev pub IsReplacement : Key → Change → Type 0
 IsReplacement k e = same_key k e.key ≡ true → IsSome e.before × IsSome e.after
 
 -- of a key that is enabled: an enable finds it so and is no act of it; a disable and an apply are acts
+abbrev pub IsNoAct : Key → Act → Key → Type 0
+IsNoAct k asked.Enable key = ⊤
+IsNoAct k asked.Disable key = same_key k key ≡ false
+IsNoAct k asked.Apply key = same_key k key ≡ false
+
 abbrev pub IsQuiet : Key → What → Type 0
-IsQuiet k (Made e) = IsReplacement k e
-IsQuiet k (Undone n e) = IsReplacement k e
-IsQuiet k (Redone n e) = IsReplacement k e
-IsQuiet k (Acted asked.Enable key a) = ⊤
-IsQuiet k (Acted asked.Disable key a) = same_key k key ≡ false
-IsQuiet k (Acted asked.Apply key a) = same_key k key ≡ false
+IsQuiet k w = MatchOption (applies w) (MatchOption (act_of w) ⊤ (λ a. IsNoAct k a.act a.key)) (λ e. IsReplacement k e)
 
 -- asks of any sessions lead from one state to a later one, and no entry between them is an act on the key or creates or
 -- removes it

@@ -12,8 +12,8 @@ use Rattle.tsn_journal.specs.declared.entries.What.{What}
 use Rattle.tsn_journal.specs.declared.entries.What.TheVariants.{Made, Undone, Redone, Acted}
 use Rattle.tsn_journal.specs.declared.entries.Entry.{Entry}
 use Rattle.tsn_journal.specs.declared.entries.MarkedEntry.{MarkedEntry}
-use Rattle.tsn_journal.specs.Entries.{Applied, adds, applied, applies, is_taken_back, standing, undoes}
-use Rattle.tsn_journal.specs.Finding.{find_conflict_of_others, find_own_in_conflict, is_made, last_where, later_than, may_redo, own_standing, redo_of, standing_entry, undone_entry}
+use Rattle.tsn_journal.specs.Entries.{Applied, adds, applied, applies, is_made, is_taken_back, standing, undoes}
+use Rattle.tsn_journal.specs.Finding.{find_conflict_of_others, find_own_in_conflict, last_where, later_than, may_redo, own_standing, redo_of, standing_entry, undone_entry}
 use Rattle.tsn_journal.specs.Marks.{AreMarked, IsJournal, conflict_of_others, ends_redo, entries_of, is_in_conflict, is_others, is_own, stands}
 use Rattle.tsn_journal.proofs.Collecting.{IsOwn, applied-own, collect-marked, filter_marked, find_marked, last_marked, later_marked, passes, standing-marked, stands-own}
 

@@ -9,8 +9,8 @@ use Rattle.tsn_journal.specs.declared.entries.What.{What}
 use Rattle.tsn_journal.specs.declared.entries.What.TheVariants.{Made, Undone, Redone, Acted}
 use Rattle.tsn_journal.specs.declared.entries.Entry.{Entry}
 use Rattle.tsn_journal.specs.declared.entries.MarkedEntry.{MarkedEntry}
-use Rattle.tsn_journal.specs.Entries.{IsNumbered, is_taken_back, takes_back, with_entry}
-use Rattle.tsn_journal.specs.Marks.{AreMarked, IsJournal, entries_of, mark_off, names}
+use Rattle.tsn_journal.specs.Entries.{IsNumbered, is_taken_back, names, takes_back, with_entry}
+use Rattle.tsn_journal.specs.Marks.{AreMarked, IsJournal, entries_of, mark_off}
 
 -- ---- looking a number up
 

@@ -1,10 +1,12 @@
 -- The entries of a journal, and which of them stand. Entries are numbered from 1.
-use Rattle.std.specs.Prelude.{◌≡◌, ℕ, ◌+◌, Bool, false, ◌&&◌, List, [], ◌∷◌, ◌++◌, Option, Some, None, map, option_map, is_some, ◌==◌, nat_le, length, if◌then◌else◌}
+use Rattle.std.specs.Prelude.{◌≡◌, ℕ, ◌+◌, Bool, true, false, ◌&&◌, List, [], ◌∷◌, ◌++◌, Option, Some, None, map, option_map, is_some, is_none, ◌==◌, nat_le, length, if◌then◌else◌}
 use Rattle.std.specs.List.{list_any, filter_map, cons_option}
+use Rattle.tsn_types.specs.declared.keys.Key.{Key}
 use Rattle.tsn_types.specs.declared.refusals.Refusal.{Refusal}
 use Rattle.tsn_types.specs.declared.refusals.Refusal.TheVariants.{JournalFull}
 use Rattle.tsn_types.specs.Limits.{unless}
 use Rattle.tsn_edit.specs.Parts.{Change, inverse}
+use Rattle.tsn_journal.specs.declared.entries.Act.{Act}
 use Rattle.tsn_journal.specs.declared.entries.What.{What}
 use Rattle.tsn_journal.specs.declared.entries.What.TheVariants.{Made, Undone, Redone, Acted}
 use Rattle.tsn_journal.specs.declared.entries.Entry.{Entry}
@@ -26,26 +28,47 @@ pub record Applied : Type 0 where
 abbrev pub changes : List Applied → List Change
 changes xs = map (λ x. x.change) xs
 
--- the change of an entry that may stand: one that was made or redone
-abbrev pub adds : What → Option Change
-adds (Made e) = Some e
-adds (Undone n e) = None
-adds (Redone n e) = Some e
-adds (Acted act key now) = None
-
--- the change by which an entry took back another's
-abbrev pub undoes : What → Option Change
-undoes (Made e) = None
-undoes (Undone n e) = Some e
-undoes (Redone n e) = None
-undoes (Acted act key now) = None
-
 -- the change that an entry of any kind applied; an act applies none
 abbrev pub applies : What → Option Change
 applies (Made e) = Some e
 applies (Undone n e) = Some e
 applies (Redone n e) = Some e
 applies (Acted act key now) = None
+
+-- the number of the entry that it takes back, if it takes one back
+abbrev pub names : What → Option ℕ
+names (Made e) = None
+names (Undone n e) = Some n
+names (Redone n e) = Some n
+names (Acted act key now) = None
+
+-- an act that was asked for, on a key, at the instant that counted
+pub record Asked : Type 0 where
+  pub act : Act
+  pub key : Key
+  pub now : ℕ
+
+-- the act that an entry is, if it is one
+abbrev pub act_of : What → Option Asked
+act_of (Acted act key now) = Some (record { act = act; key = key; now = now })
+act_of w = None
+
+-- whether it is an Undone entry
+abbrev pub is_undo : What → Bool
+is_undo (Undone n e) = true
+is_undo w = false
+
+-- whether it is a Made entry: it applied a change and takes back none
+abbrev pub is_made : What → Bool
+is_made w = is_some (applies w) && is_none (names w)
+
+-- the change of an entry that may stand: one that was made or redone
+abbrev pub adds : What → Option Change
+adds w = if is_undo w then None else applies w
+
+-- the change by which an entry took back another's
+abbrev pub undoes : What → Option Change
+undoes w = if is_undo w then applies w else None
 
 -- the entry with the change that is picked of it
 abbrev pub applied : (What → Option Change) → Entry → Option Applied
@@ -55,12 +78,14 @@ applied pick e = option_map (λ c. record { number = e.number; session = e.sessi
 abbrev pub collect : (What → Option Change) → List Entry → List Applied
 collect pick es = filter_map (applied pick) es
 
+-- whether the number, if there is one, is n
+abbrev pub is_number : ℕ → Option ℕ → Bool
+is_number n None = false
+is_number n (Some m) = m == n
+
 -- whether w takes back e: an Undone entry takes back one that may stand, a Redone entry an Undone one
 abbrev pub takes_back : What → Entry → Bool
-takes_back (Made c) e = false
-takes_back (Undone n c) e = (n == e.number) && is_some (adds e.what)
-takes_back (Redone n c) e = (n == e.number) && is_some (undoes e.what)
-takes_back (Acted act key now) e = false
+takes_back w e = is_number e.number (names w) && is_some ((if is_undo w then adds else undoes) e.what)
 
 -- whether one of the later entries takes back e
 abbrev pub is_taken_back : Entry → List Entry → Bool

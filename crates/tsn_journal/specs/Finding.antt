@@ -1,13 +1,11 @@
 -- What the finders of a journal look for.
-use Rattle.std.specs.Prelude.{ℕ, Bool, true, false, ◌&&◌, not, List, [], ◌∷◌, Option, Some, None, is_some, filter, ◌==◌, nat_lt, if◌then◌else◌}
+use Rattle.std.specs.Prelude.{ℕ, Bool,  ◌&&◌, not, List, [], ◌∷◌, Option, Some, None, is_some, filter, ◌==◌, nat_lt, if◌then◌else◌}
 use Rattle.std.specs.List.{find, list_any}
 use Rattle.std.specs.Option.{option_and_then, option_or}
 use Rattle.tsn_edit.specs.Changes.{conflicts}
 use Rattle.tsn_edit.specs.Parts.{Change}
-use Rattle.tsn_journal.specs.declared.entries.What.{What}
-use Rattle.tsn_journal.specs.declared.entries.What.TheVariants.{Made, Undone, Redone, Acted}
 use Rattle.tsn_journal.specs.declared.entries.Entry.{Entry}
-use Rattle.tsn_journal.specs.Entries.{Applied, applied, applies, collect, is_taken_back, standing, undoes}
+use Rattle.tsn_journal.specs.Entries.{Applied, applied, applies, collect, is_made, is_taken_back, standing, undoes}
 
 -- the last element that passes the test
 abbrev pub last_where : {A : Type 0} → (A → Bool) → List A → Option A
@@ -60,12 +58,6 @@ find_conflict_of_others es e = last_where (λ f. not (f.session == e.session) &&
 -- the newest standing entry of a session that has a later standing entry of another session in conflict
 abbrev pub find_own_in_conflict : List Entry → ℕ → Option Applied
 find_own_in_conflict es s = last_where (λ x. (x.session == s) && is_some (find_conflict_of_others es x)) (standing es)
-
-abbrev pub is_made : What → Bool
-is_made (Made c) = true
-is_made (Undone n c) = false
-is_made (Redone n c) = false
-is_made (Acted act key now) = false
 
 -- whether a session may redo e: an Undone entry of its own that no later entry takes back, with no later edit of the session
 abbrev pub may_redo : ℕ → Entry → List Entry → Bool

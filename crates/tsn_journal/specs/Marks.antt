@@ -8,9 +8,8 @@ use Rattle.tsn_journal.specs.contracts.entries.Entry as entry_row
 use Rattle.tsn_journal.specs.declared.entries.Entry.{Entry}
 use Rattle.tsn_journal.specs.declared.entries.MarkedEntry.{MarkedEntry}
 use Rattle.tsn_journal.specs.declared.entries.What.{What}
-use Rattle.tsn_journal.specs.declared.entries.What.TheVariants.{Made, Undone, Redone, Acted}
-use Rattle.tsn_journal.specs.Entries.{Applied, IsNumbered, adds, applied, applies, is_taken_back, most_entries, takes_back, undoes}
-use Rattle.tsn_journal.specs.Finding.{is_made, last_where}
+use Rattle.tsn_journal.specs.Entries.{Applied, IsNumbered, adds, applied, applies, is_made, is_taken_back, most_entries, takes_back, undoes}
+use Rattle.tsn_journal.specs.Finding.{last_where}
 
 -- what contracts see of a journal: its entries, and how many more it certainly has room for
 pub record Log : Type 0 where
@@ -44,13 +43,6 @@ stands m = if m.is_open then applied adds m.entry else None
 -- whether a marked entry stands and is the session's
 abbrev pub is_own : ℕ → MarkedEntry → Bool
 is_own s m = is_some (stands m) && (m.entry.session == s)
-
--- the number of the entry that w takes back, if it takes one back
-abbrev pub names : What → Option ℕ
-names (Made c) = None
-names (Undone n c) = Some n
-names (Redone n c) = Some n
-names (Acted act key now) = None
 
 -- whether the change, if there is one, is in conflict with the earlier e
 abbrev pub is_in_conflict : Option Change → Change → Bool

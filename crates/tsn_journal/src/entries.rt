@@ -1,8 +1,8 @@
 //! Entries of the journal: which session did what.
 ghost use Rattle.std.specs.Prelude.{◌≡◌, ◌==◌, IfOk, is_some, option_map};
 ghost use Rattle.std.specs.Option.{option_copied};
-ghost use Rattle.tsn_journal.specs.Entries.{adds, applied, applies, takes_back, undoes};
-ghost use Rattle.tsn_journal.specs.Marks.{ends_redo, entries_of, is_in_conflict, is_others, is_own, is_under, names, stands};
+ghost use Rattle.tsn_journal.specs.Entries.{adds, applied, applies, is_made, names, takes_back, undoes};
+ghost use Rattle.tsn_journal.specs.Marks.{ends_redo, entries_of, is_in_conflict, is_others, is_own, is_under, stands};
 
 use std::alloc::{AllocError, Global};
 use std::marker::Model;
