@@ -19,7 +19,7 @@ use Rattle.tsn_schedule.specs.Times.{change_of}
 use Rattle.tsn_journal.specs.Entries.{Applied, changes, no_room, standing}
 use Rattle.tsn_journal.specs.Finding.{others_standing, own_standing, standing_entry}
 use Rattle.tsn_chain.specs.declared.state.State.TheVariants as states
-use Rattle.tsn_undo.specs.Ledger.{present}
+use Rattle.tsn_undo.specs.Ledger.{base_of, present}
 use Rattle.tsn_undo.specs.Steps.{LeavesStanding, standing_without}
 use Rattle.tsn_undo.specs.UndoAll.{BlocksAll, others_alone}
 use Rattle.tsn_bridge.specs.declared.command.Command.TheVariants as commands
@@ -69,14 +69,14 @@ WhyNotAll s n why = ⊥
 pub record OthersAlone (before : State) : Type 0 where
   pub accepted : (after : State) (session count entry : ℕ) → Step before session commands.UndoAll (TakenBack count entry) after
       → (present after.book ≡ others_alone before.book session)
-      × IsGood before.book.limits before.book.opening (changes (others_standing before.book.entries session))
+      × IsGood before.book.limits (base_of before.book) (changes (others_standing before.book.entries session))
       × (standing after.book.entries ≡ others_standing before.book.entries session)
   pub refused : (after : State) (session : ℕ) (why : Refusal) → Step before session commands.UndoAll (Refused why) after
       → (after ≡ before) × WhyNotAll before session why
 
 -- ---- an undo of one entry leaves what the other standing entries give
 
--- An undo that was answered with an entry leaves all other standing entries, of every session: their run from the opening is
+-- An undo that was answered with an entry leaves all other standing entries, of every session: their run from the base is
 -- good, and is the configuration.
 abbrev pub OthersLeft : State → Type 0
 OthersLeft before =

@@ -11,7 +11,7 @@ ghost use Rattle.tsn_edit.specs.Configuration.{IsWellKept};
 ghost use Rattle.tsn_edit.specs.Runs.{run, IsGood};
 ghost use Rattle.tsn_config.specs.Opening.{opening_refusal};
 ghost use Rattle.tsn_journal.specs.Entries.{changes, standing};
-ghost use Rattle.tsn_undo.specs.Ledger.{present};
+ghost use Rattle.tsn_undo.specs.Ledger.{base_of, present};
 ghost use Rattle.tsn_undo.specs.Soundness.{IsSound};
 ghost use Rattle.tsn_types.specs.Limits.{first_cause};
 ghost use Rattle.tsn_bridge.specs.Acts.{apply_rule, disable_rule, enable_rule, key_causes, list_causes};
@@ -140,7 +140,7 @@ impl Bridge {
         }
     }
 
-    /// The present configuration. It is the run of the standing entries from the opening, and that run is good. There
+    /// The present configuration. It is the run of the standing entries from the base, and that run is good. There
     /// is data for just its keys.
     pub fn config(&self) -> &Config
         ensures limits { result.now.limits ≡ self.now.book.limits }
@@ -148,8 +148,8 @@ impl Bridge {
         ensures kept { IsWellKept self.now.book.limits (present self.now.book) }
         ensures sound { IsSound self.now.book.limits self.now.book.opening self.now.book.entries }
         ensures whole { IsWhole self.now }
-        ensures good { IsGood self.now.book.limits self.now.book.opening (changes (standing self.now.book.entries)) }
-        ensures stands { result.now.map ≡ run self.now.book.opening (changes (standing self.now.book.entries)) }
+        ensures good { IsGood self.now.book.limits (base_of self.now.book) (changes (standing self.now.book.entries)) }
+        ensures stands { result.now.map ≡ run (base_of self.now.book) (changes (standing self.now.book.entries)) }
     {
         self.book.config()
     }

@@ -4,6 +4,7 @@ ghost use Rattle.tsn_types.specs.Refusals.{IsLeastOrMemory};
 ghost use Rattle.tsn_edit.specs.Edits.{change_of};
 ghost use Rattle.tsn_edit.specs.Parts.{inverse};
 ghost use Rattle.tsn_chain.specs.Following.{frames_after, runners_after};
+ghost use Rattle.tsn_journal.specs.Entries.{most_entries};
 ghost use Rattle.tsn_journal.specs.Finding.{change_at, own_standing};
 ghost use Rattle.tsn_undo.specs.Ledger.{present};
 ghost use Rattle.tsn_undo.specs.Redo.{Redoes, WhyNoRedo};
@@ -36,7 +37,7 @@ fn follow(journal: &Journal, runtime: &mut Runtime, number: u64)
 // Lets the runtime follow the changes of so many entries behind the first ones.
 fn follow_each(journal: &Journal, runtime: &mut Runtime, first: usize, count: usize)
     requires room { count ≤ runtime.old.spare }
-    requires there { first + count ≤ 65536 }
+    requires there { first + count ≤ most_entries }
     ensures runners { runtime.new.runners ≡ followed runners_after journal.now.entries runtime.old.runners first count }
     ensures frames { runtime.new.frames ≡ followed (frames_after runtime.old.time) journal.now.entries runtime.old.frames first count }
     ensures time { runtime.new.time ≡ runtime.old.time }

@@ -5,7 +5,7 @@ use Rattle.tsn_types.specs.declared.refusals.Field.TheVariants as fields
 use Rattle.tsn_types.specs.declared.refusals.Refusal.{Refusal}
 use Rattle.tsn_types.specs.declared.refusals.Refusal.TheVariants as refusals
 
--- the place of a cause in the order in which causes are tested
+-- a refusal's number in a reply
 abbrev pub number_of : Refusal → ℕ
 number_of refusals.TooLong = 1
 number_of refusals.Syntax = 2
@@ -26,13 +26,17 @@ number_of refusals.Past = 16
 number_of refusals.JournalFull = 17
 number_of refusals.Memory = 18
 
--- of two causes the one of the lesser number, and of two with one number the first
+-- the place of a cause in the order in which causes are tested: that of its number
+abbrev pub rank_of : Refusal → ℕ
+rank_of why = number_of why
+
+-- of two causes the one of the lesser rank, and of two with one rank the first
 abbrev pub lesser : Option Refusal → Option Refusal → Option Refusal
 lesser None b = b
 lesser (Some a) None = Some a
-lesser (Some a) (Some b) = if nat_lt (number_of b) (number_of a) then Some b else Some a
+lesser (Some a) (Some b) = if nat_lt (rank_of b) (rank_of a) then Some b else Some a
 
--- of several causes the one of the least number, if there is any
+-- of several causes the one of the least rank, if there is any
 abbrev pub least : List (Option Refusal) → Option Refusal
 least [] = None
 least (o ∷ os) = lesser o (least os)

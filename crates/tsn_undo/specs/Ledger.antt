@@ -13,7 +13,7 @@ use Rattle.tsn_journal.specs.contracts.entries.Entry as entry_row
 use Rattle.tsn_journal.specs.declared.entries.Entry.{Entry}
 use Rattle.tsn_journal.specs.declared.entries.What.{What}
 use Rattle.tsn_journal.specs.Entries.{applies, changes, collect, with_entry}
-use Rattle.tsn_undo.specs.Soundness.{IsSound, configuration}
+use Rattle.tsn_undo.specs.Soundness.{IsSound, base, configuration}
 
 pub record Ledger : Type 0 where
   pub limits : Limits
@@ -35,6 +35,10 @@ ledger_with_room_code = code_by (Ledger × ℕ) (coded× ledger_code coded_ℕ) 
 -- the configuration to which the entries have led
 abbrev pub present : Ledger → Configuration
 present b = configuration b.opening b.entries
+
+-- where the run of the standing entries begins
+abbrev pub base_of : Ledger → Configuration
+base_of b = base b.opening b.entries
 
 -- the ledger with one entry more
 abbrev pub enter : Ledger → ℕ → What → Ledger

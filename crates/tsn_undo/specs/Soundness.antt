@@ -1,4 +1,5 @@
--- What the entries of a book keep: all their changes replay, the standing ones replay, and both end in one configuration.
+-- What the entries of a book keep: all their changes replay from the opening, the standing ones replay from the base, and
+-- both end in one configuration.
 use Rattle.std.specs.Prelude.{◌≡◌, List}
 use Rattle.tsn_types.specs.declared.limits.Limits.{Limits}
 use Rattle.tsn_edit.specs.Configuration.{Configuration, IsWellKept}
@@ -10,11 +11,15 @@ use Rattle.tsn_journal.specs.Entries.{IsNumbered, applies, changes, collect, sta
 abbrev pub configuration : Configuration → List Entry → Configuration
 configuration opening es = run opening (changes (collect applies es))
 
+-- where the run of the standing entries begins: at the opening
+abbrev pub base : Configuration → List Entry → Configuration
+base opening es = opening
+
 pub record IsSound (l : Limits) (opening : Configuration) (es : List Entry) : Type 0 where
   pub numbered : IsNumbered 1 es
   pub kept : IsWellKept l opening
   -- each change that was applied fitted
   pub replays : IsGood l opening (changes (collect applies es))
   -- the run of the standing entries is good, and is the configuration
-  pub good : IsGood l opening (changes (standing es))
-  pub same : run opening (changes (standing es)) ≡ configuration opening es
+  pub good : IsGood l (base opening es) (changes (standing es))
+  pub same : run (base opening es) (changes (standing es)) ≡ configuration opening es

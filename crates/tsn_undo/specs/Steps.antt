@@ -12,7 +12,7 @@ use Rattle.tsn_journal.specs.declared.entries.Entry.{Entry}
 use Rattle.tsn_journal.specs.declared.entries.What.TheVariants.{Made}
 use Rattle.tsn_journal.specs.Entries.{Applied, changes, no_room, standing, undone}
 use Rattle.tsn_journal.specs.Finding.{find_conflict, last_of}
-use Rattle.tsn_undo.specs.Ledger.{Ledger, enter, present}
+use Rattle.tsn_undo.specs.Ledger.{Ledger, base_of, enter, present}
 
 -- why an edit is refused: by the configuration, or by a full journal
 abbrev pub edit_refusal : Ledger → Edit → Option Refusal
@@ -43,11 +43,11 @@ pub record Edits (b : Ledger) (s : ℕ) (edit : Edit) (number : ℕ) (new : Ledg
 abbrev pub standing_without : List Entry → ℕ → List Applied
 standing_without es n = filter (λ x. not (n == x.number)) (standing es)
 
--- a ledger in which just these entries stand: their run from the opening is good, and gives the map
+-- a ledger in which just these entries stand: their run from the base is good, and gives the map
 pub record LeavesStanding (new : Ledger) (xs : List Applied) : Type 0 where
   pub stands : standing new.entries ≡ xs
-  pub good : IsGood new.limits new.opening (changes xs)
-  pub run_is : present new ≡ run new.opening (changes xs)
+  pub good : IsGood new.limits (base_of new) (changes xs)
+  pub run_is : present new ≡ run (base_of new) (changes xs)
 
 -- an undo makes one entry, which takes back the session's newest standing entry: the map is the one before, with the
 -- value before that entry's change put back, and the good run of the standing entries without it

@@ -11,11 +11,11 @@ use Rattle.tsn_journal.specs.declared.entries.Entry.{Entry}
 use Rattle.tsn_journal.specs.Entries.{Applied, changes, no_room, standing, undone, with_entry}
 use Rattle.tsn_journal.specs.Finding.{find_conflict_of_others, find_own_in_conflict, others_standing, own_standing, standing_entry}
 use Rattle.tsn_undo.specs.declared.book.TakingBack.{TakingBack}
-use Rattle.tsn_undo.specs.Ledger.{Ledger, present}
+use Rattle.tsn_undo.specs.Ledger.{Ledger, base_of, present}
 
 -- what the standing entries of the other sessions alone give
 abbrev pub others_alone : Ledger → ℕ → Configuration
-others_alone b s = run b.opening (changes (others_standing b.entries s))
+others_alone b s = run (base_of b) (changes (others_standing b.entries s))
 
 -- the own entry, with the latest later standing entry of another session in conflict with it
 abbrev pub conflict_with_others : List Entry → Option Applied → Option Refusal
@@ -49,7 +49,7 @@ pub record TakesAllBack (b : Ledger) (s count last : ℕ) (new : Ledger) : Type 
   pub last_is : last ≡ length b.entries + count
   pub after : new ≡ record b { entries = with_undone b.entries s (own_standing b.entries s) }
   pub stands : standing new.entries ≡ others_standing b.entries s
-  pub good : IsGood b.limits b.opening (changes (others_standing b.entries s))
+  pub good : IsGood b.limits (base_of b) (changes (others_standing b.entries s))
   pub map : present new ≡ others_alone b s
 
 -- the entry own stands and is the session's, and the later entry other stands, is another session's and is in conflict with it

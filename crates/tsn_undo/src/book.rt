@@ -14,7 +14,7 @@ ghost use Rattle.tsn_edit.specs.Runs.{run, IsGood};
 ghost use Rattle.tsn_journal.specs.declared.entries.What.TheVariants.{Acted, Undone};
 ghost use Rattle.tsn_journal.specs.Entries.{Applied, applies, changes, most_entries, no_room, standing, with_entry};
 ghost use Rattle.tsn_journal.specs.Finding.{change_at};
-ghost use Rattle.tsn_undo.specs.Ledger.{enter, present};
+ghost use Rattle.tsn_undo.specs.Ledger.{base_of, enter, present};
 ghost use Rattle.tsn_undo.specs.Soundness.{IsSound};
 ghost use Rattle.tsn_undo.specs.Steps.{Edits, IsFree, TakesBack, edit_refusal, undo_refusal};
 
@@ -77,8 +77,8 @@ impl Book {
         ensures map { result.now.map ≡ present self.now.ledger }
         ensures kept { IsWellKept self.now.ledger.limits (present self.now.ledger) }
         ensures sound { IsSound self.now.ledger.limits self.now.ledger.opening self.now.ledger.entries }
-        ensures good { IsGood self.now.ledger.limits self.now.ledger.opening (changes (standing self.now.ledger.entries)) }
-        ensures stands { result.now.map ≡ run self.now.ledger.opening (changes (standing self.now.ledger.entries)) }
+        ensures good { IsGood self.now.ledger.limits (base_of self.now.ledger) (changes (standing self.now.ledger.entries)) }
+        ensures stands { result.now.map ≡ run (base_of self.now.ledger) (changes (standing self.now.ledger.entries)) }
     {
         &self.config
     }

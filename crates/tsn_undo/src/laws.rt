@@ -11,7 +11,7 @@ ghost use Rattle.tsn_edit.specs.declared.Edit.{Edit as AnyEdit};
 ghost use Rattle.tsn_journal.specs.Entries.{Applied, changes, no_room, redone, standing, undone, with_entry};
 ghost use Rattle.tsn_journal.specs.Finding.{find_conflict, find_redo_conflict, last_of, others_standing, own_standing, redo_of};
 ghost use Rattle.tsn_undo.specs.Examples.{blocked, both_undone, created_back, creation, first_run, or_nothing, others_removal, removal, replaced_back, replacement};
-ghost use Rattle.tsn_undo.specs.Ledger.{Ledger, present};
+ghost use Rattle.tsn_undo.specs.Ledger.{Ledger, base_of, present};
 ghost use Rattle.tsn_undo.specs.Soundness.{IsSound};
 ghost use Rattle.tsn_undo.specs.Redo.{Redoes};
 ghost use Rattle.tsn_undo.specs.Steps.{Edits, TakesBack, undo_refusal};
@@ -57,11 +57,11 @@ pub fn undos_by_hand()
 /// set's earliest change of that key, and at every other key as the run of all standing entries does. The opening is
 /// well kept, as every book's is.
 pub fn commutation_under_references()
-    ensures { (l : AnyLimits) (opening : Configuration) (xs : List Applied) (out : Applied → Bool) →
-        IsWellKept l opening →
-        IsGood l opening (changes xs) →
+    ensures { (l : AnyLimits) (from : Configuration) (xs : List Applied) (out : Applied → Bool) →
+        IsWellKept l from →
+        IsGood l from (changes xs) →
         IsClosed out xs →
-        Commutes l opening out xs }
+        Commutes l from out xs }
 {}
 
 /// An undo of all that a session has standing, accepted, leaves what the others' standing entries alone give: just
@@ -73,7 +73,7 @@ pub fn undo_of_all()
         IsSound after.limits after.opening after.entries
         × (standing after.entries ≡ others_standing before.entries session)
         × (present after ≡ others_alone before session)
-        × IsGood before.limits before.opening (changes (others_standing before.entries session)) }
+        × IsGood before.limits (base_of before) (changes (others_standing before.entries session)) }
 {}
 
 /// Where an undo of all is refused for a conflict, the entry named first is a standing one of the session, and the

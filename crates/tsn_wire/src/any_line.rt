@@ -15,6 +15,7 @@ use crate::values::Word;
 use std::alloc::Global;
 use tsn_records::drafts::{KeyDraft, RecordDraft};
 use tsn_types::keys::Kind;
+use tsn_types::numbers::identifiers::GREATEST_INSTANCE;
 
 /// The members of a line, as far as they were read.
 #[derive(Drop)]
@@ -104,7 +105,7 @@ fn table_key(key: Option<KeyDraft>) -> Option<KeyDraft>
     ensures { IfSome result (λ k. IsKey k × (key ≡ Some k)) }
 {
     let key = key?;
-    if key.number > 65_535 {
+    if key.number > GREATEST_INSTANCE {
         return None;
     }
     Some(key)

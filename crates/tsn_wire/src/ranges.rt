@@ -39,11 +39,14 @@ fn priority(number: u64) -> Result<Priority, Unread>
     Priority::new(number).map_err(|_| Unread::Range(Field::Priority))
 }
 
+/// The most octets of a frame.
+const LONGEST_FRAME: u64 = 65_535;
+
 // A number of octets may be greater elsewhere than a frame is long.
 fn octets(number: u64) -> Result<Octets, Unread>
     ensures { result ≡ within fields.Octets 0 longest_frame number }
 {
-    if number > 65_535 {
+    if number > LONGEST_FRAME {
         return Err(Unread::Range(Field::Octets));
     }
     Octets::new(number).map_err(|_| Unread::Range(Field::Octets))

@@ -16,6 +16,7 @@ use crate::ranges::command_of_draft;
 use crate::spelled::spelled_draft;
 use serde_json::Value;
 use std::alloc::Global;
+use tsn_bridge::bridge::MOST_SESSIONS;
 use tsn_bridge::command::{Ask, Command};
 use tsn_records::unread::Unread;
 use tsn_types::refusals::{Field, Refusal};
@@ -33,7 +34,7 @@ fn value_of(alloc: Global, line: &[u8]) -> Result<Value, Unread>
 fn session(number: u64) -> Result<u32, Unread>
     ensures { result ≡ within fields.S 1 most_sessions number }
 {
-    if number < 1 || 65_535 < number {
+    if number < 1 || (MOST_SESSIONS as u64) < number {
         return Err(Unread::Range(Field::S));
     }
     Ok(number as u32)

@@ -24,6 +24,7 @@ use tsn_records::drafts::{
 };
 use tsn_types::keys::Kind;
 use tsn_types::lists::ControlList;
+use tsn_types::numbers::identifiers::GREATEST_INSTANCE;
 
 fn number_member(text: &mut Cursor<'_>, name: &str) -> Option<u64>
     ensures { IfSome result (λ n. IsSmall n × (text.old ≡ name.now ++ (decimal n ++ text.new))) }
@@ -235,7 +236,7 @@ fn key_of_kind(text: &mut Cursor<'_>, kind: Kind) -> Option<KeyDraft>
     ensures { IfSome result (λ k. (k.kind ≡ kind) × IsKey k × (text.old ≡ decimal k.number ++ text.new)) }
 {
     let number = text.number()?;
-    if number > 65_535 {
+    if number > GREATEST_INSTANCE {
         return None;
     }
     Some(KeyDraft { kind, number })
