@@ -1,6 +1,7 @@
 -- Instance data stays tied to the book where an entry applied a change that fitted and the runtime followed it: whether the change was made, undone or redone.
 use Rattle.std.proofs.Common.{◌≡◌, ℕ, Bool, true, false, cond, refl, sym, ◌∙◌, ap, subst, List, [], ◌∷◌, ◌++◌, Option, Some, None}
 use Rattle.std.proofs.lemmas.List.Sums.{fold-append}
+use Rattle.std.specs.List.{IsDistinct}
 use Rattle.std.specs.FinMap.{FinMap, get, insert, remove, get-insert, get-remove}
 use Rattle.std.specs.Ordering.{nat_cmp, eq_by_cmp}
 use Rattle.std.specs.Cmp.{nat_cmp_total}
@@ -11,8 +12,10 @@ use Rattle.tsn_types.specs.declared.records.Schedule.{Schedule}
 use Rattle.tsn_types.specs.declared.records.PortEntry.{PortEntry}
 use Rattle.tsn_types.specs.declared.records.GateEntry.{GateEntry}
 use Rattle.tsn_types.specs.Keys.{same_key}
-use Rattle.tsn_edit.specs.Changes.{Fits}
-use Rattle.tsn_edit.specs.Parts.{Change}
+use Rattle.tsn_edit.specs.Changes.{Fits, keys_of, part_of}
+use Rattle.tsn_edit.specs.Parts.{Change, Part, parts}
+use Rattle.tsn_edit.proofs.FirstPart.{no_other}
+use Rattle.tsn_edit.proofs.KeyFacts.{part_on, part_on_none}
 use Rattle.tsn_schedule.specs.Kept.{Kept, fresh}
 use Rattle.tsn_schedule.specs.Stands.{StandsFor}
 use Rattle.tsn_schedule.proofs.Keeps.{fresh_stands}
@@ -33,10 +36,10 @@ pub object_push : {E : Type 0} (admin : Option Record → Option (Schedule E)) (
 object_push {E = E} admin k o es w = fold-append (λ (o : Object E) (e : Entry). after_entry admin k o e.what) (record { value = o; acts = [] }) es (w ∷ [])
 
 -- an entry that applied a change
-pub applied_entry : {E : Type 0} (admin : Option Record → Option (Schedule E)) (k : Key) (o : Object E) (w : What) (e : Change) → applies w ≡ Some e → after_entry admin k o w ≡ after_part k o e
-applied_entry admin k o (Made f) e is = let same : f ≡ e = cc in ap (after_part k o) same
-applied_entry admin k o (Undone n f) e is = let same : f ≡ e = cc in ap (after_part k o) same
-applied_entry admin k o (Redone n f) e is = let same : f ≡ e = cc in ap (after_part k o) same
+pub applied_entry : {E : Type 0} (admin : Option Record → Option (Schedule E)) (k : Key) (o : Object E) (w : What) (e : Change) → applies w ≡ Some e → after_entry admin k o w ≡ after_part o (part_of k (parts e))
+applied_entry admin k o (Made f) e is = let same : f ≡ e = cc in ap (λ (g : Change). after_part o (part_of k (parts g))) same
+applied_entry admin k o (Undone n f) e is = let same : f ≡ e = cc in ap (λ (g : Change). after_part o (part_of k (parts g))) same
+applied_entry admin k o (Redone n f) e is = let same : f ≡ e = cc in ap (λ (g : Change). after_part o (part_of k (parts g))) same
 applied_entry admin k o (Acted act key a) e is = absurd (cc)
 
 -- a row of the table of runners
@@ -77,18 +80,50 @@ gate_stands (Filter m) before after r o n k h is = h k is
 gate_stands (Gate m) before after r o n k h is = row_stands r.gates m n o k h before after is
 gate_stands (Meter m) before after r o n k h is = h k is
 
+-- the object after a part on its key, which no later part is on
+joined : {E : Type 0} (b : Bool) (o : Object E) (p : Part) (rest : Option Part) → (b ≡ true → rest ≡ None)
+    → after_part (cond b (record { value = p.after; acts = lived p.before p.after o.acts }) o) rest ≡ after_part o (cond b (Some p) rest)
+joined true o p rest none = ap (after_part (record { value = p.after; acts = lived p.before p.after o.acts })) (none refl)
+joined false o p rest none = refl
+
+-- no part behind the first is on its key
+one_part : (p : Part) (ps : List Part) → IsDistinct same_key (keys_of (p ∷ ps)) → (k : Key) → same_key k p.key ≡ true → part_of k ps ≡ None
+unfolding part_on
+one_part p ps distinct k same = part_on_none k ps (no_other p ps distinct k same)
+
+-- the runner of a port, of a gate, after the parts of a change
+ports_stand : (ps : List Part) → IsDistinct same_key (keys_of ps) → (r : Runners) (o : Object PortEntry) (n : ℕ) (k : Kept PortEntry) → ((k : Kept PortEntry) → get r.ports n ≡ Some k → StandsFor k o.acts)
+    → get (runners_after r ps).ports n ≡ Some k → StandsFor k (after_part o (part_of (Port n) ps)).acts
+unfolding IsDistinct
+ports_stand [] distinct r o n k h is = h k is
+ports_stand (p ∷ ps) distinct r o n k h is =
+    let b = same_key (Port n) p.key in
+    let changed : Object PortEntry = record { value = p.after; acts = lived p.before p.after o.acts } in
+    subst (λ (q : Object PortEntry). StandsFor k q.acts) (joined b o p (part_of (Port n) ps) (one_part p ps distinct (Port n)))
+    (ports_stand ps distinct.1 (runners_at r p.key p.before p.after) (cond b changed o) n k (λ k is. port_stands p.key p.before p.after r o n k h is) is)
+
+gates_stand : (ps : List Part) → IsDistinct same_key (keys_of ps) → (r : Runners) (o : Object GateEntry) (n : ℕ) (k : Kept GateEntry) → ((k : Kept GateEntry) → get r.gates n ≡ Some k → StandsFor k o.acts)
+    → get (runners_after r ps).gates n ≡ Some k → StandsFor k (after_part o (part_of (Gate n) ps)).acts
+unfolding IsDistinct
+gates_stand [] distinct r o n k h is = h k is
+gates_stand (p ∷ ps) distinct r o n k h is =
+    let b = same_key (Gate n) p.key in
+    let changed : Object GateEntry = record { value = p.after; acts = lived p.before p.after o.acts } in
+    subst (λ (q : Object GateEntry). StandsFor k q.acts) (joined b o p (part_of (Gate n) ps) (one_part p ps distinct (Gate n)))
+    (gates_stand ps distinct.1 (runners_at r p.key p.before p.after) (cond b changed o) n k (λ k is. gate_stands p.key p.before p.after r o n k h is) is)
+
 module _ (b : Ledger) (s : ℕ) (w : What) (e : Change) (apply : applies w ≡ Some e) where
-  acts_of : {E : Type 0} (admin : Option Record → Option (Schedule E)) (k : Key) → object admin k (get b.opening k) (enter b s w).entries ≡ after_part k (object admin k (get b.opening k) b.entries) e
+  acts_of : {E : Type 0} (admin : Option Record → Option (Schedule E)) (k : Key) → object admin k (get b.opening k) (enter b s w).entries ≡ after_part (object admin k (get b.opening k) b.entries) (part_of k (parts e))
   acts_of admin k = object_push admin k (get b.opening k) b.entries _ ∙ applied_entry admin k (object admin k (get b.opening k) b.entries) w e apply
 
-  pub runs_on : (r : Runners) → RunsActs b r → RunsActs (enter b s w) (runners_after r e)
-  runs_on r h = record {
-    ports = λ n k is. subst (λ (o : Object PortEntry). StandsFor k o.acts) (sym (acts_of port_schedule (Port n))) (port_stands e.key e.before e.after r (port_at b n) n k (h.ports n) is);
-    gates = λ n k is. subst (λ (o : Object GateEntry). StandsFor k o.acts) (sym (acts_of gate_schedule (Gate n))) (gate_stands e.key e.before e.after r (gate_at b n) n k (h.gates n) is);
+  runs_on : (r : Runners) → IsDistinct same_key (keys_of (parts e)) → RunsActs b r → RunsActs (enter b s w) (runners_after r e)
+  runs_on r distinct h = record {
+    ports = λ n k is. subst (λ (o : Object PortEntry). StandsFor k o.acts) (sym (acts_of port_schedule (Port n))) (ports_stand (parts e) distinct r (port_at b n) n k (h.ports n) is);
+    gates = λ n k is. subst (λ (o : Object GateEntry). StandsFor k o.acts) (sym (acts_of gate_schedule (Gate n))) (gates_stand (parts e) distinct r (gate_at b n) n k (h.gates n) is);
   }
 
   pub followed : (r : Runners) (f : FrameData) (now : ℕ) → IsTied b r f → Fits b.limits (present b) e → IsTied (enter b s w) (runners_after r e) (frames_after now f e)
   followed r f now h fits = record {
-    runs = runs_on r h.runs;
+    runs = runs_on r fits.distinct h.runs;
     keys = subst (λ c. HasKeys (runners_after r e) (frames_after now f e) c) (sym (configuration_push b.opening b.entries s w e apply)) (keys_fit b.limits (present b) r f now e h.keys fits);
   }

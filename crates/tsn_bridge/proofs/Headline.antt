@@ -17,7 +17,8 @@ use Rattle.tsn_edit.specs.declared.Edit.TheVariants as edits
 use Rattle.tsn_edit.specs.Changes.{restored}
 use Rattle.tsn_edit.specs.Configuration.{Configuration}
 use Rattle.tsn_edit.specs.Edits.{EditInRange}
-use Rattle.tsn_edit.proofs.KeyFacts.{get-put, same_itself}
+use Rattle.tsn_edit.proofs.Inverses.{get-inverse}
+use Rattle.tsn_edit.proofs.KeyFacts.{before_or, part_on}
 use Rattle.tsn_schedule.specs.Entries.{entry_at}
 use Rattle.tsn_schedule.specs.Refusing.{has_entries}
 use Rattle.tsn_schedule.specs.Times.{change_of}
@@ -154,6 +155,7 @@ same_entry x y e = (cc)
 
 -- the record that an undo put back stands
 put_back : (s undone : State) (k : Key) (r : Record) → StateIsSound s → PutsBack s undone k r → get (present undone.book) k ≡ Some r
+unfolding part_on
 put_back s undone k r sound back =
     let taken = taken_map s undone back.session back.number back.of back.step in
     let x = taken.0 in
@@ -161,9 +163,8 @@ put_back s undone k r sound back =
     let same : x ≡ back.entry = same_entry x back.entry (sym found ∙ ap (standing_entry s.book.entries) (sym taken.2) ∙ back.entry_is) in
     let map : present undone.book ≡ restored (present s.book) back.entry.change = taken.3 ∙ ap (λ (y : Applied). restored (present s.book) y.change) same in
     ap (λ (c : Configuration). get c k) map
-    ∙ ap (get (restored (present s.book) back.entry.change)) (sym back.key_is)
-    ∙ get-put (present s.book) back.entry.change.key back.entry.change.before back.entry.change.key
-    ∙ ap (λ b. cond b back.entry.change.before (get (present s.book) back.entry.change.key)) (same_itself back.entry.change.key)
+    ∙ get-inverse (present s.book) back.entry.change k
+    ∙ ap (λ o. before_or o (get (present s.book) k)) back.part_is
     ∙ back.stood
 
 module _ (s undone : State) (k : Key) (r : Record) (sound : StateIsSound s) (back : PutsBack s undone k r) where

@@ -17,6 +17,8 @@ use Rattle.tsn_types.specs.declared.refusals.Refusal.TheVariants.{Memory}
 use Rattle.tsn_types.specs.Keys.{same_key}
 use Rattle.tsn_types.specs.Limits.{HoldsRecord, first_cause, holds_key}
 use Rattle.tsn_edit.specs.Configuration.{IsWellKept}
+use Rattle.tsn_edit.specs.Changes.{part_of}
+use Rattle.tsn_edit.specs.Parts.{Part, parts}
 use Rattle.tsn_edit.specs.Runs.{run}
 use Rattle.tsn_edit.proofs.KeyFacts.{same_itself}
 use Rattle.tsn_schedule.specs.Acts.{Act, Apply, Enable, is_enabled, last_instant, with_act}
@@ -40,8 +42,8 @@ use Rattle.tsn_bridge.specs.declared.reply.Reply.TheVariants as replies
 use Rattle.tsn_bridge.specs.Acts.{acted_state, apply_rule, instant, list_causes}
 use Rattle.tsn_bridge.specs.Histories.{StateIsSound}
 use Rattle.tsn_bridge.specs.Looking.{last_at, shown_at, states_rule}
-use Rattle.tsn_bridge.specs.Objects.{Object, after_entry, gate_at, gate_schedule, lived, object, port_at, port_schedule, with_asked}
-use Rattle.tsn_bridge.specs.Quiet.{IsQuiet}
+use Rattle.tsn_bridge.specs.Objects.{Object, after_entry, after_part, gate_at, gate_schedule, lived, object, port_at, port_schedule, with_asked}
+use Rattle.tsn_bridge.specs.Quiet.{IsQuiet, IsReplacement}
 use Rattle.tsn_bridge.specs.Rule.{Allows, is_given}
 use Rattle.tsn_bridge.specs.State.{State}
 use Rattle.tsn_bridge.proofs.AtOnce.{done_of}
@@ -58,9 +60,9 @@ kept None after acts a b = (cc)
 kept (Some q) None acts a b = (cc)
 kept (Some q) (Some r) acts a b = refl
 
-part_kept : {E : Type 0} (b : Bool) (o : Object E) (before after : Option Record) → (b ≡ true → IsSome before × IsSome after) → (cond b (record { value = after; acts = lived before after o.acts }) o).acts ≡ o.acts
-part_kept true o before after h = kept before after o.acts (h refl).0 (h refl).1
-part_kept false o before after h = refl
+part_kept : {E : Type 0} (q : Option Part) (o : Object E) → IsReplacement q → (after_part o q).acts ≡ o.acts
+part_kept None o h = refl
+part_kept (Some p) o h = kept p.before p.after o.acts h.0 h.1
 
 act_kept : {E : Type 0} (b : Bool) (o : Object E) (acts : List (Act E)) → b ≡ false → (cond b (record { value = o.value; acts = acts }) o).acts ≡ o.acts
 act_kept true o acts e = (cc)
@@ -72,9 +74,9 @@ enable_kept true o a on = ap (λ is. cond is o.acts (Enable a ∷ o.acts)) on
 enable_kept false o a on = refl
 
 quiet_entry : {E : Type 0} (admin : Option Record → Option (Schedule E)) (k : Key) (o : Object E) (w : What) → is_enabled o.acts ≡ true → IsQuiet k w → (after_entry admin k o w).acts ≡ o.acts
-quiet_entry admin k o (Made e) on h = part_kept (same_key k e.key) o e.before e.after h
-quiet_entry admin k o (Undone n e) on h = part_kept (same_key k e.key) o e.before e.after h
-quiet_entry admin k o (Redone n e) on h = part_kept (same_key k e.key) o e.before e.after h
+quiet_entry admin k o (Made e) on h = part_kept (part_of k (parts e)) o h
+quiet_entry admin k o (Undone n e) on h = part_kept (part_of k (parts e)) o h
+quiet_entry admin k o (Redone n e) on h = part_kept (part_of k (parts e)) o h
 quiet_entry admin k o (Acted asked.Enable key a) on h = enable_kept (same_key k key) o a on
 quiet_entry admin k o (Acted asked.Disable key a) on h = act_kept (same_key k key) o (with_asked asked.Disable (admin o.value) a o.acts) h
 quiet_entry admin k o (Acted asked.Apply key a) on h = act_kept (same_key k key) o (with_asked asked.Apply (admin o.value) a o.acts) h
@@ -85,18 +87,18 @@ quiet_run {E = E} admin k (e ∷ es) o on h =
     let one = quiet_entry admin k o e.what on h.0 in
     quiet_run admin k es (after_entry admin k o e.what) (ap (λ (acts : List (Act E)). is_enabled acts) one ∙ on) h.1 ∙ one
 
-part_there : {E : Type 0} (b : Bool) (o : Object E) (before after : Option Record) (acts : List (Act E)) → (b ≡ true → IsSome before × IsSome after) → IsSome o.value → IsSome (cond b (record { value = after; acts = acts }) o).value
-part_there true o before after acts h some = (h refl).1
-part_there false o before after acts h some = some
+part_there : {E : Type 0} (q : Option Part) (o : Object E) → IsReplacement q → IsSome o.value → IsSome (after_part o q).value
+part_there None o h some = some
+part_there (Some p) o h some = h.1
 
 act_there : {E : Type 0} (b : Bool) (o : Object E) (acts : List (Act E)) → IsSome o.value → IsSome (cond b (record { value = o.value; acts = acts }) o).value
 act_there true o acts some = some
 act_there false o acts some = some
 
 there_entry : {E : Type 0} (admin : Option Record → Option (Schedule E)) (k : Key) (o : Object E) (w : What) → IsQuiet k w → IsSome o.value → IsSome (after_entry admin k o w).value
-there_entry admin k o (Made e) h some = part_there (same_key k e.key) o e.before e.after (lived e.before e.after o.acts) h some
-there_entry admin k o (Undone n e) h some = part_there (same_key k e.key) o e.before e.after (lived e.before e.after o.acts) h some
-there_entry admin k o (Redone n e) h some = part_there (same_key k e.key) o e.before e.after (lived e.before e.after o.acts) h some
+there_entry admin k o (Made e) h some = part_there (part_of k (parts e)) o h some
+there_entry admin k o (Undone n e) h some = part_there (part_of k (parts e)) o h some
+there_entry admin k o (Redone n e) h some = part_there (part_of k (parts e)) o h some
 there_entry admin k o (Acted act key a) h some = act_there (same_key k key) o (with_asked act (admin o.value) a o.acts) some
 
 there_run : {E : Type 0} (admin : Option Record → Option (Schedule E)) (k : Key) (es : List Entry) (o : Object E) → AllByRecursion (λ e. IsQuiet k e.what) es → IsSome o.value → IsSome (fold (λ (o : Object E) (e : Entry). after_entry admin k o e.what) o es).value

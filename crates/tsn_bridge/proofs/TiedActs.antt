@@ -12,11 +12,11 @@ use Rattle.tsn_types.specs.declared.records.Schedule.{Schedule}
 use Rattle.tsn_types.specs.declared.records.PortEntry.{PortEntry}
 use Rattle.tsn_types.specs.declared.records.GateEntry.{GateEntry}
 use Rattle.tsn_types.specs.Keys.{same_key}
-use Rattle.tsn_edit.specs.Changes.{after_change}
+use Rattle.tsn_edit.specs.Changes.{after_change, part_of}
 use Rattle.tsn_edit.specs.Configuration.{Configuration}
-use Rattle.tsn_edit.specs.Parts.{Change}
+use Rattle.tsn_edit.specs.Parts.{Change, Part, parts}
 use Rattle.tsn_edit.specs.Runs.{run}
-use Rattle.tsn_edit.proofs.KeyFacts.{get-put, one_key}
+use Rattle.tsn_edit.proofs.KeyFacts.{after_or, get-after_change, one_key, part_on}
 use Rattle.tsn_schedule.specs.Acts.{Act, Apply, Disable, Enable, with_act}
 use Rattle.tsn_schedule.specs.Kept.{Kept}
 use Rattle.tsn_schedule.specs.Stands.{StandsFor}
@@ -34,7 +34,7 @@ use Rattle.tsn_chain.specs.Instances.{FrameData, HasKeys, Runners}
 use Rattle.tsn_chain.proofs.Keys.{keys_act}
 use Rattle.tsn_chain.proofs.Swapped.{one_number}
 use Rattle.tsn_bridge.specs.Kept.{IsTied}
-use Rattle.tsn_bridge.specs.Objects.{Object, after_entry, after_part, gate_at, gate_schedule, lived, object, port_at, port_schedule, with_asked}
+use Rattle.tsn_bridge.specs.Objects.{Object, after_entry, after_part, gate_at, gate_schedule, object, port_at, port_schedule, with_asked}
 use Rattle.tsn_bridge.proofs.Following.{object_push}
 
 -- ---- an object's record is that of the configuration
@@ -43,16 +43,17 @@ abbrev changed_by : Configuration → Option Change → Configuration
 changed_by c None = c
 changed_by c (Some e) = after_change c e
 
-either : {E : Type 0} (b : Bool) (o : Object E) (v : Option Record) (acts : List (Act E)) (g : Option Record) → o.value ≡ g → (cond b (record { value = v; acts = acts }) o).value ≡ cond b v g
-either true o v acts g h = refl
-either false o v acts g h = h
+after_value : {E : Type 0} (q : Option Part) (o : Object E) (g : Option Record) → o.value ≡ g → (after_part o q).value ≡ after_or q g
+after_value None o g h = h
+after_value (Some p) o g h = refl
 
 neither : {E : Type 0} (b : Bool) (o : Object E) (acts : List (Act E)) → (cond b (record { value = o.value; acts = acts }) o).value ≡ o.value
 neither true o acts = refl
 neither false o acts = refl
 
-part_value : {E : Type 0} (k : Key) (c : Configuration) (o : Object E) (e : Change) → o.value ≡ get c k → (after_part k o e).value ≡ get (after_change c e) k
-part_value k c o e h = either (same_key k e.key) o e.after (lived e.before e.after o.acts) (get c k) h ∙ sym (get-put c e.key e.after k)
+part_value : {E : Type 0} (k : Key) (c : Configuration) (o : Object E) (e : Change) → o.value ≡ get c k → (after_part o (part_of k (parts e))).value ≡ get (after_change c e) k
+unfolding part_on
+part_value k c o e h = after_value (part_of k (parts e)) o (get c k) h ∙ sym (get-after_change c e k)
 
 value_step : {E : Type 0} (admin : Option Record → Option (Schedule E)) (k : Key) (c : Configuration) (o : Object E) (w : What) → o.value ≡ get c k → (after_entry admin k o w).value ≡ get (changed_by c (applies w)) k
 value_step admin k c o (Made e) h = part_value k c o e h

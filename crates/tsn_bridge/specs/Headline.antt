@@ -13,6 +13,8 @@ use Rattle.tsn_types.specs.declared.refusals.Refusal.{Refusal}
 use Rattle.tsn_types.specs.declared.refusals.Refusal.TheVariants.{Conflict, JournalFull, Memory, NoSession, NothingToUndo}
 use Rattle.tsn_edit.specs.declared.Edit.{Edit}
 use Rattle.tsn_edit.specs.Edits.{EditInRange}
+use Rattle.tsn_edit.specs.Changes.{part_of}
+use Rattle.tsn_edit.specs.Parts.{Part, parts}
 use Rattle.tsn_edit.specs.Runs.{IsGood}
 use Rattle.tsn_schedule.specs.Entries.{entry_at}
 use Rattle.tsn_schedule.specs.Times.{change_of}
@@ -117,8 +119,9 @@ pub record PutsBack (before undone : State) (k : Key) (r : Record) : Type 0 wher
   pub step : Step before session commands.Undo (EntryOf number of) undone
   pub entry : Applied
   pub entry_is : standing_entry before.book.entries of ≡ Some entry
-  pub key_is : entry.change.key ≡ k
-  pub stood : entry.change.before ≡ Some r
+  pub part : Part
+  pub part_is : part_of k (parts entry.change) ≡ Some part
+  pub stood : part.before ≡ Some r
 
 -- The record stands at its key after that undo; and wherever asks lead from there, while it stands its list runs so.
 pub record RestoredList (before : State) : Type 0 where

@@ -1,5 +1,5 @@
 -- Lists of commands given to the machine by sessions, and where they lead.
-use Rattle.std.specs.Prelude.{◌≡◌, ℕ, List, [], ◌∷◌, ⊤}
+use Rattle.std.specs.Prelude.{◌≡◌, List, [], ◌∷◌, ⊤}
 use Rattle.std.specs.List.{AllByRecursion}
 use Rattle.tsn_types.specs.InRange.{RecordInRange}
 use Rattle.tsn_edit.specs.declared.Edit.{Edit}

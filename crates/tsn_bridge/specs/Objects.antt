@@ -10,6 +10,7 @@ use Rattle.tsn_types.specs.declared.records.Schedule.{Schedule}
 use Rattle.tsn_types.specs.declared.records.PortEntry.{PortEntry}
 use Rattle.tsn_types.specs.declared.records.GateEntry.{GateEntry}
 use Rattle.tsn_types.specs.Keys.{same_key}
+use Rattle.tsn_edit.specs.Changes.{part_of}
 use Rattle.tsn_edit.specs.Parts.{Change, Part, parts}
 use Rattle.tsn_schedule.specs.Acts.{Act, Enable, Disable, Apply, with_act}
 use Rattle.tsn_journal.specs.Entries.{Asked, act_of, applies}
@@ -30,9 +31,10 @@ lived None after acts = []
 lived (Some q) None acts = []
 lived (Some q) (Some r) acts = acts
 
--- an object after one part of a change
-abbrev pub after_part : {E : Type 0} → Key → Object E → Part → Object E
-after_part k o p = if same_key k p.key then record { value = p.after; acts = lived p.before p.after o.acts } else o
+-- an object after the part of a change on its key, if there is one
+abbrev pub after_part : {E : Type 0} → Object E → Option Part → Object E
+after_part o None = o
+after_part o (Some p) = record { value = p.after; acts = lived p.before p.after o.acts }
 
 -- the acts with one that was asked for; an apply takes the schedule of the record at that entry
 abbrev pub with_asked : {E : Type 0} → AskedAct → Option (Schedule E) → ℕ → List (Act E) → List (Act E)
@@ -44,7 +46,7 @@ with_asked asked.Apply (Some schedule) a acts = with_act (Apply schedule a) acts
 -- an object after the change that an entry applied, if it applied one
 abbrev pub after_changed : {E : Type 0} → Key → Object E → Option Change → Object E
 after_changed k o None = o
-after_changed k o (Some e) = fold (after_part k) o (parts e)
+after_changed k o (Some e) = after_part o (part_of k (parts e))
 
 -- an object after the act that an entry is, if it is one, where `admin` is the schedule in a record of its kind
 abbrev pub after_asked : {E : Type 0} → (Option Record → Option (Schedule E)) → Key → Object E → Option Asked → Object E

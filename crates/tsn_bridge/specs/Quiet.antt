@@ -1,9 +1,10 @@
 -- Entries that leave the list of an enabled key as it runs: no act on it, and no change that creates or removes the key.
-use Rattle.std.specs.Prelude.{◌≡◌, false, true, List, ◌++◌, IsSome, MatchOption, ⊤}
+use Rattle.std.specs.Prelude.{◌≡◌, false, List, ◌++◌, Option, IsSome, MatchOption, ⊤}
 use Rattle.std.specs.List.{AllByRecursion}
 use Rattle.tsn_types.specs.declared.keys.Key.{Key}
 use Rattle.tsn_types.specs.Keys.{same_key}
-use Rattle.tsn_edit.specs.Parts.{Change}
+use Rattle.tsn_edit.specs.Changes.{part_of}
+use Rattle.tsn_edit.specs.Parts.{Part, parts}
 use Rattle.tsn_journal.specs.Entries.{act_of, applies}
 use Rattle.tsn_journal.specs.declared.entries.Act.{Act}
 use Rattle.tsn_journal.specs.declared.entries.Act.TheVariants as asked
@@ -12,9 +13,9 @@ use Rattle.tsn_journal.specs.declared.entries.What.{What}
 use Rattle.tsn_bridge.specs.Histories.{AreInRange, Leads, Answered}
 use Rattle.tsn_bridge.specs.State.{State}
 
--- a change that creates and removes nothing at the key
-abbrev pub IsReplacement : Key → Change → Type 0
-IsReplacement k e = same_key k e.key ≡ true → IsSome e.before × IsSome e.after
+-- a part of a change, if there is one, that creates and removes nothing
+abbrev pub IsReplacement : Option Part → Type 0
+IsReplacement q = MatchOption q ⊤ (λ p. IsSome p.before × IsSome p.after)
 
 -- of a key that is enabled: an enable finds it so and is no act of it; a disable and an apply are acts
 abbrev pub IsNoAct : Key → Act → Key → Type 0
@@ -23,7 +24,7 @@ IsNoAct k asked.Disable key = same_key k key ≡ false
 IsNoAct k asked.Apply key = same_key k key ≡ false
 
 abbrev pub IsQuiet : Key → What → Type 0
-IsQuiet k w = MatchOption (applies w) (MatchOption (act_of w) ⊤ (λ a. IsNoAct k a.act a.key)) (λ e. IsReplacement k e)
+IsQuiet k w = MatchOption (applies w) (MatchOption (act_of w) ⊤ (λ a. IsNoAct k a.act a.key)) (λ e. IsReplacement (part_of k (parts e)))
 
 -- asks of any sessions lead from one state to a later one, and no entry between them is an act on the key or creates or
 -- removes it

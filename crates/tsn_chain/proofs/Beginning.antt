@@ -1,7 +1,8 @@
 -- A configuration that is opened with one port, and a runtime that followed that port.
-use Rattle.std.proofs.Common.{◌≡◌, ℕ, cond, [], refl, sym, ◌∙◌, ap, subst, Option, Some, None}
+use Rattle.std.proofs.Common.{◌≡◌, ℕ, cond, [], ◌∷◌, refl, sym, ◌∙◌, ap, subst, Option, Some, None}
 use Rattle.std.specs.Prelude.{Err, IsSome, Ok, OnErr, OnOk, Result, is_some}
 use Rattle.std.specs.FinMap.{FinMap, empty, get, find, get-empty, get-from_entries}
+use Rattle.std.specs.List.{IsDistinct}
 use Rattle.std.specs.Ordering.{nat_cmp}
 use Rattle.tsn_types.specs.declared.keys.Key.{Key}
 use Rattle.tsn_types.specs.declared.keys.Key.TheVariants.{Port, Filter, Gate, Meter}
@@ -23,7 +24,7 @@ use Rattle.tsn_chain.proofs.Keys.{keys_apply, keys_begin, keys_fit, keys_follow}
 
 -- the change that creates the port
 abbrev pub first_port : PortGates → Change
-first_port p = record { key = Port 1; before = None; after = Some (records.Port p) }
+first_port p = record { key = Port 1; before = None; after = Some (records.Port p) } ∷ []
 
 nothing_at : (k : Key) → get {X = Record} (empty {R = key_cmp}) k ≡ None
 nothing_at k = get-empty {X = Record} key_cmp k
@@ -45,9 +46,10 @@ moved t key c d same h n = h n ∙ same (key n)
 
 pub begun : (p : PortGates) (l : Limits) (c : Configuration) (r : Runners) (f : FrameData) (now : ℕ) → l.ports ≡ 1 → c ≡ opening l []
     → r ≡ runners_after (record { ports = empty; gates = empty }) (first_port p) → f ≡ frames_after now (record { filters = empty; gates = empty; meters = empty }) (first_port p) → HasKeys r f c
+unfolding IsDistinct
 begun p l c r f now one is runners frames =
     let first : Configuration = put empty (Port 1) (Some (records.Port p)) in
-    let h = keys_follow empty (record { ports = empty; gates = empty }) (record { filters = empty; gates = empty; meters = empty }) now (first_port p) keys_begin (nothing_at (Port 1)) refl in
+    let h = keys_follow empty (record { ports = empty; gates = empty }) (record { filters = empty; gates = empty; meters = empty }) now (first_port p) keys_begin (tt, tt) (nothing_at (Port 1), tt) (refl, tt) in
     let same : (k : Key) → is_some (get first k) ≡ is_some (get c k) = λ k. one_port p l k one ∙ ap (λ (d : Configuration). is_some (get d k)) (sym is) in
     let moved_all : HasKeys (runners_after (record { ports = empty; gates = empty }) (first_port p)) (frames_after now (record { filters = empty; gates = empty; meters = empty }) (first_port p)) c = record {
       ports = moved _ (λ n. Port n) first c same h.ports;

@@ -1,7 +1,8 @@
 -- Instance data keeps the keys of a configuration as both follow a change.
-use Rattle.std.proofs.Common.{◌≡◌, ℕ, Bool, true, false, cond, refl, sym, ◌∙◌, ap, subst, Option, Some, None}
+use Rattle.std.proofs.Common.{◌≡◌, ℕ, Bool, true, false, cond, List, [], ◌∷◌, map, refl, sym, ◌∙◌, ap, subst, Option, Some, None}
 use Rattle.std.specs.Prelude.{IsSome, is_some}
 use Rattle.std.specs.Cmp.{nat_cmp_total}
+use Rattle.std.specs.List.{IsDistinct}
 use Rattle.std.specs.FinMap.{FinMap, get, empty, insert, get-empty, get-insert, get-remove}
 use Rattle.std.specs.Ordering.{nat_cmp, eq_by_cmp}
 use Rattle.tsn_types.specs.declared.keys.Key.{Key}
@@ -15,17 +16,19 @@ use Rattle.tsn_types.specs.declared.records.Record.TheVariants as records
 use Rattle.tsn_types.specs.Keys.{key_cmp, same_key}
 use Rattle.tsn_types.specs.Limits.{HoldsRecord}
 use Rattle.tsn_config.specs.Kinds.{meter_of}
-use Rattle.tsn_edit.specs.Changes.{Fits, after_change}
-use Rattle.tsn_edit.specs.Configuration.{Configuration}
-use Rattle.tsn_edit.specs.Parts.{Change}
-use Rattle.tsn_edit.proofs.KeyFacts.{get-put, one_key, same_itself}
+use Rattle.tsn_edit.specs.Changes.{Fits, Stands, after_change, keys_of}
+use Rattle.tsn_edit.specs.Configuration.{Configuration, IsWellKept, put}
+use Rattle.tsn_edit.specs.Parts.{Change, Part, inverse_part, parts}
+use Rattle.tsn_edit.proofs.FirstPart.{put_first, stands_next}
+use Rattle.tsn_edit.proofs.Inverses.{inverse_part_stands}
+use Rattle.tsn_edit.proofs.KeyFacts.{get-put, one_key}
 use Rattle.tsn_schedule.specs.Acts.{Act, Apply}
 use Rattle.tsn_schedule.specs.Kept.{Kept, fresh}
 use Rattle.tsn_chain.specs.declared.data.Met.{Met}
 use Rattle.tsn_chain.specs.declared.data.Metered.{Metered}
 use Rattle.tsn_chain.specs.declared.data.MeterData.{MeterData}
 use Rattle.tsn_chain.specs.Acts.{KeyActs, KeyApplies, RowActs}
-use Rattle.tsn_chain.specs.Following.{IsOfKind, clipped_meter, frames_after, frames_at, meter_row_after, new_filter, new_gate, new_meter, row_after, runners_after, runners_at, with_row}
+use Rattle.tsn_chain.specs.Following.{AreOfKind, IsOfKind, clipped_meter, frames_after, frames_at, meter_row_after, new_filter, new_gate, new_meter, row_after, runners_after, runners_at, with_row}
 use Rattle.tsn_chain.specs.Frames.{with_met, with_meter}
 use Rattle.tsn_chain.specs.Instances.{FrameData, Runners, HasFrameKeys, HasKeys, SameKeys}
 use Rattle.tsn_chain.specs.Rows.{HasMeter}
@@ -100,10 +103,11 @@ module _ (before after : Option Record) (n : ℕ) (g : Option Record) where
   meter_there (Meter m) now f kind h same = meter_row_there now f.meters m n before after g kind h same
 
 -- a key is created, replaced or removed in both
-pub keys_follow : (c : Configuration) (r : Runners) (f : FrameData) (now : ℕ) (e : Change) → HasKeys r f c → get c e.key ≡ e.before → IsOfKind e.key e.after → HasKeys (runners_after r e) (frames_after now f e) (after_change c e)
-keys_follow c r f now e h stands kind =
+keys_part : (c : Configuration) (r : Runners) (f : FrameData) (now : ℕ) (e : Part) → HasKeys r f c → get c e.key ≡ e.before → IsOfKind e.key e.after
+    → HasKeys (runners_at r e.key e.before e.after) (frames_at now f e.key e.before e.after) (put c e.key e.after)
+keys_part c r f now e h stands kind =
     let stood : (k : Key) → same_key k e.key ≡ true → get c k ≡ e.before = λ k is. ap (get c) (one_key k e.key is) ∙ stands in
-    let at : (k : Key) → is_some (cond (same_key k e.key) e.after (get c k)) ≡ is_some (get (after_change c e) k) = λ k. ap is_some (sym (get-put c e.key e.after k)) in
+    let at : (k : Key) → is_some (cond (same_key k e.key) e.after (get c k)) ≡ is_some (get (put c e.key e.after) k) = λ k. ap is_some (sym (get-put c e.key e.after k)) in
     record {
       ports = λ n. port_there e.before e.after n (get c (Port n)) e.key r (h.ports n) (stood (Port n)) ∙ at (Port n);
       gates = λ n. runner_there e.before e.after n (get c (Gate n)) e.key r (h.gates n) (stood (Gate n)) ∙ at (Gate n);
@@ -114,6 +118,16 @@ keys_follow c r f now e h stands kind =
       };
     }
 
+-- and so part by part
+pub keys_follow : (c : Configuration) (r : Runners) (f : FrameData) (now : ℕ) (e : Change) → HasKeys r f c → IsDistinct same_key (keys_of (parts e)) → Stands c (parts e) → AreOfKind (parts e)
+    → HasKeys (runners_after r e) (frames_after now f e) (after_change c e)
+unfolding IsDistinct
+keys_follow c r f now [] h distinct stands kinds = h
+keys_follow c r f now (p ∷ ps) h distinct stands kinds =
+    let one = keys_part c r f now p h stands.0 kinds.0 in
+    let rest = keys_follow (put c p.key p.after) (runners_at r p.key p.before p.after) (frames_at now f p.key p.before p.after) now ps one distinct.1 (stands_next c p ps distinct stands.1) kinds.1 in
+    subst (λ (d : Configuration). HasKeys (runners_after r (p ∷ ps)) (frames_after now f (p ∷ ps)) d) (put_first c p ps distinct) rest
+
 of_kind : (l : Limits) (k : Key) (v : Option Record) → ((r : Record) → v ≡ Some r → HoldsRecord l k r) → IsOfKind k v
 of_kind l k None held = tt
 of_kind l (Port n) (Some (records.Port r)) held = refl
@@ -122,11 +136,16 @@ of_kind l (Gate n) (Some (records.Gate r)) held = refl
 of_kind l (Meter n) (Some (records.Meter r)) held = refl
 of_kind l k (Some r) held = absurd (held r refl)
 
+-- what stands in a well kept map is of its key's kind
+kinds_kept : (l : Limits) (c : Configuration) → IsWellKept l c → (ps : List Part) → Stands c (map inverse_part ps) → AreOfKind ps
+kinds_kept l c kept [] stands = tt
+kinds_kept l c kept (p ∷ ps) stands =
+    (of_kind l p.key p.after (λ v some. (kept.within p.key v (stands.0 ∙ some)).1), kinds_kept l c kept ps stands.1)
+
 -- a change that fits
 pub keys_fit : (l : Limits) (c : Configuration) (r : Runners) (f : FrameData) (now : ℕ) (e : Change) → HasKeys r f c → Fits l c e → HasKeys (runners_after r e) (frames_after now f e) (after_change c e)
 keys_fit l c r f now e h fits =
-    let there : get (after_change c e) e.key ≡ e.after = get-put c e.key e.after e.key ∙ ap (λ b. cond b e.after (get c e.key)) (same_itself e.key) in
-    keys_follow c r f now e h fits.stands.0 (of_kind l e.key e.after (λ v some. (fits.kept.within e.key v (there ∙ some)).1))
+    keys_follow c r f now e h fits.distinct fits.stands (kinds_kept l (after_change c e) fits.kept (parts e) (inverse_part_stands c (parts e) fits.distinct))
 
 nothing_there : (A : Type 0) (n : ℕ) (k : Key) → is_some (get {X = A} (empty {R = nat_cmp}) n) ≡ is_some (get {X = Record} (empty {R = key_cmp}) k)
 nothing_there A n k = ap is_some (get-empty {X = A} nat_cmp n) ∙ sym (ap is_some (get-empty {X = Record} key_cmp k))

@@ -1,5 +1,5 @@
 -- Runners stand for the acts since their instance was created.
-use Rattle.std.proofs.Common.{◌≡◌, ℕ, cond, sym, ◌∙◌, ap, subst, List, [], Option, Some, None}
+use Rattle.std.proofs.Common.{◌≡◌, ℕ, cond, sym, ◌∙◌, ap, subst, List, [], ◌∷◌, Option, Some, None}
 use Rattle.std.specs.Cmp.{nat_cmp_total}
 use Rattle.std.specs.FinMap.{FinMap, get, insert, remove, empty, get-insert, get-remove, get-empty}
 use Rattle.std.specs.Ordering.{nat_cmp, eq_by_cmp}
@@ -70,7 +70,8 @@ stand_at r h (Meter n) before after s = s
 
 -- after a change
 pub stand_follow : (r : Runners) (h : Histories) (e : Change) → Stand r h → Stand (runners_after r e) (histories_after h e)
-stand_follow r h e s = stand_at r h e.key e.before e.after s
+stand_follow r h [] s = s
+stand_follow r h (p ∷ ps) s = stand_follow (runners_at r p.key p.before p.after) (histories_at h p.key p.before p.after) ps (stand_at r h p.key p.before p.after s)
 
 -- after an act
 pub stand_act : (old new : Runners) (h : Histories) (key : Key) (p : Act PortEntry) (g : Act GateEntry) → Stand old h → KeyActs old key p g new → Stand new (histories_with h key p g)

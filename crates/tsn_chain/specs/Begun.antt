@@ -1,5 +1,5 @@
 -- The instance data of a configuration at the instant 0: as a change from none left it at each key.
-use Rattle.std.specs.Prelude.{◌≡◌, ℕ, List, fold, Some, None}
+use Rattle.std.specs.Prelude.{◌≡◌, ℕ, List, [], ◌∷◌, fold, Some, None}
 use Rattle.std.specs.FinMap.{empty, get}
 use Rattle.tsn_types.specs.declared.keys.Key.{Key}
 use Rattle.tsn_types.specs.declared.keys.Key.TheVariants.{Port, Filter, Gate, Meter}
@@ -31,7 +31,7 @@ IsNumberOf kinds.Meter n = IsInstanceId n
 
 -- a change from none to what a configuration has at a key
 abbrev pub first_change : Configuration → Key → Change
-first_change c k = record { key = k; before = None; after = get c k }
+first_change c k = record { key = k; before = None; after = get c k } ∷ []
 
 -- one after another at the keys of these numbers
 abbrev pub frames_from : Configuration → Kind → FrameData → List ℕ → FrameData

@@ -1,5 +1,6 @@
 -- A change makes an instance's data new, keeps it or drops it.
-use Rattle.std.specs.Prelude.{◌≡◌, ℕ, true, false, fold, Option, Some, None}
+use Rattle.std.specs.Prelude.{◌≡◌, ℕ, true, false, fold, List, Option, Some, None}
+use Rattle.std.specs.List.{AllByRecursion}
 use Rattle.std.specs.FinMap.{FinMap, get, insert, remove}
 use Rattle.std.specs.Ordering.{nat_cmp}
 use Rattle.tsn_types.specs.declared.keys.Key.{Key}
@@ -72,3 +73,7 @@ runners_after r e = fold (λ d (p : Part). runners_at d p.key p.before p.after) 
 abbrev pub IsOfKind : Key → Option Record → Type 0
 IsOfKind k None = Unit {0}
 IsOfKind k (Some r) = is_of_kind k r ≡ true
+
+-- and so is each value after
+abbrev pub AreOfKind : List Part → Type 0
+AreOfKind ps = AllByRecursion (λ p. IsOfKind p.key p.after) ps

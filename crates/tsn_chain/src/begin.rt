@@ -7,7 +7,7 @@ ghost use Rattle.tsn_chain.specs.Following.{frames_after, runners_after};
 use crate::runtime::Runtime;
 use std::alloc::{AllocError, Global};
 use tsn_config::Config;
-use tsn_edit::Change;
+use tsn_edit::{Change, Part};
 use tsn_types::keys::{Key, Kind};
 use tsn_types::numbers::{FilterId, GateId, MeterId, PortId};
 
@@ -53,11 +53,12 @@ impl Runtime {
             None => None,
         };
         self.reserve(1)?;
-        self.follow(&Change {
+        let part = Part {
             key,
             before: None,
             after,
-        });
+        };
+        self.follow(&Change::of(part));
         Ok(())
     }
 }

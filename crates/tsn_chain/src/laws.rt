@@ -1,11 +1,13 @@
 //! Laws of instance data, and worked examples computed of the definitions alone, as functions whose contracts state
 //! them. Their bodies are empty.
+ghost use Rattle.std.specs.List.{IsDistinct};
 ghost use Rattle.std.specs.Prelude.{◌≡◌, ℕ, [], ◌∷◌, Option, Some, None, false, true, option_map};
 ghost use Rattle.std.specs.FinMap as map;
 ghost use Rattle.tsn_types.specs.declared.limits.Limits.{Limits as AnyLimits};
-ghost use Rattle.tsn_edit.specs.Changes.{Fits, after_change};
+ghost use Rattle.tsn_edit.specs.Changes.{Fits, Stands, after_change, keys_of};
 ghost use Rattle.tsn_edit.specs.Configuration.{Configuration, IsWellKept};
-ghost use Rattle.tsn_edit.specs.Parts.{Change};
+ghost use Rattle.tsn_edit.specs.Parts.{Change, parts};
+ghost use Rattle.tsn_types.specs.Keys.{same_key};
 ghost use Rattle.tsn_schedule.specs.Acts.{Act};
 ghost use Rattle.tsn_schedule.specs.Examples.{gate_acts};
 ghost use Rattle.tsn_types.specs.declared.keys.Key.{Key as AnyKey};
@@ -18,18 +20,18 @@ ghost use Rattle.tsn_chain.specs.declared.frame.Verdict.TheVariants.{Dropped, Pa
 ghost use Rattle.tsn_chain.specs.Acts.{KeyActs, KeyApplies};
 ghost use Rattle.tsn_chain.specs.Begun.{AreFresh, begun_frames, begun_runners};
 ghost use Rattle.tsn_chain.specs.Examples.{filter_0, filter_3, five, frame_of, left_by, meter_with, no_meter, short_filter, three, two_sizes, verdicts, with_meter_new};
-ghost use Rattle.tsn_chain.specs.Following.{IsOfKind, frames_after, runners_after};
+ghost use Rattle.tsn_chain.specs.Following.{AreOfKind, frames_after, runners_after};
 ghost use Rattle.tsn_chain.specs.Instances.{FrameData, HasKeys, Runners};
 ghost use Rattle.tsn_chain.specs.Standing.{Histories, Stand, histories_after, histories_applied, histories_with};
 
 /// The keys of instance data are those of the changes that it followed. At first it has none; that of a configuration
 /// has just its keys, and no runner of it was acted on. It keeps the keys of a
-/// configuration where both follow a change whose value before stands and whose value after is of the key's kind, as
-/// every change that fits does. Acts leave the keys.
+/// configuration where both follow a change on distinct keys whose values before stand and whose values after are of
+/// their key's kind, as every change that fits does. Acts leave the keys.
 pub fn keys()
     ensures beginning { HasKeys (record { ports = map.empty; gates = map.empty }) (record { filters = map.empty; gates = map.empty; meters = map.empty }) map.empty }
     ensures begun { (l : AnyLimits) (c : Configuration) → IsWellKept l c → HasKeys (begun_runners c) (begun_frames c) c × AreFresh (begun_runners c) }
-    ensures following { (c : Configuration) (r : Runners) (f : FrameData) (now : ℕ) (e : Change) → HasKeys r f c → map.get c e.key ≡ e.before → IsOfKind e.key e.after →
+    ensures following { (c : Configuration) (r : Runners) (f : FrameData) (now : ℕ) (e : Change) → HasKeys r f c → IsDistinct same_key (keys_of (parts e)) → Stands c (parts e) → AreOfKind (parts e) →
         HasKeys (runners_after r e) (frames_after now f e) (after_change c e) }
     ensures fitting { (l : AnyLimits) (c : Configuration) (r : Runners) (f : FrameData) (now : ℕ) (e : Change) → HasKeys r f c → Fits l c e →
         HasKeys (runners_after r e) (frames_after now f e) (after_change c e) }

@@ -11,7 +11,8 @@ ghost use Rattle.tsn_schedule.specs.Acts.{Disable, Enable};
 ghost use Rattle.tsn_schedule.specs.Counters.{enabled_change};
 ghost use Rattle.tsn_chain.specs.Acts.{ChangesAt, HasList, KeyActs, KeyAnswers, KeyApplies, KeyRefuses, KeyStates, RowAnswers, StateAt};
 ghost use Rattle.tsn_chain.specs.Counters.{KeyCounts};
-ghost use Rattle.tsn_chain.specs.Following.{frames_after, runners_after};
+ghost use Rattle.tsn_edit.specs.Changes.{room_of};
+ghost use Rattle.tsn_chain.specs.Following.{frames_after, frames_at, runners_after, runners_at};
 ghost use Rattle.tsn_chain.specs.Frames.{GateActs, StandFor, framed};
 ghost use Rattle.tsn_chain.specs.Instances.{HasData, HasKeys, HasRunner};
 ghost use Rattle.tsn_chain.specs.State.{gate_state, port_state};
@@ -26,7 +27,7 @@ use crate::state::{Counters, State, gate_shows, port_shows};
 use std::alloc::{AllocError, Global};
 use std::marker::Model;
 use tsn_config::Config;
-use tsn_edit::Change;
+use tsn_edit::{Change, Part};
 use tsn_schedule::runner::{Past, Runner};
 use tsn_table::Table;
 use tsn_types::keys::Key;
@@ -144,16 +145,30 @@ impl Runtime {
     }
 
     /// Follows a change: where it creates an instance, that instance's data is new; where it removes one, its data is
-    /// dropped; else the data is kept, and the bucket of a meter clipped by the new record. It takes room for one
-    /// change at most, and no memory.
+    /// dropped; else the data is kept, and the bucket of a meter clipped by the new record. It takes at most the room
+    /// of the change's parts, and no memory.
     pub fn follow(&mut self, change: &Change)
-        requires room { 1 ≤ self.old.spare }
+        requires room { room_of change.now ≤ self.old.spare }
         ensures runners { self.new.runners ≡ runners_after self.old.runners change.now }
         ensures frames { self.new.frames ≡ frames_after self.old.time self.old.frames change.now }
         ensures time { self.new.time ≡ self.old.time }
+        ensures spare { self.old.spare ≤ self.new.spare + room_of change.now }
+    {
+        match change.parts() {
+            [part] => self.follow_part(part),
+            _ => unreachable!(),
+        }
+    }
+
+    // Follows one part of a change.
+    fn follow_part(&mut self, part: &Part)
+        requires room { 1 ≤ self.old.spare }
+        ensures runners { self.new.runners ≡ runners_at self.old.runners part.now.key part.now.before part.now.after }
+        ensures frames { self.new.frames ≡ frames_at self.old.time self.old.frames part.now.key part.now.before part.now.after }
+        ensures time { self.new.time ≡ self.old.time }
         ensures spare { self.old.spare ≤ self.new.spare + 1 }
     {
-        let Change { key, before, after } = change;
+        let Part { key, before, after } = part;
         match key {
             Key::Port(id) => follow_row(&mut self.ports, id.get(), before, after, Runner::new()),
             Key::Filter(id) => {

@@ -22,7 +22,7 @@ use Rattle.tsn_types.specs.InRange.{RecordInRange}
 use Rattle.tsn_types.specs.Numbers.{IsInstanceId}
 use Rattle.tsn_types.specs.Limits.{HoldsKey, HoldsRecord, unless, first_cause, holds_key, out_of_limits, field_of}
 use Rattle.tsn_edit.specs.Configuration.{Configuration, put, IsWellKept}
-use Rattle.tsn_edit.specs.Parts.{Change}
+use Rattle.tsn_edit.specs.Parts.{Part}
 use Rattle.tsn_edit.specs.Changes.{Fits}
 use Rattle.tsn_edit.proofs.KeyFacts.{by_bool, by_option, get-put, one_key, same_itself, same_configuration}
 use Rattle.tsn_edit.specs.Edits.{is_of_kind, is_port, referrer, limit_causes}
@@ -124,8 +124,8 @@ filter_small l c n kept some = by_option (get c (Filter n))
     (λ none. let never : false ≡ true = sym (ap is_some none) ∙ some in (cc))
     (λ r is. let below = (kept.within (Filter n) r is).0 in let most = kept.limits.1.0.1 in omega arith)
 
--- what holds of a change's record at a well kept map: it is of its key's kind
-pub after_kind : (l : Limits) (c : Configuration) (e : Change) → Fits l c e → IsOfKind e.key e.after
+-- what holds of the record of a change of one part at a well kept map: it is of its key's kind
+pub after_kind : (l : Limits) (c : Configuration) (e : Part) → Fits l c (e ∷ []) → IsOfKind e.key e.after
 after_kind l c e fits = kind_of_value e.after fits.kept
   where
     kind_of_value : (v : Option Record) → IsWellKept l (put c e.key v) → IsOfKind e.key v
@@ -204,6 +204,6 @@ module _ (l : Limits) (c : Configuration) (kept : IsWellKept l c) where
   from k b (Some r) is h = keeps_put k b r h
 
   -- where the value before stands, the test decides whether the change fits
-  pub fits_decides : (e : Change) → IfSome e.after RecordInRange → get c e.key ≡ e.before → Decides (keeps l c e.key e.before e.after) (Fits l c e)
+  pub fits_decides : (e : Part) → IfSome e.after RecordInRange → get c e.key ≡ e.before → Decides (keeps l c e.key e.before e.after) (Fits l c (e ∷ []))
   unfolding IsDistinct
   fits_decides e ranges is = (λ h. record { distinct = (tt, tt); stands = (is, tt); kept = to e.key e.before e.after ranges is h }, λ f. from e.key e.before e.after is f.kept)

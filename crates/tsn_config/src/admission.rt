@@ -2,7 +2,8 @@
 //!
 //! The causes are tested in the order of their numbers: 3, 4, 6, 7, 8, 9. It relies on the rows for look-ups, and on
 //! the limits for all that depends on no other record.
-ghost use Rattle.std.specs.Prelude.{◌≡◌, IfOk, None};
+ghost use Rattle.std.specs.Prelude.{◌≡◌, ◌∷◌, [], IfOk, None};
+ghost use Rattle.std.specs.FinMap as map;
 ghost use Rattle.tsn_types.specs.Limits.{first_cause};
 ghost use Rattle.tsn_edit.specs.Changes.{Fits};
 ghost use Rattle.tsn_edit.specs.Edits.{refusal, causes, change_of, referrer, is_of_kind, is_port, limit_causes};
@@ -10,7 +11,7 @@ ghost use Rattle.tsn_edit.specs.declared.Edit.TheVariants.{Create, Replace, Remo
 
 use crate::Config;
 use std::alloc::AllocError;
-use tsn_edit::{Change, Edit};
+use tsn_edit::{Change, Edit, Part};
 use tsn_types::keys::Key;
 use tsn_types::limits::Limits;
 use tsn_types::numbers::FilterId;
@@ -91,22 +92,22 @@ impl Config {
         ensures { IfOk result (λ change. change ≡ change_of self.now.map edit) }
     {
         match edit {
-            Edit::Create(key, value) => Ok(Change {
-                key,
-                before: self.rows.copy_of(key)?,
-                after: Some(value),
-            }),
-            Edit::Replace(key, value) => Ok(Change {
-                key,
-                before: self.rows.copy_of(key)?,
-                after: Some(value),
-            }),
-            Edit::Remove(key) => Ok(Change {
-                key,
-                before: self.rows.copy_of(key)?,
-                after: None,
-            }),
+            Edit::Create(key, value) => self.change_at(key, Some(value)),
+            Edit::Replace(key, value) => self.change_at(key, Some(value)),
+            Edit::Remove(key) => self.change_at(key, None),
         }
+    }
+
+    // The change of one key to this value, with a copy of the value that stands there.
+    fn change_at(&self, key: Key, after: Option<Record>) -> Result<Change, AllocError>
+        ensures { IfOk result (λ change. change ≡ record { key = key; before = map.get self.now.map key; after = after } ∷ []) }
+    {
+        let part = Part {
+            key,
+            before: self.rows.copy_of(key)?,
+            after,
+        };
+        Ok(Change::of(part))
     }
 
     // The refusal for the least filter that refers to the key.

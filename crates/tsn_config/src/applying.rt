@@ -3,14 +3,14 @@
 //! No reference is tested when a change is made: that it fits is the caller's to know, and the type's rule follows from
 //! it.
 ghost use Rattle.std.specs.Prelude.{◌≡◌, ◌+◌, ◌≤◌, IsOk, OnOk};
-ghost use Rattle.tsn_edit.specs.Changes.{Fits, after_change};
+ghost use Rattle.tsn_edit.specs.Changes.{Fits, after_change, room_of};
 
 use crate::Config;
 use std::alloc::AllocError;
-use tsn_edit::Change;
+use tsn_edit::{Change, Part};
 
 impl Config {
-    /// Makes room for at least `count` changes. It is refused only for want of memory, and never where there is that
+    /// Makes room for at least `count` parts of changes. It is refused only for want of memory, and never where there is that
     /// room already; the map stays, and the room never falls.
     pub fn reserve(&mut self, count: usize) -> Result<(), AllocError>
         ensures limits { self.new.limits ≡ self.old.limits }
@@ -22,19 +22,16 @@ impl Config {
         self.rows.reserve(count)
     }
 
-    /// Makes a change that fits: its key has its value after. It takes room for one change at most, and no memory.
+    /// Makes a change that fits: each of its keys has its value after. It takes at most the room of its parts, and no
+    /// memory.
     pub fn apply(&mut self, change: Change)
         requires fits { Fits self.old.limits self.old.map change }
-        requires room { 1 ≤ self.old.spare }
+        requires room { room_of change ≤ self.old.spare }
         ensures limits { self.new.limits ≡ self.old.limits }
         ensures map { self.new.map ≡ after_change self.old.map change }
-        ensures spare { self.old.spare ≤ self.new.spare + 1 }
+        ensures spare { self.old.spare ≤ self.new.spare + room_of change }
     {
-        let Change {
-            key,
-            before: _,
-            after,
-        } = change;
-        self.rows.set(key, after);
+        let part = change.into_part();
+        self.rows.set(part.key, part.after);
     }
 }

@@ -2,7 +2,7 @@
 //!
 //! The test looks at the value that stands at the key, at the record's limits and at its references; that this is
 //! enough rests on the configuration being well kept, by its type. Nothing here takes memory.
-ghost use Rattle.std.specs.Prelude.{◌≡◌, ◌↔◌, IfSome, IsTrue};
+ghost use Rattle.std.specs.Prelude.{◌≡◌, ◌↔◌, ◌∷◌, [], IfSome, IsTrue};
 ghost use Rattle.std.specs.FinMap as map;
 ghost use Rattle.tsn_types.specs.InRange.{RecordInRange};
 ghost use Rattle.tsn_edit.specs.Changes.{Fits};
@@ -16,24 +16,30 @@ use tsn_types::keys::Key;
 use tsn_types::records::Record;
 
 impl Config {
-    /// Whether the change fits: its value before stands at its key, and with its value after there the configuration
+    /// Whether the change fits: its values before stand at its keys, and with its values after there the configuration
     /// is well kept.
     pub fn fits(&self, change: &Change) -> bool
         ensures { IsTrue result ↔ Fits self.now.limits self.now.map change.now }
     {
-        self.fits_between(&change.key, &change.before, &change.after)
+        match change.parts() {
+            [part] => self.fits_between(&part.key, &part.before, &part.after),
+            _ => unreachable!(),
+        }
     }
 
     /// Whether the change's inverse fits.
     pub fn fits_inverse(&self, change: &Change) -> bool
         ensures { IsTrue result ↔ Fits self.now.limits self.now.map (inverse change.now) }
     {
-        self.fits_between(&change.key, &change.after, &change.before)
+        match change.parts() {
+            [part] => self.fits_between(&part.key, &part.after, &part.before),
+            _ => unreachable!(),
+        }
     }
 
-    // Whether the change of the key from one value to the other fits.
+    // Whether the change of the key alone from one value to the other fits.
     fn fits_between(&self, key: &Key, before: &Option<Record>, after: &Option<Record>) -> bool
-        ensures { IsTrue result ↔ Fits self.now.limits self.now.map (record { key = key.now; before = before.now; after = after.now }) }
+        ensures { IsTrue result ↔ Fits self.now.limits self.now.map (record { key = key.now; before = before.now; after = after.now } ∷ []) }
     {
         // The proof needs what the type keeps, which reading a field gives, and the ranges of the record's numbers.
         let _kept = &self.limits;

@@ -13,7 +13,7 @@ use std::process::Abort;
 use std::test::Fail;
 use tsn_config::records::Records;
 use tsn_config::{Config, laws};
-use tsn_edit::{Change, Edit};
+use tsn_edit::{Change, Edit, Part};
 use tsn_types::keys::{Key, Kind};
 use tsn_types::limits::Limits;
 use tsn_types::records::Record;
@@ -267,11 +267,11 @@ fn put_back(rt: &impl Abort, config: &mut Config, change: Change) -> Result<(), 
 
 /// Removes filter 3 and puts it back.
 fn take_out_and_put_back(rt: &impl Abort, config: &mut Config) -> Result<(), Fail> {
-    let removal = Change {
+    let removal = Change::of(Part {
         key: filter_key(3),
         before: Some(Record::Filter(filter(0, on_meter(0)))),
         after: None,
-    };
+    });
     take_out(rt, config, &removal)?;
     put_back(rt, config, removal)
 }
@@ -289,11 +289,11 @@ fn a_removal_and_its_inverse_keep_every_member(rt: HostRuntime) -> Result<(), Fa
 #[test]
 fn a_change_fits_only_where_its_value_before_stands(rt: HostRuntime) -> Result<(), Fail> {
     on_first_entries(&rt, rt.alloc(), |config| {
-        let change = Change {
+        let change = Change::of(Part {
             key: filter_key(3),
             before: Some(Record::Filter(filter(0, None))),
             after: None,
-        };
+        });
         assert!(rt; !config.fits(&change));
         Ok(())
     })
@@ -375,9 +375,9 @@ fn changes(
 ) -> Result<(), Fail> {
     assert!(rt; config.check(&edit).is_none());
     let change = config.change_of(edit)?;
-    same(rt, &change.key, &key);
-    assert!(rt; change.before.as_ref() == Some(before));
-    assert!(rt; change.after.as_ref() == Some(after));
+    same(rt, &change.parts()[0].key, &key);
+    assert!(rt; change.parts()[0].before.as_ref() == Some(before));
+    assert!(rt; change.parts()[0].after.as_ref() == Some(after));
     Ok(())
 }
 

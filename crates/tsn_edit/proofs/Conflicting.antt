@@ -4,7 +4,7 @@ use Rattle.std.proofs.Math.Bool.{or-false}
 use Rattle.std.proofs.lemmas.Cmp.{eq_by_cmp_equiv}
 use Rattle.tsn_types.specs.declared.keys.Key.{Key}
 use Rattle.tsn_types.specs.Keys.{same_key, has, meets, refs_of}
-use Rattle.tsn_edit.specs.Parts.{Change}
+use Rattle.tsn_edit.specs.Parts.{Part}
 use Rattle.tsn_edit.specs.Changes.{conflicts}
 use Rattle.tsn_edit.proofs.KeyFacts.{keys_total}
 
@@ -21,7 +21,7 @@ has_all : (ks : List Key) (k : Key) → has (ks ++ []) k ≡ has ks k
 has_all [] k = refl
 has_all (x ∷ ks) k = ap (λ b. same_key k x || b) (has_all ks k)
 
-pub conflicts_is : (f e : Change) → conflicts f e ≡ (same_key f.key e.key || (has (refs_of f.after) e.key || has (refs_of e.before) f.key))
+pub conflicts_is : (f e : Part) → conflicts (f ∷ []) (e ∷ []) ≡ (same_key f.key e.key || (has (refs_of f.after) e.key || has (refs_of e.before) f.key))
 conflicts_is f e =
     ap (λ b. b || (meets (refs_of f.after ++ []) (e.key ∷ []) || (has (refs_of e.before ++ []) f.key || false))) (or-false (same_key f.key e.key || false) ∙ or-false (same_key f.key e.key))
     ∙ ap (λ b. same_key f.key e.key || (b || (has (refs_of e.before ++ []) f.key || false))) (meets_one (refs_of f.after) e.key)

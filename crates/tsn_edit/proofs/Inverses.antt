@@ -65,7 +65,7 @@ pub keys_of-inverse : (e : Change) → keys_of (parts (inverse e)) ≡ keys_of (
 keys_of-inverse e = ap keys_of (parts-inverse e) ∙ keys_of-inverse_part (parts e)
 
 -- the head of a list of distinct keys is not in the rest
-not_again : (k : Key) (ks : List Key) → AllByRecursion (λ q. same_key k q ≡ false) ks → (q : Key) → has ks q ≡ true → same_key q k ≡ false
+pub not_again : (k : Key) (ks : List Key) → AllByRecursion (λ q. same_key k q ≡ false) ks → (q : Key) → has ks q ≡ true → same_key q k ≡ false
 not_again k [] h q in' = (cc)
 not_again k (x ∷ ks) h q in' =
     elim (same_key q x) as (λ b. same_key q x ≡ b → (b || has ks q) ≡ true → same_key q k ≡ false) [

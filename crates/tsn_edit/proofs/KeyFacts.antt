@@ -1,6 +1,5 @@
 -- Keys as an order, and what a change does to a map at one key.
 use Rattle.std.proofs.Common.{◌≡◌, ℕ, zero, suc, Bool, true, false, cond, ◌||◌, List, [], ◌∷◌, ◌++◌, refl, sym, ◌∙◌, ap, subst, Option, Some, None}
-use Rattle.std.specs.Prelude.{find}
 use Rattle.std.specs.Cmp.{IsTotalOrder}
 use Rattle.std.specs.Ordering.{nat_cmp, is_eq}
 use Rattle.std.specs.FinMap.{get, get-insert, get-remove, IsAntisymmetric, same_map}
@@ -17,7 +16,7 @@ use Rattle.tsn_edit.specs.Parts.{Change, Part, parts}
 use Rattle.tsn_types.specs.declared.records.Record.{Record}
 use Rattle.tsn_types.specs.Keys.{kind_of, number_of, key_cmp, same_key, has, meets, refs_of}
 use Rattle.tsn_edit.specs.Configuration.{Configuration, put}
-use Rattle.tsn_edit.specs.Changes.{keys_of, refs_before, refs_after, put_all, after_change}
+use Rattle.tsn_edit.specs.Changes.{keys_of, part_of, refs_before, refs_after, put_all, after_change}
 
 pub by_bool : {G : Type 0} (b : Bool) → (b ≡ true → G) → (b ≡ false → G) → G
 by_bool true f g = f refl
@@ -78,7 +77,7 @@ after_or-cond true p o v = refl
 after_or-cond false p o v = refl
 
 unfoldable pub part_on : Key → List Part → Option Part
-part_on k e = find (λ p. same_key k p.key) e
+part_on k e = part_of k e
 
 pub get-put_all : (c : Configuration) (e : List Part) (q : Key) → get (put_all c e) q ≡ after_or (part_on q e) (get c q)
 unfolding part_on

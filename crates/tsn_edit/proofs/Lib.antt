@@ -1,5 +1,6 @@
 pub mod Apart
 pub mod Conflicting
+pub mod FirstPart
 pub mod Inverses
 pub mod KeyFacts
 pub mod Ordered

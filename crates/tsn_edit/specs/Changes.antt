@@ -1,5 +1,5 @@
 -- Changes: what one does to a configuration, where it fits, and what it conflicts with. A change is its parts, on distinct keys.
-use Rattle.std.specs.Prelude.{◌≡◌, Bool, ◌||◌, List, [], ◌∷◌, map, flat_map}
+use Rattle.std.specs.Prelude.{◌≡◌, ℕ, Bool, ◌||◌, List, [], ◌∷◌, Option, find, map, flat_map}
 use Rattle.std.specs.List.{AllByRecursion, IsDistinct}
 use Rattle.std.specs.FinMap.{get}
 use Rattle.tsn_types.specs.declared.keys.Key.{Key}
@@ -12,6 +12,10 @@ use Rattle.tsn_edit.specs.Configuration.{Configuration, put, IsWellKept}
 abbrev pub keys_of : List Part → List Key
 keys_of ps = map (λ p. p.key) ps
 
+-- the part on a key, if there is one
+abbrev pub part_of : Key → List Part → Option Part
+part_of k ps = find (λ p. same_key k p.key) ps
+
 abbrev pub refs_before : List Part → List Key
 refs_before ps = flat_map (λ p. refs_of p.before) ps
 
@@ -22,6 +26,10 @@ refs_after ps = flat_map (λ p. refs_of p.after) ps
 abbrev pub put_all : Configuration → List Part → Configuration
 put_all c [] = c
 put_all c (p ∷ ps) = put (put_all c ps) p.key p.after
+
+-- how many rows a change may add to a configuration, and so how much room it takes: that of its one part
+abbrev pub room_of : Change → ℕ
+room_of e = 1
 
 -- what the change leaves of c
 abbrev pub after_change : Configuration → Change → Configuration

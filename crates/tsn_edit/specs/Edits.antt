@@ -55,11 +55,11 @@ causes l c (Remove k) = unless (not (is_port k)) Shape ∷ unless (holds_key l k
 abbrev pub refusal : Limits → Configuration → Edit → Option Refusal
 refusal l c edit = least (causes l c edit)
 
--- the key's value in c before, and what the edit puts there after
+-- one part: the key's value in c before, and what the edit puts there after
 abbrev pub change_of : Configuration → Edit → Change
-change_of c (Create k r) = record { key = k; before = get c k; after = Some r }
-change_of c (Replace k r) = record { key = k; before = get c k; after = Some r }
-change_of c (Remove k) = record { key = k; before = get c k; after = None }
+change_of c (Create k r) = record { key = k; before = get c k; after = Some r } ∷ []
+change_of c (Replace k r) = record { key = k; before = get c k; after = Some r } ∷ []
+change_of c (Remove k) = record { key = k; before = get c k; after = None } ∷ []
 
 -- the numbers of the edit's record are in their ranges
 abbrev pub EditInRange : Edit → Type 0

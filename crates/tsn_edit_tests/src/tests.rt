@@ -6,7 +6,7 @@ use crate::comparing::same;
 use std::alloc::{AllocError, Global};
 use std::process::Abort;
 use std::test::Fail;
-use tsn_edit::{Change, Edit, conflicts};
+use tsn_edit::{Change, Edit, Part, conflicts};
 use tsn_types::keys::Key;
 use tsn_types::lists::ControlList;
 use tsn_types::numbers::{
@@ -73,11 +73,11 @@ fn filter(gate: u64, meter: u64) -> Record
 
 /// Filter 3 on gate 1 and meter 5, changed from gate 0 and meter 4.
 fn moved() -> Change {
-    Change {
+    Change::of(Part {
         key: Key::Filter(FilterId::new(3).unwrap()),
         before: Some(filter(0, 4)),
         after: Some(filter(1, 5)),
-    }
+    })
 }
 
 /// The change is on the key, from the one record to the other.
@@ -88,17 +88,17 @@ fn is_change(
     before: Option<&Record>,
     after: Option<&Record>,
 ) {
-    same(rt, &change.key, &key);
-    same(rt, &change.before.as_ref(), &before);
-    same(rt, &change.after.as_ref(), &after);
+    same(rt, &change.parts()[0].key, &key);
+    same(rt, &change.parts()[0].before.as_ref(), &before);
+    same(rt, &change.parts()[0].after.as_ref(), &after);
 }
 
 fn removed_meter() -> Change {
-    Change {
+    Change::of(Part {
         key: meter_key(2),
         before: Some(meter()),
         after: None,
-    }
+    })
 }
 
 /// The change and a copy of it are on the port, from the one record to the other.
@@ -115,11 +115,11 @@ fn is_copied(
 }
 
 fn listed_change(alloc: Global) -> Result<Change, AllocError> {
-    Ok(Change {
+    Ok(Change::of(Part {
         key: port_key(),
         before: Some(port(alloc, 1, 1_024)?),
         after: Some(port(alloc, 128, 1)?),
-    })
+    }))
 }
 
 /// A change of a port with the longest list, and one that has no value after it.

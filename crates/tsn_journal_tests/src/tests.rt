@@ -7,7 +7,7 @@ use crate::comparing::same;
 use std::alloc::{AllocError, Global};
 use std::process::Abort;
 use std::test::Fail;
-use tsn_edit::Change;
+use tsn_edit::{Change, Part};
 use tsn_journal::entries::{Act, Entry, What};
 use tsn_journal::journal::{Journal, MOST_ENTRIES};
 use tsn_journal::laws;
@@ -45,11 +45,11 @@ fn meter() -> Record {
 fn created(number: u64) -> Change
     requires { number ≤ 65535 }
 {
-    Change {
+    Change::of(Part {
         key: meter_key(number),
         before: None,
         after: Some(meter()),
-    }
+    })
 }
 
 /// The removal of a meter, which takes its creation back.
@@ -118,7 +118,7 @@ fn changes(entry: &Entry, number: u64, session: u32, meter: u64) -> bool
     requires { meter ≤ 65535 }
 {
     let at = match entry.what.change() {
-        Some(change) => Some(change.key),
+        Some(change) => Some(change.parts()[0].key),
         None => None,
     };
     entry.number == number && entry.session == session && at == Some(meter_key(meter))

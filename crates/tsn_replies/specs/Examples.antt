@@ -16,7 +16,7 @@ shown_line key text = codes "{\"key\":\"" ++ key ++ codes "\",\"record\":" ++ te
 
 -- a filter is removed
 abbrev pub a_removal : Change
-a_removal = record { key = keys.Filter 3; before = Some (records.Filter a_filter); after = None }
+a_removal = record { key = keys.Filter 3; before = Some (records.Filter a_filter); after = None } ∷ []
 
 -- the removal and the undo of it
 abbrev pub a_removal_undone : List Entry

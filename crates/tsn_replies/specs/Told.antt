@@ -1,7 +1,9 @@
 -- What replies tell as JSON values: a record under its key, numbers of instances, entries of the journal.
-use Rattle.std.specs.Prelude.{ℕ, List, map, codes}
+use Rattle.std.specs.Prelude.{ℕ, List, [], ◌∷◌, map, codes}
 use Rattle.serde_json.specs.Data.{Data, string, array, object, member, no_members}
 use Rattle.serde_json.specs.View.{items_of}
+use Rattle.tsn_edit.specs.Changes.{keys_of}
+use Rattle.tsn_edit.specs.Parts.{parts}
 use Rattle.tsn_journal.specs.declared.entries.Act.{Act}
 use Rattle.tsn_journal.specs.declared.entries.Act.TheVariants.{Enable, Disable, Apply}
 use Rattle.tsn_journal.specs.declared.entries.Entry.{Entry}
@@ -53,11 +55,16 @@ acted_data number session act key now =
     (member (codes "session") (whole_data session)
     (member (codes "what") (string (codes "acted")) no_members))))))
 
+-- what is told by the key of a change; each change has one
+abbrev pub by_key : (Key → Data) → List Key → Data
+by_key told [] = object no_members
+by_key told (key ∷ others) = told key
+
 -- what was done, under the entry's number and session
 abbrev pub what_data : ℕ → ℕ → What → Data
-what_data number session (Made e) = made_data number session e.key
-what_data number session (Undone of e) = taking_back_data number session of e.key (codes "undone")
-what_data number session (Redone of e) = taking_back_data number session of e.key (codes "redone")
+what_data number session (Made e) = by_key (made_data number session) (keys_of (parts e))
+what_data number session (Undone of e) = by_key (λ key. taking_back_data number session of key (codes "undone")) (keys_of (parts e))
+what_data number session (Redone of e) = by_key (λ key. taking_back_data number session of key (codes "redone")) (keys_of (parts e))
 what_data number session (Acted act key now) = acted_data number session act key now
 
 abbrev pub entry_data : Entry → Data

@@ -1,8 +1,9 @@
 //! The line of entries of the journal, spelled piece by piece. None of it takes memory.
-ghost use Rattle.std.specs.Prelude.{◌≡◌, ◌+◌, ◌≤◌, ◌++◌, [], length, true, IfErr, OnOk, OnErr, codes};
+ghost use Rattle.std.specs.Prelude.{◌≡◌, ◌+◌, ◌≤◌, ◌++◌, ◌∷◌, [], length, true, IfErr, OnOk, OnErr, codes};
 ghost use Rattle.std.specs.Io.KnownBytes.{Appends};
 ghost use Rattle.serde_json.specs.Data.{Data, string};
 ghost use Rattle.serde_json.specs.Written.{compact_text};
+ghost use Rattle.tsn_edit.specs.Changes.{keys_of};
 ghost use Rattle.tsn_bytes.specs.Bytes.{IsCut};
 ghost use Rattle.tsn_bytes.specs.declared.bytes.Fault.TheVariants.{Write};
 ghost use Rattle.tsn_records.specs.Keys.{key_text};
@@ -12,6 +13,7 @@ ghost use Rattle.tsn_replies.specs.Told.{act_name, made_data, taking_back_data, 
 use crate::shown::{LONGEST_ITEM, ShownItem, push_key, push_number, write_listed};
 use crate::text::{CAPACITY, ShortText};
 use tsn_bytes::{ByteOut, Fault};
+use tsn_edit::Change;
 use tsn_journal::entries::{Act, Entry, What};
 use tsn_types::keys::Key;
 
@@ -92,6 +94,16 @@ fn push_acted(text: &mut ShortText, number: u64, session: u32, act: Act, key: Ke
     text.push(",\"what\":\"acted\"}");
 }
 
+// The key of a change; each change has one.
+fn key_of(change: &Change) -> Key
+    ensures { keys_of change.now ≡ result ∷ [] }
+{
+    match change.parts() {
+        [part] => part.key,
+        _ => unreachable!(),
+    }
+}
+
 fn push_entry(text: &mut ShortText, entry: &Entry)
     requires { length text.old + LONGEST_ITEM ≤ CAPACITY }
     ensures text { text.new ≡ text.old ++ compact_text (entry_data entry.now) }
@@ -103,9 +115,9 @@ fn push_entry(text: &mut ShortText, entry: &Entry)
         what,
     } = entry;
     match what {
-        What::Made(change) => push_made(text, *number, *session, change.key),
-        What::Undone { of, change } => push_undone(text, *number, *session, *of, change.key),
-        What::Redone { of, change } => push_redone(text, *number, *session, *of, change.key),
+        What::Made(change) => push_made(text, *number, *session, key_of(change)),
+        What::Undone { of, change } => push_undone(text, *number, *session, *of, key_of(change)),
+        What::Redone { of, change } => push_redone(text, *number, *session, *of, key_of(change)),
         What::Acted { act, key, now } => {
             push_acted(text, *number, *session, *act, *key, now.get());
         }

@@ -5,7 +5,7 @@ use std::process::Abort;
 use std::test::Fail;
 use tsn_bridge::reply::Reply;
 use tsn_bytes::{Failing, Fault, MemOut};
-use tsn_edit::Change;
+use tsn_edit::{Change, Part};
 use tsn_journal::entries::What;
 use tsn_journal::journal::Journal;
 use tsn_replies::{ShortText, write_ids, write_refusal, write_reply};
@@ -62,11 +62,11 @@ fn stops_in_numbers(rt: &impl Abort, alloc: Global, ids: &[u64], text: &str) -> 
 
 // What the next entry does: meter 0 is created, or that taken back, in turn.
 fn next(before: u64) -> What {
-    let change = Change {
+    let change = Change::of(Part {
         key: Key::Meter(MeterId::new(0).unwrap()),
         before: None,
         after: None,
-    };
+    });
     if before % 2 == 0 {
         What::Made(change)
     } else {

@@ -9,7 +9,7 @@ use tsn_bridge::reply::Reply;
 use tsn_bytes::MemOut;
 use tsn_chain::data::FilterData;
 use tsn_chain::state::{Counters, ListCounters};
-use tsn_edit::Change;
+use tsn_edit::{Change, Part};
 use tsn_journal::entries::{Act, Entry, What};
 use tsn_replies::{ShortText, write_entries};
 use tsn_types::keys::Key;
@@ -129,11 +129,11 @@ fn spells_counters_of_filters(rt: &impl Abort, alloc: Global) -> Result<(), Fail
 }
 
 fn change() -> Change {
-    Change {
+    Change::of(Part {
         key: Key::Filter(FilterId::new(65_535).unwrap()),
         before: None,
         after: None,
-    }
+    })
 }
 
 // The greatest entry of the greatest session is told in this text, which is what `serde_json` prints of its value.

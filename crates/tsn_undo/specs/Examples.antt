@@ -19,7 +19,7 @@ abbrev pub filter : ℕ → Record
 filter g = FilterRecord (record { handle = Some 7; priority = None; gate = g; max_sdu = Some 1500; meter = None; oversize = true })
 
 abbrev pub change : Key → Option Record → Option Record → Change
-change k before after = record { key = k; before = before; after = after }
+change k before after = record { key = k; before = before; after = after } ∷ []
 
 abbrev pub applied : ℕ → ℕ → Change → Applied
 applied number session e = record { number = number; session = session; change = e }

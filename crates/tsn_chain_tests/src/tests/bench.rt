@@ -11,7 +11,7 @@ use tsn_chain::runtime::{Runtime, police};
 use tsn_chain::state::Counters;
 use tsn_config::Config;
 use tsn_config::records::Records;
-use tsn_edit::{Change, Edit};
+use tsn_edit::{Change, Edit, Part};
 use tsn_types::keys::Key;
 use tsn_types::limits::Limits;
 use tsn_types::lists::ControlList;
@@ -38,14 +38,14 @@ impl Bench {
         let config = Config::open(alloc, limits, Records::new(alloc))?;
         let mut runtime = Runtime::new(alloc, limits)?;
         runtime.reserve(1)?;
-        runtime.follow(&Change {
+        runtime.follow(&Change::of(Part {
             key: port_key(),
             before: None,
             after: Some(Record::Port(PortGates {
                 gates: 255,
                 admin: schedule(alloc),
             })),
-        });
+        }));
         Ok(Bench { config, runtime })
     }
 

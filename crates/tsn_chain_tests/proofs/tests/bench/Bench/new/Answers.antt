@@ -1,4 +1,4 @@
-use Rattle.std.proofs.Common.{◌∙◌, ap, None, Some}
+use Rattle.std.proofs.Common.{[], ◌∷◌, ◌∙◌, ap, None, Some}
 use Rattle.tsn_types.specs.declared.keys.Key.{Key}
 use Rattle.tsn_types.specs.declared.limits.Limits.{Limits}
 use Rattle.tsn_types.specs.declared.records.PortGates.{PortGates}
@@ -13,7 +13,7 @@ use Rattle.tsn_chain_tests.proofs.tests.bench.Bench.new.Goals as goal
 pub invariant_of-result : goal.invariant_of-result
 invariant_of-result c =
     let p : PortGates = record { gates = 255; admin = c.schedule.result } in
-    let created : Key → Change = λ k. record { key = k; before = None; after = Some (records.Port p) } in
+    let created : Key → Change = λ k. record { key = k; before = None; after = Some (records.Port p) } ∷ [] in
     let t = c.reserve.new.self.time in
     record {
       keys = begun p c.in_ok-limits.limits c.in_ok-config.config.map c.follow.new.self.runners c.follow.new.self.frames t
