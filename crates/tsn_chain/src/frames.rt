@@ -1,7 +1,7 @@
 //! A frame at the tables: what it meets is read, passed through the chain and put back.
 ghost use Rattle.std.specs.Prelude.{◌≡◌, ◌≤◌, IsSome, List, Some};
 ghost use Rattle.std.specs.FinMap as map;
-ghost use Rattle.std.specs.Option.{option_copied};
+ghost use Rattle.std.specs.Option.{option_copied, option_map};
 ghost use Rattle.tsn_types.specs.declared.keys.Key.TheVariants.{Filter, Gate};
 ghost use Rattle.tsn_config.specs.Kinds.{filter_of, gate_of};
 ghost use Rattle.tsn_chain.specs.Frames.{GateActs, StandFor, framed, framed_at, met_at, metered_at, meter_at, state_at, with_met};
@@ -18,7 +18,7 @@ use crate::data::{FilterData, GateData, GateState, Met, MeterData, Metered};
 use crate::frame::{Frame, Verdict};
 use crate::state::read_gate;
 use tsn_config::Config;
-use tsn_schedule::runner::Runner;
+use tsn_schedule::runner::{Current, Runner};
 use tsn_table::Table;
 use tsn_types::keys::Key;
 use tsn_types::numbers::{FilterId, GateId, Instant, MeterId};
@@ -65,26 +65,16 @@ fn meter_in(config: &Config, id: Option<MeterId>) -> Option<FlowMeter>
     }
 }
 
-// The entry in force at an instant that no act follows.
-fn entry_at(runner: &Runner<GateEntry>, time: Instant) -> Option<&GateEntry>
+// The entry in force at an instant that no act follows, and when its interval began.
+fn current_at(runner: &Runner<GateEntry>, time: Instant) -> Option<Current<'_, GateEntry>>
     requires { runner.now.last ≤ time }
-    ensures { (acts : List (Act AnyGateEntry)) → StandsFor runner.now acts →
-        option_copied result ≡ state_in (λ (e : AnyGateEntry). e.interval) acts time }
+    ensures entry { (acts : List (Act AnyGateEntry)) → StandsFor runner.now acts →
+        option_map (λ c. c.entry.now) result ≡ state_in (λ (e : AnyGateEntry). e.interval) acts time }
+    ensures began { (acts : List (Act AnyGateEntry)) → StandsFor runner.now acts →
+        option_map (λ c. c.began) result ≡ began_in (λ (e : AnyGateEntry). e.interval) acts time }
 {
-    match runner.states_at(time) {
-        Ok(entry) => entry,
-        Err(_) => None,
-    }
-}
-
-// The instant at which its interval began.
-fn begin_at(runner: &Runner<GateEntry>, time: Instant) -> Option<u64>
-    requires { runner.now.last ≤ time }
-    ensures { (acts : List (Act AnyGateEntry)) → StandsFor runner.now acts →
-        result ≡ began_in (λ (e : AnyGateEntry). e.interval) acts time }
-{
-    match runner.begin_at(time) {
-        Ok(began) => began,
+    match runner.current_at(time) {
+        Ok(current) => current,
         Err(_) => None,
     }
 }
@@ -101,7 +91,7 @@ fn state_of(
     ensures { (acts : GateActs) → StandFor table.now.map acts → result ≡ state_at acts id gate.now time }
 {
     match table.get(id.get()) {
-        Some(runner) => read_gate(gate, entry_at(runner, time), begin_at(runner, time)),
+        Some(runner) => read_gate(gate, current_at(runner, time)),
         None => unreachable!(),
     }
 }

@@ -1,9 +1,10 @@
 //! What a port, a filter, a gate or a meter shows of itself.
 ghost use Rattle.std.specs.Prelude.{◌≡◌, ℕ};
-ghost use Rattle.std.specs.Option.{option_copied};
+ghost use Rattle.std.specs.Option.{option_copied, option_map};
 ghost use Rattle.tsn_chain.specs.State.{gate_state, port_state, read_state};
 
 use crate::data::{FilterData, GateState, Running};
+use tsn_schedule::runner::Current;
 use tsn_types::numbers::Priority;
 use tsn_types::records::{GateEntry, PortEntry, PortGates, StreamGate};
 
@@ -78,17 +79,13 @@ pub(crate) fn gate_shows(gate: &StreamGate, entry: Option<&GateEntry>) -> State
     }
 }
 
-/// The state of a gate as the filter chain reads it, by the entry in force, whose interval began at an instant; without
-/// them, by its record.
-pub(crate) fn read_gate(
-    gate: &StreamGate,
-    entry: Option<&GateEntry>,
-    began: Option<u64>,
-) -> GateState
-    ensures { result ≡ read_state gate.now (option_copied entry.entry) began }
+/// The state of a gate as the filter chain reads it, by the entry in force and when its interval began; without them, by
+/// its record.
+pub(crate) fn read_gate(gate: &StreamGate, current: Option<Current<'_, GateEntry>>) -> GateState
+    ensures { result ≡ read_state gate.now (option_map (λ c. c.entry.now) current.entry) (option_map (λ c. c.began) current.entry) }
 {
-    match (entry, began) {
-        (Some(entry), Some(began)) => GateState {
+    match current {
+        Some(Current { entry, began }) => GateState {
             is_open: entry.is_open,
             ipv: entry.ipv,
             running: Some(Running {
@@ -96,7 +93,7 @@ pub(crate) fn read_gate(
                 octets: entry.octets,
             }),
         },
-        _ => GateState {
+        None => GateState {
             is_open: gate.is_open,
             ipv: gate.ipv,
             running: None,

@@ -1,4 +1,5 @@
 pub mod Cycles
+pub mod Filled
 pub mod Keeps
 pub mod Meaning
 pub mod Numbers

@@ -1,11 +1,12 @@
 -- What the definitions mean, in other words.
-use Rattle.std.proofs.Common.{◌≡◌, ◌<◌, ◌≤◌, ◌+◌, ◌-◌, ◌*◌, ◌/◌, ◌%◌, ℕ, zero, suc, refl, arith, Bool, true, false, not, ◌&&◌, cond, ltb, leb, min, length, take, map, List, [], ◌∷◌, ◌++◌, Option, Some, None, sym, ◌∙◌, ap, inl, inr, MatchOption}
+use Rattle.std.proofs.Common.{◌≡◌, ◌<◌, ◌≤◌, ◌+◌, ◌-◌, ◌*◌, ◌/◌, ◌%◌, ℕ, zero, suc, refl, arith, Bool, true, false, not, ◌&&◌, cond, ltb, leb, min, length, take, map, List, [], ◌∷◌, ◌++◌, Option, Some, None, sym, ◌∙◌, ap, inl, inr, ◌≢◌, MatchOption}
 use Rattle.std.specs.Prelude.{option_to_list, is_some}
 use Rattle.std.specs.List.{find, list_any}
 use Rattle.std.specs.Option.{option_map, option_map_or, option_and_then}
 use Rattle.std.proofs.lemmas.Bool.{le-ltb, lt-ltb, le-leb, cases_lt, and_parts, or_parts, leb-true, ltb-false, not-true}
 use Rattle.std.proofs.lemmas.List.Sums.{sum_by-cons}
 use Rattle.std.proofs.Math.Nat.{div-add-mod, mul_comm, mul-le-mul_left}
+use Rattle.tsn_types.specs.declared.records.Schedule.{Schedule}
 use Rattle.tsn_schedule.specs.Acts.{Act, Enable, Disable, Apply, IsHistory, is_enabled}
 use Rattle.tsn_schedule.specs.Entries.{entry_at, earlier_at}
 use Rattle.tsn_schedule.specs.Meaning.{IsChangeTime, IsLatestStart, IsEntryAt}
@@ -121,47 +122,51 @@ latest_by start t some valid began =
           ]);
     }
 
--- The cycle of each start has a length.
-some_mapped : {E : Type 0} (act : Act E) (all : List (Start E)) (p : Start E → Bool) (start : Start E)
-    → ((q : Start E → Bool) (s : Start E) → find q all ≡ Some s → 0 < s.schedule.cycle)
-    → find p (map (followed_by act) all) ≡ Some start → 0 < start.schedule.cycle
-some_mapped act all p start earlier e =
-    let f = elim (find (λ s. p (followed_by act s)) all) as (λ o. find (λ s. p (followed_by act s)) all ≡ o → option_map (followed_by act) o ≡ Some start → 0 < start.schedule.cycle) [
+-- A schedule that an apply may set has a list, and its cycle has a length.
+abbrev pub IsRunnable : {E : Type 0} → Schedule E → Type 0
+IsRunnable schedule = (schedule.list ≢ []) × (0 < schedule.cycle)
+
+-- Each start is of such a schedule.
+runnable_followed : {E : Type 0} (act : Act E) (all : List (Start E)) (p : Start E → Bool) (start : Start E)
+    → ((q : Start E → Bool) (s : Start E) → find q all ≡ Some s → IsRunnable s.schedule)
+    → find p (map (followed_by act) all) ≡ Some start → IsRunnable start.schedule
+runnable_followed act all p start earlier e =
+    let f = elim (find (λ s. p (followed_by act s)) all) as (λ o. find (λ s. p (followed_by act s)) all ≡ o → option_map (followed_by act) o ≡ Some start → IsRunnable start.schedule) [
       | None ↦ λ g i. cc
-      | Some s ↦ λ g i. let same : s.schedule.cycle ≡ start.schedule.cycle = cc in rw (← same) (earlier (λ s. p (followed_by act s)) s g)
+      | Some s ↦ λ g i. let same : s.schedule ≡ start.schedule = cc in rw (← same) (earlier (λ s. p (followed_by act s)) s g)
     ] in f refl (sym (find-map (followed_by act) p (λ s. p (followed_by act s)) (λ s. refl) all) ∙ e)
 
-some_more : {E : Type 0} (act : Act E) (all : List (Start E)) (o : Option (Start E)) (p : Start E → Bool) (start : Start E)
-    → ((q : Start E → Bool) (s : Start E) → find q all ≡ Some s → 0 < s.schedule.cycle) → ((s : Start E) → o ≡ Some s → 0 < s.schedule.cycle)
-    → find p (option_to_list o ++ map (followed_by act) all) ≡ Some start → 0 < start.schedule.cycle
-some_more act all None p start earlier new e = some_mapped act all p start earlier e
-some_more act all (Some s) p start earlier new e =
-    let f = elim (p s) as (λ b. cond b (Some s) (find p (map (followed_by act) all)) ≡ Some start → 0 < start.schedule.cycle) [
+runnable_more : {E : Type 0} (act : Act E) (all : List (Start E)) (o : Option (Start E)) (p : Start E → Bool) (start : Start E)
+    → ((q : Start E → Bool) (s : Start E) → find q all ≡ Some s → IsRunnable s.schedule) → ((s : Start E) → o ≡ Some s → IsRunnable s.schedule)
+    → find p (option_to_list o ++ map (followed_by act) all) ≡ Some start → IsRunnable start.schedule
+runnable_more act all None p start earlier new e = runnable_followed act all p start earlier e
+runnable_more act all (Some s) p start earlier new e =
+    let f = elim (p s) as (λ b. cond b (Some s) (find p (map (followed_by act) all)) ≡ Some start → IsRunnable start.schedule) [
       | true ↦ λ g. new start g
-      | false ↦ λ g. some_mapped act all p start earlier g
+      | false ↦ λ g. runnable_followed act all p start earlier g
     ] in f e
 
-some_cycle : {E : Type 0} (acts : List (Act E)) → IsHistory acts → (p : Start E → Bool) (start : Start E) → find p (starts acts) ≡ Some start → 0 < start.schedule.cycle
-some_cycle [] h p start e = cc
-some_cycle (Enable a ∷ acts) h p start e =
-    some_more (Enable a) (starts acts) (begun (Enable a) (starts acts)) p start (some_cycle acts h.2)
+pub runnable : {E : Type 0} (acts : List (Act E)) → IsHistory acts → (p : Start E → Bool) (start : Start E) → find p (starts acts) ≡ Some start → IsRunnable start.schedule
+runnable [] h p start e = cc
+runnable (Enable a ∷ acts) h p start e =
+    runnable_more (Enable a) (starts acts) (begun (Enable a) (starts acts)) p start (runnable acts h.2)
     (λ s i.
-    let f = elim (find (took_place a) (starts acts)) as (λ o. find (took_place a) (starts acts) ≡ o → option_map (λ (start : Start _). start_of a start.schedule) o ≡ Some s → 0 < s.schedule.cycle) [
+    let f = elim (find (took_place a) (starts acts)) as (λ o. find (took_place a) (starts acts) ≡ o → option_map (λ (start : Start _). start_of a start.schedule) o ≡ Some s → IsRunnable s.schedule) [
       | None ↦ λ g j. cc
-      | Some held ↦ λ g j. let same : held.schedule.cycle ≡ s.schedule.cycle = cc in rw (← same) (some_cycle acts h.2 (took_place a) held g)
+      | Some held ↦ λ g j. let same : held.schedule ≡ s.schedule = cc in rw (← same) (runnable acts h.2 (took_place a) held g)
     ] in f refl i)
     e
-some_cycle (Disable a ∷ acts) h p start e = some_mapped (Disable a) (starts acts) p start (some_cycle acts h.2) e
-some_cycle (Apply schedule a ∷ acts) h p start e =
-    some_more (Apply schedule a) (starts acts) (Some (start_of a schedule)) p start (some_cycle acts h.2)
-    (λ s i. let same : schedule.cycle ≡ s.schedule.cycle = cc in rw (← same) h.1.2) e
+runnable (Disable a ∷ acts) h p start e = runnable_followed (Disable a) (starts acts) p start (runnable acts h.2) e
+runnable (Apply schedule a ∷ acts) h p start e =
+    runnable_more (Apply schedule a) (starts acts) (Some (start_of a schedule)) p start (runnable acts h.2)
+    (λ s i. let same : schedule ≡ s.schedule = cc in rw (← same) (h.1.1, h.1.2)) e
 
 -- The latest cycle start of the list in force is the latest that took place.
 pub cycle_start_is_latest : {E : Type 0} (acts : List (Act E)) (t : ℕ) (start : Start E) → IsHistory acts → in_force acts t ≡ Some start → IsLatestStart start t (cycle_start start t)
 cycle_start_is_latest acts t start h e =
     let there : find (took_place t) (starts acts) ≡ Some start = open_some (find (took_place t) (starts acts)) start e in
     let took : (not (is_void start) ≡ true) × (leb start.change t ≡ true) = and_parts (not (is_void start)) (leb start.change t) (found (took_place t) (starts acts) start there) in
-    latest_by start t (some_cycle acts h (took_place t) start there) (not-true (is_void start) took.0) (leb-true start.change t took.1)
+    latest_by start t (runnable acts h (took_place t) start there).1 (not-true (is_void start) took.0) (leb-true start.change t took.1)
 
 -- A count that is at its greatest stays there.
 stays_greatest : (n m : ℕ) → min n greatest_count ≡ greatest_count → min (n + m) greatest_count ≡ greatest_count

@@ -1,7 +1,8 @@
 -- What contracts see of a runner: not the acts, but one operational and one pending schedule, and one number more.
-use Rattle.std.specs.Prelude.{ℕ, refl, Bool, false, List, Option, None}
-use Rattle.std.specs.Coded.{Coded, code_by, coded×, coded_ℕ, coded_bool, coded_option, coded_list}
+use Rattle.std.specs.Prelude.{ℕ, refl, Bool, false, Option, None}
+use Rattle.std.specs.Coded.{Coded, code_by, coded×, coded_ℕ, coded_bool, coded_option}
 use Rattle.tsn_types.specs.declared.records.Schedule.{Schedule}
+use Rattle.tsn_schedule.specs.Planned.{schedule_code}
 use Rattle.tsn_schedule.specs.declared.runner.Pending.{Pending}
 
 pub record Kept (E : Type 0) : Type 0 where
@@ -20,10 +21,6 @@ pub record Kept (E : Type 0) : Type 0 where
 -- a disabled object with no list
 abbrev pub fresh : {E : Type 0} → Kept E
 fresh = record { enabled = false; last = 0; errors = 0; held = None; running = None; pending = None }
-
-abbrev pub schedule_code : {E : Type 0} → Coded E → Coded (Schedule E)
-schedule_code {E = E} e =
-    code_by (List E × (ℕ × (ℕ × ℕ))) (coded× (coded_list e) (coded× coded_ℕ (coded× coded_ℕ coded_ℕ))) (λ s. (s.list, (s.cycle, (s.extension, s.base)))) (λ p. record { list = p.0; cycle = p.1.0; extension = p.1.1.0; base = p.1.1.1 }) (λ _. refl)
 
 abbrev pub pending_code : {E : Type 0} → Coded E → Coded (Pending E)
 pending_code {E = E} e =

@@ -4,6 +4,7 @@ pub mod Entries
 pub mod Examples
 pub mod Kept
 pub mod Meaning
+pub mod Planned
 pub mod Refusing
 pub mod Running
 pub mod Stands

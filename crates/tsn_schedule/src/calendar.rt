@@ -1,8 +1,8 @@
 //! The arithmetic of one list: when a change comes, and which entry lies at an offset of a cycle.
 //!
 //! A list is walked from its first entry, so a call costs no more than the list's length; no cycle is walked.
-ghost use Rattle.std.specs.Prelude.{◌≡◌, ◌≤◌};
-ghost use Rattle.std.specs.Option.{option_copied};
+ghost use Rattle.std.specs.Prelude.{◌≡◌, ◌≤◌, IfSome};
+ghost use Rattle.std.specs.Option.{option_copied, option_map, option_map_or};
 ghost use Rattle.tsn_schedule.specs.Entries.{entry_at, earlier_at};
 ghost use Rattle.tsn_schedule.specs.Times.{change_of, IsChange};
 
@@ -27,16 +27,29 @@ pub fn change_time(base: Instant, cycle: Cycle, now: Instant) -> u64
     if over == 0 { now } else { now + (cycle - over) }
 }
 
-/// The entry at an offset of a cycle, in nanoseconds; past the whole sum the last one, and none of an empty list.
-pub fn state_at<E: Timed>(list: &ControlList<E>, offset: u64) -> Option<&E>
-    ensures { option_copied result ≡ entry_at E.interval list.now offset }
+/// An entry of a list, and the sum of the intervals before it, in nanoseconds.
+#[derive(Clone, Copy, Debug)]
+pub struct Found<'a, E> {
+    pub entry: &'a E,
+    pub earlier: u64,
+}
+
+/// The entry at an offset of a cycle, in nanoseconds, and the intervals before it; past the whole sum the last one, and
+/// none of an empty list.
+pub fn found_at<E: Timed>(list: &ControlList<E>, offset: u64) -> Option<Found<'_, E>>
+    ensures entry { option_map (λ found. found.entry.now) result ≡ entry_at E.interval list.now offset }
+    ensures earlier { option_map_or (λ found. found.earlier) result 0 ≡ earlier_at E.interval list.now offset }
+    ensures within { IfSome result (λ found. found.earlier ≤ offset) }
 {
     let mut rest = list.as_slice();
     let mut left = offset;
     while let Some((first, others)) = rest.split_first() {
         let interval = first.interval().get();
         if others.is_empty() || left < interval {
-            return Some(first);
+            return Some(Found {
+                entry: first,
+                earlier: offset - left,
+            });
         }
         left -= interval;
         rest = others;
@@ -44,20 +57,12 @@ pub fn state_at<E: Timed>(list: &ControlList<E>, offset: u64) -> Option<&E>
     None
 }
 
-/// The intervals before the entry at an offset, in nanoseconds.
-pub fn earlier_sum<E: Timed>(list: &ControlList<E>, offset: u64) -> u64
-    ensures value { result ≡ earlier_at E.interval list.now offset }
-    ensures within { result ≤ offset }
+/// The entry at an offset of a cycle, in nanoseconds; past the whole sum the last one, and none of an empty list.
+pub fn state_at<E: Timed>(list: &ControlList<E>, offset: u64) -> Option<&E>
+    ensures { option_copied result ≡ entry_at E.interval list.now offset }
 {
-    let mut rest = list.as_slice();
-    let mut left = offset;
-    while let Some((first, others)) = rest.split_first() {
-        let interval = first.interval().get();
-        if others.is_empty() || left < interval {
-            return offset - left;
-        }
-        left -= interval;
-        rest = others;
+    match found_at(list, offset) {
+        Some(found) => Some(found.entry),
+        None => None,
     }
-    0
 }

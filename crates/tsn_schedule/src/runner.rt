@@ -18,7 +18,8 @@ ghost use Rattle.tsn_schedule.specs.Times.{change_of, IsChange};
 ghost use Rattle.tsn_types.specs.declared.records.Schedule.{Schedule as AnySchedule};
 ghost use Rattle.tsn_types.specs.declared.refusals.Refusal.TheVariants.{Memory};
 
-use crate::calendar::{change_time, earlier_sum, state_at};
+use crate::calendar::change_time;
+use crate::planned::Planned;
 use crate::timed::Timed;
 use std::marker::Model;
 use tsn_types::numbers::Instant;
@@ -29,10 +30,17 @@ use tsn_types::refusals::Refusal;
 #[derive(Clone, Copy, Debug, PartialEq, Eq)]
 pub struct Past;
 
+/// What gives the state at an instant: an entry, and the instant, in nanoseconds, at which its interval began.
+#[derive(Clone, Copy, Debug)]
+pub struct Current<'a, E> {
+    pub entry: &'a E,
+    pub began: u64,
+}
+
 /// A schedule that is to come in force, and when.
 #[derive(Debug, Drop)]
-struct Pending<E> {
-    schedule: Schedule<E>,
+struct Pending<E: Timed> {
+    schedule: Planned<E>,
     change: u64,
 }
 
@@ -44,7 +52,7 @@ pub struct Runner<E: Timed> {
     last: u64,
     errors: u64,
     // the operational schedule by the last act, also while disabled
-    held: Option<Schedule<E>>,
+    held: Option<Planned<E>>,
     // its latest cycle start by then, or the first one that is to come after an enable; none where it does not run
     running: Option<u64>,
     // what the last act, an apply, set
@@ -127,13 +135,13 @@ impl<E: Timed> Runner<E> {
     }
 
     // What runs at t, with its latest cycle start that took place.
-    fn running_at(&self, t: u64) -> Option<(&Schedule<E>, u64)>
+    fn running_at(&self, t: u64) -> Option<(&Planned<E>, u64)>
         ensures within { IfSome result (λ p. p.1 ≤ t) }
         ensures value { option_map (λ p. (p.0.now, p.1)) result ≡ runs_by self.now t }
     {
         if let Some(pending) = &self.pending {
             if pending.change <= t {
-                let start = t - (t - pending.change) % pending.schedule.cycle.get();
+                let start = t - (t - pending.change) % pending.schedule.cycle().get();
                 return Some((&pending.schedule, start));
             }
         }
@@ -145,9 +153,11 @@ impl<E: Timed> Runner<E> {
                 // a cycle may start until the extension before the change that is to come
                 let free = match &self.pending {
                     None => t,
-                    Some(pending) => t.min(pending.change.saturating_sub(held.extension.get() + 1)),
+                    Some(pending) => t.min(
+                        pending.change.saturating_sub(held.extension().get() + 1),
+                    ),
                 };
-                let back = free.saturating_sub(known) % held.cycle.get();
+                let back = free.saturating_sub(known) % held.cycle().get();
                 let start = free - back;
                 // what was decided by the last act stays
                 if self.last < start {
@@ -188,7 +198,7 @@ impl<E: Timed + Drop> Runner<E> {
     {
         match &self.held {
             None => None,
-            Some(held) => Some(change_time(held.base, held.cycle, now)),
+            Some(held) => Some(change_time(held.base(), held.cycle(), now)),
         }
     }
 
@@ -250,13 +260,13 @@ impl<E: Timed + Drop> Runner<E> {
     }
 
     // Makes a schedule pending, and tells when it comes.
-    fn put(&mut self, schedule: Schedule<E>, now: Instant) -> u64
+    fn put(&mut self, schedule: Planned<E>, now: Instant) -> u64
         ensures kept { self.new ≡ kept_after (Apply schedule now) self.old }
         ensures change { result ≡ change_of schedule.base schedule.cycle now }
         ensures some_cycle { 1 ≤ schedule.cycle }
     {
-        let change = change_time(schedule.base, schedule.cycle, now);
-        let errors = self.errors_after(schedule.base, now);
+        let change = change_time(schedule.base(), schedule.cycle(), now);
+        let errors = self.errors_after(schedule.base(), now);
         self.settle(now);
         self.errors = errors;
         self.pending = Some(Pending { schedule, change });
@@ -286,7 +296,7 @@ impl<E: Timed + Drop> Runner<E> {
         if schedule.list.is_empty() {
             return Err(Refusal::EmptyList);
         }
-        let Ok(copy) = schedule.try_clone() else {
+        let Ok(copy) = Planned::copy_of(schedule) else {
             return Err(Refusal::Memory);
         };
         Ok(self.put(copy, now))
@@ -294,6 +304,30 @@ impl<E: Timed + Drop> Runner<E> {
 }
 
 impl<E: Timed> Runner<E> {
+    /// The entry that gives the state at `t`, and when its interval began; none where the admin states stand. Past before
+    /// the last act.
+    pub fn current_at(&self, t: Instant) -> Result<Option<Current<'_, E>>, Past>
+        ensures { (acts : List (Act E)) → StandsFor self.now acts →
+            MatchResult result
+            (λ current. (last_instant acts ≤ t) × (option_map (λ c. c.entry.now) current ≡ state_in E.interval acts t) × (option_map (λ c. c.began) current ≡ began_in E.interval acts t))
+            (λ _. t < last_instant acts) }
+    {
+        let t = t.get();
+        if self.is_past(t) {
+            return Err(Past);
+        }
+        let Some((planned, start)) = self.running_at(t) else {
+            return Ok(None);
+        };
+        match planned.at(t - start) {
+            None => Ok(None),
+            Some(found) => Ok(Some(Current {
+                entry: found.entry,
+                began: start + found.earlier,
+            })),
+        }
+    }
+
     /// The entry that gives the state at `t`; none where the admin states stand. Past before the last act.
     pub fn states_at(&self, t: Instant) -> Result<Option<&E>, Past>
         ensures restored { (schedule : AnySchedule E) (a : ℕ) (acts : List (Act E)) → StandsFor self.now (Apply schedule a ∷ acts) →
@@ -304,13 +338,9 @@ impl<E: Timed> Runner<E> {
             (λ entry. (last_instant acts ≤ t) × (option_copied entry ≡ state_in E.interval acts t))
             (λ _. t < last_instant acts) }
     {
-        let t = t.get();
-        if self.is_past(t) {
-            return Err(Past);
-        }
-        match self.running_at(t) {
+        match self.current_at(t)? {
             None => Ok(None),
-            Some((schedule, start)) => Ok(state_at(&schedule.list, t - start)),
+            Some(current) => Ok(Some(current.entry)),
         }
     }
 
@@ -322,13 +352,9 @@ impl<E: Timed> Runner<E> {
             (λ begin. (last_instant acts ≤ t) × (begin ≡ began_in E.interval acts t))
             (λ _. t < last_instant acts) }
     {
-        let t = t.get();
-        if self.is_past(t) {
-            return Err(Past);
-        }
-        match self.running_at(t) {
+        match self.current_at(t)? {
             None => Ok(None),
-            Some((schedule, start)) => Ok(Some(start + earlier_sum(&schedule.list, t - start))),
+            Some(current) => Ok(Some(current.began)),
         }
     }
 }

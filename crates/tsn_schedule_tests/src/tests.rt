@@ -5,7 +5,8 @@ use crate::comparing::same;
 use std::alloc::{AllocError, Global};
 use std::process::Abort;
 use std::test::Fail;
-use tsn_schedule::calendar::{change_time, earlier_sum, state_at};
+use tsn_schedule::calendar::{change_time, found_at, state_at};
+use tsn_schedule::planned::Planned;
 use tsn_schedule::runner::{Past, Runner};
 use tsn_schedule::timed::Timed;
 use tsn_types::lists::ControlList;
@@ -362,7 +363,20 @@ fn one_list_by_its_offsets(rt: HostRuntime) -> Result<(), Fail> {
             &entry.map(|entry| entry.interval()),
             &Interval::new(if gates == 1 { 300 } else { 700 }).ok(),
         );
-        same(&rt, &earlier_sum(&schedule.list, offset), &earlier);
+        let found = found_at(&schedule.list, offset);
+        same(
+            &rt,
+            &found.map(|found| (found.entry.gates, found.earlier)),
+            &Some((gates, earlier)),
+        );
+        let planned = Planned::copy_of(&schedule)?;
+        same(
+            &rt,
+            &planned
+                .at(offset)
+                .map(|found| (found.entry.gates, found.earlier)),
+            &Some((gates, earlier)),
+        );
     }
     Ok(())
 }

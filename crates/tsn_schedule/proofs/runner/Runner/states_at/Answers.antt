@@ -1,18 +1,28 @@
-use Rattle.std.proofs.Common.{◌≤◌, ◌-◌, ◌∙◌, ap, arith, ◌∷◌, inl, inr}
-use Rattle.std.proofs.lemmas.Bool.{cases_lt}
-use Rattle.std.specs.Option.{option_and_then}
+use Rattle.std.proofs.Common.{◌≤◌, ◌<◌, ◌∙◌, ap, arith, sym, ◌∷◌}
+use Rattle.std.specs.Option.{option_map}
 use Rattle.tsn_schedule.specs.Acts.{Apply}
-use Rattle.tsn_schedule.specs.Entries.{entry_at}
-use Rattle.tsn_schedule.proofs.Restored.{kept_state, restored}
+use Rattle.tsn_schedule.specs.Times.{change_of}
+use Rattle.tsn_schedule.proofs.Numbers.{reached}
+use Rattle.tsn_schedule.proofs.Restored.{restored}
 use Rattle.tsn_schedule.proofs.runner.Runner.states_at.Goals as goal
+
+pub returns-in_err-current_at-clause-restored : goal.returns-in_err-current_at-clause-restored
+returns-in_err-current_at-clause-restored g c =
+    λ schedule a acts s past h.
+    let after : a ≤ change_of schedule.base schedule.cycle a = reached schedule.base schedule.cycle a s.history.1.2 in
+    let early : c.args.t < a = c.in_err-current_at.ensures (Apply schedule a ∷ acts) s in
+    absurd (omega arith)
+
+pub returns-in-None-clause-restored : goal.returns-in-None-clause-restored
+returns-in-None-clause-restored g c =
+    λ schedule a acts s past h.
+    ap (option_map (λ current. current.entry.now)) (sym c.in-None.is)
+    ∙ (c.in_ok-current_at.ensures (Apply schedule a ∷ acts) s).1
+    ∙ restored g.E.Timed.interval schedule acts a c.args.t s.history.1.2 past h
 
 pub returns-in-Some-clause-restored : goal.returns-in-Some-clause-restored
 returns-in-Some-clause-restored g c =
     λ schedule a acts s past h.
-    let by : c.args.self.now.last ≤ c.args.t =
-    elim (cases_lt c.get-t.result c.args.self.now.last) [ inl lt ↦ cc (c.is_past.ensures.1 lt) | inr le ↦ omega (arith, c.get-t.ensures.same) ]
-    in
-    (rw c.get-t.ensures.same at c.state_at.ensures)
-    ∙ ap (option_and_then (λ p. entry_at g.E.Timed.interval p.0.list (c.args.t - p.1))) (rw c.get-t.ensures.same at c.in-Some.ensures.value)
-    ∙ kept_state g.E.Timed.interval c.args.self.now (Apply schedule a ∷ acts) c.args.t s by
+    ap (option_map (λ current. current.entry.now)) (sym c.in-Some.is)
+    ∙ (c.in_ok-current_at.ensures (Apply schedule a ∷ acts) s).1
     ∙ restored g.E.Timed.interval schedule acts a c.args.t s.history.1.2 past h
