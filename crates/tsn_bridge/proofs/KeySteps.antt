@@ -1,6 +1,6 @@
 -- Commands on a key are steps: refused before all else, refused by what they add, or done.
-use Rattle.std.proofs.Common.{◌≡◌, ◌≤◌, ◌+◌, ℕ, Bool, true, false, refl, sym, ◌∙◌, ap, subst, arith, List, [], ◌∷◌, Option, Some, None, length, max}
-use Rattle.std.specs.Prelude.{Err, Ok, nat_le, option_map}
+use Rattle.std.proofs.Common.{◌≡◌, ◌≤◌, ◌+◌, ℕ, Bool, true, false, refl, sym, ◌∙◌, ap, subst, arith, List, [], ◌∷◌, ◌++◌, Option, Some, None, length, max}
+use Rattle.std.specs.Prelude.{◌<◌, nat_le, option_map}
 use Rattle.std.specs.Option.{option_or}
 use Rattle.std.proofs.lemmas.Bool.{le-leb, lt-leb}
 use Rattle.std.specs.FinMap.{get}
@@ -10,29 +10,22 @@ use Rattle.tsn_types.specs.declared.refusals.Refusal.TheVariants.{EmptyList, Jou
 use Rattle.tsn_types.specs.Limits.{first_cause, unless}
 use Rattle.tsn_types.specs.Refusals.{IsLeastOrMemory, least}
 use Rattle.tsn_types.proofs.Ordered.{IsOrdered, causes_of, is_unless}
-use Rattle.tsn_schedule.specs.declared.runner.Past.{Past as TooEarly}
 use Rattle.tsn_journal.specs.declared.entries.Act.{Act as Asked}
 use Rattle.tsn_journal.specs.declared.entries.Act.TheVariants as asked
-use Rattle.tsn_journal.specs.declared.entries.What.TheVariants.{Acted}
 use Rattle.tsn_journal.specs.Entries.{most_entries, no_room}
-use Rattle.tsn_undo.specs.Ledger.{Ledger, enter, present}
+use Rattle.tsn_undo.specs.Ledger.{present}
 use Rattle.tsn_undo.proofs.Free.{or_none}
 use Rattle.tsn_chain.specs.declared.state.Counters.{Counters}
 use Rattle.tsn_chain.specs.declared.state.State.{State as Shown}
-use Rattle.tsn_chain.specs.Acts.{KeyStates}
-use Rattle.tsn_chain.specs.Counters.{KeyCounts}
-use Rattle.tsn_chain.specs.Instances.{Instances}
 use Rattle.tsn_bridge.specs.declared.reply.Reply.{Reply}
 use Rattle.tsn_bridge.specs.declared.reply.Reply.TheVariants as replies
-use Rattle.tsn_bridge.specs.Acts.{acted_reply, acted_state, apply_causes, apply_change, apply_rule, disable_rule, enable_change, enable_rule, enabled_at, has_entry, key_causes, list_causes}
-use Rattle.tsn_bridge.specs.Kept.{IsTied}
-use Rattle.tsn_bridge.specs.Looking.{counters_rule, last_at, states_rule}
+use Rattle.tsn_bridge.specs.Acts.{act_causes, act_change, act_rule, apply_causes, apply_rule, enabled_at, has_entry, key_causes, list_causes}
+use Rattle.tsn_bridge.specs.Looking.{counted_at, counters_rule, last_at, shown_at, states_rule}
+use Rattle.tsn_bridge.specs.Pair.{PairState, acted}
 use Rattle.tsn_bridge.specs.Rule.{Allows, Rule}
 use Rattle.tsn_bridge.specs.State.{State}
-use Rattle.tsn_bridge.specs.Together.{Stays}
-use Rattle.tsn_bridge.proofs.Causes.{least_key, least_list, there_key, there_list}
+use Rattle.tsn_bridge.proofs.Causes.{least_key, least_list}
 use Rattle.tsn_bridge.proofs.Stepping.{is_done, is_refused, is_surely_refused, seen}
-use Rattle.tsn_bridge.proofs.Telling.{counted_told, data_of, past_told, runner_of, shown_told}
 
 -- ---- what a command adds to the causes of its key
 
@@ -68,6 +61,24 @@ appliable_ordered s k = (
     (omega arith, is_unless (nat_le (length s.book.entries + 1) most_entries) JournalFull, tt),
   ),
 )
+
+-- what an act adds
+added : State → Asked → Key → List (ℕ × Option Refusal)
+added s asked.Enable k = full s
+added s asked.Disable k = full s
+added s asked.Apply k = appliable s k
+
+added_ordered : (s : State) (act : Asked) (k : Key) → IsOrdered 6 (added s act k)
+unfolding added
+added_ordered s asked.Enable k = full_ordered s
+added_ordered s asked.Disable k = full_ordered s
+added_ordered s asked.Apply k = appliable_ordered s k
+
+added_are : (s : State) (act : Asked) (k : Key) → causes_of (added s act k) ≡ act_causes s.book act k ++ no_room s.book.entries 1 ∷ []
+unfolding added full appliable
+added_are s asked.Enable k = refl
+added_are s asked.Disable k = refl
+added_are s asked.Apply k = refl
 
 -- the causes of an apply but for the journal, and then the journal's
 apply_first : (s : State) (k : Key) → first_cause (causes_of (appliable s k)) ≡ option_or (first_cause (apply_causes s.book k)) (no_room s.book.entries 1)
@@ -114,21 +125,8 @@ module _ (s : State) (n : ℕ) (k : Key) (more : List (ℕ × Option Refusal)) (
   stop_more is none e = is_surely_refused rule s (replies.Refused why) s why (ap least is ∙ least_list s n k more h ∙ ap (λ o. option_or o (first_cause (causes_of more))) none ∙ e) refl refl
 
 module _ (s : State) (n : ℕ) (k : Key) (why : Refusal) where
-  pub enable_stopped : (now : ℕ) → first_cause (list_causes s n k []) ≡ Some why → Allows (enable_rule s n k now) s (replies.Refused why) s
-  unfolding full
-  enable_stopped now e = stop_list s n k (full s) (full_ordered s) (enable_rule s n k now) why refl e
-
-  pub disable_stopped : (now : ℕ) → first_cause (list_causes s n k []) ≡ Some why → Allows (disable_rule s n k now) s (replies.Refused why) s
-  unfolding full
-  disable_stopped now e = stop_list s n k (full s) (full_ordered s) (disable_rule s n k now) why refl e
-
-  pub apply_stopped : (now : ℕ) → first_cause (list_causes s n k []) ≡ Some why → Allows (apply_rule s n k now) s (replies.Refused why) s
-  unfolding appliable
-  apply_stopped now e = stop_list s n k (appliable s k) (appliable_ordered s k) (apply_rule s n k now) why refl e
-
-  pub apply_unfit : (now : ℕ) → first_cause (list_causes s n k []) ≡ None → first_cause (apply_causes s.book k) ≡ Some why → Allows (apply_rule s n k now) s (replies.Refused why) s
-  unfolding appliable
-  apply_unfit now none e = stop_more s n k (appliable s k) (appliable_ordered s k) (apply_rule s n k now) why refl none (apply_first s k ∙ ap (λ o. option_or o (no_room s.book.entries 1)) e)
+  pub act_stopped : (act : Asked) (now : ℕ) → first_cause (list_causes s n k []) ≡ Some why → Allows (act_rule s n act k now) s (replies.Refused why) s
+  act_stopped act now e = stop_list s n k (added s act k) (added_ordered s act k) (act_rule s n act k now) why (sym (ap (list_causes s n k) (added_are s act k))) e
 
   pub states_stopped : (t : ℕ) → first_cause (list_causes s n k []) ≡ Some why → Allows (states_rule s n k t) s (replies.Refused why) s
   unfolding early
@@ -139,86 +137,42 @@ module _ (s : State) (n : ℕ) (k : Key) (why : Refusal) where
 
 -- ---- what looks
 
-module _ (b : Ledger) (k : ℕ) (t : Instances) (h : IsTied b t.runners t.frames) (n : ℕ) (key : Key) where
-  abbrev s : State
-  s = seen b k t
+module _ (p : PairState) (k : ℕ) (n : ℕ) (key : Key) (now : State) (view : ◌≡◌ {A = State} (seen p k) now) where
+  pub counters_step : (told : Counters) → first_cause (key_causes now n key []) ≡ None → counted_at p.ledger p.frames p.time key ≡ Some told → Allows (counters_rule now n key) now (replies.Counters told) now
+  counters_step told none is =
+      is_done (counters_rule now n key) now (replies.Counters told) now (least_key now n key [] tt ∙ ap (λ o. option_or o None) none)
+      (sym (ap (λ (x : State). (counters_rule x n key).done) view) ∙ ap (option_map {T = Counters} {U = Reply × State} (λ x. (replies.Counters x, seen p k))) is ∙ ap (λ (x : State). Some (replies.Counters told, x)) view)
 
-  counted : (told : Counters) → first_cause (key_causes s n key []) ≡ None → KeyCounts t.runners t.frames t.time key told → Allows (counters_rule s n key) s (replies.Counters told) s
-  counted told none is =
-      is_done (counters_rule s n key) s (replies.Counters told) s (least_key s n key [] tt ∙ ap (λ o. option_or o None) none)
-      (ap (option_map {T = Counters} {U = Reply × State} (λ x. (replies.Counters x, s))) (sym (counted_told b t h key t.time told (data_of b t h key (there_key s n key none)) is)))
+  pub states_step : (at : ℕ) (x : Shown) → first_cause (list_causes now n key []) ≡ None → last_at p.ledger key ≤ at → shown_at p.ledger key (get (present p.ledger) key) at ≡ Some x → Allows (states_rule now n key at) now (replies.States x) now
+  states_step at x none late is =
+      is_done (states_rule now n key at) now (replies.States x) now (states_free now n key at none (subst (λ (y : State). last_at y.book key ≤ at) view late))
+      (sym (ap (λ (y : State). (states_rule y n key at).done) view) ∙ ap (option_map {T = Shown} {U = Reply × State} (λ y. (replies.States y, seen p k))) is ∙ ap (λ (y : State). Some (replies.States x, y)) view)
 
-  shown : (at : ℕ) (x : Shown) → first_cause (list_causes s n key []) ≡ None → KeyStates t.runners key (get (present b) key) at (Ok x) → Allows (states_rule s n key at) s (replies.States x) s
-  shown at x none is =
-      let there = there_list s n key none in
-      let two = shown_told b t h key (get (present b) key) at x (runner_of b t h key there.0 there.1) is in
-      is_done (states_rule s n key at) s (replies.States x) s (states_free s n key at none two.0)
-      (ap (option_map {T = Shown} {U = Reply × State} (λ y. (replies.States y, s))) (sym two.1))
-
-  past : (at : ℕ) (x : TooEarly) → first_cause (list_causes s n key []) ≡ None → KeyStates t.runners key (get (present b) key) at (Err x) → Allows (states_rule s n key at) s (replies.Refused Past) s
+  pub states_past : (at : ℕ) → first_cause (list_causes now n key []) ≡ None → at < last_at p.ledger key → Allows (states_rule now n key at) now (replies.Refused Past) now
   unfolding early
-  past at x none is =
-      let there = there_list s n key none in
-      let before = past_told b t h key (get (present b) key) at x (runner_of b t h key there.0 there.1) is in
-      stop_more s n key (early s key at) (early_ordered s key at) (states_rule s n key at) Past refl none (ap (λ g. option_or (unless g Past) None) (lt-leb (last_at b key) at before))
-
--- the same of the state that contracts see
-module _ (b : Ledger) (k : ℕ) (t : Instances) (h : IsTied b t.runners t.frames) (n : ℕ) (key : Key) (now : State) (view : ◌≡◌ {A = State} (seen b k t) now) where
-  pub counters_step : (told : Counters) → first_cause (key_causes now n key []) ≡ None → KeyCounts t.runners t.frames t.time key told → Allows (counters_rule now n key) now (replies.Counters told) now
-  counters_step told none is = subst (λ (x : State). first_cause (key_causes x n key []) ≡ None → Allows (counters_rule x n key) x (replies.Counters told) x) view (λ e. counted b k t h n key told e is) none
-
-  pub states_step : (at : ℕ) (x : Shown) → first_cause (list_causes now n key []) ≡ None → KeyStates t.runners key (get (present b) key) at (Ok x) → Allows (states_rule now n key at) now (replies.States x) now
-  states_step at x none is = subst (λ (y : State). first_cause (list_causes y n key []) ≡ None → Allows (states_rule y n key at) y (replies.States x) y) view (λ e. shown b k t h n key at x e is) none
-
-  pub states_past : (at : ℕ) (x : TooEarly) → first_cause (list_causes now n key []) ≡ None → KeyStates t.runners key (get (present b) key) at (Err x) → Allows (states_rule now n key at) now (replies.Refused Past) now
-  states_past at x none is = subst (λ (y : State). first_cause (list_causes y n key []) ≡ None → Allows (states_rule y n key at) y (replies.Refused Past) y) view (λ e. past b k t h n key at x e is) none
+  states_past at none before =
+      stop_more now n key (early now key at) (early_ordered now key at) (states_rule now n key at) Past refl none
+      (ap (λ g. option_or (unless g Past) None) (lt-leb (last_at now.book key) at (subst (λ (y : State). at < last_at y.book key) view before)))
 
 -- ---- acts
 
-module _ (b b' : Ledger) (k : ℕ) (t t' : Instances) (n : ℕ) (key : Key) (now : ℕ) where
-  abbrev before : State
-  before = seen b k t
+module _ (p p' : PairState) (k : ℕ) (n : ℕ) (act : Asked) (key : Key) (now : ℕ) (s : State) (view : ◌≡◌ {A = State} (seen p k) s) (none : first_cause (list_causes s n key []) ≡ None) where
+  -- its key refuses nothing, so the causes are what it adds
+  least_act : least (act_rule s n act key now).causes ≡ first_cause (act_causes p.ledger act key ++ no_room p.ledger.entries 1 ∷ [])
+  least_act =
+      ap (λ os. least (list_causes s n key os)) (sym (added_are s act key))
+      ∙ least_list s n key (added s act key) (added_ordered s act key)
+      ∙ ap (λ o. option_or o (first_cause (causes_of (added s act key)))) none
+      ∙ ap first_cause (added_are s act key)
+      ∙ ap (λ (x : State). first_cause (act_causes x.book act key ++ no_room x.book.entries 1 ∷ [])) (sym view)
 
-  done : (act : Asked) (change : Option ℕ) (told : Option ℕ) (entry counted : ℕ) → told ≡ change → entry ≡ length b.entries + 1 → counted ≡ max t.time now → b' ≡ enter b n (Acted act key (max t.time now)) → t'.time ≡ max t.time now → t'.frames ≡ t.frames
-      → ◌≡◌ {A = Option (Reply × State)} (Some (acted_reply before change now, acted_state before n act key now)) (Some (replies.Acted told entry counted, seen b' k t'))
-  done act change told entry counted told_is entry_is counted_is after time frames = λ i. Some (replies.Acted (sym told_is i) (sym entry_is i) (sym counted_is i), record { book = sym after i; sessions = k; time = sym time i; frames = sym frames i })
+  pub act_done : (told : Option ℕ) (entry counted : ℕ) → told ≡ act_change p.ledger act key (max p.time now) → entry ≡ length p.ledger.entries + 1 → counted ≡ max p.time now
+      → first_cause (act_causes p.ledger act key ++ no_room p.ledger.entries 1 ∷ []) ≡ None → p' ≡ acted p n act key now → Allows (act_rule s n act key now) s (replies.Acted told entry counted) (seen p' k)
+  act_done told entry counted told_is entry_is counted_is free after =
+      is_done (act_rule s n act key now) s (replies.Acted told entry counted) (seen p' k) (least_act ∙ free)
+      (sym (ap (λ (x : State). (act_rule x n act key now).done) view)
+      ∙ (λ i. Some (replies.Acted (sym told_is i) (sym entry_is i) (sym counted_is i), seen (sym after i) k)))
 
-  same : b' ≡ b → Stays t t' → seen b' k t' ≡ before
-  same e stays = λ i. record { book = e i; sessions = k; time = stays.time i; frames = stays.frames i }
-
-  least_full : first_cause (list_causes before n key []) ≡ None → least (list_causes before n key (no_room b.entries 1 ∷ [])) ≡ no_room b.entries 1
-  unfolding full
-  least_full none = least_list before n key (full before) (full_ordered before) ∙ ap (λ o. option_or o (option_or (no_room b.entries 1) None)) none ∙ only (no_room b.entries 1)
-
-  least_apply : first_cause (list_causes before n key []) ≡ None → first_cause (apply_causes b key) ≡ None → least (apply_rule before n key now).causes ≡ no_room b.entries 1
-  unfolding appliable
-  least_apply none free =
-      least_list before n key (appliable before key) (appliable_ordered before key)
-      ∙ ap (λ o. option_or o (first_cause (causes_of (appliable before key)))) none
-      ∙ apply_first before key
-      ∙ ap (λ o. option_or o (no_room b.entries 1)) free
-
-  pub enabled : (told : Option ℕ) (entry counted : ℕ) → first_cause (list_causes before n key []) ≡ None → no_room b.entries 1 ≡ None → told ≡ enable_change b key (max t.time now) → entry ≡ length b.entries + 1 → counted ≡ max t.time now
-      → b' ≡ enter b n (Acted asked.Enable key (max t.time now)) → t'.time ≡ max t.time now → t'.frames ≡ t.frames → Allows (enable_rule before n key now) before (replies.Acted told entry counted) (seen b' k t')
-  enabled told entry counted none free told_is entry_is counted_is after time frames =
-      is_done (enable_rule before n key now) before (replies.Acted told entry counted) (seen b' k t') (least_full none ∙ free) (done asked.Enable (enable_change b key (max t.time now)) told entry counted told_is entry_is counted_is after time frames)
-
-  pub disabled : (told : Option ℕ) (entry counted : ℕ) → first_cause (list_causes before n key []) ≡ None → no_room b.entries 1 ≡ None → told ≡ None → entry ≡ length b.entries + 1 → counted ≡ max t.time now
-      → b' ≡ enter b n (Acted asked.Disable key (max t.time now)) → t'.time ≡ max t.time now → t'.frames ≡ t.frames → Allows (disable_rule before n key now) before (replies.Acted told entry counted) (seen b' k t')
-  disabled told entry counted none free told_is entry_is counted_is after time frames =
-      is_done (disable_rule before n key now) before (replies.Acted told entry counted) (seen b' k t') (least_full none ∙ free) (done asked.Disable None told entry counted told_is entry_is counted_is after time frames)
-
-  pub applied : (told : Option ℕ) (entry counted : ℕ) → first_cause (list_causes before n key []) ≡ None → first_cause (apply_causes b key) ≡ None → no_room b.entries 1 ≡ None → told ≡ apply_change (get (present b) key) (max t.time now) → entry ≡ length b.entries + 1
-      → counted ≡ max t.time now → b' ≡ enter b n (Acted asked.Apply key (max t.time now)) → t'.time ≡ max t.time now → t'.frames ≡ t.frames → Allows (apply_rule before n key now) before (replies.Acted told entry counted) (seen b' k t')
-  applied told entry counted none fit free told_is entry_is counted_is after time frames =
-      is_done (apply_rule before n key now) before (replies.Acted told entry counted) (seen b' k t') (least_apply none fit ∙ free)
-      (done asked.Apply (apply_change (get (present b) key) (max t.time now)) told entry counted told_is entry_is counted_is after time frames)
-
-  pub full_enable : (why : Refusal) → first_cause (list_causes before n key []) ≡ None → IsLeastOrMemory (no_room b.entries 1) why → b' ≡ b → Stays t t' → Allows (enable_rule before n key now) before (replies.Refused why) (seen b' k t')
-  full_enable why none is e stays = is_refused (enable_rule before n key now) before (replies.Refused why) (seen b' k t') (no_room b.entries 1) why (least_full none) refl is refl (same e stays)
-
-  pub full_disable : (why : Refusal) → first_cause (list_causes before n key []) ≡ None → IsLeastOrMemory (no_room b.entries 1) why → b' ≡ b → Stays t t' → Allows (disable_rule before n key now) before (replies.Refused why) (seen b' k t')
-  full_disable why none is e stays = is_refused (disable_rule before n key now) before (replies.Refused why) (seen b' k t') (no_room b.entries 1) why (least_full none) refl is refl (same e stays)
-
-  pub full_apply : (why : Refusal) → first_cause (list_causes before n key []) ≡ None → first_cause (apply_causes b key) ≡ None → IsLeastOrMemory (no_room b.entries 1) why → b' ≡ b → Stays t t' → Allows (apply_rule before n key now) before (replies.Refused why) (seen b' k t')
-  full_apply why none fit is e stays = is_refused (apply_rule before n key now) before (replies.Refused why) (seen b' k t') (no_room b.entries 1) why (least_apply none fit) refl is refl (same e stays)
+  pub act_refused : (why : Refusal) → IsLeastOrMemory (first_cause (act_causes p.ledger act key ++ no_room p.ledger.entries 1 ∷ [])) why → p' ≡ p → Allows (act_rule s n act key now) s (replies.Refused why) (seen p' k)
+  act_refused why is same =
+      is_refused (act_rule s n act key now) s (replies.Refused why) (seen p' k) (first_cause (act_causes p.ledger act key ++ no_room p.ledger.entries 1 ∷ [])) why least_act refl is refl (ap (λ (q : PairState). seen q k) same ∙ view)

@@ -1,5 +1,5 @@
 -- The change of an entry that was pushed, and what was kept after the changes of several.
-use Rattle.std.proofs.Common.{◌≡◌, ℕ, ◌+◌, ◌≤◌, zero, suc, true, false, cond, refl, sym, ◌∙◌, ap, subst, List, [], ◌∷◌, ◌++◌, length, Option, Some, None, arith}
+use Rattle.std.proofs.Common.{◌≡◌, ℕ, ◌+◌, ◌≤◌, zero, suc, true, false, cond, refl, sym, ◌∙◌, ap, subst, List, [], ◌∷◌, ◌++◌, length, Some, None, arith}
 use Rattle.std.specs.Prelude.{◌==◌}
 use Rattle.std.specs.Option.{option_and_then}
 use Rattle.std.proofs.lemmas.Bool.Decides.{nat_tests}
@@ -14,7 +14,7 @@ use Rattle.tsn_undo.specs.UndoAll.{with_undone}
 use Rattle.tsn_undo.proofs.UndoAll.{length-taken}
 use Rattle.tsn_chain.specs.Following.{frames_after, runners_after}
 use Rattle.tsn_chain.specs.Instances.{FrameData, Instances, Runners}
-use Rattle.tsn_bridge.specs.Together.{Follows, FollowsAll, followed, followed_by, undone_by}
+use Rattle.tsn_bridge.specs.Together.{followed, followed_by, undone_by}
 
 -- an entry of another number is found as before
 front : (es : List Entry) (w : Entry) (n : ℕ) → (w.number == n) ≡ false → entry (es ++ w ∷ []) n ≡ entry es n
@@ -64,21 +64,38 @@ numbered_front k [] w h = tt
 numbered_front k (e ∷ es) w h = (h.0, numbered_front (k + 1) es w h.1)
 
 -- the one entry more, by its number
-pub entered : (b b' : Ledger) (s : ℕ) (w : What) (number : ℕ) (es : List Entry) → IsNumbered 1 b'.entries → es ≡ b'.entries → b' ≡ enter b s w → number ≡ length b.entries + 1 → change_at es number ≡ applies w
+entered : (b b' : Ledger) (s : ℕ) (w : What) (number : ℕ) (es : List Entry) → IsNumbered 1 b'.entries → es ≡ b'.entries → b' ≡ enter b s w → number ≡ length b.entries + 1 → change_at es number ≡ applies w
 entered b b' s w number es numbered same after is =
     let left : b'.entries ≡ with_entry b.entries s w = ap (λ (c : Ledger). c.entries) after in
     ap (λ xs. change_at xs number) (same ∙ left) ∙ pushed b.entries s w number (numbered_front 1 b.entries _ (subst (IsNumbered 1) left numbered)) is
 
+-- the runtime followed the one entry that the book made, with its change
+pub record FollowsEntry (b b' : Ledger) (s : ℕ) (w : What) (e : Change) (t t' : Instances) : Type 0 where
+  pub after : b' ≡ enter b s w
+  pub runners : t'.runners ≡ runners_after t.runners e
+  pub frames : t'.frames ≡ frames_after t.time t.frames e
+  pub time : t'.time ≡ t.time
+
+-- the runtime followed the taking back of all of xs, the last of them first
+pub record FollowsUndone (xs : List Applied) (t t' : Instances) : Type 0 where
+  pub runners : t'.runners ≡ undone_by runners_after t.runners xs
+  pub frames : t'.frames ≡ undone_by (frames_after t.time) t.frames xs
+  pub time : t'.time ≡ t.time
+
 module _ (old middle new : Instances) (runners : middle.runners ≡ old.runners) (frames : middle.frames ≡ old.frames) (time : middle.time ≡ old.time) (still : new.time ≡ middle.time) where
-  pub follows_one : (o : Option Change) (e : Change) → o ≡ Some e → new.runners ≡ followed_by runners_after middle.runners o → new.frames ≡ followed_by (frames_after middle.time) middle.frames o → Follows old e new
-  follows_one o e is r f = record {
-    runners = r ∙ ap (followed_by runners_after middle.runners) is ∙ ap (λ (x : Runners). runners_after x e) runners;
-    frames = f ∙ ap (followed_by (frames_after middle.time) middle.frames) is ∙ ap (λ n. frames_after n middle.frames e) time ∙ ap (λ (x : FrameData). frames_after old.time x e) frames;
-    time = still ∙ time;
-  }
+  pub follows_entry : (b b' : Ledger) (s : ℕ) (w : What) (e : Change) (number : ℕ) (es : List Entry) → applies w ≡ Some e → IsNumbered 1 b'.entries → es ≡ b'.entries → b' ≡ enter b s w → number ≡ length b.entries + 1
+      → new.runners ≡ followed_by runners_after middle.runners (change_at es number) → new.frames ≡ followed_by (frames_after middle.time) middle.frames (change_at es number) → FollowsEntry b b' s w e old new
+  follows_entry b b' s w e number es change numbered same after is r f =
+      let there = entered b b' s w number es numbered same after is ∙ change in
+      record {
+        after = after;
+        runners = r ∙ ap (followed_by runners_after middle.runners) there ∙ ap (λ (x : Runners). runners_after x e) runners;
+        frames = f ∙ ap (followed_by (frames_after middle.time) middle.frames) there ∙ ap (λ n. frames_after n middle.frames e) time ∙ ap (λ (x : FrameData). frames_after old.time x e) frames;
+        time = still ∙ time;
+      }
 
   pub follows_each : (es : List Entry) (s first own : ℕ) (xs : List Applied) (now : List Entry) → IsNumbered 1 es → now ≡ with_undone es s xs → first ≡ length es → own ≡ length xs
-      → new.runners ≡ followed runners_after now middle.runners first own → new.frames ≡ followed (frames_after middle.time) now middle.frames first own → FollowsAll old xs new
+      → new.runners ≡ followed runners_after now middle.runners first own → new.frames ≡ followed (frames_after middle.time) now middle.frames first own → FollowsUndone xs old new
   follows_each es s first own xs now numbered is first_is own_is r f = record {
     runners = r ∙ at runners_after middle.runners ∙ ap (λ (x : Runners). undone_by runners_after x xs) runners;
     frames = f ∙ at (frames_after middle.time) middle.frames ∙ ap (λ n. undone_by (frames_after n) middle.frames xs) time ∙ ap (λ (x : FrameData). undone_by (frames_after old.time) x xs) frames;

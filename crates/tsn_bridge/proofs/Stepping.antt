@@ -12,11 +12,11 @@ use Rattle.tsn_undo.specs.Ledger.{Ledger, present}
 use Rattle.tsn_undo.specs.Steps.{Edits, edit_refusal}
 use Rattle.tsn_bridge.specs.declared.reply.Reply.{Reply}
 use Rattle.tsn_bridge.specs.declared.reply.Reply.TheVariants.{Entry, Refused}
+use Rattle.tsn_bridge.specs.Pair.{PairState}
 use Rattle.tsn_bridge.specs.State.{State}
 use Rattle.tsn_bridge.specs.Rule.{Allows, Rule, is_given}
-use Rattle.tsn_chain.specs.Instances.{Instances}
 use Rattle.tsn_bridge.specs.Edits.{changed_state, edit_rule}
-use Rattle.tsn_bridge.specs.Together.{Follows, Stays}
+use Rattle.tsn_bridge.specs.Together.{Follows}
 
 -- what a rule allows where its least cause is o
 abbrev pub AllowsAt : Option Refusal → Rule → State → Reply → State → Type 0
@@ -72,25 +72,25 @@ was_given false (Some why) h = never (nat_lt (number_of why) 5) h
 -- ---- an edit that the book makes, or refuses, is a step
 
 -- a state by its parts
-abbrev pub seen : Ledger → ℕ → Instances → State
-seen b k t = record { book = b; sessions = k; time = t.time; frames = t.frames }
+abbrev pub seen : PairState → ℕ → State
+seen p k = record { book = p.ledger; sessions = k; time = p.time; frames = p.frames }
 
-module _ (b b' : Ledger) (k : ℕ) (t t' : Instances) (s : State) (n : ℕ) (edit : Edit) (view : ◌≡◌ {A = State} (seen b k t) s) (known : is_given s n ≡ true) where
-  book : b ≡ s.book
+module _ (p p' : PairState) (k : ℕ) (s : State) (n : ℕ) (edit : Edit) (view : ◌≡◌ {A = State} (seen p k) s) (known : is_given s n ≡ true) where
+  book : p.ledger ≡ s.book
   book = ap (λ (x : State). x.book) view
 
-  pub edit_step : (entry : ℕ) → Edits b n edit entry b' → Follows t (change_of (present b) edit) t' → Allows (edit_rule s n edit) s (Entry entry) (seen b' k t')
+  pub edit_step : (entry : ℕ) → Edits p.ledger n edit entry p'.ledger → Follows p (change_of (present p.ledger) edit) p' → Allows (edit_rule s n edit) s (Entry entry) (seen p' k)
   edit_step entry is follows =
       let number : entry ≡ length s.book.entries + 1 = is.number_is ∙ ap (λ (c : Ledger). length c.entries + 1) book in
-      let left : seen b' k t' ≡ changed_state s n (Made (change_of (present s.book) edit)) (change_of (present s.book) edit) =
+      let left : seen p' k ≡ changed_state s n (Made (change_of (present s.book) edit)) (change_of (present s.book) edit) =
       (λ i. record { book = is.after i; sessions = k; time = follows.time i; frames = follows.frames i })
       ∙ ap (λ (x : State). changed_state x n (Made (change_of (present x.book) edit)) (change_of (present x.book) edit)) view in
-      is_done (edit_rule s n edit) s (Entry entry) (seen b' k t')
+      is_done (edit_rule s n edit) s (Entry entry) (seen p' k)
       (given (is_given s n) (edit_refusal s.book edit) known ∙ ap (λ (c : Ledger). edit_refusal c edit) (sym book) ∙ is.admitted)
       (λ i. Some (Entry (sym number i), sym left i))
 
-  pub edit_refused : (why : Refusal) → IsLeastOrMemory (edit_refusal b edit) why → b' ≡ b → Stays t t' → Allows (edit_rule s n edit) s (Refused why) (seen b' k t')
-  edit_refused why least' same stays =
-      is_refused (edit_rule s n edit) s (Refused why) (seen b' k t') (edit_refusal b edit) why
+  pub edit_refused : (why : Refusal) → IsLeastOrMemory (edit_refusal p.ledger edit) why → p' ≡ p → Allows (edit_rule s n edit) s (Refused why) (seen p' k)
+  edit_refused why least' same =
+      is_refused (edit_rule s n edit) s (Refused why) (seen p' k) (edit_refusal p.ledger edit) why
       (given (is_given s n) (edit_refusal s.book edit) known ∙ ap (λ (c : Ledger). edit_refusal c edit) (sym book)) refl least' refl
-      ((λ i. record { book = same i; sessions = k; time = stays.time i; frames = stays.frames i }) ∙ view)
+      (ap (λ (q : PairState). seen q k) same ∙ view)

@@ -1,7 +1,8 @@
 -- What the runtime tells of a key, for whatever acts its runner stands, is what the key's acts in the journal say.
-use Rattle.std.proofs.Common.{◌≡◌, ◌≤◌, ◌<◌, ℕ, true, refl, sym, ◌∙◌, ap, subst, [], ◌∷◌, Option, Some, None}
-use Rattle.std.specs.Prelude.{Err, IsSome, Ok, is_some, option_map, unwrap_or}
+use Rattle.std.proofs.Common.{◌≡◌, ◌≤◌, ◌<◌, ℕ, true, refl, sym, ◌∙◌, ap, subst, [], ◌∷◌, ◌++◌, Option, Some, None}
+use Rattle.std.specs.Prelude.{Err, IsSome, MatchResult, Ok, Result, is_some, option_map, unwrap_or}
 use Rattle.std.specs.FinMap.{get}
+use Rattle.std.specs.Option.{option_or}
 use Rattle.tsn_types.specs.declared.keys.Key.{Key}
 use Rattle.tsn_types.specs.declared.keys.Key.TheVariants.{Port, Filter, Gate, Meter}
 use Rattle.tsn_types.specs.declared.records.Record.{Record}
@@ -10,17 +11,20 @@ use Rattle.tsn_types.specs.declared.refusals.Refusal.{Refusal}
 use Rattle.tsn_types.specs.declared.refusals.Refusal.TheVariants.{EmptyList, Memory, NotEnabled}
 use Rattle.tsn_types.specs.Limits.{HoldsRecord, first_cause, unless}
 use Rattle.tsn_types.specs.Refusals.{IsLeastOrMemory}
+use Rattle.tsn_types.proofs.Causes.{first_cause-append, option_or-None}
 use Rattle.tsn_edit.specs.Configuration.{IsWellKept}
 use Rattle.tsn_schedule.specs.declared.runner.Past.{Past as TooEarly}
-use Rattle.tsn_schedule.specs.Counters.{enabled_change}
+use Rattle.tsn_journal.specs.declared.entries.Act.{Act as Asked}
+use Rattle.tsn_journal.specs.declared.entries.Act.TheVariants as asked
+use Rattle.tsn_journal.specs.Entries.{no_room}
 use Rattle.tsn_chain.specs.declared.state.Counters.{Counters}
 use Rattle.tsn_chain.specs.declared.state.Counters.TheVariants as counters
 use Rattle.tsn_chain.specs.declared.state.State.{State as Shown}
-use Rattle.tsn_chain.specs.Acts.{HasList, KeyAnswers, KeyRefuses, KeyStates}
+use Rattle.tsn_chain.specs.Acts.{HasList, KeyRefuses, KeyStates}
 use Rattle.tsn_chain.specs.Counters.{KeyCounts, gate_counters}
-use Rattle.tsn_chain.specs.Instances.{HasData, HasRunner, Instances, Runners}
+use Rattle.tsn_chain.specs.Instances.{HasData, HasRunner, Instances}
 use Rattle.tsn_undo.specs.Ledger.{Ledger, present}
-use Rattle.tsn_bridge.specs.Acts.{enable_change, enabled_at, has_entry, has_list, says_enabled}
+use Rattle.tsn_bridge.specs.Acts.{act_causes, enabled_at, has_entry, has_list, says_enabled}
 use Rattle.tsn_bridge.specs.Kept.{IsTied}
 use Rattle.tsn_bridge.specs.Looking.{counted_at, last_at, shown_at}
 use Rattle.tsn_bridge.specs.Objects.{gate_at, port_at}
@@ -43,13 +47,7 @@ module _ (b : Ledger) (t : Instances) (h : IsTied b t.runners t.frames) where
   data_of (Gate m) there = (h.keys.gates m ∙ there, h.keys.frames.gates m ∙ there)
   data_of (Meter m) there = h.keys.frames.meters m ∙ there
 
-  pub change_told : (key : Key) (a : ℕ) (change : Option ℕ) → HasRunner t.runners key → KeyAnswers t.runners key (λ acts. change ≡ enabled_change a acts) (λ acts. change ≡ enabled_change a acts) → change ≡ enable_change b key a
-  change_told (Port m) a change there told = let x = held (get t.runners.ports m) there in told x.0 x.1 (port_at b m).acts (h.runs.ports m x.0 x.1)
-  change_told (Filter m) a change there told = absurd there
-  change_told (Gate m) a change there told = let x = held (get t.runners.gates m) there in told x.0 x.1 (gate_at b m).acts (h.runs.gates m x.0 x.1)
-  change_told (Meter m) a change there told = absurd there
-
-  pub shown_told : (key : Key) (v : Option Record) (at : ℕ) (x : Shown) → HasRunner t.runners key → KeyStates t.runners key v at (Ok x) → (last_at b key ≤ at) × (Some x ≡ shown_at b key v at)
+  shown_told : (key : Key) (v : Option Record) (at : ℕ) (x : Shown) → HasRunner t.runners key → KeyStates t.runners key v at (Ok x) → (last_at b key ≤ at) × (Some x ≡ shown_at b key v at)
   shown_told (Port m) (Some (records.Port p)) at x there told =
       let r = held (get t.runners.ports m) there in
       let f = told r.0 r.1 (port_at b m).acts (h.runs.ports m r.0 r.1) in
@@ -60,13 +58,18 @@ module _ (b : Ledger) (t : Instances) (h : IsTied b t.runners t.frames) where
       (f.0, ap Some f.1)
   shown_told key v at x there told = absurd told
 
-  pub past_told : (key : Key) (v : Option Record) (at : ℕ) (x : TooEarly) → HasRunner t.runners key → KeyStates t.runners key v at (Err x) → at < last_at b key
+  past_told : (key : Key) (v : Option Record) (at : ℕ) (x : TooEarly) → HasRunner t.runners key → KeyStates t.runners key v at (Err x) → at < last_at b key
   past_told (Port m) (Some (records.Port p)) at x there told = let r = held (get t.runners.ports m) there in told r.0 r.1 (port_at b m).acts (h.runs.ports m r.0 r.1)
   past_told (Gate m) (Some (records.Gate p)) at x there told = let r = held (get t.runners.gates m) there in told r.0 r.1 (gate_at b m).acts (h.runs.gates m r.0 r.1)
   past_told key v at x there told = absurd told
 
+  pub states_told : (key : Key) (v : Option Record) (at : ℕ) (result : Result Shown TooEarly) → HasRunner t.runners key → KeyStates t.runners key v at result
+      → MatchResult result (λ x. (last_at b key ≤ at) × (shown_at b key v at ≡ Some x)) (λ _. at < last_at b key)
+  states_told key v at (Ok x) there told = let f = shown_told key v at x there told in (f.0, sym f.1)
+  states_told key v at (Err x) there told = past_told key v at x there told
+
   -- an apply that finds its key enabled and its list with an entry is refused for memory alone
-  pub memory_told : (key : Key) (v : Option Record) (why : Refusal) → HasRunner t.runners key → KeyRefuses t.runners key v (Err why) → first_cause (unless (enabled_at b key) NotEnabled ∷ unless (has_entry v) EmptyList ∷ []) ≡ None → why ≡ Memory
+  memory_told : (key : Key) (v : Option Record) (why : Refusal) → HasRunner t.runners key → KeyRefuses t.runners key v (Err why) → first_cause (unless (enabled_at b key) NotEnabled ∷ unless (has_entry v) EmptyList ∷ []) ≡ None → why ≡ Memory
   memory_told (Port m) (Some (records.Port p)) why there told none =
       let r = held (get t.runners.ports m) there in
       told r.0 r.1 (port_at b m).acts (h.runs.ports m r.0 r.1) ∙ ap (λ o. unwrap_or o Memory) none
@@ -74,6 +77,11 @@ module _ (b : Ledger) (t : Instances) (h : IsTied b t.runners t.frames) where
       let r = held (get t.runners.gates m) there in
       told r.0 r.1 (gate_at b m).acts (h.runs.gates m r.0 r.1) ∙ ap (λ o. unwrap_or o Memory) none
   memory_told key v why there told none = absurd told
+
+  pub refused_told : (act : Asked) (key : Key) (why : Refusal) → HasRunner t.runners key → act ≡ asked.Apply → KeyRefuses t.runners key (get (present b) key) (Err why) → first_cause (act_causes b act key) ≡ None → why ≡ Memory
+  refused_told asked.Enable key why there is told none = absurd (cc)
+  refused_told asked.Disable key why there is told none = absurd (cc)
+  refused_told asked.Apply key why there is told none = memory_told key (get (present b) key) why there told none
 
   pub counted_told : (key : Key) (now : ℕ) (told : Counters) → HasData t.runners t.frames key → KeyCounts t.runners t.frames now key told → Some told ≡ counted_at b t.frames now key
   counted_told (Port m) now told there is = let r = held (get t.runners.ports m) there in ap Some (is r.0 r.1 (port_at b m).acts (h.runs.ports m r.0 r.1))
@@ -106,14 +114,13 @@ list_of b key kept e there =
     let r = held (get (present b) key) there in
     subst (λ (v : Option Record). HasList key v) (sym r.1) (record_of b key r.0 e (kept.within key r.0 r.1).1)
 
-runs_list : (r : Runners) (key : Key) → HasRunner r key → has_list key ≡ true
-runs_list r (Port m) h = refl
-runs_list r (Filter m) h = absurd h
-runs_list r (Gate m) h = refl
-runs_list r (Meter m) h = absurd h
+-- ---- an act is refused by what it adds, then by the journal, then for memory
 
-pub list_of_runner : (b : Ledger) (r : Runners) (key : Key) → IsWellKept b.limits (present b) → HasRunner r key → is_some (get (present b) key) ≡ true → HasList key (get (present b) key)
-list_of_runner b r key kept runs there = list_of b key kept (runs_list r key runs) there
+act_first : (b : Ledger) (act : Asked) (key : Key) → first_cause (act_causes b act key ++ no_room b.entries 1 ∷ []) ≡ option_or (first_cause (act_causes b act key)) (option_or (no_room b.entries 1) None)
+act_first b act key = first_cause-append (act_causes b act key) (no_room b.entries 1 ∷ [])
 
-pub for_memory : (o : Option Refusal) (why : Refusal) → o ≡ None → why ≡ Memory → IsLeastOrMemory o why
-for_memory o why none memory = subst (λ x. IsLeastOrMemory x why) (sym none) memory
+-- where it adds no cause, and the journal has room
+pub act_memory : (b : Ledger) (act : Asked) (key : Key) → first_cause (act_causes b act key) ≡ None → (why : Refusal) → no_room b.entries 1 ≡ None → why ≡ Memory → IsLeastOrMemory (first_cause (act_causes b act key ++ no_room b.entries 1 ∷ [])) why
+act_memory b act key none why room memory =
+    let rest = act_first b act key ∙ ap (λ o. option_or o (option_or (no_room b.entries 1) None)) none ∙ option_or-None (no_room b.entries 1) in
+    subst (λ o. IsLeastOrMemory o why) (sym (rest ∙ room)) memory

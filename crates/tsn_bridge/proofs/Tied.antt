@@ -1,17 +1,14 @@
 -- Instance data stays tied to the book by all that the book does.
-use Rattle.std.proofs.Common.{◌≡◌, ℕ, List, [], ◌∷◌, ◌++◌, refl, sym, subst, append_assoc}
+use Rattle.std.proofs.Common.{◌≡◌, ℕ, List, [], ◌∷◌, ◌++◌, Some, refl, sym, subst, append_assoc}
 use Rattle.tsn_types.specs.declared.limits.Limits.{Limits}
-use Rattle.tsn_edit.specs.declared.Edit.{Edit}
+use Rattle.tsn_edit.specs.Changes.{Fits}
 use Rattle.tsn_edit.specs.Configuration.{Configuration, IsWellKept}
-use Rattle.tsn_edit.specs.Edits.{change_of}
-use Rattle.tsn_edit.specs.Parts.{inverse}
-use Rattle.tsn_journal.specs.declared.entries.What.TheVariants.{Made}
-use Rattle.tsn_journal.specs.Entries.{Applied, redone, undone}
+use Rattle.tsn_edit.specs.Parts.{Change, inverse}
+use Rattle.tsn_journal.specs.declared.entries.What.{What}
+use Rattle.tsn_journal.specs.Entries.{Applied, applies, undone}
 use Rattle.tsn_journal.specs.Finding.{own_standing}
 use Rattle.tsn_undo.specs.Ledger.{Ledger, present}
-use Rattle.tsn_undo.specs.Redo.{Redoes}
 use Rattle.tsn_undo.specs.Soundness.{IsSound}
-use Rattle.tsn_undo.specs.Steps.{Edits, TakesBack}
 use Rattle.tsn_undo.specs.UndoAll.{TakesAllBack, with_undone}
 use Rattle.tsn_undo.proofs.UndoAll.{IsTaken, begin_taken, free_of_all, next_taken, taken_to}
 use Rattle.tsn_chain.specs.Begun.{begun_frames, begun_runners}
@@ -21,22 +18,16 @@ use Rattle.tsn_chain.proofs.FirstRows.{begun_fresh, begun_keys}
 use Rattle.tsn_schedule.specs.Stands.{StandsFor}
 use Rattle.tsn_schedule.proofs.Keeps.{fresh_stands}
 use Rattle.tsn_bridge.specs.Kept.{IsTied}
-use Rattle.tsn_bridge.specs.Together.{Follows, FollowsAll, undone_by}
+use Rattle.tsn_bridge.specs.Together.{undone_by}
 use Rattle.tsn_bridge.proofs.Following.{followed}
+use Rattle.tsn_bridge.proofs.Pushed.{FollowsEntry, FollowsUndone}
 
 -- the runtime's part of what ties it to a book
 abbrev pub Ties : Ledger → Instances → Type 0
 Ties b t = IsTied b t.runners t.frames
 
-module _ (b b' : Ledger) (s number : ℕ) (t t' : Instances) (h : Ties b t) where
-  pub tied_edit : (edit : Edit) → Edits b s edit number b' → Follows t (change_of (present b) edit) t' → Ties b' t'
-  tied_edit edit is f = rw (is.after, f.runners, f.frames) (followed b s (Made (change_of (present b) edit)) (change_of (present b) edit) refl t.runners t.frames t.time h is.fits)
-
-  pub tied_undo : {of : ℕ} (is : TakesBack b s number of b') → Follows t (inverse is.newest.change) t' → Ties b' t'
-  tied_undo is f = rw (is.after, f.runners, f.frames) (followed b s (undone is.newest) (inverse is.newest.change) refl t.runners t.frames t.time h is.fits)
-
-  pub tied_redo : {of : ℕ} (is : Redoes b s number of b') → Follows t (inverse is.redoable.undone.change) t' → Ties b' t'
-  tied_redo is f = rw (is.after, f.runners, f.frames) (followed b s (redone is.redoable.undone) (inverse is.redoable.undone.change) refl t.runners t.frames t.time h (is.redoable).fits)
+pub tied_entry : (b b' : Ledger) (s : ℕ) (w : What) (e : Change) (t t' : Instances) → applies w ≡ Some e → FollowsEntry b b' s w e t t' → Fits b.limits (present b) e → Ties b t → Ties b' t'
+tied_entry b b' s w e t t' change f fits h = rw (f.after, f.runners, f.frames) (followed b s w e change t.runners t.frames t.time h fits)
 
 -- ---- all that a session has standing is taken back
 
@@ -54,7 +45,7 @@ module _ (b : Ledger) (s now : ℕ) (r : Runners) (f : FrameData) (h : IsTied b 
   pub tied_each : IsSound b.limits b.opening b.entries → (count last : ℕ) (b' : Ledger) → TakesAllBack b s count last b' → IsTied (left (own_standing b.entries s)) (undone_by runners_after r (own_standing b.entries s)) (undone_by (frames_after now) f (own_standing b.entries s))
   tied_each sound count last b' is = tied_left [] (own_standing b.entries s) (begin_taken b.limits b.opening b.entries s sound (free_of_all b s is.free).none)
 
-pub tied_all : (b b' : Ledger) (s count last : ℕ) (t t' : Instances) → Ties b t → IsSound b.limits b.opening b.entries → TakesAllBack b s count last b' → FollowsAll t (own_standing b.entries s) t' → Ties b' t'
+pub tied_all : (b b' : Ledger) (s count last : ℕ) (t t' : Instances) → Ties b t → IsSound b.limits b.opening b.entries → TakesAllBack b s count last b' → FollowsUndone (own_standing b.entries s) t t' → Ties b' t'
 tied_all b b' s count last t t' h sound is f = rw (is.after, f.runners, f.frames) (tied_each b s t.time t.runners t.frames h sound count last b' is)
 
 -- ---- at the beginning nothing was done

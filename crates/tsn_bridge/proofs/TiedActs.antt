@@ -33,6 +33,7 @@ use Rattle.tsn_chain.specs.Acts.{KeyActs, KeyApplies, RowActs}
 use Rattle.tsn_chain.specs.Instances.{FrameData, HasKeys, Runners}
 use Rattle.tsn_chain.proofs.Keys.{keys_act}
 use Rattle.tsn_chain.proofs.Swapped.{one_number}
+use Rattle.tsn_bridge.specs.Doing.{Does}
 use Rattle.tsn_bridge.specs.Kept.{IsTied}
 use Rattle.tsn_bridge.specs.Objects.{Object, after_entry, after_part, gate_at, gate_schedule, object, port_at, port_schedule, with_asked}
 use Rattle.tsn_bridge.proofs.Following.{object_push}
@@ -125,12 +126,6 @@ module _ (b : Ledger) (r r' : Runners) (f : FrameData) (s : ℕ) (act : Asked) (
     keys = subst (λ c. HasKeys r' f c) same_map (keys_act r r' f (present b) key p g h.keys is);
   }
 
-pub tied_enable : (b b' : Ledger) (r r' : Runners) (f f' : FrameData) (s : ℕ) (key : Key) (a : ℕ) → b' ≡ enter b s (Acted asked.Enable key a) → f' ≡ f → KeyActs r key (Enable a) (Enable a) r' → IsTied b r f → IsTied b' r' f'
-tied_enable b b' r r' f f' s key a after same is h = rw (after, same) (tied_act b r r' f s asked.Enable key a h (Enable a) (Enable a) is (λ n e. refl) (λ n e. refl))
-
-pub tied_disable : (b b' : Ledger) (r r' : Runners) (f f' : FrameData) (s : ℕ) (key : Key) (a : ℕ) → b' ≡ enter b s (Acted asked.Disable key a) → f' ≡ f → KeyActs r key (Disable a) (Disable a) r' → IsTied b r f → IsTied b' r' f'
-tied_disable b b' r r' f f' s key a after same is h = rw (after, same) (tied_act b r r' f s asked.Disable key a h (Disable a) (Disable a) is (λ n e. refl) (λ n e. refl))
-
 -- an apply takes the schedule of the key's present record
 applied : (key : Key) (v : Option Record) (b : Ledger) (r r' : Runners) (f : FrameData) (s a : ℕ) → IsTied b r f → get (present b) key ≡ v → KeyApplies r key v a r' → IsTied (enter b s (Acted asked.Apply key a)) r' f
 applied (Port m) (Some (records.Port q)) b r r' f s a h at is =
@@ -143,5 +138,10 @@ applied (Gate m) (Some (records.Gate q)) b r r' f s a h at is =
     (λ n e. ap (λ (v : Option Record). with_asked asked.Apply (gate_schedule v) a (gate_at b n).acts) (value_is gate_schedule (Gate n) b ∙ ap (get (present b)) (one_key (Gate n) (Gate m) e) ∙ at))
 applied key v b r r' f s a h at is = absurd is
 
-pub tied_apply : (b b' : Ledger) (r r' : Runners) (f f' : FrameData) (s : ℕ) (key : Key) (v : Option Record) (a : ℕ) → b' ≡ enter b s (Acted asked.Apply key a) → f' ≡ f → get (present b) key ≡ v → KeyApplies r key v a r' → IsTied b r f → IsTied b' r' f'
-tied_apply b b' r r' f f' s key v a after same at is h = rw (after, same) (applied key v b r r' f s a h at is)
+done : (act : Asked) (key : Key) (v : Option Record) (b : Ledger) (r r' : Runners) (f : FrameData) (s a : ℕ) → IsTied b r f → get (present b) key ≡ v → Does r act key v a r' → IsTied (enter b s (Acted act key a)) r' f
+done asked.Enable key v b r r' f s a h at is = tied_act b r r' f s asked.Enable key a h (Enable a) (Enable a) is (λ n e. refl) (λ n e. refl)
+done asked.Disable key v b r r' f s a h at is = tied_act b r r' f s asked.Disable key a h (Disable a) (Disable a) is (λ n e. refl) (λ n e. refl)
+done asked.Apply key v b r r' f s a h at is = applied key v b r r' f s a h at is
+
+pub tied_done : (b b' : Ledger) (r r' : Runners) (f f' : FrameData) (s : ℕ) (act : Asked) (key : Key) (v : Option Record) (a : ℕ) → b' ≡ enter b s (Acted act key a) → f' ≡ f → get (present b) key ≡ v → Does r act key v a r' → IsTied b r f → IsTied b' r' f'
+tied_done b b' r r' f f' s act key v a after same at is h = rw (after, same) (done act key v b r r' f s a h at is)

@@ -74,20 +74,6 @@ enable_change b (Filter m) a = None
 enable_change b (Gate m) a = enabled_change a (gate_at b m).acts
 enable_change b (Meter m) a = None
 
-abbrev pub enable_rule : State → ℕ → Key → ℕ → Rule
-enable_rule s n k now = record {
-  causes = list_causes s n k (no_room s.book.entries 1 ∷ []);
-  done = Some (acted_reply s (enable_change s.book k (instant s now)) now, acted_state s n asked.Enable k now);
-  takes_memory = true;
-}
-
-abbrev pub disable_rule : State → ℕ → Key → ℕ → Rule
-disable_rule s n k now = record {
-  causes = list_causes s n k (no_room s.book.entries 1 ∷ []);
-  done = Some (acted_reply s None now, acted_state s n asked.Disable k now);
-  takes_memory = true;
-}
-
 -- a record whose list has an entry
 abbrev pub has_entry : Option Record → Bool
 has_entry (Some (records.Port r)) = has_entries r.admin.list
@@ -104,9 +90,31 @@ apply_change v a = None
 abbrev pub apply_causes : Ledger → Key → List (Option Refusal)
 apply_causes b k = unless (enabled_at b k) NotEnabled ∷ unless (has_entry (get (present b) k)) EmptyList ∷ []
 
-abbrev pub apply_rule : State → ℕ → Key → ℕ → Rule
-apply_rule s n k now = record {
-  causes = list_causes s n k (apply_causes s.book k ++ no_room s.book.entries 1 ∷ []);
-  done = Some (acted_reply s (apply_change (get (present s.book) k) (instant s now)) now, acted_state s n asked.Apply k now);
+-- what an act of a key adds to its causes, before the journal's one
+abbrev pub act_causes : Ledger → Asked → Key → List (Option Refusal)
+act_causes b asked.Enable k = []
+act_causes b asked.Disable k = []
+act_causes b asked.Apply k = apply_causes b k
+
+-- the change time that an act answers; a disable has none
+abbrev pub act_change : Ledger → Asked → Key → ℕ → Option ℕ
+act_change b asked.Enable k a = enable_change b k a
+act_change b asked.Disable k a = None
+act_change b asked.Apply k a = apply_change (get (present b) k) a
+
+-- an act makes one entry, and the instant that counts is the bridge time
+abbrev pub act_rule : State → ℕ → Asked → Key → ℕ → Rule
+act_rule s n act k now = record {
+  causes = list_causes s n k (act_causes s.book act k ++ no_room s.book.entries 1 ∷ []);
+  done = Some (acted_reply s (act_change s.book act k (instant s now)) now, acted_state s n act k now);
   takes_memory = true;
 }
+
+abbrev pub enable_rule : State → ℕ → Key → ℕ → Rule
+enable_rule s n k now = act_rule s n asked.Enable k now
+
+abbrev pub disable_rule : State → ℕ → Key → ℕ → Rule
+disable_rule s n k now = act_rule s n asked.Disable k now
+
+abbrev pub apply_rule : State → ℕ → Key → ℕ → Rule
+apply_rule s n k now = act_rule s n asked.Apply k now

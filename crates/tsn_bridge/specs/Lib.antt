@@ -5,11 +5,13 @@ pub mod Examples
 pub mod Frames
 pub mod Headline
 pub mod Histories
+pub mod Doing
 pub mod Kept
 pub mod Later
 pub mod Looking
 pub mod Machine
 pub mod Objects
+pub mod Pair
 pub mod Quiet
 pub mod Reads
 pub mod Rule

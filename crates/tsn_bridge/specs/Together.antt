@@ -4,8 +4,8 @@ use Rattle.tsn_edit.specs.Parts.{Change, inverse}
 use Rattle.tsn_journal.specs.declared.entries.Entry.{Entry}
 use Rattle.tsn_journal.specs.Entries.{Applied}
 use Rattle.tsn_journal.specs.Finding.{change_at}
-use Rattle.tsn_chain.specs.Instances.{Instances}
-use Rattle.tsn_chain.specs.Following.{frames_after, runners_after}
+use Rattle.tsn_chain.specs.Following.{frames_after}
+use Rattle.tsn_bridge.specs.Pair.{PairState}
 
 -- What was kept, after all of xs were taken back, the last of them first; a step makes of it what a change leaves.
 abbrev pub undone_by : {A : Type 0} → (A → Change → A) → A → List Applied → A
@@ -22,20 +22,12 @@ abbrev pub followed : {A : Type 0} → (A → Change → A) → List Entry → A
 followed step es a n zero = a
 followed step es a n (suc k) = followed_by step (followed step es a n k) (change_at es (n + k + 1))
 
--- the runtime followed a change
-pub record Follows (old : Instances) (e : Change) (new : Instances) : Type 0 where
-  pub runners : new.runners ≡ runners_after old.runners e
+-- what the filter chain keeps followed a change, and the bridge time stays
+pub record Follows (old : PairState) (e : Change) (new : PairState) : Type 0 where
   pub frames : new.frames ≡ frames_after old.time old.frames e
   pub time : new.time ≡ old.time
 
--- the runtime followed the taking back of all of xs, the last of them first
-pub record FollowsAll (old : Instances) (xs : List Applied) (new : Instances) : Type 0 where
-  pub runners : new.runners ≡ undone_by runners_after old.runners xs
+-- it followed the taking back of all of xs, the last of them first
+pub record FollowsAll (old : PairState) (xs : List Applied) (new : PairState) : Type 0 where
   pub frames : new.frames ≡ undone_by (frames_after old.time) old.frames xs
-  pub time : new.time ≡ old.time
-
--- nothing but its room changed
-pub record Stays (old new : Instances) : Type 0 where
-  pub runners : new.runners ≡ old.runners
-  pub frames : new.frames ≡ old.frames
   pub time : new.time ≡ old.time

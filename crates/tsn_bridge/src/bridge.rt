@@ -1,7 +1,7 @@
-//! The bridge: its book, its runtime and the sessions that it has given out, stepped by one command at a time.
+//! The bridge: its book and its runtime, and the sessions that it has given out, stepped by one command at a time.
 //!
 //! A step is a step of the machine that `specs/Machine.antt` defines, by one rule a command. Contracts see a bridge as
-//! the machine's state. That the runtime stands for what the journal has is the bridge's type.
+//! the machine's state. The book and the runtime are one pair, whose type says that they are tied.
 //! A refused command changes nothing; of several causes the one of the least number is answered, and want of memory
 //! only where no other cause holds.
 ghost use Rattle.std.specs.Prelude.{◌≡◌, ◌⊎◌, ◌∷◌, [], IfOk, IfErr, OnOk, Some, None};
@@ -14,7 +14,7 @@ ghost use Rattle.tsn_journal.specs.Entries.{changes, standing};
 ghost use Rattle.tsn_undo.specs.Ledger.{base_of, present};
 ghost use Rattle.tsn_undo.specs.Soundness.{IsSound};
 ghost use Rattle.tsn_types.specs.Limits.{first_cause};
-ghost use Rattle.tsn_bridge.specs.Acts.{apply_rule, disable_rule, enable_rule, key_causes, list_causes};
+ghost use Rattle.tsn_bridge.specs.Acts.{act_rule, key_causes, list_causes};
 ghost use Rattle.tsn_bridge.specs.Beginning.{begun, standard_limits};
 ghost use Rattle.tsn_bridge.specs.Edits.{AllowsRedo, edit_rule, undo_all_rule, undo_rule};
 ghost use Rattle.tsn_bridge.specs.Frames.{frame_rule};
@@ -26,22 +26,21 @@ ghost use Rattle.tsn_bridge.specs.Rule.{Allows, is_given};
 ghost use Rattle.tsn_bridge.specs.Sessions.{hello_rule};
 
 use crate::command::Command;
+use crate::pair::Pair;
 use crate::reply::Reply;
-use crate::{acting, together};
 use std::alloc::Global;
 use std::marker::Model;
 use tsn_chain::frame::Frame;
-use tsn_chain::runtime::{Runtime, police};
 use tsn_config::Config;
 use tsn_config::records::Records;
 use tsn_edit::Edit;
+use tsn_journal::entries::Act;
 use tsn_journal::journal::Journal;
 use tsn_schedule::runner::Past;
 use tsn_types::keys::{Key, Kind};
 use tsn_types::limits::Limits;
 use tsn_types::numbers::Instant;
 use tsn_types::refusals::{Field, Refusal};
-use tsn_undo::book::Book;
 
 /// How many sessions a bridge gives out at most.
 pub const MOST_SESSIONS: u32 = 65_535;
@@ -73,22 +72,18 @@ impl Setup {
 #[derive(Drop)]
 pub struct Bridge {
     alloc: Global,
-    book: Book,
-    runtime: Runtime,
+    pair: Pair,
     sessions: u32,
 }
 
 impl Model for Bridge {
-    ghost use Rattle.tsn_bridge.specs.Kept.{IsTied};
     ghost use Rattle.tsn_bridge.specs.State.{State, state_code};
 
     ghost Value = { State };
 
     ghost coded = { state_code };
 
-    ghost view = { λ a. record { book = a.book.ledger; sessions = a.sessions; time = a.runtime.time; frames = a.runtime.frames } };
-
-    ghost invariant = { λ a. IsTied a.book.ledger a.runtime.runners a.runtime.frames };
+    ghost view = { λ a. record { book = a.pair.ledger; sessions = a.sessions; time = a.pair.time; frames = a.pair.frames } };
 }
 
 impl Bridge {
@@ -106,11 +101,10 @@ impl Bridge {
             Ok(config) => config,
             Err(why) => return Err(why),
         };
-        let runtime = Runtime::begin(alloc, &config)?;
+        let pair = Pair::begin(alloc, config)?;
         Ok(Bridge {
             alloc,
-            book: Book::new(alloc, config),
-            runtime,
+            pair,
             sessions: 0,
         })
     }
@@ -128,9 +122,9 @@ impl Bridge {
             Command::Undo => self.undo(session),
             Command::UndoAll => self.undo_all(session),
             Command::Redo => self.redo(session),
-            Command::Enable { key, now } => self.enable(session, &key, now),
-            Command::Disable { key, now } => self.disable(session, &key, now),
-            Command::Apply { key, now } => self.apply(session, &key, now),
+            Command::Enable { key, now } => self.act(session, Act::Enable, &key, now),
+            Command::Disable { key, now } => self.act(session, Act::Disable, &key, now),
+            Command::Apply { key, now } => self.act(session, Act::Apply, &key, now),
             Command::Frame { frame, now } => self.frame(session, frame, now),
             Command::States { key, at } => self.states(session, &key, at),
             Command::Counters { key } => self.counters(session, &key),
@@ -151,7 +145,7 @@ impl Bridge {
         ensures good { IsGood self.now.book.limits (base_of self.now.book) (changes (standing self.now.book.entries)) }
         ensures stands { result.now.map ≡ run (base_of self.now.book) (changes (standing self.now.book.entries)) }
     {
-        self.book.config()
+        self.pair.book().config()
     }
 
     /// The journal of what the sessions did.
@@ -159,7 +153,7 @@ impl Bridge {
         ensures entries { result.now.entries ≡ self.now.book.entries }
         ensures sound { IsSound self.now.book.limits self.now.book.opening self.now.book.entries }
     {
-        self.book.journal()
+        self.pair.book().journal()
     }
 
     /// Gives out the next session number. It takes no memory.
@@ -186,9 +180,9 @@ impl Bridge {
         ensures { Allows (edit_rule self.old session edit) self.old result self.new }
     {
         if !self.is_given(session) {
-            return Reply::Refused(stranger(&self.book.refuse_edit(&edit)));
+            return Reply::Refused(stranger(&self.pair.book().refuse_edit(&edit)));
         }
-        match together::edit(&mut self.book, &mut self.runtime, session, edit) {
+        match self.pair.edit(session, edit) {
             Ok(entry) => Reply::Entry { entry },
             Err(why) => Reply::Refused(why),
         }
@@ -198,9 +192,9 @@ impl Bridge {
         ensures { Allows (undo_rule self.old session) self.old result self.new }
     {
         if !self.is_given(session) {
-            return Reply::Refused(stranger(&self.book.refuse_undo(session)));
+            return Reply::Refused(stranger(&self.pair.book().refuse_undo(session)));
         }
-        match together::undo(&mut self.book, &mut self.runtime, session) {
+        match self.pair.undo(session) {
             Ok((entry, of)) => Reply::EntryOf { entry, of },
             Err(why) => Reply::Refused(why),
         }
@@ -210,9 +204,9 @@ impl Bridge {
         ensures { Allows (undo_all_rule self.old session) self.old result self.new }
     {
         if !self.is_given(session) {
-            return Reply::Refused(stranger(&self.book.refuse_undo_all(session)));
+            return Reply::Refused(stranger(&self.pair.book().refuse_undo_all(session)));
         }
-        match together::undo_all(&mut self.book, &mut self.runtime, session) {
+        match self.pair.undo_all(session) {
             Ok((count, entry)) => Reply::TakenBack { count, entry },
             Err(why) => Reply::Refused(why),
         }
@@ -222,56 +216,21 @@ impl Bridge {
         ensures { AllowsRedo self.old session result self.new }
     {
         if !self.is_given(session) {
-            return Reply::Refused(stranger(&self.book.refuse_redo(session)));
+            return Reply::Refused(stranger(&self.pair.book().refuse_redo(session)));
         }
-        match together::redo(&mut self.book, &mut self.runtime, session) {
+        match self.pair.redo(session) {
             Ok((entry, undone)) => Reply::EntryOf { entry, of: undone },
             Err(why) => Reply::Refused(why),
         }
     }
 
-    fn enable(&mut self, session: u32, key: &Key, now: Instant) -> Reply
-        ensures { Allows (enable_rule self.old session key.now now) self.old result self.new }
+    fn act(&mut self, session: u32, act: Act, key: &Key, now: Instant) -> Reply
+        ensures { Allows (act_rule self.old session act key.now now) self.old result self.new }
     {
         if let Some(why) = self.refuse_list(session, key) {
             return Reply::Refused(why);
         }
-        match acting::enable(&mut self.book, &mut self.runtime, session, key, now) {
-            Ok(done) => Reply::Acted {
-                change: done.change,
-                entry: done.entry,
-                now: done.now,
-            },
-            Err(why) => Reply::Refused(why),
-        }
-    }
-
-    fn disable(&mut self, session: u32, key: &Key, now: Instant) -> Reply
-        ensures { Allows (disable_rule self.old session key.now now) self.old result self.new }
-    {
-        if let Some(why) = self.refuse_list(session, key) {
-            return Reply::Refused(why);
-        }
-        match acting::disable(&mut self.book, &mut self.runtime, session, key, now) {
-            Ok(done) => Reply::Acted {
-                change: done.change,
-                entry: done.entry,
-                now: done.now,
-            },
-            Err(why) => Reply::Refused(why),
-        }
-    }
-
-    fn apply(&mut self, session: u32, key: &Key, now: Instant) -> Reply
-        ensures { Allows (apply_rule self.old session key.now now) self.old result self.new }
-    {
-        if let Some(why) = self.refuse_list(session, key) {
-            return Reply::Refused(why);
-        }
-        if let Some(why) = acting::refuse_apply(&self.book, &self.runtime, key) {
-            return Reply::Refused(why);
-        }
-        match acting::apply(&mut self.book, &mut self.runtime, session, key, now) {
+        match self.pair.act(session, act, key, now) {
             Ok(done) => Reply::Acted {
                 change: done.change,
                 entry: done.entry,
@@ -288,7 +247,7 @@ impl Bridge {
         if !self.is_given(session) {
             return Reply::Refused(Refusal::NoSession);
         }
-        Reply::Framed(police(self.book.config(), &mut self.runtime, frame, now))
+        Reply::Framed(self.pair.frame(frame, now))
     }
 
     fn states(&self, session: u32, key: &Key, at: Instant) -> Reply
@@ -297,7 +256,7 @@ impl Bridge {
         if let Some(why) = self.refuse_list(session, key) {
             return Reply::Refused(why);
         }
-        match self.runtime.states_at(self.book.config(), *key, at) {
+        match self.pair.states_at(key, at) {
             Ok(state) => Reply::States(state),
             Err(Past) => Reply::Refused(Refusal::Past),
         }
@@ -309,7 +268,7 @@ impl Bridge {
         if let Some(why) = self.refuse_key(session, key) {
             return Reply::Refused(why);
         }
-        Reply::Counters(self.runtime.counters(*key))
+        Reply::Counters(self.pair.counters(key))
     }
 
     /// Why a command on a list is refused, but for what the command adds: its key has no list, or as `refuse_key` says.

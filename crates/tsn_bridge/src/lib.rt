@@ -9,5 +9,5 @@ mod acting;
 pub mod bridge;
 pub mod command;
 pub mod laws;
+mod pair;
 pub mod reply;
-mod together;

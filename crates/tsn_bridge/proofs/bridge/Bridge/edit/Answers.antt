@@ -9,6 +9,6 @@ returns c =
     let i = c.self.inside in
     let known : is_given c.args.self.now c.args.session ≡ true = sym c.if-not-is_given.ensures in
     elim c.match-edit-4.branch [
-      | in-Ok w ↦ rw w.result-is (edit_step i.book.ledger c.edit.new.book.ledger i.sessions i.runtime c.edit.new.runtime c.args.self.now c.args.session c.args.edit c.self.view_is known w.in-Ok.entry w.in-Ok.ensures.made w.in-Ok.ensures.follows)
-      | in-Err w ↦ rw w.result-is (edit_refused i.book.ledger c.edit.new.book.ledger i.sessions i.runtime c.edit.new.runtime c.args.self.now c.args.session c.args.edit c.self.view_is known w.in-Err.why w.in-Err.ensures.refused w.in-Err.ensures.unchanged w.in-Err.ensures.stays)
+      | in-Ok w ↦ rw w.result-is (edit_step i.pair c.edit.new.self i.sessions c.args.self.now c.args.session c.args.edit c.self.view_is known w.in-Ok.entry w.in-Ok.ensures.made w.in-Ok.ensures.follows)
+      | in-Err w ↦ rw w.result-is (edit_refused i.pair c.edit.new.self i.sessions c.args.self.now c.args.session c.args.edit c.self.view_is known w.in-Err.why w.in-Err.ensures.refused w.in-Err.ensures.unchanged)
     ]

@@ -1,7 +1,7 @@
 use Rattle.std.proofs.Common.{◌≡◌, ◌+◌, ◌≤◌}
 use Rattle.tsn_chain.specs.Following.{frames_after, runners_after}
 use Rattle.tsn_bridge.specs.Together.{followed}
-use Rattle.tsn_bridge.proofs.together.follow_each.Given as goal
+use Rattle.tsn_bridge.proofs.pair.follow_each.Given as goal
 
 -- the changes so far are followed, and there is room for the others
 abbrev pub invariant-loop-place : goal.invariant-loop-place
