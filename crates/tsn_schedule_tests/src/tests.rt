@@ -1,17 +1,18 @@
-//! Worked examples as calls of the runner, and the largest list.
+//! Worked examples as calls of the runner, the entry at an offset, and the largest list. What holds at the edges of lists is
+//! seen through the program too (`examples/tables/lists-edges.txt`).
 ghost use Rattle.std.specs.Prelude.{◌≡◌, ◌<◌, ◌≤◌, ◌^◌, IfOk};
 
 use crate::comparing::same;
-use std::alloc::{AllocError, Global};
+use std::alloc::Global;
 use std::process::Abort;
 use std::test::Fail;
-use tsn_schedule::calendar::{change_time, found_at, state_at};
+use tsn_schedule::calendar::{found_at, state_at};
 use tsn_schedule::planned::Planned;
 use tsn_schedule::runner::{Past, Runner};
 use tsn_schedule::timed::Timed;
 use tsn_types::lists::ControlList;
-use tsn_types::numbers::{Cycle, Extension, Instant, Interval, Octets, Priority};
-use tsn_types::records::{GateEntry, PortEntry, Schedule};
+use tsn_types::numbers::{Cycle, Extension, Instant, Interval};
+use tsn_types::records::{PortEntry, Schedule};
 use tsn_types::refusals::Refusal;
 
 fn instant(number: u64) -> Instant
@@ -53,17 +54,18 @@ const ONE_TWO: &'static [(u8, u64)] = &[(1, 300), (128, 700)];
 
 const OPEN_SHUT: &'static [(u8, u64)] = &[(255, 500), (0, 500)];
 
+const OPEN_SHUT_LONGER: &'static [(u8, u64)] = &[(255, 1000), (0, 1000)];
+
 const ALL_OPEN: &'static [(u8, u64)] = &[(255, 1000)];
 
 /// An apply is accepted, with this change time.
-fn applies<E: Timed + Clone + Drop>(
+fn applies(
     rt: &impl Abort,
-    runner: &mut Runner<E>,
-    schedule: &Schedule<E>,
+    runner: &mut Runner<PortEntry>,
+    schedule: &Schedule<PortEntry>,
     now: Instant,
     change: u64,
 )
-    requires clones { (x y : E) → E.is_clone x y → y ≡ x }
     requires last { runner.old.last ≤ now }
     ensures last { runner.new.last ≤ now }
 {
@@ -118,24 +120,58 @@ fn changeover_ahead(rt: HostRuntime) -> Result<(), Fail> {
     Ok(())
 }
 
+/// An enabled runner whose list is in force from instant 0 on.
+fn from_0(
+    rt: &impl Abort,
+    alloc: Global,
+    rows: &[(u8, u64)],
+    cycle: u64,
+) -> Result<Runner<PortEntry>, Fail>
+    requires { (1 ≤ cycle) × (cycle ≤ 10 ^ 12) }
+{
+    let schedule = plan(alloc, rows, cycle, 0, 0)?;
+    let mut runner = Runner::new();
+    same(rt, &runner.enable(instant(0)), &None);
+    applies(rt, &mut runner, &schedule, instant(0), 0);
+    Ok(runner)
+}
+
 /// The list starts again with each cycle, whether its gates were shut before then or not yet.
 fn starts_again(rt: &impl Abort, alloc: Global, cycle: u64, before: u64) -> Result<(), Fail>
     requires cycle { (1 ≤ cycle) × (cycle ≤ 10 ^ 12) }
     requires before { before ≤ 2 ^ 62 }
 {
-    let schedule = plan(alloc, ONE_TWO, cycle, 0, 0)?;
-    let mut runner = Runner::new();
-    same(rt, &runner.enable(instant(0)), &None);
-    applies(rt, &mut runner, &schedule, instant(0), 0);
+    let runner = from_0(rt, alloc, ONE_TWO, cycle)?;
     shows(rt, &runner, before, Ok(Some(128)));
     shows(rt, &runner, cycle, Ok(Some(1)));
+    Ok(())
+}
+
+/// The gates of an instant, and when they began.
+fn begins(rt: &impl Abort, runner: &Runner<PortEntry>, t: u64, gates: u8, begin: u64)
+    requires { t ≤ 2 ^ 62 }
+{
+    shows(rt, runner, t, Ok(Some(gates)));
+    same(rt, &runner.begin_at(instant(t)), &Ok(Some(begin)));
+}
+
+/// Entries that are open and shut begin at instants of their own, and the shortest cycle at each instant, up to the
+/// greatest.
+fn begins_with_each_entry(rt: &impl Abort, alloc: Global) -> Result<(), Fail> {
+    let runner = from_0(rt, alloc, OPEN_SHUT_LONGER, 2000)?;
+    begins(rt, &runner, 20, 255, 0);
+    begins(rt, &runner, 1500, 0, 1000);
+    begins(rt, &runner, 2010, 255, 2000);
+    let runner = from_0(rt, alloc, ONE_TWO, 1)?;
+    begins(rt, &runner, 1 << 62, 1, 1 << 62);
     Ok(())
 }
 
 #[test]
 fn short_and_long_cycles(rt: HostRuntime) -> Result<(), Fail> {
     starts_again(&rt, rt.alloc(), 1200, 1100)?;
-    starts_again(&rt, rt.alloc(), 800, 799)
+    starts_again(&rt, rt.alloc(), 800, 799)?;
+    begins_with_each_entry(&rt, rt.alloc())
 }
 
 /// A second list is applied to come into force at 5150, and then a third instead, at 7000. Until the second the first
@@ -168,32 +204,6 @@ fn cycle_extension(rt: HostRuntime) -> Result<(), Fail> {
         let mut runner = ahead(&rt, rt.alloc(), extension)?;
         is_extended(&rt, &mut runner, &second, &third, last);
     }
-    Ok(())
-}
-
-/// A third list is applied while a start is held back for the second.
-fn stays_held_back(
-    rt: &impl Abort,
-    runner: &mut Runner<PortEntry>,
-    second: &Schedule<PortEntry>,
-    third: &Schedule<PortEntry>,
-)
-    requires { runner.old.last ≤ 2500 }
-{
-    applies(rt, runner, second, instant(3500), 5150);
-    applies(rt, runner, third, instant(5100), 7000);
-    shows(rt, runner, 5120, Ok(Some(128)));
-    same(rt, &runner.begin_at(instant(5120)), &Ok(Some(4300)));
-    shows(rt, runner, 5999, Ok(Some(128)));
-    shows(rt, runner, 6000, Ok(Some(1)));
-}
-
-#[test]
-fn start_held_back_stays_held_back(rt: HostRuntime) -> Result<(), Fail> {
-    let second = plan(rt.alloc(), ALL_OPEN, 1000, 0, 5150)?;
-    let third = plan(rt.alloc(), ONE_TWO, 1000, 0, 7000)?;
-    let mut runner = ahead(&rt, rt.alloc(), 200)?;
-    stays_held_back(&rt, &mut runner, &second, &third);
     Ok(())
 }
 
@@ -283,75 +293,7 @@ fn disable_and_enable(rt: HostRuntime) -> Result<(), Fail> {
     Ok(())
 }
 
-/// The entry at an instant is this one.
-fn is_at(rt: &impl Abort, runner: &Runner<GateEntry>, t: u64, wanted: &GateEntry)
-    requires { t ≤ 2 ^ 62 }
-{
-    let found = runner.states_at(instant(t));
-    assert!(rt; matches!(found, Ok(Some(entry)) if entry == wanted));
-}
-
-/// A gate's list, in force from instant 0 on.
-fn plays(rt: &impl Abort, runner: &mut Runner<GateEntry>, schedule: &Schedule<GateEntry>)
-    requires { runner.old.last ≤ 0 }
-{
-    same(rt, &runner.enable(instant(0)), &None);
-    applies(rt, runner, schedule, instant(0), 0);
-    same(rt, &runner.begin_at(instant(20)), &Ok(Some(0)));
-    same(rt, &runner.begin_at(instant(1500)), &Ok(Some(1000)));
-    same(rt, &runner.begin_at(instant(2010)), &Ok(Some(2000)));
-    same(rt, &runner.errors(), &0);
-    same(rt, &runner.change(), &Some(0));
-    assert!(rt; !runner.is_pending(instant(0)));
-}
-
-fn priority_5() -> Option<Priority> {
-    Some(Priority::new(5).unwrap())
-}
-
-fn octets_150() -> Option<Octets> {
-    Some(Octets::new(150).unwrap())
-}
-
-/// An entry of a microsecond.
-fn gate_entry(is_open: bool, ipv: Option<Priority>, octets: Option<Octets>) -> GateEntry {
-    GateEntry {
-        is_open,
-        ipv,
-        interval: Interval::new(1000).unwrap(),
-        octets,
-    }
-}
-
-/// A gate's list, open with these members and then shut, with a cycle of two microseconds.
-fn gate_plan(
-    alloc: Global,
-    ipv: Option<Priority>,
-    octets: Option<Octets>,
-) -> Result<Schedule<GateEntry>, AllocError> {
-    let mut list = ControlList::new(alloc);
-    list.push(gate_entry(true, ipv, octets))?;
-    list.push(gate_entry(false, None, None))?;
-    Ok(Schedule {
-        list,
-        cycle: Cycle::new(2000).unwrap(),
-        extension: Extension::new(0).unwrap(),
-        base: instant(0),
-    })
-}
-
-#[test]
-fn gate_octets(rt: HostRuntime) -> Result<(), Fail> {
-    let schedule = gate_plan(rt.alloc(), priority_5(), octets_150())?;
-    let mut runner = Runner::new();
-    plays(&rt, &mut runner, &schedule);
-    let open = gate_entry(true, priority_5(), octets_150());
-    is_at(&rt, &runner, 500, &open);
-    let shut = gate_entry(false, None, None);
-    is_at(&rt, &runner, 1500, &shut);
-    Ok(())
-}
-
+/// The last entry is held on to offsets that no cycle has.
 #[test]
 fn one_list_by_its_offsets(rt: HostRuntime) -> Result<(), Fail> {
     let schedule = plan(rt.alloc(), ONE_TWO, 1000, 0, 0)?;
@@ -378,44 +320,6 @@ fn one_list_by_its_offsets(rt: HostRuntime) -> Result<(), Fail> {
             &Some((gates, earlier)),
         );
     }
-    Ok(())
-}
-
-/// A change time may lie after the greatest instant.
-#[test]
-fn latest_change_time(rt: HostRuntime) {
-    let greatest = 1 << 62;
-    let cycle = Cycle::new(1_000_000_000_000).unwrap();
-    let late = change_time(instant(greatest - 1), cycle, instant(greatest));
-    same(&rt, &late, &(greatest - 1 + 1_000_000_000_000));
-}
-
-/// The shortest cycle up to the greatest instant, and then an apply of the longest one.
-fn reaches_the_greatest_instant(
-    rt: &impl Abort,
-    runner: &mut Runner<PortEntry>,
-    shortest: &Schedule<PortEntry>,
-    next: &Schedule<PortEntry>,
-)
-    requires { runner.old.last ≤ 0 }
-{
-    let greatest = 1 << 62;
-    same(rt, &runner.enable(instant(0)), &None);
-    applies(rt, runner, shortest, instant(0), 0);
-    shows(rt, runner, greatest, Ok(Some(1)));
-    same(rt, &runner.begin_at(instant(greatest)), &Ok(Some(greatest)));
-    let late = greatest - 1 + 1_000_000_000_000;
-    applies(rt, runner, next, instant(greatest), late);
-    shows(rt, runner, greatest, Ok(Some(1)));
-}
-
-/// No cycle is walked: the greatest instants answer at once.
-#[test]
-fn greatest_instants(rt: HostRuntime) -> Result<(), Fail> {
-    let shortest = plan(rt.alloc(), ONE_TWO, 1, 0, 0)?;
-    let next = plan(rt.alloc(), ALL_OPEN, 1_000_000_000_000, 0, (1 << 62) - 1)?;
-    let mut runner = Runner::new();
-    reaches_the_greatest_instant(&rt, &mut runner, &shortest, &next);
     Ok(())
 }
 

@@ -1,4 +1,5 @@
-//! How input is cut into lines, in whatever pieces it comes, and how a run ends where a call fails.
+//! How input is cut into lines, in whatever pieces it comes, and how a run ends where a call fails. How lines are cut and
+//! answered is seen through the program too (`examples/tables`).
 //! One function makes a run and owns its reader and its writer, and another goes over the cases: so a proof meets the
 //! ends of the owned at few places.
 ghost use Rattle.std.specs.Prelude.{◌≤◌};
@@ -9,6 +10,7 @@ mod worked;
 
 use crate::comparing::same;
 use fakes::{Lengths, LineFeeds};
+use scripts::end_at_the_bound;
 use std::alloc::{AllocError, Global};
 use std::process::Abort;
 use std::test::Fail;
@@ -36,58 +38,38 @@ fn run<R: ByteIn, W: ByteOut>(
     (end, lengths.answered)
 }
 
+/// So many times x and then the rest are read in pieces of so many bytes, and answered so.
 fn cut_in_pieces(
-    rt: &impl Abort,
-    alloc: Global,
-    input: &[u8],
-    want: &[u8],
-    most: usize,
-) -> Result<(), Fail>
-    requires { 1 ≤ most }
-{
-    let mut reader = MemIn::new(Vec::from_slice(alloc, input)?, most, None);
-    let mut writer = MemOut::new(Vec::new(alloc), most, None);
-    let (end, _) = run(alloc, &mut reader, &mut writer, READS);
-    same(rt, &end, &Ok(()));
-    assert_eq!(rt; writer.as_slice(), want, "in pieces of {most}");
-    Ok(())
-}
-
-#[test]
-fn lines_end_at_line_feeds_and_at_the_end(rt: HostRuntime) -> Result<(), Fail> {
-    let cases: [(&[u8], &[u8]); 5] = [
-        (b"", b""),
-        (b"a", b"line\n"),
-        (b"a\n", b"line\n"),
-        (b"\n\nb", b"empty\nempty\nline\n"),
-        (b"a\n\r\n b\n\n", b"line\nline\nline\nempty\n"),
-    ];
-    for (input, want) in cases {
-        for most in [1usize, 7, 1000] {
-            cut_in_pieces(&rt, rt.alloc(), input, want, most)?;
-        }
-    }
-    Ok(())
-}
-
-fn cut_long_line(
     rt: &impl Abort,
     alloc: Global,
     count: usize,
     rest: &[u8],
     want: &[u8],
-) -> Result<(), Fail> {
-    let mut reader = MemIn::new(line_of(alloc, count, rest)?, 100000, None);
-    let mut writer = MemOut::new(Vec::new(alloc), 100, None);
+    most: usize,
+) -> Result<(), Fail>
+    requires { 1 ≤ most }
+{
+    let mut reader = MemIn::new(line_of(alloc, count, rest)?, most, None);
+    let mut writer = MemOut::new(Vec::new(alloc), most, None);
     let (end, _) = run(alloc, &mut reader, &mut writer, READS);
     same(rt, &end, &Ok(()));
-    assert_eq!(rt; writer.as_slice(), want, "after {count} bytes");
+    assert_eq!(rt;
+        writer.as_slice(),
+        want,
+        "{count} bytes, and more, in pieces of {most}"
+    );
     Ok(())
 }
 
+/// One that is too long is answered once.
 #[test]
-fn a_line_that_is_too_long_is_answered_once(rt: HostRuntime) -> Result<(), Fail> {
-    let cases: [(usize, &[u8], &[u8]); 5] = [
+fn lines_end_at_line_feeds_and_at_the_end(rt: HostRuntime) -> Result<(), Fail> {
+    let cases: [(usize, &[u8], &[u8]); 10] = [
+        (0, b"", b""),
+        (0, b"a", b"line\n"),
+        (0, b"a\n", b"line\n"),
+        (0, b"\n\nb", b"empty\nempty\nline\n"),
+        (0, b"a\n\r\n b\n\n", b"line\nline\nline\nempty\n"),
         (65535, b"\r\n\n", b"longest\nempty\n"),
         (65536, b"", b"longest\n"),
         (65536, b"\r\n\n", b"too long\nempty\n"),
@@ -95,25 +77,9 @@ fn a_line_that_is_too_long_is_answered_once(rt: HostRuntime) -> Result<(), Fail>
         (200000, b"\n\n", b"too long\nempty\n"),
     ];
     for (count, rest, want) in cases {
-        cut_long_line(&rt, rt.alloc(), count, rest, want)?;
-    }
-    Ok(())
-}
-
-fn fail_at_read(rt: &impl Abort, alloc: Global, call: u64, want: &[u8]) -> Result<(), Fail> {
-    let mut reader = MemIn::new(Vec::from_slice(alloc, b"ab\nc\nd")?, 2, Some(call));
-    let mut writer = MemOut::new(Vec::new(alloc), 100, None);
-    let (end, _) = run(alloc, &mut reader, &mut writer, READS);
-    same(rt, &end, &Err(Fault::Read));
-    assert_eq!(rt; writer.as_slice(), want, "at read {call}");
-    Ok(())
-}
-
-#[test]
-fn a_failed_read_leaves_the_lines_that_ended(rt: HostRuntime) -> Result<(), Fail> {
-    let wants: [(u64, &[u8]); 4] = [(0, b""), (1, b""), (2, b"line\n"), (3, b"line\nline\n")];
-    for (call, want) in wants {
-        fail_at_read(&rt, rt.alloc(), call, want)?;
+        for most in [1usize, 7, 1000, 100_000] {
+            cut_in_pieces(&rt, rt.alloc(), count, rest, want, most)?;
+        }
     }
     Ok(())
 }
@@ -132,22 +98,6 @@ fn fail_at_write(
     same(rt, &end, &Err(Fault::Write));
     assert_eq!(rt; writer.as_slice(), want, "at write {call}");
     same(rt, &count, &answered);
-    Ok(())
-}
-
-#[test]
-fn a_failed_write_cuts_one_reply(rt: HostRuntime) -> Result<(), Fail> {
-    let wants: [(u64, &[u8], u32); 4] = [
-        (0, b"", 1),
-        (1, b"lin", 1),
-        (2, b"line\n", 2),
-        (3, b"line\nemp", 2),
-    ];
-    for (call, want, answered) in wants {
-        for failing in [Failing::Error, Failing::Nothing] {
-            fail_at_write(&rt, rt.alloc(), call, failing, want, answered)?;
-        }
-    }
     Ok(())
 }
 
@@ -172,22 +122,23 @@ fn fail_at_hand_over(rt: &impl Abort, alloc: Global, call: u64, answered: u32) -
     Ok(())
 }
 
+/// One reply is cut, and no line after it is answered. What is held back goes out before the next read.
 #[test]
-fn replies_go_out_before_the_next_read(rt: HostRuntime) -> Result<(), Fail> {
+fn a_failed_write_ends_the_run(rt: HostRuntime) -> Result<(), Fail> {
+    let wants: [(u64, &[u8], u32); 4] = [
+        (0, b"", 1),
+        (1, b"lin", 1),
+        (2, b"line\n", 2),
+        (3, b"line\nemp", 2),
+    ];
+    for (call, want, answered) in wants {
+        for failing in [Failing::Error, Failing::Nothing] {
+            fail_at_write(&rt, rt.alloc(), call, failing, want, answered)?;
+        }
+    }
     for (call, answered) in [(0, 1), (1, 2), (2, 3)] {
         fail_at_hand_over(&rt, rt.alloc(), call, answered)?;
     }
-    Ok(())
-}
-
-#[test]
-fn the_reply_to_a_last_line_without_its_end_goes_out(rt: HostRuntime) -> Result<(), Fail> {
-    let alloc = rt.alloc();
-    let mut writer = buffered(alloc, 100, None)?;
-    let mut reader = MemIn::new(Vec::from_slice(alloc, b"a\nb")?, 100, None);
-    let (end, _) = run(alloc, &mut reader, &mut writer, READS);
-    same(&rt, &end, &Ok(()));
-    same(&rt, &writer.inner().as_slice(), &b"line\nline\n".as_slice());
     Ok(())
 }
 
@@ -201,7 +152,7 @@ fn input_without_an_end_ends_at_the_bound(rt: HostRuntime) -> Result<(), Fail> {
     same(&rt, &line_feeds.calls, &1000);
     same(&rt, &answered, &1000);
     same(&rt, &writer.as_slice().len(), &6000);
-    Ok(())
+    end_at_the_bound(&rt, alloc)
 }
 
 #[test]

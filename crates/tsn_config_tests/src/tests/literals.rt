@@ -1,5 +1,4 @@
-//! Keys, records, limits and configurations of the sessions in `examples/`: two ports, sixteen instances of each other
-//! kind and lists of up to sixteen entries.
+//! Keys, records and configurations.
 ghost use Rattle.std.specs.Prelude.{◌≡◌, ◌≤◌};
 
 use std::alloc::{AllocError, Global};
@@ -13,7 +12,7 @@ use tsn_types::limits::Limits;
 use tsn_types::lists::ControlList;
 use tsn_types::numbers::{
     BitRate, Cycle, Extension, FilterId, GateId, Handle, Instant, Interval, MaxSdu, MeterId,
-    Octets, PortId,
+    Octets, PortId, Range,
 };
 use tsn_types::records::{
     FlowMeter, GateEntry, PortGates, Record, RecordRef, Schedule, StreamFilter, StreamGate,
@@ -35,7 +34,7 @@ pub(super) fn filter_key(number: u64) -> Key
     Key::Filter(FilterId::new(number).unwrap())
 }
 
-pub(super) fn gate_key(number: u64) -> Key
+fn gate_key(number: u64) -> Key
     requires { number ≤ 65535 }
     ensures { result ≡ Key.Gate number }
 {
@@ -121,10 +120,6 @@ pub(super) fn meter() -> FlowMeter {
     }
 }
 
-pub(super) fn limits() -> Limits {
-    Limits::new(2, 16, 16, 16, 16).unwrap()
-}
-
 // Checks the edit, and makes its change.
 pub(super) fn make(rt: &impl Abort, config: &mut Config, edit: Edit) -> Result<(), AllocError> {
     assert!(rt; config.check(&edit).is_none());
@@ -161,20 +156,12 @@ pub(super) fn on_a_config<F: FnOnce(&mut Config) -> Result<(), Fail>>(
     play(&mut config)
 }
 
-/// Plays on gate 0, meter 0, and filter 3 that refers to both.
-pub(super) fn on_first_entries<F: FnOnce(&mut Config) -> Result<(), Fail>>(
+/// Makes gate 0, meter 0, and filter 3 that refers to both.
+pub(super) fn make_first_entries(
     rt: &impl Abort,
     alloc: Global,
-    play: F,
-) -> Result<(), Fail>
-    requires { F.IsAlwaysCallable play }
-{
-    let mut config = Config::open(alloc, limits(), Records::new(alloc))?;
-    make_first_entries(rt, alloc, &mut config)?;
-    play(&mut config)
-}
-
-fn make_first_entries(rt: &impl Abort, alloc: Global, config: &mut Config) -> Result<(), Fail> {
+    config: &mut Config,
+) -> Result<(), Fail> {
     make(rt, config, create_gate(0, gate(alloc)))?;
     let metered = Edit::Create(meter_key(0), Record::Meter(meter()));
     make(rt, config, metered)?;
@@ -205,48 +192,56 @@ pub(super) fn has_ids(
     Ok(())
 }
 
-pub(super) fn add_gate(
-    records: &mut Records,
-    number: u64,
-    value: StreamGate,
-) -> Result<(), AllocError>
-    requires { number ≤ 65535 }
-{
-    records.push(gate_key(number), Record::Gate(value))
+/// A record of a setup, by its number: a port; a filter on this gate and perhaps meter; a gate whose list has this many
+/// entries; a meter.
+#[derive(Clone, Copy, Drop)]
+pub(super) enum Row {
+    Port(u64),
+    Filter(u64, u64, Option<u64>),
+    Gate(u64, usize),
+    Meter(u64),
 }
 
-pub(super) fn add_filter(
-    records: &mut Records,
-    number: u64,
-    value: StreamFilter,
-) -> Result<(), AllocError>
-    requires { number ≤ 65535 }
-{
-    records.push(filter_key(number), Record::Filter(value))
+fn filter_of(gate: u64, meter: Option<u64>) -> Result<StreamFilter, Range> {
+    let gate = GateId::new(gate)?;
+    let meter = match meter {
+        Some(number) => Some(MeterId::new(number)?),
+        None => None,
+    };
+    Ok(StreamFilter {
+        gate,
+        ..filter(0, meter)
+    })
 }
 
-pub(super) fn add_port(
-    records: &mut Records,
-    number: u64,
-    value: PortGates,
-) -> Result<(), AllocError>
-    requires low { 1 ≤ number }
-    requires high { number ≤ 64 }
-{
-    records.push(port_key(number), Record::Port(value))
-}
-
-// Why the records are refused.
-pub(super) fn refused(alloc: Global, records: Records) -> Option<Refusal> {
-    Config::open(alloc, limits(), records).err()
-}
-
-// The admin gate states of a port, none where it is absent.
-pub(super) fn gates_of(config: &Config, key: Key) -> Option<u8> {
-    match config.get(key) {
-        Some(RecordRef::Port(port)) => Some(port.gates),
-        _ => None,
+/// The records of a setup.
+pub(super) fn records_of(alloc: Global, rows: &[Row]) -> Result<Records, Fail> {
+    let mut records = Records::new(alloc);
+    for row in rows {
+        match *row {
+            Row::Port(id) => {
+                records.push(Key::Port(PortId::new(id)?), Record::Port(port(alloc, 15)))?;
+            }
+            Row::Filter(id, gate, meter) => {
+                let filter = filter_of(gate, meter)?;
+                records.push(Key::Filter(FilterId::new(id)?), Record::Filter(filter))?;
+            }
+            Row::Gate(id, entries) => {
+                let gate = gate_with(alloc, entries)?;
+                records.push(Key::Gate(GateId::new(id)?), Record::Gate(gate))?;
+            }
+            Row::Meter(id) => {
+                records.push(Key::Meter(MeterId::new(id)?), Record::Meter(meter()))?;
+            }
+        }
     }
+    Ok(records)
+}
+
+// Why the records are refused, on two ports, tables of sixteen instances and lists of up to sixteen entries.
+pub(super) fn refused(alloc: Global, records: Records) -> Option<Refusal> {
+    let limits = Limits::new(2, 16, 16, 16, 16).unwrap();
+    Config::open(alloc, limits, records).err()
 }
 
 // Whether the port has the default record.
@@ -261,16 +256,6 @@ pub(super) fn is_default(config: &Config, key: Key) -> bool {
         }
         _ => false,
     }
-}
-
-pub(super) fn add_meter(
-    records: &mut Records,
-    number: u64,
-    value: FlowMeter,
-) -> Result<(), AllocError>
-    requires { number ≤ 65535 }
-{
-    records.push(meter_key(number), Record::Meter(value))
 }
 
 // Whether the record stands at the key, every member of it.

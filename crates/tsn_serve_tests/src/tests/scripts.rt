@@ -1,4 +1,4 @@
-//! Whole scripts over a bridge: worked runs, in every spelling and in pieces of every kind, and cut at every call.
+//! Worked scripts over a bridge: in every spelling and in pieces of every size, and one cut at every read and write.
 ghost use Rattle.std.specs.Prelude.{◌≤◌};
 
 use super::buffered;
@@ -14,6 +14,22 @@ use tsn_bridge::bridge::{Bridge, Setup};
 use tsn_bytes::{ByteIn, ByteOut, Failing, Fault, MemIn, MemOut};
 use tsn_serve::{run_script, run_script_up_to};
 use tsn_types::refusals::Refusal;
+
+/// The lines of the first run.
+const INPUT: &'static [u8] = b"{\"do\":\"hello\"}\n\
+    {\"do\":\"create\",\"key\":\"gate 0\",\"record\":{\"base\":0,\"cycle\":1000000,\"extension\":0,\"invalid_rx\":false,\"ipv\":null,\"list\":[],\"octets_exceeded\":false,\"open\":true},\"s\":1}\n\
+    {\"do\":\"create\",\"key\":\"filter 3\",\"record\":{\"gate\":0,\"handle\":7,\"max_sdu\":1500,\"meter\":null,\"oversize\":true,\"priority\":null},\"s\":1}\n\
+    {\"do\":\"remove\",\"key\":\"filter 3\",\"s\":1}\n\
+    {\"do\":\"undo\",\"s\":1}\n\
+    {\"do\":\"undo\",\"s\":1}\n";
+
+/// The replies to them.
+const REPLIES: &'static [u8] = b"{\"session\":1}\n\
+    {\"entry\":1}\n\
+    {\"entry\":2}\n\
+    {\"entry\":3}\n\
+    {\"entry\":4,\"of\":3}\n\
+    {\"entry\":5,\"of\":2}\n";
 
 const SYNTAX: &'static [u8] = b"{\"refused\":2,\"why\":\"syntax\"}\n";
 
@@ -46,19 +62,27 @@ fn first_lines(text: &[u8], count: usize) -> &[u8] {
     text
 }
 
+// The text, so many times.
+fn repeated(alloc: Global, text: &[u8], count: usize) -> Result<Vec<u8>, AllocError> {
+    let mut all = Vec::new(alloc);
+    for _ in 0..count {
+        all.extend_from_slice(text)?;
+    }
+    Ok(all)
+}
+
 /// The input, read and written in pieces of so many bytes, has these replies.
 fn has_replies(
     rt: &impl Abort,
     alloc: Global,
     input: &[u8],
     want: &[u8],
-    spelling: Spelling,
     most: usize,
 ) -> Result<(), Fail> {
     let mut reader = MemIn::new(Vec::from_slice(alloc, input)?, most.max(1), None);
     let mut writer = MemOut::new(Vec::new(alloc), most.max(1), None);
     same(rt, &run(alloc, &mut reader, &mut writer)?, &Ok(()));
-    assert_eq!(rt; writer.as_slice(), want, "{spelling:?} in pieces of {most}");
+    assert_eq!(rt; writer.as_slice(), want, "in pieces of {most}");
     Ok(())
 }
 
@@ -72,7 +96,7 @@ fn answers_well(
 ) -> Result<(), Fail> {
     let input = input_of(alloc, script, spelling)?;
     let want = replies_of(alloc, script)?;
-    has_replies(rt, alloc, input.as_slice(), want.as_slice(), spelling, most)
+    has_replies(rt, alloc, input.as_slice(), want.as_slice(), most)
 }
 
 #[test]
@@ -97,38 +121,49 @@ fn worked_scripts_in_every_spelling(rt: HostRuntime) -> Result<(), Fail> {
     Ok(())
 }
 
+// A session that was not given out, a hello, an empty line, a line that is too long, and a line without its end.
+fn handled_lines(alloc: Global) -> Result<Vec<u8>, AllocError> {
+    let mut input = Vec::from_slice(alloc, b"{\"do\":\"undo\",\"s\":1}\n{\"do\":\"hello\"}\n\n")?;
+    input.extend_from_slice(repeated(alloc, b"x", 65537)?.as_slice())?;
+    input.extend_from_slice(b"\n{\"do\":\"undo\",\"s\":1}\n{\"do\":\"undo\"")?;
+    Ok(input)
+}
+
+const HANDLED: &'static [u8] =
+    b"{\"refused\":5,\"why\":\"no_session\"}\n{\"session\":1}\n{\"refused\":2,\"why\":\"syntax\"}\n\
+    {\"refused\":1,\"why\":\"too_long\"}\n{\"refused\":10,\"why\":\"nothing_to_undo\"}\n{\"refused\":2,\"why\":\"syntax\"}\n";
+
+/// A line may come in pieces that end anywhere in it, and a piece may have many lines.
 #[test]
-fn a_line_across_two_pieces_at_each_cut(rt: HostRuntime) -> Result<(), Fail> {
+fn lines_in_pieces_of_every_size(rt: HostRuntime) -> Result<(), Fail> {
     let alloc = rt.alloc();
     for spelling in [Spelling::Own, Spelling::Spaced] {
-        let length = input_of(alloc, FIRST_RUN.as_slice(), spelling)?.len();
-        for most in 1..length {
-            answers_well(&rt, alloc, FIRST_RUN.as_slice(), spelling, most)?;
+        let input = input_of(alloc, FIRST_RUN.as_slice(), spelling)?;
+        for most in 1..input.len() {
+            has_replies(&rt, alloc, input.as_slice(), REPLIES, most)?;
         }
+    }
+    let refusals = repeated(alloc, SYNTAX, 4)?;
+    for most in 1..9 {
+        has_replies(&rt, alloc, b"a\n\r\n b\n\n", refusals.as_slice(), most)?;
+    }
+    let handled = handled_lines(alloc)?;
+    for most in [1000usize, 100_000] {
+        has_replies(&rt, alloc, handled.as_slice(), HANDLED, most)?;
     }
     Ok(())
 }
 
-/// Plays with the input and the replies of the first run.
-fn on_first_run<F: FnOnce(&[u8], &[u8]) -> Result<(), Fail>>(
-    alloc: Global,
-    play: F,
-) -> Result<(), Fail>
-    requires { F.IsAlwaysCallable play }
-{
-    let input = input_of(alloc, FIRST_RUN.as_slice(), Spelling::Own)?;
-    let replies = replies_of(alloc, FIRST_RUN.as_slice())?;
-    play(input.as_slice(), replies.as_slice())
-}
-
+/// Reads in pieces of so many bytes, and the read of this number fails.
 fn cut_at_read(
     rt: &impl Abort,
     alloc: Global,
     input: &[u8],
     want: &[u8],
+    most: usize,
     call: u64,
 ) -> Result<(), Fail> {
-    let mut reader = MemIn::new(Vec::from_slice(alloc, input)?, 7, Some(call));
+    let mut reader = MemIn::new(Vec::from_slice(alloc, input)?, most.max(1), Some(call));
     let mut writer = MemOut::new(Vec::new(alloc), 1, None);
     same(
         rt,
@@ -139,41 +174,38 @@ fn cut_at_read(
     Ok(())
 }
 
-fn cut_at_each_read(
-    rt: &impl Abort,
-    alloc: Global,
-    input: &[u8],
-    replies: &[u8],
-) -> Result<(), Fail> {
+/// Just the lines that ended by then are answered; at the last read, which would tell the end, all that have a line
+/// feed.
+#[test]
+fn a_script_cut_at_each_read(rt: HostRuntime) -> Result<(), Fail> {
+    let alloc = rt.alloc();
     let mut call = 0u64;
     let mut ended = 0usize;
-    for piece in input.chunks(7) {
-        cut_at_read(rt, alloc, input, first_lines(replies, ended), call)?;
+    for piece in INPUT.chunks(7) {
+        cut_at_read(&rt, alloc, INPUT, first_lines(REPLIES, ended), 7, call)?;
         ended = ended.saturating_add(line_feeds(piece));
         call = call.saturating_add(1);
+    }
+    cut_at_read(&rt, alloc, INPUT, REPLIES, 7, call)?;
+    let refusals = repeated(alloc, SYNTAX, 2)?;
+    for (call, count) in [(0u64, 0usize), (1, 0), (2, 1), (3, 2)] {
+        let want = first_lines(refusals.as_slice(), count);
+        cut_at_read(&rt, alloc, b"ab\nc\nd", want, 2, call)?;
     }
     Ok(())
 }
 
-#[test]
-fn first_run_cut_at_each_read(rt: HostRuntime) -> Result<(), Fail> {
-    let alloc = rt.alloc();
-    on_first_run(
-        alloc,
-        |input, replies| cut_at_each_read(&rt, alloc, input, replies),
-    )
-}
-
+/// Writes at most so many bytes a call, and the write of this number fails.
 fn cut_at_write(
     rt: &impl Abort,
     alloc: Global,
-    input: &[u8],
     want: &[u8],
+    most: usize,
     call: u64,
     failing: Failing,
 ) -> Result<(), Fail> {
-    let mut reader = MemIn::new(Vec::from_slice(alloc, input)?, 7, None);
-    let mut writer = MemOut::new(Vec::new(alloc), 1, Some((call, failing)));
+    let mut reader = MemIn::new(Vec::from_slice(alloc, INPUT)?, 7, None);
+    let mut writer = MemOut::new(Vec::new(alloc), most.max(1), Some((call, failing)));
     same(
         rt,
         &run(alloc, &mut reader, &mut writer)?,
@@ -183,208 +215,53 @@ fn cut_at_write(
     Ok(())
 }
 
-fn cut_at_each_write(
-    rt: &impl Abort,
-    alloc: Global,
-    input: &[u8],
-    replies: &[u8],
-) -> Result<(), Fail> {
-    let mut call = 0u64;
-    for cut in 0..replies.len() {
-        for failing in [Failing::Error, Failing::Nothing] {
-            cut_at_write(rt, alloc, input, &replies[..cut], call, failing)?;
+/// A byte a call, and then a reply a call.
+#[test]
+fn a_script_cut_at_each_write(rt: HostRuntime) -> Result<(), Fail> {
+    let alloc = rt.alloc();
+    for failing in [Failing::Error, Failing::Nothing] {
+        let mut call = 0u64;
+        for cut in 0..REPLIES.len() {
+            cut_at_write(&rt, alloc, &REPLIES[..cut], 1, call, failing)?;
+            call = call.saturating_add(1);
         }
-        call = call.saturating_add(1);
+        for (call, count) in [(0u64, 0usize), (1, 1), (2, 2), (3, 3), (4, 4), (5, 5)] {
+            cut_at_write(&rt, alloc, first_lines(REPLIES, count), 1000, call, failing)?;
+        }
     }
     Ok(())
-}
-
-#[test]
-fn first_run_cut_at_each_write(rt: HostRuntime) -> Result<(), Fail> {
-    let alloc = rt.alloc();
-    on_first_run(
-        alloc,
-        |input, replies| cut_at_each_write(&rt, alloc, input, replies),
-    )
-}
-
-fn cut_at_reply(
-    rt: &impl Abort,
-    alloc: Global,
-    input: &[u8],
-    want: &[u8],
-    call: u64,
-) -> Result<(), Fail> {
-    let mut reader = MemIn::new(Vec::from_slice(alloc, input)?, 7, None);
-    let mut writer = MemOut::new(Vec::new(alloc), 1000, Some((call, Failing::Error)));
-    same(
-        rt,
-        &run(alloc, &mut reader, &mut writer)?,
-        &Err(Fault::Write),
-    );
-    same(rt, &writer.as_slice(), &want);
-    Ok(())
-}
-
-fn cut_at_each_reply(
-    rt: &impl Abort,
-    alloc: Global,
-    input: &[u8],
-    replies: &[u8],
-) -> Result<(), Fail> {
-    for (call, count) in [(0u64, 0usize), (1, 1), (2, 2), (3, 3), (4, 4), (5, 5)] {
-        cut_at_reply(rt, alloc, input, first_lines(replies, count), call)?;
-    }
-    Ok(())
-}
-
-#[test]
-fn first_run_cut_at_each_reply(rt: HostRuntime) -> Result<(), Fail> {
-    let alloc = rt.alloc();
-    on_first_run(
-        alloc,
-        |input, replies| cut_at_each_reply(&rt, alloc, input, replies),
-    )
 }
 
 /// What was taken by the end is all, or is a front of it.
-fn is_front(rt: &impl Abort, end: Result<(), Fault>, taken: &[u8], replies: &[u8], call: u64) {
+fn is_front(rt: &impl Abort, end: Result<(), Fault>, taken: &[u8], call: u64) {
     if end == Ok(()) {
-        assert_eq!(rt; taken, replies, "at call {call}");
+        assert_eq!(rt; taken, REPLIES, "at call {call}");
     } else {
         same(rt, &end, &Err(Fault::Write));
-        assert!(rt; taken.len() < replies.len(), "at call {call}");
-        assert!(rt; replies.starts_with(taken), "at call {call}");
+        assert!(rt; taken.len() < REPLIES.len(), "at call {call}");
+        assert!(rt; REPLIES.starts_with(taken), "at call {call}");
     }
 }
 
 fn cut_behind_buffer(
     rt: &impl Abort,
     alloc: Global,
-    input: &[u8],
-    replies: &[u8],
     call: u64,
     failing: Failing,
 ) -> Result<(), Fail> {
     let mut writer = buffered(alloc, 5, Some((call, failing)))?;
-    let mut reader = MemIn::new(Vec::from_slice(alloc, input)?, 50, None);
+    let mut reader = MemIn::new(Vec::from_slice(alloc, INPUT)?, 50, None);
     let end = run(alloc, &mut reader, &mut writer)?;
-    is_front(rt, end, writer.inner().as_slice(), replies, call);
-    Ok(())
-}
-
-fn cut_behind_buffer_at_each_call(
-    rt: &impl Abort,
-    alloc: Global,
-    input: &[u8],
-    replies: &[u8],
-) -> Result<(), Fail> {
-    for call in 0..40 {
-        for failing in [Failing::Error, Failing::Nothing] {
-            cut_behind_buffer(rt, alloc, input, replies, call, failing)?;
-        }
-    }
+    is_front(rt, end, writer.inner().as_slice(), call);
     Ok(())
 }
 
 #[test]
 fn a_failed_write_behind_a_buffer_leaves_a_front(rt: HostRuntime) -> Result<(), Fail> {
-    let alloc = rt.alloc();
-    on_first_run(alloc, |input, replies| {
-        cut_behind_buffer_at_each_call(&rt, alloc, input, replies)
-    })
-}
-
-// The text, so many times.
-fn repeated(alloc: Global, text: &[u8], count: usize) -> Result<Vec<u8>, AllocError> {
-    let mut all = Vec::new(alloc);
-    for _ in 0..count {
-        all.extend_from_slice(text)?;
-    }
-    Ok(all)
-}
-
-/// The input, read and written in pieces of 100,000 bytes behind a buffer, has these replies.
-fn has_replies_behind_buffer(
-    rt: &impl Abort,
-    alloc: Global,
-    input: &[u8],
-    want: &[u8],
-) -> Result<(), Fail> {
-    let mut writer = buffered(alloc, 100_000, None)?;
-    let mut reader = MemIn::new(Vec::from_slice(alloc, input)?, 100_000, None);
-    same(rt, &run(alloc, &mut reader, &mut writer)?, &Ok(()));
-    assert!(rt; writer.inner().as_slice() == want);
-    Ok(())
-}
-
-#[test]
-fn more_replies_than_a_buffer_holds(rt: HostRuntime) -> Result<(), Fail> {
-    let alloc = rt.alloc();
-    let input = repeated(alloc, b"{\"do\":\"undo\",\"s\":1}\n", 5000)?;
-    let want = repeated(alloc, b"{\"refused\":5,\"why\":\"no_session\"}\n", 5000)?;
-    has_replies_behind_buffer(&rt, alloc, input.as_slice(), want.as_slice())
-}
-
-// The byte, so many times.
-fn bytes_of(alloc: Global, byte: u8, count: usize) -> Result<Vec<u8>, AllocError> {
-    vec![in alloc; byte; count]
-}
-
-// A session that was not given out, a hello, an empty line, a line that is too long, and a line without its end.
-fn handled_lines(alloc: Global) -> Result<Vec<u8>, AllocError> {
-    let mut input = Vec::from_slice(alloc, b"{\"do\":\"undo\",\"s\":1}\n{\"do\":\"hello\"}\n\n")?;
-    input.extend_from_slice(bytes_of(alloc, b'x', 65537)?.as_slice())?;
-    input.extend_from_slice(b"\n{\"do\":\"undo\",\"s\":1}\n{\"do\":\"undo\"")?;
-    Ok(input)
-}
-
-const HANDLED: &'static [u8] =
-    b"{\"refused\":5,\"why\":\"no_session\"}\n{\"session\":1}\n{\"refused\":2,\"why\":\"syntax\"}\n\
-    {\"refused\":1,\"why\":\"too_long\"}\n{\"refused\":10,\"why\":\"nothing_to_undo\"}\n{\"refused\":2,\"why\":\"syntax\"}\n";
-
-fn handle_lines(rt: &impl Abort, alloc: Global, most: usize) -> Result<(), Fail>
-    requires { 1 ≤ most }
-{
-    let mut reader = MemIn::new(handled_lines(alloc)?, most, None);
-    let mut writer = MemOut::new(Vec::new(alloc), 1000, None);
-    same(rt, &run(alloc, &mut reader, &mut writer)?, &Ok(()));
-    same(rt, &writer.as_slice(), &HANDLED);
-    Ok(())
-}
-
-#[test]
-fn line_handling(rt: HostRuntime) -> Result<(), Fail> {
-    for most in [1000usize, 100_000] {
-        handle_lines(&rt, rt.alloc(), most)?;
-    }
-    Ok(())
-}
-
-fn refuse_line(
-    rt: &impl Abort,
-    alloc: Global,
-    byte: u8,
-    count: usize,
-    want: &[u8],
-) -> Result<(), Fail> {
-    let mut reader = MemIn::new(bytes_of(alloc, byte, count)?, 100_000, None);
-    let mut writer = MemOut::new(Vec::new(alloc), 1000, None);
-    same(rt, &run(alloc, &mut reader, &mut writer)?, &Ok(()));
-    assert_eq!(rt; writer.as_slice(), want, "{count} times {byte}");
-    Ok(())
-}
-
-#[test]
-fn lines_that_are_no_json(rt: HostRuntime) -> Result<(), Fail> {
-    let too_long = b"{\"refused\":1,\"why\":\"too_long\"}\n".as_slice();
-    for (byte, count, want) in [
-        (b' ', 65536usize, SYNTAX),
-        (b' ', 65537, too_long),
-        (255, 1, SYNTAX),
-        (b'[', 200, SYNTAX),
-    ] {
-        refuse_line(&rt, rt.alloc(), byte, count, want)?;
+    for call in 0..40 {
+        for failing in [Failing::Error, Failing::Nothing] {
+            cut_behind_buffer(&rt, rt.alloc(), call, failing)?;
+        }
     }
     Ok(())
 }
@@ -399,19 +276,14 @@ fn run_to_the_bound<R: ByteIn, W: ByteOut>(
     Ok(run_script_up_to(alloc, &mut bridge, reader, writer, 1000))
 }
 
-fn end_at_the_bound(rt: &impl Abort, alloc: Global, want: &[u8]) -> Result<(), Fail> {
+/// Empty lines without an end.
+pub(super) fn end_at_the_bound(rt: &impl Abort, alloc: Global) -> Result<(), Fail> {
     let mut reader = LineFeeds { calls: 0 };
     let mut writer = MemOut::new(Vec::new(alloc), 1000, None);
     let end = run_to_the_bound(alloc, &mut reader, &mut writer)?;
     same(rt, &end, &Err(Fault::Read));
     same(rt, &reader.calls, &1000);
-    same(rt, &writer.as_slice(), &want);
-    Ok(())
-}
-
-#[test]
-fn line_feeds_without_end(rt: HostRuntime) -> Result<(), Fail> {
-    let alloc = rt.alloc();
     let want = repeated(alloc, SYNTAX, 1000)?;
-    end_at_the_bound(&rt, alloc, want.as_slice())
+    same(rt, &writer.as_slice(), &want.as_slice());
+    Ok(())
 }
