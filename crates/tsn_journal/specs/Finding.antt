@@ -1,5 +1,5 @@
 -- What the finders of a journal look for.
-use Rattle.std.specs.Prelude.{ℕ, Bool,  ◌&&◌, not, List, [], ◌∷◌, Option, Some, None, is_some, filter, ◌==◌, nat_lt, if◌then◌else◌}
+use Rattle.std.specs.Prelude.{ℕ, Bool, ◌&&◌, not, List, [], ◌∷◌, Option, Some, None, is_some, filter, ◌==◌, nat_lt, if◌then◌else◌}
 use Rattle.std.specs.List.{find, list_any}
 use Rattle.std.specs.Option.{option_and_then, option_or}
 use Rattle.tsn_edit.specs.Changes.{conflicts}
