@@ -38,14 +38,15 @@ impl Bench {
         let config = Config::open(alloc, limits, Records::new(alloc))?;
         let mut runtime = Runtime::new(alloc, limits)?;
         runtime.reserve(1)?;
-        runtime.follow(&Change::of(Part {
+        let change = Change::of(Part {
             key: port_key(),
             before: None,
             after: Some(Record::Port(PortGates {
                 gates: 255,
                 admin: schedule(alloc),
             })),
-        }));
+        });
+        runtime.follow(&change);
         Ok(Bench { config, runtime })
     }
 
