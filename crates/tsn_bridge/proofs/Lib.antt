@@ -3,6 +3,7 @@ pub mod Stepping
 pub mod AtOnce
 pub mod Interleaving
 pub mod Following
+pub mod Room
 pub mod Pushed
 pub mod Tied
 pub mod Framing

@@ -1,5 +1,7 @@
 -- The runtime beside the book: it follows each change that an entry applied.
 use Rattle.std.specs.Prelude.{◌≡◌, ℕ, ◌+◌, zero, suc, List, [], ◌∷◌, Option, Some, None}
+use Rattle.std.specs.Option.{option_map_or}
+use Rattle.tsn_edit.specs.Changes.{room_of}
 use Rattle.tsn_edit.specs.Parts.{Change, inverse}
 use Rattle.tsn_journal.specs.declared.entries.Entry.{Entry}
 use Rattle.tsn_journal.specs.Entries.{Applied}
@@ -21,6 +23,15 @@ followed_by step a (Some e) = step a e
 abbrev pub followed : {A : Type 0} → (A → Change → A) → List Entry → A → ℕ → ℕ → A
 followed step es a n zero = a
 followed step es a n (suc k) = followed_by step (followed step es a n k) (change_at es (n + k + 1))
+
+-- the room that following the entry of a number takes
+abbrev pub room_at : List Entry → ℕ → ℕ
+room_at es number = option_map_or room_of (change_at es number) 0
+
+-- and that of k entries behind the first n
+abbrev pub room_behind : List Entry → ℕ → ℕ → ℕ
+room_behind es n zero = 0
+room_behind es n (suc k) = room_behind es n k + room_at es (n + k + 1)
 
 -- what the filter chain keeps followed a change, and the bridge time stays
 pub record Follows (old : PairState) (e : Change) (new : PairState) : Type 0 where

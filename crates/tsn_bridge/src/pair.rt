@@ -22,7 +22,7 @@ ghost use Rattle.tsn_bridge.specs.Acts.{act_causes, act_change, apply_causes, ha
 ghost use Rattle.tsn_bridge.specs.Frames.{acts_of_gates};
 ghost use Rattle.tsn_bridge.specs.Looking.{counted_at, last_at, shown_at};
 ghost use Rattle.tsn_bridge.specs.Pair.{acted};
-ghost use Rattle.tsn_bridge.specs.Together.{Follows, FollowsAll, followed, followed_by};
+ghost use Rattle.tsn_bridge.specs.Together.{Follows, FollowsAll, followed, followed_by, room_at, room_behind};
 
 use crate::acting::{has_entry, is_enabled, run_act};
 use std::alloc::{AllocError, Global};
@@ -232,11 +232,11 @@ impl Pair {
 
 // Lets the runtime follow the change of the entry of the number, if it applied one.
 fn follow(journal: &Journal, runtime: &mut Runtime, number: u64)
-    requires room { 1 ≤ runtime.old.spare }
+    requires room { room_at journal.now.entries number ≤ runtime.old.spare }
     ensures runners { runtime.new.runners ≡ followed_by runners_after runtime.old.runners (change_at journal.now.entries number) }
     ensures frames { runtime.new.frames ≡ followed_by (frames_after runtime.old.time) runtime.old.frames (change_at journal.now.entries number) }
     ensures time { runtime.new.time ≡ runtime.old.time }
-    ensures spare { runtime.old.spare ≤ runtime.new.spare + 1 }
+    ensures spare { runtime.old.spare ≤ runtime.new.spare + room_at journal.now.entries number }
 {
     if let Some(entry) = journal.entry(number) {
         if let Some(change) = entry.what.change() {
@@ -247,7 +247,7 @@ fn follow(journal: &Journal, runtime: &mut Runtime, number: u64)
 
 // Lets the runtime follow the changes of so many entries behind the first ones.
 fn follow_each(journal: &Journal, runtime: &mut Runtime, first: usize, count: usize)
-    requires room { count ≤ runtime.old.spare }
+    requires room { room_behind journal.now.entries first count ≤ runtime.old.spare }
     requires there { first + count ≤ most_entries }
     ensures runners { runtime.new.runners ≡ followed runners_after journal.now.entries runtime.old.runners first count }
     ensures frames { runtime.new.frames ≡ followed (frames_after runtime.old.time) journal.now.entries runtime.old.frames first count }

@@ -6,5 +6,6 @@ pub mod Rewinding
 pub mod Undoing
 pub mod Commutation
 pub mod Redone
+pub mod Room
 pub mod UndoAll
 pub mod Named

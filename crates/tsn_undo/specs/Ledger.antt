@@ -1,5 +1,5 @@
 -- A book as its limits, its opening and its entries, with its room. The opening is not kept: it is what rewinding gives.
-use Rattle.std.specs.Prelude.{◌≡◌, ℕ, refl, List, [], ◌∷◌}
+use Rattle.std.specs.Prelude.{◌≡◌, ℕ, ◌+◌, ◌≤◌, refl, List, [], ◌∷◌}
 use Rattle.std.specs.FinMap.{code}
 use Rattle.std.specs.Coded.{Coded, code_by, coded×, coded_list, coded_ℕ}
 use Rattle.tsn_types.specs.contracts.limits.Limits as limits_row
@@ -20,17 +20,32 @@ pub record Ledger : Type 0 where
   pub opening : Configuration
   pub entries : List Entry
 
--- a ledger, and how many entries more the book certainly has room for
+-- how many entries more the journal certainly has room for, and for how many parts of changes the configuration
+pub record Room : Type 0 where
+  pub entries : ℕ
+  pub parts : ℕ
+
 pub record LedgerWithRoom : Type 0 where
   pub ledger : Ledger
-  pub spare : ℕ
+  pub room : Room
+
+-- there is room for so many entries and so many parts
+abbrev pub Holds : Room → ℕ → ℕ → Type 0
+Holds r entries parts = (entries ≤ r.entries) × (parts ≤ r.parts)
+
+-- at most so many entries and so many parts of the room were taken
+abbrev pub Takes : Room → ℕ → ℕ → Room → Type 0
+Takes old entries parts new = (old.entries ≤ new.entries + entries) × (old.parts ≤ new.parts + parts)
 
 abbrev pub ledger_code : Coded Ledger
 ledger_code =
     code_by (Limits × (Configuration × List Entry)) (coded× limits_row.the_row.coded (coded× (code key_row.the_row.coded record_row.the_row.coded) (coded_list entry_row.the_row.coded))) (λ s. (s.limits, (s.opening, s.entries))) (λ p. record { limits = p.0; opening = p.1.0; entries = p.1.1 }) (λ _. refl)
 
+abbrev pub room_code : Coded Room
+room_code = code_by (ℕ × ℕ) (coded× coded_ℕ coded_ℕ) (λ r. (r.entries, r.parts)) (λ p. record { entries = p.0; parts = p.1 }) (λ _. refl)
+
 abbrev pub ledger_with_room_code : Coded LedgerWithRoom
-ledger_with_room_code = code_by (Ledger × ℕ) (coded× ledger_code coded_ℕ) (λ s. (s.ledger, s.spare)) (λ p. record { ledger = p.0; spare = p.1 }) (λ _. refl)
+ledger_with_room_code = code_by (Ledger × Room) (coded× ledger_code room_code) (λ s. (s.ledger, s.room)) (λ p. record { ledger = p.0; room = p.1 }) (λ _. refl)
 
 -- the configuration to which the entries have led
 abbrev pub present : Ledger → Configuration

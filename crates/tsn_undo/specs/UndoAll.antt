@@ -4,7 +4,7 @@ use Rattle.tsn_types.specs.declared.refusals.Refusal.{Refusal}
 use Rattle.tsn_types.specs.declared.refusals.Refusal.TheVariants.{NothingToUndo, Conflict}
 use Rattle.tsn_types.specs.Refusals.{least}
 use Rattle.tsn_edit.specs.Configuration.{Configuration}
-use Rattle.tsn_edit.specs.Changes.{conflicts}
+use Rattle.tsn_edit.specs.Changes.{conflicts, room_of}
 use Rattle.tsn_edit.specs.Parts.{inverse}
 use Rattle.tsn_edit.specs.Runs.{run, IsGood}
 use Rattle.tsn_journal.specs.declared.entries.Entry.{Entry}
@@ -40,6 +40,11 @@ with_undone es s (x ∷ xs) = with_entry (with_undone es s xs) s (undone x)
 -- what takes a standing entry back
 abbrev pub taking_back : Applied → TakingBack
 taking_back x = record { of = x.number; entered = inverse x.change; applied = inverse x.change }
+
+-- the parts for which taking back all of xs takes room
+abbrev pub room_of_all : List Applied → ℕ
+room_of_all [] = 0
+room_of_all (x ∷ xs) = room_of (inverse x.change) + room_of_all xs
 
 -- an undo of all makes an Undone entry for each standing entry of the session, newest first: what stands is then what
 -- stood of the other sessions, whose run alone is good and gives the map

@@ -7,14 +7,15 @@
 ghost use Rattle.std.specs.Prelude.{◌≡◌, ◌+◌, ◌≤◌, [], Some, None, IfOk, IfErr, IfSome, IsOk, IsSome, OnErr, OnOk, length};
 ghost use Rattle.tsn_types.specs.declared.refusals.Refusal.TheVariants.{Memory};
 ghost use Rattle.tsn_types.specs.Refusals.{IsLeastOrMemory};
-ghost use Rattle.tsn_edit.specs.Changes.{Fits};
+ghost use Rattle.std.specs.Option.{option_map_or};
+ghost use Rattle.tsn_edit.specs.Changes.{Fits, room_of};
 ghost use Rattle.tsn_edit.specs.Configuration.{IsWellKept};
 ghost use Rattle.tsn_edit.specs.Parts.{Change as AnyChange, inverse};
 ghost use Rattle.tsn_edit.specs.Runs.{run, IsGood};
 ghost use Rattle.tsn_journal.specs.declared.entries.What.TheVariants.{Acted, Undone};
 ghost use Rattle.tsn_journal.specs.Entries.{Applied, applies, changes, most_entries, no_room, standing, with_entry};
 ghost use Rattle.tsn_journal.specs.Finding.{change_at};
-ghost use Rattle.tsn_undo.specs.Ledger.{base_of, enter, present};
+ghost use Rattle.tsn_undo.specs.Ledger.{Holds, Takes, base_of, enter, present};
 ghost use Rattle.tsn_undo.specs.Soundness.{IsSound};
 ghost use Rattle.tsn_undo.specs.Steps.{Edits, IsFree, TakesBack, edit_refusal, undo_refusal};
 
@@ -28,8 +29,8 @@ use tsn_types::keys::Key;
 use tsn_types::numbers::Instant;
 use tsn_types::refusals::Refusal;
 
-/// A configuration with its journal. `ledger` is what was done to it, and `spare` the number of entries that the book
-/// certainly has room for.
+/// A configuration with its journal. `ledger` is what was done to it, and `room` what there certainly is
+/// room for: entries in the journal, and parts of changes in the configuration.
 #[derive(Drop)]
 pub struct Book {
     pub(crate) config: Config,
@@ -45,24 +46,23 @@ pub(crate) struct TakingBack {
 }
 
 impl Model for Book {
-    ghost use Rattle.std.specs.Prelude.{min};
     ghost use Rattle.tsn_undo.specs.Ledger.{LedgerWithRoom, ledger_with_room_code, opening_of, IsBook};
 
     ghost Value = { LedgerWithRoom };
 
     ghost coded = { ledger_with_room_code };
 
-    ghost view = { λ a. record { ledger = record { limits = a.config.limits; opening = opening_of a.config.map a.journal.entries; entries = a.journal.entries }; spare = min a.config.spare a.journal.spare } };
+    ghost view = { λ a. record { ledger = record { limits = a.config.limits; opening = opening_of a.config.map a.journal.entries; entries = a.journal.entries }; room = record { entries = a.journal.spare; parts = a.config.spare } } };
 
     ghost invariant = { λ a. IsBook a.config.limits a.config.map a.journal.entries };
 }
 
 impl Book {
-    /// A book that begins with the configuration, with no entry. It takes no memory and has room for no entry; the book
-    /// keeps the allocator.
+    /// A book that begins with the configuration, with no entry. It takes no memory and has room for no entry, and for
+    /// the parts that the configuration has room for; the book keeps the allocator.
     pub fn new(alloc: Global, config: Config) -> Book
         ensures ledger { result.ledger ≡ record { limits = config.limits; opening = config.map; entries = [] } }
-        ensures spare { result.spare ≡ 0 }
+        ensures room { result.room ≡ record { entries = 0; parts = config.spare } }
     {
         Book {
             config,
@@ -91,15 +91,15 @@ impl Book {
         &self.journal
     }
 
-    /// Makes room for at least `count` entries more. It is refused 17 where the journal never holds so many, then 18,
+    /// Makes room for at least `count` entries more, and for as many parts of changes. It is refused 17 where the journal never holds so many, then 18,
     /// and never where there is that room already. The ledger stays, and the room never falls.
     pub fn reserve(&mut self, count: usize) -> Result<(), Refusal>
         ensures ledger { self.new.ledger ≡ self.old.ledger }
         ensures free { OnOk result (no_room self.old.ledger.entries count ≡ None) }
-        ensures ok { OnOk result (count ≤ self.new.spare) }
+        ensures ok { OnOk result (Holds self.new.room count count) }
         ensures refused { IfErr result (λ why. IsLeastOrMemory (no_room self.old.ledger.entries count) why) }
-        ensures spare { self.old.spare ≤ self.new.spare }
-        ensures enough { count ≤ self.old.spare → IsOk result }
+        ensures room { Takes self.old.room 0 0 self.new.room }
+        ensures enough { Holds self.old.room count count → IsOk result }
     {
         if let Err(why) = self.journal.reserve(count) {
             return Err(why);
@@ -114,7 +114,7 @@ impl Book {
         ensures ok { IfOk result (λ number. Edits self.old.ledger session edit number self.new.ledger) }
         ensures refused { IfErr result (λ why. IsLeastOrMemory (edit_refusal self.old.ledger edit) why) }
         ensures unchanged { OnErr result (self.new.ledger ≡ self.old.ledger) }
-        ensures kept { OnErr result (self.old.spare ≤ self.new.spare) }
+        ensures kept { OnErr result (Takes self.old.room 0 0 self.new.room) }
     {
         if let Some(why) = self.refuse_edit(&edit) {
             return Err(why);
@@ -129,7 +129,7 @@ impl Book {
         ensures ok { IfOk result (λ numbers. TakesBack self.old.ledger session numbers.0 numbers.1 self.new.ledger) }
         ensures refused { IfErr result (λ why. IsLeastOrMemory (undo_refusal self.old.ledger session) why) }
         ensures unchanged { OnErr result (self.new.ledger ≡ self.old.ledger) }
-        ensures kept { OnErr result (self.old.spare ≤ self.new.spare) }
+        ensures kept { OnErr result (Takes self.old.room 0 0 self.new.room) }
     {
         let of = match self.newest_free(session) {
             Ok(of) => of,
@@ -151,11 +151,11 @@ impl Book {
         ensures free { OnOk result (no_room self.old.ledger.entries 1 ≡ None) }
         ensures refused { IfErr result (λ why. IsLeastOrMemory (no_room self.old.ledger.entries 1) why) }
         ensures unchanged { OnErr result (self.new.ledger ≡ self.old.ledger) }
-        ensures kept { OnErr result (self.old.spare ≤ self.new.spare) }
-        ensures spare { self.old.spare ≤ self.new.spare + 1 }
-        ensures enough { 1 ≤ self.old.spare → IsOk result }
+        ensures kept { OnErr result (Takes self.old.room 0 0 self.new.room) }
+        ensures room { Takes self.old.room 1 0 self.new.room }
+        ensures enough { 1 ≤ self.old.room.entries → IsOk result }
     {
-        if let Err(why) = self.reserve(1) {
+        if let Err(why) = self.journal.reserve(1) {
             return Err(why);
         }
         Ok(self.enter_act(session, act, key, now))
@@ -214,7 +214,7 @@ impl Book {
         ensures ok { IfOk result (λ number. Edits self.old.ledger session edit number self.new.ledger) }
         ensures memory { IfErr result (λ why. why ≡ Memory) }
         ensures unchanged { OnErr result (self.new.ledger ≡ self.old.ledger) }
-        ensures kept { OnErr result (self.old.spare ≤ self.new.spare) }
+        ensures kept { OnErr result (Takes self.old.room 0 0 self.new.room) }
     {
         let change = self.config().change_of(edit)?;
         if let Err(why) = self.reserve(1) {
@@ -230,7 +230,7 @@ impl Book {
         ensures ok { IfOk result (λ number. TakesBack self.old.ledger session number of self.new.ledger) }
         ensures memory { IfErr result (λ why. why ≡ Memory) }
         ensures unchanged { OnErr result (self.new.ledger ≡ self.old.ledger) }
-        ensures kept { OnErr result (self.old.spare ≤ self.new.spare) }
+        ensures kept { OnErr result (Takes self.old.room 0 0 self.new.room) }
     {
         // That the entries are sound is the type's rule, which the proof has where a field is looked at.
         let _ = &self.journal;
@@ -263,15 +263,15 @@ impl Book {
         })
     }
 
-    /// Applies what takes an entry back and enters it as undone, in room for one.
+    /// Applies what takes an entry back and enters it as undone, in room for it.
     pub(crate) fn enter_undone(&mut self, session: u32, back: TakingBack) -> u64
-        requires room { 1 ≤ self.old.spare }
+        requires room { Holds self.old.room 1 (room_of back.applied) }
         requires same { back.entered ≡ back.applied }
         requires fits { Fits self.old.ledger.limits (present self.old.ledger) back.applied }
         requires sound { IsSound self.old.ledger.limits self.old.ledger.opening (with_entry self.old.ledger.entries session (Undone back.of back.applied)) }
         ensures number { result ≡ length self.old.ledger.entries + 1 }
         ensures after { self.new.ledger ≡ enter self.old.ledger session (Undone back.of back.applied) }
-        ensures spare { self.old.spare ≤ self.new.spare + 1 }
+        ensures room { Takes self.old.room 1 (room_of back.applied) self.new.room }
     {
         let TakingBack {
             of,
@@ -290,27 +290,27 @@ impl Book {
 
     /// Enters an act, which changes no record, in room for one.
     fn enter_act(&mut self, session: u32, act: Act, key: Key, now: Instant) -> u64
-        requires { 1 ≤ self.old.spare }
+        requires { 1 ≤ self.old.room.entries }
         ensures number { result ≡ length self.old.ledger.entries + 1 }
         ensures after { self.new.ledger ≡ enter self.old.ledger session (Acted act key now) }
         ensures map { present self.new.ledger ≡ present self.old.ledger }
-        ensures spare { self.old.spare ≤ self.new.spare + 1 }
+        ensures room { Takes self.old.room 1 0 self.new.room }
     {
         // That the entries are sound is the type's rule, which the proof has where a field is looked at.
         let _ = &self.journal;
         self.append(session, What::Acted { act, key, now }, None)
     }
 
-    /// Applies what the entry applies, if it applies a change, and enters it, in room for one. The change fits, and the
+    /// Applies what the entry applies, if it applies a change, and enters it, in room for both. The change fits, and the
     /// entries stay sound.
     pub(crate) fn append(&mut self, session: u32, what: What, change: Option<Change>) -> u64
-        requires room { 1 ≤ self.old.spare }
+        requires room { Holds self.old.room 1 (option_map_or room_of change 0) }
         requires applies { applies what ≡ change }
         requires fits { IfSome change (λ e. Fits self.old.ledger.limits (present self.old.ledger) e) }
         requires sound { IsSound self.old.ledger.limits self.old.ledger.opening (with_entry self.old.ledger.entries session what) }
         ensures number { result ≡ length self.old.ledger.entries + 1 }
         ensures after { self.new.ledger ≡ enter self.old.ledger session what }
-        ensures spare { self.old.spare ≤ self.new.spare + 1 }
+        ensures room { Takes self.old.room 1 (option_map_or room_of change 0) self.new.room }
     {
         match change {
             Some(change) => {

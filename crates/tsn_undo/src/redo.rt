@@ -1,11 +1,11 @@
 //! Redo: a session takes back its newest undo.
-ghost use Rattle.std.specs.Prelude.{◌≡◌, ◌≤◌, ◌↔◌, IfErr, IfOk, IsSome, IsTrue, OnErr, Some};
+ghost use Rattle.std.specs.Prelude.{◌≡◌, ◌↔◌, IfErr, IfOk, IsSome, IsTrue, OnErr, Some};
 ghost use Rattle.tsn_types.specs.declared.refusals.Refusal.TheVariants.{Memory};
 ghost use Rattle.tsn_types.specs.Refusals.{IsLeastOrMemory};
 ghost use Rattle.tsn_edit.specs.Changes.{Fits};
 ghost use Rattle.tsn_edit.specs.Parts.{Change as AnyChange, inverse};
 ghost use Rattle.tsn_journal.specs.Finding.{change_at};
-ghost use Rattle.tsn_undo.specs.Ledger.{present};
+ghost use Rattle.tsn_undo.specs.Ledger.{Takes, present};
 ghost use Rattle.tsn_undo.specs.Redo.{IsRedoable, Redoes, WhyNoRedo};
 
 use crate::book::{Book, TakingBack};
@@ -21,7 +21,7 @@ impl Book {
         ensures ok { IfOk result (λ numbers. Redoes self.old.ledger session numbers.0 numbers.1 self.new.ledger) }
         ensures refused { IfErr result (λ why. WhyNoRedo self.old.ledger session (λ cause. IsLeastOrMemory cause why)) }
         ensures unchanged { OnErr result (self.new.ledger ≡ self.old.ledger) }
-        ensures kept { OnErr result (self.old.spare ≤ self.new.spare) }
+        ensures kept { OnErr result (Takes self.old.room 0 0 self.new.room) }
     {
         let of = match self.redoable(session) {
             Ok(of) => of,
@@ -77,7 +77,7 @@ impl Book {
         ensures ok { IfOk result (λ number. Redoes self.old.ledger session number of self.new.ledger) }
         ensures memory { IfErr result (λ why. why ≡ Memory) }
         ensures unchanged { OnErr result (self.new.ledger ≡ self.old.ledger) }
-        ensures kept { OnErr result (self.old.spare ≤ self.new.spare) }
+        ensures kept { OnErr result (Takes self.old.room 0 0 self.new.room) }
     {
         // That the entries are sound is the type's rule, which the proof has where a field is looked at.
         let _ = &self.journal;

@@ -1,10 +1,11 @@
 //! Undo of all that a session has standing, in one call: every entry or none.
-ghost use Rattle.std.specs.Prelude.{◌≡◌, ◌≤◌, IfErr, IfOk, OnErr, None, length, map};
+ghost use Rattle.std.specs.Prelude.{◌≡◌, IfErr, IfOk, OnErr, None, length, map};
 ghost use Rattle.tsn_types.specs.declared.refusals.Refusal.TheVariants.{Memory};
 ghost use Rattle.tsn_types.specs.Refusals.{IsLeastOrMemory};
 ghost use Rattle.tsn_journal.specs.Finding.{find_own_in_conflict, own_standing};
+ghost use Rattle.tsn_undo.specs.Ledger.{Holds, Takes};
 ghost use Rattle.tsn_undo.specs.Soundness.{IsSound};
-ghost use Rattle.tsn_undo.specs.UndoAll.{TakesAllBack, conflict_with_others, taking_back, undo_all_refusal, with_undone};
+ghost use Rattle.tsn_undo.specs.UndoAll.{TakesAllBack, conflict_with_others, room_of_all, taking_back, undo_all_refusal, with_undone};
 
 use crate::book::{Book, TakingBack};
 use std::alloc::AllocError;
@@ -20,7 +21,7 @@ impl Book {
         ensures ok { IfOk result (λ numbers. TakesAllBack self.old.ledger session numbers.0 numbers.1 self.new.ledger) }
         ensures refused { IfErr result (λ why. IsLeastOrMemory (undo_all_refusal self.old.ledger session) why) }
         ensures unchanged { OnErr result (self.new.ledger ≡ self.old.ledger) }
-        ensures kept { OnErr result (self.old.spare ≤ self.new.spare) }
+        ensures kept { OnErr result (Takes self.old.room 0 0 self.new.room) }
     {
         if let Some(why) = self.refuse_undo_all(session) {
             return Err(why);
@@ -57,7 +58,7 @@ impl Book {
         ensures ok { IfOk result (λ numbers. TakesAllBack self.old.ledger session numbers.0 numbers.1 self.new.ledger) }
         ensures memory { IfErr result (λ why. why ≡ Memory) }
         ensures unchanged { OnErr result (self.new.ledger ≡ self.old.ledger) }
-        ensures kept { OnErr result (self.old.spare ≤ self.new.spare) }
+        ensures kept { OnErr result (Takes self.old.room 0 0 self.new.room) }
     {
         let count = self.journal().count_of(session);
         if let Err(why) = self.reserve(count) {
@@ -85,7 +86,7 @@ impl Book {
         requires backs { backs.items ≡ map taking_back (own_standing self.old.ledger.entries session) }
         requires sound { IsSound self.old.ledger.limits self.old.ledger.opening self.old.ledger.entries }
         requires free { undo_all_refusal self.old.ledger session ≡ None }
-        requires room { length (own_standing self.old.ledger.entries session) ≤ self.old.spare }
+        requires room { Holds self.old.room (length (own_standing self.old.ledger.entries session)) (room_of_all (own_standing self.old.ledger.entries session)) }
         ensures { self.new.ledger ≡ record self.old.ledger { entries = with_undone self.old.ledger.entries session (own_standing self.old.ledger.entries session) } }
     {
         while let Some(back) = backs.pop() {

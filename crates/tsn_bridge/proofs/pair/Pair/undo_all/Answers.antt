@@ -1,9 +1,10 @@
-use Rattle.std.proofs.Common.{◌∙◌, ap, length, subst}
+use Rattle.std.proofs.Common.{◌∙◌, ◌≤◌, ap, arith, length, rules, subst}
 use Rattle.tsn_journal.specs.Finding.{own_standing}
 use Rattle.tsn_undo.specs.Ledger.{Ledger}
 use Rattle.tsn_bridge.specs.Pair.{PairState}
 use Rattle.tsn_bridge.specs.Together.{FollowsAll}
 use Rattle.tsn_bridge.proofs.Pushed.{follows_each}
+use Rattle.tsn_bridge.proofs.Room.{one_each_behind}
 use Rattle.tsn_bridge.proofs.Tied.{tied_all}
 use Rattle.tsn_bridge.proofs.pair.Pair.undo_all.Goals as goal
 
@@ -33,3 +34,8 @@ returns-clause-follows c =
     c.follow_each.ensures.runners c.follow_each.ensures.frames in
     let new : PairState = record { ledger = c.undo_all.new.self.ledger; time = c.follow_each.new.runtime.time; frames = c.follow_each.new.runtime.frames } in
     subst (λ (p : PairState). FollowsAll p (own_standing p.ledger.entries s) new) c.self.view_is (record { frames = f.frames; time = f.time })
+
+pub follow_each-requires-clause-room : goal.follow_each-requires-clause-room
+follow_each-requires-clause-room c =
+    let enough : c.count_of-own.result ≤ c.reserve.new.self.spare = search rules in
+    omega (arith, one_each_behind c.journal-3.result.now.entries c.len-first.result c.count_of-own.result, enough)
