@@ -1,0 +1,7 @@
+mod Begin
+mod Closing
+mod Everywhere
+mod Keeps
+mod Outside
+mod Parts
+mod Totals
