@@ -16,3 +16,4 @@ pub mod Later
 pub mod Headline
 pub mod WhyNotAll
 pub mod Examples
+pub mod Turning

@@ -18,3 +18,4 @@ pub mod Rule
 pub mod Sessions
 pub mod State
 pub mod Together
+pub mod Turns

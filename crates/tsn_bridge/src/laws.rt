@@ -1,5 +1,5 @@
 //! Laws of the machine, as functions whose contracts state them. Their bodies are empty.
-ghost use Rattle.std.specs.Prelude.{◌≡◌, ◌⊎◌, ◌≤◌, ℕ, List, [], ◌∷◌, Some, None, false, true, option_map};
+ghost use Rattle.std.specs.Prelude.{◌≡◌, ◌⊎◌, ◌≤◌, ℕ, Bool, List, [], ◌∷◌, Some, None, false, true, option_map};
 ghost use Rattle.std.specs.FinMap as map;
 ghost use Rattle.tsn_types.specs.declared.keys.Key.{Key as AnyKey};
 ghost use Rattle.tsn_types.specs.declared.keys.Key.TheVariants.{Gate, Port};
@@ -15,7 +15,7 @@ ghost use Rattle.tsn_edit.specs.declared.Edit.{Edit as AnyEdit};
 ghost use Rattle.tsn_edit.specs.Changes.{restored};
 ghost use Rattle.tsn_edit.specs.Edits.{EditInRange, result as edit_result};
 ghost use Rattle.tsn_config.specs.Ids.{ids_of};
-ghost use Rattle.tsn_journal.specs.Entries.{Applied};
+ghost use Rattle.tsn_journal.specs.Entries.{Applied, standing};
 ghost use Rattle.tsn_journal.specs.Finding.{last_of, others_standing, own_standing};
 ghost use Rattle.tsn_schedule.specs.Examples.{one_two};
 ghost use Rattle.tsn_chain.specs.declared.state.State.TheVariants as states;
@@ -23,9 +23,13 @@ ghost use Rattle.tsn_chain.specs.declared.state.Counters.TheVariants as counters
 ghost use Rattle.tsn_chain.specs.Examples.{frame_of};
 ghost use Rattle.tsn_chain.specs.declared.frame.Verdict.TheVariants.{Dropped, Passed};
 ghost use Rattle.tsn_chain.specs.declared.frame.DropCause.TheVariants.{Closed, Octets};
-ghost use Rattle.tsn_undo.specs.Ledger.{present};
+ghost use Rattle.tsn_undo.specs.Commuting.{Commutes, IsClosed};
+ghost use Rattle.tsn_undo.specs.Ledger.{base_of, present};
 ghost use Rattle.tsn_undo.specs.Soundness.{IsSound};
 ghost use Rattle.tsn_undo.specs.UndoAll.{others_alone, undo_all_cause, with_undone};
+ghost use Rattle.tsn_desk.specs.declared.history.Entry.{Entry as Call};
+ghost use Rattle.tsn_desk.specs.History.{Runs};
+ghost use Rattle.tsn_bridge.specs.declared.command.Ask.{Ask as AnyAsk};
 ghost use Rattle.tsn_bridge.specs.declared.command.Command.{Command as AnyCommand};
 ghost use Rattle.tsn_bridge.specs.declared.reply.Reply.{Reply as AnyReply};
 ghost use Rattle.tsn_bridge.specs.declared.reply.Reply.TheVariants.{Entry, EntryOf, Framed, Refused, TakenBack};
@@ -41,6 +45,7 @@ ghost use Rattle.tsn_bridge.specs.Machine.{Step};
 ghost use Rattle.tsn_bridge.specs.Rule.{Allows};
 ghost use Rattle.tsn_bridge.specs.Sessions.{most_sessions};
 ghost use Rattle.tsn_bridge.specs.State.{State};
+ghost use Rattle.tsn_bridge.specs.Turns.{Turns};
 
 /// The headline. Over every list of commands that sessions give a bridge, from limits and records that open one: an
 /// accepted edit at once undone leaves the configuration as it was; undoing a session's edits leaves exactly what the
@@ -60,6 +65,28 @@ pub fn headline()
         Opens limits records → AreInRange asks → Leads (begun limits records) asks now → OthersLeft now }
     ensures restored_list { (limits : AnyLimits) (records : List (AnyKey × AnyRecord)) (asks : List Answered) (now : State) →
         Opens limits records → AreInRange asks → Leads (begun limits records) asks now → RestoredList now }
+{}
+
+/// The headline, of a bridge that many threads share. Take a desk whose bridge began with limits and records that open
+/// one. Of each state to which a history of its turns leads, in whatever order the threads made them: it is whole; any
+/// standing entries may be taken out of the run with all that are in conflict with them (commutation under references);
+/// and the headline holds of it. Nothing is asked of the requests: the numbers of each are in their ranges, as a turn says.
+/// `Desk::close` tells such a history of the bridge that it gives back, and `Desk::turn` and `front` of what a seat has
+/// seen.
+pub fn headline_at_a_desk()
+    ensures whole { (limits : AnyLimits) (records : List (AnyKey × AnyRecord)) (history : List (Call AnyAsk AnyReply)) (now : State) →
+        Opens limits records → Runs Turns (begun limits records) history now → IsWhole now }
+    ensures commutation { (limits : AnyLimits) (records : List (AnyKey × AnyRecord)) (history : List (Call AnyAsk AnyReply)) (now : State) (out : Applied → Bool) →
+        Opens limits records → Runs Turns (begun limits records) history now →
+        IsClosed out (standing now.book.entries) → Commutes now.book.limits (base_of now.book) out (standing now.book.entries) }
+    ensures at_once_undone { (limits : AnyLimits) (records : List (AnyKey × AnyRecord)) (history : List (Call AnyAsk AnyReply)) (now : State) →
+        Opens limits records → Runs Turns (begun limits records) history now → AtOnceUndone now }
+    ensures others_alone { (limits : AnyLimits) (records : List (AnyKey × AnyRecord)) (history : List (Call AnyAsk AnyReply)) (now : State) →
+        Opens limits records → Runs Turns (begun limits records) history now → OthersAlone now }
+    ensures others_left { (limits : AnyLimits) (records : List (AnyKey × AnyRecord)) (history : List (Call AnyAsk AnyReply)) (now : State) →
+        Opens limits records → Runs Turns (begun limits records) history now → OthersLeft now }
+    ensures restored_list { (limits : AnyLimits) (records : List (AnyKey × AnyRecord)) (history : List (Call AnyAsk AnyReply)) (now : State) →
+        Opens limits records → Runs Turns (begun limits records) history now → RestoredList now }
 {}
 
 /// The code's limit of sessions is the one of the definitions.

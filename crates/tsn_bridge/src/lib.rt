@@ -9,5 +9,6 @@ mod acting;
 pub mod bridge;
 pub mod command;
 pub mod laws;
+mod machine;
 mod pair;
 pub mod reply;

@@ -1,0 +1,36 @@
+//! The bridge behind a desk: threads take turns at it, a command a turn.
+ghost use Rattle.tsn_bridge.specs.Histories.{CommandInRange};
+ghost use Rattle.tsn_bridge.specs.Turns.{Turns};
+
+use crate::bridge::Bridge;
+use crate::command::{Ask, Command};
+use crate::reply::Reply;
+use tsn_desk::machine::Machine;
+
+impl Command {
+    /// Tells a proof that the numbers of the command's record are in their ranges. It does nothing else.
+    fn tell_ranges(&self)
+        ensures { CommandInRange self.now }
+    {
+        match self {
+            Command::Create { key: _, value } => value.tell_ranges(),
+            Command::Replace { key: _, value } => value.tell_ranges(),
+            _ => {}
+        }
+    }
+}
+
+/// A turn at a desk of the bridge is one step, of what a session asks.
+impl Machine for Bridge {
+    type Request = Ask;
+
+    type Reply = Reply;
+
+    ghost steps = { Turns };
+
+    fn step(&mut self, ask: Ask) -> Reply {
+        let Ask { session, command } = ask;
+        command.tell_ranges();
+        Bridge::step(self, session, command)
+    }
+}
