@@ -127,11 +127,11 @@ impl<E: Timed> Runner<E> {
         *errors
     }
 
-    // Whether an instant comes before the last act.
-    fn is_past(&self, t: u64) -> bool
+    /// Whether an instant comes before the last act.
+    pub fn is_past(&self, t: Instant) -> bool
         ensures { IsTrue result ↔ (t < self.now.last) }
     {
-        t < self.last
+        t.get() < self.last
     }
 
     // What runs at t, with its latest cycle start that took place.
@@ -312,10 +312,10 @@ impl<E: Timed> Runner<E> {
             (λ current. (last_instant acts ≤ t) × (option_map (λ c. c.entry.now) current ≡ state_in E.interval acts t) × (option_map (λ c. c.began) current ≡ began_in E.interval acts t))
             (λ _. t < last_instant acts) }
     {
-        let t = t.get();
         if self.is_past(t) {
             return Err(Past);
         }
+        let t = t.get();
         let Some((planned, start)) = self.running_at(t) else {
             return Ok(None);
         };
