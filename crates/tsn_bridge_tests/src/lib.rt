@@ -6,4 +6,6 @@
 #[cfg(test)]
 mod comparing;
 #[cfg(test)]
+mod desks;
+#[cfg(test)]
 mod tests;

@@ -189,6 +189,7 @@ fn laws_have_nothing_to_run() {
     laws::edit_at_once_undone();
     laws::examples();
     laws::headline();
+    laws::headline_at_a_desk();
     laws::maps_after_steps();
     laws::limits();
     laws::over_every_interleaving();
