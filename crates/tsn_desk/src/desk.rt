@@ -6,6 +6,7 @@ ghost use Rattle.tsn_desk.specs.History.{Begins, calls_by};
 use crate::board::{Opening, SERVING, TICKETS, Turns, View};
 use crate::machine::Machine;
 use crate::plays::{Draw, SeeFront, SeeTickets};
+use crate::waiting::Waiting;
 use atomic_table::{Refused, Table};
 use std::alloc::{AllocError, Global};
 use std::snapshot::Snapshot;
@@ -24,6 +25,7 @@ const LAST_TICKET: u64 = 1 << 63;
 #[derive(Drop)]
 pub struct Desk<M: Machine> {
     pub(crate) table: Table<Option<M>, View<M, M::Request, M::Reply>, Opening<M>, Turns<M>, Global>,
+    pub(crate) waiting: Waiting,
     ghost sized: { (table.shared.table_id.words ≡ 2) × (table.shared.table_id.slots ≡ 1) },
     ghost seated: { 0 < table.shared.key.seats },
 }
@@ -93,7 +95,10 @@ impl<M: Machine> Desk<M> {
         slots.push_reserved(Some(machine));
         match Table::new(alloc, &[0, 0], slots, &opening) {
             Ok((table, seat)) => {
-                let desk = Desk { table };
+                let desk = Desk {
+                    table,
+                    waiting: Waiting::new(),
+                };
                 let row = desk.deal(seat, row, seats);
                 Ok((desk, row))
             }
@@ -124,8 +129,11 @@ impl<M: Machine> Desk<M> {
         ensures exhausted { OnErr result.1 ((2 ^ 63 ≤ tickets result.0) × (seen result.0 ≡ seen seat) × (made result.0 ≡ made seat)) }
         ensures always_then { 2 ^ 63 ≤ tickets seat → IsErr result.1 }
     {
+        self.come_in(rt);
         let mut seat = seat.into_inner();
         if self.table.shared.load::<SeeTickets>(&mut seat, TICKETS) >= LAST_TICKET {
+            // No turn ends here that would wake the next one at the door.
+            self.waiting.call_in();
             return (Seat { inner: seat }, Err(Exhausted { request }));
         }
         let place = self.table.shared.fetch_add::<Draw>(&mut seat, TICKETS, 1);
@@ -138,7 +146,7 @@ impl<M: Machine> Desk<M> {
         let nothing = self.table.shared.exchange(&mut seat, 0, Some(machine));
         let None = nothing else { unreachable!() };
         self.finish_said(&mut seat, &asked, &reply);
-        self.wake(place);
+        self.wake();
         (Seat { inner: seat }, Ok(Turn { place, reply }))
     }
 
@@ -185,7 +193,7 @@ impl<M: Machine> Desk<M> {
             self.gather(&mut seat, other);
         }
         seats.destroy_empty();
-        let Desk { table } = self;
+        let Desk { table, waiting: _ } = self;
         let mut closed = table.close_with(seat);
         let slot = closed.take(0);
         closed.free();

@@ -7,7 +7,8 @@
 //!
 //! What a history is stands in `specs/History.antt`, what the calls of a desk promise in `specs/Desks.antt`, and the rule
 //! that holds between any two atomic steps in `specs/Rule.antt`. The steps are those of `atomic_table`, so the code here
-//! is safe. That a turn ever comes, and in fair order, is no promise: a contract holds of what returns.
+//! is safe. Who waits, sleeps and is woken stands in `src/waiting.rt`: it decides when a thread goes on, and never what it
+//! finds. That a turn ever comes, and in fair order, is no promise: a contract holds of what returns.
 #![tactic(auto)]
 
 mod board;
@@ -18,3 +19,4 @@ pub mod machine;
 mod meeting;
 mod plays;
 mod turning;
+mod waiting;

@@ -1,8 +1,10 @@
-//! The parts of a turn: the wait for its ticket, and its end.
+//! The parts of a turn: the way in, the wait for its ticket, and its end.
 //!
-//! A seat that waits looks some times at the serving word and then parks on it. A park expects the number that the look
-//! found, so one that comes late returns at once; and who ends a turn wakes all, if a look at the tickets shows that
-//! someone may wait. No park, wake or such look needs a seat or tells anything, and who was woken looks again.
+//! Who finds a ticket out stays at the door, and draws none. Two that find none out at once both draw one, and the later
+//! one waits: it looks some times at the serving word and then parks on it. A park expects the number that the look
+//! found, so one that comes late returns at once; and who ends a turn wakes all, if some sleep with a ticket. Who is about
+//! to is counted first and then looks once more, so no wake is lost. No park, wake or count needs a seat or tells
+//! anything, and who was woken looks again.
 ghost use Rattle.std.specs.Prelude.{◌≡◌, ◌<◌, [], ◌∷◌, length, Some};
 ghost use Rattle.tsn_desk.specs.declared.board.Stage.TheVariants.{Serving, Waiting};
 ghost use Rattle.tsn_desk.specs.Steps.{Ended, HasServed, Took};
@@ -11,11 +13,12 @@ use crate::board::{SERVING, TICKETS};
 use crate::desk::{Desk, TableSeat};
 use crate::machine::Machine;
 use crate::plays::{End, Look, Said};
+use std::hint;
 use std::marker::Brand;
 use std::snapshot::Snapshot;
 use std::sync::Wait;
 
-/// How often a seat looks whether its ticket is served before it parks.
+/// How often a thread looks whether it may go on before it sleeps.
 const LOOKS: u32 = 100;
 
 impl<M: Machine> Desk<M> {
@@ -26,27 +29,64 @@ impl<M: Machine> Desk<M> {
         ensures took { Took M.steps seat.old.me ticket seat.new.me }
     {
         let mut looks = 0;
+        let mut is_counted = false;
         for _ in rt.forever() {
             let serving = self.table.shared.load::<Look>(seat, SERVING);
             if serving == ticket {
-                return;
+                break;
             }
             if looks < LOOKS {
                 looks += 1;
+                hint::spin_loop();
+            } else if !is_counted {
+                self.waiting.lie_down();
+                is_counted = true;
             } else {
                 self.table
                     .shared
                     .park(rt, SERVING, (serving % (1 << 32)) as u32);
             }
         }
+        if is_counted {
+            self.waiting.get_up();
+        }
+    }
+
+    /// Waits at the door until no ticket is out.
+    pub(crate) fn come_in<R: Wait>(&self, rt: &R) {
+        let mut looks = 0;
+        for _ in rt.forever() {
+            if self.is_free() {
+                return;
+            }
+            if looks < LOOKS {
+                looks += 1;
+                hint::spin_loop();
+                continue;
+            }
+            self.waiting.come();
+            if self.is_free() {
+                return;
+            }
+            self.waiting.sleep(rt);
+            self.waiting.come();
+            looks = 0;
+        }
         unreachable!()
     }
 
-    /// Wakes those who wait, if any do, once the turn of this ticket has ended.
-    pub(crate) fn wake(&self, ticket: u64) {
-        if self.table.shared.peek(TICKETS) > ticket.wrapping_add(1) {
+    /// Whether no ticket is out: every turn that was drawn for has ended.
+    fn is_free(&self) -> bool {
+        let tickets = self.table.shared.peek(TICKETS);
+        tickets <= self.table.shared.peek(SERVING)
+    }
+
+    /// Wakes those who sleep with a ticket, and one at the door.
+    pub(crate) fn wake(&self) {
+        if self.waiting.has_sleepers() {
             self.table.shared.wake_all(SERVING);
         }
+        self.waiting.call_in();
     }
 
     /// Ends the turn, in which `asked` was asked and `reply` was the answer.

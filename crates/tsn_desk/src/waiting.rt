@@ -1,0 +1,63 @@
+//! Who waits at a desk, and who wakes them. This decides when a thread sleeps, and never what it finds.
+//!
+//! A thread that finds a ticket out stays at the door until none is. So one that draws a ticket is served soon and seldom
+//! sleeps, and who sleeps at the door is not in the way of those who run. The door is a word: 1 while someone may sleep
+//! there. Who ends a turn sets it to 0 and wakes one; who was woken sets it to 1 again, since others may still sleep.
+//! Whoever sets it to 1 looks once more after that: it goes in, and its own turn ends later, or it finds a ticket out,
+//! and the turn of that ends later. Either way one more is woken.
+use std::sync::Wait;
+use std::sync::atomic::{AtomicU64, Ordering};
+
+/// Someone may sleep at the door.
+const CROWDED: u32 = 1;
+
+#[derive(Drop)]
+pub(crate) struct Waiting {
+    /// Whether someone may sleep at the door.
+    door: AtomicU64,
+    /// How many sleep with a ticket, or are about to.
+    sleepers: AtomicU64,
+}
+
+impl Waiting {
+    /// Nobody waits.
+    pub(crate) fn new() -> Waiting {
+        Waiting {
+            door: AtomicU64::new(0),
+            sleepers: AtomicU64::new(0),
+        }
+    }
+
+    /// Says that someone is at the door.
+    pub(crate) fn come(&self) {
+        self.door.store(u64::from(CROWDED), Ordering::SeqCst);
+    }
+
+    /// Sleeps at the door, unless someone was woken since `come`.
+    pub(crate) fn sleep<R: Wait>(&self, rt: &R) {
+        self.door.park(rt, CROWDED);
+    }
+
+    /// Wakes one at the door, if someone may sleep there.
+    pub(crate) fn call_in(&self) {
+        if self.door.load(Ordering::SeqCst) != 0 {
+            self.door.store(0, Ordering::SeqCst);
+            self.door.wake_one();
+        }
+    }
+
+    /// Counts one more that is about to sleep with a ticket.
+    pub(crate) fn lie_down(&self) {
+        self.sleepers.fetch_add(1, Ordering::SeqCst);
+    }
+
+    /// Counts one less.
+    pub(crate) fn get_up(&self) {
+        self.sleepers.fetch_sub(1, Ordering::SeqCst);
+    }
+
+    /// Whether some sleep with a ticket, or are about to.
+    pub(crate) fn has_sleepers(&self) -> bool {
+        self.sleepers.load(Ordering::SeqCst) != 0
+    }
+}
