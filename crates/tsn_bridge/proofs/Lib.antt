@@ -12,6 +12,7 @@ pub mod Causes
 pub mod Telling
 pub mod KeySteps
 pub mod Restored
+pub mod LastActs
 pub mod Later
 pub mod Headline
 pub mod WhyNotAll

@@ -40,7 +40,7 @@ use Rattle.tsn_bridge.proofs.Following.{object_push}
 
 -- ---- an object's record is that of the configuration
 
-abbrev changed_by : Configuration → Option Change → Configuration
+abbrev pub changed_by : Configuration → Option Change → Configuration
 changed_by c None = c
 changed_by c (Some e) = after_change c e
 
@@ -56,7 +56,7 @@ part_value : {E : Type 0} (k : Key) (c : Configuration) (o : Object E) (e : Chan
 unfolding part_on
 part_value k c o e h = after_value (part_of k (parts e)) o (get c k) h ∙ sym (get-after_change c e k)
 
-value_step : {E : Type 0} (admin : Option Record → Option (Schedule E)) (k : Key) (c : Configuration) (o : Object E) (w : What) → o.value ≡ get c k → (after_entry admin k o w).value ≡ get (changed_by c (applies w)) k
+pub value_step : {E : Type 0} (admin : Option Record → Option (Schedule E)) (k : Key) (c : Configuration) (o : Object E) (w : What) → o.value ≡ get c k → (after_entry admin k o w).value ≡ get (changed_by c (applies w)) k
 value_step admin k c o (Made e) h = part_value k c o e h
 value_step admin k c o (Undone n e) h = part_value k c o e h
 value_step admin k c o (Redone n e) h = part_value k c o e h

@@ -4,4 +4,5 @@
 //! after these entries. It holds no reference to the bridge, so whoever keeps it waits for nobody.
 #![tactic(auto)]
 
+pub mod laws;
 pub mod mirror;

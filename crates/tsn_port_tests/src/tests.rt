@@ -8,6 +8,7 @@ use std::test::Fail;
 use tsn_edit::{Change, Part};
 use tsn_journal::entries::{Act, Entries, What};
 use tsn_journal::journal::Journal;
+use tsn_port::laws;
 use tsn_port::mirror::Mirror;
 use tsn_schedule::runner::Past;
 use tsn_types::keys::Key;
@@ -95,4 +96,10 @@ fn a_mirror_shows_what_the_entries_make_of_its_port(rt: HostRuntime) -> Result<(
     shows(&rt, &mirror, 3300, Ok(128));
     shows(&rt, &mirror, 4000, Ok(1));
     Ok(())
+}
+
+#[test]
+fn laws_have_nothing_to_run() {
+    laws::entries_are_followed();
+    laws::mirrors_tell_as_the_bridge();
 }

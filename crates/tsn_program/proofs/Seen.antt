@@ -28,6 +28,7 @@ use Rattle.tsn_bridge.specs.Sessions.{hello_rule}
 use Rattle.tsn_bridge.specs.State.{State}
 use Rattle.tsn_bridge.specs.declared.command.Command.TheVariants as commands
 use Rattle.tsn_bridge.specs.declared.reply.Reply.{Reply}
+use Rattle.tsn_bridge.proofs.LastActs.{asked_last}
 use Rattle.tsn_bridge.proofs.Following.{object_push}
 use Rattle.tsn_bridge.proofs.Interleaving.{state_of}
 use Rattle.tsn_bridge.proofs.Stepping.{accepted}
@@ -65,20 +66,6 @@ taken : (rule : Rule) (s new : State) (reply : Reply) → Allows rule s reply ne
 taken rule s new reply step told = accepted rule s reply new (λ why is. let never : Some why ≡ None = sym (ap refusal_told is) ∙ told in (cc)) step
 
 -- ---- the last act on a port
-
-asked_last : {E : Type 0} (act : Asked) (schedule : Option (Schedule E)) (a t : ℕ) (acts : List (Act E)) → a ≤ t → last_instant acts ≤ t → last_instant (with_asked act schedule a acts) ≤ t
-asked_last asked.Enable schedule a t acts now before = go (is_enabled acts)
-  where
-    go : (b : Bool) → last_instant (cond b acts (Enable a ∷ acts)) ≤ t
-    go true = before
-    go false = now
-asked_last asked.Disable schedule a t acts now before = go (is_enabled acts)
-  where
-    go : (b : Bool) → last_instant (cond b (Disable a ∷ acts) acts) ≤ t
-    go true = now
-    go false = before
-asked_last asked.Apply None a t acts now before = before
-asked_last asked.Apply (Some schedule) a t acts now before = now
 
 acted_last : (s : State) (act : Asked) (p now t : ℕ) → instant s now ≤ t → last_at s.book (Port p) ≤ t → last_at (acted_state s 1 act (Port p) now).book (Port p) ≤ t
 acted_last s act p now t at before =

@@ -1,0 +1,37 @@
+//! Laws of mirrors, as functions whose contracts state them. Their bodies are empty.
+ghost use Rattle.std.specs.Prelude.{◌≡◌, ◌≤◌, ℕ, List, [], Some};
+ghost use Rattle.std.specs.FinMap as map;
+ghost use Rattle.tsn_types.specs.declared.keys.Key.{Key as AnyKey};
+ghost use Rattle.tsn_types.specs.declared.keys.Key.TheVariants.{Port};
+ghost use Rattle.tsn_types.specs.declared.limits.Limits.{Limits as AnyLimits};
+ghost use Rattle.tsn_types.specs.declared.records.PortGates.{PortGates as AnyPortGates};
+ghost use Rattle.tsn_types.specs.declared.records.Record.{Record as AnyRecord};
+ghost use Rattle.tsn_types.specs.declared.records.Record.TheVariants as records;
+ghost use Rattle.tsn_chain.specs.declared.state.State.TheVariants as states;
+ghost use Rattle.tsn_undo.specs.Ledger.{Ledger, present};
+ghost use Rattle.tsn_schedule.specs.Acts.{last_instant};
+ghost use Rattle.tsn_bridge.specs.Beginning.{Opens, begun};
+ghost use Rattle.tsn_bridge.specs.Histories.{Answered, AreInRange, Leads};
+ghost use Rattle.tsn_bridge.specs.Looking.{last_at, shown_at};
+ghost use Rattle.tsn_bridge.specs.State.{State};
+ghost use Rattle.tsn_port.specs.Mirrors.{AreOfPort, ShowsGates, mirrored};
+
+/// The entries of a bridge are such as a mirror of any of its ports follows, whatever sessions ask of it. Take limits and
+/// records that open a bridge, and a port within the limits with its record at the opening: after each entry the port is
+/// there with a port's record, and its acts are in order of time, each with effect.
+#[tactic(auto, using(crate::proofs::Ports::entries_of_ports))]
+pub fn entries_are_followed()
+    ensures { (limits : AnyLimits) (given : List (AnyKey × AnyRecord)) (asks : List Answered) (now : State) (n : ℕ) (opening : AnyPortGates) →
+        Opens limits given → AreInRange asks → Leads (begun limits given) asks now → 1 ≤ n → n ≤ limits.ports →
+        map.get now.book.opening (Port n) ≡ Some (records.Port opening) → AreOfPort n (mirrored n opening []) now.book.entries }
+{}
+
+/// A mirror that has all entries of a bridge in tells what the bridge tells of the port: the same gates at an instant, and
+/// the instant of the last act is the same.
+#[tactic(auto, using(crate::proofs::Ports::tells_past))]
+pub fn mirrors_tell_as_the_bridge()
+    ensures gates { (book : Ledger) (n : ℕ) (opening : AnyPortGates) (t gates : ℕ) → map.get book.opening (Port n) ≡ Some (records.Port opening) →
+        ShowsGates (mirrored n opening book.entries) t gates → shown_at book (Port n) (map.get (present book) (Port n)) t ≡ Some (states.Port gates) }
+    ensures past { (book : Ledger) (n : ℕ) (opening : AnyPortGates) → map.get book.opening (Port n) ≡ Some (records.Port opening) →
+        last_instant (mirrored n opening book.entries).acts ≡ last_at book (Port n) }
+{}
