@@ -5,20 +5,26 @@ ghost use Rattle.std.specs.Prelude.{◌≡◌, ℕ, ◌<◌, ◌≤◌, List, []
 ghost use Rattle.std.specs.Io.KnownBytes.{Consumes, Appends, Keeps, IsAtEnd};
 ghost use Rattle.tsn_bytes.specs.Bytes.{IsCut, Counts};
 
+use thiserror::Error;
+
 /// A call of a reader or a writer failed. It moved no byte.
 #[derive(Clone, Copy, Debug, PartialEq, Eq)]
 pub struct Failed;
 
 /// Why a run over bytes ended before its input did.
-#[derive(Clone, Copy, Debug, PartialEq, Eq)]
+#[derive(Clone, Copy, Debug, PartialEq, Eq, Error)]
 pub enum Fault {
     /// The reader failed, or gave no end within the reads that were allowed.
+    #[error("read failed")]
     Read,
     /// The writer failed, or took 0 bytes of some.
+    #[error("write failed")]
     Write,
     /// Memory was wanted and not there.
+    #[error("out of memory")]
     Memory,
     /// What answers the lines can answer no more.
+    #[error("no ticket left")]
     Exhausted,
 }
 

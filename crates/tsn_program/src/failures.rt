@@ -2,19 +2,38 @@
 ghost use Rattle.std.specs.Prelude.{◌≡◌, []};
 ghost use Rattle.tsn_program.specs.Failures.{failure_line, refusal_line};
 
+use std::fmt;
+use std::fmt::{Display, Formatter, Write};
+use thiserror::Error;
 use tsn_bytes::Fault;
 use tsn_replies::ShortText;
 use tsn_types::refusals::Refusal;
 
-/// Why a run failed.
-#[derive(Clone, Copy, Debug, PartialEq, Eq)]
+/// Why a run failed. As a text it is what its line says, without the program's name.
+#[derive(Clone, Copy, Debug, PartialEq, Eq, Error)]
 pub enum Failure {
     /// Reading the input or writing the output failed, or memory was wanting.
+    #[error(transparent)]
     Fault(Fault),
     /// The file of the setup was not read.
+    #[error("cannot read the setup")]
     Setup,
     /// The setup, or what is asked of its bridge, is refused.
+    #[error("{}", Told(*.0))]
     Refused(Refusal),
+}
+
+/// A refusal as a failure tells it: by its number and its name, and want of memory as wherever it is met.
+#[derive(Drop)]
+struct Told(Refusal);
+
+impl Display for Told {
+    fn fmt<W: Write>(&self, f: &mut Formatter<W>) -> Result<(), fmt::Error> {
+        match &self.0 {
+            Refusal::Memory => write!(f, "{}", Fault::Memory),
+            why => write!(f, "refused {} {}", why.number(), why.name()),
+        }
+    }
 }
 
 #[tactic(auto, using(tsn_replies::proofs::Names::name_short))]

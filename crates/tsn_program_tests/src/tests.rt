@@ -219,6 +219,13 @@ fn tells(
     Ok(())
 }
 
+/// As a text the failure is what its line says, without the program's name.
+fn reads(rt: &impl Abort, alloc: Global, failure: &Failure, line: &str) -> Result<(), Fail> {
+    let text = format!(in alloc; "tsnd: {failure}\n")?;
+    same(rt, &text.as_str(), &line);
+    Ok(())
+}
+
 /// The status stays where the line can't be written.
 #[test]
 fn each_failure_has_its_line(rt: HostRuntime) -> Result<(), Fail> {
@@ -248,6 +255,7 @@ fn each_failure_has_its_line(rt: HostRuntime) -> Result<(), Fail> {
         (Failure::Refused(Refusal::Memory), "tsnd: out of memory\n"),
     ];
     for (failure, line) in cases {
+        reads(&rt, rt.alloc(), &failure, line)?;
         tells(&rt, rt.alloc(), None, failure, line.as_bytes())?;
     }
     let fails = Some((0, Failing::Error));
