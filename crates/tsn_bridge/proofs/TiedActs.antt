@@ -62,7 +62,7 @@ value_step admin k c o (Undone n e) h = part_value k c o e h
 value_step admin k c o (Redone n e) h = part_value k c o e h
 value_step admin k c o (Acted act key a) h = neither (same_key k key) o (with_asked act (admin o.value) a o.acts) ∙ h
 
-configured : (c : Configuration) (number session : ℕ) (w : What) (es : List Entry) → configuration c (record { number = number; session = session; what = w } ∷ es) ≡ configuration (changed_by c (applies w)) es
+pub configured : (c : Configuration) (number session : ℕ) (w : What) (es : List Entry) → configuration c (record { number = number; session = session; what = w } ∷ es) ≡ configuration (changed_by c (applies w)) es
 configured c number session (Made e) es = refl
 configured c number session (Undone n e) es = refl
 configured c number session (Redone n e) es = refl

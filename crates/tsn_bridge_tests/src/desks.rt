@@ -82,7 +82,7 @@ fn enter<R: Wait>(
     }
 }
 
-/// Creates the gate and removes it.
+/// Creates gate 1 or gate 0, a gate for each of two sessions, and removes it.
 fn create_and_remove<R: Wait + Abort>(
     rt: &R,
     alloc: Global,
@@ -94,13 +94,13 @@ fn create_and_remove<R: Wait + Abort>(
     ensures { IsSeatOf desk.now result }
 {
     let create = Command::Create {
-        key: gate_key(session),
+        key: gate_key(session % 2),
         value: Record::Gate(stream_gate(alloc)),
     };
     let (seat, made) = enter(rt, desk, seat, session, create);
     same(rt, &made.is_some(), &true);
     let remove = Command::Remove {
-        key: gate_key(session),
+        key: gate_key(session % 2),
     };
     let (seat, made) = enter(rt, desk, seat, session, remove);
     same(rt, &made.is_some(), &true);

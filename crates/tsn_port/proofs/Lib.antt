@@ -1,3 +1,4 @@
 pub mod Acting
+pub mod Openings
 pub mod Ports
 pub mod Taking

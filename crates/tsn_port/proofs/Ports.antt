@@ -71,7 +71,7 @@ record_at : (l : Limits) (n : ℕ) (r : Record) → HoldsRecord l (Port n) r →
 record_at l n (records.Port p) h = (p, refl)
 record_at l n r h = absurd h
 
-port_of : (l : Limits) (c : Configuration) (n : ℕ) → IsWellKept l c → 1 ≤ n → n ≤ l.ports → (p : PortGates) × (get c (Port n) ≡ Some (records.Port p))
+pub port_of : (l : Limits) (c : Configuration) (n : ℕ) → IsWellKept l c → 1 ≤ n → n ≤ l.ports → (p : PortGates) × (get c (Port n) ≡ Some (records.Port p))
 port_of l c n kept low high =
     let there = held (get c (Port n)) (kept.ports n low high) in
     let is = record_at l n there.0 (kept.within (Port n) there.0 there.1).1 in
@@ -82,10 +82,10 @@ module _ (l : Limits) (n : ℕ) (low : 1 ≤ n) (high : n ≤ l.ports) where
   of_port c o kept at h = let p = port_of l c n kept low high in record { value = p.0; value_is = at ∙ p.1; history = h }
 
   -- what the entries applied replays from c
-  abbrev Replays : Configuration → List Entry → Type 0
+  abbrev pub Replays : Configuration → List Entry → Type 0
   Replays c es = IsGood l c (changes (collect applies es))
 
-  kept_after : (c : Configuration) (number session : ℕ) (w : What) (es : List Entry) → IsWellKept l c → Replays c (record { number = number; session = session; what = w } ∷ es) → IsWellKept l (changed_by c (applies w)) × Replays (changed_by c (applies w)) es
+  pub kept_after : (c : Configuration) (number session : ℕ) (w : What) (es : List Entry) → IsWellKept l c → Replays c (record { number = number; session = session; what = w } ∷ es) → IsWellKept l (changed_by c (applies w)) × Replays (changed_by c (applies w)) es
   kept_after c number session (Made e) es kept good = (good.0.kept, good.1)
   kept_after c number session (Undone m e) es kept good = (good.0.kept, good.1)
   kept_after c number session (Redone m e) es kept good = (good.0.kept, good.1)

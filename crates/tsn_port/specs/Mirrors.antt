@@ -1,12 +1,13 @@
 -- What a mirror of a port keeps, and when it is the port's after some entries.
 use Rattle.std.specs.Prelude.{◌≡◌, refl, ℕ, List, [], ◌∷◌, Option, Some, None, length}
-use Rattle.std.specs.Option.{option_and_then}
+use Rattle.std.specs.Option.{option_and_then, unwrap_or}
 use Rattle.std.specs.Coded.{Coded, code_by, coded×, coded_ℕ}
 use Rattle.tsn_types.specs.contracts.records.PortEntry as port_entry_row
 use Rattle.tsn_types.specs.contracts.records.PortGates as port_gates_row
 use Rattle.tsn_types.specs.declared.keys.Key.TheVariants.{Port}
 use Rattle.tsn_types.specs.declared.records.PortEntry.{PortEntry}
 use Rattle.tsn_types.specs.declared.records.PortGates.{PortGates}
+use Rattle.tsn_types.specs.declared.records.Record.{Record}
 use Rattle.tsn_types.specs.declared.records.Record.TheVariants as records
 use Rattle.tsn_edit.specs.Changes.{part_of}
 use Rattle.tsn_edit.specs.Parts.{Part, parts}
@@ -76,3 +77,18 @@ pub record ShowsGates (o : Object PortEntry) (t gates : ℕ) : Type 0 where
   pub value : PortGates
   pub value_is : o.value ≡ Some (records.Port value)
   pub gates_are : gates ≡ shown_by value (state_in (λ e. e.interval) o.acts t)
+
+-- the port's record in a value, if it is one
+abbrev pub port_in : Option Record → Option PortGates
+port_in (Some (records.Port p)) = Some p
+port_in v = None
+
+-- the record that a port had before an entry changed it, if it did
+abbrev pub record_before : ℕ → What → Option PortGates
+record_before n w = option_and_then (λ p. port_in p.before) (port_part n w)
+
+-- The record with which the journal began: the one before the first change of the port, or the one that is shown where no
+-- entry changed it.
+abbrev pub first_record : ℕ → List Entry → PortGates → PortGates
+first_record n [] shown = shown
+first_record n (e ∷ es) shown = unwrap_or (record_before n e.what) (first_record n es shown)

@@ -1,5 +1,5 @@
 //! Laws of mirrors, as functions whose contracts state them. Their bodies are empty.
-ghost use Rattle.std.specs.Prelude.{◌≡◌, ◌≤◌, ℕ, List, [], Some};
+ghost use Rattle.std.specs.Prelude.{◌≡◌, ◌≤◌, ◌++◌, ℕ, List, [], Some};
 ghost use Rattle.std.specs.FinMap as map;
 ghost use Rattle.tsn_types.specs.declared.keys.Key.{Key as AnyKey};
 ghost use Rattle.tsn_types.specs.declared.keys.Key.TheVariants.{Port};
@@ -8,13 +8,16 @@ ghost use Rattle.tsn_types.specs.declared.records.PortGates.{PortGates as AnyPor
 ghost use Rattle.tsn_types.specs.declared.records.Record.{Record as AnyRecord};
 ghost use Rattle.tsn_types.specs.declared.records.Record.TheVariants as records;
 ghost use Rattle.tsn_chain.specs.declared.state.State.TheVariants as states;
+ghost use Rattle.tsn_edit.specs.Configuration.{Configuration};
+ghost use Rattle.tsn_journal.specs.declared.entries.Entry.{Entry};
 ghost use Rattle.tsn_undo.specs.Ledger.{Ledger, present};
+ghost use Rattle.tsn_undo.specs.Soundness.{IsSound, configuration};
 ghost use Rattle.tsn_schedule.specs.Acts.{last_instant};
 ghost use Rattle.tsn_bridge.specs.Beginning.{Opens, begun};
 ghost use Rattle.tsn_bridge.specs.Histories.{Answered, AreInRange, Leads};
 ghost use Rattle.tsn_bridge.specs.Looking.{last_at, shown_at};
 ghost use Rattle.tsn_bridge.specs.State.{State};
-ghost use Rattle.tsn_port.specs.Mirrors.{AreOfPort, ShowsGates, mirrored};
+ghost use Rattle.tsn_port.specs.Mirrors.{AreOfPort, ShowsGates, first_record, mirrored};
 
 /// The entries of a bridge are such as a mirror of any of its ports follows, whatever sessions ask of it. Take limits and
 /// records that open a bridge, and a port within the limits with its record at the opening: after each entry the port is
@@ -34,4 +37,14 @@ pub fn mirrors_tell_as_the_bridge()
         ShowsGates (mirrored n opening book.entries) t gates → shown_at book (Port n) (map.get (present book) (Port n)) t ≡ Some (states.Port gates) }
     ensures past { (book : Ledger) (n : ℕ) (opening : AnyPortGates) → map.get book.opening (Port n) ≡ Some (records.Port opening) →
         last_instant (mirrored n opening book.entries).acts ≡ last_at book (Port n) }
+{}
+
+/// The record with which a bridge's journal began, of a port, is found from its entries and a record that the port had at an
+/// earlier time, when only the first of the entries were there: it is the record before the first change of the port, or,
+/// where none changed it, the one that it had.
+pub fn first_records_are_found()
+    ensures { (limits : AnyLimits) (opening : Configuration) (front more : List Entry) (n : ℕ) (shown : AnyPortGates) →
+        IsSound limits opening (front ++ more) → 1 ≤ n → n ≤ limits.ports →
+        map.get (configuration opening front) (Port n) ≡ Some (records.Port shown) →
+        map.get opening (Port n) ≡ Some (records.Port (first_record n (front ++ more) shown)) }
 {}

@@ -11,7 +11,7 @@ ghost use Rattle.tsn_schedule.specs.States.{state_in};
 ghost use Rattle.tsn_journal.specs.declared.entries.Entry.{Entry as AnyEntry};
 ghost use Rattle.tsn_journal.specs.Entries.{applies};
 ghost use Rattle.tsn_bridge.specs.Objects.{Object, after_entry, after_part, port_schedule, with_asked};
-ghost use Rattle.tsn_port.specs.Mirrors.{AreOfPort, IsOfPort, Mirrors, Shows, acted, ShowsGates, mirrored, port_part};
+ghost use Rattle.tsn_port.specs.Mirrors.{AreOfPort, IsOfPort, Mirrors, Shows, ShowsGates, acted, first_record, mirrored, port_part, record_before};
 
 use std::alloc::AllocError;
 use std::marker::Model;
@@ -56,6 +56,19 @@ impl Mirror {
             runner: Runner::new(),
             front: 0,
         }
+    }
+
+    /// The mirror of a port of which the record and then all entries were looked up: with all of them in. Where no entry
+    /// changed the port, the record that was shown is the one with which the journal began. Refused only for want of memory.
+    pub fn of(port: PortId, shown: &PortGates, entries: &Entries) -> Result<Mirror, AllocError>
+        ensures port { IfOk result (λ mirror. mirror.port ≡ port) }
+        ensures front { IfOk result (λ mirror. mirror.front ≡ length entries.now) }
+        ensures mirrors { IfOk result (λ mirror. AreOfPort port (mirrored port (first_record port entries.now shown.now) []) entries.now → Mirrors mirror (first_record port entries.now shown.now) entries.now) }
+    {
+        let first = first_record(port, entries.as_slice(), shown).try_clone()?;
+        let mut mirror = Mirror::new(port, first);
+        mirror.take(entries)?;
+        Ok(mirror)
     }
 
     /// How many entries are in.
@@ -204,4 +217,28 @@ fn part_at(what: &What, port: PortId) -> Option<&Part>
         }
         _ => unreachable!(),
     }
+}
+
+/// The record that a port had before an entry changed it, if it did.
+fn record_before(what: &What, port: PortId) -> Option<&PortGates>
+    ensures { option_copied result ≡ record_before port what.now }
+{
+    match &part_at(what, port)?.before {
+        Some(Record::Port(before)) => Some(before),
+        _ => None,
+    }
+}
+
+/// The record with which the journal began, of a port that was shown with a record.
+fn first_record<'a>(port: PortId, entries: &'a [Entry], shown: &'a PortGates) -> &'a PortGates
+    ensures { result.now ≡ first_record port entries.now shown.now }
+{
+    let mut rest = entries;
+    while let Some((entry, more)) = rest.split_first() {
+        if let Some(before) = record_before(&entry.what, port) {
+            return before;
+        }
+        rest = more;
+    }
+    shown
 }

@@ -98,8 +98,35 @@ fn a_mirror_shows_what_the_entries_make_of_its_port(rt: HostRuntime) -> Result<(
     Ok(())
 }
 
+/// The list with which the journal began is applied, and then taken from the record.
+fn apply_and_replace(alloc: Global) -> Result<Entries, Fail> {
+    let mut journal = Journal::new(alloc);
+    journal.reserve(3)?;
+    act(&mut journal, 1, Act::Enable, 0);
+    act(&mut journal, 1, Act::Apply, 0);
+    let part = Part {
+        key: Key::Port(port()),
+        before: Some(Record::Port(record(alloc, ONE_TWO)?)),
+        after: Some(Record::Port(record(alloc, &[])?)),
+    };
+    journal.push(1, What::Made(Change::of(part)));
+    Ok(journal.since(0)?)
+}
+
+/// A mirror that is begun late finds the record that the port had at first, whose list still runs.
+#[test]
+fn a_mirror_is_begun_late(rt: HostRuntime) -> Result<(), Fail> {
+    let shown = record(rt.alloc(), &[])?;
+    let late = Mirror::of(port(), &shown, &apply_and_replace(rt.alloc())?)?;
+    same(&rt, &late.front(), &3);
+    shows(&rt, &late, 3299, Ok(1));
+    shows(&rt, &late, 3300, Ok(128));
+    Ok(())
+}
+
 #[test]
 fn laws_have_nothing_to_run() {
     laws::entries_are_followed();
+    laws::first_records_are_found();
     laws::mirrors_tell_as_the_bridge();
 }
