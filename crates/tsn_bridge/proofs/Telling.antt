@@ -28,6 +28,7 @@ use Rattle.tsn_bridge.specs.Acts.{act_causes, enabled_at, has_entry, has_list, s
 use Rattle.tsn_bridge.specs.Kept.{IsTied}
 use Rattle.tsn_bridge.specs.Looking.{counted_at, last_at, shown_at}
 use Rattle.tsn_bridge.specs.Objects.{gate_at, port_at}
+use Rattle.tsn_bridge.specs.Pair.{PairState}
 
 -- what stands at a place that is not empty
 pub held : {A : Type 0} (o : Option A) → IsSome o → (x : A) × (o ≡ Some x)
@@ -100,6 +101,10 @@ module _ (b : Ledger) (t : Instances) (h : IsTied b t.runners t.frames) where
       let d = held (get t.frames.gates m) there.1 in
       ap says_enabled (is d.0 d.1 r.0 r.1 (gate_at b m).acts (h.runs.gates m r.0 r.1))
   enabled_told (Meter m) now told there is = let d = held (get t.frames.meters m) there in ap says_enabled (is d.0 d.1)
+
+  -- the same, of the pair that is seen
+  pub enabled_of : (p : PairState) (key : Key) (told : Counters) → b ≡ p.ledger → is_some (get (present p.ledger) key) ≡ true → KeyCounts t.runners t.frames t.time key told → says_enabled told ≡ enabled_at p.ledger key
+  enabled_of p key told view there counts = enabled_told key t.time told (data_of key (ap (λ (c : Ledger). is_some (get (present c) key)) view ∙ there)) counts ∙ ap (λ (c : Ledger). enabled_at c key) view
 
 -- the record of a key that has a list, in a well kept configuration
 record_of : (b : Ledger) (key : Key) (r : Record) → has_list key ≡ true → HoldsRecord b.limits key r → HasList key (Some r)
