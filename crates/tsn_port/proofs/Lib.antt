@@ -1,4 +1,5 @@
 pub mod Acting
+pub mod Following
 pub mod Openings
 pub mod Ports
 pub mod Taking

@@ -1,5 +1,5 @@
 //! Laws of mirrors, as functions whose contracts state them. Their bodies are empty.
-ghost use Rattle.std.specs.Prelude.{◌≡◌, ◌≤◌, ◌++◌, ℕ, List, [], Some};
+ghost use Rattle.std.specs.Prelude.{◌≡◌, ◌≤◌, ◌+◌, ◌++◌, ℕ, List, [], Some, length};
 ghost use Rattle.std.specs.FinMap as map;
 ghost use Rattle.tsn_types.specs.declared.keys.Key.{Key as AnyKey};
 ghost use Rattle.tsn_types.specs.declared.keys.Key.TheVariants.{Port};
@@ -13,11 +13,15 @@ ghost use Rattle.tsn_journal.specs.declared.entries.Entry.{Entry};
 ghost use Rattle.tsn_undo.specs.Ledger.{Ledger, present};
 ghost use Rattle.tsn_undo.specs.Soundness.{IsSound, configuration};
 ghost use Rattle.tsn_schedule.specs.Acts.{last_instant};
+ghost use Rattle.tsn_desk.specs.declared.history.Entry.{Entry as Call};
+ghost use Rattle.tsn_bridge.specs.declared.command.Ask.{Ask as AnyAsk};
+ghost use Rattle.tsn_bridge.specs.declared.reply.Reply.{Reply as AnyReply};
 ghost use Rattle.tsn_bridge.specs.Beginning.{Opens, begun};
 ghost use Rattle.tsn_bridge.specs.Histories.{Answered, AreInRange, Leads};
 ghost use Rattle.tsn_bridge.specs.Looking.{last_at, shown_at};
 ghost use Rattle.tsn_bridge.specs.State.{State};
-ghost use Rattle.tsn_port.specs.Mirrors.{AreOfPort, ShowsGates, first_record, mirrored};
+ghost use Rattle.tsn_port.specs.Histories.{AsksBehind, IsOpened, IsWhole, Tells, TookSome};
+ghost use Rattle.tsn_port.specs.Mirrors.{AreOfPort, MirrorState, ShowsGates, first_record, mirrored};
 
 /// The entries of a bridge are such as a mirror of any of its ports follows, whatever sessions ask of it. Take limits and
 /// records that open a bridge, and a port within the limits with its record at the opening: after each entry the port is
@@ -47,4 +51,18 @@ pub fn first_records_are_found()
         IsSound limits opening (front ++ more) → 1 ≤ n → n ≤ limits.ports →
         map.get (configuration opening front) (Port n) ≡ Some (records.Port shown) →
         map.get opening (Port n) ≡ Some (records.Port (first_record n (front ++ more) shown)) }
+{}
+
+/// A mirror follows a bridge that threads share, by turns alone. Take a desk whose bridge began with limits and records that
+/// open one, and a mirror of a port within them that tells the port in a history: in each state to which the history leads
+/// it is the port's after its first entries. A later turn asks for the entries behind the mirror's front and is told them,
+/// and the mirror takes them. Then it tells the port in the history that ends with that turn; and where it took all, it is
+/// the port's after all entries there.
+pub fn mirrors_follow_turns()
+    ensures tells { (first : State) (history now : List (Call AnyAsk AnyReply)) (old new : MirrorState) (entries : List Entry) →
+        IsOpened first → 1 ≤ old.port → old.port ≤ first.book.limits.ports → Tells first history old →
+        AsksBehind history old entries now → TookSome old entries new → Tells first now new }
+    ensures whole { (first : State) (history now : List (Call AnyAsk AnyReply)) (old new : MirrorState) (entries : List Entry) →
+        IsOpened first → 1 ≤ old.port → old.port ≤ first.book.limits.ports → Tells first history old →
+        AsksBehind history old entries now → TookSome old entries new → new.front ≡ old.front + length entries → IsWhole first now new }
 {}

@@ -128,5 +128,6 @@ fn a_mirror_is_begun_late(rt: HostRuntime) -> Result<(), Fail> {
 fn laws_have_nothing_to_run() {
     laws::entries_are_followed();
     laws::first_records_are_found();
+    laws::mirrors_follow_turns();
     laws::mirrors_tell_as_the_bridge();
 }
