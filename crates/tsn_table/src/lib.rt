@@ -171,6 +171,12 @@ fn from_of<R>(rows: &[(u64, R)], from: u64) -> Option<u64>
     ensures there { IfSome result (λ id. (from ≤ id) × IsSome (map.find nat_cmp id rows.now)) }
     ensures least { (id : ℕ) → from ≤ id → IsSome (map.find nat_cmp id rows.now) → MatchOption result ⊥ (λ least. least ≤ id) }
 {
+    // the first row is often the one, and then there is nothing to search
+    if let Some(row) = rows.first() {
+        if from <= row.0 {
+            return Some(row.0);
+        }
+    }
     let place = rows.partition_point(|row| row.0 < from);
     match rows.get(place) {
         Some(row) => Some(row.0),
