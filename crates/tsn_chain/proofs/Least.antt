@@ -1,15 +1,14 @@
 -- The first row that passes a test is the one of the least number, and the filters of a configuration are its table's.
-use Rattle.std.proofs.Common.{◌≡◌, ℕ, ◌<◌, ◌≤◌, Bool, true, false, cond, List, [], ◌∷◌, refl, sym, ◌∙◌, ap, subst, Option, Some, None, arith, inl, inr}
-use Rattle.std.specs.Prelude.{T, unwrap_or}
+use Rattle.std.proofs.Common.{◌≡◌, ℕ, Bool, true, false, cond, List, [], ◌∷◌, refl, sym, ◌∙◌, ap, subst, Option, Some, None}
+use Rattle.std.specs.Prelude.{nat_eq, ◌&&◌, ◌||◌}
 use Rattle.std.specs.Option.{option_map}
-use Rattle.std.specs.Ordering.{nat_cmp, eq_by_cmp, is_lt}
+use Rattle.std.specs.Ordering.{nat_cmp, eq_by_cmp}
 use Rattle.std.specs.Cmp.{nat_cmp_total}
-use Rattle.std.specs.declared.cmp.Ordering.TheVariants.{Less, Equal, Greater}
-use Rattle.std.specs.FinMap.{FinMap, get, find, is_sorted, entries, entries_sorted, get-entries, get-from_entries, same_map, nat_cmp-IsAntisymmetric}
-use Rattle.std.specs.FinMap.Entries.{below_all}
-use Rattle.std.proofs.lemmas.Bool.{cases_lt, and_parts}
-use Rattle.std.proofs.lemmas.Bool.Decides.{nat_tests}
-use Rattle.tsn_table.specs.Firsts.{first_id}
+use Rattle.std.specs.FinMap.{FinMap, get, find, entries, entries_sorted, get-entries, get-from_entries, same_map, nat_cmp-IsAntisymmetric}
+use Rattle.tsn_table.specs.Firsts.{first_id, lesser}
+use Rattle.tsn_table.proofs.Firsts.{LeastIn, least_in, first_either}
+use Rattle.tsn_table.proofs.Places.{of_T}
+use Rattle.tsn_config.specs.Filters.{is_just, specifies}
 use Rattle.tsn_types.specs.declared.keys.Key.{Key}
 use Rattle.tsn_types.specs.declared.keys.Key.TheVariants.{Port, Filter, Gate, Meter}
 use Rattle.tsn_types.specs.declared.records.Record.{Record}
@@ -19,77 +18,7 @@ use Rattle.tsn_types.specs.Keys.{key_cmp}
 use Rattle.tsn_config.specs.Kinds.{filter_of}
 use Rattle.tsn_edit.specs.Configuration.{Configuration}
 use Rattle.tsn_edit.proofs.KeyFacts.{by_bool}
-use Rattle.tsn_chain.specs.Chosen.{chosen, is_matching, IsLeast, filter_rows, filters_of}
-
-of_T : (b : Bool) → T b → b ≡ true
-of_T true h = refl
-of_T false h = absurd h
-
-is_less : (k x : ℕ) → k < x → nat_cmp k x ≡ Less
-is_less k x h = grind (arith, nat_tests)
-
-is_more : (k x : ℕ) → x < k → nat_cmp k x ≡ Greater
-is_more k x h = grind (arith, nat_tests)
-
-is_same : (k : ℕ) → nat_cmp k k ≡ Equal
-is_same k = grind (arith, nat_tests)
-
-less_is : (a b : ℕ) → is_lt (nat_cmp a b) ≡ true → a < b
-less_is a b h = grind (arith, nat_tests)
-
-not_some : {A : Type 0} (o : Option A) (x : A) → o ≡ None → o ≡ Some x → ⊥
-not_some None x n s = absurd (cc)
-not_some (Some y) x n s = absurd (cc)
-
-some_of : {A : Type 0} (x y : A) → Some x ≡ Some y → x ≡ y
-some_of x y e = ap (λ o. unwrap_or o x) e
-
-module _ {X : Type 0} (p : X → Bool) where
-  abbrev MissesIn : ℕ → List (ℕ × X) → Type 0
-  MissesIn n es = (q : X) → find nat_cmp n es ≡ Some q → p q ≡ false
-
-  abbrev LeastIn : List (ℕ × X) → Option ℕ → Type 0
-  LeastIn es None = (n : ℕ) → MissesIn n es
-  LeastIn es (Some n) = ((q : X) × (find nat_cmp n es ≡ Some q) × (p q ≡ true)) × ((k : ℕ) → k < n → MissesIn k es)
-
-  find_below : (k x : ℕ) (es : List (ℕ × X)) → k ≤ x → below_all nat_cmp x es ≡ true → find nat_cmp k es ≡ None
-  find_below k x [] le h = refl
-  find_below k x (e ∷ es) le h =
-      let less : x < e.0 = less_is x e.0 ((and_parts _ _ h).0) in
-      let here : k < e.0 = omega arith in
-      rw (is_less k e.0 here) (find_below k x es le ((and_parts (is_lt (nat_cmp x e.0)) _ h).1))
-
-  missed : (b : Bool) (e : ℕ × X) (o : Option X) → p e.1 ≡ false → ((q : X) → o ≡ Some q → p q ≡ false) → (q : X) → cond b (Some e.1) o ≡ Some q → p q ≡ false
-  missed true e o f rest q is = ap p (sym (some_of e.1 q is)) ∙ f
-  missed false e o f rest q is = rest q is
-
-  later : (e : ℕ × X) (es : List (ℕ × X)) → p e.1 ≡ false → below_all nat_cmp e.0 es ≡ true → (o : Option ℕ) → LeastIn es o → LeastIn (e ∷ es) o
-  later e es f b None all = λ n. missed (eq_by_cmp nat_cmp n e.0) e (find nat_cmp n es) f (all n)
-  later e es f b (Some n) l =
-      let found : find nat_cmp n (e ∷ es) ≡ Some l.0.0 =
-      elim (cases_lt e.0 n) [
-        | inl lt ↦ rw (is_more n e.0 lt) l.0.1
-        | inr le ↦ absurd (not_some (find nat_cmp n es) l.0.0 (find_below n e.0 es le b) l.0.1)
-      ] in
-      ((l.0.0, found, l.0.2), λ k lt. missed (eq_by_cmp nat_cmp k e.0) e (find nat_cmp k es) f (l.1 k lt))
-
-  none_before : (e : ℕ × X) (es : List (ℕ × X)) → below_all nat_cmp e.0 es ≡ true → (k : ℕ) → k < e.0 → MissesIn k (e ∷ es)
-  none_before e es b k lt q is =
-      let none : find nat_cmp k (e ∷ es) ≡ None = rw (is_less k e.0 lt) (find_below k e.0 es (omega arith) b) in
-      absurd (not_some (find nat_cmp k (e ∷ es)) q none is)
-
-  first_row : (e : ℕ × X) (es : List (ℕ × X)) → find nat_cmp e.0 (e ∷ es) ≡ Some e.1
-  first_row e es = rw (is_same e.0) refl
-
-  least_in : (es : List (ℕ × X)) → is_sorted nat_cmp es ≡ true → LeastIn es (first_id p es)
-  least_in [] s = λ n q is. absurd (not_some None q refl is)
-  least_in (e ∷ es) s =
-      let below : below_all nat_cmp e.0 es ≡ true = (and_parts _ _ s).0 in
-      let rest : LeastIn es (first_id p es) = least_in es ((and_parts (below_all nat_cmp e.0 es) _ s).1) in
-      elim (p e.1) as (λ b. p e.1 ≡ b → LeastIn (e ∷ es) (cond b (Some e.0) (first_id p es))) [
-        | true ↦ λ t. ((e.1, first_row e es, t), none_before e es below)
-        | false ↦ λ f. later e es f below (first_id p es) rest
-      ] refl
+use Rattle.tsn_chain.specs.Chosen.{chosen, is_met, is_matching, IsLeast, filter_rows, filters_of}
 
 in_map : (h q : ℕ) (m : FinMap nat_cmp StreamFilter) (o : Option ℕ) → LeastIn (is_matching h q) (entries m) o → IsLeast h q m o
 in_map h q m None all = λ n r is. all n r (sym (get-entries m n) ∙ is)
@@ -97,6 +26,47 @@ in_map h q m (Some n) l = ((l.0.0, get-entries m n ∙ l.0.1, l.0.2), λ k lt r 
 
 pub least : (handle priority : ℕ) (m : FinMap nat_cmp StreamFilter) → IsLeast handle priority m (chosen handle priority m)
 least h q m = in_map h q m (chosen h q m) (least_in (is_matching h q) (entries m) (of_T _ (entries_sorted m)))
+
+-- a specification is met by a number where it is that number or the wildcard
+met_alike : (o : Option ℕ) (n : ℕ) → is_met o n ≡ (is_just (Some n) o || is_just None o)
+met_alike None n = refl
+met_alike (Some m) n = elim (nat_eq m n) as (λ b. b ≡ (b || false)) [ true ↦ refl | false ↦ refl ]
+
+four : (a b c d : Bool) → ((a || b) && (c || d)) ≡ (((a && c) || (a && d)) || ((b && c) || (b && d)))
+four true true true true = refl
+four true true true false = refl
+four true true false true = refl
+four true true false false = refl
+four true false true true = refl
+four true false true false = refl
+four true false false true = refl
+four true false false false = refl
+four false true true true = refl
+four false true true false = refl
+four false true false true = refl
+four false true false false = refl
+four false false c d = refl
+
+-- a filter matches where its specifications are one of four pairs
+matching_alike : (h q : ℕ) (r : StreamFilter)
+    → is_matching h q r ≡ ((specifies (Some h) (Some q) r || specifies (Some h) None r) || (specifies None (Some q) r || specifies None None r))
+matching_alike h q r = rw (met_alike r.handle h, met_alike r.priority q) (four (is_just (Some h) r.handle) (is_just None r.handle) (is_just (Some q) r.priority) (is_just None r.priority))
+
+first_alike : (p t : StreamFilter → Bool) → ((r : StreamFilter) → p r ≡ t r) → (es : List (ℕ × StreamFilter)) → first_id p es ≡ first_id t es
+first_alike p t same [] = refl
+first_alike p t same (e ∷ es) = ap (λ b. cond b (Some e.0) (first_id p es)) (same e.1) ∙ ap (cond (t e.1) (Some e.0)) (first_alike p t same es)
+
+-- the chosen filter is the least of the first ones with each of the four pairs
+pub chosen_of_four : (h q : ℕ) (m : FinMap nat_cmp StreamFilter)
+    → chosen h q m ≡ lesser (lesser (first_id (specifies (Some h) (Some q)) (entries m)) (first_id (specifies (Some h) None) (entries m))) (lesser (first_id (specifies None (Some q)) (entries m)) (first_id (specifies None None) (entries m)))
+chosen_of_four h q m =
+    let sorted = of_T _ (entries_sorted m) in
+    let handles = λ (r : StreamFilter). specifies (Some h) (Some q) r || specifies (Some h) None r in
+    let wildcards = λ (r : StreamFilter). specifies None (Some q) r || specifies None None r in
+    first_alike (is_matching h q) (λ r. handles r || wildcards r) (matching_alike h q) (entries m)
+    ∙ first_either handles wildcards (entries m) sorted
+    ∙ ap (λ o. lesser o (first_id wildcards (entries m))) (first_either (specifies (Some h) (Some q)) (specifies (Some h) None) (entries m) sorted)
+    ∙ ap (lesser (lesser (first_id (specifies (Some h) (Some q)) (entries m)) (first_id (specifies (Some h) None) (entries m)))) (first_either (specifies None (Some q)) (specifies None None) (entries m) sorted)
 
 -- a value that is a filter's record, or none
 abbrev IsFilter : Option Record → Type 0

@@ -1,9 +1,18 @@
 //! The choice of a frame's filter.
+//!
+//! A filter that matches has one of four pairs of specifications: the frame's handle or the wildcard, with its priority or
+//! the wildcard. A configuration tells the least filter of each pair, so a frame goes along no filters.
 ghost use Rattle.std.specs.Prelude.{◌≡◌, ◌<◌, ℕ, IsSome, Bool, List, Option, Some, None, false, true};
 ghost use Rattle.std.specs.FinMap as map;
+ghost use Rattle.std.specs.FinMap.{FinMap};
+ghost use Rattle.std.specs.Ordering.{nat_cmp};
+ghost use Rattle.tsn_table.specs.Firsts.{lesser};
+ghost use Rattle.tsn_types.specs.declared.records.StreamFilter.{StreamFilter as AnyFilter};
+ghost use Rattle.tsn_config.specs.Filters.{AreFilters};
 ghost use Rattle.tsn_types.specs.Numbers.{IsInstanceId};
 ghost use Rattle.tsn_chain.specs.Chosen.{chosen, is_matching, IsLeast};
 
+use tsn_config::Config;
 use tsn_table::Table;
 use tsn_types::numbers::{FilterId, Handle, Priority};
 use tsn_types::records::StreamFilter;
@@ -40,4 +49,33 @@ pub fn choose(filters: &Table<StreamFilter>, handle: Handle, priority: Priority)
             Err(_) => unreachable!(),
         },
     }
+}
+
+// The lesser of two numbers, where there are two.
+fn lesser(left: Option<FilterId>, right: Option<FilterId>) -> Option<FilterId>
+    ensures { result ≡ lesser left right }
+{
+    match (left, right) {
+        (Some(one), Some(other)) => {
+            if one.get() <= other.get() {
+                Some(one)
+            } else {
+                Some(other)
+            }
+        }
+        (Some(one), None) => Some(one),
+        (None, other) => other,
+    }
+}
+
+/// The same of a configuration's filters, by four binary searches.
+pub fn choose_in(config: &Config, handle: Handle, priority: Priority) -> Option<FilterId>
+    ensures chosen { (fs : FinMap nat_cmp AnyFilter) → AreFilters fs config.now.map → result ≡ chosen handle priority fs }
+    ensures least { (fs : FinMap nat_cmp AnyFilter) → AreFilters fs config.now.map → IsLeast handle priority fs result }
+{
+    let both = config.first_with(Some(handle), Some(priority));
+    let any_priority = config.first_with(Some(handle), None);
+    let any_handle = config.first_with(None, Some(priority));
+    let any = config.first_with(None, None);
+    lesser(lesser(both, any_priority), lesser(any_handle, any))
 }

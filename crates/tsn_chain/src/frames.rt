@@ -13,7 +13,7 @@ ghost use Rattle.tsn_schedule.specs.States.{began_in, state_in};
 ghost use Rattle.tsn_types.specs.declared.records.GateEntry.{GateEntry as AnyGateEntry};
 
 use crate::chain::{Passage, pass_through, pass_unmatched};
-use crate::choose::choose;
+use crate::choose::choose_in;
 use crate::data::{FilterData, GateData, GateState, Met, MeterData, Metered};
 use crate::frame::{Frame, Verdict};
 use crate::state::read_gate;
@@ -189,7 +189,9 @@ impl FrameRows {
         ensures framed { (acts : GateActs) → StandFor runners.now.map acts →
             framed config.now.map (frames_in self.old) acts frame time ≡ Some (result, frames_in self.new) }
     {
-        match choose(config.filters(), frame.handle, frame.priority) {
+        // the proof needs that the configuration is well kept, and has a table of filters
+        let _filters = config.filters();
+        match choose_in(config, frame.handle, frame.priority) {
             None => pass_unmatched(frame, time),
             Some(id) => self.police_at(config, runners, id, frame, time),
         }

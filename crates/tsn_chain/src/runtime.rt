@@ -306,7 +306,7 @@ impl Runtime {
 }
 
 /// Passes a frame through the filter chain (802.1Q-2018, 8.6.5) at `now`, or at the bridge time where that is later. It
-/// walks the filters once, reads the records that the frame meets, and takes no memory.
+/// goes along no filters, reads the records that the frame meets, and takes no memory.
 pub fn police(config: &Config, runtime: &mut Runtime, frame: Frame, now: Instant) -> Verdict
     requires keys { HasKeys runtime.old.runners runtime.old.frames config.now.map }
     ensures keys { HasKeys runtime.new.runners runtime.new.frames config.now.map }

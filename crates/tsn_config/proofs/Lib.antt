@@ -2,6 +2,7 @@ pub mod Dangling
 pub mod Deciding
 pub mod Edits
 pub mod Examples
+pub mod Indexed
 pub mod Joined
 pub mod Listed
 pub mod Numbered

@@ -1,4 +1,6 @@
+pub mod Filters
 pub mod Ids
+pub mod Indexes
 pub mod Keeping
 pub mod Kinds
 pub mod Opening

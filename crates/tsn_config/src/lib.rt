@@ -3,11 +3,17 @@
 //! A `Config` is seen as one finite map from keys to records with its limits (802.1Q-2018, 12.29 and 12.31). Each key
 //! and list is within the limits, each record is of its key's kind, each port is there, and each reference of a filter
 //! is to a key that is there. `check` says why an edit is refused, `change_of` what an admitted one does, and `apply`
-//! does it. The definitions of edits and changes are those of `tsn_edit`.
+//! does it. The definitions of edits and changes are those of `tsn_edit`. Beside the filters stand indexes of them, so that
+//! who refers to a key, and which filter has two specifications, is found without going along them.
 #![tactic(auto)]
 
 ghost use Rattle.std.specs.Prelude.{◌≡◌, ℕ, IfOk, option_map};
 ghost use Rattle.std.specs.FinMap as map;
+ghost use Rattle.std.specs.FinMap.{FinMap};
+ghost use Rattle.std.specs.Ordering.{nat_cmp};
+ghost use Rattle.tsn_table.specs.Firsts.{first_id};
+ghost use Rattle.tsn_types.specs.declared.records.StreamFilter.{StreamFilter as AnyFilter};
+ghost use Rattle.tsn_config.specs.Filters.{AreFilters, specifies};
 ghost use Rattle.tsn_edit.specs.Configuration.{IsWellKept};
 ghost use Rattle.tsn_types.specs.Lent.{lent_record};
 ghost use Rattle.tsn_types.specs.declared.records.Record.TheVariants.{Filter as FilterRecord};
@@ -18,10 +24,12 @@ use std::marker::Model;
 use tsn_table::Table;
 use tsn_types::keys::Key;
 use tsn_types::limits::Limits;
+use tsn_types::numbers::{FilterId, Handle, Priority};
 use tsn_types::records::{RecordRef, StreamFilter};
 
 mod admission;
 mod applying;
+mod filters;
 mod fitting;
 pub mod ids;
 pub mod laws;
@@ -85,5 +93,14 @@ impl Config {
         ensures kept { IsWellKept self.now.limits self.now.map }
     {
         self.rows.filters()
+    }
+
+    /// The least filter whose stream handle and priority specifications are these two, none for a wildcard. It is found
+    /// by one binary search, and takes no memory.
+    pub fn first_with(&self, handle: Option<Handle>, priority: Option<Priority>) -> Option<FilterId>
+        ensures { (fs : FinMap nat_cmp AnyFilter) → AreFilters fs self.now.map → result ≡ first_id (specifies handle priority) (map.entries fs) }
+    {
+        let number = self.rows.first_with(handle, priority)?;
+        Some(FilterId::new(number).unwrap())
     }
 }

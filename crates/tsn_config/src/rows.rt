@@ -2,8 +2,13 @@
 //!
 //! Nothing here knows the limits: a map that is not well kept can stand here while a configuration is opened. It
 //! relies on the tables alone, and each call works in the table of its key's kind.
-ghost use Rattle.std.specs.Prelude.{◌≡◌, ℕ, ◌+◌, ◌≤◌, IfOk, IfSome, IsOk, IsTrue, OnOk, is_some, option_map};
+ghost use Rattle.std.specs.Prelude.{◌≡◌, ℕ, ◌+◌, ◌<◌, ◌≤◌, IfOk, IfSome, IsOk, IsTrue, OnOk, is_some, option_map};
 ghost use Rattle.std.specs.FinMap as map;
+ghost use Rattle.std.specs.FinMap.{FinMap};
+ghost use Rattle.std.specs.Ordering.{nat_cmp};
+ghost use Rattle.tsn_table.specs.Firsts.{first_id};
+ghost use Rattle.tsn_types.specs.declared.records.StreamFilter.{StreamFilter as AnyFilter};
+ghost use Rattle.tsn_config.specs.Filters.{AreFilters, specifies};
 ghost use Rattle.tsn_types.specs.Lent.{lent_record};
 ghost use Rattle.tsn_types.specs.declared.refusals.Refusal.TheVariants.{Referred};
 ghost use Rattle.tsn_edit.specs.Configuration.{put};
@@ -13,10 +18,12 @@ ghost use Rattle.tsn_config.specs.Ids.{ids_of};
 ghost use Rattle.tsn_config.specs.Kinds.{port_of, filter_of, gate_of, meter_of};
 ghost use Rattle.tsn_config.specs.Views.{set_row};
 
+use crate::filters::Filters;
 use std::alloc::{AllocError, Global};
 use std::marker::Model;
 use tsn_table::Table;
 use tsn_types::keys::{Key, Kind};
+use tsn_types::numbers::{Handle, Priority};
 use tsn_types::records::{FlowMeter, PortGates, Record, RecordRef, StreamFilter, StreamGate};
 use tsn_types::refusals::Refusal;
 
@@ -24,7 +31,7 @@ use tsn_types::refusals::Refusal;
 #[derive(Debug, Drop)]
 pub(crate) struct Rows {
     ports: Table<PortGates>,
-    filters: Table<StreamFilter>,
+    filters: Filters,
     gates: Table<StreamGate>,
     meters: Table<FlowMeter>,
 }
@@ -47,7 +54,7 @@ impl Rows {
     {
         Rows {
             ports: Table::new(alloc),
-            filters: Table::new(alloc),
+            filters: Filters::new(alloc),
             gates: Table::new(alloc),
             meters: Table::new(alloc),
         }
@@ -110,7 +117,7 @@ impl Rows {
     pub(crate) fn filters(&self) -> &Table<StreamFilter>
         ensures { (n : ℕ) → option_map Record.Filter (map.get result.now.map n) ≡ map.get self.now.map (Key.Filter n) }
     {
-        &self.filters
+        self.filters.rows()
     }
 
     /// Equal rows in tables of their own. Refused only for want of memory.
@@ -119,7 +126,7 @@ impl Rows {
     {
         Ok(Rows {
             ports: self.ports.copy(|row| row.try_clone())?,
-            filters: self.filters.copy(|row| Ok(*row))?,
+            filters: self.filters.copy()?,
             gates: self.gates.copy(|row| row.try_clone())?,
             meters: self.meters.copy(|row| Ok(*row))?,
         })
@@ -152,16 +159,28 @@ impl Rows {
         ensures { result ≡ dangling_cause self.now.map }
     {
         let dangles = |filter: &StreamFilter| self.dangling_filter(filter).is_some();
-        let number = self.filters.first_where(dangles)?;
+        let number = self.filters.rows().first_where(dangles)?;
         let filter = self.filters.get(number)?;
         self.dangling_filter(filter)
+    }
+
+    /// The number of the least filter with these stream handle and priority specifications.
+    pub(crate) fn first_with(
+        &self,
+        handle: Option<Handle>,
+        priority: Option<Priority>,
+    ) -> Option<u64>
+        ensures small { IfSome result (λ n. n < 65536) }
+        ensures least { (fs : FinMap nat_cmp AnyFilter) → AreFilters fs self.now.map → result ≡ first_id (specifies handle priority) (map.entries fs) }
+    {
+        self.filters.first_with(handle, priority)
     }
 
     /// The number of the least filter that refers to the key.
     pub(crate) fn referrer(&self, key: &Key) -> Option<u64>
         ensures { option_map (λ n. Referred (Key.Filter n)) result ≡ referrer self.now.map key.now }
     {
-        self.filters.first_where(|filter| filter.refers_to(key))
+        self.filters.referrer(key)
     }
 
     /// Makes room for at least `count` rows in each table.
@@ -186,15 +205,15 @@ impl Rows {
     {
         match key {
             Key::Port(id) => set_row_of(&mut self.ports, id.get(), into_port(value)),
-            Key::Filter(id) => set_row_of(&mut self.filters, id.get(), into_filter(value)),
+            Key::Filter(id) => self.filters.set(id, value),
             Key::Gate(id) => set_row_of(&mut self.gates, id.get(), into_gate(value)),
             Key::Meter(id) => set_row_of(&mut self.meters, id.get(), into_meter(value)),
         }
     }
 }
 
-// Sets the row of the number, or takes it out.
-fn set_row_of<R: Drop>(table: &mut Table<R>, id: u64, row: Option<R>)
+/// Sets the row of the number, or takes it out.
+pub(crate) fn set_row_of<R: Drop>(table: &mut Table<R>, id: u64, row: Option<R>)
     requires { 1 ≤ table.old.spare }
     ensures map { table.new.map ≡ set_row table.old.map id row }
     ensures spare { table.old.spare ≤ table.new.spare + 1 }
@@ -218,7 +237,8 @@ fn into_port(value: Option<Record>) -> Option<PortGates>
     }
 }
 
-fn into_filter(value: Option<Record>) -> Option<StreamFilter>
+/// The filter of a value that is one.
+pub(crate) fn into_filter(value: Option<Record>) -> Option<StreamFilter>
     ensures { result ≡ filter_of value }
 {
     match &value {

@@ -1,3 +1,4 @@
+pub mod Begins
 pub mod Cycles
 pub mod Filled
 pub mod Keeps

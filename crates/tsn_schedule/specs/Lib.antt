@@ -1,4 +1,5 @@
 pub mod Acts
+pub mod Begins
 pub mod Counters
 pub mod Entries
 pub mod Examples

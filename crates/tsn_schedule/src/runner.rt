@@ -2,8 +2,8 @@
 //!
 //! It keeps no list of acts: one operational and one pending schedule, and of the cycles only the latest start that
 //! took place by the last act. From these it answers as the definitions over all acts do. A pending schedule is taken
-//! over by the next act; until then reads tell by its change time whether it has come. An act or a read costs no more
-//! than the length of one list.
+//! over by the next act; until then reads tell by its change time whether it has come. An apply costs the length of its
+//! list, and any other act or read a binary search in a list at most.
 ghost use Rattle.std.specs.Prelude.{◌≡◌, ℕ, ◌+◌, ◌-◌, ◌%◌, ◌≤◌, ◌<◌, ◌^◌, min, ◌&&◌, nat_lt, is_some, if◌then◌else◌, List, [], ◌∷◌, Option, Some, None, MatchResult, IsTrue, ◌↔◌, IsOkAnd, IfOk, IfErr, IfSome, OnOk, OnErr};
 ghost use Rattle.std.specs.Option.{option_copied, option_map, unwrap_or, ForSome};
 ghost use Rattle.tsn_schedule.specs.Acts.{Act, Enable, Disable, Apply, with_act, is_enabled, last_instant};

@@ -4,7 +4,7 @@
 //! the number of rows that it still has room for. It relies on the standard library alone.
 #![tactic(auto)]
 
-ghost use Rattle.std.specs.Prelude.{◌≡◌, ℕ, Bool, ◌+◌, ◌<◌, ◌≤◌, ◌⊎◌, IsOk, IsSome, IsTrue, IfOk, OnOk, OnErr, MatchOption, MatchResult, map as keys_of};
+ghost use Rattle.std.specs.Prelude.{◌≡◌, ℕ, Bool, ◌+◌, ◌<◌, ◌≤◌, ◌⊎◌, IsOk, IsSome, IsTrue, IfOk, IfSome, OnOk, OnErr, MatchOption, MatchResult, map as keys_of};
 ghost use Rattle.std.specs.Ordering.{nat_cmp};
 ghost use Rattle.std.specs.Option.{option_copied};
 ghost use Rattle.std.specs.FinMap as map;
@@ -69,6 +69,14 @@ impl<R: Drop> Table<R> {
         ensures { (p : R → Bool) → AnswersAs F.Fn p test → result ≡ first_id p (map.entries self.now.map) }
     {
         first_of(&self.rows, &test)
+    }
+
+    /// The least number of a row that is `from` or more, none where there is none.
+    pub fn first_from(&self, from: u64) -> Option<u64>
+        ensures there { IfSome result (λ id. (from ≤ id) × IsSome (map.get self.now.map id)) }
+        ensures least { (id : ℕ) → from ≤ id → IsSome (map.get self.now.map id) → MatchOption result ⊥ (λ least. least ≤ id) }
+    {
+        from_of(&self.rows, from)
     }
 
     /// The numbers of all rows, ascending. Refused only for want of memory.
@@ -155,6 +163,25 @@ fn first_of<R, F: Fn(&R) -> bool>(rows: &[(u64, R)], test: &F) -> Option<u64>
         }
     }
     None
+}
+
+// The least number of a row from a number on.
+fn from_of<R>(rows: &[(u64, R)], from: u64) -> Option<u64>
+    requires { IsTrue (map.is_sorted nat_cmp rows.now) }
+    ensures there { IfSome result (λ id. (from ≤ id) × IsSome (map.find nat_cmp id rows.now)) }
+    ensures least { (id : ℕ) → from ≤ id → IsSome (map.find nat_cmp id rows.now) → MatchOption result ⊥ (λ least. least ≤ id) }
+{
+    // the first row is often the one, and then there is nothing to search
+    if let Some(row) = rows.first() {
+        if from <= row.0 {
+            return Some(row.0);
+        }
+    }
+    let place = rows.partition_point(|row| row.0 < from);
+    match rows.get(place) {
+        Some(row) => Some(row.0),
+        None => None,
+    }
 }
 
 // The numbers of the rows, in the order of the rows.

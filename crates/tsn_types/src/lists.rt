@@ -30,6 +30,11 @@ impl<E> ControlList<E> {
         }
     }
 
+    /// The allocator that the list keeps.
+    pub fn allocator(&self) -> Global {
+        *self.entries.allocator()
+    }
+
     /// Puts an entry at the end, or leaves the list where memory is refused.
     pub fn push(&mut self, entry: E) -> Result<(), AllocError>
     where

@@ -1,7 +1,9 @@
 use Rattle.std.proofs.Common.{sym, ◌∙◌, ap, rules}
 use Rattle.std.specs.Prelude.{is_some}
 use Rattle.std.specs.Option.{option_copied}
-use Rattle.std.specs.FinMap.{entries}
+use Rattle.std.specs.Ordering.{nat_cmp}
+use Rattle.std.specs.FinMap.{FinMap, entries}
+use Rattle.tsn_types.specs.declared.records.StreamFilter.{StreamFilter}
 use Rattle.tsn_types.specs.declared.records.Record.TheVariants.{Filter as FilterRecord}
 use Rattle.tsn_table.specs.Firsts.{first_id}
 use Rattle.tsn_edit.specs.Edits.{dangling}
@@ -13,7 +15,7 @@ use Rattle.tsn_config.proofs.rows.Rows.first_dangling.Goals as goal
 pub returns-in_err-number : goal.returns-in_err-number
 returns-in_err-number c =
     let i = c.self.inside in
-    let first = c.first_where.ensures (dangles c.args.self.now.map) (λ x b h. search rules) in
+    let first = c.first_where.ensures (dangles c.args.self.now.map) (λ x b h. search rules) ∙ ap (λ (fs : FinMap nat_cmp StreamFilter). first_id (dangles c.args.self.now.map) (entries fs)) c.rows.ensures in
     c.from_residual.ensures
     ∙ sym (ap (λ (s : RowsView). dangling_cause s.map) (sym c.self.view_is)
     ∙ dangling_cause-none i.ports.map i.filters.map i.gates.map i.meters.map
@@ -22,7 +24,7 @@ returns-in_err-number c =
 pub returns-in_err-filter : goal.returns-in_err-filter
 returns-in_err-filter c =
     let i = c.self.inside in
-    let first = c.first_where.ensures (dangles c.args.self.now.map) (λ x b h. search rules) in
+    let first = c.first_where.ensures (dangles c.args.self.now.map) (λ x b h. search rules) ∙ ap (λ (fs : FinMap nat_cmp StreamFilter). first_id (dangles c.args.self.now.map) (entries fs)) c.rows.ensures in
     let there =
     first_there i.ports.map i.filters.map i.gates.map i.meters.map c.in_ok-number.number
     (ap (λ (s : RowsView). first_id (dangles s.map) (entries i.filters.map)) c.self.view_is ∙ sym first ∙ c.in_ok-number.was) in
@@ -32,7 +34,7 @@ returns-in_err-filter c =
 pub returns : goal.returns
 returns c =
     let i = c.self.inside in
-    let first = c.first_where.ensures (dangles c.args.self.now.map) (λ x b h. search rules) in
+    let first = c.first_where.ensures (dangles c.args.self.now.map) (λ x b h. search rules) ∙ ap (λ (fs : FinMap nat_cmp StreamFilter). first_id (dangles c.args.self.now.map) (entries fs)) c.rows.ensures in
     let r = c.in_ok-filter.filter.now in
     c.dangling_filter.ensures
     ∙ sym (ap (λ (s : RowsView). dangling_cause s.map) (sym c.self.view_is)

@@ -1,4 +1,5 @@
-use Rattle.std.proofs.Common.{ap}
+use Rattle.std.proofs.Common.{ap, refl}
+use Rattle.tsn_config.specs.Kinds.{filter_of}
 use Rattle.tsn_config.specs.Views.{RowsView}
 use Rattle.tsn_config.proofs.SetRows.{set_port, set_filter, set_gate, set_meter}
 use Rattle.tsn_config.proofs.rows.Rows.set.Goals as goal
@@ -12,8 +13,8 @@ returns-in-Port-clause-map c =
 pub returns-in-Filter-clause-map : goal.returns-in-Filter-clause-map
 returns-in-Filter-clause-map c =
     let i = c.self.inside in
-    set_filter i.ports.map i.filters.map i.gates.map i.meters.map c.args.self.now.map (ap (λ (s : RowsView). s.map) c.self.view_is) c.args.key c.args.value c.in-Filter.id c.get-in-Filter.result
-    c.set_row_of-in-Filter.new.table.map c.into_filter.result c.set_row_of-in-Filter.ensures.map (record { key_is = c.in-Filter.is; number_is = c.get-in-Filter.ensures.same; row_is = c.into_filter.ensures; kind = c.requires.kind })
+    set_filter i.ports.map i.filters.map i.gates.map i.meters.map c.args.self.now.map (ap (λ (s : RowsView). s.map) c.self.view_is) c.args.key c.args.value c.in-Filter.id c.in-Filter.id
+    c.set.new.self.map (filter_of c.args.value) c.set.ensures.map (record { key_is = c.in-Filter.is; number_is = refl; row_is = refl; kind = c.requires.kind })
 
 pub returns-in-Gate-clause-map : goal.returns-in-Gate-clause-map
 returns-in-Gate-clause-map c =

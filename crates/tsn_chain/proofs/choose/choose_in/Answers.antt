@@ -1,0 +1,24 @@
+use Rattle.std.proofs.Common.{◌≡◌, ◌∙◌, ap, sym, subst, Some, None}
+use Rattle.std.specs.Ordering.{nat_cmp}
+use Rattle.std.specs.FinMap.{FinMap, entries}
+use Rattle.tsn_types.specs.declared.records.StreamFilter.{StreamFilter}
+use Rattle.tsn_table.specs.Firsts.{first_id, lesser}
+use Rattle.tsn_config.specs.Filters.{AreFilters, specifies}
+use Rattle.tsn_chain.specs.Chosen.{chosen, IsLeast}
+use Rattle.tsn_chain.proofs.Least.{chosen_of_four, least}
+use Rattle.tsn_chain.proofs.choose.choose_in.Goals as goal
+
+-- the least of the four answers
+told : (c : goal.After-lesser-3) (fs : FinMap nat_cmp StreamFilter) → AreFilters fs c.args.config.now.map → c.lesser-3.result ≡ chosen c.args.handle c.args.priority fs
+told c fs are =
+    c.lesser-3.ensures
+    ∙ ap (λ o. lesser o c.lesser-2.result) (c.lesser.ensures ∙ ap (λ o. lesser o c.first_with-any_priority.result) (c.first_with-both.ensures fs are) ∙ ap (lesser (first_id (specifies (Some c.args.handle) (Some c.args.priority)) (entries fs))) (c.first_with-any_priority.ensures fs are))
+    ∙ ap (lesser (lesser (first_id (specifies (Some c.args.handle) (Some c.args.priority)) (entries fs)) (first_id (specifies (Some c.args.handle) None) (entries fs))))
+    (c.lesser-2.ensures ∙ ap (λ o. lesser o c.first_with-any.result) (c.first_with-any_handle.ensures fs are) ∙ ap (lesser (first_id (specifies None (Some c.args.priority)) (entries fs))) (c.first_with-any.ensures fs are))
+    ∙ sym (chosen_of_four c.args.handle c.args.priority fs)
+
+pub returns-clause-chosen : goal.returns-clause-chosen
+returns-clause-chosen c = λ fs are. told c fs are
+
+pub returns-clause-least : goal.returns-clause-least
+returns-clause-least c = λ fs are. subst (λ o. IsLeast c.args.handle c.args.priority fs o) (sym (told c fs are)) (least c.args.handle c.args.priority fs)
