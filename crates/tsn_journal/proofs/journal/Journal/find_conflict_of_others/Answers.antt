@@ -10,4 +10,4 @@ pub returns : goal.returns
 returns c = λ e is.
     c.conflict_of_others.ensures
     ∙ (λ i. option_map (λ (m : MarkedEntry). m.entry.number) (option_and_then (conflict_of_others (c.deref.ensures.value i)) (c.entry.ensures i)))
-    ∙ others_conflict c.self.inside.marked.items c.self.invariant _ (ap (λ (l : Log). l.entries) c.self.view_is) c.args.number e is
+    ∙ others_conflict c.self.inside.marked.items c.self.invariant.journal _ (ap (λ (l : Log). l.entries) c.self.view_is) c.args.number e is

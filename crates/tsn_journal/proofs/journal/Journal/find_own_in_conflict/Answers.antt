@@ -11,5 +11,5 @@ returns c =
     let s = c.args.session in
     c.own_in_conflict.ensures
     ∙ ap (λ ms. newest_blocked s ms ms) c.deref.ensures.value
-    ∙ own_in_conflict_is c.self.inside.marked.items c.self.invariant s
+    ∙ own_in_conflict_is c.self.inside.marked.items c.self.invariant.journal s
     ∙ ap (λ (l : Log). option_map (λ (x : Applied). x.number) (find_own_in_conflict l.entries s)) c.self.view_is

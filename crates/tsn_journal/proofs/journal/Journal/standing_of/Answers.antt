@@ -10,8 +10,8 @@ use Rattle.tsn_journal.proofs.journal.Journal.standing_of.Goals as goal
 pub returns : goal.returns
 returns c =
     let s = c.args.session in
-    subst (λ (ns : List ℕ). IfOk c.numbers.result (λ numbers. numbers.items ≡ ns))
+    subst (λ (ns : List ℕ). IfOk c.numbers_in.result (λ numbers. numbers.items ≡ ns))
     (ap (λ ms. map (λ (m : MarkedEntry). m.entry.number) (filter (is_own s) ms)) c.deref.ensures.value
-    ∙ own_numbers c.self.inside.marked.items c.self.invariant s
+    ∙ own_numbers c.self.inside.marked.items c.self.invariant.journal s
     ∙ ap (λ (l : Log). map (λ (x : Applied). x.number) (own_standing l.entries s)) c.self.view_is)
-    c.numbers.ensures
+    c.numbers_in.ensures
