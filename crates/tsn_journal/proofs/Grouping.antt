@@ -8,14 +8,15 @@ use Rattle.tsn_types.specs.Keys.{has, keys_of_refs, refs_of, same_key}
 use Rattle.tsn_edit.specs.Parts.{Change, Part}
 use Rattle.tsn_edit.proofs.KeyFacts.{by_bool, one_key, same_itself}
 use Rattle.tsn_journal.specs.declared.entries.What.{What}
-use Rattle.tsn_journal.specs.declared.entries.What.TheVariants.{Redone}
+use Rattle.tsn_journal.specs.declared.entries.Act.{Act}
+use Rattle.tsn_journal.specs.declared.entries.What.TheVariants.{Made, Undone, Redone, Acted}
 use Rattle.tsn_journal.specs.declared.entries.MarkedEntry.{MarkedEntry}
 use Rattle.tsn_journal.specs.declared.groups.Group.{Group}
 use Rattle.tsn_journal.specs.declared.groups.Group.TheVariants.{On, RefersTo, Of, EndsRedo}
-use Rattle.tsn_journal.specs.Entries.{adds, is_made, takes_back, undoes}
-use Rattle.tsn_journal.specs.Index.{belongs, belongs_to_others, is_among, is_by, is_on, refers, standing_change}
+use Rattle.tsn_journal.specs.Entries.{Applied, adds, applied, is_made, takes_back, undoes}
+use Rattle.tsn_journal.specs.Index.{belongs, belongs_to_others, group_if, is_among, is_by, is_on, refers, standing_change}
 use Rattle.tsn_journal.specs.Latest.{same_group}
-use Rattle.tsn_journal.specs.Marks.{mark_off}
+use Rattle.tsn_journal.specs.Marks.{mark_off, stands}
 
 pub same_number : (n k : ℕ) → (n == k) ≡ true → n ≡ k
 same_number n k h = grind (arith, nat_tests)
@@ -124,6 +125,13 @@ pub has_all : (ks : List Key) (k : Key) → has (ks ++ []) k ≡ has ks k
 has_all [] k = refl
 has_all (x ∷ ks) k = ap (λ b. same_key k x || b) (has_all ks k)
 
+no_and : (a b : Bool) → a ≡ false → (a && b) ≡ false
+no_and a b h = (cc)
+
+pub not_standing : (m : MarkedEntry) → adds m.entry.what ≡ None → (q : ℕ) → belongs (Of q) m ≡ false
+not_standing m none q = no_and (is_some (stands m)) (m.entry.session == q)
+    (elim m.is_open as (λ b. is_some (cond b (applied adds m.entry) None) ≡ false) [ true ↦ ap (λ o. is_some {T = Applied} (option_map (λ d. record { number = m.entry.number; session = m.entry.session; change = d }) o)) none | false ↦ refl ])
+
 module _ (p : Part) (refs : Refs) (s : ℕ) (redo : Option Group) (m : MarkedEntry) (c : Change) (one : c ≡ p ∷ []) (refers' : keys_of_refs refs ≡ refs_of p.after) (session : m.entry.session ≡ s) (adds' : adds m.entry.what ≡ Some c) where
   abbrev pub the_groups : List (Option Group)
   the_groups = Some (On p.key) ∷ option_map RefersTo refs.first ∷ option_map RefersTo refs.second ∷ Some (Of s) ∷ redo ∷ []
@@ -143,15 +151,34 @@ module _ (p : Part) (refs : Refs) (s : ℕ) (redo : Option Group) (m : MarkedEnt
       pass_of refs.first refs.second (Some (Of s) ∷ redo ∷ []) q ∙ or_true _ _ (ap (λ n. n == q) (sym session) ∙ second_true _ _ h)
   covers ends (EndsRedo q) h = pass_redo refs.first refs.second (Some (Of s) ∷ redo ∷ []) q ∙ ends q h
 
-pub reread : (a a' : Option Group) → a ≡ a' → (b b' : Option Group) → b ≡ b' → (f t r : Option Group) (g : Group) → is_among (f ∷ a' ∷ b' ∷ t ∷ r ∷ []) g ≡ true → is_among (f ∷ a ∷ b ∷ t ∷ r ∷ []) g ≡ true
-reread a a' e b b' d f t r g h = (λ i. is_among (f ∷ e i ∷ d i ∷ t ∷ r ∷ []) g) ∙ h
-
 first_true : (a b : Bool) → (a && b) ≡ true → a ≡ true
 first_true true b h = refl
 first_true false b h = (cc)
 
-pub ends_made : (m : MarkedEntry) (s : ℕ) → m.entry.session ≡ s → (q : ℕ) → belongs (EndsRedo q) m ≡ true → is_among (Some (EndsRedo s) ∷ []) (EndsRedo q) ≡ true
-ends_made m s same q h = or_true _ _ (ap (λ n. n == q) (sym same) ∙ first_true _ _ h)
+-- a made or redone entry ends a search for a redo where it was made
+pub ends_or_not : (m : MarkedEntry) (s : ℕ) (c : Change) (ends : Bool) → m.entry.session ≡ s → adds m.entry.what ≡ Some c → is_made m.entry.what ≡ ends
+    → (q : ℕ) → belongs (EndsRedo q) m ≡ true → is_among (group_if ends (EndsRedo s) ∷ []) (EndsRedo q) ≡ true
+ends_or_not m s c true same adds' made q h = or_true _ _ (ap (λ n. n == q) (sym same) ∙ first_true _ _ h)
+ends_or_not m s c false same adds' made q h = none_true _ (ap (λ b. b || (is_some (undoes m.entry.what) && m.is_open)) made ∙ ap (λ b. b && m.is_open) (not_undone m.entry.what c adds')) (second_true (m.entry.session == q) _ h)
+  where
+    not_undone : (w : What) (c : Change) → adds w ≡ Some c → is_some (undoes w) ≡ false
+    not_undone (Made e) c h = refl
+    not_undone (Redone n e) c h = refl
+    not_undone (Undone n e) c h = (cc)
+    not_undone (Acted act key now) c h = (cc)
 
-pub ends_redone : (m : MarkedEntry) (of : ℕ) (c : Change) → m.entry.what ≡ Redone of c → (q : ℕ) → belongs (EndsRedo q) m ≡ true → is_among (None ∷ []) (EndsRedo q) ≡ true
-ends_redone m of c is q h = ap (λ (w : What). is_made w || (is_some (undoes w) && m.is_open)) (sym is) ∙ second_true (m.entry.session == q) _ h
+no_change : (m : MarkedEntry) → adds m.entry.what ≡ None → standing_change m ≡ None
+no_change m none = elim m.is_open as (λ b. cond b (adds m.entry.what) None ≡ None) [ true ↦ none | false ↦ refl ]
+
+-- an Undone entry is only among those at which a search for a redo ends
+pub covers_undone : (m : MarkedEntry) (s of : ℕ) (c : Change) → m.entry.session ≡ s → m.entry.what ≡ Undone of c → (g : Group) → belongs g m ≡ true → is_among (group_if false (Of s) ∷ group_if true (EndsRedo s) ∷ []) g ≡ true
+covers_undone m s of c same is (On k) h = none_true _ (ap (is_on k) (no_change m (ap adds is))) h
+covers_undone m s of c same is (RefersTo k) h = none_true _ (ap (refers k) (no_change m (ap adds is))) h
+covers_undone m s of c same is (Of q) h = none_true _ (not_standing m (ap adds is) q) h
+covers_undone m s of c same is (EndsRedo q) h = or_true _ _ (ap (λ n. n == q) (sym same) ∙ first_true _ _ h)
+
+pub covers_acted : (m : MarkedEntry) (act : Act) (key : Key) (now : ℕ) → m.entry.what ≡ Acted act key now → (g : Group) → belongs g m ≡ true → is_among [] g ≡ true
+covers_acted m act key now is (On k) h = none_true _ (ap (is_on k) (no_change m (ap adds is))) h
+covers_acted m act key now is (RefersTo k) h = none_true _ (ap (refers k) (no_change m (ap adds is))) h
+covers_acted m act key now is (Of q) h = none_true _ (not_standing m (ap adds is) q) h
+covers_acted m act key now is (EndsRedo q) h = none_true _ (ap (λ (w : What). is_made w || (is_some (undoes w) && m.is_open)) is) (second_true (m.entry.session == q) _ h)

@@ -1,7 +1,6 @@
 -- The index of a journal: with a mark off, with an entry more, and with a place more.
-use Rattle.std.proofs.Common.{◌≡◌, ℕ, zero, suc, ◌+◌, ◌-◌, ◌<◌, ◌≤◌, ◌⊎◌, inl, inr, Bool, true, false, cond, ◌||◌, List, [], ◌∷◌, ◌++◌, refl, sym, ◌∙◌, ap, subst, Option, Some, None, arith, length, map, get_or, add-one, drop}
-use Rattle.std.specs.Prelude.{◌==◌, option_map}
-use Rattle.std.proofs.Math.Seq.{drop-cons}
+use Rattle.std.proofs.Common.{◌≡◌, ℕ, zero, suc, ◌+◌, ◌-◌, ◌<◌, ◌≤◌, inl, inr, Bool, true, false, cond, ◌||◌, List, [], ◌∷◌, ◌++◌, refl, sym, ◌∙◌, ap, subst, Option, Some, None, arith, length, map}
+use Rattle.std.specs.Prelude.{option_map}
 use Rattle.std.specs.List.{slice_get}
 use Rattle.std.proofs.lemmas.List.{length-map, length-append}
 use Rattle.std.proofs.lemmas.Option.{slice_get-map, slice_get_past, slice_get_within}
@@ -11,10 +10,11 @@ use Rattle.tsn_journal.specs.declared.entries.MarkedEntry.{MarkedEntry}
 use Rattle.tsn_journal.specs.declared.groups.Group.{Group}
 use Rattle.tsn_journal.specs.declared.index.Index.{Index}
 use Rattle.tsn_journal.specs.declared.index.Place.{Place}
-use Rattle.tsn_journal.specs.Index.{Adds, AddsPlace, ArePlaces, IsIndexed, IsIndexedBut, IsLast, IsPlace, NoneBetween, TakesRoom, belongs, belongs_to_others, is_among, is_by, is_of, number_at, number_of, other_from, other_of, place_at}
+use Rattle.tsn_journal.specs.declared.latest.Latest.{Latest}
+use Rattle.tsn_journal.specs.Index.{Adds, ArePlaces, IsIndexed, IsIndexedBut, IsIndexedButNewest, IsLast, IsPlace, NoneBetween, TakesRoom, belongs, belongs_to_others, group_if, is_among, is_by, is_of, number_at, number_of, other_from, other_of, place_at, set_at}
 use Rattle.tsn_journal.specs.Latest.{TakesRows, latest_of, same_group}
 use Rattle.tsn_journal.specs.Marks.{mark_off}
-use Rattle.tsn_journal.proofs.Grouping.{belongs-mark_off, by-mark_off, group_itself, number_itself, one_group, others-mark_off, same_number}
+use Rattle.tsn_journal.proofs.Grouping.{belongs-mark_off, by-mark_off, group_itself, one_group, others-mark_off, same_number}
 use Rattle.tsn_journal.proofs.Links.{end_at, front_at, hop, none_some, not_of_others, place_end, place_front, some_of, where_at}
 
 -- ---- a mark off
@@ -63,30 +63,13 @@ module _ (ms : List MarkedEntry) (x : MarkedEntry) where
   none_more : (t : MarkedEntry → Bool) (n limit : ℕ) → limit ≤ length ms + 1 → NoneBetween t ms n limit → NoneBetween t more n limit
   none_more t n limit few none i m low high at = none i m low high (sym (front_at ms (x ∷ []) i (omega arith)) ∙ at)
 
-  none_new : (t : MarkedEntry → Bool) (n : ℕ) → t x ≡ false → NoneBetween t ms n (length ms + 1) → NoneBetween t more n (length ms + 1 + 1)
-  none_new t n out none i m low high at =
-      elim (where_at (length ms) i) [
-        | inl before ↦ none i m low (omega arith) (sym (front_at ms (x ∷ []) i before) ∙ at)
-        | inr rest ↦ elim rest [
-          | inl here ↦ ap t (sym (some_of x m (sym (end_at ms x i here) ∙ at))) ∙ out
-          | inr after ↦ absurd (omega arith)
-        ]
-      ]
-
   last_more : (g : Group) (t : MarkedEntry → Bool) (ps : List Place) (j limit : ℕ) → limit ≤ length ms + 1 → IsLast g t ms ps j limit → IsLast g t more ps j limit
   last_more g t ps j limit few is = record { within = is.within; group = is.group; none_later = none_more t (number_at ps j) limit few is.none_later }
 
-  last_new : (g : Group) (ps : List Place) (j : ℕ) → belongs g x ≡ false → IsLast g (belongs g) ms ps j (length ms + 1) → IsLast g (belongs g) more ps j (length ms + 1 + 1)
-  last_new g ps j out is = record { within = is.within; group = is.group; none_later = none_new (belongs g) (number_at ps j) out is.none_later }
-
-  not_true : (b c : Bool) → (b ≡ true → c ≡ true) → c ≡ false → b ≡ false
-  not_true true c f h = let t = f refl in (cc)
-  not_true false c f h = refl
-
-  pub indexed_more : (pending : List (Option Group)) (a : Index) → ((g : Group) → belongs g x ≡ true → is_among pending g ≡ true) → IsIndexed ms a → IsIndexedBut pending more a
-  indexed_more pending a covers is =
+  -- an entry more, which has no place yet
+  pub indexed_more : (a : Index) → IsIndexed ms a → IsIndexedButNewest more a
+  indexed_more a is =
       let ps = a.places.items in
-      let l : Group → ℕ = latest_of a.latest in
       record {
         places = λ i p at.
             let old = is.places i p at in record {
@@ -101,23 +84,57 @@ module _ (ms : List MarkedEntry) (x : MarkedEntry) where
                   (old.other s (ap (is_by s) (sym (front_at ms (x ∷ []) (p.number - 1) (omega (arith, old.some, old.within)))) ∙ by));
             };
         latest_is = λ g.
-            subst (λ k. IsLast g (belongs g) more ps (l g) (cond (is_among pending g) k (k + 1))) (sym longer)
-            (by_bool (is_among pending g)
-            (λ yes. subst (λ b. IsLast g (belongs g) more ps (l g) (cond b (length ms + 1) (length ms + 1 + 1))) (sym yes) (last_more g (belongs g) ps (l g) (length ms + 1) (omega arith) (is.latest_is g)))
-            (λ no. subst (λ b. IsLast g (belongs g) more ps (l g) (cond b (length ms + 1) (length ms + 1 + 1))) (sym no) (last_new g ps (l g) (not_true _ _ (covers g) no) (is.latest_is g))));
+            subst (λ k. IsLast g (belongs g) more ps (latest_of a.latest g) k) (sym longer) (last_more g (belongs g) ps (latest_of a.latest g) (length ms + 1) (omega arith) (is.latest_is g));
       }
 
 -- ---- a place more
 
 module _ (ms : List MarkedEntry) where
-  pub indexed_skip : (rest : List (Option Group)) (a : Index) → IsIndexedBut (None ∷ rest) ms a → IsIndexedBut rest ms a
-  indexed_skip rest a is = record { places = is.places; latest_is = is.latest_is }
+  pub indexed_skip : (rest : List (Option Group)) (ps : List Place) (l : Group → ℕ) → IsIndexedBut (None ∷ rest) ms ps l → IsIndexedBut rest ms ps l
+  indexed_skip rest ps l is = record { places = is.places; latest_is = is.latest_is }
+
+  -- the newest places may be said otherwise
+  pub reindexed : (pending : List (Option Group)) (ps : List Place) (l k : Group → ℕ) → ((g : Group) → k g ≡ l g) → IsIndexedBut pending ms ps l → IsIndexedBut pending ms ps k
+  reindexed pending ps l k same is = record {
+    places = is.places;
+    latest_is = λ g. subst (λ j. IsLast g (belongs g) ms ps j (cond (is_among pending g) (length ms) (length ms + 1))) (sym (same g)) (is.latest_is g);
+  }
+
+  not_true : (b c : Bool) → (b ≡ true → c ≡ true) → c ≡ false → b ≡ false
+  not_true true c f h = let t = f refl in (cc)
+  not_true false c f h = refl
+
+  -- the newest entry is in no group but the pending ones
+  pub pending_newest : (pending : List (Option Group)) (a : Index) → ((m : MarkedEntry) → slice_get ms (length ms - 1) ≡ Some m → (g : Group) → belongs g m ≡ true → is_among pending g ≡ true)
+      → IsIndexedButNewest ms a → IsIndexedBut pending ms a.places.items (latest_of a.latest)
+  pending_newest pending a covers is =
+      let ps = a.places.items in
+      let l : Group → ℕ = latest_of a.latest in
+      record {
+        places = is.places;
+        latest_is = λ g.
+            by_bool (is_among pending g)
+            (λ yes. subst (λ b. IsLast g (belongs g) ms ps (l g) (cond b (length ms) (length ms + 1))) (sym yes) (is.latest_is g))
+            (λ no. subst (λ b. IsLast g (belongs g) ms ps (l g) (cond b (length ms) (length ms + 1))) (sym no)
+            (record {
+              within = (is.latest_is g).within;
+              group = (is.latest_is g).group;
+              none_later = λ i m low high at.
+                  elim (where_at (length ms - 1) i) [
+                    | inl before ↦ (is.latest_is g).none_later i m low (omega arith) at
+                    | inr rest ↦ elim rest [
+                      | inl here ↦ not_true _ _ (covers m (ap (slice_get ms) (sym here) ∙ at) g) no
+                      | inr after ↦ absurd (omega (arith, slice_get_within ms i m at))
+                    ]
+                  ];
+            }));
+      }
 
   -- no entry comes after the newest one
   past_end : (t : MarkedEntry → Bool) (n limit : ℕ) → length ms ≤ n → NoneBetween t ms n limit
   past_end t n limit h i m low high at = let in' : i < length ms = slice_get_within ms i m at in absurd (omega arith)
 
-  last_front : (g : Group) (t : MarkedEntry → Bool) (ps : List Place) (p : Place) (j limit : ℕ) → IsLast g t ms ps j limit → IsLast g t ms (ps ++ p ∷ []) j limit
+  pub last_front : (g : Group) (t : MarkedEntry → Bool) (ps : List Place) (p : Place) (j limit : ℕ) → IsLast g t ms ps j limit → IsLast g t ms (ps ++ p ∷ []) j limit
   last_front g t ps p j limit is =
       let same : place_at ps j ≡ place_at (ps ++ p ∷ []) j = sym (place_front ps (p ∷ []) j is.within) in record {
         within = omega (arith, is.within, length-append ps (p ∷ []));
@@ -161,63 +178,87 @@ module _ (ms : List MarkedEntry) where
   by_one s q None h k = (cc)
   by_one s q (Some m) h k = sym (same_number m.entry.session s h) ∙ same_number m.entry.session q k
 
-  module _ (g : Group) (rest : List (Option Group)) (n s : ℕ) (a b : Index) (newest : n ≡ length ms) (some : 1 ≤ n) (by : is_by s (slice_get ms (n - 1)) ≡ true) (is : IsIndexedBut (Some g ∷ rest) ms a) where
-    abbrev ps : List Place
-    ps = a.places.items
+  module _ (g : Group) (n s before : ℕ) (ps : List Place) (newest : n ≡ length ms) (some : 1 ≤ n) (by : is_by s (slice_get ms (n - 1)) ≡ true) (are : ArePlaces ms ps) (here : IsLast g (belongs g) ms ps before (length ms)) where
+    abbrev pub new_place : Place
+    new_place = record { group = g; number = n; before = before; other = other_of ms ps s before }
 
-    abbrev l : Group → ℕ
-    l q = latest_of a.latest q
-
-    abbrev new_place : Place
-    new_place = record { group = g; number = n; before = l g; other = other_of ms ps s (l g) }
-
-    here : IsLast g (belongs g) ms ps (l g) (length ms)
-    here = subst (λ b. IsLast g (belongs g) ms ps (l g) (cond (b || is_among rest g) (length ms) (length ms + 1))) (group_itself g) (is.latest_is g)
-
-    others : (q : Group) → same_group g q ≡ false → IsLast q (belongs q) ms ps (l q) (cond (is_among rest q) (length ms) (length ms + 1))
-    others q other = subst (λ b. IsLast q (belongs q) ms ps (l q) (cond (b || is_among rest q) (length ms) (length ms + 1))) other (is.latest_is q)
-
-    the_place : number_at ps (l g) < n → IsPlace ms ps (length ps) new_place
+    the_place : number_at ps before < n → IsPlace ms ps (length ps) new_place
     the_place less = record {
       some = some;
       within = omega arith;
       earlier = here.within;
       less = less;
-      last = subst (λ k. IsLast g (belongs g) ms ps (l g) k) (sym newest) here;
-      other_earlier = other_in s ps (l g) here.within is.places;
+      last = subst (λ k. IsLast g (belongs g) ms ps before k) (sym newest) here;
+      other_earlier = other_in s ps before here.within are;
       other = λ q by'.
-          subst (λ r. IsLast g (belongs_to_others g r) ms ps (other_of ms ps s (l g)) n) (by_one s q _ by by')
-          (subst (λ k. IsLast g (belongs_to_others g s) ms ps (other_of ms ps s (l g)) k) (sym newest) (other_last g s ps (l g) (length ms) is.places here));
+          subst (λ r. IsLast g (belongs_to_others g r) ms ps (other_of ms ps s before) n) (by_one s q _ by by')
+          (subst (λ k. IsLast g (belongs_to_others g s) ms ps (other_of ms ps s before) k) (sym newest) (other_last g s ps before (length ms) are here));
     }
 
-    new_last : (q : Group) (limit : ℕ) → g ≡ q → IsLast q (belongs q) ms (ps ++ new_place ∷ []) (length ps + 1) limit
+    pub new_last : (q : Group) (limit : ℕ) → g ≡ q → IsLast q (belongs q) ms (ps ++ new_place ∷ []) (length ps + 1) limit
     new_last q limit same = record {
       within = omega (arith, length-append ps (new_place ∷ []));
       group = ap (is_of q) (place_end ps new_place) ∙ ap (same_group g) (sym same) ∙ group_itself g;
       none_later = past_end (belongs q) _ limit (subst (λ o. length ms ≤ number_of o) (sym (place_end ps new_place)) (omega arith));
     }
 
-    with_place : number_at ps (l g) < n → AddsPlace ms g n s a b → IsIndexedBut rest ms b
-    with_place less adds = record {
-      places = subst (ArePlaces ms) (sym adds.places)
-          (λ i p at.
-          elim (where_at (length ps) i) [
-            | inl before ↦ place_more ps new_place i p (omega arith) (is.places i p (sym (front_at ps (new_place ∷ []) i before) ∙ at))
-            | inr more ↦ elim more [
-              | inl at_end ↦ subst (λ r. IsPlace ms (ps ++ new_place ∷ []) i r) (some_of new_place p (sym (end_at ps new_place i at_end) ∙ at))
-                  (place_more ps new_place i new_place (omega arith) (subst (λ k. IsPlace ms ps k new_place) (sym at_end) (the_place less)))
-              | inr after ↦ none_some p (sym (slice_get_past (ps ++ new_place ∷ []) i (omega (arith, length-append ps (new_place ∷ [])))) ∙ at)
-            ]
-          ]);
+    pub places_with : number_at ps before < n → ArePlaces ms (ps ++ new_place ∷ [])
+    places_with less i p at =
+        elim (where_at (length ps) i) [
+          | inl front ↦ place_more ps new_place i p (omega arith) (are i p (sym (front_at ps (new_place ∷ []) i front) ∙ at))
+          | inr more ↦ elim more [
+            | inl at_end ↦ subst (λ r. IsPlace ms (ps ++ new_place ∷ []) i r) (some_of new_place p (sym (end_at ps new_place i at_end) ∙ at))
+                (place_more ps new_place i new_place (omega arith) (subst (λ k. IsPlace ms ps k new_place) (sym at_end) (the_place less)))
+            | inr after ↦ none_some p (sym (slice_get_past (ps ++ new_place ∷ []) i (omega (arith, length-append ps (new_place ∷ [])))) ∙ at)
+          ]
+        ]
+
+    -- whether the place is added or not, all that is known of an index but for its newest entry stays
+    pub newest_kept : (wanted : Bool) (a b : Index) (j : ℕ) → a.places.items ≡ ps → IsIndexedButNewest ms a → Adds ms wanted g n s before ps b.places.items j → b.latest ≡ a.latest → IsIndexedButNewest ms b
+    newest_kept wanted a b j old is adds latest =
+        by_bool wanted
+        (λ yes. elim (where_at n (number_at ps before)) [
+          | inl less ↦ record {
+            places = subst (ArePlaces ms) (sym (adds.places yes less)) (places_with less);
+            latest_is = λ q. subst (λ xs. IsLast q (belongs q) ms xs (latest_of b.latest q) (length ms)) (sym (adds.places yes less))
+                (last_front q (belongs q) ps new_place _ _ (stays q));
+          }
+          | inr least ↦ same (adds.there (elim least [ inl e ↦ omega arith | inr m ↦ omega arith ]))
+        ])
+        (λ no. same (adds.unwanted no))
+      where
+        stays : (q : Group) → IsLast q (belongs q) ms ps (latest_of b.latest q) (length ms)
+        stays q = subst (λ xs. IsLast q (belongs q) ms xs (latest_of b.latest q) (length ms)) old (subst (λ (x : Latest). IsLast q (belongs q) ms a.places.items (latest_of x q) (length ms)) (sym latest) (is.latest_is q))
+
+        same : b.places.items ≡ ps → IsIndexedButNewest ms b
+        same e = record { places = subst (ArePlaces ms) (sym e) are; latest_is = λ q. subst (λ xs. IsLast q (belongs q) ms xs (latest_of b.latest q) (length ms)) (sym e) (stays q) }
+
+  module _ (g : Group) (rest : List (Option Group)) (n s : ℕ) (ps : List Place) (l : Group → ℕ) (newest : n ≡ length ms) (some : 1 ≤ n) (by : is_by s (slice_get ms (n - 1)) ≡ true) (is : IsIndexedBut (Some g ∷ rest) ms ps l) where
+    here' : IsLast g (belongs g) ms ps (l g) (length ms)
+    here' = subst (λ b. IsLast g (belongs g) ms ps (l g) (cond (b || is_among rest g) (length ms) (length ms + 1))) (group_itself g) (is.latest_is g)
+
+    abbrev place' : Place
+    place' = record { group = g; number = n; before = l g; other = other_of ms ps s (l g) }
+
+    others : (q : Group) → same_group g q ≡ false → IsLast q (belongs q) ms ps (l q) (cond (is_among rest q) (length ms) (length ms + 1))
+    others q other = subst (λ b. IsLast q (belongs q) ms ps (l q) (cond (b || is_among rest q) (length ms) (length ms + 1))) other (is.latest_is q)
+
+    with_place : number_at ps (l g) < n → IsIndexedBut rest ms (ps ++ place' ∷ []) (set_at g (length ps + 1) l)
+    with_place less = record {
+      places = places_with g n s (l g) ps newest some by is.places here' less;
       latest_is = λ q.
-          subst (λ qs. IsLast q (belongs q) ms qs (latest_of b.latest q) (cond (is_among rest q) (length ms) (length ms + 1))) (sym adds.places)
-          (subst (λ j. IsLast q (belongs q) ms (ps ++ new_place ∷ []) j (cond (is_among rest q) (length ms) (length ms + 1))) (sym (adds.latest q))
-          (by_bool (same_group g q)
-          (λ same. subst (λ b. IsLast q (belongs q) ms (ps ++ new_place ∷ []) (cond b (length ps + 1) (l q)) (cond (is_among rest q) (length ms) (length ms + 1))) (sym same) (new_last q _ (one_group g q same)))
-          (λ other. subst (λ b. IsLast q (belongs q) ms (ps ++ new_place ∷ []) (cond b (length ps + 1) (l q)) (cond (is_among rest q) (length ms) (length ms + 1))) (sym other) (last_front q (belongs q) ps new_place _ _ (others q other)))));
+          by_bool (same_group g q)
+          (λ same. subst (λ b. IsLast q (belongs q) ms (ps ++ place' ∷ []) (cond b (length ps + 1) (l q)) (cond (is_among rest q) (length ms) (length ms + 1))) (sym same) (new_last g n s (l g) ps newest some by is.places here' q _ (one_group g q same)))
+          (λ other. subst (λ b. IsLast q (belongs q) ms (ps ++ place' ∷ []) (cond b (length ps + 1) (l q)) (cond (is_among rest q) (length ms) (length ms + 1))) (sym other) (last_front q (belongs q) ps place' _ _ (others q other)));
     }
 
-    without_place : n ≤ number_at ps (l g) → IsIndexedBut rest ms a
+    -- the newest place of the group stays
+    same_latest : (q : Group) → set_at g (l g) l q ≡ l q
+    same_latest q = by_bool (same_group g q)
+        (λ same. ap (λ b. cond b (l g) (l q)) same ∙ ap l (one_group g q same))
+        (λ other. ap (λ b. cond b (l g) (l q)) other)
+
+    without_place : n ≤ number_at ps (l g) → IsIndexedBut rest ms ps l
     without_place least = record {
       places = is.places;
       latest_is = λ q.
@@ -225,21 +266,43 @@ module _ (ms : List MarkedEntry) where
           (λ same.
           let one : g ≡ q = one_group g q same in
           subst (λ r. IsLast r (belongs r) ms ps (l r) (cond (is_among rest r) (length ms) (length ms + 1))) one
-          (record { within = here.within; group = here.group; none_later = past_end (belongs g) _ _ (omega arith) }))
+          (record { within = here'.within; group = here'.group; none_later = past_end (belongs g) _ _ (omega arith) }))
           (λ other. others q other);
     }
 
-    pub indexed_place : Adds ms g n s a b → IsIndexedBut rest ms b
-    indexed_place adds =
+    pub indexed_place : (qs : List Place) (j : ℕ) → Adds ms true g n s (l g) ps qs j → IsIndexedBut rest ms qs (set_at g j l)
+    indexed_place qs j adds =
         elim (where_at n (number_at ps (l g))) [
-          | inl less ↦ with_place less (adds.new_place less)
+          | inl less ↦ subst (λ k. IsIndexedBut rest ms qs (set_at g k l)) (sym (adds.place refl less)) (subst (λ xs. IsIndexedBut rest ms xs (set_at g (length ps + 1) l)) (sym (adds.places refl less)) (with_place less))
           | inr least ↦
               let at_least : n ≤ number_at ps (l g) = elim least [ inl e ↦ omega arith | inr m ↦ omega arith ] in
-              subst (λ (c : Index). IsIndexedBut rest ms c) (sym (adds.same at_least)) (without_place at_least)
+              subst (λ k. IsIndexedBut rest ms qs (set_at g k l)) (sym (adds.there_place at_least))
+              (subst (λ xs. IsIndexedBut rest ms xs (set_at g (l g) l)) (sym (adds.there at_least)) (reindexed rest ps l (set_at g (l g) l) same_latest (without_place at_least)))
         ]
 
-pub dropped : {A : Type 0} (xs : List A) (i : ℕ) (x : A) → i < length xs → x ≡ get_or xs i x → drop i xs ≡ x ∷ drop (i + 1) xs
-dropped xs i x within at = drop-cons xs i x within ∙ (λ j. sym at j ∷ drop (sym (add-one i) j) xs)
+  unchanged : (g : Group) (l : Group → ℕ) (q : Group) → set_at g (l g) l q ≡ l q
+  unchanged g l q = by_bool (same_group g q)
+      (λ same. ap (λ b. cond b (l g) (l q)) same ∙ ap l (one_group g q same))
+      (λ other. ap (λ b. cond b (l g) (l q)) other)
+
+  -- the same where the place may be unwanted
+  pub indexed_if : (wanted : Bool) (g : Group) (rest : List (Option Group)) (n s before : ℕ) (ps : List Place) (l : Group → ℕ) → n ≡ length ms → 1 ≤ n → is_by s (slice_get ms (n - 1)) ≡ true → before ≡ l g
+      → (qs : List Place) (j : ℕ) → Adds ms wanted g n s before ps qs j → IsIndexedBut (group_if wanted g ∷ rest) ms ps l → IsIndexedBut rest ms qs (set_at g j l)
+  indexed_if true g rest n s before ps l newest some by same qs j adds is = indexed_place g rest n s ps l newest some by is qs j (subst (λ b. Adds ms true g n s b ps qs j) same adds)
+  indexed_if false g rest n s before ps l newest some by same qs j adds is =
+      subst (λ k. IsIndexedBut rest ms qs (set_at g k l)) (sym (adds.unwanted_place refl ∙ same))
+      (subst (λ xs. IsIndexedBut rest ms xs (set_at g (l g) l)) (sym (adds.unwanted refl)) (reindexed rest ps l (set_at g (l g) l) (unchanged g l) (indexed_skip rest ps l is)))
+
+  -- what is known with pending groups is known but for the newest entry
+  pub but_newest : (pending : List (Option Group)) (a : Index) → IsIndexedBut pending ms a.places.items (latest_of a.latest) → IsIndexedButNewest ms a
+  but_newest pending a is = record {
+    places = is.places;
+    latest_is = λ g. let at = is.latest_is g in record {
+      within = at.within;
+      group = at.group;
+      none_later = λ i m low high there. at.none_later i m low (elim (is_among pending g) as (λ b. i + 1 < cond b (length ms) (length ms + 1)) [ true ↦ high | false ↦ omega arith ]) there;
+    };
+  }
 
 -- ---- room
 
@@ -254,16 +317,10 @@ rows_then n k a b d h m = record {
 
 pub takes_more : (n k : ℕ) (a b d : Index) → TakesRoom n a b → TakesRoom k b d → TakesRoom (n + k) a d
 takes_more n k a b d h m = record {
-  places = omega (arith, h.places, m.places);
-  items = omega (arith, h.items, m.items);
-  capacity = m.capacity ∙ h.capacity;
+  places = record {
+    len = omega (arith, h.places.len, m.places.len);
+    items = omega (arith, h.places.items, m.places.items);
+    capacity = m.places.capacity ∙ h.places.capacity;
+  };
   rows = rows_then n k a b d h.rows m.rows;
-}
-
-pub takes_still : (n : ℕ) (a b : Index) → TakesRoom n a b → TakesRoom (n + 1) a b
-takes_still n a b h = record {
-  places = omega (arith, h.places);
-  items = omega (arith, h.items);
-  capacity = h.capacity;
-  rows = record { ports = omega (arith, h.rows.ports); filters = omega (arith, h.rows.filters); gates = omega (arith, h.rows.gates); meters = omega (arith, h.rows.meters); sessions = omega (arith, h.rows.sessions) };
 }

@@ -1,18 +1,15 @@
 -- A journal with its index: with more room, and with an entry more.
-use Rattle.std.proofs.Common.{◌≡◌, ℕ, ◌+◌, ◌-◌, ◌*◌, ◌<◌, ◌≤◌, Bool, true, false, List, [], ◌∷◌, ◌++◌, refl, sym, ◌∙◌, ap, subst, Option, Some, None, arith, length, map}
-use Rattle.std.specs.List.{slice_get}
+use Rattle.std.proofs.Common.{◌≡◌, ℕ, ◌+◌, ◌-◌, ◌*◌, ◌≤◌, List, [], ◌∷◌, ◌++◌, refl, sym, ap, subst, arith, length, map}
 use Rattle.std.proofs.lemmas.List.{length-append, length-map}
 use Rattle.tsn_journal.specs.declared.entries.What.{What}
-use Rattle.tsn_journal.specs.declared.entries.Entry.{Entry}
 use Rattle.tsn_journal.specs.declared.entries.MarkedEntry.{MarkedEntry}
 use Rattle.tsn_journal.specs.declared.groups.Group.{Group}
 use Rattle.tsn_journal.specs.declared.index.Index.{Index}
-use Rattle.tsn_journal.specs.Index.{ArePlaces, HasRoom, IsIndexed, IsIndexedBut, IsKept, IsLast, TakesNoRoom, TakesRoom, belongs, is_among, is_by}
-use Rattle.tsn_journal.specs.Latest.{HasRows, TakesRows, latest_of}
-use Rattle.tsn_journal.specs.Marks.{IsJournal, mark_off}
-use Rattle.tsn_journal.proofs.Grouping.{number_itself}
+use Rattle.tsn_journal.specs.Index.{ArePlaces, HasRoom, IsIndexed, IsIndexedButNewest, IsKept, IsLast, TakesNoRoom, TakesRoom, belongs}
+use Rattle.tsn_journal.specs.Latest.{latest_of}
+use Rattle.tsn_journal.specs.Entries.{IsNumbered}
+use Rattle.tsn_journal.specs.Marks.{IsJournal, entries_of, mark_off}
 use Rattle.tsn_journal.proofs.Indexing.{indexed_more, indexed_off}
-use Rattle.tsn_journal.proofs.Links.{end_at}
 use Rattle.tsn_journal.proofs.Marking.{journal_push, new_entry}
 
 -- the index says the same where it has the same places and the same latest ones
@@ -43,8 +40,7 @@ module _ (ms : List MarkedEntry) (len capacity : ℕ) (a : Index) (room : ℕ) (
 
 pub still_room : (n : ℕ) (a b : Index) → TakesNoRoom a b → HasRoom n a → HasRoom n b
 still_room n a b h k = record {
-  places = omega (arith, h.places, h.capacity, k.places);
-  few = omega (arith, ap length h.items, k.few);
+  places = record { capacity = omega (arith, h.places, h.capacity, k.places.capacity); few = omega (arith, ap length h.items, k.places.few) };
   rows = record {
     ports = omega (arith, h.rows.ports, k.rows.ports);
     filters = omega (arith, h.rows.filters, k.rows.filters);
@@ -56,8 +52,7 @@ still_room n a b h k = record {
 
 pub less_room : (n : ℕ) (a b : Index) → 1 ≤ n → TakesRoom 5 a b → HasRoom (5 * n) a → HasRoom (5 * (n - 1)) b
 less_room n a b some h k = record {
-  places = omega (arith, h.places, h.capacity, k.places);
-  few = omega (arith, h.items, k.few);
+  places = record { capacity = omega (arith, h.places.len, h.places.capacity, k.places.capacity); few = omega (arith, h.places.items, k.places.few) };
   rows = record {
     ports = omega (arith, h.rows.ports, k.rows.ports);
     filters = omega (arith, h.rows.filters, k.rows.filters);
@@ -68,18 +63,15 @@ less_room n a b some h k = record {
 }
 
 module _ (w : What) (s : ℕ) (ms ns : List MarkedEntry) (pushed : ns ≡ map (mark_off w) ms ++ new_entry ms s w ∷ []) where
-  pub pushed_index : (e : Entry) → e ≡ (new_entry ms s w).entry → (groups : List (Option Group)) → ((g : Group) (m : MarkedEntry) → m.entry ≡ e → belongs g m ≡ true → is_among groups g ≡ true)
-      → (a : Index) → IsIndexed ms a → IsIndexedBut groups ns a
-  pushed_index e same groups covers a is =
-      subst (λ xs. IsIndexedBut groups xs a) (sym pushed)
-      (indexed_more (map (mark_off w) ms) (new_entry ms s w) groups a (λ g belong. covers g (new_entry ms s w) (sym same) belong) (indexed_off w ms a is))
+  pub pushed_index : (a : Index) → IsIndexed ms a → IsIndexedButNewest ns a
+  pushed_index a is =
+      subst (λ xs. IsIndexedButNewest xs a) (sym pushed) (indexed_more (map (mark_off w) ms) (new_entry ms s w) a (indexed_off w ms a is))
 
-  pub pushed_by : is_by s (slice_get ns (length ns - 1)) ≡ true
-  pushed_by =
-      let count : length (map (mark_off w) ms ++ new_entry ms s w ∷ []) ≡ length (map (mark_off w) ms) + 1 = length-append (map (mark_off w) ms) (new_entry ms s w ∷ []) in
-      ap (λ xs. is_by s (slice_get xs (length xs - 1))) pushed
-      ∙ ap (is_by s) (end_at (map (mark_off w) ms) (new_entry ms s w) (length (map (mark_off w) ms ++ new_entry ms s w ∷ []) - 1) (omega (arith, count)))
-      ∙ number_itself s
+  pub pushed_numbered : IsJournal ms → length ms + 1 ≤ 65536 → IsNumbered 1 (entries_of ns)
+  pushed_numbered is few = (journal_push ms s w ns is (omega arith) pushed).numbered
+
+  pub pushed_some : 1 ≤ length ns
+  pushed_some = omega (arith, ap length pushed, length-append (map (mark_off w) ms) (new_entry ms s w ∷ []))
 
   pub pushed_few : length ms + 1 ≤ 65536 → length ns ≤ 65536
   pushed_few h = omega (arith, ap length pushed, length-append (map (mark_off w) ms) (new_entry ms s w ∷ []), length-map ms (mark_off w), h)
@@ -90,6 +82,12 @@ module _ (w : What) (s : ℕ) (ms ns : List MarkedEntry) (pushed : ns ≡ map (m
     indexed = indexed;
     entries = omega (arith, is.entries);
     few = omega (arith, is.few);
-    few_places = omega (arith, is.few_places, takes.items);
+    few_places = omega (arith, is.few_places, takes.places.items);
     places = less_room room a b some takes is.places;
   }
+
+pub room_for_five : (n : ℕ) (a : Index) → 1 ≤ n → HasRoom (5 * n) a → HasRoom 5 a
+room_for_five n a some h = record {
+  places = record { capacity = omega (arith, h.places.capacity); few = omega (arith, h.places.few) };
+  rows = record { ports = omega (arith, h.rows.ports); filters = omega (arith, h.rows.filters); gates = omega (arith, h.rows.gates); meters = omega (arith, h.rows.meters); sessions = omega (arith, h.rows.sessions) };
+}

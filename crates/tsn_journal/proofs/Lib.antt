@@ -1,5 +1,6 @@
 pub mod Collecting
 pub mod Conflicts
+pub mod Entering
 pub mod Finders
 pub mod Grouping
 pub mod Indexing

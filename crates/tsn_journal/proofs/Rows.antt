@@ -1,5 +1,5 @@
 -- The newest places of groups when one row of a key or a session is set.
-use Rattle.std.proofs.Common.{◌≡◌, ℕ, ◌+◌, ◌≤◌, ◌⊎◌, inl, inr, Bool, true, false, cond, refl, sym, ◌∙◌, ap, subst, Option, Some, None, arith}
+use Rattle.std.proofs.Common.{◌≡◌, ℕ, ◌≤◌, Bool, true, false, cond, refl, sym, ◌∙◌, ap, Option, Some, None, arith}
 use Rattle.std.specs.Prelude.{◌==◌, IsSome}
 use Rattle.std.specs.Ordering.{nat_cmp, is_eq, eq_by_cmp}
 use Rattle.std.specs.FinMap.{FinMap, empty, get, get-empty, get-insert, insert}
@@ -16,7 +16,7 @@ use Rattle.tsn_journal.specs.declared.groups.Group.TheVariants.{On, RefersTo, Of
 use Rattle.tsn_journal.specs.declared.latest.Latest.{Latest}
 use Rattle.tsn_journal.specs.declared.latest.KeyPlaces.{KeyPlaces}
 use Rattle.tsn_journal.specs.declared.latest.SessionPlaces.{SessionPlaces}
-use Rattle.tsn_journal.specs.Latest.{HasRows, TakesRows, ends_of, key_row, latest_of, on_of, refers_of, same_group, session_row, standing_of}
+use Rattle.tsn_journal.specs.Latest.{ends_of, key_row, latest_of, on_of, refers_of, same_group, session_row, standing_of}
 use Rattle.tsn_journal.proofs.Grouping.{number_itself, same_number}
 
 is_equal : (o : Ordering) → is_eq o ≡ true → o ≡ Equal
@@ -61,6 +61,12 @@ module _ (l k : Latest) (key : Key) (row : KeyPlaces) (rows : (q : Key) → key_
   session_same : (s : ℕ) → session_row k s ≡ session_row l s
   session_same s = (λ i. get (sessions i).map s)
 
+  pub set_key_both : (q : Group) → latest_of k q ≡ cond (same_group (RefersTo key) q) row.refers (cond (same_group (On key) q) row.on (latest_of l q))
+  set_key_both (On q) = set_on' q
+  set_key_both (RefersTo q) = set_refers' q
+  set_key_both (Of s) = ap standing_of (session_same s)
+  set_key_both (EndsRedo s) = ap ends_of (session_same s)
+
   pub set_on : row.refers ≡ refers_of (key_row l key) → (q : Group) → latest_of k q ≡ cond (same_group (On key) q) row.on (latest_of l q)
   set_on same (On q) = set_on' q
   set_on same (RefersTo q) = set_refers' q ∙ same_either (same_key key q) row.refers (refers_of (key_row l q)) (λ one. same ∙ ap (λ x. refers_of (key_row l x)) (one_key key q one))
@@ -83,17 +89,11 @@ module _ (l k : Latest) (session : ℕ) (row : SessionPlaces) (sessions : k.sess
   ends_at : (s : ℕ) → ends_of (session_row k s) ≡ cond (session == s) row.ends_redo (ends_of (session_row l s))
   ends_at s = ap ends_of (row_at s) ∙ kept ends_of (session == s) (Some row) (session_row l s)
 
-  pub set_standing : row.ends_redo ≡ ends_of (session_row l session) → (q : Group) → latest_of k q ≡ cond (same_group (Of session) q) row.standing (latest_of l q)
-  set_standing same (On q) = ap on_of (keys q)
-  set_standing same (RefersTo q) = ap refers_of (keys q)
-  set_standing same (Of s) = standing_at s
-  set_standing same (EndsRedo s) = ends_at s ∙ same_either (session == s) row.ends_redo (ends_of (session_row l s)) (λ one. same ∙ ap (λ x. ends_of (session_row l x)) (same_number session s one))
-
-  pub set_ends : row.standing ≡ standing_of (session_row l session) → (q : Group) → latest_of k q ≡ cond (same_group (EndsRedo session) q) row.ends_redo (latest_of l q)
-  set_ends same (On q) = ap on_of (keys q)
-  set_ends same (RefersTo q) = ap refers_of (keys q)
-  set_ends same (Of s) = standing_at s ∙ same_either (session == s) row.standing (standing_of (session_row l s)) (λ one. same ∙ ap (λ x. standing_of (session_row l x)) (same_number session s one))
-  set_ends same (EndsRedo s) = ends_at s
+  pub set_both : (q : Group) → latest_of k q ≡ cond (same_group (EndsRedo session) q) row.ends_redo (cond (same_group (Of session) q) row.standing (latest_of l q))
+  set_both (On q) = ap on_of (keys q)
+  set_both (RefersTo q) = ap refers_of (keys q)
+  set_both (Of s) = standing_at s
+  set_both (EndsRedo s) = ends_at s
 
 -- a row set in one of the tables of keys
 module _ (m n : FinMap nat_cmp KeyPlaces) (number : ℕ) (row : KeyPlaces) (put : n ≡ insert m number row) where

@@ -1,8 +1,7 @@
 -- A conflict with a change, sought in the groups of its key and of what it refers to.
-use Rattle.std.proofs.Common.{◌≡◌, ℕ, zero, suc, ◌+◌, ◌<◌, ◌≤◌, Bool, true, false, cond, ◌||◌, ◌&&◌, List, [], ◌∷◌, ◌++◌, refl, sym, ◌∙◌, ap, Option, Some, None, arith, drop, length}
+use Rattle.std.proofs.Common.{◌≡◌, ℕ, zero, suc, ◌+◌, ◌<◌, ◌≤◌, Bool, true, false, cond, ◌||◌, ◌&&◌, List, [], ◌∷◌, ◌++◌, refl, sym, ◌∙◌, ap, Option, Some, None, arith, drop}
 use Rattle.std.specs.Prelude.{is_some, nat_lt, option_map, option_to_list}
-use Rattle.std.specs.Option.{option_and_then, option_or}
-use Rattle.std.proofs.Math.Bool.{or_assoc}
+use Rattle.std.specs.Option.{option_or}
 use Rattle.std.proofs.lemmas.Bool.Decides.{nat_tests}
 use Rattle.tsn_types.specs.declared.keys.Key.{Key}
 use Rattle.tsn_types.specs.declared.records.Refs.{Refs}
@@ -10,7 +9,7 @@ use Rattle.tsn_types.specs.Keys.{has, keys_of_refs, meets, refs_of, same_key}
 use Rattle.std.proofs.lemmas.Cmp.{eq_by_cmp_equiv}
 use Rattle.tsn_edit.specs.Changes.{conflicts, keys_of, refs_after}
 use Rattle.tsn_edit.specs.Parts.{Change, Part, parts}
-use Rattle.tsn_edit.proofs.KeyFacts.{by_bool, by_option, keys_total}
+use Rattle.tsn_edit.proofs.KeyFacts.{by_option, keys_total}
 use Rattle.tsn_journal.specs.declared.entries.What.{What}
 use Rattle.tsn_journal.specs.declared.entries.What.TheVariants.{Made, Undone, Redone, Acted}
 use Rattle.tsn_journal.specs.declared.entries.MarkedEntry.{MarkedEntry}
@@ -20,7 +19,7 @@ use Rattle.tsn_journal.specs.Finding.{last_where}
 use Rattle.tsn_journal.specs.Index.{above, belongs, is_on, is_on_any, refers, standing_change}
 use Rattle.tsn_journal.specs.Marks.{entries_of, is_in_conflict, later_of, stands}
 use Rattle.tsn_journal.proofs.Under.{last_either, no_lower}
-use Rattle.tsn_journal.proofs.Walking.{and_false, and_true}
+use Rattle.tsn_journal.proofs.Walking.{and_true}
 
 abbrev at : Option MarkedEntry → Option ℕ
 at o = option_map (λ m. m.entry.number) o

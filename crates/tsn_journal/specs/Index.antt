@@ -13,7 +13,7 @@ use Rattle.tsn_journal.specs.declared.groups.Group.TheVariants.{On, RefersTo, Of
 use Rattle.tsn_journal.specs.declared.index.Index.{Index}
 use Rattle.tsn_journal.specs.declared.index.Place.{Place}
 use Rattle.tsn_journal.specs.Latest.{HasRows, TakesRows, latest_of, same_group}
-use Rattle.tsn_journal.specs.Entries.{adds, most_entries}
+use Rattle.tsn_journal.specs.Entries.{adds, is_made, most_entries}
 use Rattle.tsn_journal.specs.Marks.{IsJournal, ends_redo, is_own}
 
 -- the change of a marked entry, where it stands
@@ -92,30 +92,59 @@ pub record IsPlace (ms : List MarkedEntry) (ps : List Place) (i : ℕ) (p : Plac
 abbrev pub ArePlaces : List MarkedEntry → List Place → Type 0
 ArePlaces ms ps = (i : ℕ) (p : Place) → slice_get ps i ≡ Some p → IsPlace ms ps i p
 
--- the index has all entries, but the newest one in the groups that are pending
-pub record IsIndexedBut (pending : List (Option Group)) (ms : List MarkedEntry) (a : Index) : Type 0 where
-  pub places : ArePlaces ms a.places.items
-  pub latest_is : (g : Group) → IsLast g (belongs g) ms a.places.items (latest_of a.latest g) (if is_among pending g then length ms else (length ms + 1))
+-- places and the newest ones of groups have all entries, but the newest entry in the groups that are pending
+pub record IsIndexedBut (pending : List (Option Group)) (ms : List MarkedEntry) (ps : List Place) (latest : Group → ℕ) : Type 0 where
+  pub places : ArePlaces ms ps
+  pub latest_is : (g : Group) → IsLast g (belongs g) ms ps (latest g) (if is_among pending g then length ms else (length ms + 1))
 
 -- the index has all entries
 abbrev pub IsIndexed : List MarkedEntry → Index → Type 0
-IsIndexed ms a = IsIndexedBut [] ms a
+IsIndexed ms a = IsIndexedBut [] ms a.places.items (latest_of a.latest)
+
+-- the index has all entries but the newest one
+pub record IsIndexedButNewest (ms : List MarkedEntry) (a : Index) : Type 0 where
+  pub places : ArePlaces ms a.places.items
+  pub latest_is : (g : Group) → IsLast g (belongs g) ms a.places.items (latest_of a.latest g) (length ms)
+
+-- the newest entry, of the number n, is the session's and made or redid the change; whether it ends a search for a redo
+pub record IsNewest (ms : List MarkedEntry) (n s : ℕ) (c : Change) (ends : Bool) : Type 0 where
+  pub count : n ≡ length ms
+  pub some : 1 ≤ n
+  pub by : is_by s (slice_get ms (n - 1)) ≡ true
+  pub change : (m : MarkedEntry) → slice_get ms (n - 1) ≡ Some m → adds m.entry.what ≡ Some c
+  pub end : (m : MarkedEntry) → slice_get ms (n - 1) ≡ Some m → is_made m.entry.what ≡ ends
+
+-- the group, where it is wanted
+abbrev pub group_if : Bool → Group → Option Group
+group_if true g = Some g
+group_if false g = None
+
+-- the newest places, with j for the group
+abbrev pub set_at : Group → ℕ → (Group → ℕ) → Group → ℕ
+set_at g j latest q = if same_group g q then j else latest q
 
 -- how many places there are at most
 abbrev pub most_places : ℕ
 most_places = 5 * most_entries
 
+-- there is room for n places more
+pub record HasPlaces (n : ℕ) (a : Index) : Type 0 where
+  pub capacity : vec_len a.places + n ≤ vec_capacity a.places
+  pub few : length a.places.items + n ≤ most_places
+
 -- the index has room for n places more, each of a group of its own
 pub record HasRoom (n : ℕ) (a : Index) : Type 0 where
-  pub places : vec_len a.places + n ≤ vec_capacity a.places
-  pub few : length a.places.items + n ≤ most_places
+  pub places : HasPlaces n a
   pub rows : HasRows n a.latest
 
 -- b has the room of a but for n places
-pub record TakesRoom (n : ℕ) (a b : Index) : Type 0 where
-  pub places : vec_len b.places ≤ vec_len a.places + n
+pub record TakesPlaces (n : ℕ) (a b : Index) : Type 0 where
+  pub len : vec_len b.places ≤ vec_len a.places + n
   pub items : length b.places.items ≤ length a.places.items + n
   pub capacity : vec_capacity b.places ≡ vec_capacity a.places
+
+pub record TakesRoom (n : ℕ) (a b : Index) : Type 0 where
+  pub places : TakesPlaces n a b
   pub rows : TakesRows n a.latest b.latest
 
 -- b has at least the room of a
@@ -133,15 +162,14 @@ other_from ms s j (Some p) = if is_by s (slice_get ms (p.number - 1)) then p.oth
 abbrev pub other_of : List MarkedEntry → List Place → ℕ → ℕ → ℕ
 other_of ms ps s j = other_from ms s j (place_at ps j)
 
--- b is a with the place of the entry of the number in the group
-pub record AddsPlace (ms : List MarkedEntry) (g : Group) (n s : ℕ) (a b : Index) : Type 0 where
-  pub places : b.places.items ≡ a.places.items ++ record { group = g; number = n; before = latest_of a.latest g; other = other_of ms a.places.items s (latest_of a.latest g) } ∷ []
-  pub latest : (q : Group) → latest_of b.latest q ≡ (if same_group g q then (length a.places.items + 1) else latest_of a.latest q)
-
--- b is a with that place, or a itself where the latest place of the group is that of the entry
-pub record Adds (ms : List MarkedEntry) (g : Group) (n s : ℕ) (a b : Index) : Type 0 where
-  pub new_place : number_at a.places.items (latest_of a.latest g) < n → AddsPlace ms g n s a b
-  pub same : n ≤ number_at a.places.items (latest_of a.latest g) → b ≡ a
+-- the places with one more, of the session's entry of the number in the group, whose newest place was `before`; none more where it is not wanted, or where that place is of the entry
+pub record Adds (ms : List MarkedEntry) (wanted : Bool) (g : Group) (n s before : ℕ) (ps qs : List Place) (j : ℕ) : Type 0 where
+  pub places : wanted ≡ true → number_at ps before < n → qs ≡ ps ++ record { group = g; number = n; before = before; other = other_of ms ps s before } ∷ []
+  pub place : wanted ≡ true → number_at ps before < n → j ≡ length ps + 1
+  pub there : n ≤ number_at ps before → qs ≡ ps
+  pub there_place : n ≤ number_at ps before → j ≡ before
+  pub unwanted : wanted ≡ false → qs ≡ ps
+  pub unwanted_place : wanted ≡ false → j ≡ before
 
 -- how a journal keeps its entries: with all in the index, and with room for as many more as it says, each with five places
 pub record IsKept (ms : List MarkedEntry) (len capacity : ℕ) (index : Index) (room : ℕ) : Type 0 where

@@ -4,13 +4,14 @@ ghost use Rattle.std.specs.List.{find};
 ghost use Rattle.std.specs.Option.{option_and_then, option_copied};
 ghost use Rattle.tsn_journal.specs.Entries.{IsNumbered, applies};
 ghost use Rattle.tsn_journal.specs.Finding.{last_where};
-ghost use Rattle.tsn_journal.specs.Index.{IsIndexed, above, belongs, is_on_any, is_sought};
+ghost use Rattle.tsn_journal.specs.Latest.{latest_of};
+ghost use Rattle.tsn_journal.specs.Index.{IsIndexed, TakesRoom, above, belongs, is_on_any, is_sought};
 ghost use Rattle.tsn_journal.specs.Marks.{conflict_after, conflict_of_others, entries_of, is_in_conflict, is_own, later_of, mark_off, newest_blocked, stands};
 ghost use Rattle.tsn_journal.specs.Tests.{Tests};
 ghost use Rattle.tsn_journal.specs.declared.entries.MarkedEntry.{MarkedEntry as AnyEntry};
 
 use crate::entries::{Entry, MarkedEntry, What};
-use crate::groups::{Group, groups_of, one_part, refs_of};
+use crate::groups::{Group, one_part, refs_of};
 use crate::index::Index;
 use std::alloc::{AllocError, Global};
 use tsn_edit::Change;
@@ -99,14 +100,22 @@ pub(crate) fn conflict_after<F: Fn(&MarkedEntry) -> bool>(
     )
 }
 
-/// The number of the last entry of the group, of any session, or of others than the one given.
-fn number_in(index: &Index, marked: &[MarkedEntry], group: &Group, but: Option<u32>) -> Option<u64>
-    requires { IsIndexed marked.now index.now }
+/// The number of the last entry of the group, whose newest place this is, of any session, or of others than the one
+/// given.
+fn number_in(
+    index: &Index,
+    marked: &[MarkedEntry],
+    group: &Group,
+    latest: u32,
+    but: Option<u32>,
+) -> Option<u64>
+    requires index { IsIndexed marked.now index.now }
+    requires latest { latest ≡ latest_of index.now.latest group.now }
     ensures { result ≡ option_map (λ m. m.entry.number) (last_where (λ m. belongs group.now m && is_sought but m) marked.now) }
 {
     let found = match but {
-        None => index.latest_in(marked, group),
-        Some(session) => index.last_of_others(marked, group, session),
+        None => index.latest_in(marked, group, latest),
+        Some(session) => index.last_of_others(marked, group, latest, session),
     };
     match found {
         Some(found) => Some(found.entry.number),
@@ -118,14 +127,17 @@ fn number_in(index: &Index, marked: &[MarkedEntry], group: &Group, but: Option<u
 fn number_on(
     index: &Index,
     marked: &[MarkedEntry],
-    key: Option<Key>,
+    key: &Option<Key>,
     but: Option<u32>,
 ) -> Option<u64>
     requires { IsIndexed marked.now index.now }
-    ensures { result ≡ option_map (λ m. m.entry.number) (last_where (λ m. is_on_any key m && is_sought but m) marked.now) }
+    ensures { result ≡ option_map (λ m. m.entry.number) (last_where (λ m. is_on_any key.now m && is_sought but m) marked.now) }
 {
     match key {
-        Some(key) => number_in(index, marked, &Group::On(key), but),
+        Some(key) => {
+            let latest = index.latest.key_places(*key).on;
+            number_in(index, marked, &Group::On(*key), latest, but)
+        }
         None => None,
     }
 }
@@ -143,11 +155,18 @@ fn latest_conflict(
         (last_where (λ m. (is_some (stands m) && is_sought but m) && is_in_conflict (applies m.entry.what) change.now) marked.now) }
 {
     let part = one_part(change);
-    let on_key = number_in(index, marked, &Group::On(part.key), but);
-    let to_key = number_in(index, marked, &Group::RefersTo(part.key), but);
+    let latest = index.latest.key_places(part.key);
+    let on_key = number_in(index, marked, &Group::On(part.key), latest.on, but);
+    let to_key = number_in(
+        index,
+        marked,
+        &Group::RefersTo(part.key),
+        latest.refers,
+        but,
+    );
     let refs = refs_of(&part.before);
-    let on_first = number_on(index, marked, refs.first, but);
-    let on_second = number_on(index, marked, refs.second, but);
+    let on_first = number_on(index, marked, &refs.first, but);
+    let on_second = number_on(index, marked, &refs.second, but);
     let by_key = later_of(on_key, to_key);
     let by_refs = later_of(on_first, on_second);
     later_of(by_key, by_refs)
@@ -223,27 +242,16 @@ pub(crate) fn own_in_conflict(index: &Index, marked: &[MarkedEntry], session: u3
     requires numbered { IsNumbered 1 (entries_of marked.now) }
     ensures { result ≡ newest_blocked session marked.now marked.now }
 {
+    let latest = index.latest.session_places(session).standing;
     let newest = index.last_in(
         marked,
         &Group::Of(session),
+        latest,
         &|own: &MarkedEntry| { is_blocked(index, marked, own) },
     );
     match newest {
         Some(found) => Some(found.entry.number),
         None => None,
-    }
-}
-
-/// The groups that the entry that is taken back, if there is one, may leave.
-pub(crate) fn left_groups(marked: &[MarkedEntry], what: &What) -> [Option<Group>; 5]
-    requires { IsNumbered 1 (entries_of marked.now) }
-{
-    let Some(of) = what.names() else {
-        return [None, None, None, None, None];
-    };
-    match at(marked, of) {
-        Some(taken_back) => groups_of(&taken_back.entry),
-        None => [None, None, None, None, None],
     }
 }
 
@@ -261,5 +269,20 @@ pub(crate) fn put_off(marked: &mut [MarkedEntry], what: &What)
     let earlier = &mut marked[place];
     if what.takes_back(&earlier.entry) {
         earlier.is_open = false;
+    }
+}
+
+/// Sets the newest places of groups back where the entry of the number, which was taken back, has left them.
+pub(crate) fn leave(index: &mut Index, marked: &[MarkedEntry], taken_back: Option<u64>)
+    requires index { IsIndexed marked.now index.old }
+    requires numbered { IsNumbered 1 (entries_of marked.now) }
+    ensures index { IsIndexed marked.now index.new }
+    ensures room { TakesRoom 0 index.old index.new }
+{
+    let Some(number) = taken_back else {
+        return;
+    };
+    if let Some(taken_back) = at(marked, number) {
+        index.leave(marked, &taken_back.entry);
     }
 }

@@ -11,7 +11,7 @@ use tsn_edit::{Change, Part};
 use tsn_types::keys::Key;
 use tsn_types::records::{Record, Refs};
 
-/// How many groups an entry may belong to at most.
+/// How many groups an entry may belong to at most: on its key, referring to two, and two of its session.
 pub(crate) const MOST_GROUPS: usize = 5;
 
 /// Entries that a finder looks through, the newest first.
@@ -25,50 +25,6 @@ pub(crate) enum Group {
     Of(u32),
     /// The session's entries at which a search for what it may redo ends.
     EndsRedo(u32),
-}
-
-/// The groups that the entry may ever belong to.
-pub(crate) fn groups_of(entry: &Entry) -> [Option<Group>; 5]
-    ensures five { length result ≡ 5 }
-    ensures covers { (g : AnyGroup) (m : AnyEntry) → m.entry ≡ entry.now → belongs g m ≡ true → is_among result g ≡ true }
-{
-    let session = entry.session;
-    match &entry.what {
-        What::Made(change) => {
-            let part = one_part(change);
-            let refs = refs_of(&part.after);
-            [
-                Some(Group::On(part.key)),
-                referring_to(refs.first),
-                referring_to(refs.second),
-                Some(Group::Of(session)),
-                Some(Group::EndsRedo(session)),
-            ]
-        }
-        What::Undone { .. } => [None, None, None, None, Some(Group::EndsRedo(session))],
-        What::Redone { change, .. } => {
-            let part = one_part(change);
-            let refs = refs_of(&part.after);
-            [
-                Some(Group::On(part.key)),
-                referring_to(refs.first),
-                referring_to(refs.second),
-                Some(Group::Of(session)),
-                None,
-            ]
-        }
-        What::Acted { .. } => [None, None, None, None, None],
-    }
-}
-
-/// The group of those that refer to the key, if there is one.
-fn referring_to(key: Option<Key>) -> Option<Group>
-    ensures { result ≡ option_map Group.RefersTo key }
-{
-    match key {
-        Some(key) => Some(Group::RefersTo(key)),
-        None => None,
-    }
 }
 
 /// The one part of a change.

@@ -9,10 +9,10 @@ ghost use Rattle.tsn_journal.specs.Finding.{entry, find_conflict, find_conflict_
 
 use crate::entries::{Entries, Entry, MarkedEntry, What};
 use crate::finding::{
-    after, at, conflict_after, conflict_of_others, left_groups, own_in_conflict, put_off,
+    after, at, conflict_after, conflict_of_others, leave, own_in_conflict, put_off,
     standing_conflict_after,
 };
-use crate::groups::{Group, MOST_GROUPS, groups_of};
+use crate::groups::{Group, MOST_GROUPS};
 use crate::index::Index;
 use std::alloc::{AllocError, Global};
 use std::marker::Model;
@@ -94,21 +94,19 @@ impl Journal {
         ensures entries { self.new.entries ≡ with_entry self.old.entries session what }
         ensures spare { self.old.spare ≤ self.new.spare + 1 }
     {
-        let left = left_groups(&self.marked, &what);
         put_off(&mut self.marked, &what);
         let number = self.marked.len() as u64 + 1;
-        let entry = Entry {
-            number,
-            session,
-            what,
-        };
-        let groups = groups_of(&entry);
+        let taken_back = what.names();
         self.marked.push_reserved(MarkedEntry {
-            entry,
+            entry: Entry {
+                number,
+                session,
+                what,
+            },
             is_open: true,
         });
-        self.index.enter(&self.marked, session, &groups);
-        self.index.lower_all(&self.marked, &left);
+        self.index.enter(&self.marked);
+        leave(&mut self.index, &self.marked, taken_back);
         self.room -= 1;
         number
     }
@@ -137,7 +135,11 @@ impl Journal {
     pub fn last_of(&self, session: u32) -> Option<u64>
         ensures { result ≡ option_map (λ x. x.number) (last_of self.now.entries session) }
     {
-        match self.index.latest_in(&self.marked, &Group::Of(session)) {
+        let latest = self.index.latest.session_places(session).standing;
+        match self
+            .index
+            .latest_in(&self.marked, &Group::Of(session), latest)
+        {
             Some(marked) => Some(marked.entry.number),
             None => None,
         }
@@ -149,9 +151,10 @@ impl Journal {
         ensures newest { result ≡ option_map (λ x. x.number) (redo_of self.now.entries session) }
         ensures undone { IfSome result (λ n. IsSome (undone_entry self.now.entries n)) }
     {
+        let latest = self.index.latest.session_places(session).ends_redo;
         match self
             .index
-            .latest_in(&self.marked, &Group::EndsRedo(session))
+            .latest_in(&self.marked, &Group::EndsRedo(session), latest)
         {
             Some(marked) => marked.undone_number(),
             None => None,
@@ -163,14 +166,15 @@ impl Journal {
         ensures count { result ≡ length (own_standing self.now.entries session) }
         ensures few { result ≤ length self.now.entries }
     {
-        self.index.count_in(&self.marked, &Group::Of(session))
+        self.index.count_of(&self.marked, session)
     }
 
     /// The numbers of the session's standing entries, rising. Refused only for want of memory.
     pub fn standing_of(&self, session: u32) -> Result<Vec<u64>, AllocError>
         ensures { IfOk result (λ numbers. numbers.items ≡ map (λ x. x.number) (own_standing self.now.entries session)) }
     {
-        self.index.numbers_in(*self.marked.allocator(), &self.marked, &Group::Of(session))
+        self.index
+            .numbers_of(*self.marked.allocator(), &self.marked, session)
     }
 
     /// Copies of the entries of a greater number. Refused only for want of memory.

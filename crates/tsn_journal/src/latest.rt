@@ -1,13 +1,12 @@
 //! The newest place of each group: on each key, referring to it, and of each session.
-ghost use Rattle.std.specs.Prelude.{◌≡◌, ◌≤◌, ◌⊎◌, IsSome, OnOk, Some, if◌then◌else◌};
+ghost use Rattle.std.specs.Prelude.{◌≡◌, ◌⊎◌, IsSome, OnOk, Some, if◌then◌else◌};
 ghost use Rattle.std.specs.FinMap as map;
 ghost use Rattle.std.specs.Option.{option_copied};
 ghost use Rattle.tsn_types.specs.Keys.{same_key};
 ghost use Rattle.tsn_types.specs.declared.keys.Key.{Key as AnyKey};
 ghost use Rattle.tsn_journal.specs.declared.groups.Group.{Group as AnyGroup};
-ghost use Rattle.tsn_journal.specs.Latest.{HasRows, TakesRows, ends_of, key_row, latest_of, on_of, refers_of, same_group, session_row, standing_of};
+ghost use Rattle.tsn_journal.specs.Latest.{HasRows, TakesRows, ends_of, key_row, latest_of, on_of, refers_of, session_row, standing_of};
 
-use crate::groups::Group;
 use std::alloc::{AllocError, Global};
 use tsn_table::Table;
 use tsn_types::keys::Key;
@@ -68,60 +67,8 @@ impl Latest {
         Ok(())
     }
 
-    /// The newest place of the group, from 1, and 0 for none.
-    pub(crate) fn place(&self, group: &Group) -> u32
-        ensures { result ≡ latest_of self.now group.now }
-    {
-        match group {
-            Group::On(key) => self.key_places(*key).on,
-            Group::RefersTo(key) => self.key_places(*key).refers,
-            Group::Of(session) => self.session_places(*session).standing,
-            Group::EndsRedo(session) => self.session_places(*session).ends_redo,
-        }
-    }
-
-    /// Makes the place the newest of the group. A group that has one takes no room, and one that has none takes a
-    /// row of its kind at most.
-    pub(crate) fn set(&mut self, group: &Group, place: u32)
-        requires { (1 ≤ latest_of self.old group.now) ⊎ HasRows 1 self.old }
-        ensures latest { (q : AnyGroup) → latest_of self.new q ≡ (if same_group group.now q then place else latest_of self.old q) }
-        ensures room { TakesRows 1 self.old self.new }
-        ensures same_room { 1 ≤ latest_of self.old group.now → TakesRows 0 self.old self.new }
-    {
-        match group {
-            Group::On(key) => {
-                let refers = self.key_places(*key).refers;
-                self.set_key(*key, KeyPlaces { on: place, refers });
-            }
-            Group::RefersTo(key) => {
-                let on = self.key_places(*key).on;
-                self.set_key(*key, KeyPlaces { on, refers: place });
-            }
-            Group::Of(session) => {
-                let ends_redo = self.session_places(*session).ends_redo;
-                self.set_session(
-                    *session,
-                    SessionPlaces {
-                        standing: place,
-                        ends_redo,
-                    },
-                );
-            }
-            Group::EndsRedo(session) => {
-                let standing = self.session_places(*session).standing;
-                self.set_session(
-                    *session,
-                    SessionPlaces {
-                        standing,
-                        ends_redo: place,
-                    },
-                );
-            }
-        }
-    }
-
     /// The newest places of the key.
-    fn key_places(&self, key: Key) -> KeyPlaces
+    pub(crate) fn key_places(&self, key: Key) -> KeyPlaces
         ensures on { result.on ≡ on_of (key_row self.now key) }
         ensures refers { result.refers ≡ refers_of (key_row self.now key) }
     {
@@ -143,7 +90,7 @@ impl Latest {
     }
 
     /// The newest places of the session.
-    fn session_places(&self, session: u32) -> SessionPlaces
+    pub(crate) fn session_places(&self, session: u32) -> SessionPlaces
         ensures standing { result.standing ≡ standing_of (session_row self.now session) }
         ensures ends_redo { result.ends_redo ≡ ends_of (session_row self.now session) }
     {
@@ -156,8 +103,9 @@ impl Latest {
         }
     }
 
-    /// Sets the row of the key.
-    fn set_key(&mut self, key: Key, row: KeyPlaces)
+    /// Sets the newest places of the key. A key that has some takes no room, and one that has none takes a row of its
+    /// kind.
+    pub(crate) fn set_key(&mut self, key: Key, row: KeyPlaces)
         requires { IsSome (key_row self.old key) ⊎ HasRows 1 self.old }
         ensures rows { (q : AnyKey) → key_row self.new q ≡ (if same_key q key then Some row else key_row self.old q) }
         ensures sessions { self.new.sessions ≡ self.old.sessions }
@@ -180,8 +128,8 @@ impl Latest {
         }
     }
 
-    /// Sets the row of the session.
-    fn set_session(&mut self, session: u32, row: SessionPlaces)
+    /// Sets the newest places of the session. A session that has some takes no room, and one that has none takes a row.
+    pub(crate) fn set_session(&mut self, session: u32, row: SessionPlaces)
         requires { IsSome (session_row self.old session) ⊎ HasRows 1 self.old }
         ensures sessions { self.new.sessions.map ≡ map.insert self.old.sessions.map session row }
         ensures keys { (q : AnyKey) → key_row self.new q ≡ key_row self.old q }

@@ -10,8 +10,8 @@ pub back-init : goal.back-init
 back-init g c =
     let ps = c.args.self.now.places.items in
     let h = c.args.group.now in
-    let at : IsLast h (belongs h) c.args.marked.now ps c.place-place.result (length c.args.marked.now + 1) =
-    subst (λ j. IsLast h (belongs h) c.args.marked.now ps j (length c.args.marked.now + 1)) (sym c.place-place.ensures) (c.requires.index.latest_is h) in
+    let at : IsLast h (belongs h) c.args.marked.now ps c.args.latest (length c.args.marked.now + 1) =
+    subst (λ j. IsLast h (belongs h) c.args.marked.now ps j (length c.args.marked.now + 1)) (sym c.requires.latest) (c.requires.index.latest_is h) in
     record {
       within = at.within;
       group = at.group;

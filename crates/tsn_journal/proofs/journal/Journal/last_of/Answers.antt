@@ -1,4 +1,4 @@
-use Rattle.std.proofs.Common.{◌≡◌, ℕ, List, Option, sym, ◌∙◌, ap}
+use Rattle.std.proofs.Common.{◌≡◌, ℕ, List, Option, sym, ◌∙◌, ap, subst}
 use Rattle.std.specs.Prelude.{◌==◌, option_map}
 use Rattle.std.specs.Option.{option_copied}
 use Rattle.tsn_journal.specs.declared.entries.MarkedEntry.{MarkedEntry}
@@ -6,6 +6,7 @@ use Rattle.tsn_journal.specs.Entries.{Applied}
 use Rattle.tsn_journal.specs.Finding.{last_of, last_where}
 use Rattle.tsn_journal.specs.Marks.{IsJournal, Log, entries_of, is_own}
 use Rattle.tsn_journal.proofs.Finders.{last_standing, own_agrees}
+use Rattle.tsn_journal.specs.Index.{IsIndexed}
 use Rattle.tsn_journal.proofs.journal.Journal.last_of.Goals as goal
 
 looked_for : (s : ℕ) (looked : Option MarkedEntry) (now ms : List MarkedEntry) → IsJournal ms → looked ≡ last_where (is_own s) now → now ≡ ms
@@ -23,3 +24,6 @@ pub returns-in-None : goal.returns-in-None
 returns-in-None c =
     looked_for c.args.session _ _ _ c.self.invariant.journal (sym (ap option_copied c.in-None.is) ∙ c.latest_in.ensures) c.deref.ensures.value
     ∙ ap (λ (l : Log). option_map (λ (x : Applied). x.number) (last_of l.entries c.args.session)) c.self.view_is
+
+pub latest_in-requires-clause-index : goal.latest_in-requires-clause-index
+latest_in-requires-clause-index c = subst (λ xs. IsIndexed xs c.self.inside.index) (sym c.deref.ensures.value) c.self.invariant.indexed

@@ -7,6 +7,7 @@ use Rattle.tsn_journal.specs.Finding.{last_where, redo_of, undone_entry}
 use Rattle.tsn_journal.specs.Marks.{IsJournal, Log, ends_redo, entries_of}
 use Rattle.tsn_journal.proofs.Finders.{redo_marked}
 use Rattle.tsn_journal.proofs.Standing.{redo_is_undone}
+use Rattle.tsn_journal.specs.Index.{IsIndexed}
 use Rattle.tsn_journal.proofs.journal.Journal.redo_of.Goals as goal
 
 abbrev redo_number : Option MarkedEntry → Option ℕ
@@ -36,3 +37,6 @@ returns-in-Some-clause-undone c =
     subst (λ (l : Log). IfSome c.undone_number.result (λ n. IsSome (undone_entry l.entries n))) c.self.view_is
     (redo_is_undone (entries_of c.self.inside.marked.items) s c.undone_number.result c.self.invariant.journal.numbered
     (c.undone_number.ensures ∙ looked_for s _ _ _ c.self.invariant.journal (sym (ap option_copied c.in-Some.is) ∙ c.latest_in.ensures) c.deref.ensures.value))
+
+pub latest_in-requires-clause-index : goal.latest_in-requires-clause-index
+latest_in-requires-clause-index c = subst (λ xs. IsIndexed xs c.self.inside.index) (sym c.deref.ensures.value) c.self.invariant.indexed

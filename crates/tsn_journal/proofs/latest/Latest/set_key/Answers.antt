@@ -1,4 +1,4 @@
-use Rattle.std.proofs.Common.{◌≡◌, Some, refl, sym, ◌∙◌, ap, cond}
+use Rattle.std.proofs.Common.{Some, refl, sym, ◌∙◌, ap, cond}
 use Rattle.std.specs.FinMap.{insert}
 use Rattle.tsn_types.specs.Keys.{same_key}
 use Rattle.tsn_journal.specs.Latest.{key_row}

@@ -1,10 +1,7 @@
-use Rattle.std.proofs.Common.{◌+◌, sym, ◌∙◌, subst, arith, length}
-use Rattle.tsn_journal.specs.Index.{IsLast, belongs}
+use Rattle.std.proofs.Common.{◌+◌, sym, ◌∙◌, arith, length}
+use Rattle.tsn_journal.specs.Index.{belongs}
 use Rattle.tsn_journal.proofs.Links.{place_there, step, the_place}
-use Rattle.tsn_journal.proofs.index.Index.first_in.Goals as goal
-
-pub back-init : goal.back-init
-back-init c = subst (λ j. IsLast c.args.group.now (belongs c.args.group.now) c.args.marked.now c.args.self.now.places.items j (length c.args.marked.now + 1)) (sym c.place-place.ensures) (c.requires.latest_is c.args.group.now)
+use Rattle.tsn_journal.proofs.index.Index.first_from.Goals as goal
 
 pub numbered-requires-clause-some : goal.numbered-requires-clause-some
 numbered-requires-clause-some c = (the_place c.args.marked.now c.args.self.now.places.items c.args.group.now c.back.place c.index-at.result.now c.back.invariant.group (place_there c.args.self.now.places.items c.back.place c.index-at.result.now c.back-test.true c.back.invariant.within c.index-at.ensures) c.requires.places).some
