@@ -1,8 +1,17 @@
 pub mod Collecting
 pub mod Conflicts
+pub mod Entering
 pub mod Finders
+pub mod Grouping
+pub mod Indexing
+pub mod Keeping
 pub mod LastWhere
+pub mod Links
+pub mod Lowering
 pub mod Marking
 pub mod Numbers
+pub mod Rows
+pub mod Sought
 pub mod Standing
 pub mod Under
+pub mod Walking

@@ -15,7 +15,7 @@ use Rattle.tsn_journal.proofs.LastWhere.{last_where-append}
 
 -- ---- the last that passes either test is the later of the two last
 
-no_lower : (t : MarkedEntry → Bool) (n : ℕ) (ms : List MarkedEntry) (m : MarkedEntry) → IsNumbered n (entries_of ms) → last_where t ms ≡ Some m → n ≤ m.entry.number
+pub no_lower : (t : MarkedEntry → Bool) (n : ℕ) (ms : List MarkedEntry) (m : MarkedEntry) → IsNumbered n (entries_of ms) → last_where t ms ≡ Some m → n ≤ m.entry.number
 no_lower t n [] m h is = (cc)
 no_lower t n (x ∷ ms) m h is =
     let first : x.entry.number ≡ n = h.0 in
@@ -55,7 +55,7 @@ either_last (Some y) None (Some z) x u false la lb h = h
 either_last (Some y) (Some w) None x u v la lb h = (cc)
 either_last (Some y) (Some w) (Some z) x u v la lb h = h
 
-last_either : (p q : MarkedEntry → Bool) (n : ℕ) (ms : List MarkedEntry) → IsNumbered n (entries_of ms) → at (last_where (λ m. p m || q m) ms) ≡ later_of (at (last_where p ms)) (at (last_where q ms))
+pub last_either : (p q : MarkedEntry → Bool) (n : ℕ) (ms : List MarkedEntry) → IsNumbered n (entries_of ms) → at (last_where (λ m. p m || q m) ms) ≡ later_of (at (last_where p ms)) (at (last_where q ms))
 last_either p q n [] h = refl
 last_either p q n (x ∷ ms) h =
     let first : x.entry.number ≡ n = h.0 in

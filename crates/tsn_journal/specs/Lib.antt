@@ -1,4 +1,6 @@
 pub mod Entries
 pub mod Finding
+pub mod Index
+pub mod Latest
 pub mod Marks
 pub mod Tests

@@ -2,7 +2,7 @@
 ghost use Rattle.std.specs.Prelude.{◌≡◌, ◌==◌, IfOk, is_some, option_map};
 ghost use Rattle.std.specs.Option.{option_copied};
 ghost use Rattle.tsn_journal.specs.Entries.{adds, applied, applies, is_made, names, takes_back, undoes};
-ghost use Rattle.tsn_journal.specs.Marks.{ends_redo, entries_of, is_in_conflict, is_others, is_own, is_under, stands};
+ghost use Rattle.tsn_journal.specs.Marks.{ends_redo, entries_of, is_in_conflict, is_own, stands};
 
 use std::alloc::{AllocError, Global};
 use std::marker::Model;
@@ -67,6 +67,17 @@ impl What {
                 now: *now,
             },
         })
+    }
+
+    /// The change of an entry that may stand: one that was made or redone.
+    pub(crate) fn added(&self) -> Option<&Change>
+        ensures { option_copied result ≡ adds self.now }
+    {
+        match self {
+            What::Made(change) => Some(change),
+            What::Redone { change, .. } => Some(change),
+            _ => None,
+        }
     }
 
     /// Whether an entry that did this may stand: one that was made or redone.
@@ -196,29 +207,12 @@ impl MarkedEntry {
         self.stands() && self.is_of(session)
     }
 
-    /// Whether the entry stands and is another session's.
-    pub(crate) fn is_others(&self, session: u32) -> bool
-        ensures { result ≡ is_others session self.now }
-    {
-        self.stands() && !self.is_of(session)
-    }
-
     /// Whether the entry applied a change in conflict with the earlier one.
     pub(crate) fn conflicts_with(&self, earlier: &Change) -> bool
         ensures { result ≡ is_in_conflict (applies self.now.entry.what) earlier.now }
     {
         match self.entry.what.change() {
             Some(change) => conflicts(change, earlier),
-            None => false,
-        }
-    }
-
-    /// Whether the other is later and applied a change in conflict with that of this entry.
-    pub(crate) fn is_under(&self, other: &MarkedEntry) -> bool
-        ensures { result ≡ is_under self.now.entry other.now }
-    {
-        match self.entry.what.change() {
-            Some(change) => self.entry.number < other.entry.number && other.conflicts_with(change),
             None => false,
         }
     }

@@ -1,15 +1,21 @@
 //! Looking through the marked entries of a journal, by number and from the back.
-ghost use Rattle.std.specs.Prelude.{◌≡◌, ◌==◌, ◌+◌, ◌<◌, ◌≤◌, ◌⊎◌, Bool, IfOk, IfSome, IsNone, drop, filter, is_some, length, map, option_map};
+ghost use Rattle.std.specs.Prelude.{◌≡◌, ◌==◌, ◌+◌, ◌<◌, ◌≤◌, ◌⊎◌, ◌&&◌, Bool, IfOk, IfSome, IsNone, drop, filter, is_some, length, map, option_map};
 ghost use Rattle.std.specs.List.{find};
 ghost use Rattle.std.specs.Option.{option_and_then, option_copied};
-ghost use Rattle.tsn_journal.specs.Entries.{IsNumbered};
+ghost use Rattle.tsn_journal.specs.Entries.{IsNumbered, applies};
 ghost use Rattle.tsn_journal.specs.Finding.{last_where};
-ghost use Rattle.tsn_journal.specs.Marks.{conflict_after, conflict_of_others, entries_of, is_others, is_own, later_of, mark_off, newest_blocked};
+ghost use Rattle.tsn_journal.specs.Latest.{latest_of};
+ghost use Rattle.tsn_journal.specs.Index.{IsIndexed, TakesRoom, above, belongs, is_on_any, is_sought};
+ghost use Rattle.tsn_journal.specs.Marks.{conflict_after, conflict_of_others, entries_of, is_in_conflict, is_own, later_of, mark_off, newest_blocked, stands};
 ghost use Rattle.tsn_journal.specs.Tests.{Tests};
 ghost use Rattle.tsn_journal.specs.declared.entries.MarkedEntry.{MarkedEntry as AnyEntry};
 
 use crate::entries::{Entry, MarkedEntry, What};
+use crate::groups::{Group, one_part, refs_of};
+use crate::index::Index;
 use std::alloc::{AllocError, Global};
+use tsn_edit::Change;
+use tsn_types::keys::Key;
 
 /// The last entry that passes the test.
 pub(crate) fn last<'a, F: Fn(&MarkedEntry) -> bool>(
@@ -75,38 +81,6 @@ pub(crate) fn after(marked: &[MarkedEntry], number: u64) -> &[MarkedEntry]
     }
 }
 
-/// How many entries pass the test.
-pub(crate) fn count<F: Fn(&MarkedEntry) -> bool>(marked: &[MarkedEntry], test: &F) -> usize
-    requires { F.IsAlwaysCallable test.now }
-    ensures number { (p : AnyEntry → Bool) → Tests F.Fn p test.now → result ≡ length (filter p marked.now) }
-    ensures few { result ≤ length marked.now }
-{
-    let mut found = 0;
-    for row in marked {
-        if test(row) {
-            found += 1;
-        }
-    }
-    found
-}
-
-/// The numbers of the session's standing entries. Refused only for want of memory.
-pub(crate) fn numbers(
-    alloc: Global,
-    marked: &[MarkedEntry],
-    session: u32,
-) -> Result<Vec<u64>, AllocError>
-    ensures { IfOk result (λ numbers. numbers.items ≡ map (λ m. m.entry.number) (filter (is_own session) marked.now)) }
-{
-    let mut found = Vec::new(alloc);
-    for row in marked {
-        if row.is_own(session) {
-            found.push(row.entry.number)?;
-        }
-    }
-    Ok(found)
-}
-
 /// The number of the latest entry after the earlier one that passes the test and is in conflict with it.
 pub(crate) fn conflict_after<F: Fn(&MarkedEntry) -> bool>(
     marked: &[MarkedEntry],
@@ -126,24 +100,128 @@ pub(crate) fn conflict_after<F: Fn(&MarkedEntry) -> bool>(
     )
 }
 
+/// The number of the last entry of the group, whose newest place this is, of any session, or of others than the one
+/// given.
+fn number_in(
+    index: &Index,
+    marked: &[MarkedEntry],
+    group: &Group,
+    latest: u32,
+    but: Option<u32>,
+) -> Option<u64>
+    requires index { IsIndexed marked.now index.now }
+    requires latest { latest ≡ latest_of index.now.latest group.now }
+    ensures { result ≡ option_map (λ m. m.entry.number) (last_where (λ m. belongs group.now m && is_sought but m) marked.now) }
+{
+    let found = match but {
+        None => index.latest_in(marked, group, latest),
+        Some(session) => index.last_of_others(marked, group, latest, session),
+    };
+    match found {
+        Some(found) => Some(found.entry.number),
+        None => None,
+    }
+}
+
+/// The number of the last such standing entry on the key, if there is a key.
+fn number_on(
+    index: &Index,
+    marked: &[MarkedEntry],
+    key: &Option<Key>,
+    but: Option<u32>,
+) -> Option<u64>
+    requires { IsIndexed marked.now index.now }
+    ensures { result ≡ option_map (λ m. m.entry.number) (last_where (λ m. is_on_any key.now m && is_sought but m) marked.now) }
+{
+    match key {
+        Some(key) => {
+            let latest = index.latest.key_places(*key).on;
+            number_in(index, marked, &Group::On(*key), latest, but)
+        }
+        None => None,
+    }
+}
+
+/// The number of the latest such standing entry that is in conflict with the change.
+fn latest_conflict(
+    index: &Index,
+    marked: &[MarkedEntry],
+    change: &Change,
+    but: Option<u32>,
+) -> Option<u64>
+    requires index { IsIndexed marked.now index.now }
+    requires numbered { IsNumbered 1 (entries_of marked.now) }
+    ensures { result ≡ option_map (λ m. m.entry.number)
+        (last_where (λ m. (is_some (stands m) && is_sought but m) && is_in_conflict (applies m.entry.what) change.now) marked.now) }
+{
+    let part = one_part(change);
+    let latest = index.latest.key_places(part.key);
+    let on_key = number_in(index, marked, &Group::On(part.key), latest.on, but);
+    let to_key = number_in(
+        index,
+        marked,
+        &Group::RefersTo(part.key),
+        latest.refers,
+        but,
+    );
+    let refs = refs_of(&part.before);
+    let on_first = number_on(index, marked, &refs.first, but);
+    let on_second = number_on(index, marked, &refs.second, but);
+    let by_key = later_of(on_key, to_key);
+    let by_refs = later_of(on_first, on_second);
+    later_of(by_key, by_refs)
+}
+
+/// The number, where it is greater than the other.
+fn above(number: Option<u64>, other: u64) -> Option<u64>
+    ensures { result ≡ above other number }
+{
+    match number {
+        Some(number) if other < number => Some(number),
+        _ => None,
+    }
+}
+
+/// The number of the latest standing entry after the earlier one that is in conflict with it, of any session, or of
+/// others than the one given.
+pub(crate) fn standing_conflict_after(
+    index: &Index,
+    marked: &[MarkedEntry],
+    earlier: Option<&Entry>,
+    but: Option<u32>,
+) -> Option<u64>
+    requires index { IsIndexed marked.now index.now }
+    requires numbered { IsNumbered 1 (entries_of marked.now) }
+    ensures { result ≡ option_map (λ m. m.entry.number)
+        (option_and_then (conflict_after (λ m. is_some (stands m) && is_sought but m) marked.now) (option_copied earlier.entry)) }
+{
+    let earlier = earlier?;
+    let change = earlier.what.change()?;
+    above(latest_conflict(index, marked, change, but), earlier.number)
+}
+
 /// The number of the latest standing entry of another session after the earlier one that is in conflict with it.
-pub(crate) fn conflict_of_others(marked: &[MarkedEntry], earlier: Option<&Entry>) -> Option<u64>
+pub(crate) fn conflict_of_others(
+    index: &Index,
+    marked: &[MarkedEntry],
+    earlier: Option<&Entry>,
+) -> Option<u64>
+    requires index { IsIndexed marked.now index.now }
+    requires numbered { IsNumbered 1 (entries_of marked.now) }
     ensures { result ≡ option_map (λ m. m.entry.number)
         (option_and_then (conflict_of_others marked.now) (option_copied earlier.entry)) }
 {
     let session = earlier?.session;
-    conflict_after(
-        marked,
-        earlier,
-        &|later: &MarkedEntry| { later.is_others(session) },
-    )
+    standing_conflict_after(index, marked, earlier, Some(session))
 }
 
 /// Whether a later standing entry of another session is in conflict with the entry.
-pub(crate) fn is_blocked(marked: &[MarkedEntry], own: &MarkedEntry) -> bool
+fn is_blocked(index: &Index, marked: &[MarkedEntry], own: &MarkedEntry) -> bool
+    requires index { IsIndexed marked.now index.now }
+    requires numbered { IsNumbered 1 (entries_of marked.now) }
     ensures { result ≡ is_some (conflict_of_others marked.now own.now.entry) }
 {
-    conflict_of_others(marked, Some(&own.entry)).is_some()
+    conflict_of_others(index, marked, Some(&own.entry)).is_some()
 }
 
 /// The later of two numbers, or the one that there is.
@@ -157,46 +235,23 @@ fn later_of(first: Option<u64>, second: Option<u64>) -> Option<u64>
     }
 }
 
-/// The number of the session's newest blocked entry, sought from each of its entries.
-fn newest_from_own(marked: &[MarkedEntry], session: u32) -> Option<u64>
-    ensures { result ≡ newest_blocked session marked.now marked.now }
-{
-    latest(
-        marked,
-        &|own: &MarkedEntry| { own.is_own(session) && is_blocked(marked, own) },
-    )
-}
-
-/// The same, sought from each standing entry of another session.
-fn newest_from_others(marked: &[MarkedEntry], session: u32) -> Option<u64>
-    requires { IsNumbered 1 (entries_of marked.now) }
-    ensures { result ≡ newest_blocked session marked.now marked.now }
-{
-    let mut newest = None;
-    for other in marked {
-        if other.is_others(session) {
-            let under = latest(
-                marked,
-                &|own: &MarkedEntry| { own.is_own(session) && own.is_under(other) },
-            );
-            newest = later_of(newest, under);
-        }
-    }
-    newest
-}
-
 /// The number of the session's newest standing entry that a later standing entry of another session is in conflict
-/// with. It is sought from the side that has fewer entries, so that a session alone takes one pass.
-pub(crate) fn own_in_conflict(marked: &[MarkedEntry], session: u32) -> Option<u64>
-    requires { IsNumbered 1 (entries_of marked.now) }
+/// with, sought from each of the session's entries.
+pub(crate) fn own_in_conflict(index: &Index, marked: &[MarkedEntry], session: u32) -> Option<u64>
+    requires index { IsIndexed marked.now index.now }
+    requires numbered { IsNumbered 1 (entries_of marked.now) }
     ensures { result ≡ newest_blocked session marked.now marked.now }
 {
-    let own = count(marked, &|row: &MarkedEntry| { row.is_own(session) });
-    let others = count(marked, &|row: &MarkedEntry| { row.is_others(session) });
-    if own < others {
-        newest_from_own(marked, session)
-    } else {
-        newest_from_others(marked, session)
+    let latest = index.latest.session_places(session).standing;
+    let newest = index.last_in(
+        marked,
+        &Group::Of(session),
+        latest,
+        &|own: &MarkedEntry| { is_blocked(index, marked, own) },
+    );
+    match newest {
+        Some(found) => Some(found.entry.number),
+        None => None,
     }
 }
 
@@ -214,5 +269,20 @@ pub(crate) fn put_off(marked: &mut [MarkedEntry], what: &What)
     let earlier = &mut marked[place];
     if what.takes_back(&earlier.entry) {
         earlier.is_open = false;
+    }
+}
+
+/// Sets the newest places of groups back where the entry of the number, which was taken back, has left them.
+pub(crate) fn leave(index: &mut Index, marked: &[MarkedEntry], taken_back: Option<u64>)
+    requires index { IsIndexed marked.now index.old }
+    requires numbered { IsNumbered 1 (entries_of marked.now) }
+    ensures index { IsIndexed marked.now index.new }
+    ensures room { TakesRoom 0 index.old index.new }
+{
+    let Some(number) = taken_back else {
+        return;
+    };
+    if let Some(taken_back) = at(marked, number) {
+        index.leave(marked, &taken_back.entry);
     }
 }

@@ -9,9 +9,11 @@ ghost use Rattle.tsn_journal.specs.Finding.{entry, find_conflict, find_conflict_
 
 use crate::entries::{Entries, Entry, MarkedEntry, What};
 use crate::finding::{
-    after, at, conflict_after, conflict_of_others, count, last, latest, numbers, own_in_conflict,
-    put_off,
+    after, at, conflict_after, conflict_of_others, leave, own_in_conflict, put_off,
+    standing_conflict_after,
 };
+use crate::groups::{Group, MOST_GROUPS};
+use crate::index::Index;
 use std::alloc::{AllocError, Global};
 use std::marker::Model;
 use tsn_types::refusals::Refusal;
@@ -24,21 +26,23 @@ pub const MOST_ENTRIES: usize = 65_536;
 #[derive(Debug, Drop)]
 pub struct Journal {
     marked: Vec<MarkedEntry>,
+    index: Index,
+    /// How many entries more there is room for, each with all its places.
+    room: usize,
 }
 
 impl Model for Journal {
-    ghost use Rattle.std.specs.Prelude.{◌-◌, min};
     ghost use Rattle.std.specs.Vec.{vec_capacity, vec_len};
-    ghost use Rattle.tsn_journal.specs.Entries.{most_entries};
-    ghost use Rattle.tsn_journal.specs.Marks.{IsJournal, Log, entries_of, log_code};
+    ghost use Rattle.tsn_journal.specs.Index.{IsKept};
+    ghost use Rattle.tsn_journal.specs.Marks.{Log, entries_of, log_code};
 
     ghost Value = { Log };
 
     ghost coded = { log_code };
 
-    ghost view = { λ a. record { entries = entries_of a.marked.items; spare = min (vec_capacity a.marked) most_entries - vec_len a.marked } };
+    ghost view = { λ a. record { entries = entries_of a.marked.items; spare = a.room } };
 
-    ghost invariant = { λ a. IsJournal a.marked.items };
+    ghost invariant = { λ a. IsKept a.marked.items (vec_len a.marked) (vec_capacity a.marked) a.index a.room };
 }
 
 impl Journal {
@@ -48,6 +52,8 @@ impl Journal {
     {
         Journal {
             marked: Vec::new(alloc),
+            index: Index::new(alloc),
+            room: 0,
         }
     }
 
@@ -72,7 +78,12 @@ impl Journal {
         if MOST_ENTRIES - self.marked.len() < count {
             return Err(Refusal::JournalFull);
         }
+        if count <= self.room {
+            return Ok(());
+        }
         self.marked.reserve(count)?;
+        self.index.reserve(MOST_GROUPS * count)?;
+        self.room = count;
         Ok(())
     }
 
@@ -85,6 +96,7 @@ impl Journal {
     {
         put_off(&mut self.marked, &what);
         let number = self.marked.len() as u64 + 1;
+        let taken_back = what.names();
         self.marked.push_reserved(MarkedEntry {
             entry: Entry {
                 number,
@@ -93,6 +105,9 @@ impl Journal {
             },
             is_open: true,
         });
+        self.index.enter(&self.marked);
+        leave(&mut self.index, &self.marked, taken_back);
+        self.room -= 1;
         number
     }
 
@@ -120,10 +135,14 @@ impl Journal {
     pub fn last_of(&self, session: u32) -> Option<u64>
         ensures { result ≡ option_map (λ x. x.number) (last_of self.now.entries session) }
     {
-        latest(
-            &self.marked,
-            &|marked: &MarkedEntry| { marked.is_own(session) },
-        )
+        let latest = self.index.latest.session_places(session).standing;
+        match self
+            .index
+            .latest_in(&self.marked, &Group::Of(session), latest)
+        {
+            Some(marked) => Some(marked.entry.number),
+            None => None,
+        }
     }
 
     /// The number of the session's newest Undone entry that may be redone, if there is one: it comes after the
@@ -132,11 +151,11 @@ impl Journal {
         ensures newest { result ≡ option_map (λ x. x.number) (redo_of self.now.entries session) }
         ensures undone { IfSome result (λ n. IsSome (undone_entry self.now.entries n)) }
     {
-        let newest = last(
-            &self.marked,
-            &|marked: &MarkedEntry| { marked.is_of(session) && marked.ends_redo() },
-        );
-        match newest {
+        let latest = self.index.latest.session_places(session).ends_redo;
+        match self
+            .index
+            .latest_in(&self.marked, &Group::EndsRedo(session), latest)
+        {
             Some(marked) => marked.undone_number(),
             None => None,
         }
@@ -147,17 +166,15 @@ impl Journal {
         ensures count { result ≡ length (own_standing self.now.entries session) }
         ensures few { result ≤ length self.now.entries }
     {
-        count(
-            &self.marked,
-            &|marked: &MarkedEntry| { marked.is_own(session) },
-        )
+        self.index.count_of(&self.marked, session)
     }
 
     /// The numbers of the session's standing entries, rising. Refused only for want of memory.
     pub fn standing_of(&self, session: u32) -> Result<Vec<u64>, AllocError>
         ensures { IfOk result (λ numbers. numbers.items ≡ map (λ x. x.number) (own_standing self.now.entries session)) }
     {
-        numbers(*self.marked.allocator(), &self.marked, session)
+        self.index
+            .numbers_of(*self.marked.allocator(), &self.marked, session)
     }
 
     /// Copies of the entries of a greater number. Refused only for want of memory.
@@ -174,11 +191,7 @@ impl Journal {
         ensures { (e : Applied) → standing_entry self.now.entries number ≡ Some e
             → result ≡ option_map (λ x. x.number) (find_conflict self.now.entries e) }
     {
-        conflict_after(
-            &self.marked,
-            self.entry(number),
-            &|later: &MarkedEntry| { later.stands() },
-        )
+        standing_conflict_after(&self.index, &self.marked, self.entry(number), None)
     }
 
     /// The number of the latest later standing entry of another session in conflict with the standing entry of the
@@ -188,7 +201,7 @@ impl Journal {
         ensures { (e : Applied) → standing_entry self.now.entries number ≡ Some e
             → result ≡ option_map (λ x. x.number) (find_conflict_of_others self.now.entries e) }
     {
-        conflict_of_others(&self.marked, self.entry(number))
+        conflict_of_others(&self.index, &self.marked, self.entry(number))
     }
 
     /// The number of the session's newest standing entry that has a later standing entry of another session in conflict
@@ -196,7 +209,7 @@ impl Journal {
     pub fn find_own_in_conflict(&self, session: u32) -> Option<u64>
         ensures { result ≡ option_map (λ x. x.number) (find_own_in_conflict self.now.entries session) }
     {
-        own_in_conflict(&self.marked, session)
+        own_in_conflict(&self.index, &self.marked, session)
     }
 
     /// The number of the latest later entry of any kind whose change is in conflict with that of the Undone entry of

@@ -8,5 +8,8 @@
 
 pub mod entries;
 mod finding;
+mod groups;
+mod index;
 pub mod journal;
+mod latest;
 pub mod laws;

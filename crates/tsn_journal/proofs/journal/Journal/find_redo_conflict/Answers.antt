@@ -11,4 +11,4 @@ returns c = λ e is.
     let p : MarkedEntry → Bool = (λ m. true) in
     c.conflict_after.ensures p (λ x b h. search rules)
     ∙ (λ i. option_map (λ (m : MarkedEntry). m.entry.number) (option_and_then (conflict_after p (c.deref.ensures.value i)) (c.entry.ensures i)))
-    ∙ redo_conflict c.self.inside.marked.items c.self.invariant _ (ap (λ (l : Log). l.entries) c.self.view_is) c.args.number e is
+    ∙ redo_conflict c.self.inside.marked.items c.self.invariant.journal _ (ap (λ (l : Log). l.entries) c.self.view_is) c.args.number e is

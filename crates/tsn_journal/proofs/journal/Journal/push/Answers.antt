@@ -1,18 +1,71 @@
-use Rattle.std.proofs.Common.{◌<◌, ◌≤◌, sym, ◌∙◌, ap, subst, drop, length, map}
-use Rattle.std.specs.Vec.{vec_capacity, vec_len}
-use Rattle.tsn_journal.specs.Entries.{with_entry}
+use Rattle.std.proofs.Common.{◌≤◌, sym, ◌∙◌, ap, subst, drop, length, map, arith}
+use Rattle.tsn_journal.specs.Entries.{IsNumbered, with_entry}
+use Rattle.tsn_journal.specs.Index.{IsIndexed, IsIndexedButNewest}
 use Rattle.tsn_journal.specs.Marks.{Log, entries_of, mark_off}
-use Rattle.tsn_journal.proofs.Marking.{entries_pushed, journal_push, pushed_items, room_for_one}
+use Rattle.std.specs.Vec.{vec_capacity, vec_len}
+use Rattle.tsn_journal.proofs.Indexing.{takes_more}
+use Rattle.tsn_journal.proofs.Keeping.{kept_pushed, pushed_few, pushed_index, pushed_numbered, pushed_some, room_for_five}
+use Rattle.tsn_journal.proofs.Marking.{entries_pushed, pushed_items}
 use Rattle.tsn_journal.proofs.journal.Journal.push.Goals as goal
+
+pub enter-requires-clause-index : goal.enter-requires-clause-index
+enter-requires-clause-index c =
+    let ms = c.self.inside.marked.items in
+    let same = sym (ap length c.deref_mut.ensures.value) ∙ c.deref_mut.ensures.len in
+    subst (λ xs. IsIndexedButNewest xs c.self.inside.index) (sym c.deref.ensures.value)
+    (pushed_index c.args.what c.args.session ms c.push_reserved.new.self.items
+    (pushed_items c.args.what c.args.session c.self.inside.marked.len c.len.result ms (drop (length c.put_off.new.marked) ms) c.put_off.new.marked c.push_reserved.new.self.items same c.len.ensures
+    (c.put_off.ensures ∙ ap (map (mark_off c.args.what)) c.deref_mut.ensures.value) c.push_reserved.ensures.items)
+    c.self.inside.index c.self.invariant.indexed)
+
+pub enter-requires-clause-room : goal.enter-requires-clause-room
+enter-requires-clause-room c = room_for_five c.self.inside.room c.self.inside.index (subst (λ (l : Log). 1 ≤ l.spare) (sym c.self.view_is) c.requires) c.self.invariant.places
+
+pub enter-requires-clause-some : goal.enter-requires-clause-some
+enter-requires-clause-some c =
+    let ms = c.self.inside.marked.items in
+    let same = sym (ap length c.deref_mut.ensures.value) ∙ c.deref_mut.ensures.len in
+    subst (λ xs. 1 ≤ length xs) (sym c.deref.ensures.value)
+    (pushed_some c.args.what c.args.session ms c.push_reserved.new.self.items
+    (pushed_items c.args.what c.args.session c.self.inside.marked.len c.len.result ms (drop (length c.put_off.new.marked) ms) c.put_off.new.marked c.push_reserved.new.self.items same c.len.ensures
+    (c.put_off.ensures ∙ ap (map (mark_off c.args.what)) c.deref_mut.ensures.value) c.push_reserved.ensures.items))
+
+pub enter-requires-clause-few : goal.enter-requires-clause-few
+enter-requires-clause-few c =
+    let ms = c.self.inside.marked.items in
+    let same = sym (ap length c.deref_mut.ensures.value) ∙ c.deref_mut.ensures.len in
+    let room : 1 ≤ c.self.inside.room = subst (λ (l : Log). 1 ≤ l.spare) (sym c.self.view_is) c.requires in
+    subst (λ xs. length xs ≤ 65536) (sym c.deref.ensures.value)
+    (pushed_few c.args.what c.args.session ms c.push_reserved.new.self.items
+    (pushed_items c.args.what c.args.session c.self.inside.marked.len c.len.result ms (drop (length c.put_off.new.marked) ms) c.put_off.new.marked c.push_reserved.new.self.items same c.len.ensures
+    (c.put_off.ensures ∙ ap (map (mark_off c.args.what)) c.deref_mut.ensures.value) c.push_reserved.ensures.items)
+    (omega (arith, c.self.invariant.few, same, room)))
+
+pub leave-requires-clause-index : goal.leave-requires-clause-index
+leave-requires-clause-index c = subst (λ xs. IsIndexed xs c.enter.new.self) (c.deref.ensures.value ∙ sym c.deref-2.ensures.value) c.enter.ensures.index
+
+pub leave-requires-clause-numbered : goal.leave-requires-clause-numbered
+leave-requires-clause-numbered c =
+    let ms = c.self.inside.marked.items in
+    let same = sym (ap length c.deref_mut.ensures.value) ∙ c.deref_mut.ensures.len in
+    let room : 1 ≤ c.self.inside.room = subst (λ (l : Log). 1 ≤ l.spare) (sym c.self.view_is) c.requires in
+    subst (λ xs. IsNumbered 1 (entries_of xs)) (sym c.deref-2.ensures.value)
+    (pushed_numbered c.args.what c.args.session ms c.push_reserved.new.self.items
+    (pushed_items c.args.what c.args.session c.self.inside.marked.len c.len.result ms (drop (length c.put_off.new.marked) ms) c.put_off.new.marked c.push_reserved.new.self.items same c.len.ensures
+    (c.put_off.ensures ∙ ap (map (mark_off c.args.what)) c.deref_mut.ensures.value) c.push_reserved.ensures.items)
+    c.self.invariant.journal (omega (arith, c.self.invariant.few, same, room)))
 
 pub invariant_of-self : goal.invariant_of-self
 invariant_of-self c =
     let ms = c.self.inside.marked.items in
     let same = sym (ap length c.deref_mut.ensures.value) ∙ c.deref_mut.ensures.len in
-    journal_push ms c.args.session c.args.what c.push_reserved.new.self.items c.self.invariant
-    (subst (λ n. n < 65536) (sym same) (room_for_one (vec_capacity c.self.inside.marked) (vec_len c.self.inside.marked) (subst (λ (l : Log). 1 ≤ l.spare) (sym c.self.view_is) c.requires)))
+    kept_pushed c.args.what c.args.session ms c.push_reserved.new.self.items
     (pushed_items c.args.what c.args.session c.self.inside.marked.len c.len.result ms (drop (length c.put_off.new.marked) ms) c.put_off.new.marked c.push_reserved.new.self.items same c.len.ensures
     (c.put_off.ensures ∙ ap (map (mark_off c.args.what)) c.deref_mut.ensures.value) c.push_reserved.ensures.items)
+    (vec_len c.self.inside.marked) (vec_capacity c.self.inside.marked) _ _ c.self.inside.room c.self.inside.index c.leave.new.index
+    (subst (λ (l : Log). 1 ≤ l.spare) (sym c.self.view_is) c.requires) c.self.invariant same c.push_reserved.ensures.len c.push_reserved.ensures.capacity
+    (subst (λ xs. IsIndexed xs c.leave.new.index) c.deref-2.ensures.value c.leave.ensures.index)
+    (takes_more 5 0 c.self.inside.index c.enter.new.self c.leave.new.index c.enter.ensures.room c.leave.ensures.room)
 
 pub returns-clause-entries : goal.returns-clause-entries
 returns-clause-entries c =

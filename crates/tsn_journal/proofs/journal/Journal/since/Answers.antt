@@ -10,5 +10,5 @@ pub returns : goal.returns
 returns c =
     let n = c.args.number in
     subst (λ (es : List Entry). IfOk c.copies_of.result (λ copies. copies ≡ es))
-    (ap entries_of (c.after.ensures ∙ ap (drop n) c.deref.ensures.value) ∙ since-drop n c.self.inside.marked.items c.self.invariant.numbered ∙ ap (λ (l : Log). since l.entries n) c.self.view_is)
+    (ap entries_of (c.after.ensures ∙ ap (drop n) c.deref.ensures.value) ∙ since-drop n c.self.inside.marked.items c.self.invariant.journal.numbered ∙ ap (λ (l : Log). since l.entries n) c.self.view_is)
     c.copies_of.ensures

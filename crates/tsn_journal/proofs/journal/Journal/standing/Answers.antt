@@ -17,7 +17,7 @@ looked_up n looked now ms es journal is same view =
 pub returns-in-Some : goal.returns-in-Some
 returns-in-Some c =
     c.stands.ensures
-    ∙ looked_up c.args.number _ _ _ _ c.self.invariant (sym (ap option_copied c.in-Some.is) ∙ c.at.ensures) c.deref.ensures.value (ap (λ (l : Log). l.entries) c.self.view_is)
+    ∙ looked_up c.args.number _ _ _ _ c.self.invariant.journal (sym (ap option_copied c.in-Some.is) ∙ c.at.ensures) c.deref.ensures.value (ap (λ (l : Log). l.entries) c.self.view_is)
 
 pub returns-in-None : goal.returns-in-None
-returns-in-None c = looked_up c.args.number _ _ _ _ c.self.invariant (sym (ap option_copied c.in-None.is) ∙ c.at.ensures) c.deref.ensures.value (ap (λ (l : Log). l.entries) c.self.view_is)
+returns-in-None c = looked_up c.args.number _ _ _ _ c.self.invariant.journal (sym (ap option_copied c.in-None.is) ∙ c.at.ensures) c.deref.ensures.value (ap (λ (l : Log). l.entries) c.self.view_is)

@@ -1,0 +1,326 @@
+-- The index of a journal: with a mark off, with an entry more, and with a place more.
+use Rattle.std.proofs.Common.{◌≡◌, ℕ, zero, suc, ◌+◌, ◌-◌, ◌<◌, ◌≤◌, inl, inr, Bool, true, false, cond, ◌||◌, List, [], ◌∷◌, ◌++◌, refl, sym, ◌∙◌, ap, subst, Option, Some, None, arith, length, map}
+use Rattle.std.specs.Prelude.{option_map}
+use Rattle.std.specs.List.{slice_get}
+use Rattle.std.proofs.lemmas.List.{length-map, length-append}
+use Rattle.std.proofs.lemmas.Option.{slice_get-map, slice_get_past, slice_get_within}
+use Rattle.tsn_edit.proofs.KeyFacts.{by_bool, by_option}
+use Rattle.tsn_journal.specs.declared.entries.What.{What}
+use Rattle.tsn_journal.specs.declared.entries.MarkedEntry.{MarkedEntry}
+use Rattle.tsn_journal.specs.declared.groups.Group.{Group}
+use Rattle.tsn_journal.specs.declared.index.Index.{Index}
+use Rattle.tsn_journal.specs.declared.index.Place.{Place}
+use Rattle.tsn_journal.specs.declared.latest.Latest.{Latest}
+use Rattle.tsn_journal.specs.Index.{Adds, ArePlaces, IsIndexed, IsIndexedBut, IsIndexedButNewest, IsLast, IsPlace, NoneBetween, TakesRoom, belongs, belongs_to_others, group_if, is_among, is_by, is_of, number_at, number_of, other_from, other_of, place_at, set_at}
+use Rattle.tsn_journal.specs.Latest.{TakesRows, latest_of, same_group}
+use Rattle.tsn_journal.specs.Marks.{mark_off}
+use Rattle.tsn_journal.proofs.Grouping.{belongs-mark_off, by-mark_off, group_itself, one_group, others-mark_off, same_number}
+use Rattle.tsn_journal.proofs.Links.{end_at, front_at, hop, none_some, not_of_others, place_end, place_front, some_of, where_at}
+
+-- ---- a mark off
+
+module _ (w : What) (ms : List MarkedEntry) where
+  none_off : (t : MarkedEntry → Bool) → ((m : MarkedEntry) → t m ≡ false → t (mark_off w m) ≡ false) → (n limit : ℕ) → NoneBetween t ms n limit → NoneBetween t (map (mark_off w) ms) n limit
+  none_off t falls n limit none i m low high at =
+      let mapped : option_map (mark_off w) (slice_get ms i) ≡ Some m = sym (slice_get-map (mark_off w) ms i) ∙ at in
+      by_option (slice_get ms i)
+      (λ no. none_some m (sym (ap (option_map (mark_off w)) no) ∙ mapped))
+      (λ x some.
+      let same : mark_off w x ≡ m = some_of _ _ (sym (ap (option_map (mark_off w)) some) ∙ mapped) in
+      ap t (sym same) ∙ falls x (none i x low high some))
+
+  last_off : (g : Group) (t : MarkedEntry → Bool) → ((m : MarkedEntry) → t m ≡ false → t (mark_off w m) ≡ false) → (ps : List Place) (j limit : ℕ) → IsLast g t ms ps j limit → IsLast g t (map (mark_off w) ms) ps j limit
+  last_off g t falls ps j limit is = record { within = is.within; group = is.group; none_later = none_off t falls (number_at ps j) limit is.none_later }
+
+  pub indexed_off : (a : Index) → IsIndexed ms a → IsIndexed (map (mark_off w) ms) a
+  indexed_off a is = record {
+    places = λ i p at.
+        let old = is.places i p at in record {
+          some = old.some;
+          within = subst (λ k. p.number ≤ k) (sym (length-map ms (mark_off w))) old.within;
+          earlier = old.earlier;
+          less = old.less;
+          last = last_off p.group (belongs p.group) (belongs-mark_off w p.group) a.places.items p.before p.number old.last;
+          other_earlier = old.other_earlier;
+          other = λ s by.
+              last_off p.group (belongs_to_others p.group s) (others-mark_off w p.group s) a.places.items p.other p.number
+              (old.other s (sym (ap (is_by s) (slice_get-map (mark_off w) ms (p.number - 1)) ∙ by-mark_off w s (slice_get ms (p.number - 1))) ∙ by));
+        };
+    latest_is = λ g.
+        last_off g (belongs g) (belongs-mark_off w g) a.places.items (latest_of a.latest g) (length (map (mark_off w) ms) + 1)
+        (subst (λ k. IsLast g (belongs g) ms a.places.items (latest_of a.latest g) (k + 1)) (sym (length-map ms (mark_off w))) (is.latest_is g));
+  }
+
+-- ---- an entry more
+
+module _ (ms : List MarkedEntry) (x : MarkedEntry) where
+  abbrev more : List MarkedEntry
+  more = ms ++ x ∷ []
+
+  longer : length more ≡ length ms + 1
+  longer = length-append ms (x ∷ [])
+
+  none_more : (t : MarkedEntry → Bool) (n limit : ℕ) → limit ≤ length ms + 1 → NoneBetween t ms n limit → NoneBetween t more n limit
+  none_more t n limit few none i m low high at = none i m low high (sym (front_at ms (x ∷ []) i (omega arith)) ∙ at)
+
+  last_more : (g : Group) (t : MarkedEntry → Bool) (ps : List Place) (j limit : ℕ) → limit ≤ length ms + 1 → IsLast g t ms ps j limit → IsLast g t more ps j limit
+  last_more g t ps j limit few is = record { within = is.within; group = is.group; none_later = none_more t (number_at ps j) limit few is.none_later }
+
+  -- an entry more, which has no place yet
+  pub indexed_more : (a : Index) → IsIndexed ms a → IsIndexedButNewest more a
+  indexed_more a is =
+      let ps = a.places.items in
+      record {
+        places = λ i p at.
+            let old = is.places i p at in record {
+              some = old.some;
+              within = omega (arith, longer, old.within);
+              earlier = old.earlier;
+              less = old.less;
+              last = last_more p.group (belongs p.group) ps p.before p.number (omega (arith, old.within)) old.last;
+              other_earlier = old.other_earlier;
+              other = λ s by.
+                  last_more p.group (belongs_to_others p.group s) ps p.other p.number (omega (arith, old.within))
+                  (old.other s (ap (is_by s) (sym (front_at ms (x ∷ []) (p.number - 1) (omega (arith, old.some, old.within)))) ∙ by));
+            };
+        latest_is = λ g.
+            subst (λ k. IsLast g (belongs g) more ps (latest_of a.latest g) k) (sym longer) (last_more g (belongs g) ps (latest_of a.latest g) (length ms + 1) (omega arith) (is.latest_is g));
+      }
+
+-- ---- a place more
+
+module _ (ms : List MarkedEntry) where
+  pub indexed_skip : (rest : List (Option Group)) (ps : List Place) (l : Group → ℕ) → IsIndexedBut (None ∷ rest) ms ps l → IsIndexedBut rest ms ps l
+  indexed_skip rest ps l is = record { places = is.places; latest_is = is.latest_is }
+
+  -- the newest places may be said otherwise
+  pub reindexed : (pending : List (Option Group)) (ps : List Place) (l k : Group → ℕ) → ((g : Group) → k g ≡ l g) → IsIndexedBut pending ms ps l → IsIndexedBut pending ms ps k
+  reindexed pending ps l k same is = record {
+    places = is.places;
+    latest_is = λ g. subst (λ j. IsLast g (belongs g) ms ps j (cond (is_among pending g) (length ms) (length ms + 1))) (sym (same g)) (is.latest_is g);
+  }
+
+  not_true : (b c : Bool) → (b ≡ true → c ≡ true) → c ≡ false → b ≡ false
+  not_true true c f h = let t = f refl in (cc)
+  not_true false c f h = refl
+
+  -- the newest entry is in no group but the pending ones
+  pub pending_newest : (pending : List (Option Group)) (a : Index) → ((m : MarkedEntry) → slice_get ms (length ms - 1) ≡ Some m → (g : Group) → belongs g m ≡ true → is_among pending g ≡ true)
+      → IsIndexedButNewest ms a → IsIndexedBut pending ms a.places.items (latest_of a.latest)
+  pending_newest pending a covers is =
+      let ps = a.places.items in
+      let l : Group → ℕ = latest_of a.latest in
+      record {
+        places = is.places;
+        latest_is = λ g.
+            by_bool (is_among pending g)
+            (λ yes. subst (λ b. IsLast g (belongs g) ms ps (l g) (cond b (length ms) (length ms + 1))) (sym yes) (is.latest_is g))
+            (λ no. subst (λ b. IsLast g (belongs g) ms ps (l g) (cond b (length ms) (length ms + 1))) (sym no)
+            (record {
+              within = (is.latest_is g).within;
+              group = (is.latest_is g).group;
+              none_later = λ i m low high at.
+                  elim (where_at (length ms - 1) i) [
+                    | inl before ↦ (is.latest_is g).none_later i m low (omega arith) at
+                    | inr rest ↦ elim rest [
+                      | inl here ↦ not_true _ _ (covers m (ap (slice_get ms) (sym here) ∙ at) g) no
+                      | inr after ↦ absurd (omega (arith, slice_get_within ms i m at))
+                    ]
+                  ];
+            }));
+      }
+
+  -- no entry comes after the newest one
+  past_end : (t : MarkedEntry → Bool) (n limit : ℕ) → length ms ≤ n → NoneBetween t ms n limit
+  past_end t n limit h i m low high at = let in' : i < length ms = slice_get_within ms i m at in absurd (omega arith)
+
+  pub last_front : (g : Group) (t : MarkedEntry → Bool) (ps : List Place) (p : Place) (j limit : ℕ) → IsLast g t ms ps j limit → IsLast g t ms (ps ++ p ∷ []) j limit
+  last_front g t ps p j limit is =
+      let same : place_at ps j ≡ place_at (ps ++ p ∷ []) j = sym (place_front ps (p ∷ []) j is.within) in record {
+        within = omega (arith, is.within, length-append ps (p ∷ []));
+        group = ap (is_of g) (sym same) ∙ is.group;
+        none_later = subst (λ o. NoneBetween t ms (number_of o) limit) same is.none_later;
+      }
+
+  place_more : (ps : List Place) (q : Place) (i : ℕ) (p : Place) → i ≤ length ps → IsPlace ms ps i p → IsPlace ms (ps ++ q ∷ []) i p
+  place_more ps q i p few is =
+      record {
+        some = is.some;
+        within = is.within;
+        earlier = is.earlier;
+        less = subst (λ o. number_of o < p.number) (sym (place_front ps (q ∷ []) p.before is.last.within)) is.less;
+        last = last_front p.group (belongs p.group) ps q p.before p.number is.last;
+        other_earlier = is.other_earlier;
+        other = λ s by. last_front p.group (belongs_to_others p.group s) ps q p.other p.number (is.other s by);
+      }
+
+  -- the last place of another session, looked up from the last one of any
+  others_of : (g : Group) (s : ℕ) (ps : List Place) (j limit : ℕ) → IsLast g (belongs g) ms ps j limit → IsLast g (belongs_to_others g s) ms ps j limit
+  others_of g s ps j limit is = record { within = is.within; group = is.group; none_later = λ i m low high at. not_of_others g s m (is.none_later i m low high at) }
+
+  other_last : (g : Group) (s : ℕ) (ps : List Place) (j limit : ℕ) → ArePlaces ms ps → IsLast g (belongs g) ms ps j limit → IsLast g (belongs_to_others g s) ms ps (other_of ms ps s j) limit
+  other_last g s ps j limit are is = by_option (place_at ps j)
+      (λ none. subst (λ o. IsLast g (belongs_to_others g s) ms ps (other_from ms s j o) limit) (sym none)
+      (record { within = omega arith; group = refl; none_later = subst (λ o. NoneBetween (belongs_to_others g s) ms (number_of o) limit) none (others_of g s ps j limit is).none_later }))
+      (λ p there. subst (λ o. IsLast g (belongs_to_others g s) ms ps (other_from ms s j o) limit) (sym there)
+      (by_bool (is_by s (slice_get ms (p.number - 1)))
+      (λ yes. subst (λ b. IsLast g (belongs_to_others g s) ms ps (cond b p.other j) limit) (sym yes) (hop ms ps g j p is.group there are s limit (others_of g s ps j limit is) yes))
+      (λ no. subst (λ b. IsLast g (belongs_to_others g s) ms ps (cond b p.other j) limit) (sym no) (others_of g s ps j limit is))))
+
+  other_in : (s : ℕ) (ps : List Place) (j : ℕ) → j ≤ length ps → ArePlaces ms ps → other_of ms ps s j ≤ length ps
+  other_in s ps zero h are = omega arith
+  other_in s ps (suc i) h are = by_option (slice_get ps i)
+      (λ none. subst (λ o. other_from ms s (suc i) o ≤ length ps) (sym none) (omega arith))
+      (λ p there. subst (λ o. other_from ms s (suc i) o ≤ length ps) (sym there)
+      (elim (is_by s (slice_get ms (p.number - 1))) as (λ b. cond b p.other (suc i) ≤ length ps) [ true ↦ omega (arith, (are i p there).other_earlier) | false ↦ h ]))
+
+  by_one : (s q : ℕ) (o : Option MarkedEntry) → is_by s o ≡ true → is_by q o ≡ true → s ≡ q
+  by_one s q None h k = (cc)
+  by_one s q (Some m) h k = sym (same_number m.entry.session s h) ∙ same_number m.entry.session q k
+
+  module _ (g : Group) (n s before : ℕ) (ps : List Place) (newest : n ≡ length ms) (some : 1 ≤ n) (by : is_by s (slice_get ms (n - 1)) ≡ true) (are : ArePlaces ms ps) (here : IsLast g (belongs g) ms ps before (length ms)) where
+    abbrev pub new_place : Place
+    new_place = record { group = g; number = n; before = before; other = other_of ms ps s before }
+
+    the_place : number_at ps before < n → IsPlace ms ps (length ps) new_place
+    the_place less = record {
+      some = some;
+      within = omega arith;
+      earlier = here.within;
+      less = less;
+      last = subst (λ k. IsLast g (belongs g) ms ps before k) (sym newest) here;
+      other_earlier = other_in s ps before here.within are;
+      other = λ q by'.
+          subst (λ r. IsLast g (belongs_to_others g r) ms ps (other_of ms ps s before) n) (by_one s q _ by by')
+          (subst (λ k. IsLast g (belongs_to_others g s) ms ps (other_of ms ps s before) k) (sym newest) (other_last g s ps before (length ms) are here));
+    }
+
+    pub new_last : (q : Group) (limit : ℕ) → g ≡ q → IsLast q (belongs q) ms (ps ++ new_place ∷ []) (length ps + 1) limit
+    new_last q limit same = record {
+      within = omega (arith, length-append ps (new_place ∷ []));
+      group = ap (is_of q) (place_end ps new_place) ∙ ap (same_group g) (sym same) ∙ group_itself g;
+      none_later = past_end (belongs q) _ limit (subst (λ o. length ms ≤ number_of o) (sym (place_end ps new_place)) (omega arith));
+    }
+
+    pub places_with : number_at ps before < n → ArePlaces ms (ps ++ new_place ∷ [])
+    places_with less i p at =
+        elim (where_at (length ps) i) [
+          | inl front ↦ place_more ps new_place i p (omega arith) (are i p (sym (front_at ps (new_place ∷ []) i front) ∙ at))
+          | inr more ↦ elim more [
+            | inl at_end ↦ subst (λ r. IsPlace ms (ps ++ new_place ∷ []) i r) (some_of new_place p (sym (end_at ps new_place i at_end) ∙ at))
+                (place_more ps new_place i new_place (omega arith) (subst (λ k. IsPlace ms ps k new_place) (sym at_end) (the_place less)))
+            | inr after ↦ none_some p (sym (slice_get_past (ps ++ new_place ∷ []) i (omega (arith, length-append ps (new_place ∷ [])))) ∙ at)
+          ]
+        ]
+
+    -- whether the place is added or not, all that is known of an index but for its newest entry stays
+    pub newest_kept : (wanted : Bool) (a b : Index) (j : ℕ) → a.places.items ≡ ps → IsIndexedButNewest ms a → Adds ms wanted g n s before ps b.places.items j → b.latest ≡ a.latest → IsIndexedButNewest ms b
+    newest_kept wanted a b j old is adds latest =
+        by_bool wanted
+        (λ yes. elim (where_at n (number_at ps before)) [
+          | inl less ↦ record {
+            places = subst (ArePlaces ms) (sym (adds.places yes less)) (places_with less);
+            latest_is = λ q. subst (λ xs. IsLast q (belongs q) ms xs (latest_of b.latest q) (length ms)) (sym (adds.places yes less))
+                (last_front q (belongs q) ps new_place _ _ (stays q));
+          }
+          | inr least ↦ same (adds.there (elim least [ inl e ↦ omega arith | inr m ↦ omega arith ]))
+        ])
+        (λ no. same (adds.unwanted no))
+      where
+        stays : (q : Group) → IsLast q (belongs q) ms ps (latest_of b.latest q) (length ms)
+        stays q = subst (λ xs. IsLast q (belongs q) ms xs (latest_of b.latest q) (length ms)) old (subst (λ (x : Latest). IsLast q (belongs q) ms a.places.items (latest_of x q) (length ms)) (sym latest) (is.latest_is q))
+
+        same : b.places.items ≡ ps → IsIndexedButNewest ms b
+        same e = record { places = subst (ArePlaces ms) (sym e) are; latest_is = λ q. subst (λ xs. IsLast q (belongs q) ms xs (latest_of b.latest q) (length ms)) (sym e) (stays q) }
+
+  module _ (g : Group) (rest : List (Option Group)) (n s : ℕ) (ps : List Place) (l : Group → ℕ) (newest : n ≡ length ms) (some : 1 ≤ n) (by : is_by s (slice_get ms (n - 1)) ≡ true) (is : IsIndexedBut (Some g ∷ rest) ms ps l) where
+    here' : IsLast g (belongs g) ms ps (l g) (length ms)
+    here' = subst (λ b. IsLast g (belongs g) ms ps (l g) (cond (b || is_among rest g) (length ms) (length ms + 1))) (group_itself g) (is.latest_is g)
+
+    abbrev place' : Place
+    place' = record { group = g; number = n; before = l g; other = other_of ms ps s (l g) }
+
+    others : (q : Group) → same_group g q ≡ false → IsLast q (belongs q) ms ps (l q) (cond (is_among rest q) (length ms) (length ms + 1))
+    others q other = subst (λ b. IsLast q (belongs q) ms ps (l q) (cond (b || is_among rest q) (length ms) (length ms + 1))) other (is.latest_is q)
+
+    with_place : number_at ps (l g) < n → IsIndexedBut rest ms (ps ++ place' ∷ []) (set_at g (length ps + 1) l)
+    with_place less = record {
+      places = places_with g n s (l g) ps newest some by is.places here' less;
+      latest_is = λ q.
+          by_bool (same_group g q)
+          (λ same. subst (λ b. IsLast q (belongs q) ms (ps ++ place' ∷ []) (cond b (length ps + 1) (l q)) (cond (is_among rest q) (length ms) (length ms + 1))) (sym same) (new_last g n s (l g) ps newest some by is.places here' q _ (one_group g q same)))
+          (λ other. subst (λ b. IsLast q (belongs q) ms (ps ++ place' ∷ []) (cond b (length ps + 1) (l q)) (cond (is_among rest q) (length ms) (length ms + 1))) (sym other) (last_front q (belongs q) ps place' _ _ (others q other)));
+    }
+
+    -- the newest place of the group stays
+    same_latest : (q : Group) → set_at g (l g) l q ≡ l q
+    same_latest q = by_bool (same_group g q)
+        (λ same. ap (λ b. cond b (l g) (l q)) same ∙ ap l (one_group g q same))
+        (λ other. ap (λ b. cond b (l g) (l q)) other)
+
+    without_place : n ≤ number_at ps (l g) → IsIndexedBut rest ms ps l
+    without_place least = record {
+      places = is.places;
+      latest_is = λ q.
+          by_bool (same_group g q)
+          (λ same.
+          let one : g ≡ q = one_group g q same in
+          subst (λ r. IsLast r (belongs r) ms ps (l r) (cond (is_among rest r) (length ms) (length ms + 1))) one
+          (record { within = here'.within; group = here'.group; none_later = past_end (belongs g) _ _ (omega arith) }))
+          (λ other. others q other);
+    }
+
+    pub indexed_place : (qs : List Place) (j : ℕ) → Adds ms true g n s (l g) ps qs j → IsIndexedBut rest ms qs (set_at g j l)
+    indexed_place qs j adds =
+        elim (where_at n (number_at ps (l g))) [
+          | inl less ↦ subst (λ k. IsIndexedBut rest ms qs (set_at g k l)) (sym (adds.place refl less)) (subst (λ xs. IsIndexedBut rest ms xs (set_at g (length ps + 1) l)) (sym (adds.places refl less)) (with_place less))
+          | inr least ↦
+              let at_least : n ≤ number_at ps (l g) = elim least [ inl e ↦ omega arith | inr m ↦ omega arith ] in
+              subst (λ k. IsIndexedBut rest ms qs (set_at g k l)) (sym (adds.there_place at_least))
+              (subst (λ xs. IsIndexedBut rest ms xs (set_at g (l g) l)) (sym (adds.there at_least)) (reindexed rest ps l (set_at g (l g) l) same_latest (without_place at_least)))
+        ]
+
+  unchanged : (g : Group) (l : Group → ℕ) (q : Group) → set_at g (l g) l q ≡ l q
+  unchanged g l q = by_bool (same_group g q)
+      (λ same. ap (λ b. cond b (l g) (l q)) same ∙ ap l (one_group g q same))
+      (λ other. ap (λ b. cond b (l g) (l q)) other)
+
+  -- the same where the place may be unwanted
+  pub indexed_if : (wanted : Bool) (g : Group) (rest : List (Option Group)) (n s before : ℕ) (ps : List Place) (l : Group → ℕ) → n ≡ length ms → 1 ≤ n → is_by s (slice_get ms (n - 1)) ≡ true → before ≡ l g
+      → (qs : List Place) (j : ℕ) → Adds ms wanted g n s before ps qs j → IsIndexedBut (group_if wanted g ∷ rest) ms ps l → IsIndexedBut rest ms qs (set_at g j l)
+  indexed_if true g rest n s before ps l newest some by same qs j adds is = indexed_place g rest n s ps l newest some by is qs j (subst (λ b. Adds ms true g n s b ps qs j) same adds)
+  indexed_if false g rest n s before ps l newest some by same qs j adds is =
+      subst (λ k. IsIndexedBut rest ms qs (set_at g k l)) (sym (adds.unwanted_place refl ∙ same))
+      (subst (λ xs. IsIndexedBut rest ms xs (set_at g (l g) l)) (sym (adds.unwanted refl)) (reindexed rest ps l (set_at g (l g) l) (unchanged g l) (indexed_skip rest ps l is)))
+
+  -- what is known with pending groups is known but for the newest entry
+  pub but_newest : (pending : List (Option Group)) (a : Index) → IsIndexedBut pending ms a.places.items (latest_of a.latest) → IsIndexedButNewest ms a
+  but_newest pending a is = record {
+    places = is.places;
+    latest_is = λ g. let at = is.latest_is g in record {
+      within = at.within;
+      group = at.group;
+      none_later = λ i m low high there. at.none_later i m low (elim (is_among pending g) as (λ b. i + 1 < cond b (length ms) (length ms + 1)) [ true ↦ high | false ↦ omega arith ]) there;
+    };
+  }
+
+-- ---- room
+
+pub rows_then : (n k : ℕ) (a b d : Index) → TakesRows n a.latest b.latest → TakesRows k b.latest d.latest → TakesRows (n + k) a.latest d.latest
+rows_then n k a b d h m = record {
+  ports = omega (arith, h.ports, m.ports);
+  filters = omega (arith, h.filters, m.filters);
+  gates = omega (arith, h.gates, m.gates);
+  meters = omega (arith, h.meters, m.meters);
+  sessions = omega (arith, h.sessions, m.sessions);
+}
+
+pub takes_more : (n k : ℕ) (a b d : Index) → TakesRoom n a b → TakesRoom k b d → TakesRoom (n + k) a d
+takes_more n k a b d h m = record {
+  places = record {
+    len = omega (arith, h.places.len, m.places.len);
+    items = omega (arith, h.places.items, m.places.items);
+    capacity = m.places.capacity ∙ h.places.capacity;
+  };
+  rows = rows_then n k a b d h.rows m.rows;
+}

@@ -1,0 +1,173 @@
+-- A conflict with a change, sought in the groups of its key and of what it refers to.
+use Rattle.std.proofs.Common.{◌≡◌, ℕ, zero, suc, ◌+◌, ◌<◌, ◌≤◌, Bool, true, false, cond, ◌||◌, ◌&&◌, List, [], ◌∷◌, ◌++◌, refl, sym, ◌∙◌, ap, Option, Some, None, arith, drop}
+use Rattle.std.specs.Prelude.{is_some, nat_lt, option_map, option_to_list}
+use Rattle.std.specs.Option.{option_or}
+use Rattle.std.proofs.lemmas.Bool.Decides.{nat_tests}
+use Rattle.tsn_types.specs.declared.keys.Key.{Key}
+use Rattle.tsn_types.specs.declared.records.Refs.{Refs}
+use Rattle.tsn_types.specs.Keys.{has, keys_of_refs, meets, refs_of, same_key}
+use Rattle.std.proofs.lemmas.Cmp.{eq_by_cmp_equiv}
+use Rattle.tsn_edit.specs.Changes.{conflicts, keys_of, refs_after}
+use Rattle.tsn_edit.specs.Parts.{Change, Part, parts}
+use Rattle.tsn_edit.proofs.KeyFacts.{by_option, keys_total}
+use Rattle.tsn_journal.specs.declared.entries.What.{What}
+use Rattle.tsn_journal.specs.declared.entries.What.TheVariants.{Made, Undone, Redone, Acted}
+use Rattle.tsn_journal.specs.declared.entries.MarkedEntry.{MarkedEntry}
+use Rattle.tsn_journal.specs.declared.groups.Group.TheVariants.{On, RefersTo}
+use Rattle.tsn_journal.specs.Entries.{Applied, IsNumbered, adds, applied, applies}
+use Rattle.tsn_journal.specs.Finding.{last_where}
+use Rattle.tsn_journal.specs.Index.{above, belongs, is_on, is_on_any, refers, standing_change}
+use Rattle.tsn_journal.specs.Marks.{entries_of, is_in_conflict, later_of, stands}
+use Rattle.tsn_journal.proofs.Under.{last_either, no_lower}
+use Rattle.tsn_journal.proofs.Walking.{and_true}
+
+abbrev at : Option MarkedEntry → Option ℕ
+at o = option_map (λ m. m.entry.number) o
+
+no_and : (a : Bool) → (a && false) ≡ false
+no_and true = refl
+no_and false = refl
+
+four : (a b c d p : Bool) → (((a && p) || (b && p)) || ((c && p) || (d && p))) ≡ (p && ((a || b) || (c || d)))
+four a b c d true = λ i. ((and_true a i || and_true b i) || (and_true c i || and_true d i))
+four a b c d false = λ i. ((no_and a i || no_and b i) || (no_and c i || no_and d i))
+
+-- ---- a list that meets a longer one
+
+none_met : (ks : List Key) → meets ks [] ≡ false
+none_met [] = refl
+none_met (x ∷ ks) = none_met ks
+
+swap_or : (a b c d : Bool) → ((a || b) || (c || d)) ≡ ((a || c) || (b || d))
+swap_or true b c d = refl
+swap_or false true true d = refl
+swap_or false true false d = refl
+swap_or false false true d = refl
+swap_or false false false d = refl
+
+swap_keys : (a b : Key) → same_key a b ≡ same_key b a
+swap_keys a b = (eq_by_cmp_equiv keys_total).symm a b
+
+meets_more : (ks ls : List Key) (k : Key) → meets ks (k ∷ ls) ≡ (has ks k || meets ks ls)
+meets_more [] ls k = refl
+meets_more (x ∷ ks) ls k =
+    ap (λ b. (same_key x k || has ls x) || b) (meets_more ks ls k)
+    ∙ swap_or (same_key x k) (has ls x) (has ks k) (meets ks ls)
+    ∙ ap (λ b. (b || has ks k) || (has ls x || meets ks ls)) (swap_keys x k)
+
+or_none : (a : Bool) → (a || false) ≡ a
+or_none true = refl
+or_none false = refl
+
+meets_one : (ks : List Key) (k : Key) → meets ks (k ∷ []) ≡ has ks k
+meets_one ks k = meets_more ks [] k ∙ ap (λ b. has ks k || b) (none_met ks) ∙ or_none (has ks k)
+
+-- whether a change is on the key, if there is one
+abbrev on_any : Option Key → Change → Bool
+on_any None d = false
+on_any (Some k) d = has (keys_of (parts d)) k
+
+on_refs : (a b : Option Key) (d : Change) → (on_any a d || on_any b d) ≡ meets (keys_of (parts d)) (option_to_list a ++ option_to_list b)
+on_refs None None d = sym (none_met (keys_of (parts d)))
+on_refs None (Some y) d = sym (meets_one (keys_of (parts d)) y)
+on_refs (Some x) None d = or_none (has (keys_of (parts d)) x) ∙ sym (meets_one (keys_of (parts d)) x)
+on_refs (Some x) (Some y) d = sym (meets_more (keys_of (parts d)) (y ∷ []) x ∙ ap (λ b. has (keys_of (parts d)) x || b) (meets_one (keys_of (parts d)) y))
+
+nothing_after : (xs : List Key) → xs ++ [] ≡ xs
+nothing_after [] = refl
+nothing_after (x ∷ xs) = ap (λ ys. x ∷ ys) (nothing_after xs)
+
+or_three : (a b c : Bool) → ((a || b) || c) ≡ (a || (b || c))
+or_three true b c = refl
+or_three false b c = refl
+
+in_conflict : (p : Part) (d : Change) (refs : Refs) → keys_of_refs refs ≡ refs_of p.before
+    → ((has (keys_of (parts d)) p.key || has (refs_after (parts d)) p.key) || (on_any refs.first d || on_any refs.second d)) ≡ conflicts d (p ∷ [])
+in_conflict p d refs same =
+    ap (λ b. (has (keys_of (parts d)) p.key || has (refs_after (parts d)) p.key) || b) (on_refs refs.first refs.second d ∙ ap (meets (keys_of (parts d))) (same ∙ sym (nothing_after (refs_of p.before))))
+    ∙ or_three (has (keys_of (parts d)) p.key) (has (refs_after (parts d)) p.key) (meets (keys_of (parts d)) (refs_of p.before ++ []))
+    ∙ (λ i. sym (meets_one (keys_of (parts d)) p.key) i || (sym (meets_one (refs_after (parts d)) p.key) i || meets (keys_of (parts d)) (refs_of p.before ++ [])))
+
+any_standing : (m : MarkedEntry) (d : Change) → standing_change m ≡ Some d → (o : Option Key) → is_on_any o m ≡ on_any o d
+any_standing m d is None = refl
+any_standing m d is (Some k) = ap (is_on k) is
+
+none_standing : (m : MarkedEntry) → standing_change m ≡ None → (o : Option Key) → is_on_any o m ≡ false
+none_standing m is None = refl
+none_standing m is (Some k) = ap (is_on k) is
+
+-- whether a marked entry is in one of the groups of the change and passes
+abbrev pub in_groups : Part → Refs → (MarkedEntry → Bool) → MarkedEntry → Bool
+in_groups c refs p m = ((belongs (On c.key) m && p m) || (belongs (RefersTo c.key) m && p m)) || ((is_on_any refs.first m && p m) || (is_on_any refs.second m && p m))
+
+module _ (c : Part) (refs : Refs) (same : keys_of_refs refs ≡ refs_of c.before) (p : MarkedEntry → Bool) where
+  with_change : (m : MarkedEntry) (d : Change) → standing_change m ≡ Some d → in_groups c refs p m ≡ (p m && conflicts d (c ∷ []))
+  with_change m d is =
+      (λ i. (is_on c.key (is i) && p m || (refers c.key (is i) && p m)) || ((any_standing m d is refs.first i && p m) || (any_standing m d is refs.second i && p m)))
+      ∙ four (has (keys_of (parts d)) c.key) (has (refs_after (parts d)) c.key) (on_any refs.first d) (on_any refs.second d) (p m)
+      ∙ ap (λ b. p m && b) (in_conflict c d refs same)
+
+  with_none : (m : MarkedEntry) → standing_change m ≡ None → in_groups c refs p m ≡ false
+  with_none m is = (λ i. (is_on c.key (is i) && p m || (refers c.key (is i) && p m)) || ((none_standing m is refs.first i && p m) || (none_standing m is refs.second i && p m)))
+
+  each_test : (m : MarkedEntry) (b : Bool) (w : What) → m.is_open ≡ b → m.entry.what ≡ w → in_groups c refs p m ≡ ((is_some (cond b (adds w) None) && p m) && is_in_conflict (applies w) (c ∷ []))
+  each_test m true (Made d) on is = with_change m d (λ i. cond (on i) (adds (is i)) None)
+  each_test m true (Redone n d) on is = with_change m d (λ i. cond (on i) (adds (is i)) None)
+  each_test m true (Undone n d) on is = with_none m (λ i. cond (on i) (adds (is i)) None)
+  each_test m true (Acted act key now) on is = with_none m (λ i. cond (on i) (adds (is i)) None)
+  each_test m false w on is = with_none m (ap (λ b. cond b (adds m.entry.what) None) on)
+
+  some_stands : (m : MarkedEntry) → is_some (standing_change m) ≡ is_some (stands m)
+  some_stands m = elim m.is_open as (λ b. is_some (cond b (adds m.entry.what) None) ≡ is_some (cond b (applied adds m.entry) None)) [ true ↦ some_adds (adds m.entry.what) | false ↦ refl ]
+    where
+      some_adds : (o : Option Change) → is_some o ≡ is_some {T = Applied} (option_map (λ d. record { number = m.entry.number; session = m.entry.session; change = d }) o)
+      some_adds None = refl
+      some_adds (Some d) = refl
+
+  pub the_test : (m : MarkedEntry) → in_groups c refs p m ≡ ((is_some (stands m) && p m) && is_in_conflict (applies m.entry.what) (c ∷ []))
+  the_test m = each_test m m.is_open m.entry.what refl refl ∙ ap (λ b. (b && p m) && is_in_conflict (applies m.entry.what) (c ∷ [])) (some_stands m)
+
+  pub sought_groups : (ms : List MarkedEntry) → IsNumbered 1 (entries_of ms)
+      → later_of (later_of (at (last_where (λ m. belongs (On c.key) m && p m) ms)) (at (last_where (λ m. belongs (RefersTo c.key) m && p m) ms)))
+      (later_of (at (last_where (λ m. is_on_any refs.first m && p m) ms)) (at (last_where (λ m. is_on_any refs.second m && p m) ms)))
+      ≡ at (last_where (λ m. (is_some (stands m) && p m) && is_in_conflict (applies m.entry.what) (c ∷ [])) ms)
+  sought_groups ms numbered =
+      (λ i. later_of (sym (last_either (λ m. belongs (On c.key) m && p m) (λ m. belongs (RefersTo c.key) m && p m) 1 ms numbered) i) (sym (last_either (λ m. is_on_any refs.first m && p m) (λ m. is_on_any refs.second m && p m) 1 ms numbered) i))
+      ∙ sym (last_either (λ m. (belongs (On c.key) m && p m) || (belongs (RefersTo c.key) m && p m)) (λ m. (is_on_any refs.first m && p m) || (is_on_any refs.second m && p m)) 1 ms numbered)
+      ∙ ap (λ (t : MarkedEntry → Bool). at (last_where t ms)) (λ i m. the_test m i)
+
+-- ---- the last of the later ones
+
+above_is : (n k : ℕ) → n < k → nat_lt n k ≡ true
+above_is n k h = grind (arith, nat_tests)
+
+not_above : (n k : ℕ) → k ≤ n → nat_lt n k ≡ false
+not_above n k h = grind (arith, nat_tests)
+
+if_above : (n : ℕ) (m : MarkedEntry) → n < m.entry.number → above n (at (Some m)) ≡ at (Some m)
+if_above n m h = ap (λ b. cond b (Some m.entry.number) None) (above_is n m.entry.number h)
+
+if_below : (n : ℕ) (b : Bool) (m : MarkedEntry) → m.entry.number ≤ n → above n (at (cond b (Some m) None)) ≡ None
+if_below n true m h = ap (λ b. cond b (Some m.entry.number) None) (not_above n m.entry.number h)
+if_below n false m h = refl
+
+later_from : (t : MarkedEntry → Bool) (k n : ℕ) (ms : List MarkedEntry) → IsNumbered (k + 1) (entries_of ms) → at (last_where t (drop n ms)) ≡ above (k + n) (at (last_where t ms))
+later_from t k zero ms h = by_option (last_where t ms)
+    (λ none. ap at none ∙ ap (λ o. above (k + 0) (at o)) (sym none))
+    (λ m some. ap at some ∙ sym (if_above (k + 0) m (let low : k + 1 ≤ m.entry.number = no_lower t (k + 1) ms m h some in omega arith)) ∙ ap (λ o. above (k + 0) (at o)) (sym some))
+later_from t k (suc n) [] h = refl
+later_from t k (suc n) (m ∷ ms) h =
+    let first : m.entry.number ≡ k + 1 = h.0 in
+    let next : (k + 1) + n ≡ k + suc n = omega arith in
+    later_from t (k + 1) n ms h.1
+    ∙ ap (λ j. above j (at (last_where t ms))) next
+    ∙ by_option (last_where t ms)
+    (λ none. ap (λ o. above (k + suc n) (at o)) none ∙ sym (if_below (k + suc n) (t m) m (omega arith)) ∙ ap (λ o. above (k + suc n) (at (option_or o (cond (t m) (Some m) None)))) (sym none))
+    (λ x some. ap (λ o. above (k + suc n) (at o)) some ∙ ap (λ o. above (k + suc n) (at (option_or o (cond (t m) (Some m) None)))) (sym some))
+
+pub later_last : (t : MarkedEntry → Bool) (n : ℕ) (ms : List MarkedEntry) → IsNumbered 1 (entries_of ms) → above n (at (last_where t ms)) ≡ at (last_where t (drop n ms))
+later_last t n ms h = sym (later_from t 0 n ms h ∙ ap (λ j. above j (at (last_where t ms))) (let e : 0 + n ≡ n = omega arith in e))
+
+pub never : (ms : List MarkedEntry) → last_where (λ m. false) ms ≡ None
+never [] = refl
+never (m ∷ ms) = ap (λ o. option_or o None) (never ms)

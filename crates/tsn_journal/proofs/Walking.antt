@@ -1,0 +1,110 @@
+-- Walking back from the latest place of a group, a link at a time.
+use Rattle.std.proofs.Common.{◌≡◌, ℕ, zero, suc, ◌+◌, ◌-◌, ◌<◌, ◌≤◌, Bool, true, false, cond, ◌&&◌, List, [], ◌∷◌, refl, sym, ◌∙◌, ap, subst, Some, None, arith, length, drop, filter, map, ◌++◌, add-one}
+use Rattle.std.specs.List.{slice_get}
+use Rattle.std.specs.Prelude.{reverse}
+use Rattle.std.proofs.lemmas.List.{reverse-append}
+use Rattle.std.specs.Option.{option_or}
+use Rattle.std.proofs.lemmas.Option.{get_or_from_slice_get, slice_get_within}
+use Rattle.std.proofs.Math.Seq.{drop-cons}
+use Rattle.tsn_journal.specs.declared.entries.MarkedEntry.{MarkedEntry}
+use Rattle.tsn_journal.specs.declared.groups.Group.{Group}
+use Rattle.tsn_journal.specs.declared.index.Place.{Place}
+use Rattle.tsn_journal.specs.Finding.{last_where}
+use Rattle.tsn_journal.specs.Index.{ArePlaces, IsLast, belongs, is_of, number_at, number_of, place_at}
+use Rattle.tsn_journal.proofs.Links.{one, the_place}
+use Rattle.tsn_journal.proofs.LastWhere.{found_here}
+
+-- nothing from n on passes
+abbrev pub NoneFrom : {A : Type 0} → (A → Bool) → List A → ℕ → Type 0
+NoneFrom {A} t xs n = (i : ℕ) (x : A) → n ≤ i → slice_get xs i ≡ Some x → t x ≡ false
+
+pub none_from : {A : Type 0} (t : A → Bool) (xs : List A) (n : ℕ) → NoneFrom t xs n → last_where t (drop n xs) ≡ None
+none_from t [] zero h = refl
+none_from t [] (suc n) h = refl
+none_from t (x ∷ xs) zero h =
+    ap (λ o. option_or o (cond (t x) (Some x) None)) (none_from t xs zero (λ i y low at. h (suc i) y (omega arith) at))
+    ∙ ap (λ b. cond b (Some x) None) (h zero x (omega arith) refl)
+none_from t (x ∷ xs) (suc n) h = none_from t xs n (λ i y low at. h (suc i) y (omega arith) at)
+
+pub found_from : {A : Type 0} (t : A → Bool) (xs : List A) (n : ℕ) (x : A) → 1 ≤ n → n ≤ length xs → slice_get xs (n - 1) ≡ Some x → NoneFrom t xs n → t x ≡ true → last_where t xs ≡ Some x
+found_from t xs n x some within at none pass =
+    found_here t xs (n - 1) x (omega arith) (sym (get_or_from_slice_get xs (n - 1) x x at)) (ap (λ k. last_where t (drop k xs)) (let e : (n - 1) + 1 ≡ n = omega arith in e) ∙ none_from t xs n none) pass
+
+pub in_list : {A : Type 0} (xs : List A) (i : ℕ) (x : A) → slice_get xs i ≡ Some x → i + 1 < length xs + 1
+in_list xs i x h = let in' : i < length xs = slice_get_within xs i x h in omega arith
+
+-- nothing that passes comes after the place where a walk stands
+pub none_after : (g : Group) (t : MarkedEntry → Bool) (ms : List MarkedEntry) (ps : List Place) (j : ℕ) → IsLast g t ms ps j (length ms + 1) → NoneFrom t ms (number_at ps j)
+none_after g t ms ps j is i m low at = is.none_later i m low (in_list ms i m at) at
+
+pub and_out : {A : Type 0} (p q : A → Bool) (m : A) → q m ≡ false → (q m && p m) ≡ false
+and_out p q m h = (cc)
+
+pub both_true : (a b : Bool) → a ≡ true → b ≡ true → (a && b) ≡ true
+both_true true b h k = k
+both_true false b h k = (cc)
+
+pub and_false : (a b : Bool) → b ≡ false → (a && b) ≡ false
+and_false true b h = h
+and_false false b h = refl
+
+pub and_true : (a : Bool) → (a && true) ≡ a
+and_true true = refl
+and_true false = refl
+
+-- ---- those that pass, from the back
+
+pub filter_gap : {A : Type 0} (t : A → Bool) (xs : List A) (n k : ℕ) → n ≤ k → ((i : ℕ) (x : A) → n ≤ i → i < k → slice_get xs i ≡ Some x → t x ≡ false) → filter t (drop n xs) ≡ filter t (drop k xs)
+filter_gap t [] zero zero le h = refl
+filter_gap t [] zero (suc k) le h = refl
+filter_gap t [] (suc n) zero le h = refl
+filter_gap t [] (suc n) (suc k) le h = refl
+filter_gap t (x ∷ xs) zero zero le h = refl
+filter_gap t (x ∷ xs) zero (suc k) le h =
+    ap (λ b. cond b (x ∷ filter t xs) (filter t xs)) (h zero x (omega arith) (omega arith) refl) ∙ filter_gap t xs zero k (omega arith) (λ i y low high at. h (suc i) y (omega arith) (omega arith) at)
+filter_gap t (x ∷ xs) (suc n) zero le h = absurd (omega arith)
+filter_gap t (x ∷ xs) (suc n) (suc k) le h = filter_gap t xs n k (omega arith) (λ i y low high at. h (suc i) y (omega arith) (omega arith) at)
+
+drop_at : {A : Type 0} (xs : List A) (n : ℕ) (x : A) → slice_get xs n ≡ Some x → drop n xs ≡ x ∷ drop (n + 1) xs
+drop_at xs n x at = drop-cons xs n x (slice_get_within xs n x at) ∙ (λ j. get_or_from_slice_get xs n x x at j ∷ drop (sym (add-one n) j) xs)
+
+pub filter_none : {A : Type 0} (t : A → Bool) (xs : List A) (n : ℕ) → NoneFrom t xs n → filter t (drop n xs) ≡ []
+filter_none t [] zero h = refl
+filter_none t [] (suc n) h = refl
+filter_none t (x ∷ xs) zero h = ap (λ b. cond b (x ∷ filter t xs) (filter t xs)) (h zero x (omega arith) refl) ∙ filter_none t xs zero (λ i y low at. h (suc i) y (omega arith) at)
+filter_none t (x ∷ xs) (suc n) h = filter_none t xs n (λ i y low at. h (suc i) y (omega arith) at)
+
+module _ (ms : List MarkedEntry) (ps : List Place) (g : Group) (j : ℕ) (found : Place) (group : is_of g (place_at ps j) ≡ true) (there : place_at ps j ≡ Some found) (are : ArePlaces ms ps) where
+  -- a link back: those of the group from there on are those from the place on, and its entry, if it belongs to the group
+  pub step_back : (m : MarkedEntry) → slice_get ms (found.number - 1) ≡ Some m
+      → filter (belongs g) (drop (number_at ps found.before) ms) ≡ cond (belongs g m) (m ∷ filter (belongs g) (drop (number_at ps j) ms)) (filter (belongs g) (drop (number_at ps j) ms))
+  step_back m here =
+      let p = the_place ms ps g j found group there are in
+      let same = one ms ps g j found group there are in
+      let number : found.number ≡ number_at ps j = sym (ap number_of there) in
+      let first : 1 ≤ found.number = p.some in
+      let less : number_at ps found.before < found.number = p.less in
+      filter_gap (belongs g) ms (number_at ps found.before) (found.number - 1) (omega arith)
+      (λ i x low high at'. subst (λ h. belongs h x ≡ false) same (p.last.none_later i x low (omega arith) at'))
+      ∙ ap (filter (belongs g)) (drop_at ms (found.number - 1) m here)
+      ∙ ap (λ k. cond (belongs g m) (m ∷ filter (belongs g) (drop k ms)) (filter (belongs g) (drop k ms))) ((let e : (found.number - 1) + 1 ≡ found.number = omega arith in e) ∙ number)
+
+pub one_counted : (n : ℕ) (F : List MarkedEntry) (b : Bool) (m : MarkedEntry) → n ≡ length F → b ≡ true → n + 1 ≡ length (cond b (m ∷ F) F)
+one_counted n F true m same holds = omega arith
+one_counted n F false m same holds = (cc)
+
+pub none_counted : (n : ℕ) (F : List MarkedEntry) (b : Bool) (m : MarkedEntry) → n ≡ length F → b ≡ false → n ≡ length (cond b (m ∷ F) F)
+none_counted n F true m same fails = (cc)
+none_counted n F false m same fails = same
+
+pub one_numbered : (ns : List ℕ) (F : List MarkedEntry) (b : Bool) (m : MarkedEntry) → reverse ns ≡ map (λ (k : MarkedEntry). k.entry.number) F → b ≡ true → reverse (ns ++ m.entry.number ∷ []) ≡ map (λ (k : MarkedEntry). k.entry.number) (cond b (m ∷ F) F)
+one_numbered ns F true m same holds = reverse-append ns (m.entry.number ∷ []) ∙ ap (λ xs. m.entry.number ∷ xs) same
+one_numbered ns F false m same holds = (cc)
+
+pub none_numbered : (ns : List ℕ) (F : List MarkedEntry) (b : Bool) (m : MarkedEntry) → reverse ns ≡ map (λ (k : MarkedEntry). k.entry.number) F → b ≡ false → reverse ns ≡ map (λ (k : MarkedEntry). k.entry.number) (cond b (m ∷ F) F)
+none_numbered ns F true m same fails = (cc)
+none_numbered ns F false m same fails = same
+
+pub few_pass : {A : Type 0} (t : A → Bool) (xs : List A) → length (filter t xs) ≤ length xs
+few_pass t [] = omega arith
+few_pass t (x ∷ xs) = let rest = few_pass t xs in elim (t x) as (λ b. length (cond b (x ∷ filter t xs) (filter t xs)) ≤ length (x ∷ xs)) [ true ↦ omega arith | false ↦ omega arith ]

@@ -1,0 +1,22 @@
+use Rattle.std.proofs.Common.{true, sym, ◌∙◌, ap}
+use Rattle.tsn_journal.specs.declared.groups.Group.TheVariants.{On}
+use Rattle.tsn_journal.specs.declared.latest.Latest.{Latest}
+use Rattle.tsn_journal.specs.Index.{set_at}
+use Rattle.tsn_journal.specs.Latest.{key_row, latest_of, refers_of}
+use Rattle.tsn_journal.proofs.Indexing.{indexed_if, reindexed}
+use Rattle.tsn_journal.proofs.Rows.{set_on}
+use Rattle.tsn_journal.proofs.index.Index.enter_on.Goals as goal
+
+pub returns-clause-index : goal.returns-clause-index
+returns-clause-index c = λ rest is.
+    let ms = c.args.marked.now in
+    let ps = c.args.self.now.places.items in
+    let key = c.args.key.now in
+    let l = latest_of c.args.self.now.latest in
+    let j = c.add-on.result in
+    let same = c.add-on.ensures.latest in
+    reindexed ms rest c.add-on.new.self.places.items (set_at (On key) j l) (latest_of c.set_key.new.self)
+    (λ q. set_on c.add-on.new.self.latest c.set_key.new.self key (record { on = j; refers = c.key_places-on.result.refers }) c.set_key.ensures.rows c.set_key.ensures.sessions
+    (c.key_places-on.ensures.refers ∙ ap (λ (x : Latest). refers_of (key_row x key)) (sym same)) q
+    ∙ ap (λ (x : Latest). set_at (On key) j (latest_of x) q) same)
+    (indexed_if ms true (On key) rest c.args.number c.args.session c.key_places-on.result.on ps l c.requires.count c.requires.some c.requires.by c.key_places-on.ensures.on c.add-on.new.self.places.items j c.add-on.ensures.added is)

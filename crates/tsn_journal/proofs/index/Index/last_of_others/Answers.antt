@@ -1,0 +1,53 @@
+use Rattle.std.proofs.Common.{◌+◌, ◌≤◌, sym, ◌∙◌, ap, subst, arith, length}
+use Rattle.std.specs.Prelude.{not}
+use Rattle.tsn_journal.specs.Index.{IsLast, belongs, belongs_to_others, is_by, number_at, number_of}
+use Rattle.tsn_journal.proofs.Links.{hop, not_of_others, place_there, step, the_place}
+use Rattle.tsn_journal.proofs.Walking.{both_true, found_from, none_after, none_from}
+use Rattle.tsn_journal.proofs.index.Index.last_of_others.Goals as goal
+
+pub back-init : goal.back-init
+back-init c =
+    let h = c.args.group.now in
+    let at : IsLast h (belongs h) c.args.marked.now c.args.self.now.places.items c.args.latest (length c.args.marked.now + 1) =
+    subst (λ j. IsLast h (belongs h) c.args.marked.now c.args.self.now.places.items j (length c.args.marked.now + 1)) (sym c.requires.latest) (c.requires.index.latest_is h) in
+    record { within = at.within; group = at.group; none_later = λ i m low high is. not_of_others h c.args.session m (at.none_later i m low high is) }
+
+pub numbered-entry-requires-clause-some : goal.numbered-entry-requires-clause-some
+numbered-entry-requires-clause-some c = (the_place c.args.marked.now c.args.self.now.places.items c.args.group.now c.back.place c.index-found.result.now c.back.invariant.group (place_there c.args.self.now.places.items c.back.place c.index-found.result.now c.back-test.true c.back.invariant.within c.index-found.ensures) c.requires.index.places).some
+
+pub numbered-entry-requires-clause-within : goal.numbered-entry-requires-clause-within
+numbered-entry-requires-clause-within c = (the_place c.args.marked.now c.args.self.now.places.items c.args.group.now c.back.place c.index-found.result.now c.back.invariant.group (place_there c.args.self.now.places.items c.back.place c.index-found.result.now c.back-test.true c.back.invariant.within c.index-found.ensures) c.requires.index.places).within
+
+pub back-smaller-then-is_of : goal.back-smaller-then-is_of
+back-smaller-then-is_of c =
+    let at = the_place c.args.marked.now c.args.self.now.places.items c.args.group.now c.back.place c.index-found.result.now c.back.invariant.group (place_there c.args.self.now.places.items c.back.place c.index-found.result.now c.back-test.true c.back.invariant.within c.index-found.ensures) c.requires.index.places in
+    omega (arith, at.other_earlier, c.back-test.true)
+
+pub back-preserved-then-is_of : goal.back-preserved-then-is_of
+back-preserved-then-is_of c =
+    hop c.args.marked.now c.args.self.now.places.items c.args.group.now c.back.place c.index-found.result.now c.back.invariant.group (place_there c.args.self.now.places.items c.back.place c.index-found.result.now c.back-test.true c.back.invariant.within c.index-found.ensures) c.requires.index.places
+    c.args.session (length c.args.marked.now + 1) c.back.invariant (ap (is_by c.args.session) c.numbered-entry.ensures ∙ sym c.is_of.ensures ∙ c.if-is_of.true)
+
+pub returns-then-is_in : goal.returns-then-is_in
+returns-then-is_in c =
+    let at = the_place c.args.marked.now c.args.self.now.places.items c.args.group.now c.back.place c.index-found.result.now c.back.invariant.group (place_there c.args.self.now.places.items c.back.place c.index-found.result.now c.back-test.true c.back.invariant.within c.index-found.ensures) c.requires.index.places in
+    sym (found_from (belongs_to_others c.args.group.now c.args.session) c.args.marked.now c.index-found.result.now.number c.numbered-entry.result.now at.some at.within c.numbered-entry.ensures
+    (λ i m low is. none_after c.args.group.now (belongs_to_others c.args.group.now c.args.session) c.args.marked.now c.args.self.now.places.items c.back.place c.back.invariant i m (subst (λ o. number_of o ≤ i) (sym (place_there c.args.self.now.places.items c.back.place c.index-found.result.now c.back-test.true c.back.invariant.within c.index-found.ensures)) low) is)
+    (both_true _ _ (sym c.is_in.ensures ∙ c.if-is_in.true) (ap not (sym c.is_of.ensures ∙ c.if-is_of.false))))
+
+pub back-smaller : goal.back-smaller
+back-smaller c =
+    let at = the_place c.args.marked.now c.args.self.now.places.items c.args.group.now c.back.place c.index-found.result.now c.back.invariant.group (place_there c.args.self.now.places.items c.back.place c.index-found.result.now c.back-test.true c.back.invariant.within c.index-found.ensures) c.requires.index.places in
+    omega (arith, at.earlier, c.back-test.true)
+
+pub back-preserved : goal.back-preserved
+back-preserved c =
+    step c.args.marked.now c.args.self.now.places.items c.args.group.now c.back.place c.index-found.result.now c.back.invariant.group (place_there c.args.self.now.places.items c.back.place c.index-found.result.now c.back-test.true c.back.invariant.within c.index-found.ensures) c.requires.index.places
+    (belongs_to_others c.args.group.now c.args.session) (length c.args.marked.now + 1) (not_of_others c.args.group.now c.args.session) c.back.invariant c.numbered-entry.result.now c.numbered-entry.ensures
+    (not_of_others c.args.group.now c.args.session c.numbered-entry.result.now (sym c.is_in.ensures ∙ c.if-is_in.false))
+
+pub returns : goal.returns
+returns c =
+    sym (none_from (belongs_to_others c.args.group.now c.args.session) c.args.marked.now 0
+    (λ i m low is. none_after c.args.group.now (belongs_to_others c.args.group.now c.args.session) c.args.marked.now c.args.self.now.places.items c.back.place c.back.invariant i m
+    (subst (λ j. number_at c.args.self.now.places.items j ≤ i) (sym c.back-test.false) (omega arith)) is))

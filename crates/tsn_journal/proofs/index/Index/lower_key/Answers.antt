@@ -1,0 +1,30 @@
+use Rattle.std.proofs.Common.{◌+◌, sym, subst, length}
+use Rattle.tsn_journal.specs.declared.groups.Group.TheVariants.{On, RefersTo}
+use Rattle.tsn_journal.specs.Index.{IsLast, belongs, set_at}
+use Rattle.tsn_journal.specs.Latest.{latest_of}
+use Rattle.tsn_journal.proofs.Indexing.{reindexed}
+use Rattle.tsn_journal.proofs.Lowering.{index_lowered}
+use Rattle.tsn_journal.proofs.Rows.{set_key_both}
+use Rattle.tsn_journal.proofs.index.Index.lower_key.Goals as goal
+
+pub first_from-on-requires-clause-latest : goal.first_from-on-requires-clause-latest
+first_from-on-requires-clause-latest c =
+    let g = On c.args.key.now in
+    subst (λ j. IsLast g (belongs g) c.args.marked.now c.args.self.now.places.items j (length c.args.marked.now + 1)) (sym c.key_places-latest.ensures.on) (c.requires.latest_is g)
+
+pub first_from-refers-requires-clause-latest : goal.first_from-refers-requires-clause-latest
+first_from-refers-requires-clause-latest c =
+    let g = RefersTo c.args.key.now in
+    subst (λ j. IsLast g (belongs g) c.args.marked.now c.args.self.now.places.items j (length c.args.marked.now + 1)) (sym c.key_places-latest.ensures.refers) (c.requires.latest_is g)
+
+pub returns-clause-index : goal.returns-clause-index
+returns-clause-index c =
+    let ms = c.args.marked.now in
+    let ps = c.args.self.now.places.items in
+    let key = c.args.key.now in
+    let l = latest_of c.args.self.now.latest in
+    let j = c.first_from-on.result in
+    let k = c.first_from-refers.result in
+    reindexed ms _ ps (set_at (RefersTo key) k (set_at (On key) j l)) (latest_of c.set_key.new.self)
+    (set_key_both c.args.self.now.latest c.set_key.new.self key (record { on = j; refers = k }) c.set_key.ensures.rows c.set_key.ensures.sessions)
+    (index_lowered ms ps (set_at (On key) j l) (RefersTo key) k (index_lowered ms ps l (On key) j c.requires c.first_from-on.ensures) c.first_from-refers.ensures)

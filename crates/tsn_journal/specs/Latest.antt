@@ -1,0 +1,69 @@
+-- The newest place of each group, as the rows of keys and sessions say it.
+use Rattle.std.specs.Prelude.{ℕ, ◌+◌, ◌≤◌, Bool, false, Option, Some, None, ◌==◌}
+use Rattle.std.specs.FinMap.{get}
+use Rattle.tsn_types.specs.declared.keys.Key.{Key}
+use Rattle.tsn_types.specs.declared.keys.Key.TheVariants.{Port, Filter, Gate, Meter}
+use Rattle.tsn_types.specs.Keys.{same_key}
+use Rattle.tsn_journal.specs.declared.groups.Group.{Group}
+use Rattle.tsn_journal.specs.declared.groups.Group.TheVariants.{On, RefersTo, Of, EndsRedo}
+use Rattle.tsn_journal.specs.declared.latest.Latest.{Latest}
+use Rattle.tsn_journal.specs.declared.latest.KeyPlaces.{KeyPlaces}
+use Rattle.tsn_journal.specs.declared.latest.SessionPlaces.{SessionPlaces}
+
+-- whether two groups are the same
+abbrev pub same_group : Group → Group → Bool
+same_group (On a) (On b) = same_key a b
+same_group (RefersTo a) (RefersTo b) = same_key a b
+same_group (Of s) (Of t) = s == t
+same_group (EndsRedo s) (EndsRedo t) = s == t
+same_group a b = false
+
+-- the row of a key, and of a session
+abbrev pub key_row : Latest → Key → Option KeyPlaces
+key_row l (Port n) = get l.ports.map n
+key_row l (Filter n) = get l.filters.map n
+key_row l (Gate n) = get l.gates.map n
+key_row l (Meter n) = get l.meters.map n
+
+abbrev pub session_row : Latest → ℕ → Option SessionPlaces
+session_row l s = get l.sessions.map s
+
+-- what a row says, and 0 where there is none
+abbrev pub on_of : Option KeyPlaces → ℕ
+on_of None = 0
+on_of (Some r) = r.on
+
+abbrev pub refers_of : Option KeyPlaces → ℕ
+refers_of None = 0
+refers_of (Some r) = r.refers
+
+abbrev pub standing_of : Option SessionPlaces → ℕ
+standing_of None = 0
+standing_of (Some r) = r.standing
+
+abbrev pub ends_of : Option SessionPlaces → ℕ
+ends_of None = 0
+ends_of (Some r) = r.ends_redo
+
+-- the newest place of the group, from 1, and 0 for none
+abbrev pub latest_of : Latest → Group → ℕ
+latest_of l (On k) = on_of (key_row l k)
+latest_of l (RefersTo k) = refers_of (key_row l k)
+latest_of l (Of s) = standing_of (session_row l s)
+latest_of l (EndsRedo s) = ends_of (session_row l s)
+
+-- there is room for n rows more of each kind
+pub record HasRows (n : ℕ) (l : Latest) : Type 0 where
+  pub ports : n ≤ l.ports.spare
+  pub filters : n ≤ l.filters.spare
+  pub gates : n ≤ l.gates.spare
+  pub meters : n ≤ l.meters.spare
+  pub sessions : n ≤ l.sessions.spare
+
+-- k has the room of l but for n rows
+pub record TakesRows (n : ℕ) (l k : Latest) : Type 0 where
+  pub ports : l.ports.spare ≤ k.ports.spare + n
+  pub filters : l.filters.spare ≤ k.filters.spare + n
+  pub gates : l.gates.spare ≤ k.gates.spare + n
+  pub meters : l.meters.spare ≤ k.meters.spare + n
+  pub sessions : l.sessions.spare ≤ k.sessions.spare + n

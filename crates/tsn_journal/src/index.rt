@@ -1,0 +1,462 @@
+//! The index of a journal: of each entry a place in each group that it belongs to.
+//!
+//! Places are only ever added. A link leads back from each to the last place before it in its group, and another to the
+//! last one that is of another session, so that a session's own entries are passed in one step; which of the entries
+//! still belong to the group, the marks say.
+ghost use Rattle.std.specs.Prelude.{◌≡◌, ◌&&◌, ◌*◌, ◌+◌, ◌-◌, ◌≤◌, ◌∷◌, [], Bool, IfOk, List, OnOk, Option, Some, filter, length, map, option_map, slice_get, true};
+ghost use Rattle.std.specs.Option.{option_copied};
+ghost use Rattle.tsn_journal.specs.declared.entries.MarkedEntry.{MarkedEntry as AnyEntry};
+ghost use Rattle.tsn_journal.specs.declared.groups.Group.{Group as AnyGroup};
+ghost use Rattle.tsn_journal.specs.Entries.{most_entries};
+ghost use Rattle.tsn_journal.specs.Finding.{last_where};
+ghost use Rattle.tsn_journal.specs.declared.groups.Group.TheVariants.{EndsRedo, Of, On, RefersTo};
+ghost use Rattle.tsn_journal.specs.Index.{Adds, ArePlaces, HasPlaces, HasRoom, IsIndexed, IsIndexedBut, IsIndexedButNewest, IsLast, IsNewest, TakesNoRoom, TakesPlaces, TakesRoom, belongs, belongs_to_others, group_if, is_by, number_at, other_of};
+ghost use Rattle.tsn_journal.specs.Latest.{latest_of};
+ghost use Rattle.tsn_journal.specs.Tests.{Tests};
+
+use crate::entries::{Entry, MarkedEntry, What};
+use crate::groups::{Group, one_part, refs_of};
+use crate::latest::{KeyPlaces, Latest, SessionPlaces};
+use std::alloc::{AllocError, Global};
+use tsn_edit::Change;
+use tsn_types::keys::Key;
+
+/// The place of an entry in a group. Places are counted from 1, and 0 is none.
+#[derive(Clone, Copy, Debug)]
+pub(crate) struct Place {
+    pub(crate) group: Group,
+    /// The entry's number.
+    pub(crate) number: u32,
+    /// The place before it in the group.
+    pub(crate) before: u32,
+    /// The last place before it in the group whose entry is of another session.
+    pub(crate) other: u32,
+}
+
+/// Of each entry a place in each group that it belongs to, and the newest place of each group.
+#[derive(Debug, Drop)]
+pub(crate) struct Index {
+    pub(crate) places: Vec<Place>,
+    pub(crate) latest: Latest,
+}
+
+impl Index {
+    /// An index of no entry. It takes no memory and has room for none.
+    pub(crate) fn new(alloc: Global) -> Index
+        ensures places { result.places.items ≡ [] }
+        ensures latest { (g : AnyGroup) → latest_of result.latest g ≡ 0 }
+    {
+        Index {
+            places: Vec::new(alloc),
+            latest: Latest::new(alloc),
+        }
+    }
+
+    /// Makes room for `count` places more. Refused only for want of memory.
+    pub(crate) fn reserve(&mut self, count: usize) -> Result<(), AllocError>
+        requires { length self.old.places.items + count ≤ 5 * most_entries }
+        ensures latest { (g : AnyGroup) → latest_of self.new.latest g ≡ latest_of self.old.latest g }
+        ensures ok { OnOk result (HasRoom count self.new) }
+        ensures spare { TakesNoRoom self.old self.new }
+    {
+        self.places.reserve(count)?;
+        self.latest.reserve(count)?;
+        Ok(())
+    }
+
+    /// The number of the entry at the place, and 0 for none.
+    fn number_at(&self, place: u32) -> u32
+        requires { place ≤ length self.now.places.items }
+        ensures { result ≡ number_at self.now.places.items place }
+    {
+        if place == 0 {
+            return 0;
+        }
+        self.places[place as usize - 1].number
+    }
+
+    /// The place, or the one that it is linked to of another session, where its entry is the session's.
+    fn other_of(&self, marked: &[MarkedEntry], place: u32, session: u32) -> u32
+        requires within { place ≤ length self.now.places.items }
+        requires places { ArePlaces marked.now self.now.places.items }
+        ensures { result ≡ other_of marked.now self.now.places.items session place }
+    {
+        if place == 0 {
+            return 0;
+        }
+        let found = &self.places[place as usize - 1];
+        if numbered(marked, found.number).is_of(session) {
+            found.other
+        } else {
+            place
+        }
+    }
+
+    /// Gives the newest entry its places, in room for five.
+    pub(crate) fn enter(&mut self, marked: &[MarkedEntry])
+        requires index { IsIndexedButNewest marked.now self.old }
+        requires room { HasRoom 5 self.old }
+        requires some { 1 ≤ length marked.now }
+        requires few { length marked.now ≤ most_entries }
+        ensures index { IsIndexed marked.now self.new }
+        ensures room { TakesRoom 5 self.old self.new }
+    {
+        let number = marked.len() as u32;
+        let newest = &numbered(marked, number).entry;
+        let session = newest.session;
+        match &newest.what {
+            What::Made(change) => self.enter_change(marked, change, number, session, true),
+            What::Redone { change, .. } => {
+                self.enter_change(marked, change, number, session, false)
+            }
+            What::Undone { .. } => self.enter_session(marked, number, session, false, true),
+            What::Acted { .. } => {}
+        }
+    }
+
+    /// Gives the newest entry, which made or redid the change, its places. Whether a search for a redo ends at it, the
+    /// caller says.
+    fn enter_change(
+        &mut self,
+        marked: &[MarkedEntry],
+        change: &Change,
+        number: u32,
+        session: u32,
+        ends: bool,
+    )
+        requires index { IsIndexedButNewest marked.now self.old }
+        requires newest { IsNewest marked.now number session change.now ends }
+        requires room { HasRoom 5 self.old }
+        ensures index { IsIndexed marked.now self.new }
+        ensures room { TakesRoom 5 self.old self.new }
+    {
+        let part = one_part(change);
+        let refs = refs_of(&part.after);
+        self.enter_on(marked, &part.key, number, session);
+        self.enter_ref(marked, &refs.first, number, session);
+        self.enter_ref(marked, &refs.second, number, session);
+        self.enter_session(marked, number, session, true, ends);
+    }
+
+    /// Gives the newest entry, which is the session's, its place on the key.
+    fn enter_on(&mut self, marked: &[MarkedEntry], key: &Key, number: u32, session: u32)
+        requires index { IsIndexedButNewest marked.now self.old }
+        requires room { HasRoom 1 self.old }
+        requires count { number ≡ length marked.now }
+        requires some { 1 ≤ number }
+        requires by { is_by session (slice_get marked.now (number - 1)) ≡ true }
+        ensures index { (rest : List (Option AnyGroup)) → IsIndexedBut (Some (On key.now) ∷ rest) marked.now self.old.places.items (latest_of self.old.latest)
+            → IsIndexedBut rest marked.now self.new.places.items (latest_of self.new.latest) }
+        ensures room { TakesRoom 1 self.old self.new }
+    {
+        let KeyPlaces { on, refers } = self.latest.key_places(*key);
+        let on = self.add(marked, Group::On(*key), on, number, session, true);
+        self.latest.set_key(*key, KeyPlaces { on, refers });
+    }
+
+    /// Gives the newest entry, which is the session's, its place among those that refer to the key, if there is a key.
+    fn enter_ref(&mut self, marked: &[MarkedEntry], key: &Option<Key>, number: u32, session: u32)
+        requires index { IsIndexedButNewest marked.now self.old }
+        requires room { HasRoom 1 self.old }
+        requires count { number ≡ length marked.now }
+        requires some { 1 ≤ number }
+        requires by { is_by session (slice_get marked.now (number - 1)) ≡ true }
+        ensures index { (rest : List (Option AnyGroup)) → IsIndexedBut (option_map RefersTo key.now ∷ rest) marked.now self.old.places.items (latest_of self.old.latest)
+            → IsIndexedBut rest marked.now self.new.places.items (latest_of self.new.latest) }
+        ensures room { TakesRoom 1 self.old self.new }
+    {
+        let Some(key) = key else {
+            return;
+        };
+        let KeyPlaces { on, refers } = self.latest.key_places(*key);
+        let refers = self.add(marked, Group::RefersTo(*key), refers, number, session, true);
+        self.latest.set_key(*key, KeyPlaces { on, refers });
+    }
+
+    /// Gives the newest entry its places among the session's standing entries and among those at which a search for a
+    /// redo ends, where they are wanted.
+    fn enter_session(
+        &mut self,
+        marked: &[MarkedEntry],
+        number: u32,
+        session: u32,
+        stands: bool,
+        ends: bool,
+    )
+        requires index { IsIndexedButNewest marked.now self.old }
+        requires room { HasRoom 2 self.old }
+        requires count { number ≡ length marked.now }
+        requires some { 1 ≤ number }
+        requires by { is_by session (slice_get marked.now (number - 1)) ≡ true }
+        ensures index { (rest : List (Option AnyGroup))
+            → IsIndexedBut (group_if stands (Of session) ∷ group_if ends (EndsRedo session) ∷ rest) marked.now self.old.places.items (latest_of self.old.latest)
+            → IsIndexedBut rest marked.now self.new.places.items (latest_of self.new.latest) }
+        ensures room { TakesRoom 2 self.old self.new }
+    {
+        let SessionPlaces {
+            standing,
+            ends_redo,
+        } = self.latest.session_places(session);
+        let standing = self.add(
+            marked,
+            Group::Of(session),
+            standing,
+            number,
+            session,
+            stands,
+        );
+        let ends_redo = self.add(
+            marked,
+            Group::EndsRedo(session),
+            ends_redo,
+            number,
+            session,
+            ends,
+        );
+        self.latest.set_session(
+            session,
+            SessionPlaces {
+                standing,
+                ends_redo,
+            },
+        );
+    }
+
+    /// Gives the session's entry of the number a place in the group, whose newest place is `before`, where it is wanted
+    /// and that place is not of the entry. The answer is the newest place of the group then.
+    fn add(
+        &mut self,
+        marked: &[MarkedEntry],
+        group: Group,
+        before: u32,
+        number: u32,
+        session: u32,
+        wanted: bool,
+    ) -> u32
+        requires room { HasPlaces 1 self.old }
+        requires index { IsIndexedButNewest marked.now self.old }
+        requires newest_place { before ≡ latest_of self.old.latest group }
+        requires count { number ≡ length marked.now }
+        requires some { 1 ≤ number }
+        requires by { is_by session (slice_get marked.now (number - 1)) ≡ true }
+        ensures added { Adds marked.now wanted group number session before self.old.places.items self.new.places.items result }
+        ensures kept { IsIndexedButNewest marked.now self.new }
+        ensures latest { self.new.latest ≡ self.old.latest }
+        ensures room { TakesPlaces 1 self.old self.new }
+    {
+        if !wanted {
+            return before;
+        }
+        if number <= self.number_at(before) {
+            return before;
+        }
+        let other = self.other_of(marked, before, session);
+        self.places.push_reserved(Place {
+            group,
+            number,
+            before,
+            other,
+        });
+        self.places.as_slice().len() as u32
+    }
+
+    /// Sets the newest places of the groups of an entry that was taken back to where their last entries are. It takes
+    /// no room.
+    pub(crate) fn leave(&mut self, marked: &[MarkedEntry], taken_back: &Entry)
+        requires { IsIndexed marked.now self.old }
+        ensures index { IsIndexed marked.now self.new }
+        ensures room { TakesRoom 0 self.old self.new }
+    {
+        if let Some(change) = taken_back.what.added() {
+            let part = one_part(change);
+            let refs = refs_of(&part.after);
+            self.lower_key(marked, &part.key);
+            self.lower_ref(marked, &refs.first);
+            self.lower_ref(marked, &refs.second);
+        }
+        self.lower_session(marked, taken_back.session);
+    }
+
+    fn lower_ref(&mut self, marked: &[MarkedEntry], key: &Option<Key>)
+        requires { IsIndexed marked.now self.old }
+        ensures index { IsIndexed marked.now self.new }
+        ensures room { TakesRoom 0 self.old self.new }
+    {
+        if let Some(key) = key {
+            self.lower_key(marked, key);
+        }
+    }
+
+    /// The same for the two groups of a key.
+    fn lower_key(&mut self, marked: &[MarkedEntry], key: &Key)
+        requires { IsIndexed marked.now self.old }
+        ensures index { IsIndexed marked.now self.new }
+        ensures room { TakesRoom 0 self.old self.new }
+    {
+        let latest = self.latest.key_places(*key);
+        if latest.on == 0 && latest.refers == 0 {
+            return;
+        }
+        let on = self.first_from(marked, &Group::On(*key), latest.on);
+        let refers = self.first_from(marked, &Group::RefersTo(*key), latest.refers);
+        self.latest.set_key(*key, KeyPlaces { on, refers });
+    }
+
+    /// The same for the two groups of a session.
+    fn lower_session(&mut self, marked: &[MarkedEntry], session: u32)
+        requires { IsIndexed marked.now self.old }
+        ensures index { IsIndexed marked.now self.new }
+        ensures room { TakesRoom 0 self.old self.new }
+    {
+        let latest = self.latest.session_places(session);
+        if latest.standing == 0 && latest.ends_redo == 0 {
+            return;
+        }
+        let standing = self.first_from(marked, &Group::Of(session), latest.standing);
+        let ends_redo = self.first_from(marked, &Group::EndsRedo(session), latest.ends_redo);
+        self.latest.set_session(
+            session,
+            SessionPlaces {
+                standing,
+                ends_redo,
+            },
+        );
+    }
+
+    /// The first place back from this one, which is the latest, whose entry belongs to the group, from 1, and 0 for none.
+    fn first_from(&self, marked: &[MarkedEntry], group: &Group, latest: u32) -> u32
+        requires places { ArePlaces marked.now self.now.places.items }
+        requires latest { IsLast group.now (belongs group.now) marked.now self.now.places.items latest (length marked.now + 1) }
+        ensures { IsLast group.now (belongs group.now) marked.now self.now.places.items result (length marked.now + 1) }
+    {
+        let mut place = latest;
+        'back: while place != 0 {
+            let at = &self.places[place as usize - 1];
+            if numbered(marked, at.number).is_in(group) {
+                return place;
+            }
+            place = at.before;
+        }
+        place
+    }
+
+    /// How many standing entries the session has.
+    pub(crate) fn count_of(&self, marked: &[MarkedEntry], session: u32) -> usize
+        requires { IsIndexed marked.now self.now }
+        ensures { result ≡ length (filter (belongs (Of session)) marked.now) }
+    {
+        let group = &Group::Of(session);
+        let mut found = 0;
+        let mut place = self.latest.session_places(session).standing;
+        'back: while place != 0 {
+            let at = &self.places[place as usize - 1];
+            if numbered(marked, at.number).is_in(group) {
+                found += 1;
+            }
+            place = at.before;
+        }
+        found
+    }
+
+    /// The numbers of the session's standing entries. Refused only for want of memory.
+    pub(crate) fn numbers_of(
+        &self,
+        alloc: Global,
+        marked: &[MarkedEntry],
+        session: u32,
+    ) -> Result<Vec<u64>, AllocError>
+        requires { IsIndexed marked.now self.now }
+        ensures { IfOk result (λ numbers. numbers.items ≡ map (λ m. m.entry.number) (filter (belongs (Of session)) marked.now)) }
+    {
+        let group = &Group::Of(session);
+        let mut found = Vec::new(alloc);
+        let mut place = self.latest.session_places(session).standing;
+        'back: while place != 0 {
+            let at = &self.places[place as usize - 1];
+            let entry = numbered(marked, at.number);
+            if entry.is_in(group) {
+                found.push(entry.entry.number)?;
+            }
+            place = at.before;
+        }
+        found.reverse();
+        Ok(found)
+    }
+
+    /// The last entry of the group, whose newest place this is.
+    pub(crate) fn latest_in<'a>(
+        &self,
+        marked: &'a [MarkedEntry],
+        group: &Group,
+        latest: u32,
+    ) -> Option<&'a MarkedEntry>
+        requires index { IsIndexed marked.now self.now }
+        requires latest { latest ≡ latest_of self.now.latest group.now }
+        ensures { option_copied result ≡ last_where (belongs group.now) marked.now }
+    {
+        self.last_in(marked, group, latest, &|_entry: &MarkedEntry| { true })
+    }
+
+    /// The last entry of the group, whose newest place this is, that passes the test.
+    pub(crate) fn last_in<'a, F: Fn(&MarkedEntry) -> bool>(
+        &self,
+        marked: &'a [MarkedEntry],
+        group: &Group,
+        latest: u32,
+        test: &F,
+    ) -> Option<&'a MarkedEntry>
+        requires callable { F.IsAlwaysCallable test.now }
+        requires index { IsIndexed marked.now self.now }
+        requires latest { latest ≡ latest_of self.now.latest group.now }
+        ensures { (p : AnyEntry → Bool) → Tests F.Fn p test.now
+            → option_copied result ≡ last_where (λ m. belongs group.now m && p m) marked.now }
+    {
+        let mut place = latest;
+        'back: while place != 0 {
+            let found = &self.places[place as usize - 1];
+            let entry = numbered(marked, found.number);
+            if entry.is_in(group) && test(entry) {
+                return Some(entry);
+            }
+            place = found.before;
+        }
+        None
+    }
+
+    /// The last entry of the group, whose newest place this is, that is of another session than this one. Entries of
+    /// the session are passed in one step, however many there are.
+    pub(crate) fn last_of_others<'a>(
+        &self,
+        marked: &'a [MarkedEntry],
+        group: &Group,
+        latest: u32,
+        session: u32,
+    ) -> Option<&'a MarkedEntry>
+        requires index { IsIndexed marked.now self.now }
+        requires latest { latest ≡ latest_of self.now.latest group.now }
+        ensures { option_copied result ≡ last_where (belongs_to_others group.now session) marked.now }
+    {
+        let mut place = latest;
+        'back: while place != 0 {
+            let found = &self.places[place as usize - 1];
+            let entry = numbered(marked, found.number);
+            if entry.is_of(session) {
+                place = found.other;
+            } else if entry.is_in(group) {
+                return Some(entry);
+            } else {
+                place = found.before;
+            }
+        }
+        None
+    }
+}
+
+/// The entry of the number, which is there.
+fn numbered(marked: &[MarkedEntry], number: u32) -> &MarkedEntry
+    requires some { 1 ≤ number }
+    requires within { number ≤ length marked.now }
+    ensures { slice_get marked.now (number - 1) ≡ Some result.now }
+{
+    &marked[number as usize - 1]
+}
