@@ -3,3 +3,6 @@ pub mod Script
 pub mod Pieces
 pub mod Outcomes
 pub mod Answers
+pub mod Talk
+pub mod Held
+pub mod Served
