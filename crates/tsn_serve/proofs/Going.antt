@@ -2,7 +2,7 @@
 use Rattle.std.proofs.Common.{◌≡◌, inl, inr, ℕ, Bool, true, false, ◌++◌, List, [], ◌∷◌, Option, Some, None, Result, Ok, Err, refl, sym, ap, ◌∙◌, subst, append_assoc, append-nil}
 use Rattle.tsn_desk.specs.declared.desk.Desk.{Desk}
 use Rattle.tsn_desk.specs.declared.desk.Seat.{Seat}
-use Rattle.tsn_desk.specs.Desks.{HasTurned, number}
+use Rattle.tsn_desk.specs.Desks.{IsSeatOf, HasTurned, number}
 use Rattle.tsn_desk.specs.History.{Begins, IsLegal, calls_by, call}
 use Rattle.tsn_types.specs.declared.refusals.Refusal.{Refusal}
 use Rattle.tsn_bytes.specs.declared.bytes.Fault.{Fault}
@@ -18,6 +18,7 @@ use Rattle.tsn_serve.specs.Outcomes.{Moment, IsBroken, Outcome}
 use Rattle.tsn_serve.specs.Answers.{Replies, Says}
 use Rattle.tsn_serve.specs.Talk.{Caller, Calls, Asks, Talks, Tires, BreaksTalk, Goes, caller_of, latest_after}
 use Rattle.tsn_serve.specs.Held.{shown}
+use Rattle.tsn_serve.specs.Serving.{HasSat}
 
 -- what every answer keeps, a run keeps
 module _ {S : Type 0} (answers : Answering S) (R : S → S → Type 0) (stays : (s : S) → R s s) (on : (a b c : S) → R a b → R b c → R a c) (each : (old : S) (line : Option (List ℕ)) (text : List ℕ) (new : S) → answers old line text new → R old new) where
@@ -118,3 +119,13 @@ ends_go reads old new (Err Read) o = all_go false old.state o.input o.text new.s
 ends_go reads old new (Err Write) o = broken_goes reads Write old new o
 ends_go reads old new (Err Exhausted) o = broken_goes reads Exhausted old new o
 ends_go reads old new (Err Memory) o = same_goes old.state new.state (ap (λ m. m.state) o)
+
+-- ---- a seat that serves
+
+-- a seat that served no connection
+pub sat_still : {D : _} (desk : Desk State Ask Reply) (seat : Seat State Ask Reply D) → IsSeatOf desk seat → HasSat desk seat seat
+sat_still desk seat own = (own, stays _)
+
+-- connections after connections
+pub sat_on : {D : _} (desk : Desk State Ask Reply) (a b c : Seat State Ask Reply D) → HasSat desk a b → HasSat desk b c → HasSat desk a c
+sat_on desk a b c h k = (k.0, on _ _ _ h.1 k.1)

@@ -6,3 +6,4 @@ pub mod Answers
 pub mod Talk
 pub mod Held
 pub mod Served
+pub mod Serving

@@ -10,9 +10,11 @@ mod laws;
 mod line_buffer;
 mod responder;
 mod script;
+mod serving;
 
 pub use connection::session;
 pub use gate::{Free, Gate};
 pub use laws::{example_cuts, one_cut, served};
 pub use responder::{Responder, answer_lines};
 pub use script::{run_script, run_script_up_to};
+pub use serving::{Source, serve_seats};
