@@ -39,12 +39,12 @@ use Rattle.tsn_port.proofs.Ports.{entries_of_ports}
 use Rattle.tsn_port.proofs.Taking.{after}
 
 -- a run is a run of its beginning, and one of the rest
-runs_split : (x z : State) (a b : List (Call Ask Reply)) → Runs Turns x (a ++ b) z → (y : State) × Runs Turns x a y × Runs Turns y b z
+pub runs_split : (x z : State) (a b : List (Call Ask Reply)) → Runs Turns x (a ++ b) z → (y : State) × Runs Turns x a y × Runs Turns y b z
 runs_split x z [] b h = (x, refl, h)
 runs_split x z (e ∷ a) b h = let rest = runs_split h.0 z a b h.2 in (rest.0, (h.0, h.1, rest.1), rest.2)
 
 -- what a since answers
-since_gives : (s : State) (n from : ℕ) (entries : List Entry) (new : State) → Step s n (commands.Since from) (replies.Entries entries) new → (entries ≡ since s.book.entries from) × (new ≡ s)
+pub since_gives : (s : State) (n from : ℕ) (entries : List Entry) (new : State) → Step s n (commands.Since from) (replies.Entries entries) new → (entries ≡ since s.book.entries from) × (new ≡ s)
 since_gives s n from entries new step =
     let is = accepted (since_rule s n from) s (replies.Entries entries) new (λ why h. (cc)) step in
     let both = done_of _ _ is.1 in
@@ -67,7 +67,7 @@ unmarked_drop zero es = unmarked es
 unmarked_drop (suc n) [] = refl
 unmarked_drop (suc n) (e ∷ es) = unmarked_drop n es
 
-since_is : (es : List Entry) (n : ℕ) → IsNumbered 1 es → since es n ≡ drop n es
+pub since_is : (es : List Entry) (n : ℕ) → IsNumbered 1 es → since es n ≡ drop n es
 since_is es n numbered =
     ap (λ xs. since xs n) (sym (unmarked es)) ∙ sym (since-drop n (marked es) (subst (IsNumbered 1) (sym (unmarked es)) numbered)) ∙ unmarked_drop n es
 
@@ -78,18 +78,18 @@ of_port_drop n o (suc k) [] h = tt
 of_port_drop n o (suc k) (e ∷ es) h = of_port_drop n (after n o e) k es h.1
 
 -- a beginning of a list has its first elements
-take_begins : (n : ℕ) (xs more : List Entry) → n ≤ length xs → take n (xs ++ more) ≡ take n xs
+pub take_begins : (n : ℕ) (xs more : List Entry) → n ≤ length xs → take n (xs ++ more) ≡ take n xs
 take_begins n xs more low = take-append-le n xs more low
 
 module _ (first : State) (opened : IsOpened first) where
   -- a run from a state is one of the bridge, and leads to a later one
-  asked : (history : List (Call Ask Reply)) (z : State) → Runs Turns first history z → AreInRange (answered history) × Leads (begun opened.limits opened.given) (answered history) z
+  pub asked : (history : List (Call Ask Reply)) (z : State) → Runs Turns first history z → AreInRange (answered history) × Leads (begun opened.limits opened.given) (answered history) z
   asked history z run = leads history (begun opened.limits opened.given) z (subst (λ x. Runs Turns x history z) opened.is run)
 
-  whole_at : (history : List (Call Ask Reply)) (z : State) → Runs Turns first history z → later.IsWhole z
+  pub whole_at : (history : List (Call Ask Reply)) (z : State) → Runs Turns first history z → later.IsWhole z
   whole_at history z run = whole_now opened.limits opened.given history z opened.opens (subst (λ x. Runs Turns x history z) opened.is run)
 
-  grows : (x z : State) (history : List (Call Ask Reply)) → later.IsWhole x → Runs Turns x history z → IsLater x z
+  pub grows : (x z : State) (history : List (Call Ask Reply)) → later.IsWhole x → Runs Turns x history z → IsLater x z
   grows x z history whole run = let is = leads history x z run in (all_go_on (answered history) x z whole is.0 is.1).1
 
   module _ (h before now : List (Call Ask Reply)) (number session : ℕ) (m m' : MirrorState) (entries : List Entry)

@@ -1,5 +1,7 @@
 pub mod Acting
+pub mod Asking
 pub mod Following
 pub mod Openings
 pub mod Ports
 pub mod Taking
+pub mod Working

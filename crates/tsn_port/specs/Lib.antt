@@ -1,2 +1,4 @@
 pub mod Histories
 pub mod Mirrors
+pub mod Starting
+pub mod Workers

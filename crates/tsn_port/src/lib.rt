@@ -6,3 +6,4 @@
 
 pub mod laws;
 pub mod mirror;
+pub mod worker;
