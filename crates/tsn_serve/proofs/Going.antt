@@ -8,6 +8,7 @@ use Rattle.tsn_types.specs.declared.refusals.Refusal.{Refusal}
 use Rattle.tsn_bytes.specs.declared.bytes.Fault.{Fault}
 use Rattle.tsn_bytes.specs.declared.bytes.Fault.TheVariants.{Read, Write, Memory, Exhausted}
 use Rattle.tsn_bridge.specs.State.{State}
+use Rattle.tsn_port.specs.Workers.{BridgeSeat, GoesOn}
 use Rattle.tsn_bridge.specs.Turns.{Turns}
 use Rattle.tsn_bridge.specs.declared.command.Ask.{Ask}
 use Rattle.tsn_bridge.specs.declared.reply.Reply.{Reply}
@@ -18,7 +19,6 @@ use Rattle.tsn_serve.specs.Outcomes.{Moment, IsBroken, Outcome}
 use Rattle.tsn_serve.specs.Answers.{Replies, Says}
 use Rattle.tsn_serve.specs.Talk.{Caller, Calls, Asks, Talks, Tires, BreaksTalk, Goes, caller_of, latest_after}
 use Rattle.tsn_serve.specs.Held.{shown}
-use Rattle.tsn_serve.specs.Serving.{HasSat}
 
 -- what every answer keeps, a run keeps
 module _ {S : Type 0} (answers : Answering S) (R : S → S → Type 0) (stays : (s : S) → R s s) (on : (a b c : S) → R a b → R b c → R a c) (each : (old : S) (line : Option (List ℕ)) (text : List ℕ) (new : S) → answers old line text new → R old new) where
@@ -122,10 +122,17 @@ ends_go reads old new (Err Memory) o = same_goes old.state new.state (ap (λ m. 
 
 -- ---- a seat that serves
 
--- a seat that served no connection
-pub sat_still : {D : _} (desk : Desk State Ask Reply) (seat : Seat State Ask Reply D) → IsSeatOf desk seat → HasSat desk seat seat
-sat_still desk seat own = (own, stays _)
+-- a seat whose calls were those of a connection
+pub sat : (desk : Desk State Ask Reply) (old new : BridgeSeat) → IsSeatOf desk new → Goes (caller_of desk old None) (caller_of desk new None) → GoesOn desk old new
+sat desk old new own g = record {
+  own = own;
+  number_is = g.number;
+  seen_more = g.seen;
+  made_more = g.made;
+  legal = g.legal;
+  calls = g.own;
+}
 
--- connections after connections
-pub sat_on : {D : _} (desk : Desk State Ask Reply) (a b c : Seat State Ask Reply D) → HasSat desk a b → HasSat desk b c → HasSat desk a c
-sat_on desk a b c h k = (k.0, on _ _ _ h.1 k.1)
+-- a seat that served no connection
+pub sat_still : (desk : Desk State Ask Reply) (seat : BridgeSeat) → IsSeatOf desk seat → GoesOn desk seat seat
+sat_still desk seat own = sat desk seat seat own (stays _)

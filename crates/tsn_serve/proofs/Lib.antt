@@ -5,3 +5,5 @@ pub mod Ending
 pub mod Writing
 pub mod Going
 pub mod Exchanging
+pub mod Rounds
+pub mod Matching

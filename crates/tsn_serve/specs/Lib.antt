@@ -6,4 +6,5 @@ pub mod Answers
 pub mod Talk
 pub mod Held
 pub mod Served
+pub mod Probes
 pub mod Serving
