@@ -1,5 +1,5 @@
 -- How a run over lines ends, from where it was before its last read.
-use Rattle.std.proofs.Common.{◌≡◌, ◌≢◌, ◌⊎◌, inl, inr, ℕ, ◌+◌, ◌≤◌, ◌<◌, ◌++◌, List, [], length, true, false, Option, Some, Err, refl, sym, ◌∙◌, subst, arith, append-nil, length-append}
+use Rattle.std.proofs.Common.{◌≡◌, ◌≢◌, ◌⊎◌, inl, inr, ℕ, ◌+◌, ◌≤◌, ◌<◌, ◌++◌, List, [], length, true, false, Option, Some, Result, Err, refl, sym, ◌∙◌, subst, arith, append-nil, length-append}
 use Rattle.std.proofs.KnownBytes.{Appends-nil, Appends-trans, Appends-kept, Consumes-nil, Consumes-kept, Consumes-trans}
 use Rattle.std.specs.Io.KnownBytes.{Appends, Consumes, Keeps, IsAtEnd}
 use Rattle.tsn_bytes.specs.Bytes.{Counts}
@@ -234,3 +234,7 @@ completed answers reads old now new kept made text flushed taken u few left at_e
 pub broken_by : {S : Type 0} (answers : Answering S) (breaks : Breaking S) (reads : ℕ) (fault : Fault) (old new : Moment S) → (fault ≡ Write) ⊎ (fault ≡ Exhausted) → IsBroken answers breaks reads fault old new → Outcome answers breaks reads old new (Err fault)
 broken_by answers breaks reads fault old new (inl write) b = subst (λ f. Outcome answers breaks reads old new (Err f)) (sym write) (subst (λ f. IsBroken answers breaks reads f old new) write b)
 broken_by answers breaks reads fault old new (inr exhausted) b = subst (λ f. Outcome answers breaks reads old new (Err f)) (sym exhausted) (subst (λ f. IsBroken answers breaks reads f old new) exhausted b)
+
+-- a run told of states that equal its own
+pub outcome_as : {S : Type 0} (answers : Answering S) (breaks : Breaking S) (reads : ℕ) (old new : Moment S) (x y : S) (r : Result (Unit {0}) Fault) → old.state ≡ x → new.state ≡ y → Outcome answers breaks reads old new r → Outcome answers breaks reads (record old { state = x }) (record new { state = y }) r
+outcome_as answers breaks reads old new x y r e f o = subst (λ s. Outcome answers breaks reads (record old { state = s }) (record new { state = y }) r) e (subst (λ s. Outcome answers breaks reads old (record new { state = s }) r) f o)

@@ -3,3 +3,7 @@ pub mod Running
 pub mod OneCut
 pub mod Ending
 pub mod Writing
+pub mod Going
+pub mod Exchanging
+pub mod Rounds
+pub mod Matching

@@ -1,4 +1,4 @@
--- An answer of a bridge breaks off only where the writer fails.
+-- An answer breaks off where the writer fails, and one of a bridge only there.
 use Rattle.std.proofs.Common.{◌≡◌, ◌≢◌, ℕ, List, take, Option, Result, Ok, Err, OnErr, inl, inr, refl}
 use Rattle.std.specs.Result.{IfErr}
 use Rattle.std.specs.Io.KnownBytes.{Appends}
@@ -8,16 +8,25 @@ use Rattle.tsn_bytes.specs.declared.bytes.Fault.TheVariants.{Read, Write, Memory
 use Rattle.tsn_bridge.specs.State.{State}
 use Rattle.tsn_bridge.specs.declared.reply.Reply.{Reply}
 use Rattle.tsn_replies.specs.Replies.{reply_text}
-use Rattle.tsn_serve.specs.Answers.{Says, Answers, BreaksInWriting}
+use Rattle.tsn_serve.specs.Answers.{Replying, Says, CutsText, Answers, BreaksInWriting}
+use Rattle.tsn_serve.specs.Talk.{Caller, Asks, BreaksTalk}
 use Rattle.tsn_serve.specs.Outcomes.{Moment, Outcome}
 
 -- a reply that was cut off
-pub broke_in_writing : {T : Type 0} (r : Result T Fault) (old : State) (line : Option (List ℕ)) (reply : Reply) (new : State) (taken taken' : Option (List ℕ))
-    → Says old line reply new → IfErr r (λ e. e ≡ Write) → OnErr r (IsCut taken taken' (reply_text reply))
-    → IfErr r (λ e. (part : List ℕ) × BreaksInWriting old line e part new × Appends taken taken' part)
-broke_in_writing (Ok x) old line reply new taken taken' says write cut = tt
-broke_in_writing (Err e) old line reply new taken taken' says write cut =
+pub broke_in_writing : {S T : Type 0} (replying : Replying S) (r : Result T Fault) (old : S) (line : Option (List ℕ)) (reply : Reply) (new : S) (taken taken' : Option (List ℕ))
+    → Says replying old line reply new → IfErr r (λ e. e ≡ Write) → OnErr r (IsCut taken taken' (reply_text reply))
+    → IfErr r (λ e. (part : List ℕ) × CutsText replying old line e part new × Appends taken taken' part)
+broke_in_writing replying (Ok x) old line reply new taken taken' says write cut = tt
+broke_in_writing replying (Err e) old line reply new taken taken' says write cut =
     (take cut.0 (reply_text reply), (write, (reply_text reply, (reply, says, refl), (cut.0, cut.1, refl))), cut.2)
+
+-- the same of a reply of a connection
+pub broke_in_talking : {T : Type 0} (r : Result T Fault) (old : Caller) (line : Option (List ℕ)) (reply : Reply) (new : Caller) (taken taken' : Option (List ℕ))
+    → Says Asks old line reply new → IfErr r (λ e. e ≡ Write) → OnErr r (IsCut taken taken' (reply_text reply))
+    → IfErr r (λ e. (part : List ℕ) × BreaksTalk old line e part new × Appends taken taken' part)
+broke_in_talking (Ok x) old line reply new taken taken' says write cut = tt
+broke_in_talking (Err e) old line reply new taken taken' says write cut =
+    let h = broke_in_writing {T = Unit {0}} Asks (Err e) old line reply new taken taken' says write cut in (h.0, inl h.1, h.2)
 
 -- a bridge is never exhausted
 pub never_exhausted : (reads : ℕ) (old new : Moment State) (r : Result (Unit {0}) Fault) → Outcome Answers BreaksInWriting reads old new r → r ≢ Err Exhausted

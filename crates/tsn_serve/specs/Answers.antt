@@ -1,4 +1,4 @@
--- What may be written for a command line that a bridge answers.
+-- What may be written for a command line, by what a command that is read may be replied to.
 use Rattle.std.specs.Prelude.{◌≡◌, ◌⊎◌, ℕ, List, Option, Some, None, Result, Ok, Err}
 use Rattle.tsn_types.specs.declared.refusals.Refusal.{Refusal}
 use Rattle.tsn_types.specs.declared.refusals.Refusal.TheVariants as refusals
@@ -12,24 +12,37 @@ use Rattle.tsn_wire.specs.Reading.{line_of}
 use Rattle.tsn_replies.specs.Replies.{reply_text}
 use Rattle.tsn_serve.specs.Script.{Answering, Breaking, IsFront}
 
--- The reply to what a line reads as: that of a step of the bridge, or the refusal of reading, which changes nothing.
-abbrev pub Replies : State → Result Ask Refusal → Reply → State → Type 0
-Replies old (Ok ask) reply new = machine.Answers old ask reply new
-Replies old (Err refusal) reply new = (reply ≡ replies.Refused refusal) × (new ≡ old)
+-- What a command that was read may be replied: replying old ask reply new says that from the state old it may have this
+-- reply, with the state new after it.
+abbrev pub Replying : Type 0 → Type 1
+Replying S = S → Ask → Reply → S → Type 0
+
+-- The reply to what a line reads as: that to the command, or the refusal of reading, which changes nothing.
+abbrev pub Replies : {S : Type 0} → Replying S → S → Result Ask Refusal → Reply → S → Type 0
+Replies replying old (Ok ask) reply new = replying old ask reply new
+Replies replying old (Err refusal) reply new = (reply ≡ replies.Refused refusal) × (new ≡ old)
 
 -- The reply to a line. A line that is too long is refused, by refusal 1, and changes nothing. In reading, want of
 -- memory may stand in place of any other reply; it changes nothing.
-abbrev pub Says : State → Option (List ℕ) → Reply → State → Type 0
-Says old None reply new = (reply ≡ replies.Refused refusals.TooLong) × (new ≡ old)
-Says old (Some line) reply new =
-    Replies old (line_of line) reply new
+abbrev pub Says : {S : Type 0} → Replying S → S → Option (List ℕ) → Reply → S → Type 0
+Says replying old None reply new = (reply ≡ replies.Refused refusals.TooLong) × (new ≡ old)
+Says replying old (Some line) reply new =
+    Replies replying old (line_of line) reply new
     ⊎ ((reply ≡ replies.Refused refusals.Memory) × (new ≡ old))
 
 -- The text of a line is that of the reply to it.
-abbrev pub Answers : Answering State
-Answers old line text new = (reply : Reply) × Says old line reply new × (text ≡ reply_text reply)
+abbrev pub SaysText : {S : Type 0} → Replying S → Answering S
+SaysText replying old line text new = (reply : Reply) × Says replying old line reply new × (text ≡ reply_text reply)
 
--- An answer breaks off only where the writer failed; a front of its text is written, and the state is that after the
--- line.
+-- The writer failed in the text of a line. A front of it is written, and the state is that after the line.
+abbrev pub CutsText : {S : Type 0} → Replying S → Breaking S
+CutsText replying old line fault part new =
+    (fault ≡ Write) × ((text : List ℕ) × SaysText replying old line text new × IsFront part text)
+
+-- A bridge replies to a command by a step.
+abbrev pub Answers : Answering State
+Answers old line text new = SaysText machine.Answers old line text new
+
+-- An answer of a bridge breaks off only where the writer failed.
 abbrev pub BreaksInWriting : Breaking State
-BreaksInWriting old line fault part new = (fault ≡ Write) × ((text : List ℕ) × Answers old line text new × IsFront part text)
+BreaksInWriting old line fault part new = CutsText machine.Answers old line fault part new

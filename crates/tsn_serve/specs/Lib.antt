@@ -3,3 +3,8 @@ pub mod Script
 pub mod Pieces
 pub mod Outcomes
 pub mod Answers
+pub mod Talk
+pub mod Held
+pub mod Served
+pub mod Probes
+pub mod Serving

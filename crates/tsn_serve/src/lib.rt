@@ -1,13 +1,22 @@
-//! The run of a script: command lines in, reply lines out, over any reader and writer of bytes. It relies on
-//! `tsn_bytes` for readers and writers, on `tsn_wire` for the reading of a line and on `tsn_replies` for the text of a
-//! reply.
+//! Command lines in, reply lines out, over any reader and writer of bytes: the run of a script over a bridge of its own,
+//! and the session of a connection over a bridge that threads share. It relies on `tsn_bytes` for readers and writers, on
+//! `tsn_wire` for the reading of a line, on `tsn_replies` for the text of a reply and on `tsn_desk` for the turns of a
+//! shared bridge; beside sessions, on `tsn_port` for workers of its ports.
 #![tactic(auto)]
 
+mod connection;
+mod gate;
 mod laws;
 mod line_buffer;
+mod probing;
 mod responder;
 mod script;
+mod serving;
 
-pub use laws::{example_cuts, one_cut};
+pub use connection::session;
+pub use gate::{Free, Gate};
+pub use laws::{example_cuts, one_cut, served};
+pub use probing::{Probe, ServeFault};
 pub use responder::{Responder, answer_lines};
 pub use script::{run_script, run_script_up_to};
+pub use serving::{Served, Source, serve_all, serve_seats};

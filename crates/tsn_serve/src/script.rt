@@ -2,6 +2,7 @@
 //! It relies on the loop over lines, on the reading of a line, on the bridge's step and on the text of a reply.
 ghost use Rattle.std.specs.Prelude.{◌≡◌, ◌≢◌, IsErrOf, Err, option_map};
 ghost use Rattle.tsn_bytes.specs.declared.bytes.Fault.TheVariants.{Memory, Exhausted};
+ghost use Rattle.tsn_bridge.specs.Histories as machine;
 ghost use Rattle.tsn_serve.specs.Answers.{Says, Answers, BreaksInWriting};
 ghost use Rattle.tsn_serve.specs.Outcomes.{Outcome, moment, most_reads};
 
@@ -14,12 +15,12 @@ use tsn_replies::write_reply;
 use tsn_types::refusals::Refusal;
 use tsn_wire::command_of;
 
-// The most reads of one script.
-const READS: u64 = 4_294_967_296;
+// The most reads of one run over lines.
+pub(crate) const READS: u64 = 4_294_967_296;
 
 // The reply to a line, none of one that is too long. Only the machine's step changes the bridge.
 fn reply_to(alloc: Global, bridge: &mut Bridge, line: Option<&[u8]>) -> Reply
-    ensures { Says bridge.old (option_map (λ s. s.now) line.entry) result bridge.new }
+    ensures { Says machine.Answers bridge.old (option_map (λ s. s.now) line.entry) result bridge.new }
 {
     let Some(line) = line else {
         return Reply::Refused(Refusal::TooLong);

@@ -6,6 +6,7 @@ ghost use Rattle.std.specs.Prelude.{◌≤◌};
 
 mod fakes;
 mod scripts;
+mod sessions;
 mod worked;
 
 use crate::comparing::same;
@@ -15,7 +16,7 @@ use std::alloc::{AllocError, Global};
 use std::process::Abort;
 use std::test::Fail;
 use tsn_bytes::{Buffered, ByteIn, ByteOut, Failing, Fault, MemIn, MemOut};
-use tsn_serve::{answer_lines, example_cuts, one_cut};
+use tsn_serve::{answer_lines, example_cuts, one_cut, served};
 
 const READS: u64 = 1000000;
 
@@ -159,4 +160,5 @@ fn input_without_an_end_ends_at_the_bound(rt: HostRuntime) -> Result<(), Fail> {
 fn laws_are_there() {
     one_cut();
     example_cuts();
+    served();
 }

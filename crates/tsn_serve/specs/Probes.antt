@@ -1,0 +1,19 @@
+-- What a port worker leaves after its rounds.
+use Rattle.std.specs.Prelude.{◌≡◌}
+use Rattle.tsn_desk.specs.declared.desk.Desk.{Desk}
+use Rattle.tsn_desk.specs.Desks.{seen}
+use Rattle.tsn_desk.specs.History.{Begins}
+use Rattle.tsn_bridge.specs.State.{State}
+use Rattle.tsn_bridge.specs.declared.command.Ask.{Ask}
+use Rattle.tsn_bridge.specs.declared.reply.Reply.{Reply}
+use Rattle.tsn_port.specs.declared.worker.PortWorker.{PortWorker}
+use Rattle.tsn_port.specs.Workers.{BridgeSeat, GoesOn, IsWorkerOf, last_seen, port_of}
+use Rattle.tsn_serve.specs.declared.probing.Probe.{Probe}
+
+-- The worker is one of this desk, at the probe's port. Its seat goes on as the probe's, and has seen the history that ends
+-- with the worker's last turn.
+pub record IsProbed (desk : Desk State Ask Reply) (probe : Probe) (probed : BridgeSeat × PortWorker) : Type 0 where
+  pub goes : GoesOn desk probe.seat probed.0
+  pub worker : IsWorkerOf desk probed.1
+  pub last : Begins (last_seen probed.1) (seen probed.0)
+  pub port : port_of probed.1 ≡ probe.port

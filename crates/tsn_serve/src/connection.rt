@@ -1,0 +1,200 @@
+//! One connection over a bridge that threads share: its lines are calls of one seat.
+//! It relies on the loop over lines, on the turns of a desk, on the reading of a line and on the text of a reply.
+ghost use Rattle.std.specs.Prelude.{◌≡◌, ◌^◌, ◌≤◌, ◌↔◌, ℕ, Option, None, IsTrue, IfOk, IfErr, OnErr, IsErrOf, option_map};
+ghost use Rattle.tsn_bytes.specs.declared.bytes.Fault.TheVariants.{Memory, Exhausted};
+ghost use Rattle.tsn_desk.specs.Desks.{IsSeatOf, id_of, first_of};
+ghost use Rattle.tsn_serve.specs.Answers.{Says};
+ghost use Rattle.tsn_serve.specs.Talk.{MayAsk, Calls, Asks, Tires, Talks, BreaksTalk, Goes, caller_of, latest_after};
+ghost use Rattle.tsn_serve.specs.Outcomes.{Outcome, moment, most_reads};
+
+use crate::gate::Gate;
+use crate::responder::{Responder, answer_lines};
+use crate::script::READS;
+use std::alloc::Global;
+use std::marker::Model;
+use std::sync::Wait;
+use tsn_bridge::bridge::Bridge;
+use tsn_bridge::command::{Ask, Command};
+use tsn_bridge::reply::Reply;
+use tsn_bytes::{ByteIn, ByteOut, Fault};
+use tsn_desk::desk::{Desk, Seat};
+use tsn_replies::write_reply;
+use tsn_types::refusals::Refusal;
+use tsn_wire::command_of;
+
+// The session of the latest hello, once this reply came.
+fn latest_after(latest: Option<u32>, reply: &Reply) -> Option<u32>
+    ensures { result ≡ latest_after latest reply.now }
+{
+    match reply {
+        Reply::Session { session } => Some(*session),
+        _ => latest,
+    }
+}
+
+// One end of a connection, which answers lines by turns of its seat. A contract sees what a caller can tell of it.
+struct Connection<'a, R: Wait, G: Gate> {
+    rt: &'a R,
+    desk: &'a Desk<Bridge>,
+    gate: &'a G,
+    number: u32,
+    // None only while it has its turn.
+    seat: Option<Seat<Bridge>>,
+    // The session of its latest hello.
+    latest: Option<u32>,
+}
+
+impl<'a, R: Wait, G: Gate> Model for Connection<'a, R, G> {
+    ghost use Rattle.tsn_serve.specs.Talk.{Caller};
+    ghost use Rattle.tsn_serve.specs.Held.{shown, IsHeld, caller_code};
+
+    ghost Value = { Caller };
+
+    ghost coded = { caller_code };
+
+    ghost view = { λ c. shown c.desk.now c.seat c.latest };
+
+    ghost invariant = { λ c. IsHeld c.desk.now c.seat };
+}
+
+impl<'a, R: Wait, G: Gate> Connection<'a, R, G> {
+    fn new(
+        rt: &'a R,
+        desk: &'a Desk<Bridge>,
+        seat: Seat<Bridge>,
+        number: u32,
+        gate: &'a G,
+    ) -> Connection<'a, R, G>
+        requires { IsSeatOf desk.now seat }
+        ensures { result ≡ caller_of desk.now seat None }
+    {
+        Connection {
+            rt,
+            desk,
+            gate,
+            number,
+            seat: Some(seat),
+            latest: None,
+        }
+    }
+
+    // The seat, at the end.
+    fn into_seat(self, desk: &Desk<Bridge>) -> Seat<Bridge>
+        requires { (self.desk ≡ id_of desk.now) × (self.first ≡ first_of desk.now) }
+        ensures own { IsSeatOf desk.now result }
+        ensures same { self.entry ≡ caller_of desk.now result self.entry.latest }
+    {
+        let Connection {
+            rt: _,
+            desk: _,
+            gate: _,
+            number: _,
+            seat,
+            latest: _,
+        } = self;
+        let Some(seat) = seat else { unreachable!() };
+        seat
+    }
+
+    // Whether the command is a hello, or of the session of the latest one.
+    fn may_ask(&self, ask: &Ask) -> bool
+        ensures { IsTrue result ↔ MayAsk self.now.latest ask.now }
+    {
+        matches!(ask.command, Command::Hello) || self.latest == Some(ask.session)
+    }
+
+    // Makes a call. It is refused where no ticket is left.
+    fn call(&mut self, ask: Ask) -> Result<Reply, Fault>
+        ensures ok { IfOk result (λ reply. Calls self.old ask reply self.new) }
+        ensures fault { IfErr result (λ e. e ≡ Exhausted) }
+        ensures tired { OnErr result ((2 ^ 63 ≤ self.new.tickets) × (self.new ≡ record self.old { tickets = self.new.tickets })) }
+    {
+        self.gate.before(self.number);
+        let Some(seat) = self.seat.take() else {
+            unreachable!()
+        };
+        let (seat, turned) = self.desk.turn(self.rt, seat, ask);
+        self.seat = Some(seat);
+        let Ok(turn) = turned else {
+            return Err(Fault::Exhausted);
+        };
+        let reply = turn.reply;
+        self.latest = latest_after(self.latest, &reply);
+        Ok(reply)
+    }
+
+    // The reply to a line, none of one that is too long.
+    fn reply_to(&mut self, alloc: Global, line: Option<&[u8]>) -> Result<Reply, Fault>
+        ensures ok { IfOk result (λ reply. Says Asks self.old (option_map (λ s. s.now) line.entry) reply self.new) }
+        ensures fault { IfErr result (λ e. e ≡ Exhausted) }
+        ensures tired { OnErr result (Tires self.old (option_map (λ s. s.now) line.entry) self.new) }
+    {
+        let Some(line) = line else {
+            return Ok(Reply::Refused(Refusal::TooLong));
+        };
+        let ask = match command_of(alloc, line) {
+            Ok(ask) => ask,
+            Err(refusal) => return Ok(Reply::Refused(refusal)),
+        };
+        if !self.may_ask(&ask) {
+            return Ok(Reply::Refused(Refusal::NoSession));
+        }
+        self.call(ask)
+    }
+}
+
+impl<'a, R: Wait, G: Gate> Responder for Connection<'a, R, G> {
+    ghost answers = { Talks };
+
+    ghost breaks = { BreaksTalk };
+
+    fn answer<W: ByteOut>(
+        &mut self,
+        alloc: Global,
+        line: Option<&[u8]>,
+        writer: &mut W,
+    ) -> Result<(), Fault> {
+        let reply = match self.reply_to(alloc, line) {
+            Ok(reply) => reply,
+            Err(fault) => return Err(fault),
+        };
+        let written = write_reply(writer, &reply);
+        if written.is_ok() {
+            self.gate.answered(self.number);
+        }
+        written
+    }
+}
+
+/// Answers each line that the reader gives, with at most 2^32 reads: by a call of the seat, which waits for its turn, or
+/// by a refusal in reading with no call. Refusal 5 is answered with no call where the line is no hello and its session is
+/// not that of the connection's latest hello. The seat makes no other call. On `Ok` all bytes were read, and what was
+/// written is the text of the replies to their lines, in order, and nothing else. A fault is as that of a script, or
+/// `Exhausted` where no ticket was left for the call of a line: then the lines before it were answered. The gate is told
+/// of this connection ahead of each turn and after each reply.
+pub fn session<R: Wait, I: ByteIn, O: ByteOut, G: Gate>(
+    rt: &R,
+    alloc: Global,
+    desk: &Desk<Bridge>,
+    seat: Seat<Bridge>,
+    connection: u32,
+    reader: &mut I,
+    writer: &mut O,
+    gate: &G,
+) -> (Seat<Bridge>, Result<(), Fault>)
+    requires { IsSeatOf desk.now seat }
+    ensures own { IsSeatOf desk.now result.0 }
+    ensures goes { Goes (caller_of desk.now seat None) (caller_of desk.now result.0 None) }
+    ensures outcome { (latest : Option ℕ) × Outcome Talks BreaksTalk most_reads
+        (moment I.remaining I.calls I.has_failed O.taken O.pending O.has_failed
+        (caller_of desk.now seat None) reader.old writer.old)
+        (moment I.remaining I.calls I.has_failed O.taken O.pending O.has_failed
+        (caller_of desk.now result.0 latest) reader.new writer.new)
+        result.1 }
+    ensures untouched { IsErrOf result.1 Memory
+        → (reader.new ≡ reader.old) × (writer.new ≡ writer.old) }
+{
+    let mut end = Connection::new(rt, desk, seat, connection, gate);
+    let ended = answer_lines(alloc, &mut end, reader, writer, READS);
+    (end.into_seat(desk), ended)
+}
