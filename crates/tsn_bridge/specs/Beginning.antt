@@ -32,3 +32,10 @@ standard_limits = record { ports = 2; filters = 16; gates = 16; meters = 16; lis
 -- a bridge of which nothing was said
 abbrev pub standard : State
 standard = begun standard_limits []
+
+-- a state with which a bridge may begin: limits and records that open one have made it
+pub record IsOpened (first : State) : Type 0 where
+  pub limits : Limits
+  pub given : List (Key × Record)
+  pub opens : Opens limits given
+  pub is : first ≡ begun limits given

@@ -15,7 +15,7 @@ ghost use Rattle.tsn_undo.specs.Ledger.{base_of, present};
 ghost use Rattle.tsn_undo.specs.Soundness.{IsSound};
 ghost use Rattle.tsn_types.specs.Limits.{first_cause};
 ghost use Rattle.tsn_bridge.specs.Acts.{act_rule, key_causes, list_causes};
-ghost use Rattle.tsn_bridge.specs.Beginning.{begun, standard_limits};
+ghost use Rattle.tsn_bridge.specs.Beginning.{IsOpened, Opens, begun, standard_limits};
 ghost use Rattle.tsn_bridge.specs.Edits.{AllowsRedo, edit_rule, undo_all_rule, undo_rule};
 ghost use Rattle.tsn_bridge.specs.Frames.{frame_rule};
 ghost use Rattle.tsn_bridge.specs.Later.{IsWhole};
@@ -93,6 +93,8 @@ impl Bridge {
     pub fn new(alloc: Global, setup: Setup) -> Result<Bridge, Refusal>
         ensures admitted { OnOk result (opening_refusal setup.limits setup.records ≡ None) }
         ensures begins { IfOk result (λ bridge. bridge ≡ begun setup.limits setup.records) }
+        ensures opens { OnOk result (Opens setup.limits setup.records) }
+        ensures opened { IfOk result (λ bridge. IsOpened bridge) }
         ensures refused { IfErr result (λ why.
             (opening_refusal setup.limits setup.records ≡ Some why) ⊎ (why ≡ Memory)) }
     {

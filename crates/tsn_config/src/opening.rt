@@ -5,10 +5,11 @@
 //! What makes the outcome well kept is just that none of these looks found a cause.
 ghost use Rattle.std.specs.Prelude.{◌≡◌, ◌+◌, ◌≤◌, ◌⊎◌, ◌++◌, IfErr, IfOk, IsSome, IsTrue, OnOk, List, [], None, Some};
 ghost use Rattle.std.specs.FinMap as map;
+ghost use Rattle.tsn_types.specs.Bounds.{AreInRange};
 ghost use Rattle.tsn_types.specs.Numbers.{most_ports};
 ghost use Rattle.tsn_types.specs.declared.refusals.Refusal.TheVariants.{Exists, Memory};
 ghost use Rattle.tsn_types.specs.declared.records.Record.TheVariants.{Port as PortRecord};
-ghost use Rattle.tsn_config.specs.Opening.{AreOfKind, default_port, default_ports, limit_cause, limits_cause, opening, opening_refusal, repeated_key, with_port};
+ghost use Rattle.tsn_config.specs.Opening.{AreOfKind, RecordsInRange, default_port, default_ports, limit_cause, limits_cause, opening, opening_refusal, repeated_key, with_port};
 ghost use Rattle.tsn_edit.specs.Edits.{is_of_kind};
 
 use crate::Config;
@@ -31,6 +32,8 @@ impl Config {
     /// gate before its meter (8). Want of memory (18) may be answered in place of any answer.
     pub fn open(alloc: Global, limits: Limits, records: Records) -> Result<Config, Refusal>
         ensures admitted { OnOk result (opening_refusal limits records ≡ None) }
+        ensures bounds { OnOk result (AreInRange limits) }
+        ensures given { OnOk result (AreOfKind records × RecordsInRange records) }
         ensures limits { IfOk result (λ config. config.limits ≡ limits) }
         ensures map { IfOk result (λ config. config.map ≡ opening limits records) }
         ensures err { IfErr result (λ why. (opening_refusal limits records ≡ Some why) ⊎ (why ≡ Memory)) }

@@ -1,4 +1,4 @@
-mod Begin
+pub mod Begin
 mod Closing
 mod Everywhere
 mod Keeps

@@ -20,7 +20,7 @@ use Rattle.tsn_bridge.specs.declared.command.Ask.{Ask}
 use Rattle.tsn_bridge.specs.declared.command.Command.TheVariants as commands
 use Rattle.tsn_bridge.specs.declared.reply.Reply.{Reply}
 use Rattle.tsn_bridge.specs.declared.reply.Reply.TheVariants as replies
-use Rattle.tsn_bridge.specs.Beginning.{begun}
+use Rattle.tsn_bridge.specs.Beginning.{IsOpened, begun}
 use Rattle.tsn_bridge.specs.Histories.{AreInRange, Leads}
 use Rattle.tsn_bridge.specs.Later.{IsLater}
 use Rattle.tsn_bridge.specs.Later as later
@@ -34,7 +34,7 @@ use Rattle.tsn_bridge.proofs.Later.{all_go_on}
 use Rattle.tsn_bridge.proofs.Stepping.{accepted}
 use Rattle.tsn_bridge.proofs.Turning.{leads, whole_now}
 use Rattle.tsn_port.specs.Mirrors.{AreOfPort, MirrorState, Mirrors, mirrored}
-use Rattle.tsn_port.specs.Histories.{IsOpened, IsWhole, Tells}
+use Rattle.tsn_port.specs.Histories.{IsWhole, Tells}
 use Rattle.tsn_port.proofs.Ports.{entries_of_ports}
 use Rattle.tsn_port.proofs.Taking.{after}
 

@@ -18,14 +18,16 @@ use Rattle.tsn_desk.specs.declared.desk.Desk.{Desk}
 use Rattle.tsn_desk.specs.declared.history.Entry.{Entry as Call}
 use Rattle.tsn_desk.specs.Desks.{HasSeenMore, HasTurned, IsSameCaller, IsSeatOf, first_of, made, number, seen}
 use Rattle.tsn_desk.specs.History.{Begins, IsLegal, Runs, call, calls_by}
+use Rattle.tsn_desk.proofs.Begin.{begins_self, begins_trans}
 use Rattle.tsn_bridge.specs.declared.command.Ask.{Ask}
 use Rattle.tsn_bridge.specs.declared.reply.Reply.{Reply}
 use Rattle.tsn_bridge.specs.declared.reply.Reply.TheVariants as replies
+use Rattle.tsn_bridge.specs.Beginning.{IsOpened}
 use Rattle.tsn_bridge.specs.Rule.{is_given}
 use Rattle.tsn_bridge.specs.State.{State}
 use Rattle.tsn_bridge.specs.Turns.{Turns, answered}
 use Rattle.tsn_port.specs.declared.worker.PortWorker.{PortWorker}
-use Rattle.tsn_port.specs.Histories.{IsOpened, IsWhole, Tells, TookSome}
+use Rattle.tsn_port.specs.Histories.{IsWhole, Tells, TookSome}
 use Rattle.tsn_port.specs.Mirrors.{AreOfPort, MirrorState, Mirrors, ShowsGates, first_record, mirrored}
 use Rattle.tsn_port.specs.Starting.{AnswersHello, AnswersLook, AnswersSince, HasRead, IsGivenIn, Looked, SaidHello, hello, look_at, since}
 use Rattle.tsn_port.specs.Workers.{BridgeSeat, CallsOnce, EndsIn, GoesOn, IsPast, IsRound, IsWorkerOf, TellsGates, entries_behind, last_seen, port_of}
@@ -33,12 +35,6 @@ use Rattle.tsn_port.proofs.Asking.{Shows, answers_hello, answers_since, given_by
 use Rattle.tsn_port.proofs.Following.{asked, grows, runs_split, since_gives, since_is, tells_on, whole_at, whole_on}
 use Rattle.tsn_port.proofs.Openings.{first_is}
 use Rattle.tsn_port.proofs.Ports.{entries_of_ports, port_of as record_of, tells_gates, tells_past}
-
-begins_self : {E : Type 0} (xs : List E) → Begins xs xs
-begins_self xs = ([], append-nil xs)
-
-begins_trans : {E : Type 0} (xs ys zs : List E) → Begins xs ys → Begins ys zs → Begins xs zs
-begins_trans xs ys zs p q = (p.0 ++ q.0, sym (append_assoc xs p.0 q.0) ∙ (ap (λ w. w ++ q.0) p.1 ∙ q.1))
 
 begins_length : {E : Type 0} (xs ys : List E) → Begins xs ys → length xs ≤ length ys
 begins_length xs ys b = subst (λ l. length xs ≤ length l) b.1 (simp length-append (omega arith))

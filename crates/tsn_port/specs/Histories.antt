@@ -1,11 +1,8 @@
 -- What a mirror tells of a port in a history at a desk.
 use Rattle.std.specs.Prelude.{◌≡◌, ℕ, ◌+◌, ◌-◌, ◌≤◌, ◌++◌, List, [], ◌∷◌, length, take, Some}
 use Rattle.std.specs.FinMap.{get}
-use Rattle.tsn_types.specs.declared.keys.Key.{Key}
 use Rattle.tsn_types.specs.declared.keys.Key.TheVariants.{Port}
-use Rattle.tsn_types.specs.declared.limits.Limits.{Limits}
 use Rattle.tsn_types.specs.declared.records.PortGates.{PortGates}
-use Rattle.tsn_types.specs.declared.records.Record.{Record}
 use Rattle.tsn_types.specs.declared.records.Record.TheVariants as records
 use Rattle.tsn_desk.specs.declared.history.Entry.{Entry as Call}
 use Rattle.tsn_desk.specs.History.{Begins, Runs, call}
@@ -14,17 +11,9 @@ use Rattle.tsn_bridge.specs.declared.command.Ask.{Ask}
 use Rattle.tsn_bridge.specs.declared.command.Command.TheVariants as commands
 use Rattle.tsn_bridge.specs.declared.reply.Reply.{Reply}
 use Rattle.tsn_bridge.specs.declared.reply.Reply.TheVariants as replies
-use Rattle.tsn_bridge.specs.Beginning.{Opens, begun}
 use Rattle.tsn_bridge.specs.State.{State}
 use Rattle.tsn_bridge.specs.Turns.{Turns}
 use Rattle.tsn_port.specs.Mirrors.{AreOfPort, MirrorState, Mirrors, mirrored}
-
--- a state with which a bridge may begin: limits and records that open one have made it
-pub record IsOpened (first : State) : Type 0 where
-  pub limits : Limits
-  pub given : List (Key × Record)
-  pub opens : Opens limits given
-  pub is : first ≡ begun limits given
 
 -- The mirror is the port's after its first entries of every state to which the history leads, and there are so many.
 pub record Tells (first : State) (history : List (Call Ask Reply)) (m : MirrorState) : Type 0 where

@@ -19,6 +19,7 @@ use Rattle.tsn_bridge.specs.declared.command.Ask.{Ask}
 use Rattle.tsn_bridge.specs.declared.command.Command.TheVariants as commands
 use Rattle.tsn_bridge.specs.declared.reply.Reply.{Reply}
 use Rattle.tsn_bridge.specs.declared.reply.Reply.TheVariants as replies
+use Rattle.tsn_bridge.specs.Beginning.{IsOpened}
 use Rattle.tsn_bridge.specs.Looking.{last_at, shown_at}
 use Rattle.tsn_bridge.specs.Rule.{is_given}
 use Rattle.tsn_bridge.specs.State.{State}
@@ -26,7 +27,7 @@ use Rattle.tsn_bridge.specs.Turns.{Turns}
 use Rattle.tsn_port.specs.declared.worker.PortWorker.{PortWorker}
 use Rattle.tsn_port.specs.declared.worker.RoundFault.{RoundFault}
 use Rattle.tsn_port.specs.declared.worker.RoundFault.TheVariants as faults
-use Rattle.tsn_port.specs.Histories.{IsOpened, IsWhole, Tells}
+use Rattle.tsn_port.specs.Histories.{IsWhole, Tells}
 
 -- a seat of a desk whose machine is a bridge
 abbrev pub BridgeSeat : Type 0

@@ -16,11 +16,11 @@ ghost use Rattle.tsn_schedule.specs.Acts.{last_instant};
 ghost use Rattle.tsn_desk.specs.declared.history.Entry.{Entry as Call};
 ghost use Rattle.tsn_bridge.specs.declared.command.Ask.{Ask as AnyAsk};
 ghost use Rattle.tsn_bridge.specs.declared.reply.Reply.{Reply as AnyReply};
-ghost use Rattle.tsn_bridge.specs.Beginning.{Opens, begun};
+ghost use Rattle.tsn_bridge.specs.Beginning.{IsOpened, Opens, begun};
 ghost use Rattle.tsn_bridge.specs.Histories.{Answered, AreInRange, Leads};
 ghost use Rattle.tsn_bridge.specs.Looking.{last_at, shown_at};
 ghost use Rattle.tsn_bridge.specs.State.{State};
-ghost use Rattle.tsn_port.specs.Histories.{AsksBehind, IsOpened, IsWhole, Tells, TookSome};
+ghost use Rattle.tsn_port.specs.Histories.{AsksBehind, IsWhole, Tells, TookSome};
 ghost use Rattle.tsn_port.specs.Mirrors.{AreOfPort, MirrorState, ShowsGates, first_record, mirrored};
 
 /// The entries of a bridge are such as a mirror of any of its ports follows, whatever sessions ask of it. Take limits and

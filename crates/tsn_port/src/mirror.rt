@@ -71,6 +71,14 @@ impl Mirror {
         Ok(mirror)
     }
 
+    /// The port.
+    pub fn port(&self) -> PortId
+        ensures { result ≡ self.now.port }
+    {
+        let Mirror { port, .. } = self;
+        *port
+    }
+
     /// How many entries are in.
     pub fn front(&self) -> u64
         ensures { result ≡ self.now.front }

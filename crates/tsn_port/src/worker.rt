@@ -10,7 +10,7 @@ ghost use Rattle.tsn_journal.specs.declared.entries.Entry.{Entry as AnyEntry};
 ghost use Rattle.tsn_desk.specs.Desks.{HasTurned, IsSeatOf, first_of, made, seen, tickets};
 ghost use Rattle.tsn_desk.specs.History.{Begins};
 ghost use Rattle.tsn_bridge.specs.declared.reply.Reply.TheVariants.{Session, Shown, Refused, Entries as EntriesOf};
-ghost use Rattle.tsn_port.specs.Histories.{IsOpened};
+ghost use Rattle.tsn_bridge.specs.Beginning.{IsOpened};
 ghost use Rattle.tsn_bridge.specs.Turns.{Turns};
 ghost use Rattle.tsn_port.specs.Mirrors.{Mirrors, ShowsGates, mirrored};
 ghost use Rattle.tsn_port.specs.Starting.{AnswersHello, AnswersLook, AnswersSince, HasRead, IsGivenIn, Looked, SaidHello, since};
@@ -100,6 +100,13 @@ impl PortWorker {
             last: Snapshot::of(&seat),
         };
         Ok((seat, worker))
+    }
+
+    /// The worker's port.
+    pub fn port(&self) -> PortId
+        ensures { result ≡ port_of self.now }
+    {
+        self.mirror.port()
     }
 
     /// The gates of the port at an instant, in the state that ends the history that the seat has then seen. Where nothing

@@ -1,9 +1,10 @@
 -- What a connection does to its seat, over all its lines.
-use Rattle.std.proofs.Common.{◌≡◌, inl, inr, ℕ, Bool, true, false, ◌++◌, List, [], ◌∷◌, Option, Some, None, Result, Ok, Err, refl, sym, ap, ◌∙◌, subst, append_assoc, append-nil}
+use Rattle.std.proofs.Common.{◌≡◌, inl, inr, ℕ, Bool, true, false, ◌++◌, List, [], ◌∷◌, Option, Some, None, Result, Ok, Err, refl, sym, ap, ◌∙◌, subst}
 use Rattle.tsn_desk.specs.declared.desk.Desk.{Desk}
 use Rattle.tsn_desk.specs.declared.desk.Seat.{Seat}
 use Rattle.tsn_desk.specs.Desks.{IsSeatOf, HasTurned, number}
 use Rattle.tsn_desk.specs.History.{Begins, IsLegal, calls_by, call}
+use Rattle.tsn_desk.proofs.Begin.{begins_self, begins_trans}
 use Rattle.tsn_types.specs.declared.refusals.Refusal.{Refusal}
 use Rattle.tsn_bytes.specs.declared.bytes.Fault.{Fault}
 use Rattle.tsn_bytes.specs.declared.bytes.Fault.TheVariants.{Read, Write, Memory, Exhausted}
@@ -26,22 +27,16 @@ module _ {S : Type 0} (answers : Answering S) (R : S → S → Type 0) (stays : 
   run_keeps old [] text new h = subst (λ s. R old s) (sym h.1) (stays old)
   run_keeps old (line ∷ lines) text new h = on old h.0 new (each old (short_line line) h.1 h.0 h.3) (run_keeps h.0 lines h.2 new h.4)
 
-pub begins_refl : {E : Type 0} (xs : List E) → Begins xs xs
-begins_refl xs = ([], append-nil xs)
-
-pub begins_on : {E : Type 0} (xs ys zs : List E) → Begins xs ys → Begins ys zs → Begins xs zs
-begins_on xs ys zs (r, p) (s, q) = (r ++ s, sym (append_assoc xs r s) ∙ (ap (λ l. l ++ s) p ∙ q))
-
 pub stays : (c : Caller) → Goes c c
-stays c = record { desk = refl; first = refl; number = refl; seen = begins_refl c.seen; made = begins_refl c.made; legal = λ l. l; own = λ o. o }
+stays c = record { desk = refl; first = refl; number = refl; seen = begins_self c.seen; made = begins_self c.made; legal = λ l. l; own = λ o. o }
 
 pub on : (a b c : Caller) → Goes a b → Goes b c → Goes a c
 on a b c g h = record {
   desk = h.desk ∙ g.desk;
   first = h.first ∙ g.first;
   number = h.number ∙ g.number;
-  seen = begins_on a.seen b.seen c.seen g.seen h.seen;
-  made = begins_on a.made b.made c.made g.made h.made;
+  seen = begins_trans a.seen b.seen c.seen g.seen h.seen;
+  made = begins_trans a.made b.made c.made g.made h.made;
   legal = λ l. h.legal (g.legal l);
   own = λ o. h.own (g.own o);
 }
@@ -74,7 +69,7 @@ calls_goes old ask reply new c = record {
   desk = c.same.0;
   first = c.same.1;
   number = c.same.2;
-  seen = begins_on old.seen c.before new.seen c.begins (call old.number ask reply ∷ [], sym c.whole);
+  seen = begins_trans old.seen c.before new.seen c.begins (call old.number ask reply ∷ [], sym c.whole);
   made = (call old.number ask reply ∷ [], sym c.own);
   legal = λ l. subst (λ x. IsLegal Turns x new.seen) (sym c.same.1) c.legal;
   own = λ o. subst (λ n. calls_by n new.seen ≡ new.made) (sym c.same.2) c.all_own;
@@ -92,7 +87,7 @@ talk_goes : (old : Caller) (line : Option (List ℕ)) (text : List ℕ) (new : C
 talk_goes old line text new h = says_goes old line h.0 new h.1
 
 tires_goes : (old : Caller) (line : Option (List ℕ)) (new : Caller) → Tires old line new → Goes old new
-tires_goes old line new t = subst (λ c. Goes old c) (sym t.same) (record { desk = refl; first = refl; number = refl; seen = begins_refl old.seen; made = begins_refl old.made; legal = λ l. l; own = λ o. o })
+tires_goes old line new t = subst (λ c. Goes old c) (sym t.same) (record { desk = refl; first = refl; number = refl; seen = begins_self old.seen; made = begins_self old.made; legal = λ l. l; own = λ o. o })
 
 breaks_goes : (old : Caller) (line : Option (List ℕ)) (fault : Fault) (part : List ℕ) (new : Caller) → BreaksTalk old line fault part new → Goes old new
 breaks_goes old line fault part new h = elim h [ inl cut ↦ talk_goes old line cut.1.0 new cut.1.1 | inr tired ↦ tires_goes old line new tired.2 ]

@@ -2,7 +2,7 @@
 //! It relies on `tsn_port` for what a worker's rounds tell.
 ghost use Rattle.std.specs.Prelude.{◌≡◌, ℕ, Some, Ok, IfOk, vec_len, length, slice_get, All};
 ghost use Rattle.tsn_desk.specs.Desks.{IsSeatOf, first_of};
-ghost use Rattle.tsn_port.specs.Histories.{IsOpened};
+ghost use Rattle.tsn_bridge.specs.Beginning.{IsOpened};
 ghost use Rattle.tsn_serve.specs.Probes.{IsProbed};
 
 use std::alloc::{AllocError, Global};

@@ -2,7 +2,7 @@
 //! It relies on `session` for a connection, on a source for where they come from, and on probes for the workers.
 ghost use Rattle.std.specs.Prelude.{◌≡◌, ◌<◌, ◌++◌, ℕ, Some, IfOk, length, map, All, slice_get, vec_len};
 ghost use Rattle.tsn_desk.specs.Desks.{IsSeatOf, first_of};
-ghost use Rattle.tsn_port.specs.Histories.{IsOpened};
+ghost use Rattle.tsn_bridge.specs.Beginning.{IsOpened};
 ghost use Rattle.tsn_port.specs.Workers.{GoesOn};
 ghost use Rattle.tsn_serve.specs.Probes.{IsProbed};
 ghost use Rattle.tsn_serve.specs.Serving.{Matched, HasServed};

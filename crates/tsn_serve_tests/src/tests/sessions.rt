@@ -1,7 +1,7 @@
 //! Sessions over a shared bridge: one in memory whose replies are compared with a text, and two that are served at once.
 ghost use Rattle.std.specs.Prelude.{◌≡◌, ◌≤◌, ◌<◌, IfOk, All, vec_len};
 ghost use Rattle.tsn_desk.specs.Desks.{IsSeatOf, first_of};
-ghost use Rattle.tsn_port.specs.Histories.{IsOpened};
+ghost use Rattle.tsn_bridge.specs.Beginning.{IsOpened};
 
 use crate::comparing::same;
 use std::alloc::Global;
@@ -19,7 +19,6 @@ use tsn_serve::{Free, Gate, Source, serve_all, session};
 use tsn_types::numbers::{Instant, PortId};
 
 /// A new bridge.
-#[tactic(auto, using(crate::proofs::Openings::standard_is_opened))]
 fn new_bridge(alloc: Global) -> Result<Bridge, Fail>
     ensures { IfOk result (λ bridge. IsOpened bridge) }
 {
