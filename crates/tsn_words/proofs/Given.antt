@@ -1,4 +1,4 @@
--- What words without a fault give: a subcommand of the program, and to `states` all that it wants.
+-- What words without a fault give: a subcommand of the program, and to `states` and `serve` all that they want.
 use Rattle.std.proofs.Common.{◌≡◌, ◌∙◌, ◌&&◌, ◌||◌, inl, inr, ℕ, ◌-◌, ◌^◌, Bool, cond, true, false, not, refl, sym, ap, subst, codes, List, [], ◌∷◌, Option, Some, None, is_some}
 use Rattle.std.specs.Prelude.{⊤, option_map}
 use Rattle.std.specs.Option.{option_map_or}
@@ -18,7 +18,7 @@ use Rattle.clap.specs.declared.builder.action.ArgAction.TheVariants.{Set}
 use Rattle.clap.specs.declared.builder.range.ValueRange.{ValueRange}
 use Rattle.clap.specs.declared.error.kind.ErrorKind.TheVariants.{DisplayHelp, InvalidSubcommand}
 use Rattle.clap.proofs.ValueTestLemmas.{accepts-Accepts}
-use Rattle.tsn_words.specs.Asking.{HasNumber, HasStates, IsComplete, longest_step, most_instants, program}
+use Rattle.tsn_words.specs.Asking.{HasNumber, HasServe, HasStates, HasText, IsComplete, last_probe, longest_step, most_connections, most_instants, most_workers, program}
 use Rattle.tsn_words.proofs.OneValue.{RowsFit, RuleFits, RulesFit, after_fit, given_value, no_kind}
 
 -- ---- no fault comes where `help` is no subcommand
@@ -144,6 +144,42 @@ all_given true true true false e h = (cc)
 all_given true true true true false h = (cc)
 all_given true true true true true h = (refl, refl, refl, refl, refl)
 
+-- ---- an argument that is wanted
+
+module _ (accepted : Text → Text → Bool) where
+  one : (a : Rule) → a.defaults ≡ [] → action_of a ≡ Set → ◌≡◌ {A = ValueRange} (unwrap_or_range a.range) (record { start_inclusive = 1; end_inclusive = 1 })
+      → ((v : Text) → accepts a.ignore_case (parser_of_value a.parser) v ≡ true → accepted a.id v ≡ true) → RuleFits accepted a
+  one a none action range passes = (none, inr (record { action = action; range = range; passes = passes }))
+
+  text_given : (sub name : Text) (rows : List Row) → RowsFit accepted rows → is_given name rows ≡ true → HasText (Some (sub, rows)) name
+  text_given sub name rows fit given =
+      let found = given_value accepted name rows fit given in
+      (found.0, found.1)
+
+  number_given : (sub name : Text) (least most : ℕ) (rows : List Row) → ((v : Text) → accepted name v ≡ true → is_unsigned_in least most v ≡ true) → RowsFit accepted rows → is_given name rows ≡ true
+      → HasNumber (Some (sub, rows)) name least most
+  number_given sub name least most rows passes fit given =
+      let found = given_value accepted name rows fit given in
+      (found.0, found.1, accepts-Accepts false (Unsigned least most) found.0 (passes found.0 found.2))
+
+-- ---- the commands as they are built
+
+first : List Shape → Shape
+first (a ∷ rest) = a
+first shapes = new_shape []
+
+second : List Shape → Shape
+second (a ∷ (b ∷ rest)) = b
+second shapes = new_shape []
+
+third : List Shape → Shape
+third (a ∷ (b ∷ (c ∷ rest))) = c
+third shapes = new_shape []
+
+fourth : List Shape → Shape
+fourth (a ∷ (b ∷ (c ∷ (d ∷ rest)))) = d
+fourth shapes = new_shape []
+
 -- ---- `states`
 
 accepted : Text → Text → Bool
@@ -152,35 +188,13 @@ accepted id v = cond (bytes_eq id (codes "port")) (is_unsigned_in 0 (2 ^ 64 - 1)
     (cond (bytes_eq id (codes "step")) (is_unsigned_in 0 longest_step v)
     (cond (bytes_eq id (codes "count")) (is_unsigned_in 1 most_instants v) true)))
 
-first : List Shape → Shape
-first (a ∷ rest) = a
-first shapes = new_shape []
-
-third : List Shape → Shape
-third (a ∷ (b ∷ (c ∷ rest))) = c
-third shapes = new_shape []
-
-second : List Shape → Shape
-second (a ∷ (b ∷ rest)) = b
-second shapes = new_shape []
-
--- `states` as it is built
 states_built : Shape
 unfolding second
 states_built = second (built program).subs
 
-one : (a : Rule) → a.defaults ≡ [] → action_of a ≡ Set → ◌≡◌ {A = ValueRange} (unwrap_or_range a.range) (record { start_inclusive = 1; end_inclusive = 1 })
-    → ((v : Text) → accepts a.ignore_case (parser_of_value a.parser) v ≡ true → accepted a.id v ≡ true) → RuleFits accepted a
-one a none action range passes = (none, inr (record { action = action; range = range; passes = passes }))
-
 states_fit : RulesFit accepted states_built.rules
 unfolding accepted second states_built
-states_fit = (one _ refl refl refl (λ v e. refl), (one _ refl refl refl (λ v e. e), (one _ refl refl refl (λ v e. e), (one _ refl refl refl (λ v e. e), (one _ refl refl refl (λ v e. e), ((refl, inl refl), tt))))))
-
-number_given : (name : Text) (least most : ℕ) (rows : List Row) → ((v : Text) → accepted name v ≡ true → is_unsigned_in least most v ≡ true) → RowsFit accepted rows → is_given name rows ≡ true → HasNumber (Some (codes "states", rows)) name least most
-number_given name least most rows passes fit given =
-    let found = given_value accepted name rows fit given in
-    (found.0, found.1, accepts-Accepts false (Unsigned least most) found.0 (passes found.0 found.2))
+states_fit = (one accepted _ refl refl refl (λ v e. refl), (one accepted _ refl refl refl (λ v e. e), (one accepted _ refl refl refl (λ v e. e), (one accepted _ refl refl refl (λ v e. e), (one accepted _ refl refl refl (λ v e. e), ((refl, inl refl), tt))))))
 
 states_given : (words : List Text) → level_fault states_built [] nothing_held words false [] ≡ [] → HasStates (Some (rows_at states_built words))
 unfolding accepted second states_built
@@ -190,22 +204,53 @@ states_given words none =
     let fit = after_fit accepted states_built [] refl states_fit words parts.walks parts.settles in
     let wanted = (checks states_built rows false parts.checks).1 in
     let each = all_given (is_given (codes "FILE") rows) (is_given (codes "port") rows) (is_given (codes "from") rows) (is_given (codes "step") rows) (is_given (codes "count") rows) wanted in
-    let text = given_value accepted (codes "FILE") rows fit each.0 in
     record {
       named = refl;
-      file = (text.0, text.1);
-      port = number_given (codes "port") 0 (2 ^ 64 - 1) rows (λ v e. e) fit each.1;
-      from = number_given (codes "from") 0 (2 ^ 64 - 1) rows (λ v e. e) fit each.2;
-      step = number_given (codes "step") 0 longest_step rows (λ v e. e) fit each.3;
-      count = number_given (codes "count") 1 most_instants rows (λ v e. e) fit each.4;
+      file = text_given accepted (codes "states") (codes "FILE") rows fit each.0;
+      port = number_given accepted (codes "states") (codes "port") 0 (2 ^ 64 - 1) rows (λ v e. e) fit each.1;
+      from = number_given accepted (codes "states") (codes "from") 0 (2 ^ 64 - 1) rows (λ v e. e) fit each.2;
+      step = number_given accepted (codes "states") (codes "step") 0 longest_step rows (λ v e. e) fit each.3;
+      count = number_given accepted (codes "states") (codes "count") 1 most_instants rows (λ v e. e) fit each.4;
+    }
+
+-- ---- `serve`
+
+served : Text → Text → Bool
+served id v = cond (bytes_eq id (codes "workers")) (is_unsigned_in 1 most_workers v)
+    (cond (bytes_eq id (codes "connections")) (is_unsigned_in 1 most_connections v)
+    (cond (bytes_eq id (codes "probe")) (is_unsigned_in 0 last_probe v) true))
+
+serve_built : Shape
+unfolding third
+serve_built = third (built program).subs
+
+serve_fit : RulesFit served serve_built.rules
+unfolding served third serve_built
+serve_fit = (one served _ refl refl refl (λ v e. refl), (one served _ refl refl refl (λ v e. refl), (one served _ refl refl refl (λ v e. e), (one served _ refl refl refl (λ v e. e), (one served _ refl refl refl (λ v e. e), ((refl, inl refl), tt))))))
+
+serve_given : (words : List Text) → level_fault serve_built [] nothing_held words false [] ≡ [] → HasServe (Some (rows_at serve_built words))
+unfolding served third serve_built
+serve_given words none =
+    let parts = level serve_built [] words false [] none in
+    let rows = rows_after serve_built.rules [] words in
+    let fit = after_fit served serve_built [] refl serve_fit words parts.walks parts.settles in
+    let wanted = (checks serve_built rows false parts.checks).1 in
+    let each = all_given (is_given (codes "FILE") rows) (is_given (codes "listen") rows) (is_given (codes "workers") rows) (is_given (codes "connections") rows) (is_given (codes "probe") rows) wanted in
+    record {
+      named = refl;
+      file = text_given served (codes "serve") (codes "FILE") rows fit each.0;
+      listen = text_given served (codes "serve") (codes "listen") rows fit each.1;
+      workers = number_given served (codes "serve") (codes "workers") 1 most_workers rows (λ v e. e) fit each.2;
+      connections = number_given served (codes "serve") (codes "connections") 1 most_connections rows (λ v e. e) fit each.3;
+      probe = number_given served (codes "serve") (codes "probe") 0 last_probe rows (λ v e. e) fit each.4;
     }
 
 -- ---- the program
 
 by_stop : (stop : Option (Text × List Text)) → StopsWell stop → entered_fault (built program) stop ≡ [] → is_some (entered (built program) stop) ≡ true → IsComplete (entered (built program) stop)
-unfolding StopsWell IsNoHelp first second third states_built
+unfolding StopsWell IsNoHelp first second third fourth states_built serve_built
 by_stop None well none some = (cc)
-by_stop (Some p) well none some = go (bytes_eq (codes "script") p.0) (bytes_eq (codes "states") p.0) (bytes_eq (codes "help") p.0) refl none some
+by_stop (Some p) well none some = go (bytes_eq (codes "script") p.0) (bytes_eq (codes "states") p.0) (bytes_eq (codes "serve") p.0) (bytes_eq (codes "help") p.0) refl none some
   where
     no_help : bytes_eq (codes "help") p.0 ≡ true → ⊥
     no_help is =
@@ -213,16 +258,17 @@ by_stop (Some p) well none some = go (bytes_eq (codes "script") p.0) (bytes_eq (
         let never : bytes_eq (codes "help") (codes "help") ≡ false = subst (λ t. bytes_eq t (codes "help") ≡ false) (sym same) well in
         (cc)
 
-    shape : Bool → Bool → Bool → Option Shape
-    shape a b c = cond (a || false) (Some (first (built program).subs)) (cond (b || false) (Some states_built) (cond (c || false) (Some (third (built program).subs)) None))
+    shape : Bool → Bool → Bool → Bool → Option Shape
+    shape a b c d = cond (a || false) (Some (first (built program).subs)) (cond (b || false) (Some states_built) (cond (c || false) (Some serve_built) (cond (d || false) (Some (fourth (built program).subs)) None)))
 
-    go : (a b c : Bool) → bytes_eq (codes "help") p.0 ≡ c
-        → option_map_or (λ (s : Shape). level_fault s [] nothing_held p.1 false []) (shape a b c) [] ≡ []
-        → is_some (option_map (λ (s : Shape). rows_at s p.1) (shape a b c)) ≡ true → IsComplete (option_map (λ (s : Shape). rows_at s p.1) (shape a b c))
-    go true b c is none some = inl refl
-    go false true c is none some = inr (states_given p.1 none)
-    go false false true is none some = absurd (no_help is)
-    go false false false is none some = (cc)
+    go : (a b c d : Bool) → bytes_eq (codes "help") p.0 ≡ d
+        → option_map_or (λ (s : Shape). level_fault s [] nothing_held p.1 false []) (shape a b c d) [] ≡ []
+        → is_some (option_map (λ (s : Shape). rows_at s p.1) (shape a b c d)) ≡ true → IsComplete (option_map (λ (s : Shape). rows_at s p.1) (shape a b c d))
+    go true b c d is none some = inl refl
+    go false true c d is none some = inr (inl (states_given p.1 none))
+    go false false true d is none some = inr (inr (serve_given p.1 none))
+    go false false false true is none some = absurd (no_help is)
+    go false false false false is none some = (cc)
 
 pub complete : (words : List Text) → fault_of program words ≡ [] → IsComplete (subcommand_of program words)
 unfolding StopsWell

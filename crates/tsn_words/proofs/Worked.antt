@@ -1,19 +1,21 @@
 -- The words of worked command lines.
-use Rattle.std.proofs.Common.{Bool, true, false, not, ◌&&◌, sym, ◌≡◌, ℕ, List, [], ◌∷◌, codes, refl, ap, subst, ◌∙◌, inl, inr, Option, Some, None, Result, Ok, Err, IfErr, map, option_map, unwrap_or}
+use Rattle.std.proofs.Common.{Bool, true, false, not, ◌&&◌, sym, ◌≡◌, ℕ, List, [], ◌∷◌, codes, refl, ap, ap₂, subst, ◌∙◌, inl, inr, Option, Some, None, Result, Ok, Err, IfErr, map, option_map, unwrap_or}
 use Rattle.std.specs.Prelude.{IsOk, IsSome}
 use Rattle.std.specs.Borrow.{Bor}
 use Rattle.std.specs.Result.{result_unwrap_or}
 use Rattle.std.specs.Str.Parse.{ParsesUnsigned}
 use Rattle.clap.specs.declared.error.Error.{Error}
-use Rattle.clap.specs.declared.error.kind.ErrorKind.TheVariants.{DisplayHelp, MissingSubcommand, OutOfMemory}
+use Rattle.clap.specs.declared.error.kind.ErrorKind.TheVariants.{DisplayHelp, MissingSubcommand, OutOfMemory, ValueValidation}
 use Rattle.clap.specs.Simple.{has_plain_fields, subcommand_of}
 use Rattle.clap.specs.declared.builder.command.Command.{Command}
 use Rattle.clap.specs.declared.builder.command.Command.TheViews.{out-Command}
 use Rattle.clap.specs.Kinds.{FailsBy, IsAmong}
 use Rattle.clap.specs.Values.{kind_of}
+use Rattle.std.specs.Str.{bytes_eq}
 use Rattle.clap.specs.Faults.{fault_of}
+use Rattle.clap.specs.Walk.{Row}
 use Rattle.clap.proofs.OnLiterals.{clap_on_literals}
-use Rattle.tsn_words.specs.Asking.{IsNumber, number_of, program, text_given}
+use Rattle.tsn_words.specs.Asking.{HasServe, IsComplete, IsNumber, number_of, program, text_given}
 
 -- whatever the program's name, `script` alone has no fault
 pub script : (name : List ℕ) → fault_of program (name ∷ codes "script" ∷ []) ≡ []
@@ -54,6 +56,24 @@ listed_given name = refl
 listed_count : number_of (codes "+3") ≡ 3
 listed_count = refl
 
+-- a server, with an address that has no meaning yet, and its numbers at the ends of their ranges
+abbrev served : List ℕ → List (List ℕ)
+served name = name ∷ codes "serve" ∷ codes "--probe=4611686018427387904" ∷ codes "--listen" ∷ codes "anywhere" ∷ codes "--workers" ∷ codes "1" ∷ codes "cell.toml" ∷ codes "--connections" ∷ codes "65535" ∷ []
+
+served_faultless : (name : List ℕ) → fault_of program (served name) ≡ []
+unfolding clap_on_literals
+served_faultless name = refl
+
+served_given : (name : List ℕ) → map (text_given (subcommand_of program (served name))) (codes "FILE" ∷ codes "listen" ∷ codes "workers" ∷ codes "connections" ∷ codes "probe" ∷ [])
+    ≡ Some (codes "cell.toml") ∷ Some (codes "anywhere") ∷ Some (codes "1") ∷ Some (codes "65535") ∷ Some (codes "4611686018427387904") ∷ []
+unfolding clap_on_literals
+served_given name = refl
+
+-- one worker more than there may be is no number of them
+crowded : (name : List ℕ) → fault_of program (name ∷ codes "serve" ∷ codes "cell.toml" ∷ codes "--listen" ∷ codes "anywhere" ∷ codes "--workers" ∷ codes "65" ∷ codes "--connections" ∷ codes "1" ∷ codes "--probe" ∷ codes "0" ∷ []) ≡ ValueValidation ∷ []
+unfolding clap_on_literals
+crowded name = refl
+
 -- a command whose shape is plain has no global argument
 third_is_false : (a b g rest : Bool) → (a && (b && (not g && rest))) ≡ true → g ≡ false
 third_is_false true true false rest e = refl
@@ -92,3 +112,24 @@ is_read text (Err e) h number = absurd (h number)
 pub read_number : {E : Type 0} (text : List ℕ) (r : Result ℕ E) (n : ℕ) → ParsesUnsigned 64 10 text r → r ≡ Ok n → n ≡ number_of text
 read_number text (Ok m) n h is = sym (ap (λ x. result_unwrap_or x m) is) ∙ h.1
 read_number text (Err e) n h is = (cc)
+
+-- ---- which subcommand is met
+
+-- it is the one of this name, with these rows
+pub named_rows : {B : Type 0} (f : B → List ℕ × List Row) (o : Option B) (name : List ℕ) (rows : List Row) → Some name ≡ option_map (λ b. (f b).0) o → Some rows ≡ option_map (λ p. p.1) (option_map f o) → option_map f o ≡ Some (name, rows)
+named_rows f None name rows is has = (cc)
+named_rows f (Some b) name rows is has = ap₂ (λ n r. Some (n, r)) (sym (ap (λ x. unwrap_or x name) is)) (sym (ap (λ x. unwrap_or x rows) has))
+
+-- what `serve` wants is given where it is the one
+pub serve_given : (rows : List Row) → IsComplete (Some (codes "serve", rows)) → HasServe (Some (codes "serve", rows))
+serve_given rows complete = elim complete [
+  | inl named ↦ absurd (other (codes "script") refl named)
+  | inr (inl has) ↦ absurd (other (codes "states") refl has.named)
+  | inr (inr has) ↦ has
+]
+  where
+    other : (name : List ℕ) → bytes_eq (codes "serve") name ≡ false → Some (codes "serve") ≡ Some name → ⊥
+    other name differs is =
+        let same : codes "serve" ≡ name = ap (λ x. unwrap_or x name) is in
+        let never : bytes_eq (codes "serve") (codes "serve") ≡ false = subst (λ t. bytes_eq (codes "serve") t ≡ false) (sym same) differs in
+        (cc)

@@ -1,11 +1,13 @@
 //! The command line.
 ghost use Rattle.std.specs.Prelude.{◌≡◌, ℕ, List, [], ◌∷◌, Some, None, false, IfOk, IfErr, codes, map, option_map, string_bytes};
-ghost use Rattle.clap.specs.Words.{app_of, first_of, first_value, found_of, kind_of, rows_of, rule_of, subcommand_of, subcommand_rows_of};
+ghost use Rattle.clap.specs.Words.{app_of, found_of, kind_of, rows_of, rule_of, subcommand_of, subcommand_rows_of};
 ghost use Rattle.clap.specs.Kinds.{FailsBy};
 ghost use Rattle.clap.specs.Faults.{fault_of};
 ghost use Rattle.tsn_bytes.specs.declared.bytes.Fault.TheVariants.{Memory};
-ghost use Rattle.tsn_words.specs.Asking.{bare, number, number_of, program, script, setup_file, states, Asks, AsksFor, GivesListing, HasStates, IsComplete, IsNumber, IsWork};
+ghost use Rattle.tsn_words.specs.Asking.{any_text, bare, number, program, script, serve, setup_file, states, Asks, AsksFor, GivesListing, HasServe, HasStates, IsComplete, IsWork};
 
+use crate::serving::Serving;
+use crate::values::{file_of, number_of, text_of};
 use clap::builder::ValueParser;
 use clap::error::ErrorKind;
 use clap::{Arg, ArgMatches, Command, Error};
@@ -17,6 +19,28 @@ const LONGEST_STEP: u64 = 1_000_000_000_000;
 
 /// The most instants of `states`.
 const MOST_INSTANTS: u64 = 1_000_000;
+
+/// The most connections that are served at a time.
+const MOST_WORKERS: u64 = 64;
+
+/// The most connections that are served in all.
+const MOST_CONNECTIONS: u64 = 65_535;
+
+/// The last instant of a server's end.
+const LAST_PROBE: u64 = 1 << 62;
+
+/// Ends the help on `script`.
+const SCRIPT_EXAMPLE: &str = "Example:
+  tsnd script bridge.toml < commands.jsonl";
+
+/// Ends the help on `states`.
+const STATES_EXAMPLE: &str = "Example:
+  tsnd states bridge.toml --port 1 --from 0 --step 250000 --count 4";
+
+/// Ends the help on `serve`.
+const SERVE_EXAMPLE: &str = "Example, and a client in another terminal:
+  tsnd serve bridge.toml --listen 127.0.0.1:7000 --workers 4 --connections 100 --probe 0
+  echo '{\"do\":\"hello\"}' | nc -N 127.0.0.1 7000";
 
 /// Which states of a port are printed: those at an instant, and then at even steps.
 #[derive(Clone, Copy, Debug, PartialEq, Eq)]
@@ -35,9 +59,20 @@ pub struct Listing {
 #[derive(Drop)]
 pub enum Asked {
     /// Answer the script on standard input, from the setup of this file or from the standard one.
-    Script { file: Option<String> },
+    Script {
+        file: Option<String>,
+    },
     /// Print the states of a port, from the setup of this file.
-    States { file: String, listing: Listing },
+    States {
+        file: String,
+        listing: Listing,
+    },
+    /// Serve connections where this says, an IP address and port that is read later, from the setup of this file.
+    Serve {
+        file: String,
+        listen: String,
+        serving: Serving,
+    },
     /// Show this text, help or the version.
     Shown(String),
     /// Say by this text why the command line is refused.
@@ -54,6 +89,7 @@ impl Asked {
         match self {
             Asked::Script { file } => file.as_ref().map(String::as_str),
             Asked::States { file, .. } => Some(file.as_str()),
+            Asked::Serve { file, .. } => Some(file.as_str()),
             Asked::Shown(_) | Asked::Refused(_) => None,
         }
     }
@@ -74,6 +110,7 @@ fn script<'a>(alloc: Global) -> Result<Command<'a>, AllocError>
 {
     Command::new(alloc, "script")
         .about("Answers the command lines on standard input, one reply line each")
+        .after_help(SCRIPT_EXAMPLE)
         .arg(setup_file(alloc, false))
 }
 
@@ -99,11 +136,62 @@ fn states<'a>(alloc: Global) -> Result<Command<'a>, AllocError>
     let count = number(alloc, "count", "How many instants", 1, MOST_INSTANTS);
     Command::new(alloc, "states")
         .about("Prints the gate states of a port, enabled at the first instant, one line each")
+        .after_help(STATES_EXAMPLE)
         .arg(file)?
         .arg(port)?
         .arg(from)?
         .arg(step)?
         .arg(count)
+}
+
+// An option that wants a text, whatever it is.
+fn any_text<'a>(alloc: Global, name: &'a str, help: &'a str) -> Arg<'a>
+    ensures rule { rule_of result ≡ any_text name.entry.now }
+    ensures local { result.global ≡ false }
+{
+    Arg::new(alloc, name).long(name).required(true).help(help)
+}
+
+fn serve<'a>(alloc: Global) -> Result<Command<'a>, AllocError>
+    ensures { IfOk result (λ c. app_of c ≡ serve) }
+{
+    let file = setup_file(alloc, true);
+    let listen = any_text(
+        alloc,
+        "listen",
+        "The IP address and port where it listens; the system chooses a port of 0",
+    );
+    let workers = number(
+        alloc,
+        "workers",
+        "How many connections at a time, 1 to 64",
+        1,
+        MOST_WORKERS,
+    );
+    let connections = number(
+        alloc,
+        "connections",
+        "How many connections in all, 1 to 65535",
+        1,
+        MOST_CONNECTIONS,
+    );
+    let probe = number(
+        alloc,
+        "probe",
+        "The instant of the gates that it prints at the end",
+        0,
+        LAST_PROBE,
+    );
+    Command::new(alloc, "serve")
+        .about(
+            "Answers the command lines of connections, and prints the gates of each port at the end",
+        )
+        .after_help(SERVE_EXAMPLE)
+        .arg(file)?
+        .arg(listen)?
+        .arg(workers)?
+        .arg(connections)?
+        .arg(probe)
 }
 
 // The program, but for its subcommands.
@@ -122,7 +210,8 @@ fn command<'a>(alloc: Global) -> Result<Command<'a>, AllocError>
 {
     bare(alloc)
         .subcommand(script(alloc)?)?
-        .subcommand(states(alloc)?)
+        .subcommand(states(alloc)?)?
+        .subcommand(serve(alloc)?)
 }
 
 // What the words give, or what is wrong with them.
@@ -134,15 +223,6 @@ fn parsed<'a>(alloc: Global, words: &'a [String]) -> Result<ArgMatches<'a>, Erro
         → IfErr result (λ e. kind_of e ≡ ErrorKind.OutOfMemory) }
 {
     command(alloc)?.try_get_matches_from(words)
-}
-
-// A number that is given.
-fn number_of(given: &ArgMatches<'_>, name: &str) -> u64
-    requires { (text : List ℕ) × (first_of name.now (rows_of (found_of given.now)) ≡ Some text) × IsNumber text }
-    ensures { (text : List ℕ) → first_of name.now (rows_of (found_of given.now)) ≡ Some text → result ≡ number_of text }
-{
-    let text = given.get_str(name).unwrap();
-    text.parse::<u64>().unwrap()
 }
 
 // The numbers that are given to `states`.
@@ -162,30 +242,29 @@ fn listing_of(given: &ArgMatches<'_>) -> Listing
     }
 }
 
-// The file that is given, if one is.
-fn file_of(alloc: Global, given: &ArgMatches<'_>) -> Result<Option<String>, AllocError>
-    ensures { IfOk result (λ file. first_value (found_of given.now) (codes "FILE")
-        ≡ option_map string_bytes file) }
-{
-    match given.get_str("FILE") {
-        Some(name) => {
-            let file = String::from_str(alloc, name)?;
-            Ok(Some(file))
-        }
-        None => Ok(None),
-    }
-}
-
 // The states of a port, from the setup and with the numbers that are given.
 fn states_of(alloc: Global, given: &ArgMatches<'_>) -> Result<Asked, AllocError>
     requires { HasStates (Some (codes "states", rows_of (found_of given.now))) }
     ensures { IfOk result (AsksFor (Some (codes "states", rows_of (found_of given.now)))) }
 {
+    let file = text_of(alloc, given, "FILE")?;
     let listing = listing_of(given);
-    match file_of(alloc, given)? {
-        Some(file) => Ok(Asked::States { file, listing }),
-        None => unreachable!(),
-    }
+    Ok(Asked::States { file, listing })
+}
+
+// A server, from the setup, at the place and with the numbers that are given.
+fn serve_of(alloc: Global, given: &ArgMatches<'_>) -> Result<Asked, AllocError>
+    requires { HasServe (Some (codes "serve", rows_of (found_of given.now))) }
+    ensures { IfOk result (AsksFor (Some (codes "serve", rows_of (found_of given.now)))) }
+{
+    let file = text_of(alloc, given, "FILE")?;
+    let listen = text_of(alloc, given, "listen")?;
+    let serving = Serving::given_in(given);
+    Ok(Asked::Serve {
+        file,
+        listen,
+        serving,
+    })
 }
 
 // A script, from the setup that is given.
@@ -206,6 +285,8 @@ fn asked_of(alloc: Global, matches: &ArgMatches<'_>) -> Result<Asked, AllocError
     };
     if name == "states" {
         states_of(alloc, given)
+    } else if name == "serve" {
+        serve_of(alloc, given)
     } else {
         script_of(alloc, given)
     }

@@ -3,7 +3,7 @@ use Rattle.clap.proofs.WalkLemmas.{first_value-rows}
 use Rattle.clap.specs.Words.{found_of}
 use Rattle.tsn_words.specs.Asking.{IsNumber, number_of}
 use Rattle.tsn_words.proofs.Worked.{is_read, read_number, same_text, some_text}
-use Rattle.tsn_words.proofs.arguments.number_of.Goals as goal
+use Rattle.tsn_words.proofs.values.number_of.Goals as goal
 
 pub unwrap-text-requires : goal.unwrap-text-requires
 unwrap-text-requires c = some_text c.get_str.result c.requires.0 (c.get_str.ensures ∙ first_value-rows (found_of c.args.given.now) c.args.name.now ∙ c.requires.1)
