@@ -159,7 +159,7 @@ fn serve<'a>(alloc: Global) -> Result<Command<'a>, AllocError>
     let listen = any_text(
         alloc,
         "listen",
-        "The IP address and port where it listens; the system chooses a port of 0",
+        "The IP address and port where it listens; port 0 lets the system choose one",
     );
     let workers = number(
         alloc,
