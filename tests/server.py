@@ -54,16 +54,17 @@ class Server:
         self.port = None
 
     def listens(self):
-        """Waits for the line that tells where it listens, and gives the server; fails where another line comes."""
+        """Waits for the line that tells where it listens, and gives the server; fails where it ends before that."""
         until = time.monotonic() + PATIENCE
         while b"\n" not in self.said:
             ready, _, _ = select.select([self.process.stderr], [], [], max(0, until - time.monotonic()))
             part = os.read(self.process.stderr.fileno(), 4096) if ready else b""
             if not part:
-                self.stop()
-                raise Failed(f"it does not listen: {self.said!r}")
+                break
             self.said += part
-        want(self.said.startswith(LISTENS) and self.said.endswith(b"\n"), f"it does not listen: {self.said!r}")
+        if not (self.said.startswith(LISTENS) and self.said.endswith(b"\n")):
+            _, _, self.said = self.end()
+            raise Failed(f"it does not listen: {self.said!r}")
         self.port = int(self.said[len(LISTENS):])
         return self
 
