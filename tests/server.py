@@ -22,6 +22,10 @@ class Failed(Exception):
     """What was looked at is not as it should be."""
 
 
+class Late(Failed):
+    """What was waited for has not come in time."""
+
+
 def want(is_so, text):
     """Fails with this text where something is not so."""
     if not is_so:
@@ -53,19 +57,23 @@ class Server:
         self.said = b""
         self.port = None
 
-    def listens(self):
-        """Waits for the line that tells where it listens, and gives the server; fails where it ends before that."""
-        until = time.monotonic() + PATIENCE
+    def listens(self, patience=PATIENCE):
+        """Waits for the line that tells where it listens, and gives the server; fails where it ends before that, or says nothing."""
+        until = time.monotonic() + patience
         while b"\n" not in self.said:
             ready, _, _ = select.select([self.process.stderr], [], [], max(0, until - time.monotonic()))
             part = os.read(self.process.stderr.fileno(), 4096) if ready else b""
+            if not ready:
+                self.stop()
+                raise Failed(f"it does not tell in {patience} seconds where it listens")
             if not part:
                 break
             self.said += part
-        if not (self.said.startswith(LISTENS) and self.said.endswith(b"\n")):
+        if not (self.said.startswith(LISTENS) and b"\n" in self.said):
             _, _, self.said = self.end()
             raise Failed(f"it does not listen: {self.said!r}")
-        self.port = int(self.said[len(LISTENS):])
+        line, _, self.said = self.said.partition(b"\n")
+        self.port = int(line[len(LISTENS):])
         return self
 
     def runs(self):
@@ -78,7 +86,7 @@ class Server:
         except subprocess.TimeoutExpired as late:
             self.stop()
             raise Failed("it does not end") from late
-        return self.process.returncode, output, (self.said if self.port is None else b"") + errors
+        return self.process.returncode, output, self.said + errors
 
     def ends(self, output):
         """It ends with status 0, writes just this, and says no more on standard error."""
@@ -118,7 +126,9 @@ class Client:
         while b"\n" not in self.came:
             try:
                 part = self.socket.recv(1 << 16)
-            except (TimeoutError, OSError) as fault:
+            except TimeoutError as fault:
+                raise Late(f"no reply: {fault}") from fault
+            except OSError as fault:
                 raise Failed(f"no reply: {fault}") from fault
             want(part, f"the connection ended before a reply, behind {self.came[:200]!r}")
             self.came += part
