@@ -53,7 +53,7 @@ class Server:
         words = ["serve", setup, "--listen", listen, "--workers", str(workers), "--connections", str(connections),
                  "--probe", str(probe)]
         pipes = {"stdin": subprocess.DEVNULL, "stdout": subprocess.PIPE, "stderr": subprocess.PIPE}
-        self.process = subprocess.Popen([PROGRAM, *words], **pipes, **how)
+        self.process = subprocess.Popen([PROGRAM, *words], **{**pipes, **how})
         self.said = b""
         self.port = None
 
