@@ -300,7 +300,8 @@ class World:
             self.acts.pop(key, None)
             self.starts.pop(key, None)
         for other, record in self.map.items():
-            want(all(named in self.map for named in references(other, record)), f"entry {number} leaves {other} with no {references(other, record)}")
+            named = references(other, record)
+            want(all(each in self.map for each in named), f"entry {number} leaves {other} with no {named}")
 
     def made(self, number, entry, command, _):
         key, do = entry["key"], command["do"]
