@@ -94,7 +94,8 @@ class Commands(unittest.TestCase):
         self.assertIn("eir 1", errors)
 
     def test_what_is_not_there(self) -> None:
-        for words in ((self.setup, "--port", "2", "--dev", "veth0"), (self.setup, "--port", "3", "--dev", "veth0"), (self.setup, "--gate", "0"),
+        device = ("--dev", "veth0")
+        for words in ((self.setup, "--port", "2", *device), (self.setup, "--port", "3", *device), (self.setup, "--gate", "0"),
                       (self.setup, "--meter", "0"), (self.setup,), (self.setup + "x", "--gate", "4"), ()):
             status, said, errors = self.run_with(*words)
             self.assertEqual((status, said, errors.count("\n")), (1, "", 1), words)
@@ -102,7 +103,10 @@ class Commands(unittest.TestCase):
     def test_back(self) -> None:
         options = {
             "base_time": 5, "cycle_time": 1000, "cycle_time_extension": 10,
-            "schedule": [{"index": 0, "cmd": "S", "gatemask": "0x1", "interval": 300}, {"index": 1, "cmd": "S", "gatemask": "0x80", "interval": 700}],
+            "schedule": [
+                {"index": 0, "cmd": "S", "gatemask": "0x1", "interval": 300},
+                {"index": 1, "cmd": "S", "gatemask": "0x80", "interval": 700},
+            ],
         }
         shown = [{"kind": "noqueue"}, {"kind": "taprio", "options": options}]
         Path(self.shown).write_text(json.dumps(shown), encoding="utf-8")

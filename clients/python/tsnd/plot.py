@@ -73,7 +73,7 @@ def bars(gates: Sequence[int], traffic_class: int) -> list[tuple[int, int]]:
     return runs([bool(state >> traffic_class & 1) for state in gates])
 
 
-def _panel(axes: Any, title: str, gates: Sequence[int], port: PortGates, start: int, step: int, cycles: int) -> None:
+def _panel(axes: Any, title: str, gates: Sequence[int], port: PortGates, step: int, cycles: int) -> None:
     for traffic_class in range(CLASSES):
         axes.broken_barh([(0, len(gates) * step)], (traffic_class - 0.4, 0.8), color=SHUT)
         spans = [(first * step, count * step) for first, count in bars(gates, traffic_class)]
@@ -115,7 +115,8 @@ def draw(paths: Sequence[str], number: int, cycles: int, file: str) -> None:
     figure, rows = pyplot.subplots(panels, 1, sharex=True, squeeze=False, figsize=(10, 2.6 * panels))
     for axes, path, gates, port in zip(rows[:, 0], paths, told, ports):
         shown = cycles * max(p.cycle for p in ports) // port.cycle
-        _panel(axes, f"{path}, port {number}: cycle {port.cycle} ns, {len(port.list)} entries", gates, port, start, step, shown)
+        title = f"{os.path.basename(path)}, port {number}: cycle {port.cycle} ns, {len(port.list)} entries"
+        _panel(axes, title, gates, port, step, shown)
     if len(paths) == 2:
         _difference(rows[2, 0], told[0], told[1], step)
     rows[-1, 0].set_xlabel(f"ns after {start}")
