@@ -1,0 +1,200 @@
+"""The client against the real server. Run at clients/python: python3 -m unittest discover tests
+
+The variable TSND names the program; without it, it is the one that `./build` made in this repository.
+"""
+from __future__ import annotations
+
+import io
+import os
+import re
+import subprocess
+import sys
+import unittest
+from contextlib import redirect_stdout
+from pathlib import Path
+
+HERE = Path(__file__).resolve()
+TOP = HERE.parents[3]
+sys.path[:0] = [str(HERE.parents[1]), str(HERE.parents[1] / "examples")]
+
+import try_and_take_back  # noqa: E402
+
+import tsnd  # noqa: E402
+
+PROGRAM = os.environ.get("TSND", str(TOP / "crates/tsnd/out/tsnd"))
+OPEN_GATE = tsnd.StreamGate()
+METER = tsnd.FlowMeter(cir=8_000_000, cbs=1500)
+
+
+class Server:
+    """A server over a setup, for so many connections."""
+
+    def __init__(self, setup: str, connections: int, probe: int = 0) -> None:
+        words = [PROGRAM, "serve", setup, "--listen", "127.0.0.1:0", "--workers", "4", "--connections", str(connections),
+                 "--probe", str(probe)]
+        self.process = subprocess.Popen(words, stdout=subprocess.PIPE, stderr=subprocess.PIPE, text=True)
+        assert self.process.stderr is not None
+        found = re.fullmatch(r"tsnd: listens on .*:(\d+)\n", self.process.stderr.readline())
+        assert found, "the server says where it listens"
+        self.port = int(found[1])
+
+    def __enter__(self) -> Server:
+        return self
+
+    def __exit__(self, *_: object) -> None:
+        self.process.kill()
+        self.process.communicate()
+
+    def connect(self) -> tsnd.Connection:
+        return tsnd.Connection(port=self.port, timeout=20)
+
+    def ends(self) -> str:
+        """What the server says in the end, where it ends well."""
+        said, _ = self.process.communicate(timeout=20)
+        assert self.process.returncode == 0
+        return said
+
+
+class Edits(unittest.TestCase):
+    def setUp(self) -> None:
+        self.server = self.enterContext(Server(os.devnull, 3))
+
+    def session(self) -> tsnd.Session:
+        return self.enterContext(self.server.connect()).hello()
+
+    def test_records_come_back_as_they_were_given(self) -> None:
+        session = self.session()
+        records: dict[str, tsnd.Record] = {
+            "gate 0": tsnd.StreamGate(open=False, ipv=5, list=(tsnd.GateEntry(True, None, 1000, 150), tsnd.GateEntry(False, 7, 500))),
+            "meter 0": tsnd.FlowMeter(cir=1, cbs=2, eir=3, ebs=4, cf=True, aware=True, drop_yellow=True, all_red=True),
+            "filter 3": tsnd.StreamFilter(gate=0, meter=0, handle=7, priority=3, max_sdu=1500, oversize=True),
+        }
+        for number, (key, record) in enumerate(records.items(), start=1):
+            self.assertEqual(session.create(key, record), number)
+        for key, record in records.items():
+            self.assertEqual(session.show(key), record)
+        port = tsnd.PortGates(gates=1, cycle=1000, extension=10, base=5, list=(tsnd.PortEntry(255, 1000),))
+        self.assertEqual(session.replace("port 1", port), 4)
+        self.assertEqual(session.show("port 1"), port)
+        self.assertEqual((session.list("filter"), session.list("gate"), session.list("port")), ((3,), (0,), (1, 2)))
+        self.assertEqual(session.remove("filter 3"), 5)
+
+    def test_undo_and_redo(self) -> None:
+        session = self.session()
+        session.create("gate 0", OPEN_GATE)
+        session.create("gate 1", OPEN_GATE)
+        self.assertEqual(session.undo(), tsnd.Undone(3, 2))
+        self.assertEqual(session.redo(), tsnd.Undone(4, 3))
+        self.assertEqual(session.undo_all(), tsnd.AllUndone(2, 6))
+        self.assertEqual(session.list("gate"), ())
+
+    def test_a_colleague_stands_in_the_way(self) -> None:
+        planner, colleague = self.session(), self.session()
+        self.assertNotEqual(planner.number, colleague.number)
+        planner.create("gate 0", OPEN_GATE)
+        colleague.create("filter 0", tsnd.StreamFilter(gate=0))
+        with self.assertRaises(tsnd.Conflict) as caught:
+            planner.undo()
+        self.assertEqual((caught.exception.own, caught.exception.other, caught.exception.number), (1, 2, 11))
+        self.assertEqual(planner.list("gate"), (0,))
+
+    def test_entries_are_followed(self) -> None:
+        session = self.session()
+        session.create("gate 0", OPEN_GATE)
+        session.enable("gate 0", 7)
+        session.undo()
+        entries = session.follow(pause=0.01)
+        self.assertEqual(next(entries), tsnd.Entry(1, session.number, "gate 0", "made"))
+        self.assertEqual(next(entries), tsnd.Entry(2, session.number, "gate 0", "acted", act="enable", now=7))
+        self.assertEqual(next(entries), tsnd.Entry(3, session.number, "gate 0", "undone", of=1))
+        session.create("meter 0", METER)
+        self.assertEqual(next(entries).key, "meter 0")
+
+    def test_acts_frames_and_counters(self) -> None:
+        session = self.session()
+        session.replace("port 1", tsnd.PortGates(cycle=1000, list=(tsnd.PortEntry(1, 300), tsnd.PortEntry(128, 700))))
+        self.assertEqual(session.enable("port 1", 0), tsnd.Acted(2, None, 0))
+        self.assertEqual(session.apply("port 1", 2500), tsnd.Acted(3, 3000, 2500))
+        self.assertEqual(session.states("port 1", 3300), {"gates": 128})
+        self.assertEqual(session.disable("port 1", 4000), tsnd.Acted(4, None, 4000))
+        session.create("gate 0", OPEN_GATE)
+        session.create("filter 0", tsnd.StreamFilter(gate=0, max_sdu=100))
+        self.assertEqual(session.frame(7, 0, 101, 4000), {"filter": 0, "now": 4000, "verdict": "oversize"})
+        self.assertEqual(session.counters("filter 0")["not_passing_sdu"], 1)
+
+
+class Refusals(unittest.TestCase):
+    def setUp(self) -> None:
+        server = self.enterContext(Server(os.devnull, 1))
+        self.connection = self.enterContext(server.connect())
+        self.session = self.connection.hello()
+
+    def test_each_has_its_exception_and_members(self) -> None:
+        session = self.session
+        session.create("gate 0", OPEN_GATE)
+        session.create("filter 0", tsnd.StreamFilter(gate=0))
+        with self.assertRaises(tsnd.OutOfRange) as ranged:
+            session.show("gate 99")
+        self.assertEqual(ranged.exception.field, "key")
+        with self.assertRaises(tsnd.Exists) as exists:
+            session.create("gate 0", OPEN_GATE)
+        self.assertEqual(exists.exception.key, "gate 0")
+        with self.assertRaises(tsnd.Dangling) as dangling:
+            session.create("filter 1", tsnd.StreamFilter(gate=4))
+        self.assertEqual(dangling.exception.key, "gate 4")
+        with self.assertRaises(tsnd.Referred) as referred:
+            session.remove("gate 0")
+        self.assertEqual(referred.exception.by, "filter 0")
+        with self.assertRaises(tsnd.Missing) as missing:
+            session.remove("gate 5")
+        self.assertEqual(missing.exception.key, "gate 5")
+        with self.assertRaises(tsnd.Shape):
+            session.remove("port 1")
+        with self.assertRaises(tsnd.NotEnabled):
+            session.apply("port 1", 0)
+        session.enable("port 1", 10)
+        with self.assertRaises(tsnd.EmptyList):
+            session.apply("port 1", 10)
+        with self.assertRaises(tsnd.Past):
+            session.states("port 1", 9)
+        with self.assertRaises(tsnd.NothingToRedo):
+            session.redo()
+
+    def test_of_a_connection_that_says_hello_again(self) -> None:
+        later = self.connection.hello()
+        with self.assertRaises(tsnd.NoSession):
+            self.session.undo()
+        with self.assertRaises(tsnd.NothingToUndo):
+            later.undo()
+
+    def test_of_lines_that_are_none(self) -> None:
+        with self.assertRaises(tsnd.Shape):
+            self.connection.ask({"do": "dance"})
+        with self.assertRaises(tsnd.TooLong):
+            self.connection.ask({"do": "x" * 65_536})
+
+
+class Stories(unittest.TestCase):
+    def test_try_and_take_back(self) -> None:
+        with Server(str(TOP / "examples/small-cell.toml"), 2, probe=6_600_000) as server, redirect_stdout(io.StringIO()) as said:
+            try_and_take_back.story(server.port)
+            self.assertEqual(server.ends(), "port 1 gates 127\nport 2 gates 255\n")
+        self.assertEqual(said.getvalue().splitlines(), [
+            "the new list is in force from 3000000 ns on: gates 96",
+            "1 edit taken back; the old list is in force from 6000000 ns on: gates 127",
+            "the colleague's meter stands: True",
+        ])
+
+    def test_a_server_that_ends(self) -> None:
+        with Server(os.devnull, 1) as server:
+            connection = server.connect()
+            connection.hello()
+            server.process.kill()
+            server.process.wait()
+            with self.assertRaises((tsnd.ServiceError, OSError)):
+                connection.hello()
+            connection.close()
+
+
+if __name__ == "__main__":
+    unittest.main()

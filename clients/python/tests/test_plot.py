@@ -1,0 +1,57 @@
+"""Pictures: what is drawn, by the states that the program tells."""
+from __future__ import annotations
+
+import importlib.util
+import io
+import os
+import sys
+import tempfile
+import unittest
+from contextlib import redirect_stderr
+from pathlib import Path
+
+HERE = Path(__file__).resolve()
+TOP = HERE.parents[3]
+sys.path.insert(0, str(HERE.parents[1]))
+os.environ.setdefault("TSND", str(TOP / "crates/tsnd/out/tsnd"))
+
+from tsnd import plot  # noqa: E402
+from tsnd.records import PortEntry, PortGates  # noqa: E402
+
+STATES_PRINT = str(TOP / "examples/states-print.toml")
+
+
+class Bars(unittest.TestCase):
+    def test_runs(self) -> None:
+        self.assertEqual(plot.runs([]), [])
+        self.assertEqual(plot.runs([True, True, False, True]), [(0, 2), (3, 1)])
+        self.assertEqual(plot.bars([1, 3, 2, 1], 0), [(0, 2), (3, 1)])
+
+    def test_steps(self) -> None:
+        port = PortGates(cycle=1000, list=(PortEntry(1, 300), PortEntry(128, 700)))
+        self.assertEqual(plot.step_of([port]), 100)
+        self.assertEqual(plot.step_of([port, PortGates(cycle=1000, base=250)]), 50)
+
+    def test_states_are_the_program_s(self) -> None:
+        self.assertEqual(plot.states(STATES_PRINT, 1, 0, 100, 11), [1, 1, 1, 128, 128, 128, 128, 128, 128, 128, 1])
+
+    def test_what_can_t_be_drawn(self) -> None:
+        for given in (["no such file"], [STATES_PRINT, "--port", "3"], [STATES_PRINT, "--cycles", "0"]):
+            words = [*given, "-o", "x.png"]
+            with redirect_stderr(io.StringIO()) as errors:
+                self.assertEqual(plot.main(words), 1)
+            self.assertEqual(errors.getvalue().count("\n"), 1)
+
+
+@unittest.skipUnless(importlib.util.find_spec("matplotlib"), "wants matplotlib")
+class Pictures(unittest.TestCase):
+    def test_one_and_two_setups(self) -> None:
+        with tempfile.TemporaryDirectory() as folder:
+            for setups in ([STATES_PRINT], [STATES_PRINT, str(TOP / "examples/small-cell.toml")]):
+                file = Path(folder) / f"{len(setups)}.svg"
+                self.assertEqual(plot.main([*setups, "-o", str(file)]), 0)
+                self.assertEqual(file.read_text(encoding="utf-8").count("where they differ"), len(setups) - 1)
+
+
+if __name__ == "__main__":
+    unittest.main()

@@ -1,0 +1,199 @@
+"""A connection to `tsnd serve`, and the session that it acts for."""
+from __future__ import annotations
+
+import json
+import socket
+import time
+from collections.abc import Iterator, Mapping
+from dataclasses import dataclass
+from types import TracebackType
+from typing import Any
+
+from .records import Record, record_of
+from .refusals import ServiceError, refusal_of
+
+
+@dataclass(frozen=True)
+class Undone:
+    """An undo or a redo: the entry that it made, and the entry that it takes back."""
+
+    entry: int
+    of: int
+
+
+@dataclass(frozen=True)
+class AllUndone:
+    """An undo of all: how many edits it took back, and the last entry that it made."""
+
+    count: int
+    entry: int
+
+
+@dataclass(frozen=True)
+class Acted:
+    """An act on a list: its entry; the change time in ns, none where no list starts; and the instant that counted, in ns."""
+
+    entry: int
+    change: int | None
+    now: int
+
+
+@dataclass(frozen=True)
+class Entry:
+    """An entry of the journal. `what` is `made`, `undone`, `redone` or `acted`."""
+
+    number: int
+    session: int
+    key: str
+    what: str
+    of: int | None = None
+    """The entry that an undo or a redo takes back."""
+    act: str | None = None
+    """`enable`, `disable` or `apply`."""
+    now: int | None = None
+    """The instant of an act that counted, in ns."""
+
+    @classmethod
+    def of_members(cls, members: Mapping[str, Any]) -> Entry:
+        """The entry that these members of a reply tell."""
+        return cls(
+            members["entry"], members["session"], members["key"], members["what"], members.get("of"), members.get("act"),
+            members.get("now"),
+        )
+
+
+class Connection:
+    """A connection to a server. It acts for the session of its latest hello alone.
+
+    `timeout` is in seconds; none waits for ever. A context manager: it is closed at the end of its block.
+    """
+
+    def __init__(self, host: str = "127.0.0.1", port: int = 7000, timeout: float | None = None) -> None:
+        self._socket = socket.create_connection((host, port), timeout)
+        self._socket.setsockopt(socket.IPPROTO_TCP, socket.TCP_NODELAY, 1)
+        self._lines = self._socket.makefile("rb")
+
+    def __enter__(self) -> Connection:
+        return self
+
+    def __exit__(self, kind: type[BaseException] | None, error: BaseException | None, trace: TracebackType | None) -> None:
+        self.close()
+
+    def close(self) -> None:
+        """Ends the connection. What the session did stays."""
+        self._lines.close()
+        self._socket.close()
+
+    def ask(self, command: Mapping[str, Any]) -> dict[str, Any]:
+        """The reply to a command, given by its members. A refusal is raised, as the exception of its number."""
+        self._socket.sendall(json.dumps(command, separators=(",", ":")).encode() + b"\n")
+        line = self._lines.readline()
+        if not line.endswith(b"\n"):
+            raise ServiceError("the connection ended before the reply")
+        reply = json.loads(line)
+        if not isinstance(reply, dict):
+            raise ServiceError(f"no reply of the service: {reply!r}")
+        if "refused" in reply:
+            raise refusal_of(reply)
+        return reply
+
+    def hello(self) -> Session:
+        """A new session, for which the connection acts from now on. `OutOfRange` (field `session`) where all 65,535 were given out."""
+        return Session(self, int(self.ask({"do": "hello"})["session"]))
+
+
+class Session:
+    """What one planner did and may take back. A key is a text as `port 1`, `filter 3`, `gate 0` or `meter 2`.
+
+    Every call may raise `NoSession` where the connection has said another hello since, and `OutOfMemory`.
+    """
+
+    def __init__(self, connection: Connection, number: int) -> None:
+        self.connection = connection
+        self.number = number
+
+    def _ask(self, do: str, **members: Any) -> dict[str, Any]:
+        return self.connection.ask({"do": do, "s": self.number, **members})
+
+    # ---- edits
+
+    def create(self, key: str, record: Record) -> int:
+        """A record for a key that has none; gives the entry. `Exists`, `Dangling`, `OutOfRange`, `JournalFull`."""
+        return int(self._ask("create", key=key, record=record.to_json())["entry"])
+
+    def replace(self, key: str, record: Record) -> int:
+        """Another record for a key; gives the entry. `Missing`, `Dangling`, `OutOfRange`, `JournalFull`."""
+        return int(self._ask("replace", key=key, record=record.to_json())["entry"])
+
+    def remove(self, key: str) -> int:
+        """Removes a filter, gate or meter; gives the entry. `Missing`, `Referred`, `JournalFull`."""
+        return int(self._ask("remove", key=key)["entry"])
+
+    def undo(self) -> Undone:
+        """Takes back the session's newest standing edit. `NothingToUndo`, `Conflict`, `JournalFull`."""
+        reply = self._ask("undo")
+        return Undone(reply["entry"], reply["of"])
+
+    def undo_all(self) -> AllUndone:
+        """Takes back all that the session has standing, or nothing. `NothingToUndo`, `Conflict`, `JournalFull`."""
+        reply = self._ask("undo_all")
+        return AllUndone(reply["count"], reply["entry"])
+
+    def redo(self) -> Undone:
+        """Brings back what the session's newest undo took. `NothingToRedo`, `RedoConflict`, `JournalFull`."""
+        reply = self._ask("redo")
+        return Undone(reply["entry"], reply["of"])
+
+    # ---- acts on a list, at an instant in ns, 0 to 2^62
+
+    def _act(self, do: str, key: str, now: int) -> Acted:
+        reply = self._ask(do, key=key, now=now)
+        return Acted(reply["entry"], reply["change"], reply["now"])
+
+    def enable(self, key: str, now: int) -> Acted:
+        """Enables the gates of a port or a stream gate. `Missing`, `JournalFull`."""
+        return self._act("enable", key, now)
+
+    def disable(self, key: str, now: int) -> Acted:
+        """Disables them. `Missing`, `JournalFull`."""
+        return self._act("disable", key, now)
+
+    def apply(self, key: str, now: int) -> Acted:
+        """Puts the key's list in force from its change time on. `Missing`, `NotEnabled`, `EmptyList`, `JournalFull`."""
+        return self._act("apply", key, now)
+
+    # ---- looks
+
+    def frame(self, handle: int, priority: int, octets: int, now: int, yellow: bool = False) -> dict[str, Any]:
+        """The verdict on a frame at an instant in ns, and its counters move: `filter`, `now`, `verdict`, and of one that passes
+        `priority` and `yellow`. Handle 0 to 2^32 - 1, priority 0 to 7, octets 0 to 65,535."""
+        return self._ask("frame", handle=handle, priority=priority, octets=octets, yellow=yellow, now=now)
+
+    def states(self, key: str, at: int) -> dict[str, Any]:
+        """The gates at an instant in ns: `gates` of a port, `open` and `ipv` of a stream gate. `Missing`, `Past`."""
+        return self._ask("states", key=key, at=at)
+
+    def counters(self, key: str) -> dict[str, Any]:
+        """The counters of a key, by their names. `Missing`."""
+        return self._ask("counters", key=key)
+
+    def show(self, key: str) -> Record:
+        """The record of a key. `Missing`."""
+        reply = self._ask("show", key=key)
+        return record_of(key, reply["record"])
+
+    def list(self, kind: str) -> tuple[int, ...]:
+        """The numbers of the kind `port`, `filter`, `gate` or `meter`, ascending."""
+        return tuple(self._ask("list", kind=kind)["ids"])
+
+    def since(self, after: int = 0) -> tuple[Entry, ...]:
+        """The entries of a greater number, ascending. After 0 to 2^32 - 1."""
+        return tuple(Entry.of_members(members) for members in self._ask("since", after=after)["entries"])
+
+    def follow(self, after: int = 0, pause: float = 0.5) -> Iterator[Entry]:
+        """The entries of a greater number, and then each new one as it comes: it asks again after a pause, in seconds."""
+        while True:
+            for entry in self.since(after):
+                after = entry.number
+                yield entry
+            time.sleep(pause)

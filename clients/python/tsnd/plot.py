@@ -1,0 +1,153 @@
+"""Pictures of gate states over time.
+
+    python3 -m tsnd.plot SETUP [OTHER] [--port P] [--cycles N] -o FILE
+
+draws the gates of a port, each traffic class a row, over some cycles from its list's base time on; FILE ends with .png, .svg or
+.pdf. With a second setup below it those of the other one, and where the two differ. The states are those that the program tells
+(`tsnd states`): nothing here evaluates a list. It wants matplotlib.
+"""
+from __future__ import annotations
+
+import argparse
+import math
+import os
+import subprocess
+import sys
+from collections.abc import Sequence
+from typing import Any
+
+from .records import PortGates
+from .setups import Setup
+
+CLASSES = 8
+MOST_INSTANTS = 1_000_000
+OPEN, SHUT, DIFFERENT, LAST = "#2a7f62", "#e8e8e8", "#c8553d", "#8fc7b1"
+
+
+class Undrawn(Exception):
+    """What was asked for can't be drawn."""
+
+
+def program() -> str:
+    """The program that tells the states: the variable TSND, or `tsnd` on the path."""
+    return os.environ.get("TSND", "tsnd")
+
+
+def port_of(path: str, number: int) -> PortGates:
+    """A port of a setup's file; as in the standard setup where the file does not name it."""
+    setup = Setup.read(path)
+    if not 1 <= number <= setup.ports:
+        raise Undrawn(f"{path} has no port {number}")
+    return setup.port(number) or PortGates()
+
+
+def step_of(ports: Sequence[PortGates]) -> int:
+    """The greatest time of which each interval, cycle and base time is a multiple, in ns: between two such instants nothing changes."""
+    parts = [part for port in ports for part in (port.cycle, *(entry.interval for entry in port.list))]
+    bases = [port.base for port in ports]
+    return math.gcd(*parts, *(base - bases[0] for base in bases))
+
+
+def states(path: str, number: int, start: int, step: int, count: int) -> list[int]:
+    """The gates at even steps, as the program tells them."""
+    words = [program(), "states", path, "--port", str(number), "--from", str(start), "--step", str(step), "--count", str(count)]
+    run = subprocess.run(words, capture_output=True, text=True, check=False)
+    if run.returncode != 0:
+        raise Undrawn(run.stderr.strip() or f"{words[0]} ended with status {run.returncode}")
+    return [int(line.split()[1], 16) for line in run.stdout.splitlines()]
+
+
+def runs(flags: Sequence[bool]) -> list[tuple[int, int]]:
+    """Where the flags are true without a break: the first place, and how many."""
+    found: list[tuple[int, int]] = []
+    for place, flag in enumerate(flags):
+        if flag and found and sum(found[-1]) == place:
+            found[-1] = (found[-1][0], found[-1][1] + 1)
+        elif flag:
+            found.append((place, 1))
+    return found
+
+
+def bars(gates: Sequence[int], traffic_class: int) -> list[tuple[int, int]]:
+    """Where the gate of a class is open."""
+    return runs([bool(state >> traffic_class & 1) for state in gates])
+
+
+def _panel(axes: Any, title: str, gates: Sequence[int], port: PortGates, step: int, cycles: int) -> None:
+    for traffic_class in range(CLASSES):
+        axes.broken_barh([(0, len(gates) * step)], (traffic_class - 0.4, 0.8), color=SHUT)
+        spans = [(first * step, count * step) for first, count in bars(gates, traffic_class)]
+        axes.broken_barh(spans, (traffic_class - 0.4, 0.8), color=OPEN)
+    used = sum(entry.interval for entry in port.list)
+    for cycle in range(cycles):
+        axes.axvline(cycle * port.cycle, color="black", linewidth=0.6)
+        if 0 < used < port.cycle:  # the last entry goes on to the end of the cycle
+            axes.axvspan(cycle * port.cycle + used, (cycle + 1) * port.cycle, color=LAST, alpha=0.35, linewidth=0)
+    axes.set_yticks(range(CLASSES), [f"class {number}" for number in range(CLASSES)])
+    axes.set_ylim(-0.6, CLASSES - 0.4)
+    axes.set_title(title, fontsize=9, loc="left")
+
+
+def _difference(axes: Any, first: Sequence[int], second: Sequence[int], step: int) -> None:
+    for traffic_class in range(CLASSES):
+        flags = [bool((one ^ other) >> traffic_class & 1) for one, other in zip(first, second)]
+        axes.broken_barh([(0, len(first) * step)], (traffic_class - 0.4, 0.8), color=SHUT)
+        axes.broken_barh([(at * step, count * step) for at, count in runs(flags)], (traffic_class - 0.4, 0.8), color=DIFFERENT)
+    axes.set_yticks(range(CLASSES), [f"class {number}" for number in range(CLASSES)])
+    axes.set_ylim(-0.6, CLASSES - 0.4)
+    axes.set_title("where they differ", fontsize=9, loc="left")
+
+
+def draw(paths: Sequence[str], number: int, cycles: int, file: str) -> None:
+    """Draws one setup, or two and where they differ."""
+    import matplotlib
+    matplotlib.use("Agg")
+    from matplotlib import pyplot
+
+    ports = [port_of(path, number) for path in paths]
+    start = max(port.base for port in ports)
+    step = step_of(ports)
+    count = cycles * max(port.cycle for port in ports) // step
+    if count > MOST_INSTANTS:
+        raise Undrawn(f"{count} instants are more than {MOST_INSTANTS}: fewer cycles")
+    told = [states(path, number, start, step, count) for path in paths]
+    panels = len(paths) + (len(paths) == 2)
+    figure, rows = pyplot.subplots(panels, 1, sharex=True, squeeze=False, figsize=(10, 2.6 * panels))
+    for axes, path, gates, port in zip(rows[:, 0], paths, told, ports):
+        shown = cycles * max(p.cycle for p in ports) // port.cycle
+        title = f"{os.path.basename(path)}, port {number}: cycle {port.cycle} ns, {len(port.list)} entries"
+        _panel(axes, title, gates, port, step, shown)
+    if len(paths) == 2:
+        _difference(rows[2, 0], told[0], told[1], step)
+    rows[-1, 0].set_xlabel(f"ns after {start}")
+    rows[-1, 0].set_xlim(0, count * step)
+    figure.tight_layout()
+    figure.savefig(file, dpi=110)
+    pyplot.close(figure)
+
+
+def _words() -> argparse.ArgumentParser:
+    parser = argparse.ArgumentParser(prog="tsnd-plot", description="gate states of a port over time, as a picture")
+    parser.add_argument("setup", help="a setup of tsnd, in TOML")
+    parser.add_argument("other", nargs="?", help="another one, to compare")
+    parser.add_argument("--port", type=int, default=1, help="the port, 1 to 64")
+    parser.add_argument("--cycles", type=int, default=2, help="how many cycles")
+    parser.add_argument("-o", "--output", required=True, metavar="FILE", help="the picture")
+    return parser
+
+
+def main(words: Sequence[str] | None = None) -> int:
+    """Draws what the words ask for. The status is 0, or 1 where it can't be had, with one line that says why."""
+    given = _words().parse_args(words)
+    try:
+        if given.cycles < 1:
+            raise Undrawn("--cycles is at least 1")
+        draw([path for path in (given.setup, given.other) if path], given.port, given.cycles, given.output)
+    except (Undrawn, OSError, ValueError, KeyError, TypeError, ImportError) as why:
+        print(f"tsnd-plot: {why}", file=sys.stderr)
+        return 1
+    return 0
+
+
+if __name__ == "__main__":
+    sys.exit(main())
