@@ -5,7 +5,7 @@ ghost use Rattle.tsn_desk.specs.Desks.{IsSeatOf, first_of};
 ghost use Rattle.tsn_bridge.specs.Beginning.{IsOpened};
 ghost use Rattle.tsn_port.specs.Workers.{GoesOn};
 ghost use Rattle.tsn_serve.specs.Probes.{IsProbed};
-ghost use Rattle.tsn_serve.specs.Serving.{Matched, HasServed};
+ghost use Rattle.tsn_serve.specs.Serving.{Matched, HasProbed, HasServed};
 
 use crate::connection::session;
 use crate::gate::Gate;
@@ -179,9 +179,10 @@ fn all_served(
 
 /// Serves connections with the first seats, a thread for each, until none is left; the last seats are those of the
 /// probes, in their order: a thread for each starts a worker of its port and makes 100 rounds at its instant. A
-/// connection's fault ends that connection alone, and what a round answers is passed over. After a fault the seats are
-/// gone, so the desk can only be dropped: memory was wanting, or a worker did not start.
-pub fn serve_all<R: Wait + Threads + Sync, S: Source + Sync, G: Gate + Sync>(
+/// connection's fault ends that connection alone, and what a round answers is passed over. The first seats are back, and
+/// each of the others beside its worker. After a fault the seats are gone, so the desk can only be dropped: memory was
+/// wanting, or a worker did not start.
+pub fn serve_beside<R: Wait + Threads + Sync, S: Source + Sync, G: Gate + Sync>(
     rt: &R,
     alloc: Global,
     desk: &Desk<Bridge>,
@@ -189,11 +190,11 @@ pub fn serve_all<R: Wait + Threads + Sync, S: Source + Sync, G: Gate + Sync>(
     source: &S,
     gate: &G,
     probes: &[(PortId, Instant)],
-) -> Result<Served, ServeFault>
+) -> Result<(Vec<Seat<Bridge>>, Vec<Probed>), ServeFault>
     requires own { All (λ s. IsSeatOf desk.now s) seats.items }
     requires more { length probes.now < vec_len seats }
     requires opened { IsOpened (first_of desk.now) }
-    ensures { IfOk result (λ s. HasServed desk.now seats.items probes.now s.seats.items s.workers.items) }
+    ensures { IfOk result (λ r. HasProbed desk.now seats.items probes.now r.0.items r.1.items) }
 {
     let (seats, probes) = parted(alloc, desk, seats, probes)?;
     let (served, probed) = join(
@@ -211,5 +212,24 @@ pub fn serve_all<R: Wait + Threads + Sync, S: Source + Sync, G: Gate + Sync>(
         return Err(ServeFault::Memory);
     };
     let probed = probed?;
+    Ok((served, probed))
+}
+
+/// Serves as `serve_beside` does, and gives all seats in their first order and the workers in the order of the probes.
+pub fn serve_all<R: Wait + Threads + Sync, S: Source + Sync, G: Gate + Sync>(
+    rt: &R,
+    alloc: Global,
+    desk: &Desk<Bridge>,
+    seats: Vec<Seat<Bridge>>,
+    source: &S,
+    gate: &G,
+    probes: &[(PortId, Instant)],
+) -> Result<Served, ServeFault>
+    requires own { All (λ s. IsSeatOf desk.now s) seats.items }
+    requires more { length probes.now < vec_len seats }
+    requires opened { IsOpened (first_of desk.now) }
+    ensures { IfOk result (λ s. HasServed desk.now seats.items probes.now s.seats.items s.workers.items) }
+{
+    let (served, probed) = serve_beside(rt, alloc, desk, seats, source, gate, probes)?;
     all_served(alloc, served, probed)
 }
