@@ -1,0 +1,132 @@
+//! A bridge behind a desk, its connections, its port workers, and their last rounds.
+ghost use Rattle.std.specs.Prelude.{◌≡◌, ◌≢◌, ◌<◌, ◌≤◌, ℕ, List, [], ◌∷◌, true, All, IfOk, IfErr, OnOk, IsErrOf, length, map, vec_len};
+ghost use Rattle.std.specs.Io.KnownBytes.{Appends};
+ghost use Rattle.tsn_bytes.specs.declared.bytes.Fault.TheVariants.{Memory, Read, Write};
+ghost use Rattle.tsn_desk.specs.Desks.{IsSeatOf, first_of};
+ghost use Rattle.tsn_bridge.specs.Beginning.{IsOpened};
+ghost use Rattle.tsn_port.specs.Workers.{port_of};
+ghost use Rattle.tsn_server.specs.Reporting.{IsRested};
+ghost use Rattle.tsn_server.specs.Serving.{ReportsPorts, ports_to};
+ghost use Rattle.tsn_server.specs.declared.faults.ServerFault.TheVariants.{Fault as FaultOf, Refused};
+ghost use Rattle.tsn_types.specs.declared.refusals.Refusal.{Refusal};
+
+use crate::faults::{ServerFault, serving_failed};
+use crate::reporting::report;
+use std::alloc::Global;
+use std::sync::Wait;
+use std::thread::Threads;
+use tsn_bridge::bridge::Bridge;
+use tsn_bytes::{ByteOut, Fault};
+use tsn_desk::desk::{Desk, Seat};
+use tsn_port::worker::PortWorker;
+use tsn_serve::{Free, Source, serve_beside};
+use tsn_types::numbers::{Instant, PortId};
+
+// Each of so many ports at the instant, from port 1.
+fn probes_of(alloc: Global, ports: u64, at: Instant) -> Result<Vec<(PortId, Instant)>, ServerFault>
+    requires { ports ≤ 64 }
+    ensures ports { IfOk result (λ v. map (λ p. p.0) v.items ≡ ports_to ports) }
+    ensures many { IfOk result (λ v. vec_len v ≡ ports) }
+    ensures fault { IfErr result (λ e. e ≡ FaultOf Memory) }
+{
+    let mut probes = Vec::new(alloc);
+    for before in 0..ports {
+        let port = PortId::new(before + 1).unwrap();
+        if probes.push((port, at)).is_err() {
+            return Err(ServerFault::Fault(Fault::Memory));
+        }
+    }
+    Ok(probes)
+}
+
+// Serves connections, and gives the worker of each probe beside its seat, in the order of the probes.
+fn served<R: Wait + Threads + Sync, S: Source + Sync>(
+    rt: &R,
+    alloc: Global,
+    desk: &Desk<Bridge>,
+    seats: Vec<Seat<Bridge>>,
+    source: &S,
+    probes: &[(PortId, Instant)],
+) -> Result<Vec<(Seat<Bridge>, PortWorker)>, ServerFault>
+    requires own { All (λ s. IsSeatOf desk.now s) seats.items }
+    requires more { length probes.now < vec_len seats }
+    requires opened { IsOpened (first_of desk.now) }
+    ensures rested { IfOk result (λ v. All (λ p. IsRested desk.now p) v.items) }
+    ensures ports { IfOk result (λ v. map (λ p. port_of p.1) v.items ≡ map (λ p. p.0) probes.now) }
+    ensures write { IfErr result (λ e. e ≢ FaultOf Write) }
+    ensures read { IfErr result (λ e. e ≢ FaultOf Read) }
+{
+    match serve_beside(rt, alloc, desk, seats, source, &Free, probes) {
+        Ok((_seats, workers)) => Ok(workers),
+        Err(fault) => Err(serving_failed(fault)),
+    }
+}
+
+// Serves connections at a desk, and tells of the last rounds.
+fn serve_desk<R: Wait + Threads + Sync, S: Source + Sync, W: ByteOut>(
+    rt: &R,
+    alloc: Global,
+    desk: &Desk<Bridge>,
+    seats: Vec<Seat<Bridge>>,
+    source: &S,
+    probes: &[(PortId, Instant)],
+    at: Instant,
+    writer: &mut W,
+) -> Result<(), ServerFault>
+    requires own { All (λ s. IsSeatOf desk.now s) seats.items }
+    requires more { length probes.now < vec_len seats }
+    requires opened { IsOpened (first_of desk.now) }
+    ensures lines { OnOk result ((text : List ℕ) × ReportsPorts (first_of desk.now) at (map (λ p. p.0) probes.now) text × Appends (W.taken writer.old) (W.taken writer.new) text) }
+    ensures handed_on { OnOk result (W.pending writer.new ≡ []) }
+    ensures failed { IsErrOf result (FaultOf Write) → W.has_failed writer.new ≡ true }
+    ensures read { IfErr result (λ e. e ≢ FaultOf Read) }
+    ensures refused { (why : Refusal) → IsErrOf result (Refused why) → writer.new ≡ writer.old }
+{
+    let workers = match served(rt, alloc, desk, seats, source, probes) {
+        Ok(workers) => workers,
+        Err(fault) => return Err(fault),
+    };
+    match report(rt, desk, workers, at, writer) {
+        Ok(()) => Ok(()),
+        Err(fault) => Err(ServerFault::Fault(fault)),
+    }
+}
+
+/// Serves the source's connections on the bridge, so many at once, 1 to 64, until none is left. Each is a session of one
+/// seat of a desk; a worker follows each port meanwhile. Then each port's worker makes a last round at the instant, and
+/// its line is written, in the order of the ports: `port P gates G`, the gates in decimal, or `port P past` where the
+/// instant comes before the last act on the port. Each line tells where one legal history of the bridge ends. The lines
+/// are handed on. A connection's fault ends that connection alone. Serving itself ends where memory was wanting, no ticket
+/// was left or the writer failed; or by the refusal of a worker's start, and then nothing was written.
+pub fn serve_bridge<R: Wait + Threads + Sync, S: Source + Sync, W: ByteOut>(
+    rt: &R,
+    alloc: Global,
+    bridge: Bridge,
+    workers: usize,
+    source: &S,
+    at: Instant,
+    writer: &mut W,
+) -> Result<(), ServerFault>
+    requires opened { IsOpened bridge }
+    requires some { (0 < workers) × (workers ≤ 64) }
+    ensures lines { OnOk result ((text : List ℕ) × ReportsPorts bridge at (ports_to bridge.book.limits.ports) text × Appends (W.taken writer.old) (W.taken writer.new) text) }
+    ensures handed_on { OnOk result (W.pending writer.new ≡ []) }
+    ensures failed { IsErrOf result (FaultOf Write) → W.has_failed writer.new ≡ true }
+    ensures read { IfErr result (λ e. e ≢ FaultOf Read) }
+    ensures refused { (why : Refusal) → IsErrOf result (Refused why) → writer.new ≡ writer.old }
+{
+    let probes = probes_of(alloc, bridge.config().limits().ports(), at)?;
+    match Desk::new(alloc, bridge, workers + probes.len()) {
+        Ok((desk, seats)) => serve_desk(
+            rt,
+            alloc,
+            &desk,
+            seats,
+            source,
+            probes.as_slice(),
+            at,
+            writer,
+        ),
+        Err(_) => Err(ServerFault::Fault(Fault::Memory)),
+    }
+}
