@@ -7,3 +7,5 @@
 mod comparing;
 #[cfg(test)]
 mod tests;
+#[cfg(test)]
+mod worked;

@@ -16,18 +16,18 @@ use tsn_types::lists::ControlList;
 use tsn_types::numbers::{Cycle, Extension, Instant, Interval, PortId};
 use tsn_types::records::{PortEntry, PortGates, Record, Schedule};
 
-fn port() -> PortId {
+pub fn port() -> PortId {
     PortId::new(1).unwrap()
 }
 
-fn instant(at: u64) -> Instant
+pub fn instant(at: u64) -> Instant
     requires { at ≤ 2 ^ 62 }
 {
     Instant::new(at).unwrap()
 }
 
 /// A port with all gates open, whose list has these rows of gates and intervals, in cycles of a microsecond from 0.
-fn record(alloc: Global, rows: &[(u8, u64)]) -> Result<PortGates, Fail> {
+pub fn record(alloc: Global, rows: &[(u8, u64)]) -> Result<PortGates, Fail> {
     let mut list = ControlList::new(alloc);
     for (gates, interval) in rows {
         list.push(PortEntry {
@@ -47,7 +47,7 @@ fn record(alloc: Global, rows: &[(u8, u64)]) -> Result<PortGates, Fail> {
 }
 
 /// 300 ns of traffic class 0 alone, and 700 ns of class 7 alone.
-const ONE_TWO: &'static [(u8, u64)] = &[(1, 300), (128, 700)];
+pub const ONE_TWO: &'static [(u8, u64)] = &[(1, 300), (128, 700)];
 
 /// A list is set, the port is enabled at 0, and the list applied at 2500: it is in force from 3000 on. An act on port 2
 /// comes between.
@@ -77,7 +77,7 @@ fn act(journal: &mut Journal, number: u64, act: Act, at: u64)
     journal.push(1, What::Acted { act, key, now });
 }
 
-fn shows(rt: &impl Abort, mirror: &Mirror, at: u64, wanted: Result<u8, Past>)
+pub fn shows(rt: &impl Abort, mirror: &Mirror, at: u64, wanted: Result<u8, Past>)
     requires { at ≤ 2 ^ 62 }
 {
     same(rt, &mirror.states_at(instant(at)), &wanted);

@@ -1,0 +1,11 @@
+//! Tests of `tsn_server` over its public calls alone.
+//!
+//! They stand beside the crate and not in it, so that proving them does not prove the crate again.
+#![tactic(auto)]
+
+#[cfg(test)]
+mod client;
+#[cfg(test)]
+mod comparing;
+#[cfg(test)]
+mod tests;

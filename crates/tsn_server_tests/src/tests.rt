@@ -1,0 +1,110 @@
+//! A bridge that is served to a client of the same process: what the client is replied, and what is told of its ports then.
+ghost use Rattle.std.specs.Prelude.{◌≤◌, ◌^◌, IfOk};
+ghost use Rattle.tsn_bridge.specs.Beginning.{IsOpened};
+
+use crate::client::enable_and_apply;
+use crate::comparing::same;
+use std::alloc::Global;
+use std::io;
+use std::net::{Net, SocketAddr, TcpListener, TcpStream};
+use std::process::Abort;
+use std::sync::Wait;
+use std::test::Fail;
+use std::thread::{Threads, join};
+use tsn_bridge::bridge::Bridge;
+use tsn_bytes::MemOut;
+use tsn_server::{ServerFault, TcpSource, listen_on, serve_bridge};
+use tsn_setup::setup_of;
+use tsn_types::numbers::Instant;
+
+/// Port 1 has traffic class 0 alone for 300 ns, and class 7 alone for 700 ns.
+const SETUP: &'static [u8] =
+    b"[[port]]\nid = 1\ngates = 255\ncycle = 1000\nextension = 0\nbase = 0\n\
+    list = [{gates = 1, interval = 300}, {gates = 128, interval = 700}]\n";
+
+/// A new bridge with that setup.
+fn new_bridge(alloc: Global) -> Result<Bridge, Fail>
+    ensures { IfOk result (λ bridge. IsOpened bridge) }
+{
+    Ok(Bridge::new(alloc, setup_of(alloc, SETUP)?)?)
+}
+
+/// Serves the source's connections one after the other, and gives what was written.
+fn serve<R: Wait + Threads + Sync>(
+    rt: &R,
+    alloc: Global,
+    bridge: Bridge,
+    source: &TcpSource,
+    at: Instant,
+) -> Result<MemOut, ServerFault>
+    requires { IsOpened bridge }
+{
+    let mut output = MemOut::new(Vec::new(alloc), 100, None);
+    serve_bridge(rt, alloc, bridge, 1, source, at, &mut output)?;
+    Ok(output)
+}
+
+/// Serves the bridge to one client beside it.
+fn serve_client<R: Net<Stream = TcpStream> + Wait + Threads + Sync>(
+    rt: &R,
+    alloc: Global,
+    bridge: Bridge,
+    listener: TcpListener,
+    address: SocketAddr,
+    at: Instant,
+) -> (Result<MemOut, ServerFault>, io::Result<(Vec<u8>, Vec<u8>)>)
+    requires { IsOpened bridge }
+{
+    let source = TcpSource::new(listener, 1);
+    join(
+        rt,
+        || -> Result<MemOut, ServerFault>
+            requires { IsOpened bridge }
+        { serve(rt, alloc, bridge, &source, at) },
+        || enable_and_apply(rt, alloc, address),
+    )
+}
+
+/// Serves a new bridge to a client, and compares what is written at the end.
+fn tells<R: Net<Listener = TcpListener, Stream = TcpStream> + Wait + Threads + Abort + Sync>(
+    rt: &R,
+    alloc: Global,
+    at: Instant,
+    wanted: &[u8],
+) -> Result<(), Fail> {
+    let bridge = new_bridge(alloc)?;
+    let Some((listener, address)) = listen_on(rt, "127.0.0.1:0") else {
+        return Err(Fail::from("no listener"));
+    };
+    let (served, replied) = serve_client(rt, alloc, bridge, listener, address, at);
+    let (enabled, applied) = replied?;
+    same(
+        rt,
+        enabled.as_slice(),
+        b"{\"change\":null,\"entry\":1,\"now\":0}\n",
+    );
+    same(
+        rt,
+        applied.as_slice(),
+        b"{\"change\":3000,\"entry\":2,\"now\":2500}\n",
+    );
+    same(rt, served?.as_slice(), wanted);
+    Ok(())
+}
+
+#[test]
+fn a_run_over_loopback(rt: HostRuntime) -> Result<(), Fail> {
+    let alloc = rt.alloc();
+    tells(
+        &rt,
+        alloc,
+        Instant::new(3300)?,
+        b"port 1 gates 128\nport 2 gates 255\n",
+    )?;
+    tells(
+        &rt,
+        alloc,
+        Instant::new(2499)?,
+        b"port 1 past\nport 2 gates 255\n",
+    )
+}
