@@ -2,3 +2,4 @@ pub mod Failures
 pub mod Listing
 pub mod Opening
 pub mod Program
+pub mod Serving

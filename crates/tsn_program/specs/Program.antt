@@ -12,7 +12,7 @@ use Rattle.tsn_program.specs.Failures.{failure_line}
 use Rattle.tsn_program.specs.Listing.{Enables, EnablesNot, EndsEarly, lines, listing_refusal}
 use Rattle.tsn_program.specs.Opening.{opened}
 use Rattle.tsn_words.specs.declared.arguments.Asked.{Asked}
-use Rattle.tsn_words.specs.declared.arguments.Asked.TheVariants.{Script, States, Shown, Refused}
+use Rattle.tsn_words.specs.declared.arguments.Asked.TheVariants.{Script, States, Serve, Shown, Refused}
 use Rattle.tsn_words.specs.declared.arguments.Listing.{Listing}
 use Rattle.tsn_program.specs.declared.failures.Failure.{Failure}
 use Rattle.tsn_program.specs.declared.failures.Failure.TheVariants as failures
@@ -65,6 +65,7 @@ AnswersFrom (Ok start) old new (Ok u) = (end : State) × Outcome Answers BreaksI
 AnswersFrom (Ok start) old new (Err (failures.Fault fault)) = (end : State) × Outcome Answers BreaksInWriting most_reads (old start) (new end) (Err fault)
 AnswersFrom (Ok start) old new (Err (failures.Refused why)) = ⊥
 AnswersFrom (Ok start) old new (Err failures.Setup) = ⊥
+AnswersFrom (Ok start) old new (Err failures.Listen) = ⊥
 AnswersFrom (Err why) old new outcome = (outcome ≡ Err (failures.Refused why)) × (new standard ≡ old standard)
 
 abbrev pub AnswersScript : List ℕ → (State → Moment State) → (State → Moment State) → Result (Unit {0}) Failure → Type 0
@@ -134,6 +135,14 @@ RefusesWords text status errors = (status ≡ 2) × Tells errors text
 abbrev pub ReadsNothing : Moment State → Moment State → Type 0
 ReadsNothing old new = (new.left ≡ old.left) × (new.calls ≡ old.calls)
 
+-- What is asked for needs no connection.
+abbrev pub IsAlone : Asked → Type 0
+IsAlone (Script file) = Unit {0}
+IsAlone (States file listing) = Unit {0}
+IsAlone (Serve file listen serving) = ⊥
+IsAlone (Shown text) = Unit {0}
+IsAlone (Refused text) = Unit {0}
+
 -- What was asked for was done: a script is answered, or states are printed, from the setup's bridge; a text is shown; or
 -- words are refused. No input is read but that of a script, and nothing is written where words are refused.
 abbrev pub Serves : Asked → List ℕ → (State → Moment State) → (State → Moment State) → ℕ → Errors → Type 0
@@ -141,6 +150,7 @@ Serves (Script file) setup old new status errors = ServesScript setup old new st
 Serves (States file listing) setup old new status errors =
     ReadsNothing (old standard) (new standard)
     × ServesStates listing setup (output_of (old standard) (new standard)) status errors
+Serves (Serve file listen serving) setup old new status errors = ⊥
 Serves (Shown text) setup old new status errors =
     ReadsNothing (old standard) (new standard)
     × ServesText (string_bytes text) (output_of (old standard) (new standard)) status errors

@@ -7,8 +7,11 @@ mod files;
 mod opening;
 mod program;
 mod script;
+mod serving;
 mod states;
 
 pub use failures::Failure;
 pub use files::read_setup;
+pub use opening::bridge_of;
 pub use program::{fail, run};
+pub use serving::serve;

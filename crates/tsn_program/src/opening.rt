@@ -1,5 +1,6 @@
 //! The bridge that a setup's text opens.
 ghost use Rattle.std.specs.Prelude.{IfOk};
+ghost use Rattle.tsn_bridge.specs.Beginning.{IsOpened};
 ghost use Rattle.tsn_records.specs.Answers.{IsOrMemory};
 ghost use Rattle.tsn_program.specs.Listing.{IsNew};
 ghost use Rattle.tsn_program.specs.Opening.{opened};
@@ -13,6 +14,7 @@ use tsn_types::refusals::Refusal;
 pub fn bridge_of(alloc: Global, text: &[u8]) -> Result<Bridge, Refusal>
     ensures opened { IsOrMemory result (opened text.now) }
     ensures new { IfOk result IsNew }
+    ensures sound { IfOk result IsOpened }
 {
     let setup = match setup_of(alloc, text) {
         Ok(setup) => setup,

@@ -5,7 +5,7 @@ ghost use Rattle.tsn_bytes.specs.declared.bytes.Fault.TheVariants.{Write};
 ghost use Rattle.tsn_serve.specs.Outcomes.{moment};
 ghost use Rattle.tsn_program.specs.Failures.{failure_line};
 ghost use Rattle.tsn_program.specs.Listing.{IsNew};
-ghost use Rattle.tsn_program.specs.Program.{IsFront, IsTold, PrintsFrom, PrintsStates, RefusesWords, Reports, Serves, ServesScript, ServesStates, ServesText};
+ghost use Rattle.tsn_program.specs.Program.{IsAlone, IsFront, IsTold, PrintsFrom, PrintsStates, RefusesWords, Reports, Serves, ServesScript, ServesStates, ServesText};
 ghost use Rattle.tsn_program.specs.declared.failures.Failure.TheVariants as failures;
 
 use crate::failures::{Failure, failure_line};
@@ -53,7 +53,7 @@ pub fn fail<W: ByteOut>(errors: &mut W, failure: Failure) -> u8
 }
 
 // The status of a run that ended so, of which a failure is told.
-fn status_of<W: ByteOut>(errors: &mut W, outcome: Result<(), Failure>) -> u8
+pub(crate) fn status_of<W: ByteOut>(errors: &mut W, outcome: Result<(), Failure>) -> u8
     ensures { Reports outcome result
         (record { old = W.taken errors.old; new = W.taken errors.new; failed = W.has_failed errors.new }) }
 {
@@ -166,7 +166,8 @@ fn refuse_words<E: ByteOut>(text: &[u8], errors: &mut E) -> u8
 }
 
 /// Does what is asked for, with the setup of this text, and gives the status: 0; 1 after one line that says what
-/// failed; 2 after a text that says why the words are refused.
+/// failed; 2 after a text that says why the words are refused. Connections are served by `serve`, which takes a source of
+/// them.
 pub fn run<R: ByteIn, O: ByteOut, E: ByteOut>(
     alloc: Global,
     asked: &Asked,
@@ -175,6 +176,7 @@ pub fn run<R: ByteIn, O: ByteOut, E: ByteOut>(
     output: &mut O,
     errors: &mut E,
 ) -> u8
+    requires { IsAlone asked.now }
     ensures { Serves asked.now setup.now
         (λ s. moment R.remaining R.calls R.has_failed O.taken O.pending O.has_failed s input.old output.old)
         (λ s. moment R.remaining R.calls R.has_failed O.taken O.pending O.has_failed s input.new output.new)
@@ -184,6 +186,7 @@ pub fn run<R: ByteIn, O: ByteOut, E: ByteOut>(
     match asked {
         Asked::Script { .. } => serve_script(alloc, setup, input, output, errors),
         Asked::States { listing, .. } => serve_states(alloc, setup, listing, output, errors),
+        Asked::Serve { .. } => unreachable!(),
         Asked::Shown(text) => serve_text(text.as_bytes(), output, errors),
         Asked::Refused(text) => refuse_words(text.as_bytes(), errors),
     }

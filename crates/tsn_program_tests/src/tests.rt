@@ -1,6 +1,9 @@
 //! The program over words and bytes in memory: a script, states and a refused setup, as `main` hands them in, and what no
 //! run of the program brings about: a reader and a writer that fail, how much of a setup is read, and the line of each
 //! failure. Words, setups and states are seen through the program (`examples/tables`, `examples/check`).
+ghost use Rattle.std.specs.Prelude.{IfOk};
+ghost use Rattle.tsn_program.specs.Program.{IsAlone};
+
 use crate::comparing::same;
 use std::alloc::{AllocError, Global};
 use std::process::Abort;
@@ -70,10 +73,13 @@ impl Given {
     }
 }
 
-/// What the words ask for.
-fn asked(alloc: Global, words: &[&str]) -> Result<Asked, Fail> {
+/// What the words ask for, which is no connections.
+fn asked(alloc: Global, words: &[&str]) -> Result<Asked, Fail>
+    ensures { IfOk result IsAlone }
+{
     let words = with_name(alloc, words)?;
     match read_words(alloc, Some(words.as_slice())) {
+        Ok(Asked::Serve { .. }) => Err(Fail::from("connections are asked for")),
         Ok(asked) => Ok(asked),
         Err(_) => Err(Fail::from("out of memory")),
     }
@@ -105,7 +111,9 @@ fn run_on_input(
     asked: &Asked,
     given: &Given,
     left: &mut Left,
-) -> Result<(), AllocError> {
+) -> Result<(), AllocError>
+    requires { IsAlone asked.now }
+{
     let mut input = MemIn::new(Vec::from_slice(alloc, given.input)?, 15, given.reads_before);
     left.status = run(
         alloc,
@@ -236,6 +244,7 @@ fn each_failure_has_its_line(rt: HostRuntime) -> Result<(), Fail> {
         (Failure::Fault(Fault::Memory), "tsnd: out of memory\n"),
         (Failure::Fault(Fault::Exhausted), "tsnd: no ticket left\n"),
         (Failure::Setup, "tsnd: cannot read the setup\n"),
+        (Failure::Listen, "tsnd: cannot listen\n"),
         (
             Failure::Refused(Refusal::TooLong),
             "tsnd: refused 1 too_long\n",

@@ -1,0 +1,67 @@
+//! Connections served on a bridge, from a source to the last rounds and the status.
+ghost use Rattle.tsn_bridge.specs.Beginning.{IsOpened};
+ghost use Rattle.tsn_program.specs.Serving.{EndsServing, ServesConnections};
+
+use crate::failures::Failure;
+use crate::program::status_of;
+use std::alloc::Global;
+use std::sync::Wait;
+use std::thread::Threads;
+use tsn_bridge::bridge::Bridge;
+use tsn_bytes::ByteOut;
+use tsn_serve::Source;
+use tsn_server::{ServerFault, serve_bridge};
+use tsn_types::numbers::Instant;
+use tsn_words::Serving;
+
+// Serves the connections, and tells of the last rounds.
+fn serve_all_of<R: Wait + Threads + Sync, S: Source + Sync, O: ByteOut>(
+    rt: &R,
+    alloc: Global,
+    bridge: Bridge,
+    serving: Serving,
+    source: &S,
+    output: &mut O,
+) -> Result<(), Failure>
+    requires { IsOpened bridge }
+    ensures { EndsServing bridge serving.probe
+        (record { old = O.taken output.old; new = O.taken output.new; held_back = O.pending output.new; failed = O.has_failed output.new })
+        result }
+{
+    let at = Instant::new(serving.probe).unwrap();
+    match serve_bridge(
+        rt,
+        alloc,
+        bridge,
+        serving.workers as usize,
+        source,
+        at,
+        output,
+    ) {
+        Ok(()) => Ok(()),
+        Err(ServerFault::Fault(fault)) => Err(Failure::Fault(fault)),
+        Err(ServerFault::Refused(why)) => Err(Failure::Refused(why)),
+    }
+}
+
+/// Serves the source's connections on the bridge, as many at once as there are workers, until none is left; then writes a
+/// line for each port, which tells its gates at the instant or that it is past, in the order of the ports. Gives the
+/// status: 0, or 1 after one line that says what failed.
+pub fn serve<R: Wait + Threads + Sync, S: Source + Sync, O: ByteOut, E: ByteOut>(
+    rt: &R,
+    alloc: Global,
+    bridge: Bridge,
+    serving: Serving,
+    source: &S,
+    output: &mut O,
+    errors: &mut E,
+) -> u8
+    requires { IsOpened bridge }
+    ensures { ServesConnections bridge serving.probe
+        (record { old = O.taken output.old; new = O.taken output.new; held_back = O.pending output.new; failed = O.has_failed output.new })
+        result
+        (record { old = E.taken errors.old; new = E.taken errors.new; failed = E.has_failed errors.new }) }
+{
+    let outcome = serve_all_of(rt, alloc, bridge, serving, source, output);
+    status_of(errors, outcome)
+}
