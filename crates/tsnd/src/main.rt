@@ -1,13 +1,16 @@
 //! `tsnd`: the configuration service of one time-aware bridge.
 //!
 //! `tsnd script` answers a script of command lines on standard input with one reply line each on standard output, from a
-//! setup in a file or from the standard one. `tsnd states` prints the gate states of a port at even steps. The status is
+//! setup in a file or from the standard one. `tsnd serve` answers the lines of many connections over TCP, on one bridge, and
+//! then tells the gates of each port. `tsnd states` prints the gate states of a port at even steps. The status is
 //! 0, or 1 after one line on standard error that says why, or 2 for a command line that is refused.
 #![tactic(auto)]
 
+mod connections;
 #[cfg(test)]
 mod tests;
 
+use connections::serve_at;
 use std::io::ErrorKind;
 use std::process::ExitCode;
 use std::rt::{Env, Files};
@@ -52,8 +55,8 @@ fn setup_text<R: Files + AllocGlobal>(rt: &R, asked: &Asked) -> Result<Vec<u8>, 
     read_setup(rt.alloc(), &mut StdIo::new(file))
 }
 
-/// Hands the process to `run`: what its words ask for, the text of the setup that they name, its standard input, its
-/// standard output behind a buffer, and its standard error.
+/// Hands the process to `run`, or to `serve_at` where its words ask for connections: what they ask for, the text of the setup
+/// that they name, its standard input, its standard output behind a buffer, and its standard error.
 fn main(rt: HostRuntime) -> ExitCode {
     let mut errors = StdIo::new(rt.stderr());
     let asked = match asked_for(&rt) {
@@ -67,8 +70,24 @@ fn main(rt: HostRuntime) -> ExitCode {
     let Ok(mut output) = Buffered::new(rt.alloc(), StdIo::new(io::writer(&rt))) else {
         return ExitCode::from(fail(&mut errors, Failure::Fault(Fault::Memory)));
     };
-    let mut input = StdIo::new(rt.reader());
     let alloc = rt.alloc();
+    if let Asked::Serve {
+        listen,
+        serving,
+        ..
+    } = &asked
+    {
+        return ExitCode::from(serve_at(
+            &rt,
+            alloc,
+            setup.as_slice(),
+            listen.as_str(),
+            *serving,
+            &mut output,
+            &mut errors,
+        ));
+    }
+    let mut input = StdIo::new(rt.reader());
     ExitCode::from(run(
         alloc,
         &asked,
