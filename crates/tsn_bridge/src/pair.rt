@@ -31,7 +31,7 @@ use tsn_chain::frame::{Frame, Verdict};
 use tsn_chain::runtime::{Runtime, police};
 use tsn_chain::state::{Counters, State};
 use tsn_config::Config;
-use tsn_edit::Edit;
+use tsn_edit::{Edit, MOST_PARTS};
 use tsn_journal::entries::Act;
 use tsn_journal::journal::Journal;
 use tsn_schedule::runner::Past;
@@ -95,11 +95,13 @@ impl Pair {
         ensures refused { IfErr result (λ why. IsLeastOrMemory (edit_refusal self.old.ledger edit) why) }
         ensures unchanged { OnErr result (self.new ≡ self.old) }
     {
-        if self.runtime.reserve(1).is_err() {
+        if self.runtime.reserve(MOST_PARTS).is_err() {
             return Err(self.book.refuse_edit(&edit).unwrap_or(Refusal::Memory));
         }
         let number = self.book.edit(session, edit)?;
-        follow(self.book.journal(), &mut self.runtime, number);
+        let journal = self.book.journal();
+        tell_few(journal, number);
+        follow(journal, &mut self.runtime, number);
         Ok(number)
     }
 
@@ -109,11 +111,13 @@ impl Pair {
         ensures refused { IfErr result (λ why. IsLeastOrMemory (undo_refusal self.old.ledger session) why) }
         ensures unchanged { OnErr result (self.new ≡ self.old) }
     {
-        if self.runtime.reserve(1).is_err() {
+        if self.runtime.reserve(MOST_PARTS).is_err() {
             return Err(self.book.refuse_undo(session).unwrap_or(Refusal::Memory));
         }
         let (number, of) = self.book.undo(session)?;
-        follow(self.book.journal(), &mut self.runtime, number);
+        let journal = self.book.journal();
+        tell_few(journal, number);
+        follow(journal, &mut self.runtime, number);
         Ok((number, of))
     }
 
@@ -123,11 +127,13 @@ impl Pair {
         ensures refused { IfErr result (λ why. WhyNoRedo self.old.ledger session (λ cause. IsLeastOrMemory cause why)) }
         ensures unchanged { OnErr result (self.new ≡ self.old) }
     {
-        if self.runtime.reserve(1).is_err() {
+        if self.runtime.reserve(MOST_PARTS).is_err() {
             return Err(self.book.refuse_redo(session).unwrap_or(Refusal::Memory));
         }
         let (number, of) = self.book.redo(session)?;
-        follow(self.book.journal(), &mut self.runtime, number);
+        let journal = self.book.journal();
+        tell_few(journal, number);
+        follow(journal, &mut self.runtime, number);
         Ok((number, of))
     }
 
@@ -141,7 +147,8 @@ impl Pair {
     {
         let first = self.book.journal().len();
         let own = self.book.journal().count_of(session);
-        if self.runtime.reserve(own).is_err() {
+        let parts = self.book.journal().parts_of(session);
+        if self.runtime.reserve(parts).is_err() {
             return Err(
                 self.book
                     .refuse_undo_all(session)
@@ -227,6 +234,17 @@ impl Pair {
             return Some(Refusal::EmptyList);
         }
         None
+    }
+}
+
+// The change of the entry of the number has at most 16 parts, by its type. It does nothing as the program runs.
+fn tell_few(journal: &Journal, number: u64)
+    ensures { room_at journal.now.entries number ≤ MOST_PARTS }
+{
+    if let Some(found) = journal.entry(number) {
+        if let Some(change) = found.what.change() {
+            let _few = change.parts();
+        }
     }
 }
 

@@ -1,6 +1,7 @@
 pub mod Answering
 pub mod Beginning
 pub mod FirstRows
+pub mod Following
 pub mod Framing
 pub mod Keys
 pub mod Least

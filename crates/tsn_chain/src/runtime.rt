@@ -39,8 +39,8 @@ use tsn_types::records::{
 use tsn_types::refusals::Refusal;
 
 /// The bridge time and instance data. `runners` are those of the ports and the gates, `frames` is what the filter chain
-/// keeps of filters, gates and meters, `time` is the bridge time, and `spare` is the number of changes that the runtime
-/// certainly has room for.
+/// keeps of filters, gates and meters, `time` is the bridge time, and `spare` is the number of parts of changes that the
+/// runtime certainly has room for.
 #[derive(Debug, Drop)]
 pub struct Runtime {
     ports: Table<Runner<PortEntry>>,
@@ -128,7 +128,7 @@ impl Runtime {
         *time
     }
 
-    /// Makes room for at least so many changes. Refused only for want of memory; nothing but the room changes.
+    /// Makes room for at least so many parts of changes. Refused only for want of memory; nothing but the room changes.
     pub fn reserve(&mut self, count: usize) -> Result<(), AllocError>
         ensures runners { self.new.runners ≡ self.old.runners }
         ensures frames { self.new.frames ≡ self.old.frames }
@@ -154,9 +154,9 @@ impl Runtime {
         ensures time { self.new.time ≡ self.old.time }
         ensures spare { self.old.spare ≤ self.new.spare + room_of change.now }
     {
-        match change.parts() {
-            [part] => self.follow_part(part),
-            _ => unreachable!(),
+        let parts = change.parts();
+        for part in parts {
+            self.follow_part(part);
         }
     }
 

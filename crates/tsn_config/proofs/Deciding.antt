@@ -28,7 +28,6 @@ use Rattle.tsn_edit.proofs.KeyFacts.{by_bool, by_option, get-put, one_key, same_
 use Rattle.tsn_edit.specs.Edits.{is_of_kind, is_port, referrer, limit_causes}
 use Rattle.tsn_types.proofs.Causes.{each_none, unless-None, unless-true}
 use Rattle.tsn_config.specs.Keeping.{keeps}
-use Rattle.tsn_config.proofs.SetRows.{IsOfKind}
 use Rattle.tsn_config.proofs.Listed.{of_T}
 use Rattle.tsn_config.proofs.Edits.{fits_put, remove_kept, none_refers, map_none}
 
@@ -36,17 +35,17 @@ use Rattle.tsn_config.proofs.Edits.{fits_put, remove_kept, none_refers, map_none
 pub limits_hold : (l : Limits) (c : Configuration) (k : Key) (r : Record) → IsWellKept l (put c k (Some r)) → HoldsKey l k × HoldsRecord l k r
 limits_hold l c k r kept = kept.within k r (get-put c k (Some r) k ∙ ap (λ b. cond b (Some r) (get c k)) (same_itself k))
 
-none_of : {A : Type 0} (o : Option A) → is_none o ≡ true → o ≡ None
+pub none_of : {A : Type 0} (o : Option A) → is_none o ≡ true → o ≡ None
 none_of None h = refl
 none_of (Some x) h = (cc)
 
 -- no cause where each test holds
-no_cause : (test : Key → Bool) (why : Key → Refusal) (ks : List Key) → ((q : Key) → has ks q ≡ true → test q ≡ true) → first_cause (map (λ q. unless (test q) (why q)) ks) ≡ None
+pub no_cause : (test : Key → Bool) (why : Key → Refusal) (ks : List Key) → ((q : Key) → has ks q ≡ true → test q ≡ true) → first_cause (map (λ q. unless (test q) (why q)) ks) ≡ None
 no_cause test why [] h = refl
 no_cause test why (k ∷ ks) h =
     rw (unless-true (test k) (why k) (h k (or_left (same_key k k) _ (same_itself k)))) (no_cause test why ks (λ q is. h q (or_right (same_key q k) _ is)))
 
-test_holds : (l : Limits) (k : Key) → HoldsKey l k → holds_key l k ≡ true
+pub test_holds : (l : Limits) (k : Key) → HoldsKey l k → holds_key l k ≡ true
 test_holds l (Port n) h = let a = h.0 in let b = h.1 in grind (arith, nat_tests)
 test_holds l (Filter n) h = grind (arith, nat_tests)
 test_holds l (Gate n) h = grind (arith, nat_tests)
@@ -55,7 +54,7 @@ test_holds l (Meter n) h = grind (arith, nat_tests)
 list_test : (n m : ℕ) → n ≤ m → nat_le n m ≡ true
 list_test n m h = grind (arith, nat_tests)
 
-of_kind : (l : Limits) (k : Key) (r : Record) → HoldsRecord l k r → is_of_kind k r ≡ true
+pub of_kind : (l : Limits) (k : Key) (r : Record) → HoldsRecord l k r → is_of_kind k r ≡ true
 of_kind l (Port n) (PortRecord r) h = refl
 of_kind l (Filter n) (FilterRecord r) h = refl
 of_kind l (Gate n) (GateRecord r) h = refl
@@ -82,13 +81,13 @@ not_equal Less h = refl
 not_equal Equal h = (cc)
 not_equal Greater h = refl
 
-find_above : (k : Key) (es : List (Key × Record)) → below_all key_cmp k es ≡ true → find_entry key_cmp k es ≡ None
+pub find_above : (k : Key) (es : List (Key × Record)) → below_all key_cmp k es ≡ true → find_entry key_cmp k es ≡ None
 find_above k [] h = refl
 find_above k (e ∷ es) h =
     ap (λ b. cond b (Some e.1) (find_entry key_cmp k es)) (not_equal (key_cmp k e.0) ((and_parts _ _ h).0)) ∙ find_above k es ((and_parts (is_lt (key_cmp k e.0)) _ h).1)
 
 -- what a test finds in a sorted list passes it, and stands at its key
-found : (p : Key × Record → Bool) (es : List (Key × Record)) → is_sorted key_cmp es ≡ true → (e : Key × Record) → find p es ≡ Some e → (p e ≡ true) × (find_entry key_cmp e.0 es ≡ Some e.1)
+pub found : (p : Key × Record → Bool) (es : List (Key × Record)) → is_sorted key_cmp es ≡ true → (e : Key × Record) → find p es ≡ Some e → (p e ≡ true) × (find_entry key_cmp e.0 es ≡ Some e.1)
 found p [] h e is = (cc)
 found p (x ∷ es) h e is = by_bool (p x)
     (λ yes. let this : Some x ≡ Some e = sym (ap (λ b. cond b (Some x) (find p es)) yes) ∙ is in
@@ -124,14 +123,6 @@ filter_small l c n kept some = by_option (get c (Filter n))
     (λ none. let never : false ≡ true = sym (ap is_some none) ∙ some in (cc))
     (λ r is. let below = (kept.within (Filter n) r is).0 in let most = kept.limits.1.0.1 in omega arith)
 
--- what holds of the record of a change of one part at a well kept map: it is of its key's kind
-pub after_kind : (l : Limits) (c : Configuration) (e : Part) → Fits l c (e ∷ []) → IsOfKind e.key e.after
-after_kind l c e fits = kind_of_value e.after fits.kept
-  where
-    kind_of_value : (v : Option Record) → IsWellKept l (put c e.key v) → IsOfKind e.key v
-    kind_of_value None kept = tt
-    kind_of_value (Some r) kept = of_kind l e.key r (limits_hold l c e.key r kept).1
-
 module _ (l : Limits) (c : Configuration) (kept : IsWellKept l c) where
   -- the references of a record that fits are there
   there : (k : Key) (r : Record) → IsWellKept l (put c k (Some r)) → (q : Key) → has (refs r) q ≡ true → IsSome (get c q)
@@ -143,7 +134,7 @@ module _ (l : Limits) (c : Configuration) (kept : IsWellKept l c) where
   within_limits : (q : Key) → IsSome (get c q) → holds_key l q ≡ true
   within_limits q some = by_option (get c q) (λ none. let h : is_some (get c q) ≡ false = ap is_some none in (cc)) (λ s is. test_holds l q (kept.within q s is).0)
 
-  no_limits : (k : Key) (r : Record) → HoldsRecord l k r → ((q : Key) → has (refs r) q ≡ true → IsSome (get c q)) → out_of_limits l r ≡ None
+  pub no_limits : (k : Key) (r : Record) → HoldsRecord l k r → ((q : Key) → has (refs r) q ≡ true → IsSome (get c q)) → out_of_limits l r ≡ None
   no_limits (Port n) (PortRecord r) h there = unless-true _ _ (list_test (length r.admin.list) l.list h)
   no_limits (Filter n) (FilterRecord r) h there = no_cause (holds_key l) field_of (refs (FilterRecord r)) (λ q is. within_limits q (there q is))
   no_limits (Gate n) (GateRecord r) h there = unless-true _ _ (list_test (length r.admin.list) l.list h)

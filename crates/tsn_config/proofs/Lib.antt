@@ -1,3 +1,5 @@
+pub mod Among
+pub mod Beside
 pub mod Dangling
 pub mod Deciding
 pub mod Edits
@@ -5,8 +7,11 @@ pub mod Examples
 pub mod Indexed
 pub mod Joined
 pub mod Listed
+pub mod Nexts
 pub mod Numbered
 pub mod Opened
 pub mod OpeningKept
+pub mod Popped
 pub mod Ranges
 pub mod SetRows
+pub mod Suffixes

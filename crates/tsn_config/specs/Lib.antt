@@ -5,6 +5,7 @@ pub mod Keeping
 pub mod Kinds
 pub mod Opening
 pub mod Views
+pub mod Ways
 -- words of lower crates that the public clauses cite
 pub use Rattle.tsn_edit.specs.Changes
 pub use Rattle.tsn_edit.specs.Configuration

@@ -7,7 +7,7 @@ ghost use Rattle.tsn_edit.specs.Changes.{Fits, after_change, room_of};
 
 use crate::Config;
 use std::alloc::AllocError;
-use tsn_edit::{Change, Part};
+use tsn_edit::{Change, Parts};
 
 impl Config {
     /// Makes room for at least `count` parts of changes. It is refused only for want of memory, and never where there is that
@@ -31,7 +31,9 @@ impl Config {
         ensures map { self.new.map ≡ after_change self.old.map change }
         ensures spare { self.old.spare ≤ self.new.spare + room_of change }
     {
-        let part = change.into_part();
-        self.rows.set(part.key, part.after);
+        match change.into_parts() {
+            Parts::One(part) => self.rows.set(part.key, part.after),
+            Parts::Many(parts) => self.rows.set_all(parts),
+        }
     }
 }

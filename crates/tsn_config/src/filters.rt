@@ -4,7 +4,7 @@
 //! What is sought in an index is its least filter, by one binary search: who refers to a gate or a meter, and which filter
 //! has two specifications. The type says that each index has just the filters that the table has. Setting a filter takes
 //! no memory; room is made ahead.
-ghost use Rattle.std.specs.Prelude.{◌≡◌, ℕ, ◌+◌, ◌*◌, ◌^◌, ◌<◌, ◌≤◌, Bool, Option, None, IfOk, IfSome, IsOk, IsSome, OnOk};
+ghost use Rattle.std.specs.Prelude.{◌≡◌, ℕ, ◌+◌, ◌*◌, ◌^◌, ◌<◌, ◌≤◌, Bool, Option, None, IfOk, IfSome, IsOk, IsSome, IsTrue, MatchOption, OnOk, option_map};
 ghost use Rattle.std.specs.FinMap as map;
 ghost use Rattle.std.specs.FinMap.{FinMap};
 ghost use Rattle.std.specs.Option.{option_copied};
@@ -15,6 +15,7 @@ ghost use Rattle.tsn_types.specs.declared.records.Record.TheVariants.{Filter as 
 ghost use Rattle.tsn_types.specs.declared.records.StreamFilter.{StreamFilter as AnyFilter};
 ghost use Rattle.tsn_config.specs.Indexes.{about_at, AreSmall, entered, gate_about, Indexes, is_the, left, match_about, meter_about, specification, specified};
 ghost use Rattle.tsn_config.specs.Filters.{specifies};
+ghost use Rattle.tsn_config.specs.Keeping.{refers};
 ghost use Rattle.tsn_config.specs.Kinds.{filter_of};
 ghost use Rattle.tsn_config.specs.Views.{set_row};
 
@@ -187,6 +188,22 @@ fn least_about(index: &Table<()>, about: u64) -> Option<u64>
     }
 }
 
+// The least filter from this one on that is about the number.
+fn next_about(index: &Table<()>, about: u64, from: u64) -> Option<u64>
+    requires about { about < 2 ^ 40 }
+    requires from { from ≤ 65536 }
+    ensures small { IfSome result (λ n. n < 65536) }
+    ensures there { IfSome result (λ n. (from ≤ n) × IsSome (map.get index.now.map (about * 65536 + n))) }
+    ensures least { (n : ℕ) → from ≤ n → n < 65536 → IsSome (map.get index.now.map (about * 65536 + n)) → MatchOption result ⊥ (λ least. least ≤ n) }
+{
+    let found = index.first_from(about * 65_536 + from)?;
+    if found / 65_536 == about {
+        Some(found % 65_536)
+    } else {
+        None
+    }
+}
+
 impl Filters {
     /// No filter. It takes no memory.
     pub(crate) fn new(alloc: Global) -> Self
@@ -244,6 +261,20 @@ impl Filters {
         match key {
             Key::Gate(id) => least_about(&self.by_gate, id.get()),
             Key::Meter(id) => least_about(&self.by_meter, id.get()),
+            _ => None,
+        }
+    }
+
+    /// The least filter from this one on that refers to the key.
+    pub(crate) fn next_referrer(&self, key: &Key, from: u64) -> Option<u64>
+        requires { from ≤ 65536 }
+        ensures small { IfSome result (λ n. n < 65536) }
+        ensures there { IfSome result (λ n. (from ≤ n) × IsTrue (refers (option_map FilterRecord (map.get self.now.map n)) key.now)) }
+        ensures least { (n : ℕ) → from ≤ n → IsTrue (refers (option_map FilterRecord (map.get self.now.map n)) key.now) → MatchOption result ⊥ (λ least. least ≤ n) }
+    {
+        match key {
+            Key::Gate(id) => next_about(&self.by_gate, id.get(), from),
+            Key::Meter(id) => next_about(&self.by_meter, id.get(), from),
             _ => None,
         }
     }

@@ -2,7 +2,7 @@
 //!
 //! Nothing here knows the limits: a map that is not well kept can stand here while a configuration is opened. It
 //! relies on the tables alone, and each call works in the table of its key's kind.
-ghost use Rattle.std.specs.Prelude.{◌≡◌, ℕ, ◌+◌, ◌<◌, ◌≤◌, IfOk, IfSome, IsOk, IsTrue, OnOk, is_some, option_map};
+ghost use Rattle.std.specs.Prelude.{◌≡◌, ℕ, ◌+◌, ◌<◌, ◌≤◌, IfOk, IfSome, IsOk, IsTrue, MatchOption, OnOk, is_some, length, option_map};
 ghost use Rattle.std.specs.FinMap as map;
 ghost use Rattle.std.specs.FinMap.{FinMap};
 ghost use Rattle.std.specs.Ordering.{nat_cmp};
@@ -11,16 +11,19 @@ ghost use Rattle.tsn_types.specs.declared.records.StreamFilter.{StreamFilter as 
 ghost use Rattle.tsn_config.specs.Filters.{AreFilters, specifies};
 ghost use Rattle.tsn_types.specs.Lent.{lent_record};
 ghost use Rattle.tsn_types.specs.declared.refusals.Refusal.TheVariants.{Referred};
+ghost use Rattle.tsn_edit.specs.Changes.{put_all};
 ghost use Rattle.tsn_edit.specs.Configuration.{put};
 ghost use Rattle.tsn_edit.specs.Edits.{dangling, is_of_kind, referrer};
 ghost use Rattle.tsn_config.specs.Opening.{dangling_cause};
 ghost use Rattle.tsn_config.specs.Ids.{ids_of};
-ghost use Rattle.tsn_config.specs.Kinds.{port_of, filter_of, gate_of, meter_of};
+ghost use Rattle.tsn_config.specs.Kinds.{AreOfKinds, port_of, filter_of, gate_of, meter_of};
+ghost use Rattle.tsn_config.specs.Keeping.{refers};
 ghost use Rattle.tsn_config.specs.Views.{set_row};
 
 use crate::filters::Filters;
 use std::alloc::{AllocError, Global};
 use std::marker::Model;
+use tsn_edit::Part;
 use tsn_table::Table;
 use tsn_types::keys::{Key, Kind};
 use tsn_types::numbers::{Handle, Priority};
@@ -183,6 +186,16 @@ impl Rows {
         self.filters.referrer(key)
     }
 
+    /// The number of the least filter from this one on that refers to the key.
+    pub(crate) fn next_referrer(&self, key: &Key, from: u64) -> Option<u64>
+        requires { from ≤ 65536 }
+        ensures small { IfSome result (λ n. n < 65536) }
+        ensures there { IfSome result (λ n. (from ≤ n) × IsTrue (refers (map.get self.now.map (Key.Filter n)) key.now)) }
+        ensures least { (n : ℕ) → from ≤ n → IsTrue (refers (map.get self.now.map (Key.Filter n)) key.now) → MatchOption result ⊥ (λ least. least ≤ n) }
+    {
+        self.filters.next_referrer(key, from)
+    }
+
     /// Makes room for at least `count` rows in each table.
     pub(crate) fn reserve(&mut self, count: usize) -> Result<(), AllocError>
         ensures map { self.new.map ≡ self.old.map }
@@ -208,6 +221,18 @@ impl Rows {
             Key::Filter(id) => self.filters.set(id, value),
             Key::Gate(id) => set_row_of(&mut self.gates, id.get(), into_gate(value)),
             Key::Meter(id) => set_row_of(&mut self.meters, id.get(), into_meter(value)),
+        }
+    }
+
+    /// Sets the values after of the parts, each at its key.
+    pub(crate) fn set_all(&mut self, mut parts: Vec<Part>)
+        requires kinds { AreOfKinds parts.items }
+        requires room { length parts.items ≤ self.old.spare }
+        ensures map { self.new.map ≡ put_all self.old.map parts.items }
+        ensures spare { self.old.spare ≤ self.new.spare + length parts.items }
+    {
+        while let Some(part) = parts.pop() {
+            self.set(part.key, part.after);
         }
     }
 }

@@ -6,9 +6,9 @@ mod literals;
 
 use crate::comparing::same;
 use literals::{
-    Row, create_filter, create_gate, filter, filter_key, gate, gate_with, has_ids, is_default,
-    make, make_first_entries, meter, meter_key, on_a_config, on_a_copy, on_meter, port, port_key,
-    records_of, refused, stands,
+    Row, create_filter, create_gate, filter, filter_key, gate, gate_key, gate_with, has_ids,
+    is_default, make, make_first_entries, meter, meter_key, on_a_config, on_a_copy, on_meter, port,
+    port_key, records_of, refused, stands,
 };
 use std::alloc::Global;
 use std::process::Abort;
@@ -79,15 +79,6 @@ fn take_out(rt: &impl Abort, config: &mut Config, change: &Change) -> Result<(),
     Ok(())
 }
 
-// Makes the inverse of the change.
-fn put_back(rt: &impl Abort, config: &mut Config, change: Change) -> Result<(), Fail> {
-    config.reserve(1)?;
-    let back = change.inverse();
-    assert!(rt; config.fits(&back));
-    config.apply(back);
-    Ok(())
-}
-
 /// The removal of filter 3 from the first entries, where it has this meter.
 fn removal(meter: Option<MeterId>) -> Change {
     Change::of(Part {
@@ -102,7 +93,7 @@ fn take_out_and_put_back(rt: &impl Abort, config: &mut Config) -> Result<(), Fai
     assert!(rt; !config.fits(&removal(None)));
     let change = removal(on_meter(0));
     take_out(rt, config, &change)?;
-    put_back(rt, config, change)?;
+    make_at_once(rt, config, change.inverse())?;
     let whole = Record::Filter(filter(0, on_meter(0)));
     assert!(rt; stands(config, filter_key(3), &whole));
     Ok(())
@@ -115,6 +106,62 @@ fn a_change_fits_only_where_its_value_before_stands(rt: HostRuntime) -> Result<(
     on_a_config(alloc, standard, Records::new(alloc), |config| {
         make_first_entries(&rt, alloc, config)?;
         take_out_and_put_back(&rt, config)
+    })
+}
+
+fn made(key: Key, value: Record) -> Part {
+    Part {
+        key,
+        before: None,
+        after: Some(value),
+    }
+}
+
+/// Eight filters, each on a gate that comes with it.
+fn filters_with_their_gates(rt: &impl Abort, alloc: Global) -> Result<Change, Fail> {
+    let mut parts = Vec::new(alloc);
+    for number in 0..8 {
+        let value = Record::Filter(filter(number, None));
+        parts.push(made(filter_key(number), value))?;
+    }
+    for number in 0..8 {
+        parts.push(made(gate_key(number), Record::Gate(gate(alloc))))?;
+    }
+    assert!(rt; parts.len() == 16);
+    Ok(Change::of_many(parts))
+}
+
+fn make_at_once(rt: &impl Abort, config: &mut Config, change: Change) -> Result<(), Fail> {
+    config.reserve(change.parts().len())?;
+    assert!(rt; config.fits(&change));
+    config.apply(change);
+    Ok(())
+}
+
+fn has_filters_and_gates(
+    rt: &impl Abort,
+    alloc: Global,
+    config: &Config,
+    wanted: &[u64],
+) -> Result<(), Fail> {
+    has_ids(rt, alloc, config, Kind::Filter, wanted)?;
+    has_ids(rt, alloc, config, Kind::Gate, wanted)
+}
+
+/// A change of the most parts that there may be, made and taken back.
+#[test]
+fn sixteen_parts_are_made_and_taken_back(rt: HostRuntime) -> Result<(), Fail> {
+    let alloc = rt.alloc();
+    let standard = Limits::new(2, 16, 16, 16, 16).unwrap();
+    on_a_config(alloc, standard, Records::new(alloc), |config| {
+        let change = filters_with_their_gates(&rt, alloc)?;
+        let again = change.try_clone()?;
+        make_at_once(&rt, config, change)?;
+        has_filters_and_gates(&rt, alloc, config, &[0, 1, 2, 3, 4, 5, 6, 7])?;
+        assert!(&rt; !config.fits(&again));
+        assert!(&rt; config.fits_inverse(&again));
+        make_at_once(&rt, config, again.inverse())?;
+        has_filters_and_gates(&rt, alloc, config, &[])
     })
 }
 

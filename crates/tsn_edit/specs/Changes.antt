@@ -1,5 +1,5 @@
 -- Changes: what one does to a configuration, where it fits, and what it conflicts with. A change is its parts, on distinct keys.
-use Rattle.std.specs.Prelude.{◌≡◌, ℕ, Bool, ◌||◌, List, [], ◌∷◌, Option, find, map, flat_map}
+use Rattle.std.specs.Prelude.{◌≡◌, ℕ, Bool, ◌||◌, List, [], ◌∷◌, Option, find, length, map, flat_map}
 use Rattle.std.specs.List.{AllByRecursion, IsDistinct}
 use Rattle.std.specs.FinMap.{get}
 use Rattle.tsn_types.specs.declared.keys.Key.{Key}
@@ -27,9 +27,9 @@ abbrev pub put_all : Configuration → List Part → Configuration
 put_all c [] = c
 put_all c (p ∷ ps) = put (put_all c ps) p.key p.after
 
--- how many rows a change may add to a configuration, and so how much room it takes: that of its one part
+-- how many rows a change may add to a configuration, and so how much room it takes: one for each part
 abbrev pub room_of : Change → ℕ
-room_of e = 1
+room_of e = length (parts e)
 
 -- what the change leaves of c
 abbrev pub after_change : Configuration → Change → Configuration

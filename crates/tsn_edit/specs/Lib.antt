@@ -1,6 +1,9 @@
+pub mod Batches
 pub mod Changes
 pub mod Configuration
 pub mod Edits
+pub mod Held
+pub mod HeldEdits
 pub mod Parts
 pub mod Runs
 -- words of lower crates that the public clauses cite

@@ -1,5 +1,5 @@
--- What a change is made of: parts, on distinct keys. Today a change has one part.
-use Rattle.std.specs.Prelude.{List, map}
+-- What a change is made of: 1 to 16 parts, on distinct keys.
+use Rattle.std.specs.Prelude.{ℕ, ◌≤◌, List, map, length}
 use Rattle.tsn_edit.specs.declared.Part.{Part as OnePart}
 
 -- a part: a key with its value before and after
@@ -13,6 +13,14 @@ Change = List Part
 -- the parts of a change
 abbrev pub parts : Change → List Part
 parts e = e
+
+-- how many parts a change has at most
+abbrev pub most_parts : ℕ
+most_parts = 16
+
+-- there are 1 to 16 of them
+abbrev pub AreFew : List Part → Type 0
+AreFew ps = (1 ≤ length ps) × (length ps ≤ most_parts)
 
 -- a part with its values swapped
 abbrev pub inverse_part : Part → Part

@@ -2,17 +2,18 @@
 use Rattle.std.proofs.Common.{◌≡◌, ℕ, zero, suc, ◌+◌, ◌<◌, ◌≤◌, inl, Bool, true, false, cond, not, List, [], ◌∷◌, refl, sym, ◌∙◌, ap, Option, Some, None, arith, drop, filter, map}
 use Rattle.std.specs.Prelude.{◌==◌, option_map, nat_lt}
 use Rattle.std.specs.List.{find, filter_map, cons_option}
-use Rattle.std.specs.Option.{option_and_then, option_or}
+use Rattle.std.specs.Option.{option_and_then, option_map_or, option_or}
 use Rattle.std.proofs.lemmas.Bool.Decides.{nat_tests}
 use Rattle.std.proofs.lemmas.List.{drop-map}
+use Rattle.tsn_edit.specs.Changes.{room_of}
 use Rattle.tsn_edit.specs.Parts.{Change}
 use Rattle.tsn_edit.proofs.KeyFacts.{by_bool, by_option}
 use Rattle.tsn_journal.specs.declared.entries.What.{What}
 use Rattle.tsn_journal.specs.declared.entries.Entry.{Entry}
 use Rattle.tsn_journal.specs.declared.entries.MarkedEntry.{MarkedEntry}
-use Rattle.tsn_journal.specs.Entries.{Applied, IsNumbered, adds, applied, collect, is_taken_back, standing}
-use Rattle.tsn_journal.specs.Finding.{last_where, later_than, since}
-use Rattle.tsn_journal.specs.Marks.{AreMarked, entries_of, stands}
+use Rattle.tsn_journal.specs.Entries.{Applied, IsNumbered, added_parts, adds, applied, collect, is_taken_back, standing}
+use Rattle.tsn_journal.specs.Finding.{last_where, later_than, parts_of_all, since}
+use Rattle.tsn_journal.specs.Marks.{AreMarked, added_in, entries_of, stands}
 use Rattle.tsn_journal.proofs.LastWhere.{or_none}
 use Rattle.tsn_journal.proofs.Marking.{no_number}
 
@@ -106,6 +107,35 @@ filter_marked pick t p (m ∷ ms) own agree =
         → map (λ (x : Applied). x.number) (cond b (x ∷ xs) xs) ≡ map (λ (m : MarkedEntry). m.entry.number) (cond b (m ∷ ns) ns)
     number_first true x m xs ns is rest = λ i. is i ∷ rest i
     number_first false x m xs ns is rest = rest
+
+-- ---- and their parts
+
+stands_parts : (m : MarkedEntry) (x : Applied) → stands m ≡ Some x → room_of x.change ≡ added_parts m.entry.what
+stands_parts m x is = by_bool m.is_open
+    (λ on. by_option (adds m.entry.what)
+    (λ none. let none_at : None ≡ Some x = sym (ap (option_map (λ c. record { number = m.entry.number; session = m.entry.session; change = c })) none) ∙ sym (ap (λ b. cond b (applied adds m.entry) None) on) ∙ is in (cc))
+    (λ d some.
+    let found : Some (record { number = m.entry.number; session = m.entry.session; change = d }) ≡ Some x = sym (ap (option_map (λ c. record { number = m.entry.number; session = m.entry.session; change = c })) some) ∙ sym (ap (λ b. cond b (applied adds m.entry) None) on) ∙ is in
+    sym (ap (λ o. option_map_or (λ (y : Applied). room_of y.change) o 0) found) ∙ sym (ap (λ o. option_map_or room_of o 0) some)))
+    (λ off. let none_at : None ≡ Some x = sym (ap (λ b. cond b (applied adds m.entry) None) off) ∙ is in (cc))
+
+pub filter_parts : (t : Applied → Bool) (p : MarkedEntry → Bool) (ms : List MarkedEntry) → ((m : MarkedEntry) → p m ≡ passes t (stands m))
+    → parts_of_all (filter t (filter_map stands ms)) ≡ added_in (filter p ms)
+filter_parts t p [] agree = refl
+filter_parts t p (m ∷ ms) agree =
+    let rest = filter_parts t p ms agree in
+    let parts : Bool → ℕ = λ b. added_in (cond b (m ∷ filter p ms) (filter p ms)) in
+    by_option (stands m)
+    (λ none. ap (λ o. parts_of_all (filter t (cons_option o (filter_map stands ms)))) none ∙ rest ∙ ap parts (sym (agree m ∙ ap (passes t) none)))
+    (λ x some.
+    ap (λ o. parts_of_all (filter t (cons_option o (filter_map stands ms)))) some
+    ∙ parts_first (t x) x m (filter t (filter_map stands ms)) (filter p ms) (stands_parts m x some) rest
+    ∙ ap parts (sym (agree m ∙ ap (passes t) some)))
+  where
+    parts_first : (b : Bool) (x : Applied) (m : MarkedEntry) (xs : List Applied) (ns : List MarkedEntry) → room_of x.change ≡ added_parts m.entry.what → parts_of_all xs ≡ added_in ns
+        → parts_of_all (cond b (x ∷ xs) xs) ≡ added_in (cond b (m ∷ ns) ns)
+    parts_first true x m xs ns is rest = λ i. is i + rest i
+    parts_first false x m xs ns is rest = rest
 
 -- ---- the one of a number
 

@@ -13,9 +13,9 @@ use Rattle.tsn_journal.specs.declared.entries.What.TheVariants.{Made, Undone, Re
 use Rattle.tsn_journal.specs.declared.entries.Entry.{Entry}
 use Rattle.tsn_journal.specs.declared.entries.MarkedEntry.{MarkedEntry}
 use Rattle.tsn_journal.specs.Entries.{Applied, adds, applied, applies, is_made, is_taken_back, standing, undoes}
-use Rattle.tsn_journal.specs.Finding.{find_conflict_of_others, find_own_in_conflict, last_where, later_than, may_redo, own_standing, redo_of, standing_entry, undone_entry}
-use Rattle.tsn_journal.specs.Marks.{AreMarked, IsJournal, conflict_of_others, ends_redo, entries_of, is_in_conflict, is_others, is_own, stands}
-use Rattle.tsn_journal.proofs.Collecting.{IsOwn, applied-own, collect-marked, filter_marked, find_marked, last_marked, later_marked, passes, standing-marked, stands-own}
+use Rattle.tsn_journal.specs.Finding.{find_conflict_of_others, find_own_in_conflict, last_where, later_than, may_redo, own_standing, parts_of_all, redo_of, standing_entry, undone_entry}
+use Rattle.tsn_journal.specs.Marks.{AreMarked, IsJournal, added_in, conflict_of_others, ends_redo, entries_of, is_in_conflict, is_others, is_own, stands}
+use Rattle.tsn_journal.proofs.Collecting.{IsOwn, applied-own, collect-marked, filter_marked, filter_parts, find_marked, last_marked, later_marked, passes, standing-marked, stands-own}
 
 abbrev num : Option Applied → Option ℕ
 num o = option_map (λ x. x.number) o
@@ -126,6 +126,9 @@ module _ (ms : List MarkedEntry) (is : IsJournal ms) where
       sym (length-map (filter (is_own s) ms) (λ (m : MarkedEntry). m.entry.number))
       ∙ ap length (own_numbers s)
       ∙ length-map (own_standing (entries_of ms) s) (λ (x : Applied). x.number)
+
+  pub own_parts : (s : ℕ) → added_in (filter (is_own s) ms) ≡ parts_of_all (own_standing (entries_of ms) s)
+  own_parts s = sym (ap (λ xs. parts_of_all (filter (λ x. x.session == s) xs)) (standing-marked ms is.marked) ∙ filter_parts (λ x. x.session == s) (is_own s) ms (own_agrees s))
 
 -- ---- what may be redone
 

@@ -1,12 +1,13 @@
 -- Groups as they are told apart, and what stays in one when a mark is put off.
-use Rattle.std.proofs.Common.{◌≡◌, ℕ, Bool, true, false, cond, ◌||◌, ◌&&◌, List, [], ◌∷◌, ◌++◌, Option, Some, None, refl, sym, ◌∙◌, ap, arith}
-use Rattle.std.specs.Prelude.{◌==◌, is_some, not, option_map, option_to_list}
+use Rattle.std.proofs.Common.{◌≡◌, ℕ, Bool, true, false, cond, ◌||◌, ◌&&◌, List, [], ◌∷◌, ◌++◌, Option, Some, None, refl, sym, ◌∙◌, ap, arith, map}
+use Rattle.std.specs.Prelude.{◌==◌, is_some, not, option_map}
+use Rattle.std.proofs.Math.Bool.{or_assoc}
 use Rattle.std.proofs.lemmas.Bool.Decides.{nat_tests}
 use Rattle.tsn_types.specs.declared.keys.Key.{Key}
-use Rattle.tsn_types.specs.declared.records.Refs.{Refs}
-use Rattle.tsn_types.specs.Keys.{has, keys_of_refs, refs_of, same_key}
-use Rattle.tsn_edit.specs.Parts.{Change, Part}
-use Rattle.tsn_edit.proofs.KeyFacts.{by_bool, one_key, same_itself}
+use Rattle.tsn_types.specs.Keys.{has, refs_of, same_key}
+use Rattle.tsn_edit.specs.Changes.{keys_of, refs_after}
+use Rattle.tsn_edit.specs.Parts.{Change, Part, parts}
+use Rattle.tsn_edit.proofs.KeyFacts.{by_bool, has-append, one_key, same_itself}
 use Rattle.tsn_journal.specs.declared.entries.What.{What}
 use Rattle.tsn_journal.specs.declared.entries.Act.{Act}
 use Rattle.tsn_journal.specs.declared.entries.What.TheVariants.{Made, Undone, Redone, Acted}
@@ -14,7 +15,7 @@ use Rattle.tsn_journal.specs.declared.entries.MarkedEntry.{MarkedEntry}
 use Rattle.tsn_journal.specs.declared.groups.Group.{Group}
 use Rattle.tsn_journal.specs.declared.groups.Group.TheVariants.{On, RefersTo, Of, EndsRedo}
 use Rattle.tsn_journal.specs.Entries.{Applied, adds, applied, is_made, takes_back, undoes}
-use Rattle.tsn_journal.specs.Index.{belongs, belongs_to_others, group_if, is_among, is_by, is_on, refers, standing_change}
+use Rattle.tsn_journal.specs.Index.{belongs, belongs_to_others, group_if, groups_of_parts, is_among, is_by, is_on, refers, standing_change}
 use Rattle.tsn_journal.specs.Latest.{same_group}
 use Rattle.tsn_journal.specs.Marks.{mark_off, stands}
 
@@ -100,30 +101,36 @@ none_true b fails passes = (cc)
 same_one : (k y : Key) → same_key k y ≡ true → same_group (RefersTo y) (RefersTo k) ≡ true
 same_one k y h = ap (λ x. same_group (RefersTo y) (RefersTo x)) (one_key k y h) ∙ group_itself (RefersTo y)
 
-refs_among : (a b : Option Key) (rest : List (Option Group)) (k : Key) → has (option_to_list a ++ option_to_list b) k ≡ true → is_among (option_map RefersTo a ∷ option_map RefersTo b ∷ rest) (RefersTo k) ≡ true
-refs_among None None rest k h = (cc)
-refs_among None (Some y) rest k h = or_true _ _ (either (same_key k y) false h (same_one k y) (λ f. (cc)))
-refs_among (Some x) None rest k h = or_true _ _ (either (same_key k x) false h (same_one k x) (λ f. (cc)))
-refs_among (Some x) (Some y) rest k h =
-    either (same_key k x) (same_key k y || false) h
-    (λ first. or_true _ _ (same_one k x first))
-    (λ second. or_else _ _ (or_true _ _ (either (same_key k y) false second (same_one k y) (λ f. (cc)))))
+pub is_among-append : (gs hs : List (Option Group)) (g : Group) → is_among (gs ++ hs) g ≡ (is_among gs g || is_among hs g)
+is_among-append [] hs g = refl
+is_among-append (None ∷ gs) hs g = is_among-append gs hs g
+is_among-append (Some x ∷ gs) hs g = ap (λ b. same_group x g || b) (is_among-append gs hs g) ∙ sym (or_assoc (same_group x g) (is_among gs g) (is_among hs g))
 
-pass_of : (a b : Option Key) (rest : List (Option Group)) (s : ℕ) → is_among (option_map RefersTo a ∷ option_map RefersTo b ∷ rest) (Of s) ≡ is_among rest (Of s)
-pass_of None None rest s = refl
-pass_of None (Some y) rest s = refl
-pass_of (Some x) None rest s = refl
-pass_of (Some x) (Some y) rest s = refl
+among_first : (gs hs : List (Option Group)) (g : Group) → is_among gs g ≡ true → is_among (gs ++ hs) g ≡ true
+among_first gs hs g h = is_among-append gs hs g ∙ or_true _ _ h
 
-pass_redo : (a b : Option Key) (rest : List (Option Group)) (s : ℕ) → is_among (option_map RefersTo a ∷ option_map RefersTo b ∷ rest) (EndsRedo s) ≡ is_among rest (EndsRedo s)
-pass_redo None None rest s = refl
-pass_redo None (Some y) rest s = refl
-pass_redo (Some x) None rest s = refl
-pass_redo (Some x) (Some y) rest s = refl
+pub among_second : (gs hs : List (Option Group)) (g : Group) → is_among hs g ≡ true → is_among (gs ++ hs) g ≡ true
+among_second gs hs g h = is_among-append gs hs g ∙ or_else _ _ h
 
-pub has_all : (ks : List Key) (k : Key) → has (ks ++ []) k ≡ has ks k
-has_all [] k = refl
-has_all (x ∷ ks) k = ap (λ b. same_key k x || b) (has_all ks k)
+refs_among : (rs : List Key) (k : Key) → has rs k ≡ true → is_among (map (λ r. Some (RefersTo r)) rs) (RefersTo k) ≡ true
+refs_among [] k h = (cc)
+refs_among (r ∷ rs) k h = either (same_key k r) (has rs k) h
+    (λ first. or_true _ _ (same_one k r first))
+    (λ later. or_else _ _ (refs_among rs k later))
+
+on_among : (ps : List Part) (k : Key) → has (keys_of ps) k ≡ true → is_among (groups_of_parts ps) (On k) ≡ true
+on_among [] k h = (cc)
+on_among (p ∷ ps) k h = either (same_key k p.key) (has (keys_of ps) k) h
+    (λ same. or_true _ _ (ap (λ (x : Key). same_group (On p.key) (On x)) (one_key k p.key same) ∙ group_itself (On p.key)))
+    (λ later. or_else _ _ (among_second (map (λ r. Some (RefersTo r)) (refs_of p.after)) (groups_of_parts ps) (On k) (on_among ps k later)))
+
+refers_among : (ps : List Part) (k : Key) → has (refs_after ps) k ≡ true → is_among (groups_of_parts ps) (RefersTo k) ≡ true
+refers_among [] k h = (cc)
+refers_among (p ∷ ps) k h =
+    let refs = map (λ r. Some (RefersTo r)) (refs_of p.after) in
+    either (has (refs_of p.after) k) (has (refs_after ps) k) (sym (has-append (refs_of p.after) (refs_after ps) k) ∙ h)
+    (λ first. among_first refs (groups_of_parts ps) (RefersTo k) (refs_among (refs_of p.after) k first))
+    (λ later. among_second refs (groups_of_parts ps) (RefersTo k) (refers_among ps k later))
 
 no_and : (a b : Bool) → a ≡ false → (a && b) ≡ false
 no_and a b h = (cc)
@@ -132,24 +139,21 @@ pub not_standing : (m : MarkedEntry) → adds m.entry.what ≡ None → (q : ℕ
 not_standing m none q = no_and (is_some (stands m)) (m.entry.session == q)
     (elim m.is_open as (λ b. is_some (cond b (applied adds m.entry) None) ≡ false) [ true ↦ ap (λ o. is_some {T = Applied} (option_map (λ d. record { number = m.entry.number; session = m.entry.session; change = d }) o)) none | false ↦ refl ])
 
-module _ (p : Part) (refs : Refs) (s : ℕ) (redo : Option Group) (m : MarkedEntry) (c : Change) (one : c ≡ p ∷ []) (refers' : keys_of_refs refs ≡ refs_of p.after) (session : m.entry.session ≡ s) (adds' : adds m.entry.what ≡ Some c) where
+module _ (s : ℕ) (redo : Option Group) (m : MarkedEntry) (c : Change) (session : m.entry.session ≡ s) (adds' : adds m.entry.what ≡ Some c) where
   abbrev pub the_groups : List (Option Group)
-  the_groups = Some (On p.key) ∷ option_map RefersTo refs.first ∷ option_map RefersTo refs.second ∷ Some (Of s) ∷ redo ∷ []
+  the_groups = groups_of_parts (parts c) ++ Some (Of s) ∷ redo ∷ []
 
-  while_open : (t : Option Change → Bool) → t None ≡ false → t (standing_change m) ≡ true → t (Some (p ∷ [])) ≡ true
+  while_open : (t : Option Change → Bool) → t None ≡ false → t (standing_change m) ≡ true → t (Some c) ≡ true
   while_open t none h = by_bool m.is_open
-      (λ yes. ap (λ x. t (Some x)) (sym one) ∙ ap t (sym adds') ∙ ap (λ b. t (cond b (adds m.entry.what) None)) (sym yes) ∙ h)
+      (λ yes. ap t (sym adds') ∙ ap (λ b. t (cond b (adds m.entry.what) None)) (sym yes) ∙ h)
       (λ no. none_true (t None) none (ap (λ b. t (cond b (adds m.entry.what) None)) (sym no) ∙ h))
 
   pub covers : ((q : ℕ) → belongs (EndsRedo q) m ≡ true → is_among (redo ∷ []) (EndsRedo q) ≡ true) → (g : Group) → belongs g m ≡ true → is_among the_groups g ≡ true
-  covers ends (On k) h =
-      either (same_key k p.key) false (while_open (is_on k) refl h)
-      (λ same. or_true _ _ (ap (λ (x : Key). same_group (On p.key) (On x)) (one_key k p.key same) ∙ group_itself (On p.key)))
-      (λ f. (cc))
-  covers ends (RefersTo k) h = refs_among refs.first refs.second (Some (Of s) ∷ redo ∷ []) k (ap (λ ks. has ks k) refers' ∙ sym (has_all (refs_of p.after) k) ∙ while_open (refers k) refl h)
+  covers ends (On k) h = among_first (groups_of_parts (parts c)) (Some (Of s) ∷ redo ∷ []) (On k) (on_among (parts c) k (while_open (is_on k) refl h))
+  covers ends (RefersTo k) h = among_first (groups_of_parts (parts c)) (Some (Of s) ∷ redo ∷ []) (RefersTo k) (refers_among (parts c) k (while_open (refers k) refl h))
   covers ends (Of q) h =
-      pass_of refs.first refs.second (Some (Of s) ∷ redo ∷ []) q ∙ or_true _ _ (ap (λ n. n == q) (sym session) ∙ second_true _ _ h)
-  covers ends (EndsRedo q) h = pass_redo refs.first refs.second (Some (Of s) ∷ redo ∷ []) q ∙ ends q h
+      among_second (groups_of_parts (parts c)) (Some (Of s) ∷ redo ∷ []) (Of q) (or_true _ _ (ap (λ n. n == q) (sym session) ∙ second_true _ _ h))
+  covers ends (EndsRedo q) h = among_second (groups_of_parts (parts c)) (Some (Of s) ∷ redo ∷ []) (EndsRedo q) (ends q h)
 
 first_true : (a b : Bool) → (a && b) ≡ true → a ≡ true
 first_true true b h = refl

@@ -1,15 +1,17 @@
 -- A journal with its index: with more room, and with an entry more.
-use Rattle.std.proofs.Common.{◌≡◌, ℕ, ◌+◌, ◌-◌, ◌*◌, ◌≤◌, List, [], ◌∷◌, ◌++◌, refl, sym, ap, subst, arith, length, map}
+use Rattle.std.proofs.Common.{◌≡◌, ℕ, ◌+◌, ◌-◌, ◌*◌, ◌≤◌, List, [], ◌∷◌, ◌++◌, refl, sym, ◌∙◌, ap, subst, arith, length, map, Some}
 use Rattle.std.proofs.lemmas.List.{length-append, length-map}
 use Rattle.tsn_journal.specs.declared.entries.What.{What}
 use Rattle.tsn_journal.specs.declared.entries.MarkedEntry.{MarkedEntry}
 use Rattle.tsn_journal.specs.declared.groups.Group.{Group}
 use Rattle.tsn_journal.specs.declared.index.Index.{Index}
-use Rattle.tsn_journal.specs.Index.{ArePlaces, HasRoom, IsIndexed, IsIndexedButNewest, IsKept, IsLast, TakesNoRoom, TakesRoom, belongs}
+use Rattle.tsn_journal.specs.Index.{ArePlaces, HasRoom, IsIndexed, IsIndexedButNewest, IsKept, IsLast, NewestAdds, TakesNoRoom, TakesRoom, belongs, places_for}
 use Rattle.tsn_journal.specs.Latest.{latest_of}
-use Rattle.tsn_journal.specs.Entries.{IsNumbered}
+use Rattle.std.specs.List.{slice_get}
+use Rattle.tsn_journal.specs.Entries.{IsNumbered, added_parts}
 use Rattle.tsn_journal.specs.Marks.{IsJournal, entries_of, mark_off}
 use Rattle.tsn_journal.proofs.Indexing.{indexed_more, indexed_off}
+use Rattle.tsn_journal.proofs.Links.{end_at, some_of}
 use Rattle.tsn_journal.proofs.Marking.{journal_push, new_entry}
 
 -- the index says the same where it has the same places and the same latest ones
@@ -27,13 +29,14 @@ no_index a places latest = record {
       (subst (λ j. IsLast g (belongs g) [] [] j 1) (sym (latest g)) (record { within = omega arith; group = refl; none_later = λ i m low high at. (cc) }));
 }
 
-module _ (ms : List MarkedEntry) (len capacity : ℕ) (a : Index) (room : ℕ) (is : IsKept ms len capacity a room) (ns : List MarkedEntry) (b : Index) (same : ns ≡ ms) (places : b.places.items ≡ a.places.items) (latest : (g : Group) → latest_of b.latest g ≡ latest_of a.latest g) where
-  pub kept_reserved : (len' capacity' room' : ℕ) → len' ≡ len → len' + room' ≤ capacity' → len' + room' ≤ 65536 → HasRoom (5 * room') b → IsKept ns len' capacity' b room'
-  kept_reserved len' capacity' room' as_many entries few places' = record {
+module _ (ms : List MarkedEntry) (len capacity : ℕ) (a : Index) (room parts : ℕ) (is : IsKept ms len capacity a room parts) (ns : List MarkedEntry) (b : Index) (same : ns ≡ ms) (places : b.places.items ≡ a.places.items) (latest : (g : Group) → latest_of b.latest g ≡ latest_of a.latest g) where
+  pub kept_reserved : (len' capacity' room' parts' : ℕ) → len' ≡ len → len' + room' ≤ capacity' → len' + room' ≤ 65536 → parts' ≤ 1048576 → HasRoom (places_for room' parts') b → IsKept ns len' capacity' b room' parts'
+  kept_reserved len' capacity' room' parts' as_many entries few few_parts places' = record {
     journal = subst IsJournal (sym same) is.journal;
     indexed = subst (λ xs. IsIndexed xs b) (sym same) (indexed_same ms a b places latest is.indexed);
     entries = entries;
     few = few;
+    few_parts = few_parts;
     few_places = omega (arith, ap length places, is.few_places, as_many);
     places = places';
   }
@@ -50,15 +53,15 @@ still_room n a b h k = record {
   };
 }
 
-pub less_room : (n : ℕ) (a b : Index) → 1 ≤ n → TakesRoom 5 a b → HasRoom (5 * n) a → HasRoom (5 * (n - 1)) b
-less_room n a b some h k = record {
-  places = record { capacity = omega (arith, h.places.len, h.places.capacity, k.places.capacity); few = omega (arith, h.places.items, k.places.few) };
+pub less_room : (n p k : ℕ) (a b : Index) → 1 ≤ n → k ≤ p → TakesRoom (places_for 1 k) a b → HasRoom (places_for n p) a → HasRoom (places_for (n - 1) (p - k)) b
+less_room n p k a b some fewer h has = record {
+  places = record { capacity = omega (arith, h.places.len, h.places.capacity, has.places.capacity); few = omega (arith, h.places.items, has.places.few) };
   rows = record {
-    ports = omega (arith, h.rows.ports, k.rows.ports);
-    filters = omega (arith, h.rows.filters, k.rows.filters);
-    gates = omega (arith, h.rows.gates, k.rows.gates);
-    meters = omega (arith, h.rows.meters, k.rows.meters);
-    sessions = omega (arith, h.rows.sessions, k.rows.sessions);
+    ports = omega (arith, h.rows.ports, has.rows.ports);
+    filters = omega (arith, h.rows.filters, has.rows.filters);
+    gates = omega (arith, h.rows.gates, has.rows.gates);
+    meters = omega (arith, h.rows.meters, has.rows.meters);
+    sessions = omega (arith, h.rows.sessions, has.rows.sessions);
   };
 }
 
@@ -76,18 +79,27 @@ module _ (w : What) (s : ℕ) (ms ns : List MarkedEntry) (pushed : ns ≡ map (m
   pub pushed_few : length ms + 1 ≤ 65536 → length ns ≤ 65536
   pushed_few h = omega (arith, ap length pushed, length-append (map (mark_off w) ms) (new_entry ms s w ∷ []), length-map ms (mark_off w), h)
 
-  pub kept_pushed : (len capacity len' capacity' room : ℕ) (a b : Index) → 1 ≤ room → IsKept ms len capacity a room → length ms ≡ len → len' ≡ len + 1 → capacity' ≡ capacity → IsIndexed ns b → TakesRoom 5 a b → IsKept ns len' capacity' b (room - 1)
-  kept_pushed len capacity len' capacity' room a b some is count longer same indexed takes = record {
+  pub kept_pushed : (len capacity len' capacity' room parts k : ℕ) (a b : Index) → 1 ≤ room → k ≤ parts → k ≤ 16 → IsKept ms len capacity a room parts → length ms ≡ len → len' ≡ len + 1 → capacity' ≡ capacity → IsIndexed ns b
+      → TakesRoom (places_for 1 k) a b → IsKept ns len' capacity' b (room - 1) (parts - k)
+  kept_pushed len capacity len' capacity' room parts k a b some fewer wide is count longer same indexed takes = record {
     journal = journal_push ms s w ns is.journal (omega (arith, is.few)) pushed;
     indexed = indexed;
     entries = omega (arith, is.entries);
     few = omega (arith, is.few);
+    few_parts = omega (arith, is.few_parts);
     few_places = omega (arith, is.few_places, takes.places.items);
-    places = less_room room a b some takes is.places;
+    places = less_room room parts k a b some fewer takes is.places;
   }
 
-pub room_for_five : (n : ℕ) (a : Index) → 1 ≤ n → HasRoom (5 * n) a → HasRoom 5 a
-room_for_five n a some h = record {
+  -- the newest entry is the one that was pushed
+  pub pushed_adds : NewestAdds ns (added_parts w)
+  pushed_adds m at =
+      let count : length ns ≡ length (map (mark_off w) ms) + 1 = ap length pushed ∙ length-append (map (mark_off w) ms) (new_entry ms s w ∷ []) in
+      let last : slice_get ns (length ns - 1) ≡ Some (new_entry ms s w) = ap (λ xs. slice_get xs (length ns - 1)) pushed ∙ end_at (map (mark_off w) ms) (new_entry ms s w) (length ns - 1) (omega (arith, count)) in
+      ap (λ (x : MarkedEntry). added_parts x.entry.what) (some_of _ _ (sym at ∙ last))
+
+pub room_for_one : (n p k : ℕ) (a : Index) → 1 ≤ n → k ≤ p → HasRoom (places_for n p) a → HasRoom (places_for 1 k) a
+room_for_one n p k a some fewer h = record {
   places = record { capacity = omega (arith, h.places.capacity); few = omega (arith, h.places.few) };
   rows = record { ports = omega (arith, h.rows.ports); filters = omega (arith, h.rows.filters); gates = omega (arith, h.rows.gates); meters = omega (arith, h.rows.meters); sessions = omega (arith, h.rows.sessions) };
 }

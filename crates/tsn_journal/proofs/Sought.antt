@@ -1,15 +1,16 @@
 -- A conflict with a change, sought in the groups of its key and of what it refers to.
-use Rattle.std.proofs.Common.{◌≡◌, ℕ, zero, suc, ◌+◌, ◌<◌, ◌≤◌, Bool, true, false, cond, ◌||◌, ◌&&◌, List, [], ◌∷◌, ◌++◌, refl, sym, ◌∙◌, ap, Option, Some, None, arith, drop}
+use Rattle.std.proofs.Common.{◌≡◌, ℕ, zero, suc, ◌+◌, ◌<◌, ◌≤◌, Bool, true, false, cond, ◌||◌, ◌&&◌, List, [], ◌∷◌, ◌++◌, refl, sym, ◌∙◌, ap, Option, Some, None, arith, drop, take, get_or, length, append_assoc}
 use Rattle.std.specs.Prelude.{is_some, nat_lt, option_map, option_to_list}
 use Rattle.std.specs.Option.{option_or}
 use Rattle.std.proofs.lemmas.Bool.Decides.{nat_tests}
+use Rattle.std.proofs.lemmas.List.{take_more}
 use Rattle.tsn_types.specs.declared.keys.Key.{Key}
 use Rattle.tsn_types.specs.declared.records.Refs.{Refs}
 use Rattle.tsn_types.specs.Keys.{has, keys_of_refs, meets, refs_of, same_key}
 use Rattle.std.proofs.lemmas.Cmp.{eq_by_cmp_equiv}
-use Rattle.tsn_edit.specs.Changes.{conflicts, keys_of, refs_after}
+use Rattle.tsn_edit.specs.Changes.{conflicts, keys_of, refs_after, refs_before}
 use Rattle.tsn_edit.specs.Parts.{Change, Part, parts}
-use Rattle.tsn_edit.proofs.KeyFacts.{by_option, keys_total}
+use Rattle.tsn_edit.proofs.KeyFacts.{by_option, has-append, keys_of-append, keys_total}
 use Rattle.tsn_journal.specs.declared.entries.What.{What}
 use Rattle.tsn_journal.specs.declared.entries.What.TheVariants.{Made, Undone, Redone, Acted}
 use Rattle.tsn_journal.specs.declared.entries.MarkedEntry.{MarkedEntry}
@@ -171,3 +172,70 @@ later_last t n ms h = sym (later_from t 0 n ms h ∙ ap (λ j. above j (at (last
 pub never : (ms : List MarkedEntry) → last_where (λ m. false) ms ≡ None
 never [] = refl
 never (m ∷ ms) = ap (λ o. option_or o None) (never ms)
+
+-- ---- a change of several parts, part by part
+
+none_before : (d : Change) → conflicts d [] ≡ false
+none_before d = (λ i. none_met (keys_of (parts d)) i || (none_met (refs_after (parts d)) i || none_met (keys_of (parts d)) i))
+
+pub no_parts : (o : Option Change) → is_in_conflict o [] ≡ false
+no_parts None = refl
+no_parts (Some d) = none_before d
+
+meets_both : (ks ls ls' : List Key) → meets ks (ls ++ ls') ≡ (meets ks ls || meets ks ls')
+meets_both [] ls ls' = refl
+meets_both (k ∷ ks) ls ls' = (λ i. has-append ls ls' k i || meets_both ks ls ls' i) ∙ swap_or (has ls k) (has ls' k) (meets ks ls) (meets ks ls')
+
+keys_both : (es fs : List Part) → keys_of (es ++ fs) ≡ keys_of es ++ keys_of fs
+keys_both es fs = keys_of-append es fs
+
+refs_both : (es fs : List Part) → refs_before (es ++ fs) ≡ refs_before es ++ refs_before fs
+refs_both [] fs = refl
+refs_both (e ∷ es) fs = ap (λ rs. refs_of e.before ++ rs) (refs_both es fs) ∙ sym (append_assoc (refs_of e.before) (refs_before es) (refs_before fs))
+
+conflicts_both : (d es fs : Change) → conflicts d (es ++ fs) ≡ (conflicts d es || conflicts d fs)
+conflicts_both d es fs =
+    let ks = keys_of (parts d) in
+    let rs = refs_after (parts d) in
+    (λ i. (ap (meets ks) (keys_both es fs) ∙ meets_both ks (keys_of es) (keys_of fs)) i
+    || ((ap (meets rs) (keys_both es fs) ∙ meets_both rs (keys_of es) (keys_of fs)) i || (ap (meets ks) (refs_both es fs) ∙ meets_both ks (refs_before es) (refs_before fs)) i))
+    ∙ ap (λ b. (meets ks (keys_of es) || meets ks (keys_of fs)) || b) (swap_or (meets rs (keys_of es)) (meets rs (keys_of fs)) (meets ks (refs_before es)) (meets ks (refs_before fs)))
+    ∙ swap_or (meets ks (keys_of es)) (meets ks (keys_of fs)) (meets rs (keys_of es) || meets ks (refs_before es)) (meets rs (keys_of fs) || meets ks (refs_before fs))
+
+in_conflict_both : (o : Option Change) (es fs : Change) → is_in_conflict o (es ++ fs) ≡ (is_in_conflict o es || is_in_conflict o fs)
+in_conflict_both None es fs = refl
+in_conflict_both (Some d) es fs = conflicts_both d es fs
+
+and_either : (p a b : Bool) → (p && (a || b)) ≡ ((p && a) || (p && b))
+and_either true a b = refl
+and_either false a b = refl
+
+-- the latest entry in conflict with one part more
+pub sought_more : (q : MarkedEntry → Bool) (ms : List MarkedEntry) (es fs : Change) → IsNumbered 1 (entries_of ms)
+    → later_of (at (last_where (λ m. q m && is_in_conflict (applies m.entry.what) es) ms)) (at (last_where (λ m. q m && is_in_conflict (applies m.entry.what) fs) ms))
+    ≡ at (last_where (λ m. q m && is_in_conflict (applies m.entry.what) (es ++ fs)) ms)
+sought_more q ms es fs numbered =
+    sym (last_either (λ m. q m && is_in_conflict (applies m.entry.what) es) (λ m. q m && is_in_conflict (applies m.entry.what) fs) 1 ms numbered)
+    ∙ ap (λ (t : MarkedEntry → Bool). at (last_where t ms))
+    (λ i m. sym (ap (λ b. q m && b) (in_conflict_both (applies m.entry.what) es fs) ∙ and_either (q m) (is_in_conflict (applies m.entry.what) es) (is_in_conflict (applies m.entry.what) fs)) i)
+
+-- and with no part
+pub sought_none : (q : MarkedEntry → Bool) (ms : List MarkedEntry) → at (last_where (λ m. q m && is_in_conflict (applies m.entry.what) []) ms) ≡ None
+sought_none q ms =
+    ap (λ (t : MarkedEntry → Bool). at (last_where t ms)) (λ i m. (ap (λ b. q m && b) (no_parts (applies m.entry.what)) ∙ no_and (q m)) i)
+    ∙ ap at (never ms)
+
+take_next : (ps : List Part) (i : ℕ) (p : Part) → i < length ps → p ≡ get_or ps i p → take (i + 1) ps ≡ take i ps ++ p ∷ []
+take_next ps i p short is = take_more ps i p short ∙ ap (λ x. take i ps ++ x ∷ []) (sym is)
+
+-- a step of the loop over the parts of a change
+pub sought_next : (q : MarkedEntry → Bool) (ms : List MarkedEntry) (ps : List Part) (i : ℕ) (p : Part) (latest found next : Option ℕ) → IsNumbered 1 (entries_of ms) → i < length ps → p ≡ get_or ps i p
+    → latest ≡ at (last_where (λ m. q m && is_in_conflict (applies m.entry.what) (take i ps)) ms)
+    → found ≡ at (last_where (λ m. q m && is_in_conflict (applies m.entry.what) (p ∷ [])) ms)
+    → next ≡ later_of latest found
+    → next ≡ at (last_where (λ m. q m && is_in_conflict (applies m.entry.what) (take (i + 1) ps)) ms)
+sought_next q ms ps i p latest found next numbered short is so_far here then =
+    then
+    ∙ (λ j. later_of (so_far j) (here j))
+    ∙ sought_more q ms (take i ps) (p ∷ []) numbered
+    ∙ ap (λ (es : Change). at (last_where (λ m. q m && is_in_conflict (applies m.entry.what) es) ms)) (sym (take_next ps i p short is))

@@ -10,6 +10,8 @@ use Rattle.tsn_journal.specs.declared.entries.MarkedEntry.{MarkedEntry}
 use Rattle.tsn_journal.specs.declared.groups.Group.{Group}
 use Rattle.tsn_journal.specs.declared.index.Place.{Place}
 use Rattle.tsn_journal.specs.Finding.{last_where}
+use Rattle.tsn_journal.specs.Entries.{added_parts}
+use Rattle.tsn_journal.specs.Marks.{added_in}
 use Rattle.tsn_journal.specs.Index.{ArePlaces, IsLast, belongs, is_of, number_at, number_of, place_at}
 use Rattle.tsn_journal.proofs.Links.{one, the_place}
 use Rattle.tsn_journal.proofs.LastWhere.{found_here}
@@ -96,6 +98,14 @@ one_counted n F false m same holds = (cc)
 pub none_counted : (n : ℕ) (F : List MarkedEntry) (b : Bool) (m : MarkedEntry) → n ≡ length F → b ≡ false → n ≡ length (cond b (m ∷ F) F)
 none_counted n F true m same fails = (cc)
 none_counted n F false m same fails = same
+
+pub one_added : (n : ℕ) (F : List MarkedEntry) (b : Bool) (m : MarkedEntry) (k : ℕ) → n ≡ added_in F → b ≡ true → k ≡ added_parts m.entry.what → n + k ≡ added_in (cond b (m ∷ F) F)
+one_added n F true m k same holds parts = omega (arith, same, parts)
+one_added n F false m k same holds parts = (cc)
+
+pub none_added : (n : ℕ) (F : List MarkedEntry) (b : Bool) (m : MarkedEntry) → n ≡ added_in F → b ≡ false → n ≡ added_in (cond b (m ∷ F) F)
+none_added n F true m same fails = (cc)
+none_added n F false m same fails = same
 
 pub one_numbered : (ns : List ℕ) (F : List MarkedEntry) (b : Bool) (m : MarkedEntry) → reverse ns ≡ map (λ (k : MarkedEntry). k.entry.number) F → b ≡ true → reverse (ns ++ m.entry.number ∷ []) ≡ map (λ (k : MarkedEntry). k.entry.number) (cond b (m ∷ F) F)
 one_numbered ns F true m same holds = reverse-append ns (m.entry.number ∷ []) ∙ ap (λ xs. m.entry.number ∷ xs) same

@@ -5,6 +5,8 @@ use Rattle.tsn_types.specs.declared.keys.Key.{Key}
 use Rattle.tsn_types.specs.declared.refusals.Refusal.{Refusal}
 use Rattle.tsn_types.specs.declared.refusals.Refusal.TheVariants.{JournalFull}
 use Rattle.tsn_types.specs.Limits.{unless}
+use Rattle.std.specs.Option.{option_map_or}
+use Rattle.tsn_edit.specs.Changes.{room_of}
 use Rattle.tsn_edit.specs.Parts.{Change, inverse}
 use Rattle.tsn_journal.specs.declared.entries.Act.{Act}
 use Rattle.tsn_journal.specs.declared.entries.What.{What}
@@ -65,6 +67,10 @@ is_made w = is_some (applies w) && is_none (names w)
 -- the change of an entry that may stand: one that was made or redone
 abbrev pub adds : What → Option Change
 adds w = if is_undo w then None else applies w
+
+-- how many parts of changes it adds to what may stand: none where it takes back an edit, or is an act
+abbrev pub added_parts : What → ℕ
+added_parts w = option_map_or room_of (adds w) 0
 
 -- the change by which an entry took back another's
 abbrev pub undoes : What → Option Change

@@ -1,8 +1,8 @@
 -- What the finders of a journal look for.
-use Rattle.std.specs.Prelude.{ℕ, Bool, ◌&&◌, not, List, [], ◌∷◌, Option, Some, None, is_some, filter, ◌==◌, nat_lt, if◌then◌else◌}
+use Rattle.std.specs.Prelude.{ℕ, ◌+◌, Bool, ◌&&◌, not, List, [], ◌∷◌, Option, Some, None, is_some, filter, ◌==◌, nat_lt, if◌then◌else◌}
 use Rattle.std.specs.List.{find, list_any}
 use Rattle.std.specs.Option.{option_and_then, option_or}
-use Rattle.tsn_edit.specs.Changes.{conflicts}
+use Rattle.tsn_edit.specs.Changes.{conflicts, room_of}
 use Rattle.tsn_edit.specs.Parts.{Change}
 use Rattle.tsn_journal.specs.declared.entries.Entry.{Entry}
 use Rattle.tsn_journal.specs.Entries.{Applied, applied, applies, collect, is_made, is_taken_back, standing, undoes}
@@ -42,6 +42,11 @@ last_of es s = last_where (λ x. x.session == s) (standing es)
 -- the standing entries of a session
 abbrev pub own_standing : List Entry → ℕ → List Applied
 own_standing es s = filter (λ x. x.session == s) (standing es)
+
+-- how many parts the changes of these have in all
+abbrev pub parts_of_all : List Applied → ℕ
+parts_of_all [] = 0
+parts_of_all (x ∷ xs) = room_of x.change + parts_of_all xs
 
 -- the standing entries of the other sessions
 abbrev pub others_standing : List Entry → ℕ → List Applied

@@ -1,19 +1,19 @@
 -- The index of a journal: of each entry a place in each group that it belongs to, linked to the place before it in that group,
 -- and to the last place before it there that is of another session.
-use Rattle.std.specs.Prelude.{◌≡◌, ℕ, zero, suc, ◌+◌, ◌-◌, ◌*◌, ◌++◌, ◌<◌, ◌≤◌, Bool, true, false, not, ◌&&◌, ◌||◌, List, [], ◌∷◌, Option, Some, None, ◌==◌, length, nat_lt, if◌then◌else◌}
+use Rattle.std.specs.Prelude.{◌≡◌, ℕ, zero, suc, ◌+◌, ◌-◌, ◌*◌, ◌++◌, ◌<◌, ◌≤◌, Bool, true, false, not, ◌&&◌, ◌||◌, List, [], ◌∷◌, Option, Some, None, ◌==◌, flat_map, length, map, nat_lt, if◌then◌else◌}
 use Rattle.std.specs.List.{slice_get}
 use Rattle.std.specs.Vec.{vec_capacity, vec_len}
 use Rattle.tsn_types.specs.declared.keys.Key.{Key}
-use Rattle.tsn_types.specs.Keys.{has}
+use Rattle.tsn_types.specs.Keys.{has, refs_of}
 use Rattle.tsn_edit.specs.Changes.{keys_of, refs_after}
-use Rattle.tsn_edit.specs.Parts.{Change, parts}
+use Rattle.tsn_edit.specs.Parts.{Change, Part, parts}
 use Rattle.tsn_journal.specs.declared.entries.MarkedEntry.{MarkedEntry}
 use Rattle.tsn_journal.specs.declared.groups.Group.{Group}
 use Rattle.tsn_journal.specs.declared.groups.Group.TheVariants.{On, RefersTo, Of, EndsRedo}
 use Rattle.tsn_journal.specs.declared.index.Index.{Index}
 use Rattle.tsn_journal.specs.declared.index.Place.{Place}
 use Rattle.tsn_journal.specs.Latest.{HasRows, TakesRows, latest_of, same_group}
-use Rattle.tsn_journal.specs.Entries.{adds, is_made, most_entries}
+use Rattle.tsn_journal.specs.Entries.{added_parts, adds, is_made, most_entries}
 use Rattle.tsn_journal.specs.Marks.{IsJournal, ends_redo, is_own}
 
 -- the change of a marked entry, where it stands
@@ -45,6 +45,13 @@ belongs_to_others g s m = belongs g m && not (m.entry.session == s)
 abbrev pub is_by : ℕ → Option MarkedEntry → Bool
 is_by s None = false
 is_by s (Some m) = m.entry.session == s
+
+-- the groups of a part: on its key, and referring to what its value after refers to
+abbrev pub part_groups : Part → List (Option Group)
+part_groups p = Some (On p.key) ∷ map (λ k. Some (RefersTo k)) (refs_of p.after)
+
+abbrev pub groups_of_parts : List Part → List (Option Group)
+groups_of_parts ps = flat_map (λ p. part_groups p) ps
 
 -- whether the group is among the groups
 abbrev pub is_among : List (Option Group) → Group → Bool
@@ -114,6 +121,10 @@ pub record IsNewest (ms : List MarkedEntry) (n s : ℕ) (c : Change) (ends : Boo
   pub change : (m : MarkedEntry) → slice_get ms (n - 1) ≡ Some m → adds m.entry.what ≡ Some c
   pub end : (m : MarkedEntry) → slice_get ms (n - 1) ≡ Some m → is_made m.entry.what ≡ ends
 
+-- the newest entry adds so many parts
+abbrev pub NewestAdds : List MarkedEntry → ℕ → Type 0
+NewestAdds ms n = (m : MarkedEntry) → slice_get ms (length ms - 1) ≡ Some m → added_parts m.entry.what ≡ n
+
 -- the group, where it is wanted
 abbrev pub group_if : Bool → Group → Option Group
 group_if true g = Some g
@@ -123,9 +134,14 @@ group_if false g = None
 abbrev pub set_at : Group → ℕ → (Group → ℕ) → Group → ℕ
 set_at g j latest q = if same_group g q then j else latest q
 
--- how many places there are at most
+-- how many places a journal may have, and make room for
 abbrev pub most_places : ℕ
-most_places = 5 * most_entries
+most_places = 100 * most_entries
+
+-- the places of so many entries that add so many parts: two of its session for each entry, and for each part one on its
+-- key and one for each of two references
+abbrev pub places_for : ℕ → ℕ → ℕ
+places_for entries parts = 2 * entries + 3 * parts
 
 -- there is room for n places more
 pub record HasPlaces (n : ℕ) (a : Index) : Type 0 where
@@ -171,14 +187,15 @@ pub record Adds (ms : List MarkedEntry) (wanted : Bool) (g : Group) (n s before 
   pub unwanted : wanted ≡ false → qs ≡ ps
   pub unwanted_place : wanted ≡ false → j ≡ before
 
--- how a journal keeps its entries: with all in the index, and with room for as many more as it says, each with five places
-pub record IsKept (ms : List MarkedEntry) (len capacity : ℕ) (index : Index) (room : ℕ) : Type 0 where
+-- how a journal keeps its entries: with all in the index, and with room for as many entries and parts more as it says
+pub record IsKept (ms : List MarkedEntry) (len capacity : ℕ) (index : Index) (room parts : ℕ) : Type 0 where
   pub journal : IsJournal ms
   pub indexed : IsIndexed ms index
   pub entries : len + room ≤ capacity
   pub few : len + room ≤ most_entries
-  pub few_places : length index.places.items ≤ 5 * len
-  pub places : HasRoom (5 * room) index
+  pub few_parts : parts ≤ 16 * most_entries
+  pub few_places : length index.places.items ≤ 50 * len
+  pub places : HasRoom (places_for room parts) index
 
 -- whose entries are sought: any session's, or those of others than one
 abbrev pub is_sought : Option ℕ → MarkedEntry → Bool

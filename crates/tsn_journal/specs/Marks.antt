@@ -1,5 +1,5 @@
 -- How a journal keeps its entries: each with a mark that is on until a later entry takes it back.
-use Rattle.std.specs.Prelude.{◌≡◌, ℕ, ◌≤◌, Bool, false, not, ◌||◌, ◌&&◌, is_some, List, [], ◌∷◌, Option, Some, None, ◌==◌, drop, map, length, nat_lt, option_map, if◌then◌else◌, refl}
+use Rattle.std.specs.Prelude.{◌≡◌, ℕ, ◌+◌, ◌≤◌, Bool, false, not, ◌||◌, ◌&&◌, is_some, List, [], ◌∷◌, Option, Some, None, ◌==◌, drop, map, length, nat_lt, option_map, if◌then◌else◌, refl}
 use Rattle.std.specs.Option.{option_and_then}
 use Rattle.std.specs.Coded.{Coded, code_by, coded×, coded_list, coded_ℕ}
 use Rattle.tsn_edit.specs.Changes.{conflicts}
@@ -8,19 +8,26 @@ use Rattle.tsn_journal.specs.contracts.entries.Entry as entry_row
 use Rattle.tsn_journal.specs.declared.entries.Entry.{Entry}
 use Rattle.tsn_journal.specs.declared.entries.MarkedEntry.{MarkedEntry}
 use Rattle.tsn_journal.specs.declared.entries.What.{What}
-use Rattle.tsn_journal.specs.Entries.{Applied, IsNumbered, adds, applied, applies, is_made, is_taken_back, most_entries, takes_back, undoes}
+use Rattle.tsn_journal.specs.Entries.{Applied, IsNumbered, added_parts, adds, applied, applies, is_made, is_taken_back, most_entries, takes_back, undoes}
 use Rattle.tsn_journal.specs.Finding.{last_where}
 
--- what contracts see of a journal: its entries, and how many more it certainly has room for
+-- what contracts see of a journal: its entries, how many more it certainly has room for, and for how many parts of changes
 pub record Log : Type 0 where
   pub entries : List Entry
   pub spare : ℕ
+  pub parts : ℕ
 
 abbrev pub log_code : Coded Log
-log_code = code_by (List Entry × ℕ) (coded× (coded_list entry_row.the_row.coded) coded_ℕ) (λ l. (l.entries, l.spare)) (λ p. record { entries = p.0; spare = p.1 }) (λ _. refl)
+log_code =
+    code_by (List Entry × (ℕ × ℕ)) (coded× (coded_list entry_row.the_row.coded) (coded× coded_ℕ coded_ℕ)) (λ l. (l.entries, (l.spare, l.parts))) (λ p. record { entries = p.0; spare = p.1.0; parts = p.1.1 }) (λ _. refl)
 
 abbrev pub entries_of : List MarkedEntry → List Entry
 entries_of ms = map (λ m. m.entry) ms
+
+-- how many parts these add to what may stand
+abbrev pub added_in : List MarkedEntry → ℕ
+added_in [] = 0
+added_in (m ∷ ms) = added_parts m.entry.what + added_in ms
 
 -- each mark is on unless a later entry takes its entry back
 abbrev pub AreMarked : List MarkedEntry → Type 0

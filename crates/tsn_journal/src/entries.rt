@@ -1,7 +1,8 @@
 //! Entries of the journal: which session did what.
-ghost use Rattle.std.specs.Prelude.{◌≡◌, ◌==◌, IfOk, is_some, option_map};
+ghost use Rattle.std.specs.Prelude.{◌≡◌, ◌≤◌, ◌==◌, IfOk, is_some, option_map};
 ghost use Rattle.std.specs.Option.{option_copied};
-ghost use Rattle.tsn_journal.specs.Entries.{adds, applied, applies, is_made, names, takes_back, undoes};
+ghost use Rattle.tsn_edit.specs.Parts.{most_parts};
+ghost use Rattle.tsn_journal.specs.Entries.{added_parts, adds, applied, applies, is_made, names, takes_back, undoes};
 ghost use Rattle.tsn_journal.specs.Marks.{ends_redo, entries_of, is_in_conflict, is_own, stands};
 
 use std::alloc::{AllocError, Global};
@@ -77,6 +78,17 @@ impl What {
             What::Made(change) => Some(change),
             What::Redone { change, .. } => Some(change),
             _ => None,
+        }
+    }
+
+    /// How many parts of changes it adds to what may stand: 0 to 16.
+    pub fn added_parts(&self) -> usize
+        ensures parts { result ≡ added_parts self.now }
+        ensures few { result ≤ most_parts }
+    {
+        match self.added() {
+            Some(change) => change.parts().len(),
+            None => 0,
         }
     }
 

@@ -1,5 +1,5 @@
 //! Looking through the marked entries of a journal, by number and from the back.
-ghost use Rattle.std.specs.Prelude.{◌≡◌, ◌==◌, ◌+◌, ◌<◌, ◌≤◌, ◌⊎◌, ◌&&◌, Bool, IfOk, IfSome, IsNone, drop, filter, is_some, length, map, option_map};
+ghost use Rattle.std.specs.Prelude.{◌≡◌, ◌==◌, ◌+◌, ◌<◌, ◌≤◌, ◌⊎◌, ◌&&◌, ◌∷◌, [], Bool, IfOk, IfSome, IsNone, drop, filter, is_some, length, map, option_map};
 ghost use Rattle.std.specs.List.{find};
 ghost use Rattle.std.specs.Option.{option_and_then, option_copied};
 ghost use Rattle.tsn_journal.specs.Entries.{IsNumbered, applies};
@@ -11,10 +11,10 @@ ghost use Rattle.tsn_journal.specs.Tests.{Tests};
 ghost use Rattle.tsn_journal.specs.declared.entries.MarkedEntry.{MarkedEntry as AnyEntry};
 
 use crate::entries::{Entry, MarkedEntry, What};
-use crate::groups::{Group, one_part, refs_of};
+use crate::groups::{Group, refs_of};
 use crate::index::Index;
 use std::alloc::{AllocError, Global};
-use tsn_edit::Change;
+use tsn_edit::{Change, Part};
 use tsn_types::keys::Key;
 
 /// The last entry that passes the test.
@@ -154,7 +154,26 @@ fn latest_conflict(
     ensures { result ≡ option_map (λ m. m.entry.number)
         (last_where (λ m. (is_some (stands m) && is_sought but m) && is_in_conflict (applies m.entry.what) change.now) marked.now) }
 {
-    let part = one_part(change);
+    let mut latest = None;
+    for part in change.parts() {
+        let with_part = conflict_with_part(index, marked, part, but);
+        latest = later_of(latest, with_part);
+    }
+    latest
+}
+
+/// The number of the latest such standing entry that is in conflict with a change of the part alone.
+fn conflict_with_part(
+    index: &Index,
+    marked: &[MarkedEntry],
+    part: &Part,
+    but: Option<u32>,
+) -> Option<u64>
+    requires index { IsIndexed marked.now index.now }
+    requires numbered { IsNumbered 1 (entries_of marked.now) }
+    ensures { result ≡ option_map (λ m. m.entry.number)
+        (last_where (λ m. (is_some (stands m) && is_sought but m) && is_in_conflict (applies m.entry.what) (part.now ∷ [])) marked.now) }
+{
     let latest = index.latest.key_places(part.key);
     let on_key = number_in(index, marked, &Group::On(part.key), latest.on, but);
     let to_key = number_in(

@@ -1,18 +1,21 @@
 //! Groups of entries that a finder looks through.
-ghost use Rattle.std.specs.Prelude.{◌≡◌, ◌∷◌, [], length, option_map, true};
-ghost use Rattle.tsn_types.specs.Keys.{has, keys_of_refs, refs_of};
+ghost use Rattle.std.specs.Prelude.{◌≡◌};
+ghost use Rattle.tsn_types.specs.Keys.{keys_of_refs, refs_of};
 ghost use Rattle.tsn_journal.specs.declared.entries.MarkedEntry.{MarkedEntry as AnyEntry};
 ghost use Rattle.tsn_journal.specs.declared.groups.Group.{Group as AnyGroup};
 ghost use Rattle.std.specs.Option.{option_copied};
 ghost use Rattle.tsn_journal.specs.Index.{belongs, is_among, standing_change};
 
-use crate::entries::{Entry, MarkedEntry, What};
-use tsn_edit::{Change, Part};
+use crate::entries::MarkedEntry;
+use tsn_edit::{Change, is_on, is_referred_after};
 use tsn_types::keys::Key;
 use tsn_types::records::{Record, Refs};
 
-/// How many groups an entry may belong to at most: on its key, referring to two, and two of its session.
-pub(crate) const MOST_GROUPS: usize = 5;
+/// How many groups of its session an entry may belong to at most.
+pub(crate) const SESSION_GROUPS: usize = 2;
+
+/// How many groups an entry may belong to at most for each part of its change: on its key, and referring to two.
+pub(crate) const PART_GROUPS: usize = 3;
 
 /// Entries that a finder looks through, the newest first.
 #[derive(Clone, Copy, Debug)]
@@ -27,13 +30,6 @@ pub(crate) enum Group {
     EndsRedo(u32),
 }
 
-/// The one part of a change.
-pub(crate) fn one_part(change: &Change) -> &Part
-    ensures { change.now ≡ result.now ∷ [] }
-{
-    &change.parts()[0]
-}
-
 /// What a value refers to; none refers to nothing.
 pub(crate) fn refs_of(value: &Option<Record>) -> Refs
     ensures { keys_of_refs result ≡ refs_of value.now }
@@ -44,16 +40,6 @@ pub(crate) fn refs_of(value: &Option<Record>) -> Refs
             first: None,
             second: None,
         },
-    }
-}
-
-/// Whether the value refers to the key; none refers to nothing.
-fn refers_to(value: &Option<Record>, key: &Key) -> bool
-    ensures { result ≡ has (refs_of value.now) key.now }
-{
-    match value {
-        Some(record) => record.refers_to(key),
-        None => false,
     }
 }
 
@@ -75,11 +61,11 @@ impl MarkedEntry {
     {
         match group {
             Group::On(key) => match self.standing_change() {
-                Some(change) => one_part(change).key == *key,
+                Some(change) => is_on(change.parts(), key),
                 None => false,
             },
             Group::RefersTo(key) => match self.standing_change() {
-                Some(change) => refers_to(&one_part(change).after, key),
+                Some(change) => is_referred_after(change.parts(), key),
                 None => false,
             },
             Group::Of(session) => self.is_own(*session),

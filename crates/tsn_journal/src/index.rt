@@ -3,22 +3,23 @@
 //! Places are only ever added. A link leads back from each to the last place before it in its group, and another to the
 //! last one that is of another session, so that a session's own entries are passed in one step; which of the entries
 //! still belong to the group, the marks say.
-ghost use Rattle.std.specs.Prelude.{◌≡◌, ◌&&◌, ◌*◌, ◌+◌, ◌-◌, ◌≤◌, ◌∷◌, [], Bool, IfOk, List, OnOk, Option, Some, filter, length, map, option_map, slice_get, true};
+ghost use Rattle.std.specs.Prelude.{◌≡◌, ◌&&◌, ◌+◌, ◌-◌, ◌≤◌, ◌∷◌, [], Bool, IfOk, List, OnOk, Option, Some, filter, length, map, option_map, slice_get, true};
 ghost use Rattle.std.specs.Option.{option_copied};
 ghost use Rattle.tsn_journal.specs.declared.entries.MarkedEntry.{MarkedEntry as AnyEntry};
 ghost use Rattle.tsn_journal.specs.declared.groups.Group.{Group as AnyGroup};
 ghost use Rattle.tsn_journal.specs.Entries.{most_entries};
 ghost use Rattle.tsn_journal.specs.Finding.{last_where};
 ghost use Rattle.tsn_journal.specs.declared.groups.Group.TheVariants.{EndsRedo, Of, On, RefersTo};
-ghost use Rattle.tsn_journal.specs.Index.{Adds, ArePlaces, HasPlaces, HasRoom, IsIndexed, IsIndexedBut, IsIndexedButNewest, IsLast, IsNewest, TakesNoRoom, TakesPlaces, TakesRoom, belongs, belongs_to_others, group_if, is_by, number_at, other_of};
+ghost use Rattle.tsn_journal.specs.Index.{Adds, ArePlaces, HasPlaces, HasRoom, IsIndexed, IsIndexedBut, IsIndexedButNewest, IsLast, IsNewest, NewestAdds, TakesNoRoom, TakesPlaces, TakesRoom, belongs, belongs_to_others, group_if, is_by, most_places, number_at, other_of, places_for};
 ghost use Rattle.tsn_journal.specs.Latest.{latest_of};
+ghost use Rattle.tsn_journal.specs.Marks.{added_in};
 ghost use Rattle.tsn_journal.specs.Tests.{Tests};
 
 use crate::entries::{Entry, MarkedEntry, What};
-use crate::groups::{Group, one_part, refs_of};
+use crate::groups::{Group, refs_of};
 use crate::latest::{KeyPlaces, Latest, SessionPlaces};
 use std::alloc::{AllocError, Global};
-use tsn_edit::Change;
+use tsn_edit::{Change, Part};
 use tsn_types::keys::Key;
 
 /// The place of an entry in a group. Places are counted from 1, and 0 is none.
@@ -54,7 +55,7 @@ impl Index {
 
     /// Makes room for `count` places more. Refused only for want of memory.
     pub(crate) fn reserve(&mut self, count: usize) -> Result<(), AllocError>
-        requires { length self.old.places.items + count ≤ 5 * most_entries }
+        requires { length self.old.places.items + count ≤ most_places }
         ensures latest { (g : AnyGroup) → latest_of self.new.latest g ≡ latest_of self.old.latest g }
         ensures ok { OnOk result (HasRoom count self.new) }
         ensures spare { TakesNoRoom self.old self.new }
@@ -92,14 +93,15 @@ impl Index {
         }
     }
 
-    /// Gives the newest entry its places, in room for five.
-    pub(crate) fn enter(&mut self, marked: &[MarkedEntry])
+    /// Gives the newest entry, which adds so many parts to what stands, its places, in room for them.
+    pub(crate) fn enter(&mut self, marked: &[MarkedEntry], parts: usize)
         requires index { IsIndexedButNewest marked.now self.old }
-        requires room { HasRoom 5 self.old }
+        requires parts { NewestAdds marked.now parts }
+        requires room { HasRoom (places_for 1 parts) self.old }
         requires some { 1 ≤ length marked.now }
         requires few { length marked.now ≤ most_entries }
         ensures index { IsIndexed marked.now self.new }
-        ensures room { TakesRoom 5 self.old self.new }
+        ensures room { TakesRoom (places_for 1 parts) self.old self.new }
     {
         let number = marked.len() as u32;
         let newest = &numbered(marked, number).entry;
@@ -126,15 +128,17 @@ impl Index {
     )
         requires index { IsIndexedButNewest marked.now self.old }
         requires newest { IsNewest marked.now number session change.now ends }
-        requires room { HasRoom 5 self.old }
+        requires room { HasRoom (places_for 1 (length change.now)) self.old }
         ensures index { IsIndexed marked.now self.new }
-        ensures room { TakesRoom 5 self.old self.new }
+        ensures room { TakesRoom (places_for 1 (length change.now)) self.old self.new }
     {
-        let part = one_part(change);
-        let refs = refs_of(&part.after);
-        self.enter_on(marked, &part.key, number, session);
-        self.enter_ref(marked, &refs.first, number, session);
-        self.enter_ref(marked, &refs.second, number, session);
+        let parts = change.parts();
+        for part in parts {
+            let refs = refs_of(&part.after);
+            self.enter_on(marked, &part.key, number, session);
+            self.enter_ref(marked, &refs.first, number, session);
+            self.enter_ref(marked, &refs.second, number, session);
+        }
         self.enter_session(marked, number, session, true, ends);
     }
 
@@ -268,13 +272,23 @@ impl Index {
         ensures room { TakesRoom 0 self.old self.new }
     {
         if let Some(change) = taken_back.what.added() {
-            let part = one_part(change);
+            self.lower_parts(marked, change.parts());
+        }
+        self.lower_session(marked, taken_back.session);
+    }
+
+    /// The same for the groups of the parts of a change.
+    fn lower_parts(&mut self, marked: &[MarkedEntry], parts: &[Part])
+        requires { IsIndexed marked.now self.old }
+        ensures index { IsIndexed marked.now self.new }
+        ensures room { TakesRoom 0 self.old self.new }
+    {
+        for part in parts {
             let refs = refs_of(&part.after);
             self.lower_key(marked, &part.key);
             self.lower_ref(marked, &refs.first);
             self.lower_ref(marked, &refs.second);
         }
-        self.lower_session(marked, taken_back.session);
     }
 
     fn lower_ref(&mut self, marked: &[MarkedEntry], key: &Option<Key>)
@@ -352,6 +366,25 @@ impl Index {
             let at = &self.places[place as usize - 1];
             if numbered(marked, at.number).is_in(group) {
                 found += 1;
+            }
+            place = at.before;
+        }
+        found
+    }
+
+    /// How many parts the changes of the session's standing entries have.
+    pub(crate) fn parts_of(&self, marked: &[MarkedEntry], session: u32) -> usize
+        requires { IsIndexed marked.now self.now }
+        ensures { result ≡ added_in (filter (belongs (Of session)) marked.now) }
+    {
+        let group = &Group::Of(session);
+        let mut found = 0;
+        let mut place = self.latest.session_places(session).standing;
+        'back: while place != 0 {
+            let at = &self.places[place as usize - 1];
+            let entry = numbered(marked, at.number);
+            if entry.is_in(group) {
+                found += entry.entry.what.added_parts();
             }
             place = at.before;
         }

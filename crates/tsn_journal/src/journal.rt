@@ -1,18 +1,18 @@
 //! The journal: entries numbered from 1, with the finders of undo and redo.
 //!
 //! It keeps a mark with each entry, so that no finder has to look for what took an entry back.
-ghost use Rattle.std.specs.Prelude.{◌≡◌, ◌+◌, ◌≤◌, [], IfErr, IfOk, IfSome, IsOk, IsSome, None, OnErr, OnOk, Some, is_some, length, map, option_map};
+ghost use Rattle.std.specs.Prelude.{◌≡◌, ◌*◌, ◌+◌, ◌≤◌, [], IfErr, IfOk, IfSome, IsOk, IsSome, None, OnErr, OnOk, Some, is_some, length, map, option_map};
 ghost use Rattle.std.specs.Option.{option_copied};
 ghost use Rattle.tsn_types.specs.Refusals.{IsLeastOrMemory};
-ghost use Rattle.tsn_journal.specs.Entries.{Applied, most_entries, no_room, with_entry};
-ghost use Rattle.tsn_journal.specs.Finding.{entry, find_conflict, find_conflict_of_others, find_own_in_conflict, find_redo_conflict, last_of, own_standing, redo_of, since, standing_entry, undone_entry};
+ghost use Rattle.tsn_journal.specs.Entries.{Applied, added_parts, most_entries, no_room, with_entry};
+ghost use Rattle.tsn_journal.specs.Finding.{entry, find_conflict, find_conflict_of_others, find_own_in_conflict, find_redo_conflict, last_of, own_standing, parts_of_all, redo_of, since, standing_entry, undone_entry};
 
 use crate::entries::{Entries, Entry, MarkedEntry, What};
 use crate::finding::{
     after, at, conflict_after, conflict_of_others, leave, own_in_conflict, put_off,
     standing_conflict_after,
 };
-use crate::groups::{Group, MOST_GROUPS};
+use crate::groups::{Group, PART_GROUPS, SESSION_GROUPS};
 use crate::index::Index;
 use std::alloc::{AllocError, Global};
 use std::marker::Model;
@@ -21,14 +21,16 @@ use tsn_types::refusals::Refusal;
 /// How many entries a journal holds at most.
 pub const MOST_ENTRIES: usize = 65_536;
 
-/// Which session did what, entry by entry. `entries` is the list of its entries, and `spare` the number of entries
-/// that it certainly has room for.
+/// Which session did what, entry by entry. `entries` is the list of its entries, `spare` the number of entries that it
+/// certainly has room for, and `parts` that of parts of changes.
 #[derive(Debug, Drop)]
 pub struct Journal {
     marked: Vec<MarkedEntry>,
     index: Index,
-    /// How many entries more there is room for, each with all its places.
+    /// How many entries more there is room for.
     room: usize,
+    /// For how many parts of their changes there are places.
+    parts: usize,
 }
 
 impl Model for Journal {
@@ -40,20 +42,21 @@ impl Model for Journal {
 
     ghost coded = { log_code };
 
-    ghost view = { λ a. record { entries = entries_of a.marked.items; spare = a.room } };
+    ghost view = { λ a. record { entries = entries_of a.marked.items; spare = a.room; parts = a.parts } };
 
-    ghost invariant = { λ a. IsKept a.marked.items (vec_len a.marked) (vec_capacity a.marked) a.index a.room };
+    ghost invariant = { λ a. IsKept a.marked.items (vec_len a.marked) (vec_capacity a.marked) a.index a.room a.parts };
 }
 
 impl Journal {
     /// A journal with no entry. It takes no memory and has room for none; the journal keeps the allocator.
     pub fn new(alloc: Global) -> Journal
-        ensures { result ≡ record { entries = []; spare = 0 } }
+        ensures { result ≡ record { entries = []; spare = 0; parts = 0 } }
     {
         Journal {
             marked: Vec::new(alloc),
             index: Index::new(alloc),
             room: 0,
+            parts: 0,
         }
     }
 
@@ -65,35 +68,45 @@ impl Journal {
         self.marked.len()
     }
 
-    /// Makes room for at least `count` entries more. It is refused 17 where the journal never holds so many, then 18,
-    /// and never where there is that room already. The entries stay, and the room never falls.
-    pub fn reserve(&mut self, count: usize) -> Result<(), Refusal>
+    /// Makes room for at least `count` entries more that add `parts` parts of changes, at most 16 an entry. It is refused
+    /// 17 where the journal never holds so many entries, then 18, and never where there is that room already. The entries
+    /// stay, and the room never falls.
+    pub fn reserve(&mut self, count: usize, parts: usize) -> Result<(), Refusal>
+        requires { parts ≤ 16 * count }
         ensures entries { self.new.entries ≡ self.old.entries }
         ensures free { OnOk result (no_room self.old.entries count ≡ None) }
-        ensures ok { OnOk result (count ≤ self.new.spare) }
+        ensures ok { OnOk result ((count ≤ self.new.spare) × (parts ≤ self.new.parts)) }
         ensures refused { IfErr result (λ why. IsLeastOrMemory (no_room self.old.entries count) why) }
-        ensures spare { self.old.spare ≤ self.new.spare }
-        ensures enough { count ≤ self.old.spare → IsOk result }
+        ensures spare { (self.old.spare ≤ self.new.spare) × (self.old.parts ≤ self.new.parts) }
+        ensures enough { count ≤ self.old.spare → parts ≤ self.old.parts → IsOk result }
     {
         if MOST_ENTRIES - self.marked.len() < count {
             return Err(Refusal::JournalFull);
         }
-        if count <= self.room {
+        if count <= self.room && parts <= self.parts {
             return Ok(());
         }
-        self.marked.reserve(count)?;
-        self.index.reserve(MOST_GROUPS * count)?;
-        self.room = count;
+        let room = count.max(self.room);
+        let parts = parts.max(self.parts);
+        self.marked.reserve(room)?;
+        self.index
+            .reserve(SESSION_GROUPS * room + PART_GROUPS * parts)?;
+        self.room = room;
+        self.parts = parts;
         Ok(())
     }
 
-    /// Puts an entry of the session at the end, in room for one, and answers its number. It takes no memory.
+    /// Puts an entry of the session at the end, in room for one and for the parts that it adds, and answers its number.
+    /// It takes no memory.
     pub fn push(&mut self, session: u32, what: What) -> u64
-        requires { 1 ≤ self.old.spare }
+        requires room { 1 ≤ self.old.spare }
+        requires parts { added_parts what ≤ self.old.parts }
         ensures number { result ≡ length self.old.entries + 1 }
         ensures entries { self.new.entries ≡ with_entry self.old.entries session what }
         ensures spare { self.old.spare ≤ self.new.spare + 1 }
+        ensures parts { self.old.parts ≤ self.new.parts + added_parts what }
     {
+        let parts = what.added_parts();
         put_off(&mut self.marked, &what);
         let number = self.marked.len() as u64 + 1;
         let taken_back = what.names();
@@ -105,9 +118,10 @@ impl Journal {
             },
             is_open: true,
         });
-        self.index.enter(&self.marked);
+        self.index.enter(&self.marked, parts);
         leave(&mut self.index, &self.marked, taken_back);
         self.room -= 1;
+        self.parts -= parts;
         number
     }
 
@@ -167,6 +181,13 @@ impl Journal {
         ensures few { result ≤ length self.now.entries }
     {
         self.index.count_of(&self.marked, session)
+    }
+
+    /// How many parts the changes of the session's standing entries have in all. It takes no memory.
+    pub fn parts_of(&self, session: u32) -> usize
+        ensures { result ≡ parts_of_all (own_standing self.now.entries session) }
+    {
+        self.index.parts_of(&self.marked, session)
     }
 
     /// The numbers of the session's standing entries, rising. Refused only for want of memory.

@@ -61,7 +61,7 @@ fn removed(number: u64) -> Change
 
 /// Puts the entry at the end; the answer is its number.
 fn enter(journal: &mut Journal, session: u32, what: What) -> Result<u64, Refusal> {
-    if let Err(why) = journal.reserve(1) {
+    if let Err(why) = journal.reserve(1, what.added_parts()) {
         return Err(why);
     }
     Ok(journal.push(session, what))
@@ -167,10 +167,14 @@ fn an_entry_has_its_number_and_session(rt: HostRuntime) -> Result<(), Fail> {
     on_a_journal(rt.alloc(), |journal| {
         same(&rt, &journal.len(), &0);
         same(&rt, &MOST_ENTRIES, &65_536);
-        same(&rt, &journal.reserve(65_537), &Err(Refusal::JournalFull));
+        same(&rt, &journal.reserve(65_537, 0), &Err(Refusal::JournalFull));
         creates(&rt, journal, 7, 5, 1);
-        same(&rt, &journal.reserve(65_536), &Err(Refusal::JournalFull));
-        same(&rt, &journal.reserve(65_535), &Ok(()));
+        same(
+            &rt,
+            &journal.reserve(65_536, 65_536),
+            &Err(Refusal::JournalFull),
+        );
+        same(&rt, &journal.reserve(65_535, 65_535), &Ok(()));
         creates(&rt, journal, 8, 6, 2);
         has_two_entries(&rt, journal);
         tells_copies(&rt, journal);

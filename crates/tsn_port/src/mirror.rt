@@ -15,7 +15,7 @@ ghost use Rattle.tsn_port.specs.Mirrors.{AreOfPort, IsOfPort, Mirrors, Shows, Sh
 
 use std::alloc::AllocError;
 use std::marker::Model;
-use tsn_edit::Part;
+use tsn_edit::{Part, find_part};
 use tsn_journal::entries::{Act, Entries, Entry, What};
 use tsn_schedule::runner::{Past, Runner};
 use tsn_types::keys::Key;
@@ -215,16 +215,7 @@ impl Mirror {
 fn part_at(what: &What, port: PortId) -> Option<&Part>
     ensures { option_copied result ≡ port_part port what.now }
 {
-    match what.change()?.parts() {
-        [part] => {
-            if part.key == Key::Port(port) {
-                Some(part)
-            } else {
-                None
-            }
-        }
-        _ => unreachable!(),
-    }
+    find_part(what.change()?.parts(), &Key::Port(port))
 }
 
 /// The record that a port had before an entry changed it, if it did.

@@ -53,7 +53,7 @@ pub const ONE_TWO: &'static [(u8, u64)] = &[(1, 300), (128, 700)];
 /// comes between.
 fn change_over(alloc: Global) -> Result<Entries, Fail> {
     let mut journal = Journal::new(alloc);
-    journal.reserve(4)?;
+    journal.reserve(4, 1)?;
     let part = Part {
         key: Key::Port(port()),
         before: Some(Record::Port(record(alloc, &[])?)),
@@ -70,7 +70,8 @@ fn act(journal: &mut Journal, number: u64, act: Act, at: u64)
     requires room { 1 ≤ journal.old.spare }
     requires port { (1 ≤ number) × (number ≤ 64) }
     requires at { at ≤ 2 ^ 62 }
-    ensures { journal.old.spare ≤ journal.new.spare + 1 }
+    ensures spare { journal.old.spare ≤ journal.new.spare + 1 }
+    ensures parts { journal.old.parts ≤ journal.new.parts }
 {
     let key = Key::Port(PortId::new(number).unwrap());
     let now = instant(at);
@@ -101,7 +102,7 @@ fn a_mirror_shows_what_the_entries_make_of_its_port(rt: HostRuntime) -> Result<(
 /// The list with which the journal began is applied, and then taken from the record.
 fn apply_and_replace(alloc: Global) -> Result<Entries, Fail> {
     let mut journal = Journal::new(alloc);
-    journal.reserve(3)?;
+    journal.reserve(3, 1)?;
     act(&mut journal, 1, Act::Enable, 0);
     act(&mut journal, 1, Act::Apply, 0);
     let part = Part {

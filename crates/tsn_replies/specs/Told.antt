@@ -55,7 +55,7 @@ acted_data number session act key now =
     (member (codes "session") (whole_data session)
     (member (codes "what") (string (codes "acted")) no_members))))))
 
--- what is told by the key of a change; each change has one
+-- what is told by the key of a change, the first one; each change that a command makes has one
 abbrev pub by_key : (Key → Data) → List Key → Data
 by_key told [] = object no_members
 by_key told (key ∷ others) = told key

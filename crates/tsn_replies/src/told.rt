@@ -1,5 +1,5 @@
 //! The line of entries of the journal, spelled piece by piece. None of it takes memory.
-ghost use Rattle.std.specs.Prelude.{◌≡◌, ◌+◌, ◌≤◌, ◌++◌, ◌∷◌, [], length, true, IfErr, OnOk, OnErr, codes};
+ghost use Rattle.std.specs.Prelude.{◌≡◌, ◌+◌, ◌≤◌, ◌++◌, [], length, true, IfErr, OnOk, OnErr, codes};
 ghost use Rattle.std.specs.Io.KnownBytes.{Appends};
 ghost use Rattle.serde_json.specs.Data.{Data, string};
 ghost use Rattle.serde_json.specs.Written.{compact_text};
@@ -8,7 +8,8 @@ ghost use Rattle.tsn_bytes.specs.Bytes.{IsCut};
 ghost use Rattle.tsn_bytes.specs.declared.bytes.Fault.TheVariants.{Write};
 ghost use Rattle.tsn_records.specs.Keys.{key_text};
 ghost use Rattle.tsn_replies.specs.Pieces.{taking_back_front};
-ghost use Rattle.tsn_replies.specs.Told.{act_name, made_data, taking_back_data, acted_data, entry_data, entries_data};
+ghost use Rattle.tsn_types.specs.declared.keys.Key.{Key as AnyKey};
+ghost use Rattle.tsn_replies.specs.Told.{act_name, by_key, made_data, taking_back_data, acted_data, entry_data, entries_data};
 
 use crate::shown::{LONGEST_ITEM, ShownItem, push_key, push_number, write_listed};
 use crate::text::{CAPACITY, ShortText};
@@ -94,14 +95,11 @@ fn push_acted(text: &mut ShortText, number: u64, session: u32, act: Act, key: Ke
     text.push(",\"what\":\"acted\"}");
 }
 
-// The key of a change; each change has one.
+// The key by which a change is told: the first of its keys.
 fn key_of(change: &Change) -> Key
-    ensures { keys_of change.now ≡ result ∷ [] }
+    ensures { (told : AnyKey → Data) → by_key told (keys_of change.now) ≡ told result }
 {
-    match change.parts() {
-        [part] => part.key,
-        _ => unreachable!(),
-    }
+    change.parts()[0].key
 }
 
 fn push_entry(text: &mut ShortText, entry: &Entry)

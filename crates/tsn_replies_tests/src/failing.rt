@@ -78,8 +78,9 @@ fn next(before: u64) -> What {
 fn journal(alloc: Global, count: u64) -> Result<Journal, Refusal> {
     let mut journal = Journal::new(alloc);
     for before in 0..count {
-        journal.reserve(1)?;
-        let _ = journal.push(7, next(before));
+        let what = next(before);
+        journal.reserve(1, what.added_parts())?;
+        let _ = journal.push(7, what);
     }
     Ok(journal)
 }

@@ -1,5 +1,5 @@
 -- Causes in the order of their numbers: the least is the first.
-use Rattle.std.proofs.Common.{◌≡◌, ◌≤◌, ℕ, Bool, true, false, cond, refl, ap, ◌∙◌, arith, List, [], ◌∷◌, Option, Some, None}
+use Rattle.std.proofs.Common.{◌≡◌, ◌≤◌, ◌<◌, ℕ, Bool, true, false, cond, refl, sym, ap, ◌∙◌, arith, List, [], ◌∷◌, ◌++◌, Option, Some, None}
 use Rattle.std.specs.Prelude.{nat_lt}
 use Rattle.std.specs.Option.{option_or}
 use Rattle.std.proofs.lemmas.Bool.Decides.{nat_tests}
@@ -91,3 +91,54 @@ least-before n None true why h le = refl
 least-before n None false why h le = refl
 least-before n (Some a) true why h le = refl
 least-before n (Some a) false why h le = ap (λ t. cond t (Some why) (Some a)) (not_less (number_of a) (number_of why) (omega arith))
+
+-- ---- the least of two lists
+
+lesser-none : (o : Option Refusal) → lesser o None ≡ o
+lesser-none None = refl
+lesser-none (Some a) = refl
+
+not_below : (n m : ℕ) → nat_lt m n ≡ false → n ≤ m
+not_below n m h = grind (arith, nat_tests)
+
+is_below : (n m : ℕ) → nat_lt m n ≡ true → m < n
+is_below n m h = grind (arith, nat_tests)
+
+below : (n m : ℕ) → m < n → nat_lt m n ≡ true
+below n m h = grind (arith, nat_tests)
+
+-- of three causes, whichever two are looked at first
+lesser-three : (a b c : Refusal) (u v : Bool) → nat_lt (number_of b) (number_of a) ≡ u → nat_lt (number_of c) (number_of b) ≡ v
+    → lesser (lesser (Some a) (Some b)) (Some c) ≡ lesser (Some a) (lesser (Some b) (Some c))
+lesser-three a b c true true first second =
+    ap (λ t. lesser (cond t (Some b) (Some a)) (Some c)) first
+    ∙ ap (λ t. cond t (Some c) (Some b)) second
+    ∙ sym (ap (λ t. lesser (Some a) (cond t (Some c) (Some b))) second
+    ∙ ap (λ t. cond t (Some c) (Some a)) (below (number_of a) (number_of c) (omega (arith, is_below (number_of a) (number_of b) first, is_below (number_of b) (number_of c) second))))
+lesser-three a b c true false first second =
+    ap (λ t. lesser (cond t (Some b) (Some a)) (Some c)) first
+    ∙ ap (λ t. cond t (Some c) (Some b)) second
+    ∙ sym (ap (λ t. lesser (Some a) (cond t (Some c) (Some b))) second ∙ ap (λ t. cond t (Some b) (Some a)) first)
+lesser-three a b c false true first second =
+    ap (λ t. lesser (cond t (Some b) (Some a)) (Some c)) first
+    ∙ sym (ap (λ t. lesser (Some a) (cond t (Some c) (Some b))) second)
+lesser-three a b c false false first second =
+    ap (λ t. lesser (cond t (Some b) (Some a)) (Some c)) first
+    ∙ ap (λ t. cond t (Some c) (Some a)) (not_less (number_of a) (number_of c) (omega (arith, not_below (number_of a) (number_of b) first, not_below (number_of b) (number_of c) second)))
+    ∙ sym (ap (λ t. lesser (Some a) (cond t (Some c) (Some b))) second ∙ ap (λ t. cond t (Some b) (Some a)) first)
+
+lesser-assoc : (o p q : Option Refusal) → lesser (lesser o p) q ≡ lesser o (lesser p q)
+lesser-assoc None p q = refl
+lesser-assoc (Some a) None q = refl
+lesser-assoc (Some a) (Some b) None = lesser-none (lesser (Some a) (Some b))
+lesser-assoc (Some a) (Some b) (Some c) = lesser-three a b c (nat_lt (number_of b) (number_of a)) (nat_lt (number_of c) (number_of b)) refl refl
+
+-- the least of a list and more is the lesser of the two leasts
+pub least-append : (os ps : List (Option Refusal)) → least (os ++ ps) ≡ lesser (least os) (least ps)
+least-append [] ps = refl
+least-append (o ∷ os) ps = ap (lesser o) (least-append os ps) ∙ sym (lesser-assoc o (least os) (least ps))
+
+pub lesser-most : (n : ℕ) (o p : Option Refusal) → AtMost n o → AtMost n p → AtMost n (lesser o p)
+lesser-most n None p h k = k
+lesser-most n (Some a) None h k = h
+lesser-most n (Some a) (Some b) h k = elim (nat_lt (number_of b) (number_of a)) as (λ t. AtMost n (cond t (Some b) (Some a))) [ true ↦ k | false ↦ h ]

@@ -1,25 +1,46 @@
 -- The room that taking back several entries takes.
-use Rattle.std.proofs.Common.{◌≡◌, ℕ, ◌+◌, ◌++◌, List, [], ◌∷◌, ◌∙◌, ap, refl, sym, add_assoc, length, arith}
-use Rattle.std.specs.Prelude.{map}
+use Rattle.std.proofs.Common.{◌≡◌, ℕ, ◌+◌, ◌++◌, ◌<◌, ◌≤◌, Bool, true, false, cond, List, [], ◌∷◌, ◌∙◌, Option, Some, None, ap, refl, sym, add_assoc, arith, get_or, length, take}
+use Rattle.std.specs.Prelude.{map, nat_le, nat_lt}
+use Rattle.std.proofs.lemmas.Bool.Decides.{nat_tests}
+use Rattle.std.proofs.lemmas.List.{take_more}
 use Rattle.tsn_edit.specs.Changes.{room_of}
-use Rattle.tsn_journal.specs.Entries.{Applied}
+use Rattle.tsn_edit.specs.Parts.{inverse}
+use Rattle.tsn_types.specs.declared.refusals.Refusal.{Refusal}
+use Rattle.tsn_types.specs.declared.refusals.Refusal.TheVariants.{JournalFull}
+use Rattle.tsn_types.specs.Limits.{unless}
+use Rattle.tsn_types.specs.Refusals.{least, rank_of}
+use Rattle.tsn_journal.specs.Entries.{Applied, most_entries, no_room}
+use Rattle.tsn_journal.specs.Finding.{own_standing}
+use Rattle.tsn_undo.specs.Ledger.{Ledger}
 use Rattle.tsn_undo.specs.declared.book.TakingBack.{TakingBack}
-use Rattle.tsn_undo.specs.UndoAll.{room_of_all, taking_back}
-
--- the parts of all that is still to be applied
-abbrev pub room_left : List TakingBack → ℕ
-room_left [] = 0
-room_left (x ∷ xs) = room_of x.applied + room_left xs
+use Rattle.tsn_undo.specs.UndoAll.{room_left, room_of_all, taking_back, undo_all_cause, undo_all_refusal}
 
 pub room_left-all : (xs : List Applied) → room_left (map taking_back xs) ≡ room_of_all xs
 room_left-all [] = refl
-room_left-all (x ∷ xs) = ap (λ n. 1 + n) (room_left-all xs)
+room_left-all (x ∷ xs) = ap (λ n. room_of (inverse x.change) + n) (room_left-all xs)
 
 pub room_left-last : (xs : List TakingBack) (x : TakingBack) → room_left (xs ++ x ∷ []) ≡ room_left xs + room_of x.applied
-room_left-last [] x = refl
+room_left-last [] x = omega arith
 room_left-last (y ∷ xs) x = ap (λ n. room_of y.applied + n) (room_left-last xs x) ∙ sym (add_assoc (room_of y.applied) (room_left xs) (room_of x.applied))
 
--- a change has one part
-pub one_each : (xs : List Applied) → room_of_all xs ≡ length xs
-one_each [] = refl
-one_each (x ∷ xs) = omega (arith, one_each xs)
+-- what a change and more take, an element at a time
+pub room_left-more : (xs : List TakingBack) (i : ℕ) (x : TakingBack) → i < length xs → x ≡ get_or xs i x → room_left (take (i + 1) xs) ≡ room_left (take i xs) + room_of x.applied
+room_left-more xs i x short is = ap room_left (take_more xs i x short) ∙ room_left-last (take i xs) (get_or xs i x) ∙ ap (λ (y : TakingBack). room_left (take i xs) + room_of y.applied) (sym is)
+
+-- ---- the room that a journal has where an undo of all is not refused
+
+least_none : (o p : Option Refusal) → least (o ∷ p ∷ []) ≡ None → p ≡ None
+least_none o None h = refl
+least_none None (Some b) h = h
+least_none (Some a) (Some b) h = elim (nat_lt (rank_of b) (rank_of a)) as (λ t. cond t (Some b) (Some a) ≡ None → Some b ≡ None) [ true ↦ λ none. none | false ↦ λ none. (cc) ] h
+
+unless_none : (b : Bool) (why : Refusal) → unless b why ≡ None → b ≡ true
+unless_none true why h = refl
+unless_none false why h = (cc)
+
+fits_in : (n k : ℕ) → nat_le n k ≡ true → n ≤ k
+fits_in n k h = grind (arith, nat_tests)
+
+pub few_own : (b : Ledger) (s : ℕ) → undo_all_refusal b s ≡ None → length b.entries + length (own_standing b.entries s) ≤ most_entries
+few_own b s free =
+    fits_in _ _ (unless_none _ JournalFull (least_none (undo_all_cause b.entries s (own_standing b.entries s)) (no_room b.entries (length (own_standing b.entries s))) free))

@@ -41,6 +41,11 @@ with_undone es s (x ∷ xs) = with_entry (with_undone es s xs) s (undone x)
 abbrev pub taking_back : Applied → TakingBack
 taking_back x = record { of = x.number; entered = inverse x.change; applied = inverse x.change }
 
+-- the parts of all that is still to be applied
+abbrev pub room_left : List TakingBack → ℕ
+room_left [] = 0
+room_left (x ∷ xs) = room_of x.applied + room_left xs
+
 -- the parts for which taking back all of xs takes room
 abbrev pub room_of_all : List Applied → ℕ
 room_of_all [] = 0

@@ -4,7 +4,7 @@
 //! entries) and its room. It stores the present configuration and the journal alone; the opening is where taking back
 //! every applied change leads. Each changing call takes its memory first, so a refusal of any kind leaves the ledger as
 //! it was.
-ghost use Rattle.std.specs.Prelude.{◌≡◌, ◌+◌, ◌≤◌, [], Some, None, IfOk, IfErr, IfSome, IsOk, IsSome, OnErr, OnOk, length};
+ghost use Rattle.std.specs.Prelude.{◌≡◌, ◌*◌, ◌+◌, ◌≤◌, [], Some, None, IfOk, IfErr, IfSome, IsOk, IsSome, OnErr, OnOk, length};
 ghost use Rattle.tsn_types.specs.declared.refusals.Refusal.TheVariants.{Memory};
 ghost use Rattle.tsn_types.specs.Refusals.{IsLeastOrMemory};
 ghost use Rattle.std.specs.Option.{option_map_or};
@@ -30,7 +30,7 @@ use tsn_types::numbers::Instant;
 use tsn_types::refusals::Refusal;
 
 /// A configuration with its journal. `ledger` is what was done to it, and `room` what there certainly is
-/// room for: entries in the journal, and parts of changes in the configuration.
+/// room for: entries in the journal, and parts of changes in both.
 #[derive(Drop)]
 pub struct Book {
     pub(crate) config: Config,
@@ -46,23 +46,24 @@ pub(crate) struct TakingBack {
 }
 
 impl Model for Book {
+    ghost use Rattle.std.specs.Prelude.{min};
     ghost use Rattle.tsn_undo.specs.Ledger.{LedgerWithRoom, ledger_with_room_code, opening_of, IsBook};
 
     ghost Value = { LedgerWithRoom };
 
     ghost coded = { ledger_with_room_code };
 
-    ghost view = { λ a. record { ledger = record { limits = a.config.limits; opening = opening_of a.config.map a.journal.entries; entries = a.journal.entries }; room = record { entries = a.journal.spare; parts = a.config.spare } } };
+    ghost view = { λ a. record { ledger = record { limits = a.config.limits; opening = opening_of a.config.map a.journal.entries; entries = a.journal.entries }; room = record { entries = a.journal.spare; parts = min a.journal.parts a.config.spare } } };
 
     ghost invariant = { λ a. IsBook a.config.limits a.config.map a.journal.entries };
 }
 
 impl Book {
-    /// A book that begins with the configuration, with no entry. It takes no memory and has room for no entry, and for
-    /// the parts that the configuration has room for; the book keeps the allocator.
+    /// A book that begins with the configuration, with no entry. It takes no memory and has room for no entry; the book
+    /// keeps the allocator.
     pub fn new(alloc: Global, config: Config) -> Book
         ensures ledger { result.ledger ≡ record { limits = config.limits; opening = config.map; entries = [] } }
-        ensures room { result.room ≡ record { entries = 0; parts = config.spare } }
+        ensures room { result.room ≡ record { entries = 0; parts = 0 } }
     {
         Book {
             config,
@@ -91,20 +92,34 @@ impl Book {
         &self.journal
     }
 
-    /// Makes room for at least `count` entries more, and for as many parts of changes. It is refused 17 where the journal never holds so many, then 18,
-    /// and never where there is that room already. The ledger stays, and the room never falls.
+    /// Makes room for at least `count` entries more, such as acts make. It is refused 17 where the journal never holds so
+    /// many, then 18, and never where there is that room already. The ledger stays, and the room never falls.
     pub fn reserve(&mut self, count: usize) -> Result<(), Refusal>
         ensures ledger { self.new.ledger ≡ self.old.ledger }
         ensures free { OnOk result (no_room self.old.ledger.entries count ≡ None) }
-        ensures ok { OnOk result (Holds self.new.room count count) }
+        ensures ok { OnOk result (count ≤ self.new.room.entries) }
         ensures refused { IfErr result (λ why. IsLeastOrMemory (no_room self.old.ledger.entries count) why) }
         ensures room { Takes self.old.room 0 0 self.new.room }
-        ensures enough { Holds self.old.room count count → IsOk result }
+        ensures enough { count ≤ self.old.room.entries → IsOk result }
     {
-        if let Err(why) = self.journal.reserve(count) {
+        self.reserve_parts(count, 0)
+    }
+
+    /// Makes room for at least `count` entries more whose changes have so many parts in all, at most 16 each. It is
+    /// refused as `reserve` is.
+    pub(crate) fn reserve_parts(&mut self, count: usize, parts: usize) -> Result<(), Refusal>
+        requires { parts ≤ 16 * count }
+        ensures ledger { self.new.ledger ≡ self.old.ledger }
+        ensures free { OnOk result (no_room self.old.ledger.entries count ≡ None) }
+        ensures ok { OnOk result (Holds self.new.room count parts) }
+        ensures refused { IfErr result (λ why. IsLeastOrMemory (no_room self.old.ledger.entries count) why) }
+        ensures room { Takes self.old.room 0 0 self.new.room }
+        ensures enough { Holds self.old.room count parts → IsOk result }
+    {
+        if let Err(why) = self.journal.reserve(count, parts) {
             return Err(why);
         }
-        self.config.reserve(count)?;
+        self.config.reserve(parts)?;
         Ok(())
     }
 
@@ -155,7 +170,7 @@ impl Book {
         ensures room { Takes self.old.room 1 0 self.new.room }
         ensures enough { 1 ≤ self.old.room.entries → IsOk result }
     {
-        if let Err(why) = self.journal.reserve(1) {
+        if let Err(why) = self.journal.reserve(1, 0) {
             return Err(why);
         }
         Ok(self.enter_act(session, act, key, now))
@@ -217,10 +232,10 @@ impl Book {
         ensures kept { OnErr result (Takes self.old.room 0 0 self.new.room) }
     {
         let change = self.config().change_of(edit)?;
-        if let Err(why) = self.reserve(1) {
+        let copy = change.try_clone()?;
+        if let Err(why) = self.reserve_parts(1, change.parts().len()) {
             return Err(why);
         }
-        let copy = change.try_clone()?;
         Ok(self.append(session, What::Made(copy), Some(change)))
     }
 
@@ -234,10 +249,10 @@ impl Book {
     {
         // That the entries are sound is the type's rule, which the proof has where a field is looked at.
         let _ = &self.journal;
-        if let Err(why) = self.reserve(1) {
+        let back = self.taking_back(of)?;
+        if let Err(why) = self.reserve_parts(1, back.applied.parts().len()) {
             return Err(why);
         }
-        let back = self.taking_back(of)?;
         Ok(self.enter_undone(session, back))
     }
 

@@ -81,14 +81,14 @@ impl Book {
     {
         // That the entries are sound is the type's rule, which the proof has where a field is looked at.
         let _ = &self.journal;
-        if let Err(why) = self.reserve(1) {
-            return Err(why);
-        }
         let TakingBack {
             of,
             entered,
             applied,
         } = self.taking_back(of)?;
+        if let Err(why) = self.reserve_parts(1, applied.parts().len()) {
+            return Err(why);
+        }
         Ok(self.append(
             session,
             What::Redone {

@@ -1,11 +1,12 @@
 //! Undo of all that a session has standing, in one call: every entry or none.
-ghost use Rattle.std.specs.Prelude.{◌≡◌, IfErr, IfOk, OnErr, None, length, map};
+ghost use Rattle.std.specs.Prelude.{◌≡◌, ◌*◌, ◌≤◌, IfErr, IfOk, OnErr, None, length, map};
 ghost use Rattle.tsn_types.specs.declared.refusals.Refusal.TheVariants.{Memory};
 ghost use Rattle.tsn_types.specs.Refusals.{IsLeastOrMemory};
+ghost use Rattle.tsn_journal.specs.Entries.{most_entries};
 ghost use Rattle.tsn_journal.specs.Finding.{find_own_in_conflict, own_standing};
 ghost use Rattle.tsn_undo.specs.Ledger.{Holds, Takes};
 ghost use Rattle.tsn_undo.specs.Soundness.{IsSound};
-ghost use Rattle.tsn_undo.specs.UndoAll.{TakesAllBack, conflict_with_others, room_of_all, taking_back, undo_all_refusal, with_undone};
+ghost use Rattle.tsn_undo.specs.UndoAll.{TakesAllBack, conflict_with_others, room_left, room_of_all, taking_back, undo_all_refusal, with_undone};
 
 use crate::book::{Book, TakingBack};
 use std::alloc::AllocError;
@@ -60,11 +61,13 @@ impl Book {
         ensures unchanged { OnErr result (self.new.ledger ≡ self.old.ledger) }
         ensures kept { OnErr result (Takes self.old.room 0 0 self.new.room) }
     {
-        let count = self.journal().count_of(session);
-        if let Err(why) = self.reserve(count) {
+        // That the entries are sound is the type's rule, which the proof has where a field is looked at.
+        let _ = &self.journal;
+        let backs = self.takings_back(session)?;
+        let count = backs.len();
+        if let Err(why) = self.reserve_parts(count, parts_of(&backs)) {
             return Err(why);
         }
-        let backs = self.takings_back(session)?;
         self.enter_all_undone(session, backs);
         Ok((count as u64, self.journal().len() as u64))
     }
@@ -93,4 +96,17 @@ impl Book {
             self.enter_undone(session, back);
         }
     }
+}
+
+/// How many parts of changes all of these take back.
+fn parts_of(backs: &[TakingBack]) -> usize
+    requires { length backs.now ≤ most_entries }
+    ensures parts { result ≡ room_left backs.now }
+    ensures few { result ≤ 16 * length backs.now }
+{
+    let mut parts = 0;
+    for back in backs {
+        parts += back.applied.parts().len();
+    }
+    parts
 }

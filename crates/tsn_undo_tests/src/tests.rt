@@ -2,7 +2,6 @@
 //! journal. `examples/tables/undo-*.txt` have what commands answer.
 
 mod literals;
-mod replay;
 
 use crate::comparing::same;
 use literals::{

@@ -34,7 +34,7 @@ pub(super) fn filter_key(number: u64) -> Key
     Key::Filter(FilterId::new(number).unwrap())
 }
 
-fn gate_key(number: u64) -> Key
+pub(super) fn gate_key(number: u64) -> Key
     requires { number ≤ 65535 }
     ensures { result ≡ Key.Gate number }
 {

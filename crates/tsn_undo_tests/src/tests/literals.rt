@@ -1,8 +1,8 @@
 //! Keys, records and books of the sessions in `examples/`: two ports, sixteen instances of each other kind.
-ghost use Rattle.std.specs.Prelude.{◌≡◌, ◌≤◌};
+ghost use Rattle.std.specs.Prelude.{◌≤◌};
 
 use crate::comparing::same;
-use std::alloc::{AllocError, Global};
+use std::alloc::Global;
 use std::process::Abort;
 use std::test::Fail;
 use tsn_config::Config;
@@ -10,58 +10,15 @@ use tsn_config::records::Records;
 use tsn_edit::Edit;
 use tsn_types::keys::Key;
 use tsn_types::limits::Limits;
-use tsn_types::lists::ControlList;
-use tsn_types::numbers::{
-    BitRate, Cycle, Extension, FilterId, GateId, Handle, Instant, MaxSdu, MeterId, Octets,
-};
-use tsn_types::records::{FlowMeter, Record, Schedule, StreamFilter, StreamGate};
+use tsn_types::numbers::{BitRate, MeterId, Octets};
+use tsn_types::records::{FlowMeter, Record};
 use tsn_types::refusals::Refusal;
 use tsn_undo::book::Book;
-
-pub(super) fn filter_key(number: u64) -> Key
-    requires { number ≤ 65535 }
-{
-    Key::Filter(FilterId::new(number).unwrap())
-}
-
-pub(super) fn gate_key(number: u64) -> Key
-    requires { number ≤ 65535 }
-    ensures { result ≡ Key.Gate number }
-{
-    Key::Gate(GateId::new(number).unwrap())
-}
 
 pub(super) fn meter_key(number: u64) -> Key
     requires { number ≤ 65535 }
 {
     Key::Meter(MeterId::new(number).unwrap())
-}
-
-/// An open gate with an empty list.
-pub(super) fn gate(alloc: Global) -> Record {
-    Record::Gate(stream_gate(alloc))
-}
-
-fn stream_gate(alloc: Global) -> StreamGate {
-    StreamGate {
-        is_open: true,
-        ipv: None,
-        invalid_rx: false,
-        octets_exceeded: false,
-        admin: Schedule {
-            list: ControlList::new(alloc),
-            cycle: Cycle::new(1_000_000).unwrap(),
-            extension: Extension::new(0).unwrap(),
-            base: Instant::new(0).unwrap(),
-        },
-    }
-}
-
-/// Puts an open gate with an empty list to the records.
-pub(super) fn add_gate(alloc: Global, records: &mut Records, number: u64) -> Result<(), AllocError>
-    requires { number ≤ 65535 }
-{
-    records.push(gate_key(number), Record::Gate(stream_gate(alloc)))
 }
 
 /// A meter of this committed burst size.
@@ -82,26 +39,6 @@ pub(super) fn meter_of(cbs: u64) -> Record
 
 pub(super) fn meter() -> Record {
     meter_of(1500)
-}
-
-/// A filter of stream handle 7 on the gate and, if given, the meter.
-pub(super) fn filter(gate: u64, meter: Option<MeterId>) -> Record
-    requires { gate ≤ 65535 }
-{
-    Record::Filter(StreamFilter {
-        handle: Some(Handle::new(7).unwrap()),
-        priority: None,
-        gate: GateId::new(gate).unwrap(),
-        max_sdu: Some(MaxSdu::new(1500).unwrap()),
-        meter,
-        oversize: true,
-    })
-}
-
-pub(super) fn on_meter(number: u64) -> Option<MeterId>
-    requires { number ≤ 65535 }
-{
-    Some(MeterId::new(number).unwrap())
 }
 
 pub(super) fn create_at(key: Key, record: Record) -> Edit {
@@ -173,13 +110,4 @@ pub(super) fn stands(book: &Book, key: Key, wanted: &Record) -> bool {
         Some(found) => found.is(wanted),
         None => false,
     }
-}
-
-/// Whether the two configurations have the same value at the key.
-pub(super) fn agree_at(left: &Config, right: &Config, key: Key) -> Result<bool, AllocError> {
-    Ok(match (left.get(key), right.get(key)) {
-        (Some(one), Some(other)) => one.is(&other.try_clone()?),
-        (None, None) => true,
-        _ => false,
-    })
 }

@@ -1,18 +1,17 @@
-use Rattle.std.proofs.Common.{◌∙◌, ap, sym}
-use Rattle.std.specs.Prelude.{◌&&◌, is_some, option_map}
-use Rattle.tsn_edit.specs.Parts.{Change}
-use Rattle.tsn_journal.specs.declared.entries.MarkedEntry.{MarkedEntry}
-use Rattle.tsn_journal.specs.Entries.{applies}
-use Rattle.tsn_journal.specs.Finding.{last_where}
+use Rattle.std.proofs.Common.{arith, length, get_or, sym, ◌∙◌, ap}
+use Rattle.std.specs.Prelude.{◌&&◌, is_some}
 use Rattle.tsn_journal.specs.Index.{is_sought}
-use Rattle.tsn_journal.specs.Marks.{is_in_conflict, later_of, stands}
-use Rattle.tsn_journal.proofs.Sought.{sought_groups}
+use Rattle.tsn_journal.specs.Marks.{stands}
+use Rattle.tsn_journal.proofs.Sought.{sought_next, sought_none}
 use Rattle.tsn_journal.proofs.finding.latest_conflict.Goals as goal
 
-pub returns : goal.returns
-returns c =
-    c.later_of.ensures
-    ∙ (λ i. later_of (c.later_of-by_key.ensures i) (c.later_of-by_refs.ensures i))
-    ∙ (λ i. later_of (later_of (c.number_in-on_key.ensures i) (c.number_in-to_key.ensures i)) (later_of (c.number_on-on_first.ensures i) (c.number_on-on_second.ensures i)))
-    ∙ sought_groups c.one_part-part.result.now c.refs_of-refs.result c.refs_of-refs.ensures (is_sought c.args.but) c.args.marked.now c.requires.numbered
-    ∙ ap (λ (d : Change). option_map (λ (m : MarkedEntry). m.entry.number) (last_where (λ m. (is_some (stands m) && is_sought c.args.but m) && is_in_conflict (applies m.entry.what) d) c.args.marked.now)) (sym c.one_part-part.ensures)
+pub loop-part-init : goal.loop-part-init
+loop-part-init c = sym (sought_none (λ m. is_some (stands m) && is_sought c.args.but m) c.args.marked.now)
+
+pub loop-part-preserved : goal.loop-part-preserved
+loop-part-preserved c =
+    let same = c.parts-part-items.ensures.parts in
+    let i = c.loop-part.part-index in
+    let p = c.part-item.result in
+    sought_next (λ m. is_some (stands m) && is_sought c.args.but m) c.args.marked.now c.args.change.now i p c.loop-part.latest c.conflict_with_part-with_part.result c.later_of-latest.result c.requires.numbered
+    (omega (arith, ap length same)) (c.part-item.is ∙ ap (λ xs. get_or xs i p) same) c.loop-part.invariant c.conflict_with_part-with_part.ensures c.later_of-latest.ensures

@@ -1,10 +1,10 @@
-use Rattle.std.proofs.Common.{◌∙◌, ◌≤◌, ap, arith, length, rules, subst}
-use Rattle.tsn_journal.specs.Finding.{own_standing}
+use Rattle.std.proofs.Common.{◌≡◌, ◌∙◌, ◌≤◌, ap, arith, length, rules, subst}
+use Rattle.tsn_journal.specs.Finding.{own_standing, parts_of_all}
 use Rattle.tsn_undo.specs.Ledger.{Ledger}
 use Rattle.tsn_bridge.specs.Pair.{PairState}
-use Rattle.tsn_bridge.specs.Together.{FollowsAll}
+use Rattle.tsn_bridge.specs.Together.{FollowsAll, room_behind}
 use Rattle.tsn_bridge.proofs.Pushed.{follows_each}
-use Rattle.tsn_bridge.proofs.Room.{one_each_behind}
+use Rattle.tsn_bridge.proofs.Room.{behind_undone}
 use Rattle.tsn_bridge.proofs.Tied.{tied_all}
 use Rattle.tsn_bridge.proofs.pair.Pair.undo_all.Goals as goal
 
@@ -14,8 +14,8 @@ invariant_of-self-2 c =
     let b = i.book.ledger in
     let s = c.args.session in
     let f = follows_each i.runtime c.reserve.new.self c.follow_each.new.runtime c.reserve.ensures.runners c.reserve.ensures.frames c.reserve.ensures.time c.follow_each.ensures.time
-    b.entries s c.len-first.result c.count_of-own.result (own_standing b.entries s) c.journal-3.result.now.entries (c.journal.ensures.sound).numbered
-    (c.journal-3.ensures.entries ∙ ap (λ (l : Ledger). l.entries) (c.in_ok-count.ensures.ok).after)
+    b.entries s c.len-first.result c.count_of-own.result (own_standing b.entries s) c.journal-4.result.now.entries (c.journal.ensures.sound).numbered
+    (c.journal-4.ensures.entries ∙ ap (λ (l : Ledger). l.entries) (c.in_ok-count.ensures.ok).after)
     (c.len-first.ensures.number ∙ ap (λ es. length es) c.journal.ensures.entries)
     (c.count_of-own.ensures.count ∙ ap (λ es. length (own_standing es s)) c.journal-2.ensures.entries)
     c.follow_each.ensures.runners c.follow_each.ensures.frames in
@@ -27,8 +27,8 @@ returns-clause-follows c =
     let b = i.book.ledger in
     let s = c.args.session in
     let f = follows_each i.runtime c.reserve.new.self c.follow_each.new.runtime c.reserve.ensures.runners c.reserve.ensures.frames c.reserve.ensures.time c.follow_each.ensures.time
-    b.entries s c.len-first.result c.count_of-own.result (own_standing b.entries s) c.journal-3.result.now.entries (c.journal.ensures.sound).numbered
-    (c.journal-3.ensures.entries ∙ ap (λ (l : Ledger). l.entries) (c.in_ok-count.ensures.ok).after)
+    b.entries s c.len-first.result c.count_of-own.result (own_standing b.entries s) c.journal-4.result.now.entries (c.journal.ensures.sound).numbered
+    (c.journal-4.ensures.entries ∙ ap (λ (l : Ledger). l.entries) (c.in_ok-count.ensures.ok).after)
     (c.len-first.ensures.number ∙ ap (λ es. length es) c.journal.ensures.entries)
     (c.count_of-own.ensures.count ∙ ap (λ es. length (own_standing es s)) c.journal-2.ensures.entries)
     c.follow_each.ensures.runners c.follow_each.ensures.frames in
@@ -37,5 +37,13 @@ returns-clause-follows c =
 
 pub follow_each-requires-clause-room : goal.follow_each-requires-clause-room
 follow_each-requires-clause-room c =
-    let enough : c.count_of-own.result ≤ c.reserve.new.self.spare = search rules in
-    omega (arith, one_each_behind c.journal-3.result.now.entries c.len-first.result c.count_of-own.result, enough)
+    let b = c.self.inside.book.ledger in
+    let s = c.args.session in
+    let own = own_standing b.entries s in
+    let now = c.journal-4.ensures.entries ∙ ap (λ (l : Ledger). l.entries) (c.in_ok-count.ensures.ok).after in
+    let first = c.len-first.ensures.number ∙ ap (λ es. length es) c.journal.ensures.entries in
+    let count = c.count_of-own.ensures.count ∙ ap (λ es. length (own_standing es s)) c.journal-2.ensures.entries in
+    let room : room_behind c.journal-4.result.now.entries c.len-first.result c.count_of-own.result ≡ parts_of_all own = (λ i. room_behind (now i) (first i) (count i)) ∙ behind_undone b.entries s own (c.journal.ensures.sound).numbered in
+    let parts = c.parts_of-parts.ensures ∙ ap (λ es. parts_of_all (own_standing es s)) c.journal-3.ensures.entries in
+    let enough : c.parts_of-parts.result ≤ c.reserve.new.self.spare = search rules in
+    omega (arith, room, parts, enough)

@@ -1,7 +1,8 @@
-use Rattle.std.proofs.Common.{◌≡◌, ◌∷◌, [], true, false, sym, ◌∙◌, ap}
+use Rattle.std.proofs.Common.{◌≡◌, ◌∷◌, [], true, false, sym, subst, ◌∙◌, ap, length}
 use Rattle.tsn_journal.specs.declared.entries.MarkedEntry.{MarkedEntry}
 use Rattle.tsn_journal.specs.declared.groups.Group.TheVariants.{Of, EndsRedo}
-use Rattle.tsn_journal.specs.Index.{group_if}
+use Rattle.tsn_journal.specs.Entries.{added_parts}
+use Rattle.tsn_journal.specs.Index.{HasRoom, TakesRoom, group_if, places_for}
 use Rattle.tsn_journal.proofs.Grouping.{covers_undone}
 use Rattle.tsn_journal.proofs.Indexing.{pending_newest}
 use Rattle.tsn_journal.proofs.Links.{some_of}
@@ -15,3 +16,23 @@ returns-in-Undone-clause-index c =
     let one : c.numbered.result.now ≡ m = some_of _ _ (sym c.numbered.ensures ∙ at) in
     covers_undone m c.numbered.result.now.entry.session _ _ (ap (λ (x : MarkedEntry). x.entry.session) (sym one)) (ap (λ (x : MarkedEntry). x.entry.what) (sym one) ∙ c.in-Undone.is) g belong)
     c.requires.index)
+
+pub enter_change-requires-clause-room : goal.enter_change-requires-clause-room
+enter_change-requires-clause-room c =
+    let count : length c.in-Made.change ≡ c.args.parts = sym (ap added_parts c.in-Made.is) ∙ c.requires.parts c.numbered.result.now c.numbered.ensures in
+    subst (λ n. HasRoom (places_for 1 n) c.args.self.now) (sym count) c.requires.room
+
+pub returns-in-Made-clause-room : goal.returns-in-Made-clause-room
+returns-in-Made-clause-room c =
+    let count : length c.in-Made.change ≡ c.args.parts = sym (ap added_parts c.in-Made.is) ∙ c.requires.parts c.numbered.result.now c.numbered.ensures in
+    subst (λ n. TakesRoom (places_for 1 n) c.args.self.now c.enter_change.new.self) count c.enter_change.ensures.room
+
+pub enter_change-requires-in-Redone-clause-room : goal.enter_change-requires-in-Redone-clause-room
+enter_change-requires-in-Redone-clause-room c =
+    let count : length c.in-Redone.change ≡ c.args.parts = sym (ap added_parts c.in-Redone.is) ∙ c.requires.parts c.numbered.result.now c.numbered.ensures in
+    subst (λ n. HasRoom (places_for 1 n) c.args.self.now) (sym count) c.requires.room
+
+pub returns-in-Redone-clause-room : goal.returns-in-Redone-clause-room
+returns-in-Redone-clause-room c =
+    let count : length c.in-Redone.change ≡ c.args.parts = sym (ap added_parts c.in-Redone.is) ∙ c.requires.parts c.numbered.result.now c.numbered.ensures in
+    subst (λ n. TakesRoom (places_for 1 n) c.args.self.now c.enter_change-in-Redone.new.self) count c.enter_change-in-Redone.ensures.room

@@ -1,31 +1,50 @@
-use Rattle.std.proofs.Common.{◌∷◌, []}
+use Rattle.std.proofs.Common.{◌+◌, ◌∷◌, ◌++◌, List, [], arith, drop, sym, subst}
 use Rattle.std.specs.Prelude.{option_map}
+use Rattle.tsn_edit.specs.Parts.{Part}
 use Rattle.tsn_journal.specs.declared.groups.Group.TheVariants.{RefersTo}
-use Rattle.tsn_journal.proofs.Entering.{of_refs, of_session, pending_change}
+use Rattle.tsn_journal.specs.Index.{IsIndexedBut, groups_of_parts}
+use Rattle.tsn_journal.specs.Latest.{latest_of}
+use Rattle.tsn_journal.proofs.Entering.{next_pending, none_pending, of_session, pending_change, takes_none, three_taken}
 use Rattle.tsn_journal.proofs.Indexing.{but_newest}
 use Rattle.tsn_journal.proofs.index.Index.enter_change.Goals as goal
 
+pub loop-part-init : goal.loop-part-init
+loop-part-init c = record {
+  pending = subst (λ (ps : List Part). IsIndexedBut (groups_of_parts ps ++ of_session c.args.session c.args.ends) c.args.marked.now c.args.self.now.places.items (latest_of c.args.self.now.latest)) (sym c.parts-parts.ensures.parts)
+      (pending_change c.args.marked.now c.args.number c.args.session c.args.change.now c.args.ends c.requires.newest c.args.self.now c.requires.index);
+  room = takes_none c.args.self.now;
+}
+
 pub enter_ref-requires-clause-index : goal.enter_ref-requires-clause-index
 enter_ref-requires-clause-index c =
-    let is = c.enter_on.ensures.index (of_refs c.args.marked.now c.args.number c.args.session c.args.change.now c.args.ends c.requires.newest c.one_part-part.result.now c.one_part-part.ensures c.refs_of-refs.result c.refs_of-refs.ensures) (pending_change c.args.marked.now c.args.number c.args.session c.args.change.now c.args.ends c.requires.newest c.one_part-part.result.now c.one_part-part.ensures c.refs_of-refs.result c.refs_of-refs.ensures c.args.self.now c.requires.index) in
-    but_newest c.args.marked.now _ c.enter_on.new.self is
+    let refs = c.refs_of-refs.result in
+    let rest = groups_of_parts (drop (c.loop-part.part-index + 1) c.parts-parts.result.now) ++ of_session c.args.session c.args.ends in
+    let on = c.enter_on.ensures.index (option_map RefersTo refs.first ∷ option_map RefersTo refs.second ∷ rest)
+    (next_pending c.args.marked.now c.loop-part.self c.parts-parts.result.now c.loop-part.part-index c.args.session c.args.ends c.part-item.result refs c.loop-part-test.true c.part-item.is c.refs_of-refs.ensures c.loop-part.invariant.pending) in
+    but_newest c.args.marked.now _ c.enter_on.new.self on
 
-pub enter_ref-requires-2-clause-index : goal.enter_ref-requires-2-clause-index
-enter_ref-requires-2-clause-index c =
-    let is = c.enter_on.ensures.index (of_refs c.args.marked.now c.args.number c.args.session c.args.change.now c.args.ends c.requires.newest c.one_part-part.result.now c.one_part-part.ensures c.refs_of-refs.result c.refs_of-refs.ensures) (pending_change c.args.marked.now c.args.number c.args.session c.args.change.now c.args.ends c.requires.newest c.one_part-part.result.now c.one_part-part.ensures c.refs_of-refs.result c.refs_of-refs.ensures c.args.self.now c.requires.index) in
-    let first = c.enter_ref.ensures.index (option_map RefersTo c.refs_of-refs.result.second ∷ of_session c.args.marked.now c.args.number c.args.session c.args.change.now c.args.ends c.requires.newest c.one_part-part.result.now c.one_part-part.ensures c.refs_of-refs.result c.refs_of-refs.ensures) is in
+pub enter_ref-requires-in-loop-part-clause-index : goal.enter_ref-requires-in-loop-part-clause-index
+enter_ref-requires-in-loop-part-clause-index c =
+    let refs = c.refs_of-refs.result in
+    let rest = groups_of_parts (drop (c.loop-part.part-index + 1) c.parts-parts.result.now) ++ of_session c.args.session c.args.ends in
+    let on = c.enter_on.ensures.index (option_map RefersTo refs.first ∷ option_map RefersTo refs.second ∷ rest)
+    (next_pending c.args.marked.now c.loop-part.self c.parts-parts.result.now c.loop-part.part-index c.args.session c.args.ends c.part-item.result refs c.loop-part-test.true c.part-item.is c.refs_of-refs.ensures c.loop-part.invariant.pending) in
+    let first = c.enter_ref.ensures.index (option_map RefersTo refs.second ∷ rest) on in
     but_newest c.args.marked.now _ c.enter_ref.new.self first
 
-pub enter_session-requires-clause-index : goal.enter_session-requires-clause-index
-enter_session-requires-clause-index c =
-    let is = c.enter_on.ensures.index (of_refs c.args.marked.now c.args.number c.args.session c.args.change.now c.args.ends c.requires.newest c.one_part-part.result.now c.one_part-part.ensures c.refs_of-refs.result c.refs_of-refs.ensures) (pending_change c.args.marked.now c.args.number c.args.session c.args.change.now c.args.ends c.requires.newest c.one_part-part.result.now c.one_part-part.ensures c.refs_of-refs.result c.refs_of-refs.ensures c.args.self.now c.requires.index) in
-    let first = c.enter_ref.ensures.index (option_map RefersTo c.refs_of-refs.result.second ∷ of_session c.args.marked.now c.args.number c.args.session c.args.change.now c.args.ends c.requires.newest c.one_part-part.result.now c.one_part-part.ensures c.refs_of-refs.result c.refs_of-refs.ensures) is in
-    let second = c.enter_ref-2.ensures.index (of_session c.args.marked.now c.args.number c.args.session c.args.change.now c.args.ends c.requires.newest c.one_part-part.result.now c.one_part-part.ensures c.refs_of-refs.result c.refs_of-refs.ensures) first in
-    but_newest c.args.marked.now _ c.enter_ref-2.new.self second
+pub loop-part-preserved : goal.loop-part-preserved
+loop-part-preserved c =
+    let refs = c.refs_of-refs.result in
+    let rest = groups_of_parts (drop (c.loop-part.part-index + 1) c.parts-parts.result.now) ++ of_session c.args.session c.args.ends in
+    let on = c.enter_on.ensures.index (option_map RefersTo refs.first ∷ option_map RefersTo refs.second ∷ rest)
+    (next_pending c.args.marked.now c.loop-part.self c.parts-parts.result.now c.loop-part.part-index c.args.session c.args.ends c.part-item.result refs c.loop-part-test.true c.part-item.is c.refs_of-refs.ensures c.loop-part.invariant.pending) in
+    let first = c.enter_ref.ensures.index (option_map RefersTo refs.second ∷ rest) on in
+    record {
+      pending = c.enter_ref-in-loop-part.ensures.index rest first;
+      room = three_taken c.loop-part.part-index c.args.self.now c.loop-part.self c.enter_on.new.self c.enter_ref.new.self c.enter_ref-in-loop-part.new.self c.loop-part.invariant.room c.enter_on.ensures.room c.enter_ref.ensures.room c.enter_ref-in-loop-part.ensures.room;
+    }
 
 pub returns-clause-index : goal.returns-clause-index
 returns-clause-index c =
-    let is = c.enter_on.ensures.index (of_refs c.args.marked.now c.args.number c.args.session c.args.change.now c.args.ends c.requires.newest c.one_part-part.result.now c.one_part-part.ensures c.refs_of-refs.result c.refs_of-refs.ensures) (pending_change c.args.marked.now c.args.number c.args.session c.args.change.now c.args.ends c.requires.newest c.one_part-part.result.now c.one_part-part.ensures c.refs_of-refs.result c.refs_of-refs.ensures c.args.self.now c.requires.index) in
-    let first = c.enter_ref.ensures.index (option_map RefersTo c.refs_of-refs.result.second ∷ of_session c.args.marked.now c.args.number c.args.session c.args.change.now c.args.ends c.requires.newest c.one_part-part.result.now c.one_part-part.ensures c.refs_of-refs.result c.refs_of-refs.ensures) is in
-    let second = c.enter_ref-2.ensures.index (of_session c.args.marked.now c.args.number c.args.session c.args.change.now c.args.ends c.requires.newest c.one_part-part.result.now c.one_part-part.ensures c.refs_of-refs.result c.refs_of-refs.ensures) first in
-    c.enter_session.ensures.index [] second
+    c.enter_session.ensures.index []
+    (none_pending c.args.marked.now c.loop-part.self c.parts-parts.result.now c.loop-part.part-index c.args.session c.args.ends (omega arith) c.loop-part.invariant.pending)

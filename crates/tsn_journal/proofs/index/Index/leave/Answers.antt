@@ -6,6 +6,6 @@ use Rattle.tsn_journal.proofs.index.Index.leave.Goals.{in-Some, in_default}
 
 pub lower_session-requires : goal.lower_session-requires
 lower_session-requires c = elim c.match-added.branch [
-  | in-Some w ↦ subst (λ (a : Index). IsIndexed c.args.marked.now a) (sym w.self-is) w.lower_ref-in-Some.ensures.index
+  | in-Some w ↦ subst (λ (a : Index). IsIndexed c.args.marked.now a) (sym w.self-is) w.lower_parts.ensures.index
   | in_default w ↦ subst (λ (a : Index). IsIndexed c.args.marked.now a) (sym w.self-is) c.requires
 ]

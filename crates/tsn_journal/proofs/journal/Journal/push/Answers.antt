@@ -1,10 +1,10 @@
-use Rattle.std.proofs.Common.{◌≤◌, sym, ◌∙◌, ap, subst, drop, length, map, arith}
-use Rattle.tsn_journal.specs.Entries.{IsNumbered, with_entry}
-use Rattle.tsn_journal.specs.Index.{IsIndexed, IsIndexedButNewest}
+use Rattle.std.proofs.Common.{◌≤◌, sym, ◌∙◌, ap, subst, drop, length, map, add-zero, arith}
+use Rattle.tsn_journal.specs.Entries.{IsNumbered, added_parts, with_entry}
+use Rattle.tsn_journal.specs.Index.{IsIndexed, IsIndexedButNewest, NewestAdds, TakesRoom, places_for}
 use Rattle.tsn_journal.specs.Marks.{Log, entries_of, mark_off}
 use Rattle.std.specs.Vec.{vec_capacity, vec_len}
 use Rattle.tsn_journal.proofs.Indexing.{takes_more}
-use Rattle.tsn_journal.proofs.Keeping.{kept_pushed, pushed_few, pushed_index, pushed_numbered, pushed_some, room_for_five}
+use Rattle.tsn_journal.proofs.Keeping.{kept_pushed, pushed_few, pushed_index, pushed_numbered, pushed_some, pushed_adds, room_for_one}
 use Rattle.tsn_journal.proofs.Marking.{entries_pushed, pushed_items}
 use Rattle.tsn_journal.proofs.journal.Journal.push.Goals as goal
 
@@ -19,7 +19,19 @@ enter-requires-clause-index c =
     c.self.inside.index c.self.invariant.indexed)
 
 pub enter-requires-clause-room : goal.enter-requires-clause-room
-enter-requires-clause-room c = room_for_five c.self.inside.room c.self.inside.index (subst (λ (l : Log). 1 ≤ l.spare) (sym c.self.view_is) c.requires) c.self.invariant.places
+enter-requires-clause-room c =
+    room_for_one c.self.inside.room c.self.inside.parts c.added_parts-parts.result c.self.inside.index (subst (λ (l : Log). 1 ≤ l.spare) (sym c.self.view_is) c.requires.room)
+    (subst (λ (l : Log). c.added_parts-parts.result ≤ l.parts) (sym c.self.view_is) (omega (arith, c.added_parts-parts.ensures.parts, c.requires.parts))) c.self.invariant.places
+
+pub enter-requires-clause-parts : goal.enter-requires-clause-parts
+enter-requires-clause-parts c =
+    let ms = c.self.inside.marked.items in
+    let same = sym (ap length c.deref_mut.ensures.value) ∙ c.deref_mut.ensures.len in
+    subst (NewestAdds c.deref.result.now) (sym c.added_parts-parts.ensures.parts)
+    (subst (λ xs. NewestAdds xs (added_parts c.args.what)) (sym c.deref.ensures.value)
+    (pushed_adds c.args.what c.args.session ms c.push_reserved.new.self.items
+    (pushed_items c.args.what c.args.session c.self.inside.marked.len c.len.result ms (drop (length c.put_off.new.marked) ms) c.put_off.new.marked c.push_reserved.new.self.items same c.len.ensures
+    (c.put_off.ensures ∙ ap (map (mark_off c.args.what)) c.deref_mut.ensures.value) c.push_reserved.ensures.items)))
 
 pub enter-requires-clause-some : goal.enter-requires-clause-some
 enter-requires-clause-some c =
@@ -34,7 +46,7 @@ pub enter-requires-clause-few : goal.enter-requires-clause-few
 enter-requires-clause-few c =
     let ms = c.self.inside.marked.items in
     let same = sym (ap length c.deref_mut.ensures.value) ∙ c.deref_mut.ensures.len in
-    let room : 1 ≤ c.self.inside.room = subst (λ (l : Log). 1 ≤ l.spare) (sym c.self.view_is) c.requires in
+    let room : 1 ≤ c.self.inside.room = subst (λ (l : Log). 1 ≤ l.spare) (sym c.self.view_is) c.requires.room in
     subst (λ xs. length xs ≤ 65536) (sym c.deref.ensures.value)
     (pushed_few c.args.what c.args.session ms c.push_reserved.new.self.items
     (pushed_items c.args.what c.args.session c.self.inside.marked.len c.len.result ms (drop (length c.put_off.new.marked) ms) c.put_off.new.marked c.push_reserved.new.self.items same c.len.ensures
@@ -48,7 +60,7 @@ pub leave-requires-clause-numbered : goal.leave-requires-clause-numbered
 leave-requires-clause-numbered c =
     let ms = c.self.inside.marked.items in
     let same = sym (ap length c.deref_mut.ensures.value) ∙ c.deref_mut.ensures.len in
-    let room : 1 ≤ c.self.inside.room = subst (λ (l : Log). 1 ≤ l.spare) (sym c.self.view_is) c.requires in
+    let room : 1 ≤ c.self.inside.room = subst (λ (l : Log). 1 ≤ l.spare) (sym c.self.view_is) c.requires.room in
     subst (λ xs. IsNumbered 1 (entries_of xs)) (sym c.deref-2.ensures.value)
     (pushed_numbered c.args.what c.args.session ms c.push_reserved.new.self.items
     (pushed_items c.args.what c.args.session c.self.inside.marked.len c.len.result ms (drop (length c.put_off.new.marked) ms) c.put_off.new.marked c.push_reserved.new.self.items same c.len.ensures
@@ -62,10 +74,13 @@ invariant_of-self c =
     kept_pushed c.args.what c.args.session ms c.push_reserved.new.self.items
     (pushed_items c.args.what c.args.session c.self.inside.marked.len c.len.result ms (drop (length c.put_off.new.marked) ms) c.put_off.new.marked c.push_reserved.new.self.items same c.len.ensures
     (c.put_off.ensures ∙ ap (map (mark_off c.args.what)) c.deref_mut.ensures.value) c.push_reserved.ensures.items)
-    (vec_len c.self.inside.marked) (vec_capacity c.self.inside.marked) _ _ c.self.inside.room c.self.inside.index c.leave.new.index
-    (subst (λ (l : Log). 1 ≤ l.spare) (sym c.self.view_is) c.requires) c.self.invariant same c.push_reserved.ensures.len c.push_reserved.ensures.capacity
+    (vec_len c.self.inside.marked) (vec_capacity c.self.inside.marked) _ _ c.self.inside.room c.self.inside.parts c.added_parts-parts.result c.self.inside.index c.leave.new.index
+    (subst (λ (l : Log). 1 ≤ l.spare) (sym c.self.view_is) c.requires.room)
+    (subst (λ (l : Log). c.added_parts-parts.result ≤ l.parts) (sym c.self.view_is) (omega (arith, c.added_parts-parts.ensures.parts, c.requires.parts)))
+    c.added_parts-parts.ensures.few c.self.invariant same c.push_reserved.ensures.len c.push_reserved.ensures.capacity
     (subst (λ xs. IsIndexed xs c.leave.new.index) c.deref-2.ensures.value c.leave.ensures.index)
-    (takes_more 5 0 c.self.inside.index c.enter.new.self c.leave.new.index c.enter.ensures.room c.leave.ensures.room)
+    (subst (λ n. TakesRoom n c.self.inside.index c.leave.new.index) (add-zero (places_for 1 c.added_parts-parts.result))
+    (takes_more (places_for 1 c.added_parts-parts.result) 0 c.self.inside.index c.enter.new.self c.leave.new.index c.enter.ensures.room c.leave.ensures.room))
 
 pub returns-clause-entries : goal.returns-clause-entries
 returns-clause-entries c =

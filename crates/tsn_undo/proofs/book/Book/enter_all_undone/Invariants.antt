@@ -1,7 +1,7 @@
 use Rattle.std.proofs.Common.{length}
 use Rattle.std.specs.Vec.{vec_len}
 use Rattle.tsn_undo.specs.Ledger.{Holds}
-use Rattle.tsn_undo.proofs.Room.{room_left}
+use Rattle.tsn_undo.specs.UndoAll.{room_left}
 use Rattle.tsn_undo.proofs.UndoAll.{IsUndoing}
 use Rattle.tsn_undo.proofs.book.Book.enter_all_undone.Given as goal
 

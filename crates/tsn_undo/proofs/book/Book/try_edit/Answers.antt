@@ -25,14 +25,14 @@ fits_own l l' m m' e e' limits map' change fits = subst (λ (t : Limits × (Conf
 pub append-requires-clause-fits : goal.append-requires-clause-fits
 append-requires-clause-fits c =
     let b = c.args.self.now.ledger in
-    fits_own _ _ _ _ _ _ (c.config.ensures.limits ∙ ap (λ (l : Ledger). l.limits) (sym c.reserve.ensures.ledger)) (c.config.ensures.map ∙ ap present (sym c.reserve.ensures.ledger)) refl c.in_ok-change.ensures.fits
+    fits_own _ _ _ _ _ _ (c.config.ensures.limits ∙ ap (λ (l : Ledger). l.limits) (sym c.reserve_parts.ensures.ledger)) (c.config.ensures.map ∙ ap present (sym c.reserve_parts.ensures.ledger)) refl c.in_ok-change.ensures.fits
 
 pub append-requires-clause-sound : goal.append-requires-clause-sound
 append-requires-clause-sound c =
     let b = c.args.self.now.ledger in
     let copy : c.in_ok-copy.copy ≡ change_of (present b) c.args.edit = c.in_ok-copy.ensures ∙ c.in_ok-change.ensures.change ∙ ap (λ m. change_of m c.args.edit) c.config.ensures.map in
     let fits = fits_own _ _ _ _ _ _ c.config.ensures.limits c.config.ensures.map (c.in_ok-change.ensures.change ∙ ap (λ m. change_of m c.args.edit) c.config.ensures.map) c.in_ok-change.ensures.fits in
-    subst (λ (t : Ledger × Change). IsSound t.0.limits t.0.opening (with_entry t.0.entries c.args.session (Made t.1))) (λ i. (sym c.reserve.ensures.ledger i, sym copy i)) (edit_sound b c.args.session c.args.edit c.config.ensures.sound fits)
+    subst (λ (t : Ledger × Change). IsSound t.0.limits t.0.opening (with_entry t.0.entries c.args.session (Made t.1))) (λ i. (sym c.reserve_parts.ensures.ledger i, sym copy i)) (edit_sound b c.args.session c.args.edit c.config.ensures.sound fits)
 
 pub returns-clause-ok : goal.returns-clause-ok
 returns-clause-ok c =
@@ -40,5 +40,5 @@ returns-clause-ok c =
     let copy : c.in_ok-copy.copy ≡ change_of (present b) c.args.edit = c.in_ok-copy.ensures ∙ c.in_ok-change.ensures.change ∙ ap (λ m. change_of m c.args.edit) c.config.ensures.map in
     let fits = fits_own _ _ _ _ _ _ c.config.ensures.limits c.config.ensures.map (c.in_ok-change.ensures.change ∙ ap (λ m. change_of m c.args.edit) c.config.ensures.map) c.in_ok-change.ensures.fits in
     makes_edit b c.args.session c.args.edit c.config.ensures.sound fits c.requires c.append.result c.append.new.self.ledger
-    (c.append.ensures.number ∙ ap (λ (l : Ledger). length l.entries + 1) c.reserve.ensures.ledger)
-    (c.append.ensures.after ∙ (λ i. enter (c.reserve.ensures.ledger i) c.args.session (Made (copy i))))
+    (c.append.ensures.number ∙ ap (λ (l : Ledger). length l.entries + 1) c.reserve_parts.ensures.ledger)
+    (c.append.ensures.after ∙ (λ i. enter (c.reserve_parts.ensures.ledger i) c.args.session (Made (copy i))))

@@ -1,25 +1,39 @@
-use Rattle.std.proofs.Common.{◌∙◌, ap, arith, length}
+use Rattle.std.proofs.Common.{◌≡◌, ◌∙◌, ap, arith, length, sym, subst}
+use Rattle.std.proofs.lemmas.List.{length-map}
 use Rattle.tsn_journal.specs.Finding.{own_standing}
-use Rattle.tsn_undo.specs.Ledger.{Ledger}
-use Rattle.tsn_undo.specs.UndoAll.{with_undone}
-use Rattle.tsn_undo.proofs.Room.{one_each}
+use Rattle.tsn_undo.specs.Ledger.{Ledger, LedgerWithRoom}
+use Rattle.tsn_undo.specs.UndoAll.{room_left, room_of_all, taking_back, with_undone}
+use Rattle.tsn_undo.proofs.Making.{SoundLedger}
+use Rattle.tsn_undo.proofs.Room.{few_own, room_left-all}
 use Rattle.tsn_undo.proofs.UndoAll.{makes_all}
 use Rattle.tsn_undo.proofs.book.Book.try_undo_all.Goals as goal
+
+pub parts_of-requires : goal.parts_of-requires
+parts_of-requires c =
+    let b = c.args.self.now.ledger in
+    let own = own_standing b.entries c.args.session in
+    omega (arith, ap length c.deref.ensures.value, ap length c.in_ok-backs.ensures, length-map own taking_back, few_own b c.args.session c.requires)
+
+pub reserve_parts-requires : goal.reserve_parts-requires
+reserve_parts-requires c = omega (arith, c.parts_of.ensures.few, c.deref.ensures.len, c.len-count.ensures)
+
+pub enter_all_undone-requires-clause-sound : goal.enter_all_undone-requires-clause-sound
+enter_all_undone-requires-clause-sound c = subst SoundLedger (sym c.reserve_parts.ensures.ledger) (subst (λ (a : LedgerWithRoom). SoundLedger a.ledger) c.self.view_is c.self.invariant.sound)
+
+pub enter_all_undone-requires-clause-room : goal.enter_all_undone-requires-clause-room
+enter_all_undone-requires-clause-room c =
+    let s = c.args.session in
+    let own = own_standing c.args.self.now.ledger.entries s in
+    let backs = c.deref.ensures.value ∙ c.in_ok-backs.ensures in
+    let now = ap (λ (l : Ledger). own_standing l.entries s) c.reserve_parts.ensures.ledger in
+    (omega (arith, ap length backs, length-map own taking_back, ap length now, c.deref.ensures.len, c.len-count.ensures, c.in_default.ensures.ok.0), omega (arith, c.parts_of.ensures.parts, ap room_left backs, room_left-all own, ap room_of_all now, c.in_default.ensures.ok.1))
 
 pub returns-clause-ok : goal.returns-clause-ok
 returns-clause-ok c =
     let b = c.args.self.now.ledger in
     let s = c.args.session in
-    let after = c.enter_all_undone.ensures ∙ ap (λ (l : Ledger). record l { entries = with_undone l.entries s (own_standing l.entries s) }) c.reserve.ensures.ledger in
-    makes_all b s c.journal.ensures.sound c.requires c.count_of-count.result c.len.result c.enter_all_undone.new.self.ledger
-    (c.count_of-count.ensures.count ∙ ap (λ es. length (own_standing es s)) c.journal.ensures.entries)
-    (c.len.ensures.number ∙ ap length (c.journal-2.ensures.entries ∙ ap (λ (l : Ledger). l.entries) after))
-    after
-
-pub enter_all_undone-requires-clause-room : goal.enter_all_undone-requires-clause-room
-enter_all_undone-requires-clause-room c =
-    let s = c.args.session in
-    let counted = c.count_of-count.ensures.count ∙ ap (λ es. length (own_standing es s)) c.journal.ensures.entries in
-    let own = own_standing c.reserve.new.self.ledger.entries s in
-    let enough = ap (λ (l : Ledger). length (own_standing l.entries s)) c.reserve.ensures.ledger in
-    (omega (arith, counted, enough, c.in_default.ensures.ok.0), omega (arith, counted, enough, one_each own, c.in_default.ensures.ok.1))
+    let own = own_standing b.entries s in
+    let sound : SoundLedger b = subst (λ (a : LedgerWithRoom). SoundLedger a.ledger) c.self.view_is c.self.invariant.sound in
+    let after = c.enter_all_undone.ensures ∙ ap (λ (l : Ledger). record l { entries = with_undone l.entries s (own_standing l.entries s) }) c.reserve_parts.ensures.ledger in
+    let counted : c.len-count.result ≡ length own = omega (arith, ap length (c.deref.ensures.value ∙ c.in_ok-backs.ensures), length-map own taking_back, c.deref.ensures.len, c.len-count.ensures) in
+    makes_all b s sound c.requires c.len-count.result c.len.result c.enter_all_undone.new.self.ledger counted (c.len.ensures.number ∙ ap length (c.journal.ensures.entries ∙ ap (λ (l : Ledger). l.entries) after)) after

@@ -1,0 +1,118 @@
+-- Parts that are tested one by one: what holds of those that are left holds of all.
+use Rattle.std.proofs.Common.{None, not, ◌≡◌, ℕ, zero, suc, ◌||◌, ◌+◌, ◌<◌, Bool, true, false, cond, ◌&&◌, List, [], ◌∷◌, length, drop, get_or, refl, sym, ◌∙◌, ap, subst, Option, drop-cons, add-one}
+use Rattle.std.specs.Prelude.{IfSome, is_none}
+use Rattle.std.specs.List.{AllByRecursion, IsDistinct, list_all}
+use Rattle.std.specs.FinMap.{get}
+use Rattle.tsn_types.specs.declared.keys.Key.{Key}
+use Rattle.tsn_types.specs.declared.records.Record.{Record}
+use Rattle.tsn_types.specs.declared.limits.Limits.{Limits}
+use Rattle.tsn_types.specs.InRange.{RecordInRange}
+use Rattle.tsn_types.specs.Keys.{has, same_key}
+use Rattle.tsn_edit.specs.Changes.{Stands, keys_of, put_all}
+use Rattle.tsn_edit.specs.Configuration.{Configuration}
+use Rattle.tsn_edit.specs.Edits.{is_port}
+use Rattle.tsn_edit.specs.Parts.{Part}
+use Rattle.tsn_edit.proofs.KeyFacts.{by_bool, get-put}
+use Rattle.tsn_config.specs.declared.fitting.Way.{Way}
+use Rattle.tsn_config.specs.declared.fitting.Way.TheVariants.{Forth, Back}
+use Rattle.tsn_config.specs.Keeping.{keeps_part, keeps_value, referrer_beside}
+use Rattle.tsn_config.specs.Ways.{AreInRange, turned, turned_part}
+
+-- one part is left less
+pub next_left : (ps : List Part) (i : ℕ) (p : Part) → i < length ps → p ≡ get_or ps i p → drop i ps ≡ p ∷ drop (i + 1) ps
+next_left ps i p h is = drop-cons ps i p h ∙ ap (λ n. get_or ps i p ∷ drop n ps) (sym (add-one i)) ∙ ap (λ q. q ∷ drop (i + 1) ps) (sym is)
+
+pub distinct_left : (i : ℕ) (ps : List Part) → IsDistinct same_key (keys_of ps) → IsDistinct same_key (keys_of (drop i ps))
+unfolding IsDistinct
+distinct_left zero ps h = h
+distinct_left (suc i) [] h = tt
+distinct_left (suc i) (p ∷ ps) h = distinct_left i ps h.1
+
+-- a key that none of the keys is
+pub apart_from : (k : Key) (ks : List Key) → has ks k ≡ false → AllByRecursion (λ q. same_key k q ≡ false) ks
+apart_from k [] h = tt
+apart_from k (q ∷ ks) h = by_bool (same_key k q)
+    (λ yes. let never : true ≡ false = sym (ap (λ b. b || has ks k) yes) ∙ h in (cc))
+    (λ no. (no, apart_from k ks (sym (ap (λ b. b || has ks k) no) ∙ h)))
+
+pub not_apart : (k : Key) (ks : List Key) → AllByRecursion (λ q. same_key k q ≡ false) ks → has ks k ≡ false
+not_apart k [] h = refl
+not_apart k (q ∷ ks) h = ap (λ b. b || has ks k) h.0 ∙ not_apart k ks h.1
+
+-- parts of which p is the first, and qs are the others
+module _ (ps qs : List Part) (p : Part) (is : ps ≡ p ∷ qs) where
+  pub distinct_next : has (keys_of qs) p.key ≡ false → IsDistinct same_key (keys_of qs) → IsDistinct same_key (keys_of ps)
+  unfolding IsDistinct
+  distinct_next off h = subst (λ ps. IsDistinct same_key (keys_of ps)) (sym is) (apart_from p.key (keys_of qs) off, h)
+
+  pub not_distinct : has (keys_of qs) p.key ≡ true → IsDistinct same_key (keys_of ps) → ⊥
+  unfolding IsDistinct
+  not_distinct on h =
+      let all = subst (λ ps. IsDistinct same_key (keys_of ps)) is h in
+      let off : has (keys_of qs) p.key ≡ false = not_apart p.key (keys_of qs) all.0 in
+      absurd (cc)
+
+key_turned : (way : Way) (p : Part) → (turned_part way p).key ≡ p.key
+key_turned Forth p = refl
+key_turned Back p = refl
+
+pub stand_left : (way : Way) (c : Configuration) (i : ℕ) (ps : List Part) → Stands c (turned way ps) → Stands c (turned way (drop i ps))
+stand_left way c zero ps h = h
+stand_left way c (suc i) [] h = tt
+stand_left way c (suc i) (p ∷ ps) h = stand_left way c i ps h.1
+
+module _ (way : Way) (ps qs : List Part) (p : Part) (is : ps ≡ p ∷ qs) where
+  pub stand_next : (c : Configuration) → get c p.key ≡ (turned_part way p).before → Stands c (turned way qs) → Stands c (turned way ps)
+  stand_next c here h = subst (λ ps. Stands c (turned way ps)) (sym is) (ap (get c) (key_turned way p) ∙ here, h)
+
+  pub not_standing : (c : Configuration) → (get c p.key ≡ (turned_part way p).before → ⊥) → Stands c (turned way ps) → ⊥
+  not_standing c other h =
+      let all = subst (λ ps. Stands c (turned way ps)) is h in
+      other (ap (get c) (sym (key_turned way p)) ∙ all.0)
+
+  pub ranges_next : IfSome (turned_part way p).after RecordInRange → AreInRange (turned way qs) → AreInRange (turned way ps)
+  ranges_next here h = subst (λ ps. AreInRange (turned way ps)) (sym is) (here, h)
+
+  pub put_at : (c : Configuration) (k : Key) → same_key k p.key ≡ true → get (put_all c (turned way ps)) k ≡ (turned_part way p).after
+  put_at c k same =
+      ap (λ ps. get (put_all c (turned way ps)) k) is
+      ∙ get-put (put_all c (turned way qs)) (turned_part way p).key (turned_part way p).after k
+      ∙ ap (λ b. cond b (turned_part way p).after (get (put_all c (turned way qs)) k)) (ap (same_key k) (key_turned way p) ∙ same)
+
+  pub put_beside : (c : Configuration) (k : Key) → same_key k p.key ≡ false → get (put_all c (turned way qs)) k ≡ get (put_all c (turned way ps)) k
+  put_beside c k other =
+      sym (ap (λ ps. get (put_all c (turned way ps)) k) is
+      ∙ get-put (put_all c (turned way qs)) (turned_part way p).key (turned_part way p).after k
+      ∙ ap (λ b. cond b (turned_part way p).after (get (put_all c (turned way qs)) k)) (ap (same_key k) (key_turned way p) ∙ other))
+
+  pub all_next : (t : Part → Bool) → t (turned_part way p) ≡ true → list_all t (turned way qs) ≡ list_all t (turned way ps)
+  all_next t here = sym (ap (λ ps. list_all t (turned way ps)) is ∙ ap (λ b. b && list_all t (turned way qs)) here)
+
+  pub all_fail : (t : Part → Bool) → t (turned_part way p) ≡ false → list_all t (turned way ps) ≡ false
+  all_fail t here = ap (λ ps. list_all t (turned way ps)) is ∙ ap (λ b. b && list_all t (turned way qs)) here
+
+-- the keys stay as they are
+pub keys_turned : (way : Way) (ps : List Part) → keys_of (turned way ps) ≡ keys_of ps
+keys_turned way [] = refl
+keys_turned way (p ∷ ps) = λ i. key_turned way p i ∷ keys_turned way ps i
+
+pub turned_forth : (ps : List Part) → turned Forth ps ≡ ps
+turned_forth [] = refl
+turned_forth (p ∷ ps) = ap (λ qs. p ∷ qs) (turned_forth ps)
+
+pub none_distinct : (ps : List Part) → ps ≡ [] → IsDistinct same_key (keys_of ps)
+unfolding IsDistinct
+none_distinct [] h = tt
+none_distinct (p ∷ ps) h = (cc)
+
+removed : (l : Limits) (ks : List Key) (c d : Configuration) (k : Key) (b v : Option Record) → v ≡ None → is_none b ≡ false → is_port k ≡ false → keeps_value l ks c d k b v ≡ is_none (referrer_beside ks c k)
+removed l ks c d k b v gone there no_port =
+    ap (keeps_value l ks c d k b) gone ∙ ap (λ t. t || (not (is_port k) && is_none (referrer_beside ks c k))) there
+    ∙ ap (λ t. not t && is_none (referrer_beside ks c k)) no_port
+
+-- a part that takes away what stood there, and no port
+pub keeps_removed : (l : Limits) (c : Configuration) (way : Way) (ps : List Part) (p : Part) → (turned_part way p).after ≡ None → is_none (turned_part way p).before ≡ false → is_port p.key ≡ false
+    → keeps_part l c (turned way ps) (turned_part way p) ≡ is_none (referrer_beside (keys_of ps) c p.key)
+keeps_removed l c way ps p gone there no_port =
+    (λ i. keeps_value l (keys_turned way ps i) c (put_all c (turned way ps)) (key_turned way p i) (turned_part way p).before (turned_part way p).after)
+    ∙ removed l (keys_of ps) c (put_all c (turned way ps)) p.key (turned_part way p).before (turned_part way p).after gone there no_port

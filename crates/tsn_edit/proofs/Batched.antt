@@ -1,0 +1,42 @@
+-- Facts about the edits of a batch.
+use Rattle.std.proofs.Common.{◌≡◌, ◌≤◌, Bool, true, false, ◌||◌, ◌&&◌, List, [], ◌∷◌, length, refl, ap, map, arith}
+use Rattle.std.specs.Prelude.{not}
+use Rattle.std.specs.List.{AllByRecursion, IsDistinct, list_any}
+use Rattle.std.proofs.lemmas.Bool.{or_parts}
+use Rattle.tsn_types.specs.declared.keys.Key.{Key}
+use Rattle.tsn_types.specs.Keys.{has, same_key}
+use Rattle.tsn_edit.specs.declared.Edit.{Edit}
+use Rattle.tsn_edit.specs.Batches.{IsBatch, are_distinct, edited_keys, key_of}
+use Rattle.tsn_edit.specs.Parts.{most_parts}
+use Rattle.tsn_edit.proofs.KeyFacts.{by_bool}
+
+pub edited_is : (b : List Edit) (k : Key) → has (edited_keys b) k ≡ list_any (λ e. same_key k (key_of e)) b
+edited_is [] k = refl
+edited_is (e ∷ b) k = ap (λ t. same_key k (key_of e) || t) (edited_is b k)
+
+pub batch_of_one : (e : Edit) → IsBatch (e ∷ [])
+unfolding IsDistinct
+batch_of_one e = record { some = omega arith; few = omega arith; distinct = (tt, tt) }
+
+none_alike : (k : Key) (ks : List Key) → has ks k ≡ false → AllByRecursion (λ q. same_key k q ≡ false) ks
+none_alike k [] h = tt
+none_alike k (q ∷ ks) h = let parts = or_parts (same_key k q) (has ks k) h in (parts.0, none_alike k ks parts.1)
+
+both : (b c : Bool) → (b && c) ≡ true → (b ≡ true) × (c ≡ true)
+both true c h = (refl, h)
+both false c h = (cc)
+
+is_false : (b : Bool) → not b ≡ true → b ≡ false
+is_false true h = (cc)
+is_false false h = refl
+
+pub are_distinct-is : (ks : List Key) → are_distinct ks ≡ true → IsDistinct same_key ks
+unfolding IsDistinct
+are_distinct-is [] h = tt
+are_distinct-is (k ∷ ks) h =
+    let parts = both (not (has ks k)) (are_distinct ks) h in
+    (none_alike k ks (is_false (has ks k) parts.0), are_distinct-is ks parts.1)
+
+-- what the tests of a batch come to
+pub batch_of : (b : List Edit) → 1 ≤ length b → length b ≤ most_parts → are_distinct (edited_keys b) ≡ true → IsBatch b
+batch_of b some few distinct = record { some = some; few = few; distinct = are_distinct-is (edited_keys b) distinct }

@@ -1,0 +1,8 @@
+use Rattle.std.proofs.Common.{◌≡◌, false, take}
+use Rattle.std.specs.List.{list_any}
+use Rattle.tsn_types.specs.Keys.{has, refs_of}
+use Rattle.tsn_edit.proofs.is_referred_after.Given as goal
+
+-- no value after so far refers to the key
+abbrev pub invariant-loop-part : goal.invariant-loop-part
+invariant-loop-part l = list_any (λ p. has (refs_of p.after) l.key) (take l.part-index l.parts) ≡ false
