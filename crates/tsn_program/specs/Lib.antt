@@ -1,3 +1,4 @@
+pub mod Checking
 pub mod Failures
 pub mod Listing
 pub mod Opening

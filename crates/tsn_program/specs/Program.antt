@@ -3,16 +3,17 @@ use Rattle.std.specs.Prelude.{◌≡◌, ◌⊎◌, ℕ, ◌≤◌, List, [], Bo
 use Rattle.std.specs.Io.KnownBytes.{Appends}
 use Rattle.tsn_types.specs.declared.refusals.Refusal.{Refusal}
 use Rattle.tsn_records.specs.Answers.{IsOrMemory}
-use Rattle.tsn_bytes.specs.declared.bytes.Fault.TheVariants.{Write}
+use Rattle.tsn_bytes.specs.declared.bytes.Fault.TheVariants.{Memory, Write}
 use Rattle.tsn_bridge.specs.State.{State}
 use Rattle.tsn_bridge.specs.Beginning.{standard}
 use Rattle.tsn_serve.specs.Answers.{Answers, BreaksInWriting}
 use Rattle.tsn_serve.specs.Outcomes.{Moment, Outcome, most_reads}
+use Rattle.tsn_program.specs.Checking.{summary}
 use Rattle.tsn_program.specs.Failures.{failure_line}
 use Rattle.tsn_program.specs.Listing.{Enables, EnablesNot, EndsEarly, lines, listing_refusal}
 use Rattle.tsn_program.specs.Opening.{opened}
 use Rattle.tsn_words.specs.declared.arguments.Asked.{Asked}
-use Rattle.tsn_words.specs.declared.arguments.Asked.TheVariants.{Script, States, Serve, Shown, Refused}
+use Rattle.tsn_words.specs.declared.arguments.Asked.TheVariants.{Script, States, Serve, Check, Shown, Refused}
 use Rattle.tsn_words.specs.declared.arguments.Listing.{Listing}
 use Rattle.tsn_program.specs.declared.failures.Failure.{Failure}
 use Rattle.tsn_program.specs.declared.failures.Failure.TheVariants as failures
@@ -120,6 +121,34 @@ ServesStates x setup output status errors =
     × PrintsStates setup x output outcome
     × Reports outcome status errors
 
+-- What there is was shown; or nothing was, since memory was wanting.
+abbrev pub ShowsSummary : State → Output → Result (Unit {0}) Failure → Type 0
+ShowsSummary s output outcome =
+    Shows output (summary s) outcome
+    ⊎ ((outcome ≡ Err (failures.Fault Memory)) × (output.new ≡ output.old))
+
+-- A setup that opens no bridge ends with status 1 and its line, as each failure does; then a text was told, which may say where
+-- it is at fault.
+abbrev pub TellsFault : Refusal → ℕ → Errors → Type 0
+TellsFault why status errors =
+    (told : Errors)
+    × (told.old ≡ errors.old)
+    × Reports (Err (failures.Refused why)) status told
+    × ((place : List ℕ) × IsTold told.new errors.new errors.failed place)
+
+-- Of a bridge that opens it was told what it has.
+abbrev pub ChecksFrom : Result State Refusal → Output → ℕ → Errors → Type 0
+ChecksFrom (Ok start) output status errors =
+    (outcome : Result (Unit {0}) Failure)
+    × ShowsSummary start output outcome
+    × Reports outcome status errors
+ChecksFrom (Err why) output status errors = (output.new ≡ output.old) × TellsFault why status errors
+
+-- A setup was looked at, and how that ended is told: with status 0 where it opens a bridge, unless memory was wanting or the
+-- writer failed, and with status 1 where it opens none.
+abbrev pub ServesCheck : List ℕ → Output → ℕ → Errors → Type 0
+ServesCheck setup output status errors = (start : Result State Refusal) × Opens setup start × ChecksFrom start output status errors
+
 -- A text was shown, and how that ended is told.
 abbrev pub ServesText : List ℕ → Output → ℕ → Errors → Type 0
 ServesText text output status errors =
@@ -140,17 +169,21 @@ abbrev pub IsAlone : Asked → Type 0
 IsAlone (Script file) = Unit {0}
 IsAlone (States file listing) = Unit {0}
 IsAlone (Serve file listen serving) = ⊥
+IsAlone (Check file) = Unit {0}
 IsAlone (Shown text) = Unit {0}
 IsAlone (Refused text) = Unit {0}
 
--- What was asked for was done: a script is answered, or states are printed, from the setup's bridge; a text is shown; or
--- words are refused. No input is read but that of a script, and nothing is written where words are refused.
+-- What was asked for was done: a script is answered, states are printed, or it is told what there is, from the setup's bridge;
+-- a text is shown; or words are refused. No input is read but that of a script, and nothing is written where words are refused.
 abbrev pub Serves : Asked → List ℕ → (State → Moment State) → (State → Moment State) → ℕ → Errors → Type 0
 Serves (Script file) setup old new status errors = ServesScript setup old new status errors
 Serves (States file listing) setup old new status errors =
     ReadsNothing (old standard) (new standard)
     × ServesStates listing setup (output_of (old standard) (new standard)) status errors
 Serves (Serve file listen serving) setup old new status errors = ⊥
+Serves (Check file) setup old new status errors =
+    ReadsNothing (old standard) (new standard)
+    × ServesCheck setup (output_of (old standard) (new standard)) status errors
 Serves (Shown text) setup old new status errors =
     ReadsNothing (old standard) (new standard)
     × ServesText (string_bytes text) (output_of (old standard) (new standard)) status errors

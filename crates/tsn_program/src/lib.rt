@@ -2,6 +2,7 @@
 //! fail, to a status.
 #![tactic(auto)]
 
+mod checking;
 mod failures;
 mod files;
 mod opening;

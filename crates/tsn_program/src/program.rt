@@ -8,6 +8,7 @@ ghost use Rattle.tsn_program.specs.Listing.{IsNew};
 ghost use Rattle.tsn_program.specs.Program.{IsAlone, IsFront, IsTold, PrintsFrom, PrintsStates, RefusesWords, Reports, Serves, ServesScript, ServesStates, ServesText};
 ghost use Rattle.tsn_program.specs.declared.failures.Failure.TheVariants as failures;
 
+use crate::checking::check_setup;
 use crate::failures::{Failure, failure_line};
 use crate::opening::bridge_of;
 use crate::script::answer_script;
@@ -18,7 +19,7 @@ use tsn_bytes::{ByteIn, ByteOut, Fault, put_all};
 use tsn_words::{Asked, Listing};
 
 // Writes the text and hands it on.
-fn show<W: ByteOut>(writer: &mut W, text: &[u8]) -> Result<(), Failure>
+pub(crate) fn show<W: ByteOut>(writer: &mut W, text: &[u8]) -> Result<(), Failure>
     ensures ok { OnOk result (Appends (W.taken writer.old) (W.taken writer.new) text.now
         × (W.pending writer.new ≡ [])) }
     ensures fault { IfErr result (λ failure. failure ≡ failures.Fault Write) }
@@ -36,7 +37,7 @@ fn show<W: ByteOut>(writer: &mut W, text: &[u8]) -> Result<(), Failure>
 }
 
 // Writes the text where it can. Nothing is left to do where it can't.
-fn tell<W: ByteOut>(errors: &mut W, text: &[u8])
+pub(crate) fn tell<W: ByteOut>(errors: &mut W, text: &[u8])
     ensures { IsTold (W.taken errors.old) (W.taken errors.new) (W.has_failed errors.new) text.now }
 {
     let _ = show(errors, text);
@@ -187,6 +188,7 @@ pub fn run<R: ByteIn, O: ByteOut, E: ByteOut>(
         Asked::Script { .. } => serve_script(alloc, setup, input, output, errors),
         Asked::States { listing, .. } => serve_states(alloc, setup, listing, output, errors),
         Asked::Serve { .. } => unreachable!(),
+        Asked::Check { .. } => check_setup(alloc, setup, output, errors),
         Asked::Shown(text) => serve_text(text.as_bytes(), output, errors),
         Asked::Refused(text) => refuse_words(text.as_bytes(), errors),
     }

@@ -18,7 +18,7 @@ use Rattle.clap.specs.declared.builder.action.ArgAction.TheVariants.{Set}
 use Rattle.clap.specs.declared.builder.range.ValueRange.{ValueRange}
 use Rattle.clap.specs.declared.error.kind.ErrorKind.TheVariants.{DisplayHelp, InvalidSubcommand}
 use Rattle.clap.proofs.ValueTestLemmas.{accepts-Accepts}
-use Rattle.tsn_words.specs.Asking.{HasNumber, HasServe, HasStates, HasText, IsComplete, last_probe, longest_step, most_connections, most_instants, most_workers, program}
+use Rattle.tsn_words.specs.Asking.{HasCheck, HasNumber, HasServe, HasStates, HasText, IsComplete, last_probe, longest_step, most_connections, most_instants, most_workers, program}
 use Rattle.tsn_words.proofs.OneValue.{RowsFit, RuleFits, RulesFit, after_fit, given_value, no_kind}
 
 -- ---- no fault comes where `help` is no subcommand
@@ -180,6 +180,10 @@ fourth : List Shape → Shape
 fourth (a ∷ (b ∷ (c ∷ (d ∷ rest)))) = d
 fourth shapes = new_shape []
 
+fifth : List Shape → Shape
+fifth (a ∷ (b ∷ (c ∷ (d ∷ (e ∷ rest))))) = e
+fifth shapes = new_shape []
+
 -- ---- `states`
 
 accepted : Text → Text → Bool
@@ -245,12 +249,39 @@ serve_given words none =
       probe = number_given served (codes "serve") (codes "probe") 0 last_probe rows (λ v e. e) fit each.4;
     }
 
+-- ---- `check`
+
+looked : Text → Text → Bool
+looked id v = true
+
+check_built : Shape
+unfolding fourth
+check_built = fourth (built program).subs
+
+check_fit : RulesFit looked check_built.rules
+unfolding looked fourth check_built
+check_fit = (one looked _ refl refl refl (λ v e. refl), ((refl, inl refl), tt))
+
+-- what one test does not miss is given
+one_given : (a : Bool) → ((true && not a) || false) ≡ false → a ≡ true
+one_given false h = (cc)
+one_given true h = refl
+
+check_given : (words : List Text) → level_fault check_built [] nothing_held words false [] ≡ [] → HasCheck (Some (rows_at check_built words))
+unfolding looked fourth check_built
+check_given words none =
+    let parts = level check_built [] words false [] none in
+    let rows = rows_after check_built.rules [] words in
+    let fit = after_fit looked check_built [] refl check_fit words parts.walks parts.settles in
+    let wanted = (checks check_built rows false parts.checks).1 in
+    record { named = refl; file = text_given looked (codes "check") (codes "FILE") rows fit (one_given (is_given (codes "FILE") rows) wanted) }
+
 -- ---- the program
 
 by_stop : (stop : Option (Text × List Text)) → StopsWell stop → entered_fault (built program) stop ≡ [] → is_some (entered (built program) stop) ≡ true → IsComplete (entered (built program) stop)
-unfolding StopsWell IsNoHelp first second third fourth states_built serve_built
+unfolding StopsWell IsNoHelp first second third fourth fifth states_built serve_built check_built
 by_stop None well none some = (cc)
-by_stop (Some p) well none some = go (bytes_eq (codes "script") p.0) (bytes_eq (codes "states") p.0) (bytes_eq (codes "serve") p.0) (bytes_eq (codes "help") p.0) refl none some
+by_stop (Some p) well none some = go (bytes_eq (codes "script") p.0) (bytes_eq (codes "states") p.0) (bytes_eq (codes "serve") p.0) (bytes_eq (codes "check") p.0) (bytes_eq (codes "help") p.0) refl none some
   where
     no_help : bytes_eq (codes "help") p.0 ≡ true → ⊥
     no_help is =
@@ -258,17 +289,19 @@ by_stop (Some p) well none some = go (bytes_eq (codes "script") p.0) (bytes_eq (
         let never : bytes_eq (codes "help") (codes "help") ≡ false = subst (λ t. bytes_eq t (codes "help") ≡ false) (sym same) well in
         (cc)
 
-    shape : Bool → Bool → Bool → Bool → Option Shape
-    shape a b c d = cond (a || false) (Some (first (built program).subs)) (cond (b || false) (Some states_built) (cond (c || false) (Some serve_built) (cond (d || false) (Some (fourth (built program).subs)) None)))
+    shape : Bool → Bool → Bool → Bool → Bool → Option Shape
+    shape a b c d e = cond (a || false) (Some (first (built program).subs)) (cond (b || false) (Some states_built) (cond (c || false) (Some serve_built)
+        (cond (d || false) (Some check_built) (cond (e || false) (Some (fifth (built program).subs)) None))))
 
-    go : (a b c d : Bool) → bytes_eq (codes "help") p.0 ≡ d
-        → option_map_or (λ (s : Shape). level_fault s [] nothing_held p.1 false []) (shape a b c d) [] ≡ []
-        → is_some (option_map (λ (s : Shape). rows_at s p.1) (shape a b c d)) ≡ true → IsComplete (option_map (λ (s : Shape). rows_at s p.1) (shape a b c d))
-    go true b c d is none some = inl refl
-    go false true c d is none some = inr (inl (states_given p.1 none))
-    go false false true d is none some = inr (inr (serve_given p.1 none))
-    go false false false true is none some = absurd (no_help is)
-    go false false false false is none some = (cc)
+    go : (a b c d e : Bool) → bytes_eq (codes "help") p.0 ≡ e
+        → option_map_or (λ (s : Shape). level_fault s [] nothing_held p.1 false []) (shape a b c d e) [] ≡ []
+        → is_some (option_map (λ (s : Shape). rows_at s p.1) (shape a b c d e)) ≡ true → IsComplete (option_map (λ (s : Shape). rows_at s p.1) (shape a b c d e))
+    go true b c d e is none some = inl refl
+    go false true c d e is none some = inr (inl (states_given p.1 none))
+    go false false true d e is none some = inr (inr (inl (serve_given p.1 none)))
+    go false false false true e is none some = inr (inr (inr (check_given p.1 none)))
+    go false false false false true is none some = absurd (no_help is)
+    go false false false false false is none some = (cc)
 
 pub complete : (words : List Text) → fault_of program words ≡ [] → IsComplete (subcommand_of program words)
 unfolding StopsWell

@@ -12,10 +12,15 @@ use Rattle.clap.specs.declared.builder.command.Command.TheViews.{out-Command}
 use Rattle.clap.specs.Kinds.{FailsBy, IsAmong}
 use Rattle.clap.specs.Values.{kind_of}
 use Rattle.std.specs.Str.{bytes_eq}
-use Rattle.clap.specs.Faults.{fault_of}
+use Rattle.clap.specs.Faults.{fault_of, is_simple_and_free}
 use Rattle.clap.specs.Walk.{Row}
 use Rattle.clap.proofs.OnLiterals.{clap_on_literals}
-use Rattle.tsn_words.specs.Asking.{HasServe, IsComplete, IsNumber, number_of, program, text_given}
+use Rattle.tsn_words.specs.Asking.{HasCheck, HasServe, HasStates, IsComplete, IsNumber, number_of, program, text_given}
+
+-- what a parse finds wrong is computed for this program
+pub simple : is_simple_and_free program ≡ true
+unfolding clap_on_literals
+simple = refl
 
 -- whatever the program's name, `script` alone has no fault
 pub script : (name : List ℕ) → fault_of program (name ∷ codes "script" ∷ []) ≡ []
@@ -74,6 +79,11 @@ crowded : (name : List ℕ) → fault_of program (name ∷ codes "serve" ∷ cod
 unfolding clap_on_literals
 crowded name = refl
 
+-- a look at a setup
+checked_faultless : (name : List ℕ) → fault_of program (name ∷ codes "check" ∷ codes "cell.toml" ∷ []) ≡ []
+unfolding clap_on_literals
+checked_faultless name = refl
+
 -- a command whose shape is plain has no global argument
 third_is_false : (a b g rest : Bool) → (a && (b && (not g && rest))) ≡ true → g ≡ false
 third_is_false true true false rest e = refl
@@ -120,16 +130,37 @@ pub named_rows : {B : Type 0} (f : B → List ℕ × List Row) (o : Option B) (n
 named_rows f None name rows is has = (cc)
 named_rows f (Some b) name rows is has = ap₂ (λ n r. Some (n, r)) (sym (ap (λ x. unwrap_or x name) is)) (sym (ap (λ x. unwrap_or x rows) has))
 
--- what `serve` wants is given where it is the one
+-- one name is no other
+never_named : (name other : List ℕ) → bytes_eq name other ≡ false → bytes_eq name name ≡ true → Some name ≡ Some other → ⊥
+never_named name other differs same is =
+    let equal : name ≡ other = ap (λ x. unwrap_or x other) is in
+    let never : bytes_eq name name ≡ false = subst (λ t. bytes_eq name t ≡ false) (sym equal) differs in
+    let both : true ≡ false = sym same ∙ never in
+    (cc)
+
+-- what `states` wants is given where it is the one
+pub states_given : (rows : List Row) → IsComplete (Some (codes "states", rows)) → HasStates (Some (codes "states", rows))
+states_given rows complete = elim complete [
+  | inl named ↦ absurd (never_named (codes "states") (codes "script") refl refl named)
+  | inr (inl has) ↦ has
+  | inr (inr (inl has)) ↦ absurd (never_named (codes "states") (codes "serve") refl refl has.named)
+  | inr (inr (inr has)) ↦ absurd (never_named (codes "states") (codes "check") refl refl has.named)
+]
+
+-- and what `serve` wants
 pub serve_given : (rows : List Row) → IsComplete (Some (codes "serve", rows)) → HasServe (Some (codes "serve", rows))
 serve_given rows complete = elim complete [
-  | inl named ↦ absurd (other (codes "script") refl named)
-  | inr (inl has) ↦ absurd (other (codes "states") refl has.named)
-  | inr (inr has) ↦ has
+  | inl named ↦ absurd (never_named (codes "serve") (codes "script") refl refl named)
+  | inr (inl has) ↦ absurd (never_named (codes "serve") (codes "states") refl refl has.named)
+  | inr (inr (inl has)) ↦ has
+  | inr (inr (inr has)) ↦ absurd (never_named (codes "serve") (codes "check") refl refl has.named)
 ]
-  where
-    other : (name : List ℕ) → bytes_eq (codes "serve") name ≡ false → Some (codes "serve") ≡ Some name → ⊥
-    other name differs is =
-        let same : codes "serve" ≡ name = ap (λ x. unwrap_or x name) is in
-        let never : bytes_eq (codes "serve") (codes "serve") ≡ false = subst (λ t. bytes_eq (codes "serve") t ≡ false) (sym same) differs in
-        (cc)
+
+-- and what `check` wants
+pub check_given : (rows : List Row) → IsComplete (Some (codes "check", rows)) → HasCheck (Some (codes "check", rows))
+check_given rows complete = elim complete [
+  | inl named ↦ absurd (never_named (codes "check") (codes "script") refl refl named)
+  | inr (inl has) ↦ absurd (never_named (codes "check") (codes "states") refl refl has.named)
+  | inr (inr (inl has)) ↦ absurd (never_named (codes "check") (codes "serve") refl refl has.named)
+  | inr (inr (inr has)) ↦ has
+]

@@ -10,7 +10,7 @@ use Rattle.clap.specs.declared.builder.value_parser.ValueParser.TheVariants.{Uns
 use Rattle.clap.specs.declared.error.kind.ErrorKind.{ErrorKind}
 use Rattle.clap.specs.declared.error.kind.ErrorKind.TheVariants.{DisplayHelp, DisplayVersion}
 use Rattle.tsn_words.specs.declared.arguments.Asked.{Asked}
-use Rattle.tsn_words.specs.declared.arguments.Asked.TheVariants.{Script, States, Serve, Shown, Refused}
+use Rattle.tsn_words.specs.declared.arguments.Asked.TheVariants.{Script, States, Serve, Check, Shown, Refused}
 use Rattle.tsn_words.specs.declared.arguments.Listing.{Listing}
 use Rattle.tsn_words.specs.declared.serving.Serving.{Serving}
 
@@ -68,13 +68,17 @@ serve =
     (number (codes "connections") 1 most_connections))
     (number (codes "probe") 0 last_probe)
 
+-- `check`, which wants a setup's file.
+abbrev pub check : App
+check = with_rule (new_app (codes "check")) (setup_file true)
+
 -- `tsnd`, which has a version and wants a subcommand.
 abbrev pub bare : App
 bare = on_top (λ s. record s { subcommand_required = true; has_version = true }) (new_app (codes "tsnd"))
 
--- It has these three.
+-- It has these four.
 abbrev pub program : App
-program = with_subcommand (with_subcommand (with_subcommand bare script.top) states.top) serve.top
+program = with_subcommand (with_subcommand (with_subcommand (with_subcommand bare script.top) states.top) serve.top) check.top
 
 -- Help or the version was asked for, which is no mistake.
 abbrev pub IsShown : ErrorKind → Type 0
@@ -85,6 +89,7 @@ abbrev pub IsWork : Asked → Type 0
 IsWork (Script file) = ⊤
 IsWork (States file listing) = ⊤
 IsWork (Serve file listen serving) = ⊤
+IsWork (Check file) = ⊤
 IsWork (Shown text) = ⊥
 IsWork (Refused text) = ⊥
 
@@ -93,6 +98,7 @@ abbrev pub file_of : Asked → Option (List ℕ)
 file_of (Script file) = option_map string_bytes file
 file_of (States file listing) = Some (string_bytes file)
 file_of (Serve file listen serving) = Some (string_bytes file)
+file_of (Check file) = Some (string_bytes file)
 file_of (Shown text) = None
 file_of (Refused text) = None
 
@@ -146,9 +152,14 @@ pub record HasServe (given : Given) : Type 0 where
   pub connections : HasNumber given (codes "connections") 1 most_connections
   pub probe : HasNumber given (codes "probe") 0 last_probe
 
+-- `check` is named, and the file that it wants is given.
+pub record HasCheck (given : Given) : Type 0 where
+  pub named : Names given (codes "check")
+  pub file : HasText given (codes "FILE")
+
 -- A subcommand of the program is named, and what it wants is given.
 abbrev pub IsComplete : Given → Type 0
-IsComplete given = Names given (codes "script") ⊎ (HasStates given ⊎ HasServe given)
+IsComplete given = Names given (codes "script") ⊎ (HasStates given ⊎ (HasServe given ⊎ HasCheck given))
 
 -- `script` is named, and this file is given to it, or none.
 pub record GivesScript (given : Given) (file : Option (List ℕ)) : Type 0 where
@@ -181,24 +192,32 @@ pub record GivesServe (given : Given) (file listen : List ℕ) (x : Serving) : T
   pub place : text_given given (codes "listen") ≡ Some listen
   pub serving : GivesServing given x
 
+-- `check` is named, and this file is given to it.
+pub record GivesCheck (given : Given) (file : List ℕ) : Type 0 where
+  pub named : Names given (codes "check")
+  pub setup : text_given given (codes "FILE") ≡ Some file
+
 -- what is given is what is asked for
 abbrev pub AsksFor : Given → Asked → Type 0
 AsksFor given (Script file) = GivesScript given (option_map string_bytes file)
 AsksFor given (States file x) = GivesStates given (string_bytes file) x
 AsksFor given (Serve file listen x) = GivesServe given (string_bytes file) (string_bytes listen) x
+AsksFor given (Check file) = GivesCheck given (string_bytes file)
 AsksFor given (Shown text) = ⊥
 AsksFor given (Refused text) = ⊥
 
--- Where the words have no fault, a script, a port's states or a server are asked for as the words say. Else there is a text
+-- Where the words have no fault, a script, a port's states, a server or a look at a setup are asked for as the words say. Else there is a text
 -- to show, or to refuse the words by, as the fault is. Words that are no text are refused.
 abbrev pub Asks : Option (List (List ℕ)) → Asked → Type 0
 Asks (Some words) (Script file) = (fault_of program words ≡ []) × GivesScript (subcommand_of program words) (option_map string_bytes file)
 Asks (Some words) (States file x) = (fault_of program words ≡ []) × GivesStates (subcommand_of program words) (string_bytes file) x
 Asks (Some words) (Serve file listen x) = (fault_of program words ≡ []) × GivesServe (subcommand_of program words) (string_bytes file) (string_bytes listen) x
+Asks (Some words) (Check file) = (fault_of program words ≡ []) × GivesCheck (subcommand_of program words) (string_bytes file)
 Asks (Some words) (Shown text) = (kind : ErrorKind) × IsAmong kind (fault_of program words) × IsShown kind
 Asks (Some words) (Refused text) = (kind : ErrorKind) × IsAmong kind (fault_of program words) × (¬ IsShown kind)
 Asks None (Script file) = ⊥
 Asks None (States file x) = ⊥
 Asks None (Serve file listen x) = ⊥
+Asks None (Check file) = ⊥
 Asks None (Shown text) = ⊥
 Asks None (Refused text) = ⊤

@@ -4,7 +4,7 @@ ghost use Rattle.clap.specs.Words.{app_of, found_of, kind_of, rows_of, rule_of, 
 ghost use Rattle.clap.specs.Kinds.{FailsBy};
 ghost use Rattle.clap.specs.Faults.{fault_of};
 ghost use Rattle.tsn_bytes.specs.declared.bytes.Fault.TheVariants.{Memory};
-ghost use Rattle.tsn_words.specs.Asking.{any_text, bare, number, program, script, serve, setup_file, states, Asks, AsksFor, GivesListing, HasServe, HasStates, IsComplete, IsWork};
+ghost use Rattle.tsn_words.specs.Asking.{any_text, bare, check, number, program, script, serve, setup_file, states, Asks, AsksFor, GivesListing, HasCheck, HasServe, HasStates, IsComplete, IsWork};
 
 use crate::serving::Serving;
 use crate::values::{file_of, number_of, text_of};
@@ -42,6 +42,10 @@ const SERVE_EXAMPLE: &str = "Example, and a client in another terminal:
   tsnd serve bridge.toml --listen 127.0.0.1:7000 --workers 4 --connections 100 --probe 0
   echo '{\"do\":\"hello\"}' | nc -N 127.0.0.1 7000";
 
+/// Ends the help on `check`.
+const CHECK_EXAMPLE: &str = "Example:
+  tsnd check bridge.toml";
+
 /// Which states of a port are printed: those at an instant, and then at even steps.
 #[derive(Clone, Copy, Debug, PartialEq, Eq)]
 pub struct Listing {
@@ -73,6 +77,10 @@ pub enum Asked {
         listen: String,
         serving: Serving,
     },
+    /// Say whether the setup of this file opens a bridge, and what there is in it.
+    Check {
+        file: String,
+    },
     /// Show this text, help or the version.
     Shown(String),
     /// Say by this text why the command line is refused.
@@ -90,6 +98,7 @@ impl Asked {
             Asked::Script { file } => file.as_ref().map(String::as_str),
             Asked::States { file, .. } => Some(file.as_str()),
             Asked::Serve { file, .. } => Some(file.as_str()),
+            Asked::Check { file } => Some(file.as_str()),
             Asked::Shown(_) | Asked::Refused(_) => None,
         }
     }
@@ -194,6 +203,15 @@ fn serve<'a>(alloc: Global) -> Result<Command<'a>, AllocError>
         .arg(probe)
 }
 
+fn check<'a>(alloc: Global) -> Result<Command<'a>, AllocError>
+    ensures { IfOk result (λ c. app_of c ≡ check) }
+{
+    Command::new(alloc, "check")
+        .about("Says whether a setup opens a bridge, and what is in it or where it is at fault")
+        .after_help(CHECK_EXAMPLE)
+        .arg(setup_file(alloc, true))
+}
+
 // The program, but for its subcommands.
 fn bare<'a>(alloc: Global) -> Command<'a>
     ensures { app_of result ≡ bare }
@@ -211,7 +229,8 @@ fn command<'a>(alloc: Global) -> Result<Command<'a>, AllocError>
     bare(alloc)
         .subcommand(script(alloc)?)?
         .subcommand(states(alloc)?)?
-        .subcommand(serve(alloc)?)
+        .subcommand(serve(alloc)?)?
+        .subcommand(check(alloc)?)
 }
 
 // What the words give, or what is wrong with them.
@@ -267,6 +286,15 @@ fn serve_of(alloc: Global, given: &ArgMatches<'_>) -> Result<Asked, AllocError>
     })
 }
 
+// A look at the setup that is given.
+fn check_of(alloc: Global, given: &ArgMatches<'_>) -> Result<Asked, AllocError>
+    requires { HasCheck (Some (codes "check", rows_of (found_of given.now))) }
+    ensures { IfOk result (AsksFor (Some (codes "check", rows_of (found_of given.now)))) }
+{
+    let file = text_of(alloc, given, "FILE")?;
+    Ok(Asked::Check { file })
+}
+
 // A script, from the setup that is given.
 fn script_of(alloc: Global, given: &ArgMatches<'_>) -> Result<Asked, AllocError>
     ensures { IfOk result (AsksFor (Some (codes "script", rows_of (found_of given.now)))) }
@@ -287,6 +315,8 @@ fn asked_of(alloc: Global, matches: &ArgMatches<'_>) -> Result<Asked, AllocError
         states_of(alloc, given)
     } else if name == "serve" {
         serve_of(alloc, given)
+    } else if name == "check" {
+        check_of(alloc, given)
     } else {
         script_of(alloc, given)
     }

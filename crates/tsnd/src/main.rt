@@ -2,8 +2,9 @@
 //!
 //! `tsnd script` answers a script of command lines on standard input with one reply line each on standard output, from a
 //! setup in a file or from the standard one. `tsnd serve` answers the lines of many connections over TCP, on one bridge, and
-//! then tells the gates of each port. `tsnd states` prints the gate states of a port at even steps. The status is
-//! 0, or 1 after one line on standard error that says why, or 2 for a command line that is refused.
+//! then tells the gates of each port. `tsnd states` prints the gate states of a port at even steps. `tsnd check` says what is in
+//! a setup, or where it is at fault. The status is 0, or 1 after a line on standard error that says why, or 2 for a command line
+//! that is refused.
 #![tactic(auto)]
 
 mod connections;
