@@ -35,6 +35,10 @@ class Bars(unittest.TestCase):
     def test_states_are_the_program_s(self) -> None:
         self.assertEqual(plot.states(STATES_PRINT, 1, 0, 100, 11), [1, 1, 1, 128, 128, 128, 128, 128, 128, 128, 1])
 
+    def test_a_list_runs_from_the_first_instant_on(self) -> None:
+        port = PortGates(cycle=1000, list=(PortEntry(1, 300), PortEntry(128, 700)))
+        self.assertEqual(plot.running(STATES_PRINT, 1, port, 2200, 100, 10), [1, 128, 128, 128, 128, 128, 128, 128, 1, 1])
+
     def test_what_can_t_be_drawn(self) -> None:
         for given in (["no such file"], [STATES_PRINT, "--port", "3"], [STATES_PRINT, "--cycles", "0"]):
             words = [*given, "-o", "x.png"]

@@ -3,8 +3,10 @@
     python3 -m tsnd.plot SETUP [OTHER] [--port P] [--cycles N] -o FILE
 
 draws the gates of a port, each traffic class a row, over some cycles from its list's base time on; FILE ends with .png, .svg or
-.pdf. With a second setup below it those of the other one, and where the two differ. The states are those that the program tells
-(`tsnd states`): nothing here evaluates a list. It wants matplotlib.
+.pdf. Times at which every gate is closed (guard times), times for which a list's last entry goes on to the end of its cycle, and
+the time by which a cycle may be extended before a new list are marked. With a second setup below it those of the other one, and
+where the two differ. The states are those that the program tells (`tsnd states`): nothing here evaluates a list. It wants
+matplotlib.
 """
 from __future__ import annotations
 
@@ -21,7 +23,7 @@ from .setups import Setup
 
 CLASSES = 8
 MOST_INSTANTS = 1_000_000
-OPEN, SHUT, DIFFERENT, LAST = "#2a7f62", "#e8e8e8", "#c8553d", "#8fc7b1"
+OPEN, SHUT, DIFFERENT, LAST, GUARD, EXTENSION = "#2a7f62", "#e8e8e8", "#c8553d", "#f2d16b", "#7a7a7a", "#8a5fbf"
 
 
 class Undrawn(Exception):
@@ -57,6 +59,12 @@ def states(path: str, number: int, start: int, step: int, count: int) -> list[in
     return [int(line.split()[1], 16) for line in run.stdout.splitlines()]
 
 
+def running(path: str, number: int, port: PortGates, start: int, step: int, count: int) -> list[int]:
+    """The gates at even steps from an instant on, at which the port's list runs already: it is applied at a start of its cycle."""
+    ahead = (start - port.base) % port.cycle // step
+    return states(path, number, start - ahead * step, step, ahead + count)[ahead:]
+
+
 def runs(flags: Sequence[bool]) -> list[tuple[int, int]]:
     """Where the flags are true without a break: the first place, and how many."""
     found: list[tuple[int, int]] = []
@@ -73,29 +81,42 @@ def bars(gates: Sequence[int], traffic_class: int) -> list[tuple[int, int]]:
     return runs([bool(state >> traffic_class & 1) for state in gates])
 
 
-def _panel(axes: Any, title: str, gates: Sequence[int], port: PortGates, step: int, cycles: int) -> None:
+def _rows(axes: Any, title: str, length: int) -> None:
     for traffic_class in range(CLASSES):
-        axes.broken_barh([(0, len(gates) * step)], (traffic_class - 0.4, 0.8), color=SHUT)
-        spans = [(first * step, count * step) for first, count in bars(gates, traffic_class)]
-        axes.broken_barh(spans, (traffic_class - 0.4, 0.8), color=OPEN)
-    used = sum(entry.interval for entry in port.list)
-    for cycle in range(cycles):
-        axes.axvline(cycle * port.cycle, color="black", linewidth=0.6)
-        if 0 < used < port.cycle:  # the last entry goes on to the end of the cycle
-            axes.axvspan(cycle * port.cycle + used, (cycle + 1) * port.cycle, color=LAST, alpha=0.35, linewidth=0)
+        axes.broken_barh([(0, length)], (traffic_class - 0.4, 0.8), color=SHUT)
     axes.set_yticks(range(CLASSES), [f"class {number}" for number in range(CLASSES)])
-    axes.set_ylim(-0.6, CLASSES - 0.4)
+    axes.set_ylim(-0.9, CLASSES - 0.4)
     axes.set_title(title, fontsize=9, loc="left")
 
 
+def _panel(axes: Any, title: str, gates: Sequence[int], port: PortGates, step: int, start: int) -> None:
+    length = len(gates) * step
+    _rows(axes, title, length)
+    for traffic_class in range(CLASSES):
+        spans = [(first * step, count * step) for first, count in bars(gates, traffic_class)]
+        axes.broken_barh(spans, (traffic_class - 0.4, 0.8), color=OPEN, label="open" if traffic_class == 0 else None)
+    guard = [(first * step, count * step) for first, count in runs([state == 0 for state in gates])]
+    if guard:
+        axes.broken_barh(guard, (-0.4, CLASSES - 0.2), facecolor="none", edgecolor=GUARD, hatch="////", linewidth=0, label="all closed")
+    used = sum(entry.interval for entry in port.list)
+    first = (port.base - start) % port.cycle
+    ends = [end for end in range(first, length + port.cycle, port.cycle) if end > 0]
+    for end in range(first, length + 1, port.cycle):
+        axes.axvline(end, color="black", linewidth=0.6)
+    if 0 < used < port.cycle:
+        last = [(end - port.cycle + used, port.cycle - used) for end in ends]
+        axes.broken_barh(last, (-0.9, 0.3), color=LAST, label="the last entry goes on")
+    if port.list and port.extension > 0:
+        longer = [(end, min(port.extension, port.cycle)) for end in ends]
+        axes.broken_barh(longer, (CLASSES - 0.55, 0.15), color=EXTENSION, label="extension before a new list")
+    axes.legend(fontsize=7, loc="upper left", bbox_to_anchor=(1.0, 1.0), frameon=False)
+
+
 def _difference(axes: Any, first: Sequence[int], second: Sequence[int], step: int) -> None:
+    _rows(axes, "where they differ", len(first) * step)
     for traffic_class in range(CLASSES):
         flags = [bool((one ^ other) >> traffic_class & 1) for one, other in zip(first, second)]
-        axes.broken_barh([(0, len(first) * step)], (traffic_class - 0.4, 0.8), color=SHUT)
         axes.broken_barh([(at * step, count * step) for at, count in runs(flags)], (traffic_class - 0.4, 0.8), color=DIFFERENT)
-    axes.set_yticks(range(CLASSES), [f"class {number}" for number in range(CLASSES)])
-    axes.set_ylim(-0.6, CLASSES - 0.4)
-    axes.set_title("where they differ", fontsize=9, loc="left")
 
 
 def draw(paths: Sequence[str], number: int, cycles: int, file: str) -> None:
@@ -108,15 +129,15 @@ def draw(paths: Sequence[str], number: int, cycles: int, file: str) -> None:
     start = max(port.base for port in ports)
     step = step_of(ports)
     count = cycles * max(port.cycle for port in ports) // step
-    if count > MOST_INSTANTS:
+    if count + max(port.cycle for port in ports) // step > MOST_INSTANTS:
         raise Undrawn(f"{count} instants are more than {MOST_INSTANTS}: fewer cycles")
-    told = [states(path, number, start, step, count) for path in paths]
+    told = [running(path, number, port, start, step, count) for path, port in zip(paths, ports)]
     panels = len(paths) + (len(paths) == 2)
     figure, rows = pyplot.subplots(panels, 1, sharex=True, squeeze=False, figsize=(10, 2.6 * panels))
     for axes, path, gates, port in zip(rows[:, 0], paths, told, ports):
-        shown = cycles * max(p.cycle for p in ports) // port.cycle
-        title = f"{os.path.basename(path)}, port {number}: cycle {port.cycle} ns, {len(port.list)} entries"
-        _panel(axes, title, gates, port, step, shown)
+        count_of_entries = "1 entry" if len(port.list) == 1 else f"{len(port.list)} entries"
+        title = f"{os.path.basename(path)}, port {number}: cycle {port.cycle} ns, {count_of_entries}"
+        _panel(axes, title, gates, port, step, start)
     if len(paths) == 2:
         _difference(rows[2, 0], told[0], told[1], step)
     rows[-1, 0].set_xlabel(f"ns after {start}")
