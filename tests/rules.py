@@ -1,0 +1,196 @@
+"""The rules of the configuration and of its journal, as plainly as docs/definitions.md says them.
+
+There is no index and no table: a conflict is looked for along the entries, from the last one on. What it answers is what the
+service must answer, member for member.
+"""
+from crowd import REFUSALS, kind_of, references
+
+KINDS = ("port", "filter", "gate", "meter")
+MOST_ENTRIES = 65536
+PORT = {"base": 0, "cycle": 1000000, "extension": 0, "gates": 255, "list": []}
+
+
+def place_of(key):
+    """The place of a key in the order of keys."""
+    kind, number = key.split(" ")
+    return KINDS.index(kind), int(number)
+
+
+def refused(number, **more):
+    return {"refused": number, "why": REFUSALS[number], **more}
+
+
+def is_in_conflict(later, earlier):
+    """A later change is in conflict with an earlier one. A change is a map from keys to their values before and after."""
+    for key, (_, after) in later.items():
+        if key in earlier or any(other in earlier for other in references(key, after)):
+            return True
+    return any(other in later for key, (before, _) in earlier.items() for other in references(key, before))
+
+
+def inverse(change):
+    return {key: (after, before) for key, (before, after) in change.items()}
+
+
+class Entry:
+    """An entry that applied a change: an edit (made), the taking back of one (undone), the taking back of that (redone)."""
+
+    def __init__(self, number, session, what, change, of=None):
+        self.number, self.session, self.what, self.change, self.of = number, session, what, change, of
+
+    def told(self):
+        keys = sorted(self.change, key=place_of)
+        of = {} if self.of is None else {"of": self.of.number}
+        return {"entry": self.number, "key": keys[0], "session": self.session, "what": self.what, **of}
+
+
+class Rules:
+    """A configuration, its journal and the sessions that were given out. `answer` is one step."""
+
+    def __init__(self):
+        self.map = {"port 1": PORT, "port 2": PORT}
+        self.entries = []
+        self.standing = []
+        self.sessions = 0
+
+    def answer(self, command):
+        do = command["do"]
+        if do == "hello":
+            self.sessions += 1
+            return {"session": self.sessions}
+        if not 1 <= command["s"] <= self.sessions:
+            return refused(5)
+        if do in ("create", "replace", "remove"):
+            return self.edit(command["s"], [command])
+        return getattr(self, do)(command)
+
+    # ---- edits
+
+    def referring(self, key, beside=()):
+        """The filters that refer to a key, the least first, but for these."""
+        found = [other for other, record in self.map.items() if other not in beside and key in references(other, record)]
+        return sorted(found, key=place_of)
+
+    def causes(self, edit, result, keys):
+        """Why an edit is refused, in the order of the numbers."""
+        key, is_there = edit["key"], edit["key"] in self.map
+        if edit["do"] == "create" and is_there:
+            yield refused(7, key=key)
+        if edit["do"] != "create" and not is_there:
+            yield refused(6, key=key)
+        for other in references(key, edit.get("record")):
+            if other not in result:
+                yield refused(8, key=other)
+        if edit["do"] == "remove":
+            for other in self.referring(key, keys):
+                yield refused(9, by=other)
+
+    def edit(self, session, edits):
+        """Makes edits at once: the cause of the least number comes first, and of several of that number that of the first edit."""
+        keys = [edit["key"] for edit in edits]
+        result = {key: value for key, value in self.map.items() if key not in keys}
+        result.update({edit["key"]: edit["record"] for edit in edits if "record" in edit})
+        causes = [cause for edit in edits for cause in self.causes(edit, result, keys)]
+        if causes:
+            return min(causes, key=lambda cause: cause["refused"])
+        if len(self.entries) == MOST_ENTRIES:
+            return refused(17)
+        change = {edit["key"]: (self.map.get(edit["key"]), edit.get("record")) for edit in edits}
+        return {"entry": self.enter(session, "made", change).number}
+
+    def enter(self, session, what, change, of=None):
+        """Applies a change, and makes its entry."""
+        for key, (_, after) in change.items():
+            if after is None:
+                del self.map[key]
+            else:
+                self.map[key] = after
+        entry = Entry(len(self.entries) + 1, session, what, change, of)
+        self.entries.append(entry)
+        if what == "undone":
+            self.standing.remove(of)
+        else:
+            self.standing.append(entry)
+        return entry
+
+    # ---- undo and redo
+
+    def latest_in_conflict(self, own, others):
+        """The latest of these that comes later than an own entry and whose change is in conflict with its."""
+        for entry in reversed(others):
+            if entry.number <= own.number:
+                return None
+            if is_in_conflict(entry.change, own.change):
+                return entry
+        return None
+
+    def undo(self, command):
+        own = [entry for entry in self.standing if entry.session == command["s"]]
+        if not own:
+            return refused(10)
+        other = self.latest_in_conflict(own[-1], self.standing)
+        if other is not None:
+            return refused(11, other=other.number, own=own[-1].number)
+        if len(self.entries) == MOST_ENTRIES:
+            return refused(17)
+        entry = self.enter(command["s"], "undone", inverse(own[-1].change), own[-1])
+        return {"entry": entry.number, "of": own[-1].number}
+
+    def undo_all(self, command):
+        own = [entry for entry in self.standing if entry.session == command["s"]]
+        others = [entry for entry in self.standing if entry.session != command["s"]]
+        if not own:
+            return refused(10)
+        for entry in reversed(own):
+            other = self.latest_in_conflict(entry, others)
+            if other is not None:
+                return refused(11, other=other.number, own=entry.number)
+        if MOST_ENTRIES - len(self.entries) < len(own):
+            return refused(17)
+        for entry in reversed(own):
+            self.enter(command["s"], "undone", inverse(entry.change), entry)
+        return {"count": len(own), "entry": len(self.entries)}
+
+    def newest_to_redo(self, session):
+        """The session's newest Undone entry that comes after its last edit, and that no entry takes back."""
+        taken_back = set()
+        for entry in reversed(self.entries):
+            if entry.session == session and entry.what == "made":
+                return None
+            if entry.session == session and entry.what == "redone":
+                taken_back.add(entry.of.number)
+            if entry.session == session and entry.what == "undone" and entry.number not in taken_back:
+                return entry
+        return None
+
+    def fits(self, change):
+        """Each value before is there, and no reference is left open."""
+        if any(self.map.get(key) != before for key, (before, _) in change.items()):
+            return False
+        result = {key: value for key, value in self.map.items() if key not in change}
+        result.update({key: after for key, (_, after) in change.items() if after is not None})
+        return all(other in result for key, value in result.items() for other in references(key, value))
+
+    def redo(self, command):
+        undone = self.newest_to_redo(command["s"])
+        if undone is None:
+            return refused(12)
+        change = inverse(undone.change)
+        if not self.fits(change):
+            return refused(13, other=self.latest_in_conflict(undone, self.entries).number)
+        if len(self.entries) == MOST_ENTRIES:
+            return refused(17)
+        entry = self.enter(command["s"], "redone", change, undone)
+        return {"entry": entry.number, "of": undone.number}
+
+    # ---- looks
+
+    def show(self, command):
+        key = command["key"]
+        return {"key": key, "record": self.map[key]} if key in self.map else refused(6, key=key)
+
+    def list(self, command):
+        return {"ids": sorted(place_of(key)[1] for key in self.map if kind_of(key) == command["kind"])}
+
+    def since(self, command):
+        return {"entries": [entry.told() for entry in self.entries[command["after"]:]]}
