@@ -72,7 +72,7 @@ impl Setup {
 #[derive(Drop)]
 pub struct Bridge {
     alloc: Global,
-    pair: Pair,
+    pair: Box<Pair>,
     sessions: u32,
 }
 
@@ -83,7 +83,7 @@ impl Model for Bridge {
 
     ghost coded = { state_code };
 
-    ghost view = { λ a. record { book = a.pair.ledger; sessions = a.sessions; time = a.pair.time; frames = a.pair.frames } };
+    ghost view = { λ a. record { book = a.pair.value.ledger; sessions = a.sessions; time = a.pair.value.time; frames = a.pair.value.frames } };
 }
 
 impl Bridge {
@@ -103,7 +103,7 @@ impl Bridge {
             Ok(config) => config,
             Err(why) => return Err(why),
         };
-        let pair = Pair::begin(alloc, config)?;
+        let pair = Box::new(alloc, Pair::begin(alloc, config)?)?;
         Ok(Bridge {
             alloc,
             pair,
