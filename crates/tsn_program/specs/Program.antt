@@ -22,34 +22,28 @@ use Rattle.tsn_program.specs.declared.failures.Failure.TheVariants as failures
 abbrev pub IsFront : Option (List ℕ) → Option (List ℕ) → List ℕ → Type 0
 IsFront old new text = (n : ℕ) × (n ≤ length text) × Appends old new (take n text)
 
--- The text was written, and nothing else; where the writer failed, a front of it.
-abbrev pub IsTold : Option (List ℕ) → Option (List ℕ) → Bool → List ℕ → Type 0
-IsTold old new failed text = Appends old new text ⊎ ((failed ≡ true) × IsFront old new text)
-
--- Standard error before and after: the bytes that it took, and whether a call failed.
-pub record Errors : Type 0 where
-  pub old : Option (List ℕ)
-  pub new : Option (List ℕ)
-  pub failed : Bool
-
--- Nothing was written there.
-abbrev pub IsSilent : Errors → Type 0
-IsSilent errors = errors.new ≡ errors.old
-
-abbrev pub Tells : Errors → List ℕ → Type 0
-Tells errors text = IsTold errors.old errors.new errors.failed text
-
--- A run that went well has status 0 and says nothing; a failure has status 1 and its line.
-abbrev pub Reports : Result (Unit {0}) Failure → ℕ → Errors → Type 0
-Reports (Ok u) status errors = (status ≡ 0) × IsSilent errors
-Reports (Err failure) status errors = (status ≡ 1) × Tells errors (failure_line failure)
-
--- An output before and after: the bytes that it took, those of them that it holds back, and whether a call failed.
+-- An output before and after, or standard error: the bytes that it took, those of them that it holds back, and whether a call
+-- failed.
 pub record Output : Type 0 where
   pub old : Option (List ℕ)
   pub new : Option (List ℕ)
   pub held_back : List ℕ
   pub failed : Bool
+
+-- Nothing was written there.
+abbrev pub IsSilent : Output → Type 0
+IsSilent errors = errors.new ≡ errors.old
+
+-- The text was written and handed on, and nothing else; where the writer failed, a front of it.
+abbrev pub Tells : Output → List ℕ → Type 0
+Tells errors text =
+    (Appends errors.old errors.new text × (errors.held_back ≡ []))
+    ⊎ ((errors.failed ≡ true) × IsFront errors.old errors.new text)
+
+-- A run that went well has status 0 and says nothing; a failure has status 1 and its line.
+abbrev pub Reports : Result (Unit {0}) Failure → ℕ → Output → Type 0
+Reports (Ok u) status errors = (status ≡ 0) × IsSilent errors
+Reports (Err failure) status errors = (status ≡ 1) × Tells errors (failure_line failure)
 
 -- A text was shown on the output, whole and handed on, or the writer failed and took a front of it.
 abbrev pub Shows : Output → List ℕ → Result (Unit {0}) Failure → Type 0
@@ -108,14 +102,14 @@ abbrev pub output_of : Moment State → Moment State → Output
 output_of old new = record { old = old.taken; new = new.taken; held_back = new.held_back; failed = new.writer_failed }
 
 -- A script was answered, and how that ended is told.
-abbrev pub ServesScript : List ℕ → (State → Moment State) → (State → Moment State) → ℕ → Errors → Type 0
+abbrev pub ServesScript : List ℕ → (State → Moment State) → (State → Moment State) → ℕ → Output → Type 0
 ServesScript setup old new status errors =
     (outcome : Result (Unit {0}) Failure)
     × AnswersScript setup old new outcome
     × Reports outcome status errors
 
 -- The states of a port were printed, and how that ended is told.
-abbrev pub ServesStates : Listing → List ℕ → Output → ℕ → Errors → Type 0
+abbrev pub ServesStates : Listing → List ℕ → Output → ℕ → Output → Type 0
 ServesStates x setup output status errors =
     (outcome : Result (Unit {0}) Failure)
     × PrintsStates setup x output outcome
@@ -127,17 +121,21 @@ ShowsSummary s output outcome =
     Shows output (summary s) outcome
     ⊎ ((outcome ≡ Err (failures.Fault Memory)) × (output.new ≡ output.old))
 
+-- What came behind a moment of an output.
+abbrev pub since : Output → Output → Output
+since before after = record { old = before.new; new = after.new; held_back = after.held_back; failed = after.failed }
+
 -- A setup that opens no bridge ends with status 1 and its line, as each failure does; then a text was told, which may say where
 -- it is at fault.
-abbrev pub TellsFault : Refusal → ℕ → Errors → Type 0
+abbrev pub TellsFault : Refusal → ℕ → Output → Type 0
 TellsFault why status errors =
-    (told : Errors)
+    (told : Output)
     × (told.old ≡ errors.old)
     × Reports (Err (failures.Refused why)) status told
-    × ((place : List ℕ) × IsTold told.new errors.new errors.failed place)
+    × ((place : List ℕ) × Tells (since told errors) place)
 
 -- Of a bridge that opens it was told what it has.
-abbrev pub ChecksFrom : Result State Refusal → Output → ℕ → Errors → Type 0
+abbrev pub ChecksFrom : Result State Refusal → Output → ℕ → Output → Type 0
 ChecksFrom (Ok start) output status errors =
     (outcome : Result (Unit {0}) Failure)
     × ShowsSummary start output outcome
@@ -146,18 +144,18 @@ ChecksFrom (Err why) output status errors = (output.new ≡ output.old) × Tells
 
 -- A setup was looked at, and how that ended is told: with status 0 where it opens a bridge, unless memory was wanting or the
 -- writer failed, and with status 1 where it opens none.
-abbrev pub ServesCheck : List ℕ → Output → ℕ → Errors → Type 0
+abbrev pub ServesCheck : List ℕ → Output → ℕ → Output → Type 0
 ServesCheck setup output status errors = (start : Result State Refusal) × Opens setup start × ChecksFrom start output status errors
 
 -- A text was shown, and how that ended is told.
-abbrev pub ServesText : List ℕ → Output → ℕ → Errors → Type 0
+abbrev pub ServesText : List ℕ → Output → ℕ → Output → Type 0
 ServesText text output status errors =
     (outcome : Result (Unit {0}) Failure)
     × Shows output text outcome
     × Reports outcome status errors
 
 -- Words were refused: with status 2, and their text.
-abbrev pub RefusesWords : List ℕ → ℕ → Errors → Type 0
+abbrev pub RefusesWords : List ℕ → ℕ → Output → Type 0
 RefusesWords text status errors = (status ≡ 2) × Tells errors text
 
 -- No read was made.
@@ -175,7 +173,7 @@ IsAlone (Refused text) = Unit {0}
 
 -- What was asked for was done: a script is answered, states are printed, or it is told what there is, from the setup's bridge;
 -- a text is shown; or words are refused. No input is read but that of a script, and nothing is written where words are refused.
-abbrev pub Serves : Asked → List ℕ → (State → Moment State) → (State → Moment State) → ℕ → Errors → Type 0
+abbrev pub Serves : Asked → List ℕ → (State → Moment State) → (State → Moment State) → ℕ → Output → Type 0
 Serves (Script file) setup old new status errors = ServesScript setup old new status errors
 Serves (States file listing) setup old new status errors =
     ReadsNothing (old standard) (new standard)

@@ -4,7 +4,7 @@ use Rattle.std.specs.Io.KnownBytes.{Appends}
 use Rattle.tsn_bytes.specs.declared.bytes.Fault.TheVariants.{Read, Write, Memory, Exhausted}
 use Rattle.tsn_bridge.specs.State.{State}
 use Rattle.tsn_server.specs.Serving.{ReportsPorts, ports_to}
-use Rattle.tsn_program.specs.Program.{Errors, Output, Reports}
+use Rattle.tsn_program.specs.Program.{Output, Reports}
 use Rattle.tsn_program.specs.declared.failures.Failure.{Failure}
 use Rattle.tsn_program.specs.declared.failures.Failure.TheVariants as failures
 
@@ -23,7 +23,7 @@ EndsServing first at output (Err failures.Listen) = ⊥
 EndsServing first at output (Err (failures.Refused why)) = output.new ≡ output.old
 
 -- Connections were served on a bridge, and how that ended is told.
-abbrev pub ServesConnections : State → ℕ → Output → ℕ → Errors → Type 0
+abbrev pub ServesConnections : State → ℕ → Output → ℕ → Output → Type 0
 ServesConnections first at output status errors =
     (outcome : Result (Unit {0}) Failure)
     × EndsServing first at output outcome

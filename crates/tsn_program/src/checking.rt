@@ -69,7 +69,7 @@ fn show_summary<W: ByteOut>(alloc: Global, bridge: &Bridge, writer: &mut W) -> R
 // Tells why a setup is refused, and then where it is at fault.
 fn fail_at<E: ByteOut>(alloc: Global, setup: &[u8], why: &Refusal, errors: &mut E) -> u8
     ensures { TellsFault why.now result
-        (record { old = E.taken errors.old; new = E.taken errors.new; failed = E.has_failed errors.new }) }
+        (record { old = E.taken errors.old; new = E.taken errors.new; held_back = E.pending errors.new; failed = E.has_failed errors.new }) }
 {
     let status = fail(errors, Failure::Refused(*why));
     let place = fault_line(alloc, setup, *why);
@@ -88,7 +88,7 @@ pub fn check_setup<O: ByteOut, E: ByteOut>(
     ensures { ServesCheck setup.now
         (record { old = O.taken output.old; new = O.taken output.new; held_back = O.pending output.new; failed = O.has_failed output.new })
         result
-        (record { old = E.taken errors.old; new = E.taken errors.new; failed = E.has_failed errors.new }) }
+        (record { old = E.taken errors.old; new = E.taken errors.new; held_back = E.pending errors.new; failed = E.has_failed errors.new }) }
 {
     match bridge_of(alloc, setup) {
         Ok(bridge) => {

@@ -5,7 +5,7 @@ ghost use Rattle.tsn_bytes.specs.declared.bytes.Fault.TheVariants.{Write};
 ghost use Rattle.tsn_serve.specs.Outcomes.{moment};
 ghost use Rattle.tsn_program.specs.Failures.{failure_line};
 ghost use Rattle.tsn_program.specs.Listing.{IsNew};
-ghost use Rattle.tsn_program.specs.Program.{IsAlone, IsFront, IsTold, PrintsFrom, PrintsStates, RefusesWords, Reports, Serves, ServesScript, ServesStates, ServesText};
+ghost use Rattle.tsn_program.specs.Program.{IsAlone, IsFront, PrintsFrom, PrintsStates, RefusesWords, Reports, Serves, ServesScript, ServesStates, ServesText, Tells};
 ghost use Rattle.tsn_program.specs.declared.failures.Failure.TheVariants as failures;
 
 use crate::checking::check_setup;
@@ -38,7 +38,8 @@ pub(crate) fn show<W: ByteOut>(writer: &mut W, text: &[u8]) -> Result<(), Failur
 
 // Writes the text where it can. Nothing is left to do where it can't.
 pub(crate) fn tell<W: ByteOut>(errors: &mut W, text: &[u8])
-    ensures { IsTold (W.taken errors.old) (W.taken errors.new) (W.has_failed errors.new) text.now }
+    ensures { Tells (record { old = W.taken errors.old; new = W.taken errors.new; held_back = W.pending errors.new; failed = W.has_failed errors.new })
+        text.now }
 {
     let _ = show(errors, text);
 }
@@ -46,7 +47,7 @@ pub(crate) fn tell<W: ByteOut>(errors: &mut W, text: &[u8])
 /// Tells of a failure, and gives its status, 1.
 pub fn fail<W: ByteOut>(errors: &mut W, failure: Failure) -> u8
     ensures status { result ≡ 1 }
-    ensures line { IsTold (W.taken errors.old) (W.taken errors.new) (W.has_failed errors.new)
+    ensures line { Tells (record { old = W.taken errors.old; new = W.taken errors.new; held_back = W.pending errors.new; failed = W.has_failed errors.new })
         (failure_line failure) }
 {
     tell(errors, failure_line(&failure).as_slice());
@@ -56,7 +57,7 @@ pub fn fail<W: ByteOut>(errors: &mut W, failure: Failure) -> u8
 // The status of a run that ended so, of which a failure is told.
 pub(crate) fn status_of<W: ByteOut>(errors: &mut W, outcome: Result<(), Failure>) -> u8
     ensures { Reports outcome result
-        (record { old = W.taken errors.old; new = W.taken errors.new; failed = W.has_failed errors.new }) }
+        (record { old = W.taken errors.old; new = W.taken errors.new; held_back = W.pending errors.new; failed = W.has_failed errors.new }) }
 {
     match outcome {
         Ok(()) => 0,
@@ -123,7 +124,7 @@ fn serve_script<R: ByteIn, O: ByteOut, E: ByteOut>(
         (λ s. moment R.remaining R.calls R.has_failed O.taken O.pending O.has_failed s input.old output.old)
         (λ s. moment R.remaining R.calls R.has_failed O.taken O.pending O.has_failed s input.new output.new)
         result
-        (record { old = E.taken errors.old; new = E.taken errors.new; failed = E.has_failed errors.new }) }
+        (record { old = E.taken errors.old; new = E.taken errors.new; held_back = E.pending errors.new; failed = E.has_failed errors.new }) }
 {
     let outcome = answer_script(alloc, setup, input, output);
     status_of(errors, outcome)
@@ -140,7 +141,7 @@ fn serve_states<O: ByteOut, E: ByteOut>(
     ensures { ServesStates listing.now setup.now
         (record { old = O.taken output.old; new = O.taken output.new; held_back = O.pending output.new; failed = O.has_failed output.new })
         result
-        (record { old = E.taken errors.old; new = E.taken errors.new; failed = E.has_failed errors.new }) }
+        (record { old = E.taken errors.old; new = E.taken errors.new; held_back = E.pending errors.new; failed = E.has_failed errors.new }) }
 {
     let outcome = print_states(alloc, setup, listing, output);
     status_of(errors, outcome)
@@ -151,7 +152,7 @@ fn serve_text<O: ByteOut, E: ByteOut>(text: &[u8], output: &mut O, errors: &mut 
     ensures { ServesText text.now
         (record { old = O.taken output.old; new = O.taken output.new; held_back = O.pending output.new; failed = O.has_failed output.new })
         result
-        (record { old = E.taken errors.old; new = E.taken errors.new; failed = E.has_failed errors.new }) }
+        (record { old = E.taken errors.old; new = E.taken errors.new; held_back = E.pending errors.new; failed = E.has_failed errors.new }) }
 {
     let outcome = show(output, text);
     status_of(errors, outcome)
@@ -160,7 +161,7 @@ fn serve_text<O: ByteOut, E: ByteOut>(text: &[u8], output: &mut O, errors: &mut 
 // Tells why the words are refused, and gives the status.
 fn refuse_words<E: ByteOut>(text: &[u8], errors: &mut E) -> u8
     ensures { RefusesWords text.now result
-        (record { old = E.taken errors.old; new = E.taken errors.new; failed = E.has_failed errors.new }) }
+        (record { old = E.taken errors.old; new = E.taken errors.new; held_back = E.pending errors.new; failed = E.has_failed errors.new }) }
 {
     tell(errors, text);
     2
@@ -182,7 +183,7 @@ pub fn run<R: ByteIn, O: ByteOut, E: ByteOut>(
         (λ s. moment R.remaining R.calls R.has_failed O.taken O.pending O.has_failed s input.old output.old)
         (λ s. moment R.remaining R.calls R.has_failed O.taken O.pending O.has_failed s input.new output.new)
         result
-        (record { old = E.taken errors.old; new = E.taken errors.new; failed = E.has_failed errors.new }) }
+        (record { old = E.taken errors.old; new = E.taken errors.new; held_back = E.pending errors.new; failed = E.has_failed errors.new }) }
 {
     match asked {
         Asked::Script { .. } => serve_script(alloc, setup, input, output, errors),

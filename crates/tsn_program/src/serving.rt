@@ -60,7 +60,7 @@ pub fn serve<R: Wait + Threads + Sync, S: Source + Sync, O: ByteOut, E: ByteOut>
     ensures { ServesConnections bridge serving.probe
         (record { old = O.taken output.old; new = O.taken output.new; held_back = O.pending output.new; failed = O.has_failed output.new })
         result
-        (record { old = E.taken errors.old; new = E.taken errors.new; failed = E.has_failed errors.new }) }
+        (record { old = E.taken errors.old; new = E.taken errors.new; held_back = E.pending errors.new; failed = E.has_failed errors.new }) }
 {
     let outcome = serve_all_of(rt, alloc, bridge, serving, source, output);
     status_of(errors, outcome)

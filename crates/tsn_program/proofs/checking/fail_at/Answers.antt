@@ -7,6 +7,7 @@ returns g c = (
   record {
     old = g.E.ByteOut.taken c.args.errors.now;
     new = g.E.ByteOut.taken c.fail-status.new.errors;
+    held_back = g.E.ByteOut.pending c.fail-status.new.errors;
     failed = g.E.ByteOut.has_failed c.fail-status.new.errors;
   },
   refl,
