@@ -1,5 +1,5 @@
 -- Facts about the edits of a batch.
-use Rattle.std.proofs.Common.{◌≡◌, ◌≤◌, Bool, true, false, ◌||◌, ◌&&◌, List, [], ◌∷◌, length, refl, ap, map, arith}
+use Rattle.std.proofs.Common.{◌≡◌, ◌≤◌, Bool, true, false, ◌||◌, ◌&&◌, List, [], ◌∷◌, length, refl, ap, arith}
 use Rattle.std.specs.Prelude.{not}
 use Rattle.std.specs.List.{AllByRecursion, IsDistinct, list_any}
 use Rattle.std.proofs.lemmas.Bool.{or_parts}
@@ -8,7 +8,6 @@ use Rattle.tsn_types.specs.Keys.{has, same_key}
 use Rattle.tsn_edit.specs.declared.Edit.{Edit}
 use Rattle.tsn_edit.specs.Batches.{IsBatch, are_distinct, edited_keys, key_of}
 use Rattle.tsn_edit.specs.Parts.{most_parts}
-use Rattle.tsn_edit.proofs.KeyFacts.{by_bool}
 
 pub edited_is : (b : List Edit) (k : Key) → has (edited_keys b) k ≡ list_any (λ e. same_key k (key_of e)) b
 edited_is [] k = refl

@@ -2,6 +2,7 @@ pub mod Apart
 pub mod Batched
 pub mod Conflicting
 pub mod FirstPart
+pub mod InOrder
 pub mod Inverses
 pub mod KeyFacts
 pub mod Ordered

@@ -1,4 +1,4 @@
--- The causes of an edit stand in the order of their numbers, so the least is the first.
+-- The causes of an edit stand in the order of their numbers, so its least is its first, and a batch is refused by the least of those.
 use Rattle.std.proofs.Common.{◌≡◌, ℕ, refl, sym, ◌∙◌, ap, subst, arith, List, [], ◌∷◌, Option, Some, None, map}
 use Rattle.std.specs.Prelude.{Bool, ◌&&◌, not, flat_map, is_none, is_some, find, option_map}
 use Rattle.std.specs.FinMap.{get, entries}
@@ -17,9 +17,8 @@ use Rattle.tsn_types.proofs.Ordered.{AreAtMost, AtMost, Is, IsOrdered, causes_of
 use Rattle.tsn_edit.specs.declared.Edit.{Edit}
 use Rattle.tsn_edit.specs.declared.Edit.TheVariants.{Create, Replace, Remove}
 use Rattle.tsn_edit.specs.Configuration.{Configuration}
-use Rattle.tsn_edit.specs.Batches as batches
-use Rattle.tsn_edit.specs.Batches.{edited_keys, referrer_beside}
-use Rattle.tsn_edit.specs.Edits.{causes, dangling, is_of_kind, is_port, referrer, refusal}
+use Rattle.tsn_edit.specs.Batches.{causes, edited_keys, referrer_beside, refusal, result}
+use Rattle.tsn_edit.specs.Edits.{dangling, is_of_kind, is_port}
 
 is_field : (test : Key → Bool) (q : Key) → Is 4 (unless (test q) (field_of q))
 is_field test (Port n) = is_unless (test (Port n)) (field_of (Port n))
@@ -45,49 +44,18 @@ named : (o : Option (Key × Record)) → Is 9 (option_map (λ e. Referred e.0) o
 named None = tt
 named (Some e) = refl
 
--- the causes with their numbers
-abbrev numbered : Limits → Configuration → Edit → List (ℕ × Option Refusal)
-numbered l c (Create k r) = (3, unless (is_of_kind k r) Shape) ∷ (4, unless (holds_key l k) (Range KeyField)) ∷ (4, out_of_limits l r) ∷ (7, unless (is_none (get c k)) (Exists k)) ∷ (8, dangling c r) ∷ []
-numbered l c (Replace k r) = (3, unless (is_of_kind k r) Shape) ∷ (4, unless (holds_key l k) (Range KeyField)) ∷ (4, out_of_limits l r) ∷ (6, unless (is_some (get c k)) (Missing k)) ∷ (8, dangling c r) ∷ []
-numbered l c (Remove k) = (3, unless (not (is_port k)) Shape) ∷ (4, unless (holds_key l k) (Range KeyField)) ∷ (6, unless (is_some (get c k)) (Missing k)) ∷ (9, referrer c k) ∷ []
-
-ordered : (l : Limits) (c : Configuration) (edit : Edit) → IsOrdered 0 (numbered l c edit)
-ordered l c (Create k r) = (omega arith, is_unless _ Shape, (omega arith, is_unless _ (Range KeyField), (omega arith, limited l r, (omega arith, is_unless _ (Exists k), (omega arith, absent (λ q. is_some (get c q)) (refs r), tt)))))
-ordered l c (Replace k r) = (omega arith, is_unless _ Shape, (omega arith, is_unless _ (Range KeyField), (omega arith, limited l r, (omega arith, is_unless _ (Missing k), (omega arith, absent (λ q. is_some (get c q)) (refs r), tt)))))
-ordered l c (Remove k) = (omega arith, is_unless _ Shape, (omega arith, is_unless _ (Range KeyField), (omega arith, is_unless _ (Missing k), (omega arith, named (find (λ e. has (refs e.1) k) (entries c)), tt))))
-
-up_to_9 : (l : Limits) (c : Configuration) (edit : Edit) → AreAtMost 9 (numbered l c edit)
-up_to_9 l c (Create k r) = (omega arith, (omega arith, (omega arith, (omega arith, (omega arith, tt)))))
-up_to_9 l c (Replace k r) = (omega arith, (omega arith, (omega arith, (omega arith, (omega arith, tt)))))
-up_to_9 l c (Remove k) = (omega arith, (omega arith, (omega arith, (omega arith, tt))))
-
-same_causes : (l : Limits) (c : Configuration) (edit : Edit) → causes_of (numbered l c edit) ≡ causes l c edit
-same_causes l c (Create k r) = refl
-same_causes l c (Replace k r) = refl
-same_causes l c (Remove k) = refl
-
--- the cause of the least number is the first
-pub refusal-first : (l : Limits) (c : Configuration) (edit : Edit) → refusal l c edit ≡ first_cause (causes l c edit)
-refusal-first l c edit = ap least (sym (same_causes l c edit)) ∙ least-ordered (numbered l c edit) (ordered l c edit) ∙ ap first_cause (same_causes l c edit)
-
--- and of no number over 9
-pub refusal-most : (l : Limits) (c : Configuration) (edit : Edit) → AtMost 9 (refusal l c edit)
-refusal-most l c edit =
-    subst (AtMost 9) (sym (ap least (sym (same_causes l c edit)) ∙ least-ordered (numbered l c edit) (ordered l c edit))) (first-most 9 0 (numbered l c edit) (ordered l c edit) (up_to_9 l c edit))
-
--- ---- the causes of a batch
-
 named_beside : (test : Key × Record → Bool) (es : List (Key × Record)) → Is 9 (option_map (λ e. Referred e.0) (find test es))
 named_beside test es = named (find test es)
 
+-- the causes of one edit of a batch, with their numbers
 abbrev numbered_of : Limits → Configuration → List Edit → Edit → List (ℕ × Option Refusal)
-numbered_of l c b (Create k r) = (3, unless (is_of_kind k r) Shape) ∷ (4, unless (holds_key l k) (Range KeyField)) ∷ (4, out_of_limits l r) ∷ (7, unless (is_none (get c k)) (Exists k)) ∷ (8, dangling (batches.result c b) r) ∷ []
-numbered_of l c b (Replace k r) = (3, unless (is_of_kind k r) Shape) ∷ (4, unless (holds_key l k) (Range KeyField)) ∷ (4, out_of_limits l r) ∷ (6, unless (is_some (get c k)) (Missing k)) ∷ (8, dangling (batches.result c b) r) ∷ []
+numbered_of l c b (Create k r) = (3, unless (is_of_kind k r) Shape) ∷ (4, unless (holds_key l k) (Range KeyField)) ∷ (4, out_of_limits l r) ∷ (7, unless (is_none (get c k)) (Exists k)) ∷ (8, dangling (result c b) r) ∷ []
+numbered_of l c b (Replace k r) = (3, unless (is_of_kind k r) Shape) ∷ (4, unless (holds_key l k) (Range KeyField)) ∷ (4, out_of_limits l r) ∷ (6, unless (is_some (get c k)) (Missing k)) ∷ (8, dangling (result c b) r) ∷ []
 numbered_of l c b (Remove k) = (3, unless (not (is_port k)) Shape) ∷ (4, unless (holds_key l k) (Range KeyField)) ∷ (6, unless (is_some (get c k)) (Missing k)) ∷ (9, referrer_beside c b k) ∷ []
 
 ordered_of : (l : Limits) (c : Configuration) (b : List Edit) (edit : Edit) → IsOrdered 0 (numbered_of l c b edit)
-ordered_of l c b (Create k r) = (omega arith, is_unless _ Shape, (omega arith, is_unless _ (Range KeyField), (omega arith, limited l r, (omega arith, is_unless _ (Exists k), (omega arith, absent (λ q. is_some (get (batches.result c b) q)) (refs r), tt)))))
-ordered_of l c b (Replace k r) = (omega arith, is_unless _ Shape, (omega arith, is_unless _ (Range KeyField), (omega arith, limited l r, (omega arith, is_unless _ (Missing k), (omega arith, absent (λ q. is_some (get (batches.result c b) q)) (refs r), tt)))))
+ordered_of l c b (Create k r) = (omega arith, is_unless _ Shape, (omega arith, is_unless _ (Range KeyField), (omega arith, limited l r, (omega arith, is_unless _ (Exists k), (omega arith, absent (λ q. is_some (get (result c b) q)) (refs r), tt)))))
+ordered_of l c b (Replace k r) = (omega arith, is_unless _ Shape, (omega arith, is_unless _ (Range KeyField), (omega arith, limited l r, (omega arith, is_unless _ (Missing k), (omega arith, absent (λ q. is_some (get (result c b) q)) (refs r), tt)))))
 ordered_of l c b (Remove k) = (omega arith, is_unless _ Shape, (omega arith, is_unless _ (Range KeyField), (omega arith, is_unless _ (Missing k), (omega arith, named_beside (λ e. has (refs e.1) k && not (has (edited_keys b) e.0)) (entries c), tt))))
 
 up_to_9_of : (l : Limits) (c : Configuration) (b : List Edit) (edit : Edit) → AreAtMost 9 (numbered_of l c b edit)
@@ -95,16 +63,16 @@ up_to_9_of l c b (Create k r) = (omega arith, (omega arith, (omega arith, (omega
 up_to_9_of l c b (Replace k r) = (omega arith, (omega arith, (omega arith, (omega arith, (omega arith, tt)))))
 up_to_9_of l c b (Remove k) = (omega arith, (omega arith, (omega arith, (omega arith, tt))))
 
-same_causes_of : (l : Limits) (c : Configuration) (b : List Edit) (edit : Edit) → causes_of (numbered_of l c b edit) ≡ batches.causes l c b edit
+same_causes_of : (l : Limits) (c : Configuration) (b : List Edit) (edit : Edit) → causes_of (numbered_of l c b edit) ≡ causes l c b edit
 same_causes_of l c b (Create k r) = refl
 same_causes_of l c b (Replace k r) = refl
 same_causes_of l c b (Remove k) = refl
 
 -- the least cause of one edit of the batch is its first
 abbrev pub own_cause : Limits → Configuration → List Edit → Edit → Option Refusal
-own_cause l c b e = first_cause (batches.causes l c b e)
+own_cause l c b e = first_cause (causes l c b e)
 
-own_first : (l : Limits) (c : Configuration) (b : List Edit) (edit : Edit) → least (batches.causes l c b edit) ≡ own_cause l c b edit
+own_first : (l : Limits) (c : Configuration) (b : List Edit) (edit : Edit) → least (causes l c b edit) ≡ own_cause l c b edit
 own_first l c b edit = ap least (sym (same_causes_of l c b edit)) ∙ least-ordered (numbered_of l c b edit) (ordered_of l c b edit) ∙ ap first_cause (same_causes_of l c b edit)
 
 own_most : (l : Limits) (c : Configuration) (b : List Edit) (edit : Edit) → AtMost 9 (own_cause l c b edit)
@@ -115,13 +83,13 @@ least_each f g h [] = refl
 least_each f g h (x ∷ xs) = least-append (f x) (flat_map f xs) ∙ ap (λ o. lesser o (least (flat_map f xs))) (h x) ∙ ap (lesser (g x)) (least_each f g h xs)
 
 -- a batch is refused by the least of its edits' first causes
-pub batch_refusal-first : (l : Limits) (c : Configuration) (b : List Edit) → batches.refusal l c b ≡ least (map (λ e. own_cause l c b e) b)
-batch_refusal-first l c b = least_each (λ e. batches.causes l c b e) (λ e. own_cause l c b e) (own_first l c b) b
+pub batch_refusal-first : (l : Limits) (c : Configuration) (b : List Edit) → refusal l c b ≡ least (map (λ e. own_cause l c b e) b)
+batch_refusal-first l c b = least_each (λ e. causes l c b e) (λ e. own_cause l c b e) (own_first l c b) b
 
 least_most : (l : Limits) (c : Configuration) (b es : List Edit) → AtMost 9 (least (map (λ e. own_cause l c b e) es))
 least_most l c b [] = tt
 least_most l c b (e ∷ es) = lesser-most 9 (own_cause l c b e) (least (map (λ e. own_cause l c b e) es)) (own_most l c b e) (least_most l c b es)
 
 -- and by no cause of a number over 9
-pub batch_refusal-most : (l : Limits) (c : Configuration) (b : List Edit) → AtMost 9 (batches.refusal l c b)
+pub batch_refusal-most : (l : Limits) (c : Configuration) (b : List Edit) → AtMost 9 (refusal l c b)
 batch_refusal-most l c b = subst (AtMost 9) (sym (batch_refusal-first l c b)) (least_most l c b b)

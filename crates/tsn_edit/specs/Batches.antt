@@ -1,7 +1,7 @@
 -- Batches: edits that are made at once. Why they are refused, what they make of a configuration, and their change.
-use Rattle.std.specs.Prelude.{ℕ, ◌≤◌, Bool, true, false, ◌&&◌, not, ◌++◌, List, [], ◌∷◌, Option, Some, None, is_none, is_some, find, flat_map, length, map, nat_le, option_map, if◌then◌else◌}
+use Rattle.std.specs.Prelude.{◌≤◌, Bool, true, ◌&&◌, not, ◌++◌, List, [], ◌∷◌, Option, Some, None, is_none, is_some, find, flat_map, length, map, nat_le, option_map, if◌then◌else◌}
 use Rattle.std.specs.FinMap.{entries, get}
-use Rattle.std.specs.List.{IsDistinct}
+use Rattle.std.specs.List.{AllByRecursion, IsDistinct}
 use Rattle.std.specs.Ordering.{is_lt}
 use Rattle.tsn_types.specs.declared.keys.Key.{Key}
 use Rattle.tsn_types.specs.declared.records.Record.{Record}
@@ -15,7 +15,7 @@ use Rattle.tsn_types.specs.Refusals.{least}
 use Rattle.tsn_edit.specs.declared.Edit.{Edit}
 use Rattle.tsn_edit.specs.declared.Edit.TheVariants.{Create, Replace, Remove}
 use Rattle.tsn_edit.specs.Configuration.{Configuration, put}
-use Rattle.tsn_edit.specs.Edits.{dangling, is_port, limit_causes}
+use Rattle.tsn_edit.specs.Edits.{EditInRange, dangling, is_port, limit_causes}
 use Rattle.tsn_edit.specs.Parts.{Change, Part, most_parts}
 
 -- the key of an edit, and the value that it puts there
@@ -45,6 +45,10 @@ pub record IsBatch (b : List Edit) : Type 0 where
   pub some : 1 ≤ length b
   pub few : length b ≤ most_parts
   pub distinct : IsDistinct same_key (edited_keys b)
+
+-- the numbers of each edit's record are in their ranges
+abbrev pub EditsInRange : List Edit → Type 0
+EditsInRange b = AllByRecursion (λ e. EditInRange e) b
 
 -- what all the edits at once make of c: each key with its record, or without one
 abbrev pub result : Configuration → List Edit → Configuration

@@ -1,8 +1,6 @@
 //! Batches: edits that are made at once, or not at all.
 ghost use Rattle.std.specs.Prelude.{◌≡◌, ◌∷◌, [], MatchResult, true, false};
-ghost use Rattle.std.specs.List.{AllByRecursion};
-ghost use Rattle.tsn_edit.specs.Batches.{IsBatch, are_distinct, edited_keys, is_batch, key_of};
-ghost use Rattle.tsn_edit.specs.Edits.{EditInRange};
+ghost use Rattle.tsn_edit.specs.Batches.{EditsInRange, IsBatch, are_distinct, edited_keys, is_batch, key_of};
 ghost use Rattle.tsn_edit.specs.HeldEdits.{edits_in};
 ghost use Rattle.tsn_types.specs.declared.refusals.Refusal.TheVariants.{Shape};
 ghost use Rattle.tsn_types.specs.Keys.{has};
@@ -74,6 +72,15 @@ impl Batch {
         }
     }
 
+    /// There are 1 to 16 edits on distinct keys, and the numbers of their records are in their ranges: all by their types. It
+    /// changes nothing as the program runs.
+    pub fn tell_ranges(&self)
+        ensures batch { IsBatch self.now }
+        ensures ranges { EditsInRange self.now }
+    {
+        tell_ranges(self.edits())
+    }
+
     /// The edits, taken out.
     pub fn into_edits(self) -> Edits
         ensures edits { edits_in result ≡ self }
@@ -121,4 +128,15 @@ fn are_distinct(edits: &[Edit]) -> bool
         rest = others;
     }
     true
+}
+
+/// The numbers of each edit's record are in their ranges.
+fn tell_ranges(edits: &[Edit])
+    ensures { EditsInRange edits.now }
+{
+    let mut rest = edits;
+    while let [first, others @ ..] = rest {
+        first.tell_ranges();
+        rest = others;
+    }
 }

@@ -1,4 +1,4 @@
-use Rattle.std.proofs.Common.{◌≡◌, length, take}
+use Rattle.std.proofs.Common.{◌≡◌, take}
 use Rattle.std.specs.Vec.{vec_capacity, vec_len}
 use Rattle.tsn_edit.proofs.copies.Given as goal
 

@@ -1,4 +1,4 @@
-use Rattle.std.proofs.Common.{◌≡◌, ◌≤◌, ◌∙◌, sym, true, arith, length}
+use Rattle.std.proofs.Common.{◌≡◌, ◌≤◌, true, arith, length}
 use Rattle.std.proofs.lemmas.Grind.{common_steps}
 use Rattle.tsn_edit.specs.Batches.{are_distinct, edited_keys}
 use Rattle.tsn_edit.specs.Parts.{most_parts}
