@@ -82,7 +82,7 @@ IsSound l ks c d k b None = IsSome b → (not (is_port k) ≡ true) × ((q : Key
 abbrev pub AreSound : Limits → Configuration → List Part → Type 0
 AreSound l c ps = AllByRecursion (λ p. IsSound l (keys_of ps) c (put_all c ps) p.key p.before p.after) ps
 
-beside_none : (ks : List Key) (c : Configuration) (k : Key) → referrer_beside ks c k ≡ None → (q : Key) (r : Record) → has ks q ≡ false → get c q ≡ Some r → has (refs r) k ≡ false
+pub beside_none : (ks : List Key) (c : Configuration) (k : Key) → referrer_beside ks c k ≡ None → (q : Key) (r : Record) → has ks q ≡ false → get c q ≡ Some r → has (refs r) k ≡ false
 beside_none ks c k h q r off is =
     let fails : (has (refs r) k && not (has ks q)) ≡ false = none_found (λ e. has (refs e.1) k && not (has ks e.0)) (entries c) (map_none (λ e. Referred e.0) _ h) q r (sym (get-entries c q) ∙ is) in
     by_bool (has (refs r) k)

@@ -1,26 +1,21 @@
--- What no cause refuses has a change that fits.
+-- One key with a value or none: what keeps a well kept map well kept, and what the tests of limits and references come to.
 use Rattle.std.proofs.Common.{◌≡◌, ℕ, ◌≤◌, true, false, cond, ◌||◌, not, List, [], ◌∷◌, refl, sym, ◌∙◌, ap, subst, Option, Some, None, map, arith, length}
 use Rattle.std.specs.Prelude.{find, IsSome, is_some, nat_le, option_map}
-use Rattle.std.specs.List.{IsDistinct}
-use Rattle.std.specs.FinMap.{get, entries, get-entries, find as find_entry}
+use Rattle.std.specs.FinMap.{get, find as find_entry}
 use Rattle.std.proofs.lemmas.Bool.Decides.{nat_tests}
 use Rattle.tsn_types.specs.declared.keys.Key.{Key}
 use Rattle.tsn_types.specs.declared.keys.Key.TheVariants.{Port, Filter, Gate, Meter}
 use Rattle.tsn_types.specs.declared.records.Record.{Record}
 use Rattle.tsn_types.specs.declared.records.Record.TheVariants.{Port as PortRecord, Filter as FilterRecord, Gate as GateRecord, Meter as MeterRecord}
 use Rattle.tsn_types.specs.declared.limits.Limits.{Limits}
-use Rattle.tsn_edit.specs.declared.Edit.{Edit}
-use Rattle.tsn_edit.specs.declared.Edit.TheVariants.{Create, Replace, Remove}
-use Rattle.tsn_types.specs.declared.refusals.Refusal.TheVariants.{Dangling, Referred}
+use Rattle.tsn_types.specs.declared.refusals.Refusal.TheVariants.{Dangling}
 use Rattle.tsn_types.specs.InRange.{RecordInRange}
 use Rattle.tsn_types.specs.Keys.{key_cmp, same_key, has, refs}
 use Rattle.tsn_edit.specs.Configuration.{Configuration, put, IsWellKept}
 use Rattle.tsn_types.specs.Limits.{HoldsKey, HoldsRecord, unless, first_cause, holds_key, out_of_limits}
-use Rattle.tsn_edit.specs.Changes.{Fits}
-use Rattle.tsn_edit.specs.Edits.{EditInRange, is_of_kind, is_port, dangling, causes, refusal, change_of}
-use Rattle.tsn_edit.proofs.Ordered.{refusal-first}
+use Rattle.tsn_edit.specs.Edits.{is_of_kind, is_port, dangling}
 use Rattle.tsn_edit.proofs.KeyFacts.{by_bool, get-put, one_key}
-use Rattle.tsn_types.proofs.Causes.{each_none, option_or_parts, unless-None}
+use Rattle.tsn_types.proofs.Causes.{option_or_parts, unless-None}
 
 pub HoldsKey-from_test : (l : Limits) (k : Key) → holds_key l k ≡ true → HoldsKey l k
 HoldsKey-from_test l (Port n) h = grind (arith, nat_tests)
@@ -112,21 +107,3 @@ module _ (l : Limits) (c : Configuration) (kept : IsWellKept l c) where
   pub fits_put : (k : Key) (r : Record) → RecordInRange r → is_of_kind k r ≡ true → holds_key l k ≡ true → out_of_limits l r ≡ None → dangling c r ≡ None → IsWellKept l (put c k (Some r))
   fits_put k r ranges kind in_limits fields there =
       put_kept k r ranges (HoldsKey-from_test l k in_limits) (HoldsRecord-from_test l k r kind fields) (none_dangling c (refs r) there)
-
-  pub edit_fits : (edit : Edit) → EditInRange edit → refusal l c edit ≡ None → Fits l c (change_of c edit)
-  unfolding IsDistinct
-  edit_fits (Create k r) ranges h =
-      let none = each_none (causes l c (Create k r)) (sym (refusal-first l c (Create k r)) ∙ h) in
-      record { distinct = (tt, tt); stands = (refl, tt); kept = fits_put k r ranges (unless-None _ _ none.0) (unless-None _ _ none.1.0) none.1.1.0 none.1.1.1.1.0 }
-  edit_fits (Replace k r) ranges h =
-      let none = each_none (causes l c (Replace k r)) (sym (refusal-first l c (Replace k r)) ∙ h) in
-      record { distinct = (tt, tt); stands = (refl, tt); kept = fits_put k r ranges (unless-None _ _ none.0) (unless-None _ _ none.1.0) none.1.1.0 none.1.1.1.1.0 }
-  edit_fits (Remove k) ranges h =
-      let none = each_none (causes l c (Remove k)) (sym (refusal-first l c (Remove k)) ∙ h) in
-      record {
-        distinct = (tt, tt);
-        stands = (refl, tt);
-        kept =
-            remove_kept k (unless-None _ _ none.0)
-            (λ q r is. none_refers k (entries c) (map_none (λ e. Referred e.0) _ none.1.1.1.0) q r (sym (get-entries c q) ∙ is));
-      }

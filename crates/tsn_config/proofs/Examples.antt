@@ -1,7 +1,7 @@
 -- Worked examples of the definitions alone, with literals.
 use Rattle.std.proofs.Common.{◌≡◌, ◌∙◌, ℕ, true, false, cond, List, [], ◌∷◌, refl, ap, Option, Some, None}
 use Rattle.std.specs.Prelude.{find, option_map, replicate}
-use Rattle.std.specs.FinMap.{empty, entries, entries-insert, from_entries, get, get-empty, get-from_entries, get-insert, insert, put}
+use Rattle.std.specs.FinMap.{empty, entries, entries-insert, from_entries, get, get-empty, get-from_entries, get-insert, get-remove, insert, put, remove}
 use Rattle.tsn_types.specs.declared.keys.Key.{Key}
 use Rattle.tsn_types.specs.declared.keys.Key.TheVariants.{Port, Filter, Gate, Meter}
 use Rattle.tsn_types.specs.declared.records.GateEntry.{GateEntry}
@@ -13,11 +13,14 @@ use Rattle.tsn_types.specs.declared.refusals.Refusal.TheVariants.{Shape, Range, 
 use Rattle.tsn_types.specs.Keys.{has, key_cmp, refs, same_key}
 use Rattle.tsn_edit.specs.declared.Edit.TheVariants.{Create, Replace, Remove}
 use Rattle.tsn_edit.specs.Configuration.{Configuration}
-use Rattle.tsn_edit.specs.Edits.{causes, referrer, refusal}
-use Rattle.tsn_edit.proofs.Ordered.{refusal-first}
-use Rattle.tsn_types.specs.Limits.{first_cause}
+use Rattle.tsn_edit.specs.declared.Edit.{Edit}
+use Rattle.tsn_edit.specs.Batches as batches
+use Rattle.tsn_edit.specs.Edits.{referrer}
+use Rattle.tsn_edit.proofs.Ordered.{batch_refusal-first, own_cause}
+use Rattle.tsn_types.specs.declared.refusals.Refusal.{Refusal}
 use Rattle.tsn_edit.proofs.KeyFacts.{keys_total}
 use Rattle.tsn_config.specs.Opening.{default_port, default_ports, opening, opening_refusal}
+use Rattle.tsn_config.proofs.Batches.{lesser-none}
 use Rattle.tsn_config.proofs.Listed.{from_sorted_list}
 
 -- two ports, sixteen instances of each other kind, lists of up to sixteen entries
@@ -58,6 +61,13 @@ listed = entries-insert keys_total
 none_listed : entries (empty {X = Record} {R = key_cmp}) ≡ []
 none_listed = from_sorted_list [] refl
 
+-- a single edit is a batch of one, and refused by the first of its causes
+abbrev refusal : Limits → Configuration → Edit → Option Refusal
+refusal l c e = batches.refusal l c (e ∷ [])
+
+refusal-first : (l : Limits) (c : Configuration) (e : Edit) → refusal l c e ≡ own_cause l c (e ∷ []) e
+refusal-first l c e = batch_refusal-first l c (e ∷ []) ∙ lesser-none (own_cause l c (e ∷ []) e)
+
 gate_twice : refusal limits now (Create (Gate 0) gate) ≡ Some (Exists (Gate 0))
 gate_twice = simp (inserted, none_at)
 
@@ -95,7 +105,7 @@ replace_absent : refusal limits now (Replace (Meter 9) meter) ≡ Some (Missing 
 replace_absent = simp (inserted, none_at)
 
 remove_absent : refusal limits now (Remove (Gate 9)) ≡ Some (Missing (Gate 9))
-remove_absent = let first : first_cause (causes limits now (Remove (Gate 9))) ≡ Some (Missing (Gate 9)) = simp (inserted, none_at) in refusal-first limits now (Remove (Gate 9)) ∙ first
+remove_absent = let first : own_cause limits now (Remove (Gate 9) ∷ []) (Remove (Gate 9)) ≡ Some (Missing (Gate 9)) = simp (inserted, none_at) in refusal-first limits now (Remove (Gate 9)) ∙ first
 
 -- a port is never removed, and one within the limits is there already
 port_removed : (c : Configuration) → refusal limits c (Remove (Port 1)) ≡ Some Shape
@@ -125,6 +135,30 @@ shared = (Filter 3, filter 0 None) ∷ (Filter 5, filter 0 None) ∷ (Gate 0, ga
 
 least_user : referrer (from_entries shared) (Gate 0) ≡ Some (Referred (Filter 3))
 least_user = ap (λ es. option_map (λ (e : Key × Record). Referred e.0) (find (λ e. has (refs e.1) (Gate 0)) es)) (from_sorted_list shared refl)
+
+-- edits at once are seen whole: what a record refers to may come after it, and a key may go with what refers to it
+removed : (c : Configuration) (k q : Key) → get (remove c k) q ≡ cond (same_key q k) None (get c q)
+removed = get-remove keys_total
+
+all_come : batches.refusal limits now (Create (Filter 0) (filter 1 (Some 1)) ∷ Create (Gate 1) gate ∷ Create (Meter 1) meter ∷ []) ≡ None
+all_come = simp (inserted, none_at)
+
+moved_away : batches.refusal limits now (Remove (Gate 0) ∷ Replace (Filter 3) (filter 1 None) ∷ Create (Gate 1) gate ∷ []) ≡ None
+moved_away = simp (inserted, removed, none_at, listed, none_listed)
+
+all_go : batches.refusal limits now (Remove (Gate 0) ∷ Remove (Meter 0) ∷ Remove (Filter 3) ∷ []) ≡ None
+all_go = simp (inserted, removed, none_at, listed, none_listed)
+
+-- a new record refers to what its batch removes
+gate_goes : batches.refusal limits now (Remove (Gate 0) ∷ Replace (Filter 3) (filter 0 None) ∷ []) ≡ Some (Dangling (Gate 0))
+gate_goes = simp (inserted, removed, none_at, listed, none_listed)
+
+-- the least number counts and not the first edit, and of one number the first edit
+later_is_less : batches.refusal limits now (Create (Filter 4) (filter 9 None) ∷ Create (Gate 0) gate ∷ []) ≡ Some (Exists (Gate 0))
+later_is_less = simp (inserted, none_at)
+
+first_of_two : batches.refusal limits now (Create (Filter 4) (filter 9 None) ∷ Create (Filter 5) (filter 8 None) ∷ []) ≡ Some (Dangling (Gate 9))
+first_of_two = simp (inserted, none_at)
 
 -- an opening with no record has the default ports and nothing else
 port_one : get (opening limits []) (Port 1) ≡ Some default_port

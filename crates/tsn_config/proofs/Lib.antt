@@ -1,4 +1,5 @@
 pub mod Among
+pub mod Batches
 pub mod Beside
 pub mod Dangling
 pub mod Deciding
@@ -11,6 +12,7 @@ pub mod Nexts
 pub mod Numbered
 pub mod Opened
 pub mod OpeningKept
+pub mod Placed
 pub mod Popped
 pub mod Ranges
 pub mod SetRows

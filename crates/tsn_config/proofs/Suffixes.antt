@@ -19,7 +19,7 @@ use Rattle.tsn_config.specs.Keeping.{keeps_part, keeps_value, referrer_beside}
 use Rattle.tsn_config.specs.Ways.{AreInRange, turned, turned_part}
 
 -- one part is left less
-pub next_left : (ps : List Part) (i : ℕ) (p : Part) → i < length ps → p ≡ get_or ps i p → drop i ps ≡ p ∷ drop (i + 1) ps
+pub next_left : {A : Type 0} (ps : List A) (i : ℕ) (p : A) → i < length ps → p ≡ get_or ps i p → drop i ps ≡ p ∷ drop (i + 1) ps
 next_left ps i p h is = drop-cons ps i p h ∙ ap (λ n. get_or ps i p ∷ drop n ps) (sym (add-one i)) ∙ ap (λ q. q ∷ drop (i + 1) ps) (sym is)
 
 pub distinct_left : (i : ℕ) (ps : List Part) → IsDistinct same_key (keys_of ps) → IsDistinct same_key (keys_of (drop i ps))

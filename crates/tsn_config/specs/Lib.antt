@@ -7,6 +7,7 @@ pub mod Opening
 pub mod Views
 pub mod Ways
 -- words of lower crates that the public clauses cite
+pub use Rattle.tsn_edit.specs.Batches
 pub use Rattle.tsn_edit.specs.Changes
 pub use Rattle.tsn_edit.specs.Configuration
 pub use Rattle.tsn_edit.specs.Edits

@@ -1,17 +1,19 @@
-//! Which edits are admitted, why another is refused, and what an admitted one does.
+//! Why edits are refused, that are made at once.
 //!
-//! The causes are tested in the order of their numbers: 3, 4, 6, 7, 8, 9. It relies on the rows for look-ups, and on
-//! the limits for all that depends on no other record.
-ghost use Rattle.std.specs.Prelude.{◌≡◌, ◌∷◌, [], IfOk, None};
+//! The causes of an edit are tested in the order of their numbers: 3, 4, 6, 7, 8, 9. Of all the edits of a batch the least
+//! cause counts, and of several with that number the one of the first edit. It relies on the rows for look-ups, and on the
+//! limits for all that depends on no other record.
+ghost use Rattle.std.specs.Prelude.{◌≡◌, is_some};
 ghost use Rattle.std.specs.FinMap as map;
 ghost use Rattle.tsn_types.specs.Limits.{first_cause};
-ghost use Rattle.tsn_edit.specs.Changes.{Fits};
-ghost use Rattle.tsn_edit.specs.Edits.{refusal, causes, change_of, referrer, is_of_kind, is_port, limit_causes};
+ghost use Rattle.tsn_types.specs.Refusals.{lesser};
+ghost use Rattle.tsn_edit.specs.Batches.{causes, referrer_beside, refusal, result as result_of, value_of};
+ghost use Rattle.tsn_edit.specs.Edits.{dangling, is_of_kind, is_port, limit_causes};
 ghost use Rattle.tsn_edit.specs.declared.Edit.TheVariants.{Create, Replace, Remove};
 
 use crate::Config;
-use std::alloc::AllocError;
-use tsn_edit::{Change, Edit, Part};
+use tsn_edit::Edit;
+use tsn_edit::batches::{Batch, is_edited};
 use tsn_types::keys::Key;
 use tsn_types::limits::Limits;
 use tsn_types::numbers::FilterId;
@@ -19,21 +21,35 @@ use tsn_types::records::Record;
 use tsn_types::refusals::{Field, Refusal};
 
 impl Config {
-    /// Why the edit is refused: the cause of the least number, none where the edit is admitted. Of absent references
-    /// the gate is named before the meter, and of filters that refer to a key the least. It takes no memory.
-    pub fn check(&self, edit: &Edit) -> Option<Refusal>
-        ensures { result ≡ refusal self.now.limits self.now.map edit.now }
+    /// Why the edits are refused: the cause of the least number, none where they are admitted. Of causes of that number the
+    /// first edit's is named; of absent references the gate before the meter, and of filters that refer to a key the least.
+    /// Whether a key is there is asked of the map before; what a record refers to is to be there once all edits are made; a
+    /// key goes only if each filter that refers to it has an edit here. It takes no memory.
+    pub fn check(&self, batch: &Batch) -> Option<Refusal>
+        ensures { result ≡ refusal self.now.limits self.now.map batch.now }
+    {
+        let edits = batch.edits();
+        let mut least = None;
+        for edit in edits {
+            least = lesser(least, self.refuse_edit(edits, edit));
+        }
+        least
+    }
+
+    // Why one of the edits is refused, in the order of the causes' numbers.
+    fn refuse_edit(&self, edits: &[Edit], edit: &Edit) -> Option<Refusal>
+        ensures { result ≡ first_cause (causes self.now.limits self.now.map edits.now edit.now) }
     {
         match edit {
-            Edit::Create(key, value) => self.refuse_create(key, value),
-            Edit::Replace(key, value) => self.refuse_replace(key, value),
-            Edit::Remove(key) => self.refuse_remove(key),
+            Edit::Create(key, value) => self.refuse_create(edits, key, value),
+            Edit::Replace(key, value) => self.refuse_replace(edits, key, value),
+            Edit::Remove(key) => self.refuse_remove(edits, key),
         }
     }
 
-    // Why the record is not created at the key, in the order of the causes' numbers.
-    fn refuse_create(&self, key: &Key, value: &Record) -> Option<Refusal>
-        ensures { result ≡ first_cause (causes self.now.limits self.now.map (Create key.now value.now)) }
+    // Why the record is not created at the key.
+    fn refuse_create(&self, edits: &[Edit], key: &Key, value: &Record) -> Option<Refusal>
+        ensures { result ≡ first_cause (causes self.now.limits self.now.map edits.now (Create key.now value.now)) }
     {
         if let Some(why) = refuse_limits(self.limits, key, value) {
             return Some(why);
@@ -41,12 +57,12 @@ impl Config {
         if self.rows.has(*key) {
             return Some(Refusal::Exists(*key));
         }
-        self.rows.dangling(value)
+        self.dangling_after(edits, value)
     }
 
     // Why the record does not take the place of the one at the key.
-    fn refuse_replace(&self, key: &Key, value: &Record) -> Option<Refusal>
-        ensures { result ≡ first_cause (causes self.now.limits self.now.map (Replace key.now value.now)) }
+    fn refuse_replace(&self, edits: &[Edit], key: &Key, value: &Record) -> Option<Refusal>
+        ensures { result ≡ first_cause (causes self.now.limits self.now.map edits.now (Replace key.now value.now)) }
     {
         if let Some(why) = refuse_limits(self.limits, key, value) {
             return Some(why);
@@ -54,12 +70,12 @@ impl Config {
         if !self.rows.has(*key) {
             return Some(Refusal::Missing(*key));
         }
-        self.rows.dangling(value)
+        self.dangling_after(edits, value)
     }
 
     // Why the record at the key is not removed.
-    fn refuse_remove(&self, key: &Key) -> Option<Refusal>
-        ensures { result ≡ first_cause (causes self.now.limits self.now.map (Remove key.now)) }
+    fn refuse_remove(&self, edits: &[Edit], key: &Key) -> Option<Refusal>
+        ensures { result ≡ first_cause (causes self.now.limits self.now.map edits.now (Remove key.now)) }
     {
         if is_port(key) {
             return Some(Refusal::Shape);
@@ -70,52 +86,75 @@ impl Config {
         if !self.rows.has(*key) {
             return Some(Refusal::Missing(*key));
         }
-        self.referrer(key)
+        self.unedited_referrer(edits, key)
     }
 
-    /// The change of an admitted edit: the key with the value that stands there and the one that the edit puts there.
-    /// It fits. It is refused only for want of memory, since it copies the value that stands there.
-    pub fn change_of(&self, edit: Edit) -> Result<Change, AllocError>
-        requires { refusal self.now.limits self.now.map edit ≡ None }
-        ensures change { IfOk result (λ change. change ≡ change_of self.now.map edit) }
-        ensures fits { IfOk result (λ change. Fits self.now.limits self.now.map change) }
+    // The refusal for a reference of the record that is absent once all the edits are made, the gate before the meter.
+    fn dangling_after(&self, edits: &[Edit], value: &Record) -> Option<Refusal>
+        ensures { result ≡ dangling (result_of self.now.map edits.now) value.now }
     {
-        // The proof needs what the type keeps, which reading a field gives, and the ranges of the record's numbers.
-        let _kept = &self.limits;
-        edit.tell_ranges();
-        let change = self.copied_change(edit)?;
-        Ok(change)
-    }
-
-    // The change of an edit, with a copy of the value that stands at its key.
-    fn copied_change(&self, edit: Edit) -> Result<Change, AllocError>
-        ensures { IfOk result (λ change. change ≡ change_of self.now.map edit) }
-    {
-        match edit {
-            Edit::Create(key, value) => self.change_at(key, Some(value)),
-            Edit::Replace(key, value) => self.change_at(key, Some(value)),
-            Edit::Remove(key) => self.change_at(key, None),
-        }
-    }
-
-    // The change of one key to this value, with a copy of the value that stands there.
-    fn change_at(&self, key: Key, after: Option<Record>) -> Result<Change, AllocError>
-        ensures { IfOk result (λ change. change ≡ record { key = key; before = map.get self.now.map key; after = after } ∷ []) }
-    {
-        let part = Part {
-            key,
-            before: self.rows.copy_of(key)?,
-            after,
+        let Record::Filter(filter) = value else {
+            return None;
         };
-        Ok(Change::of(part))
+        let gate = Key::Gate(filter.gate);
+        if !self.is_there_after(edits, &gate) {
+            return Some(Refusal::Dangling(gate));
+        }
+        let meter = Key::Meter(filter.meter?);
+        if self.is_there_after(edits, &meter) {
+            return None;
+        }
+        Some(Refusal::Dangling(meter))
     }
 
-    // The refusal for the least filter that refers to the key.
-    pub(crate) fn referrer(&self, key: &Key) -> Option<Refusal>
-        ensures { result ≡ referrer self.now.map key.now }
+    // Whether the key is present once all the edits are made.
+    fn is_there_after(&self, edits: &[Edit], key: &Key) -> bool
+        ensures { result ≡ is_some (map.get (result_of self.now.map edits.now) key.now) }
     {
-        let number = self.rows.referrer(key)?;
-        Some(Refusal::Referred(Key::Filter(FilterId::new(number).unwrap())))
+        let mut rest = edits;
+        while let Some((first, others)) = rest.split_first() {
+            if *key == first.key() {
+                return puts(first);
+            }
+            rest = others;
+        }
+        self.rows.has(*key)
+    }
+
+    // The refusal for the least filter that refers to the key and has no edit here.
+    fn unedited_referrer(&self, edits: &[Edit], key: &Key) -> Option<Refusal>
+        ensures { result ≡ referrer_beside self.now.map edits.now key.now }
+    {
+        let mut from = 0;
+        while let Some(number) = self.rows.next_referrer(key, from) {
+            let filter = Key::Filter(FilterId::new(number).unwrap());
+            if !is_edited(edits, &filter) {
+                return Some(Refusal::Referred(filter));
+            }
+            from = number + 1;
+        }
+        None
+    }
+}
+
+// Whether the edit puts a record at its key.
+fn puts(edit: &Edit) -> bool
+    ensures { result ≡ is_some (value_of edit.now) }
+{
+    !matches!(edit, Edit::Remove(_))
+}
+
+// Of two causes the one of the lesser number, and of two with one number the first.
+fn lesser(first: Option<Refusal>, second: Option<Refusal>) -> Option<Refusal>
+    ensures { result ≡ lesser first second }
+{
+    let (Some(one), Some(other)) = (first, second) else {
+        return first.or(second);
+    };
+    if other.number() < one.number() {
+        second
+    } else {
+        first
     }
 }
 

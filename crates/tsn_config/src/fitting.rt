@@ -9,7 +9,7 @@ ghost use Rattle.std.specs.List.{IsDistinct};
 ghost use Rattle.tsn_types.specs.InRange.{RecordInRange};
 ghost use Rattle.tsn_types.specs.Keys.{same_key};
 ghost use Rattle.tsn_edit.specs.Changes.{Fits, Stands, keys_of, put_all};
-ghost use Rattle.tsn_edit.specs.Edits.{dangling};
+ghost use Rattle.tsn_edit.specs.Edits.{dangling, referrer};
 ghost use Rattle.tsn_edit.specs.Parts.{inverse};
 ghost use Rattle.tsn_config.specs.Keeping.{keep_together, keeps, keeps_part, referrer_beside};
 ghost use Rattle.tsn_config.specs.Ways.{AreInRange, turned, turned_part};
@@ -83,6 +83,14 @@ impl Config {
             }
             None => before.is_none() || (!is_port(key) && self.referrer(key).is_none()),
         }
+    }
+
+    // The refusal for the least filter that refers to the key.
+    fn referrer(&self, key: &Key) -> Option<Refusal>
+        ensures { result ≡ referrer self.now.map key.now }
+    {
+        let number = self.rows.referrer(key)?;
+        Some(Refusal::Referred(Key::Filter(FilterId::new(number).unwrap())))
     }
 
     // Whether the change of these parts fits.

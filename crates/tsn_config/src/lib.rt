@@ -2,7 +2,7 @@
 //!
 //! A `Config` is seen as one finite map from keys to records with its limits (802.1Q-2018, 12.29 and 12.31). Each key
 //! and list is within the limits, each record is of its key's kind, each port is there, and each reference of a filter
-//! is to a key that is there. `check` says why an edit is refused, `change_of` what an admitted one does, and `apply`
+//! is to a key that is there. `check` says why edits are refused, `change_of` what admitted ones do, and `apply`
 //! does it. The definitions of edits and changes are those of `tsn_edit`. Beside the filters stand indexes of them, so that
 //! who refers to a key, and which filter has two specifications, is found without going along them.
 #![tactic(auto)]
@@ -29,6 +29,7 @@ use tsn_types::records::{RecordRef, StreamFilter};
 
 mod admission;
 mod applying;
+mod changing;
 mod filters;
 mod fitting;
 pub mod ids;

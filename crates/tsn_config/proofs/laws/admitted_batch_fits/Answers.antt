@@ -1,5 +1,5 @@
-use Rattle.tsn_config.proofs.Edits.{edit_fits}
-use Rattle.tsn_config.proofs.laws.admitted_edit_fits.Goals as goal
+use Rattle.tsn_config.proofs.Batches.{batch_fits}
+use Rattle.tsn_config.proofs.laws.admitted_batch_fits.Goals as goal
 
 pub returns : goal.returns
-returns c l m edit kept ranges none = edit_fits l m kept edit ranges none
+returns c l m batch kept is ranges none = batch_fits l m kept batch is ranges none
