@@ -1,5 +1,5 @@
 -- An edit that is at once undone leaves the configuration as it was.
-use Rattle.std.proofs.Common.{◌≡◌, ℕ, ◌+◌, true, cond, [], ◌∷◌, ◌++◌, refl, sym, ◌∙◌, ap, subst, Some, None, length}
+use Rattle.std.proofs.Common.{◌≡◌, ℕ, ◌+◌, true, cond, List, [], ◌∷◌, ◌++◌, refl, sym, ◌∙◌, ap, subst, Some, None, length}
 use Rattle.std.specs.Prelude.{◌==◌, option_map}
 use Rattle.std.specs.Option.{option_or}
 use Rattle.std.proofs.Common.{arith}
@@ -9,7 +9,7 @@ use Rattle.tsn_edit.specs.declared.Edit.{Edit}
 use Rattle.tsn_edit.specs.Configuration.{Configuration}
 use Rattle.tsn_edit.specs.Changes.{after_change, conflicts}
 use Rattle.tsn_edit.specs.Parts.{inverse}
-use Rattle.tsn_edit.specs.Edits.{change_of}
+use Rattle.tsn_edit.specs.Batches.{change_of}
 use Rattle.tsn_edit.proofs.Inverses.{taken_back}
 use Rattle.tsn_journal.specs.declared.entries.What.TheVariants.{Made}
 use Rattle.tsn_journal.specs.Entries.{Applied, IsNumbered, no_room, standing}
@@ -25,31 +25,31 @@ use Rattle.tsn_undo.proofs.Free.{undo_refusal-first}
 use Rattle.tsn_undo.proofs.Making.{kept_now}
 
 -- the change that an edit of the session has just applied
-abbrev newest_of : Ledger → ℕ → Edit → Applied
-newest_of before session edit = record { number = length before.entries + 1; session = session; change = change_of (present before) edit }
+abbrev newest_of : Ledger → ℕ → List Edit → Applied
+newest_of before session batch = record { number = length before.entries + 1; session = session; change = change_of (present before) batch }
 
-module _ (before edited : Ledger) (session : ℕ) (edit : Edit) (entry : ℕ) (sound : IsSound before.limits before.opening before.entries) (made' : Edits before session edit entry edited) where
-  after_made : edited.entries ≡ (enter before session (Made (change_of (present before) edit))).entries
+module _ (before edited : Ledger) (session : ℕ) (batch : List Edit) (entry : ℕ) (sound : IsSound before.limits before.opening before.entries) (made' : Edits before session batch entry edited) where
+  after_made : edited.entries ≡ (enter before session (Made (change_of (present before) batch))).entries
   after_made = ap (λ (b : Ledger). b.entries) made'.after
 
-  stands_last : standing edited.entries ≡ standing before.entries ++ newest_of before session edit ∷ []
-  stands_last = ap standing after_made ∙ standing_added before.entries session (Made (change_of (present before) edit)) (λ n. refl) (change_of (present before) edit) refl
+  stands_last : standing edited.entries ≡ standing before.entries ++ newest_of before session batch ∷ []
+  stands_last = ap standing after_made ∙ standing_added before.entries session (Made (change_of (present before) batch)) (λ n. refl) (change_of (present before) batch) refl
 
   -- it is what the session takes back next
-  newest_made : last_of edited.entries session ≡ Some (newest_of before session edit)
+  newest_made : last_of edited.entries session ≡ Some (newest_of before session batch)
   newest_made =
-      let x = newest_of before session edit in
+      let x = newest_of before session batch in
       let own : (session == session) ≡ true = grind (arith, nat_tests) in
       ap (last_where (λ x. x.session == session)) stands_last
       ∙ last_where-append (λ x. x.session == session) (standing before.entries) (x ∷ [])
       ∙ ap (λ b. option_or (cond b (Some x) None) (last_where (λ x. x.session == session) (standing before.entries))) own
 
   -- nothing stands after it
-  no_conflict : find_conflict edited.entries (newest_of before session edit) ≡ None
+  no_conflict : find_conflict edited.entries (newest_of before session batch) ≡ None
   no_conflict =
-      let x = newest_of before session edit in
+      let x = newest_of before session batch in
       let rises : Rises 1 (standing before.entries ++ x ∷ []) =
-      subst (Rises 1) stands_last (rises_standing edited.entries (subst (λ es. IsNumbered 1 es) (sym after_made) (IsNumbered-with_entry before.entries session (Made (change_of (present before) edit)) sound.numbered))) in
+      subst (Rises 1) stands_last (rises_standing edited.entries (subst (λ es. IsNumbered 1 es) (sym after_made) (IsNumbered-with_entry before.entries session (Made (change_of (present before) batch)) sound.numbered))) in
       ap (λ xs. last_where (λ f. conflicts f.change x.change) (later_than x.number xs)) stands_last
       ∙ ap (last_where (λ f. conflicts f.change x.change)) (later_than_rest 1 (standing before.entries) x [] rises)
 
@@ -57,14 +57,14 @@ module _ (before edited : Ledger) (session : ℕ) (edit : Edit) (entry : ℕ) (s
   free_at_once =
       undo_refusal-first edited session
       ∙ ap (λ o. option_or (undo_cause edited.entries o) (no_room edited.entries 1)) newest_made
-      ∙ ap (λ o. option_or (option_map (λ f. Conflict (newest_of before session edit).number f.number) o) (no_room edited.entries 1)) no_conflict
+      ∙ ap (λ o. option_or (option_map (λ f. Conflict (newest_of before session batch).number f.number) o) (no_room edited.entries 1)) no_conflict
 
-pub undone_at_once : (before edited after : Ledger) (session : ℕ) (edit : Edit) (entry number of : ℕ) → IsSound before.limits before.opening before.entries → Edits before session edit entry edited → TakesBack edited session number of after
+pub undone_at_once : (before edited after : Ledger) (session : ℕ) (batch : List Edit) (entry number of : ℕ) → IsSound before.limits before.opening before.entries → Edits before session batch entry edited → TakesBack edited session number of after
     → (of ≡ entry) × (present after ≡ present before)
-undone_at_once before edited after session edit entry number of sound made' back =
-    let e = change_of (present before) edit in
-    let newest = newest_of before session edit in
-    let found : Some newest ≡ Some back.newest = sym (newest_made before edited session edit entry sound made') ∙ back.newest_is in
+undone_at_once before edited after session batch entry number of sound made' back =
+    let e = change_of (present before) batch in
+    let newest = newest_of before session batch in
+    let found : Some newest ≡ Some back.newest = sym (newest_made before edited session batch entry sound made') ∙ back.newest_is in
     let is : newest ≡ back.newest = (cc) in (
       back.of_is ∙ ap (λ (x : Applied). x.number) (sym is) ∙ sym made'.number_is,
       back.map

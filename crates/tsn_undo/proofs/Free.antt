@@ -7,9 +7,9 @@ use Rattle.tsn_types.specs.declared.refusals.Refusal.TheVariants.{Conflict, Jour
 use Rattle.tsn_types.specs.Refusals.{IsLeastOrMemory}
 use Rattle.tsn_types.proofs.Ordered.{AtMost, least-before}
 use Rattle.tsn_edit.specs.declared.Edit.{Edit}
-use Rattle.tsn_edit.specs.Edits.{refusal}
+use Rattle.tsn_edit.specs.Batches.{refusal}
 use Rattle.tsn_edit.proofs.KeyFacts.{by_option}
-use Rattle.tsn_edit.proofs.Ordered.{refusal-most}
+use Rattle.tsn_edit.proofs.Ordered.{batch_refusal-most}
 use Rattle.tsn_journal.specs.declared.entries.Entry.{Entry}
 use Rattle.tsn_journal.specs.Entries.{Applied, IsNumbered, applies, most_entries, no_room, standing}
 use Rattle.tsn_journal.specs.Finding.{change_at, entry, find_conflict, last_of, last_where, standing_entry}
@@ -23,8 +23,8 @@ at_most_more (Some why) h = omega arith
 
 -- ---- a cause, and then a full journal
 
-pub edit_refusal-first : (b : Ledger) (edit : Edit) → edit_refusal b edit ≡ option_or (refusal b.limits (present b) edit) (no_room b.entries 1)
-edit_refusal-first b edit = least-before 17 (refusal b.limits (present b) edit) (nat_le (length b.entries + 1) most_entries) JournalFull (at_most_more _ (refusal-most b.limits (present b) edit)) (omega arith)
+pub edit_refusal-first : (b : Ledger) (batch : List Edit) → edit_refusal b batch ≡ option_or (refusal b.limits (present b) batch) (no_room b.entries 1)
+edit_refusal-first b batch = least-before 17 (refusal b.limits (present b) batch) (nat_le (length b.entries + 1) most_entries) JournalFull (at_most_more _ (batch_refusal-most b.limits (present b) batch)) (omega arith)
 
 undo_cause-most : (es : List Entry) (o : Option Applied) → AtMost 17 (undo_cause es o)
 undo_cause-most es None = omega arith
@@ -41,8 +41,8 @@ pub or_none : (o p : Option Refusal) → option_or o p ≡ None → (o ≡ None)
 or_none None p h = (refl, h)
 or_none (Some x) p h = (cc)
 
-pub edit_admitted : (b : Ledger) (edit : Edit) → edit_refusal b edit ≡ None → (refusal b.limits (present b) edit ≡ None) × (no_room b.entries 1 ≡ None)
-edit_admitted b edit h = or_none _ _ (sym (edit_refusal-first b edit) ∙ h)
+pub edit_admitted : (b : Ledger) (batch : List Edit) → edit_refusal b batch ≡ None → (refusal b.limits (present b) batch ≡ None) × (no_room b.entries 1 ≡ None)
+edit_admitted b batch h = or_none _ _ (sym (edit_refusal-first b batch) ∙ h)
 
 map_none : (n : ℕ) (o : Option Applied) → option_map (λ f. Conflict n f.number) o ≡ None → o ≡ None
 map_none n None h = refl

@@ -1,12 +1,12 @@
 -- What an edit and an undo leave of a sound ledger.
-use Rattle.std.proofs.Common.{◌≡◌, ℕ, ◌+◌, refl, sym, subst, ◌∙◌, ap, None, length}
+use Rattle.std.proofs.Common.{◌≡◌, ℕ, ◌+◌, List, refl, sym, subst, ◌∙◌, ap, None, length}
 use Rattle.std.specs.Prelude.{◌==◌}
 use Rattle.tsn_edit.specs.declared.Edit.{Edit}
-use Rattle.tsn_edit.specs.declared.Edit.TheVariants.{Create, Replace, Remove}
-use Rattle.tsn_edit.specs.Configuration.{Configuration, IsWellKept}
-use Rattle.tsn_edit.specs.Changes.{Fits, after_change}
-use Rattle.tsn_edit.specs.Edits.{change_of, result}
+use Rattle.tsn_edit.specs.Batches.{IsBatch, change_of}
+use Rattle.tsn_edit.specs.Configuration.{IsWellKept}
+use Rattle.tsn_edit.specs.Changes.{Fits}
 use Rattle.tsn_edit.specs.Runs.{run, IsGood}
+use Rattle.tsn_edit.proofs.InOrder.{change_is_result}
 use Rattle.tsn_edit.proofs.Inverses.{end_kept}
 use Rattle.tsn_journal.specs.declared.entries.What.TheVariants.{Made}
 use Rattle.tsn_journal.specs.Entries.{applies, changes, collect, standing, undone, with_entry}
@@ -26,22 +26,17 @@ kept_now b sound = end_kept b.limits b.opening (changes (collect applies b.entri
 
 -- ---- an edit
 
-pub changed_is_result : (c : Configuration) (edit : Edit) → after_change c (change_of c edit) ≡ result c edit
-changed_is_result c (Create k r) = refl
-changed_is_result c (Replace k r) = refl
-changed_is_result c (Remove k) = refl
+module _ (b : Ledger) (s : ℕ) (batch : List Edit) (sound : SoundLedger b) (fits : Fits b.limits (present b) (change_of (present b) batch)) where
+  pub edit_sound : IsSound b.limits b.opening (with_entry b.entries s (Made (change_of (present b) batch)))
+  edit_sound = sound_added b.limits b.opening b.entries s (Made (change_of (present b) batch)) sound (λ n. refl) (change_of (present b) batch) refl refl fits
 
-module _ (b : Ledger) (s : ℕ) (edit : Edit) (sound : SoundLedger b) (fits : Fits b.limits (present b) (change_of (present b) edit)) where
-  pub edit_sound : IsSound b.limits b.opening (with_entry b.entries s (Made (change_of (present b) edit)))
-  edit_sound = sound_added b.limits b.opening b.entries s (Made (change_of (present b) edit)) sound (λ n. refl) (change_of (present b) edit) refl refl fits
-
-  pub makes_edit : edit_refusal b edit ≡ None → (number : ℕ) (new : Ledger) → number ≡ length b.entries + 1 → new ≡ enter b s (Made (change_of (present b) edit)) → Edits b s edit number new
-  makes_edit admitted number new number_is after = record {
+  pub makes_edit : IsBatch batch → edit_refusal b batch ≡ None → (number : ℕ) (new : Ledger) → number ≡ length b.entries + 1 → new ≡ enter b s (Made (change_of (present b) batch)) → Edits b s batch number new
+  makes_edit is admitted number new number_is after = record {
     admitted = admitted;
     fits = fits;
     number_is = number_is;
     after = after;
-    map = ap present after ∙ configuration_push b.opening b.entries s (Made (change_of (present b) edit)) (change_of (present b) edit) refl ∙ changed_is_result (present b) edit;
+    map = ap present after ∙ configuration_push b.opening b.entries s (Made (change_of (present b) batch)) (change_of (present b) batch) refl ∙ change_is_result (present b) batch is;
   }
 
 -- ---- an undo

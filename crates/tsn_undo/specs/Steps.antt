@@ -1,11 +1,11 @@
--- What an edit and an undo do to a book, and why they are refused.
+-- What an edit and an undo do to a book, and why they are refused. An edit is a batch: of one edit, or of several at once.
 use Rattle.std.specs.Prelude.{◌≡◌, ℕ, ◌+◌, ◌==◌, not, filter, List, [], ◌∷◌, Option, Some, None, option_map, length}
 use Rattle.tsn_types.specs.declared.refusals.Refusal.{Refusal}
 use Rattle.tsn_types.specs.declared.refusals.Refusal.TheVariants.{NothingToUndo, Conflict}
 use Rattle.tsn_types.specs.Refusals.{least}
 use Rattle.tsn_edit.specs.declared.Edit.{Edit}
+use Rattle.tsn_edit.specs.Batches.{change_of, refusal, result}
 use Rattle.tsn_edit.specs.Changes.{Fits, restored}
-use Rattle.tsn_edit.specs.Edits.{change_of, refusal, result}
 use Rattle.tsn_edit.specs.Parts.{inverse}
 use Rattle.tsn_edit.specs.Runs.{run, IsGood}
 use Rattle.tsn_journal.specs.declared.entries.Entry.{Entry}
@@ -15,8 +15,8 @@ use Rattle.tsn_journal.specs.Finding.{find_conflict, last_of}
 use Rattle.tsn_undo.specs.Ledger.{Ledger, base_of, enter, present}
 
 -- why an edit is refused: by the configuration, or by a full journal
-abbrev pub edit_refusal : Ledger → Edit → Option Refusal
-edit_refusal b edit = least (refusal b.limits (present b) edit ∷ no_room b.entries 1 ∷ [])
+abbrev pub edit_refusal : Ledger → List Edit → Option Refusal
+edit_refusal b batch = least (refusal b.limits (present b) batch ∷ no_room b.entries 1 ∷ [])
 
 -- the latest later standing entry in conflict with e, named with it
 abbrev pub conflict_with : List Entry → Applied → Option Refusal
@@ -31,13 +31,13 @@ undo_cause es (Some e) = conflict_with es e
 abbrev pub undo_refusal : Ledger → ℕ → Option Refusal
 undo_refusal b s = least (undo_cause b.entries (last_of b.entries s) ∷ no_room b.entries 1 ∷ [])
 
--- an admitted edit makes one entry, with the edit's change, and the map is the edit's result
-pub record Edits (b : Ledger) (s : ℕ) (edit : Edit) (number : ℕ) (new : Ledger) : Type 0 where
-  pub admitted : edit_refusal b edit ≡ None
-  pub fits : Fits b.limits (present b) (change_of (present b) edit)
+-- an admitted batch makes one entry, with the batch's change, and the map is what all its edits make
+pub record Edits (b : Ledger) (s : ℕ) (batch : List Edit) (number : ℕ) (new : Ledger) : Type 0 where
+  pub admitted : edit_refusal b batch ≡ None
+  pub fits : Fits b.limits (present b) (change_of (present b) batch)
   pub number_is : number ≡ length b.entries + 1
-  pub after : new ≡ enter b s (Made (change_of (present b) edit))
-  pub map : present new ≡ result (present b) edit
+  pub after : new ≡ enter b s (Made (change_of (present b) batch))
+  pub map : present new ≡ result (present b) batch
 
 -- the standing entries but the one of the number
 abbrev pub standing_without : List Entry → ℕ → List Applied

@@ -22,7 +22,8 @@ ghost use Rattle.tsn_undo.specs.Steps.{Edits, IsFree, TakesBack, edit_refusal, u
 use std::alloc::{AllocError, Global};
 use std::marker::Model;
 use tsn_config::Config;
-use tsn_edit::{Change, Edit};
+use tsn_edit::Change;
+use tsn_edit::batches::Batch;
 use tsn_journal::entries::{Act, What};
 use tsn_journal::journal::{Journal, MOST_ENTRIES};
 use tsn_types::keys::Key;
@@ -123,18 +124,18 @@ impl Book {
         Ok(())
     }
 
-    /// Makes the edit and its entry, whose number is the answer. It is refused 3, 4 or 6 to 9 as the configuration
-    /// says, then 17 where the journal is full, then 18; refused, it has changed nothing.
-    pub fn edit(&mut self, session: u32, edit: Edit) -> Result<u64, Refusal>
-        ensures ok { IfOk result (λ number. Edits self.old.ledger session edit number self.new.ledger) }
-        ensures refused { IfErr result (λ why. IsLeastOrMemory (edit_refusal self.old.ledger edit) why) }
+    /// Makes the edits of the batch and one entry, whose number is the answer. It is refused 3, 4 or 6 to 9 as the
+    /// configuration says, then 17 where the journal is full, then 18; refused, it has changed nothing.
+    pub fn edit(&mut self, session: u32, batch: Batch) -> Result<u64, Refusal>
+        ensures ok { IfOk result (λ number. Edits self.old.ledger session batch number self.new.ledger) }
+        ensures refused { IfErr result (λ why. IsLeastOrMemory (edit_refusal self.old.ledger batch) why) }
         ensures unchanged { OnErr result (self.new.ledger ≡ self.old.ledger) }
         ensures kept { OnErr result (Takes self.old.room 0 0 self.new.room) }
     {
-        if let Some(why) = self.refuse_edit(&edit) {
+        if let Some(why) = self.refuse_edit(&batch) {
             return Err(why);
         }
-        self.try_edit(session, edit)
+        self.try_edit(session, batch)
     }
 
     /// Takes back the session's newest standing entry. The answer is the number of the entry that this makes and of
@@ -176,11 +177,11 @@ impl Book {
         Ok(self.enter_act(session, act, key, now))
     }
 
-    /// Why the edit would be refused, but for want of memory. It takes no memory.
-    pub fn refuse_edit(&self, edit: &Edit) -> Option<Refusal>
-        ensures { result ≡ edit_refusal self.now.ledger edit.now }
+    /// Why the batch would be refused, but for want of memory. It takes no memory.
+    pub fn refuse_edit(&self, batch: &Batch) -> Option<Refusal>
+        ensures { result ≡ edit_refusal self.now.ledger batch.now }
     {
-        if let Some(why) = self.config().check(edit) {
+        if let Some(why) = self.config().check(batch) {
             return Some(why);
         }
         self.refuse_entries(1)
@@ -223,15 +224,17 @@ impl Book {
         Ok(own)
     }
 
-    /// Makes an edit that nothing but want of memory refuses.
-    fn try_edit(&mut self, session: u32, edit: Edit) -> Result<u64, Refusal>
-        requires { edit_refusal self.old.ledger edit ≡ None }
-        ensures ok { IfOk result (λ number. Edits self.old.ledger session edit number self.new.ledger) }
+    /// Makes edits that nothing but want of memory refuses.
+    fn try_edit(&mut self, session: u32, batch: Batch) -> Result<u64, Refusal>
+        requires { edit_refusal self.old.ledger batch ≡ None }
+        ensures ok { IfOk result (λ number. Edits self.old.ledger session batch number self.new.ledger) }
         ensures memory { IfErr result (λ why. why ≡ Memory) }
         ensures unchanged { OnErr result (self.new.ledger ≡ self.old.ledger) }
         ensures kept { OnErr result (Takes self.old.room 0 0 self.new.room) }
     {
-        let change = self.config().change_of(edit)?;
+        // That the keys are distinct is the type's rule, which the proof has where the edits are looked at.
+        let _ = batch.edits();
+        let change = self.config().change_of(batch)?;
         let copy = change.try_clone()?;
         if let Err(why) = self.reserve_parts(1, change.parts().len()) {
             return Err(why);

@@ -20,9 +20,9 @@ ghost use Rattle.tsn_undo.specs.UndoAll.{BlocksAll, TakesAllBack, others_alone, 
 /// An accepted edit that the same session at once undoes is the one that is taken back, and the configuration is then
 /// the one before the edit: the whole map, every member of every record. Every book is sound, as `Book::config` says.
 pub fn edit_at_once_undone()
-    ensures { (before edited after : Ledger) (session : ℕ) (edit : AnyEdit) (entry number of : ℕ) →
+    ensures { (before edited after : Ledger) (session : ℕ) (batch : List AnyEdit) (entry number of : ℕ) →
         IsSound before.limits before.opening before.entries →
-        Edits before session edit entry edited →
+        Edits before session batch entry edited →
         TakesBack edited session number of after →
         (of ≡ entry) × (present after ≡ present before) }
 {}
@@ -30,9 +30,9 @@ pub fn edit_at_once_undone()
 /// Such an undo always has something to take back and never a conflict: a full journal alone refuses it, or want of
 /// memory, as it does any undo.
 pub fn undo_at_once_is_free()
-    ensures { (before edited : Ledger) (session : ℕ) (edit : AnyEdit) (entry : ℕ) →
+    ensures { (before edited : Ledger) (session : ℕ) (batch : List AnyEdit) (entry : ℕ) →
         IsSound before.limits before.opening before.entries →
-        Edits before session edit entry edited →
+        Edits before session batch entry edited →
         undo_refusal edited session ≡ no_room edited.entries 1 }
 {}
 

@@ -1,6 +1,6 @@
 use Rattle.std.proofs.Common.{◌≡◌, ◌+◌, refl, sym, ◌∙◌, ap, subst, length}
 use Rattle.tsn_edit.specs.Changes.{Fits}
-use Rattle.tsn_edit.specs.Edits.{change_of, refusal}
+use Rattle.tsn_edit.specs.Batches.{change_of, refusal}
 use Rattle.tsn_edit.specs.Parts.{Change}
 use Rattle.tsn_edit.specs.Configuration.{Configuration}
 use Rattle.tsn_types.specs.declared.limits.Limits.{Limits}
@@ -13,10 +13,10 @@ use Rattle.tsn_undo.proofs.Making.{edit_sound, makes_edit}
 use Rattle.tsn_undo.proofs.book.Book.try_edit.Goals as goal
 
 pub change_of-requires : goal.change_of-requires
-change_of-requires c = (λ i. refusal (c.config.ensures.limits i) (c.config.ensures.map i) c.args.edit) ∙ (edit_admitted c.args.self.now.ledger c.args.edit c.requires).0
+change_of-requires c = (λ i. refusal (c.config.ensures.limits i) (c.config.ensures.map i) c.args.batch) ∙ (edit_admitted c.args.self.now.ledger c.args.batch c.requires).0
 
 pub returns-in-Err-clause-memory : goal.returns-in-Err-clause-memory
-returns-in-Err-clause-memory c = is_memory _ c.in-Err.why (edit_admitted c.args.self.now.ledger c.args.edit c.requires).1 c.in-Err.ensures.refused
+returns-in-Err-clause-memory c = is_memory _ c.in-Err.why (edit_admitted c.args.self.now.ledger c.args.batch c.requires).1 c.in-Err.ensures.refused
 
 -- the change of an admitted edit fits the book's own map, under one name and the other
 fits_own : (l l' : Limits) (m m' : Configuration) (e e' : Change) → l ≡ l' → m ≡ m' → e ≡ e' → Fits l m e → Fits l' m' e'
@@ -30,15 +30,15 @@ append-requires-clause-fits c =
 pub append-requires-clause-sound : goal.append-requires-clause-sound
 append-requires-clause-sound c =
     let b = c.args.self.now.ledger in
-    let copy : c.in_ok-copy.copy ≡ change_of (present b) c.args.edit = c.in_ok-copy.ensures ∙ c.in_ok-change.ensures.change ∙ ap (λ m. change_of m c.args.edit) c.config.ensures.map in
-    let fits = fits_own _ _ _ _ _ _ c.config.ensures.limits c.config.ensures.map (c.in_ok-change.ensures.change ∙ ap (λ m. change_of m c.args.edit) c.config.ensures.map) c.in_ok-change.ensures.fits in
-    subst (λ (t : Ledger × Change). IsSound t.0.limits t.0.opening (with_entry t.0.entries c.args.session (Made t.1))) (λ i. (sym c.reserve_parts.ensures.ledger i, sym copy i)) (edit_sound b c.args.session c.args.edit c.config.ensures.sound fits)
+    let copy : c.in_ok-copy.copy ≡ change_of (present b) c.args.batch = c.in_ok-copy.ensures ∙ c.in_ok-change.ensures.change ∙ ap (λ m. change_of m c.args.batch) c.config.ensures.map in
+    let fits = fits_own _ _ _ _ _ _ c.config.ensures.limits c.config.ensures.map (c.in_ok-change.ensures.change ∙ ap (λ m. change_of m c.args.batch) c.config.ensures.map) c.in_ok-change.ensures.fits in
+    subst (λ (t : Ledger × Change). IsSound t.0.limits t.0.opening (with_entry t.0.entries c.args.session (Made t.1))) (λ i. (sym c.reserve_parts.ensures.ledger i, sym copy i)) (edit_sound b c.args.session c.args.batch c.config.ensures.sound fits)
 
 pub returns-clause-ok : goal.returns-clause-ok
 returns-clause-ok c =
     let b = c.args.self.now.ledger in
-    let copy : c.in_ok-copy.copy ≡ change_of (present b) c.args.edit = c.in_ok-copy.ensures ∙ c.in_ok-change.ensures.change ∙ ap (λ m. change_of m c.args.edit) c.config.ensures.map in
-    let fits = fits_own _ _ _ _ _ _ c.config.ensures.limits c.config.ensures.map (c.in_ok-change.ensures.change ∙ ap (λ m. change_of m c.args.edit) c.config.ensures.map) c.in_ok-change.ensures.fits in
-    makes_edit b c.args.session c.args.edit c.config.ensures.sound fits c.requires c.append.result c.append.new.self.ledger
+    let copy : c.in_ok-copy.copy ≡ change_of (present b) c.args.batch = c.in_ok-copy.ensures ∙ c.in_ok-change.ensures.change ∙ ap (λ m. change_of m c.args.batch) c.config.ensures.map in
+    let fits = fits_own _ _ _ _ _ _ c.config.ensures.limits c.config.ensures.map (c.in_ok-change.ensures.change ∙ ap (λ m. change_of m c.args.batch) c.config.ensures.map) c.in_ok-change.ensures.fits in
+    makes_edit b c.args.session c.args.batch c.config.ensures.sound fits c.edits.ensures.batch c.requires c.append.result c.append.new.self.ledger
     (c.append.ensures.number ∙ ap (λ (l : Ledger). length l.entries + 1) c.reserve_parts.ensures.ledger)
     (c.append.ensures.after ∙ (λ i. enter (c.reserve_parts.ensures.ledger i) c.args.session (Made (copy i))))

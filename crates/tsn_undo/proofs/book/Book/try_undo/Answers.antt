@@ -5,7 +5,6 @@ use Rattle.tsn_edit.specs.Parts.{Change, inverse}
 use Rattle.tsn_journal.specs.declared.entries.What.{What}
 use Rattle.tsn_journal.specs.declared.entries.What.TheVariants.{Undone}
 use Rattle.tsn_journal.specs.Entries.{with_entry}
-use Rattle.tsn_journal.specs.Finding.{change_at}
 use Rattle.tsn_undo.specs.declared.book.TakingBack.{TakingBack}
 use Rattle.tsn_undo.specs.Ledger.{Ledger, LedgerWithRoom, enter, present}
 use Rattle.tsn_undo.specs.Soundness.{IsSound}
