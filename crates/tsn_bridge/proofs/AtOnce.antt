@@ -1,16 +1,17 @@
 -- The map after a step, and an accepted edit with an undo of the same session after it.
-use Rattle.std.proofs.Common.{◌≡◌, ℕ, ◌+◌, ◌≤◌, Bool, true, false, refl, sym, ◌∙◌, ap, subst, Option, Some, None, inl, inr, length, arith}
+use Rattle.std.proofs.Common.{◌≡◌, ℕ, ◌+◌, ◌≤◌, Bool, true, false, List, refl, sym, ◌∙◌, ap, subst, Option, Some, None, inl, inr, length, arith}
 use Rattle.std.specs.Prelude.{◌&&◌, ◌⊎◌, nat_le, nat_lt, option_map}
 use Rattle.std.proofs.lemmas.Bool.Decides.{nat_tests}
 use Rattle.tsn_types.specs.declared.refusals.Refusal.{Refusal}
 use Rattle.tsn_types.specs.declared.refusals.Refusal.TheVariants.{JournalFull, Memory}
 use Rattle.tsn_types.specs.Limits.{unless}
 use Rattle.tsn_edit.specs.declared.Edit.{Edit}
+use Rattle.tsn_edit.specs.Batches.{EditsInRange, IsBatch, change_of, result}
 use Rattle.tsn_edit.specs.Changes.{Fits, restored}
-use Rattle.tsn_edit.specs.Edits.{EditInRange, change_of, result}
 use Rattle.tsn_edit.specs.Parts.{inverse}
+use Rattle.tsn_edit.proofs.InOrder.{change_is_result}
 use Rattle.tsn_edit.proofs.KeyFacts.{by_option}
-use Rattle.tsn_config.proofs.Edits.{edit_fits}
+use Rattle.tsn_config.proofs.Batches.{batch_fits}
 use Rattle.tsn_journal.specs.declared.entries.What.TheVariants.{Made}
 use Rattle.tsn_journal.specs.Entries.{Applied, most_entries, undone as taken_back}
 use Rattle.tsn_journal.specs.Finding.{last_of}
@@ -20,7 +21,7 @@ use Rattle.tsn_undo.specs.Steps.{Edits, IsFree, edit_refusal, undo_refusal}
 use Rattle.tsn_undo.proofs.Adding.{configuration_push}
 use Rattle.tsn_undo.proofs.AtOnce.{free_at_once, undone_at_once}
 use Rattle.tsn_undo.proofs.Free.{edit_admitted}
-use Rattle.tsn_undo.proofs.Making.{changed_is_result, edit_sound, kept_now, makes_edit, makes_undo}
+use Rattle.tsn_undo.proofs.Making.{edit_sound, kept_now, makes_edit, makes_undo}
 use Rattle.tsn_bridge.specs.declared.reply.Reply.{Reply}
 use Rattle.tsn_bridge.specs.declared.reply.Reply.TheVariants.{Entry, EntryOf, Refused}
 use Rattle.tsn_bridge.specs.Edits.{changed_state, edit_rule, next, undo_rule}
@@ -33,16 +34,16 @@ done_of x y h = (cc)
 
 -- ---- an edit that was answered with an entry
 
-pub record IsEdited (before : State) (session : ℕ) (edit : Edit) (entry : ℕ) (after : State) : Type 0 where
+pub record IsEdited (before : State) (session : ℕ) (batch : List Edit) (entry : ℕ) (after : State) : Type 0 where
   pub known : is_given before session ≡ true
-  pub admitted : edit_refusal before.book edit ≡ None
+  pub admitted : edit_refusal before.book batch ≡ None
   pub number_is : entry ≡ next before
-  pub state : after ≡ changed_state before session (Made (change_of (present before.book) edit)) (change_of (present before.book) edit)
+  pub state : after ≡ changed_state before session (Made (change_of (present before.book) batch)) (change_of (present before.book) batch)
 
-pub edited : (before after : State) (session : ℕ) (edit : Edit) (entry : ℕ) → Allows (edit_rule before session edit) before (Entry entry) after → IsEdited before session edit entry after
-edited before after session edit entry step =
-    let is = accepted (edit_rule before session edit) before (Entry entry) after (λ why h. (cc)) step in
-    let causes = was_given (is_given before session) (edit_refusal before.book edit) is.0 in
+pub edited : (before after : State) (session : ℕ) (batch : List Edit) (entry : ℕ) → Allows (edit_rule before session batch) before (Entry entry) after → IsEdited before session batch entry after
+edited before after session batch entry step =
+    let is = accepted (edit_rule before session batch) before (Entry entry) after (λ why h. (cc)) step in
+    let causes = was_given (is_given before session) (edit_refusal before.book batch) is.0 in
     let pair = done_of _ _ is.1 in
     let reply : Entry (next before) ≡ Entry entry = ap (λ (p : Reply × State). p.0) pair in
     record { known = causes.0; admitted = causes.1; number_is = (cc); state = sym (ap (λ (p : Reply × State). p.1) pair) }
@@ -80,12 +81,12 @@ taken before after session number of step =
 
 -- ---- the map after
 
-pub edited_map : (before after : State) (session : ℕ) (edit : Edit) (entry : ℕ) → Allows (edit_rule before session edit) before (Entry entry) after → present after.book ≡ result (present before.book) edit
-edited_map before after session edit entry step =
-    let e = change_of (present before.book) edit in
-    ap (λ (s : State). present s.book) (edited before after session edit entry step).state
+pub edited_map : (before after : State) (session : ℕ) (batch : List Edit) (entry : ℕ) → IsBatch batch → Allows (edit_rule before session batch) before (Entry entry) after → present after.book ≡ result (present before.book) batch
+edited_map before after session batch entry is step =
+    let e = change_of (present before.book) batch in
+    ap (λ (s : State). present s.book) (edited before after session batch entry step).state
     ∙ configuration_push before.book.opening before.book.entries session (Made e) e refl
-    ∙ changed_is_result (present before.book) edit
+    ∙ change_is_result (present before.book) batch is
 
 pub taken_map : (before after : State) (session number of : ℕ) → Allows (undo_rule before session) before (EntryOf number of) after
     → (x : Applied) × (last_of before.book.entries session ≡ Some x) × (of ≡ x.number) × (present after.book ≡ restored (present before.book) x.change)
@@ -100,23 +101,23 @@ taken_map before after session number of step =
 
 -- ---- an edit, and an undo of the same session after it
 
-module _ (before edited' between : State) (session : ℕ) (edit : Edit) (entry : ℕ) (ranges : EditInRange edit) (sound : IsSound before.book.limits before.book.opening before.book.entries)
-    (made' : Allows (edit_rule before session edit) before (Entry entry) edited') (same : between.book ≡ edited'.book) where
-  fits_now : Fits before.book.limits (present before.book) (change_of (present before.book) edit)
-  fits_now = edit_fits before.book.limits (present before.book) (kept_now before.book sound) edit ranges (edit_admitted before.book edit (edited before edited' session edit entry made').admitted).0
+module _ (before edited' between : State) (session : ℕ) (batch : List Edit) (entry : ℕ) (is_batch : IsBatch batch) (ranges : EditsInRange batch) (sound : IsSound before.book.limits before.book.opening before.book.entries)
+    (made' : Allows (edit_rule before session batch) before (Entry entry) edited') (same : between.book ≡ edited'.book) where
+  fits_now : Fits before.book.limits (present before.book) (change_of (present before.book) batch)
+  fits_now = batch_fits before.book.limits (present before.book) (kept_now before.book sound) batch is_batch ranges (edit_admitted before.book batch (edited before edited' session batch entry made').admitted).0
 
-  makes : Edits before.book session edit entry between.book
+  makes : Edits before.book session batch entry between.book
   makes =
-      let is = edited before edited' session edit entry made' in
-      makes_edit before.book session edit sound fits_now is.admitted entry between.book is.number_is (same ∙ ap (λ (s : State). s.book) is.state)
+      let is = edited before edited' session batch entry made' in
+      makes_edit before.book session batch sound fits_now is_batch is.admitted entry between.book is.number_is (same ∙ ap (λ (s : State). s.book) is.state)
 
   sound_between : IsSound between.book.limits between.book.opening between.book.entries
-  sound_between = subst (λ (b : Ledger). IsSound b.limits b.opening b.entries) (sym makes.after) (edit_sound before.book session edit sound fits_now)
+  sound_between = subst (λ (b : Ledger). IsSound b.limits b.opening b.entries) (sym makes.after) (edit_sound before.book session batch sound fits_now)
 
   pub undone : (after : State) (number of : ℕ) → Allows (undo_rule between session) between (EntryOf number of) after → (of ≡ entry) × (present after.book ≡ present before.book)
   undone after number of back =
       let is = taken between after session number of back in
-      undone_at_once before.book between.book after.book session edit entry number of sound makes
+      undone_at_once before.book between.book after.book session batch entry number of sound makes
       (makes_undo between.book session of sound_between is.free number after.book is.number_is (ap (λ (s : State). s.book) is.state))
 
   still : (k n m : ℕ) → n ≤ m → (nat_lt 0 k && nat_le k n) ≡ true → (nat_lt 0 k && nat_le k m) ≡ true
@@ -128,10 +129,10 @@ module _ (before edited' between : State) (session : ℕ) (edit : Edit) (entry :
 
   pub free : edited'.sessions ≤ between.sessions → (after : State) (why : Refusal) → Allows (undo_rule between session) between (Refused why) after → (why ≡ JournalFull) ⊎ (why ≡ Memory)
   free more after why back =
-      let is = edited before edited' session edit entry made' in
+      let is = edited before edited' session batch entry made' in
       let known : is_given edited' session ≡ true = ap (λ (s : State). is_given s session) is.state ∙ is.known in
       let causes = given (is_given between session) (undo_refusal between.book session) (still session edited'.sessions between.sessions more known)
-      ∙ free_at_once before.book between.book session edit entry sound makes in
+      ∙ free_at_once before.book between.book session batch entry sound makes in
       elim (refused (undo_rule between session) between after why
       (λ done. no_refusal between session (last_of between.book.entries session) why after done) back) as (λ _. (why ≡ JournalFull) ⊎ (why ≡ Memory)) [
         | inl cause ↦ inl (only_full (nat_le (length between.book.entries + 1) most_entries) why (sym causes ∙ cause))

@@ -17,6 +17,7 @@ use Rattle.tsn_edit.specs.declared.Edit.TheVariants as edits
 use Rattle.tsn_edit.specs.Changes.{restored}
 use Rattle.tsn_edit.specs.Configuration.{Configuration}
 use Rattle.tsn_edit.specs.Edits.{EditInRange}
+use Rattle.tsn_edit.proofs.Batched.{batch_of_one}
 use Rattle.tsn_edit.proofs.Inverses.{get-inverse}
 use Rattle.tsn_edit.proofs.KeyFacts.{before_or, part_on}
 use Rattle.tsn_schedule.specs.Entries.{entry_at}
@@ -63,11 +64,11 @@ module _ (before between : State) (session : ℕ) (edit : Edit) (entry : ℕ) (s
       λ i. record { limits = on.limits i; opening = on.opening i; entries = last.none_since i }
 
   undone_edit : (after : State) (number of : ℕ) → Allows (undo_rule between session) between (EntryOf number of) after → (of ≡ entry) × (present after.book ≡ present before.book)
-  undone_edit after number of back = undone_at_once before last.edited between session edit entry last.ranges sound (made_by before last.edited session edit entry last.step) same_book after number of back
+  undone_edit after number of back = undone_at_once before last.edited between session (edit ∷ []) entry (batch_of_one edit) (last.ranges, tt) sound (made_by before last.edited session edit entry last.step) same_book after number of back
 
   free_edit : (after : State) (why : Refusal) → Allows (undo_rule between session) between (Refused why) after → (why ≡ JournalFull) ⊎ (why ≡ Memory)
   free_edit after why back =
-      free before last.edited between session edit entry last.ranges sound (made_by before last.edited session edit entry last.step) same_book
+      free before last.edited between session (edit ∷ []) entry (batch_of_one edit) (last.ranges, tt) sound (made_by before last.edited session edit entry last.step) same_book
       (follow last.asks last.edited between sound_edited last.in_range last.leads).sessions after why back
 
 pub at_once_undone : (s : State) → StateIsSound s → AtOnceUndone s

@@ -9,12 +9,13 @@ use Rattle.tsn_types.specs.declared.refusals.Refusal.TheVariants.{Conflict, Redo
 use Rattle.tsn_types.specs.Refusals.{least}
 use Rattle.tsn_edit.specs.declared.Edit.{Edit}
 use Rattle.tsn_edit.specs.declared.Edit.TheVariants as edits
+use Rattle.tsn_edit.specs.Batches.{EditsInRange, IsBatch, change_of}
 use Rattle.tsn_edit.specs.Changes.{Fits}
-use Rattle.tsn_edit.specs.Edits.{EditInRange, change_of}
 use Rattle.tsn_edit.specs.Parts.{inverse}
+use Rattle.tsn_edit.proofs.Batched.{batch_of_one}
 use Rattle.tsn_edit.proofs.KeyFacts.{by_option}
 use Rattle.tsn_config.specs.Ids.{ids_of}
-use Rattle.tsn_config.proofs.Edits.{edit_fits}
+use Rattle.tsn_config.proofs.Batches.{batch_fits}
 use Rattle.tsn_journal.specs.Entries.{Applied, no_room, redone, undone}
 use Rattle.tsn_journal.specs.Finding.{find_redo_conflict, last_of, own_standing, redo_of, since}
 use Rattle.tsn_undo.specs.Ledger.{Ledger, present}
@@ -80,12 +81,12 @@ by_done rule s reply new sound step f = elim (outcome rule s reply new step) as 
 
 -- ---- each rule
 
-edit_follows : (s : State) (n : ℕ) (edit : Edit) (reply : Reply) (new : State) → StateIsSound s → EditInRange edit → Allows (edit_rule s n edit) s reply new → Follows s new
-edit_follows s n edit reply new sound ranges step = by_done (edit_rule s n edit) s reply new sound step (λ none done.
-    let admitted = (was_given (is_given s n) (edit_refusal s.book edit) none).1 in
-    let fits : Fits s.book.limits (present s.book) (change_of (present s.book) edit) =
-    edit_fits s.book.limits (present s.book) (kept_now s.book sound) edit ranges (edit_admitted s.book edit admitted).0 in
-    subst (Follows s) (state_of _ reply _ new done) (record { sound = edit_sound s.book n edit sound fits; limits = refl; opening = refl; sessions = omega arith }))
+edit_follows : (s : State) (n : ℕ) (batch : List Edit) (reply : Reply) (new : State) → StateIsSound s → IsBatch batch → EditsInRange batch → Allows (edit_rule s n batch) s reply new → Follows s new
+edit_follows s n batch reply new sound is ranges step = by_done (edit_rule s n batch) s reply new sound step (λ none done.
+    let admitted = (was_given (is_given s n) (edit_refusal s.book batch) none).1 in
+    let fits : Fits s.book.limits (present s.book) (change_of (present s.book) batch) =
+    batch_fits s.book.limits (present s.book) (kept_now s.book sound) batch is ranges (edit_admitted s.book batch admitted).0 in
+    subst (Follows s) (state_of _ reply _ new done) (record { sound = edit_sound s.book n batch sound fits; limits = refl; opening = refl; sessions = omega arith }))
 
 undo_follows : (s : State) (n : ℕ) (reply : Reply) (new : State) → StateIsSound s → Allows (undo_rule s n) s reply new → Follows s new
 undo_follows s n reply new sound step = by_done (undo_rule s n) s reply new sound step (λ none done.
@@ -155,9 +156,9 @@ looked_follows s reply new f sound same given (Some x) done =
 pub follows : (s : State) (n : ℕ) (command : Command) (reply : Reply) (new : State) → StateIsSound s → CommandInRange command → Step s n command reply new → Follows s new
 follows s n commands.Hello reply new sound ranges step = by_done (hello_rule s) s reply new sound step (λ none done.
     subst (Follows s) (state_of (Session (s.sessions + 1)) reply (record s { sessions = s.sessions + 1 }) new done) (record { sound = sound; limits = refl; opening = refl; sessions = omega arith }))
-follows s n (commands.Create k r) reply new sound ranges step = edit_follows s n (edits.Create k r) reply new sound ranges step
-follows s n (commands.Replace k r) reply new sound ranges step = edit_follows s n (edits.Replace k r) reply new sound ranges step
-follows s n (commands.Remove k) reply new sound ranges step = edit_follows s n (edits.Remove k) reply new sound ranges step
+follows s n (commands.Create k r) reply new sound ranges step = edit_follows s n (edits.Create k r ∷ []) reply new sound (batch_of_one (edits.Create k r)) (ranges, tt) step
+follows s n (commands.Replace k r) reply new sound ranges step = edit_follows s n (edits.Replace k r ∷ []) reply new sound (batch_of_one (edits.Replace k r)) (ranges, tt) step
+follows s n (commands.Remove k) reply new sound ranges step = edit_follows s n (edits.Remove k ∷ []) reply new sound (batch_of_one (edits.Remove k)) (tt, tt) step
 follows s n commands.Undo reply new sound ranges step = undo_follows s n reply new sound step
 follows s n commands.UndoAll reply new sound ranges step = undo_all_follows s n reply new sound step
 follows s n commands.Redo reply new sound ranges step = redo_follows s n reply new sound step
@@ -189,7 +190,7 @@ all_taken_back s n count entry new sound step =
 
 -- ---- an edit that was answered with an entry
 
-pub made_by : (before edited : State) (session : ℕ) (edit : Edit) (entry : ℕ) → Step before session (command_of edit) (EntryReply entry) edited → Allows (edit_rule before session edit) before (EntryReply entry) edited
+pub made_by : (before edited : State) (session : ℕ) (edit : Edit) (entry : ℕ) → Step before session (command_of edit) (EntryReply entry) edited → Allows (edit_rule before session (edit ∷ [])) before (EntryReply entry) edited
 made_by before edited session (edits.Create k r) entry step = step
 made_by before edited session (edits.Replace k r) entry step = step
 made_by before edited session (edits.Remove k) entry step = step

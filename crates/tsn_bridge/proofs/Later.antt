@@ -16,16 +16,17 @@ use Rattle.tsn_types.specs.Refusals.{least}
 use Rattle.std.proofs.lemmas.Bool.{or_left, or_right}
 use Rattle.tsn_edit.specs.declared.Edit.{Edit}
 use Rattle.tsn_edit.specs.declared.Edit.TheVariants as edits
+use Rattle.tsn_edit.specs.Batches.{EditsInRange, IsBatch, change_of}
 use Rattle.tsn_edit.specs.Changes.{Fits, after_change}
 use Rattle.tsn_edit.specs.Configuration.{Configuration, IsWellKept}
-use Rattle.tsn_edit.specs.Edits.{EditInRange, change_of}
 use Rattle.tsn_edit.specs.Parts.{Change, inverse}
 use Rattle.tsn_edit.specs.Runs.{run}
+use Rattle.tsn_edit.proofs.Batched.{batch_of_one}
 use Rattle.tsn_edit.proofs.KeyFacts.{by_option, same_itself}
 use Rattle.tsn_config.specs.Ids.{ids_of}
 use Rattle.tsn_config.specs.Kinds.{filter_of, gate_of}
 use Rattle.tsn_config.specs.Opening.{dangling_cause, limits_cause, opening, repeated_key}
-use Rattle.tsn_config.proofs.Edits.{edit_fits}
+use Rattle.tsn_config.proofs.Batches.{batch_fits}
 use Rattle.tsn_config.proofs.OpeningKept.{opening_kept}
 use Rattle.tsn_journal.specs.declared.entries.Act.{Act as Asked}
 use Rattle.tsn_journal.specs.declared.entries.Act.TheVariants as asked
@@ -129,12 +130,12 @@ changed_keeps s n w e h apply fits = record {
   later = record { limits = refl; opening = refl; more = record { number = length s.book.entries + 1; session = n; what = w } ∷ []; entries = refl; sessions = omega arith; time = omega arith };
 }
 
-edit_keeps : (s : State) (n : ℕ) (edit : Edit) (reply : Reply) (new : State) → IsWhole s → EditInRange edit → Allows (edit_rule s n edit) s reply new → Keeps s new
-edit_keeps s n edit reply new h ranges step = by_done (edit_rule s n edit) s reply new h step (λ none done.
-    let admitted = (was_given (is_given s n) (edit_refusal s.book edit) none).1 in
-    let fits : Fits s.book.limits (present s.book) (change_of (present s.book) edit) =
-    edit_fits s.book.limits (present s.book) (kept_now s.book h.journal) edit ranges (edit_admitted s.book edit admitted).0 in
-    subst (Keeps s) (state_of _ reply _ new done) (changed_keeps s n (Made (change_of (present s.book) edit)) (change_of (present s.book) edit) h refl fits))
+edit_keeps : (s : State) (n : ℕ) (batch : List Edit) (reply : Reply) (new : State) → IsWhole s → IsBatch batch → EditsInRange batch → Allows (edit_rule s n batch) s reply new → Keeps s new
+edit_keeps s n batch reply new h is ranges step = by_done (edit_rule s n batch) s reply new h step (λ none done.
+    let admitted = (was_given (is_given s n) (edit_refusal s.book batch) none).1 in
+    let fits : Fits s.book.limits (present s.book) (change_of (present s.book) batch) =
+    batch_fits s.book.limits (present s.book) (kept_now s.book h.journal) batch is ranges (edit_admitted s.book batch admitted).0 in
+    subst (Keeps s) (state_of _ reply _ new done) (changed_keeps s n (Made (change_of (present s.book) batch)) (change_of (present s.book) batch) h refl fits))
 
 undo_keeps : (s : State) (n : ℕ) (reply : Reply) (new : State) → IsWhole s → Allows (undo_rule s n) s reply new → Keeps s new
 undo_keeps s n reply new h step = by_done (undo_rule s n) s reply new h step (λ none done.
@@ -288,9 +289,9 @@ keeps s n commands.Hello reply new h ranges step = by_done (hello_rule s) s repl
       acts = λ a. a;
       later = record { limits = refl; opening = refl; more = []; entries = sym (append_nil s.book.entries); sessions = omega arith; time = omega arith };
     }))
-keeps s n (commands.Create k r) reply new h ranges step = edit_keeps s n (edits.Create k r) reply new h ranges step
-keeps s n (commands.Replace k r) reply new h ranges step = edit_keeps s n (edits.Replace k r) reply new h ranges step
-keeps s n (commands.Remove k) reply new h ranges step = edit_keeps s n (edits.Remove k) reply new h ranges step
+keeps s n (commands.Create k r) reply new h ranges step = edit_keeps s n (edits.Create k r ∷ []) reply new h (batch_of_one (edits.Create k r)) (ranges, tt) step
+keeps s n (commands.Replace k r) reply new h ranges step = edit_keeps s n (edits.Replace k r ∷ []) reply new h (batch_of_one (edits.Replace k r)) (ranges, tt) step
+keeps s n (commands.Remove k) reply new h ranges step = edit_keeps s n (edits.Remove k ∷ []) reply new h (batch_of_one (edits.Remove k)) (tt, tt) step
 keeps s n commands.Undo reply new h ranges step = undo_keeps s n reply new h step
 keeps s n commands.UndoAll reply new h ranges step = all_keeps s n h reply new step
 keeps s n commands.Redo reply new h ranges step = redo_keeps s n reply new h step

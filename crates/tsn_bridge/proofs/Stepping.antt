@@ -1,12 +1,12 @@
 -- From what the book did to a step of the machine, and back from a step to what it says.
-use Rattle.std.proofs.Common.{◌≡◌, ◌+◌, ℕ, true, false, Bool, refl, sym, ◌∙◌, ap, subst, [], ◌∷◌, Option, Some, None, inl, inr, length}
+use Rattle.std.proofs.Common.{◌≡◌, ◌+◌, ℕ, true, false, Bool, refl, sym, ◌∙◌, ap, subst, List, [], ◌∷◌, Option, Some, None, inl, inr, length}
 use Rattle.std.specs.Prelude.{MatchOption, ◌⊎◌, IsTrue, cond, nat_lt}
 use Rattle.tsn_types.specs.declared.refusals.Refusal.{Refusal}
 use Rattle.tsn_types.specs.declared.refusals.Refusal.TheVariants.{NoSession, Memory}
 use Rattle.tsn_types.specs.Limits.{unless}
 use Rattle.tsn_types.specs.Refusals.{IsLeastOrMemory, least, number_of}
 use Rattle.tsn_edit.specs.declared.Edit.{Edit}
-use Rattle.tsn_edit.specs.Edits.{change_of}
+use Rattle.tsn_edit.specs.Batches.{change_of}
 use Rattle.tsn_journal.specs.declared.entries.What.TheVariants.{Made}
 use Rattle.tsn_undo.specs.Ledger.{Ledger, present}
 use Rattle.tsn_undo.specs.Steps.{Edits, edit_refusal}
@@ -75,22 +75,22 @@ was_given false (Some why) h = never (nat_lt (number_of why) 5) h
 abbrev pub seen : PairState → ℕ → State
 seen p k = record { book = p.ledger; sessions = k; time = p.time; frames = p.frames }
 
-module _ (p p' : PairState) (k : ℕ) (s : State) (n : ℕ) (edit : Edit) (view : ◌≡◌ {A = State} (seen p k) s) (known : is_given s n ≡ true) where
+module _ (p p' : PairState) (k : ℕ) (s : State) (n : ℕ) (batch : List Edit) (view : ◌≡◌ {A = State} (seen p k) s) (known : is_given s n ≡ true) where
   book : p.ledger ≡ s.book
   book = ap (λ (x : State). x.book) view
 
-  pub edit_step : (entry : ℕ) → Edits p.ledger n edit entry p'.ledger → Follows p (change_of (present p.ledger) edit) p' → Allows (edit_rule s n edit) s (Entry entry) (seen p' k)
+  pub edit_step : (entry : ℕ) → Edits p.ledger n batch entry p'.ledger → Follows p (change_of (present p.ledger) batch) p' → Allows (edit_rule s n batch) s (Entry entry) (seen p' k)
   edit_step entry is follows =
       let number : entry ≡ length s.book.entries + 1 = is.number_is ∙ ap (λ (c : Ledger). length c.entries + 1) book in
-      let left : seen p' k ≡ changed_state s n (Made (change_of (present s.book) edit)) (change_of (present s.book) edit) =
+      let left : seen p' k ≡ changed_state s n (Made (change_of (present s.book) batch)) (change_of (present s.book) batch) =
       (λ i. record { book = is.after i; sessions = k; time = follows.time i; frames = follows.frames i })
-      ∙ ap (λ (x : State). changed_state x n (Made (change_of (present x.book) edit)) (change_of (present x.book) edit)) view in
-      is_done (edit_rule s n edit) s (Entry entry) (seen p' k)
-      (given (is_given s n) (edit_refusal s.book edit) known ∙ ap (λ (c : Ledger). edit_refusal c edit) (sym book) ∙ is.admitted)
+      ∙ ap (λ (x : State). changed_state x n (Made (change_of (present x.book) batch)) (change_of (present x.book) batch)) view in
+      is_done (edit_rule s n batch) s (Entry entry) (seen p' k)
+      (given (is_given s n) (edit_refusal s.book batch) known ∙ ap (λ (c : Ledger). edit_refusal c batch) (sym book) ∙ is.admitted)
       (λ i. Some (Entry (sym number i), sym left i))
 
-  pub edit_refused : (why : Refusal) → IsLeastOrMemory (edit_refusal p.ledger edit) why → p' ≡ p → Allows (edit_rule s n edit) s (Refused why) (seen p' k)
+  pub edit_refused : (why : Refusal) → IsLeastOrMemory (edit_refusal p.ledger batch) why → p' ≡ p → Allows (edit_rule s n batch) s (Refused why) (seen p' k)
   edit_refused why least' same =
-      is_refused (edit_rule s n edit) s (Refused why) (seen p' k) (edit_refusal p.ledger edit) why
-      (given (is_given s n) (edit_refusal s.book edit) known ∙ ap (λ (c : Ledger). edit_refusal c edit) (sym book)) refl least' refl
+      is_refused (edit_rule s n batch) s (Refused why) (seen p' k) (edit_refusal p.ledger batch) why
+      (given (is_given s n) (edit_refusal s.book batch) known ∙ ap (λ (c : Ledger). edit_refusal c batch) (sym book)) refl least' refl
       (ap (λ (q : PairState). seen q k) same ∙ view)

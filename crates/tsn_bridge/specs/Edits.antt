@@ -3,7 +3,7 @@
 use Rattle.std.specs.Prelude.{ℕ, ◌+◌, true, List, [], ◌∷◌, Option, Some, length, option_map}
 use Rattle.tsn_types.specs.declared.refusals.Refusal.{Refusal}
 use Rattle.tsn_edit.specs.declared.Edit.{Edit}
-use Rattle.tsn_edit.specs.Edits.{change_of}
+use Rattle.tsn_edit.specs.Batches.{change_of}
 use Rattle.tsn_edit.specs.Parts.{Change, inverse}
 use Rattle.tsn_chain.specs.Following.{frames_after}
 use Rattle.tsn_journal.specs.declared.entries.What.{What}
@@ -28,11 +28,11 @@ next s = length s.book.entries + 1
 abbrev pub changed_state : State → ℕ → What → Change → State
 changed_state s n w e = record s { book = enter s.book n w; frames = frames_after s.time s.frames e }
 
--- an edit makes one entry, with the edit's change
-abbrev pub edit_rule : State → ℕ → Edit → Rule
-edit_rule s n edit =
-    let e = change_of (present s.book) edit in
-    record { causes = no_session s n ∷ edit_refusal s.book edit ∷ []; done = Some (Entry (next s), changed_state s n (Made e) e); takes_memory = true }
+-- a batch of edits, or of one, makes one entry, with the batch's change
+abbrev pub edit_rule : State → ℕ → List Edit → Rule
+edit_rule s n batch =
+    let e = change_of (present s.book) batch in
+    record { causes = no_session s n ∷ edit_refusal s.book batch ∷ []; done = Some (Entry (next s), changed_state s n (Made e) e); takes_memory = true }
 
 -- an undo makes one entry, which takes back the session's newest standing entry
 abbrev pub undo_rule : State → ℕ → Rule

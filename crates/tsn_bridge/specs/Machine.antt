@@ -1,5 +1,5 @@
 -- The bridge as a machine: what a command of a session may be answered, and the state after it.
-use Rattle.std.specs.Prelude.{ℕ}
+use Rattle.std.specs.Prelude.{ℕ, [], ◌∷◌}
 use Rattle.tsn_edit.specs.declared.Edit.TheVariants as edits
 use Rattle.tsn_bridge.specs.declared.command.Command.{Command}
 use Rattle.tsn_bridge.specs.declared.command.Command.TheVariants as commands
@@ -16,9 +16,9 @@ use Rattle.tsn_bridge.specs.Reads.{list_rule, show_rule, since_rule}
 -- a step of the machine: the command's rule allows the reply and the state after it
 abbrev pub Step : State → ℕ → Command → Reply → State → Type 0
 Step s n commands.Hello reply new = Allows (hello_rule s) s reply new
-Step s n (commands.Create k r) reply new = Allows (edit_rule s n (edits.Create k r)) s reply new
-Step s n (commands.Replace k r) reply new = Allows (edit_rule s n (edits.Replace k r)) s reply new
-Step s n (commands.Remove k) reply new = Allows (edit_rule s n (edits.Remove k)) s reply new
+Step s n (commands.Create k r) reply new = Allows (edit_rule s n (edits.Create k r ∷ [])) s reply new
+Step s n (commands.Replace k r) reply new = Allows (edit_rule s n (edits.Replace k r ∷ [])) s reply new
+Step s n (commands.Remove k) reply new = Allows (edit_rule s n (edits.Remove k ∷ [])) s reply new
 Step s n commands.Undo reply new = Allows (undo_rule s n) s reply new
 Step s n commands.UndoAll reply new = Allows (undo_all_rule s n) s reply new
 Step s n commands.Redo reply new = AllowsRedo s n reply new

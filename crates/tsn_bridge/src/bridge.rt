@@ -34,6 +34,7 @@ use tsn_chain::frame::Frame;
 use tsn_config::Config;
 use tsn_config::records::Records;
 use tsn_edit::Edit;
+use tsn_edit::batches::Batch;
 use tsn_journal::entries::Act;
 use tsn_journal::journal::Journal;
 use tsn_schedule::runner::Past;
@@ -118,9 +119,15 @@ impl Bridge {
     {
         match command {
             Command::Hello => self.hello(),
-            Command::Create { key, value } => self.edit(session, Edit::Create(key, value)),
-            Command::Replace { key, value } => self.edit(session, Edit::Replace(key, value)),
-            Command::Remove { key } => self.edit(session, Edit::Remove(key)),
+            Command::Create { key, value } => self.edit(
+                session,
+                Batch::one(Edit::Create(key, value)),
+            ),
+            Command::Replace { key, value } => self.edit(
+                session,
+                Batch::one(Edit::Replace(key, value)),
+            ),
+            Command::Remove { key } => self.edit(session, Batch::one(Edit::Remove(key))),
             Command::Undo => self.undo(session),
             Command::UndoAll => self.undo_all(session),
             Command::Redo => self.redo(session),
@@ -178,13 +185,13 @@ impl Bridge {
         0 < session && session <= self.sessions
     }
 
-    fn edit(&mut self, session: u32, edit: Edit) -> Reply
-        ensures { Allows (edit_rule self.old session edit) self.old result self.new }
+    fn edit(&mut self, session: u32, batch: Batch) -> Reply
+        ensures { Allows (edit_rule self.old session batch) self.old result self.new }
     {
         if !self.is_given(session) {
-            return Reply::Refused(stranger(&self.pair.book().refuse_edit(&edit)));
+            return Reply::Refused(stranger(&self.pair.book().refuse_edit(&batch)));
         }
-        match self.pair.edit(session, edit) {
+        match self.pair.edit(session, batch) {
             Ok(entry) => Reply::Entry { entry },
             Err(why) => Reply::Refused(why),
         }

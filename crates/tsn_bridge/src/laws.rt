@@ -12,8 +12,8 @@ ghost use Rattle.tsn_types.specs.declared.refusals.Refusal.{Refusal as AnyRefusa
 ghost use Rattle.tsn_types.specs.declared.refusals.Refusal.TheVariants.{JournalFull, Memory};
 ghost use Rattle.tsn_types.specs.declared.keys.Kind.TheVariants as kinds;
 ghost use Rattle.tsn_edit.specs.declared.Edit.{Edit as AnyEdit};
+ghost use Rattle.tsn_edit.specs.Batches.{EditsInRange, IsBatch, result as edit_result};
 ghost use Rattle.tsn_edit.specs.Changes.{restored};
-ghost use Rattle.tsn_edit.specs.Edits.{EditInRange, result as edit_result};
 ghost use Rattle.tsn_config.specs.Ids.{ids_of};
 ghost use Rattle.tsn_journal.specs.Entries.{Applied, standing};
 ghost use Rattle.tsn_journal.specs.Finding.{last_of, others_standing, own_standing};
@@ -94,36 +94,39 @@ pub fn limits()
     ensures { MOST_SESSIONS ≡ most_sessions }
 {}
 
-/// The map after a step. An edit that was answered with an entry leaves its result: the map before with the key's
+/// The map after a step. Edits that were answered with an entry leave their result: the map before with each key's
 /// record, or without one. An undo that was answered with an entry took back the session's newest standing entry, and
-/// leaves the map before with the value before that entry put back at its key.
+/// leaves the map before with the values before that entry put back at its keys.
 pub fn maps_after_steps()
-    ensures edit { (before after : State) (session : ℕ) (edit : AnyEdit) (entry : ℕ) →
-        Allows (edit_rule before session edit) before (Entry entry) after →
-        present after.book ≡ edit_result (present before.book) edit }
+    ensures edit { (before after : State) (session : ℕ) (batch : List AnyEdit) (entry : ℕ) →
+        IsBatch batch →
+        Allows (edit_rule before session batch) before (Entry entry) after →
+        present after.book ≡ edit_result (present before.book) batch }
     ensures undo { (before after : State) (session : ℕ) (number of : ℕ) →
         Allows (undo_rule before session) before (EntryOf number of) after →
         (x : Applied) × (last_of before.book.entries session ≡ Some x) × (of ≡ x.number)
         × (present after.book ≡ restored (present before.book) x.change) }
 {}
 
-/// A session's edit that was answered with an entry, and the same session's undo after it, with no entry between: only
-/// sessions may have been given out. Where the undo is answered with an entry, it took that edit back, and the
-/// configuration is the one before the edit: the whole map, every member of every record. It is refused only where the
-/// journal is full or memory was wanting. Every bridge is sound, as `Bridge::config` says, and the numbers of every
-/// edit are in their ranges, as `Edit::tell_ranges` says.
+/// A session's edit, of one record or of several at once, that was answered with an entry, and the same session's undo
+/// after it, with no entry between: only sessions may have been given out. Where the undo is answered with an entry, it
+/// took that edit back, and the configuration is the one before the edit: the whole map, every member of every record. It
+/// is refused only where the journal is full or memory was wanting. Every bridge is sound, as `Bridge::config` says; that
+/// a batch's keys are distinct and its numbers are in their ranges is said by `Batch::tell_ranges`.
 pub fn edit_at_once_undone()
-    ensures undone { (before edited between after : State) (session : ℕ) (edit : AnyEdit) (entry number of : ℕ) →
-        EditInRange edit →
+    ensures undone { (before edited between after : State) (session : ℕ) (batch : List AnyEdit) (entry number of : ℕ) →
+        IsBatch batch →
+        EditsInRange batch →
         IsSound before.book.limits before.book.opening before.book.entries →
-        Allows (edit_rule before session edit) before (Entry entry) edited →
+        Allows (edit_rule before session batch) before (Entry entry) edited →
         between.book ≡ edited.book →
         Allows (undo_rule between session) between (EntryOf number of) after →
         (of ≡ entry) × (present after.book ≡ present before.book) }
-    ensures refused { (before edited between after : State) (session : ℕ) (edit : AnyEdit) (entry : ℕ) (why : AnyRefusal) →
-        EditInRange edit →
+    ensures refused { (before edited between after : State) (session : ℕ) (batch : List AnyEdit) (entry : ℕ) (why : AnyRefusal) →
+        IsBatch batch →
+        EditsInRange batch →
         IsSound before.book.limits before.book.opening before.book.entries →
-        Allows (edit_rule before session edit) before (Entry entry) edited →
+        Allows (edit_rule before session batch) before (Entry entry) edited →
         between.book ≡ edited.book →
         edited.sessions ≤ between.sessions →
         Allows (undo_rule between session) between (Refused why) after →

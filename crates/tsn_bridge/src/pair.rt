@@ -6,7 +6,7 @@ ghost use Rattle.std.specs.Prelude.{◌≡◌, ◌+◌, ◌≤◌, ◌<◌, ◌+
 ghost use Rattle.std.specs.FinMap as map;
 ghost use Rattle.tsn_types.specs.Limits.{first_cause};
 ghost use Rattle.tsn_types.specs.Refusals.{IsLeastOrMemory};
-ghost use Rattle.tsn_edit.specs.Edits.{change_of};
+ghost use Rattle.tsn_edit.specs.Batches.{change_of};
 ghost use Rattle.tsn_edit.specs.Parts.{inverse};
 ghost use Rattle.tsn_chain.specs.Begun.{begun_frames};
 ghost use Rattle.tsn_chain.specs.Following.{frames_after, runners_after};
@@ -31,7 +31,8 @@ use tsn_chain::frame::{Frame, Verdict};
 use tsn_chain::runtime::{Runtime, police};
 use tsn_chain::state::{Counters, State};
 use tsn_config::Config;
-use tsn_edit::{Edit, MOST_PARTS};
+use tsn_edit::MOST_PARTS;
+use tsn_edit::batches::Batch;
 use tsn_journal::entries::Act;
 use tsn_journal::journal::Journal;
 use tsn_schedule::runner::Past;
@@ -88,17 +89,17 @@ impl Pair {
         &self.book
     }
 
-    /// Makes an edit, which instance data follows; the answer is its entry.
-    pub fn edit(&mut self, session: u32, edit: Edit) -> Result<u64, Refusal>
-        ensures made { IfOk result (λ number. Edits self.old.ledger session edit number self.new.ledger) }
-        ensures follows { OnOk result (Follows self.old (change_of (present self.old.ledger) edit) self.new) }
-        ensures refused { IfErr result (λ why. IsLeastOrMemory (edit_refusal self.old.ledger edit) why) }
+    /// Makes the edits of a batch, which instance data follows; the answer is their entry.
+    pub fn edit(&mut self, session: u32, batch: Batch) -> Result<u64, Refusal>
+        ensures made { IfOk result (λ number. Edits self.old.ledger session batch number self.new.ledger) }
+        ensures follows { OnOk result (Follows self.old (change_of (present self.old.ledger) batch) self.new) }
+        ensures refused { IfErr result (λ why. IsLeastOrMemory (edit_refusal self.old.ledger batch) why) }
         ensures unchanged { OnErr result (self.new ≡ self.old) }
     {
         if self.runtime.reserve(MOST_PARTS).is_err() {
-            return Err(self.book.refuse_edit(&edit).unwrap_or(Refusal::Memory));
+            return Err(self.book.refuse_edit(&batch).unwrap_or(Refusal::Memory));
         }
-        let number = self.book.edit(session, edit)?;
+        let number = self.book.edit(session, batch)?;
         let journal = self.book.journal();
         tell_few(journal, number);
         follow(journal, &mut self.runtime, number);
