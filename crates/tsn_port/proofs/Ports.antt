@@ -13,9 +13,10 @@ use Rattle.tsn_types.specs.declared.records.Record.TheVariants as records
 use Rattle.tsn_types.specs.Keys.{same_key}
 use Rattle.tsn_types.specs.Limits.{HoldsRecord}
 use Rattle.tsn_types.specs.Refusals.{least}
+use Rattle.tsn_edit.specs.declared.Edit.{Edit}
 use Rattle.tsn_edit.specs.declared.Edit.TheVariants as edits
 use Rattle.tsn_edit.specs.Configuration.{Configuration, IsWellKept}
-use Rattle.tsn_edit.specs.Edits.{change_of}
+use Rattle.tsn_edit.specs.Batches.{change_of}
 use Rattle.tsn_edit.specs.Parts.{Change, inverse}
 use Rattle.tsn_edit.specs.Runs.{IsGood}
 use Rattle.tsn_edit.proofs.KeyFacts.{one_key}
@@ -158,11 +159,15 @@ module _ (n : ℕ) (s : State) (new : State) (h : ActsOf n s.book) where
       subst (λ (t : State). ActsOf n t.book) (ap (λ (q : Reply × State). q.1) (done_of _ _ done))
       (acts_push n (first n s.book) s.book.entries _ h (acted_history n o act key (instant s now) finds (now_history n s.book h) last)))
 
+  -- a batch of edits makes no act
+  edited_acts : (m : ℕ) (batch : List Edit) (reply : Reply) → Allows (edit_rule s m batch) s reply new → ActsOf n new.book
+  edited_acts m batch reply step = at_once (edit_rule s m batch) reply _ refl (changed n m s.book s.book.entries (Made (change_of (present s.book) batch)) (change_of (present s.book) batch) refl h) step
+
   keeps_acts : (m : ℕ) (command : Command) (reply : Reply) → 1 ≤ n → n ≤ s.book.limits.ports → IsWhole s → ActsAreBy s → Step s m command reply new → ActsOf n new.book
   keeps_acts m commands.Hello reply low high whole by step = at_once (hello_rule s) reply _ refl h step
-  keeps_acts m (commands.Create k r) reply low high whole by step = at_once (edit_rule s m (edits.Create k r)) reply _ refl (changed n m s.book s.book.entries (Made (change_of (present s.book) (edits.Create k r))) (change_of (present s.book) (edits.Create k r)) refl h) step
-  keeps_acts m (commands.Replace k r) reply low high whole by step = at_once (edit_rule s m (edits.Replace k r)) reply _ refl (changed n m s.book s.book.entries (Made (change_of (present s.book) (edits.Replace k r))) (change_of (present s.book) (edits.Replace k r)) refl h) step
-  keeps_acts m (commands.Remove k) reply low high whole by step = at_once (edit_rule s m (edits.Remove k)) reply _ refl (changed n m s.book s.book.entries (Made (change_of (present s.book) (edits.Remove k))) (change_of (present s.book) (edits.Remove k)) refl h) step
+  keeps_acts m (commands.Create k r) reply low high whole by step = edited_acts m (edits.Create k r ∷ []) reply step
+  keeps_acts m (commands.Replace k r) reply low high whole by step = edited_acts m (edits.Replace k r ∷ []) reply step
+  keeps_acts m (commands.Remove k) reply low high whole by step = edited_acts m (edits.Remove k ∷ []) reply step
   keeps_acts m commands.Undo reply low high whole by step =
       by_map (undo_rule s m) reply (λ (x : Applied). (EntryOf (next s) x.number, changed_state s m (undone x) (inverse x.change))) (last_of s.book.entries m) refl
       (λ x _. changed n m s.book s.book.entries (undone x) (inverse x.change) refl h) step
