@@ -15,6 +15,7 @@ use std::process::Abort;
 use std::test::Fail;
 use tsn_config::records::Records;
 use tsn_config::{Config, laws};
+use tsn_edit::batches::Batch;
 use tsn_edit::{Change, Edit, Part};
 use tsn_types::keys::{Key, Kind};
 use tsn_types::limits::Limits;
@@ -165,10 +166,48 @@ fn sixteen_parts_are_made_and_taken_back(rt: HostRuntime) -> Result<(), Fail> {
     })
 }
 
+/// Makes meter 0, filter 3 that refers to it and to gate 0, and gate 0, all at once. The change has the filter first.
+fn make_all_at_once(rt: &impl Abort, alloc: Global, config: &mut Config) -> Result<(), Fail> {
+    let mut edits = Vec::new(alloc);
+    edits.push(Edit::Create(meter_key(0), Record::Meter(meter())))?;
+    edits.push(create_filter(3, filter(0, on_meter(0))))?;
+    edits.push(create_gate(0, gate(alloc)))?;
+    let batch = Batch::new(edits)?;
+    assert!(rt; config.check(&batch).is_none());
+    let change = config.change_of(batch)?;
+    same(rt, &change.parts().len(), &3);
+    same(rt, &change.parts()[0].key, &filter_key(3));
+    make_at_once(rt, config, change)
+}
+
+/// Gate 0 does not go while filter 3 stays, nor where the filter is put on a gate that does not come with it.
+fn is_held(rt: &impl Abort, alloc: Global, config: &Config) -> Result<(), Fail> {
+    let alone = Batch::one(Edit::Remove(gate_key(0)));
+    let by = Some(Refusal::Referred(filter_key(3)));
+    same(rt, &config.check(&alone), &by);
+    let mut edits = Vec::new(alloc);
+    edits.push(Edit::Remove(gate_key(0)))?;
+    edits.push(Edit::Replace(filter_key(3), Record::Filter(filter(1, None))))?;
+    let why = Some(Refusal::Dangling(gate_key(1)));
+    same(rt, &config.check(&Batch::new(edits)?), &why);
+    Ok(())
+}
+
+/// A filter comes with what it refers to, and holds it.
+#[test]
+fn edits_at_once_are_seen_whole(rt: HostRuntime) -> Result<(), Fail> {
+    let alloc = rt.alloc();
+    let limits = Limits::new(2, 16, 16, 16, 16).unwrap();
+    on_a_config(alloc, limits, Records::new(alloc), |config| {
+        make_all_at_once(&rt, alloc, config)?;
+        is_held(&rt, alloc, config)
+    })
+}
+
 #[test]
 fn laws_have_nothing_to_run() {
     laws::change_and_inverse();
-    laws::admitted_edit_fits();
+    laws::admitted_batch_fits();
     laws::kept_is_in_range();
 }
 

@@ -7,6 +7,7 @@ use std::test::Fail;
 use tsn_config::Config;
 use tsn_config::records::Records;
 use tsn_edit::Edit;
+use tsn_edit::batches::Batch;
 use tsn_types::keys::{Key, Kind};
 use tsn_types::limits::Limits;
 use tsn_types::lists::ControlList;
@@ -122,8 +123,9 @@ pub(super) fn meter() -> FlowMeter {
 
 // Checks the edit, and makes its change.
 pub(super) fn make(rt: &impl Abort, config: &mut Config, edit: Edit) -> Result<(), AllocError> {
-    assert!(rt; config.check(&edit).is_none());
-    let change = config.change_of(edit)?;
+    let batch = Batch::one(edit);
+    assert!(rt; config.check(&batch).is_none());
+    let change = config.change_of(batch)?;
     assert!(rt; config.fits(&change));
     config.reserve(1)?;
     config.apply(change);
