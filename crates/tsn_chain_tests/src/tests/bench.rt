@@ -11,6 +11,7 @@ use tsn_chain::runtime::{Runtime, police};
 use tsn_chain::state::Counters;
 use tsn_config::Config;
 use tsn_config::records::Records;
+use tsn_edit::batches::Batch;
 use tsn_edit::{Change, Edit, Part};
 use tsn_types::keys::Key;
 use tsn_types::limits::Limits;
@@ -52,10 +53,11 @@ impl Bench {
 
     /// Makes an edit, or tells that it is refused.
     pub(super) fn edit(&mut self, edit: Edit) -> Result<(), Fail> {
-        if self.config.check(&edit).is_some() {
+        let batch = Batch::one(edit);
+        if self.config.check(&batch).is_some() {
             return Err(Fail::from("refused"));
         }
-        let change = self.config.change_of(edit)?;
+        let change = self.config.change_of(batch)?;
         self.config.reserve(1)?;
         self.runtime.reserve(1)?;
         self.runtime.follow(&change);

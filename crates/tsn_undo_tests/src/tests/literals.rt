@@ -8,6 +8,7 @@ use std::test::Fail;
 use tsn_config::Config;
 use tsn_config::records::Records;
 use tsn_edit::Edit;
+use tsn_edit::batches::Batch;
 use tsn_types::keys::Key;
 use tsn_types::limits::Limits;
 use tsn_types::numbers::{BitRate, MeterId, Octets};
@@ -41,27 +42,27 @@ pub(super) fn meter() -> Record {
     meter_of(1500)
 }
 
-pub(super) fn create_at(key: Key, record: Record) -> Edit {
-    Edit::Create(key, record)
+pub(super) fn create_at(key: Key, record: Record) -> Batch {
+    Batch::one(Edit::Create(key, record))
 }
 
-pub(super) fn replace_at(key: Key, record: Record) -> Edit {
-    Edit::Replace(key, record)
+pub(super) fn replace_at(key: Key, record: Record) -> Batch {
+    Batch::one(Edit::Replace(key, record))
 }
 
-pub(super) fn remove_at(key: Key) -> Edit {
-    Edit::Remove(key)
+pub(super) fn remove_at(key: Key) -> Batch {
+    Batch::one(Edit::Remove(key))
 }
 
 /// The creation of a meter.
-pub(super) fn create(number: u64) -> Edit
+pub(super) fn create(number: u64) -> Batch
     requires { number ≤ 65535 }
 {
     create_at(meter_key(number), meter())
 }
 
 /// The removal of a meter.
-pub(super) fn remove(number: u64) -> Edit
+pub(super) fn remove(number: u64) -> Batch
     requires { number ≤ 65535 }
 {
     remove_at(meter_key(number))
@@ -89,9 +90,9 @@ pub(super) fn fill(book: &mut Book, pairs: u32) -> Result<(), Refusal> {
     Ok(())
 }
 
-/// The edit is entered under this number.
-pub(super) fn enters(rt: &impl Abort, book: &mut Book, session: u32, edit: Edit, entry: u64) {
-    same(rt, &book.edit(session, edit), &Ok(entry));
+/// The batch is entered under this number.
+pub(super) fn enters(rt: &impl Abort, book: &mut Book, session: u32, batch: Batch, entry: u64) {
+    same(rt, &book.edit(session, batch), &Ok(entry));
 }
 
 /// An entry of this number takes back the other.
