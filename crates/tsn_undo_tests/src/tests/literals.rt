@@ -84,7 +84,8 @@ pub(super) fn on_a_book<F: FnOnce(&mut Book) -> Result<(), Fail>>(
 /// Creates meter 1 and takes that back, so many times.
 pub(super) fn fill(book: &mut Book, pairs: u32) -> Result<(), Refusal> {
     for _ in 0..pairs {
-        book.edit(1, create(1))?;
+        let meter_1 = Edit::Create(meter_key(1), meter());
+        book.edit(1, Batch::one(meter_1))?;
         book.undo(1)?;
     }
     Ok(())
