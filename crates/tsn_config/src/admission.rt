@@ -1,4 +1,4 @@
-//! Why edits are refused, that are made at once.
+//! Why edits that are made at once are refused.
 //!
 //! The causes of an edit are tested in the order of their numbers: 3, 4, 6, 7, 8, 9. Of all the edits of a batch the least
 //! cause counts, and of several with that number the one of the first edit. It relies on the rows for look-ups, and on the
