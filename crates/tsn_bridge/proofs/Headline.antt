@@ -14,9 +14,9 @@ use Rattle.tsn_types.specs.declared.refusals.Refusal.{Refusal}
 use Rattle.tsn_types.specs.declared.refusals.Refusal.TheVariants.{JournalFull, Memory}
 use Rattle.tsn_edit.specs.declared.Edit.{Edit}
 use Rattle.tsn_edit.specs.declared.Edit.TheVariants as edits
+use Rattle.tsn_edit.specs.Batches.{EditsInRange, IsBatch}
 use Rattle.tsn_edit.specs.Changes.{restored}
 use Rattle.tsn_edit.specs.Configuration.{Configuration}
-use Rattle.tsn_edit.specs.Edits.{EditInRange}
 use Rattle.tsn_edit.proofs.Batched.{batch_of_one}
 use Rattle.tsn_edit.proofs.Inverses.{get-inverse}
 use Rattle.tsn_edit.proofs.KeyFacts.{before_or, part_on}
@@ -28,19 +28,20 @@ use Rattle.tsn_journal.specs.Finding.{standing_entry}
 use Rattle.tsn_journal.proofs.Standing.{standing_found}
 use Rattle.tsn_undo.specs.Ledger.{present}
 use Rattle.tsn_undo.proofs.Making.{kept_now, makes_undo}
+use Rattle.tsn_bridge.specs.declared.command.Command.{Command}
 use Rattle.tsn_bridge.specs.declared.command.Command.TheVariants as commands
 use Rattle.tsn_bridge.specs.declared.reply.Reply.{Reply}
 use Rattle.tsn_bridge.specs.declared.reply.Reply.TheVariants.{Acted, Entry, EntryOf, Refused}
 use Rattle.tsn_bridge.specs.Acts.{apply_change, apply_rule, has_entry, instant}
 use Rattle.tsn_bridge.specs.Edits.{undo_rule}
 use Rattle.tsn_bridge.specs.Headline.{AtOnceUndone, EditsLast, GateRuns, OthersAlone, OthersLeft, PortRuns, PutsBack, RestoredList}
-use Rattle.tsn_bridge.specs.Histories.{AreInRange, CommandInRange, Leads, StateIsSound, Answered, command_of}
+use Rattle.tsn_bridge.specs.Histories.{AreInRange, CommandInRange, Leads, StateIsSound, Answered, edits_of}
 use Rattle.tsn_bridge.specs.Machine.{Step}
 use Rattle.tsn_bridge.specs.Quiet.{SinceQuiet}
 use Rattle.tsn_bridge.specs.Rule.{Allows}
 use Rattle.tsn_bridge.specs.State.{State}
 use Rattle.tsn_bridge.proofs.AtOnce.{done_of, free, taken, taken_map, undone as undone_at_once}
-use Rattle.tsn_bridge.proofs.Interleaving.{all_taken_back, follow, follows, made_by}
+use Rattle.tsn_bridge.proofs.Interleaving.{all_taken_back, follow, follows, made_by, same_edits}
 use Rattle.tsn_bridge.proofs.KeySteps.{applied_finds}
 use Rattle.tsn_bridge.proofs.Restored.{GoesOn, restored_gate, restored_port}
 use Rattle.tsn_bridge.proofs.Stepping.{accepted}
@@ -48,14 +49,17 @@ use Rattle.tsn_bridge.proofs.WhyNotAll.{not_all}
 
 -- ---- an edit at once undone
 
-command_in_range : (edit : Edit) → EditInRange edit → CommandInRange (command_of edit)
-command_in_range (edits.Create k r) h = h
-command_in_range (edits.Replace k r) h = h
-command_in_range (edits.Remove k) h = tt
+-- the edits of a command in its ranges are a batch in its ranges
+edits_in_range : (command : Command) (batch : List Edit) → edits_of command ≡ Some batch → CommandInRange command → IsBatch batch × EditsInRange batch
+edits_in_range (commands.Create k r) batch is h = subst (λ b. IsBatch b × EditsInRange b) (same_edits is) (batch_of_one (edits.Create k r), (h, tt))
+edits_in_range (commands.Replace k r) batch is h = subst (λ b. IsBatch b × EditsInRange b) (same_edits is) (batch_of_one (edits.Replace k r), (h, tt))
+edits_in_range (commands.Remove k) batch is h = subst (λ b. IsBatch b × EditsInRange b) (same_edits is) (batch_of_one (edits.Remove k), (tt, tt))
+edits_in_range (commands.Batch edits) batch is h = subst (λ b. IsBatch b × EditsInRange b) (same_edits is) h
+edits_in_range command batch is h = (cc)
 
-module _ (before between : State) (session : ℕ) (edit : Edit) (entry : ℕ) (sound : StateIsSound before) (last : EditsLast before between session edit entry) where
+module _ (before between : State) (session : ℕ) (command : Command) (entry : ℕ) (sound : StateIsSound before) (last : EditsLast before between session command entry) where
   sound_edited : StateIsSound last.edited
-  sound_edited = (follows before session (command_of edit) (Entry entry) last.edited sound (command_in_range edit last.ranges) last.step).sound
+  sound_edited = (follows before session command (Entry entry) last.edited sound last.ranges last.step).sound
 
   -- nothing came into the book since
   same_book : between.book ≡ last.edited.book
@@ -64,17 +68,20 @@ module _ (before between : State) (session : ℕ) (edit : Edit) (entry : ℕ) (s
       λ i. record { limits = on.limits i; opening = on.opening i; entries = last.none_since i }
 
   undone_edit : (after : State) (number of : ℕ) → Allows (undo_rule between session) between (EntryOf number of) after → (of ≡ entry) × (present after.book ≡ present before.book)
-  undone_edit after number of back = undone_at_once before last.edited between session (edit ∷ []) entry (batch_of_one edit) (last.ranges, tt) sound (made_by before last.edited session edit entry last.step) same_book after number of back
+  undone_edit after number of back =
+      let fine = edits_in_range command last.batch last.asks_for last.ranges in
+      undone_at_once before last.edited between session last.batch entry fine.0 fine.1 sound (made_by before last.edited session command last.batch entry last.asks_for last.step) same_book after number of back
 
   free_edit : (after : State) (why : Refusal) → Allows (undo_rule between session) between (Refused why) after → (why ≡ JournalFull) ⊎ (why ≡ Memory)
   free_edit after why back =
-      free before last.edited between session (edit ∷ []) entry (batch_of_one edit) (last.ranges, tt) sound (made_by before last.edited session edit entry last.step) same_book
+      let fine = edits_in_range command last.batch last.asks_for last.ranges in
+      free before last.edited between session last.batch entry fine.0 fine.1 sound (made_by before last.edited session command last.batch entry last.asks_for last.step) same_book
       (follow last.asks last.edited between sound_edited last.in_range last.leads).sessions after why back
 
 pub at_once_undone : (s : State) → StateIsSound s → AtOnceUndone s
 at_once_undone s sound = record {
-  accepted = λ between after session edit entry number of last back. undone_edit s between session edit entry sound last after number of back;
-  refused = λ between after session edit entry why last back. free_edit s between session edit entry sound last after why back;
+  accepted = λ between after session command entry number of last back. undone_edit s between session command entry sound last after number of back;
+  refused = λ between after session command entry why last back. free_edit s between session command entry sound last after why back;
 }
 
 -- ---- an undo of all

@@ -42,7 +42,7 @@ use Rattle.tsn_bridge.specs.declared.reply.Reply.TheVariants.{Counters, Framed, 
 use Rattle.tsn_bridge.specs.Reads.{list_rule, show_rule, since_rule}
 use Rattle.tsn_bridge.specs.Sessions.{hello_rule}
 use Rattle.tsn_bridge.specs.Edits.{AllowsRedo, changed_state, edit_rule, next, redo_rule, undo_all_rule, undo_rule}
-use Rattle.tsn_bridge.specs.Histories.{AreInRange, CommandInRange, Leads, StateIsSound, Answered, command_of}
+use Rattle.tsn_bridge.specs.Histories.{AreInRange, CommandInRange, Leads, StateIsSound, Answered, edits_of}
 use Rattle.tsn_bridge.specs.Machine.{Step}
 use Rattle.tsn_bridge.specs.Rule.{Allows, Rule, is_given}
 use Rattle.tsn_bridge.specs.State.{State}
@@ -159,6 +159,7 @@ follows s n commands.Hello reply new sound ranges step = by_done (hello_rule s) 
 follows s n (commands.Create k r) reply new sound ranges step = edit_follows s n (edits.Create k r ∷ []) reply new sound (batch_of_one (edits.Create k r)) (ranges, tt) step
 follows s n (commands.Replace k r) reply new sound ranges step = edit_follows s n (edits.Replace k r ∷ []) reply new sound (batch_of_one (edits.Replace k r)) (ranges, tt) step
 follows s n (commands.Remove k) reply new sound ranges step = edit_follows s n (edits.Remove k ∷ []) reply new sound (batch_of_one (edits.Remove k)) (tt, tt) step
+follows s n (commands.Batch batch) reply new sound ranges step = edit_follows s n batch reply new sound ranges.0 ranges.1 step
 follows s n commands.Undo reply new sound ranges step = undo_follows s n reply new sound step
 follows s n commands.UndoAll reply new sound ranges step = undo_all_follows s n reply new sound step
 follows s n commands.Redo reply new sound ranges step = redo_follows s n reply new sound step
@@ -190,7 +191,13 @@ all_taken_back s n count entry new sound step =
 
 -- ---- an edit that was answered with an entry
 
-pub made_by : (before edited : State) (session : ℕ) (edit : Edit) (entry : ℕ) → Step before session (command_of edit) (EntryReply entry) edited → Allows (edit_rule before session (edit ∷ [])) before (EntryReply entry) edited
-made_by before edited session (edits.Create k r) entry step = step
-made_by before edited session (edits.Replace k r) entry step = step
-made_by before edited session (edits.Remove k) entry step = step
+pub same_edits : {a b : List Edit} → Some a ≡ Some b → a ≡ b
+same_edits {a} {b} h = done_of a b h
+
+pub made_by : (before edited : State) (session : ℕ) (command : Command) (batch : List Edit) (entry : ℕ) → edits_of command ≡ Some batch
+    → Step before session command (EntryReply entry) edited → Allows (edit_rule before session batch) before (EntryReply entry) edited
+made_by before edited session (commands.Create k r) batch entry is step = subst (λ b. Allows (edit_rule before session b) before (EntryReply entry) edited) (same_edits is) step
+made_by before edited session (commands.Replace k r) batch entry is step = subst (λ b. Allows (edit_rule before session b) before (EntryReply entry) edited) (same_edits is) step
+made_by before edited session (commands.Remove k) batch entry is step = subst (λ b. Allows (edit_rule before session b) before (EntryReply entry) edited) (same_edits is) step
+made_by before edited session (commands.Batch edits) batch entry is step = subst (λ b. Allows (edit_rule before session b) before (EntryReply entry) edited) (same_edits is) step
+made_by before edited session command batch entry is step = (cc)

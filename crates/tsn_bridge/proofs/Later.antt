@@ -292,6 +292,7 @@ keeps s n commands.Hello reply new h ranges step = by_done (hello_rule s) s repl
 keeps s n (commands.Create k r) reply new h ranges step = edit_keeps s n (edits.Create k r ∷ []) reply new h (batch_of_one (edits.Create k r)) (ranges, tt) step
 keeps s n (commands.Replace k r) reply new h ranges step = edit_keeps s n (edits.Replace k r ∷ []) reply new h (batch_of_one (edits.Replace k r)) (ranges, tt) step
 keeps s n (commands.Remove k) reply new h ranges step = edit_keeps s n (edits.Remove k ∷ []) reply new h (batch_of_one (edits.Remove k)) (tt, tt) step
+keeps s n (commands.Batch batch) reply new h ranges step = edit_keeps s n batch reply new h ranges.0 ranges.1 step
 keeps s n commands.Undo reply new h ranges step = undo_keeps s n reply new h step
 keeps s n commands.UndoAll reply new h ranges step = all_keeps s n h reply new step
 keeps s n commands.Redo reply new h ranges step = redo_keeps s n reply new h step

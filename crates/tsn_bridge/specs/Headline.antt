@@ -12,7 +12,6 @@ use Rattle.tsn_types.specs.declared.records.StreamGate.{StreamGate}
 use Rattle.tsn_types.specs.declared.refusals.Refusal.{Refusal}
 use Rattle.tsn_types.specs.declared.refusals.Refusal.TheVariants.{Conflict, JournalFull, Memory, NoSession, NothingToUndo}
 use Rattle.tsn_edit.specs.declared.Edit.{Edit}
-use Rattle.tsn_edit.specs.Edits.{EditInRange}
 use Rattle.tsn_edit.specs.Changes.{part_of}
 use Rattle.tsn_edit.specs.Parts.{Part, parts}
 use Rattle.tsn_edit.specs.Runs.{IsGood}
@@ -24,10 +23,11 @@ use Rattle.tsn_chain.specs.declared.state.State.TheVariants as states
 use Rattle.tsn_undo.specs.Ledger.{base_of, present}
 use Rattle.tsn_undo.specs.Steps.{LeavesStanding, standing_without}
 use Rattle.tsn_undo.specs.UndoAll.{BlocksAll, others_alone}
+use Rattle.tsn_bridge.specs.declared.command.Command.{Command}
 use Rattle.tsn_bridge.specs.declared.command.Command.TheVariants as commands
 use Rattle.tsn_bridge.specs.declared.reply.Reply.{Reply}
 use Rattle.tsn_bridge.specs.declared.reply.Reply.TheVariants.{Acted, Entry, EntryOf, Refused, States, TakenBack}
-use Rattle.tsn_bridge.specs.Histories.{AreInRange, Leads, Answered, command_of}
+use Rattle.tsn_bridge.specs.Histories.{AreInRange, CommandInRange, Leads, Answered, edits_of}
 use Rattle.tsn_bridge.specs.Machine.{Step}
 use Rattle.tsn_bridge.specs.Quiet.{SinceQuiet}
 use Rattle.tsn_bridge.specs.Rule.{is_given}
@@ -35,22 +35,24 @@ use Rattle.tsn_bridge.specs.State.{State}
 
 -- ---- an accepted edit at once undone leaves the configuration as it was
 
--- an edit of a session that was answered with an entry, and asks of any sessions after it that made none
-pub record EditsLast (before between : State) (session : ℕ) (edit : Edit) (entry : ℕ) : Type 0 where
+-- an edit of a session, or a batch of edits, that was answered with an entry, and asks of any sessions after it that made none
+pub record EditsLast (before between : State) (session : ℕ) (command : Command) (entry : ℕ) : Type 0 where
+  pub batch : List Edit
+  pub asks_for : edits_of command ≡ Some batch
   pub edited : State
   pub asks : List Answered
-  pub ranges : EditInRange edit
-  pub step : Step before session (command_of edit) (Entry entry) edited
+  pub ranges : CommandInRange command
+  pub step : Step before session command (Entry entry) edited
   pub in_range : AreInRange asks
   pub leads : Leads edited asks between
   pub none_since : between.book.entries ≡ edited.book.entries
 
--- An undo by the session of that edit, answered with an entry, took the edit back, and the configuration is the one before
--- it: the whole map, every member of every record. Only a full journal or want of memory refuses that undo.
+-- An undo by the session of that edit, answered with an entry, took the edit back, each of a batch, and the configuration is
+-- the one before it: the whole map, every member of every record. Only a full journal or want of memory refuses that undo.
 pub record AtOnceUndone (before : State) : Type 0 where
-  pub accepted : (between after : State) (session : ℕ) (edit : Edit) (entry number of : ℕ) → EditsLast before between session edit entry
+  pub accepted : (between after : State) (session : ℕ) (command : Command) (entry number of : ℕ) → EditsLast before between session command entry
       → Step between session commands.Undo (EntryOf number of) after → (of ≡ entry) × (present after.book ≡ present before.book)
-  pub refused : (between after : State) (session : ℕ) (edit : Edit) (entry : ℕ) (why : Refusal) → EditsLast before between session edit entry
+  pub refused : (between after : State) (session : ℕ) (command : Command) (entry : ℕ) (why : Refusal) → EditsLast before between session command entry
       → Step between session commands.Undo (Refused why) after → (why ≡ JournalFull) ⊎ (why ≡ Memory)
 
 -- ---- an undo of all leaves what the others' standing entries alone give, or names what stands in the way

@@ -1,9 +1,10 @@
 -- Lists of commands given to the machine by sessions, and where they lead.
-use Rattle.std.specs.Prelude.{◌≡◌, List, [], ◌∷◌, ⊤}
+use Rattle.std.specs.Prelude.{◌≡◌, List, [], ◌∷◌, ⊤, Option, Some, None}
 use Rattle.std.specs.List.{AllByRecursion}
 use Rattle.tsn_types.specs.InRange.{RecordInRange}
 use Rattle.tsn_edit.specs.declared.Edit.{Edit}
 use Rattle.tsn_edit.specs.declared.Edit.TheVariants as edits
+use Rattle.tsn_edit.specs.Batches.{EditsInRange, IsBatch}
 use Rattle.tsn_undo.specs.Soundness.{IsSound}
 use Rattle.tsn_bridge.specs.declared.command.Ask.{Ask}
 use Rattle.tsn_bridge.specs.declared.command.Command.{Command}
@@ -26,12 +27,13 @@ abbrev pub Leads : State → List Answered → State → Type 0
 Leads s [] new = new ≡ s
 Leads s (t ∷ ts) new = (between : State) × Answers s t.ask t.reply between × Leads between ts new
 
--- the numbers of a command's record are in their ranges
+-- the numbers of a command's records are in their ranges, and a batch is 1 to 16 edits, on distinct keys
 abbrev pub CommandInRange : Command → Type 0
 CommandInRange commands.Hello = ⊤
 CommandInRange (commands.Create k r) = RecordInRange r
 CommandInRange (commands.Replace k r) = RecordInRange r
 CommandInRange (commands.Remove k) = ⊤
+CommandInRange (commands.Batch batch) = IsBatch batch × EditsInRange batch
 CommandInRange commands.Undo = ⊤
 CommandInRange commands.UndoAll = ⊤
 CommandInRange commands.Redo = ⊤
@@ -45,11 +47,13 @@ CommandInRange (commands.Show k) = ⊤
 CommandInRange (commands.List kind) = ⊤
 CommandInRange (commands.Since after) = ⊤
 
--- the command that asks for an edit
-abbrev pub command_of : Edit → Command
-command_of (edits.Create k r) = commands.Create k r
-command_of (edits.Replace k r) = commands.Replace k r
-command_of (edits.Remove k) = commands.Remove k
+-- the edits that a command asks for: one, or those of a batch; none where it asks for something else
+abbrev pub edits_of : Command → Option (List Edit)
+edits_of (commands.Create k r) = Some (edits.Create k r ∷ [])
+edits_of (commands.Replace k r) = Some (edits.Replace k r ∷ [])
+edits_of (commands.Remove k) = Some (edits.Remove k ∷ [])
+edits_of (commands.Batch batch) = Some batch
+edits_of command = None
 
 abbrev pub AreInRange : List Answered → Type 0
 AreInRange ts = AllByRecursion (λ t. CommandInRange t.ask.command) ts

@@ -19,6 +19,7 @@ Step s n commands.Hello reply new = Allows (hello_rule s) s reply new
 Step s n (commands.Create k r) reply new = Allows (edit_rule s n (edits.Create k r ∷ [])) s reply new
 Step s n (commands.Replace k r) reply new = Allows (edit_rule s n (edits.Replace k r ∷ [])) s reply new
 Step s n (commands.Remove k) reply new = Allows (edit_rule s n (edits.Remove k ∷ [])) s reply new
+Step s n (commands.Batch batch) reply new = Allows (edit_rule s n batch) s reply new
 Step s n commands.Undo reply new = Allows (undo_rule s n) s reply new
 Step s n commands.UndoAll reply new = Allows (undo_all_rule s n) s reply new
 Step s n commands.Redo reply new = AllowsRedo s n reply new

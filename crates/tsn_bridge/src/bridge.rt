@@ -128,6 +128,7 @@ impl Bridge {
                 Batch::one(Edit::Replace(key, value)),
             ),
             Command::Remove { key } => self.edit(session, Batch::one(Edit::Remove(key))),
+            Command::Batch { batch } => self.edit(session, batch),
             Command::Undo => self.undo(session),
             Command::UndoAll => self.undo_all(session),
             Command::Redo => self.redo(session),

@@ -1,5 +1,6 @@
 //! What a session may ask of the bridge, one variant for each command.
 use tsn_chain::frame::Frame;
+use tsn_edit::batches::Batch;
 use tsn_types::keys::{Key, Kind};
 use tsn_types::numbers::Instant;
 use tsn_types::records::Record;
@@ -23,6 +24,8 @@ pub enum Command {
     Replace { key: Key, value: Record },
     /// Removes the record at the key.
     Remove { key: Key },
+    /// Makes the edits, all at once or none.
+    Batch { batch: Batch },
     /// Takes back the newest standing entry of the session.
     Undo,
     /// Takes back all standing entries of the session, or none.

@@ -8,13 +8,14 @@ use crate::reply::Reply;
 use tsn_desk::machine::Machine;
 
 impl Command {
-    /// Tells a proof that the numbers of the command's record are in their ranges. It does nothing else.
+    /// Tells a proof that the numbers of the command's records are in their ranges. It does nothing else.
     fn tell_ranges(&self)
         ensures { CommandInRange self.now }
     {
         match self {
             Command::Create { key: _, value } => value.tell_ranges(),
             Command::Replace { key: _, value } => value.tell_ranges(),
+            Command::Batch { batch } => batch.tell_ranges(),
             _ => {}
         }
     }

@@ -168,6 +168,7 @@ module _ (n : ℕ) (s : State) (new : State) (h : ActsOf n s.book) where
   keeps_acts m (commands.Create k r) reply low high whole by step = edited_acts m (edits.Create k r ∷ []) reply step
   keeps_acts m (commands.Replace k r) reply low high whole by step = edited_acts m (edits.Replace k r ∷ []) reply step
   keeps_acts m (commands.Remove k) reply low high whole by step = edited_acts m (edits.Remove k ∷ []) reply step
+  keeps_acts m (commands.Batch batch) reply low high whole by step = edited_acts m batch reply step
   keeps_acts m commands.Undo reply low high whole by step =
       by_map (undo_rule s m) reply (λ (x : Applied). (EntryOf (next s) x.number, changed_state s m (undone x) (inverse x.change))) (last_of s.book.entries m) refl
       (λ x _. changed n m s.book s.book.entries (undone x) (inverse x.change) refl h) step
