@@ -1,74 +1,142 @@
 -- The text of the journal's entries, piece by piece.
-use Rattle.std.proofs.Common.{◌≡◌, ℕ, ◌^◌, ◌<◌, ◌++◌, List, map, false, codes, decimal, sym, ap, ◌∙◌, append_assoc}
+use Rattle.std.proofs.Common.{◌≡◌, ℕ, ◌+◌, ◌-◌, ◌^◌, ◌<◌, ◌≤◌, ◌++◌, List, [], ◌∷◌, length, take, take_all, drop, get_or, map, true, false, codes, decimal, refl, sym, ap, ap₂, ◌∙◌, append_assoc, append-nil, arith}
+use Rattle.std.proofs.lemmas.List.{take_more}
 use Rattle.json.specs.Print.{escape_byte}
-use Rattle.serde_json.specs.Data.{string}
+use Rattle.serde_json.specs.Data.{Data, string, object, item, Members, member, no_members}
 use Rattle.serde_json.specs.View.{items_of}
-use Rattle.serde_json.specs.Written.{compact_text, items_text}
+use Rattle.serde_json.specs.Written.{compact_text, items_text, members_text}
+use Rattle.tsn_edit.specs.Changes.{keys_of}
+use Rattle.tsn_edit.specs.Parts.{Part}
 use Rattle.tsn_journal.specs.declared.entries.Act.{Act}
 use Rattle.tsn_journal.specs.declared.entries.Entry.{Entry}
 use Rattle.tsn_types.specs.declared.keys.Key.{Key}
 use Rattle.tsn_types.specs.Keys.{number_of}
 use Rattle.tsn_records.specs.Keys.{key_text}
-use Rattle.tsn_replies.specs.Pieces.{taking_back_front}
-use Rattle.tsn_replies.specs.Told.{act_name, made_data, taking_back_data, acted_data, entry_data, entries_data}
-use Rattle.tsn_replies.proofs.Pieces.{text_unescaped}
+use Rattle.tsn_records.specs.Shown.{whole_data}
+use Rattle.tsn_replies.specs.Pieces.{keys_piece, taking_back_front}
+use Rattle.tsn_replies.specs.Told.{act_name, key_data, with_keys, made_data, taking_back_data, acted_data, entry_data, entries_data}
+use Rattle.tsn_replies.proofs.Pieces.{behind, behind_none, behind_more, behind_closed, text_unescaped}
 
-quoted_of : (name key t0 t1 t2 t3 t4 : List ℕ) → t1 ≡ t0 ++ name → t2 ≡ t1 ++ codes "\"" → t3 ≡ t2 ++ key → t4 ≡ t3 ++ codes "\"" → t4 ≡ t0 ++ (name ++ (codes "\"" ++ (key ++ codes "\"")))
-quoted_of name key t0 t1 t2 t3 t4 e1 e2 e3 e4 = rw (e4, e3, e2, e1) (simp append_assoc)
+quoted_of : (key t0 t1 t2 t3 : List ℕ) → t1 ≡ t0 ++ codes "\"" → t2 ≡ t1 ++ key → t3 ≡ t2 ++ codes "\"" → t3 ≡ t0 ++ (codes "\"" ++ (key ++ codes "\""))
+quoted_of key t0 t1 t2 t3 e1 e2 e3 = rw (e3, e2, e1) (simp append_assoc)
 
-pub key_pieces : (k : Key) (name t0 t1 t2 t3 t4 : List ℕ) → number_of k < 2 ^ 64 → t1 ≡ t0 ++ name → t2 ≡ t1 ++ codes "\"" → t3 ≡ t2 ++ key_text k → t4 ≡ t3 ++ codes "\"" → t4 ≡ t0 ++ (name ++ compact_text (string (key_text k)))
-key_pieces k name t0 t1 t2 t3 t4 small e1 e2 e3 e4 =
-    quoted_of name (key_text k) t0 t1 t2 t3 t4 e1 e2 e3 e4 ∙ sym (ap (λ l. t0 ++ (name ++ (codes "\"" ++ (l ++ codes "\"")))) (text_unescaped k small))
+pub quoted_pieces : (k : Key) (t0 t1 t2 t3 : List ℕ) → number_of k < 2 ^ 64 → t1 ≡ t0 ++ codes "\"" → t2 ≡ t1 ++ key_text k → t3 ≡ t2 ++ codes "\"" → t3 ≡ t0 ++ compact_text (key_data k)
+quoted_pieces k t0 t1 t2 t3 small e1 e2 e3 =
+    quoted_of (key_text k) t0 t1 t2 t3 e1 e2 e3 ∙ sym (ap (λ l. t0 ++ (codes "\"" ++ (l ++ codes "\""))) (text_unescaped k small))
+
+-- ---- keys
+
+-- the keys of parts, as they are told
+told_keys : (ps : List Part) → items_of (map key_data (keys_of ps)) ≡ items_of (map (λ p. key_data p.key) ps)
+told_keys [] = refl
+told_keys (p ∷ ps) = ap (item (key_data p.key)) (told_keys ps)
+
+-- the keys of these parts, each with a comma before it
+abbrev pub others_text : List Part → List ℕ
+others_text ps = behind (λ p. key_data p.key) ps
+
+pub no_others : (t : List ℕ) → t ≡ t ++ others_text []
+no_others t = sym (ap (λ l. t ++ l) (behind_none (λ p. key_data p.key)) ∙ append-nil t)
+
+-- one key more
+pub other_more : (t held later : List ℕ) (ps : List Part) (p d : Part) (i : ℕ) → i < length ps → p ≡ get_or ps i d → held ≡ t ++ others_text (take i ps) → later ≡ held ++ (codes "," ++ compact_text (key_data p.key)) → later ≡ t ++ others_text (take (i + 1) ps)
+other_more t held later ps p d i within is before e =
+    let piece = 44 ∷ compact_text (key_data p.key) in
+    let more : others_text (take (i + 1) ps) ≡ others_text (take i ps) ++ piece =
+    ap others_text (take_more ps i d within ∙ ap (λ x. take i ps ++ x ∷ []) (sym is)) ∙ behind_more (λ q. key_data q.key) (take i ps) p in
+    e ∙ ap (λ l. l ++ piece) before ∙ append_assoc t (others_text (take i ps)) piece ∙ sym (ap (λ l. t ++ l) more)
+
+-- the first part, and those after it
+pub first_of : (ps : List Part) (p : Part) → 1 ≤ length ps → p ≡ get_or ps 0 p → ps ≡ p ∷ take (length ps - 1) (drop 1 ps)
+first_of [] p some is = absurd (omega arith)
+first_of (q ∷ ps) p some is = ap₂ ◌∷◌ (sym is) (sym (take_all (length (q ∷ ps) - 1) ps (omega arith)))
+
+several_of : (first others t0 : List ℕ) → ((t0 ++ (codes ",\"keys\":[" ++ first)) ++ others) ++ codes "]" ≡ t0 ++ (codes ",\"keys\":[" ++ (first ++ (others ++ codes "]")))
+several_of first others t0 = simp append_assoc
+
+-- all keys of two parts or more
+pub several_pieces : (ps others : List Part) (p : Part) (t0 t1 t2 t3 : List ℕ) (i : ℕ) → ps ≡ p ∷ others → 2 ≤ length ps → length others ≤ i
+    → t1 ≡ t0 ++ (codes ",\"keys\":[" ++ compact_text (key_data p.key)) → t2 ≡ t1 ++ others_text (take i others) → t3 ≡ t2 ++ codes "]" → t3 ≡ t0 ++ keys_piece (keys_of ps)
+several_pieces ps [] p t0 t1 t2 t3 i is two all e1 e2 e3 = absurd (omega (arith, ap length is, two))
+several_pieces ps (q ∷ others) p t0 t1 t2 t3 i is two all e1 e2 e3 =
+    let whole : take i (q ∷ others) ≡ q ∷ others = take_all i (q ∷ others) all in
+    let text : items_text true (items_of (map key_data (keys_of (q ∷ others)))) ≡ others_text (q ∷ others) ++ codes "]" =
+    ap (items_text true) (told_keys (q ∷ others)) ∙ behind_closed (λ x. key_data x.key) (q ∷ others) in
+    e3 ∙ ap (λ l. l ++ codes "]") (e2 ∙ ap (λ l. t1 ++ others_text l) whole ∙ ap (λ l. l ++ others_text (q ∷ others)) e1)
+    ∙ several_of (compact_text (key_data p.key)) (others_text (q ∷ others)) t0
+    ∙ sym (ap (λ l. t0 ++ (codes ",\"keys\":[" ++ (compact_text (key_data p.key) ++ l))) text)
+    ∙ sym (ap (λ l. t0 ++ keys_piece (keys_of l)) is)
+
+-- the keys before the other members
+keys_text : (ks : List Key) (others : Members) → members_text true (with_keys ks others) ≡ keys_piece ks ++ members_text true others
+unfolding escape_byte
+keys_text [] others = refl
+keys_text (k ∷ []) others = refl
+keys_text (k ∷ (l ∷ ks)) others = refl
 
 -- ---- entries
 
-made_of : (number key session t0 t1 t2 t3 t4 : List ℕ)
+made_of : (number keys session t0 t1 t2 t3 t4 : List ℕ)
     → t1 ≡ t0 ++ (codes "{\"entry\":" ++ number)
-    → t2 ≡ t1 ++ (codes ",\"key\":" ++ key)
+    → t2 ≡ t1 ++ keys
     → t3 ≡ t2 ++ (codes ",\"session\":" ++ session)
     → t4 ≡ t3 ++ codes ",\"what\":\"made\"}"
-    → t4 ≡ t0 ++ (codes "{\"entry\":" ++ (number ++ (codes ",\"key\":" ++ (key ++ (codes ",\"session\":" ++ (session ++ codes ",\"what\":\"made\"}"))))))
-made_of number key session t0 t1 t2 t3 t4 e1 e2 e3 e4 = rw (e4, e3, e2, e1) (simp append_assoc)
+    → t4 ≡ t0 ++ (codes "{\"entry\":" ++ (number ++ (keys ++ (codes ",\"session\":" ++ (session ++ codes ",\"what\":\"made\"}")))))
+made_of number keys session t0 t1 t2 t3 t4 e1 e2 e3 e4 = rw (e4, e3, e2, e1) (simp append_assoc)
 
-pub made_pieces : (number session : ℕ) (k : Key) (t0 t1 t2 t3 t4 : List ℕ)
+-- an entry's text, which begins with its number and its keys
+numbered : ℕ → List Key → Members → Data
+numbered number ks others = object (member (codes "entry") (whole_data number) (with_keys ks others))
+
+numbered_text : (number : ℕ) (ks : List Key) (others : Members) → codes "{\"entry\":" ++ (decimal number ++ (keys_piece ks ++ members_text true others)) ≡ compact_text (numbered number ks others)
+unfolding escape_byte numbered
+numbered_text number ks others = sym (ap (λ l. codes "{\"entry\":" ++ (decimal number ++ l)) (keys_text ks others))
+
+pub made_pieces : (number session : ℕ) (ks : List Key) (t0 t1 t2 t3 t4 : List ℕ)
     → t1 ≡ t0 ++ (codes "{\"entry\":" ++ decimal number)
-    → t2 ≡ t1 ++ (codes ",\"key\":" ++ compact_text (string (key_text k)))
+    → t2 ≡ t1 ++ keys_piece ks
     → t3 ≡ t2 ++ (codes ",\"session\":" ++ decimal session)
     → t4 ≡ t3 ++ codes ",\"what\":\"made\"}"
-    → t4 ≡ t0 ++ compact_text (made_data number session k)
-unfolding escape_byte
-made_pieces number session k t0 t1 t2 t3 t4 e1 e2 e3 e4 = made_of (decimal number) (compact_text (string (key_text k))) (decimal session) t0 t1 t2 t3 t4 e1 e2 e3 e4
+    → t4 ≡ t0 ++ compact_text (made_data number session ks)
+unfolding escape_byte numbered
+made_pieces number session ks t0 t1 t2 t3 t4 e1 e2 e3 e4 =
+    made_of (decimal number) (keys_piece ks) (decimal session) t0 t1 t2 t3 t4 e1 e2 e3 e4
+    ∙ ap (λ l. t0 ++ l) (numbered_text number ks (member (codes "session") (whole_data session) (member (codes "what") (string (codes "made")) no_members)))
 
-taking_back_of : (number key of session t0 t1 t2 t3 t4 : List ℕ)
+taking_back_of : (number keys of session t0 t1 t2 t3 t4 : List ℕ)
     → t1 ≡ t0 ++ (codes "{\"entry\":" ++ number)
-    → t2 ≡ t1 ++ (codes ",\"key\":" ++ key)
+    → t2 ≡ t1 ++ keys
     → t3 ≡ t2 ++ (codes ",\"of\":" ++ of)
     → t4 ≡ t3 ++ (codes ",\"session\":" ++ session)
-    → t4 ≡ t0 ++ (codes "{\"entry\":" ++ (number ++ (codes ",\"key\":" ++ (key ++ (codes ",\"of\":" ++ (of ++ (codes ",\"session\":" ++ session)))))))
-taking_back_of number key of session t0 t1 t2 t3 t4 e1 e2 e3 e4 = rw (e4, e3, e2, e1) (simp append_assoc)
+    → t4 ≡ t0 ++ (codes "{\"entry\":" ++ (number ++ (keys ++ (codes ",\"of\":" ++ (of ++ (codes ",\"session\":" ++ session))))))
+taking_back_of number keys of session t0 t1 t2 t3 t4 e1 e2 e3 e4 = rw (e4, e3, e2, e1) (simp append_assoc)
 
-pub taking_back_pieces : (number session of : ℕ) (k : Key) (t0 t1 t2 t3 t4 : List ℕ)
+pub taking_back_pieces : (number session of : ℕ) (ks : List Key) (t0 t1 t2 t3 t4 : List ℕ)
     → t1 ≡ t0 ++ (codes "{\"entry\":" ++ decimal number)
-    → t2 ≡ t1 ++ (codes ",\"key\":" ++ compact_text (string (key_text k)))
+    → t2 ≡ t1 ++ keys_piece ks
     → t3 ≡ t2 ++ (codes ",\"of\":" ++ decimal of)
     → t4 ≡ t3 ++ (codes ",\"session\":" ++ decimal session)
-    → t4 ≡ t0 ++ taking_back_front number session of k
-taking_back_pieces number session of k t0 t1 t2 t3 t4 e1 e2 e3 e4 = taking_back_of (decimal number) (compact_text (string (key_text k))) (decimal of) (decimal session) t0 t1 t2 t3 t4 e1 e2 e3 e4
+    → t4 ≡ t0 ++ taking_back_front number session of ks
+taking_back_pieces number session of ks t0 t1 t2 t3 t4 e1 e2 e3 e4 = taking_back_of (decimal number) (keys_piece ks) (decimal of) (decimal session) t0 t1 t2 t3 t4 e1 e2 e3 e4
 
 -- up to what was done, and the rest
-ending_of : (number key of session rest t0 t1 t2 : List ℕ)
-    → t1 ≡ t0 ++ (codes "{\"entry\":" ++ (number ++ (codes ",\"key\":" ++ (key ++ (codes ",\"of\":" ++ (of ++ (codes ",\"session\":" ++ session)))))))
+ending_of : (number keys of session rest t0 t1 t2 : List ℕ)
+    → t1 ≡ t0 ++ (codes "{\"entry\":" ++ (number ++ (keys ++ (codes ",\"of\":" ++ (of ++ (codes ",\"session\":" ++ session))))))
     → t2 ≡ t1 ++ rest
-    → t2 ≡ t0 ++ (codes "{\"entry\":" ++ (number ++ (codes ",\"key\":" ++ (key ++ (codes ",\"of\":" ++ (of ++ (codes ",\"session\":" ++ (session ++ rest))))))))
-ending_of number key of session rest t0 t1 t2 e1 e2 = rw (e2, e1) (simp append_assoc)
+    → t2 ≡ t0 ++ (codes "{\"entry\":" ++ (number ++ (keys ++ (codes ",\"of\":" ++ (of ++ (codes ",\"session\":" ++ (session ++ rest)))))))
+ending_of number keys of session rest t0 t1 t2 e1 e2 = rw (e2, e1) (simp append_assoc)
 
-pub undone_pieces : (number session of : ℕ) (k : Key) (t0 t1 t2 : List ℕ) → t1 ≡ t0 ++ taking_back_front number session of k → t2 ≡ t1 ++ codes ",\"what\":\"undone\"}" → t2 ≡ t0 ++ compact_text (taking_back_data number session of k (codes "undone"))
-unfolding escape_byte
-undone_pieces number session of k t0 t1 t2 e1 e2 = ending_of (decimal number) (compact_text (string (key_text k))) (decimal of) (decimal session) (codes ",\"what\":\"undone\"}") t0 t1 t2 e1 e2
+pub undone_pieces : (number session of : ℕ) (ks : List Key) (t0 t1 t2 : List ℕ) → t1 ≡ t0 ++ taking_back_front number session of ks → t2 ≡ t1 ++ codes ",\"what\":\"undone\"}" → t2 ≡ t0 ++ compact_text (taking_back_data number session of ks (codes "undone"))
+unfolding escape_byte numbered
+undone_pieces number session of ks t0 t1 t2 e1 e2 =
+    ending_of (decimal number) (keys_piece ks) (decimal of) (decimal session) (codes ",\"what\":\"undone\"}") t0 t1 t2 e1 e2
+    ∙ ap (λ l. t0 ++ l) (numbered_text number ks (member (codes "of") (whole_data of) (member (codes "session") (whole_data session) (member (codes "what") (string (codes "undone")) no_members))))
 
-pub redone_pieces : (number session of : ℕ) (k : Key) (t0 t1 t2 : List ℕ) → t1 ≡ t0 ++ taking_back_front number session of k → t2 ≡ t1 ++ codes ",\"what\":\"redone\"}" → t2 ≡ t0 ++ compact_text (taking_back_data number session of k (codes "redone"))
-unfolding escape_byte
-redone_pieces number session of k t0 t1 t2 e1 e2 = ending_of (decimal number) (compact_text (string (key_text k))) (decimal of) (decimal session) (codes ",\"what\":\"redone\"}") t0 t1 t2 e1 e2
+pub redone_pieces : (number session of : ℕ) (ks : List Key) (t0 t1 t2 : List ℕ) → t1 ≡ t0 ++ taking_back_front number session of ks → t2 ≡ t1 ++ codes ",\"what\":\"redone\"}" → t2 ≡ t0 ++ compact_text (taking_back_data number session of ks (codes "redone"))
+unfolding escape_byte numbered
+redone_pieces number session of ks t0 t1 t2 e1 e2 =
+    ending_of (decimal number) (keys_piece ks) (decimal of) (decimal session) (codes ",\"what\":\"redone\"}") t0 t1 t2 e1 e2
+    ∙ ap (λ l. t0 ++ l) (numbered_text number ks (member (codes "of") (whole_data of) (member (codes "session") (whole_data session) (member (codes "what") (string (codes "redone")) no_members))))
 
 acted_of : (act number key now session t0 t1 t2 t3 t4 t5 t6 : List ℕ)
     → t1 ≡ t0 ++ (codes "{\"act\":" ++ act)
@@ -83,14 +151,14 @@ acted_of act number key now session t0 t1 t2 t3 t4 t5 t6 e1 e2 e3 e4 e5 e6 = rw 
 pub acted_pieces : (number session : ℕ) (act : Act) (k : Key) (now : ℕ) (t0 t1 t2 t3 t4 t5 t6 : List ℕ)
     → t1 ≡ t0 ++ (codes "{\"act\":" ++ compact_text (string (act_name act)))
     → t2 ≡ t1 ++ (codes ",\"entry\":" ++ decimal number)
-    → t3 ≡ t2 ++ (codes ",\"key\":" ++ compact_text (string (key_text k)))
+    → t3 ≡ t2 ++ (codes ",\"key\":" ++ compact_text (key_data k))
     → t4 ≡ t3 ++ (codes ",\"now\":" ++ decimal now)
     → t5 ≡ t4 ++ (codes ",\"session\":" ++ decimal session)
     → t6 ≡ t5 ++ codes ",\"what\":\"acted\"}"
     → t6 ≡ t0 ++ compact_text (acted_data number session act k now)
 unfolding escape_byte
 acted_pieces number session act k now t0 t1 t2 t3 t4 t5 t6 e1 e2 e3 e4 e5 e6 =
-    acted_of (compact_text (string (act_name act))) (decimal number) (compact_text (string (key_text k))) (decimal now) (decimal session) t0 t1 t2 t3 t4 t5 t6 e1 e2 e3 e4 e5 e6
+    acted_of (compact_text (string (act_name act))) (decimal number) (compact_text (key_data k)) (decimal now) (decimal session) t0 t1 t2 t3 t4 t5 t6 e1 e2 e3 e4 e5 e6
 
 -- ---- the line
 

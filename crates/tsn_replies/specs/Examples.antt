@@ -6,7 +6,7 @@ use Rattle.tsn_edit.specs.Parts.{Change, inverse}
 use Rattle.tsn_journal.specs.declared.entries.Act.TheVariants.{Apply}
 use Rattle.tsn_journal.specs.declared.entries.Entry.{Entry}
 use Rattle.tsn_journal.specs.declared.entries.What.TheVariants.{Made, Undone, Redone, Acted}
-use Rattle.tsn_records.specs.Examples.{a_filter}
+use Rattle.tsn_records.specs.Examples.{a_filter, a_gate, a_meter}
 use Rattle.tsn_types.specs.declared.keys.Key.TheVariants as keys
 use Rattle.tsn_types.specs.declared.records.Record.TheVariants as records
 
@@ -32,6 +32,20 @@ a_removal_redone = record { number = 6; session = 1; what = Redone 5 a_removal }
 
 abbrev pub removal_redone_text : List ℕ
 removal_redone_text = codes "{\"entries\":[{\"entry\":6,\"key\":\"filter 3\",\"of\":5,\"session\":1,\"what\":\"redone\"}]}\n"
+
+-- a filter is created with its gate and its meter, and that is redone
+abbrev pub a_batch : Change
+a_batch =
+    record { key = keys.Filter 0; before = None; after = Some (records.Filter a_filter) } ∷
+    record { key = keys.Gate 0; before = None; after = Some (records.Gate a_gate) } ∷
+    record { key = keys.Meter 0; before = None; after = Some (records.Meter a_meter) } ∷ []
+
+abbrev pub a_batch_redone : List Entry
+a_batch_redone = record { number = 3; session = 1; what = Redone 2 a_batch } ∷ []
+
+abbrev pub batch_redone_text : List ℕ
+batch_redone_text = codes "{\"entries\":[{\"entry\":3,\"keys\":[\"filter 0\",\"gate 0\",\"meter 0\"],"
+    ++ codes "\"of\":2,\"session\":1,\"what\":\"redone\"}]}\n"
 
 -- a port's list is applied
 abbrev pub an_apply : List Entry

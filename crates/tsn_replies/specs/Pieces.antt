@@ -1,14 +1,16 @@
 -- The text of a shown record in pieces: what stands before its list and behind it, and what a writer took of a text
 -- whose end is still held. All of it is for private clauses.
-use Rattle.std.specs.Prelude.{◌≡◌, ◌++◌, ℕ, List, Option, codes, decimal}
+use Rattle.std.specs.Prelude.{◌≡◌, ◌++◌, ℕ, List, [], ◌∷◌, map, Option, codes, decimal}
 use Rattle.std.specs.Io.KnownBytes.{Appends}
-use Rattle.serde_json.specs.Data.{boolean, string}
+use Rattle.serde_json.specs.Data.{array, boolean, string}
+use Rattle.serde_json.specs.View.{items_of}
 use Rattle.serde_json.specs.Written.{compact_text}
 use Rattle.tsn_types.specs.declared.keys.Key.{Key}
 use Rattle.tsn_types.specs.declared.records.PortGates.{PortGates}
 use Rattle.tsn_types.specs.declared.records.StreamGate.{StreamGate}
 use Rattle.tsn_records.specs.Keys.{key_text}
 use Rattle.tsn_records.specs.Shown.{or_null}
+use Rattle.tsn_replies.specs.Told.{key_data}
 
 -- a front of the text was taken, and the rest of it is held
 abbrev pub TakesFront : Option (List ℕ) → Option (List ℕ) → List ℕ → List ℕ → Type 0
@@ -43,10 +45,15 @@ gate_rest r =
     ++ (codes ",\"open\":" ++ (compact_text (boolean r.is_open)
     ++ codes "}}\n")))
 
+-- the member that tells the keys of a change, with a comma before it
+abbrev pub keys_piece : List Key → List ℕ
+keys_piece (k ∷ []) = codes ",\"key\":" ++ compact_text (key_data k)
+keys_piece ks = codes ",\"keys\":" ++ compact_text (array (items_of (map key_data ks)))
+
 -- an entry that takes one back, up to what was done
-abbrev pub taking_back_front : ℕ → ℕ → ℕ → Key → List ℕ
-taking_back_front number session of key =
+abbrev pub taking_back_front : ℕ → ℕ → ℕ → List Key → List ℕ
+taking_back_front number session of keys =
     codes "{\"entry\":" ++ (decimal number
-    ++ (codes ",\"key\":" ++ (compact_text (string (key_text key))
+    ++ (keys_piece keys
     ++ (codes ",\"of\":" ++ (decimal of
-    ++ (codes ",\"session\":" ++ decimal session))))))
+    ++ (codes ",\"session\":" ++ decimal session)))))

@@ -1,6 +1,6 @@
 -- What replies tell as JSON values: a record under its key, numbers of instances, entries of the journal.
 use Rattle.std.specs.Prelude.{ℕ, List, [], ◌∷◌, map, codes}
-use Rattle.serde_json.specs.Data.{Data, string, array, object, member, no_members}
+use Rattle.serde_json.specs.Data.{Data, Members, string, array, object, member, no_members}
 use Rattle.serde_json.specs.View.{items_of}
 use Rattle.tsn_edit.specs.Changes.{keys_of}
 use Rattle.tsn_edit.specs.Parts.{parts}
@@ -28,19 +28,29 @@ act_name Enable = codes "enable"
 act_name Disable = codes "disable"
 act_name Apply = codes "apply"
 
--- `{"entry":N,"key":K,"session":S,"what":"made"}`
-abbrev pub made_data : ℕ → ℕ → Key → Data
-made_data number session key =
+-- a key as it is told
+abbrev pub key_data : Key → Data
+key_data k = string (key_text k)
+
+-- the member that tells the keys of a change, before these others: `"key":K` where there is one key, and `"keys":[..]`, in
+-- their order, where there are several
+abbrev pub with_keys : List Key → Members → Members
+with_keys (k ∷ []) others = member (codes "key") (key_data k) others
+with_keys ks others = member (codes "keys") (array (items_of (map key_data ks))) others
+
+-- `{"entry":N,"key":K,"session":S,"what":"made"}`, or with `"keys":[..]`
+abbrev pub made_data : ℕ → ℕ → List Key → Data
+made_data number session keys =
     object (member (codes "entry") (whole_data number)
-    (member (codes "key") (string (key_text key))
+    (with_keys keys
     (member (codes "session") (whole_data session)
     (member (codes "what") (string (codes "made")) no_members))))
 
--- `{"entry":N,"key":K,"of":M,"session":S,"what":W}`, of the entry M that it takes back
-abbrev pub taking_back_data : ℕ → ℕ → ℕ → Key → List ℕ → Data
-taking_back_data number session of key word =
+-- `{"entry":N,"key":K,"of":M,"session":S,"what":W}`, or with `"keys":[..]`, of the entry M that it takes back
+abbrev pub taking_back_data : ℕ → ℕ → ℕ → List Key → List ℕ → Data
+taking_back_data number session of keys word =
     object (member (codes "entry") (whole_data number)
-    (member (codes "key") (string (key_text key))
+    (with_keys keys
     (member (codes "of") (whole_data of)
     (member (codes "session") (whole_data session)
     (member (codes "what") (string word) no_members)))))
@@ -50,21 +60,16 @@ abbrev pub acted_data : ℕ → ℕ → Act → Key → ℕ → Data
 acted_data number session act key now =
     object (member (codes "act") (string (act_name act))
     (member (codes "entry") (whole_data number)
-    (member (codes "key") (string (key_text key))
+    (member (codes "key") (key_data key)
     (member (codes "now") (whole_data now)
     (member (codes "session") (whole_data session)
     (member (codes "what") (string (codes "acted")) no_members))))))
 
--- what is told by the key of a change, the first one; each change that a command makes has one
-abbrev pub by_key : (Key → Data) → List Key → Data
-by_key told [] = object no_members
-by_key told (key ∷ others) = told key
-
--- what was done, under the entry's number and session
+-- what was done, under the entry's number and session; a change is told by its keys
 abbrev pub what_data : ℕ → ℕ → What → Data
-what_data number session (Made e) = by_key (made_data number session) (keys_of (parts e))
-what_data number session (Undone of e) = by_key (λ key. taking_back_data number session of key (codes "undone")) (keys_of (parts e))
-what_data number session (Redone of e) = by_key (λ key. taking_back_data number session of key (codes "redone")) (keys_of (parts e))
+what_data number session (Made e) = made_data number session (keys_of (parts e))
+what_data number session (Undone of e) = taking_back_data number session of (keys_of (parts e)) (codes "undone")
+what_data number session (Redone of e) = taking_back_data number session of (keys_of (parts e)) (codes "redone")
 what_data number session (Acted act key now) = acted_data number session act key now
 
 abbrev pub entry_data : Entry → Data

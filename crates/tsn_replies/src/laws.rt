@@ -7,7 +7,7 @@ ghost use Rattle.tsn_chain.specs.declared.frame.Verdict.TheVariants as verdicts;
 ghost use Rattle.tsn_chain.specs.declared.state.Counters.TheVariants as counters;
 ghost use Rattle.tsn_chain.specs.declared.state.State.TheVariants as states;
 ghost use Rattle.tsn_records.specs.Examples.{a_port, port_text, a_filter, filter_text, a_gate, gate_text, a_meter, meter_text};
-ghost use Rattle.tsn_replies.specs.Examples.{shown_line, a_removal_undone, removal_undone_text, a_removal_redone, removal_redone_text, an_apply, apply_text, a_list, a_counted_filter, port_counters_text, filter_counters_text, gate_counters_text};
+ghost use Rattle.tsn_replies.specs.Examples.{shown_line, a_removal_undone, removal_undone_text, a_removal_redone, removal_redone_text, a_batch_redone, batch_redone_text, an_apply, apply_text, a_list, a_counted_filter, port_counters_text, filter_counters_text, gate_counters_text};
 ghost use Rattle.tsn_replies.specs.Replies.{reply_text};
 ghost use Rattle.tsn_types.specs.declared.keys.Key.TheVariants as keys;
 ghost use Rattle.tsn_types.specs.declared.records.Record.TheVariants as records;
@@ -86,6 +86,7 @@ pub fn records_are_shown()
 pub fn entries_are_told()
     ensures undone { reply_text (replies.Entries a_removal_undone) ≡ removal_undone_text }
     ensures redone { reply_text (replies.Entries a_removal_redone) ≡ removal_redone_text }
+    ensures batch { reply_text (replies.Entries a_batch_redone) ≡ batch_redone_text }
     ensures acted { reply_text (replies.Entries an_apply) ≡ apply_text }
     ensures none { reply_text (replies.Entries []) ≡ codes "{\"entries\":[]}\n" }
 {}

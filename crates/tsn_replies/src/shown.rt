@@ -11,6 +11,7 @@ ghost use Rattle.tsn_bytes.specs.Bytes.{IsCut};
 ghost use Rattle.tsn_bytes.specs.declared.bytes.Fault.TheVariants.{Write};
 ghost use Rattle.tsn_types.specs.declared.records.Record.TheVariants as records;
 ghost use Rattle.tsn_types.specs.Keys.{number_of};
+ghost use Rattle.tsn_types.specs.Numbers.{greatest_instance};
 ghost use Rattle.tsn_records.specs.Shown.{whole_data, or_null, port_entry_data, gate_entry_data, filter_data, meter_data};
 ghost use Rattle.tsn_replies.specs.Told.{shown_data, ids_data};
 ghost use Rattle.tsn_records.specs.Keys.{key_text};
@@ -27,7 +28,8 @@ use tsn_types::records::{
 // ---- pieces
 
 fn number_in(key: Key) -> u64
-    ensures { result ≡ number_of key }
+    ensures is { result ≡ number_of key }
+    ensures small { result ≤ greatest_instance }
 {
     match key {
         Key::Port(id) => id.get(),
@@ -37,18 +39,30 @@ fn number_in(key: Key) -> u64
     }
 }
 
-/// Puts the text of a key at the end.
-pub fn push_key(text: &mut ShortText, key: Key)
-    requires { length text.old + 27 ≤ CAPACITY }
-    ensures text { text.new ≡ text.old ++ key_text key }
-    ensures len { length text.new ≤ length text.old + 27 }
+// What comes before the number of a key.
+fn name_before(key: &Key) -> &'static str
+    ensures text { result.now ++ decimal (number_of key.now) ≡ key_text key.now }
+    ensures len { length result.now ≤ 7 }
 {
-    text.push(match key {
+    match key {
         Key::Port(_) => "port ",
         Key::Filter(_) => "filter ",
         Key::Gate(_) => "gate ",
         Key::Meter(_) => "meter ",
-    });
+    }
+}
+
+/// The most bytes of the text of a key: a name, a space and five digits.
+pub const LONGEST_KEY: usize = 12;
+
+/// Puts the text of a key at the end.
+#[tactic(auto, using(crate::proofs::Names::number_short))]
+pub fn push_key(text: &mut ShortText, key: Key)
+    requires { length text.old + 27 ≤ CAPACITY }
+    ensures text { text.new ≡ text.old ++ key_text key }
+    ensures len { length text.new ≤ length text.old + LONGEST_KEY }
+{
+    text.push(name_before(&key));
     text.push_number(number_in(key));
 }
 
@@ -207,8 +221,8 @@ fn push_key_front(text: &mut ShortText, key: Key)
 // The most bytes before a list, and behind its bracket.
 const LONGEST_FRONT: usize = 200;
 
-/// The most bytes of one item.
-pub const LONGEST_ITEM: usize = 160;
+/// The most bytes of one item: of an entry that takes back a change of sixteen parts.
+pub const LONGEST_ITEM: usize = 352;
 
 const LONGEST_REST: usize = 50;
 

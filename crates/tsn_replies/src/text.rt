@@ -4,7 +4,7 @@ ghost use Rattle.std.specs.Prelude.{◌≡◌, ◌+◌, ◌≤◌, [], ◌++◌,
 use std::marker::Model;
 
 /// How many bytes a short text holds.
-pub const CAPACITY: usize = 512;
+pub const CAPACITY: usize = 704;
 
 /// The most digits of a number of 64 bits.
 pub const MOST_DIGITS: usize = 20;

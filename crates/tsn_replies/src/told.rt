@@ -1,32 +1,72 @@
 //! The line of entries of the journal, spelled piece by piece. None of it takes memory.
 ghost use Rattle.std.specs.Prelude.{◌≡◌, ◌+◌, ◌≤◌, ◌++◌, [], length, true, IfErr, OnOk, OnErr, codes};
 ghost use Rattle.std.specs.Io.KnownBytes.{Appends};
-ghost use Rattle.serde_json.specs.Data.{Data, string};
+ghost use Rattle.serde_json.specs.Data.{string};
 ghost use Rattle.serde_json.specs.Written.{compact_text};
 ghost use Rattle.tsn_edit.specs.Changes.{keys_of};
 ghost use Rattle.tsn_bytes.specs.Bytes.{IsCut};
 ghost use Rattle.tsn_bytes.specs.declared.bytes.Fault.TheVariants.{Write};
-ghost use Rattle.tsn_records.specs.Keys.{key_text};
-ghost use Rattle.tsn_replies.specs.Pieces.{taking_back_front};
-ghost use Rattle.tsn_types.specs.declared.keys.Key.{Key as AnyKey};
-ghost use Rattle.tsn_replies.specs.Told.{act_name, by_key, made_data, taking_back_data, acted_data, entry_data, entries_data};
+ghost use Rattle.tsn_replies.specs.Pieces.{keys_piece, taking_back_front};
+ghost use Rattle.tsn_replies.specs.Told.{act_name, key_data, made_data, taking_back_data, acted_data, entry_data, entries_data};
 
-use crate::shown::{LONGEST_ITEM, ShownItem, push_key, push_number, write_listed};
+use crate::shown::{LONGEST_ITEM, LONGEST_KEY, ShownItem, push_key, push_number, write_listed};
 use crate::text::{CAPACITY, ShortText};
 use tsn_bytes::{ByteOut, Fault};
-use tsn_edit::Change;
+use tsn_edit::{Change, MOST_PARTS, Part};
 use tsn_journal::entries::{Act, Entry, What};
 use tsn_types::keys::Key;
 
-fn push_key_text(text: &mut ShortText, name: &str, key: Key)
-    requires { length text.old + length name.now + 29 ≤ CAPACITY }
-    ensures text { text.new ≡ text.old ++ (name.now ++ compact_text (string (key_text key))) }
-    ensures len { length text.new ≤ length text.old + length name.now + 29 }
+// Puts a key in quotes at the end.
+fn push_quoted(text: &mut ShortText, key: Key)
+    requires { length text.old + 29 ≤ CAPACITY }
+    ensures text { text.new ≡ text.old ++ compact_text (key_data key) }
+    ensures len { length text.new ≤ length text.old + LONGEST_KEY + 2 }
 {
-    text.push(name);
     text.push("\"");
     push_key(text, key);
     text.push("\"");
+}
+
+fn push_key_text(text: &mut ShortText, name: &str, key: Key)
+    requires { length text.old + length name.now + 29 ≤ CAPACITY }
+    ensures text { text.new ≡ text.old ++ (name.now ++ compact_text (key_data key)) }
+    ensures len { length text.new ≤ length text.old + length name.now + LONGEST_KEY + 2 }
+{
+    text.push(name);
+    push_quoted(text, key);
+}
+
+/// The most bytes of the keys of a change, with their name.
+const LONGEST_KEYS: usize = 249;
+
+// Puts the keys of several parts at the end, in their order.
+fn push_several(text: &mut ShortText, parts: &[Part])
+    requires several { 2 ≤ length parts.now }
+    requires few { length parts.now ≤ MOST_PARTS }
+    requires room { length text.old + LONGEST_KEYS + 16 ≤ CAPACITY }
+    ensures text { text.new ≡ text.old ++ keys_piece (keys_of parts.now) }
+    ensures len { length text.new ≤ length text.old + LONGEST_KEYS }
+{
+    let [first, others @ ..] = parts else {
+        return;
+    };
+    push_key_text(text, ",\"keys\":[", first.key);
+    'others: for part in others {
+        push_key_text(text, ",", part.key);
+    }
+    text.push("]");
+}
+
+// Puts the key of a change of one part, or the keys of one of several, at the end.
+fn push_keys(text: &mut ShortText, change: &Change)
+    requires { length text.old + LONGEST_KEYS + 16 ≤ CAPACITY }
+    ensures text { text.new ≡ text.old ++ keys_piece (keys_of change.now) }
+    ensures len { length text.new ≤ length text.old + LONGEST_KEYS }
+{
+    match change.parts() {
+        [part] => push_key_text(text, ",\"key\":", part.key),
+        parts => push_several(text, parts),
+    }
 }
 
 #[tactic(auto, unfolding(json::specs::Print::escape_byte))]
@@ -41,44 +81,46 @@ fn act_front(act: Act) -> &'static str
     }
 }
 
-fn push_made(text: &mut ShortText, number: u64, session: u32, key: Key)
+fn push_made(text: &mut ShortText, number: u64, session: u32, change: &Change)
     requires { length text.old + LONGEST_ITEM ≤ CAPACITY }
-    ensures text { text.new ≡ text.old ++ compact_text (made_data number session key) }
+    ensures text { text.new ≡ text.old ++ compact_text (made_data number session (keys_of change.now)) }
     ensures len { length text.new ≤ length text.old + LONGEST_ITEM }
 {
     push_number(text, "{\"entry\":", number);
-    push_key_text(text, ",\"key\":", key);
+    push_keys(text, change);
     push_number(text, ",\"session\":", u64::from(session));
     text.push(",\"what\":\"made\"}");
 }
 
 // Up to what was done.
-fn push_taking_back(text: &mut ShortText, number: u64, session: u32, of: u64, key: Key)
-    requires { length text.old + 128 ≤ CAPACITY }
-    ensures text { text.new ≡ text.old ++ taking_back_front number session of key }
-    ensures len { length text.new ≤ length text.old + 128 }
+fn push_taking_back(text: &mut ShortText, number: u64, session: u32, of: u64, change: &Change)
+    requires { length text.old + LONGEST_ITEM ≤ CAPACITY }
+    ensures text { text.new ≡ text.old ++ taking_back_front number session of (keys_of change.now) }
+    ensures len { length text.new + 17 ≤ length text.old + LONGEST_ITEM }
 {
     push_number(text, "{\"entry\":", number);
-    push_key_text(text, ",\"key\":", key);
+    push_keys(text, change);
     push_number(text, ",\"of\":", of);
     push_number(text, ",\"session\":", u64::from(session));
 }
 
-fn push_undone(text: &mut ShortText, number: u64, session: u32, of: u64, key: Key)
+fn push_undone(text: &mut ShortText, number: u64, session: u32, of: u64, change: &Change)
     requires { length text.old + LONGEST_ITEM ≤ CAPACITY }
-    ensures text { text.new ≡ text.old ++ compact_text (taking_back_data number session of key (codes "undone")) }
+    ensures text { text.new
+        ≡ text.old ++ compact_text (taking_back_data number session of (keys_of change.now) (codes "undone")) }
     ensures len { length text.new ≤ length text.old + LONGEST_ITEM }
 {
-    push_taking_back(text, number, session, of, key);
+    push_taking_back(text, number, session, of, change);
     text.push(",\"what\":\"undone\"}");
 }
 
-fn push_redone(text: &mut ShortText, number: u64, session: u32, of: u64, key: Key)
+fn push_redone(text: &mut ShortText, number: u64, session: u32, of: u64, change: &Change)
     requires { length text.old + LONGEST_ITEM ≤ CAPACITY }
-    ensures text { text.new ≡ text.old ++ compact_text (taking_back_data number session of key (codes "redone")) }
+    ensures text { text.new
+        ≡ text.old ++ compact_text (taking_back_data number session of (keys_of change.now) (codes "redone")) }
     ensures len { length text.new ≤ length text.old + LONGEST_ITEM }
 {
-    push_taking_back(text, number, session, of, key);
+    push_taking_back(text, number, session, of, change);
     text.push(",\"what\":\"redone\"}");
 }
 
@@ -95,13 +137,6 @@ fn push_acted(text: &mut ShortText, number: u64, session: u32, act: Act, key: Ke
     text.push(",\"what\":\"acted\"}");
 }
 
-// The key by which a change is told: the first of its keys.
-fn key_of(change: &Change) -> Key
-    ensures { (told : AnyKey → Data) → by_key told (keys_of change.now) ≡ told result }
-{
-    change.parts()[0].key
-}
-
 fn push_entry(text: &mut ShortText, entry: &Entry)
     requires { length text.old + LONGEST_ITEM ≤ CAPACITY }
     ensures text { text.new ≡ text.old ++ compact_text (entry_data entry.now) }
@@ -113,9 +148,9 @@ fn push_entry(text: &mut ShortText, entry: &Entry)
         what,
     } = entry;
     match what {
-        What::Made(change) => push_made(text, *number, *session, key_of(change)),
-        What::Undone { of, change } => push_undone(text, *number, *session, *of, key_of(change)),
-        What::Redone { of, change } => push_redone(text, *number, *session, *of, key_of(change)),
+        What::Made(change) => push_made(text, *number, *session, change),
+        What::Undone { of, change } => push_undone(text, *number, *session, *of, change),
+        What::Redone { of, change } => push_redone(text, *number, *session, *of, change),
         What::Acted { act, key, now } => {
             push_acted(text, *number, *session, *act, *key, now.get());
         }

@@ -11,6 +11,10 @@ pub returns-clause-redone : goal.returns-clause-redone
 unfolding serde_json_on_literals digits
 returns-clause-redone c = refl
 
+pub returns-clause-batch : goal.returns-clause-batch
+unfolding serde_json_on_literals digits
+returns-clause-batch c = refl
+
 pub returns-clause-acted : goal.returns-clause-acted
 unfolding serde_json_on_literals digits
 returns-clause-acted c = refl
