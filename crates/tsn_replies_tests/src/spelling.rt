@@ -9,7 +9,7 @@ use tsn_bridge::reply::Reply;
 use tsn_bytes::MemOut;
 use tsn_chain::data::FilterData;
 use tsn_chain::state::{Counters, ListCounters};
-use tsn_edit::{Change, Part};
+use tsn_edit::{Change, MOST_PARTS, Part};
 use tsn_journal::entries::{Act, Entry, What};
 use tsn_replies::{ShortText, write_entries};
 use tsn_types::keys::Key;
@@ -136,6 +136,20 @@ fn change() -> Change {
     })
 }
 
+// A part on each of the last sixteen filters.
+fn parts(alloc: Global) -> Result<Vec<Part>, Fail> {
+    let mut parts = Vec::new(alloc);
+    for number in 65_520..65_536 {
+        let part = Part {
+            key: Key::Filter(FilterId::new(number).unwrap()),
+            before: None,
+            after: None,
+        };
+        parts.push(part)?;
+    }
+    Ok(parts)
+}
+
 // The greatest entry of the greatest session is told in this text, which is what `serde_json` prints of its value.
 fn tells(rt: &impl Abort, alloc: Global, what: What, text: &str) -> Result<(), Fail> {
     same(rt, &printed(alloc, text)?.as_str(), &text);
@@ -176,6 +190,22 @@ fn tells_changes(rt: &impl Abort, alloc: Global) -> Result<(), Fail> {
     tells(rt, alloc, redone, text)
 }
 
+// The longest entry of all.
+fn tells_a_batch(rt: &impl Abort, alloc: Global) -> Result<(), Fail> {
+    let text = "{\"entry\":18446744073709551615,\"keys\":[\
+        \"filter 65520\",\"filter 65521\",\"filter 65522\",\"filter 65523\",\"filter 65524\",\
+        \"filter 65525\",\"filter 65526\",\"filter 65527\",\"filter 65528\",\"filter 65529\",\
+        \"filter 65530\",\"filter 65531\",\"filter 65532\",\"filter 65533\",\"filter 65534\",\
+        \"filter 65535\"],\"of\":18446744073709551615,\"session\":4294967295,\"what\":\"undone\"}";
+    let parts = parts(alloc)?;
+    assert!(rt; parts.len() == MOST_PARTS);
+    let undone = What::Undone {
+        of: GREATEST,
+        change: Change::of_many(parts),
+    };
+    tells(rt, alloc, undone, text)
+}
+
 fn tells_an_act(rt: &impl Abort, alloc: Global) -> Result<(), Fail> {
     let text =
         "{\"act\":\"disable\",\"entry\":18446744073709551615,\"key\":\"gate 65535\",\"now\":4611686018427387904,\"session\":4294967295,\"what\":\"acted\"}";
@@ -197,5 +227,6 @@ fn spells_what_no_script_brings_about(rt: HostRuntime) -> Result<(), Fail> {
     spells_counters_of_gates(&rt, alloc)?;
     spells_counters_of_filters(&rt, alloc)?;
     tells_changes(&rt, alloc)?;
+    tells_a_batch(&rt, alloc)?;
     tells_an_act(&rt, alloc)
 }
