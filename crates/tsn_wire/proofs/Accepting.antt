@@ -1,11 +1,5 @@
 -- A line is accepted exactly where it is the value of a command.
-use Rattle.std.proofs.Common.{◌≡◌, ℕ, ◌≤◌, ◌||◌, ◌==◌, ◌++◌, List, [], ◌∷◌, length, drop, map, Bool, true, false, not, cond, nat_eq, Option, Some, None, option_map, Ok, codes, decimal, bytes_eq, refl, sym, ap, ap₂, subst, ◌∙◌, arith, eqb-true, leb-true, ltb-true}
-use Rattle.std.specs.List.{starts_with}
-use Rattle.std.specs.Str.Parse.{digits_value}
-use Rattle.std.proofs.lemmas.Bool.Decides.{Decides-eqb}
-use Rattle.std.proofs.lemmas.Fmt.{decimal-digits_value}
-use Rattle.std.proofs.lemmas.Slice.Eq.{bytes_eq-Decides, starts_is}
-use Rattle.std.proofs.lemmas.Str.Parse.{digits_value_short}
+use Rattle.std.proofs.Common.{◌≡◌, ℕ, ◌≤◌, List, map, true, Some, Ok, codes, bytes_eq, refl, sym, ap, subst, ◌∙◌, arith}
 use Rattle.serde_json.specs.Data.{Data, boolean, string}
 use Rattle.serde_json.specs.Find.{get}
 use Rattle.tsn_bridge.specs.declared.command.Command.{Command}
@@ -13,188 +7,43 @@ use Rattle.tsn_bridge.specs.declared.command.Command.TheVariants as commands
 use Rattle.tsn_bridge.specs.Sessions.{most_sessions}
 use Rattle.tsn_chain.specs.declared.frame.Frame.{Frame}
 use Rattle.tsn_types.specs.declared.keys.Key.{Key}
-use Rattle.tsn_types.specs.declared.keys.Key.TheVariants as keys
 use Rattle.tsn_types.specs.declared.keys.Kind.{Kind}
 use Rattle.tsn_types.specs.declared.keys.Kind.TheVariants as kinds
-use Rattle.tsn_types.specs.declared.records.PortGates.{PortGates}
-use Rattle.tsn_types.specs.declared.records.StreamGate.{StreamGate}
 use Rattle.tsn_types.specs.declared.records.Record.{Record}
-use Rattle.tsn_types.specs.declared.records.Record.TheVariants as records
 use Rattle.tsn_types.specs.declared.refusals.Field.{Field}
 use Rattle.tsn_types.specs.declared.refusals.Field.TheVariants as fields
 use Rattle.tsn_types.specs.InRange.{KeyedInRange}
 use Rattle.tsn_types.specs.Keys.{kind, number_of}
-use Rattle.tsn_types.specs.Numbers.{IsHandle, IsInstanceId, IsPriority, greatest_handle, greatest_instance, greatest_instant, greatest_priority, most_ports}
+use Rattle.tsn_types.specs.Numbers.{IsHandle, IsPriority, greatest_handle, greatest_instant, greatest_priority}
 use Rattle.tsn_records.specs.Answers.{or_shape, or_syntax}
-use Rattle.tsn_wire.specs.Commands.{key_at, removable, listed, listed_at, keyed_record, create_shape, replace_shape, remove_shape, bare_shape, enable_shape, disable_shape, apply_shape, frame_members, frame_shape, states_shape, counters_shape, show_shape, list_shape, since_shape, command_shape, line_shape}
+use Rattle.tsn_wire.specs.Commands.{key_at, listed, listed_at, keyed_record, create_shape, replace_shape, removed_key, remove_shape, batch_shape, bare_shape, enable_shape, disable_shape, apply_shape, frame_members, frame_shape, states_shape, counters_shape, show_shape, list_shape, since_shape, command_shape, line_shape}
 use Rattle.tsn_records.specs.Json.{flag_at, has_members, number_at, text_at, value_at}
-use Rattle.tsn_records.specs.Keys.{is_decimal, decimal_of, numbered, key_of, kind_of, key_text, kind_text, spelled_key}
-use Rattle.tsn_records.specs.Ranges.{within, port, filter, gate, meter, record_of, key, key_of_kind}
+use Rattle.tsn_records.specs.Keys.{kind_of, key_text, kind_text}
+use Rattle.tsn_records.specs.Ranges.{within, record_of, key}
 use Rattle.tsn_wire.specs.Ranges.{greatest_after, longest_frame, frame_of_draft, command_of_draft}
 use Rattle.tsn_wire.specs.Reading.{data_of, line_of_draft, reading, line_of}
-use Rattle.tsn_records.specs.Records.{port_shape, filter_shape, gate_shape, meter_shape, record_shape}
-use Rattle.tsn_records.specs.Shown.{whole_data, port_entry_data, gate_entry_data, port_data, gate_data, record_data}
-use Rattle.tsn_wire.specs.Spelled.{IsNoPort, port_entry_value, gate_entry_value, port_value, filter_value, gate_value, meter_value, record_value}
-use Rattle.tsn_wire.specs.Values.{act_data, asked_data, bare_data, frame_data, keyed_data, edit_data, listed_data, states_data, value_of, KeyInRange, MayHaveList, ListInRange, FrameInRange, IsSession, MayBeAsked, AcceptsValues}
+use Rattle.tsn_records.specs.Records.{record_shape}
+use Rattle.tsn_records.specs.Shown.{whole_data, record_data}
+use Rattle.tsn_wire.specs.Spelled.{IsNoPort, record_value}
+use Rattle.tsn_wire.specs.Values.{act_data, asked_data, bare_data, frame_data, keyed_data, edit_data, listed_data, states_data, value_of, MayHaveList, ListInRange, FrameInRange, IsSession, MayBeAsked, AcceptsValues}
 use Rattle.tsn_wire.specs.ReadingBack.{ReadsBack}
 use Rattle.tsn_records.specs.declared.drafts.KeyDraft.{KeyDraft}
 use Rattle.tsn_records.specs.declared.drafts.RecordDraft.{RecordDraft}
-use Rattle.tsn_records.specs.declared.drafts.RecordDraft.TheVariants as drafts
 use Rattle.tsn_wire.specs.declared.drafts.CommandDraft.{CommandDraft}
 use Rattle.tsn_wire.specs.declared.drafts.CommandDraft.TheVariants as wanted
 use Rattle.tsn_wire.specs.declared.drafts.FrameDraft.{FrameDraft}
 use Rattle.tsn_wire.specs.declared.drafts.LineDraft.{LineDraft}
 use Rattle.tsn_wire.specs.declared.drafts.LineDraft.TheVariants.{Hello, Session}
 use Rattle.tsn_bridge.specs.declared.command.Ask.{Ask}
-use Rattle.tsn_records.proofs.Digits.{own, and_parts}
-use Rattle.tsn_records.proofs.RecordRanges.{passed, at_most, port_passed, filter_passed, gate_passed, meter_passed, within_ok, at_most_ok, port_entry_draft, gate_entry_draft, port_draft, gate_draft, filter_draft, meter_draft, port_back, filter_back, gate_back, meter_back}
+use Rattle.tsn_records.proofs.RecordRanges.{passed, at_most, within_ok, at_most_ok}
 use Rattle.tsn_records.proofs.Steps.{only, steps, syntax_there, not_refused}
 use Rattle.tsn_wire.proofs.Acting.{enable_shaped, disable_shaped, apply_shaped, states_shaped, counters_shaped, frame_draft, frame_shaped}
-use Rattle.tsn_wire.proofs.FromShapes.{number_there, flag_there, text_there, value_there, port_known, filter_known, gate_known, meter_known}
+use Rattle.tsn_wire.proofs.Batching.{batch_known, batch_shaped, edit_draft, edits_back}
+use Rattle.tsn_wire.proofs.Known.{by_test, same_text, kind_known, removable_known, key_there, record_same, record_known, record_draft, key_draft, key_back, instance, read_back}
+use Rattle.tsn_wire.proofs.FromShapes.{number_there, flag_there, text_there, value_there}
 use Rattle.tsn_wire.proofs.Objects.{IsOrdered, inside, whole_object, inner_ordered, line_ordered}
-use Rattle.tsn_wire.proofs.OwnSpelling.{port_shaped, filter_shaped, gate_shaped, meter_shaped, create_shaped, replace_shaped, remove_shaped, show_shaped, listed_shaped, undo_shaped, undo_all_shaped, redo_shaped, asked_shaped}
+use Rattle.tsn_wire.proofs.OwnSpelling.{create_shaped, replace_shaped, remove_shaped, show_shaped, listed_shaped, undo_shaped, undo_all_shaped, redo_shaped, asked_shaped}
 use Rattle.tsn_wire.proofs.ReadingBack.{in_steps}
-
--- one of two, by a test
-by_test : {A P : Type 0} (b : Bool) (x y z : A) → cond b x y ≡ z → (b ≡ true → x ≡ z → P) → (b ≡ false → y ≡ z → P) → P
-by_test true x y z h first second = first refl h
-by_test false x y z h first second = second refl h
-
-some : {A : Type 0} (a b : A) → Some a ≡ Some b → a ≡ b
-some a b h = cc
-
-same_text : (a b : List ℕ) → bytes_eq a b ≡ true → a ≡ b
-same_text a b e = (bytes_eq-Decides a b).0 e
-
--- ---- keys
-
-chosen : {A : Type 0} (b : Bool) (x y : A) → cond b (Some x) None ≡ Some y → (b ≡ true) × (x ≡ y)
-chosen true x y h = (refl, some x y h)
-chosen false x y h = cc
-
-zero_alone : (one : Bool) (first : ℕ) → one || not (first == 48) ≡ true → first ≡ 48 → one ≡ true
-zero_alone true first h e = refl
-zero_alone false first h e = let never : false ≡ true = rw e at h in cc
-
-decimal_known : (ds : List ℕ) (n : ℕ) → decimal_of ds ≡ Some n → ds ≡ decimal n
-decimal_known ds n h =
-    let test = chosen (is_decimal ds) (digits_value 10 ds) n h in
-    let digits = and_parts _ _ test.0 in
-    let more = and_parts _ _ digits.1 in
-    let few = and_parts _ _ more.1 in
-    let ten : length ds ≤ 10 = leb-true _ _ few.0 in
-    let small = digits_value_short own ds 10 digits.0 ten in
-    sym (decimal-digits_value own ds digits.0 (ltb-true _ _ more.0) (λ e. eqb-true _ _ (zero_alone _ _ few.1 e)) (omega (arith, small))) ∙ ap decimal test.1
-
-mapped : {A B P : Type 0} (f : A → B) (o : Option A) (b : B) → option_map f o ≡ Some b → ((a : A) → o ≡ Some a → f a ≡ b → P) → P
-mapped f None b h next = cc
-mapped f (Some a) b h next = next a refl (some (f a) b h)
-
-numbered_known : (q : Kind) (ds : List ℕ) (k : KeyDraft) → numbered q ds ≡ Some k → (q ≡ k.kind) × (ds ≡ decimal k.number)
-numbered_known q ds k h =
-    mapped _ (decimal_of ds) k h (λ n found is. (ap (λ (x : KeyDraft). x.kind) is, decimal_known ds n found ∙ ap (λ (x : KeyDraft). decimal x.number) is))
-
-begins : (text piece : List ℕ) → starts_with nat_eq text piece ≡ true → text ≡ piece ++ drop (length piece) text
-begins text piece e = (starts_is Decides-eqb text piece _ refl).0 e
-
--- a kind's name and a space, and its number
-spelled_of : (text piece : List ℕ) (q : Kind) (k : KeyDraft) → starts_with nat_eq text piece ≡ true → numbered q (drop (length piece) text) ≡ Some k → ((n : ℕ) → piece ++ decimal n ≡ spelled_key q n) → text ≡ spelled_key k.kind k.number
-spelled_of text piece q k first number spells =
-    let known = numbered_known q (drop (length piece) text) k number in
-    begins text piece first ∙ ap (λ l. piece ++ l) known.1 ∙ spells k.number ∙ ap (λ x. spelled_key x k.number) known.0
-
-key_known : (text : List ℕ) (k : KeyDraft) → key_of text ≡ Some k → text ≡ spelled_key k.kind k.number
-key_known text k h =
-    by_test _ _ _ _ h (λ e n. spelled_of text (codes "port ") kinds.Port k e n (λ _. refl))
-    (λ _ h1. by_test _ _ _ _ h1 (λ e n. spelled_of text (codes "filter ") kinds.Filter k e n (λ _. refl))
-    (λ _ h2. by_test _ _ _ _ h2 (λ e n. spelled_of text (codes "gate ") kinds.Gate k e n (λ _. refl))
-    (λ _ h3. by_test _ _ _ _ h3 (λ e n. spelled_of text (codes "meter ") kinds.Meter k e n (λ _. refl)) (λ _ h4. cc))))
-
-kind_known : (text : List ℕ) (k : Kind) → kind_of text ≡ Some k → text ≡ kind_text k
-kind_known text k h =
-    by_test _ _ _ _ h (λ e n. same_text text _ e ∙ ap kind_text (some kinds.Port k n))
-    (λ _ h1. by_test _ _ _ _ h1 (λ e n. same_text text _ e ∙ ap kind_text (some kinds.Filter k n))
-    (λ _ h2. by_test _ _ _ _ h2 (λ e n. same_text text _ e ∙ ap kind_text (some kinds.Gate k n))
-    (λ _ h3. by_test _ _ _ _ h3 (λ e n. same_text text _ e ∙ ap kind_text (some kinds.Meter k n)) (λ _ h4. cc))))
-
--- a key that passes
-key_passed_at : (q : Kind) (n : ℕ) (k : Key) → key_of_kind q n ≡ Ok k → (q ≡ kind k) × (n ≡ number_of k) × KeyInRange k
-key_passed_at kinds.Port n k h =
-    steps (within fields.Key 1 most_ports n) _ k h (λ number number_is number_next.
-    let known = passed fields.Key 1 most_ports n number number_is in
-    subst (λ x. (kinds.Port ≡ kind x) × (n ≡ number_of x) × KeyInRange x) (only (Ok (keys.Port number)) (keys.Port number) k refl number_next) (refl, known.0, known.1))
-key_passed_at kinds.Filter n k h =
-    steps (within fields.Key 0 greatest_instance n) _ k h (λ number number_is number_next.
-    let known = at_most fields.Key greatest_instance n number number_is in
-    subst (λ x. (kinds.Filter ≡ kind x) × (n ≡ number_of x) × KeyInRange x) (only (Ok (keys.Filter number)) (keys.Filter number) k refl number_next) (refl, known.0, known.1))
-key_passed_at kinds.Gate n k h =
-    steps (within fields.Key 0 greatest_instance n) _ k h (λ number number_is number_next.
-    let known = at_most fields.Key greatest_instance n number number_is in
-    subst (λ x. (kinds.Gate ≡ kind x) × (n ≡ number_of x) × KeyInRange x) (only (Ok (keys.Gate number)) (keys.Gate number) k refl number_next) (refl, known.0, known.1))
-key_passed_at kinds.Meter n k h =
-    steps (within fields.Key 0 greatest_instance n) _ k h (λ number number_is number_next.
-    let known = at_most fields.Key greatest_instance n number number_is in
-    subst (λ x. (kinds.Meter ≡ kind x) × (n ≡ number_of x) × KeyInRange x) (only (Ok (keys.Meter number)) (keys.Meter number) k refl number_next) (refl, known.0, known.1))
-
--- the member `key` of a value
-key_there : (d : Data) (q : KeyDraft) (k : Key) → key_at d ≡ Ok q → key q ≡ Ok k → (get (codes "key") d ≡ Some (string (key_text k))) × (q.kind ≡ kind k) × KeyInRange k
-key_there d q k at_key range =
-    steps (text_at (codes "key") d) _ q at_key (λ text text_is text_next.
-    let known = key_passed_at q.kind q.number k range in
-    let spelled : text ≡ spelled_key q.kind q.number = key_known text q (value_there (key_of text) q text_next) in
-    let same : spelled_key q.kind q.number ≡ key_text k = rw (known.0, known.1) refl in
-    (text_there _ text text_is ∙ ap (λ l. Some (string l)) (spelled ∙ same), known.0, known.2))
-
--- ---- records
-
-entries_same : {A B : Type 0} (value : B → Data) (draft : A → B) (shown : A → Data) → ((e : A) → value (draft e) ≡ shown e) → (es : List A) → map value (map draft es) ≡ map shown es
-entries_same value draft shown one [] = refl
-entries_same value draft shown one (e ∷ es) = ap₂ ◌∷◌ (one e) (entries_same value draft shown one es)
-
-port_same : (r : PortGates) → port_value (port_draft r) ≡ port_data r
-port_same r = rw (entries_same port_entry_value port_entry_draft port_entry_data (λ _. refl) r.admin.list)
-
-gate_same : (r : StreamGate) → gate_value (gate_draft r) ≡ gate_data r
-gate_same r = rw (entries_same gate_entry_value gate_entry_draft gate_entry_data (λ _. refl) r.admin.list)
-
-abbrev record_draft : Record → RecordDraft
-record_draft (records.Port r) = drafts.Port (port_draft r)
-record_draft (records.Filter r) = drafts.Filter (filter_draft r)
-record_draft (records.Gate r) = drafts.Gate (gate_draft r)
-record_draft (records.Meter r) = drafts.Meter (meter_draft r)
-
-record_same : (r : Record) → record_value (record_draft r) ≡ record_data r
-record_same (records.Port r) = port_same r
-record_same (records.Filter r) = refl
-record_same (records.Gate r) = gate_same r
-record_same (records.Meter r) = refl
-
--- a value that is read as a record of the key's kind is the record's
-record_known : (k : Key) (d : Data) (draft : RecordDraft) (r : Record) → IsOrdered d → KeyInRange k → record_shape (kind k) d ≡ Ok draft → record_of draft ≡ Ok r → (d ≡ record_data r) × KeyedInRange k r
-record_known (keys.Port n) d draft r ordered fits shape range =
-    steps (port_shape d) _ draft shape (λ shaped shaped_is shaped_next.
-    steps (port shaped) _ r (ap record_of (only (Ok (drafts.Port shaped)) (drafts.Port shaped) draft refl shaped_next) ∙ range) (λ found found_is found_next.
-    let known = port_passed shaped found found_is in
-    subst (λ x. (d ≡ record_data x) × KeyedInRange (keys.Port n) x) (only (Ok (records.Port found)) (records.Port found) r refl found_next)
-    (port_known d shaped ordered shaped_is ∙ ap port_value known.0 ∙ port_same found, (fits, known.1))))
-record_known (keys.Filter n) d draft r ordered fits shape range =
-    steps (filter_shape d) _ draft shape (λ shaped shaped_is shaped_next.
-    steps (filter shaped) _ r (ap record_of (only (Ok (drafts.Filter shaped)) (drafts.Filter shaped) draft refl shaped_next) ∙ range) (λ found found_is found_next.
-    let known = filter_passed shaped found found_is in
-    subst (λ x. (d ≡ record_data x) × KeyedInRange (keys.Filter n) x) (only (Ok (records.Filter found)) (records.Filter found) r refl found_next)
-    (filter_known d shaped ordered shaped_is ∙ ap filter_value known.0, (fits, known.1))))
-record_known (keys.Gate n) d draft r ordered fits shape range =
-    steps (gate_shape d) _ draft shape (λ shaped shaped_is shaped_next.
-    steps (gate shaped) _ r (ap record_of (only (Ok (drafts.Gate shaped)) (drafts.Gate shaped) draft refl shaped_next) ∙ range) (λ found found_is found_next.
-    let known = gate_passed shaped found found_is in
-    subst (λ x. (d ≡ record_data x) × KeyedInRange (keys.Gate n) x) (only (Ok (records.Gate found)) (records.Gate found) r refl found_next)
-    (gate_known d shaped ordered shaped_is ∙ ap gate_value known.0 ∙ gate_same found, (fits, known.1))))
-record_known (keys.Meter n) d draft r ordered fits shape range =
-    steps (meter_shape d) _ draft shape (λ shaped shaped_is shaped_next.
-    steps (meter shaped) _ r (ap record_of (only (Ok (drafts.Meter shaped)) (drafts.Meter shaped) draft refl shaped_next) ∙ range) (λ found found_is found_next.
-    let known = meter_passed shaped found found_is in
-    subst (λ x. (d ≡ record_data x) × KeyedInRange (keys.Meter n) x) (only (Ok (records.Meter found)) (records.Meter found) r refl found_next)
-    (meter_known d shaped ordered shaped_is ∙ ap meter_value known.0, (fits, known.1))))
 
 -- ---- what is accepted is a value
 
@@ -214,7 +63,7 @@ keyed_known word s d q k u of count at_key range =
     let named = key_there d q k at_key range in
     whole_object 2 d (inside (keyed_data word s (key_text k))) u of.ordered count refl (refl, (refl, tt)) (of.word_there, (named.0, (of.session_there, tt)))
 
-edit_known : (word : List ℕ) (s : ℕ) (d : Data) (p : KeyDraft × RecordDraft) (k : Key) (r : Record) → IsOf word s d → keyed_record d ≡ Ok p → key p.0 ≡ Ok k → record_of p.1 ≡ Ok r → KeyedInRange k r × (d ≡ edit_data word s (key_text k) (record_data r))
+edit_known : (word : List ℕ) (s : ℕ) (d : Data) (p : KeyDraft × RecordDraft) (k : Key) (r : Record) → IsOf word s d → keyed_record 4 d ≡ Ok p → key p.0 ≡ Ok k → record_of p.1 ≡ Ok r → KeyedInRange k r × (d ≡ edit_data word s (key_text k) (record_data r))
 unfolding keyed_record
 edit_known word s d p k r of shape range ranges =
     steps (has_members 4 d) _ p shape (λ u count_is count_next.
@@ -230,7 +79,7 @@ edit_known word s d p k r of shape range ranges =
 create_known : (s : ℕ) (d : Data) (draft : CommandDraft) (c : Command) → IsOf (codes "create") s d → create_shape d ≡ Ok draft → command_of_draft draft ≡ Ok c → IsValue s d c
 unfolding create_shape
 create_known s d draft c of shape range =
-    steps (keyed_record d) _ draft shape (λ p p_is p_next.
+    steps (keyed_record 4 d) _ draft shape (λ p p_is p_next.
     let whole = wanted.Create p.0 p.1 in
     steps (key p.0) _ c (ap command_of_draft (only (Ok whole) whole draft refl p_next) ∙ range) (λ k k_is k_next.
     steps (record_of p.1) _ c k_next (λ r r_is r_next.
@@ -241,7 +90,7 @@ create_known s d draft c of shape range =
 replace_known : (s : ℕ) (d : Data) (draft : CommandDraft) (c : Command) → IsOf (codes "replace") s d → replace_shape d ≡ Ok draft → command_of_draft draft ≡ Ok c → IsValue s d c
 unfolding replace_shape
 replace_known s d draft c of shape range =
-    steps (keyed_record d) _ draft shape (λ p p_is p_next.
+    steps (keyed_record 4 d) _ draft shape (λ p p_is p_next.
     let whole = wanted.Replace p.0 p.1 in
     steps (key p.0) _ c (ap command_of_draft (only (Ok whole) whole draft refl p_next) ∙ range) (λ k k_is k_next.
     steps (record_of p.1) _ c k_next (λ r r_is r_next.
@@ -249,20 +98,14 @@ replace_known s d draft c of shape range =
     let found = commands.Replace k r in
     subst (IsValue s d) (only (Ok found) found c refl r_next) ((of.session, known.0), known.1))))
 
-removable_known : (q p : KeyDraft) (of : Kind) → removable q of ≡ Ok p → (q ≡ p) × IsNoPort of
-removable_known q p kinds.Port h = cc
-removable_known q p kinds.Filter h = (only (Ok q) q p refl h, tt)
-removable_known q p kinds.Gate h = (only (Ok q) q p refl h, tt)
-removable_known q p kinds.Meter h = (only (Ok q) q p refl h, tt)
-
 remove_known : (s : ℕ) (d : Data) (draft : CommandDraft) (c : Command) → IsOf (codes "remove") s d → remove_shape d ≡ Ok draft → command_of_draft draft ≡ Ok c → IsValue s d c
-unfolding remove_shape
+unfolding remove_shape removed_key
 remove_known s d draft c of shape range =
-    steps (has_members 3 d) _ draft shape (λ count count_is count_next.
-    steps (key_at d) _ draft count_next (λ q q_is q_next.
-    steps (removable q q.kind) _ draft q_next (λ p p_is p_next.
-    let may = removable_known q p q.kind p_is in
+    steps (removed_key 3 d) _ draft shape (λ p p_is p_next.
     let whole = wanted.Remove p in
+    steps (has_members 3 d) _ p p_is (λ count count_is count_next.
+    steps (key_at d) _ p count_next (λ q q_is q_next.
+    let may = removable_known q p q.kind q_next in
     steps (key p) _ c (ap command_of_draft (only (Ok whole) whole draft refl p_next) ∙ range) (λ k k_is k_next.
     let range_of : key q ≡ Ok k = ap key may.0 ∙ k_is in
     let named = key_there d q k q_is range_of in
@@ -463,6 +306,9 @@ frame_known s d draft c of shape range =
           (of.word_there, (held.handle, (number_there _ n n_is ∙ ap (λ m. Some (whole_data m)) at.0, (held.octets, (held.priority, (of.session_there, (held.yellow, tt))))))),
     ))))))
 
+batch_asked : (s : ℕ) (d : Data) (draft : CommandDraft) (c : Command) → IsOf (codes "batch") s d → batch_shape d ≡ Ok draft → command_of_draft draft ≡ Ok c → IsValue s d c
+batch_asked s d draft c of shape range = batch_known s d draft c of.ordered of.word_there of.session_there of.session shape range
+
 -- the same value, with the word by its name
 named : (word name : List ℕ) (s : ℕ) (d : Data) → IsOf word s d → bytes_eq word name ≡ true → IsOf name s d
 named word name s d of e = subst (λ w. IsOf w s d) (same_text word name e) of
@@ -473,18 +319,19 @@ command_known word s d draft c of shape range =
     by_test _ _ _ _ shape (λ e h. create_known s d draft c (named word _ s d of e) h range)
     (λ _ h1. by_test _ _ _ _ h1 (λ e h. replace_known s d draft c (named word _ s d of e) h range)
     (λ _ h2. by_test _ _ _ _ h2 (λ e h. remove_known s d draft c (named word _ s d of e) h range)
-    (λ _ h3. by_test _ _ _ _ h3 (λ e h. bare_known _ wanted.Undo commands.Undo s d draft c (named word _ s d of e) h range refl (λ session is. (session, is)))
-    (λ _ h4. by_test _ _ _ _ h4 (λ e h. bare_known _ wanted.UndoAll commands.UndoAll s d draft c (named word _ s d of e) h range refl (λ session is. (session, is)))
-    (λ _ h5. by_test _ _ _ _ h5 (λ e h. bare_known _ wanted.Redo commands.Redo s d draft c (named word _ s d of e) h range refl (λ session is. (session, is)))
-    (λ _ h6. by_test _ _ _ _ h6 (λ e h. enable_known s d draft c (named word _ s d of e) h range)
-    (λ _ h7. by_test _ _ _ _ h7 (λ e h. disable_known s d draft c (named word _ s d of e) h range)
-    (λ _ h8. by_test _ _ _ _ h8 (λ e h. apply_known s d draft c (named word _ s d of e) h range)
-    (λ _ h9. by_test _ _ _ _ h9 (λ e h. frame_known s d draft c (named word _ s d of e) h range)
-    (λ _ h10. by_test _ _ _ _ h10 (λ e h. states_known s d draft c (named word _ s d of e) h range)
-    (λ _ h11. by_test _ _ _ _ h11 (λ e h. counters_known s d draft c (named word _ s d of e) h range)
-    (λ _ h12. by_test _ _ _ _ h12 (λ e h. show_known s d draft c (named word _ s d of e) h range)
-    (λ _ h13. by_test _ _ _ _ h13 (λ e h. list_known s d draft c (named word _ s d of e) h range)
-    (λ _ h14. by_test _ _ _ _ h14 (λ e h. since_known s d draft c (named word _ s d of e) h range) (λ _ h15. cc)))))))))))))))
+    (λ _ h3. by_test _ _ _ _ h3 (λ e h. batch_asked s d draft c (named word _ s d of e) h range)
+    (λ _ h4. by_test _ _ _ _ h4 (λ e h. bare_known _ wanted.Undo commands.Undo s d draft c (named word _ s d of e) h range refl (λ session is. (session, is)))
+    (λ _ h5. by_test _ _ _ _ h5 (λ e h. bare_known _ wanted.UndoAll commands.UndoAll s d draft c (named word _ s d of e) h range refl (λ session is. (session, is)))
+    (λ _ h6. by_test _ _ _ _ h6 (λ e h. bare_known _ wanted.Redo commands.Redo s d draft c (named word _ s d of e) h range refl (λ session is. (session, is)))
+    (λ _ h7. by_test _ _ _ _ h7 (λ e h. enable_known s d draft c (named word _ s d of e) h range)
+    (λ _ h8. by_test _ _ _ _ h8 (λ e h. disable_known s d draft c (named word _ s d of e) h range)
+    (λ _ h9. by_test _ _ _ _ h9 (λ e h. apply_known s d draft c (named word _ s d of e) h range)
+    (λ _ h10. by_test _ _ _ _ h10 (λ e h. frame_known s d draft c (named word _ s d of e) h range)
+    (λ _ h11. by_test _ _ _ _ h11 (λ e h. states_known s d draft c (named word _ s d of e) h range)
+    (λ _ h12. by_test _ _ _ _ h12 (λ e h. counters_known s d draft c (named word _ s d of e) h range)
+    (λ _ h13. by_test _ _ _ _ h13 (λ e h. show_known s d draft c (named word _ s d of e) h range)
+    (λ _ h14. by_test _ _ _ _ h14 (λ e h. list_known s d draft c (named word _ s d of e) h range)
+    (λ _ h15. by_test _ _ _ _ h15 (λ e h. since_known s d draft c (named word _ s d of e) h range) (λ _ h16. cc))))))))))))))))
 
 -- a value that asks for what a line says
 abbrev SaysAsk : Data → Ask → Type 0
@@ -528,34 +375,6 @@ accepted line l h =
 
 -- ---- a value is accepted
 
-abbrev key_draft : Key → KeyDraft
-key_draft k = record { kind = kind k; number = number_of k }
-
-key_back : (k : Key) → KeyInRange k → key (key_draft k) ≡ Ok k
-key_back (keys.Port n) fits = rw (within_ok fields.Key 1 most_ports n fits)
-key_back (keys.Filter n) fits = rw (at_most_ok fields.Key greatest_instance n fits)
-key_back (keys.Gate n) fits = rw (at_most_ok fields.Key greatest_instance n fits)
-key_back (keys.Meter n) fits = rw (at_most_ok fields.Key greatest_instance n fits)
-
-instance : (k : Key) → KeyInRange k → IsInstanceId (number_of k)
-instance (keys.Port n) fits = omega (arith, fits.1)
-instance (keys.Filter n) fits = fits
-instance (keys.Gate n) fits = fits
-instance (keys.Meter n) fits = fits
-
--- a key and a record of its kind read back
-record IsReadBack (k : Key) (r : Record) : Type 0 where
-  in_range : KeyInRange k
-  shape : record_shape (kind k) (record_value (record_draft r)) ≡ Ok (record_draft r)
-  range : record_of (record_draft r) ≡ Ok r
-
-read_back : (k : Key) (r : Record) → KeyedInRange k r → IsReadBack k r
-read_back (keys.Port n) (records.Port r) fits = record { in_range = fits.0; shape = rw (port_shaped (port_draft r)); range = rw (port_back r fits.1) }
-read_back (keys.Filter n) (records.Filter r) fits = record { in_range = fits.0; shape = rw (filter_shaped (filter_draft r)); range = rw (filter_back r fits.1) }
-read_back (keys.Gate n) (records.Gate r) fits = record { in_range = fits.0; shape = rw (gate_shaped (gate_draft r)); range = rw (gate_back r fits.1) }
-read_back (keys.Meter n) (records.Meter r) fits = record { in_range = fits.0; shape = rw (meter_shaped (meter_draft r)); range = rw (meter_back r fits.1) }
-read_back k r fits = absurd fits
-
 -- in the value of an edit, the record may be seen as its draft
 as_draft : (word : List ℕ) (s : ℕ) (k : Key) (r : Record) (draft : LineDraft) → line_shape (edit_data word s (key_text k) (record_value (record_draft r))) ≡ Ok draft → line_shape (edit_data word s (key_text k) (record_data r)) ≡ Ok draft
 as_draft word s k r draft h = ap (λ d. line_shape (edit_data word s (key_text k) d)) (sym (record_same r)) ∙ h
@@ -582,6 +401,8 @@ read_as line s (commands.Replace k r) fits read =
     (rw (within_ok fields.S 1 most_sessions s fits.0, key_back k back.in_range, back.range))
 read_as line s (commands.Remove k) fits read =
     in_steps line _ (Session s (wanted.Remove (key_draft k))) _ read (remove_shaped s (kind k) (number_of k) (instance k fits.1) fits.2) (rw (within_ok fields.S 1 most_sessions s fits.0, key_back k fits.1))
+read_as line s (commands.Batch b) fits read =
+    in_steps line _ (Session s (wanted.Batch (map edit_draft b))) _ read (batch_shaped s b fits.1 fits.2) (rw (within_ok fields.S 1 most_sessions s fits.0, edits_back b fits.2))
 read_as line s commands.Undo fits read = in_steps line _ (Session s wanted.Undo) _ read (undo_shaped s) (rw (within_ok fields.S 1 most_sessions s fits))
 read_as line s commands.UndoAll fits read = in_steps line _ (Session s wanted.UndoAll) _ read (undo_all_shaped s) (rw (within_ok fields.S 1 most_sessions s fits))
 read_as line s commands.Redo fits read = in_steps line _ (Session s wanted.Redo) _ read (redo_shaped s) (rw (within_ok fields.S 1 most_sessions s fits))

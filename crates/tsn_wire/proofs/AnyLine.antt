@@ -6,8 +6,8 @@ use Rattle.tsn_records.specs.Keys.{kind_text}
 use Rattle.tsn_records.specs.Shown.{whole_data}
 use Rattle.tsn_records.specs.declared.drafts.KeyDraft.{KeyDraft}
 use Rattle.tsn_records.specs.declared.drafts.RecordDraft.{RecordDraft}
-use Rattle.tsn_wire.specs.Lines.{key_value, line_rows, IsOf, IsLine}
-use Rattle.tsn_wire.specs.Spelled.{record_value, IsKey, IsNoPort}
+use Rattle.tsn_wire.specs.Lines.{line_rows, IsOf, IsLine}
+use Rattle.tsn_wire.specs.Spelled.{key_value, record_value, IsKey, IsNoPort}
 use Rattle.tsn_wire.specs.Values.{MayHaveList}
 use Rattle.tsn_wire.specs.Words.{word_text}
 use Rattle.tsn_wire.specs.declared.any_line.LineMembers.{LineMembers}

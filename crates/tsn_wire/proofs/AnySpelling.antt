@@ -21,7 +21,7 @@ use Rattle.tsn_wire.specs.Members.{Rows, ReadsMembers}
 use Rattle.tsn_wire.specs.Reading.{line_of_draft, reading}
 use Rattle.tsn_wire.specs.Spelled.{record_value}
 use Rattle.tsn_wire.specs.Values.{MayHaveList}
-use Rattle.tsn_wire.specs.declared.drafts.CommandDraft.TheVariants.{Create, Replace, Remove, Undo, UndoAll, Redo, Enable, Disable, Apply, Frame, States, Counters, Show, List as ListKind, Since}
+use Rattle.tsn_wire.specs.declared.drafts.CommandDraft.TheVariants.{Create, Replace, Remove, Batch, Undo, UndoAll, Redo, Enable, Disable, Apply, Frame, States, Counters, Show, List as ListKind, Since}
 use Rattle.tsn_wire.specs.declared.drafts.FrameDraft.{FrameDraft}
 use Rattle.tsn_wire.specs.declared.drafts.LineDraft.{LineDraft}
 use Rattle.tsn_wire.specs.declared.drafts.LineDraft.TheVariants.{Hello, Session}
@@ -167,6 +167,7 @@ shaped Hello sound = hello_shaped
 shaped (Session s (Create key v)) (k, of) = create_shaped s key.kind key.number v k (record_kept key.kind v of)
 shaped (Session s (Replace key v)) (k, of) = replace_shaped s key.kind key.number v k (record_kept key.kind v of)
 shaped (Session s (Remove key)) (k, other) = remove_shaped s key.kind key.number k other
+shaped (Session s (Batch batch)) never = absurd never
 shaped (Session s Undo) sound = undo_shaped s
 shaped (Session s UndoAll) sound = undo_all_shaped s
 shaped (Session s Redo) sound = redo_shaped s
@@ -185,6 +186,7 @@ rises Hello = tt
 rises (Session s (Create key v)) = (refl, (refl, (refl, tt)))
 rises (Session s (Replace key v)) = (refl, (refl, (refl, tt)))
 rises (Session s (Remove key)) = (refl, (refl, tt))
+rises (Session s (Batch batch)) = (refl, (refl, tt))
 rises (Session s Undo) = (refl, tt)
 rises (Session s UndoAll) = (refl, tt)
 rises (Session s Redo) = (refl, tt)

@@ -82,7 +82,7 @@ flag_there = there as_bool boolean flag_is
 pub text_there : (o : Option Data) (s : List ℕ) → or_shape (option_and_then as_str o) ≡ Ok s → o ≡ Some (string s)
 text_there = there as_str string text_is
 
-items_there : (o : Option Data) (ds : Items) → or_shape (option_and_then as_array o) ≡ Ok ds → o ≡ Some (array ds)
+pub items_there : (o : Option Data) (ds : Items) → or_shape (option_and_then as_array o) ≡ Ok ds → o ≡ Some (array ds)
 items_there = there as_array array array_is
 
 pub value_there : {A : Type 0} (o : Option A) (a : A) → or_shape o ≡ Ok a → o ≡ Some a

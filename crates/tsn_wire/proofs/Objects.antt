@@ -10,7 +10,7 @@ use Rattle.std.proofs.lemmas.Map.Text.{is_eq-slice_cmp}
 use Rattle.std.proofs.lemmas.Slice.Eq.{bytes_eq-Decides}
 use Rattle.json.specs.Json as json
 use Rattle.json.specs.Lex.{tokens}
-use Rattle.serde_json.specs.Data.{Data, null, boolean, number, string, array, object, Members, no_members, member, put}
+use Rattle.serde_json.specs.Data.{Data, null, boolean, number, string, array, object, Items, no_items, item, Members, no_members, member, put}
 use Rattle.serde_json.specs.Find.{get, get_member}
 use Rattle.serde_json.specs.Read.{number_of, of_json, of_items, of_members, read, max_depth}
 use Rattle.tsn_records.specs.Json.{has_members, members_len}
@@ -25,15 +25,19 @@ abbrev pub Above : List ℕ → Members → Type 0
 Above k no_members = ⊤
 Above k (member l e ms) = (order k l ≡ Less) × Above k ms
 
--- each name is below those after it, also in the objects inside
+-- each name is below those after it, also in the arrays and objects inside
 abbrev mutual
   pub IsOrdered : Data → Type 0
   IsOrdered null = ⊤
   IsOrdered (boolean b) = ⊤
   IsOrdered (number n) = ⊤
   IsOrdered (string s) = ⊤
-  IsOrdered (array ds) = ⊤
+  IsOrdered (array ds) = ItemsAreOrdered ds
   IsOrdered (object ms) = AreOrdered ms
+
+  pub ItemsAreOrdered : Items → Type 0
+  ItemsAreOrdered no_items = ⊤
+  ItemsAreOrdered (item d ds) = IsOrdered d × ItemsAreOrdered ds
 
   pub AreOrdered : Members → Type 0
   AreOrdered no_members = ⊤
@@ -100,8 +104,13 @@ mutual
   of_json_ordered (json.boolean b) = tt
   of_json_ordered (json.number s) = if_map (λ _. ⊤) IsOrdered number (λ a x. tt) (number_of s) (any (number_of s))
   of_json_ordered (json.string s) = tt
-  of_json_ordered (json.array js) = if_map (λ _. ⊤) IsOrdered array (λ a x. tt) (of_items js) (any (of_items js))
+  of_json_ordered (json.array js) = if_map ItemsAreOrdered IsOrdered array (λ a x. x) (of_items js) (of_items_ordered js)
   of_json_ordered (json.object ms) = if_map AreOrdered IsOrdered object (λ a x. x) (of_members ms no_members) (of_members_ordered ms no_members tt)
+
+  of_items_ordered : (js : json.Items) → IfSome (of_items js) ItemsAreOrdered
+  of_items_ordered json.no_items = tt
+  of_items_ordered (json.item j js) =
+      if_and_then IsOrdered ItemsAreOrdered (λ d. option_map (item d) (of_items js)) (λ d x. if_map ItemsAreOrdered ItemsAreOrdered (item d) (λ ds y. (x, y)) (of_items js) (of_items_ordered js)) (of_json j) (of_json_ordered j)
 
   of_members_ordered : (ms : json.Members) (found : Members) → AreOrdered found → IfSome (of_members ms found) AreOrdered
   of_members_ordered json.no_members found h = h

@@ -22,7 +22,7 @@ use Rattle.tsn_types.specs.Numbers.{IsInstanceId}
 use Rattle.tsn_records.specs.Answers.{each, or_syntax}
 use Rattle.tsn_records.specs.Json.{items_list}
 use Rattle.tsn_records.specs.Keys.{kind_text, spelled_key}
-use Rattle.tsn_wire.specs.Commands.{line_shape, command_shape, keyed_record, create_shape, replace_shape, remove_shape, bare_shape, show_shape, list_shape, since_shape}
+use Rattle.tsn_wire.specs.Commands.{line_shape, command_shape, keyed_record, create_shape, replace_shape, removed_key, remove_shape, bare_shape, show_shape, list_shape, since_shape}
 use Rattle.tsn_records.specs.Records.{port_entry_shape, gate_entry_shape, list_shape as entries_shape, schedule_shape, port_shape, gate_shape, filter_shape, meter_shape, record_shape}
 use Rattle.tsn_wire.specs.Reading.{data_of, line_of_draft, reading}
 use Rattle.tsn_records.specs.Shown.{whole_data, or_null}
@@ -36,7 +36,7 @@ use Rattle.tsn_records.specs.declared.drafts.MeterDraft.{MeterDraft}
 use Rattle.tsn_records.specs.declared.drafts.RecordDraft.{RecordDraft}
 use Rattle.tsn_records.specs.declared.drafts.RecordDraft.TheVariants as records
 use Rattle.tsn_wire.specs.declared.drafts.CommandDraft.{CommandDraft}
-use Rattle.tsn_wire.specs.declared.drafts.CommandDraft.TheVariants.{Create, Replace, Remove, Undo, UndoAll, Redo, Enable, Disable, Apply, Frame, States, Counters, Show, List as ListKind, Since}
+use Rattle.tsn_wire.specs.declared.drafts.CommandDraft.TheVariants.{Create, Replace, Remove, Batch, Undo, UndoAll, Redo, Enable, Disable, Apply, Frame, States, Counters, Show, List as ListKind, Since}
 use Rattle.tsn_wire.specs.declared.drafts.LineDraft.{LineDraft}
 use Rattle.tsn_wire.specs.declared.drafts.LineDraft.TheVariants.{Session}
 use Rattle.tsn_records.specs.declared.unread.Unread.{Unread}
@@ -223,7 +223,7 @@ replace_text : (s : ℕ) (k : Kind) (n : ℕ) (v : RecordDraft) → IsInstanceId
 unfolding escape_byte
 replace_text s k n v small = quoted_key (codes "{\"do\":\"replace\",\"key\":\"") (codes ",\"record\":" ++ (compact_text (record_value v) ++ tail s)) k n small
 
-keyed_record_shaped : (word : List ℕ) (s : ℕ) (k : Kind) (n : ℕ) (v : RecordDraft) → IsInstanceId n → record_shape k (record_value v) ≡ Ok v → keyed_record (recorded word s k n v) ≡ Ok (record { kind = k; number = n }, v)
+keyed_record_shaped : (word : List ℕ) (s : ℕ) (k : Kind) (n : ℕ) (v : RecordDraft) → IsInstanceId n → record_shape k (record_value v) ≡ Ok v → keyed_record 4 (recorded word s k n v) ≡ Ok (record { kind = k; number = n }, v)
 unfolding keyed_record
 keyed_record_shaped word s kinds.Port n v small e = rw (decimal_back n small, e) refl
 keyed_record_shaped word s kinds.Filter n v small e = rw (decimal_back n small, e) refl
@@ -257,7 +257,7 @@ unfolding escape_byte
 show_text s k n small = quoted_key (codes "{\"do\":\"show\",\"key\":\"") (tail s) k n small
 
 pub remove_shaped : (s : ℕ) (k : Kind) (n : ℕ) → IsInstanceId n → IsNoPort k → line_shape (keyed (codes "remove") s k n) ≡ Ok (Session s (Remove (record { kind = k; number = n })))
-unfolding line_shape command_shape remove_shape
+unfolding line_shape command_shape remove_shape removed_key
 remove_shaped s kinds.Port n small other = absurd other
 remove_shaped s kinds.Filter n small other = rw (decimal_back n small) refl
 remove_shaped s kinds.Gate n small other = rw (decimal_back n small) refl
@@ -374,6 +374,7 @@ spelled_says line text rest (Show key) s first (k, is) small last utf8 =
 spelled_says line text rest (ListKind k) s first is small last utf8 =
     let whole_line = first ∙ ap (λ l. codes "{\"do\":\"" ++ l) (is ∙ ap (λ l. codes "list\",\"kind\":\"" ++ (kind_text k ++ (codes "\"" ++ l))) last) in
     reading_of line (listed s k) (Session s (ListKind k)) (printed_reads line _ (listed_plain s k small) (whole_line ∙ listed_text s k) utf8) (listed_shaped s k)
+spelled_says line text rest (Batch batch) s first never small last utf8 = absurd never
 spelled_says line text rest (Enable key now) s first never small last utf8 = absurd never
 spelled_says line text rest (Disable key now) s first never small last utf8 = absurd never
 spelled_says line text rest (Apply key now) s first never small last utf8 = absurd never

@@ -4,14 +4,17 @@ use Rattle.std.specs.Str.{bytes_eq}
 use Rattle.serde_json.specs.Data.{Data}
 use Rattle.tsn_types.specs.declared.keys.Kind.{Kind}
 use Rattle.tsn_types.specs.declared.keys.Kind.TheVariants as kinds
-use Rattle.tsn_records.specs.Answers.{◌>>=◌, or_shape}
-use Rattle.tsn_records.specs.Json.{flag_at, has_members, number_at, text_at, value_at}
+use Rattle.tsn_records.specs.Answers.{◌>>=◌, each, or_shape}
+use Rattle.tsn_records.specs.Json.{flag_at, has_members, items_at, items_list, number_at, text_at, value_at}
 use Rattle.tsn_records.specs.Keys.{key_of, kind_of}
 use Rattle.tsn_records.specs.Records.{record_shape}
 use Rattle.tsn_records.specs.declared.drafts.KeyDraft.{KeyDraft}
 use Rattle.tsn_records.specs.declared.drafts.RecordDraft.{RecordDraft}
+use Rattle.tsn_wire.specs.Batches.{batch_of}
 use Rattle.tsn_wire.specs.declared.drafts.CommandDraft.{CommandDraft}
-use Rattle.tsn_wire.specs.declared.drafts.CommandDraft.TheVariants.{Create, Replace, Remove, Undo, UndoAll, Redo, Enable, Disable, Apply, Frame, States, Counters, Show, List as ListKind, Since}
+use Rattle.tsn_wire.specs.declared.drafts.CommandDraft.TheVariants.{Create, Replace, Remove, Batch, Undo, UndoAll, Redo, Enable, Disable, Apply, Frame, States, Counters, Show, List as ListKind, Since}
+use Rattle.tsn_wire.specs.declared.drafts.EditDraft.{EditDraft}
+use Rattle.tsn_wire.specs.declared.drafts.EditDraft.TheVariants as edits
 use Rattle.tsn_wire.specs.declared.drafts.FrameDraft.{FrameDraft}
 use Rattle.tsn_wire.specs.declared.drafts.LineDraft.{LineDraft}
 use Rattle.tsn_wire.specs.declared.drafts.LineDraft.TheVariants.{Hello, Session}
@@ -44,27 +47,48 @@ listed_at name d = do
   instant ← number_at name d
   Ok (key, instant)
 
--- `key` and `record`, a record of the key's kind
-unfoldable pub keyed_record : Data → Result (KeyDraft × RecordDraft) Unread
-keyed_record d = do
-  _ ← has_members 4 d
+-- so many members, of which two are `key` and `record`, a record of the key's kind
+unfoldable pub keyed_record : ℕ → Data → Result (KeyDraft × RecordDraft) Unread
+keyed_record n d = do
+  _ ← has_members n d
   key ← key_at d
   value ← value_at (codes "record") d
   r ← record_shape key.kind value
   Ok (key, r)
 
 unfoldable pub create_shape : Data → Result CommandDraft Unread
-create_shape d = keyed_record d >>= λ p. Ok (Create p.0 p.1)
+create_shape d = keyed_record 4 d >>= λ p. Ok (Create p.0 p.1)
 
 unfoldable pub replace_shape : Data → Result CommandDraft Unread
-replace_shape d = keyed_record d >>= λ p. Ok (Replace p.0 p.1)
+replace_shape d = keyed_record 4 d >>= λ p. Ok (Replace p.0 p.1)
+
+-- so many members, of which one is `key`, of a kind that can be removed
+unfoldable pub removed_key : ℕ → Data → Result KeyDraft Unread
+removed_key n d = do
+  _ ← has_members n d
+  key ← key_at d
+  removable key key.kind
 
 unfoldable pub remove_shape : Data → Result CommandDraft Unread
-remove_shape d = do
+remove_shape d = removed_key 3 d >>= λ key. Ok (Remove key)
+
+-- an edit of a batch has the members of its line, but no session of its own
+unfoldable pub edit_shape : Data → Result EditDraft Unread
+edit_shape d = do
+  word ← text_at (codes "do") d
+  if bytes_eq word (codes "create") then (keyed_record 3 d >>= λ p. Ok (edits.Create p.0 p.1))
+      else if bytes_eq word (codes "replace") then (keyed_record 3 d >>= λ p. Ok (edits.Replace p.0 p.1))
+      else if bytes_eq word (codes "remove") then (removed_key 2 d >>= λ key. Ok (edits.Remove key))
+      else Err Shape
+
+-- `edits`: 1 to 16 of them, on distinct keys
+unfoldable pub batch_shape : Data → Result CommandDraft Unread
+batch_shape d = do
   _ ← has_members 3 d
-  key ← key_at d
-  removed ← removable key key.kind
-  Ok (Remove removed)
+  items ← items_at (codes "edits") d
+  listed ← each edit_shape (items_list items)
+  batch ← batch_of listed
+  Ok (Batch batch)
 
 -- nothing beside `do` and `s`
 unfoldable pub bare_shape : CommandDraft → Data → Result CommandDraft Unread
@@ -132,6 +156,7 @@ command_shape word d =
     if bytes_eq word (codes "create") then create_shape d
     else if bytes_eq word (codes "replace") then replace_shape d
     else if bytes_eq word (codes "remove") then remove_shape d
+    else if bytes_eq word (codes "batch") then batch_shape d
     else if bytes_eq word (codes "undo") then bare_shape Undo d
     else if bytes_eq word (codes "undo_all") then bare_shape UndoAll d
     else if bytes_eq word (codes "redo") then bare_shape Redo d

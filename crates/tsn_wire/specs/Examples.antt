@@ -1,7 +1,8 @@
--- Worked examples: the line that creates a record, records that are refused, and the line of a frame.
+-- Worked examples: the line that creates a record, lines of batches, records that are refused, and the line of a frame.
 use Rattle.std.specs.Prelude.{ℕ, List, true, ◌++◌, Result, Ok, codes}
-use Rattle.tsn_bridge.specs.declared.command.Command.TheVariants.{Create}
+use Rattle.tsn_bridge.specs.declared.command.Command.TheVariants.{Batch, Create}
 use Rattle.tsn_chain.specs.declared.frame.Frame.{Frame}
+use Rattle.tsn_edit.specs.declared.Edit.{Edit}
 use Rattle.tsn_types.specs.declared.keys.Key.{Key}
 use Rattle.tsn_types.specs.declared.records.Record.{Record}
 use Rattle.tsn_types.specs.declared.refusals.Refusal.{Refusal}
@@ -14,6 +15,32 @@ create_line key text = codes "{\"do\":\"create\",\"key\":\"" ++ key ++ codes "\"
 -- what that line says
 abbrev pub created : Key → Record → Result Ask Refusal
 created key value = Ok (record { session = 1; command = Create key value })
+
+-- an edit of a batch that creates the record of a text, and one that removes a key
+abbrev pub creation_text : List ℕ → List ℕ → List ℕ
+creation_text key text = codes "{\"do\":\"create\",\"key\":\"" ++ key ++ codes "\",\"record\":" ++ text ++ codes "}"
+
+abbrev pub removal_text : List ℕ → List ℕ
+removal_text key = codes "{\"do\":\"remove\",\"key\":\"" ++ key ++ codes "\"}"
+
+-- the line of a batch of such edits, in session 1
+abbrev pub batch_line : List ℕ → List ℕ
+batch_line edits = codes "{\"do\":\"batch\",\"edits\":[" ++ edits ++ codes "],\"s\":1}"
+
+-- what that line says
+abbrev pub batched : List Edit → Result Ask Refusal
+batched edits = Ok (record { session = 1; command = Batch edits })
+
+-- as many edits as a batch may have, and one more
+abbrev pub sixteen_removals : List ℕ
+sixteen_removals =
+    removal_text (codes "gate 0") ++ codes "," ++ removal_text (codes "gate 1") ++ codes "," ++ removal_text (codes "gate 2") ++ codes "," ++ removal_text (codes "gate 3")
+    ++ codes "," ++ removal_text (codes "gate 4") ++ codes "," ++ removal_text (codes "gate 5") ++ codes "," ++ removal_text (codes "gate 6") ++ codes "," ++ removal_text (codes "gate 7")
+    ++ codes "," ++ removal_text (codes "meter 0") ++ codes "," ++ removal_text (codes "meter 1") ++ codes "," ++ removal_text (codes "meter 2") ++ codes "," ++ removal_text (codes "meter 3")
+    ++ codes "," ++ removal_text (codes "meter 4") ++ codes "," ++ removal_text (codes "meter 5") ++ codes "," ++ removal_text (codes "meter 6") ++ codes "," ++ removal_text (codes "meter 7")
+
+abbrev pub seventeen_removals : List ℕ
+seventeen_removals = sixteen_removals ++ codes "," ++ removal_text (codes "filter 0")
 
 -- a gate whose cycle time is out of range
 abbrev pub no_cycle_text : List ℕ

@@ -1,29 +1,26 @@
 -- The members of command lines.
 use Rattle.std.specs.Prelude.{◌≡◌, ℕ, List, [], ◌∷◌, option_map, codes, ⊤}
-use Rattle.serde_json.specs.Data.{Data, boolean, string, Members, no_members, member}
+use Rattle.serde_json.specs.Data.{boolean, string, Members, no_members, member}
 use Rattle.tsn_types.specs.declared.keys.Kind.{Kind}
 use Rattle.tsn_types.specs.declared.keys.Kind.TheVariants as kinds
 use Rattle.tsn_records.specs.Json.{members_len}
-use Rattle.tsn_records.specs.Keys.{kind_text, spelled_key}
+use Rattle.tsn_records.specs.Keys.{kind_text}
 use Rattle.tsn_records.specs.Shown.{whole_data}
 use Rattle.tsn_records.specs.declared.drafts.KeyDraft.{KeyDraft}
 use Rattle.tsn_records.specs.declared.drafts.RecordDraft.{RecordDraft}
 use Rattle.tsn_records.specs.declared.drafts.RecordDraft.TheVariants as records
 use Rattle.tsn_wire.specs.Members.{Rows}
 use Rattle.tsn_wire.specs.Rows.{AllTold}
-use Rattle.tsn_wire.specs.Spelled.{record_value, IsKey, IsNoPort}
+use Rattle.tsn_wire.specs.Spelled.{batch_value, key_value, record_value, IsKey, IsNoPort}
 use Rattle.tsn_wire.specs.Values.{MayHaveList}
 use Rattle.tsn_wire.specs.Words.{word_text}
 use Rattle.tsn_wire.specs.declared.any_line.LineMembers.{LineMembers}
 use Rattle.tsn_wire.specs.declared.drafts.CommandDraft.{CommandDraft}
-use Rattle.tsn_wire.specs.declared.drafts.CommandDraft.TheVariants.{Create, Replace, Remove, Undo, UndoAll, Redo, Enable, Disable, Apply, Frame, States, Counters, Show, List as ListKind, Since}
+use Rattle.tsn_wire.specs.declared.drafts.CommandDraft.TheVariants.{Create, Replace, Remove, Batch, Undo, UndoAll, Redo, Enable, Disable, Apply, Frame, States, Counters, Show, List as ListKind, Since}
+use Rattle.tsn_wire.specs.declared.drafts.EditDraft.{EditDraft}
 use Rattle.tsn_wire.specs.declared.drafts.FrameDraft.{FrameDraft}
 use Rattle.tsn_wire.specs.declared.drafts.LineDraft.{LineDraft}
 use Rattle.tsn_wire.specs.declared.drafts.LineDraft.TheVariants.{Hello, Session}
-
--- a key as a value
-abbrev pub key_value : KeyDraft → Data
-key_value k = string (spelled_key k.kind k.number)
 
 -- the names that a line may have, each with its value where that was read
 abbrev pub line_rows : LineMembers → Rows
@@ -81,6 +78,9 @@ frame_members s frame now =
     (member (codes "s") (whole_data s)
     (member (codes "yellow") (boolean frame.yellow) no_members))))))
 
+abbrev pub batch_members : ℕ → List EditDraft → Members
+batch_members s batch = member (codes "do") (string (codes "batch")) (member (codes "edits") (batch_value batch) (member (codes "s") (whole_data s) no_members))
+
 abbrev pub list_members : ℕ → Kind → Members
 list_members s kind = member (codes "do") (string (codes "list")) (member (codes "kind") (string (kind_text kind)) (member (codes "s") (whole_data s) no_members))
 
@@ -91,6 +91,7 @@ abbrev pub command_members : ℕ → CommandDraft → Members
 command_members s (Create key value) = edit_members (codes "create") s key value
 command_members s (Replace key value) = edit_members (codes "replace") s key value
 command_members s (Remove key) = keyed_members (codes "remove") s key
+command_members s (Batch batch) = batch_members s batch
 command_members s Undo = bare_members (codes "undo") s
 command_members s UndoAll = bare_members (codes "undo_all") s
 command_members s Redo = bare_members (codes "redo") s
@@ -108,11 +109,12 @@ abbrev pub line_members : LineDraft → Members
 line_members Hello = member (codes "do") (string (codes "hello")) no_members
 line_members (Session s command) = command_members s command
 
--- a key that some table may have, and what its kind must be
+-- a key that some table may have, and what its kind must be; a batch is not read so
 abbrev pub IsSound : CommandDraft → Type 0
 IsSound (Create key value) = IsKey key × IsOf key.kind value
 IsSound (Replace key value) = IsKey key × IsOf key.kind value
 IsSound (Remove key) = IsKey key × IsNoPort key.kind
+IsSound (Batch batch) = ⊥
 IsSound Undo = ⊤
 IsSound UndoAll = ⊤
 IsSound Redo = ⊤

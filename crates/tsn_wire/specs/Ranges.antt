@@ -1,15 +1,20 @@
--- The ranges of a command's numbers: those of its key before those of its record, and an instant last.
+-- The ranges of a command's numbers: those of its key before those of its record, and an instant last; those of a batch
+-- edit by edit.
 use Rattle.std.specs.Prelude.{ℕ, Result, Ok}
 use Rattle.tsn_bridge.specs.declared.command.Command.{Command}
 use Rattle.tsn_bridge.specs.declared.command.Command.TheVariants as commands
 use Rattle.tsn_chain.specs.declared.frame.Frame.{Frame}
+use Rattle.tsn_edit.specs.declared.Edit.{Edit}
+use Rattle.tsn_edit.specs.declared.Edit.TheVariants as edits
 use Rattle.tsn_types.specs.declared.refusals.Field.TheVariants as fields
 use Rattle.tsn_types.specs.Numbers.{greatest_handle, greatest_instant, greatest_priority}
-use Rattle.tsn_records.specs.Answers.{◌>>=◌}
+use Rattle.tsn_records.specs.Answers.{◌>>=◌, each}
 use Rattle.tsn_records.specs.Ranges.{within, key, record_of}
 use Rattle.tsn_records.specs.declared.unread.Unread.{Unread}
 use Rattle.tsn_wire.specs.declared.drafts.CommandDraft.{CommandDraft}
 use Rattle.tsn_wire.specs.declared.drafts.CommandDraft.TheVariants as wanted
+use Rattle.tsn_wire.specs.declared.drafts.EditDraft.{EditDraft}
+use Rattle.tsn_wire.specs.declared.drafts.EditDraft.TheVariants as drafts
 use Rattle.tsn_wire.specs.declared.drafts.FrameDraft.{FrameDraft}
 
 -- the number after which entries are asked for has 32 bits
@@ -27,11 +32,18 @@ frame_of_draft f = do
   octets ← within fields.Octets 0 longest_frame f.octets
   Ok (record { handle = handle; priority = priority; octets = octets; yellow = f.yellow })
 
--- the key or the frame, and then the record or the instant
+-- the key before the record, as where an edit comes alone
+abbrev pub edit_of_draft : EditDraft → Result Edit Unread
+edit_of_draft (drafts.Create k r) = key k >>= λ named. record_of r >>= λ value. Ok (edits.Create named value)
+edit_of_draft (drafts.Replace k r) = key k >>= λ named. record_of r >>= λ value. Ok (edits.Replace named value)
+edit_of_draft (drafts.Remove k) = key k >>= λ named. Ok (edits.Remove named)
+
+-- the key or the frame, and then the record or the instant; the edits of a batch in their order
 abbrev pub command_of_draft : CommandDraft → Result Command Unread
 command_of_draft (wanted.Create k r) = key k >>= λ named. record_of r >>= λ value. Ok (commands.Create named value)
 command_of_draft (wanted.Replace k r) = key k >>= λ named. record_of r >>= λ value. Ok (commands.Replace named value)
 command_of_draft (wanted.Remove k) = key k >>= λ named. Ok (commands.Remove named)
+command_of_draft (wanted.Batch b) = each edit_of_draft b >>= λ batch. Ok (commands.Batch batch)
 command_of_draft wanted.Undo = Ok commands.Undo
 command_of_draft wanted.UndoAll = Ok commands.UndoAll
 command_of_draft wanted.Redo = Ok commands.Redo

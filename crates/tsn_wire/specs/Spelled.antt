@@ -1,8 +1,9 @@
 -- Command lines in the service's own spelling: compact, their members in ascending order of their names. A draft is
 -- seen as the value that such a line is.
-use Rattle.std.specs.Prelude.{◌≡◌, ◌⊎◌, ℕ, ◌^◌, ◌<◌, ◌++◌, List, codes, decimal, IfSome, ⊤}
+use Rattle.std.specs.Prelude.{◌≡◌, ◌⊎◌, ℕ, ◌^◌, ◌<◌, ◌++◌, List, map, codes, decimal, IfSome, ⊤}
 use Rattle.std.specs.List.{AllByRecursion}
-use Rattle.serde_json.specs.Data.{Data}
+use Rattle.serde_json.specs.Data.{Data, string, array, object, member, no_members}
+use Rattle.serde_json.specs.View.{items_of}
 use Rattle.serde_json.specs.Written.{compact_text}
 use Rattle.tsn_types.specs.declared.keys.Kind.{Kind}
 use Rattle.tsn_types.specs.declared.keys.Kind.TheVariants as kinds
@@ -19,7 +20,9 @@ use Rattle.tsn_records.specs.declared.drafts.MeterDraft.{MeterDraft}
 use Rattle.tsn_records.specs.declared.drafts.RecordDraft.{RecordDraft}
 use Rattle.tsn_records.specs.declared.drafts.RecordDraft.TheVariants.{Port, Filter, Gate, Meter}
 use Rattle.tsn_wire.specs.declared.drafts.CommandDraft.{CommandDraft}
-use Rattle.tsn_wire.specs.declared.drafts.CommandDraft.TheVariants.{Create, Replace, Remove, Undo, UndoAll, Redo, Enable, Disable, Apply, Frame, States, Counters, Show, List as ListKind, Since}
+use Rattle.tsn_wire.specs.declared.drafts.EditDraft.{EditDraft}
+use Rattle.tsn_wire.specs.declared.drafts.EditDraft.TheVariants as edits
+use Rattle.tsn_wire.specs.declared.drafts.CommandDraft.TheVariants.{Create, Replace, Remove, Batch, Undo, UndoAll, Redo, Enable, Disable, Apply, Frame, States, Counters, Show, List as ListKind, Since}
 
 -- a number that a line can hold
 abbrev pub IsSmall : ℕ → Type 0
@@ -60,6 +63,19 @@ record_value (Port r) = port_value r
 record_value (Filter r) = filter_value r
 record_value (Gate r) = gate_value r
 record_value (Meter r) = meter_value r
+
+-- a key as a value
+abbrev pub key_value : KeyDraft → Data
+key_value k = string (spelled_key k.kind k.number)
+
+-- an edit of a batch
+abbrev pub edit_value : EditDraft → Data
+edit_value (edits.Create key value) = object (member (codes "do") (string (codes "create")) (member (codes "key") (key_value key) (member (codes "record") (record_value value) no_members)))
+edit_value (edits.Replace key value) = object (member (codes "do") (string (codes "replace")) (member (codes "key") (key_value key) (member (codes "record") (record_value value) no_members)))
+edit_value (edits.Remove key) = object (member (codes "do") (string (codes "remove")) (member (codes "key") (key_value key) no_members))
+
+abbrev pub batch_value : List EditDraft → Data
+batch_value es = array (items_of (map edit_value es))
 
 -- the numbers of each are such that a line can hold
 pub record PortEntryIsSmall (e : PortEntryDraft) : Type 0 where
@@ -116,11 +132,12 @@ SpellsRecord text key value rest =
     × (text ≡ spelled_key key.kind key.number ++ (codes "\",\"record\":" ++ (compact_text (record_value value) ++ rest)))
 
 -- The text begins with what follows `{"do":"` in a command's line, up to `,"s":`, and the rest comes after it. Lines that
--- act on a list, hand in a frame or look at states or counters are not read so.
+-- make a batch, act on a list, hand in a frame or look at states or counters are not read so.
 abbrev pub Spells : List ℕ → CommandDraft → List ℕ → Type 0
 Spells text (Create key value) rest = (behind : List ℕ) × (text ≡ codes "create\",\"key\":\"" ++ behind) × SpellsRecord behind key value rest
 Spells text (Replace key value) rest = (behind : List ℕ) × (text ≡ codes "replace\",\"key\":\"" ++ behind) × SpellsRecord behind key value rest
 Spells text (Remove key) rest = IsKey key × IsNoPort key.kind × (text ≡ codes "remove\",\"key\":\"" ++ (spelled_key key.kind key.number ++ (codes "\"" ++ rest)))
+Spells text (Batch batch) rest = ⊥
 Spells text Undo rest = text ≡ codes "undo\"" ++ rest
 Spells text UndoAll rest = text ≡ codes "undo_all\"" ++ rest
 Spells text Redo rest = text ≡ codes "redo\"" ++ rest

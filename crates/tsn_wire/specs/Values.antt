@@ -1,11 +1,16 @@
 -- The value of a command: what a line is that asks for it. A value holds each member once, in ascending order of the
 -- names, whatever their order in the line; so two lines with the same members, each of the same value, are one value.
-use Rattle.std.specs.Prelude.{◌≡◌, ◌↔◌, ℕ, ◌≤◌, List, Some, Ok, codes, ⊤}
-use Rattle.serde_json.specs.Data.{Data, boolean, string, object, member, no_members}
+use Rattle.std.specs.Prelude.{◌≡◌, ◌↔◌, ℕ, ◌≤◌, List, map, Some, Ok, codes, ⊤}
+use Rattle.std.specs.List.{AllByRecursion}
+use Rattle.serde_json.specs.Data.{Data, boolean, string, array, object, member, no_members}
+use Rattle.serde_json.specs.View.{items_of}
 use Rattle.tsn_bridge.specs.declared.command.Command.{Command}
-use Rattle.tsn_bridge.specs.declared.command.Command.TheVariants.{Hello, Create, Replace, Remove, Undo, UndoAll, Redo, Enable, Disable, Apply, Frame as FrameIn, States, Counters, Show, List as ListKind, Since}
+use Rattle.tsn_bridge.specs.declared.command.Command.TheVariants.{Hello, Create, Replace, Remove, Batch, Undo, UndoAll, Redo, Enable, Disable, Apply, Frame as FrameIn, States, Counters, Show, List as ListKind, Since}
 use Rattle.tsn_bridge.specs.Sessions.{most_sessions}
 use Rattle.tsn_chain.specs.declared.frame.Frame.{Frame}
+use Rattle.tsn_edit.specs.Batches.{IsBatch}
+use Rattle.tsn_edit.specs.declared.Edit.{Edit}
+use Rattle.tsn_edit.specs.declared.Edit.TheVariants as edits
 use Rattle.tsn_types.specs.declared.keys.Key.{Key}
 use Rattle.tsn_types.specs.declared.keys.Key.TheVariants.{Port, Filter, Gate, Meter}
 use Rattle.tsn_types.specs.declared.keys.Kind.{Kind}
@@ -34,6 +39,26 @@ edit_data word s key value =
     (member (codes "key") (string key)
     (member (codes "record") value
     (member (codes "s") (whole_data s) no_members))))
+
+-- `{"do":WORD,"key":K,"record":R}` and `{"do":"remove","key":K}`
+abbrev pub put_data : List ℕ → List ℕ → Data → Data
+put_data word key value = object (member (codes "do") (string word) (member (codes "key") (string key) (member (codes "record") value no_members)))
+
+abbrev pub removal_data : List ℕ → Data
+removal_data key = object (member (codes "do") (string (codes "remove")) (member (codes "key") (string key) no_members))
+
+-- the value of an edit of a batch
+abbrev pub edit_value : Edit → Data
+edit_value (edits.Create k r) = put_data (codes "create") (key_text k) (record_data r)
+edit_value (edits.Replace k r) = put_data (codes "replace") (key_text k) (record_data r)
+edit_value (edits.Remove k) = removal_data (key_text k)
+
+-- `{"do":"batch","edits":[..],"s":S}`, the edits in their order
+abbrev pub batch_data : ℕ → List Edit → Data
+batch_data s b =
+    object (member (codes "do") (string (codes "batch"))
+    (member (codes "edits") (array (items_of (map edit_value b)))
+    (member (codes "s") (whole_data s) no_members)))
 
 -- `{"do":WORD,"key":K,"now":A,"s":S}`
 abbrev pub act_data : List ℕ → ℕ → List ℕ → ℕ → Data
@@ -76,6 +101,7 @@ value_of s Hello = object (member (codes "do") (string (codes "hello")) no_membe
 value_of s (Create k r) = edit_data (codes "create") s (key_text k) (record_data r)
 value_of s (Replace k r) = edit_data (codes "replace") s (key_text k) (record_data r)
 value_of s (Remove k) = keyed_data (codes "remove") s (key_text k)
+value_of s (Batch b) = batch_data s b
 value_of s Undo = bare_data (codes "undo") s
 value_of s UndoAll = bare_data (codes "undo_all") s
 value_of s Redo = bare_data (codes "redo") s
@@ -120,13 +146,20 @@ pub record FrameInRange (f : Frame) (a : ℕ) : Type 0 where
 abbrev pub IsSession : ℕ → Type 0
 IsSession s = Within 1 most_sessions s
 
+-- an edit of a batch that may be asked
+abbrev pub EditMayBeAsked : Edit → Type 0
+EditMayBeAsked (edits.Create k r) = KeyedInRange k r
+EditMayBeAsked (edits.Replace k r) = KeyedInRange k r
+EditMayBeAsked (edits.Remove k) = KeyInRange k × IsNoPort (kind k)
+
 -- what may be asked: every number in its range, a record of its key's kind, a port never removed, an act or a
--- look only at what has a list; a hello has no session, which is written 0
+-- look only at what has a list, a batch of 1 to 16 edits on distinct keys; a hello has no session, which is written 0
 abbrev pub MayBeAsked : ℕ → Command → Type 0
 MayBeAsked s Hello = s ≡ 0
 MayBeAsked s (Create k r) = IsSession s × KeyedInRange k r
 MayBeAsked s (Replace k r) = IsSession s × KeyedInRange k r
 MayBeAsked s (Remove k) = IsSession s × KeyInRange k × IsNoPort (kind k)
+MayBeAsked s (Batch b) = IsSession s × IsBatch b × AllByRecursion EditMayBeAsked b
 MayBeAsked s Undo = IsSession s
 MayBeAsked s UndoAll = IsSession s
 MayBeAsked s Redo = IsSession s

@@ -5,8 +5,9 @@ ghost use Rattle.std.specs.Prelude.{◌≡◌, codes, option_and_then};
 ghost use Rattle.serde_json.specs.View.{view};
 ghost use Rattle.tsn_records.specs.Answers.{Reads};
 ghost use Rattle.tsn_records.specs.Json.{text_at, value_at};
-ghost use Rattle.tsn_wire.specs.Commands.{key_at, removable, listed, listed_at, keyed_record, create_shape, replace_shape, remove_shape, bare_shape, enable_shape, disable_shape, apply_shape, frame_members, frame_shape, states_shape, counters_shape, show_shape, list_shape, since_shape, command_shape, line_shape};
+ghost use Rattle.tsn_wire.specs.Commands.{key_at, removable, listed, listed_at, keyed_record, create_shape, replace_shape, removed_key, remove_shape, bare_shape, enable_shape, disable_shape, apply_shape, frame_members, frame_shape, states_shape, counters_shape, show_shape, list_shape, since_shape, command_shape, line_shape};
 
+use crate::batches::batch_shape;
 use crate::drafts::{CommandDraft, FrameDraft, LineDraft};
 use serde_json::Value;
 use std::alloc::Global;
@@ -54,12 +55,16 @@ fn listed_at(name: &str, value: &Value) -> Result<(KeyDraft, u64), Unread>
     Ok((key, instant))
 }
 
-// A key and a record of its kind.
+/// A key and a record of its kind, in an object of so many members.
 #[tactic(auto, unfolding(crate::specs::Commands::keyed_record))]
-fn keyed_record(alloc: Global, value: &Value) -> Result<(KeyDraft, RecordDraft), Unread>
-    ensures { Reads result (keyed_record (view value.now)) }
+pub fn keyed_record(
+    alloc: Global,
+    count: usize,
+    value: &Value,
+) -> Result<(KeyDraft, RecordDraft), Unread>
+    ensures { Reads result (keyed_record count (view value.now)) }
 {
-    has_members(4, value)?;
+    has_members(count, value)?;
     let key = key_at(value)?;
     let record = record_shape(alloc, key.kind, value_at("record", value)?)?;
     Ok((key, record))
@@ -69,7 +74,7 @@ fn keyed_record(alloc: Global, value: &Value) -> Result<(KeyDraft, RecordDraft),
 fn create_shape(alloc: Global, value: &Value) -> Result<CommandDraft, Unread>
     ensures { Reads result (create_shape (view value.now)) }
 {
-    let (key, value) = keyed_record(alloc, value)?;
+    let (key, value) = keyed_record(alloc, 4, value)?;
     Ok(CommandDraft::Create { key, value })
 }
 
@@ -77,16 +82,24 @@ fn create_shape(alloc: Global, value: &Value) -> Result<CommandDraft, Unread>
 fn replace_shape(alloc: Global, value: &Value) -> Result<CommandDraft, Unread>
     ensures { Reads result (replace_shape (view value.now)) }
 {
-    let (key, value) = keyed_record(alloc, value)?;
+    let (key, value) = keyed_record(alloc, 4, value)?;
     Ok(CommandDraft::Replace { key, value })
+}
+
+/// A key that can be removed, in an object of so many members.
+#[tactic(auto, unfolding(crate::specs::Commands::removed_key))]
+pub fn removed_key(count: usize, value: &Value) -> Result<KeyDraft, Unread>
+    ensures { result ≡ removed_key count (view value.now) }
+{
+    has_members(count, value)?;
+    removable(key_at(value)?)
 }
 
 #[tactic(auto, unfolding(crate::specs::Commands::remove_shape))]
 fn remove_shape(value: &Value) -> Result<CommandDraft, Unread>
     ensures { result ≡ remove_shape (view value.now) }
 {
-    has_members(3, value)?;
-    let key = removable(key_at(value)?)?;
+    let key = removed_key(3, value)?;
     Ok(CommandDraft::Remove { key })
 }
 
@@ -202,6 +215,7 @@ fn command_shape(alloc: Global, word: &str, value: &Value) -> Result<CommandDraf
         "create" => create_shape(alloc, value),
         "replace" => replace_shape(alloc, value),
         "remove" => remove_shape(value),
+        "batch" => batch_shape(alloc, value),
         "undo" => bare_shape(CommandDraft::Undo, value),
         "undo_all" => bare_shape(CommandDraft::UndoAll, value),
         "redo" => bare_shape(CommandDraft::Redo, value),

@@ -1,5 +1,11 @@
 //! Drafts of lines: commands of the right shape, whose numbers may still be outside their ranges.
+ghost use Rattle.std.specs.Prelude.{◌≡◌, true};
+ghost use Rattle.tsn_wire.specs.Batches.{batch_of, drafted_key, drafted_keys, drafts_are_distinct, has_draft, is_batch_draft, same_draft};
+
+use std::marker::Model;
+use tsn_edit::MOST_PARTS;
 use tsn_records::drafts::{KeyDraft, RecordDraft};
+use tsn_records::unread::Unread;
 use tsn_types::keys::Kind;
 
 /// A frame as a line names it.
@@ -11,12 +17,106 @@ pub struct FrameDraft {
     pub yellow: bool,
 }
 
+/// An edit of a batch.
+#[derive(Debug, Drop)]
+pub enum EditDraft {
+    Create { key: KeyDraft, value: RecordDraft },
+    Replace { key: KeyDraft, value: RecordDraft },
+    Remove { key: KeyDraft },
+}
+
+impl EditDraft {
+    /// The key of the edit.
+    pub fn key(&self) -> KeyDraft
+        ensures { result ≡ drafted_key self.now }
+    {
+        match self {
+            EditDraft::Create { key, .. } => *key,
+            EditDraft::Replace { key, .. } => *key,
+            EditDraft::Remove { key } => *key,
+        }
+    }
+}
+
+/// The edits of a batch: 1 to 16, on distinct keys. Contracts see them as a list.
+#[derive(Debug, Drop)]
+pub struct BatchDraft {
+    edits: Vec<EditDraft>,
+}
+
+impl Model for BatchDraft {
+    ghost use Rattle.std.specs.Prelude.{◌≡◌, List, true};
+    ghost use Rattle.tsn_wire.specs.Batches.{is_batch_draft};
+    ghost use Rattle.tsn_wire.specs.declared.drafts.EditDraft.{EditDraft};
+
+    ghost Value = { List EditDraft };
+
+    ghost view = { λ a. a.edits.items };
+
+    ghost invariant = { λ a. is_batch_draft a.edits.items ≡ true };
+}
+
+impl BatchDraft {
+    /// The batch of these edits; a fault of shape where there is none, where there are more than 16, or where a key stands
+    /// twice.
+    pub fn new(edits: Vec<EditDraft>) -> Result<BatchDraft, Unread>
+        ensures { result ≡ batch_of edits.items }
+    {
+        if edits.is_empty() || edits.len() > MOST_PARTS || !are_distinct(&edits) {
+            return Err(Unread::Shape);
+        }
+        Ok(BatchDraft { edits })
+    }
+
+    /// The edits, in their order.
+    pub fn as_slice(&self) -> &[EditDraft]
+        ensures edits { result.now ≡ self.now }
+        ensures batch { is_batch_draft self.now ≡ true }
+    {
+        self.edits.as_slice()
+    }
+}
+
+fn is_same(left: KeyDraft, right: KeyDraft) -> bool
+    ensures { result ≡ same_draft left right }
+{
+    left.kind == right.kind && left.number == right.number
+}
+
+/// Whether one of the edits is on the key.
+#[tactic(auto, using(crate::proofs::Drafting::drafted_is, std::proofs::lemmas::Grind::common_steps))]
+fn is_edited(edits: &[EditDraft], key: KeyDraft) -> bool
+    ensures { result ≡ has_draft (drafted_keys edits.now) key }
+{
+    for edit in edits {
+        if is_same(key, edit.key()) {
+            return true;
+        }
+    }
+    false
+}
+
+/// Whether no key stands twice.
+fn are_distinct(edits: &[EditDraft]) -> bool
+    ensures { result ≡ drafts_are_distinct (drafted_keys edits.now) }
+{
+    let mut rest = edits;
+    while let [first, others @ ..] = rest {
+        if is_edited(others, first.key()) {
+            return false;
+        }
+        rest = others;
+    }
+    true
+}
+
 /// A command other than hello.
 #[derive(Debug, Drop)]
 pub enum CommandDraft {
     Create { key: KeyDraft, value: RecordDraft },
     Replace { key: KeyDraft, value: RecordDraft },
     Remove { key: KeyDraft },
+    Batch { batch: BatchDraft },
     Undo,
     UndoAll,
     Redo,

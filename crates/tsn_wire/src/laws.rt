@@ -1,13 +1,14 @@
 //! What the definitions of this crate say of worked examples, so that a definition and a body that are wrong alike
 //! are found out. Each function does nothing; its contract is what is proved.
-ghost use Rattle.std.specs.Prelude.{◌≡◌, [], ◌∷◌, Some, Ok, Err, codes};
+ghost use Rattle.std.specs.Prelude.{◌≡◌, [], ◌∷◌, ◌++◌, Some, Ok, Err, codes};
 ghost use Rattle.tsn_bridge.specs.declared.command.Command.TheVariants as commands;
+ghost use Rattle.tsn_edit.specs.declared.Edit.TheVariants as edits;
 ghost use Rattle.tsn_types.specs.declared.keys.Key.TheVariants as keys;
 ghost use Rattle.tsn_types.specs.declared.records.Record.TheVariants as records;
 ghost use Rattle.tsn_types.specs.declared.refusals.Field.TheVariants as fields;
 ghost use Rattle.tsn_types.specs.declared.refusals.Refusal.TheVariants as refusals;
 ghost use Rattle.tsn_records.specs.Examples.{a_port, port_text, a_filter, filter_text, a_gate, gate_text, a_meter, meter_text};
-ghost use Rattle.tsn_wire.specs.Examples.{a_frame, create_line, created, frame_line, no_cycle_text, no_flag_text};
+ghost use Rattle.tsn_wire.specs.Examples.{a_frame, batch_line, batched, create_line, created, creation_text, frame_line, no_cycle_text, no_flag_text, removal_text, seventeen_removals};
 ghost use Rattle.tsn_wire.specs.Reading.{data_of, line_of};
 ghost use Rattle.tsn_wire.specs.ReadingBack.{ReadsBack};
 ghost use Rattle.tsn_wire.specs.Values.{AcceptsValues, value_of};
@@ -83,6 +84,30 @@ pub fn records_are_read()
         ≡ Err (refusals.Range fields.Key) }
     ensures shape { line_of (create_line (codes "gate 70000") no_flag_text) ≡ Err refusals.Shape }
     ensures kind { line_of (create_line (codes "gate 0") filter_text) ≡ Err refusals.Shape }
+{}
+
+/// Batches that are read, and the order in which their faults are found: a key that stands twice before a number out of
+/// its range, also where it is that key's own, and then the edits in their order.
+pub fn batches_are_read()
+    ensures batch { line_of (batch_line
+        (creation_text (codes "meter 0") meter_text ++ codes "," ++ removal_text (codes "gate 0")))
+        ≡ batched (edits.Create (keys.Meter 0) (records.Meter a_meter) ∷ edits.Remove (keys.Gate 0) ∷ []) }
+    ensures one { line_of (batch_line (removal_text (codes "gate 0")))
+        ≡ batched (edits.Remove (keys.Gate 0) ∷ []) }
+    ensures none { line_of (batch_line []) ≡ Err refusals.Shape }
+    ensures too_many { line_of (batch_line seventeen_removals) ≡ Err refusals.Shape }
+    ensures twice { line_of (batch_line
+        (creation_text (codes "gate 70000") no_cycle_text ++ codes "," ++ removal_text (codes "gate 70000")))
+        ≡ Err refusals.Shape }
+    ensures order { line_of (batch_line
+        (creation_text (codes "gate 0") no_cycle_text ++ codes "," ++ removal_text (codes "gate 70000")))
+        ≡ Err (refusals.Range fields.Cycle) }
+    ensures key { line_of (batch_line
+        (removal_text (codes "gate 70000") ++ codes "," ++ creation_text (codes "gate 0") no_cycle_text))
+        ≡ Err (refusals.Range fields.Key) }
+    ensures port { line_of (batch_line (removal_text (codes "port 1"))) ≡ Err refusals.Shape }
+    ensures no_session { line_of (codes "{\"do\":\"batch\",\"edits\":[{\"do\":\"remove\",\"key\":\"gate 0\",\"s\":1}],\"s\":1}")
+        ≡ Err refusals.Shape }
 {}
 
 /// A line is accepted as a command of a session exactly where it is the value of that command: the members by name,

@@ -7,6 +7,7 @@
 
 mod any_line;
 mod any_record;
+mod batches;
 mod commands;
 mod cursor;
 mod drafts;
@@ -17,7 +18,7 @@ mod reading;
 mod spelled;
 mod values;
 
-pub use drafts::{CommandDraft, FrameDraft, LineDraft};
+pub use drafts::{BatchDraft, CommandDraft, EditDraft, FrameDraft, LineDraft};
 pub use reading::command_of;
 pub use spelled::spelled_draft;
 pub use tsn_bridge::command::Ask;

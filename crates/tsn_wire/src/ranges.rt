@@ -1,15 +1,17 @@
-//! The ranges of a command's numbers: those of its key before those of its record.
+//! The ranges of a command's numbers: those of its key before those of its record, and those of a batch edit by edit.
 ghost use Rattle.std.specs.Prelude.{◌≡◌};
 ghost use Rattle.tsn_types.specs.declared.refusals.Field.TheVariants as fields;
 ghost use Rattle.tsn_types.specs.Numbers.{greatest_handle, greatest_instant, greatest_priority};
-ghost use Rattle.tsn_records.specs.Answers.{Reads};
+ghost use Rattle.tsn_records.specs.Answers.{Reads, each, seen};
 ghost use Rattle.tsn_records.specs.Ranges.{within};
-ghost use Rattle.tsn_wire.specs.Ranges.{greatest_after, longest_frame, frame_of_draft, command_of_draft};
+ghost use Rattle.tsn_wire.specs.Ranges.{greatest_after, longest_frame, frame_of_draft, edit_of_draft, command_of_draft};
 
-use crate::drafts::{CommandDraft, FrameDraft};
+use crate::drafts::{BatchDraft, CommandDraft, EditDraft, FrameDraft};
 use std::alloc::Global;
 use tsn_bridge::command::Command;
 use tsn_chain::frame::Frame;
+use tsn_edit::Edit;
+use tsn_edit::batches::Batch;
 use tsn_records::ranges::{key, record_of};
 use tsn_records::unread::Unread;
 use tsn_types::numbers::{Handle, Instant, Octets, Priority};
@@ -67,6 +69,50 @@ fn frame_of_draft(draft: FrameDraft) -> Result<Frame, Unread>
     })
 }
 
+fn edit_of_draft(alloc: Global, draft: &EditDraft) -> Result<Edit, Unread>
+    ensures { Reads result (edit_of_draft draft.now) }
+{
+    match draft {
+        EditDraft::Create { key: draft, value } => {
+            let key = key(*draft)?;
+            let value = record_of(alloc, value)?;
+            Ok(Edit::Create(key, value))
+        }
+        EditDraft::Replace { key: draft, value } => {
+            let key = key(*draft)?;
+            let value = record_of(alloc, value)?;
+            Ok(Edit::Replace(key, value))
+        }
+        EditDraft::Remove { key: draft } => Ok(Edit::Remove(key(*draft)?)),
+    }
+}
+
+// The edits that the drafts are, in their order.
+fn edits_of_drafts(alloc: Global, drafts: &[EditDraft]) -> Result<Vec<Edit>, Unread>
+    ensures { Reads (seen (λ edits. edits.items) result) (each edit_of_draft drafts.now) }
+{
+    let mut edits = Vec::new(alloc);
+    'drafts: for draft in drafts {
+        let edit = edit_of_draft(alloc, draft)?;
+        let Ok(()) = edits.push(edit) else {
+            return Err(Unread::Memory);
+        };
+    }
+    Ok(edits)
+}
+
+// Keys that are apart in the draft are apart in the batch, which so is never refused.
+#[tactic(auto, using(crate::proofs::Drafting::batch_stands))]
+fn batch_of_draft(alloc: Global, draft: &BatchDraft) -> Result<Batch, Unread>
+    ensures { Reads result (each edit_of_draft draft.now) }
+{
+    let edits = edits_of_drafts(alloc, draft.as_slice())?;
+    match Batch::new(edits) {
+        Ok(batch) => Ok(batch),
+        Err(_) => Err(Unread::Shape),
+    }
+}
+
 /// The command that the draft is, or the first number that is outside its range.
 pub fn command_of_draft(alloc: Global, draft: &CommandDraft) -> Result<Command, Unread>
     ensures { Reads result (command_of_draft draft.now) }
@@ -83,6 +129,9 @@ pub fn command_of_draft(alloc: Global, draft: &CommandDraft) -> Result<Command, 
             Ok(Command::Replace { key, value })
         }
         CommandDraft::Remove { key: draft } => Ok(Command::Remove { key: key(*draft)? }),
+        CommandDraft::Batch { batch } => Ok(Command::Batch {
+            batch: batch_of_draft(alloc, batch)?,
+        }),
         CommandDraft::Undo => Ok(Command::Undo),
         CommandDraft::UndoAll => Ok(Command::UndoAll),
         CommandDraft::Redo => Ok(Command::Redo),

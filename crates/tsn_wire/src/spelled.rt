@@ -2,7 +2,7 @@
 //!
 //! An edit, an undo or a redo, or a question for records or entries that is compact and has its members in ascending
 //! order of their names, as the service writes them, is read piece by piece, and only a list takes memory. Any other
-//! line is read from its lexemes by `any_line`, and what that does not read is left to `serde_json`.
+//! line is read from its lexemes by `any_line`, and what that does not read, as a batch, is left to `serde_json`.
 ghost use Rattle.std.specs.Prelude.{◌≡◌, ◌++◌, IfSome, codes, decimal};
 ghost use Rattle.std.specs.List.{AllByRecursion};
 ghost use Rattle.serde_json.specs.Data.{Data, boolean};

@@ -1,7 +1,7 @@
 use Rattle.std.proofs.Common.{refl}
 use Rattle.std.specs.Str.{is_utf8, chars}
 use Rattle.serde_json.proofs.OnLiterals.{serde_json_on_literals}
-use Rattle.tsn_wire.specs.Commands.{line_shape, command_shape, listed_at, bare_shape, remove_shape, enable_shape, disable_shape, apply_shape, frame_members, frame_shape, states_shape, counters_shape, since_shape}
+use Rattle.tsn_wire.specs.Commands.{line_shape, command_shape, listed_at, bare_shape, removed_key, remove_shape, enable_shape, disable_shape, apply_shape, frame_members, frame_shape, states_shape, counters_shape, since_shape}
 use Rattle.tsn_wire.specs.Ranges.{frame_of_draft}
 use Rattle.tsn_wire.proofs.laws.lines_are_read.Goals as goal
 
@@ -42,11 +42,11 @@ unfolding serde_json_on_literals is_utf8 chars line_shape command_shape bare_sha
 returns-clause-session c = refl
 
 pub returns-clause-digits : goal.returns-clause-digits
-unfolding serde_json_on_literals is_utf8 chars line_shape command_shape remove_shape
+unfolding serde_json_on_literals is_utf8 chars line_shape command_shape remove_shape removed_key
 returns-clause-digits c = refl
 
 pub returns-clause-key : goal.returns-clause-key
-unfolding serde_json_on_literals is_utf8 chars line_shape command_shape remove_shape
+unfolding serde_json_on_literals is_utf8 chars line_shape command_shape remove_shape removed_key
 returns-clause-key c = refl
 
 pub returns-clause-array : goal.returns-clause-array

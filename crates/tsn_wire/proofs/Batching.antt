@@ -1,0 +1,196 @@
+-- A batch is read exactly where it is the value of its edits.
+use Rattle.std.proofs.Common.{◌≡◌, ℕ, List, [], ◌∷◌, map, Bool, true, false, Some, Ok, codes, refl, sym, ap, ap₂, subst, ◌∙◌}
+use Rattle.std.specs.List.{AllByRecursion}
+use Rattle.serde_json.specs.Data.{Data, string, array, Items, no_items, item}
+use Rattle.serde_json.specs.Find.{get}
+use Rattle.serde_json.specs.View.{items_of}
+use Rattle.tsn_bridge.specs.declared.command.Command.{Command}
+use Rattle.tsn_bridge.specs.declared.command.Command.TheVariants as commands
+use Rattle.tsn_edit.specs.declared.Edit.{Edit}
+use Rattle.tsn_edit.specs.declared.Edit.TheVariants as edits
+use Rattle.tsn_edit.specs.Batches.{IsBatch}
+use Rattle.tsn_types.specs.declared.keys.Key.{Key}
+use Rattle.tsn_types.specs.declared.keys.Key.TheVariants as keys
+use Rattle.tsn_types.specs.declared.records.Record.{Record}
+use Rattle.tsn_types.specs.InRange.{KeyedInRange}
+use Rattle.tsn_types.specs.Keys.{kind}
+use Rattle.tsn_records.specs.Answers.{each}
+use Rattle.tsn_records.specs.Json.{has_members, items_at, items_list, text_at, value_at}
+use Rattle.tsn_records.specs.Keys.{key_text}
+use Rattle.tsn_records.specs.Ranges.{key, record_of}
+use Rattle.tsn_records.specs.Records.{record_shape}
+use Rattle.tsn_records.specs.Shown.{whole_data, record_data}
+use Rattle.tsn_records.specs.declared.drafts.KeyDraft.{KeyDraft}
+use Rattle.tsn_records.specs.declared.drafts.RecordDraft.{RecordDraft}
+use Rattle.tsn_records.proofs.Steps.{only, steps}
+use Rattle.tsn_wire.specs.Batches.{batch_of, is_batch_draft}
+use Rattle.tsn_wire.specs.Commands.{key_at, keyed_record, removed_key, edit_shape, batch_shape, command_shape, line_shape}
+use Rattle.tsn_wire.specs.Ranges.{edit_of_draft, command_of_draft}
+use Rattle.tsn_wire.specs.Spelled.{IsNoPort}
+use Rattle.tsn_wire.specs.Values.{put_data, removal_data, edit_value, batch_data, value_of, EditMayBeAsked, KeyInRange, IsSession, MayBeAsked}
+use Rattle.tsn_wire.specs.declared.drafts.CommandDraft.{CommandDraft}
+use Rattle.tsn_wire.specs.declared.drafts.CommandDraft.TheVariants as wanted
+use Rattle.tsn_wire.specs.declared.drafts.EditDraft.{EditDraft}
+use Rattle.tsn_wire.specs.declared.drafts.EditDraft.TheVariants as drafts
+use Rattle.tsn_wire.specs.declared.drafts.LineDraft.TheVariants.{Session}
+use Rattle.tsn_wire.proofs.Drafting.{batch_passes, tested, test_of}
+use Rattle.tsn_wire.proofs.FromShapes.{items_there, text_there, value_there}
+use Rattle.tsn_wire.proofs.Known.{by_test, same_text, removable_known, key_there, record_same, record_known, record_draft, key_draft, key_back, instance, read_back}
+use Rattle.tsn_wire.proofs.Objects.{IsOrdered, ItemsAreOrdered, inside, inner_ordered, whole_object}
+use Rattle.tsn_wire.proofs.ReadingBack.{decimal_back}
+
+-- ---- an edit that is read is the value
+
+-- a value that asks for an edit
+abbrev IsEdit : Data → Edit → Type 0
+IsEdit d x = (d ≡ edit_value x) × EditMayBeAsked x
+
+put_known : (word : List ℕ) (d : Data) (p : KeyDraft × RecordDraft) (k : Key) (r : Record) → IsOrdered d → get (codes "do") d ≡ Some (string word) → keyed_record 3 d ≡ Ok p → key p.0 ≡ Ok k → record_of p.1 ≡ Ok r
+    → (d ≡ put_data word (key_text k) (record_data r)) × KeyedInRange k r
+unfolding keyed_record
+put_known word d p k r ordered there shape range ranges =
+    steps (has_members 3 d) _ p shape (λ u count_is count_next.
+    steps (key_at d) _ p count_next (λ q q_is q_next.
+    steps (value_at (codes "record") d) _ p q_next (λ e e_is e_next.
+    steps (record_shape q.kind e) _ p e_next (λ v v_is v_next.
+    let both = only (Ok (q, v)) (q, v) p refl v_next in
+    let named = key_there d q k q_is (ap (λ x. key x.0) both ∙ range) in
+    let held = value_there (get (codes "record") d) e e_is in
+    let known = record_known k e v r (inner_ordered (codes "record") d e ordered held) named.2 (ap (λ x. record_shape x e) (sym named.1) ∙ v_is) (ap (λ x. record_of x.1) both ∙ ranges) in
+    (whole_object 2 d (inside (put_data word (key_text k) (record_data r))) u ordered count_is refl (refl, (refl, tt)) (there, (named.0, (held ∙ ap Some known.0, tt))), known.1)))))
+
+create_known : (d : Data) (p : KeyDraft × RecordDraft) (x : Edit) → IsOrdered d → get (codes "do") d ≡ Some (string (codes "create")) → keyed_record 3 d ≡ Ok p → edit_of_draft (drafts.Create p.0 p.1) ≡ Ok x → IsEdit d x
+create_known d p x ordered there shape range =
+    steps (key p.0) _ x range (λ k k_is k_next.
+    steps (record_of p.1) _ x k_next (λ r r_is r_next.
+    let found = edits.Create k r in
+    subst (IsEdit d) (only (Ok found) found x refl r_next) (put_known (codes "create") d p k r ordered there shape k_is r_is)))
+
+replace_known : (d : Data) (p : KeyDraft × RecordDraft) (x : Edit) → IsOrdered d → get (codes "do") d ≡ Some (string (codes "replace")) → keyed_record 3 d ≡ Ok p → edit_of_draft (drafts.Replace p.0 p.1) ≡ Ok x → IsEdit d x
+replace_known d p x ordered there shape range =
+    steps (key p.0) _ x range (λ k k_is k_next.
+    steps (record_of p.1) _ x k_next (λ r r_is r_next.
+    let found = edits.Replace k r in
+    subst (IsEdit d) (only (Ok found) found x refl r_next) (put_known (codes "replace") d p k r ordered there shape k_is r_is)))
+
+remove_known : (d : Data) (p : KeyDraft) (x : Edit) → IsOrdered d → get (codes "do") d ≡ Some (string (codes "remove")) → removed_key 2 d ≡ Ok p → edit_of_draft (drafts.Remove p) ≡ Ok x → IsEdit d x
+unfolding removed_key
+remove_known d p x ordered there shape range =
+    steps (has_members 2 d) _ p shape (λ u count_is count_next.
+    steps (key_at d) _ p count_next (λ q q_is q_next.
+    let may = removable_known q p q.kind q_next in
+    steps (key p) _ x range (λ k k_is k_next.
+    let named = key_there d q k q_is (ap key may.0 ∙ k_is) in
+    let found = edits.Remove k in
+    subst (IsEdit d) (only (Ok found) found x refl k_next)
+    (whole_object 1 d (inside (removal_data (key_text k))) u ordered count_is refl (refl, tt) (there, (named.0, tt)), (named.2, subst IsNoPort named.1 may.1)))))
+
+edit_known : (d : Data) (e : EditDraft) (x : Edit) → IsOrdered d → edit_shape d ≡ Ok e → edit_of_draft e ≡ Ok x → IsEdit d x
+unfolding edit_shape
+edit_known d e x ordered shape range =
+    steps (text_at (codes "do") d) _ e shape (λ word word_is word_next.
+    let there = text_there _ word word_is in
+    by_test _ _ _ _ word_next
+    (λ t h. steps (keyed_record 3 d) _ e h (λ p p_is p_next.
+    let whole = drafts.Create p.0 p.1 in
+    create_known d p x ordered (there ∙ ap (λ l. Some (string l)) (same_text word _ t)) p_is (ap edit_of_draft (only (Ok whole) whole e refl p_next) ∙ range)))
+    (λ _ h1. by_test _ _ _ _ h1
+    (λ t h. steps (keyed_record 3 d) _ e h (λ p p_is p_next.
+    let whole = drafts.Replace p.0 p.1 in
+    replace_known d p x ordered (there ∙ ap (λ l. Some (string l)) (same_text word _ t)) p_is (ap edit_of_draft (only (Ok whole) whole e refl p_next) ∙ range)))
+    (λ _ h2. by_test _ _ _ _ h2
+    (λ t h. steps (removed_key 2 d) _ e h (λ p p_is p_next.
+    let whole = drafts.Remove p in
+    remove_known d p x ordered (there ∙ ap (λ l. Some (string l)) (same_text word _ t)) p_is (ap edit_of_draft (only (Ok whole) whole e refl p_next) ∙ range)))
+    (λ _ h3. cc))))
+
+-- the items are the values of these edits
+abbrev AreEditsOf : Items → List Edit → Type 0
+AreEditsOf ds b = (ds ≡ items_of (map edit_value b)) × AllByRecursion EditMayBeAsked b
+
+edits_known : (ds : Items) (es : List EditDraft) (b : List Edit) → ItemsAreOrdered ds → each edit_shape (items_list ds) ≡ Ok es → each edit_of_draft es ≡ Ok b → AreEditsOf ds b
+edits_known no_items es b ordered shape range =
+    let none : Ok [] ≡ Ok b = ap (each edit_of_draft) (only (Ok []) [] es refl shape) ∙ range in
+    subst (AreEditsOf no_items) (only (Ok []) [] b refl none) (refl, tt)
+edits_known (item d ds) es b ordered shape range =
+    steps (edit_shape d) _ es shape (λ e e_is e_next.
+    steps (each edit_shape (items_list ds)) _ es e_next (λ rest rest_is rest_next.
+    let ranges : each edit_of_draft (e ∷ rest) ≡ Ok b = ap (each edit_of_draft) (only (Ok (e ∷ rest)) (e ∷ rest) es refl rest_next) ∙ range in
+    steps (edit_of_draft e) _ b ranges (λ x x_is x_next.
+    steps (each edit_of_draft rest) _ b x_next (λ xs xs_is xs_next.
+    let first = edit_known d e x ordered.0 e_is x_is in
+    let others = edits_known ds rest xs ordered.1 rest_is xs_is in
+    subst (AreEditsOf (item d ds)) (only (Ok (x ∷ xs)) (x ∷ xs) b refl xs_next) (ap₂ item first.0 others.0, (first.1, others.1))))))
+
+kept_at : (t : Bool) (es batch : List EditDraft) → is_batch_draft es ≡ t → batch_of es ≡ Ok batch → (es ≡ batch) × (is_batch_draft es ≡ true)
+kept_at true es batch e h = (only (Ok es) es batch refl (sym (rw e refl) ∙ h), e)
+kept_at false es batch e h = let never = (rw e at h) in cc
+
+pub batch_known : (s : ℕ) (d : Data) (draft : CommandDraft) (c : Command) → IsOrdered d → get (codes "do") d ≡ Some (string (codes "batch")) → get (codes "s") d ≡ Some (whole_data s) → IsSession s → batch_shape d ≡ Ok draft → command_of_draft draft ≡ Ok c
+    → MayBeAsked s c × (d ≡ value_of s c)
+unfolding batch_shape
+batch_known s d draft c ordered there session_there session shape range =
+    steps (has_members 3 d) _ draft shape (λ u count_is count_next.
+    steps (items_at (codes "edits") d) _ draft count_next (λ items items_is items_next.
+    steps (each edit_shape (items_list items)) _ draft items_next (λ es es_is es_next.
+    steps (batch_of es) _ draft es_next (λ batch batch_is batch_next.
+    let whole = wanted.Batch batch in
+    let kept = kept_at (is_batch_draft es) es batch refl batch_is in
+    steps (each edit_of_draft batch) _ c (ap command_of_draft (only (Ok whole) whole draft refl batch_next) ∙ range) (λ b b_is b_next.
+    let ranges : each edit_of_draft es ≡ Ok b = ap (each edit_of_draft) kept.0 ∙ b_is in
+    let held = items_there (get (codes "edits") d) items items_is in
+    let known = edits_known items es b (inner_ordered (codes "edits") d (array items) ordered held) es_is ranges in
+    let found = commands.Batch b in
+    subst (λ x. MayBeAsked s x × (d ≡ value_of s x)) (only (Ok found) found c refl b_next) (
+      (session, tested b (sym (batch_passes es b ranges) ∙ kept.1), known.1),
+      whole_object 2 d (inside (batch_data s b)) u ordered count_is refl (refl, (refl, tt)) (there, (held ∙ ap (λ l. Some (array l)) known.0, (session_there, tt))),
+    ))))))
+
+-- ---- a value is read
+
+abbrev pub edit_draft : Edit → EditDraft
+edit_draft (edits.Create k r) = drafts.Create (key_draft k) (record_draft r)
+edit_draft (edits.Replace k r) = drafts.Replace (key_draft k) (record_draft r)
+edit_draft (edits.Remove k) = drafts.Remove (key_draft k)
+
+shape_back : (k : Key) (r : Record) → KeyedInRange k r → record_shape (kind k) (record_data r) ≡ Ok (record_draft r)
+shape_back k r fits = let back = read_back k r fits in ap (record_shape (kind k)) (sym (record_same r)) ∙ back.shape
+
+put_shaped : (word : List ℕ) (k : Key) (r : Record) → KeyedInRange k r → keyed_record 3 (put_data word (key_text k) (record_data r)) ≡ Ok (key_draft k, record_draft r)
+unfolding keyed_record
+put_shaped word (keys.Port n) r fits = let back = read_back (keys.Port n) r fits in rw (decimal_back n (instance (keys.Port n) back.in_range), shape_back (keys.Port n) r fits) refl
+put_shaped word (keys.Filter n) r fits = let back = read_back (keys.Filter n) r fits in rw (decimal_back n (instance (keys.Filter n) back.in_range), shape_back (keys.Filter n) r fits) refl
+put_shaped word (keys.Gate n) r fits = let back = read_back (keys.Gate n) r fits in rw (decimal_back n (instance (keys.Gate n) back.in_range), shape_back (keys.Gate n) r fits) refl
+put_shaped word (keys.Meter n) r fits = let back = read_back (keys.Meter n) r fits in rw (decimal_back n (instance (keys.Meter n) back.in_range), shape_back (keys.Meter n) r fits) refl
+
+removal_shaped : (k : Key) → KeyInRange k → IsNoPort (kind k) → removed_key 2 (removal_data (key_text k)) ≡ Ok (key_draft k)
+unfolding removed_key
+removal_shaped (keys.Port n) fits other = absurd other
+removal_shaped (keys.Filter n) fits other = rw (decimal_back n (instance (keys.Filter n) fits)) refl
+removal_shaped (keys.Gate n) fits other = rw (decimal_back n (instance (keys.Gate n) fits)) refl
+removal_shaped (keys.Meter n) fits other = rw (decimal_back n (instance (keys.Meter n) fits)) refl
+
+edit_shaped : (x : Edit) → EditMayBeAsked x → edit_shape (edit_value x) ≡ Ok (edit_draft x)
+unfolding edit_shape
+edit_shaped (edits.Create k r) may = rw (put_shaped (codes "create") k r may) refl
+edit_shaped (edits.Replace k r) may = rw (put_shaped (codes "replace") k r may) refl
+edit_shaped (edits.Remove k) may = rw (removal_shaped k may.0 may.1) refl
+
+edits_shaped : (b : List Edit) → AllByRecursion EditMayBeAsked b → each edit_shape (items_list (items_of (map edit_value b))) ≡ Ok (map edit_draft b)
+edits_shaped [] may = refl
+edits_shaped (x ∷ b) may = rw (edit_shaped x may.0, edits_shaped b may.1) refl
+
+edit_back : (x : Edit) → EditMayBeAsked x → edit_of_draft (edit_draft x) ≡ Ok x
+edit_back (edits.Create k r) may = let back = read_back k r may in rw (key_back k back.in_range, back.range) refl
+edit_back (edits.Replace k r) may = let back = read_back k r may in rw (key_back k back.in_range, back.range) refl
+edit_back (edits.Remove k) may = rw (key_back k may.0) refl
+
+pub edits_back : (b : List Edit) → AllByRecursion EditMayBeAsked b → each edit_of_draft (map edit_draft b) ≡ Ok b
+edits_back [] may = refl
+edits_back (x ∷ b) may = rw (edit_back x may.0, edits_back b may.1) refl
+
+pub batch_shaped : (s : ℕ) (b : List Edit) → IsBatch b → AllByRecursion EditMayBeAsked b → line_shape (batch_data s b) ≡ Ok (Session s (wanted.Batch (map edit_draft b)))
+unfolding line_shape command_shape batch_shape
+batch_shaped s b batch may =
+    let passes : is_batch_draft (map edit_draft b) ≡ true = batch_passes (map edit_draft b) b (edits_back b may) ∙ test_of b batch in
+    rw (edits_shaped b may, passes) refl
