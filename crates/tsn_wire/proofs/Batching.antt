@@ -1,7 +1,7 @@
 -- A batch is read exactly where it is the value of its edits.
 use Rattle.std.proofs.Common.{◌≡◌, ℕ, List, [], ◌∷◌, map, Bool, true, false, Some, Ok, codes, refl, sym, ap, ap₂, subst, ◌∙◌}
 use Rattle.std.specs.List.{AllByRecursion}
-use Rattle.serde_json.specs.Data.{Data, string, array, Items, no_items, item}
+use Rattle.serde_json.specs.Data.{Data, string, array, object, Items, no_items, item, member, no_members}
 use Rattle.serde_json.specs.Find.{get}
 use Rattle.serde_json.specs.View.{items_of}
 use Rattle.tsn_bridge.specs.declared.command.Command.{Command}
@@ -10,10 +10,8 @@ use Rattle.tsn_edit.specs.declared.Edit.{Edit}
 use Rattle.tsn_edit.specs.declared.Edit.TheVariants as edits
 use Rattle.tsn_edit.specs.Batches.{IsBatch}
 use Rattle.tsn_types.specs.declared.keys.Key.{Key}
-use Rattle.tsn_types.specs.declared.keys.Key.TheVariants as keys
 use Rattle.tsn_types.specs.declared.records.Record.{Record}
 use Rattle.tsn_types.specs.InRange.{KeyedInRange}
-use Rattle.tsn_types.specs.Keys.{kind}
 use Rattle.tsn_records.specs.Answers.{each}
 use Rattle.tsn_records.specs.Json.{has_members, items_at, items_list, text_at, value_at}
 use Rattle.tsn_records.specs.Keys.{key_text}
@@ -24,20 +22,20 @@ use Rattle.tsn_records.specs.declared.drafts.KeyDraft.{KeyDraft}
 use Rattle.tsn_records.specs.declared.drafts.RecordDraft.{RecordDraft}
 use Rattle.tsn_records.proofs.Steps.{only, steps}
 use Rattle.tsn_wire.specs.Batches.{batch_of, is_batch_draft}
-use Rattle.tsn_wire.specs.Commands.{key_at, keyed_record, removed_key, edit_shape, batch_shape, command_shape, line_shape}
+use Rattle.tsn_wire.specs.Commands.{key_at, keyed_record, removed_key, edit_shape, batch_shape, line_shape}
 use Rattle.tsn_wire.specs.Ranges.{edit_of_draft, command_of_draft}
-use Rattle.tsn_wire.specs.Spelled.{IsNoPort}
-use Rattle.tsn_wire.specs.Values.{put_data, removal_data, edit_value, batch_data, value_of, EditMayBeAsked, KeyInRange, IsSession, MayBeAsked}
+use Rattle.tsn_wire.specs.Spelled.{IsNoPort, edit_value as edit_value_of}
+use Rattle.tsn_wire.specs.Values.{put_data, removal_data, edit_value, batch_data, value_of, EditMayBeAsked, IsSession, MayBeAsked}
 use Rattle.tsn_wire.specs.declared.drafts.CommandDraft.{CommandDraft}
 use Rattle.tsn_wire.specs.declared.drafts.CommandDraft.TheVariants as wanted
 use Rattle.tsn_wire.specs.declared.drafts.EditDraft.{EditDraft}
 use Rattle.tsn_wire.specs.declared.drafts.EditDraft.TheVariants as drafts
 use Rattle.tsn_wire.specs.declared.drafts.LineDraft.TheVariants.{Session}
 use Rattle.tsn_wire.proofs.Drafting.{batch_passes, tested, test_of}
+use Rattle.tsn_wire.proofs.EditShapes.{IsKept, batch_kept}
 use Rattle.tsn_wire.proofs.FromShapes.{items_there, text_there, value_there}
 use Rattle.tsn_wire.proofs.Known.{by_test, same_text, removable_known, key_there, record_same, record_known, record_draft, key_draft, key_back, instance, read_back}
 use Rattle.tsn_wire.proofs.Objects.{IsOrdered, ItemsAreOrdered, inside, inner_ordered, whole_object}
-use Rattle.tsn_wire.proofs.ReadingBack.{decimal_back}
 
 -- ---- an edit that is read is the value
 
@@ -153,32 +151,21 @@ edit_draft (edits.Create k r) = drafts.Create (key_draft k) (record_draft r)
 edit_draft (edits.Replace k r) = drafts.Replace (key_draft k) (record_draft r)
 edit_draft (edits.Remove k) = drafts.Remove (key_draft k)
 
-shape_back : (k : Key) (r : Record) → KeyedInRange k r → record_shape (kind k) (record_data r) ≡ Ok (record_draft r)
-shape_back k r fits = let back = read_back k r fits in ap (record_shape (kind k)) (sym (record_same r)) ∙ back.shape
+-- the value of the draft is that of the edit
+value_drafted : (x : Edit) → edit_value_of (edit_draft x) ≡ edit_value x
+value_drafted (edits.Create k r) = ap (λ d. put_data (codes "create") (key_text k) d) (record_same r)
+value_drafted (edits.Replace k r) = ap (λ d. put_data (codes "replace") (key_text k) d) (record_same r)
+value_drafted (edits.Remove k) = refl
 
-put_shaped : (word : List ℕ) (k : Key) (r : Record) → KeyedInRange k r → keyed_record 3 (put_data word (key_text k) (record_data r)) ≡ Ok (key_draft k, record_draft r)
-unfolding keyed_record
-put_shaped word (keys.Port n) r fits = let back = read_back (keys.Port n) r fits in rw (decimal_back n (instance (keys.Port n) back.in_range), shape_back (keys.Port n) r fits) refl
-put_shaped word (keys.Filter n) r fits = let back = read_back (keys.Filter n) r fits in rw (decimal_back n (instance (keys.Filter n) back.in_range), shape_back (keys.Filter n) r fits) refl
-put_shaped word (keys.Gate n) r fits = let back = read_back (keys.Gate n) r fits in rw (decimal_back n (instance (keys.Gate n) back.in_range), shape_back (keys.Gate n) r fits) refl
-put_shaped word (keys.Meter n) r fits = let back = read_back (keys.Meter n) r fits in rw (decimal_back n (instance (keys.Meter n) back.in_range), shape_back (keys.Meter n) r fits) refl
+values_drafted : (b : List Edit) → items_of (map edit_value_of (map edit_draft b)) ≡ items_of (map edit_value b)
+values_drafted [] = refl
+values_drafted (x ∷ b) = ap₂ item (value_drafted x) (values_drafted b)
 
-removal_shaped : (k : Key) → KeyInRange k → IsNoPort (kind k) → removed_key 2 (removal_data (key_text k)) ≡ Ok (key_draft k)
-unfolding removed_key
-removal_shaped (keys.Port n) fits other = absurd other
-removal_shaped (keys.Filter n) fits other = rw (decimal_back n (instance (keys.Filter n) fits)) refl
-removal_shaped (keys.Gate n) fits other = rw (decimal_back n (instance (keys.Gate n) fits)) refl
-removal_shaped (keys.Meter n) fits other = rw (decimal_back n (instance (keys.Meter n) fits)) refl
-
-edit_shaped : (x : Edit) → EditMayBeAsked x → edit_shape (edit_value x) ≡ Ok (edit_draft x)
-unfolding edit_shape
-edit_shaped (edits.Create k r) may = rw (put_shaped (codes "create") k r may) refl
-edit_shaped (edits.Replace k r) may = rw (put_shaped (codes "replace") k r may) refl
-edit_shaped (edits.Remove k) may = rw (removal_shaped k may.0 may.1) refl
-
-edits_shaped : (b : List Edit) → AllByRecursion EditMayBeAsked b → each edit_shape (items_list (items_of (map edit_value b))) ≡ Ok (map edit_draft b)
-edits_shaped [] may = refl
-edits_shaped (x ∷ b) may = rw (edit_shaped x may.0, edits_shaped b may.1) refl
+drafts_kept : (b : List Edit) → AllByRecursion EditMayBeAsked b → AllByRecursion IsKept (map edit_draft b)
+drafts_kept [] may = tt
+drafts_kept (edits.Create k r ∷ b) may = let back = read_back k r may.0 in ((instance k back.in_range, back.shape), drafts_kept b may.1)
+drafts_kept (edits.Replace k r ∷ b) may = let back = read_back k r may.0 in ((instance k back.in_range, back.shape), drafts_kept b may.1)
+drafts_kept (edits.Remove k ∷ b) may = ((instance k may.0.0, may.0.1), drafts_kept b may.1)
 
 edit_back : (x : Edit) → EditMayBeAsked x → edit_of_draft (edit_draft x) ≡ Ok x
 edit_back (edits.Create k r) may = let back = read_back k r may in rw (key_back k back.in_range, back.range) refl
@@ -190,7 +177,7 @@ edits_back [] may = refl
 edits_back (x ∷ b) may = rw (edit_back x may.0, edits_back b may.1) refl
 
 pub batch_shaped : (s : ℕ) (b : List Edit) → IsBatch b → AllByRecursion EditMayBeAsked b → line_shape (batch_data s b) ≡ Ok (Session s (wanted.Batch (map edit_draft b)))
-unfolding line_shape command_shape batch_shape
 batch_shaped s b batch may =
     let passes : is_batch_draft (map edit_draft b) ≡ true = batch_passes (map edit_draft b) b (edits_back b may) ∙ test_of b batch in
-    rw (edits_shaped b may, passes) refl
+    ap (λ ds. line_shape (object (member (codes "do") (string (codes "batch")) (member (codes "edits") (array ds) (member (codes "s") (whole_data s) no_members))))) (sym (values_drafted b))
+    ∙ batch_kept s (map edit_draft b) passes (drafts_kept b may)

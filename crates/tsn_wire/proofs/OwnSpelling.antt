@@ -26,7 +26,8 @@ use Rattle.tsn_wire.specs.Commands.{line_shape, command_shape, keyed_record, cre
 use Rattle.tsn_records.specs.Records.{port_entry_shape, gate_entry_shape, list_shape as entries_shape, schedule_shape, port_shape, gate_shape, filter_shape, meter_shape, record_shape}
 use Rattle.tsn_wire.specs.Reading.{data_of, line_of_draft, reading}
 use Rattle.tsn_records.specs.Shown.{whole_data, or_null}
-use Rattle.tsn_wire.specs.Spelled.{IsSmall, IsNoPort, port_entry_value, gate_entry_value, port_value, filter_value, gate_value, meter_value, record_value, PortEntryIsSmall, GateEntryIsSmall, PortIsSmall, GateIsSmall, FilterIsSmall, MeterIsSmall, RecordIsSmall, Spells, SpellsFront}
+use Rattle.tsn_wire.specs.Lines.{batch_members}
+use Rattle.tsn_wire.specs.Spelled.{IsSmall, IsNoPort, EditIsSmall, batch_value, edit_value, port_entry_value, gate_entry_value, port_value, filter_value, gate_value, meter_value, record_value, PortEntryIsSmall, GateEntryIsSmall, PortIsSmall, GateIsSmall, FilterIsSmall, MeterIsSmall, RecordIsSmall, Spells, SpellsFront}
 use Rattle.tsn_records.specs.declared.drafts.PortEntryDraft.{PortEntryDraft}
 use Rattle.tsn_records.specs.declared.drafts.GateEntryDraft.{GateEntryDraft}
 use Rattle.tsn_records.specs.declared.drafts.PortDraft.{PortDraft}
@@ -37,10 +38,13 @@ use Rattle.tsn_records.specs.declared.drafts.RecordDraft.{RecordDraft}
 use Rattle.tsn_records.specs.declared.drafts.RecordDraft.TheVariants as records
 use Rattle.tsn_wire.specs.declared.drafts.CommandDraft.{CommandDraft}
 use Rattle.tsn_wire.specs.declared.drafts.CommandDraft.TheVariants.{Create, Replace, Remove, Batch, Undo, UndoAll, Redo, Enable, Disable, Apply, Frame, States, Counters, Show, List as ListKind, Since}
+use Rattle.tsn_wire.specs.declared.drafts.EditDraft.{EditDraft}
+use Rattle.tsn_wire.specs.declared.drafts.EditDraft.TheVariants as edits
 use Rattle.tsn_wire.specs.declared.drafts.LineDraft.{LineDraft}
 use Rattle.tsn_wire.specs.declared.drafts.LineDraft.TheVariants.{Session}
 use Rattle.tsn_records.specs.declared.unread.Unread.{Unread}
 use Rattle.tsn_wire.proofs.Answering.{data_of_read}
+use Rattle.tsn_wire.proofs.EditShapes.{IsKept, batch_kept}
 use Rattle.tsn_records.proofs.Escaping.{escape_key}
 use Rattle.tsn_records.proofs.Steps.{then}
 use Rattle.tsn_wire.proofs.ReadingBack.{decimal_back, whole_or_null_back}
@@ -211,7 +215,7 @@ recorded_plain word s k n v small p = record {
 }
 
 -- a key in quotes, between what stands before it and behind it
-quoted_key : (front rest : List ℕ) (k : Kind) (n : ℕ) → IsInstanceId n → front ++ (spelled_key k n ++ (codes "\"" ++ rest)) ≡ front ++ ((escape (spelled_key k n) ++ codes "\"") ++ rest)
+pub quoted_key : (front rest : List ℕ) (k : Kind) (n : ℕ) → IsInstanceId n → front ++ (spelled_key k n ++ (codes "\"" ++ rest)) ≡ front ++ ((escape (spelled_key k n) ++ codes "\"") ++ rest)
 quoted_key front rest k n small =
     sym (ap (λ l. front ++ ((l ++ codes "\"") ++ rest)) (escape_key k n (omega arith)) ∙ ap (λ l. front ++ l) (append_assoc (spelled_key k n) (codes "\"") rest))
 
@@ -269,6 +273,43 @@ show_shaped s kinds.Port n small = rw (decimal_back n small) refl
 show_shaped s kinds.Filter n small = rw (decimal_back n small) refl
 show_shaped s kinds.Gate n small = rw (decimal_back n small) refl
 show_shaped s kinds.Meter n small = rw (decimal_back n small) refl
+
+-- ---- batches
+
+edit_plain : (e : EditDraft) → EditIsSmall e → IsPlain 4 (edit_value e)
+edit_plain (edits.Create key v) small =
+    let p = record_plain key.kind v small.1 in
+    record { same = rw p.same refl; numbers = (tt, (tt, (p.numbers, tt))); shallow = omega (arith, p.shallow) }
+edit_plain (edits.Replace key v) small =
+    let p = record_plain key.kind v small.1 in
+    record { same = rw p.same refl; numbers = (tt, (tt, (p.numbers, tt))); shallow = omega (arith, p.shallow) }
+edit_plain (edits.Remove key) small = record { same = refl; numbers = (tt, (tt, tt)); shallow = omega arith }
+
+edits_shallow : (es : List EditDraft) → AllByRecursion EditIsSmall es → items_depth (items_outline (items_of (map edit_value es))) ≤ 4
+edits_shallow [] all = omega arith
+edits_shallow (e ∷ es) all = let here = (edit_plain e all.0).shallow in let rest = edits_shallow es all.1 in omega (arith, here, rest)
+
+abbrev batched : ℕ → List EditDraft → Data
+batched s es = object (batch_members s es)
+
+batched_plain : (s : ℕ) (es : List EditDraft) → IsSmall s → AllByRecursion EditIsSmall es → IsPlain 127 (batched s es)
+batched_plain s es small all = record {
+  same = rw (items_same EditIsSmall edit_value (λ e x. (edit_plain e x).same) es all, number_of-decimal s small) refl;
+  numbers = (tt, (items_numbers EditIsSmall edit_value (λ e x. (edit_plain e x).numbers) es all, (IsNumber-decimal s small, tt)));
+  shallow = let list = edits_shallow es all in omega (arith, list);
+}
+
+batched_text : (s : ℕ) (es : List EditDraft) → codes "{\"do\":\"batch\",\"edits\":" ++ (compact_text (batch_value es) ++ tail s) ≡ compact_text (batched s es)
+unfolding escape_byte
+batched_text s es = refl
+
+all_kept : (es : List EditDraft) → AllByRecursion EditIsSmall es → AllByRecursion IsKept es
+all_kept [] all = tt
+all_kept (edits.Create key v ∷ es) all = ((all.0.0, record_shaped key.kind v all.0.1), all_kept es all.1)
+all_kept (edits.Replace key v ∷ es) all = ((all.0.0, record_shaped key.kind v all.0.1), all_kept es all.1)
+all_kept (edits.Remove key ∷ es) all = (all.0, all_kept es all.1)
+
+-- ---- looks
 
 abbrev listed : ℕ → Kind → Data
 listed s k = object (member (codes "do") (string (codes "list")) (member (codes "kind") (string (kind_text k)) (member (codes "s") (whole_data s) no_members)))
@@ -357,6 +398,9 @@ spelled_says line text rest (Remove key) s first (k, other, is) small last utf8 
     reading_of line (keyed (codes "remove") s key.kind key.number) (Session s (Remove key))
     (printed_reads line _ (keyed_plain (codes "remove") s key.kind key.number small) (whole_line ∙ remove_text s key.kind key.number k) utf8)
     (remove_shaped s key.kind key.number k other)
+spelled_says line text rest (Batch es) s first (batch, all, is) small last utf8 =
+    let whole_line = first ∙ ap (λ l. codes "{\"do\":\"" ++ l) (is ∙ ap (λ l. codes "batch\",\"edits\":" ++ (compact_text (batch_value es) ++ l)) last) in
+    reading_of line (batched s es) (Session s (Batch es)) (printed_reads line _ (batched_plain s es small all) (whole_line ∙ batched_text s es) utf8) (batch_kept s es batch (all_kept es all))
 spelled_says line text rest Undo s first is small last utf8 =
     let whole_line = first ∙ ap (λ l. codes "{\"do\":\"" ++ l) (is ∙ ap (λ l. codes "undo\"" ++ l) last) in
     reading_of line (bare (codes "undo") s) (Session s Undo) (printed_reads line _ (bare_plain (codes "undo") s small) (whole_line ∙ undo_text s) utf8) (undo_shaped s)
@@ -374,7 +418,6 @@ spelled_says line text rest (Show key) s first (k, is) small last utf8 =
 spelled_says line text rest (ListKind k) s first is small last utf8 =
     let whole_line = first ∙ ap (λ l. codes "{\"do\":\"" ++ l) (is ∙ ap (λ l. codes "list\",\"kind\":\"" ++ (kind_text k ++ (codes "\"" ++ l))) last) in
     reading_of line (listed s k) (Session s (ListKind k)) (printed_reads line _ (listed_plain s k small) (whole_line ∙ listed_text s k) utf8) (listed_shaped s k)
-spelled_says line text rest (Batch batch) s first never small last utf8 = absurd never
 spelled_says line text rest (Enable key now) s first never small last utf8 = absurd never
 spelled_says line text rest (Disable key now) s first never small last utf8 = absurd never
 spelled_says line text rest (Apply key now) s first never small last utf8 = absurd never

@@ -1,9 +1,8 @@
 -- Command lines in the service's own spelling: compact, their members in ascending order of their names. A draft is
 -- seen as the value that such a line is.
-use Rattle.std.specs.Prelude.{◌≡◌, ◌⊎◌, ℕ, ◌^◌, ◌<◌, ◌++◌, List, map, codes, decimal, IfSome, ⊤}
+use Rattle.std.specs.Prelude.{◌≡◌, ◌⊎◌, ℕ, ◌^◌, ◌<◌, ◌++◌, List, true, codes, decimal, IfSome, ⊤}
 use Rattle.std.specs.List.{AllByRecursion}
-use Rattle.serde_json.specs.Data.{Data, string, array, object, member, no_members}
-use Rattle.serde_json.specs.View.{items_of}
+use Rattle.serde_json.specs.Data.{Data, string, object, member, no_members}
 use Rattle.serde_json.specs.Written.{compact_text}
 use Rattle.tsn_types.specs.declared.keys.Kind.{Kind}
 use Rattle.tsn_types.specs.declared.keys.Kind.TheVariants as kinds
@@ -19,6 +18,7 @@ use Rattle.tsn_records.specs.declared.drafts.FilterDraft.{FilterDraft}
 use Rattle.tsn_records.specs.declared.drafts.MeterDraft.{MeterDraft}
 use Rattle.tsn_records.specs.declared.drafts.RecordDraft.{RecordDraft}
 use Rattle.tsn_records.specs.declared.drafts.RecordDraft.TheVariants.{Port, Filter, Gate, Meter}
+use Rattle.tsn_wire.specs.Batches.{is_batch_draft}
 use Rattle.tsn_wire.specs.declared.drafts.CommandDraft.{CommandDraft}
 use Rattle.tsn_wire.specs.declared.drafts.EditDraft.{EditDraft}
 use Rattle.tsn_wire.specs.declared.drafts.EditDraft.TheVariants as edits
@@ -75,7 +75,7 @@ edit_value (edits.Replace key value) = object (member (codes "do") (string (code
 edit_value (edits.Remove key) = object (member (codes "do") (string (codes "remove")) (member (codes "key") (key_value key) no_members))
 
 abbrev pub batch_value : List EditDraft → Data
-batch_value es = array (items_of (map edit_value es))
+batch_value es = list_array edit_value es
 
 -- the numbers of each are such that a line can hold
 pub record PortEntryIsSmall (e : PortEntryDraft) : Type 0 where
@@ -125,6 +125,16 @@ RecordIsSmall kinds.Filter r = ⊥
 RecordIsSmall kinds.Gate r = ⊥
 RecordIsSmall kinds.Meter r = ⊥
 
+-- an edit whose key some table may have, and whose numbers are such
+abbrev pub EditIsSmall : EditDraft → Type 0
+EditIsSmall (edits.Create key value) = IsKey key × RecordIsSmall key.kind value
+EditIsSmall (edits.Replace key value) = IsKey key × RecordIsSmall key.kind value
+EditIsSmall (edits.Remove key) = IsKey key × IsNoPort key.kind
+
+-- a text that begins with an edit of a batch, and the rest after it
+abbrev pub SpellsEdit : List ℕ → EditDraft → List ℕ → Type 0
+SpellsEdit text e rest = EditIsSmall e × (text ≡ compact_text (edit_value e) ++ rest)
+
 -- a text that begins with a key and its record, and the rest after them
 abbrev pub SpellsRecord : List ℕ → KeyDraft → RecordDraft → List ℕ → Type 0
 SpellsRecord text key value rest =
@@ -132,12 +142,12 @@ SpellsRecord text key value rest =
     × (text ≡ spelled_key key.kind key.number ++ (codes "\",\"record\":" ++ (compact_text (record_value value) ++ rest)))
 
 -- The text begins with what follows `{"do":"` in a command's line, up to `,"s":`, and the rest comes after it. Lines that
--- make a batch, act on a list, hand in a frame or look at states or counters are not read so.
+-- act on a list, hand in a frame or look at states or counters are not read so.
 abbrev pub Spells : List ℕ → CommandDraft → List ℕ → Type 0
 Spells text (Create key value) rest = (behind : List ℕ) × (text ≡ codes "create\",\"key\":\"" ++ behind) × SpellsRecord behind key value rest
 Spells text (Replace key value) rest = (behind : List ℕ) × (text ≡ codes "replace\",\"key\":\"" ++ behind) × SpellsRecord behind key value rest
 Spells text (Remove key) rest = IsKey key × IsNoPort key.kind × (text ≡ codes "remove\",\"key\":\"" ++ (spelled_key key.kind key.number ++ (codes "\"" ++ rest)))
-Spells text (Batch batch) rest = ⊥
+Spells text (Batch batch) rest = (is_batch_draft batch ≡ true) × AllByRecursion EditIsSmall batch × (text ≡ codes "batch\",\"edits\":" ++ (compact_text (batch_value batch) ++ rest))
 Spells text Undo rest = text ≡ codes "undo\"" ++ rest
 Spells text UndoAll rest = text ≡ codes "undo_all\"" ++ rest
 Spells text Redo rest = text ≡ codes "redo\"" ++ rest

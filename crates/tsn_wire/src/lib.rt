@@ -16,6 +16,7 @@ mod members;
 mod ranges;
 mod reading;
 mod spelled;
+mod spelled_batch;
 mod values;
 
 pub use drafts::{BatchDraft, CommandDraft, EditDraft, FrameDraft, LineDraft};

@@ -1,8 +1,9 @@
 //! Lines in the service's own spelling, read with no tree.
 //!
-//! An edit, an undo or a redo, or a question for records or entries that is compact and has its members in ascending
-//! order of their names, as the service writes them, is read piece by piece, and only a list takes memory. Any other
-//! line is read from its lexemes by `any_line`, and what that does not read, as a batch, is left to `serde_json`.
+//! An edit or a batch, an undo or a redo, or a question for records or entries that is compact and has its members in
+//! ascending order of their names, as the service writes them, is read piece by piece, and only a list and a batch take
+//! memory. Any other line is read from its lexemes by `any_line`, and what that does not read, as any other batch, is
+//! left to `serde_json`.
 ghost use Rattle.std.specs.Prelude.{◌≡◌, ◌++◌, IfSome, codes, decimal};
 ghost use Rattle.std.specs.List.{AllByRecursion};
 ghost use Rattle.serde_json.specs.Data.{Data, boolean};
@@ -16,6 +17,7 @@ ghost use Rattle.tsn_wire.specs.Spelled.{port_entry_value, gate_entry_value, por
 use crate::any_line::any_draft;
 use crate::cursor::Cursor;
 use crate::drafts::{CommandDraft, LineDraft};
+use crate::spelled_batch::batch;
 use crate::values::{scanned_gate_entry, scanned_port_entry};
 use std::alloc::Global;
 use tsn_records::drafts::{
@@ -274,7 +276,7 @@ pub fn kind(text: &mut Cursor<'_>) -> Option<Kind>
     Some(Kind::Meter)
 }
 
-fn keyed_record(alloc: Global, text: &mut Cursor<'_>) -> Option<(KeyDraft, RecordDraft)>
+pub fn keyed_record(alloc: Global, text: &mut Cursor<'_>) -> Option<(KeyDraft, RecordDraft)>
     ensures { IfSome result (λ p. SpellsRecord text.old p.0 p.1 text.new) }
 {
     let key = key(text)?;
@@ -307,7 +309,7 @@ fn command(alloc: Global, text: &mut Cursor<'_>) -> Option<CommandDraft>
             text.expect("redo\"")?;
             Some(CommandDraft::Redo)
         }
-        _ => look(text),
+        _ => look(alloc, text),
     }
 }
 
@@ -321,7 +323,7 @@ fn undo(text: &mut Cursor<'_>) -> Option<CommandDraft>
     Some(CommandDraft::Undo)
 }
 
-fn look(text: &mut Cursor<'_>) -> Option<CommandDraft>
+fn look(alloc: Global, text: &mut Cursor<'_>) -> Option<CommandDraft>
     ensures { IfSome result (λ command. Spells text.old command text.new) }
 {
     match text.letters() {
@@ -333,6 +335,11 @@ fn look(text: &mut Cursor<'_>) -> Option<CommandDraft>
             }
             text.expect("\"")?;
             Some(CommandDraft::Remove { key })
+        }
+        (b'a', _) => {
+            text.expect("batch\",\"edits\":")?;
+            let batch = batch(alloc, text)?;
+            Some(CommandDraft::Batch { batch })
         }
         (b'h', _) => {
             text.expect("show\",\"key\":\"")?;

@@ -1,0 +1,76 @@
+//! A batch in the service's own spelling, read with no tree.
+ghost use Rattle.std.specs.Prelude.{◌≡◌, ◌++◌, true, IfSome};
+ghost use Rattle.std.specs.List.{AllByRecursion};
+ghost use Rattle.serde_json.specs.Written.{compact_text};
+ghost use Rattle.tsn_wire.specs.Batches.{is_batch_draft};
+ghost use Rattle.tsn_wire.specs.Spelled.{batch_value, EditIsSmall, SpellsEdit};
+
+use crate::cursor::Cursor;
+use crate::drafts::{BatchDraft, EditDraft};
+use crate::spelled::{key, keyed_record};
+use std::alloc::Global;
+use tsn_edit::MOST_PARTS;
+use tsn_types::keys::Kind;
+
+// An edit with its braces. Which one it may be is guessed from the second and third letter of its word.
+fn edit(alloc: Global, text: &mut Cursor<'_>) -> Option<EditDraft>
+    ensures { IfSome result (λ e. SpellsEdit text.old e text.new) }
+{
+    text.expect("{\"do\":\"")?;
+    match text.letters() {
+        (b'r', _) => {
+            text.expect("create\",\"key\":\"")?;
+            let (key, value) = keyed_record(alloc, text)?;
+            text.expect("}")?;
+            Some(EditDraft::Create { key, value })
+        }
+        (b'e', b'p') => {
+            text.expect("replace\",\"key\":\"")?;
+            let (key, value) = keyed_record(alloc, text)?;
+            text.expect("}")?;
+            Some(EditDraft::Replace { key, value })
+        }
+        _ => {
+            text.expect("remove\",\"key\":\"")?;
+            let key = key(text)?;
+            if key.kind == Kind::Port {
+                return None;
+            }
+            text.expect("\"}")?;
+            Some(EditDraft::Remove { key })
+        }
+    }
+}
+
+fn edits(alloc: Global, text: &mut Cursor<'_>) -> Option<Vec<EditDraft>>
+    ensures small { IfSome result (λ es. AllByRecursion EditIsSmall es.items) }
+    ensures text { IfSome result
+        (λ es. text.old ≡ compact_text (batch_value es.items) ++ text.new) }
+{
+    text.expect("[")?;
+    let mut edits = Vec::new(alloc);
+    'edits: for _ in 0..MOST_PARTS {
+        let edit = edit(alloc, text)?;
+        let Ok(()) = edits.push(edit) else {
+            return None;
+        };
+        if text.take("]") {
+            return Some(edits);
+        }
+        text.expect(",")?;
+    }
+    None
+}
+
+/// The edits of a batch, with their brackets.
+pub fn batch(alloc: Global, text: &mut Cursor<'_>) -> Option<BatchDraft>
+    ensures batch { IfSome result (λ es. is_batch_draft es ≡ true) }
+    ensures small { IfSome result (AllByRecursion EditIsSmall) }
+    ensures text { IfSome result (λ es. text.old ≡ compact_text (batch_value es) ++ text.new) }
+{
+    let edits = edits(alloc, text)?;
+    match BatchDraft::new(edits) {
+        Ok(batch) => Some(batch),
+        Err(_) => None,
+    }
+}
