@@ -1,5 +1,6 @@
 //! Which lines are read with no tree: those of each command, compact, with their members in ascending order and in the
-//! order of `docs/formats.md`, and the same with a space behind each comma and each colon.
+//! order of `docs/formats.md`, and the same with a space behind each comma and each colon; of a batch the first of these
+//! alone.
 use std::alloc::{AllocError, Global};
 use std::process::Abort;
 use std::test::Fail;
@@ -42,6 +43,9 @@ const LINES: &'static [&'static str] = &[
     "{\"do\":\"since\",\"s\":1,\"after\":4294967295}",
 ];
 
+const BATCH: &'static str =
+    "{\"do\":\"batch\",\"edits\":[{\"do\":\"create\",\"key\":\"gate 7\",\"record\":{\"base\":0,\"cycle\":3000,\"extension\":1,\"invalid_rx\":true,\"ipv\":null,\"list\":[[true,5,1000,150]],\"octets_exceeded\":false,\"open\":true}},{\"do\":\"replace\",\"key\":\"filter 0\",\"record\":{\"gate\":7,\"handle\":9,\"max_sdu\":null,\"meter\":null,\"oversize\":true,\"priority\":null}},{\"do\":\"remove\",\"key\":\"meter 65535\"}],\"s\":1}";
+
 /// The same line with a space behind each comma and each colon.
 fn spaced(alloc: Global, line: &[u8]) -> Result<Vec<u8>, AllocError> {
     let mut text = Vec::new(alloc);
@@ -65,5 +69,6 @@ fn reads_each_command_with_no_tree(rt: HostRuntime) -> Result<(), Fail> {
         is_read(&rt, alloc, line.as_bytes());
         is_read(&rt, alloc, spaced(alloc, line.as_bytes())?.as_slice());
     }
+    is_read(&rt, alloc, BATCH.as_bytes());
     Ok(())
 }
