@@ -1,18 +1,21 @@
 -- A journal with its index: with more room, and with an entry more.
-use Rattle.std.proofs.Common.{◌≡◌, ℕ, ◌+◌, ◌-◌, ◌*◌, ◌≤◌, List, [], ◌∷◌, ◌++◌, refl, sym, ◌∙◌, ap, subst, arith, length, map, Some}
-use Rattle.std.proofs.lemmas.List.{length-append, length-map}
+use Rattle.std.proofs.Common.{◌≡◌, ℕ, ◌+◌, ◌-◌, ◌≤◌, List, [], ◌∷◌, ◌++◌, refl, sym, ◌∙◌, ap, subst, arith, length, map, Some}
+use Rattle.std.proofs.lemmas.List.{length-append, length-map, map-append}
 use Rattle.tsn_journal.specs.declared.entries.What.{What}
 use Rattle.tsn_journal.specs.declared.entries.MarkedEntry.{MarkedEntry}
 use Rattle.tsn_journal.specs.declared.groups.Group.{Group}
 use Rattle.tsn_journal.specs.declared.index.Index.{Index}
-use Rattle.tsn_journal.specs.Index.{ArePlaces, HasRoom, IsIndexed, IsIndexedButNewest, IsKept, IsLast, NewestAdds, TakesNoRoom, TakesRoom, belongs, places_for}
+use Rattle.tsn_journal.specs.Index.{ArePlaces, HasRoom, IsIndexed, IsIndexedButNewest, IsLast, NewestAdds, TakesNoRoom, TakesRoom, belongs, places_for}
+use Rattle.tsn_journal.specs.Kept.{IsKept}
 use Rattle.tsn_journal.specs.Latest.{latest_of}
+use Rattle.tsn_journal.specs.Touched.{NewestTold, Tells, TellsSame}
 use Rattle.std.specs.List.{slice_get}
 use Rattle.tsn_journal.specs.Entries.{IsNumbered, added_parts}
 use Rattle.tsn_journal.specs.Marks.{IsJournal, entries_of, mark_off}
 use Rattle.tsn_journal.proofs.Indexing.{indexed_more, indexed_off}
 use Rattle.tsn_journal.proofs.Links.{end_at, some_of}
-use Rattle.tsn_journal.proofs.Marking.{journal_push, new_entry}
+use Rattle.tsn_journal.proofs.Marking.{entries_stay, journal_push, new_entry}
+use Rattle.tsn_journal.proofs.Telling.{tells_more, tells_same}
 
 -- the index says the same where it has the same places and the same latest ones
 pub indexed_same : (ms : List MarkedEntry) (a b : Index) → b.places.items ≡ a.places.items → ((g : Group) → latest_of b.latest g ≡ latest_of a.latest g) → IsIndexed ms a → IsIndexed ms b
@@ -29,11 +32,12 @@ no_index a places latest = record {
       (subst (λ j. IsLast g (belongs g) [] [] j 1) (sym (latest g)) (record { within = omega arith; group = refl; none_later = λ i m low high at. (cc) }));
 }
 
-module _ (ms : List MarkedEntry) (len capacity : ℕ) (a : Index) (room parts : ℕ) (is : IsKept ms len capacity a room parts) (ns : List MarkedEntry) (b : Index) (same : ns ≡ ms) (places : b.places.items ≡ a.places.items) (latest : (g : Group) → latest_of b.latest g ≡ latest_of a.latest g) where
+module _ (ms : List MarkedEntry) (len capacity : ℕ) (a : Index) (room parts : ℕ) (is : IsKept ms len capacity a room parts) (ns : List MarkedEntry) (b : Index) (same : ns ≡ ms) (places : b.places.items ≡ a.places.items) (latest : (g : Group) → latest_of b.latest g ≡ latest_of a.latest g) (tells : TellsSame a b) where
   pub kept_reserved : (len' capacity' room' parts' : ℕ) → len' ≡ len → len' + room' ≤ capacity' → len' + room' ≤ 65536 → parts' ≤ 1048576 → HasRoom (places_for room' parts') b → IsKept ns len' capacity' b room' parts'
   kept_reserved len' capacity' room' parts' as_many entries few few_parts places' = record {
     journal = subst IsJournal (sym same) is.journal;
     indexed = subst (λ xs. IsIndexed xs b) (sym same) (indexed_same ms a b places latest is.indexed);
+    tells = subst (λ xs. Tells (entries_of xs) b) (sym same) (tells_same (entries_of ms) a b tells is.tells);
     entries = entries;
     few = few;
     few_parts = few_parts;
@@ -79,17 +83,32 @@ module _ (w : What) (s : ℕ) (ms ns : List MarkedEntry) (pushed : ns ≡ map (m
   pub pushed_few : length ms + 1 ≤ 65536 → length ns ≤ 65536
   pushed_few h = omega (arith, ap length pushed, length-append (map (mark_off w) ms) (new_entry ms s w ∷ []), length-map ms (mark_off w), h)
 
-  pub kept_pushed : (len capacity len' capacity' room parts k : ℕ) (a b : Index) → 1 ≤ room → k ≤ parts → k ≤ 16 → IsKept ms len capacity a room parts → length ms ≡ len → len' ≡ len + 1 → capacity' ≡ capacity → IsIndexed ns b
+  pub kept_pushed : (len capacity len' capacity' room parts k : ℕ) (a b : Index) → 1 ≤ room → k ≤ parts → k ≤ 16 → IsKept ms len capacity a room parts → length ms ≡ len → len' ≡ len + 1 → capacity' ≡ capacity → IsIndexed ns b → Tells (entries_of ns) b
       → TakesRoom (places_for 1 k) a b → IsKept ns len' capacity' b (room - 1) (parts - k)
-  kept_pushed len capacity len' capacity' room parts k a b some fewer wide is count longer same indexed takes = record {
+  kept_pushed len capacity len' capacity' room parts k a b some fewer wide is count longer same indexed tells takes = record {
     journal = journal_push ms s w ns is.journal (omega (arith, is.few)) pushed;
     indexed = indexed;
+    tells = tells;
     entries = omega (arith, is.entries);
     few = omega (arith, is.few);
     few_parts = omega (arith, is.few_parts);
     few_places = omega (arith, is.few_places, takes.places.items);
     places = less_room room parts k a b some fewer takes is.places;
   }
+
+  newest_is : slice_get ns (length ns - 1) ≡ Some (new_entry ms s w)
+  newest_is =
+      let count : length ns ≡ length (map (mark_off w) ms) + 1 = ap length pushed ∙ length-append (map (mark_off w) ms) (new_entry ms s w ∷ []) in
+      ap (λ xs. slice_get xs (length ns - 1)) pushed ∙ end_at (map (mark_off w) ms) (new_entry ms s w) (length ns - 1) (omega (arith, count))
+
+  -- what the rows tell has the entry that was pushed, once it is told
+  pub pushed_tells : (a b : Index) → IsNumbered 1 (entries_of ms) → Tells (entries_of ms) a → NewestTold ns (length ns) a b → Tells (entries_of ns) b
+  pushed_tells a b numbered is told =
+      let longer : length ns ≡ length ms + 1 = ap length pushed ∙ length-append (map (mark_off w) ms) (new_entry ms s w ∷ []) ∙ ap (λ k. k + 1) (length-map ms (mark_off w)) in
+      let as_many : length (entries_of ms) ≡ length ms = length-map ms (λ (m : MarkedEntry). m.entry) in
+      let x = (new_entry ms s w).entry in
+      subst (λ es. Tells es b) (sym (ap entries_of pushed ∙ map-append (λ (m : MarkedEntry). m.entry) (map (mark_off w) ms) (new_entry ms s w ∷ []) ∙ ap (λ es. es ++ x ∷ []) (entries_stay w ms)))
+      (tells_more (entries_of ms) x (length ns) a b numbered (sym longer) (omega (arith, longer, as_many)) is (told (new_entry ms s w) newest_is))
 
   -- the newest entry is the one that was pushed
   pub pushed_adds : NewestAdds ns (added_parts w)

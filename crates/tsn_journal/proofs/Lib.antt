@@ -1,3 +1,4 @@
+pub mod Blocked
 pub mod Collecting
 pub mod Conflicts
 pub mod Entering
@@ -13,5 +14,6 @@ pub mod Numbers
 pub mod Rows
 pub mod Sought
 pub mod Standing
+pub mod Telling
 pub mod Under
 pub mod Walking

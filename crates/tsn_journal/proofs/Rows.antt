@@ -16,7 +16,7 @@ use Rattle.tsn_journal.specs.declared.groups.Group.TheVariants.{On, RefersTo, Of
 use Rattle.tsn_journal.specs.declared.latest.Latest.{Latest}
 use Rattle.tsn_journal.specs.declared.latest.KeyPlaces.{KeyPlaces}
 use Rattle.tsn_journal.specs.declared.latest.SessionPlaces.{SessionPlaces}
-use Rattle.tsn_journal.specs.Latest.{ends_of, key_row, latest_of, on_of, refers_of, same_group, session_row, standing_of}
+use Rattle.tsn_journal.specs.Latest.{ends_of, key_row, latest_of, on_of, referred_of, refers_of, same_group, session_row, standing_of, touched_of}
 use Rattle.tsn_journal.proofs.Grouping.{number_itself, same_number}
 
 is_equal : (o : Ordering) → is_eq o ≡ true → o ≡ Equal
@@ -58,8 +58,28 @@ module _ (l k : Latest) (key : Key) (row : KeyPlaces) (rows : (q : Key) → key_
   set_refers' : (q : Key) → refers_of (key_row k q) ≡ cond (same_key key q) row.refers (refers_of (key_row l q))
   set_refers' q = ap refers_of (rows q) ∙ kept refers_of (same_key q key) (Some row) (key_row l q) ∙ ap (λ b. cond b row.refers (refers_of (key_row l q))) (swapped q key)
 
+  pub set_touched : (q : Key) → touched_of (key_row k q) ≡ cond (same_key key q) row.touched (touched_of (key_row l q))
+  set_touched q = ap touched_of (rows q) ∙ kept touched_of (same_key q key) (Some row) (key_row l q) ∙ ap (λ b. cond b row.touched (touched_of (key_row l q))) (swapped q key)
+
+  pub set_referred : (q : Key) → referred_of (key_row k q) ≡ cond (same_key key q) row.referred (referred_of (key_row l q))
+  set_referred q = ap referred_of (rows q) ∙ kept referred_of (same_key q key) (Some row) (key_row l q) ∙ ap (λ b. cond b row.referred (referred_of (key_row l q))) (swapped q key)
+
+  -- a number that is set as it was stays for all keys
+  pub touched_stay : row.touched ≡ touched_of (key_row l key) → (q : Key) → touched_of (key_row k q) ≡ touched_of (key_row l q)
+  touched_stay same q = set_touched q ∙ same_either (same_key key q) row.touched (touched_of (key_row l q)) (λ one. same ∙ ap (λ x. touched_of (key_row l x)) (one_key key q one))
+
+  pub referred_stay : row.referred ≡ referred_of (key_row l key) → (q : Key) → referred_of (key_row k q) ≡ referred_of (key_row l q)
+  referred_stay same q = set_referred q ∙ same_either (same_key key q) row.referred (referred_of (key_row l q)) (λ one. same ∙ ap (λ x. referred_of (key_row l x)) (one_key key q one))
+
   session_same : (s : ℕ) → session_row k s ≡ session_row l s
   session_same s = (λ i. get (sessions i).map s)
+
+  -- and so do the newest places of groups
+  pub groups_stay : row.on ≡ on_of (key_row l key) → row.refers ≡ refers_of (key_row l key) → (q : Group) → latest_of k q ≡ latest_of l q
+  groups_stay on refers (On q) = set_on' q ∙ same_either (same_key key q) row.on (on_of (key_row l q)) (λ one. on ∙ ap (λ x. on_of (key_row l x)) (one_key key q one))
+  groups_stay on refers (RefersTo q) = set_refers' q ∙ same_either (same_key key q) row.refers (refers_of (key_row l q)) (λ one. refers ∙ ap (λ x. refers_of (key_row l x)) (one_key key q one))
+  groups_stay on refers (Of s) = ap standing_of (session_same s)
+  groups_stay on refers (EndsRedo s) = ap ends_of (session_same s)
 
   pub set_key_both : (q : Group) → latest_of k q ≡ cond (same_group (RefersTo key) q) row.refers (cond (same_group (On key) q) row.on (latest_of l q))
   set_key_both (On q) = set_on' q
@@ -142,3 +162,22 @@ no_rows l p f g m s (RefersTo (Gate n)) = ap refers_of (no_key_row l.gates.map n
 no_rows l p f g m s (RefersTo (Meter n)) = ap refers_of (no_key_row l.meters.map n m)
 no_rows l p f g m s (Of n) = ap standing_of (no_session_row l.sessions.map n s)
 no_rows l p f g m s (EndsRedo n) = ap ends_of (no_session_row l.sessions.map n s)
+
+pub no_touched : (l : Latest) → l.ports.map ≡ empty → l.filters.map ≡ empty → l.gates.map ≡ empty → l.meters.map ≡ empty → (k : Key) → touched_of (key_row l k) ≡ 0
+no_touched l p f g m (Port n) = ap touched_of (no_key_row l.ports.map n p)
+no_touched l p f g m (Filter n) = ap touched_of (no_key_row l.filters.map n f)
+no_touched l p f g m (Gate n) = ap touched_of (no_key_row l.gates.map n g)
+no_touched l p f g m (Meter n) = ap touched_of (no_key_row l.meters.map n m)
+
+pub no_referred : (l : Latest) → l.ports.map ≡ empty → l.filters.map ≡ empty → l.gates.map ≡ empty → l.meters.map ≡ empty → (k : Key) → referred_of (key_row l k) ≡ 0
+no_referred l p f g m (Port n) = ap referred_of (no_key_row l.ports.map n p)
+no_referred l p f g m (Filter n) = ap referred_of (no_key_row l.filters.map n f)
+no_referred l p f g m (Gate n) = ap referred_of (no_key_row l.gates.map n g)
+no_referred l p f g m (Meter n) = ap referred_of (no_key_row l.meters.map n m)
+
+-- the same tables have the same rows
+pub same_rows : (l k : Latest) → k.ports.map ≡ l.ports.map → k.filters.map ≡ l.filters.map → k.gates.map ≡ l.gates.map → k.meters.map ≡ l.meters.map → (q : Key) → key_row k q ≡ key_row l q
+same_rows l k p f g m (Port n) = (λ i. get (p i) n)
+same_rows l k p f g m (Filter n) = (λ i. get (f i) n)
+same_rows l k p f g m (Gate n) = (λ i. get (g i) n)
+same_rows l k p f g m (Meter n) = (λ i. get (m i) n)

@@ -46,7 +46,7 @@ swap_or false true false d = refl
 swap_or false false true d = refl
 swap_or false false false d = refl
 
-swap_keys : (a b : Key) → same_key a b ≡ same_key b a
+pub swap_keys : (a b : Key) → same_key a b ≡ same_key b a
 swap_keys a b = (eq_by_cmp_equiv keys_total).symm a b
 
 meets_more : (ks ls : List Key) (k : Key) → meets ks (k ∷ ls) ≡ (has ks k || meets ks ls)
@@ -64,7 +64,7 @@ meets_one : (ks : List Key) (k : Key) → meets ks (k ∷ []) ≡ has ks k
 meets_one ks k = meets_more ks [] k ∙ ap (λ b. has ks k || b) (none_met ks) ∙ or_none (has ks k)
 
 -- whether a change is on the key, if there is one
-abbrev on_any : Option Key → Change → Bool
+abbrev pub on_any : Option Key → Change → Bool
 on_any None d = false
 on_any (Some k) d = has (keys_of (parts d)) k
 
@@ -74,7 +74,7 @@ on_refs None (Some y) d = sym (meets_one (keys_of (parts d)) y)
 on_refs (Some x) None d = or_none (has (keys_of (parts d)) x) ∙ sym (meets_one (keys_of (parts d)) x)
 on_refs (Some x) (Some y) d = sym (meets_more (keys_of (parts d)) (y ∷ []) x ∙ ap (λ b. has (keys_of (parts d)) x || b) (meets_one (keys_of (parts d)) y))
 
-nothing_after : (xs : List Key) → xs ++ [] ≡ xs
+pub nothing_after : (xs : List Key) → xs ++ [] ≡ xs
 nothing_after [] = refl
 nothing_after (x ∷ xs) = ap (λ ys. x ∷ ys) (nothing_after xs)
 
@@ -82,7 +82,7 @@ or_three : (a b c : Bool) → ((a || b) || c) ≡ (a || (b || c))
 or_three true b c = refl
 or_three false b c = refl
 
-in_conflict : (p : Part) (d : Change) (refs : Refs) → keys_of_refs refs ≡ refs_of p.before
+pub in_conflict : (p : Part) (d : Change) (refs : Refs) → keys_of_refs refs ≡ refs_of p.before
     → ((has (keys_of (parts d)) p.key || has (refs_after (parts d)) p.key) || (on_any refs.first d || on_any refs.second d)) ≡ conflicts d (p ∷ [])
 in_conflict p d refs same =
     ap (λ b. (has (keys_of (parts d)) p.key || has (refs_after (parts d)) p.key) || b) (on_refs refs.first refs.second d ∙ ap (meets (keys_of (parts d))) (same ∙ sym (nothing_after (refs_of p.before))))
@@ -189,7 +189,7 @@ meets_both (k ∷ ks) ls ls' = (λ i. has-append ls ls' k i || meets_both ks ls 
 keys_both : (es fs : List Part) → keys_of (es ++ fs) ≡ keys_of es ++ keys_of fs
 keys_both es fs = keys_of-append es fs
 
-refs_both : (es fs : List Part) → refs_before (es ++ fs) ≡ refs_before es ++ refs_before fs
+pub refs_both : (es fs : List Part) → refs_before (es ++ fs) ≡ refs_before es ++ refs_before fs
 refs_both [] fs = refl
 refs_both (e ∷ es) fs = ap (λ rs. refs_of e.before ++ rs) (refs_both es fs) ∙ sym (append_assoc (refs_of e.before) (refs_before es) (refs_before fs))
 
@@ -225,7 +225,7 @@ sought_none q ms =
     ap (λ (t : MarkedEntry → Bool). at (last_where t ms)) (λ i m. (ap (λ b. q m && b) (no_parts (applies m.entry.what)) ∙ no_and (q m)) i)
     ∙ ap at (never ms)
 
-take_next : (ps : List Part) (i : ℕ) (p : Part) → i < length ps → p ≡ get_or ps i p → take (i + 1) ps ≡ take i ps ++ p ∷ []
+pub take_next : (ps : List Part) (i : ℕ) (p : Part) → i < length ps → p ≡ get_or ps i p → take (i + 1) ps ≡ take i ps ++ p ∷ []
 take_next ps i p short is = take_more ps i p short ∙ ap (λ x. take i ps ++ x ∷ []) (sym is)
 
 -- a step of the loop over the parts of a change

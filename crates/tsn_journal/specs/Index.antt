@@ -14,7 +14,7 @@ use Rattle.tsn_journal.specs.declared.index.Index.{Index}
 use Rattle.tsn_journal.specs.declared.index.Place.{Place}
 use Rattle.tsn_journal.specs.Latest.{HasRows, TakesRows, latest_of, same_group}
 use Rattle.tsn_journal.specs.Entries.{added_parts, adds, is_made, most_entries}
-use Rattle.tsn_journal.specs.Marks.{IsJournal, ends_redo, is_own}
+use Rattle.tsn_journal.specs.Marks.{ends_redo, is_own}
 
 -- the change of a marked entry, where it stands
 abbrev pub standing_change : MarkedEntry → Option Change
@@ -186,16 +186,6 @@ pub record Adds (ms : List MarkedEntry) (wanted : Bool) (g : Group) (n s before 
   pub there_place : n ≤ number_at ps before → j ≡ before
   pub unwanted : wanted ≡ false → qs ≡ ps
   pub unwanted_place : wanted ≡ false → j ≡ before
-
--- how a journal keeps its entries: with all in the index, and with room for as many entries and parts more as it says
-pub record IsKept (ms : List MarkedEntry) (len capacity : ℕ) (index : Index) (room parts : ℕ) : Type 0 where
-  pub journal : IsJournal ms
-  pub indexed : IsIndexed ms index
-  pub entries : len + room ≤ capacity
-  pub few : len + room ≤ most_entries
-  pub few_parts : parts ≤ 16 * most_entries
-  pub few_places : length index.places.items ≤ 50 * len
-  pub places : HasRoom (places_for room parts) index
 
 -- whose entries are sought: any session's, or those of others than one
 abbrev pub is_sought : Option ℕ → MarkedEntry → Bool

@@ -1,4 +1,4 @@
--- The newest place of each group, as the rows of keys and sessions say it.
+-- The newest place of each group, and the newest entries of each key, as the rows of keys and sessions say them.
 use Rattle.std.specs.Prelude.{ℕ, ◌+◌, ◌≤◌, Bool, false, Option, Some, None, ◌==◌}
 use Rattle.std.specs.FinMap.{get}
 use Rattle.tsn_types.specs.declared.keys.Key.{Key}
@@ -36,6 +36,14 @@ on_of (Some r) = r.on
 abbrev pub refers_of : Option KeyPlaces → ℕ
 refers_of None = 0
 refers_of (Some r) = r.refers
+
+abbrev pub touched_of : Option KeyPlaces → ℕ
+touched_of None = 0
+touched_of (Some r) = r.touched
+
+abbrev pub referred_of : Option KeyPlaces → ℕ
+referred_of None = 0
+referred_of (Some r) = r.referred
 
 abbrev pub standing_of : Option SessionPlaces → ℕ
 standing_of None = 0

@@ -8,6 +8,7 @@ ghost use Rattle.tsn_journal.specs.Latest.{latest_of};
 ghost use Rattle.tsn_journal.specs.Index.{IsIndexed, TakesRoom, above, belongs, is_on_any, is_sought};
 ghost use Rattle.tsn_journal.specs.Marks.{conflict_after, conflict_of_others, entries_of, is_in_conflict, is_own, later_of, mark_off, newest_blocked, stands};
 ghost use Rattle.tsn_journal.specs.Tests.{Tests};
+ghost use Rattle.tsn_journal.specs.Touched.{TellsSame};
 ghost use Rattle.tsn_journal.specs.declared.entries.MarkedEntry.{MarkedEntry as AnyEntry};
 
 use crate::entries::{Entry, MarkedEntry, What};
@@ -192,7 +193,7 @@ fn conflict_with_part(
 }
 
 /// The number, where it is greater than the other.
-fn above(number: Option<u64>, other: u64) -> Option<u64>
+pub(crate) fn above(number: Option<u64>, other: u64) -> Option<u64>
     ensures { result ≡ above other number }
 {
     match number {
@@ -244,7 +245,7 @@ fn is_blocked(index: &Index, marked: &[MarkedEntry], own: &MarkedEntry) -> bool
 }
 
 /// The later of two numbers, or the one that there is.
-fn later_of(first: Option<u64>, second: Option<u64>) -> Option<u64>
+pub(crate) fn later_of(first: Option<u64>, second: Option<u64>) -> Option<u64>
     ensures { result ≡ later_of first second }
 {
     match (first, second) {
@@ -296,6 +297,7 @@ pub(crate) fn leave(index: &mut Index, marked: &[MarkedEntry], taken_back: Optio
     requires index { IsIndexed marked.now index.old }
     requires numbered { IsNumbered 1 (entries_of marked.now) }
     ensures index { IsIndexed marked.now index.new }
+    ensures tells { TellsSame index.old index.new }
     ensures room { TakesRoom 0 index.old index.new }
 {
     let Some(number) = taken_back else {

@@ -3,7 +3,7 @@
 //! Places are only ever added. A link leads back from each to the last place before it in its group, and another to the
 //! last one that is of another session, so that a session's own entries are passed in one step; which of the entries
 //! still belong to the group, the marks say.
-ghost use Rattle.std.specs.Prelude.{◌≡◌, ◌&&◌, ◌+◌, ◌-◌, ◌≤◌, ◌∷◌, [], Bool, IfOk, List, OnOk, Option, Some, filter, length, map, option_map, slice_get, true};
+ghost use Rattle.std.specs.Prelude.{◌≡◌, ◌&&◌, ◌+◌, ◌-◌, ◌≤◌, ◌∷◌, [], Bool, IfOk, List, OnOk, Option, Some, filter, length, map, option_map, option_to_list, slice_get, true};
 ghost use Rattle.std.specs.Option.{option_copied};
 ghost use Rattle.tsn_journal.specs.declared.entries.MarkedEntry.{MarkedEntry as AnyEntry};
 ghost use Rattle.tsn_journal.specs.declared.groups.Group.{Group as AnyGroup};
@@ -14,6 +14,9 @@ ghost use Rattle.tsn_journal.specs.Index.{Adds, ArePlaces, HasPlaces, HasRoom, I
 ghost use Rattle.tsn_journal.specs.Latest.{latest_of};
 ghost use Rattle.tsn_journal.specs.Marks.{added_in};
 ghost use Rattle.tsn_journal.specs.Tests.{Tests};
+ghost use Rattle.tsn_journal.specs.Touched.{NewestTold, Tells, TellsSame, Told};
+ghost use Rattle.tsn_edit.specs.Changes.{keys_of, refs_after};
+ghost use Rattle.tsn_edit.specs.Parts.{parts};
 
 use crate::entries::{Entry, MarkedEntry, What};
 use crate::groups::{Group, refs_of};
@@ -39,6 +42,9 @@ pub(crate) struct Place {
 pub(crate) struct Index {
     pub(crate) places: Vec<Place>,
     pub(crate) latest: Latest,
+    /// The number of the newest stray entry, 0 for none: an Undone entry on a key that no entry was on before. No undo
+    /// makes one, since it takes back an earlier entry on its keys.
+    pub(crate) stray: u32,
 }
 
 impl Index {
@@ -46,10 +52,12 @@ impl Index {
     pub(crate) fn new(alloc: Global) -> Index
         ensures places { result.places.items ≡ [] }
         ensures latest { (g : AnyGroup) → latest_of result.latest g ≡ 0 }
+        ensures tells { Tells [] result }
     {
         Index {
             places: Vec::new(alloc),
             latest: Latest::new(alloc),
+            stray: 0,
         }
     }
 
@@ -57,6 +65,7 @@ impl Index {
     pub(crate) fn reserve(&mut self, count: usize) -> Result<(), AllocError>
         requires { length self.old.places.items + count ≤ most_places }
         ensures latest { (g : AnyGroup) → latest_of self.new.latest g ≡ latest_of self.old.latest g }
+        ensures tells { TellsSame self.old self.new }
         ensures ok { OnOk result (HasRoom count self.new) }
         ensures spare { TakesNoRoom self.old self.new }
     {
@@ -93,7 +102,8 @@ impl Index {
         }
     }
 
-    /// Gives the newest entry, which adds so many parts to what stands, its places, in room for them.
+    /// Gives the newest entry, which adds so many parts to what stands, its places, in room for them, and tells it in the
+    /// rows of its keys and of what it refers to.
     pub(crate) fn enter(&mut self, marked: &[MarkedEntry], parts: usize)
         requires index { IsIndexedButNewest marked.now self.old }
         requires parts { NewestAdds marked.now parts }
@@ -101,6 +111,7 @@ impl Index {
         requires some { 1 ≤ length marked.now }
         requires few { length marked.now ≤ most_entries }
         ensures index { IsIndexed marked.now self.new }
+        ensures told { NewestTold marked.now (length marked.now) self.old self.new }
         ensures room { TakesRoom (places_for 1 parts) self.old self.new }
     {
         let number = marked.len() as u32;
@@ -111,7 +122,10 @@ impl Index {
             What::Redone { change, .. } => {
                 self.enter_change(marked, change, number, session, false)
             }
-            What::Undone { .. } => self.enter_session(marked, number, session, false, true),
+            What::Undone { change, .. } => {
+                self.enter_session(marked, number, session, false, true);
+                self.touch_parts(change.parts(), number);
+            }
             What::Acted { .. } => {}
         }
     }
@@ -130,6 +144,7 @@ impl Index {
         requires newest { IsNewest marked.now number session change.now ends }
         requires room { HasRoom (places_for 1 (length change.now)) self.old }
         ensures index { IsIndexed marked.now self.new }
+        ensures told { Told number (keys_of (parts change.now)) (refs_after (parts change.now)) self.old self.new }
         ensures room { TakesRoom (places_for 1 (length change.now)) self.old self.new }
     {
         let parts = change.parts();
@@ -151,11 +166,18 @@ impl Index {
         requires by { is_by session (slice_get marked.now (number - 1)) ≡ true }
         ensures index { (rest : List (Option AnyGroup)) → IsIndexedBut (Some (On key.now) ∷ rest) marked.now self.old.places.items (latest_of self.old.latest)
             → IsIndexedBut rest marked.now self.new.places.items (latest_of self.new.latest) }
+        ensures told { Told number (key.now ∷ []) [] self.old self.new }
         ensures room { TakesRoom 1 self.old self.new }
     {
-        let KeyPlaces { on, refers } = self.latest.key_places(*key);
-        let on = self.add(marked, Group::On(*key), on, number, session, true);
-        self.latest.set_key(*key, KeyPlaces { on, refers });
+        let row = self.latest.key_places(*key);
+        let on = self.add(marked, Group::On(*key), row.on, number, session, true);
+        self.latest.set_key(
+            *key,
+            KeyPlaces {
+                on,
+                ..row.touched_by(number)
+            },
+        );
     }
 
     /// Gives the newest entry, which is the session's, its place among those that refer to the key, if there is a key.
@@ -167,14 +189,28 @@ impl Index {
         requires by { is_by session (slice_get marked.now (number - 1)) ≡ true }
         ensures index { (rest : List (Option AnyGroup)) → IsIndexedBut (option_map RefersTo key.now ∷ rest) marked.now self.old.places.items (latest_of self.old.latest)
             → IsIndexedBut rest marked.now self.new.places.items (latest_of self.new.latest) }
+        ensures told { Told number [] (option_to_list key.now) self.old self.new }
         ensures room { TakesRoom 1 self.old self.new }
     {
         let Some(key) = key else {
             return;
         };
-        let KeyPlaces { on, refers } = self.latest.key_places(*key);
-        let refers = self.add(marked, Group::RefersTo(*key), refers, number, session, true);
-        self.latest.set_key(*key, KeyPlaces { on, refers });
+        let row = self.latest.key_places(*key);
+        let refers = self.add(
+            marked,
+            Group::RefersTo(*key),
+            row.refers,
+            number,
+            session,
+            true,
+        );
+        self.latest.set_key(
+            *key,
+            KeyPlaces {
+                refers,
+                ..row.referred_by(number)
+            },
+        );
     }
 
     /// Gives the newest entry its places among the session's standing entries and among those at which a search for a
@@ -195,6 +231,7 @@ impl Index {
         ensures index { (rest : List (Option AnyGroup))
             → IsIndexedBut (group_if stands (Of session) ∷ group_if ends (EndsRedo session) ∷ rest) marked.now self.old.places.items (latest_of self.old.latest)
             → IsIndexedBut rest marked.now self.new.places.items (latest_of self.new.latest) }
+        ensures tells { TellsSame self.old self.new }
         ensures room { TakesRoom 2 self.old self.new }
     {
         let SessionPlaces {
@@ -246,6 +283,7 @@ impl Index {
         ensures added { Adds marked.now wanted group number session before self.old.places.items self.new.places.items result }
         ensures kept { IsIndexedButNewest marked.now self.new }
         ensures latest { self.new.latest ≡ self.old.latest }
+        ensures stray { self.new.stray ≡ self.old.stray }
         ensures room { TakesPlaces 1 self.old self.new }
     {
         if !wanted {
@@ -269,6 +307,7 @@ impl Index {
     pub(crate) fn leave(&mut self, marked: &[MarkedEntry], taken_back: &Entry)
         requires { IsIndexed marked.now self.old }
         ensures index { IsIndexed marked.now self.new }
+        ensures tells { TellsSame self.old self.new }
         ensures room { TakesRoom 0 self.old self.new }
     {
         if let Some(change) = taken_back.what.added() {
@@ -281,6 +320,7 @@ impl Index {
     fn lower_parts(&mut self, marked: &[MarkedEntry], parts: &[Part])
         requires { IsIndexed marked.now self.old }
         ensures index { IsIndexed marked.now self.new }
+        ensures tells { TellsSame self.old self.new }
         ensures room { TakesRoom 0 self.old self.new }
     {
         for part in parts {
@@ -294,6 +334,7 @@ impl Index {
     fn lower_ref(&mut self, marked: &[MarkedEntry], key: &Option<Key>)
         requires { IsIndexed marked.now self.old }
         ensures index { IsIndexed marked.now self.new }
+        ensures tells { TellsSame self.old self.new }
         ensures room { TakesRoom 0 self.old self.new }
     {
         if let Some(key) = key {
@@ -305,6 +346,7 @@ impl Index {
     fn lower_key(&mut self, marked: &[MarkedEntry], key: &Key)
         requires { IsIndexed marked.now self.old }
         ensures index { IsIndexed marked.now self.new }
+        ensures tells { TellsSame self.old self.new }
         ensures room { TakesRoom 0 self.old self.new }
     {
         let latest = self.latest.key_places(*key);
@@ -313,13 +355,21 @@ impl Index {
         }
         let on = self.first_from(marked, &Group::On(*key), latest.on);
         let refers = self.first_from(marked, &Group::RefersTo(*key), latest.refers);
-        self.latest.set_key(*key, KeyPlaces { on, refers });
+        self.latest.set_key(
+            *key,
+            KeyPlaces {
+                on,
+                refers,
+                ..latest
+            },
+        );
     }
 
     /// The same for the two groups of a session.
     fn lower_session(&mut self, marked: &[MarkedEntry], session: u32)
         requires { IsIndexed marked.now self.old }
         ensures index { IsIndexed marked.now self.new }
+        ensures tells { TellsSame self.old self.new }
         ensures room { TakesRoom 0 self.old self.new }
     {
         let latest = self.latest.session_places(session);

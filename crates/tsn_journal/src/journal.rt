@@ -9,11 +9,11 @@ ghost use Rattle.tsn_journal.specs.Finding.{entry, find_conflict, find_conflict_
 
 use crate::entries::{Entries, Entry, MarkedEntry, What};
 use crate::finding::{
-    after, at, conflict_after, conflict_of_others, leave, own_in_conflict, put_off,
-    standing_conflict_after,
+    after, at, conflict_of_others, leave, own_in_conflict, put_off, standing_conflict_after,
 };
 use crate::groups::{Group, PART_GROUPS, SESSION_GROUPS};
 use crate::index::Index;
+use crate::touched::redo_conflict;
 use std::alloc::{AllocError, Global};
 use std::marker::Model;
 use tsn_types::refusals::Refusal;
@@ -35,7 +35,7 @@ pub struct Journal {
 
 impl Model for Journal {
     ghost use Rattle.std.specs.Vec.{vec_capacity, vec_len};
-    ghost use Rattle.tsn_journal.specs.Index.{IsKept};
+    ghost use Rattle.tsn_journal.specs.Kept.{IsKept};
     ghost use Rattle.tsn_journal.specs.Marks.{Log, entries_of, log_code};
 
     ghost Value = { Log };
@@ -240,10 +240,6 @@ impl Journal {
         ensures { (u : Applied) → undone_entry self.now.entries number ≡ Some u
             → result ≡ option_map (λ x. x.number) (find_redo_conflict self.now.entries u) }
     {
-        conflict_after(
-            &self.marked,
-            self.entry(number),
-            &|_later: &MarkedEntry| { true },
-        )
+        redo_conflict(&self.index, &self.marked, self.entry(number))
     }
 }

@@ -1,23 +1,49 @@
-//! The newest place of each group: on each key, referring to it, and of each session.
+//! The newest place of each group, on each key, referring to it, and of each session, and the newest entries of each key.
 ghost use Rattle.std.specs.Prelude.{◌≡◌, ◌⊎◌, IsSome, OnOk, Some, if◌then◌else◌};
 ghost use Rattle.std.specs.FinMap as map;
 ghost use Rattle.std.specs.Option.{option_copied};
 ghost use Rattle.tsn_types.specs.Keys.{same_key};
 ghost use Rattle.tsn_types.specs.declared.keys.Key.{Key as AnyKey};
 ghost use Rattle.tsn_journal.specs.declared.groups.Group.{Group as AnyGroup};
-ghost use Rattle.tsn_journal.specs.Latest.{HasRows, TakesRows, ends_of, key_row, latest_of, on_of, refers_of, session_row, standing_of};
+ghost use Rattle.tsn_journal.specs.Latest.{HasRows, TakesRows, ends_of, key_row, latest_of, on_of, referred_of, refers_of, session_row, standing_of, touched_of};
 
 use std::alloc::{AllocError, Global};
 use tsn_table::Table;
 use tsn_types::keys::Key;
 
-/// The newest places of a key's two groups, counted from 1, and 0 for none.
+/// The newest places of a key's two groups, counted from 1, and the numbers of its newest entries of any kind. 0 is none.
 #[derive(Clone, Copy, Debug)]
 pub(crate) struct KeyPlaces {
-    /// Of the entries on the key.
+    /// The place of the entries on the key.
     pub(crate) on: u32,
-    /// Of those that refer to it.
+    /// The place of those that refer to it.
     pub(crate) refers: u32,
+    /// The number of the newest entry on the key, whether it stands or not.
+    pub(crate) touched: u32,
+    /// The number of the newest entry of which a value after refers to the key, whether it stands or not.
+    pub(crate) referred: u32,
+}
+
+impl KeyPlaces {
+    /// The row of the key with the entry of the number on it.
+    pub(crate) fn touched_by(self, number: u32) -> KeyPlaces
+        ensures { result ≡ record self { touched = number } }
+    {
+        KeyPlaces {
+            touched: number,
+            ..self
+        }
+    }
+
+    /// The row of the key with the entry of the number referring to it.
+    pub(crate) fn referred_by(self, number: u32) -> KeyPlaces
+        ensures { result ≡ record self { referred = number } }
+    {
+        KeyPlaces {
+            referred: number,
+            ..self
+        }
+    }
 }
 
 /// The newest places of a session's two groups, counted from 1, and 0 for none.
@@ -42,7 +68,9 @@ pub(crate) struct Latest {
 impl Latest {
     /// No place in any group. It takes no memory.
     pub(crate) fn new(alloc: Global) -> Latest
-        ensures { (g : AnyGroup) → latest_of result g ≡ 0 }
+        ensures latest { (g : AnyGroup) → latest_of result g ≡ 0 }
+        ensures touched { (q : AnyKey) → touched_of (key_row result q) ≡ 0 }
+        ensures referred { (q : AnyKey) → referred_of (key_row result q) ≡ 0 }
     {
         Latest {
             ports: Table::new(alloc),
@@ -56,6 +84,7 @@ impl Latest {
     /// Makes room for `count` groups more of each kind. Refused only for want of memory.
     pub(crate) fn reserve(&mut self, count: usize) -> Result<(), AllocError>
         ensures latest { (g : AnyGroup) → latest_of self.new g ≡ latest_of self.old g }
+        ensures keys { (q : AnyKey) → key_row self.new q ≡ key_row self.old q }
         ensures ok { OnOk result (HasRows count self.new) }
         ensures spare { TakesRows 0 self.old self.new }
     {
@@ -71,10 +100,17 @@ impl Latest {
     pub(crate) fn key_places(&self, key: Key) -> KeyPlaces
         ensures on { result.on ≡ on_of (key_row self.now key) }
         ensures refers { result.refers ≡ refers_of (key_row self.now key) }
+        ensures touched { result.touched ≡ touched_of (key_row self.now key) }
+        ensures referred { result.referred ≡ referred_of (key_row self.now key) }
     {
         match self.key_row(key) {
             Some(row) => *row,
-            None => KeyPlaces { on: 0, refers: 0 },
+            None => KeyPlaces {
+                on: 0,
+                refers: 0,
+                touched: 0,
+                referred: 0,
+            },
         }
     }
 

@@ -13,3 +13,4 @@ mod index;
 pub mod journal;
 mod latest;
 pub mod laws;
+mod touched;

@@ -1,11 +1,6 @@
-use Rattle.std.proofs.Common.{◌∙◌, ap, sym}
-use Rattle.std.specs.Prelude.{◌&&◌, is_some, option_map}
-use Rattle.tsn_edit.specs.Parts.{Change}
-use Rattle.tsn_journal.specs.declared.entries.MarkedEntry.{MarkedEntry}
-use Rattle.tsn_journal.specs.Entries.{applies}
-use Rattle.tsn_journal.specs.Finding.{last_where}
+use Rattle.std.proofs.Common.{◌∙◌}
 use Rattle.tsn_journal.specs.Index.{is_sought}
-use Rattle.tsn_journal.specs.Marks.{is_in_conflict, later_of, stands}
+use Rattle.tsn_journal.specs.Marks.{later_of}
 use Rattle.tsn_journal.proofs.Sought.{sought_groups}
 use Rattle.tsn_journal.proofs.finding.conflict_with_part.Goals as goal
 

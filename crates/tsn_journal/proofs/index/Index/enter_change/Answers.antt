@@ -6,12 +6,14 @@ use Rattle.tsn_journal.specs.Index.{IsIndexedBut, groups_of_parts}
 use Rattle.tsn_journal.specs.Latest.{latest_of}
 use Rattle.tsn_journal.proofs.Entering.{next_pending, none_pending, of_session, pending_change, takes_none, three_taken}
 use Rattle.tsn_journal.proofs.Indexing.{but_newest}
+use Rattle.tsn_journal.proofs.Telling.{all_told, same_itself', told_last, told_more, told_same}
 use Rattle.tsn_journal.proofs.index.Index.enter_change.Goals as goal
 
 pub loop-part-init : goal.loop-part-init
 loop-part-init c = record {
   pending = subst (λ (ps : List Part). IsIndexedBut (groups_of_parts ps ++ of_session c.args.session c.args.ends) c.args.marked.now c.args.self.now.places.items (latest_of c.args.self.now.latest)) (sym c.parts-parts.ensures.parts)
       (pending_change c.args.marked.now c.args.number c.args.session c.args.change.now c.args.ends c.requires.newest c.args.self.now c.requires.index);
+  told = told_same c.args.number c.args.self.now c.args.self.now (same_itself' c.args.self.now);
   room = takes_none c.args.self.now;
 }
 
@@ -41,6 +43,8 @@ loop-part-preserved c =
     let first = c.enter_ref.ensures.index (option_map RefersTo refs.second ∷ rest) on in
     record {
       pending = c.enter_ref-in-loop-part.ensures.index rest first;
+      told = told_more c.args.number c.loop-part.part-index c.parts-parts.result.now c.part-item.result refs c.args.self.now c.loop-part.self c.enter_on.new.self c.enter_ref.new.self c.enter_ref-in-loop-part.new.self c.requires.newest.some c.loop-part-test.true c.part-item.is c.refs_of-refs.ensures
+          c.loop-part.invariant.told c.enter_on.ensures.told c.enter_ref.ensures.told c.enter_ref-in-loop-part.ensures.told;
       room = three_taken c.loop-part.part-index c.args.self.now c.loop-part.self c.enter_on.new.self c.enter_ref.new.self c.enter_ref-in-loop-part.new.self c.loop-part.invariant.room c.enter_on.ensures.room c.enter_ref.ensures.room c.enter_ref-in-loop-part.ensures.room;
     }
 
@@ -48,3 +52,8 @@ pub returns-clause-index : goal.returns-clause-index
 returns-clause-index c =
     c.enter_session.ensures.index []
     (none_pending c.args.marked.now c.loop-part.self c.parts-parts.result.now c.loop-part.part-index c.args.session c.args.ends (omega arith) c.loop-part.invariant.pending)
+
+pub returns-clause-told : goal.returns-clause-told
+returns-clause-told c =
+    all_told c.args.number c.loop-part.part-index c.parts-parts.result.now c.args.change.now c.args.self.now c.enter_session.new.self (omega arith) c.parts-parts.ensures.parts
+    (told_last c.args.number _ _ c.args.self.now c.loop-part.self c.enter_session.new.self c.loop-part.invariant.told c.enter_session.ensures.tells)

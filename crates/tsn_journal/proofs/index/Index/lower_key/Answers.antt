@@ -1,10 +1,11 @@
-use Rattle.std.proofs.Common.{◌+◌, sym, subst, length}
+use Rattle.std.proofs.Common.{◌+◌, refl, sym, subst, length}
+use Rattle.tsn_journal.specs.declared.latest.KeyPlaces.{KeyPlaces}
 use Rattle.tsn_journal.specs.declared.groups.Group.TheVariants.{On, RefersTo}
 use Rattle.tsn_journal.specs.Index.{IsLast, belongs, set_at}
 use Rattle.tsn_journal.specs.Latest.{latest_of}
 use Rattle.tsn_journal.proofs.Indexing.{reindexed}
 use Rattle.tsn_journal.proofs.Lowering.{index_lowered}
-use Rattle.tsn_journal.proofs.Rows.{set_key_both}
+use Rattle.tsn_journal.proofs.Rows.{referred_stay, set_key_both, touched_stay}
 use Rattle.tsn_journal.proofs.index.Index.lower_key.Goals as goal
 
 pub first_from-on-requires-clause-latest : goal.first_from-on-requires-clause-latest
@@ -26,5 +27,16 @@ returns-clause-index c =
     let j = c.first_from-on.result in
     let k = c.first_from-refers.result in
     reindexed ms _ ps (set_at (RefersTo key) k (set_at (On key) j l)) (latest_of c.set_key.new.self)
-    (set_key_both c.args.self.now.latest c.set_key.new.self key (record { on = j; refers = k }) c.set_key.ensures.rows c.set_key.ensures.sessions)
+    (set_key_both c.args.self.now.latest c.set_key.new.self key (record { on = j; refers = k; touched = c.key_places-latest.result.touched; referred = c.key_places-latest.result.referred }) c.set_key.ensures.rows c.set_key.ensures.sessions)
     (index_lowered ms ps (set_at (On key) j l) (RefersTo key) k (index_lowered ms ps l (On key) j c.requires c.first_from-on.ensures) c.first_from-refers.ensures)
+
+pub returns-clause-tells : goal.returns-clause-tells
+returns-clause-tells c =
+    let row : KeyPlaces = record { on = c.first_from-on.result; refers = c.first_from-refers.result; touched = c.key_places-latest.result.touched; referred = c.key_places-latest.result.referred } in
+    let l = c.args.self.now.latest in
+    let k = c.set_key.new.self in
+    record {
+      stray = refl;
+      on = touched_stay l k c.args.key.now row c.set_key.ensures.rows c.set_key.ensures.sessions c.key_places-latest.ensures.touched;
+      to = referred_stay l k c.args.key.now row c.set_key.ensures.rows c.set_key.ensures.sessions c.key_places-latest.ensures.referred;
+    }

@@ -4,8 +4,10 @@ use Rattle.tsn_journal.specs.Index.{IsIndexed, IsIndexedButNewest, NewestAdds, T
 use Rattle.tsn_journal.specs.Marks.{Log, entries_of, mark_off}
 use Rattle.std.specs.Vec.{vec_capacity, vec_len}
 use Rattle.tsn_journal.proofs.Indexing.{takes_more}
-use Rattle.tsn_journal.proofs.Keeping.{kept_pushed, pushed_few, pushed_index, pushed_numbered, pushed_some, pushed_adds, room_for_one}
+use Rattle.tsn_journal.proofs.Keeping.{kept_pushed, pushed_few, pushed_adds, pushed_index, pushed_numbered, pushed_some, pushed_tells, room_for_one}
 use Rattle.tsn_journal.proofs.Marking.{entries_pushed, pushed_items}
+use Rattle.tsn_journal.proofs.Telling.{tells_same}
+use Rattle.tsn_journal.specs.Touched.{NewestTold}
 use Rattle.tsn_journal.proofs.journal.Journal.push.Goals as goal
 
 pub enter-requires-clause-index : goal.enter-requires-clause-index
@@ -79,6 +81,12 @@ invariant_of-self c =
     (subst (λ (l : Log). c.added_parts-parts.result ≤ l.parts) (sym c.self.view_is) (omega (arith, c.added_parts-parts.ensures.parts, c.requires.parts)))
     c.added_parts-parts.ensures.few c.self.invariant same c.push_reserved.ensures.len c.push_reserved.ensures.capacity
     (subst (λ xs. IsIndexed xs c.leave.new.index) c.deref-2.ensures.value c.leave.ensures.index)
+    (tells_same (entries_of c.push_reserved.new.self.items) c.enter.new.self c.leave.new.index c.leave.ensures.tells
+    (pushed_tells c.args.what c.args.session ms c.push_reserved.new.self.items
+    (pushed_items c.args.what c.args.session c.self.inside.marked.len c.len.result ms (drop (length c.put_off.new.marked) ms) c.put_off.new.marked c.push_reserved.new.self.items same c.len.ensures
+    (c.put_off.ensures ∙ ap (map (mark_off c.args.what)) c.deref_mut.ensures.value) c.push_reserved.ensures.items)
+    c.self.inside.index c.enter.new.self c.self.invariant.journal.numbered c.self.invariant.tells
+    (subst (λ xs. NewestTold xs (length xs) c.self.inside.index c.enter.new.self) c.deref.ensures.value c.enter.ensures.told)))
     (subst (λ n. TakesRoom n c.self.inside.index c.leave.new.index) (add-zero (places_for 1 c.added_parts-parts.result))
     (takes_more (places_for 1 c.added_parts-parts.result) 0 c.self.inside.index c.enter.new.self c.leave.new.index c.enter.ensures.room c.leave.ensures.room))
 

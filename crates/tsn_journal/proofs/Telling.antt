@@ -1,0 +1,438 @@
+-- What the rows of keys tell of the newest entries, once one entry more is told.
+use Rattle.std.proofs.Common.{◌≡◌, ℕ, zero, suc, ◌+◌, ◌<◌, ◌≤◌, ◌⊎◌, inl, inr, Bool, true, false, cond, ◌||◌, List, [], ◌∷◌, ◌++◌, refl, sym, ◌∙◌, ap, subst, Option, Some, None, arith, append_assoc, get_or, length, take}
+use Rattle.std.specs.Prelude.{◌==◌, nat_lt, option_map, option_to_list}
+use Rattle.std.specs.List.{find}
+use Rattle.std.specs.Option.{option_or}
+use Rattle.std.proofs.lemmas.Bool.Decides.{nat_tests}
+use Rattle.std.proofs.lemmas.List.{length-append, take_all}
+use Rattle.std.proofs.lemmas.List.Folds.{find-append}
+use Rattle.tsn_types.specs.declared.keys.Key.{Key}
+use Rattle.tsn_types.specs.declared.records.Refs.{Refs}
+use Rattle.tsn_types.specs.Keys.{has, keys_of_refs, refs_of, same_key}
+use Rattle.tsn_edit.specs.Changes.{keys_of, refs_after}
+use Rattle.tsn_edit.specs.Parts.{Change, Part}
+use Rattle.tsn_edit.proofs.KeyFacts.{by_bool, by_option, has-append, keys_of-append, one_key, same_itself}
+use Rattle.tsn_journal.specs.declared.entries.Entry.{Entry}
+use Rattle.tsn_journal.specs.declared.index.Index.{Index}
+use Rattle.tsn_journal.specs.Entries.{IsNumbered, applies}
+use Rattle.tsn_journal.specs.Finding.{entry, last_where}
+use Rattle.tsn_journal.specs.Index.{above, is_on, refers}
+use Rattle.tsn_journal.specs.Touched.{KeepsPlaces, Tells, TellsSame, Told, keys_in, mentions, newest, referred, refs_in, some_number, touched, touches}
+use Rattle.tsn_journal.proofs.Finders.{eq_number}
+use Rattle.tsn_journal.proofs.Indexing.{rows_then}
+use Rattle.tsn_journal.proofs.LastWhere.{last_where-append}
+use Rattle.tsn_journal.proofs.Links.{none_some, some_of}
+use Rattle.tsn_journal.proofs.Sought.{nothing_after, swap_keys, take_next}
+
+-- ---- one key told, or one reference
+
+no_key : {G : Type 0} (k : Key) → has [] k ≡ true → G
+no_key k h = (cc)
+
+one_has : (k q : Key) → has (k ∷ []) q ≡ true → k ≡ q
+one_has k q h = by_bool (same_key q k)
+    (λ yes. sym (one_key q k yes))
+    (λ no. absurd (no_true (has (k ∷ []) q) (ap (λ b. b || false) no) h))
+  where
+    no_true : (b : Bool) → b ≡ false → b ≡ true → ⊥
+    no_true b f t = (cc)
+
+has_one : (k q : Key) → same_key k q ≡ true → has (k ∷ []) q ≡ true
+has_one k q h = ap (λ b. b || false) (swap_keys q k ∙ h)
+
+pub told_same : (n : ℕ) (a b : Index) → TellsSame a b → Told n [] [] a b
+told_same n a b same = record {
+  stray = inl same.stray;
+  on = λ k h. no_key k h;
+  on_or_same = λ k. inl (same.on k);
+  to = λ k h. no_key k h;
+  to_or_same = λ k. inl (same.to k);
+}
+
+pub same_then : (a b c : Index) → TellsSame a b → TellsSame b c → TellsSame a c
+same_then a b c h k = record { stray = k.stray ∙ h.stray; on = λ q. k.on q ∙ h.on q; to = λ q. k.to q ∙ h.to q }
+
+pub same_itself' : (a : Index) → TellsSame a a
+same_itself' a = record { stray = refl; on = λ q. refl; to = λ q. refl }
+
+set_or_same : (key q : Key) (x y z : ℕ) → z ≡ cond (same_key key q) x y → (z ≡ y) ⊎ ((has (key ∷ []) q ≡ true) × (z ≡ x))
+set_or_same key q x y z is = by_bool (same_key key q)
+    (λ yes. inr (has_one key q yes, is ∙ ap (λ b. cond b x y) yes))
+    (λ no. inl (is ∙ ap (λ b. cond b x y) no))
+
+set_here : (key q : Key) (x y z : ℕ) → z ≡ cond (same_key key q) x y → has (key ∷ []) q ≡ true → z ≡ x
+set_here key q x y z is h = is ∙ ap (λ b. cond b x y) (ap (λ k. same_key key k) (sym (one_has key q h)) ∙ same_itself key)
+
+pub told_key : (n : ℕ) (key : Key) (a b : Index) → b.stray ≡ a.stray → ((q : Key) → touched b q ≡ cond (same_key key q) n (touched a q)) → ((q : Key) → referred b q ≡ referred a q) → Told n (key ∷ []) [] a b
+told_key n key a b stray set same = record {
+  stray = inl stray;
+  on = λ q h. inl (set_here key q n (touched a q) (touched b q) (set q) h);
+  on_or_same = λ q. set_or_same key q n (touched a q) (touched b q) (set q);
+  to = λ q h. no_key q h;
+  to_or_same = λ q. inl (same q);
+}
+
+pub told_stray : (n : ℕ) (key : Key) (a b : Index) → b.stray ≡ n → ((q : Key) → touched b q ≡ touched a q) → ((q : Key) → referred b q ≡ referred a q) → Told n (key ∷ []) [] a b
+told_stray n key a b stray on to = record {
+  stray = inr stray;
+  on = λ q h. inr stray;
+  on_or_same = λ q. inl (on q);
+  to = λ q h. no_key q h;
+  to_or_same = λ q. inl (to q);
+}
+
+pub told_ref : (n : ℕ) (key : Key) (a b : Index) → b.stray ≡ a.stray → ((q : Key) → touched b q ≡ touched a q) → ((q : Key) → referred b q ≡ cond (same_key key q) n (referred a q)) → Told n [] (key ∷ []) a b
+told_ref n key a b stray same set = record {
+  stray = inl stray;
+  on = λ q h. no_key q h;
+  on_or_same = λ q. inl (same q);
+  to = λ q h. inl (set_here key q n (referred a q) (referred b q) (set q) h);
+  to_or_same = λ q. set_or_same key q n (referred a q) (referred b q) (set q);
+}
+
+-- a reference to a key that no entry was on
+pub told_no_ref : (n : ℕ) (key : Key) (a : Index) → touched a key ≡ 0 → Told n [] (key ∷ []) a a
+told_no_ref n key a none = record {
+  stray = inl refl;
+  on = λ q h. no_key q h;
+  on_or_same = λ q. inl refl;
+  to = λ q h. inr (ap (touched a) (sym (one_has key q h)) ∙ none);
+  to_or_same = λ q. inl refl;
+}
+
+-- ---- one after the other
+
+either_true : {G : Type 0} (a b : Bool) → (a || b) ≡ true → (a ≡ true → G) → (b ≡ true → G) → G
+either_true true b h f g = f refl
+either_true false b h f g = g h
+
+or_first : (a b : Bool) → a ≡ true → (a || b) ≡ true
+or_first true b h = refl
+or_first false b h = (cc)
+
+or_second : (a b : Bool) → b ≡ true → (a || b) ≡ true
+or_second true b h = refl
+or_second false b h = h
+
+module _ (n : ℕ) (keys refs keys' refs' : List Key) (a b c : Index) (some : 1 ≤ n) (first : Told n keys refs a b) (second : Told n keys' refs' b c) where
+  still_stray : b.stray ≡ n → c.stray ≡ n
+  still_stray is = elim second.stray [ inl same ↦ same ∙ is | inr now ↦ now ]
+
+  still_on : (k : Key) → touched b k ≡ n → touched c k ≡ n
+  still_on k is = elim (second.on_or_same k) [ inl same ↦ same ∙ is | inr now ↦ now.1 ]
+
+  still_to : (k : Key) → referred b k ≡ n → referred c k ≡ n
+  still_to k is = elim (second.to_or_same k) [ inl same ↦ same ∙ is | inr now ↦ now.1 ]
+
+  in_first : (ks ls : List Key) (k : Key) → has ks k ≡ true → has (ks ++ ls) k ≡ true
+  in_first ks ls k h = has-append ks ls k ∙ or_first (has ks k) (has ls k) h
+
+  in_second : (ks ls : List Key) (k : Key) → has ls k ≡ true → has (ks ++ ls) k ≡ true
+  in_second ks ls k h = has-append ks ls k ∙ or_second (has ks k) (has ls k) h
+
+  never_on : (k : Key) → touched b k ≡ 0 → touched a k ≡ 0
+  never_on k none = elim (first.on_or_same k) [ inl same ↦ sym same ∙ none | inr now ↦ absurd (omega (arith, some, now.1, none)) ]
+
+  pub told_then : Told n (keys ++ keys') (refs ++ refs') a c
+  told_then = record {
+    stray = elim second.stray [ inl same ↦ elim first.stray [ inl as_before ↦ inl (same ∙ as_before) | inr now ↦ inr (same ∙ now) ] | inr now ↦ inr now ];
+    on = λ k h. either_true (has keys k) (has keys' k) (sym (has-append keys keys' k) ∙ h)
+        (λ here. elim (first.on k here) [ inl told ↦ inl (still_on k told) | inr stray ↦ inr (still_stray stray) ])
+        (λ here. second.on k here);
+    on_or_same = λ k. elim (second.on_or_same k) [
+      | inl same ↦ elim (first.on_or_same k) [ inl as_before ↦ inl (same ∙ as_before) | inr now ↦ inr (in_first keys keys' k now.0, same ∙ now.1) ]
+      | inr now ↦ inr (in_second keys keys' k now.0, now.1)
+    ];
+    to = λ k h. either_true (has refs k) (has refs' k) (sym (has-append refs refs' k) ∙ h)
+        (λ here. elim (first.to k here) [ inl told ↦ inl (still_to k told) | inr none ↦ inr none ])
+        (λ here. elim (second.to k here) [ inl told ↦ inl told | inr none ↦ inr (never_on k none) ]);
+    to_or_same = λ k. elim (second.to_or_same k) [
+      | inl same ↦ elim (first.to_or_same k) [ inl as_before ↦ inl (same ∙ as_before) | inr now ↦ inr (in_first refs refs' k now.0, same ∙ now.1) ]
+      | inr now ↦ inr (in_second refs refs' k now.0, now.1)
+    ];
+  }
+
+-- with what tells the same before or after
+pub told_last : (n : ℕ) (keys refs : List Key) (a b c : Index) → Told n keys refs a b → TellsSame b c → Told n keys refs a c
+told_last n keys refs a b c told same = record {
+  stray = elim told.stray [ inl as_before ↦ inl (same.stray ∙ as_before) | inr now ↦ inr (same.stray ∙ now) ];
+  on = λ k h. elim (told.on k h) [ inl here ↦ inl (same.on k ∙ here) | inr stray ↦ inr (same.stray ∙ stray) ];
+  on_or_same = λ k. elim (told.on_or_same k) [ inl as_before ↦ inl (same.on k ∙ as_before) | inr now ↦ inr (now.0, same.on k ∙ now.1) ];
+  to = λ k h. elim (told.to k h) [ inl here ↦ inl (same.to k ∙ here) | inr none ↦ inr none ];
+  to_or_same = λ k. elim (told.to_or_same k) [ inl as_before ↦ inl (same.to k ∙ as_before) | inr now ↦ inr (now.0, same.to k ∙ now.1) ];
+}
+
+pub told_first : (n : ℕ) (keys refs : List Key) (a b c : Index) → TellsSame a b → Told n keys refs b c → Told n keys refs a c
+told_first n keys refs a b c same told = record {
+  stray = elim told.stray [ inl as_before ↦ inl (as_before ∙ same.stray) | inr now ↦ inr now ];
+  on = told.on;
+  on_or_same = λ k. elim (told.on_or_same k) [ inl as_before ↦ inl (as_before ∙ same.on k) | inr now ↦ inr now ];
+  to = λ k h. elim (told.to k h) [ inl here ↦ inl here | inr none ↦ inr (sym (same.on k) ∙ none) ];
+  to_or_same = λ k. elim (told.to_or_same k) [ inl as_before ↦ inl (as_before ∙ same.to k) | inr now ↦ inr now ];
+}
+
+refs_after-append : (es fs : List Part) → refs_after (es ++ fs) ≡ refs_after es ++ refs_after fs
+refs_after-append [] fs = refl
+refs_after-append (e ∷ es) fs = ap (λ rs. refs_of e.after ++ rs) (refs_after-append es fs) ∙ sym (append_assoc (refs_of e.after) (refs_after es) (refs_after fs))
+
+-- a part more
+pub told_more : (n i : ℕ) (ps : List Part) (p : Part) (refs : Refs) (a b c d e : Index) → 1 ≤ n → i < length ps → p ≡ get_or ps i p → keys_of_refs refs ≡ refs_of p.after
+    → Told n (keys_of (take i ps)) (refs_after (take i ps)) a b → Told n (p.key ∷ []) [] b c → Told n [] (option_to_list refs.first) c d → Told n [] (option_to_list refs.second) d e
+    → Told n (keys_of (take (i + 1) ps)) (refs_after (take (i + 1) ps)) a e
+told_more n i ps p refs a b c d e some short is same before on first second =
+    let now = take_next ps i p short is in
+    let keys : keys_of (take (i + 1) ps) ≡ keys_of (take i ps) ++ p.key ∷ [] = ap keys_of now ∙ keys_of-append (take i ps) (p ∷ []) in
+    let after : refs_after (take (i + 1) ps) ≡ refs_after (take i ps) ++ keys_of_refs refs =
+    ap refs_after now ∙ refs_after-append (take i ps) (p ∷ []) ∙ ap (λ rs. refs_after (take i ps) ++ rs) (nothing_after (refs_of p.after) ∙ sym same) in
+    let both = told_then n [] (option_to_list refs.first) [] (option_to_list refs.second) c d e some first second in
+    let part = told_then n (p.key ∷ []) [] [] (keys_of_refs refs) b c e some on both in
+    let all = told_then n (keys_of (take i ps)) (refs_after (take i ps)) (p.key ∷ []) (keys_of_refs refs) a b e some before part in
+    subst (λ ks. Told n ks (refs_after (take (i + 1) ps)) a e) (sym keys) (subst (λ rs. Told n (keys_of (take i ps) ++ p.key ∷ []) rs a e) (sym after) all)
+
+-- and all of them
+pub all_told : (n i : ℕ) (ps qs : List Part) (a b : Index) → length ps ≤ i → ps ≡ qs → Told n (keys_of (take i ps)) (refs_after (take i ps)) a b → Told n (keys_of qs) (refs_after qs) a b
+all_told n i ps qs a b past same told = subst (λ (rs : List Part). Told n (keys_of rs) (refs_after rs) a b) (take_all i ps past ∙ same) told
+
+-- ---- an entry more
+
+is_on-keys : (k : Key) (o : Option Change) → is_on k o ≡ has (keys_in o) k
+is_on-keys k None = refl
+is_on-keys k (Some c) = refl
+
+refers-refs : (k : Key) (o : Option Change) → refers k o ≡ has (refs_in o) k
+refers-refs k None = refl
+refers-refs k (Some c) = refl
+
+-- a number is at most n, if there is one
+abbrev Within : ℕ → Option ℕ → Type 0
+Within n None = Unit {0}
+Within n (Some m) = m ≤ n
+
+not_above : (n k : ℕ) → k ≤ n → nat_lt n k ≡ false
+not_above n k h = grind (arith, nat_tests)
+
+is_above : (n k : ℕ) → n < k → nat_lt n k ≡ true
+is_above n k h = grind (arith, nat_tests)
+
+none_above : (n : ℕ) (o : Option ℕ) → Within n o → above n o ≡ None
+none_above n None h = refl
+none_above n (Some m) h = ap (λ b. cond b (Some m) None) (not_above n m h)
+
+within_more : (n m : ℕ) (o : Option ℕ) → n ≤ m → Within n o → Within m o
+within_more n m None le h = tt
+within_more n m (Some k) le h = omega (arith, le, h)
+
+within_some : (n m : ℕ) → m ≤ n → Within n (some_number m)
+within_some n zero h = tt
+within_some n (suc m) h = h
+
+within_one : (n : ℕ) (b : Bool) (e : Entry) → e.number ≤ n → Within n (option_map (λ (x : Entry). x.number) (cond b (Some e) None))
+within_one n true e h = h
+within_one n false e h = tt
+
+newest_within : (t : Entry → Bool) (k : ℕ) (es : List Entry) → IsNumbered (k + 1) es → Within (k + length es) (newest t es)
+newest_within t k [] h = tt
+newest_within t k (e ∷ es) h =
+    let first : e.number ≡ k + 1 = h.0 in
+    let next : (k + 1) + length es ≡ k + length (e ∷ es) = omega arith in
+    by_option (last_where t es)
+    (λ none. subst (λ o. Within (k + length (e ∷ es)) (option_map (λ (x : Entry). x.number) (option_or o (cond (t e) (Some e) None)))) (sym none) (within_one (k + length (e ∷ es)) (t e) e (omega arith)))
+    (λ x some. subst (λ o. Within (k + length (e ∷ es)) (option_map (λ (y : Entry). y.number) (option_or o (cond (t e) (Some e) None)))) (sym some)
+    (subst (λ j. Within j (Some x.number)) next (subst (λ o. Within ((k + 1) + length es) (option_map (λ (y : Entry). y.number) o)) some (newest_within t (k + 1) es h.1))))
+
+lowest : (t : Entry → Bool) (k : ℕ) (es : List Entry) (y : Entry) → IsNumbered k es → last_where t es ≡ Some y → k ≤ y.number
+lowest t k [] y h is = none_some y is
+lowest t k (e ∷ es) y h is =
+    let first : e.number ≡ k = h.0 in
+    by_option (last_where t es)
+    (λ none. here (t e) (sym (ap (λ o. option_or o (cond (t e) (Some e) None)) none) ∙ is))
+    (λ x some.
+    let same : x ≡ y = some_of x y (sym (ap (λ o. option_or o (cond (t e) (Some e) None)) some) ∙ is) in
+    let more : k + 1 ≤ y.number = lowest t (k + 1) es y h.1 (some ∙ ap Some same) in
+    omega arith)
+  where
+    here : (b : Bool) → cond b (Some e) None ≡ Some y → k ≤ y.number
+    here true is' = let same : e.number ≡ y.number = ap (λ (x : Entry). x.number) (some_of e y is') in let first : e.number ≡ k = h.0 in omega arith
+    here false is' = none_some y is'
+
+-- an entry that passes, and the newest one, which is no earlier
+pub record IsNewer (t : Entry → Bool) (es : List Entry) (n : ℕ) : Type 0 where
+  pub number : ℕ
+  pub is : newest t es ≡ Some number
+  pub late : n ≤ number
+
+pub newer : (t : Entry → Bool) (k : ℕ) (es : List Entry) (n : ℕ) (e : Entry) → IsNumbered k es → entry es n ≡ Some e → t e ≡ true → IsNewer t es n
+newer t k [] n e h there pass = none_some e there
+newer t k (x ∷ es) n e h there pass =
+    let first : x.number ≡ k = h.0 in
+    let rest : Option Entry = find (λ y. y.number == n) es in
+    by_bool (x.number == n)
+    (λ yes.
+    let one : x ≡ e = some_of x e (sym (ap (λ b. cond b (Some x) rest) yes) ∙ there) in
+    let number : x.number ≡ n = eq_number x.number n yes in
+    by_option (last_where t es)
+    (λ none. record {
+      number = x.number;
+      is = (λ i. option_map (λ (y : Entry). y.number) (option_or (none i) (cond ((ap t one ∙ pass) i) (Some x) None)));
+      late = omega arith;
+    })
+    (λ y some.
+    let more : k + 1 ≤ y.number = lowest t (k + 1) es y h.1 some in
+    record {
+      number = y.number;
+      is = ap (λ o. option_map (λ (z : Entry). z.number) (option_or o (cond (t x) (Some x) None))) some;
+      late = omega arith;
+    }))
+    (λ no.
+    let later = newer t (k + 1) es n e h.1 (sym (ap (λ b. cond b (Some x) rest) no) ∙ there) pass in
+    by_option (last_where t es)
+    (λ none. none_some later.number (sym (ap (option_map (λ (y : Entry). y.number)) none) ∙ later.is))
+    (λ y some. record {
+      number = y.number;
+      is = ap (λ o. option_map (λ (z : Entry). z.number) (option_or o (cond (t x) (Some x) None))) some;
+      late = let same : y.number ≡ later.number = some_of y.number later.number (sym (ap (option_map (λ (z : Entry). z.number)) some) ∙ later.is) in omega (arith, later.late);
+    }))
+
+some_above : (n m : ℕ) → n < m → above n (Some m) ≡ Some m
+some_above n m h = ap (λ b. cond b (Some m) None) (is_above n m h)
+
+pub number_itself : (n : ℕ) → 1 ≤ n → some_number n ≡ Some n
+number_itself zero h = absurd (omega arith)
+number_itself (suc n) h = refl
+
+one_or : (b : Bool) (x : Entry) (o : Option Entry) → option_or (option_or None (cond b (Some x) None)) o ≡ cond b (Some x) o
+one_or true x o = refl
+one_or false x o = refl
+
+module _ (es : List Entry) (x : Entry) (n : ℕ) (a b : Index) (numbered : IsNumbered 1 es) (number : x.number ≡ n) (next : n ≡ length es + 1) (is : Tells es a) (told : Told n (keys_in (applies x.what)) (refs_in (applies x.what)) a b) where
+  abbrev more : List Entry
+  more = es ++ x ∷ []
+
+  longer : length more ≡ n
+  longer = length-append es (x ∷ []) ∙ sym next
+
+  newest_more : (t : Entry → Bool) → newest t more ≡ option_map (λ (e : Entry). e.number) (cond (t x) (Some x) (last_where t es))
+  newest_more t = ap (option_map (λ (e : Entry). e.number)) (last_where-append t es (x ∷ []) ∙ one_or (t x) x (last_where t es))
+
+  newest_this : (t : Entry → Bool) → t x ≡ true → newest t more ≡ Some n
+  newest_this t pass = newest_more t ∙ ap (λ c. option_map (λ (e : Entry). e.number) (cond c (Some x) (last_where t es))) pass ∙ ap Some number
+
+  newest_old : (t : Entry → Bool) → t x ≡ false → newest t more ≡ newest t es
+  newest_old t fail = newest_more t ∙ ap (λ c. option_map (λ (e : Entry). e.number) (cond c (Some x) (last_where t es))) fail
+
+  more_within : (t : Entry → Bool) → Within n (newest t more)
+  more_within t = by_bool (t x)
+      (λ yes. subst (Within n) (sym (newest_this t yes)) (let e : n ≤ n = omega arith in e))
+      (λ no. subst (Within n) (sym (newest_old t no)) (within_more (0 + length es) n (newest t es) (omega arith) (newest_within t 0 es numbered)))
+
+  on_within' : (k : Key) → touched b k ≤ n
+  on_within' k = elim (told.on_or_same k) [ inl same ↦ omega (arith, is.on_within k) | inr now ↦ omega (arith, now.1) ]
+
+  to_within' : (k : Key) → referred b k ≤ n
+  to_within' k = elim (told.to_or_same k) [ inl same ↦ omega (arith, is.to_within k) | inr now ↦ omega (arith, now.1) ]
+
+  -- no number is above one that is no less than the newest
+  both_none : (m j : ℕ) (t : Entry → Bool) → n ≤ m → j ≤ n → above m (some_number j) ≡ above m (newest t more)
+  both_none m j t late low =
+      none_above m (some_number j) (within_some m j (omega arith))
+      ∙ sym (none_above m (newest t more) (within_more n m (newest t more) late (more_within t)))
+
+  keys_here : (k : Key) → touches k x ≡ true → has (keys_in (applies x.what)) k ≡ true
+  keys_here k on = sym (is_on-keys k (applies x.what)) ∙ on
+
+  refs_here : (k : Key) → mentions k x ≡ true → has (refs_in (applies x.what)) k ≡ true
+  refs_here k to = sym (refers-refs k (applies x.what)) ∙ to
+
+  not_both : {G : Type 0} (c : Bool) → c ≡ false → c ≡ true → G
+  not_both c fail pass = (cc)
+
+  on_same : b.stray ≡ a.stray → (k : Key) → above b.stray (some_number (touched b k)) ≡ above b.stray (newest (touches k) more)
+  on_same same k = by_bool (touches k x)
+      (λ yes.
+      let here : touched b k ≡ n = elim (told.on k (keys_here k yes)) [ inl now ↦ now | inr stray ↦ absurd (omega (arith, same, stray, next, is.stray_within)) ] in
+      ap (λ j. above b.stray (some_number j)) here ∙ ap (above b.stray) (number_itself n (omega arith)) ∙ ap (above b.stray) (sym (newest_this (touches k) yes)))
+      (λ no.
+      let here : touched b k ≡ touched a k = elim (told.on_or_same k) [ inl as_before ↦ as_before | inr now ↦ not_both (touches k x) no (is_on-keys k (applies x.what) ∙ now.0) ] in
+      (λ i. above (same i) (some_number (here i))) ∙ is.on k ∙ (λ i. above (sym same i) (sym (newest_old (touches k) no) i)))
+
+  -- an entry that was told before is on the key
+  was_on : {G : Type 0} (k : Key) (e : Entry) → entry es e.number ≡ Some e → touches k e ≡ true → a.stray < e.number → touched a k ≡ 0 → G
+  was_on k e there on late none =
+      let new = newer (touches k) 1 es e.number e numbered there on in
+      none_some new.number (ap (λ j. above a.stray (some_number j)) (sym none) ∙ is.on k ∙ ap (above a.stray) new.is ∙ some_above a.stray new.number (omega (arith, new.late)))
+
+  to_old : b.stray ≡ a.stray → (k : Key) (e : Entry) → entry es e.number ≡ Some e → touches k e ≡ true → b.stray < e.number → above e.number (some_number (referred b k)) ≡ above e.number (newest (mentions k) more)
+  to_old same k e there on late =
+      let late' : a.stray < e.number = omega arith in
+      by_bool (mentions k x)
+      (λ yes.
+      let here : referred b k ≡ n = elim (told.to k (refs_here k yes)) [ inl now ↦ now | inr none ↦ was_on k e there on late' none ] in
+      ap (λ j. above e.number (some_number j)) here ∙ ap (above e.number) (number_itself n (omega arith)) ∙ ap (above e.number) (sym (newest_this (mentions k) yes)))
+      (λ no.
+      let here : referred b k ≡ referred a k = elim (told.to_or_same k) [ inl as_before ↦ as_before | inr now ↦ not_both (mentions k x) no (refers-refs k (applies x.what) ∙ now.0) ] in
+      ap (λ j. above e.number (some_number j)) here ∙ is.to k e there on late' ∙ ap (above e.number) (sym (newest_old (mentions k) no)))
+
+  find_more : (j : ℕ) → entry more j ≡ option_or (entry es j) (cond (x.number == j) (Some x) None)
+  find_more j = find-append (λ (e : Entry). e.number == j) es (x ∷ [])
+
+  -- it is one of the entries before, or the newest
+  late_entry : (j : ℕ) (c : Bool) (e : Entry) → (x.number == j) ≡ c → cond c (Some x) None ≡ Some e → n ≤ j
+  late_entry j true e same is' = let at : x.number ≡ j = eq_number x.number j same in omega arith
+  late_entry j false e same is' = none_some e is'
+
+  to_same : b.stray ≡ a.stray → (k : Key) (e : Entry) → entry more e.number ≡ Some e → touches k e ≡ true → b.stray < e.number → above e.number (some_number (referred b k)) ≡ above e.number (newest (mentions k) more)
+  to_same same k e there on late = by_option (entry es e.number)
+      (λ none. both_none e.number (referred b k) (mentions k)
+      (late_entry e.number (x.number == e.number) e refl (sym (find_more e.number ∙ ap (λ o. option_or o (cond (x.number == e.number) (Some x) None)) none) ∙ there)) (to_within' k))
+      (λ y some.
+      let one : y ≡ e = some_of y e (sym (find_more e.number ∙ ap (λ o. option_or o (cond (x.number == e.number) (Some x) None)) some) ∙ there) in
+      to_old same k e (some ∙ ap Some one) on late)
+
+  pub tells_more : Tells more b
+  tells_more = record {
+    on = λ k. elim told.stray [ inl same ↦ on_same same k | inr stray ↦ both_none b.stray (touched b k) (touches k) (omega arith) (on_within' k) ];
+    to = λ k e there on late. elim told.stray [ inl same ↦ to_same same k e there on late | inr stray ↦ both_none e.number (referred b k) (mentions k) (omega arith) (to_within' k) ];
+    stray_within = elim told.stray [ inl same ↦ omega (arith, longer, is.stray_within) | inr stray ↦ omega (arith, longer) ];
+    on_within = λ k. omega (arith, longer, on_within' k);
+    to_within = λ k. omega (arith, longer, to_within' k);
+  }
+
+found_number : (es : List Entry) (n : ℕ) (e : Entry) → entry es n ≡ Some e → e.number ≡ n
+found_number [] n e there = none_some e there
+found_number (x ∷ es) n e there =
+    let rest : Option Entry = find (λ y. y.number == n) es in
+    by_bool (x.number == n)
+    (λ yes. let one : x ≡ e = some_of x e (sym (ap (λ b. cond b (Some x) rest) yes) ∙ there) in ap (λ (y : Entry). y.number) (sym one) ∙ eq_number x.number n yes)
+    (λ no. found_number es n e (sym (ap (λ b. cond b (Some x) rest) no) ∙ there))
+
+-- an entry that was found is the one of its number
+pub at_its_number : (es : List Entry) (n : ℕ) (e : Entry) → entry es n ≡ Some e → entry es e.number ≡ Some e
+at_its_number es n e there = ap (entry es) (found_number es n e there) ∙ there
+
+-- the same is told of the same entries
+pub tells_same : (es : List Entry) (a b : Index) → TellsSame a b → Tells es a → Tells es b
+tells_same es a b same is = record {
+  on = λ k. (λ i. above (same.stray i) (some_number (same.on k i))) ∙ is.on k ∙ ap (λ s. above s (newest (touches k) es)) (sym same.stray);
+  to = λ k e there on late. ap (λ j. above e.number (some_number j)) (same.to k) ∙ is.to k e there on (omega (arith, same.stray));
+  stray_within = omega (arith, same.stray, is.stray_within);
+  on_within = λ k. omega (arith, same.on k, is.on_within k);
+  to_within = λ k. omega (arith, same.to k, is.to_within k);
+}
+
+-- with no entry nothing is told
+pub tells_none : (a : Index) → a.stray ≡ 0 → ((k : Key) → touched a k ≡ 0) → ((k : Key) → referred a k ≡ 0) → Tells [] a
+tells_none a stray on to = record {
+  on = λ k. ap (λ j. above a.stray (some_number j)) (on k);
+  to = λ k e there on' late. none_some e there;
+  stray_within = omega (arith, stray);
+  on_within = λ k. omega (arith, on k);
+  to_within = λ k. omega (arith, to k);
+}
+
+-- ---- the places stay
+
+pub keeps_itself : (a : Index) → KeepsPlaces a a
+keeps_itself a = record { places = refl; latest = λ g. refl; rows = record { ports = omega arith; filters = omega arith; gates = omega arith; meters = omega arith; sessions = omega arith } }
+
+pub keeps_then : (a b c : Index) → KeepsPlaces a b → KeepsPlaces b c → KeepsPlaces a c
+keeps_then a b c h k = record { places = k.places ∙ h.places; latest = λ g. k.latest g ∙ h.latest g; rows = rows_then 0 0 a b c h.rows k.rows }
