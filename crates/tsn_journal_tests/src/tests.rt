@@ -259,3 +259,37 @@ fn what_stands_is_found(rt: HostRuntime) -> Result<(), Fail> {
         Ok(())
     })
 }
+
+/// The session may redo this entry, which this one blocks.
+fn may_redo(rt: &impl Abort, journal: &Journal, session: u32, undone: u64, blocking: Option<u64>) {
+    let found = journal.redo_of(session);
+    same(rt, &found, &Some(undone));
+    if let Some(number) = found {
+        same(rt, &journal.find_redo_conflict(number), &blocking);
+    }
+}
+
+/// Session 1 may redo entry 2, which what session 2 did and took back blocks.
+fn is_blocked_by_what_was_undone(rt: &impl Abort, journal: &mut Journal) {
+    creates(rt, journal, 1, 1, 1);
+    undoes(rt, journal, 1, 1, 1, 2);
+    may_redo(rt, journal, 1, 2, None);
+    creates(rt, journal, 2, 1, 3);
+    undoes(rt, journal, 2, 3, 1, 4);
+    may_redo(rt, journal, 1, 2, Some(4));
+}
+
+#[test]
+fn what_blocks_a_redo_is_found(rt: HostRuntime) -> Result<(), Fail> {
+    on_a_journal(rt.alloc(), |journal| {
+        is_blocked_by_what_was_undone(&rt, journal);
+
+        // An Undone entry on a key that no entry was on before: the entries after the undone one are gone through.
+        undoes(&rt, journal, 3, 9, 2, 5);
+        may_redo(&rt, journal, 3, 5, None);
+        may_redo(&rt, journal, 1, 2, Some(4));
+        creates(&rt, journal, 4, 2, 6);
+        may_redo(&rt, journal, 3, 5, Some(6));
+        Ok(())
+    })
+}
