@@ -1,18 +1,18 @@
--- Causes in the order of their numbers: the least is the first.
+-- Causes in the order of their ranks: the least is the first.
 use Rattle.std.proofs.Common.{◌≡◌, ◌≤◌, ◌<◌, ℕ, Bool, true, false, cond, refl, sym, ap, ◌∙◌, arith, List, [], ◌∷◌, ◌++◌, Option, Some, None}
 use Rattle.std.specs.Prelude.{nat_lt}
 use Rattle.std.specs.Option.{option_or}
 use Rattle.std.proofs.lemmas.Bool.Decides.{nat_tests}
 use Rattle.tsn_types.specs.declared.refusals.Refusal.{Refusal}
 use Rattle.tsn_types.specs.Limits.{unless, first_cause}
-use Rattle.tsn_types.specs.Refusals.{least, lesser, number_of}
+use Rattle.tsn_types.specs.Refusals.{least, lesser, rank_of}
 
--- a cause, if it is one, has the number
+-- a cause, if it is one, has the rank
 abbrev pub Is : ℕ → Option Refusal → Type 0
 Is n None = Unit {0}
-Is n (Some why) = number_of why ≡ n
+Is n (Some why) = rank_of why ≡ n
 
--- each cause has a number of its own, none less than the one before
+-- each cause has a rank of its own, none less than the one before
 abbrev pub IsOrdered : ℕ → List (ℕ × Option Refusal) → Type 0
 IsOrdered n [] = Unit {0}
 IsOrdered n (o ∷ os) = (n ≤ o.0) × Is o.0 o.1 × IsOrdered o.0 os
@@ -23,7 +23,7 @@ causes_of (o ∷ os) = o.1 ∷ causes_of os
 
 abbrev AtLeast : ℕ → Option Refusal → Type 0
 AtLeast n None = Unit {0}
-AtLeast n (Some why) = n ≤ number_of why
+AtLeast n (Some why) = n ≤ rank_of why
 
 not_less : (n m : ℕ) → n ≤ m → nat_lt m n ≡ false
 not_less n m h = grind (arith, nat_tests)
@@ -35,7 +35,7 @@ lower n m (Some why) le h = omega arith
 first_of_two : (n : ℕ) (o p : Option Refusal) → Is n o → AtLeast n p → lesser o p ≡ option_or o p
 first_of_two n None p is h = refl
 first_of_two n (Some a) None is h = refl
-first_of_two n (Some a) (Some b) is h = ap (λ t. cond t (Some b) (Some a)) (not_less (number_of a) (number_of b) (omega arith))
+first_of_two n (Some a) (Some b) is h = ap (λ t. cond t (Some b) (Some a)) (not_less (rank_of a) (rank_of b) (omega arith))
 
 bound : (n : ℕ) (o p : Option Refusal) → Is n o → AtLeast n p → AtLeast n (option_or o p)
 bound n None p is h = h
@@ -55,11 +55,11 @@ first n (o ∷ os) h =
       no_less = lower n o.0 (option_or o.1 (first_cause (causes_of os))) h.0 (bound o.0 o.1 (first_cause (causes_of os)) h.1 rest.no_less);
     }
 
--- of causes in the order of their numbers the least is the first
+-- of causes in the order of their ranks the least is the first
 pub least-ordered : (os : List (ℕ × Option Refusal)) → IsOrdered 0 os → least (causes_of os) ≡ first_cause (causes_of os)
 least-ordered os h = (first 0 os h).same
 
-pub is_unless : (b : Bool) (why : Refusal) → Is (number_of why) (unless b why)
+pub is_unless : (b : Bool) (why : Refusal) → Is (rank_of why) (unless b why)
 is_unless true why = tt
 is_unless false why = refl
 
@@ -69,10 +69,10 @@ is_either n (Some a) p h k = h
 
 -- ---- a cause ahead of a full journal
 
--- no cause of a greater number
+-- no cause of a greater rank
 abbrev pub AtMost : ℕ → Option Refusal → Type 0
 AtMost n None = Unit {0}
-AtMost n (Some why) = number_of why ≤ n
+AtMost n (Some why) = rank_of why ≤ n
 
 abbrev pub AreAtMost : ℕ → List (ℕ × Option Refusal) → Type 0
 AreAtMost n [] = Unit {0}
@@ -86,11 +86,11 @@ pub first-most : (n k : ℕ) (os : List (ℕ × Option Refusal)) → IsOrdered k
 first-most n k [] ordered h = tt
 first-most n k (o ∷ os) ordered h = most_either n o.0 o.1 (first_cause (causes_of os)) h.0 ordered.1 (first-most n o.0 os ordered.2 h.1)
 
-pub least-before : (n : ℕ) (o : Option Refusal) (b : Bool) (why : Refusal) → AtMost n o → n ≤ number_of why → least (o ∷ unless b why ∷ []) ≡ option_or o (unless b why)
+pub least-before : (n : ℕ) (o : Option Refusal) (b : Bool) (why : Refusal) → AtMost n o → n ≤ rank_of why → least (o ∷ unless b why ∷ []) ≡ option_or o (unless b why)
 least-before n None true why h le = refl
 least-before n None false why h le = refl
 least-before n (Some a) true why h le = refl
-least-before n (Some a) false why h le = ap (λ t. cond t (Some why) (Some a)) (not_less (number_of a) (number_of why) (omega arith))
+least-before n (Some a) false why h le = ap (λ t. cond t (Some why) (Some a)) (not_less (rank_of a) (rank_of why) (omega arith))
 
 -- ---- the least of two lists
 
@@ -108,13 +108,13 @@ below : (n m : ℕ) → m < n → nat_lt m n ≡ true
 below n m h = grind (arith, nat_tests)
 
 -- of three causes, whichever two are looked at first
-lesser-three : (a b c : Refusal) (u v : Bool) → nat_lt (number_of b) (number_of a) ≡ u → nat_lt (number_of c) (number_of b) ≡ v
+lesser-three : (a b c : Refusal) (u v : Bool) → nat_lt (rank_of b) (rank_of a) ≡ u → nat_lt (rank_of c) (rank_of b) ≡ v
     → lesser (lesser (Some a) (Some b)) (Some c) ≡ lesser (Some a) (lesser (Some b) (Some c))
 lesser-three a b c true true first second =
     ap (λ t. lesser (cond t (Some b) (Some a)) (Some c)) first
     ∙ ap (λ t. cond t (Some c) (Some b)) second
     ∙ sym (ap (λ t. lesser (Some a) (cond t (Some c) (Some b))) second
-    ∙ ap (λ t. cond t (Some c) (Some a)) (below (number_of a) (number_of c) (omega (arith, is_below (number_of a) (number_of b) first, is_below (number_of b) (number_of c) second))))
+    ∙ ap (λ t. cond t (Some c) (Some a)) (below (rank_of a) (rank_of c) (omega (arith, is_below (rank_of a) (rank_of b) first, is_below (rank_of b) (rank_of c) second))))
 lesser-three a b c true false first second =
     ap (λ t. lesser (cond t (Some b) (Some a)) (Some c)) first
     ∙ ap (λ t. cond t (Some c) (Some b)) second
@@ -124,14 +124,14 @@ lesser-three a b c false true first second =
     ∙ sym (ap (λ t. lesser (Some a) (cond t (Some c) (Some b))) second)
 lesser-three a b c false false first second =
     ap (λ t. lesser (cond t (Some b) (Some a)) (Some c)) first
-    ∙ ap (λ t. cond t (Some c) (Some a)) (not_less (number_of a) (number_of c) (omega (arith, not_below (number_of a) (number_of b) first, not_below (number_of b) (number_of c) second)))
+    ∙ ap (λ t. cond t (Some c) (Some a)) (not_less (rank_of a) (rank_of c) (omega (arith, not_below (rank_of a) (rank_of b) first, not_below (rank_of b) (rank_of c) second)))
     ∙ sym (ap (λ t. lesser (Some a) (cond t (Some c) (Some b))) second ∙ ap (λ t. cond t (Some b) (Some a)) first)
 
 lesser-assoc : (o p q : Option Refusal) → lesser (lesser o p) q ≡ lesser o (lesser p q)
 lesser-assoc None p q = refl
 lesser-assoc (Some a) None q = refl
 lesser-assoc (Some a) (Some b) None = lesser-none (lesser (Some a) (Some b))
-lesser-assoc (Some a) (Some b) (Some c) = lesser-three a b c (nat_lt (number_of b) (number_of a)) (nat_lt (number_of c) (number_of b)) refl refl
+lesser-assoc (Some a) (Some b) (Some c) = lesser-three a b c (nat_lt (rank_of b) (rank_of a)) (nat_lt (rank_of c) (rank_of b)) refl refl
 
 -- the least of a list and more is the lesser of the two leasts
 pub least-append : (os ps : List (Option Refusal)) → least (os ++ ps) ≡ lesser (least os) (least ps)
@@ -141,4 +141,4 @@ least-append (o ∷ os) ps = ap (lesser o) (least-append os ps) ∙ sym (lesser-
 pub lesser-most : (n : ℕ) (o p : Option Refusal) → AtMost n o → AtMost n p → AtMost n (lesser o p)
 lesser-most n None p h k = k
 lesser-most n (Some a) None h k = h
-lesser-most n (Some a) (Some b) h k = elim (nat_lt (number_of b) (number_of a)) as (λ t. AtMost n (cond t (Some b) (Some a))) [ true ↦ k | false ↦ h ]
+lesser-most n (Some a) (Some b) h k = elim (nat_lt (rank_of b) (rank_of a)) as (λ t. AtMost n (cond t (Some b) (Some a))) [ true ↦ k | false ↦ h ]

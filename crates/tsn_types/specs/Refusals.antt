@@ -25,9 +25,13 @@ number_of refusals.EmptyList = 15
 number_of refusals.Past = 16
 number_of refusals.JournalFull = 17
 number_of refusals.Memory = 18
+number_of (refusals.Settled a) = 19
 
--- the place of a cause in the order in which causes are tested: that of its number
+-- the place of a cause in the order in which causes are tested: 1 to 16 by their numbers, then 19, 17 and 18
 abbrev pub rank_of : Refusal → ℕ
+rank_of (refusals.Settled a) = 17
+rank_of refusals.JournalFull = 18
+rank_of refusals.Memory = 19
 rank_of why = number_of why
 
 -- of two causes the one of the lesser rank, and of two with one rank the first
@@ -66,6 +70,7 @@ name_of refusals.EmptyList = codes "empty_list"
 name_of refusals.Past = codes "past"
 name_of refusals.JournalFull = codes "journal_full"
 name_of refusals.Memory = codes "memory"
+name_of (refusals.Settled a) = codes "settled"
 
 -- a member's name in a command or a setup
 abbrev pub field_name : Field → List ℕ
@@ -91,6 +96,7 @@ field_name fields.Octets = codes "octets"
 field_name fields.Now = codes "now"
 field_name fields.At = codes "at"
 field_name fields.After = codes "after"
+field_name fields.Upto = codes "upto"
 field_name fields.Id = codes "id"
 field_name fields.Ports = codes "ports"
 field_name fields.MaxFilters = codes "max_filters"

@@ -33,6 +33,7 @@ pub enum Field {
     Now,
     At,
     After,
+    Upto,
     Id,
     Ports,
     MaxFilters,
@@ -69,6 +70,7 @@ impl Field {
             Field::Now => "now",
             Field::At => "at",
             Field::After => "after",
+            Field::Upto => "upto",
             Field::Id => "id",
             Field::Ports => "ports",
             Field::MaxFilters => "max_filters",
@@ -118,10 +120,12 @@ pub enum Refusal {
     JournalFull,
     /// A growth was refused.
     Memory,
+    /// The entries up to this number are settled already.
+    Settled { upto: u64 },
 }
 
 impl Refusal {
-    /// The refusal's number, 1 to 18. Of several causes the one of the least number is answered.
+    /// The refusal's number, 1 to 19. Of several causes the first is answered in the order 1 to 16, 19, 17, 18.
     pub fn number(self) -> u64
         ensures { result ≡ number_of self }
     {
@@ -144,6 +148,7 @@ impl Refusal {
             Refusal::Past => 16,
             Refusal::JournalFull => 17,
             Refusal::Memory => 18,
+            Refusal::Settled { .. } => 19,
         }
     }
 
@@ -170,6 +175,7 @@ impl Refusal {
             Refusal::Past => "past",
             Refusal::JournalFull => "journal_full",
             Refusal::Memory => "memory",
+            Refusal::Settled { .. } => "settled",
         }
     }
 }
