@@ -358,7 +358,7 @@ fn stranger(why: &Option<Refusal>) -> Refusal
 {
     match why {
         Some(found) => {
-            if found.number() < 5 {
+            if found.rank() < 5 {
                 *found
             } else {
                 Refusal::NoSession

@@ -144,14 +144,14 @@ fn puts(edit: &Edit) -> bool
     !matches!(edit, Edit::Remove(_))
 }
 
-// Of two causes the one of the lesser number, and of two with one number the first.
+// Of two causes the one of the lesser rank, and of two with one rank the first.
 fn lesser(first: Option<Refusal>, second: Option<Refusal>) -> Option<Refusal>
     ensures { result ≡ lesser first second }
 {
     let (Some(one), Some(other)) = (first, second) else {
         return first.or(second);
     };
-    if other.number() < one.number() {
+    if other.rank() < one.rank() {
         second
     } else {
         first

@@ -11,7 +11,7 @@ use Rattle.tsn_edit.proofs.KeyFacts.{by_bool, by_option}
 use Rattle.tsn_journal.specs.declared.entries.What.{What}
 use Rattle.tsn_journal.specs.declared.entries.Entry.{Entry}
 use Rattle.tsn_journal.specs.declared.entries.MarkedEntry.{MarkedEntry}
-use Rattle.tsn_journal.specs.Entries.{Applied, IsNumbered, added_parts, adds, applied, collect, is_taken_back, standing}
+use Rattle.tsn_journal.specs.Entries.{Applied, IsNumbered, added_parts, adds, applied, collect, is_closed, standing}
 use Rattle.tsn_journal.specs.Finding.{last_where, later_than, parts_of_all, since}
 use Rattle.tsn_journal.specs.Marks.{AreMarked, added_in, entries_of, stands}
 use Rattle.tsn_journal.proofs.LastWhere.{or_none}
@@ -50,7 +50,7 @@ if_open false false o h = (cc)
 pub standing-marked : (ms : List MarkedEntry) → AreMarked ms → standing (entries_of ms) ≡ filter_map stands ms
 standing-marked [] h = refl
 standing-marked (m ∷ ms) h =
-    (λ i. cons_option (if_open m.is_open (is_taken_back m.entry (entries_of ms)) (applied adds m.entry) h.0 i) (standing-marked ms h.1 i))
+    (λ i. cons_option (if_open m.is_open (is_closed m.entry (entries_of ms)) (applied adds m.entry) h.0 i) (standing-marked ms h.1 i))
 
 pub collect-marked : (pick : What → Option Change) (ms : List MarkedEntry) → collect pick (entries_of ms) ≡ filter_map (λ m. applied pick m.entry) ms
 collect-marked pick [] = refl

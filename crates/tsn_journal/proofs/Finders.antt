@@ -9,10 +9,10 @@ use Rattle.tsn_edit.specs.Parts.{Change}
 use Rattle.tsn_edit.specs.Changes.{conflicts}
 use Rattle.tsn_edit.proofs.KeyFacts.{by_bool, by_option}
 use Rattle.tsn_journal.specs.declared.entries.What.{What}
-use Rattle.tsn_journal.specs.declared.entries.What.TheVariants.{Made, Undone, Redone, Acted}
+use Rattle.tsn_journal.specs.declared.entries.What.TheVariants.{Made, Undone, Redone, Acted, Settled}
 use Rattle.tsn_journal.specs.declared.entries.Entry.{Entry}
 use Rattle.tsn_journal.specs.declared.entries.MarkedEntry.{MarkedEntry}
-use Rattle.tsn_journal.specs.Entries.{Applied, adds, applied, applies, is_made, is_taken_back, standing, undoes}
+use Rattle.tsn_journal.specs.Entries.{Applied, adds, applied, applies, is_made, is_closed, standing, undoes}
 use Rattle.tsn_journal.specs.Finding.{find_conflict_of_others, find_own_in_conflict, last_where, later_than, may_redo, own_standing, parts_of_all, redo_of, standing_entry, undone_entry}
 use Rattle.tsn_journal.specs.Marks.{AreMarked, IsJournal, added_in, conflict_of_others, ends_redo, entries_of, is_in_conflict, is_others, is_own, stands}
 use Rattle.tsn_journal.proofs.Collecting.{IsOwn, applied-own, collect-marked, filter_marked, filter_parts, find_marked, last_marked, later_marked, passes, standing-marked, stands-own}
@@ -56,6 +56,7 @@ own true n s k (Made c) = refl
 own true n s k (Undone i c) = refl
 own true n s k (Redone i c) = refl
 own true n s k (Acted act key now) = refl
+own true n s k (Settled upto) = refl
 
 pub own_agrees : (k : ℕ) → Agrees (λ x. x.session == k) (λ m. is_some (stands m) && (m.entry.session == k))
 own_agrees k m = own m.is_open m.entry.number m.entry.session k m.entry.what
@@ -66,6 +67,7 @@ conflict true n s (Made c) e = refl
 conflict true n s (Undone i c) e = refl
 conflict true n s (Redone i c) e = refl
 conflict true n s (Acted act key now) e = refl
+conflict true n s (Settled upto) e = refl
 
 pub conflict_agrees : (e : Change) → Agrees (λ f. conflicts f.change e) (λ m. is_some (stands m) && is_in_conflict (applies m.entry.what) e)
 conflict_agrees e m = conflict m.is_open m.entry.number m.entry.session m.entry.what e
@@ -76,6 +78,7 @@ other true n s k (Made c) e = refl
 other true n s k (Undone i c) e = refl
 other true n s k (Redone i c) e = refl
 other true n s k (Acted act key now) e = refl
+other true n s k (Settled upto) e = refl
 
 pub other_agrees : (k : ℕ) (e : Change) → Agrees (λ f. not (f.session == k) && conflicts f.change e) (λ m. is_others k m && is_in_conflict (applies m.entry.what) e)
 other_agrees k e m = other m.is_open m.entry.number m.entry.session k m.entry.what e
@@ -85,6 +88,7 @@ any n s (Made c) e = refl
 any n s (Undone i c) e = refl
 any n s (Redone i c) e = refl
 any n s (Acted act key now) e = refl
+any n s (Settled upto) e = refl
 
 pub any_agrees : (e : Change) (m : MarkedEntry) → is_in_conflict (applies m.entry.what) e ≡ passes (λ f. conflicts f.change e) (applied applies m.entry)
 any_agrees e m = any m.entry.number m.entry.session m.entry.what e
@@ -112,6 +116,7 @@ module _ (ms : List MarkedEntry) (is : IsJournal ms) where
   blocked true n s k (Undone i c) = refl
   blocked true n s k (Redone i c) = ap (λ t. (s == k) && t) (others_is n s (Redone i c) c refl)
   blocked true n s k (Acted act key now) = refl
+  blocked true n s k (Settled upto) = refl
 
   pub own_in_conflict_is : (s : ℕ) → at (last_where (λ m. is_own s m && is_some (conflict_of_others ms m.entry)) ms) ≡ num (find_own_in_conflict (entries_of ms) s)
   own_in_conflict_is s =
@@ -147,6 +152,7 @@ made_ends true b o (Made c) n s h none = refl
 made_ends true b o (Undone i c) n s h none = (cc)
 made_ends true b o (Redone i c) n s h none = h
 made_ends true b o (Acted act key now) n s h none = h
+made_ends true b o (Settled upto) n s h none = h
 made_ends false b o w n s h none = h
 
 or_left : (a b : Bool) → a ≡ true → (a || b) ≡ true
@@ -179,6 +185,7 @@ no_edit_here true o (Made c) h = h
 no_edit_here true o (Undone i c) h = refl
 no_edit_here true o (Redone i c) h = refl
 no_edit_here true o (Acted act key now) h = refl
+no_edit_here true o (Settled upto) h = refl
 no_edit_here false o w h = refl
 
 or_false : (a b : Bool) → a ≡ false → b ≡ false → (a || b) ≡ false
@@ -199,6 +206,7 @@ ended_here true o true (Undone i c) n s m open' same = ap (λ b. option_and_then
 ended_here true o false (Undone i c) n s m open' same = sym same ∙ ap (λ b. option_and_then redone_at (cond b (Some m) None)) (sym open')
 ended_here true o t (Redone i c) n s m open' same = refl
 ended_here true o t (Acted act key now) n s m open' same = refl
+ended_here true o t (Settled upto) n s m open' same = refl
 ended_here false o t w n s m open' same = refl
 
 never : (a u t : Bool) (o : Option Applied) → cond (a && (u && (t && false))) o None ≡ None
@@ -216,16 +224,16 @@ redo_marked s (m ∷ ms) h =
     by_option (last_where (ends s) ms)
     (λ none.
     ap (λ o. option_or o here) (rest ∙ ap (option_and_then redone_at) none)
-    ∙ ap (λ b. cond ((m.entry.session == s) && (is_some (undoes m.entry.what) && (not (is_taken_back m.entry es) && not b))) (redone_at m) None) (no_edit s ms none)
-    ∙ ended_here (m.entry.session == s) m.is_open (is_taken_back m.entry es) m.entry.what m.entry.number m.entry.session m h.0 refl
+    ∙ ap (λ b. cond ((m.entry.session == s) && (is_some (undoes m.entry.what) && (not (is_closed m.entry es) && not b))) (redone_at m) None) (no_edit s ms none)
+    ∙ ended_here (m.entry.session == s) m.is_open (is_closed m.entry es) m.entry.what m.entry.number m.entry.session m h.0 refl
     ∙ ap (λ o. option_and_then redone_at (option_or o (cond (ends s m) (Some m) None))) (sym none))
     (λ x some.
     ap (λ o. option_or o here) (rest ∙ ap (option_and_then redone_at) some)
     ∙ by_option (redone_at x)
     (λ nothing.
     ap (λ o. option_or o here) nothing
-    ∙ ap (λ b. cond ((m.entry.session == s) && (is_some (undoes m.entry.what) && (not (is_taken_back m.entry es) && not b))) (redone_at m) None) (edit_there s ms x some nothing)
-    ∙ never (m.entry.session == s) (is_some (undoes m.entry.what)) (not (is_taken_back m.entry es)) (redone_at m)
+    ∙ ap (λ b. cond ((m.entry.session == s) && (is_some (undoes m.entry.what) && (not (is_closed m.entry es) && not b))) (redone_at m) None) (edit_there s ms x some nothing)
+    ∙ never (m.entry.session == s) (is_some (undoes m.entry.what)) (not (is_closed m.entry es)) (redone_at m)
     ∙ sym nothing)
     (λ y found. ap (λ o. option_or o here) found ∙ sym found)
     ∙ ap (λ o. option_and_then redone_at (option_or o (cond (ends s m) (Some m) None))) (sym some))
@@ -254,12 +262,14 @@ standing_parts true n s (Made c) e h = let same : mk n s c ≡ e = (cc) in (ap (
 standing_parts true n s (Undone i c) e h = (cc)
 standing_parts true n s (Redone i c) e h = let same : mk n s c ≡ e = (cc) in (ap (λ (x : Applied). x.number) (sym same), ap (λ (x : Applied). x.session) (sym same), ap (λ (x : Applied). Some x.change) same)
 standing_parts true n s (Acted act key now) e h = (cc)
+standing_parts true n s (Settled upto) e h = (cc)
 
 undone_parts : (n s : ℕ) (w : What) (e : Applied) → option_map (mk n s) (undoes w) ≡ Some e → (e.number ≡ n) × (e.session ≡ s) × (applies w ≡ Some e.change)
 undone_parts n s (Made c) e h = (cc)
 undone_parts n s (Undone i c) e h = let same : mk n s c ≡ e = (cc) in (ap (λ (x : Applied). x.number) (sym same), ap (λ (x : Applied). x.session) (sym same), ap (λ (x : Applied). Some x.change) same)
 undone_parts n s (Redone i c) e h = (cc)
 undone_parts n s (Acted act key now) e h = (cc)
+undone_parts n s (Settled upto) e h = (cc)
 
 module _ (ms : List MarkedEntry) (n : ℕ) (e : Applied) (m : MarkedEntry) (found : find (λ m. m.entry.number == n) ms ≡ Some m) where
   at_number : m.entry.number ≡ n

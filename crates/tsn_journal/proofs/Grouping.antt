@@ -10,11 +10,11 @@ use Rattle.tsn_edit.specs.Parts.{Change, Part, parts}
 use Rattle.tsn_edit.proofs.KeyFacts.{by_bool, has-append, one_key, same_itself}
 use Rattle.tsn_journal.specs.declared.entries.What.{What}
 use Rattle.tsn_journal.specs.declared.entries.Act.{Act}
-use Rattle.tsn_journal.specs.declared.entries.What.TheVariants.{Made, Undone, Redone, Acted}
+use Rattle.tsn_journal.specs.declared.entries.What.TheVariants.{Made, Undone, Redone, Acted, Settled}
 use Rattle.tsn_journal.specs.declared.entries.MarkedEntry.{MarkedEntry}
 use Rattle.tsn_journal.specs.declared.groups.Group.{Group}
 use Rattle.tsn_journal.specs.declared.groups.Group.TheVariants.{On, RefersTo, Of, EndsRedo}
-use Rattle.tsn_journal.specs.Entries.{Applied, adds, applied, is_made, takes_back, undoes}
+use Rattle.tsn_journal.specs.Entries.{Applied, adds, applied, is_made, closes, undoes}
 use Rattle.tsn_journal.specs.Index.{belongs, belongs_to_others, group_if, groups_of_parts, is_among, is_by, is_on, refers, standing_change}
 use Rattle.tsn_journal.specs.Latest.{same_group}
 use Rattle.tsn_journal.specs.Marks.{mark_off, stands}
@@ -54,7 +54,7 @@ off_belongs (EndsRedo s) m h = ended (m.entry.session == s) _ _ m.is_open h
 
 pub belongs-mark_off : (w : What) (g : Group) (m : MarkedEntry) → belongs g m ≡ false → belongs g (mark_off w m) ≡ false
 belongs-mark_off w g m h =
-    elim (takes_back w m.entry) as (λ b. belongs g (cond b (record { entry = m.entry; is_open = false }) m) ≡ false) [
+    elim (closes w m.entry) as (λ b. belongs g (cond b (record { entry = m.entry; is_open = false }) m) ≡ false) [
       | true ↦ off_belongs g m h
       | false ↦ h
     ]
@@ -67,7 +67,7 @@ and_falls true false c f h = refl
 
 pub others-mark_off : (w : What) (g : Group) (s : ℕ) (m : MarkedEntry) → belongs_to_others g s m ≡ false → belongs_to_others g s (mark_off w m) ≡ false
 others-mark_off w g s m h =
-    elim (takes_back w m.entry) as (λ b. belongs_to_others g s (cond b (record { entry = m.entry; is_open = false }) m) ≡ false) [
+    elim (closes w m.entry) as (λ b. belongs_to_others g s (cond b (record { entry = m.entry; is_open = false }) m) ≡ false) [
       | true ↦ and_falls (belongs g m) _ (not (m.entry.session == s)) (off_belongs g m) h
       | false ↦ h
     ]
@@ -75,7 +75,7 @@ others-mark_off w g s m h =
 -- an entry stays its session's
 pub by-mark_off : (w : What) (s : ℕ) (o : Option MarkedEntry) → is_by s (option_map (mark_off w) o) ≡ is_by s o
 by-mark_off w s None = refl
-by-mark_off w s (Some m) = elim (takes_back w m.entry) as (λ b. is_by s (Some (cond b (record { entry = m.entry; is_open = false }) m)) ≡ (m.entry.session == s)) [ true ↦ refl | false ↦ refl ]
+by-mark_off w s (Some m) = elim (closes w m.entry) as (λ b. is_by s (Some (cond b (record { entry = m.entry; is_open = false }) m)) ≡ (m.entry.session == s)) [ true ↦ refl | false ↦ refl ]
 
 -- ---- the groups of an entry are all that it may belong to
 
@@ -170,6 +170,7 @@ ends_or_not m s c false same adds' made q h = none_true _ (ap (λ b. b || (is_so
     not_undone (Redone n e) c h = refl
     not_undone (Undone n e) c h = (cc)
     not_undone (Acted act key now) c h = (cc)
+    not_undone (Settled upto) c h = (cc)
 
 no_change : (m : MarkedEntry) → adds m.entry.what ≡ None → standing_change m ≡ None
 no_change m none = elim m.is_open as (λ b. cond b (adds m.entry.what) None ≡ None) [ true ↦ none | false ↦ refl ]

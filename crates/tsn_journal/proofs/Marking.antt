@@ -6,10 +6,10 @@ use Rattle.std.proofs.lemmas.Bool.Decides.{nat_tests}
 use Rattle.std.proofs.lemmas.List.{map-append, length-map, length-append, take-append-le, take_all}
 use Rattle.std.proofs.lemmas.List.Folds.{list_any-append}
 use Rattle.tsn_journal.specs.declared.entries.What.{What}
-use Rattle.tsn_journal.specs.declared.entries.What.TheVariants.{Made, Undone, Redone, Acted}
+use Rattle.tsn_journal.specs.declared.entries.What.TheVariants.{Made, Undone, Redone, Acted, Settled}
 use Rattle.tsn_journal.specs.declared.entries.Entry.{Entry}
 use Rattle.tsn_journal.specs.declared.entries.MarkedEntry.{MarkedEntry}
-use Rattle.tsn_journal.specs.Entries.{IsNumbered, is_taken_back, names, takes_back, with_entry}
+use Rattle.tsn_journal.specs.Entries.{IsNoSettle, IsNumbered, closes, is_closed, names, with_entry}
 use Rattle.tsn_journal.specs.Marks.{AreMarked, IsJournal, entries_of, mark_off}
 
 -- ---- looking a number up
@@ -60,21 +60,23 @@ and_off false b h = refl
 some_of : {A : Type 0} (a b : A) → Some a ≡ Some b → a ≡ b
 some_of a b h = (cc)
 
-other_entry : (w : What) (k : ℕ) (e : Entry) → names w ≡ Some k → (k == e.number) ≡ false → takes_back w e ≡ false
+other_entry : (w : What) (k : ℕ) (e : Entry) → names w ≡ Some k → (k == e.number) ≡ false → closes w e ≡ false
 other_entry (Made c) k e is other = refl
 other_entry (Undone n c) k e is other = and_off (n == e.number) _ (ap (λ m. m == e.number) (some_of n k is) ∙ other)
 other_entry (Redone n c) k e is other = and_off (n == e.number) _ (ap (λ m. m == e.number) (some_of n k is) ∙ other)
 other_entry (Acted act key now) k e is other = refl
+other_entry (Settled upto) k e is other = (cc)
 
-nothing_off : (w : What) (e : Entry) → names w ≡ None → takes_back w e ≡ false
-nothing_off (Made c) e is = refl
-nothing_off (Undone n c) e is = (cc)
-nothing_off (Redone n c) e is = (cc)
-nothing_off (Acted act key now) e is = refl
+nothing_off : (w : What) (e : Entry) → IsNoSettle w → names w ≡ None → closes w e ≡ false
+nothing_off (Made c) e plain is = refl
+nothing_off (Undone n c) e plain is = (cc)
+nothing_off (Redone n c) e plain is = (cc)
+nothing_off (Acted act key now) e plain is = refl
+nothing_off (Settled upto) e plain is = absurd plain
 
-pub all_stay : (w : What) (ms : List MarkedEntry) → names w ≡ None → map (mark_off w) ms ≡ ms
-all_stay w [] is = refl
-all_stay w (m ∷ ms) is = ap (λ b. off b m ∷ map (mark_off w) ms) (nothing_off w m.entry is) ∙ ap (λ xs. m ∷ xs) (all_stay w ms is)
+pub all_stay : (w : What) (ms : List MarkedEntry) → IsNoSettle w → names w ≡ None → map (mark_off w) ms ≡ ms
+all_stay w [] plain is = refl
+all_stay w (m ∷ ms) plain is = ap (λ b. off b m ∷ map (mark_off w) ms) (nothing_off w m.entry plain is) ∙ ap (λ xs. m ∷ xs) (all_stay w ms plain is)
 
 pub out_of_reach : (n k : ℕ) (w : What) (ms : List MarkedEntry) → names w ≡ Some k → IsNumbered n (entries_of ms) → (k < n) ⊎ (n + length ms ≤ k) → map (mark_off w) ms ≡ ms
 out_of_reach n k w [] is h out = refl
@@ -94,7 +96,7 @@ off_at n (suc i) k w (x ∷ ms) m is h e at =
     ∙ ap (λ xs. x ∷ xs) (off_at (n + 1) i k w ms m is h.1 (omega arith) at)
 
 -- the entries with the mark at the place as it is to be
-pub set_at : (w : What) (ms : List MarkedEntry) (place k : ℕ) (d : MarkedEntry) (b : Bool) → names w ≡ Some k → IsNumbered 1 (entries_of ms) → place + 1 ≡ k → d ≡ get_or ms place d → takes_back w (get_or ms place d).entry ≡ b
+pub set_at : (w : What) (ms : List MarkedEntry) (place k : ℕ) (d : MarkedEntry) (b : Bool) → names w ≡ Some k → IsNumbered 1 (entries_of ms) → place + 1 ≡ k → d ≡ get_or ms place d → closes w (get_or ms place d).entry ≡ b
     → set ms place (off b (get_or ms place d)) ≡ map (mark_off w) ms
 set_at w ms place k d b is h next at taken =
     let m = get_or ms place d in
@@ -103,7 +105,7 @@ set_at w ms place k d b is h next at taken =
 -- ---- one entry more
 
 pub entry_stays : (w : What) (m : MarkedEntry) → (mark_off w m).entry ≡ m.entry
-entry_stays w m = elim (takes_back w m.entry) as (λ b. (off b m).entry ≡ m.entry) [ true ↦ refl | false ↦ refl ]
+entry_stays w m = elim (closes w m.entry) as (λ b. (off b m).entry ≡ m.entry) [ true ↦ refl | false ↦ refl ]
 
 pub entries_stay : (w : What) (ms : List MarkedEntry) → entries_of (map (mark_off w) ms) ≡ entries_of ms
 entries_stay w [] = refl
@@ -135,11 +137,11 @@ not_or o true false h = h
 not_or o false true h = refl
 not_or o false false h = h
 
-pub is_taken_back-push : (e : Entry) (es : List Entry) (w : Entry) → is_taken_back e (es ++ w ∷ []) ≡ (is_taken_back e es || takes_back w.what e)
-is_taken_back-push e es w = list_any-append (λ x. takes_back x.what e) es (w ∷ []) ∙ ap (λ b. is_taken_back e es || b) (or_false (takes_back w.what e))
+pub is_closed-push : (e : Entry) (es : List Entry) (w : Entry) → is_closed e (es ++ w ∷ []) ≡ (is_closed e es || closes w.what e)
+is_closed-push e es w = list_any-append (λ x. closes x.what e) es (w ∷ []) ∙ ap (λ b. is_closed e es || b) (or_false (closes w.what e))
 
-mark_now : (w : What) (m : MarkedEntry) → (mark_off w m).is_open ≡ cond (takes_back w m.entry) false m.is_open
-mark_now w m = elim (takes_back w m.entry) as (λ b. (off b m).is_open ≡ cond b false m.is_open) [ true ↦ refl | false ↦ refl ]
+mark_now : (w : What) (m : MarkedEntry) → (mark_off w m).is_open ≡ cond (closes w m.entry) false m.is_open
+mark_now w m = elim (closes w m.entry) as (λ b. (off b m).is_open ≡ cond b false m.is_open) [ true ↦ refl | false ↦ refl ]
 
 marked_push : (ms : List MarkedEntry) (x : MarkedEntry) → x.is_open ≡ true → AreMarked ms → AreMarked (map (mark_off x.entry.what) ms ++ x ∷ [])
 marked_push [] x open' h = (open', tt)
@@ -148,9 +150,9 @@ marked_push (m ∷ ms) x open' h =
     let later : entries_of (map (mark_off w) ms ++ x ∷ []) ≡ entries_of ms ++ x.entry ∷ [] =
     map-append (λ (y : MarkedEntry). y.entry) (map (mark_off w) ms) (x ∷ []) ∙ ap (λ es. es ++ x.entry ∷ []) (entries_stay w ms) in (
       mark_now w m
-          ∙ not_or m.is_open (is_taken_back m.entry (entries_of ms)) (takes_back w m.entry) h.0
-          ∙ ap not (sym (is_taken_back-push m.entry (entries_of ms) x.entry))
-          ∙ (λ i. not (is_taken_back (sym (entry_stays w m) i) (sym later i))),
+          ∙ not_or m.is_open (is_closed m.entry (entries_of ms)) (closes w m.entry) h.0
+          ∙ ap not (sym (is_closed-push m.entry (entries_of ms) x.entry))
+          ∙ (λ i. not (is_closed (sym (entry_stays w m) i) (sym later i))),
       marked_push ms x open' h.1,
     )
 

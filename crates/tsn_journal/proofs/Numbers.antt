@@ -1,16 +1,16 @@
 -- Lists of entries with one more, the numbers of entries, and the entries after one.
 use Rattle.std.proofs.Common.{◌≡◌, ℕ, ◌+◌, ◌<◌, ◌≤◌, Bool, true, false, cond, ◌||◌, not, List, [], ◌∷◌, ◌++◌, refl, sym, ◌∙◌, ap, Option, Some, None, arith, subst}
-use Rattle.std.specs.Prelude.{◌&&◌, filter, is_some, option_map, ◌==◌, nat_lt}
+use Rattle.std.specs.Prelude.{◌&&◌, filter, is_some, option_map, ◌==◌, nat_le, nat_lt}
 use Rattle.std.specs.List.{AllByRecursion, cons_option}
 use Rattle.std.specs.Option.{option_or}
 use Rattle.std.proofs.lemmas.Bool.Decides.{nat_tests}
 use Rattle.tsn_edit.specs.Parts.{Change}
 use Rattle.tsn_journal.specs.declared.entries.What.{What}
-use Rattle.tsn_journal.specs.declared.entries.What.TheVariants.{Made, Undone, Redone, Acted}
+use Rattle.tsn_journal.specs.declared.entries.What.TheVariants.{Made, Undone, Redone, Acted, Settled}
 use Rattle.tsn_journal.specs.declared.entries.Entry.{Entry}
-use Rattle.tsn_journal.specs.Entries.{Applied, IsNumbered, adds, applied, changes, collect, is_taken_back, standing, takes_back}
+use Rattle.tsn_journal.specs.Entries.{Applied, IsNumbered, adds, applied, changes, collect, is_closed, standing, closes}
 use Rattle.tsn_journal.specs.Finding.{last_where, later_than}
-use Rattle.tsn_journal.proofs.Marking.{is_taken_back-push}
+use Rattle.tsn_journal.proofs.Marking.{is_closed-push}
 use Rattle.std.proofs.lemmas.List.Elements.{filter_map-append, filter-append}
 use Rattle.tsn_edit.proofs.KeyFacts.{by_bool, by_option}
 
@@ -27,12 +27,13 @@ collect_push pick es e = filter_map-append (applied pick) es (e ∷ [])
 
 -- ---- the standing entries with one entry more
 
--- whether an entry that did this takes back the standing entry of the number
+-- whether an entry that did this takes back the standing entry of the number, or settles it
 abbrev pub undoes_number : What → ℕ → Bool
 undoes_number (Made c) k = false
 undoes_number (Undone n c) k = n == k
 undoes_number (Redone n c) k = false
 undoes_number (Acted act key now) k = false
+undoes_number (Settled upto) k = nat_le k upto
 
 and_true : (a : Bool) → (a && true) ≡ a
 and_true true = refl
@@ -42,14 +43,16 @@ and_false : (a : Bool) → (a && false) ≡ false
 and_false true = refl
 and_false false = refl
 
-undone_by : (w v : What) (n s : ℕ) (c : Change) → adds v ≡ Some c → takes_back w (record { number = n; session = s; what = v }) ≡ undoes_number w n
+undone_by : (w v : What) (n s : ℕ) (c : Change) → adds v ≡ Some c → closes w (record { number = n; session = s; what = v }) ≡ undoes_number w n
 undone_by (Made d) v n s c some = refl
 undone_by (Undone k d) v n s c some = ap (λ o. (k == n) && is_some o) some ∙ and_true (k == n)
 undone_by (Redone k d) (Made e) n s c some = and_false (k == n)
 undone_by (Redone k d) (Undone i e) n s c some = (cc)
 undone_by (Redone k d) (Redone i e) n s c some = and_false (k == n)
 undone_by (Redone k d) (Acted act key now) n s c some = (cc)
+undone_by (Redone k d) (Settled upto) n s c some = (cc)
 undone_by (Acted act key now) v n s c some = refl
+undone_by (Settled upto) v n s c some = refl
 
 one_left : (taken by : Bool) (p : Applied → Bool) (x : Applied) (xs : List Applied) → p x ≡ not by → cons_option (cond (taken || by) None (Some x)) (filter p xs) ≡ filter p (cons_option (cond taken None (Some x)) xs)
 one_left true by p x xs h = refl
@@ -72,21 +75,21 @@ standing_push (x ∷ es) e =
     let kept = filter p (standing es) in
     let more = cons_option (applied adds e) [] in
     let picked : Bool → Option Applied = λ b. cond b None (applied adds x) in
-    ap (λ b. cons_option (picked b) (standing (es ++ e ∷ []))) (is_taken_back-push x es e)
-    ∙ ap (cons_option (picked (is_taken_back x es || takes_back e.what x))) (standing_push es e)
-    ∙ cons_filter (picked (is_taken_back x es || takes_back e.what x)) p kept more
+    ap (λ b. cons_option (picked b) (standing (es ++ e ∷ []))) (is_closed-push x es e)
+    ∙ ap (cons_option (picked (is_closed x es || closes e.what x))) (standing_push es e)
+    ∙ cons_filter (picked (is_closed x es || closes e.what x)) p kept more
     ∙ ap (λ ys. ys ++ more) (by_option (adds x.what)
     (λ none.
     let mk : Option Change → Option Applied = option_map (λ c. record { number = x.number; session = x.session; change = c }) in
-    ap (λ o. cons_option (cond (is_taken_back x es || takes_back e.what x) None (mk o)) kept) none
-    ∙ none_left (is_taken_back x es) (takes_back e.what x) p (standing es)
-    ∙ ap (λ o. filter p (cons_option (cond (is_taken_back x es) None (mk o)) (standing es))) (sym none))
+    ap (λ o. cons_option (cond (is_closed x es || closes e.what x) None (mk o)) kept) none
+    ∙ none_left (is_closed x es) (closes e.what x) p (standing es)
+    ∙ ap (λ o. filter p (cons_option (cond (is_closed x es) None (mk o)) (standing es))) (sym none))
     (λ c some.
     let mk : Option Change → Option Applied = option_map (λ c. record { number = x.number; session = x.session; change = c }) in
     let y : Applied = record { number = x.number; session = x.session; change = c } in
-    ap (λ o. cons_option (cond (is_taken_back x es || takes_back e.what x) None (mk o)) kept) some
-    ∙ one_left (is_taken_back x es) (takes_back e.what x) p y (standing es) (ap not (sym (undone_by e.what x.what x.number x.session c some)))
-    ∙ ap (λ o. filter p (cons_option (cond (is_taken_back x es) None (mk o)) (standing es))) (sym some)))
+    ap (λ o. cons_option (cond (is_closed x es || closes e.what x) None (mk o)) kept) some
+    ∙ one_left (is_closed x es) (closes e.what x) p y (standing es) (ap not (sym (undone_by e.what x.what x.number x.session c some)))
+    ∙ ap (λ o. filter p (cons_option (cond (is_closed x es) None (mk o)) (standing es))) (sym some)))
 
 pub filter_every : (xs : List Applied) → filter (λ x. not false) xs ≡ xs
 filter_every [] = refl
@@ -113,7 +116,7 @@ rises_from : (n : ℕ) (es : List Entry) → IsNumbered n es → Rises n (standi
 rises_from n [] h = tt
 rises_from n (e ∷ es) h =
     let rest = rises_from (n + 1) es h.1 in
-    elim (is_taken_back e es) as (λ b. Rises n (cons_option (cond b None (applied adds e)) (standing es))) [
+    elim (is_closed e es) as (λ b. Rises n (cons_option (cond b None (applied adds e)) (standing es))) [
       | true ↦ rises_lower n (n + 1) (standing es) (omega arith) rest
       | false ↦ rises_cons n e.number e.session (adds e.what) (standing es) (sym h.0) rest
     ]

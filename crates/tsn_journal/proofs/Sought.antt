@@ -12,7 +12,7 @@ use Rattle.tsn_edit.specs.Changes.{conflicts, keys_of, refs_after, refs_before}
 use Rattle.tsn_edit.specs.Parts.{Change, Part, parts}
 use Rattle.tsn_edit.proofs.KeyFacts.{by_option, has-append, keys_of-append, keys_total}
 use Rattle.tsn_journal.specs.declared.entries.What.{What}
-use Rattle.tsn_journal.specs.declared.entries.What.TheVariants.{Made, Undone, Redone, Acted}
+use Rattle.tsn_journal.specs.declared.entries.What.TheVariants.{Made, Undone, Redone, Acted, Settled}
 use Rattle.tsn_journal.specs.declared.entries.MarkedEntry.{MarkedEntry}
 use Rattle.tsn_journal.specs.declared.groups.Group.TheVariants.{On, RefersTo}
 use Rattle.tsn_journal.specs.Entries.{Applied, IsNumbered, adds, applied, applies}
@@ -116,6 +116,7 @@ module _ (c : Part) (refs : Refs) (same : keys_of_refs refs ≡ refs_of c.before
   each_test m true (Redone n d) on is = with_change m d (λ i. cond (on i) (adds (is i)) None)
   each_test m true (Undone n d) on is = with_none m (λ i. cond (on i) (adds (is i)) None)
   each_test m true (Acted act key now) on is = with_none m (λ i. cond (on i) (adds (is i)) None)
+  each_test m true (Settled upto) on is = with_none m (λ i. cond (on i) (adds (is i)) None)
   each_test m false w on is = with_none m (ap (λ b. cond b (adds m.entry.what) None) on)
 
   some_stands : (m : MarkedEntry) → is_some (standing_change m) ≡ is_some (stands m)

@@ -8,7 +8,7 @@ use Rattle.tsn_edit.proofs.KeyFacts.{by_bool, by_option}
 use Rattle.tsn_edit.specs.Parts.{Change}
 use Rattle.tsn_journal.specs.declared.entries.Entry.{Entry}
 use Rattle.tsn_journal.specs.declared.entries.MarkedEntry.{MarkedEntry}
-use Rattle.tsn_journal.specs.Entries.{Applied, IsNumbered, applied, applies, collect, is_taken_back, standing, undoes}
+use Rattle.tsn_journal.specs.Entries.{Applied, IsNumbered, applied, applies, collect, is_closed, standing, undoes}
 use Rattle.tsn_journal.specs.Finding.{change_at, entry, last_where, may_redo, redo_of, standing_entry, undone_entry}
 use Rattle.tsn_journal.specs.Marks.{AreMarked, entries_of, stands}
 use Rattle.tsn_journal.proofs.Collecting.{applied-own, collect-marked, find_marked, standing-marked, stands-own}
@@ -44,7 +44,7 @@ standing_found es test x numbered last =
 
 marks_of : List Entry → List MarkedEntry
 marks_of [] = []
-marks_of (e ∷ es) = record { entry = e; is_open = not (is_taken_back e es) } ∷ marks_of es
+marks_of (e ∷ es) = record { entry = e; is_open = not (is_closed e es) } ∷ marks_of es
 
 same_entries : (es : List Entry) → entries_of (marks_of es) ≡ es
 unfolding marks_of
@@ -54,7 +54,7 @@ same_entries (e ∷ es) = ap (λ fs. e ∷ fs) (same_entries es)
 well_marked : (es : List Entry) → AreMarked (marks_of es)
 unfolding marks_of
 well_marked [] = tt
-well_marked (e ∷ es) = (ap (λ fs. not (is_taken_back e fs)) (sym (same_entries es)), well_marked es)
+well_marked (e ∷ es) = (ap (λ fs. not (is_closed e fs)) (sym (same_entries es)), well_marked es)
 
 -- the entry of the number, as the one that was picked
 pub record IsEntry (es : List Entry) (n : ℕ) (x : Applied) : Type 0 where

@@ -1,5 +1,5 @@
 -- The entries of a journal, and which of them stand. Entries are numbered from 1.
-use Rattle.std.specs.Prelude.{◌≡◌, ℕ, ◌+◌, Bool, true, false, ◌&&◌, List, [], ◌∷◌, ◌++◌, Option, Some, None, map, option_map, is_some, is_none, ◌==◌, nat_le, length, if◌then◌else◌}
+use Rattle.std.specs.Prelude.{◌≡◌, ℕ, ◌+◌, Bool, true, false, not, ◌&&◌, ◌||◌, max, List, [], ◌∷◌, ◌++◌, Option, Some, None, map, option_map, is_some, is_none, ◌==◌, nat_le, length, if◌then◌else◌, ⊤}
 use Rattle.std.specs.List.{list_any, filter_map, cons_option}
 use Rattle.tsn_types.specs.declared.keys.Key.{Key}
 use Rattle.tsn_types.specs.declared.refusals.Refusal.{Refusal}
@@ -10,7 +10,7 @@ use Rattle.tsn_edit.specs.Changes.{room_of}
 use Rattle.tsn_edit.specs.Parts.{Change, inverse}
 use Rattle.tsn_journal.specs.declared.entries.Act.{Act}
 use Rattle.tsn_journal.specs.declared.entries.What.{What}
-use Rattle.tsn_journal.specs.declared.entries.What.TheVariants.{Made, Undone, Redone, Acted}
+use Rattle.tsn_journal.specs.declared.entries.What.TheVariants.{Made, Undone, Redone, Acted, Settled}
 use Rattle.tsn_journal.specs.declared.entries.Entry.{Entry}
 
 -- how many entries a journal holds at most
@@ -30,12 +30,13 @@ pub record Applied : Type 0 where
 abbrev pub changes : List Applied → List Change
 changes xs = map (λ x. x.change) xs
 
--- the change that an entry of any kind applied; an act applies none
+-- the change that an entry of any kind applied; an act and a settle apply none
 abbrev pub applies : What → Option Change
 applies (Made e) = Some e
 applies (Undone n e) = Some e
 applies (Redone n e) = Some e
 applies (Acted act key now) = None
+applies (Settled upto) = None
 
 -- the number of the entry that it takes back, if it takes one back
 abbrev pub names : What → Option ℕ
@@ -43,6 +44,7 @@ names (Made e) = None
 names (Undone n e) = Some n
 names (Redone n e) = Some n
 names (Acted act key now) = None
+names (Settled upto) = None
 
 -- an act that was asked for, on a key, at the instant that counted
 pub record Asked : Type 0 where
@@ -93,14 +95,44 @@ is_number n (Some m) = m == n
 abbrev pub takes_back : What → Entry → Bool
 takes_back w e = is_number e.number (names w) && is_some ((if is_undo w then adds else undoes) e.what)
 
--- whether one of the later entries takes back e
-abbrev pub is_taken_back : Entry → List Entry → Bool
-is_taken_back e later = list_any (λ w. takes_back w.what e) later
+-- up to which number it settles the entries, and 0 where it settles none
+abbrev pub settles_to : What → ℕ
+settles_to (Settled upto) = upto
+settles_to w = 0
 
--- standing are the Made and Redone entries that no later entry takes back, in number order
+-- it settles none
+abbrev pub IsNoSettle : What → Type 0
+IsNoSettle (Settled upto) = ⊥
+IsNoSettle w = ⊤
+
+-- whether w closes the earlier entry e: it takes it back, or settles it
+abbrev pub closes : What → Entry → Bool
+closes (Settled upto) e = nat_le e.number upto
+closes w e = takes_back w e
+
+-- whether one of the later entries closes e
+abbrev pub is_closed : Entry → List Entry → Bool
+is_closed e later = list_any (λ w. closes w.what e) later
+
+-- standing are the Made and Redone entries that no later entry takes back or settles, in number order
 abbrev pub standing : List Entry → List Applied
 standing [] = []
-standing (e ∷ es) = cons_option (if is_taken_back e es then None else applied adds e) (standing es)
+standing (e ∷ es) = cons_option (if is_closed e es then None else applied adds e) (standing es)
+
+-- up to which number the entries are settled: the greatest that one of them names, and 0 where none does
+abbrev pub settled : List Entry → ℕ
+settled [] = 0
+settled (e ∷ es) = max (settles_to e.what) (settled es)
+
+-- whether e stood until it was settled: of the later entries the first that closes it takes no entry back
+abbrev pub is_settled : Entry → List Entry → Bool
+is_settled e [] = false
+is_settled e (w ∷ later) = if closes w.what e then not (takes_back w.what e) else is_settled e later
+
+-- settled edits are the Made and Redone entries that stood until they were settled, in number order: they belong to nobody
+abbrev pub settled_edits : List Entry → List Applied
+settled_edits [] = []
+settled_edits (e ∷ es) = cons_option (if is_settled e es then applied adds e else None) (settled_edits es)
 
 -- the entries and one more, of the next number
 abbrev pub with_entry : List Entry → ℕ → What → List Entry

@@ -5,7 +5,7 @@ use Rattle.std.specs.Option.{option_and_then, option_or}
 use Rattle.tsn_edit.specs.Changes.{conflicts, room_of}
 use Rattle.tsn_edit.specs.Parts.{Change}
 use Rattle.tsn_journal.specs.declared.entries.Entry.{Entry}
-use Rattle.tsn_journal.specs.Entries.{Applied, applied, applies, collect, is_made, is_taken_back, standing, undoes}
+use Rattle.tsn_journal.specs.Entries.{Applied, applied, applies, collect, is_closed, is_made, standing, undoes}
 
 -- the last element that passes the test
 abbrev pub last_where : {A : Type 0} → (A → Bool) → List A → Option A
@@ -64,11 +64,12 @@ find_conflict_of_others es e = last_where (λ f. not (f.session == e.session) &&
 abbrev pub find_own_in_conflict : List Entry → ℕ → Option Applied
 find_own_in_conflict es s = last_where (λ x. (x.session == s) && is_some (find_conflict_of_others es x)) (standing es)
 
--- whether a session may redo e: an Undone entry of its own that no later entry takes back, with no later edit of the session
+-- whether a session may redo e: an Undone entry of its own that no later entry takes back or settles, with no later edit of the
+-- session
 abbrev pub may_redo : ℕ → Entry → List Entry → Bool
-may_redo s e later = (e.session == s) && (is_some (undoes e.what) && (not (is_taken_back e later) && not (list_any (λ w. (w.session == s) && is_made w.what) later)))
+may_redo s e later = (e.session == s) && (is_some (undoes e.what) && (not (is_closed e later) && not (list_any (λ w. (w.session == s) && is_made w.what) later)))
 
--- the newest Undone entry of a session that comes after its last Made entry and that no Redone entry names
+-- the newest Undone entry of a session that comes after its last Made entry, that no Redone entry names, and that is not settled
 abbrev pub redo_of : List Entry → ℕ → Option Applied
 redo_of [] s = None
 redo_of (e ∷ es) s = option_or (redo_of es s) (if may_redo s e es then applied undoes e else None)

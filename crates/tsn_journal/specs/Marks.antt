@@ -1,4 +1,4 @@
--- How a journal keeps its entries: each with a mark that is on until a later entry takes it back.
+-- How a journal keeps its entries: each with a mark that is on until a later entry takes it back or settles it.
 use Rattle.std.specs.Prelude.{◌≡◌, ℕ, ◌+◌, ◌≤◌, Bool, false, not, ◌||◌, ◌&&◌, is_some, List, [], ◌∷◌, Option, Some, None, ◌==◌, drop, map, length, nat_lt, option_map, if◌then◌else◌, refl}
 use Rattle.std.specs.Option.{option_and_then}
 use Rattle.std.specs.Coded.{Coded, code_by, coded×, coded_list, coded_ℕ}
@@ -8,7 +8,7 @@ use Rattle.tsn_journal.specs.contracts.entries.Entry as entry_row
 use Rattle.tsn_journal.specs.declared.entries.Entry.{Entry}
 use Rattle.tsn_journal.specs.declared.entries.MarkedEntry.{MarkedEntry}
 use Rattle.tsn_journal.specs.declared.entries.What.{What}
-use Rattle.tsn_journal.specs.Entries.{Applied, IsNumbered, added_parts, adds, applied, applies, is_made, is_taken_back, most_entries, takes_back, undoes}
+use Rattle.tsn_journal.specs.Entries.{Applied, IsNumbered, added_parts, adds, applied, applies, closes, is_closed, is_made, most_entries, undoes}
 use Rattle.tsn_journal.specs.Finding.{last_where}
 
 -- what contracts see of a journal: its entries, how many more it certainly has room for, and for how many parts of changes
@@ -29,19 +29,19 @@ abbrev pub added_in : List MarkedEntry → ℕ
 added_in [] = 0
 added_in (m ∷ ms) = added_parts m.entry.what + added_in ms
 
--- each mark is on unless a later entry takes its entry back
+-- each mark is on unless a later entry takes its entry back, or settles it
 abbrev pub AreMarked : List MarkedEntry → Type 0
 AreMarked [] = Unit {0}
-AreMarked (m ∷ ms) = (m.is_open ≡ not (is_taken_back m.entry (entries_of ms))) × AreMarked ms
+AreMarked (m ∷ ms) = (m.is_open ≡ not (is_closed m.entry (entries_of ms))) × AreMarked ms
 
 pub record IsJournal (ms : List MarkedEntry) : Type 0 where
   pub numbered : IsNumbered 1 (entries_of ms)
   pub marked : AreMarked ms
   pub few : length ms ≤ most_entries
 
--- the mark of the entry that w takes back is put off
+-- the marks of the entries that w takes back or settles are put off
 abbrev pub mark_off : What → MarkedEntry → MarkedEntry
-mark_off w m = if takes_back w m.entry then record { entry = m.entry; is_open = false } else m
+mark_off w m = if closes w m.entry then record { entry = m.entry; is_open = false } else m
 
 -- the change of a marked entry, where it stands
 abbrev pub stands : MarkedEntry → Option Applied
@@ -87,6 +87,6 @@ later_of None k = k
 later_of (Some n) None = Some n
 later_of (Some n) (Some k) = Some (if nat_lt n k then k else n)
 
--- whether a search for what a session may redo ends at this entry of its own: an edit, or an Undone entry that nothing took back
+-- whether a search for what a session may redo ends at this entry of its own: an edit, or an Undone entry whose mark is on
 abbrev pub ends_redo : MarkedEntry → Bool
 ends_redo m = is_made m.entry.what || (is_some (undoes m.entry.what) && m.is_open)

@@ -2,7 +2,7 @@
 ghost use Rattle.std.specs.Prelude.{◌≡◌, ◌≤◌, ◌==◌, IfOk, is_some, option_map};
 ghost use Rattle.std.specs.Option.{option_copied};
 ghost use Rattle.tsn_edit.specs.Parts.{most_parts};
-ghost use Rattle.tsn_journal.specs.Entries.{added_parts, adds, applied, applies, is_made, names, takes_back, undoes};
+ghost use Rattle.tsn_journal.specs.Entries.{added_parts, adds, applied, applies, closes, is_made, names, undoes};
 ghost use Rattle.tsn_journal.specs.Marks.{ends_redo, entries_of, is_in_conflict, is_own, stands};
 
 use std::alloc::{AllocError, Global};
@@ -22,7 +22,7 @@ pub enum Act {
     Apply,
 }
 
-/// What an entry did. Changes are of the configuration; an act changes none.
+/// What an entry did. Changes are of the configuration; an act and a settle change none.
 #[derive(Debug, Drop)]
 pub enum What {
     /// An edit was accepted, and this change applied.
@@ -33,10 +33,12 @@ pub enum What {
     Redone { of: u64, change: Change },
     /// An act on the key, at the instant that counted.
     Acted { act: Act, key: Key, now: Instant },
+    /// The entries up to the number `upto` were made final: those that stood are taken back no more.
+    Settled { upto: u64 },
 }
 
 impl What {
-    /// The change that was applied; an act applies none. It takes no memory.
+    /// The change that was applied; an act and a settle apply none. It takes no memory.
     pub fn change(&self) -> Option<&Change>
         ensures { option_copied result ≡ applies self.now }
     {
@@ -44,7 +46,7 @@ impl What {
             What::Made(change) => Some(change),
             What::Undone { change, .. } => Some(change),
             What::Redone { change, .. } => Some(change),
-            What::Acted { .. } => None,
+            What::Acted { .. } | What::Settled { .. } => None,
         }
     }
 
@@ -67,6 +69,7 @@ impl What {
                 key: *key,
                 now: *now,
             },
+            What::Settled { upto } => What::Settled { upto: *upto },
         })
     }
 
@@ -110,15 +113,16 @@ impl What {
         }
     }
 
-    /// Whether this takes back the entry.
-    pub(crate) fn takes_back(&self, entry: &Entry) -> bool
-        ensures { result ≡ takes_back self.now entry.now }
+    /// Whether this takes back the entry, or settles it.
+    pub(crate) fn closes(&self, entry: &Entry) -> bool
+        ensures { result ≡ closes self.now entry.now }
     {
         match self {
             What::Undone { of, .. } => *of == entry.number && entry.what.may_stand(),
             What::Redone { of, .. } => {
                 *of == entry.number && matches!(entry.what, What::Undone { .. })
             }
+            What::Settled { upto } => entry.number <= *upto,
             _ => false,
         }
     }
@@ -190,7 +194,7 @@ fn copied(alloc: Global, marked: &[MarkedEntry]) -> Result<Vec<Entry>, AllocErro
     Ok(copies)
 }
 
-/// An entry with a mark that is on until a later entry takes it back.
+/// An entry with a mark that is on until a later entry takes it back or settles it.
 #[derive(Debug, Drop)]
 pub(crate) struct MarkedEntry {
     pub(crate) entry: Entry,

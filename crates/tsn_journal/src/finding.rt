@@ -2,7 +2,7 @@
 ghost use Rattle.std.specs.Prelude.{◌≡◌, ◌==◌, ◌+◌, ◌<◌, ◌≤◌, ◌⊎◌, ◌&&◌, ◌∷◌, [], Bool, IfOk, IfSome, IsNone, drop, filter, is_some, length, map, option_map};
 ghost use Rattle.std.specs.List.{find};
 ghost use Rattle.std.specs.Option.{option_and_then, option_copied};
-ghost use Rattle.tsn_journal.specs.Entries.{IsNumbered, applies};
+ghost use Rattle.tsn_journal.specs.Entries.{IsNoSettle, IsNumbered, applies};
 ghost use Rattle.tsn_journal.specs.Finding.{last_where};
 ghost use Rattle.tsn_journal.specs.Latest.{latest_of};
 ghost use Rattle.tsn_journal.specs.Index.{IsIndexed, TakesRoom, above, belongs, is_on_any, is_sought};
@@ -277,7 +277,8 @@ pub(crate) fn own_in_conflict(index: &Index, marked: &[MarkedEntry], session: u3
 
 /// Puts off the mark of the entry that is taken back.
 pub(crate) fn put_off(marked: &mut [MarkedEntry], what: &What)
-    requires { IsNumbered 1 (entries_of marked.old) }
+    requires numbered { IsNumbered 1 (entries_of marked.old) }
+    requires no_settle { IsNoSettle what.now }
     ensures { marked.new ≡ map (mark_off what.now) marked.old }
 {
     let Some(of) = what.names() else {
@@ -287,7 +288,7 @@ pub(crate) fn put_off(marked: &mut [MarkedEntry], what: &What)
         return;
     };
     let earlier = &mut marked[place];
-    if what.takes_back(&earlier.entry) {
+    if what.closes(&earlier.entry) {
         earlier.is_open = false;
     }
 }

@@ -126,7 +126,7 @@ impl Index {
                 self.enter_session(marked, number, session, false, true);
                 self.touch_parts(change.parts(), number);
             }
-            What::Acted { .. } => {}
+            What::Acted { .. } | What::Settled { .. } => {}
         }
     }
 

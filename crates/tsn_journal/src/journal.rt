@@ -4,7 +4,7 @@
 ghost use Rattle.std.specs.Prelude.{◌≡◌, ◌*◌, ◌+◌, ◌≤◌, [], IfErr, IfOk, IfSome, IsOk, IsSome, None, OnErr, OnOk, Some, is_some, length, map, option_map};
 ghost use Rattle.std.specs.Option.{option_copied};
 ghost use Rattle.tsn_types.specs.Refusals.{IsLeastOrMemory};
-ghost use Rattle.tsn_journal.specs.Entries.{Applied, added_parts, most_entries, no_room, with_entry};
+ghost use Rattle.tsn_journal.specs.Entries.{Applied, IsNoSettle, added_parts, most_entries, no_room, with_entry};
 ghost use Rattle.tsn_journal.specs.Finding.{entry, find_conflict, find_conflict_of_others, find_own_in_conflict, find_redo_conflict, last_of, own_standing, parts_of_all, redo_of, since, standing_entry, undone_entry};
 
 use crate::entries::{Entries, Entry, MarkedEntry, What};
@@ -96,11 +96,12 @@ impl Journal {
         Ok(())
     }
 
-    /// Puts an entry of the session at the end, in room for one and for the parts that it adds, and answers its number.
-    /// It takes no memory.
+    /// Puts an entry of the session at the end, any but a settle, in room for one and for the parts that it adds, and
+    /// answers its number. It takes no memory.
     pub fn push(&mut self, session: u32, what: What) -> u64
         requires room { 1 ≤ self.old.spare }
         requires parts { added_parts what ≤ self.old.parts }
+        requires no_settle { IsNoSettle what }
         ensures number { result ≡ length self.old.entries + 1 }
         ensures entries { self.new.entries ≡ with_entry self.old.entries session what }
         ensures spare { self.old.spare ≤ self.new.spare + 1 }

@@ -1,6 +1,6 @@
 //! Why a command is refused: a number, a name and, for some causes, what it is about.
 ghost use Rattle.std.specs.Prelude.{◌≡◌};
-ghost use Rattle.tsn_types.specs.Refusals.{number_of, name_of, field_name};
+ghost use Rattle.tsn_types.specs.Refusals.{number_of, name_of, rank_of, field_name};
 ghost use Rattle.tsn_types.specs.declared.refusals.Refusal.TheVariants.{Memory};
 
 use crate::keys::Key;
@@ -125,7 +125,7 @@ pub enum Refusal {
 }
 
 impl Refusal {
-    /// The refusal's number, 1 to 19. Of several causes the first is answered in the order 1 to 16, 19, 17, 18.
+    /// The refusal's number, 1 to 19.
     pub fn number(self) -> u64
         ensures { result ≡ number_of self }
     {
@@ -149,6 +149,19 @@ impl Refusal {
             Refusal::JournalFull => 17,
             Refusal::Memory => 18,
             Refusal::Settled { .. } => 19,
+        }
+    }
+
+    /// The place of a cause in the order in which causes are tested, 1 to 19: of several the one of the least rank is
+    /// answered. The order is that of the numbers, but that 19 comes before 17 and 18.
+    pub fn rank(self) -> u64
+        ensures { result ≡ rank_of self }
+    {
+        match self {
+            Refusal::Settled { .. } => 17,
+            Refusal::JournalFull => 18,
+            Refusal::Memory => 19,
+            _ => self.number(),
         }
     }
 
