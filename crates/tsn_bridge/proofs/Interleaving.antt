@@ -137,7 +137,7 @@ shown_follows s k reply new sound (Some r) done = stays s new sound (sym (state_
 
 acted_follows : (s : State) (n : ℕ) (act : Asked) (k : Key) (now : ℕ) → StateIsSound s → Follows s (acted_state s n act k now)
 acted_follows s n act k now sound = record {
-  sound = sound_quiet s.book.limits s.book.opening s.book.entries n (Acted act k (instant s now)) sound (λ m. refl) refl refl;
+  sound = sound_quiet s.book.limits s.book.opening s.book.entries n (Acted act k (instant s now)) sound tt (λ m. refl) refl refl;
   limits = refl;
   opening = refl;
   sessions = omega arith;

@@ -12,6 +12,7 @@ pub mod Lowering
 pub mod Marking
 pub mod Numbers
 pub mod Rows
+pub mod Settling
 pub mod Sought
 pub mod Standing
 pub mod Telling

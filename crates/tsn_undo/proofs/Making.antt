@@ -12,7 +12,7 @@ use Rattle.tsn_journal.specs.declared.entries.What.TheVariants.{Made}
 use Rattle.tsn_journal.specs.Entries.{applies, changes, collect, standing, undone, with_entry}
 use Rattle.tsn_journal.proofs.Numbers.{last_where_some}
 use Rattle.tsn_undo.specs.Ledger.{Ledger, enter, present}
-use Rattle.tsn_undo.specs.Soundness.{IsSound}
+use Rattle.tsn_undo.specs.Soundness.{IsSound, base}
 use Rattle.tsn_undo.specs.Steps.{Edits, IsFree, LeavesStanding, TakesBack, edit_refusal, standing_without}
 use Rattle.tsn_undo.proofs.Adding.{configuration_push, sound_added}
 use Rattle.tsn_undo.proofs.Free.{undo_free}
@@ -28,7 +28,7 @@ kept_now b sound = end_kept b.limits b.opening (changes (collect applies b.entri
 
 module _ (b : Ledger) (s : ℕ) (batch : List Edit) (sound : SoundLedger b) (fits : Fits b.limits (present b) (change_of (present b) batch)) where
   pub edit_sound : IsSound b.limits b.opening (with_entry b.entries s (Made (change_of (present b) batch)))
-  edit_sound = sound_added b.limits b.opening b.entries s (Made (change_of (present b) batch)) sound (λ n. refl) (change_of (present b) batch) refl refl fits
+  edit_sound = sound_added b.limits b.opening b.entries s (Made (change_of (present b) batch)) sound tt (λ n. refl) (change_of (present b) batch) refl refl fits
 
   pub makes_edit : IsBatch batch → edit_refusal b batch ≡ None → (number : ℕ) (new : Ledger) → number ≡ length b.entries + 1 → new ≡ enter b s (Made (change_of (present b) batch)) → Edits b s batch number new
   makes_edit is admitted number new number_is after = record {
@@ -53,8 +53,8 @@ module _ (b : Ledger) (s of : ℕ) (sound : SoundLedger b) (free : IsFree b s of
       let left : standing (with_entry b.entries s (undone free.newest)) ≡ standing_without b.entries of = undo_step_now.stands ∙ ap (standing_without b.entries) (sym free.of_is) in
       subst (λ (l : Ledger). LeavesStanding l (standing_without b.entries of)) (sym after) (record {
         stands = left;
-        good = subst (λ xs. IsGood b.limits b.opening (changes xs)) left undo_step_now.sound.good;
-        run_is = sym undo_step_now.sound.same ∙ ap (λ xs. run b.opening (changes xs)) left;
+        good = subst (λ xs. IsGood b.limits (base b.opening (with_entry b.entries s (undone free.newest))) (changes xs)) left undo_step_now.sound.good;
+        run_is = sym undo_step_now.sound.same ∙ ap (λ xs. run (base b.opening (with_entry b.entries s (undone free.newest))) (changes xs)) left;
       })
 
   pub makes_undo : (number : ℕ) (new : Ledger) → number ≡ length b.entries + 1 → new ≡ enter b s (undone free.newest) → TakesBack b s number of new

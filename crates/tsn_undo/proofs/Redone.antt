@@ -174,7 +174,7 @@ module _ (b : Ledger) (s of : ℕ) (sound : SoundLedger b) (is : IsRedoable b s 
   redo_change = ap (change_at b.entries) is.of_is ∙ undone_change b.entries is.undone.number is.undone sound.numbered (redo_found 1 s b.entries is.undone sound.numbered is.undone_is).1
 
   pub redo_sound : IsSound b.limits b.opening (with_entry b.entries s (redone is.undone))
-  redo_sound = sound_added b.limits b.opening b.entries s (redone is.undone) sound (λ n. refl) (inverse is.undone.change) refl refl is.fits
+  redo_sound = sound_added b.limits b.opening b.entries s (redone is.undone) sound tt (λ n. refl) (inverse is.undone.change) refl refl is.fits
 
   pub makes_redo : (number : ℕ) (new : Ledger) → number ≡ length b.entries + 1 → new ≡ enter b s (redone is.undone) → Redoes b s number of new
   makes_redo number new number_is after = record {

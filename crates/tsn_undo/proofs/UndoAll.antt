@@ -24,8 +24,9 @@ use Rattle.tsn_journal.proofs.Standing.{standing_change, standing_placed}
 use Rattle.tsn_undo.specs.Commuting.{IsClosed}
 use Rattle.tsn_undo.specs.declared.book.TakingBack.{TakingBack}
 use Rattle.tsn_undo.specs.Ledger.{Ledger, enter, present}
-use Rattle.tsn_undo.specs.Soundness.{IsSound}
+use Rattle.tsn_undo.specs.Soundness.{IsSound, base}
 use Rattle.tsn_undo.specs.UndoAll.{TakesAllBack, conflict_with_others, taking_back, undo_all_cause, undo_all_refusal, with_undone}
+use Rattle.tsn_undo.proofs.Adding.{base_kept}
 use Rattle.tsn_undo.proofs.Commutation.{each_both}
 use Rattle.tsn_undo.proofs.Free.{or_none}
 use Rattle.tsn_undo.proofs.Making.{SoundLedger}
@@ -152,6 +153,10 @@ last_is (a ∷ xs) (b ∷ ys) x y h =
 
 -- ---- the entries after some were taken back, the last ones first
 
+base_taken : (opening : Configuration) (es : List Entry) (s : ℕ) (ys : List Applied) → base opening (with_undone es s ys) ≡ base opening es
+base_taken opening es s [] = refl
+base_taken opening es s (y ∷ ys) = base_kept opening (with_undone es s ys) s (undone y) tt ∙ base_taken opening es s ys
+
 -- the own entries ys were taken back, xs stand still
 pub record IsTaken (l : Limits) (opening : Configuration) (es : List Entry) (s : ℕ) (xs ys : List Applied) : Type 0 where
   pub sound : IsSound l opening (with_undone es s ys)
@@ -272,6 +277,10 @@ module _ (b : Ledger) (s : ℕ) (sound : SoundLedger b) (free : undo_all_refusal
   stands_now : standing all ≡ others_standing b.entries s
   stands_now = sym (filter_both s (standing all) all_taken.mine) ∙ all_taken.others
 
+  -- what is taken back leaves the base
+  same_base : base b.opening all ≡ base b.opening b.entries
+  same_base = base_taken b.opening b.entries s (own_standing b.entries s)
+
   pub makes_all : (count last : ℕ) (new : Ledger) → count ≡ length (own_standing b.entries s) → last ≡ length all → new ≡ record b { entries = all } → TakesAllBack b s count last new
   makes_all count last new count_is last_is after = record {
     free = free;
@@ -279,8 +288,8 @@ module _ (b : Ledger) (s : ℕ) (sound : SoundLedger b) (free : undo_all_refusal
     last_is = last_is ∙ length-taken b.entries s (own_standing b.entries s) ∙ ap (λ n. length b.entries + n) (sym count_is);
     after = after;
     stands = ap (λ (l : Ledger). standing l.entries) after ∙ stands_now;
-    good = subst (λ xs. IsGood b.limits b.opening (changes xs)) stands_now (all_taken.sound).good;
-    map = ap present after ∙ sym (all_taken.sound).same ∙ ap (λ xs. run b.opening (changes xs)) stands_now;
+    good = subst (λ (c : Configuration). IsGood b.limits c (changes (others_standing b.entries s))) same_base (subst (λ xs. IsGood b.limits (base b.opening all) (changes xs)) stands_now (all_taken.sound).good);
+    map = ap present after ∙ sym (all_taken.sound).same ∙ (λ i. run (same_base i) (changes (stands_now i)));
   }
 
 -- ---- the standing entry of a session at a place

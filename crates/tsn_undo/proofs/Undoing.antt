@@ -13,8 +13,9 @@ use Rattle.tsn_journal.specs.Entries.{Applied, applies, changes, collect, standi
 use Rattle.tsn_journal.specs.Finding.{find_conflict, later_than}
 use Rattle.tsn_journal.proofs.Marking.{IsNumbered-with_entry}
 use Rattle.tsn_journal.proofs.Numbers.{append_nil, changes-append, Rises, rises_standing, last_where_none, later_than_rest, left_one, standing_push}
-use Rattle.tsn_undo.specs.Soundness.{IsSound, configuration}
-use Rattle.tsn_undo.proofs.Adding.{applied_push, configuration_push, next}
+use Rattle.tsn_journal.proofs.Settling.{settled_kept}
+use Rattle.tsn_undo.specs.Soundness.{IsSound, base, configuration}
+use Rattle.tsn_undo.proofs.Adding.{applied_push, base_kept, configuration_push, kept_base, next}
 
 pub each_change : (P : Change → Type 0) (xs : List Applied) → AllByRecursion (λ y. P y.change) xs → AllByRecursion P (changes xs)
 each_change P [] h = tt
@@ -44,15 +45,17 @@ pub undo_step : (l : Limits) (opening : Configuration) (es : List Entry) (s : �
 undo_step l opening es s x sound p none =
     let rises : Rises 1 (p.front ++ x ∷ p.rest) = subst (Rises 1) p.is (rises_standing es sound.numbered) in
     let split : changes (standing es) ≡ changes p.front ++ x.change ∷ changes p.rest = ap changes p.is ∙ changes-append p.front (x ∷ p.rest) in
-    let good : IsGood l opening (changes p.front ++ x.change ∷ changes p.rest) = subst (IsGood l opening) split sound.good in
-    let c = run opening (changes p.front) in
-    let front_good = good_front l opening (changes p.front) (x.change ∷ changes p.rest) good in
+    let from = base opening es in
+    let from_now : base opening (with_entry es s (undone x)) ≡ from = base_kept opening es s (undone x) tt in
+    let good : IsGood l from (changes p.front ++ x.change ∷ changes p.rest) = subst (IsGood l from) split sound.good in
+    let c = run from (changes p.front) in
+    let front_good = good_front l from (changes p.front) (x.change ∷ changes p.rest) good in
     let u_is = undoable l c x.change (changes p.rest)
-    (end_kept l opening (changes p.front) sound.kept front_good)
-    (good_rest l opening (changes p.front) (x.change ∷ changes p.rest) good)
+    (end_kept l from (changes p.front) (kept_base l opening es sound) front_good)
+    (good_rest l from (changes p.front) (x.change ∷ changes p.rest) good)
     (none_conflicts l opening es x sound p none) in
     let now : run c (x.change ∷ changes p.rest) ≡ configuration opening es =
-    sym (run-append opening (changes p.front) (x.change ∷ changes p.rest)) ∙ ap (run opening) (sym split) ∙ sound.same in
+    sym (run-append from (changes p.front) (x.change ∷ changes p.rest)) ∙ ap (run from) (sym split) ∙ sound.same in
     let fits : Fits l (configuration opening es) (inverse x.change) = subst (λ (m : Configuration). Fits l m (inverse x.change)) now u_is.fits in
     let log = applied_push es s (undone x) (inverse x.change) refl in
     let after = configuration_push opening es s (undone x) (inverse x.change) refl in
@@ -68,7 +71,9 @@ undo_step l opening es s x sound p none =
         numbered = IsNumbered-with_entry es s (undone x) sound.numbered;
         kept = sound.kept;
         replays = subst (IsGood l opening) (sym log) (good-append l opening (changes (collect applies es)) (inverse x.change ∷ []) sound.replays (fits, tt));
-        good = subst (IsGood l opening) (sym rest_is) (good-append l opening (changes p.front) (changes p.rest) front_good u_is.good);
-        same = ap (run opening) rest_is ∙ run-append opening (changes p.front) (changes p.rest) ∙ sym u_is.same ∙ ap (λ (m : Configuration). after_change m (inverse x.change)) now ∙ sym after;
+        settled = subst (λ ys. IsGood l opening (changes ys)) (sym (settled_kept es (next es s (undone x)) tt)) sound.settled;
+        good = subst (λ (b : Configuration). IsGood l b (changes (standing (with_entry es s (undone x))))) (sym from_now)
+            (subst (IsGood l from) (sym rest_is) (good-append l from (changes p.front) (changes p.rest) front_good u_is.good));
+        same = (λ i. run (from_now i) (rest_is i)) ∙ run-append from (changes p.front) (changes p.rest) ∙ sym u_is.same ∙ ap (λ (m : Configuration). after_change m (inverse x.change)) now ∙ sym after;
       };
     }

@@ -10,7 +10,7 @@ pub append-requires-clause-sound : goal.append-requires-clause-sound
 append-requires-clause-sound c =
     let b = c.args.self.now.ledger in
     let sound : SoundLedger b = subst (λ (a : LedgerWithRoom). SoundLedger a.ledger) c.self.view_is c.self.invariant.sound in
-    sound_quiet b.limits b.opening b.entries c.args.session (Acted c.args.act c.args.key c.args.now) sound (λ n. refl) refl refl
+    sound_quiet b.limits b.opening b.entries c.args.session (Acted c.args.act c.args.key c.args.now) sound tt (λ n. refl) refl refl
 
 pub returns-clause-map : goal.returns-clause-map
 returns-clause-map c =
