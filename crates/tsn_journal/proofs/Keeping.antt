@@ -10,11 +10,13 @@ use Rattle.tsn_journal.specs.Kept.{IsKept}
 use Rattle.tsn_journal.specs.Latest.{latest_of}
 use Rattle.tsn_journal.specs.Touched.{NewestTold, Tells, TellsSame}
 use Rattle.std.specs.List.{slice_get}
-use Rattle.tsn_journal.specs.Entries.{IsNumbered, added_parts}
-use Rattle.tsn_journal.specs.Marks.{IsJournal, entries_of, mark_off}
+use Rattle.std.specs.Prelude.{max}
+use Rattle.tsn_journal.specs.Entries.{IsNumbered, added_parts, settled, settles_to}
+use Rattle.tsn_journal.specs.Marks.{AreOff, IsJournal, Log, entries_of, mark_off}
+use Rattle.tsn_journal.proofs.Closing.{off_pushed, settled_push}
 use Rattle.tsn_journal.proofs.Indexing.{indexed_more, indexed_off}
 use Rattle.tsn_journal.proofs.Links.{end_at, some_of}
-use Rattle.tsn_journal.proofs.Marking.{entries_stay, journal_push, new_entry}
+use Rattle.tsn_journal.proofs.Marking.{entries_pushed, entries_stay, journal_push, new_entry}
 use Rattle.tsn_journal.proofs.Telling.{tells_more, tells_same}
 
 -- the index says the same where it has the same places and the same latest ones
@@ -32,8 +34,8 @@ no_index a places latest = record {
       (subst (λ j. IsLast g (belongs g) [] [] j 1) (sym (latest g)) (record { within = omega arith; group = refl; none_later = λ i m low high at. (cc) }));
 }
 
-module _ (ms : List MarkedEntry) (len capacity : ℕ) (a : Index) (room parts : ℕ) (is : IsKept ms len capacity a room parts) (ns : List MarkedEntry) (b : Index) (same : ns ≡ ms) (places : b.places.items ≡ a.places.items) (latest : (g : Group) → latest_of b.latest g ≡ latest_of a.latest g) (tells : TellsSame a b) where
-  pub kept_reserved : (len' capacity' room' parts' : ℕ) → len' ≡ len → len' + room' ≤ capacity' → len' + room' ≤ 65536 → parts' ≤ 1048576 → HasRoom (places_for room' parts') b → IsKept ns len' capacity' b room' parts'
+module _ (ms : List MarkedEntry) (len capacity : ℕ) (a : Index) (room parts upto : ℕ) (is : IsKept ms len capacity a room parts upto) (ns : List MarkedEntry) (b : Index) (same : ns ≡ ms) (places : b.places.items ≡ a.places.items) (latest : (g : Group) → latest_of b.latest g ≡ latest_of a.latest g) (tells : TellsSame a b) where
+  pub kept_reserved : (len' capacity' room' parts' : ℕ) → len' ≡ len → len' + room' ≤ capacity' → len' + room' ≤ 65536 → parts' ≤ 1048576 → HasRoom (places_for room' parts') b → IsKept ns len' capacity' b room' parts' upto
   kept_reserved len' capacity' room' parts' as_many entries few few_parts places' = record {
     journal = subst IsJournal (sym same) is.journal;
     indexed = subst (λ xs. IsIndexed xs b) (sym same) (indexed_same ms a b places latest is.indexed);
@@ -43,6 +45,9 @@ module _ (ms : List MarkedEntry) (len capacity : ℕ) (a : Index) (room parts : 
     few_parts = few_parts;
     few_places = omega (arith, ap length places, is.few_places, as_many);
     places = places';
+    settled = is.settled ∙ ap (λ xs. settled (entries_of xs)) (sym same);
+    settled_there = omega (arith, is.settled_there, as_many);
+    off = subst (AreOff upto) (sym same) is.off;
   }
 
 pub still_room : (n : ℕ) (a b : Index) → TakesNoRoom a b → HasRoom n a → HasRoom n b
@@ -83,9 +88,9 @@ module _ (w : What) (s : ℕ) (ms ns : List MarkedEntry) (pushed : ns ≡ map (m
   pub pushed_few : length ms + 1 ≤ 65536 → length ns ≤ 65536
   pushed_few h = omega (arith, ap length pushed, length-append (map (mark_off w) ms) (new_entry ms s w ∷ []), length-map ms (mark_off w), h)
 
-  pub kept_pushed : (len capacity len' capacity' room parts k : ℕ) (a b : Index) → 1 ≤ room → k ≤ parts → k ≤ 16 → IsKept ms len capacity a room parts → length ms ≡ len → len' ≡ len + 1 → capacity' ≡ capacity → IsIndexed ns b → Tells (entries_of ns) b
-      → TakesRoom (places_for 1 k) a b → IsKept ns len' capacity' b (room - 1) (parts - k)
-  kept_pushed len capacity len' capacity' room parts k a b some fewer wide is count longer same indexed tells takes = record {
+  pub kept_pushed : (len capacity len' capacity' room parts k upto now : ℕ) (a b : Index) → 1 ≤ room → k ≤ parts → k ≤ 16 → IsKept ms len capacity a room parts upto → settles_to w ≤ length ms → now ≡ max upto (settles_to w) → length ms ≡ len → len' ≡ len + 1 → capacity' ≡ capacity → IsIndexed ns b → Tells (entries_of ns) b
+      → TakesRoom (places_for 1 k) a b → IsKept ns len' capacity' b (room - 1) (parts - k) now
+  kept_pushed len capacity len' capacity' room parts k upto now a b some fewer wide is there now_is count longer same indexed tells takes = record {
     journal = journal_push ms s w ns is.journal (omega (arith, is.few)) pushed;
     indexed = indexed;
     tells = tells;
@@ -94,6 +99,9 @@ module _ (w : What) (s : ℕ) (ms ns : List MarkedEntry) (pushed : ns ≡ map (m
     few_parts = omega (arith, is.few_parts);
     few_places = omega (arith, is.few_places, takes.places.items);
     places = less_room room parts k a b some fewer takes is.places;
+    settled = now_is ∙ ap (λ n. max n (settles_to w)) is.settled ∙ sym (settled_push (entries_of ms) (record { number = length (entries_of ms) + 1; session = s; what = w })) ∙ sym (ap settled (entries_pushed ms s w)) ∙ ap (λ xs. settled (entries_of xs)) (sym pushed);
+    settled_there = omega (arith, is.settled_there, there, count, longer);
+    off = subst (λ n. AreOff n ns) (sym now_is) (subst (AreOff (max upto (settles_to w))) (sym pushed) (off_pushed w upto ms (new_entry ms s w) is.journal.numbered (omega (arith, is.settled_there, count)) there is.off));
   }
 
   newest_is : slice_get ns (length ns - 1) ≡ Some (new_entry ms s w)
@@ -116,6 +124,10 @@ module _ (w : What) (s : ℕ) (ms ns : List MarkedEntry) (pushed : ns ≡ map (m
       let count : length ns ≡ length (map (mark_off w) ms) + 1 = ap length pushed ∙ length-append (map (mark_off w) ms) (new_entry ms s w ∷ []) in
       let last : slice_get ns (length ns - 1) ≡ Some (new_entry ms s w) = ap (λ xs. slice_get xs (length ns - 1)) pushed ∙ end_at (map (mark_off w) ms) (new_entry ms s w) (length ns - 1) (omega (arith, count)) in
       ap (λ (x : MarkedEntry). added_parts x.entry.what) (some_of _ _ (sym at ∙ last))
+
+-- the number that an entry settles to is there, as the view says it
+pub settles_there : (w : What) (ms : List MarkedEntry) (l k : Log) → k ≡ l → entries_of ms ≡ k.entries → settles_to w ≤ length l.entries → settles_to w ≤ length ms
+settles_there w ms l k view is h = omega (arith, h, ap (λ (x : Log). length x.entries) view, ap length is, length-map ms (λ (m : MarkedEntry). m.entry))
 
 pub room_for_one : (n p k : ℕ) (a : Index) → 1 ≤ n → k ≤ p → HasRoom (places_for n p) a → HasRoom (places_for 1 k) a
 room_for_one n p k a some fewer h = record {

@@ -1,4 +1,5 @@
 pub mod Blocked
+pub mod Closing
 pub mod Collecting
 pub mod Conflicts
 pub mod Entering

@@ -1,14 +1,15 @@
 -- How a journal keeps its entries.
-use Rattle.std.specs.Prelude.{ℕ, ◌+◌, ◌*◌, ◌≤◌, List, length}
+use Rattle.std.specs.Prelude.{◌≡◌, ℕ, ◌+◌, ◌*◌, ◌≤◌, List, length}
 use Rattle.tsn_journal.specs.declared.entries.MarkedEntry.{MarkedEntry}
 use Rattle.tsn_journal.specs.declared.index.Index.{Index}
-use Rattle.tsn_journal.specs.Entries.{most_entries}
+use Rattle.tsn_journal.specs.Entries.{most_entries, settled}
 use Rattle.tsn_journal.specs.Index.{HasRoom, IsIndexed, places_for}
-use Rattle.tsn_journal.specs.Marks.{IsJournal, entries_of}
+use Rattle.tsn_journal.specs.Marks.{AreOff, IsJournal, entries_of}
 use Rattle.tsn_journal.specs.Touched.{Tells}
 
--- with all in the index and told by its rows, and with room for as many entries and parts more as it says
-pub record IsKept (ms : List MarkedEntry) (len capacity : ℕ) (index : Index) (room parts : ℕ) : Type 0 where
+-- with all in the index and told by its rows, with room for as many entries and parts more as it says, and settled up to the
+-- number that it says
+pub record IsKept (ms : List MarkedEntry) (len capacity : ℕ) (index : Index) (room parts upto : ℕ) : Type 0 where
   pub journal : IsJournal ms
   pub indexed : IsIndexed ms index
   pub tells : Tells (entries_of ms) index
@@ -17,3 +18,6 @@ pub record IsKept (ms : List MarkedEntry) (len capacity : ℕ) (index : Index) (
   pub few_parts : parts ≤ 16 * most_entries
   pub few_places : length index.places.items ≤ 50 * len
   pub places : HasRoom (places_for room parts) index
+  pub settled : upto ≡ settled (entries_of ms)
+  pub settled_there : upto ≤ len
+  pub off : AreOff upto ms

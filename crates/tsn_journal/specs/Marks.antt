@@ -1,5 +1,5 @@
 -- How a journal keeps its entries: each with a mark that is on until a later entry takes it back or settles it.
-use Rattle.std.specs.Prelude.{◌≡◌, ℕ, ◌+◌, ◌≤◌, Bool, false, not, ◌||◌, ◌&&◌, is_some, List, [], ◌∷◌, Option, Some, None, ◌==◌, drop, map, length, nat_lt, option_map, if◌then◌else◌, refl}
+use Rattle.std.specs.Prelude.{◌≡◌, ℕ, zero, suc, ◌+◌, ◌≤◌, Bool, false, not, ◌||◌, ◌&&◌, is_some, List, [], ◌∷◌, Option, Some, None, ◌==◌, drop, map, length, nat_lt, option_map, if◌then◌else◌, refl}
 use Rattle.std.specs.Option.{option_and_then}
 use Rattle.std.specs.Coded.{Coded, code_by, coded×, coded_list, coded_ℕ}
 use Rattle.tsn_edit.specs.Changes.{conflicts}
@@ -42,6 +42,12 @@ pub record IsJournal (ms : List MarkedEntry) : Type 0 where
 -- the marks of the entries that w takes back or settles are put off
 abbrev pub mark_off : What → MarkedEntry → MarkedEntry
 mark_off w m = if closes w m.entry then record { entry = m.entry; is_open = false } else m
+
+-- the marks of the first n are off
+abbrev pub AreOff : ℕ → List MarkedEntry → Type 0
+AreOff zero ms = Unit {0}
+AreOff (suc n) [] = Unit {0}
+AreOff (suc n) (m ∷ ms) = (m.is_open ≡ false) × AreOff n ms
 
 -- the change of a marked entry, where it stands
 abbrev pub stands : MarkedEntry → Option Applied

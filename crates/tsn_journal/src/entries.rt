@@ -2,7 +2,7 @@
 ghost use Rattle.std.specs.Prelude.{◌≡◌, ◌≤◌, ◌==◌, IfOk, is_some, option_map};
 ghost use Rattle.std.specs.Option.{option_copied};
 ghost use Rattle.tsn_edit.specs.Parts.{most_parts};
-ghost use Rattle.tsn_journal.specs.Entries.{added_parts, adds, applied, applies, closes, is_made, names, undoes};
+ghost use Rattle.tsn_journal.specs.Entries.{added_parts, adds, applied, applies, closes, is_made, names, settles_to, undoes};
 ghost use Rattle.tsn_journal.specs.Marks.{ends_redo, entries_of, is_in_conflict, is_own, stands};
 
 use std::alloc::{AllocError, Global};
@@ -110,6 +110,16 @@ impl What {
             What::Undone { of, .. } => Some(*of),
             What::Redone { of, .. } => Some(*of),
             _ => None,
+        }
+    }
+
+    /// Up to which number this settles the entries, and 0 where it settles none.
+    pub(crate) fn settles_to(&self) -> u64
+        ensures { result ≡ settles_to self.now }
+    {
+        match self {
+            What::Settled { upto } => *upto,
+            _ => 0,
         }
     }
 

@@ -2,14 +2,15 @@
 ghost use Rattle.std.specs.Prelude.{◌≡◌, ◌==◌, ◌+◌, ◌<◌, ◌≤◌, ◌⊎◌, ◌&&◌, ◌∷◌, [], Bool, IfOk, IfSome, IsNone, drop, filter, is_some, length, map, option_map};
 ghost use Rattle.std.specs.List.{find};
 ghost use Rattle.std.specs.Option.{option_and_then, option_copied};
-ghost use Rattle.tsn_journal.specs.Entries.{IsNoSettle, IsNumbered, applies};
+ghost use Rattle.tsn_journal.specs.Entries.{IsNoSettle, IsNumbered, applies, settles_to};
 ghost use Rattle.tsn_journal.specs.Finding.{last_where};
 ghost use Rattle.tsn_journal.specs.Latest.{latest_of};
 ghost use Rattle.tsn_journal.specs.Index.{IsIndexed, TakesRoom, above, belongs, is_on_any, is_sought};
-ghost use Rattle.tsn_journal.specs.Marks.{conflict_after, conflict_of_others, entries_of, is_in_conflict, is_own, later_of, mark_off, newest_blocked, stands};
+ghost use Rattle.tsn_journal.specs.Marks.{AreOff, conflict_after, conflict_of_others, entries_of, is_in_conflict, is_own, later_of, mark_off, newest_blocked, stands};
 ghost use Rattle.tsn_journal.specs.Tests.{Tests};
 ghost use Rattle.tsn_journal.specs.Touched.{TellsSame};
 ghost use Rattle.tsn_journal.specs.declared.entries.MarkedEntry.{MarkedEntry as AnyEntry};
+ghost use Rattle.tsn_journal.specs.declared.entries.What.TheVariants.{Settled};
 
 use crate::entries::{Entry, MarkedEntry, What};
 use crate::groups::{Group, refs_of};
@@ -275,8 +276,36 @@ pub(crate) fn own_in_conflict(index: &Index, marked: &[MarkedEntry], session: u3
     }
 }
 
-/// Puts off the mark of the entry that is taken back.
-pub(crate) fn put_off(marked: &mut [MarkedEntry], what: &What)
+/// Puts off the marks of the entries that are taken back or settled, where those of the first ones up to `settled` are off
+/// already.
+pub(crate) fn put_off(marked: &mut [MarkedEntry], what: &What, settled: u64)
+    requires numbered { IsNumbered 1 (entries_of marked.old) }
+    requires off { AreOff settled marked.old }
+    requires there { settles_to what.now ≤ length marked.old }
+    ensures { marked.new ≡ map (mark_off what.now) marked.old }
+{
+    match what {
+        What::Settled { upto } => put_off_up_to(marked, settled as usize, *upto as usize),
+        _ => put_off_one(marked, what),
+    }
+}
+
+/// Puts off the marks of the entries up to the number, where those of the first ones are off already.
+fn put_off_up_to(marked: &mut [MarkedEntry], first: usize, upto: usize)
+    requires numbered { IsNumbered 1 (entries_of marked.old) }
+    requires off { AreOff first marked.old }
+    requires there { upto ≤ length marked.old }
+    ensures { marked.new ≡ map (mark_off (Settled upto)) marked.old }
+{
+    let mut place = first;
+    'each: while place < upto {
+        marked[place].is_open = false;
+        place += 1;
+    }
+}
+
+/// Puts off the mark of the entry that is taken back, if one is.
+fn put_off_one(marked: &mut [MarkedEntry], what: &What)
     requires numbered { IsNumbered 1 (entries_of marked.old) }
     requires no_settle { IsNoSettle what.now }
     ensures { marked.new ≡ map (mark_off what.now) marked.old }
@@ -293,18 +322,40 @@ pub(crate) fn put_off(marked: &mut [MarkedEntry], what: &What)
     }
 }
 
-/// Sets the newest places of groups back where the entry of the number, which was taken back, has left them.
-pub(crate) fn leave(index: &mut Index, marked: &[MarkedEntry], taken_back: Option<u64>)
+/// Sets the newest places of groups back where entries have left them: the one of the number, if one was taken back, and
+/// those behind the first ones, up to the number that was settled.
+pub(crate) fn leave(
+    index: &mut Index,
+    marked: &[MarkedEntry],
+    taken_back: Option<u64>,
+    first: usize,
+    upto: usize,
+)
+    requires index { IsIndexed marked.now index.old }
+    requires numbered { IsNumbered 1 (entries_of marked.now) }
+    requires there { upto ≤ length marked.now }
+    ensures index { IsIndexed marked.now index.new }
+    ensures tells { TellsSame index.old index.new }
+    ensures room { TakesRoom 0 index.old index.new }
+{
+    leave_one(index, marked, taken_back);
+    for place in first..upto {
+        index.leave(marked, &marked[place].entry);
+    }
+}
+
+/// The same for the entry of the number, if there is one.
+fn leave_one(index: &mut Index, marked: &[MarkedEntry], number: Option<u64>)
     requires index { IsIndexed marked.now index.old }
     requires numbered { IsNumbered 1 (entries_of marked.now) }
     ensures index { IsIndexed marked.now index.new }
     ensures tells { TellsSame index.old index.new }
     ensures room { TakesRoom 0 index.old index.new }
 {
-    let Some(number) = taken_back else {
+    let Some(number) = number else {
         return;
     };
-    if let Some(taken_back) = at(marked, number) {
-        index.leave(marked, &taken_back.entry);
+    if let Some(found) = at(marked, number) {
+        index.leave(marked, &found.entry);
     }
 }

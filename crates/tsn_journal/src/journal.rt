@@ -4,7 +4,7 @@
 ghost use Rattle.std.specs.Prelude.{◌≡◌, ◌*◌, ◌+◌, ◌≤◌, [], IfErr, IfOk, IfSome, IsOk, IsSome, None, OnErr, OnOk, Some, is_some, length, map, option_map};
 ghost use Rattle.std.specs.Option.{option_copied};
 ghost use Rattle.tsn_types.specs.Refusals.{IsLeastOrMemory};
-ghost use Rattle.tsn_journal.specs.Entries.{Applied, IsNoSettle, added_parts, most_entries, no_room, with_entry};
+ghost use Rattle.tsn_journal.specs.Entries.{Applied, added_parts, most_entries, no_room, settled, settles_to, with_entry};
 ghost use Rattle.tsn_journal.specs.Finding.{entry, find_conflict, find_conflict_of_others, find_own_in_conflict, find_redo_conflict, last_of, own_standing, parts_of_all, redo_of, since, standing_entry, undone_entry};
 
 use crate::entries::{Entries, Entry, MarkedEntry, What};
@@ -31,6 +31,8 @@ pub struct Journal {
     room: usize,
     /// For how many parts of their changes there are places.
     parts: usize,
+    /// Up to which number the entries are settled.
+    settled: u64,
 }
 
 impl Model for Journal {
@@ -44,7 +46,7 @@ impl Model for Journal {
 
     ghost view = { λ a. record { entries = entries_of a.marked.items; spare = a.room; parts = a.parts } };
 
-    ghost invariant = { λ a. IsKept a.marked.items (vec_len a.marked) (vec_capacity a.marked) a.index a.room a.parts };
+    ghost invariant = { λ a. IsKept a.marked.items (vec_len a.marked) (vec_capacity a.marked) a.index a.room a.parts a.settled };
 }
 
 impl Journal {
@@ -57,6 +59,7 @@ impl Journal {
             index: Index::new(alloc),
             room: 0,
             parts: 0,
+            settled: 0,
         }
     }
 
@@ -96,19 +99,20 @@ impl Journal {
         Ok(())
     }
 
-    /// Puts an entry of the session at the end, any but a settle, in room for one and for the parts that it adds, and
-    /// answers its number. It takes no memory.
+    /// Puts an entry of the session at the end, in room for one and for the parts that it adds, and answers its number. One
+    /// that settles names an entry that is there, or none. It takes no memory.
     pub fn push(&mut self, session: u32, what: What) -> u64
         requires room { 1 ≤ self.old.spare }
         requires parts { added_parts what ≤ self.old.parts }
-        requires no_settle { IsNoSettle what }
+        requires settles { settles_to what ≤ length self.old.entries }
         ensures number { result ≡ length self.old.entries + 1 }
         ensures entries { self.new.entries ≡ with_entry self.old.entries session what }
         ensures spare { self.old.spare ≤ self.new.spare + 1 }
         ensures parts { self.old.parts ≤ self.new.parts + added_parts what }
     {
         let parts = what.added_parts();
-        put_off(&mut self.marked, &what);
+        let settled = self.settled.max(what.settles_to());
+        put_off(&mut self.marked, &what, self.settled);
         let number = self.marked.len() as u64 + 1;
         let taken_back = what.names();
         self.marked.push_reserved(MarkedEntry {
@@ -120,10 +124,24 @@ impl Journal {
             is_open: true,
         });
         self.index.enter(&self.marked, parts);
-        leave(&mut self.index, &self.marked, taken_back);
+        leave(
+            &mut self.index,
+            &self.marked,
+            taken_back,
+            self.settled as usize,
+            settled as usize,
+        );
+        self.settled = settled;
         self.room -= 1;
         self.parts -= parts;
         number
+    }
+
+    /// Up to which number the entries are settled, and 0 where none is. It takes no memory.
+    pub fn settled(&self) -> u64
+        ensures { result ≡ settled self.now.entries }
+    {
+        self.settled
     }
 
     /// The entry of the number, none where there is none. It takes no memory.

@@ -3,6 +3,7 @@ pub mod AtOnce
 pub mod Free
 pub mod Making
 pub mod Rewinding
+pub mod Settled
 pub mod Undoing
 pub mod Commutation
 pub mod Redone

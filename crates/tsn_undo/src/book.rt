@@ -13,7 +13,7 @@ ghost use Rattle.tsn_edit.specs.Configuration.{IsWellKept};
 ghost use Rattle.tsn_edit.specs.Parts.{Change as AnyChange, inverse};
 ghost use Rattle.tsn_edit.specs.Runs.{run, IsGood};
 ghost use Rattle.tsn_journal.specs.declared.entries.What.TheVariants.{Acted, Undone};
-ghost use Rattle.tsn_journal.specs.Entries.{IsNoSettle, Applied, applies, changes, most_entries, no_room, standing, with_entry};
+ghost use Rattle.tsn_journal.specs.Entries.{Applied, applies, changes, most_entries, no_room, settles_to, standing, with_entry};
 ghost use Rattle.tsn_journal.specs.Finding.{change_at};
 ghost use Rattle.tsn_undo.specs.Ledger.{Holds, Takes, base_of, enter, present};
 ghost use Rattle.tsn_undo.specs.Soundness.{IsSound};
@@ -324,7 +324,7 @@ impl Book {
     pub(crate) fn append(&mut self, session: u32, what: What, change: Option<Change>) -> u64
         requires room { Holds self.old.room 1 (option_map_or room_of change 0) }
         requires applies { applies what ≡ change }
-        requires no_settle { IsNoSettle what }
+        requires settles { settles_to what ≤ length self.old.ledger.entries }
         requires fits { IfSome change (λ e. Fits self.old.ledger.limits (present self.old.ledger) e) }
         requires sound { IsSound self.old.ledger.limits self.old.ledger.opening (with_entry self.old.ledger.entries session what) }
         ensures number { result ≡ length self.old.ledger.entries + 1 }

@@ -9,4 +9,5 @@
 pub mod book;
 pub mod laws;
 mod redo;
+mod settling;
 mod undo_all;

@@ -1,10 +1,10 @@
-use Rattle.std.proofs.Common.{◌≤◌, sym, ◌∙◌, ap, subst, drop, length, map, add-zero, arith}
+use Rattle.std.proofs.Common.{◌≤◌, refl, sym, ◌∙◌, ap, subst, drop, length, map, add-zero, arith, max}
 use Rattle.tsn_journal.specs.Entries.{IsNumbered, added_parts, with_entry}
 use Rattle.tsn_journal.specs.Index.{IsIndexed, IsIndexedButNewest, NewestAdds, TakesRoom, places_for}
 use Rattle.tsn_journal.specs.Marks.{Log, entries_of, mark_off}
 use Rattle.std.specs.Vec.{vec_capacity, vec_len}
 use Rattle.tsn_journal.proofs.Indexing.{takes_more}
-use Rattle.tsn_journal.proofs.Keeping.{kept_pushed, pushed_few, pushed_adds, pushed_index, pushed_numbered, pushed_some, pushed_tells, room_for_one}
+use Rattle.tsn_journal.proofs.Keeping.{kept_pushed, pushed_few, pushed_adds, pushed_index, pushed_numbered, pushed_some, pushed_tells, room_for_one, settles_there}
 use Rattle.tsn_journal.proofs.Marking.{entries_pushed, pushed_items}
 use Rattle.tsn_journal.proofs.Telling.{tells_same}
 use Rattle.tsn_journal.specs.Touched.{NewestTold}
@@ -76,10 +76,10 @@ invariant_of-self c =
     kept_pushed c.args.what c.args.session ms c.push_reserved.new.self.items
     (pushed_items c.args.what c.args.session c.self.inside.marked.len c.len.result ms (drop (length c.put_off.new.marked) ms) c.put_off.new.marked c.push_reserved.new.self.items same c.len.ensures
     (c.put_off.ensures ∙ ap (map (mark_off c.args.what)) c.deref_mut.ensures.value) c.push_reserved.ensures.items)
-    (vec_len c.self.inside.marked) (vec_capacity c.self.inside.marked) _ _ c.self.inside.room c.self.inside.parts c.added_parts-parts.result c.self.inside.index c.leave.new.index
+    (vec_len c.self.inside.marked) (vec_capacity c.self.inside.marked) _ _ c.self.inside.room c.self.inside.parts c.added_parts-parts.result c.self.inside.settled c.max-settled.result c.self.inside.index c.leave.new.index
     (subst (λ (l : Log). 1 ≤ l.spare) (sym c.self.view_is) c.requires.room)
     (subst (λ (l : Log). c.added_parts-parts.result ≤ l.parts) (sym c.self.view_is) (omega (arith, c.added_parts-parts.ensures.parts, c.requires.parts)))
-    c.added_parts-parts.ensures.few c.self.invariant same c.push_reserved.ensures.len c.push_reserved.ensures.capacity
+    c.added_parts-parts.ensures.few c.self.invariant (settles_there c.args.what ms _ _ c.self.view_is refl c.requires.settles) (c.max-settled.ensures ∙ ap (max c.self.inside.settled) c.settles_to.ensures) same c.push_reserved.ensures.len c.push_reserved.ensures.capacity
     (subst (λ xs. IsIndexed xs c.leave.new.index) c.deref-2.ensures.value c.leave.ensures.index)
     (tells_same (entries_of c.push_reserved.new.self.items) c.enter.new.self c.leave.new.index c.leave.ensures.tells
     (pushed_tells c.args.what c.args.session ms c.push_reserved.new.self.items

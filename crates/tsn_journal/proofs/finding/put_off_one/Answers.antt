@@ -1,6 +1,6 @@
 use Rattle.std.proofs.Common.{◌+◌, ◌<◌, ◌≤◌, ◌⊎◌, inl, inr, refl, sym, ◌∙◌, true, false, arith, length}
 use Rattle.tsn_journal.proofs.Marking.{all_stay, out_of_reach, set_at}
-use Rattle.tsn_journal.proofs.finding.put_off.Goals as goal
+use Rattle.tsn_journal.proofs.finding.put_off_one.Goals as goal
 
 pub returns-in_default : goal.returns-in_default
 returns-in_default c = sym (all_stay c.args.what.now c.args.marked.now c.requires.no_settle (sym c.names.ensures ∙ c.in_default.is))
