@@ -20,7 +20,7 @@ use Rattle.tsn_schedule.specs.Kept.{Kept, fresh}
 use Rattle.tsn_schedule.specs.Stands.{StandsFor}
 use Rattle.tsn_schedule.proofs.Keeps.{fresh_stands}
 use Rattle.tsn_journal.specs.declared.entries.What.{What}
-use Rattle.tsn_journal.specs.declared.entries.What.TheVariants.{Made, Undone, Redone, Acted}
+use Rattle.tsn_journal.specs.declared.entries.What.TheVariants.{Made, Undone, Redone, Acted, Settled}
 use Rattle.tsn_journal.specs.declared.entries.Entry.{Entry}
 use Rattle.tsn_journal.specs.Entries.{applies}
 use Rattle.tsn_undo.specs.Ledger.{Ledger, enter, present}
@@ -41,6 +41,7 @@ applied_entry admin k o (Made f) e is = let same : f ≡ e = cc in ap (λ (g : C
 applied_entry admin k o (Undone n f) e is = let same : f ≡ e = cc in ap (λ (g : Change). after_part o (part_of k (parts g))) same
 applied_entry admin k o (Redone n f) e is = let same : f ≡ e = cc in ap (λ (g : Change). after_part o (part_of k (parts g))) same
 applied_entry admin k o (Acted act key a) e is = absurd (cc)
+applied_entry admin k o (Settled upto) e is = absurd (cc)
 
 -- a row of the table of runners
 module _ {E : Type 0} (t : FinMap nat_cmp (Kept E)) (m n : ℕ) (o : Object E) (k : Kept E) (h : (k : Kept E) → get t n ≡ Some k → StandsFor k o.acts) where

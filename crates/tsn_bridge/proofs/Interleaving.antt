@@ -20,7 +20,7 @@ use Rattle.tsn_journal.specs.Entries.{Applied, no_room, redone, undone}
 use Rattle.tsn_journal.specs.Finding.{find_redo_conflict, last_of, own_standing, redo_of, since}
 use Rattle.tsn_undo.specs.Ledger.{Ledger, present}
 use Rattle.tsn_undo.specs.Soundness.{IsSound}
-use Rattle.tsn_undo.proofs.Adding.{sound_quiet}
+use Rattle.tsn_undo.proofs.Adding.{sound_quiet, sound_settled}
 use Rattle.tsn_journal.specs.declared.entries.Act.{Act as Asked}
 use Rattle.tsn_journal.specs.declared.entries.Act.TheVariants as asked
 use Rattle.tsn_journal.specs.declared.entries.What.TheVariants.{Acted}
@@ -42,6 +42,7 @@ use Rattle.tsn_bridge.specs.declared.reply.Reply.TheVariants.{Counters, Framed, 
 use Rattle.tsn_bridge.specs.Reads.{list_rule, show_rule, since_rule}
 use Rattle.tsn_bridge.specs.Sessions.{hello_rule}
 use Rattle.tsn_bridge.specs.Edits.{AllowsRedo, changed_state, edit_rule, next, redo_rule, undo_all_rule, undo_rule}
+use Rattle.tsn_bridge.specs.Settling.{settle_rule, settled_state}
 use Rattle.tsn_bridge.specs.Histories.{AreInRange, CommandInRange, Leads, StateIsSound, Answered, edits_of}
 use Rattle.tsn_bridge.specs.Machine.{Step}
 use Rattle.tsn_bridge.specs.Rule.{Allows, Rule, is_given}
@@ -143,6 +144,14 @@ acted_follows s n act k now sound = record {
   sessions = omega arith;
 }
 
+settled_follows : (s : State) (n upto : ℕ) → StateIsSound s → Follows s (settled_state s n upto)
+settled_follows s n upto sound = record {
+  sound = sound_settled s.book.limits s.book.opening s.book.entries n upto sound;
+  limits = refl;
+  opening = refl;
+  sessions = omega arith;
+}
+
 -- a step that leaves the book
 looked_follows : {A : Type 0} (s : State) (reply : Reply) (new : State) (f : A → Reply × State) → StateIsSound s → ((x : A) → (f x).1.book ≡ s.book) → ((x : A) → (f x).1.sessions ≡ s.sessions) → (o : Option A) → ◌≡◌ {A = Option (Reply × State)} (option_map f o) (Some (reply, new)) → Follows s new
 looked_follows s reply new f sound same given None done = (cc)
@@ -163,6 +172,7 @@ follows s n (commands.Batch batch) reply new sound ranges step = edit_follows s 
 follows s n commands.Undo reply new sound ranges step = undo_follows s n reply new sound step
 follows s n commands.UndoAll reply new sound ranges step = undo_all_follows s n reply new sound step
 follows s n commands.Redo reply new sound ranges step = redo_follows s n reply new sound step
+follows s n (commands.Settle upto) reply new sound ranges step = by_done (settle_rule s n upto) s reply new sound step (λ none done. subst (Follows s) (state_of _ reply _ new done) (settled_follows s n upto sound))
 follows s n (commands.Enable k now) reply new sound ranges step = by_done (enable_rule s n k now) s reply new sound step (λ none done. subst (Follows s) (state_of _ reply _ new done) (acted_follows s n asked.Enable k now sound))
 follows s n (commands.Disable k now) reply new sound ranges step = by_done (disable_rule s n k now) s reply new sound step (λ none done. subst (Follows s) (state_of _ reply _ new done) (acted_follows s n asked.Disable k now sound))
 follows s n (commands.Apply k now) reply new sound ranges step = by_done (apply_rule s n k now) s reply new sound step (λ none done. subst (Follows s) (state_of _ reply _ new done) (acted_follows s n asked.Apply k now sound))

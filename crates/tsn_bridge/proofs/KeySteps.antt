@@ -34,7 +34,7 @@ only None = refl
 only (Some why) = refl
 
 full : State → List (ℕ × Option Refusal)
-full s = (17, no_room s.book.entries 1) ∷ []
+full s = (18, no_room s.book.entries 1) ∷ []
 
 full_ordered : (s : State) → IsOrdered 6 (full s)
 unfolding full
@@ -48,7 +48,7 @@ unfolding early
 early_ordered s k t = (omega arith, is_unless (nat_le (last_at s.book k) t) Past, tt)
 
 appliable : State → Key → List (ℕ × Option Refusal)
-appliable s k = (14, unless (enabled_at s.book k) NotEnabled) ∷ (15, unless (has_entry (get (present s.book) k)) EmptyList) ∷ (17, no_room s.book.entries 1) ∷ []
+appliable s k = (14, unless (enabled_at s.book k) NotEnabled) ∷ (15, unless (has_entry (get (present s.book) k)) EmptyList) ∷ (18, no_room s.book.entries 1) ∷ []
 
 appliable_ordered : (s : State) (k : Key) → IsOrdered 6 (appliable s k)
 unfolding appliable

@@ -12,7 +12,7 @@ use Rattle.tsn_journal.specs.declared.entries.Act.{Act as Asked}
 use Rattle.tsn_journal.specs.declared.entries.Act.TheVariants as asked
 use Rattle.tsn_journal.specs.declared.entries.Entry.{Entry}
 use Rattle.tsn_journal.specs.declared.entries.What.{What}
-use Rattle.tsn_journal.specs.declared.entries.What.TheVariants.{Made, Undone, Redone, Acted}
+use Rattle.tsn_journal.specs.declared.entries.What.TheVariants.{Made, Undone, Redone, Acted, Settled}
 use Rattle.tsn_bridge.specs.Later.{IsBy}
 use Rattle.tsn_bridge.specs.Objects.{Object, after_entry, after_part, lived, with_asked}
 
@@ -49,6 +49,7 @@ module _ {E : Type 0} (admin : Option Record → Option (Schedule E)) (k : Key) 
       go : (b : Bool) → last_instant (cond b (record { value = o.value; acts = with_asked act (admin o.value) a o.acts }) o).acts ≤ t
       go true = asked_last act (admin o.value) a t o.acts by h
       go false = h
+  entry_last o (Settled upto) by h = h
 
   pub all_last : (o : Object E) (es : List Entry) → AllByRecursion (λ (e : Entry). IsBy t e.what) es → last_instant o.acts ≤ t → last_instant (fold (λ (o : Object E) (e : Entry). after_entry admin k o e.what) o es).acts ≤ t
   all_last o [] by h = h

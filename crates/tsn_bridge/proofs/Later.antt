@@ -32,7 +32,7 @@ use Rattle.tsn_journal.specs.declared.entries.Act.{Act as Asked}
 use Rattle.tsn_journal.specs.declared.entries.Act.TheVariants as asked
 use Rattle.tsn_journal.specs.declared.entries.Entry.{Entry}
 use Rattle.tsn_journal.specs.declared.entries.What.{What}
-use Rattle.tsn_journal.specs.declared.entries.What.TheVariants.{Made, Undone, Redone, Acted}
+use Rattle.tsn_journal.specs.declared.entries.What.TheVariants.{Made, Undone, Redone, Acted, Settled}
 use Rattle.tsn_journal.specs.Entries.{Applied, applies, no_room, redone, undone}
 use Rattle.tsn_journal.specs.Finding.{last_of, own_standing, redo_of, since}
 use Rattle.tsn_journal.proofs.Numbers.{append_nil, each_weaker}
@@ -62,6 +62,7 @@ use Rattle.tsn_bridge.specs.declared.reply.Reply.TheVariants.{Counters, Framed, 
 use Rattle.tsn_bridge.specs.Acts.{acted_state, apply_rule, disable_rule, enable_rule, instant}
 use Rattle.tsn_bridge.specs.Beginning.{Opens, begun}
 use Rattle.tsn_bridge.specs.Edits.{AllowsRedo, changed_state, edit_rule, next, redo_rule, undo_all_rule, undo_rule}
+use Rattle.tsn_bridge.specs.Settling.{settle_rule, settled_state}
 use Rattle.tsn_bridge.specs.Frames.{acts_of_gates, frame_rule, framed_state}
 use Rattle.tsn_bridge.specs.Histories.{AreInRange, CommandInRange, Leads, Answered}
 use Rattle.tsn_bridge.specs.Later.{ActsAreBy, IsBy, IsLater, IsWhole}
@@ -121,6 +122,7 @@ by_applied time (Made f) e is = tt
 by_applied time (Undone n f) e is = tt
 by_applied time (Redone n f) e is = tt
 by_applied time (Acted act key a) e is = absurd (cc)
+by_applied time (Settled upto) e is = absurd (cc)
 
 changed_keeps : (s : State) (n : ℕ) (w : What) (e : Change) → IsWhole s → applies w ≡ Some e → Fits s.book.limits (present s.book) e → Keeps s (changed_state s n w e)
 changed_keeps s n w e h apply fits = record {
@@ -210,6 +212,7 @@ by_later early late es le h = each_weaker (λ (x : Entry). IsBy early x.what) (�
     longer (Undone m e) by = tt
     longer (Redone m e) by = tt
     longer (Acted act key a) by = omega (arith, by, le)
+    longer (Settled upto) by = tt
 
 acted_keeps : (s : State) (n : ℕ) (act : Asked) (k : Key) (now : ℕ) → IsWhole s → Keeps s (acted_state s n act k now)
 acted_keeps s n act k now h =
@@ -217,6 +220,15 @@ acted_keeps s n act k now h =
     record {
       frames = subst (λ c. HasFrameKeys s.frames c) (sym (ap (run s.book.opening) (nothing_push s.book.entries n (Acted act k (instant s now)) refl))) h.frames;
       acts = λ a. both (λ (x : Entry). IsBy (instant s now) x.what) s.book.entries one (by_later s.time (instant s now) s.book.entries (omega arith) a) (omega arith, tt);
+      later = record { limits = refl; opening = refl; more = one; entries = refl; sessions = omega arith; time = omega arith };
+    }
+
+settled_keeps : (s : State) (n upto : ℕ) → IsWhole s → Keeps s (settled_state s n upto)
+settled_keeps s n upto h =
+    let one : List Entry = record { number = length s.book.entries + 1; session = n; what = Settled upto } ∷ [] in
+    record {
+      frames = subst (λ c. HasFrameKeys s.frames c) (sym (ap (run s.book.opening) (nothing_push s.book.entries n (Settled upto) refl))) h.frames;
+      acts = λ a. both (λ (x : Entry). IsBy s.time x.what) s.book.entries one a (tt, tt);
       later = record { limits = refl; opening = refl; more = one; entries = refl; sessions = omega arith; time = omega arith };
     }
 
@@ -296,6 +308,7 @@ keeps s n (commands.Batch batch) reply new h ranges step = edit_keeps s n batch 
 keeps s n commands.Undo reply new h ranges step = undo_keeps s n reply new h step
 keeps s n commands.UndoAll reply new h ranges step = all_keeps s n h reply new step
 keeps s n commands.Redo reply new h ranges step = redo_keeps s n reply new h step
+keeps s n (commands.Settle upto) reply new h ranges step = by_done (settle_rule s n upto) s reply new h step (λ none done. subst (Keeps s) (state_of _ reply _ new done) (settled_keeps s n upto h))
 keeps s n (commands.Enable k now) reply new h ranges step = by_done (enable_rule s n k now) s reply new h step (λ none done. subst (Keeps s) (state_of _ reply _ new done) (acted_keeps s n asked.Enable k now h))
 keeps s n (commands.Disable k now) reply new h ranges step = by_done (disable_rule s n k now) s reply new h step (λ none done. subst (Keeps s) (state_of _ reply _ new done) (acted_keeps s n asked.Disable k now h))
 keeps s n (commands.Apply k now) reply new h ranges step = by_done (apply_rule s n k now) s reply new h step (λ none done. subst (Keeps s) (state_of _ reply _ new done) (acted_keeps s n asked.Apply k now h))
@@ -327,6 +340,6 @@ whole_begun l records opens =
     let dangling = or_none (dangling_cause (opening l records)) None others.1 in
     let kept = opening_kept l records (opening l records) opens.bounds opens.ranges opens.kinds causes.0 refl dangling.0 in
     record {
-      journal = record { numbered = tt; kept = kept; replays = tt; good = tt; same = refl };
+      journal = record { numbered = tt; kept = kept; replays = tt; settled = tt; good = tt; same = refl };
       frames = (begun_keys (opening l records) l kept).frames;
     }

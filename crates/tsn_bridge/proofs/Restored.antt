@@ -30,7 +30,7 @@ use Rattle.tsn_schedule.proofs.Restored.{restored}
 use Rattle.tsn_journal.specs.declared.entries.Act.TheVariants as asked
 use Rattle.tsn_journal.specs.declared.entries.Entry.{Entry}
 use Rattle.tsn_journal.specs.declared.entries.What.{What}
-use Rattle.tsn_journal.specs.declared.entries.What.TheVariants.{Made, Undone, Redone, Acted}
+use Rattle.tsn_journal.specs.declared.entries.What.TheVariants.{Made, Undone, Redone, Acted, Settled}
 use Rattle.tsn_undo.specs.Ledger.{Ledger, present}
 use Rattle.tsn_undo.proofs.Adding.{nothing_push}
 use Rattle.tsn_undo.proofs.Making.{kept_now}
@@ -80,6 +80,7 @@ quiet_entry admin k o (Redone n e) on h = part_kept (part_of k (parts e)) o h
 quiet_entry admin k o (Acted asked.Enable key a) on h = enable_kept (same_key k key) o a on
 quiet_entry admin k o (Acted asked.Disable key a) on h = act_kept (same_key k key) o (with_asked asked.Disable (admin o.value) a o.acts) h
 quiet_entry admin k o (Acted asked.Apply key a) on h = act_kept (same_key k key) o (with_asked asked.Apply (admin o.value) a o.acts) h
+quiet_entry admin k o (Settled upto) on h = refl
 
 quiet_run : {E : Type 0} (admin : Option Record → Option (Schedule E)) (k : Key) (es : List Entry) (o : Object E) → is_enabled o.acts ≡ true → AllByRecursion (λ e. IsQuiet k e.what) es → (fold (λ (o : Object E) (e : Entry). after_entry admin k o e.what) o es).acts ≡ o.acts
 quiet_run admin k [] o on h = refl
@@ -100,6 +101,7 @@ there_entry admin k o (Made e) h some = part_there (part_of k (parts e)) o h som
 there_entry admin k o (Undone n e) h some = part_there (part_of k (parts e)) o h some
 there_entry admin k o (Redone n e) h some = part_there (part_of k (parts e)) o h some
 there_entry admin k o (Acted act key a) h some = act_there (same_key k key) o (with_asked act (admin o.value) a o.acts) some
+there_entry admin k o (Settled upto) h some = some
 
 there_run : {E : Type 0} (admin : Option Record → Option (Schedule E)) (k : Key) (es : List Entry) (o : Object E) → AllByRecursion (λ e. IsQuiet k e.what) es → IsSome o.value → IsSome (fold (λ (o : Object E) (e : Entry). after_entry admin k o e.what) o es).value
 there_run admin k [] o h some = some

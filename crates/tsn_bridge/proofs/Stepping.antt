@@ -4,7 +4,7 @@ use Rattle.std.specs.Prelude.{MatchOption, ◌⊎◌, IsTrue, cond, nat_lt}
 use Rattle.tsn_types.specs.declared.refusals.Refusal.{Refusal}
 use Rattle.tsn_types.specs.declared.refusals.Refusal.TheVariants.{NoSession, Memory}
 use Rattle.tsn_types.specs.Limits.{unless}
-use Rattle.tsn_types.specs.Refusals.{IsLeastOrMemory, least, number_of}
+use Rattle.tsn_types.specs.Refusals.{IsLeastOrMemory, least, rank_of}
 use Rattle.tsn_edit.specs.declared.Edit.{Edit}
 use Rattle.tsn_edit.specs.Batches.{change_of}
 use Rattle.tsn_journal.specs.declared.entries.What.TheVariants.{Made}
@@ -63,7 +63,7 @@ pub was_given : (b : Bool) (o : Option Refusal) → least (unless b NoSession �
 was_given true None h = (refl, refl)
 was_given true (Some why) h = (cc)
 was_given false None h = (cc)
-was_given false (Some why) h = never (nat_lt (number_of why) 5) h
+was_given false (Some why) h = never (nat_lt (rank_of why) 5) h
   where
     never : (t : Bool) → cond t (Some why) (Some NoSession) ≡ None → (false ≡ true) × (Some why ≡ None)
     never true h = (cc)

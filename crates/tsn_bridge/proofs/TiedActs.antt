@@ -1,4 +1,5 @@
--- Instance data stays tied to the book where an act was entered, and the runner of its key stands for one act more.
+-- Instance data stays tied to the book where an act was entered, and the runner of its key stands for one act more; and where
+-- entries were settled.
 use Rattle.std.proofs.Common.{◌≡◌, ℕ, Bool, true, false, cond, refl, sym, ◌∙◌, ap, subst, List, [], ◌∷◌, Option, Some, None}
 use Rattle.std.specs.List.{fold}
 use Rattle.std.specs.FinMap.{FinMap, get, get-insert}
@@ -24,7 +25,7 @@ use Rattle.tsn_journal.specs.declared.entries.Act.{Act as Asked}
 use Rattle.tsn_journal.specs.declared.entries.Act.TheVariants as asked
 use Rattle.tsn_journal.specs.declared.entries.Entry.{Entry}
 use Rattle.tsn_journal.specs.declared.entries.What.{What}
-use Rattle.tsn_journal.specs.declared.entries.What.TheVariants.{Made, Undone, Redone, Acted}
+use Rattle.tsn_journal.specs.declared.entries.What.TheVariants.{Made, Undone, Redone, Acted, Settled}
 use Rattle.tsn_journal.specs.Entries.{applies}
 use Rattle.tsn_undo.specs.Ledger.{Ledger, enter, present}
 use Rattle.tsn_undo.specs.Soundness.{configuration}
@@ -61,12 +62,14 @@ value_step admin k c o (Made e) h = part_value k c o e h
 value_step admin k c o (Undone n e) h = part_value k c o e h
 value_step admin k c o (Redone n e) h = part_value k c o e h
 value_step admin k c o (Acted act key a) h = neither (same_key k key) o (with_asked act (admin o.value) a o.acts) ∙ h
+value_step admin k c o (Settled upto) h = h
 
 pub configured : (c : Configuration) (number session : ℕ) (w : What) (es : List Entry) → configuration c (record { number = number; session = session; what = w } ∷ es) ≡ configuration (changed_by c (applies w)) es
 configured c number session (Made e) es = refl
 configured c number session (Undone n e) es = refl
 configured c number session (Redone n e) es = refl
 configured c number session (Acted act key a) es = refl
+configured c number session (Settled upto) es = refl
 
 value_run : {E : Type 0} (admin : Option Record → Option (Schedule E)) (k : Key) (es : List Entry) (c : Configuration) (o : Object E) → o.value ≡ get c k
     → (fold (λ (o : Object E) (e : Entry). after_entry admin k o e.what) o es).value ≡ get (configuration c es) k
@@ -145,3 +148,16 @@ done asked.Apply key v b r r' f s a h at is = applied key v b r r' f s a h at is
 
 pub tied_done : (b b' : Ledger) (r r' : Runners) (f f' : FrameData) (s : ℕ) (act : Asked) (key : Key) (v : Option Record) (a : ℕ) → b' ≡ enter b s (Acted act key a) → f' ≡ f → get (present b) key ≡ v → Does r act key v a r' → IsTied b r f → IsTied b' r' f'
 tied_done b b' r r' f f' s act key v a after same at is h = rw (after, same) (done act key v b r r' f s a h at is)
+
+-- a settle is no act and changes no record
+settled : (b : Ledger) (r : Runners) (f : FrameData) (s upto : ℕ) → IsTied b r f → IsTied (enter b s (Settled upto)) r f
+settled b r f s upto h = record {
+  runs = record {
+    ports = λ n k found. subst (λ (o : Object PortEntry). StandsFor k o.acts) (sym (object_push port_schedule (Port n) (get b.opening (Port n)) b.entries _)) (h.runs.ports n k found);
+    gates = λ n k found. subst (λ (o : Object GateEntry). StandsFor k o.acts) (sym (object_push gate_schedule (Gate n) (get b.opening (Gate n)) b.entries _)) (h.runs.gates n k found);
+  };
+  keys = subst (λ c. HasKeys r f c) (sym (ap (run b.opening) (nothing_push b.entries s (Settled upto) refl))) h.keys;
+}
+
+pub tied_settled : (b b' : Ledger) (r : Runners) (f : FrameData) (s upto : ℕ) → b' ≡ enter b s (Settled upto) → IsTied b r f → IsTied b' r f
+tied_settled b b' r f s upto after h = rw after (settled b r f s upto h)

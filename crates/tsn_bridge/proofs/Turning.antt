@@ -4,6 +4,7 @@ use Rattle.tsn_desk.specs.declared.history.Entry.{Entry}
 use Rattle.tsn_desk.specs.History.{Runs}
 use Rattle.tsn_undo.specs.Commuting.{Commutes, IsClosed}
 use Rattle.tsn_undo.specs.Ledger.{base_of}
+use Rattle.tsn_undo.proofs.Adding.{kept_base}
 use Rattle.tsn_undo.proofs.Commutation.{commutation}
 use Rattle.tsn_journal.specs.Entries.{Applied, standing}
 use Rattle.tsn_types.specs.declared.keys.Key.{Key}
@@ -31,4 +32,4 @@ whole_now limits records history now opens runs =
 
 -- in a sound state, any standing entries may be taken out with those in conflict with them
 pub commutes : (s : State) → StateIsSound s → (out : Applied → Bool) → IsClosed out (standing s.book.entries) → Commutes s.book.limits (base_of s.book) out (standing s.book.entries)
-commutes s sound out closed = commutation s.book.limits (base_of s.book) (standing s.book.entries) out sound.kept sound.good closed
+commutes s sound out closed = commutation s.book.limits (base_of s.book) (standing s.book.entries) out (kept_base s.book.limits s.book.opening s.book.entries sound) sound.good closed

@@ -5,11 +5,12 @@ use Rattle.std.specs.Option.{option_or}
 use Rattle.tsn_types.specs.declared.refusals.Refusal.{Refusal}
 use Rattle.tsn_types.specs.declared.refusals.Refusal.TheVariants.{Conflict, JournalFull, NoSession, NothingToUndo}
 use Rattle.tsn_types.specs.Limits.{unless}
-use Rattle.tsn_types.specs.Refusals.{least, number_of}
+use Rattle.tsn_types.specs.Refusals.{least, rank_of}
 use Rattle.tsn_edit.specs.Runs.{run}
 use Rattle.tsn_edit.proofs.KeyFacts.{by_bool}
 use Rattle.tsn_journal.specs.Entries.{Applied, changes, most_entries, no_room, standing}
 use Rattle.tsn_journal.specs.Finding.{find_conflict_of_others, find_own_in_conflict, own_standing}
+use Rattle.tsn_undo.specs.Ledger.{base_of}
 use Rattle.tsn_undo.specs.UndoAll.{conflict_with_others, undo_all_cause, undo_all_refusal}
 use Rattle.tsn_undo.proofs.Named.{names_conflict}
 use Rattle.tsn_undo.proofs.UndoAll.{undo_all_refusal-first}
@@ -34,12 +35,12 @@ all_others p (x ∷ xs) h = by_bool (p x)
     (λ off. ap (λ b. cond (not b) (x ∷ filter (λ x. not (p x)) xs) (filter (λ x. not (p x)) xs)) off ∙ ap (λ ys. x ∷ ys) (all_others p xs (sym (ap (λ b. cond b (x ∷ filter p xs) (filter p xs)) off) ∙ h)))
 
 module _ (s : State) (n : ℕ) (sound : StateIsSound s) where
-  -- a cause of the book's, whose number is not less than that of a session not given out
+  -- a cause of the book's, whose rank is not less than that of a session not given out
   abbrev Named : Refusal → Type 0
-  Named why = WhyNotAll s n why × (nat_lt (number_of why) 5 ≡ false)
+  Named why = WhyNotAll s n why × (nat_lt (rank_of why) 5 ≡ false)
 
   nothing : own_standing s.book.entries n ≡ [] → Named NothingToUndo
-  nothing none = ((none, sym sound.same ∙ ap (λ xs. run s.book.opening (changes xs)) (sym (all_others (λ x. x.session == n) (standing s.book.entries) none))), refl)
+  nothing none = ((none, sym sound.same ∙ ap (λ xs. run (base_of s.book) (changes xs)) (sym (all_others (λ x. x.session == n) (standing s.book.entries) none))), refl)
 
   full_at : (b : Bool) (why : Refusal) → no_room s.book.entries (length (own_standing s.book.entries n)) ≡ unless b JournalFull → unless b JournalFull ≡ Some why → Named why
   full_at true why is h = (cc)

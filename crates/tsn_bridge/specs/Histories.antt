@@ -37,6 +37,7 @@ CommandInRange (commands.Batch batch) = IsBatch batch × EditsInRange batch
 CommandInRange commands.Undo = ⊤
 CommandInRange commands.UndoAll = ⊤
 CommandInRange commands.Redo = ⊤
+CommandInRange (commands.Settle upto) = ⊤
 CommandInRange (commands.Enable k now) = ⊤
 CommandInRange (commands.Disable k now) = ⊤
 CommandInRange (commands.Apply k now) = ⊤

@@ -16,6 +16,7 @@ pub mod Quiet
 pub mod Reads
 pub mod Rule
 pub mod Sessions
+pub mod Settling
 pub mod State
 pub mod Together
 pub mod Turns

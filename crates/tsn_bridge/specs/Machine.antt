@@ -11,6 +11,7 @@ use Rattle.tsn_bridge.specs.Frames.{frame_rule}
 use Rattle.tsn_bridge.specs.Looking.{counters_rule, states_rule}
 use Rattle.tsn_bridge.specs.Sessions.{hello_rule}
 use Rattle.tsn_bridge.specs.Edits.{AllowsRedo, edit_rule, undo_all_rule, undo_rule}
+use Rattle.tsn_bridge.specs.Settling.{settle_rule}
 use Rattle.tsn_bridge.specs.Reads.{list_rule, show_rule, since_rule}
 
 -- a step of the machine: the command's rule allows the reply and the state after it
@@ -23,6 +24,7 @@ Step s n (commands.Batch batch) reply new = Allows (edit_rule s n batch) s reply
 Step s n commands.Undo reply new = Allows (undo_rule s n) s reply new
 Step s n commands.UndoAll reply new = Allows (undo_all_rule s n) s reply new
 Step s n commands.Redo reply new = AllowsRedo s n reply new
+Step s n (commands.Settle upto) reply new = Allows (settle_rule s n upto) s reply new
 Step s n (commands.Enable k now) reply new = Allows (enable_rule s n k now) s reply new
 Step s n (commands.Disable k now) reply new = Allows (disable_rule s n k now) s reply new
 Step s n (commands.Apply k now) reply new = Allows (apply_rule s n k now) s reply new

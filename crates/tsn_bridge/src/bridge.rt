@@ -24,6 +24,7 @@ ghost use Rattle.tsn_bridge.specs.Machine.{Step};
 ghost use Rattle.tsn_bridge.specs.Reads.{list_rule, show_rule, since_rule};
 ghost use Rattle.tsn_bridge.specs.Rule.{Allows, is_given};
 ghost use Rattle.tsn_bridge.specs.Sessions.{hello_rule};
+ghost use Rattle.tsn_bridge.specs.Settling.{settle_rule};
 
 use crate::command::Command;
 use crate::pair::Pair;
@@ -132,6 +133,7 @@ impl Bridge {
             Command::Undo => self.undo(session),
             Command::UndoAll => self.undo_all(session),
             Command::Redo => self.redo(session),
+            Command::Settle { upto } => self.settle(session, upto),
             Command::Enable { key, now } => self.act(session, Act::Enable, &key, now),
             Command::Disable { key, now } => self.act(session, Act::Disable, &key, now),
             Command::Apply { key, now } => self.act(session, Act::Apply, &key, now),
@@ -230,6 +232,22 @@ impl Bridge {
         }
         match self.pair.redo(session) {
             Ok((entry, undone)) => Reply::EntryOf { entry, of: undone },
+            Err(why) => Reply::Refused(why),
+        }
+    }
+
+    fn settle(&mut self, session: u32, upto: u32) -> Reply
+        ensures { Allows (settle_rule self.old session upto) self.old result self.new }
+    {
+        let upto = u64::from(upto);
+        if !self.is_given(session) {
+            return Reply::Refused(stranger(&self.pair.book().refuse_settle(upto)));
+        }
+        match self.pair.settle(session, upto) {
+            Ok(entry) => Reply::Settled {
+                entry,
+                settled: upto,
+            },
             Err(why) => Reply::Refused(why),
         }
     }

@@ -32,6 +32,8 @@ pub enum Command {
     UndoAll,
     /// Takes back the newest undo of the session that nothing has ended.
     Redo,
+    /// Makes the entries up to the number final: those that stand are taken back no more.
+    Settle { upto: u32 },
     /// Enables the gates of a port or a stream gate at an instant.
     Enable { key: Key, now: Instant },
     /// Disables the gates of a port or a stream gate at an instant.

@@ -16,6 +16,7 @@ ghost use Rattle.tsn_journal.specs.Entries.{most_entries, no_room};
 ghost use Rattle.tsn_journal.specs.Finding.{change_at, own_standing};
 ghost use Rattle.tsn_undo.specs.Ledger.{present};
 ghost use Rattle.tsn_undo.specs.Redo.{Redoes, WhyNoRedo};
+ghost use Rattle.tsn_undo.specs.Settling.{Settles, settle_refusal};
 ghost use Rattle.tsn_undo.specs.Steps.{Edits, TakesBack, edit_refusal, undo_refusal};
 ghost use Rattle.tsn_undo.specs.UndoAll.{TakesAllBack, undo_all_refusal};
 ghost use Rattle.tsn_bridge.specs.Acts.{act_causes, act_change, apply_causes, has_list};
@@ -159,6 +160,17 @@ impl Pair {
         let (count, last) = self.book.undo_all(session)?;
         follow_each(self.book.journal(), &mut self.runtime, first, own);
         Ok((count, last))
+    }
+
+    /// Makes the entries up to the number final; the answer is the entry of the settle. No record changes, and instance data
+    /// stays.
+    pub fn settle(&mut self, session: u32, upto: u64) -> Result<u64, Refusal>
+        ensures made { IfOk result (λ number. Settles self.old.ledger session upto number self.new.ledger) }
+        ensures stays { (self.new.time ≡ self.old.time) × (self.new.frames ≡ self.old.frames) }
+        ensures refused { IfErr result (λ why. IsLeastOrMemory (settle_refusal self.old.ledger upto) why) }
+        ensures unchanged { OnErr result (self.new ≡ self.old) }
+    {
+        self.book.settle(session, upto)
     }
 
     /// Does an act on the list of a port or a stream gate that is there, and enters it. An apply is refused 14 and 15

@@ -29,6 +29,11 @@ pub enum Reply {
         count: u64,
         entry: u64,
     },
+    /// The number of the entry that was made, and up to which number the entries are settled.
+    Settled {
+        entry: u64,
+        settled: u64,
+    },
     /// The change time that an act leads to, in nanoseconds, the number of the entry that was made, and the instant that
     /// counted.
     Acted {

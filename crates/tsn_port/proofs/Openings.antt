@@ -12,7 +12,7 @@ use Rattle.tsn_edit.specs.Parts.{Change, Part, parts}
 use Rattle.tsn_edit.proofs.KeyFacts.{after_or, by_option, each_part, get-after_change, part_on, part_on_some}
 use Rattle.tsn_journal.specs.declared.entries.Entry.{Entry}
 use Rattle.tsn_journal.specs.declared.entries.What.{What}
-use Rattle.tsn_journal.specs.declared.entries.What.TheVariants.{Made, Undone, Redone, Acted}
+use Rattle.tsn_journal.specs.declared.entries.What.TheVariants.{Made, Undone, Redone, Acted, Settled}
 use Rattle.tsn_journal.specs.Entries.{applies}
 use Rattle.tsn_undo.specs.Soundness.{configuration}
 use Rattle.tsn_bridge.proofs.TiedActs.{changed_by, configured}
@@ -37,12 +37,14 @@ module _ (l : Limits) (n : ℕ) (low : 1 ≤ n) (high : n ≤ l.ports) where
   entry_stood c number session (Undone m e) es p good is = part_stood l n low high c e p (good.0, tt) is
   entry_stood c number session (Redone m e) es p good is = part_stood l n low high c e p (good.0, tt) is
   entry_stood c number session (Acted act key a) es p good is = absurd (let never : None ≡ Some p = is in (cc))
+  entry_stood c number session (Settled upto) es p good is = absurd (let never : None ≡ Some p = is in (cc))
 
   entry_keeps : (c : Configuration) (w : What) → port_part n w ≡ None → get (changed_by c (applies w)) (Port n) ≡ get c (Port n)
   entry_keeps c (Made e) none = part_keeps n c e none
   entry_keeps c (Undone m e) none = part_keeps n c e none
   entry_keeps c (Redone m e) none = part_keeps n c e none
   entry_keeps c (Acted act key a) none = refl
+  entry_keeps c (Settled upto) none = refl
 
   -- where an entry changed the port, the record before it is the one that stood
   before_is : (c : Configuration) (w : What) (p : Part) (q : PortGates) → port_part n w ≡ Some p → get c (Port n) ≡ p.before → get c (Port n) ≡ Some (records.Port q) → record_before n w ≡ Some q

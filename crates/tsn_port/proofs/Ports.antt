@@ -26,7 +26,7 @@ use Rattle.tsn_journal.specs.declared.entries.Act.{Act as Asked}
 use Rattle.tsn_journal.specs.declared.entries.Act.TheVariants as asked
 use Rattle.tsn_journal.specs.declared.entries.Entry.{Entry}
 use Rattle.tsn_journal.specs.declared.entries.What.{What}
-use Rattle.tsn_journal.specs.declared.entries.What.TheVariants.{Made, Undone, Redone, Acted}
+use Rattle.tsn_journal.specs.declared.entries.What.TheVariants.{Made, Undone, Redone, Acted, Settled}
 use Rattle.tsn_journal.specs.Entries.{Applied, applies, changes, collect, no_room, redone, undone, with_entry}
 use Rattle.tsn_journal.specs.Finding.{last_of, own_standing, redo_of}
 use Rattle.tsn_undo.specs.Ledger.{Ledger, present}
@@ -45,6 +45,7 @@ use Rattle.tsn_bridge.specs.declared.reply.Reply.TheVariants.{Counters, EntryOf,
 use Rattle.tsn_bridge.specs.Acts.{act_rule, enabled_at, has_entry, instant}
 use Rattle.tsn_bridge.specs.Beginning.{Opens, begun}
 use Rattle.tsn_bridge.specs.Edits.{changed_state, edit_rule, next, redo_rule, undo_all_rule, undo_rule}
+use Rattle.tsn_bridge.specs.Settling.{settle_rule}
 use Rattle.tsn_bridge.specs.Frames.{acts_of_gates, frame_rule, framed_state}
 use Rattle.tsn_bridge.specs.Histories.{Answered, AreInRange, Leads}
 use Rattle.tsn_bridge.specs.Later.{ActsAreBy, IsWhole}
@@ -91,6 +92,7 @@ module _ (l : Limits) (n : ℕ) (low : 1 ≤ n) (high : n ≤ l.ports) where
   kept_after c number session (Undone m e) es kept good = (good.0.kept, good.1)
   kept_after c number session (Redone m e) es kept good = (good.0.kept, good.1)
   kept_after c number session (Acted act key a) es kept good = (kept, good)
+  kept_after c number session (Settled upto) es kept good = (kept, good)
 
   all_of_port : (es : List Entry) (c : Configuration) (o : Object PortEntry) → IsWellKept l c → Replays c es → o.value ≡ get c (Port n) → AreActs n o es → AreOfPort n o es
   all_of_port [] c o kept good at acts = tt
@@ -169,6 +171,7 @@ module _ (n : ℕ) (s : State) (new : State) (h : ActsOf n s.book) where
   keeps_acts m (commands.Replace k r) reply low high whole by step = edited_acts m (edits.Replace k r ∷ []) reply step
   keeps_acts m (commands.Remove k) reply low high whole by step = edited_acts m (edits.Remove k ∷ []) reply step
   keeps_acts m (commands.Batch batch) reply low high whole by step = edited_acts m batch reply step
+  keeps_acts m (commands.Settle upto) reply low high whole by step = at_once (settle_rule s m upto) reply _ refl (acts_push n (first n s.book) s.book.entries _ h (now_history n s.book h)) step
   keeps_acts m commands.Undo reply low high whole by step =
       by_map (undo_rule s m) reply (λ (x : Applied). (EntryOf (next s) x.number, changed_state s m (undone x) (inverse x.change))) (last_of s.book.entries m) refl
       (λ x _. changed n m s.book s.book.entries (undone x) (inverse x.change) refl h) step

@@ -10,7 +10,7 @@ use Rattle.tsn_types.specs.declared.refusals.Field.TheVariants as fields
 use Rattle.tsn_types.specs.declared.refusals.Refusal.{Refusal}
 use Rattle.tsn_types.specs.declared.refusals.Refusal.TheVariants.{Missing, NoSession, Range}
 use Rattle.tsn_types.specs.Limits.{holds_key, unless}
-use Rattle.tsn_types.specs.Refusals.{least, lesser, number_of}
+use Rattle.tsn_types.specs.Refusals.{least, lesser, rank_of}
 use Rattle.tsn_edit.proofs.KeyFacts.{same_itself}
 use Rattle.tsn_edit.specs.Runs.{run}
 use Rattle.tsn_schedule.specs.Acts.{Act, Disable, Enable, is_enabled, last_instant}
@@ -40,7 +40,7 @@ use Rattle.tsn_program.specs.Listing.{Applies, IsNew, IsSeenFrom, Takes, refusal
 neither : (o p : Option Refusal) → lesser o p ≡ None → (o ≡ None) × (p ≡ None)
 neither None p e = (refl, e)
 neither (Some a) None e = (cc)
-neither (Some a) (Some b) e = go (nat_lt (number_of b) (number_of a)) e
+neither (Some a) (Some b) e = go (nat_lt (rank_of b) (rank_of a)) e
   where
     go : (t : Bool) → cond t (Some b) (Some a) ≡ None → (Some a ≡ None) × (Some b ≡ None)
     go true e = (cc)
