@@ -1,4 +1,4 @@
-//! The newest place of each group, on each key, referring to it, and of each session, and the newest entries of each key.
+//! What the rows of keys and sessions tell: the newest place of each group, and of each key the newest entries of any kind.
 ghost use Rattle.std.specs.Prelude.{◌≡◌, ◌⊎◌, IsSome, OnOk, Some, if◌then◌else◌};
 ghost use Rattle.std.specs.FinMap as map;
 ghost use Rattle.std.specs.Option.{option_copied};
@@ -96,7 +96,7 @@ impl Latest {
         Ok(())
     }
 
-    /// The newest places of the key.
+    /// What the row of the key tells.
     pub(crate) fn key_places(&self, key: Key) -> KeyPlaces
         ensures on { result.on ≡ on_of (key_row self.now key) }
         ensures refers { result.refers ≡ refers_of (key_row self.now key) }
@@ -139,7 +139,7 @@ impl Latest {
         }
     }
 
-    /// Sets the newest places of the key. A key that has some takes no room, and one that has none takes a row of its
+    /// Sets the row of the key. A key that has one takes no room, and one that has none takes a row of its
     /// kind.
     pub(crate) fn set_key(&mut self, key: Key, row: KeyPlaces)
         requires { IsSome (key_row self.old key) ⊎ HasRows 1 self.old }
