@@ -27,6 +27,7 @@ name_short refusals.EmptyList = lit≤ tt
 name_short refusals.Past = lit≤ tt
 name_short refusals.JournalFull = lit≤ tt
 name_short refusals.Memory = lit≤ tt
+name_short (refusals.Settled a) = lit≤ tt
 
 pub field_name_short : (f : Field) → length (field_name f) ≤ 11
 field_name_short fields.S = lit≤ tt
@@ -51,6 +52,7 @@ field_name_short fields.Octets = lit≤ tt
 field_name_short fields.Now = lit≤ tt
 field_name_short fields.At = lit≤ tt
 field_name_short fields.After = lit≤ tt
+field_name_short fields.Upto = lit≤ tt
 field_name_short fields.Id = lit≤ tt
 field_name_short fields.Ports = lit≤ tt
 field_name_short fields.MaxFilters = lit≤ tt

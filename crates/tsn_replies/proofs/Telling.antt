@@ -14,7 +14,7 @@ use Rattle.tsn_types.specs.Keys.{number_of}
 use Rattle.tsn_records.specs.Keys.{key_text}
 use Rattle.tsn_records.specs.Shown.{whole_data}
 use Rattle.tsn_replies.specs.Pieces.{keys_piece, taking_back_front}
-use Rattle.tsn_replies.specs.Told.{act_name, key_data, with_keys, made_data, taking_back_data, acted_data, entry_data, entries_data}
+use Rattle.tsn_replies.specs.Told.{act_name, key_data, with_keys, made_data, taking_back_data, acted_data, settled_data, entry_data, entries_data}
 use Rattle.tsn_replies.proofs.Pieces.{behind, behind_none, behind_more, behind_closed, text_unescaped}
 
 quoted_of : (key t0 t1 t2 t3 : List ℕ) → t1 ≡ t0 ++ codes "\"" → t2 ≡ t1 ++ key → t3 ≡ t2 ++ codes "\"" → t3 ≡ t0 ++ (codes "\"" ++ (key ++ codes "\""))
@@ -159,6 +159,23 @@ pub acted_pieces : (number session : ℕ) (act : Act) (k : Key) (now : ℕ) (t0 
 unfolding escape_byte
 acted_pieces number session act k now t0 t1 t2 t3 t4 t5 t6 e1 e2 e3 e4 e5 e6 =
     acted_of (compact_text (string (act_name act))) (decimal number) (compact_text (key_data k)) (decimal now) (decimal session) t0 t1 t2 t3 t4 t5 t6 e1 e2 e3 e4 e5 e6
+
+settled_of : (number session upto t0 t1 t2 t3 t4 : List ℕ)
+    → t1 ≡ t0 ++ (codes "{\"entry\":" ++ number)
+    → t2 ≡ t1 ++ (codes ",\"session\":" ++ session)
+    → t3 ≡ t2 ++ (codes ",\"settled\":" ++ upto)
+    → t4 ≡ t3 ++ codes ",\"what\":\"settled\"}"
+    → t4 ≡ t0 ++ (codes "{\"entry\":" ++ (number ++ (codes ",\"session\":" ++ (session ++ (codes ",\"settled\":" ++ (upto ++ codes ",\"what\":\"settled\"}"))))))
+settled_of number session upto t0 t1 t2 t3 t4 e1 e2 e3 e4 = rw (e4, e3, e2, e1) (simp append_assoc)
+
+pub settled_pieces : (number session upto : ℕ) (t0 t1 t2 t3 t4 : List ℕ)
+    → t1 ≡ t0 ++ (codes "{\"entry\":" ++ decimal number)
+    → t2 ≡ t1 ++ (codes ",\"session\":" ++ decimal session)
+    → t3 ≡ t2 ++ (codes ",\"settled\":" ++ decimal upto)
+    → t4 ≡ t3 ++ codes ",\"what\":\"settled\"}"
+    → t4 ≡ t0 ++ compact_text (settled_data number session upto)
+unfolding escape_byte
+settled_pieces number session upto t0 t1 t2 t3 t4 e1 e2 e3 e4 = settled_of (decimal number) (decimal session) (decimal upto) t0 t1 t2 t3 t4 e1 e2 e3 e4
 
 -- ---- the line
 

@@ -5,7 +5,7 @@ use Rattle.tsn_chain.specs.declared.state.ListCounters.{ListCounters}
 use Rattle.tsn_edit.specs.Parts.{Change, inverse}
 use Rattle.tsn_journal.specs.declared.entries.Act.TheVariants.{Apply}
 use Rattle.tsn_journal.specs.declared.entries.Entry.{Entry}
-use Rattle.tsn_journal.specs.declared.entries.What.TheVariants.{Made, Undone, Redone, Acted}
+use Rattle.tsn_journal.specs.declared.entries.What.TheVariants.{Made, Undone, Redone, Acted, Settled}
 use Rattle.tsn_records.specs.Examples.{a_filter, a_gate, a_meter}
 use Rattle.tsn_types.specs.declared.keys.Key.TheVariants as keys
 use Rattle.tsn_types.specs.declared.records.Record.TheVariants as records
@@ -54,6 +54,10 @@ an_apply = record { number = 3; session = 1; what = Acted Apply (keys.Port 1) 25
 abbrev pub apply_text : List ℕ
 apply_text = codes "{\"entries\":[{\"act\":\"apply\",\"entry\":3,\"key\":\"port 1\",\"now\":2500,"
     ++ codes "\"session\":1,\"what\":\"acted\"}]}\n"
+
+-- the entries up to 7 are settled
+abbrev pub a_settle : List Entry
+a_settle = record { number = 8; session = 2; what = Settled 7 } ∷ []
 
 -- a list runs, and no other is to come
 abbrev pub a_list : ListCounters

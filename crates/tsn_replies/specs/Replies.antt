@@ -18,7 +18,7 @@ number_member name n = codes "\"" ++ name ++ codes "\":" ++ decimal n ++ codes "
 abbrev pub text_member : List ℕ → List ℕ → List ℕ
 text_member name text = codes "\"" ++ name ++ codes "\":\"" ++ text ++ codes "\","
 
--- what a refusal is about; all these names come before `refused`
+-- what a refusal is about, by names that come before `refused`
 abbrev pub members_of : Refusal → List ℕ
 members_of refusals.TooLong = []
 members_of refusals.Syntax = []
@@ -38,10 +38,16 @@ members_of refusals.EmptyList = []
 members_of refusals.Past = []
 members_of refusals.JournalFull = []
 members_of refusals.Memory = []
+members_of (refusals.Settled upto) = []
+
+-- and what it is about by a name that comes behind `refused`
+abbrev pub behind_of : Refusal → List ℕ
+behind_of (refusals.Settled upto) = codes ",\"upto\":" ++ decimal upto
+behind_of r = []
 
 -- what it is about, its number and its name
 abbrev pub refusal_text : Refusal → List ℕ
-refusal_text r = codes "{" ++ members_of r ++ codes "\"refused\":" ++ decimal (number_of r) ++ codes ",\"why\":\"" ++ name_of r ++ codes "\"}\n"
+refusal_text r = codes "{" ++ members_of r ++ codes "\"refused\":" ++ decimal (number_of r) ++ behind_of r ++ codes ",\"why\":\"" ++ name_of r ++ codes "\"}\n"
 
 -- the line of a reply, its line feed in it
 abbrev pub reply_text : Reply → List ℕ
@@ -49,6 +55,7 @@ reply_text (replies.Session session) = codes "{\"session\":" ++ decimal session 
 reply_text (replies.Entry entry) = codes "{\"entry\":" ++ decimal entry ++ codes "}\n"
 reply_text (replies.EntryOf entry of) = codes "{\"entry\":" ++ decimal entry ++ codes ",\"of\":" ++ decimal of ++ codes "}\n"
 reply_text (replies.TakenBack count entry) = codes "{\"count\":" ++ decimal count ++ codes ",\"entry\":" ++ decimal entry ++ codes "}\n"
+reply_text (replies.Settled entry settled) = codes "{\"entry\":" ++ decimal entry ++ codes ",\"settled\":" ++ decimal settled ++ codes "}\n"
 reply_text (replies.Acted change entry now) = compact_text (act_data change entry now) ++ codes "\n"
 reply_text (replies.Framed verdict) = compact_text (verdict_data verdict) ++ codes "\n"
 reply_text (replies.States state) = compact_text (state_data state) ++ codes "\n"

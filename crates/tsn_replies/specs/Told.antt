@@ -8,7 +8,7 @@ use Rattle.tsn_journal.specs.declared.entries.Act.{Act}
 use Rattle.tsn_journal.specs.declared.entries.Act.TheVariants.{Enable, Disable, Apply}
 use Rattle.tsn_journal.specs.declared.entries.Entry.{Entry}
 use Rattle.tsn_journal.specs.declared.entries.What.{What}
-use Rattle.tsn_journal.specs.declared.entries.What.TheVariants.{Made, Undone, Redone, Acted}
+use Rattle.tsn_journal.specs.declared.entries.What.TheVariants.{Made, Undone, Redone, Acted, Settled}
 use Rattle.tsn_types.specs.declared.keys.Key.{Key}
 use Rattle.tsn_records.specs.Keys.{key_text}
 use Rattle.tsn_types.specs.declared.records.Record.{Record}
@@ -65,12 +65,21 @@ acted_data number session act key now =
     (member (codes "session") (whole_data session)
     (member (codes "what") (string (codes "acted")) no_members))))))
 
+-- `{"entry":N,"session":S,"settled":U,"what":"settled"}`
+abbrev pub settled_data : ℕ → ℕ → ℕ → Data
+settled_data number session upto =
+    object (member (codes "entry") (whole_data number)
+    (member (codes "session") (whole_data session)
+    (member (codes "settled") (whole_data upto)
+    (member (codes "what") (string (codes "settled")) no_members))))
+
 -- what was done, under the entry's number and session; a change is told by its keys
 abbrev pub what_data : ℕ → ℕ → What → Data
 what_data number session (Made e) = made_data number session (keys_of (parts e))
 what_data number session (Undone of e) = taking_back_data number session of (keys_of (parts e)) (codes "undone")
 what_data number session (Redone of e) = taking_back_data number session of (keys_of (parts e)) (codes "redone")
 what_data number session (Acted act key now) = acted_data number session act key now
+what_data number session (Settled upto) = settled_data number session upto
 
 abbrev pub entry_data : Entry → Data
 entry_data e = what_data e.number e.session e.what

@@ -7,7 +7,7 @@ ghost use Rattle.tsn_chain.specs.declared.frame.Verdict.TheVariants as verdicts;
 ghost use Rattle.tsn_chain.specs.declared.state.Counters.TheVariants as counters;
 ghost use Rattle.tsn_chain.specs.declared.state.State.TheVariants as states;
 ghost use Rattle.tsn_records.specs.Examples.{a_port, port_text, a_filter, filter_text, a_gate, gate_text, a_meter, meter_text};
-ghost use Rattle.tsn_replies.specs.Examples.{shown_line, a_removal_undone, removal_undone_text, a_removal_redone, removal_redone_text, a_batch_redone, batch_redone_text, an_apply, apply_text, a_list, a_counted_filter, port_counters_text, filter_counters_text, gate_counters_text};
+ghost use Rattle.tsn_replies.specs.Examples.{shown_line, a_removal_undone, removal_undone_text, a_removal_redone, removal_redone_text, a_batch_redone, batch_redone_text, an_apply, apply_text, a_settle, a_list, a_counted_filter, port_counters_text, filter_counters_text, gate_counters_text};
 ghost use Rattle.tsn_replies.specs.Replies.{reply_text};
 ghost use Rattle.tsn_types.specs.declared.keys.Key.TheVariants as keys;
 ghost use Rattle.tsn_types.specs.declared.records.Record.TheVariants as records;
@@ -20,6 +20,7 @@ pub fn replies_are_spelled()
     ensures entry { reply_text (replies.Entry 3) ≡ codes "{\"entry\":3}\n" }
     ensures of { reply_text (replies.EntryOf 4 3) ≡ codes "{\"entry\":4,\"of\":3}\n" }
     ensures count { reply_text (replies.TakenBack 2 6) ≡ codes "{\"count\":2,\"entry\":6}\n" }
+    ensures settled { reply_text (replies.Settled 4 2) ≡ codes "{\"entry\":4,\"settled\":2}\n" }
     ensures acted { reply_text (replies.Acted (Some 3000) 4 2500)
         ≡ codes "{\"change\":3000,\"entry\":4,\"now\":2500}\n" }
     ensures no_change { reply_text (replies.Acted None 5 2500)
@@ -64,6 +65,8 @@ pub fn replies_are_spelled()
         ≡ codes "{\"refused\":12,\"why\":\"nothing_to_redo\"}\n" }
     ensures redo { reply_text (replies.Refused (refusals.RedoConflict 4))
         ≡ codes "{\"other\":4,\"refused\":13,\"why\":\"redo_conflict\"}\n" }
+    ensures settled_already { reply_text (replies.Refused (refusals.Settled 2))
+        ≡ codes "{\"refused\":19,\"upto\":2,\"why\":\"settled\"}\n" }
     ensures memory { reply_text (replies.Refused refusals.Memory)
         ≡ codes "{\"refused\":18,\"why\":\"memory\"}\n" }
 {}
@@ -88,5 +91,7 @@ pub fn entries_are_told()
     ensures redone { reply_text (replies.Entries a_removal_redone) ≡ removal_redone_text }
     ensures batch { reply_text (replies.Entries a_batch_redone) ≡ batch_redone_text }
     ensures acted { reply_text (replies.Entries an_apply) ≡ apply_text }
+    ensures settled { reply_text (replies.Entries a_settle)
+        ≡ codes "{\"entries\":[{\"entry\":8,\"session\":2,\"settled\":7,\"what\":\"settled\"}]}\n" }
     ensures none { reply_text (replies.Entries []) ≡ codes "{\"entries\":[]}\n" }
 {}

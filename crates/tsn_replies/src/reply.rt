@@ -6,7 +6,7 @@ ghost use Rattle.std.specs.Prelude.{◌≡◌, ◌+◌, ◌≤◌, ◌++◌, [],
 ghost use Rattle.std.specs.Io.KnownBytes.{Appends};
 ghost use Rattle.tsn_types.specs.Refusals.{name_of, field_name};
 ghost use Rattle.tsn_bytes.specs.Bytes.{IsCut};
-ghost use Rattle.tsn_replies.specs.Replies.{number_member, text_member, members_of, refusal_text, reply_text};
+ghost use Rattle.tsn_replies.specs.Replies.{number_member, text_member, members_of, behind_of, refusal_text, reply_text};
 ghost use Rattle.tsn_records.specs.Keys.{key_text};
 ghost use Rattle.tsn_bytes.specs.declared.bytes.Fault.TheVariants.{Write};
 
@@ -80,7 +80,19 @@ fn push_members(text: &mut ShortText, refusal: &Refusal)
         | Refusal::EmptyList
         | Refusal::Past
         | Refusal::JournalFull
-        | Refusal::Memory => {}
+        | Refusal::Memory
+        | Refusal::Settled { .. } => {}
+    }
+}
+
+fn push_behind(text: &mut ShortText, refusal: &Refusal)
+    requires { length text.old + 28 ≤ CAPACITY }
+    ensures text { text.new ≡ text.old ++ behind_of refusal.now }
+    ensures len { length text.new ≤ length text.old + 28 }
+{
+    if let Refusal::Settled { upto } = refusal {
+        text.push(",\"upto\":");
+        text.push_number(*upto);
     }
 }
 
@@ -93,6 +105,7 @@ fn push_refusal(text: &mut ShortText, refusal: &Refusal)
     push_members(text, refusal);
     text.push("\"refused\":");
     text.push_number(refusal.number());
+    push_behind(text, refusal);
     text.push(",\"why\":\"");
     text.push(refusal.name());
     text.push("\"}\n");
@@ -135,6 +148,17 @@ fn push_taken_back(text: &mut ShortText, count: u64, entry: u64)
     text.push_number(count);
     text.push(",\"entry\":");
     text.push_number(entry);
+    text.push("}\n");
+}
+
+fn push_settled(text: &mut ShortText, entry: u64, settled: u64)
+    requires { text.old ≡ [] }
+    ensures { text.new ≡ reply_text (Reply.Settled entry settled) }
+{
+    text.push("{\"entry\":");
+    text.push_number(entry);
+    text.push(",\"settled\":");
+    text.push_number(settled);
     text.push("}\n");
 }
 
@@ -192,6 +216,10 @@ pub fn write_reply<W: ByteOut>(writer: &mut W, reply: &Reply) -> Result<(), Faul
         }
         Reply::TakenBack { count, entry } => {
             push_taken_back(&mut text, *count, *entry);
+            put_text(writer, &text)
+        }
+        Reply::Settled { entry, settled } => {
+            push_settled(&mut text, *entry, *settled);
             put_text(writer, &text)
         }
         Reply::Acted { change, entry, now } => {

@@ -7,7 +7,7 @@ ghost use Rattle.tsn_edit.specs.Changes.{keys_of};
 ghost use Rattle.tsn_bytes.specs.Bytes.{IsCut};
 ghost use Rattle.tsn_bytes.specs.declared.bytes.Fault.TheVariants.{Write};
 ghost use Rattle.tsn_replies.specs.Pieces.{keys_piece, taking_back_front};
-ghost use Rattle.tsn_replies.specs.Told.{act_name, key_data, made_data, taking_back_data, acted_data, entry_data, entries_data};
+ghost use Rattle.tsn_replies.specs.Told.{act_name, key_data, made_data, taking_back_data, acted_data, settled_data, entry_data, entries_data};
 
 use crate::shown::{LONGEST_ITEM, LONGEST_KEY, ShownItem, push_key, push_number, write_listed};
 use crate::text::{CAPACITY, ShortText};
@@ -137,6 +137,17 @@ fn push_acted(text: &mut ShortText, number: u64, session: u32, act: Act, key: Ke
     text.push(",\"what\":\"acted\"}");
 }
 
+fn push_settled(text: &mut ShortText, number: u64, session: u32, upto: u64)
+    requires { length text.old + LONGEST_ITEM ≤ CAPACITY }
+    ensures text { text.new ≡ text.old ++ compact_text (settled_data number session upto) }
+    ensures len { length text.new ≤ length text.old + LONGEST_ITEM }
+{
+    push_number(text, "{\"entry\":", number);
+    push_number(text, ",\"session\":", u64::from(session));
+    push_number(text, ",\"settled\":", upto);
+    text.push(",\"what\":\"settled\"}");
+}
+
 fn push_entry(text: &mut ShortText, entry: &Entry)
     requires { length text.old + LONGEST_ITEM ≤ CAPACITY }
     ensures text { text.new ≡ text.old ++ compact_text (entry_data entry.now) }
@@ -154,6 +165,7 @@ fn push_entry(text: &mut ShortText, entry: &Entry)
         What::Acted { act, key, now } => {
             push_acted(text, *number, *session, *act, *key, now.get());
         }
+        What::Settled { upto } => push_settled(text, *number, *session, *upto),
     }
 }
 

@@ -22,3 +22,7 @@ returns-clause-acted c = refl
 pub returns-clause-none : goal.returns-clause-none
 unfolding serde_json_on_literals digits
 returns-clause-none c = refl
+
+pub returns-clause-settled : goal.returns-clause-settled
+unfolding serde_json_on_literals digits
+returns-clause-settled c = refl

@@ -114,3 +114,11 @@ returns-clause-gate_counters c = refl
 pub returns-clause-meter_counters : goal.returns-clause-meter_counters
 unfolding serde_json_on_literals digits
 returns-clause-meter_counters c = refl
+
+pub returns-clause-settled : goal.returns-clause-settled
+unfolding digits
+returns-clause-settled c = refl
+
+pub returns-clause-settled_already : goal.returns-clause-settled_already
+unfolding digits
+returns-clause-settled_already c = refl
