@@ -16,7 +16,7 @@ use Rattle.tsn_types.specs.InRange.{KeyedInRange}
 use Rattle.tsn_types.specs.Keys.{kind, number_of}
 use Rattle.tsn_types.specs.Numbers.{IsHandle, IsPriority, greatest_handle, greatest_instant, greatest_priority}
 use Rattle.tsn_records.specs.Answers.{or_shape, or_syntax}
-use Rattle.tsn_wire.specs.Commands.{key_at, listed, listed_at, keyed_record, create_shape, replace_shape, removed_key, remove_shape, batch_shape, bare_shape, enable_shape, disable_shape, apply_shape, frame_members, frame_shape, states_shape, counters_shape, show_shape, list_shape, since_shape, command_shape, line_shape}
+use Rattle.tsn_wire.specs.Commands.{key_at, listed, listed_at, keyed_record, create_shape, replace_shape, removed_key, remove_shape, batch_shape, bare_shape, enable_shape, disable_shape, apply_shape, frame_members, frame_shape, states_shape, counters_shape, show_shape, list_shape, since_shape, settle_shape, command_shape, line_shape}
 use Rattle.tsn_records.specs.Json.{flag_at, has_members, number_at, text_at, value_at}
 use Rattle.tsn_records.specs.Keys.{kind_of, key_text, kind_text}
 use Rattle.tsn_records.specs.Ranges.{within, record_of, key}
@@ -25,7 +25,7 @@ use Rattle.tsn_wire.specs.Reading.{data_of, line_of_draft, reading, line_of}
 use Rattle.tsn_records.specs.Records.{record_shape}
 use Rattle.tsn_records.specs.Shown.{whole_data, record_data}
 use Rattle.tsn_wire.specs.Spelled.{IsNoPort, record_value}
-use Rattle.tsn_wire.specs.Values.{act_data, asked_data, bare_data, frame_data, keyed_data, edit_data, listed_data, states_data, value_of, MayHaveList, ListInRange, FrameInRange, IsSession, MayBeAsked, AcceptsValues}
+use Rattle.tsn_wire.specs.Values.{act_data, asked_data, bare_data, frame_data, keyed_data, edit_data, listed_data, settle_data, states_data, value_of, MayHaveList, ListInRange, FrameInRange, IsSession, MayBeAsked, AcceptsValues}
 use Rattle.tsn_wire.specs.ReadingBack.{ReadsBack}
 use Rattle.tsn_records.specs.declared.drafts.KeyDraft.{KeyDraft}
 use Rattle.tsn_records.specs.declared.drafts.RecordDraft.{RecordDraft}
@@ -154,6 +154,18 @@ since_known s d draft c of shape range =
     let found = commands.Since after in
     subst (IsValue s d) (only (Ok found) found c refl after_next)
     ((of.session, fits.1.1), whole_object 2 d (inside (asked_data s after)) count of.ordered count_is refl (refl, (refl, tt)) (number_there _ n n_is ∙ ap (λ m. Some (whole_data m)) fits.0, (of.word_there, (of.session_there, tt)))))))
+
+settle_known : (s : ℕ) (d : Data) (draft : CommandDraft) (c : Command) → IsOf (codes "settle") s d → settle_shape d ≡ Ok draft → command_of_draft draft ≡ Ok c → IsValue s d c
+unfolding settle_shape
+settle_known s d draft c of shape range =
+    steps (has_members 3 d) _ draft shape (λ count count_is count_next.
+    steps (number_at (codes "upto") d) _ draft count_next (λ n n_is n_next.
+    let whole = wanted.Settle n in
+    steps (within fields.Upto 0 greatest_after n) _ c (ap command_of_draft (only (Ok whole) whole draft refl n_next) ∙ range) (λ upto upto_is upto_next.
+    let fits = passed fields.Upto 0 greatest_after n upto upto_is in
+    let found = commands.Settle upto in
+    subst (IsValue s d) (only (Ok found) found c refl upto_next)
+    ((of.session, fits.1.1), whole_object 2 d (inside (settle_data s upto)) count of.ordered count_is refl (refl, (refl, tt)) (of.word_there, (of.session_there, (number_there _ n n_is ∙ ap (λ m. Some (whole_data m)) fits.0, tt)))))))
 
 -- ---- acts on lists, frames and looks
 
@@ -323,15 +335,16 @@ command_known word s d draft c of shape range =
     (λ _ h4. by_test _ _ _ _ h4 (λ e h. bare_known _ wanted.Undo commands.Undo s d draft c (named word _ s d of e) h range refl (λ session is. (session, is)))
     (λ _ h5. by_test _ _ _ _ h5 (λ e h. bare_known _ wanted.UndoAll commands.UndoAll s d draft c (named word _ s d of e) h range refl (λ session is. (session, is)))
     (λ _ h6. by_test _ _ _ _ h6 (λ e h. bare_known _ wanted.Redo commands.Redo s d draft c (named word _ s d of e) h range refl (λ session is. (session, is)))
-    (λ _ h7. by_test _ _ _ _ h7 (λ e h. enable_known s d draft c (named word _ s d of e) h range)
-    (λ _ h8. by_test _ _ _ _ h8 (λ e h. disable_known s d draft c (named word _ s d of e) h range)
-    (λ _ h9. by_test _ _ _ _ h9 (λ e h. apply_known s d draft c (named word _ s d of e) h range)
-    (λ _ h10. by_test _ _ _ _ h10 (λ e h. frame_known s d draft c (named word _ s d of e) h range)
-    (λ _ h11. by_test _ _ _ _ h11 (λ e h. states_known s d draft c (named word _ s d of e) h range)
-    (λ _ h12. by_test _ _ _ _ h12 (λ e h. counters_known s d draft c (named word _ s d of e) h range)
-    (λ _ h13. by_test _ _ _ _ h13 (λ e h. show_known s d draft c (named word _ s d of e) h range)
-    (λ _ h14. by_test _ _ _ _ h14 (λ e h. list_known s d draft c (named word _ s d of e) h range)
-    (λ _ h15. by_test _ _ _ _ h15 (λ e h. since_known s d draft c (named word _ s d of e) h range) (λ _ h16. cc))))))))))))))))
+    (λ _ h7. by_test _ _ _ _ h7 (λ e h. settle_known s d draft c (named word _ s d of e) h range)
+    (λ _ h8. by_test _ _ _ _ h8 (λ e h. enable_known s d draft c (named word _ s d of e) h range)
+    (λ _ h9. by_test _ _ _ _ h9 (λ e h. disable_known s d draft c (named word _ s d of e) h range)
+    (λ _ h10. by_test _ _ _ _ h10 (λ e h. apply_known s d draft c (named word _ s d of e) h range)
+    (λ _ h11. by_test _ _ _ _ h11 (λ e h. frame_known s d draft c (named word _ s d of e) h range)
+    (λ _ h12. by_test _ _ _ _ h12 (λ e h. states_known s d draft c (named word _ s d of e) h range)
+    (λ _ h13. by_test _ _ _ _ h13 (λ e h. counters_known s d draft c (named word _ s d of e) h range)
+    (λ _ h14. by_test _ _ _ _ h14 (λ e h. show_known s d draft c (named word _ s d of e) h range)
+    (λ _ h15. by_test _ _ _ _ h15 (λ e h. list_known s d draft c (named word _ s d of e) h range)
+    (λ _ h16. by_test _ _ _ _ h16 (λ e h. since_known s d draft c (named word _ s d of e) h range) (λ _ h17. cc)))))))))))))))))
 
 -- a value that asks for what a line says
 abbrev SaysAsk : Data → Ask → Type 0
@@ -379,6 +392,10 @@ accepted line l h =
 as_draft : (word : List ℕ) (s : ℕ) (k : Key) (r : Record) (draft : LineDraft) → line_shape (edit_data word s (key_text k) (record_value (record_draft r))) ≡ Ok draft → line_shape (edit_data word s (key_text k) (record_data r)) ≡ Ok draft
 as_draft word s k r draft h = ap (λ d. line_shape (edit_data word s (key_text k) d)) (sym (record_same r)) ∙ h
 
+settle_shaped : (s upto : ℕ) → line_shape (settle_data s upto) ≡ Ok (Session s (wanted.Settle upto))
+unfolding line_shape command_shape settle_shape
+settle_shaped s upto = refl
+
 hello_shaped : (s : ℕ) → line_shape (value_of s commands.Hello) ≡ Ok Hello
 unfolding line_shape
 hello_shaped s = refl
@@ -406,6 +423,8 @@ read_as line s (commands.Batch b) fits read =
 read_as line s commands.Undo fits read = in_steps line _ (Session s wanted.Undo) _ read (undo_shaped s) (rw (within_ok fields.S 1 most_sessions s fits))
 read_as line s commands.UndoAll fits read = in_steps line _ (Session s wanted.UndoAll) _ read (undo_all_shaped s) (rw (within_ok fields.S 1 most_sessions s fits))
 read_as line s commands.Redo fits read = in_steps line _ (Session s wanted.Redo) _ read (redo_shaped s) (rw (within_ok fields.S 1 most_sessions s fits))
+read_as line s (commands.Settle upto) fits read =
+    in_steps line _ (Session s (wanted.Settle upto)) _ read (settle_shaped s upto) (rw (within_ok fields.S 1 most_sessions s fits.0, within_ok fields.Upto 0 greatest_after upto (omega arith, fits.1)))
 read_as line s (commands.Enable k now) fits read =
     in_steps line _ (Session s (wanted.Enable (key_draft k) now)) _ read (enable_shaped s (kind k) (number_of k) now (instance k fits.1.key) fits.1.list)
     (rw (within_ok fields.S 1 most_sessions s fits.0, key_back k fits.1.key, at_most_ok fields.Now greatest_instant now fits.1.instant))

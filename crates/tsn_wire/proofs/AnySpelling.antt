@@ -21,7 +21,7 @@ use Rattle.tsn_wire.specs.Members.{Rows, ReadsMembers}
 use Rattle.tsn_wire.specs.Reading.{line_of_draft, reading}
 use Rattle.tsn_wire.specs.Spelled.{record_value}
 use Rattle.tsn_wire.specs.Values.{MayHaveList}
-use Rattle.tsn_wire.specs.declared.drafts.CommandDraft.TheVariants.{Create, Replace, Remove, Batch, Undo, UndoAll, Redo, Enable, Disable, Apply, Frame, States, Counters, Show, List as ListKind, Since}
+use Rattle.tsn_wire.specs.declared.drafts.CommandDraft.TheVariants.{Create, Replace, Remove, Batch, Undo, UndoAll, Redo, Settle, Enable, Disable, Apply, Frame, States, Counters, Show, List as ListKind, Since}
 use Rattle.tsn_wire.specs.declared.drafts.FrameDraft.{FrameDraft}
 use Rattle.tsn_wire.specs.declared.drafts.LineDraft.{LineDraft}
 use Rattle.tsn_wire.specs.declared.drafts.LineDraft.TheVariants.{Hello, Session}
@@ -171,6 +171,7 @@ shaped (Session s (Batch batch)) never = absurd never
 shaped (Session s Undo) sound = undo_shaped s
 shaped (Session s UndoAll) sound = undo_all_shaped s
 shaped (Session s Redo) sound = redo_shaped s
+shaped (Session s (Settle upto)) never = absurd never
 shaped (Session s (Enable key now)) (k, has) = enable_shaped s key.kind key.number now k has
 shaped (Session s (Disable key now)) (k, has) = disable_shaped s key.kind key.number now k has
 shaped (Session s (Apply key now)) (k, has) = apply_shaped s key.kind key.number now k has
@@ -190,6 +191,7 @@ rises (Session s (Batch batch)) = (refl, (refl, tt))
 rises (Session s Undo) = (refl, tt)
 rises (Session s UndoAll) = (refl, tt)
 rises (Session s Redo) = (refl, tt)
+rises (Session s (Settle upto)) = (refl, (refl, tt))
 rises (Session s (Enable key now)) = (refl, (refl, (refl, tt)))
 rises (Session s (Disable key now)) = (refl, (refl, (refl, tt)))
 rises (Session s (Apply key now)) = (refl, (refl, (refl, tt)))

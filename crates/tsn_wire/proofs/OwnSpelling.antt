@@ -37,7 +37,7 @@ use Rattle.tsn_records.specs.declared.drafts.MeterDraft.{MeterDraft}
 use Rattle.tsn_records.specs.declared.drafts.RecordDraft.{RecordDraft}
 use Rattle.tsn_records.specs.declared.drafts.RecordDraft.TheVariants as records
 use Rattle.tsn_wire.specs.declared.drafts.CommandDraft.{CommandDraft}
-use Rattle.tsn_wire.specs.declared.drafts.CommandDraft.TheVariants.{Create, Replace, Remove, Batch, Undo, UndoAll, Redo, Enable, Disable, Apply, Frame, States, Counters, Show, List as ListKind, Since}
+use Rattle.tsn_wire.specs.declared.drafts.CommandDraft.TheVariants.{Create, Replace, Remove, Batch, Undo, UndoAll, Redo, Settle, Enable, Disable, Apply, Frame, States, Counters, Show, List as ListKind, Since}
 use Rattle.tsn_wire.specs.declared.drafts.EditDraft.{EditDraft}
 use Rattle.tsn_wire.specs.declared.drafts.EditDraft.TheVariants as edits
 use Rattle.tsn_wire.specs.declared.drafts.LineDraft.{LineDraft}
@@ -418,6 +418,7 @@ spelled_says line text rest (Show key) s first (k, is) small last utf8 =
 spelled_says line text rest (ListKind k) s first is small last utf8 =
     let whole_line = first ∙ ap (λ l. codes "{\"do\":\"" ++ l) (is ∙ ap (λ l. codes "list\",\"kind\":\"" ++ (kind_text k ++ (codes "\"" ++ l))) last) in
     reading_of line (listed s k) (Session s (ListKind k)) (printed_reads line _ (listed_plain s k small) (whole_line ∙ listed_text s k) utf8) (listed_shaped s k)
+spelled_says line text rest (Settle upto) s first never small last utf8 = absurd never
 spelled_says line text rest (Enable key now) s first never small last utf8 = absurd never
 spelled_says line text rest (Disable key now) s first never small last utf8 = absurd never
 spelled_says line text rest (Apply key now) s first never small last utf8 = absurd never

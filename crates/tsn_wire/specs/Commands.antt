@@ -12,7 +12,7 @@ use Rattle.tsn_records.specs.declared.drafts.KeyDraft.{KeyDraft}
 use Rattle.tsn_records.specs.declared.drafts.RecordDraft.{RecordDraft}
 use Rattle.tsn_wire.specs.Batches.{batch_of}
 use Rattle.tsn_wire.specs.declared.drafts.CommandDraft.{CommandDraft}
-use Rattle.tsn_wire.specs.declared.drafts.CommandDraft.TheVariants.{Create, Replace, Remove, Batch, Undo, UndoAll, Redo, Enable, Disable, Apply, Frame, States, Counters, Show, List as ListKind, Since}
+use Rattle.tsn_wire.specs.declared.drafts.CommandDraft.TheVariants.{Create, Replace, Remove, Batch, Undo, UndoAll, Redo, Settle, Enable, Disable, Apply, Frame, States, Counters, Show, List as ListKind, Since}
 use Rattle.tsn_wire.specs.declared.drafts.EditDraft.{EditDraft}
 use Rattle.tsn_wire.specs.declared.drafts.EditDraft.TheVariants as edits
 use Rattle.tsn_wire.specs.declared.drafts.FrameDraft.{FrameDraft}
@@ -150,6 +150,12 @@ since_shape d = do
   after ← number_at (codes "after") d
   Ok (Since after)
 
+unfoldable pub settle_shape : Data → Result CommandDraft Unread
+settle_shape d = do
+  _ ← has_members 3 d
+  upto ← number_at (codes "upto") d
+  Ok (Settle upto)
+
 -- the command of a word, with the members `do` and `s` counted
 unfoldable pub command_shape : List ℕ → Data → Result CommandDraft Unread
 command_shape word d =
@@ -160,6 +166,7 @@ command_shape word d =
     else if bytes_eq word (codes "undo") then bare_shape Undo d
     else if bytes_eq word (codes "undo_all") then bare_shape UndoAll d
     else if bytes_eq word (codes "redo") then bare_shape Redo d
+    else if bytes_eq word (codes "settle") then settle_shape d
     else if bytes_eq word (codes "enable") then enable_shape d
     else if bytes_eq word (codes "disable") then disable_shape d
     else if bytes_eq word (codes "apply") then apply_shape d

@@ -16,7 +16,7 @@ use Rattle.tsn_wire.specs.Values.{MayHaveList}
 use Rattle.tsn_wire.specs.Words.{word_text}
 use Rattle.tsn_wire.specs.declared.any_line.LineMembers.{LineMembers}
 use Rattle.tsn_wire.specs.declared.drafts.CommandDraft.{CommandDraft}
-use Rattle.tsn_wire.specs.declared.drafts.CommandDraft.TheVariants.{Create, Replace, Remove, Batch, Undo, UndoAll, Redo, Enable, Disable, Apply, Frame, States, Counters, Show, List as ListKind, Since}
+use Rattle.tsn_wire.specs.declared.drafts.CommandDraft.TheVariants.{Create, Replace, Remove, Batch, Undo, UndoAll, Redo, Settle, Enable, Disable, Apply, Frame, States, Counters, Show, List as ListKind, Since}
 use Rattle.tsn_wire.specs.declared.drafts.EditDraft.{EditDraft}
 use Rattle.tsn_wire.specs.declared.drafts.FrameDraft.{FrameDraft}
 use Rattle.tsn_wire.specs.declared.drafts.LineDraft.{LineDraft}
@@ -87,6 +87,9 @@ list_members s kind = member (codes "do") (string (codes "list")) (member (codes
 abbrev pub since_members : ℕ → ℕ → Members
 since_members s after = member (codes "after") (whole_data after) (member (codes "do") (string (codes "since")) (member (codes "s") (whole_data s) no_members))
 
+abbrev pub settle_members : ℕ → ℕ → Members
+settle_members s upto = member (codes "do") (string (codes "settle")) (member (codes "s") (whole_data s) (member (codes "upto") (whole_data upto) no_members))
+
 abbrev pub command_members : ℕ → CommandDraft → Members
 command_members s (Create key value) = edit_members (codes "create") s key value
 command_members s (Replace key value) = edit_members (codes "replace") s key value
@@ -95,6 +98,7 @@ command_members s (Batch batch) = batch_members s batch
 command_members s Undo = bare_members (codes "undo") s
 command_members s UndoAll = bare_members (codes "undo_all") s
 command_members s Redo = bare_members (codes "redo") s
+command_members s (Settle upto) = settle_members s upto
 command_members s (Enable key now) = act_members (codes "enable") s key now
 command_members s (Disable key now) = act_members (codes "disable") s key now
 command_members s (Apply key now) = act_members (codes "apply") s key now
@@ -109,7 +113,7 @@ abbrev pub line_members : LineDraft → Members
 line_members Hello = member (codes "do") (string (codes "hello")) no_members
 line_members (Session s command) = command_members s command
 
--- a key that some table may have, and what its kind must be; a batch is not read so
+-- a key that some table may have, and what its kind must be; a batch and a settle are not read so
 abbrev pub IsSound : CommandDraft → Type 0
 IsSound (Create key value) = IsKey key × IsOf key.kind value
 IsSound (Replace key value) = IsKey key × IsOf key.kind value
@@ -118,6 +122,7 @@ IsSound (Batch batch) = ⊥
 IsSound Undo = ⊤
 IsSound UndoAll = ⊤
 IsSound Redo = ⊤
+IsSound (Settle upto) = ⊥
 IsSound (Enable key now) = IsKey key × MayHaveList key.kind
 IsSound (Disable key now) = IsKey key × MayHaveList key.kind
 IsSound (Apply key now) = IsKey key × MayHaveList key.kind

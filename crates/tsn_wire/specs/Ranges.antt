@@ -17,7 +17,7 @@ use Rattle.tsn_wire.specs.declared.drafts.EditDraft.{EditDraft}
 use Rattle.tsn_wire.specs.declared.drafts.EditDraft.TheVariants as drafts
 use Rattle.tsn_wire.specs.declared.drafts.FrameDraft.{FrameDraft}
 
--- the number after which entries are asked for has 32 bits
+-- the number after which entries are asked for, and the one up to which they are settled, have 32 bits
 abbrev pub greatest_after : ℕ
 greatest_after = 4294967295
 
@@ -47,6 +47,7 @@ command_of_draft (wanted.Batch b) = each edit_of_draft b >>= λ batch. Ok (comma
 command_of_draft wanted.Undo = Ok commands.Undo
 command_of_draft wanted.UndoAll = Ok commands.UndoAll
 command_of_draft wanted.Redo = Ok commands.Redo
+command_of_draft (wanted.Settle n) = within fields.Upto 0 greatest_after n >>= λ upto. Ok (commands.Settle upto)
 command_of_draft (wanted.Enable k n) = key k >>= λ named. within fields.Now 0 greatest_instant n >>= λ now. Ok (commands.Enable named now)
 command_of_draft (wanted.Disable k n) = key k >>= λ named. within fields.Now 0 greatest_instant n >>= λ now. Ok (commands.Disable named now)
 command_of_draft (wanted.Apply k n) = key k >>= λ named. within fields.Now 0 greatest_instant n >>= λ now. Ok (commands.Apply named now)

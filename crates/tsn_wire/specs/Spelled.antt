@@ -22,7 +22,7 @@ use Rattle.tsn_wire.specs.Batches.{is_batch_draft}
 use Rattle.tsn_wire.specs.declared.drafts.CommandDraft.{CommandDraft}
 use Rattle.tsn_wire.specs.declared.drafts.EditDraft.{EditDraft}
 use Rattle.tsn_wire.specs.declared.drafts.EditDraft.TheVariants as edits
-use Rattle.tsn_wire.specs.declared.drafts.CommandDraft.TheVariants.{Create, Replace, Remove, Batch, Undo, UndoAll, Redo, Enable, Disable, Apply, Frame, States, Counters, Show, List as ListKind, Since}
+use Rattle.tsn_wire.specs.declared.drafts.CommandDraft.TheVariants.{Create, Replace, Remove, Batch, Undo, UndoAll, Redo, Settle, Enable, Disable, Apply, Frame, States, Counters, Show, List as ListKind, Since}
 
 -- a number that a line can hold
 abbrev pub IsSmall : ℕ → Type 0
@@ -142,7 +142,7 @@ SpellsRecord text key value rest =
     × (text ≡ spelled_key key.kind key.number ++ (codes "\",\"record\":" ++ (compact_text (record_value value) ++ rest)))
 
 -- The text begins with what follows `{"do":"` in a command's line, up to `,"s":`, and the rest comes after it. Lines that
--- act on a list, hand in a frame or look at states or counters are not read so.
+-- settle, act on a list, hand in a frame or look at states or counters are not read so.
 abbrev pub Spells : List ℕ → CommandDraft → List ℕ → Type 0
 Spells text (Create key value) rest = (behind : List ℕ) × (text ≡ codes "create\",\"key\":\"" ++ behind) × SpellsRecord behind key value rest
 Spells text (Replace key value) rest = (behind : List ℕ) × (text ≡ codes "replace\",\"key\":\"" ++ behind) × SpellsRecord behind key value rest
@@ -151,6 +151,7 @@ Spells text (Batch batch) rest = (is_batch_draft batch ≡ true) × AllByRecursi
 Spells text Undo rest = text ≡ codes "undo\"" ++ rest
 Spells text UndoAll rest = text ≡ codes "undo_all\"" ++ rest
 Spells text Redo rest = text ≡ codes "redo\"" ++ rest
+Spells text (Settle upto) rest = ⊥
 Spells text (Enable key now) rest = ⊥
 Spells text (Disable key now) rest = ⊥
 Spells text (Apply key now) rest = ⊥

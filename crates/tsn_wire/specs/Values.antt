@@ -5,7 +5,7 @@ use Rattle.std.specs.List.{AllByRecursion}
 use Rattle.serde_json.specs.Data.{Data, boolean, string, array, object, member, no_members}
 use Rattle.serde_json.specs.View.{items_of}
 use Rattle.tsn_bridge.specs.declared.command.Command.{Command}
-use Rattle.tsn_bridge.specs.declared.command.Command.TheVariants.{Hello, Create, Replace, Remove, Batch, Undo, UndoAll, Redo, Enable, Disable, Apply, Frame as FrameIn, States, Counters, Show, List as ListKind, Since}
+use Rattle.tsn_bridge.specs.declared.command.Command.TheVariants.{Hello, Create, Replace, Remove, Batch, Undo, UndoAll, Redo, Settle, Enable, Disable, Apply, Frame as FrameIn, States, Counters, Show, List as ListKind, Since}
 use Rattle.tsn_bridge.specs.Sessions.{most_sessions}
 use Rattle.tsn_chain.specs.declared.frame.Frame.{Frame}
 use Rattle.tsn_edit.specs.Batches.{IsBatch}
@@ -95,6 +95,10 @@ listed_data s name = object (member (codes "do") (string (codes "list")) (member
 abbrev pub asked_data : ℕ → ℕ → Data
 asked_data s after = object (member (codes "after") (whole_data after) (member (codes "do") (string (codes "since")) (member (codes "s") (whole_data s) no_members)))
 
+-- `{"do":"settle","s":S,"upto":U}`
+abbrev pub settle_data : ℕ → ℕ → Data
+settle_data s upto = object (member (codes "do") (string (codes "settle")) (member (codes "s") (whole_data s) (member (codes "upto") (whole_data upto) no_members)))
+
 -- the value of a session's command, its record as it is shown; a hello names no session
 abbrev pub value_of : ℕ → Command → Data
 value_of s Hello = object (member (codes "do") (string (codes "hello")) no_members)
@@ -105,6 +109,7 @@ value_of s (Batch b) = batch_data s b
 value_of s Undo = bare_data (codes "undo") s
 value_of s UndoAll = bare_data (codes "undo_all") s
 value_of s Redo = bare_data (codes "redo") s
+value_of s (Settle upto) = settle_data s upto
 value_of s (Enable k now) = act_data (codes "enable") s (key_text k) now
 value_of s (Disable k now) = act_data (codes "disable") s (key_text k) now
 value_of s (Apply k now) = act_data (codes "apply") s (key_text k) now
@@ -163,6 +168,7 @@ MayBeAsked s (Batch b) = IsSession s × IsBatch b × AllByRecursion EditMayBeAsk
 MayBeAsked s Undo = IsSession s
 MayBeAsked s UndoAll = IsSession s
 MayBeAsked s Redo = IsSession s
+MayBeAsked s (Settle upto) = IsSession s × (upto ≤ greatest_after)
 MayBeAsked s (Enable k now) = IsSession s × ListInRange k now
 MayBeAsked s (Disable k now) = IsSession s × ListInRange k now
 MayBeAsked s (Apply k now) = IsSession s × ListInRange k now

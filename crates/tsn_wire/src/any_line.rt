@@ -410,7 +410,7 @@ fn line_draft(found: LineMembers, count: u32) -> Option<LineDraft>
 }
 
 /// The draft that a line is, whatever the order of its members and the white space between; none, for instance, of a
-/// batch, where a member is missing, unknown or given twice, where a text has an escape, where a record comes before its
+/// batch and of a settle, where a member is missing, unknown or given twice, where a text has an escape, where a record comes before its
 /// key, where a key's number is over 65,535, or where memory is wanting.
 pub fn any_draft(alloc: Global, line: &[u8]) -> Option<LineDraft>
     ensures { IfSome result (λ draft. reading line.now ≡ line_of_draft draft) }

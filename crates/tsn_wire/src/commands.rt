@@ -5,7 +5,7 @@ ghost use Rattle.std.specs.Prelude.{◌≡◌, codes, option_and_then};
 ghost use Rattle.serde_json.specs.View.{view};
 ghost use Rattle.tsn_records.specs.Answers.{Reads};
 ghost use Rattle.tsn_records.specs.Json.{text_at, value_at};
-ghost use Rattle.tsn_wire.specs.Commands.{key_at, removable, listed, listed_at, keyed_record, create_shape, replace_shape, removed_key, remove_shape, bare_shape, enable_shape, disable_shape, apply_shape, frame_members, frame_shape, states_shape, counters_shape, show_shape, list_shape, since_shape, command_shape, line_shape};
+ghost use Rattle.tsn_wire.specs.Commands.{key_at, removable, listed, listed_at, keyed_record, create_shape, replace_shape, removed_key, remove_shape, bare_shape, enable_shape, disable_shape, apply_shape, frame_members, frame_shape, states_shape, counters_shape, show_shape, list_shape, since_shape, settle_shape, command_shape, line_shape};
 
 use crate::batches::batch_shape;
 use crate::drafts::{CommandDraft, FrameDraft, LineDraft};
@@ -207,6 +207,15 @@ fn since_shape(value: &Value) -> Result<CommandDraft, Unread>
     Ok(CommandDraft::Since { after })
 }
 
+#[tactic(auto, unfolding(crate::specs::Commands::settle_shape))]
+fn settle_shape(value: &Value) -> Result<CommandDraft, Unread>
+    ensures { result ≡ settle_shape (view value.now) }
+{
+    has_members(3, value)?;
+    let upto = number_at("upto", value)?;
+    Ok(CommandDraft::Settle { upto })
+}
+
 #[tactic(auto, unfolding(crate::specs::Commands::command_shape))]
 fn command_shape(alloc: Global, word: &str, value: &Value) -> Result<CommandDraft, Unread>
     ensures { Reads result (command_shape word.now (view value.now)) }
@@ -219,6 +228,7 @@ fn command_shape(alloc: Global, word: &str, value: &Value) -> Result<CommandDraf
         "undo" => bare_shape(CommandDraft::Undo, value),
         "undo_all" => bare_shape(CommandDraft::UndoAll, value),
         "redo" => bare_shape(CommandDraft::Redo, value),
+        "settle" => settle_shape(value),
         "enable" => enable_shape(value),
         "disable" => disable_shape(value),
         "apply" => apply_shape(value),

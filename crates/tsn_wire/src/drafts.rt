@@ -120,6 +120,7 @@ pub enum CommandDraft {
     Undo,
     UndoAll,
     Redo,
+    Settle { upto: u64 },
     Enable { key: KeyDraft, now: u64 },
     Disable { key: KeyDraft, now: u64 },
     Apply { key: KeyDraft, now: u64 },

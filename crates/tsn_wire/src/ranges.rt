@@ -23,6 +23,12 @@ fn after(number: u64) -> Result<u32, Unread>
     u32::try_from(number).map_err(|_| Unread::Range(Field::After))
 }
 
+fn upto(number: u64) -> Result<u32, Unread>
+    ensures { result ≡ within fields.Upto 0 greatest_after number }
+{
+    u32::try_from(number).map_err(|_| Unread::Range(Field::Upto))
+}
+
 fn instant(number: u64, field: Field) -> Result<Instant, Unread>
     ensures { result ≡ within field 0 greatest_instant number }
 {
@@ -135,6 +141,9 @@ pub fn command_of_draft(alloc: Global, draft: &CommandDraft) -> Result<Command, 
         CommandDraft::Undo => Ok(Command::Undo),
         CommandDraft::UndoAll => Ok(Command::UndoAll),
         CommandDraft::Redo => Ok(Command::Redo),
+        CommandDraft::Settle { upto: number } => Ok(Command::Settle {
+            upto: upto(*number)?,
+        }),
         CommandDraft::Enable { key: draft, now } => {
             let key = key(*draft)?;
             let now = instant(*now, Field::Now)?;

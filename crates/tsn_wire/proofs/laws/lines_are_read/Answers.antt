@@ -1,7 +1,7 @@
 use Rattle.std.proofs.Common.{refl}
 use Rattle.std.specs.Str.{is_utf8, chars}
 use Rattle.serde_json.proofs.OnLiterals.{serde_json_on_literals}
-use Rattle.tsn_wire.specs.Commands.{line_shape, command_shape, listed_at, bare_shape, removed_key, remove_shape, enable_shape, disable_shape, apply_shape, frame_members, frame_shape, states_shape, counters_shape, since_shape}
+use Rattle.tsn_wire.specs.Commands.{line_shape, command_shape, listed_at, bare_shape, removed_key, remove_shape, enable_shape, disable_shape, apply_shape, frame_members, frame_shape, states_shape, counters_shape, since_shape, settle_shape}
 use Rattle.tsn_wire.specs.Ranges.{frame_of_draft}
 use Rattle.tsn_wire.proofs.laws.lines_are_read.Goals as goal
 
@@ -24,6 +24,10 @@ returns-clause-redo c = refl
 pub returns-clause-since : goal.returns-clause-since
 unfolding serde_json_on_literals is_utf8 chars line_shape command_shape since_shape
 returns-clause-since c = refl
+
+pub returns-clause-settle : goal.returns-clause-settle
+unfolding serde_json_on_literals is_utf8 chars line_shape command_shape settle_shape
+returns-clause-settle c = refl
 
 pub returns-clause-after : goal.returns-clause-after
 unfolding serde_json_on_literals is_utf8 chars line_shape command_shape since_shape
