@@ -1,7 +1,8 @@
 //! What only a journal's own calls show, entry by entry: which numbers stand, what is found of them, what is copied, and
 //! for how many more there is room. `examples/tables/undo-*.txt` have what sessions are told.
 //! One function makes the journals and lends them, so that a proof goes once over a journal's end.
-ghost use Rattle.std.specs.Prelude.{◌≤◌};
+ghost use Rattle.std.specs.Prelude.{◌≡◌, ◌≤◌, length};
+ghost use Rattle.tsn_journal.specs.Entries.{settles_to};
 
 use crate::comparing::same;
 use std::alloc::{AllocError, Global};
@@ -59,8 +60,10 @@ fn removed(number: u64) -> Change
     created(number).inverse()
 }
 
-/// Puts the entry at the end; the answer is its number.
-fn enter(journal: &mut Journal, session: u32, what: What) -> Result<u64, Refusal> {
+/// Puts the entry at the end; the answer is its number. One that settles names an entry that is there, or none.
+fn enter(journal: &mut Journal, session: u32, what: What) -> Result<u64, Refusal>
+    requires { settles_to what ≤ length journal.old.entries }
+{
     if let Err(why) = journal.reserve(1, what.added_parts()) {
         return Err(why);
     }
@@ -79,7 +82,9 @@ fn on_a_journal<F: FnOnce(&mut Journal) -> Result<(), Fail>>(
 }
 
 /// The entry at the end gets this number.
-fn enters(rt: &impl Abort, journal: &mut Journal, session: u32, what: What, number: u64) {
+fn enters(rt: &impl Abort, journal: &mut Journal, session: u32, what: What, number: u64)
+    requires { settles_to what ≤ length journal.old.entries }
+{
     same(rt, &enter(journal, session, what), &Ok(number));
 }
 
@@ -111,6 +116,12 @@ fn redoes(rt: &impl Abort, journal: &mut Journal, session: u32, of: u64, meter: 
 {
     let change = created(meter);
     enters(rt, journal, session, What::Redone { of, change }, number);
+}
+
+/// The session settles the entries up to a number, by an entry of this number.
+fn settles(rt: &impl Abort, journal: &mut Journal, session: u32, upto: u64, number: u64) {
+    assert!(rt; upto <= journal.len() as u64);
+    enters(rt, journal, session, What::Settled { upto }, number);
 }
 
 /// Whether the entry is the session's, and a change at the meter.
@@ -189,7 +200,9 @@ fn stand(journal: &Journal, session: u32, wanted: &[u64]) -> Result<bool, AllocE
 }
 
 /// An act on gate 0.
-fn act() -> What {
+fn act() -> What
+    ensures { settles_to result ≡ 0 }
+{
     What::Acted {
         act: Act::Enable,
         key: gate_key(0),
@@ -256,6 +269,37 @@ fn what_stands_is_found(rt: HostRuntime) -> Result<(), Fail> {
         assert!(rt; changes_nothing(&act()));
         enters(&rt, journal, 1, act(), 6);
         has_a_redone_entry(&rt, journal);
+        Ok(())
+    })
+}
+
+/// Session 1 has just these standing, and session 2 may redo this.
+fn leaves(rt: &impl Abort, journal: &Journal, settled: u64, standing: &[u64], redo: &Option<u64>) {
+    same(rt, &journal.settled(), &settled);
+    same(rt, &stand(journal, 1, standing), &Ok(true));
+    same(rt, &journal.count_of(1), &standing.len());
+    same(rt, &journal.parts_of(1), &standing.len());
+    same(rt, &journal.last_of(1).as_ref(), &standing.last());
+    same(rt, &journal.redo_of(2), redo);
+}
+
+#[test]
+fn what_is_settled_stands_no_more(rt: HostRuntime) -> Result<(), Fail> {
+    on_a_journal(rt.alloc(), |journal| {
+        creates(&rt, journal, 1, 1, 1);
+        creates(&rt, journal, 2, 2, 2);
+        undoes(&rt, journal, 2, 2, 2, 3);
+        creates(&rt, journal, 1, 3, 4);
+        leaves(&rt, journal, 0, &[1, 4], &Some(3));
+        settles(&rt, journal, 3, 2, 5);
+        leaves(&rt, journal, 2, &[4], &Some(3));
+        settles(&rt, journal, 1, 5, 6);
+        leaves(&rt, journal, 5, &[], &None);
+
+        // The number never falls.
+        settles(&rt, journal, 2, 1, 7);
+        creates(&rt, journal, 1, 4, 8);
+        leaves(&rt, journal, 5, &[8], &None);
         Ok(())
     })
 }
