@@ -1,4 +1,4 @@
--- Journals of worked examples, by hand: the first run of a script, an undo that a colleague's removal blocks, an undo of all or of nothing, and a redo in conflict.
+-- Journals of worked examples, by hand: the first run of a script, an undo that a colleague's removal blocks, an undo of all or of nothing, a redo in conflict, and a settle.
 use Rattle.std.specs.Prelude.{ℕ, List, [], ◌∷◌, Option, Some, None, true, false}
 use Rattle.std.specs.List.{fold}
 use Rattle.tsn_types.specs.declared.keys.Key.{Key}
@@ -7,7 +7,7 @@ use Rattle.tsn_types.specs.declared.records.Record.{Record}
 use Rattle.tsn_types.specs.declared.records.Record.TheVariants.{Filter as FilterRecord, Gate as GateRecord, Meter as MeterRecord}
 use Rattle.tsn_edit.specs.Parts.{Change}
 use Rattle.tsn_journal.specs.declared.entries.Entry.{Entry}
-use Rattle.tsn_journal.specs.declared.entries.What.TheVariants.{Made}
+use Rattle.tsn_journal.specs.declared.entries.What.TheVariants.{Made, Settled}
 use Rattle.tsn_journal.specs.Entries.{Applied, undone, with_entry}
 
 -- an open gate with an empty list
@@ -83,3 +83,19 @@ replaced_back = applied 3 1 (change (Meter 2) (Some (meter 900)) (Some (meter 15
 
 abbrev pub created_back : Applied
 created_back = applied 4 2 (change (Meter 2) (Some (meter 1500)) None)
+
+-- session 1 creates meter 2; session 2 replaces it and takes that back; session 1 creates gate 1; the first two are settled
+abbrev pub two_settled : List Entry
+two_settled =
+    with_entry (with_entry (with_entry (edits ((1, change (Meter 2) None (Some (meter 1500))) ∷ (2, change (Meter 2) (Some (meter 1500)) (Some (meter 900))) ∷ [])) 2 (undone (applied 2 2 (change (Meter 2) (Some (meter 1500)) (Some (meter 900))))))
+    1 (Made (change (Gate 1) None (Some gate)))) 3 (Settled 2)
+
+-- what is final, what stands, and what session 2 may redo
+abbrev pub final_creation : Applied
+final_creation = applied 1 1 (change (Meter 2) None (Some (meter 1500)))
+
+abbrev pub gate_creation : Applied
+gate_creation = applied 4 1 (change (Gate 1) None (Some gate))
+
+abbrev pub taken_back : Applied
+taken_back = applied 3 2 (change (Meter 2) (Some (meter 900)) (Some (meter 1500)))

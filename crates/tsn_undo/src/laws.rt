@@ -1,5 +1,5 @@
 //! Laws of edits and their undoing, as functions whose contracts state them. Their bodies are empty.
-ghost use Rattle.std.specs.Prelude.{◌≡◌, ℕ, Bool, IsSome, List, Some, None};
+ghost use Rattle.std.specs.Prelude.{◌≡◌, ◌∷◌, [], ℕ, Bool, IsSome, List, Some, None};
 ghost use Rattle.tsn_types.specs.declared.limits.Limits.{Limits as AnyLimits};
 ghost use Rattle.tsn_edit.specs.Configuration.{Configuration, IsWellKept};
 ghost use Rattle.tsn_types.specs.declared.refusals.Refusal.TheVariants.{Conflict};
@@ -8,9 +8,10 @@ ghost use Rattle.tsn_edit.specs.Parts.{inverse};
 ghost use Rattle.tsn_edit.specs.Runs.{IsGood};
 ghost use Rattle.tsn_undo.specs.Commuting.{Commutes, IsClosed};
 ghost use Rattle.tsn_edit.specs.declared.Edit.{Edit as AnyEdit};
-ghost use Rattle.tsn_journal.specs.Entries.{Applied, changes, no_room, redone, standing, undone, with_entry};
+ghost use Rattle.tsn_journal.specs.declared.entries.What.TheVariants.{Settled};
+ghost use Rattle.tsn_journal.specs.Entries.{Applied, changes, no_room, redone, settled, settled_edits, standing, undone, with_entry};
 ghost use Rattle.tsn_journal.specs.Finding.{find_conflict, find_redo_conflict, last_of, others_standing, own_standing, redo_of};
-ghost use Rattle.tsn_undo.specs.Examples.{blocked, both_undone, created_back, creation, first_run, or_nothing, others_removal, removal, replaced_back, replacement};
+ghost use Rattle.tsn_undo.specs.Examples.{blocked, both_undone, created_back, creation, final_creation, first_run, gate_creation, or_nothing, others_removal, removal, replaced_back, replacement, taken_back, two_settled};
 ghost use Rattle.tsn_undo.specs.Ledger.{Ledger, base_of, present};
 ghost use Rattle.tsn_undo.specs.Soundness.{IsSound};
 ghost use Rattle.tsn_undo.specs.Redo.{Redoes};
@@ -50,6 +51,19 @@ pub fn undos_by_hand()
     ensures created { redo_of both_undone 2 ≡ Some created_back }
     ensures overwritten { find_redo_conflict both_undone replaced_back ≡ Some created_back }
     ensures redone { redo_of (with_entry both_undone 2 (redone created_back)) 1 ≡ Some replaced_back }
+{}
+
+/// A worked example of a settle: what was undone by then is not final, what stood is, what comes later stands, and an undo
+/// is redone just where it is above the number, wherever the edit that it took back lies.
+pub fn settles_by_hand()
+    ensures number { settled two_settled ≡ 2 }
+    ensures base { settled_edits two_settled ≡ final_creation ∷ [] }
+    ensures stands { standing two_settled ≡ gate_creation ∷ [] }
+    ensures newest { last_of two_settled 1 ≡ Some gate_creation }
+    ensures redone { redo_of two_settled 2 ≡ Some taken_back }
+    ensures further { redo_of (with_entry two_settled 1 (Settled 3)) 2 ≡ None }
+    ensures later { standing (with_entry two_settled 1 (Settled 3)) ≡ gate_creation ∷ [] }
+    ensures same { settled_edits (with_entry two_settled 1 (Settled 3)) ≡ final_creation ∷ [] }
 {}
 
 /// Any set of standing entries that has, with each of its entries, every later standing entry in conflict with it, may be
