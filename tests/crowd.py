@@ -15,8 +15,8 @@ GATE_LISTS = ([], [[True, None, 400, None], [False, 5, 600, 1500]], [[True, 3, 7
 PORT_LISTS = ([], [[1, 300], [128, 700]], [[255, 100], [15, 400], [240, 500]])
 REFUSALS = {1: "too_long", 2: "syntax", 3: "shape", 4: "range", 5: "no_session", 6: "missing", 7: "exists", 8: "dangling",
             9: "referred", 10: "nothing_to_undo", 11: "conflict", 12: "nothing_to_redo", 13: "redo_conflict",
-            14: "not_enabled", 15: "empty_list", 16: "past", 17: "journal_full", 18: "memory"}
-MORE_OF = {4: {"field"}, 6: {"key"}, 7: {"key"}, 8: {"key"}, 9: {"by"}, 11: {"own", "other"}, 13: {"other"}}
+            14: "not_enabled", 15: "empty_list", 16: "past", 17: "journal_full", 18: "memory", 19: "settled"}
+MORE_OF = {4: {"field"}, 6: {"key"}, 7: {"key"}, 8: {"key"}, 9: {"by"}, 11: {"own", "other"}, 13: {"other"}, 19: {"upto"}}
 COUNTERS = {"port": {"change_error", "change_time", "enabled", "pending"},
             "gate": {"change_error", "change_time", "enabled", "invalid_rx", "octets_exceeded", "pending"},
             "filter": {"blocked", "matching", "not_passing", "not_passing_sdu", "passing", "passing_sdu", "red"},

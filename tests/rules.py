@@ -33,15 +33,19 @@ def inverse(change):
 
 
 class Entry:
-    """An entry that applied a change: an edit (made), the taking back of one (undone), the taking back of that (redone)."""
+    """An entry that applied a change: an edit (made), the taking back of one (undone), the taking back of that (redone); or one that
+    settles, with no change."""
 
-    def __init__(self, number, session, what, change, of=None):
-        self.number, self.session, self.what, self.change, self.of = number, session, what, change, of
+    def __init__(self, number, session, what, change, of=None, settled=None):
+        self.number, self.session, self.what, self.change, self.of, self.settled = number, session, what, change, of, settled
 
     def told(self):
+        if self.what == "settled":
+            return {"entry": self.number, "session": self.session, "settled": self.settled, "what": self.what}
         keys = sorted(self.change, key=place_of)
+        told = {"keys": keys} if len(keys) > 1 else {"key": keys[0]}
         of = {} if self.of is None else {"of": self.of.number}
-        return {"entry": self.number, "key": keys[0], "session": self.session, "what": self.what, **of}
+        return {"entry": self.number, **told, "session": self.session, "what": self.what, **of}
 
 
 class Rules:
@@ -52,16 +56,21 @@ class Rules:
         self.entries = []
         self.standing = []
         self.sessions = 0
+        self.settled = 0
 
     def answer(self, command):
         do = command["do"]
         if do == "hello":
             self.sessions += 1
             return {"session": self.sessions}
+        if do == "settle" and command["upto"] > len(self.entries):
+            return refused(4, field="upto")
         if not 1 <= command["s"] <= self.sessions:
             return refused(5)
         if do in ("create", "replace", "remove"):
             return self.edit(command["s"], [command])
+        if do == "batch":
+            return self.edit(command["s"], command["edits"])
         return getattr(self, do)(command)
 
     # ---- edits
@@ -109,9 +118,20 @@ class Rules:
         self.entries.append(entry)
         if what == "undone":
             self.standing.remove(of)
-        else:
+        elif what != "settled":
             self.standing.append(entry)
         return entry
+
+    def settle(self, command):
+        """What stood up to the number stands no more."""
+        if command["upto"] <= self.settled:
+            return refused(19, upto=self.settled)
+        if len(self.entries) == MOST_ENTRIES:
+            return refused(17)
+        entry = self.enter(command["s"], "settled", {})
+        entry.settled = self.settled = command["upto"]
+        self.standing = [other for other in self.standing if other.number > self.settled]
+        return {"entry": entry.number, "settled": self.settled}
 
     # ---- undo and redo
 
@@ -152,9 +172,9 @@ class Rules:
         return {"count": len(own), "entry": len(self.entries)}
 
     def newest_to_redo(self, session):
-        """The session's newest Undone entry that comes after its last edit, and that no entry takes back."""
+        """The session's newest Undone entry that comes after its last edit, that no entry takes back, and that is not settled."""
         taken_back = set()
-        for entry in reversed(self.entries):
+        for entry in reversed(self.entries[self.settled:]):
             if entry.session == session and entry.what == "made":
                 return None
             if entry.session == session and entry.what == "redone":
