@@ -98,17 +98,65 @@ class Edits(unittest.TestCase):
         self.assertEqual((caught.exception.own, caught.exception.other, caught.exception.number), (1, 2, 11))
         self.assertEqual(planner.list("gate"), (0,))
 
+    def test_a_stream_comes_and_goes_in_one_batch(self) -> None:
+        planner, colleague = self.session(), self.session()
+        camera = tsnd.StreamFilter(gate=4, meter=2)
+        stream = (tsnd.Create("gate 4", OPEN_GATE), tsnd.Create("meter 2", METER), tsnd.Create("filter 10", camera))
+        self.assertEqual(planner.batch(*stream), 1)
+        colleague.create("gate 5", OPEN_GATE)
+        colleague.create("filter 11", tsnd.StreamFilter(gate=5, meter=2))
+        with self.assertRaises(tsnd.Conflict) as caught:
+            planner.undo()
+        self.assertEqual((caught.exception.own, caught.exception.other), (1, 3))
+        colleague.undo()
+        self.assertEqual(planner.undo(), tsnd.Undone(5, 1))
+        self.assertEqual((planner.list("gate"), planner.list("meter"), planner.list("filter")), ((5,), (), ()))
+        self.assertEqual(planner.since(4), (tsnd.Entry(5, planner.number, ("filter 10", "gate 4", "meter 2"), "undone", of=1),))
+
+    def test_what_is_settled_stays(self) -> None:
+        planner, colleague = self.session(), self.session()
+        planner.create("gate 0", OPEN_GATE)
+        colleague.create("gate 1", OPEN_GATE)
+        planner.create("meter 0", METER)
+        self.assertEqual(colleague.settle(2), 4)
+        with self.assertRaises(tsnd.NothingToUndo):
+            colleague.undo()
+        self.assertEqual(planner.undo_all(), tsnd.AllUndone(1, 5))
+        self.assertEqual((planner.list("gate"), planner.list("meter")), ((0, 1), ()))
+        with self.assertRaises(tsnd.AlreadySettled) as caught:
+            planner.settle(1)
+        self.assertEqual((caught.exception.upto, caught.exception.number), (2, 19))
+        with self.assertRaises(tsnd.OutOfRange):
+            planner.settle(6)
+        self.assertEqual(planner.since(3)[0], tsnd.Entry(4, colleague.number, (), "settled", settled=2))
+
+    def test_batches_are_refused_whole(self) -> None:
+        session = self.session()
+        session.batch(tsnd.Create("gate 0", OPEN_GATE), tsnd.Create("filter 0", tsnd.StreamFilter(gate=0)))
+        with self.assertRaises(tsnd.Referred) as caught:
+            session.batch(tsnd.Create("meter 0", METER), tsnd.Remove("gate 0"))
+        self.assertEqual((caught.exception.by, session.list("meter")), ("filter 0", ()))
+        with self.assertRaises(tsnd.Shape):
+            session.batch()
+        with self.assertRaises(tsnd.Shape):
+            session.batch(tsnd.Remove("gate 0"), tsnd.Remove("gate 0"))
+        with self.assertRaises(tsnd.Shape):
+            session.batch(*(tsnd.Create(f"meter {number}", METER) for number in range(17)))
+        with self.assertRaises(tsnd.OutOfRange):
+            session.batch(tsnd.Replace("gate 0", OPEN_GATE), tsnd.Remove("meter 16"))
+        self.assertEqual(session.batch(tsnd.Replace("filter 0", tsnd.StreamFilter(gate=0, priority=3)), tsnd.Create("meter 1", METER)), 2)
+
     def test_entries_are_followed(self) -> None:
         session = self.session()
         session.create("gate 0", OPEN_GATE)
         session.enable("gate 0", 7)
         session.undo()
         entries = session.follow(pause=0.01)
-        self.assertEqual(next(entries), tsnd.Entry(1, session.number, "gate 0", "made"))
-        self.assertEqual(next(entries), tsnd.Entry(2, session.number, "gate 0", "acted", act="enable", now=7))
-        self.assertEqual(next(entries), tsnd.Entry(3, session.number, "gate 0", "undone", of=1))
+        self.assertEqual(next(entries), tsnd.Entry(1, session.number, ("gate 0",), "made"))
+        self.assertEqual(next(entries), tsnd.Entry(2, session.number, ("gate 0",), "acted", act="enable", now=7))
+        self.assertEqual(next(entries), tsnd.Entry(3, session.number, ("gate 0",), "undone", of=1))
         session.create("meter 0", METER)
-        self.assertEqual(next(entries).key, "meter 0")
+        self.assertEqual(next(entries).keys, ("meter 0",))
 
     def test_acts_frames_and_counters(self) -> None:
         session = self.session()

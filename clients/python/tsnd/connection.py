@@ -7,7 +7,7 @@ import time
 from collections.abc import Iterator, Mapping
 from dataclasses import dataclass
 from types import TracebackType
-from typing import Any
+from typing import Any, Union
 
 from .records import Record, record_of
 from .refusals import ServiceError, refusal_of
@@ -40,11 +40,13 @@ class Acted:
 
 @dataclass(frozen=True)
 class Entry:
-    """An entry of the journal. `what` is `made`, `undone`, `redone` or `acted`."""
+    """An entry of the journal. `what` is `made`, `undone`, `redone`, `acted` or `settled`."""
 
     number: int
     session: int
-    key: str
+    keys: tuple[str, ...]
+    """What it touches: one key, or those of a batch in the order of keys (ports, filters, gates, meters, by their numbers); of a
+    settle none."""
     what: str
     of: int | None = None
     """The entry that an undo or a redo takes back."""
@@ -52,14 +54,55 @@ class Entry:
     """`enable`, `disable` or `apply`."""
     now: int | None = None
     """The instant of an act that counted, in ns."""
+    settled: int | None = None
+    """Up to which number a settle made the entries final."""
 
     @classmethod
     def of_members(cls, members: Mapping[str, Any]) -> Entry:
         """The entry that these members of a reply tell."""
+        keys = (members["key"],) if "key" in members else tuple(members.get("keys", ()))
         return cls(
-            members["entry"], members["session"], members["key"], members["what"], members.get("of"), members.get("act"),
-            members.get("now"),
+            members["entry"], members["session"], keys, members["what"], members.get("of"), members.get("act"), members.get("now"),
+            members.get("settled"),
         )
+
+
+@dataclass(frozen=True)
+class Create:
+    """An edit of a batch: a record for a key that has none."""
+
+    key: str
+    record: Record
+
+    def to_json(self) -> dict[str, Any]:
+        """The edit as the service reads it."""
+        return {"do": "create", "key": self.key, "record": self.record.to_json()}
+
+
+@dataclass(frozen=True)
+class Replace:
+    """An edit of a batch: another record for a key."""
+
+    key: str
+    record: Record
+
+    def to_json(self) -> dict[str, Any]:
+        """The edit as the service reads it."""
+        return {"do": "replace", "key": self.key, "record": self.record.to_json()}
+
+
+@dataclass(frozen=True)
+class Remove:
+    """An edit of a batch: a filter, gate or meter goes."""
+
+    key: str
+
+    def to_json(self) -> dict[str, Any]:
+        """The edit as the service reads it."""
+        return {"do": "remove", "key": self.key}
+
+
+Edit = Union[Create, Replace, Remove]
 
 
 class Connection:
@@ -129,8 +172,17 @@ class Session:
         """Removes a filter, gate or meter; gives the entry. `Missing`, `Referred`, `JournalFull`."""
         return int(self._ask("remove", key=key)["entry"])
 
+    def batch(self, *edits: Edit) -> int:
+        """Makes 1 to 16 edits of distinct keys at once, or none of them; gives their one entry.
+
+        A record may refer to what the same batch creates, and a gate goes with the filters that refer to it. `Shape` where there
+        are no edits, more than 16, or two of one key; then `OutOfRange`, `Missing`, `Exists`, `Dangling`, `Referred`, by the least
+        number of any edit; `JournalFull`.
+        """
+        return int(self._ask("batch", edits=[edit.to_json() for edit in edits])["entry"])
+
     def undo(self) -> Undone:
-        """Takes back the session's newest standing edit. `NothingToUndo`, `Conflict`, `JournalFull`."""
+        """Takes back the session's newest standing edit, a batch whole. `NothingToUndo`, `Conflict`, `JournalFull`."""
         reply = self._ask("undo")
         return Undone(reply["entry"], reply["of"])
 
@@ -143,6 +195,14 @@ class Session:
         """Brings back what the session's newest undo took. `NothingToRedo`, `RedoConflict`, `JournalFull`."""
         reply = self._ask("redo")
         return Undone(reply["entry"], reply["of"])
+
+    def settle(self, upto: int) -> int:
+        """Makes the entries up to this number final, whoever made them; gives the entry of the settle.
+
+        What stands of them is taken back no more, and stands in nobody's way. `OutOfRange` (field `upto`) where there is no entry
+        of the number, `AlreadySettled`, `JournalFull`.
+        """
+        return int(self._ask("settle", upto=upto)["entry"])
 
     # ---- acts on a list, at an instant in ns, 0 to 2^62
 

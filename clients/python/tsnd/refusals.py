@@ -37,7 +37,8 @@ class Syntax(Refused):
 
 
 class Shape(Refused):
-    """Members or kinds that the command or its record does not have; the removal of a port; an act on a key without a list."""
+    """Members or kinds that the command or its record does not have; the removal of a port; an act on a key without a list; a
+    batch of no edits, of more than 16, or of a key twice."""
 
     number = 3
 
@@ -164,11 +165,23 @@ class OutOfMemory(Refused):
     number = 18
 
 
+class AlreadySettled(Refused):
+    """The entries up to this number are settled already. `upto` says up to which they are."""
+
+    number = 19
+
+    @property
+    def upto(self) -> int:
+        """The number of the last settled entry; 0 where none is."""
+        return int(self.members["upto"])
+
+
 _BY_NUMBER: dict[int, type[Refused]] = {
     kind.number: kind
     for kind in (
         TooLong, Syntax, Shape, OutOfRange, NoSession, Missing, Exists, Dangling, Referred, NothingToUndo, Conflict,
         NothingToRedo, RedoConflict, NotEnabled, EmptyList, Past, JournalFull, OutOfMemory,
+        AlreadySettled,
     )
 }
 
