@@ -1,5 +1,5 @@
-//! What no script shows of a book: a refusal that is told beforehand, room that is made by itself, and an act in a full
-//! journal. `examples/tables/undo-*.txt` have what commands answer.
+//! What no script shows of a book: a refusal that is told beforehand, room that is made by itself, an act in a full
+//! journal, and a settle. `examples/tables/undo-*.txt` have what commands answer.
 
 mod literals;
 
@@ -12,7 +12,7 @@ use std::process::Abort;
 use std::test::Fail;
 use tsn_journal::entries::Act;
 use tsn_types::numbers::Instant;
-use tsn_types::refusals::Refusal;
+use tsn_types::refusals::{Field, Refusal};
 use tsn_undo::book::Book;
 use tsn_undo::laws;
 
@@ -36,6 +36,19 @@ fn undoes_all(rt: &impl Abort, book: &mut Book, session: u32, wanted: Result<(u6
 fn is_not_redone(rt: &impl Abort, book: &mut Book, session: u32, why: &Refusal) {
     same(rt, &book.refuse_redo(session).as_ref(), &Some(why));
     same(rt, &book.redo(session).as_ref().err(), &Some(why));
+}
+
+/// The settle is refused so, and `refuse_settle` tells it beforehand.
+fn is_not_settled(rt: &impl Abort, book: &mut Book, upto: u64, why: &Refusal) {
+    same(rt, &book.refuse_settle(upto).as_ref(), &Some(why));
+    same(rt, &book.settle(1, upto).as_ref().err(), &Some(why));
+}
+
+/// An entry of this number settles the entries up to the other.
+fn settles(rt: &impl Abort, book: &mut Book, session: u32, upto: u64, entry: u64) {
+    same(rt, &book.refuse_settle(upto), &None);
+    same(rt, &book.settle(session, upto), &Ok(entry));
+    same(rt, &book.journal().settled(), &upto);
 }
 
 /// Session 1 replaces what session 2 made: each takes its own back, and does it again.
@@ -63,6 +76,7 @@ fn a_refusal_is_told_beforehand(rt: HostRuntime) -> Result<(), Fail> {
     laws::edit_at_once_undone();
     laws::undo_at_once_is_free();
     laws::undos_by_hand();
+    laws::settles_by_hand();
     laws::commutation_under_references();
     laws::undo_of_all();
     laws::undo_of_all_names_a_conflict();
@@ -70,6 +84,48 @@ fn a_refusal_is_told_beforehand(rt: HostRuntime) -> Result<(), Fail> {
     laws::undo_at_once_redone();
     on_a_book(rt.alloc(), |book| {
         replace_and_redo(&rt, book);
+        Ok(())
+    })
+}
+
+/// Session 3 settles what sessions 1 and 2 made. Session 2 took its own back, by an entry that comes after the number.
+fn settle_two(rt: &impl Abort, book: &mut Book) {
+    is_not_settled(rt, book, 0, &Refusal::Settled { upto: 0 });
+    is_not_settled(rt, book, 1, &Refusal::Range(Field::Upto));
+    enters(rt, book, 1, create(1), 1);
+    enters(rt, book, 2, create(2), 2);
+    undoes(rt, book, 2, 3, 2);
+    settles(rt, book, 3, 2, 4);
+    is_not_settled(rt, book, 2, &Refusal::Settled { upto: 2 });
+    is_not_settled(rt, book, 5, &Refusal::Range(Field::Upto));
+}
+
+/// What session 1 has settled is taken back no more, and a later edit of it stands in nobody's way.
+fn undo_what_is_left(rt: &impl Abort, book: &mut Book) {
+    enters(rt, book, 3, replace_at(meter_key(1), meter_of(900)), 5);
+    is_not_undone(rt, book, 1, &Refusal::NothingToUndo);
+    enters(rt, book, 1, create(3), 6);
+    undoes_all(rt, book, 1, Ok((1, 7)));
+    undoes_all(rt, book, 1, Err(Refusal::NothingToUndo));
+    assert!(rt; stands(book, meter_key(1), &meter_of(900)));
+}
+
+/// Session 2 does again what it took back after the number, and all that stands is settled.
+fn redo_and_settle(rt: &impl Abort, book: &mut Book) {
+    redoes(rt, book, 2, 8, 3);
+    settles(rt, book, 2, 8, 9);
+    is_not_undone(rt, book, 2, &Refusal::NothingToUndo);
+    is_not_undone(rt, book, 3, &Refusal::NothingToUndo);
+    is_not_redone(rt, book, 1, &Refusal::NothingToRedo);
+    assert!(rt; stands(book, meter_key(2), &meter()));
+}
+
+#[test]
+fn what_is_settled_is_final(rt: HostRuntime) -> Result<(), Fail> {
+    on_a_book(rt.alloc(), |book| {
+        settle_two(&rt, book);
+        undo_what_is_left(&rt, book);
+        redo_and_settle(&rt, book);
         Ok(())
     })
 }
@@ -108,7 +164,8 @@ fn use_the_last_entry(rt: &impl Abort, book: &mut Book) {
     undoes(rt, book, 1, 65_536, 65_535);
 }
 
-/// In a full journal nothing is entered; that nothing stands and that something is in conflict is told first.
+/// In a full journal nothing is entered; that nothing stands, that something is in conflict and that a settle has nothing
+/// to settle is told first.
 fn is_full(rt: &impl Abort, book: &mut Book) {
     same(
         rt,
@@ -123,6 +180,9 @@ fn is_full(rt: &impl Abort, book: &mut Book) {
     undoes_all(rt, book, 3, Err(conflict(4, 5)));
     is_not_undone(rt, book, 4, &Refusal::NothingToUndo);
     undoes_all(rt, book, 4, Err(Refusal::NothingToUndo));
+    is_not_settled(rt, book, 65_537, &Refusal::Range(Field::Upto));
+    is_not_settled(rt, book, 0, &Refusal::Settled { upto: 0 });
+    is_not_settled(rt, book, 65_536, &Refusal::JournalFull);
     acts(rt, book, Err(Refusal::JournalFull));
     same(rt, &book.reserve(1), &Err(Refusal::JournalFull));
     same(rt, &book.reserve(0), &Ok(()));
