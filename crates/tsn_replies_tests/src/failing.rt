@@ -1,4 +1,7 @@
 //! Replies to a writer that fails or takes a byte at a time: what it took begins the line.
+ghost use Rattle.std.specs.Prelude.{◌≡◌};
+ghost use Rattle.tsn_journal.specs.Entries.{settles_to};
+
 use crate::comparing::same;
 use std::alloc::{AllocError, Global};
 use std::process::Abort;
@@ -61,7 +64,9 @@ fn stops_in_numbers(rt: &impl Abort, alloc: Global, ids: &[u64], text: &str) -> 
 }
 
 // What the next entry does: meter 0 is created, or that taken back, in turn.
-fn next(before: u64) -> What {
+fn next(before: u64) -> What
+    ensures { settles_to result ≡ 0 }
+{
     let change = Change::of(Part {
         key: Key::Meter(MeterId::new(0).unwrap()),
         before: None,
