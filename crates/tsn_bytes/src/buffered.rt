@@ -1,6 +1,7 @@
 //! A writer that gathers small writes and hands them on together.
-//! It relies on the writer behind it, to which it gives all that it holds when it is full or flushed.
-ghost use Rattle.std.specs.Prelude.{◌≡◌, ◌+◌, ◌≤◌, ◌++◌, [], vec_len, vec_capacity, length, false, true, IfOk, OnOk, OnErr};
+//! It relies on the writer behind it, to which it gives all that it holds when it is full or flushed. A failure of that one is
+//! the only failure here.
+ghost use Rattle.std.specs.Prelude.{◌≡◌, ◌+◌, ◌-◌, ◌<◌, ◌≤◌, ◌++◌, [], vec_len, vec_capacity, length, take, min, true, IfOk, OnOk, OnErr};
 ghost use Rattle.std.specs.Io.KnownBytes.{append_known, Keeps};
 ghost use Rattle.tsn_bytes.specs.Buffered.{most_held};
 
@@ -11,15 +12,14 @@ use std::marker::Model;
 // The most bytes that are held.
 const CAPACITY: usize = 65536;
 
-/// A writer in front of another. A contract sees the other one, the bytes that it has not been given yet, how many
-/// more fit behind them, and whether a call has failed.
+/// A writer in front of another. A contract sees the other one, the bytes that it has not been given yet, and how many
+/// more fit behind them. It has failed where the other one has: it keeps no mark of its own.
 #[derive(Drop)]
 pub struct Buffered<W> {
     inner: W,
     // Those from `start` on are held; the others are handed on.
     bytes: Vec<u8>,
     start: usize,
-    has_failed: bool,
 }
 
 impl<W> Model for Buffered<W> {
@@ -32,7 +32,6 @@ impl<W> Model for Buffered<W> {
       inner = b.inner;
       pending = drop b.start b.bytes.items;
       room = most_held - vec_len b.bytes;
-      has_failed = b.has_failed;
     } };
 
     ghost invariant = { λ b. (b.start ≤ vec_len b.bytes) × (vec_len b.bytes ≤ most_held)
@@ -48,7 +47,6 @@ impl<W: ByteOut> Buffered<W> {
           inner = inner;
           pending = [];
           room = most_held;
-          has_failed = false;
         }) }
     {
         let bytes = Vec::with_capacity(alloc, CAPACITY)?;
@@ -56,7 +54,6 @@ impl<W: ByteOut> Buffered<W> {
             inner,
             bytes,
             start: 0,
-            has_failed: false,
         })
     }
 
@@ -72,19 +69,15 @@ impl<W: ByteOut> Buffered<W> {
         ensures bytes { Keeps (append_known (W.taken self.old.inner) self.old.pending)
             (append_known (W.taken self.new.inner) self.new.pending) }
         ensures ok { OnOk result ((self.new.pending ≡ []) × (self.new.room ≡ most_held)) }
-        ensures worked { OnOk result (self.new.has_failed ≡ self.old.has_failed) }
-        ensures failed { OnErr result (self.new.has_failed ≡ true) }
+        ensures worked { OnOk result (W.has_failed self.new.inner ≡ W.has_failed self.old.inner) }
+        ensures failed { OnErr result (W.has_failed self.new.inner ≡ true) }
     {
         'puts: while self.start < self.bytes.len() {
             let count = match self.inner.put(&self.bytes[self.start..]) {
                 Ok(count) => count,
-                Err(_) => {
-                    self.has_failed = true;
-                    return Err(Failed);
-                }
+                Err(failed) => return Err(failed),
             };
             if count == 0 {
-                self.has_failed = true;
                 return Err(Failed);
             }
             self.start += count;
@@ -92,6 +85,34 @@ impl<W: ByteOut> Buffered<W> {
         self.bytes.clear();
         self.start = 0;
         Ok(())
+    }
+
+    // Sees that there is room for a byte.
+    fn make_room(&mut self) -> Result<(), Failed>
+        ensures bytes { Keeps (append_known (W.taken self.old.inner) self.old.pending)
+            (append_known (W.taken self.new.inner) self.new.pending) }
+        ensures ok { OnOk result (0 < self.new.room) }
+        ensures worked { OnOk result (W.has_failed self.new.inner ≡ W.has_failed self.old.inner) }
+        ensures failed { OnErr result (W.has_failed self.new.inner ≡ true) }
+    {
+        if self.bytes.len() == CAPACITY {
+            self.hand_on()?;
+        }
+        Ok(())
+    }
+
+    // Holds as many of the bytes as there is room for, and says how many.
+    fn hold(&mut self, bytes: &[u8]) -> usize
+        ensures count { result ≡ min (length bytes.now) self.old.room }
+        ensures held { self.new ≡ record {
+          inner = self.old.inner;
+          pending = self.old.pending ++ take result bytes.now;
+          room = self.old.room - result;
+        } }
+    {
+        let count = bytes.len().min(CAPACITY - self.bytes.len());
+        append(&mut self.bytes, &bytes[..count]);
+        count
     }
 }
 
@@ -112,23 +133,15 @@ impl<W: ByteOut> ByteOut for Buffered<W> {
 
     ghost pending = { λ b. W.pending b.inner ++ b.pending };
 
-    ghost has_failed = { λ b. b.has_failed };
+    ghost has_failed = { λ b. W.has_failed b.inner };
 
     fn put(&mut self, bytes: &[u8]) -> Result<usize, Failed> {
-        if self.bytes.len() == CAPACITY {
-            self.hand_on()?;
-        }
-        let count = bytes.len().min(CAPACITY - self.bytes.len());
-        append(&mut self.bytes, &bytes[..count]);
-        Ok(count)
+        self.make_room()?;
+        Ok(self.hold(bytes))
     }
 
     fn flush(&mut self) -> Result<(), Failed> {
         self.hand_on()?;
-        if self.inner.flush().is_err() {
-            self.has_failed = true;
-            return Err(Failed);
-        }
-        Ok(())
+        self.inner.flush()
     }
 }
