@@ -1,5 +1,5 @@
 -- What the words of a command line ask for.
-use Rattle.std.specs.Prelude.{◌≡◌, ◌⊎◌, ℕ, ◌^◌, ◌-◌, ◌<◌, List, [], Bool, Option, Some, None, codes, true, false, option_and_then, option_map, string_bytes, ⊤}
+use Rattle.std.specs.Prelude.{◌≡◌, ◌≢◌, ◌⊎◌, ℕ, ◌^◌, ◌-◌, ◌<◌, List, [], Bool, Option, Some, None, codes, true, false, option_and_then, option_map, string_bytes, ⊤}
 use Rattle.std.specs.Str.Parse.{IsNumeral, digits_value, without_leading_plus}
 use Rattle.clap.specs.Simple.{App, new_app, new_rule, on_top, subcommand_of, with_rule, with_subcommand}
 use Rattle.clap.specs.Values.{IsUnsignedIn}
@@ -92,6 +92,15 @@ IsWork (Serve file listen serving) = ⊤
 IsWork (Check file) = ⊤
 IsWork (Shown text) = ⊥
 IsWork (Refused text) = ⊥
+
+-- A text to show, or to refuse by, is not empty.
+abbrev pub TellsSomething : Asked → Type 0
+TellsSomething (Script file) = ⊤
+TellsSomething (States file listing) = ⊤
+TellsSomething (Serve file listen serving) = ⊤
+TellsSomething (Check file) = ⊤
+TellsSomething (Shown text) = string_bytes text ≢ []
+TellsSomething (Refused text) = string_bytes text ≢ []
 
 -- The file of the setup that is asked for, if one is.
 abbrev pub file_of : Asked → Option (List ℕ)

@@ -1,10 +1,10 @@
 //! The command line.
-ghost use Rattle.std.specs.Prelude.{◌≡◌, ℕ, List, [], ◌∷◌, Some, None, false, IfOk, IfErr, codes, map, option_map, string_bytes};
+ghost use Rattle.std.specs.Prelude.{◌≡◌, ◌≢◌, ℕ, List, [], ◌∷◌, Some, None, false, IfOk, IfErr, codes, map, option_map, string_bytes};
 ghost use Rattle.clap.specs.Words.{app_of, found_of, kind_of, rows_of, rule_of, subcommand_of, subcommand_rows_of};
 ghost use Rattle.clap.specs.Kinds.{FailsBy};
 ghost use Rattle.clap.specs.Faults.{fault_of};
 ghost use Rattle.tsn_bytes.specs.declared.bytes.Fault.TheVariants.{Memory};
-ghost use Rattle.tsn_words.specs.Asking.{any_text, bare, check, number, program, script, serve, setup_file, states, Asks, AsksFor, GivesListing, HasCheck, HasServe, HasStates, IsComplete, IsWork};
+ghost use Rattle.tsn_words.specs.Asking.{any_text, bare, check, number, program, script, serve, setup_file, states, Asks, AsksFor, GivesListing, HasCheck, HasServe, HasStates, IsComplete, IsWork, TellsSomething};
 
 use crate::serving::Serving;
 use crate::values::{file_of, number_of, text_of};
@@ -45,6 +45,9 @@ const SERVE_EXAMPLE: &str = "Example, and a client in another terminal:
 /// Ends the help on `check`.
 const CHECK_EXAMPLE: &str = "Example:
   tsnd check bridge.toml";
+
+/// How the program is called.
+const USAGE: &str = "Usage: tsnd <COMMAND>\n";
 
 /// Which states of a port are printed: those at an instant, and then at even steps.
 #[derive(Clone, Copy, Debug, PartialEq, Eq)]
@@ -332,26 +335,40 @@ fn no_text(alloc: Global) -> Result<Error, AllocError>
     )
 }
 
+// What an error says. Where `clap` gave it no text, which its contracts don't rule out, it says how the program is called.
+fn saying_of(alloc: Global, error: &Error) -> Result<String, AllocError>
+    ensures { IfOk result (λ text. string_bytes text ≢ []) }
+{
+    let text = format!(in alloc; "{error}")?;
+    if text.is_empty() {
+        String::from_str(alloc, USAGE)
+    } else {
+        Ok(text)
+    }
+}
+
 fn refused_as_no_text(alloc: Global) -> Result<Asked, Fault>
     ensures ok { IfOk result (Asks None) }
+    ensures told { IfOk result TellsSomething }
     ensures memory { IfErr result (λ e. e ≡ Memory) }
 {
     let Ok(error) = no_text(alloc) else {
         return Err(Fault::Memory);
     };
-    let Ok(reason) = format!(in alloc; "{error}") else {
+    let Ok(reason) = saying_of(alloc, &error) else {
         return Err(Fault::Memory);
     };
     Ok(Asked::Refused(reason))
 }
 
-/// What the words ask for, the program's name first, or none where a word is no UTF-8. It is refused only for want of
-/// memory.
+/// What the words ask for, the program's name first, or none where a word is no UTF-8. A text to show or to refuse by is not
+/// empty. It is refused only for want of memory.
 pub fn read_words(alloc: Global, words: Option<&[String]>) -> Result<Asked, Fault>
     ensures ok { IfOk result (Asks (option_map (λ w. map string_bytes w.now) words.entry)) }
     ensures script { (name : List ℕ)
         → option_map (λ w. map string_bytes w.now) words.entry ≡ Some (name ∷ codes "script" ∷ [])
         → IfOk result IsWork }
+    ensures told { IfOk result TellsSomething }
     ensures memory { IfErr result (λ e. e ≡ Memory) }
 {
     let Some(words) = words else {
@@ -364,7 +381,7 @@ pub fn read_words(alloc: Global, words: Option<&[String]>) -> Result<Asked, Faul
     if error.kind() == ErrorKind::OutOfMemory {
         return Err(Fault::Memory);
     }
-    let Ok(text) = format!(in alloc; "{error}") else {
+    let Ok(text) = saying_of(alloc, &error) else {
         return Err(Fault::Memory);
     };
     if error.use_stderr() {
