@@ -8,8 +8,8 @@ ghost use Rattle.tsn_records.specs.Answers.{Reads, each, seen};
 ghost use Rattle.tsn_records.specs.Json.{items_list};
 ghost use Rattle.tsn_wire.specs.Commands.{batch_shape, edit_shape};
 
-use crate::commands::{keyed_record, removed_key};
 use crate::drafts::{BatchDraft, CommandDraft, EditDraft};
+use crate::keyed::{keyed_record, removed_key};
 use serde_json::Value;
 use std::alloc::Global;
 use tsn_records::members::{has_members, text_at};

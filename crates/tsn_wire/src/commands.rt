@@ -5,34 +5,18 @@ ghost use Rattle.std.specs.Prelude.{◌≡◌, codes, option_and_then};
 ghost use Rattle.serde_json.specs.View.{view};
 ghost use Rattle.tsn_records.specs.Answers.{Reads};
 ghost use Rattle.tsn_records.specs.Json.{text_at, value_at};
-ghost use Rattle.tsn_wire.specs.Commands.{key_at, removable, listed, listed_at, keyed_record, create_shape, replace_shape, removed_key, remove_shape, bare_shape, enable_shape, disable_shape, apply_shape, frame_members, frame_shape, states_shape, counters_shape, show_shape, list_shape, since_shape, settle_shape, command_shape, line_shape};
+ghost use Rattle.tsn_wire.specs.Commands.{listed, listed_at, create_shape, replace_shape, remove_shape, bare_shape, enable_shape, disable_shape, apply_shape, frame_members, frame_shape, states_shape, counters_shape, show_shape, list_shape, since_shape, settle_shape, command_shape, line_shape};
 
 use crate::batches::batch_shape;
 use crate::drafts::{CommandDraft, FrameDraft, LineDraft};
+use crate::keyed::{key_at, keyed_record, removed_key};
 use serde_json::Value;
 use std::alloc::Global;
-use tsn_records::drafts::{KeyDraft, RecordDraft};
-use tsn_records::keys::{key_of, kind_of};
+use tsn_records::drafts::KeyDraft;
+use tsn_records::keys::kind_of;
 use tsn_records::members::{flag_at, has_members, number_at, text_at, value_at};
-use tsn_records::records::record_shape;
 use tsn_records::unread::Unread;
 use tsn_types::keys::Kind;
-
-fn key_at(value: &Value) -> Result<KeyDraft, Unread>
-    ensures { result ≡ key_at (view value.now) }
-{
-    let text = text_at("key", value)?;
-    key_of(text).ok_or(Unread::Shape)
-}
-
-fn removable(key: KeyDraft) -> Result<KeyDraft, Unread>
-    ensures { result ≡ removable key key.kind }
-{
-    match key.kind {
-        Kind::Port => Err(Unread::Shape),
-        Kind::Filter | Kind::Gate | Kind::Meter => Ok(key),
-    }
-}
 
 // A key of a kind that has a gate control list.
 fn listed(key: KeyDraft) -> Result<KeyDraft, Unread>
@@ -55,21 +39,6 @@ fn listed_at(name: &str, value: &Value) -> Result<(KeyDraft, u64), Unread>
     Ok((key, instant))
 }
 
-/// A key and a record of its kind, in an object of so many members.
-#[tactic(auto, unfolding(crate::specs::Commands::keyed_record))]
-pub fn keyed_record(
-    alloc: Global,
-    count: usize,
-    value: &Value,
-) -> Result<(KeyDraft, RecordDraft), Unread>
-    ensures { Reads result (keyed_record count (view value.now)) }
-{
-    has_members(count, value)?;
-    let key = key_at(value)?;
-    let record = record_shape(alloc, key.kind, value_at("record", value)?)?;
-    Ok((key, record))
-}
-
 #[tactic(auto, unfolding(crate::specs::Commands::create_shape))]
 fn create_shape(alloc: Global, value: &Value) -> Result<CommandDraft, Unread>
     ensures { Reads result (create_shape (view value.now)) }
@@ -84,15 +53,6 @@ fn replace_shape(alloc: Global, value: &Value) -> Result<CommandDraft, Unread>
 {
     let (key, value) = keyed_record(alloc, 4, value)?;
     Ok(CommandDraft::Replace { key, value })
-}
-
-/// A key that can be removed, in an object of so many members.
-#[tactic(auto, unfolding(crate::specs::Commands::removed_key))]
-pub fn removed_key(count: usize, value: &Value) -> Result<KeyDraft, Unread>
-    ensures { result ≡ removed_key count (view value.now) }
-{
-    has_members(count, value)?;
-    removable(key_at(value)?)
 }
 
 #[tactic(auto, unfolding(crate::specs::Commands::remove_shape))]

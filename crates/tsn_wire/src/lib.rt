@@ -11,12 +11,15 @@ mod batches;
 mod commands;
 mod cursor;
 mod drafts;
+mod keyed;
 pub mod laws;
+mod lexemes;
 mod members;
 mod ranges;
 mod reading;
 mod spelled;
 mod spelled_batch;
+mod spelled_records;
 mod values;
 
 pub use drafts::{BatchDraft, CommandDraft, EditDraft, FrameDraft, LineDraft};

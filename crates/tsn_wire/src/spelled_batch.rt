@@ -7,7 +7,7 @@ ghost use Rattle.tsn_wire.specs.Spelled.{batch_value, EditIsSmall, SpellsEdit};
 
 use crate::cursor::Cursor;
 use crate::drafts::{BatchDraft, EditDraft};
-use crate::spelled::{key, keyed_record};
+use crate::spelled_records::{key, keyed_record};
 use std::alloc::Global;
 use tsn_edit::MOST_PARTS;
 use tsn_types::keys::Kind;

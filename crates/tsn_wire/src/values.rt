@@ -10,9 +10,10 @@ ghost use Rattle.tsn_wire.specs.Spelled.{port_entry_value, gate_entry_value, IsS
 ghost use Rattle.tsn_wire.specs.Words.{word_text};
 
 use crate::cursor::Cursor;
-use crate::spelled::{ENTRIES, SpelledEntry, key, kind};
+use crate::lexemes::{flag, number, number_or_null, passed};
+use crate::spelled_records::{ENTRIES, SpelledEntry, key, kind};
 use std::alloc::Global;
-use tsn_records::drafts::{GateEntryDraft, KeyDraft, PortEntryDraft};
+use tsn_records::drafts::KeyDraft;
 use tsn_types::keys::Kind;
 use tsn_types::lists::ControlList;
 
@@ -43,80 +44,6 @@ pub trait Scanned: Drop {
 
     fn scanned(alloc: Global, text: &mut Cursor<'_>) -> Option<Self>
         ensures { IfSome result (λ v. ReadsValue 2 (lexed text.old) (value v) (lexed text.new)) };
-}
-
-#[tactic(auto, using(crate::proofs::Scanning::number_read))]
-fn number(text: &mut Cursor<'_>) -> Option<u64>
-    ensures { IfSome result (λ n. ReadsValue 0 (lexed text.old) (whole_data n) (lexed text.new)) }
-{
-    text.skip();
-    let number = text.number()?;
-    if text.ends_word() { Some(number) } else { None }
-}
-
-#[tactic(auto, using(crate::proofs::Scanning::null_read))]
-fn number_or_null(text: &mut Cursor<'_>) -> Option<Option<u64>>
-    ensures { IfSome result (λ o. ReadsValue 0 (lexed text.old) (or_null o) (lexed text.new)) }
-{
-    text.skip();
-    if !text.take("null") {
-        let number = number(text)?;
-        return Some(Some(number));
-    }
-    if text.ends_word() { Some(None) } else { None }
-}
-
-#[tactic(auto, using(crate::proofs::Scanning::true_read, crate::proofs::Scanning::false_read))]
-fn flag(text: &mut Cursor<'_>) -> Option<bool>
-    ensures { IfSome result (λ b. ReadsValue 0 (lexed text.old) (boolean b) (lexed text.new)) }
-{
-    text.skip();
-    if !text.take("true") {
-        text.expect("false")?;
-        return if text.ends_word() { Some(false) } else { None };
-    }
-    if text.ends_word() { Some(true) } else { None }
-}
-
-// A mark that must come next.
-fn passed(text: &mut Cursor<'_>, mark: u8) -> Option<()>
-    requires { is_operator mark ≡ true }
-    ensures { IfSome result (λ _. lexed text.old ≡ operator_lexeme mark ∷ lexed text.new) }
-{
-    if text.mark(mark) { Some(()) } else { None }
-}
-
-/// `[gates, interval]`
-pub fn scanned_port_entry(text: &mut Cursor<'_>) -> Option<PortEntryDraft>
-    ensures { IfSome result (λ e. ReadsValue 1 (lexed text.old) (port_entry_value e) (lexed text.new)) }
-{
-    passed(text, b'[')?;
-    let gates = number(text)?;
-    passed(text, b',')?;
-    let interval = number(text)?;
-    passed(text, b']')?;
-    Some(PortEntryDraft { gates, interval })
-}
-
-/// `[open, ipv, interval, octets]`
-pub fn scanned_gate_entry(text: &mut Cursor<'_>) -> Option<GateEntryDraft>
-    ensures { IfSome result (λ e. ReadsValue 1 (lexed text.old) (gate_entry_value e) (lexed text.new)) }
-{
-    passed(text, b'[')?;
-    let is_open = flag(text)?;
-    passed(text, b',')?;
-    let ipv = number_or_null(text)?;
-    passed(text, b',')?;
-    let interval = number(text)?;
-    passed(text, b',')?;
-    let octets = number_or_null(text)?;
-    passed(text, b']')?;
-    Some(GateEntryDraft {
-        is_open,
-        ipv,
-        interval,
-        octets,
-    })
 }
 
 fn entries<E: SpelledEntry>(alloc: Global, text: &mut Cursor<'_>) -> Option<ControlList<E>>

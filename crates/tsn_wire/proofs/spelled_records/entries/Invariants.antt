@@ -1,7 +1,7 @@
 use Rattle.std.proofs.Common.{◌≡◌, ◌++◌}
 use Rattle.std.specs.List.{AllByRecursion}
 use Rattle.tsn_wire.proofs.Spelling.{so_far}
-use Rattle.tsn_wire.proofs.spelled.entries.Given as goal
+use Rattle.tsn_wire.proofs.spelled_records.entries.Given as goal
 
 abbrev pub invariant-entries : goal.invariant-entries
 invariant-entries g l =

@@ -3,7 +3,7 @@ use Rattle.std.specs.List.{AllByRecursion}
 use Rattle.serde_json.specs.Written.{compact_text}
 use Rattle.tsn_records.specs.Shown.{list_array}
 use Rattle.tsn_wire.proofs.Spelling.{so_far, so_far_more, entries_close, all_more, none_yet}
-use Rattle.tsn_wire.proofs.spelled.entries.Goals as goal
+use Rattle.tsn_wire.proofs.spelled_records.entries.Goals as goal
 
 pub entries-init : goal.entries-init
 entries-init g c = none_yet g.E.SpelledEntry.IsFit g.E.SpelledEntry.value _ _ c.new-list.ensures

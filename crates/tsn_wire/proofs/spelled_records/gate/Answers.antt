@@ -1,6 +1,6 @@
 use Rattle.std.proofs.Common.{◌++◌, codes, ap, ◌∙◌}
 use Rattle.tsn_wire.proofs.Spelling.{gate_text}
-use Rattle.tsn_wire.proofs.spelled.gate.Goals as goal
+use Rattle.tsn_wire.proofs.spelled_records.gate.Goals as goal
 
 pub returns-clause-text : goal.returns-clause-text
 returns-clause-text c =

@@ -1,5 +1,5 @@
 use Rattle.tsn_wire.proofs.Listing.{gate_entry_read}
-use Rattle.tsn_wire.proofs.values.scanned_gate_entry.Goals as goal
+use Rattle.tsn_wire.proofs.lexemes.scanned_gate_entry.Goals as goal
 
 pub returns : goal.returns
 returns c =

@@ -1,6 +1,6 @@
 use Rattle.std.proofs.Common.{◌++◌, codes, ap, ◌∙◌}
 use Rattle.tsn_wire.proofs.Spelling.{port_text}
-use Rattle.tsn_wire.proofs.spelled.port.Goals as goal
+use Rattle.tsn_wire.proofs.spelled_records.port.Goals as goal
 
 pub returns-clause-text : goal.returns-clause-text
 returns-clause-text c =

@@ -1,5 +1,5 @@
 use Rattle.tsn_wire.proofs.Spelling.{filter_text}
-use Rattle.tsn_wire.proofs.spelled.filter.Goals as goal
+use Rattle.tsn_wire.proofs.spelled_records.filter.Goals as goal
 
 pub returns-clause-text : goal.returns-clause-text
 returns-clause-text c =

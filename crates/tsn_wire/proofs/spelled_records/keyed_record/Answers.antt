@@ -3,7 +3,7 @@ use Rattle.tsn_types.specs.declared.keys.Kind.{Kind}
 use Rattle.tsn_records.specs.Keys.{spelled_key}
 use Rattle.tsn_wire.specs.Spelled.{RecordIsSmall}
 use Rattle.tsn_records.specs.declared.drafts.RecordDraft.TheVariants.{Port, Filter, Gate, Meter}
-use Rattle.tsn_wire.proofs.spelled.keyed_record.Goals as goal
+use Rattle.tsn_wire.proofs.spelled_records.keyed_record.Goals as goal
 
 pub returns-in_ok-port-in-Port : goal.returns-in_ok-port-in-Port
 returns-in_ok-port-in-Port c = (

@@ -1,5 +1,5 @@
 use Rattle.tsn_wire.proofs.Spelling.{meter_text}
-use Rattle.tsn_wire.proofs.spelled.meter.Goals as goal
+use Rattle.tsn_wire.proofs.spelled_records.meter.Goals as goal
 
 pub returns-clause-text : goal.returns-clause-text
 returns-clause-text c =

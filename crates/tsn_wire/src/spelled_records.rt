@@ -1,0 +1,282 @@
+//! Keys and records in the service's own spelling, read with no tree.
+ghost use Rattle.std.specs.Prelude.{◌≡◌, ◌++◌, IfSome, codes, decimal};
+ghost use Rattle.std.specs.List.{AllByRecursion};
+ghost use Rattle.serde_json.specs.Data.{Data, boolean};
+ghost use Rattle.serde_json.specs.Written.{compact_text};
+ghost use Rattle.tsn_records.specs.Keys.{kind_text, spelled_key};
+ghost use Rattle.tsn_wire.specs.Reading.{line_of_draft, reading};
+ghost use Rattle.tsn_records.specs.Shown.{or_null, list_array};
+ghost use Rattle.tsn_wire.specs.Lexed.{lexed, ReadsValue};
+ghost use Rattle.tsn_wire.specs.Spelled.{port_entry_value, gate_entry_value, port_value, filter_value, gate_value, meter_value, IsSmall, IsKey, PortEntryIsSmall, GateEntryIsSmall, PortIsSmall, GateIsSmall, FilterIsSmall, MeterIsSmall, SpellsRecord, Spells, SpellsFront};
+
+use crate::cursor::Cursor;
+use crate::lexemes::{scanned_gate_entry, scanned_port_entry};
+use std::alloc::Global;
+use tsn_records::drafts::{
+    FilterDraft, GateDraft, GateEntryDraft, KeyDraft, MeterDraft, PortDraft, PortEntryDraft,
+    RecordDraft, ScheduleDraft,
+};
+use tsn_types::keys::Kind;
+use tsn_types::lists::ControlList;
+use tsn_types::numbers::identifiers::GREATEST_INSTANCE;
+
+pub fn number_member(text: &mut Cursor<'_>, name: &str) -> Option<u64>
+    ensures { IfSome result (λ n. IsSmall n × (text.old ≡ name.now ++ (decimal n ++ text.new))) }
+{
+    text.expect(name)?;
+    text.number()
+}
+
+fn optional_member(text: &mut Cursor<'_>, name: &str) -> Option<Option<u64>>
+    ensures { IfSome result (λ o. IfSome o IsSmall
+        × (text.old ≡ name.now ++ (compact_text (or_null o) ++ text.new))) }
+{
+    text.expect(name)?;
+    if text.take("null") {
+        return Some(None);
+    }
+    let number = text.number()?;
+    Some(Some(number))
+}
+
+fn flag_member(text: &mut Cursor<'_>, name: &str) -> Option<bool>
+    ensures { IfSome result (λ b. text.old ≡ name.now ++ (compact_text (boolean b) ++ text.new)) }
+{
+    text.expect(name)?;
+    if text.take("true") {
+        return Some(true);
+    }
+    text.expect("false")?;
+    Some(false)
+}
+
+/// An entry of a gate control list, in the service's own spelling.
+pub trait SpelledEntry: Drop {
+    ghost value: { Self → Data };
+
+    ghost IsFit: { Self → Type 0 };
+
+    fn spelled(text: &mut Cursor<'_>) -> Option<Self>
+        ensures { IfSome result (λ e. IsFit e × (text.old ≡ compact_text (value e) ++ text.new)) };
+
+    fn scanned(text: &mut Cursor<'_>) -> Option<Self>
+        ensures { IfSome result (λ e. ReadsValue 1 (lexed text.old) (value e) (lexed text.new)) };
+}
+
+impl SpelledEntry for PortEntryDraft {
+    ghost value = { port_entry_value };
+
+    ghost IsFit = { PortEntryIsSmall };
+
+    fn spelled(text: &mut Cursor<'_>) -> Option<PortEntryDraft> {
+        let gates = number_member(text, "[")?;
+        let interval = number_member(text, ",")?;
+        text.expect("]")?;
+        Some(PortEntryDraft { gates, interval })
+    }
+
+    fn scanned(text: &mut Cursor<'_>) -> Option<PortEntryDraft> {
+        scanned_port_entry(text)
+    }
+}
+
+impl SpelledEntry for GateEntryDraft {
+    ghost value = { gate_entry_value };
+
+    ghost IsFit = { GateEntryIsSmall };
+
+    fn spelled(text: &mut Cursor<'_>) -> Option<GateEntryDraft> {
+        let is_open = flag_member(text, "[")?;
+        let ipv = optional_member(text, ",")?;
+        let interval = number_member(text, ",")?;
+        let octets = optional_member(text, ",")?;
+        text.expect("]")?;
+        Some(GateEntryDraft {
+            is_open,
+            ipv,
+            interval,
+            octets,
+        })
+    }
+
+    fn scanned(text: &mut Cursor<'_>) -> Option<GateEntryDraft> {
+        scanned_gate_entry(text)
+    }
+}
+
+// The most entries that are read so.
+pub const ENTRIES: u32 = 65_536;
+
+fn entries<E: SpelledEntry>(alloc: Global, text: &mut Cursor<'_>) -> Option<ControlList<E>>
+    ensures small { IfSome result (AllByRecursion E.IsFit) }
+    ensures text { IfSome result
+        (λ es. text.old ≡ compact_text (list_array E.value es) ++ text.new) }
+{
+    text.expect("[")?;
+    let mut list = ControlList::new(alloc);
+    if text.take("]") {
+        return Some(list);
+    }
+    'entries: for _ in 0..ENTRIES {
+        let entry = E::spelled(text)?;
+        let Ok(()) = list.push(entry) else {
+            return None;
+        };
+        if text.take("]") {
+            return Some(list);
+        }
+        text.expect(",")?;
+    }
+    None
+}
+
+fn filter(text: &mut Cursor<'_>) -> Option<FilterDraft>
+    ensures small { IfSome result FilterIsSmall }
+    ensures text { IfSome result (λ r. text.old ≡ compact_text (filter_value r) ++ text.new) }
+{
+    let gate = number_member(text, "{\"gate\":")?;
+    let handle = optional_member(text, ",\"handle\":")?;
+    let max_sdu = optional_member(text, ",\"max_sdu\":")?;
+    let meter = optional_member(text, ",\"meter\":")?;
+    let oversize = flag_member(text, ",\"oversize\":")?;
+    let priority = optional_member(text, ",\"priority\":")?;
+    text.expect("}")?;
+    Some(FilterDraft {
+        handle,
+        priority,
+        gate,
+        max_sdu,
+        meter,
+        oversize,
+    })
+}
+
+fn meter(text: &mut Cursor<'_>) -> Option<MeterDraft>
+    ensures small { IfSome result MeterIsSmall }
+    ensures text { IfSome result (λ r. text.old ≡ compact_text (meter_value r) ++ text.new) }
+{
+    let all_red = flag_member(text, "{\"all_red\":")?;
+    let aware = flag_member(text, ",\"aware\":")?;
+    let cbs = number_member(text, ",\"cbs\":")?;
+    let cf = flag_member(text, ",\"cf\":")?;
+    let cir = number_member(text, ",\"cir\":")?;
+    let drop_yellow = flag_member(text, ",\"drop_yellow\":")?;
+    let ebs = number_member(text, ",\"ebs\":")?;
+    let eir = number_member(text, ",\"eir\":")?;
+    text.expect("}")?;
+    Some(MeterDraft {
+        cir,
+        cbs,
+        eir,
+        ebs,
+        cf,
+        aware,
+        drop_yellow,
+        all_red,
+    })
+}
+
+fn gate(alloc: Global, text: &mut Cursor<'_>) -> Option<GateDraft>
+    ensures small { IfSome result GateIsSmall }
+    ensures text { IfSome result (λ r. text.old ≡ compact_text (gate_value r) ++ text.new) }
+{
+    let base = number_member(text, "{\"base\":")?;
+    let cycle = number_member(text, ",\"cycle\":")?;
+    let extension = number_member(text, ",\"extension\":")?;
+    let invalid_rx = flag_member(text, ",\"invalid_rx\":")?;
+    let ipv = optional_member(text, ",\"ipv\":")?;
+    text.expect(",\"list\":")?;
+    let list = entries(alloc, text)?;
+    let octets_exceeded = flag_member(text, ",\"octets_exceeded\":")?;
+    let is_open = flag_member(text, ",\"open\":")?;
+    text.expect("}")?;
+    Some(GateDraft {
+        is_open,
+        ipv,
+        admin: ScheduleDraft {
+            list,
+            cycle,
+            extension,
+            base,
+        },
+        invalid_rx,
+        octets_exceeded,
+    })
+}
+
+fn port(alloc: Global, text: &mut Cursor<'_>) -> Option<PortDraft>
+    ensures small { IfSome result PortIsSmall }
+    ensures text { IfSome result (λ r. text.old ≡ compact_text (port_value r) ++ text.new) }
+{
+    let base = number_member(text, "{\"base\":")?;
+    let cycle = number_member(text, ",\"cycle\":")?;
+    let extension = number_member(text, ",\"extension\":")?;
+    let gates = number_member(text, ",\"gates\":")?;
+    text.expect(",\"list\":")?;
+    let list = entries(alloc, text)?;
+    text.expect("}")?;
+    Some(PortDraft {
+        gates,
+        admin: ScheduleDraft {
+            list,
+            cycle,
+            extension,
+            base,
+        },
+    })
+}
+
+fn key_of_kind(text: &mut Cursor<'_>, kind: Kind) -> Option<KeyDraft>
+    ensures { IfSome result (λ k. (k.kind ≡ kind) × IsKey k × (text.old ≡ decimal k.number ++ text.new)) }
+{
+    let number = text.number()?;
+    if number > GREATEST_INSTANCE {
+        return None;
+    }
+    Some(KeyDraft { kind, number })
+}
+
+pub fn key(text: &mut Cursor<'_>) -> Option<KeyDraft>
+    ensures { IfSome result (λ k. IsKey k × (text.old ≡ spelled_key k.kind k.number ++ text.new)) }
+{
+    if text.take("port ") {
+        return key_of_kind(text, Kind::Port);
+    }
+    if text.take("filter ") {
+        return key_of_kind(text, Kind::Filter);
+    }
+    if text.take("gate ") {
+        return key_of_kind(text, Kind::Gate);
+    }
+    text.expect("meter ")?;
+    key_of_kind(text, Kind::Meter)
+}
+
+pub fn kind(text: &mut Cursor<'_>) -> Option<Kind>
+    ensures { IfSome result (λ k. text.old ≡ kind_text k ++ text.new) }
+{
+    if text.take("port") {
+        return Some(Kind::Port);
+    }
+    if text.take("filter") {
+        return Some(Kind::Filter);
+    }
+    if text.take("gate") {
+        return Some(Kind::Gate);
+    }
+    text.expect("meter")?;
+    Some(Kind::Meter)
+}
+
+pub fn keyed_record(alloc: Global, text: &mut Cursor<'_>) -> Option<(KeyDraft, RecordDraft)>
+    ensures { IfSome result (λ p. SpellsRecord text.old p.0 p.1 text.new) }
+{
+    let key = key(text)?;
+    text.expect("\",\"record\":")?;
+    match key.kind {
+        Kind::Port => Some((key, RecordDraft::Port(port(alloc, text)?))),
+        Kind::Filter => Some((key, RecordDraft::Filter(filter(text)?))),
+        Kind::Gate => Some((key, RecordDraft::Gate(gate(alloc, text)?))),
+        Kind::Meter => Some((key, RecordDraft::Meter(meter(text)?))),
+    }
+}
