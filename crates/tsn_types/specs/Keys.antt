@@ -1,5 +1,5 @@
 -- Keys, their order, and what a record refers to.
-use Rattle.std.specs.Prelude.{ℕ, Bool, List, [], ◌∷◌, ◌++◌, Option, Some, None, option_to_list}
+use Rattle.std.specs.Prelude.{ℕ, Bool, List, [], ◌∷◌, ◌++◌, Option, Some, None, option_map, option_to_list}
 use Rattle.std.specs.List.{list_any}
 use Rattle.std.specs.Ordering.{nat_cmp, ordering_then, eq_by_cmp}
 use Rattle.std.specs.declared.cmp.Ordering.{Ordering}
@@ -68,3 +68,17 @@ refs_of (Some r) = refs r
 -- the keys in an answer of `Record::refs`, the first one first
 abbrev pub keys_of_refs : Refs → List Key
 keys_of_refs r = option_to_list r.first ++ option_to_list r.second
+
+-- what stands in the first place of that answer: the gate of a filter
+abbrev pub first_ref : Record → Option Key
+first_ref (PortRecord r) = None
+first_ref (FilterRecord r) = Some (Gate r.gate)
+first_ref (GateRecord r) = None
+first_ref (MeterRecord r) = None
+
+-- what stands in the second: the meter of a filter, where one is given
+abbrev pub second_ref : Record → Option Key
+second_ref (PortRecord r) = None
+second_ref (FilterRecord r) = option_map Meter r.meter
+second_ref (GateRecord r) = None
+second_ref (MeterRecord r) = None

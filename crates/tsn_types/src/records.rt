@@ -2,7 +2,7 @@
 //!
 //! A record is created, replaced and removed as one. Only `try_clone` takes memory; what it gives equals its source.
 ghost use Rattle.std.specs.Prelude.{◌≡◌, ◌↔◌, IfOk, IsTrue};
-ghost use Rattle.tsn_types.specs.Keys.{has, keys_of_refs, refs};
+ghost use Rattle.tsn_types.specs.Keys.{first_ref, has, keys_of_refs, refs, second_ref};
 ghost use Rattle.tsn_types.specs.Lent.{lent_record};
 ghost use Rattle.tsn_types.specs.declared.records.Record.TheVariants.{Filter as FilterRecord};
 
@@ -179,9 +179,11 @@ pub struct Refs {
 }
 
 impl Record {
-    /// What the record refers to: a filter to its gate and, if given, its meter; any other record to nothing.
+    /// What the record refers to: a filter first to its gate and second, if given, to its meter; any other record to nothing.
     pub fn refs(&self) -> Refs
-        ensures { keys_of_refs result ≡ refs self.now }
+        ensures keys { keys_of_refs result ≡ refs self.now }
+        ensures first { result.first ≡ first_ref self.now }
+        ensures second { result.second ≡ second_ref self.now }
     {
         match self {
             Record::Filter(filter) => Refs {
