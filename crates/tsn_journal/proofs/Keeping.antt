@@ -35,7 +35,7 @@ no_index a places latest = record {
 }
 
 module _ (ms : List MarkedEntry) (len capacity : ℕ) (a : Index) (room parts upto : ℕ) (is : IsKept ms len capacity a room parts upto) (ns : List MarkedEntry) (b : Index) (same : ns ≡ ms) (places : b.places.items ≡ a.places.items) (latest : (g : Group) → latest_of b.latest g ≡ latest_of a.latest g) (tells : TellsSame a b) where
-  pub kept_reserved : (len' capacity' room' parts' : ℕ) → len' ≡ len → len' + room' ≤ capacity' → len' + room' ≤ 65536 → parts' ≤ 1048576 → HasRoom (places_for room' parts') b → IsKept ns len' capacity' b room' parts' upto
+  pub kept_reserved : (len' capacity' room' parts' : ℕ) → len' ≡ len → len' + room' ≤ capacity' → len' + room' ≤ 262144 → parts' ≤ 4194304 → HasRoom (places_for room' parts') b → IsKept ns len' capacity' b room' parts' upto
   kept_reserved len' capacity' room' parts' as_many entries few few_parts places' = record {
     journal = subst IsJournal (sym same) is.journal;
     indexed = subst (λ xs. IsIndexed xs b) (sym same) (indexed_same ms a b places latest is.indexed);
@@ -79,14 +79,19 @@ module _ (w : What) (s : ℕ) (ms ns : List MarkedEntry) (pushed : ns ≡ map (m
   pushed_index a is =
       subst (λ xs. IsIndexedButNewest xs a) (sym pushed) (indexed_more (map (mark_off w) ms) (new_entry ms s w) a (indexed_off w ms a is))
 
-  pub pushed_numbered : IsJournal ms → length ms + 1 ≤ 65536 → IsNumbered 1 (entries_of ns)
+  pub pushed_numbered : IsJournal ms → length ms + 1 ≤ 262144 → IsNumbered 1 (entries_of ns)
   pushed_numbered is few = (journal_push ms s w ns is (omega arith) pushed).numbered
 
   pub pushed_some : 1 ≤ length ns
   pushed_some = omega (arith, ap length pushed, length-append (map (mark_off w) ms) (new_entry ms s w ∷ []))
 
-  pub pushed_few : length ms + 1 ≤ 65536 → length ns ≤ 65536
+  pub pushed_few : length ms + 1 ≤ 262144 → length ns ≤ 262144
   pushed_few h = omega (arith, ap length pushed, length-append (map (mark_off w) ms) (new_entry ms s w ∷ []), length-map ms (mark_off w), h)
+
+  -- the marks up to what is settled then are off
+  pub off_more : (upto now : ℕ) → IsJournal ms → upto ≤ length ms → settles_to w ≤ length ms → now ≡ max upto (settles_to w) → AreOff upto ms → AreOff now ns
+  off_more upto now is within there now_is off =
+      subst (λ n. AreOff n ns) (sym now_is) (subst (AreOff (max upto (settles_to w))) (sym pushed) (off_pushed w upto ms (new_entry ms s w) is.numbered within there off))
 
   pub kept_pushed : (len capacity len' capacity' room parts k upto now : ℕ) (a b : Index) → 1 ≤ room → k ≤ parts → k ≤ 16 → IsKept ms len capacity a room parts upto → settles_to w ≤ length ms → now ≡ max upto (settles_to w) → length ms ≡ len → len' ≡ len + 1 → capacity' ≡ capacity → IsIndexed ns b → Tells (entries_of ns) b
       → TakesRoom (places_for 1 k) a b → IsKept ns len' capacity' b (room - 1) (parts - k) now
@@ -101,7 +106,7 @@ module _ (w : What) (s : ℕ) (ms ns : List MarkedEntry) (pushed : ns ≡ map (m
     places = less_room room parts k a b some fewer takes is.places;
     settled = now_is ∙ ap (λ n. max n (settles_to w)) is.settled ∙ sym (settled_push (entries_of ms) (record { number = length (entries_of ms) + 1; session = s; what = w })) ∙ sym (ap settled (entries_pushed ms s w)) ∙ ap (λ xs. settled (entries_of xs)) (sym pushed);
     settled_there = omega (arith, is.settled_there, there, count, longer);
-    off = subst (λ n. AreOff n ns) (sym now_is) (subst (AreOff (max upto (settles_to w))) (sym pushed) (off_pushed w upto ms (new_entry ms s w) is.journal.numbered (omega (arith, is.settled_there, count)) there is.off));
+    off = off_more upto now is.journal (omega (arith, is.settled_there, count)) there now_is is.off;
   }
 
   newest_is : slice_get ns (length ns - 1) ≡ Some (new_entry ms s w)

@@ -12,6 +12,7 @@ pub mod Links
 pub mod Lowering
 pub mod Marking
 pub mod Numbers
+pub mod Off
 pub mod Rows
 pub mod Settling
 pub mod Sought

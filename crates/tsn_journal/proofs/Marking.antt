@@ -156,7 +156,7 @@ marked_push (m ∷ ms) x open' h =
       marked_push ms x open' h.1,
     )
 
-pub journal_push : (ms : List MarkedEntry) (s : ℕ) (w : What) (ns : List MarkedEntry) → IsJournal ms → length ms < 65536 → ns ≡ map (mark_off w) ms ++ new_entry ms s w ∷ [] → IsJournal ns
+pub journal_push : (ms : List MarkedEntry) (s : ℕ) (w : What) (ns : List MarkedEntry) → IsJournal ms → length ms < 262144 → ns ≡ map (mark_off w) ms ++ new_entry ms s w ∷ [] → IsJournal ns
 journal_push ms s w ns is room pushed = rw pushed (record {
   numbered = rw (entries_pushed ms s w) (IsNumbered-with_entry (entries_of ms) s w is.numbered);
   marked = marked_push ms (new_entry ms s w) refl is.marked;
@@ -172,5 +172,5 @@ pushed_items w s len n ms rest off' now same count is pushed =
     ∙ ap (λ xs. xs ++ record { entry = record { number = n + 1; session = s; what = w }; is_open = true } ∷ []) (take-append-le len off' rest (omega arith) ∙ take_all len off' (omega arith) ∙ is)
     ∙ ap (λ k. map (mark_off w) ms ++ record { entry = record { number = k + 1; session = s; what = w }; is_open = true } ∷ []) (count ∙ sym same)
 
-pub room_for_one : (capacity len : ℕ) → 1 ≤ min capacity 65536 - len → len < 65536
+pub room_for_one : (capacity len : ℕ) → 1 ≤ min capacity 262144 - len → len < 262144
 room_for_one capacity len h = omega arith

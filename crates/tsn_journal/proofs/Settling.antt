@@ -4,12 +4,12 @@ use Rattle.std.specs.Prelude.{filter, nat_le, option_map}
 use Rattle.std.specs.List.{cons_option}
 use Rattle.std.proofs.lemmas.Bool.Decides.{nat_tests}
 use Rattle.tsn_edit.specs.Parts.{Change}
-use Rattle.tsn_edit.proofs.KeyFacts.{by_bool, by_option}
+use Rattle.tsn_edit.proofs.KeyFacts.{by_bool}
 use Rattle.tsn_journal.specs.declared.entries.What.{What}
 use Rattle.tsn_journal.specs.declared.entries.What.TheVariants.{Made, Undone, Redone, Acted, Settled}
 use Rattle.tsn_journal.specs.declared.entries.Entry.{Entry}
 use Rattle.tsn_journal.specs.Entries.{Applied, IsNoSettle, IsNumbered, adds, applied, closes, is_closed, is_settled, settled_edits, standing, takes_back}
-use Rattle.tsn_journal.proofs.Numbers.{Rises, append_nil, filter_all, filter_none, rises_lower}
+use Rattle.tsn_journal.proofs.Numbers.{Rises}
 
 -- ---- an entry that settles none
 

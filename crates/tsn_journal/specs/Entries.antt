@@ -1,5 +1,5 @@
 -- The entries of a journal, and which of them stand. Entries are numbered from 1.
-use Rattle.std.specs.Prelude.{◌≡◌, ℕ, ◌+◌, Bool, true, false, not, ◌&&◌, ◌||◌, max, List, [], ◌∷◌, ◌++◌, Option, Some, None, map, option_map, is_some, is_none, ◌==◌, nat_le, length, if◌then◌else◌, ⊤}
+use Rattle.std.specs.Prelude.{◌≡◌, ℕ, ◌+◌, Bool, true, false, not, ◌&&◌, max, List, [], ◌∷◌, ◌++◌, Option, Some, None, map, option_map, is_some, is_none, ◌==◌, nat_le, length, if◌then◌else◌, ⊤}
 use Rattle.std.specs.List.{list_any, filter_map, cons_option}
 use Rattle.tsn_types.specs.declared.keys.Key.{Key}
 use Rattle.tsn_types.specs.declared.refusals.Refusal.{Refusal}
@@ -15,7 +15,7 @@ use Rattle.tsn_journal.specs.declared.entries.Entry.{Entry}
 
 -- how many entries a journal holds at most
 abbrev pub most_entries : ℕ
-most_entries = 65536
+most_entries = 262144
 
 -- there is no room for n entries more
 abbrev pub no_room : List Entry → ℕ → Option Refusal

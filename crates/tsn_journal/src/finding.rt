@@ -323,7 +323,7 @@ fn put_off_one(marked: &mut [MarkedEntry], what: &What)
 }
 
 /// Sets the newest places of groups back where entries have left them: the one of the number, if one was taken back, and
-/// those behind the first ones, up to the number that was settled.
+/// those behind the first ones, up to the number that was settled, whose marks are off.
 pub(crate) fn leave(
     index: &mut Index,
     marked: &[MarkedEntry],
@@ -334,20 +334,22 @@ pub(crate) fn leave(
     requires index { IsIndexed marked.now index.old }
     requires numbered { IsNumbered 1 (entries_of marked.now) }
     requires there { upto ≤ length marked.now }
+    requires off { AreOff upto marked.now }
     ensures index { IsIndexed marked.now index.new }
     ensures tells { TellsSame index.old index.new }
     ensures room { TakesRoom 0 index.old index.new }
 {
-    leave_one(index, marked, taken_back);
+    leave_one(index, marked, taken_back, upto as u64);
     for place in first..upto {
-        index.leave(marked, &marked[place].entry);
+        index.leave(marked, &marked[place].entry, upto as u64);
     }
 }
 
 /// The same for the entry of the number, if there is one.
-fn leave_one(index: &mut Index, marked: &[MarkedEntry], number: Option<u64>)
+fn leave_one(index: &mut Index, marked: &[MarkedEntry], number: Option<u64>, settled: u64)
     requires index { IsIndexed marked.now index.old }
     requires numbered { IsNumbered 1 (entries_of marked.now) }
+    requires off { AreOff settled marked.now }
     ensures index { IsIndexed marked.now index.new }
     ensures tells { TellsSame index.old index.new }
     ensures room { TakesRoom 0 index.old index.new }
@@ -356,6 +358,6 @@ fn leave_one(index: &mut Index, marked: &[MarkedEntry], number: Option<u64>)
         return;
     };
     if let Some(found) = at(marked, number) {
-        index.leave(marked, &found.entry);
+        index.leave(marked, &found.entry, settled);
     }
 }

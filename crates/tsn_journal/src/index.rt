@@ -10,9 +10,9 @@ ghost use Rattle.tsn_journal.specs.declared.groups.Group.{Group as AnyGroup};
 ghost use Rattle.tsn_journal.specs.Entries.{most_entries};
 ghost use Rattle.tsn_journal.specs.Finding.{last_where};
 ghost use Rattle.tsn_journal.specs.declared.groups.Group.TheVariants.{EndsRedo, Of, On, RefersTo};
-ghost use Rattle.tsn_journal.specs.Index.{Adds, ArePlaces, HasPlaces, HasRoom, IsIndexed, IsIndexedBut, IsIndexedButNewest, IsLast, IsNewest, NewestAdds, TakesNoRoom, TakesPlaces, TakesRoom, belongs, belongs_to_others, group_if, is_by, most_places, number_at, other_of, places_for};
+ghost use Rattle.tsn_journal.specs.Index.{Adds, ArePlaces, HasPlaces, HasRoom, IsIndexed, IsIndexedBut, IsIndexedButNewest, IsLast, IsNewest, NewestAdds, NoneBetween, TakesNoRoom, TakesPlaces, TakesRoom, belongs, belongs_to_others, group_if, is_by, most_places, number_at, other_of, places_for};
 ghost use Rattle.tsn_journal.specs.Latest.{latest_of};
-ghost use Rattle.tsn_journal.specs.Marks.{added_in};
+ghost use Rattle.tsn_journal.specs.Marks.{AreOff, added_in};
 ghost use Rattle.tsn_journal.specs.Tests.{Tests};
 ghost use Rattle.tsn_journal.specs.Touched.{NewestTold, Tells, TellsSame, Told};
 ghost use Rattle.tsn_edit.specs.Changes.{keys_of, refs_after};
@@ -302,49 +302,53 @@ impl Index {
         self.places.as_slice().len() as u32
     }
 
-    /// Sets the newest places of the groups of an entry that was taken back to where their last entries are. It takes
-    /// no room.
-    pub(crate) fn leave(&mut self, marked: &[MarkedEntry], taken_back: &Entry)
-        requires { IsIndexed marked.now self.old }
+    /// Sets the newest places of the groups of an entry that was taken back, or settled, to where their last entries are.
+    /// The entries up to the number `settled` are off. It takes no room.
+    pub(crate) fn leave(&mut self, marked: &[MarkedEntry], taken_back: &Entry, settled: u64)
+        requires index { IsIndexed marked.now self.old }
+        requires off { AreOff settled marked.now }
         ensures index { IsIndexed marked.now self.new }
         ensures tells { TellsSame self.old self.new }
         ensures room { TakesRoom 0 self.old self.new }
     {
         if let Some(change) = taken_back.what.added() {
-            self.lower_parts(marked, change.parts());
+            self.lower_parts(marked, change.parts(), settled);
         }
-        self.lower_session(marked, taken_back.session);
+        self.lower_session(marked, taken_back.session, settled);
     }
 
     /// The same for the groups of the parts of a change.
-    fn lower_parts(&mut self, marked: &[MarkedEntry], parts: &[Part])
-        requires { IsIndexed marked.now self.old }
+    fn lower_parts(&mut self, marked: &[MarkedEntry], parts: &[Part], settled: u64)
+        requires index { IsIndexed marked.now self.old }
+        requires off { AreOff settled marked.now }
         ensures index { IsIndexed marked.now self.new }
         ensures tells { TellsSame self.old self.new }
         ensures room { TakesRoom 0 self.old self.new }
     {
         for part in parts {
             let refs = refs_of(&part.after);
-            self.lower_key(marked, &part.key);
-            self.lower_ref(marked, &refs.first);
-            self.lower_ref(marked, &refs.second);
+            self.lower_key(marked, &part.key, settled);
+            self.lower_ref(marked, &refs.first, settled);
+            self.lower_ref(marked, &refs.second, settled);
         }
     }
 
-    fn lower_ref(&mut self, marked: &[MarkedEntry], key: &Option<Key>)
-        requires { IsIndexed marked.now self.old }
+    fn lower_ref(&mut self, marked: &[MarkedEntry], key: &Option<Key>, settled: u64)
+        requires index { IsIndexed marked.now self.old }
+        requires off { AreOff settled marked.now }
         ensures index { IsIndexed marked.now self.new }
         ensures tells { TellsSame self.old self.new }
         ensures room { TakesRoom 0 self.old self.new }
     {
         if let Some(key) = key {
-            self.lower_key(marked, key);
+            self.lower_key(marked, key, settled);
         }
     }
 
     /// The same for the two groups of a key.
-    fn lower_key(&mut self, marked: &[MarkedEntry], key: &Key)
-        requires { IsIndexed marked.now self.old }
+    fn lower_key(&mut self, marked: &[MarkedEntry], key: &Key, settled: u64)
+        requires index { IsIndexed marked.now self.old }
+        requires off { AreOff settled marked.now }
         ensures index { IsIndexed marked.now self.new }
         ensures tells { TellsSame self.old self.new }
         ensures room { TakesRoom 0 self.old self.new }
@@ -353,8 +357,8 @@ impl Index {
         if latest.on == 0 && latest.refers == 0 {
             return;
         }
-        let on = self.first_from(marked, &Group::On(*key), latest.on);
-        let refers = self.first_from(marked, &Group::RefersTo(*key), latest.refers);
+        let on = self.first_from(marked, &Group::On(*key), latest.on, settled);
+        let refers = self.first_from(marked, &Group::RefersTo(*key), latest.refers, settled);
         self.latest.set_key(
             *key,
             KeyPlaces {
@@ -366,8 +370,9 @@ impl Index {
     }
 
     /// The same for the two groups of a session.
-    fn lower_session(&mut self, marked: &[MarkedEntry], session: u32)
-        requires { IsIndexed marked.now self.old }
+    fn lower_session(&mut self, marked: &[MarkedEntry], session: u32, settled: u64)
+        requires index { IsIndexed marked.now self.old }
+        requires off { AreOff settled marked.now }
         ensures index { IsIndexed marked.now self.new }
         ensures tells { TellsSame self.old self.new }
         ensures room { TakesRoom 0 self.old self.new }
@@ -376,8 +381,9 @@ impl Index {
         if latest.standing == 0 && latest.ends_redo == 0 {
             return;
         }
-        let standing = self.first_from(marked, &Group::Of(session), latest.standing);
-        let ends_redo = self.first_from(marked, &Group::EndsRedo(session), latest.ends_redo);
+        let standing = self.first_from(marked, &Group::Of(session), latest.standing, settled);
+        // a settled edit still ends a search for a redo
+        let ends_redo = self.first_from(marked, &Group::EndsRedo(session), latest.ends_redo, 0);
         self.latest.set_session(
             session,
             SessionPlaces {
@@ -388,14 +394,19 @@ impl Index {
     }
 
     /// The first place back from this one, which is the latest, whose entry belongs to the group, from 1, and 0 for none.
-    fn first_from(&self, marked: &[MarkedEntry], group: &Group, latest: u32) -> u32
+    /// It looks at no entry up to the number `settled`, since none of these belongs to it.
+    fn first_from(&self, marked: &[MarkedEntry], group: &Group, latest: u32, settled: u64) -> u32
         requires places { ArePlaces marked.now self.now.places.items }
         requires latest { IsLast group.now (belongs group.now) marked.now self.now.places.items latest (length marked.now + 1) }
+        requires settled { NoneBetween (belongs group.now) marked.now 0 (settled + 1) }
         ensures { IsLast group.now (belongs group.now) marked.now self.now.places.items result (length marked.now + 1) }
     {
         let mut place = latest;
         'back: while place != 0 {
             let at = &self.places[place as usize - 1];
+            if u64::from(at.number) <= settled {
+                return 0;
+            }
             if numbered(marked, at.number).is_in(group) {
                 return place;
             }
@@ -404,9 +415,10 @@ impl Index {
         place
     }
 
-    /// How many standing entries the session has.
-    pub(crate) fn count_of(&self, marked: &[MarkedEntry], session: u32) -> usize
-        requires { IsIndexed marked.now self.now }
+    /// How many standing entries the session has. Those up to the number `settled` are off.
+    pub(crate) fn count_of(&self, marked: &[MarkedEntry], session: u32, settled: u64) -> usize
+        requires index { IsIndexed marked.now self.now }
+        requires off { AreOff settled marked.now }
         ensures { result ≡ length (filter (belongs (Of session)) marked.now) }
     {
         let group = &Group::Of(session);
@@ -414,6 +426,9 @@ impl Index {
         let mut place = self.latest.session_places(session).standing;
         'back: while place != 0 {
             let at = &self.places[place as usize - 1];
+            if u64::from(at.number) <= settled {
+                break;
+            }
             if numbered(marked, at.number).is_in(group) {
                 found += 1;
             }
@@ -422,9 +437,10 @@ impl Index {
         found
     }
 
-    /// How many parts the changes of the session's standing entries have.
-    pub(crate) fn parts_of(&self, marked: &[MarkedEntry], session: u32) -> usize
-        requires { IsIndexed marked.now self.now }
+    /// How many parts the changes of the session's standing entries have. Those up to the number `settled` are off.
+    pub(crate) fn parts_of(&self, marked: &[MarkedEntry], session: u32, settled: u64) -> usize
+        requires index { IsIndexed marked.now self.now }
+        requires off { AreOff settled marked.now }
         ensures { result ≡ added_in (filter (belongs (Of session)) marked.now) }
     {
         let group = &Group::Of(session);
@@ -432,6 +448,9 @@ impl Index {
         let mut place = self.latest.session_places(session).standing;
         'back: while place != 0 {
             let at = &self.places[place as usize - 1];
+            if u64::from(at.number) <= settled {
+                break;
+            }
             let entry = numbered(marked, at.number);
             if entry.is_in(group) {
                 found += entry.entry.what.added_parts();
@@ -441,14 +460,17 @@ impl Index {
         found
     }
 
-    /// The numbers of the session's standing entries. Refused only for want of memory.
+    /// The numbers of the session's standing entries. Those up to the number `settled` are off. Refused only for want of
+    /// memory.
     pub(crate) fn numbers_of(
         &self,
         alloc: Global,
         marked: &[MarkedEntry],
         session: u32,
+        settled: u64,
     ) -> Result<Vec<u64>, AllocError>
-        requires { IsIndexed marked.now self.now }
+        requires index { IsIndexed marked.now self.now }
+        requires off { AreOff settled marked.now }
         ensures { IfOk result (λ numbers. numbers.items ≡ map (λ m. m.entry.number) (filter (belongs (Of session)) marked.now)) }
     {
         let group = &Group::Of(session);
@@ -456,6 +478,9 @@ impl Index {
         let mut place = self.latest.session_places(session).standing;
         'back: while place != 0 {
             let at = &self.places[place as usize - 1];
+            if u64::from(at.number) <= settled {
+                break;
+            }
             let entry = numbered(marked, at.number);
             if entry.is_in(group) {
                 found.push(entry.entry.number)?;

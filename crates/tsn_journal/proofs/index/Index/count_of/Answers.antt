@@ -1,7 +1,8 @@
-use Rattle.std.proofs.Common.{◌+◌, ◌≤◌, sym, ◌∙◌, ap, subst, arith, length}
-use Rattle.tsn_journal.specs.Index.{IsLast, belongs, is_of, number_at, place_at}
+use Rattle.std.proofs.Common.{◌≡◌, ◌+◌, ◌≤◌, sym, ◌∙◌, ap, subst, arith, length}
+use Rattle.tsn_journal.specs.Index.{IsLast, belongs, is_of, number_at, number_of, place_at}
 use Rattle.tsn_journal.specs.declared.groups.Group.TheVariants.{Of}
 use Rattle.tsn_journal.proofs.Links.{next_group, place_there, the_place}
+use Rattle.tsn_journal.proofs.Off.{none_before}
 use Rattle.tsn_journal.proofs.Walking.{filter_none, none_after, step_back, none_counted, one_counted}
 use Rattle.tsn_journal.proofs.index.Index.count_of.Goals as goal
 use Rattle.tsn_journal.proofs.index.Index.count_of.Goals.{then-is_in, else-is_in}
@@ -10,8 +11,8 @@ pub back-init : goal.back-init
 back-init c =
     let ps = c.args.self.now.places.items in
     let g = Of c.args.session in
-    let at = c.requires.latest_is g in
-    let none = none_after g (belongs g) c.args.marked.now ps c.session_places-place.result.standing (subst (λ j. IsLast g (belongs g) c.args.marked.now ps j (length c.args.marked.now + 1)) (sym c.session_places-place.ensures.standing) (c.requires.latest_is g)) in
+    let at = c.requires.index.latest_is g in
+    let none = none_after g (belongs g) c.args.marked.now ps c.session_places-place.result.standing (subst (λ j. IsLast g (belongs g) c.args.marked.now ps j (length c.args.marked.now + 1)) (sym c.session_places-place.ensures.standing) (c.requires.index.latest_is g)) in
     record {
       within = subst (λ j. j ≤ length ps) (sym c.session_places-place.ensures.standing) at.within;
       group = ap (λ j. is_of g (place_at ps j)) c.session_places-place.ensures.standing ∙ at.group;
@@ -20,25 +21,25 @@ back-init c =
     }
 
 pub numbered-requires-clause-some : goal.numbered-requires-clause-some
-numbered-requires-clause-some c = (the_place c.args.marked.now c.args.self.now.places.items (Of c.args.session) c.back.place c.index-at.result.now c.back.invariant.group (place_there c.args.self.now.places.items c.back.place c.index-at.result.now c.back-test.true c.back.invariant.within c.index-at.ensures) c.requires.places).some
+numbered-requires-clause-some c = (the_place c.args.marked.now c.args.self.now.places.items (Of c.args.session) c.back.place c.index-at.result.now c.back.invariant.group (place_there c.args.self.now.places.items c.back.place c.index-at.result.now c.back-test.true c.back.invariant.within c.index-at.ensures) c.requires.index.places).some
 
 pub numbered-requires-clause-within : goal.numbered-requires-clause-within
-numbered-requires-clause-within c = (the_place c.args.marked.now c.args.self.now.places.items (Of c.args.session) c.back.place c.index-at.result.now c.back.invariant.group (place_there c.args.self.now.places.items c.back.place c.index-at.result.now c.back-test.true c.back.invariant.within c.index-at.ensures) c.requires.places).within
+numbered-requires-clause-within c = (the_place c.args.marked.now c.args.self.now.places.items (Of c.args.session) c.back.place c.index-at.result.now c.back.invariant.group (place_there c.args.self.now.places.items c.back.place c.index-at.result.now c.back-test.true c.back.invariant.within c.index-at.ensures) c.requires.index.places).within
 
 pub back-smaller : goal.back-smaller
 back-smaller c =
-    let at = the_place c.args.marked.now c.args.self.now.places.items (Of c.args.session) c.back.place c.index-at.result.now c.back.invariant.group (place_there c.args.self.now.places.items c.back.place c.index-at.result.now c.back-test.true c.back.invariant.within c.index-at.ensures) c.requires.places in
+    let at = the_place c.args.marked.now c.args.self.now.places.items (Of c.args.session) c.back.place c.index-at.result.now c.back.invariant.group (place_there c.args.self.now.places.items c.back.place c.index-at.result.now c.back-test.true c.back.invariant.within c.index-at.ensures) c.requires.index.places in
     omega (arith, at.earlier, c.back-test.true)
 
 pub back-preserved : goal.back-preserved
 back-preserved c =
-    let at = the_place c.args.marked.now c.args.self.now.places.items (Of c.args.session) c.back.place c.index-at.result.now c.back.invariant.group (place_there c.args.self.now.places.items c.back.place c.index-at.result.now c.back-test.true c.back.invariant.within c.index-at.ensures) c.requires.places in
+    let at = the_place c.args.marked.now c.args.self.now.places.items (Of c.args.session) c.back.place c.index-at.result.now c.back.invariant.group (place_there c.args.self.now.places.items c.back.place c.index-at.result.now c.back-test.true c.back.invariant.within c.index-at.ensures) c.requires.index.places in
     record {
       within = at.last.within;
-      group = next_group c.args.marked.now c.args.self.now.places.items (Of c.args.session) c.back.place c.index-at.result.now c.back.invariant.group (place_there c.args.self.now.places.items c.back.place c.index-at.result.now c.back-test.true c.back.invariant.within c.index-at.ensures) c.requires.places;
+      group = next_group c.args.marked.now c.args.self.now.places.items (Of c.args.session) c.back.place c.index-at.result.now c.back.invariant.group (place_there c.args.self.now.places.items c.back.place c.index-at.result.now c.back-test.true c.back.invariant.within c.index-at.ensures) c.requires.index.places;
       so_far = elim c.if-is_in.branch [
-        | then-is_in w ↦ w.found-is ∙ one_counted c.back.found _ (belongs (Of c.args.session) c.numbered.result.now) c.numbered.result.now c.back.invariant.so_far (sym c.is_in.ensures ∙ w.if-is_in.true) ∙ ap length (sym (step_back c.args.marked.now c.args.self.now.places.items (Of c.args.session) c.back.place c.index-at.result.now c.back.invariant.group (place_there c.args.self.now.places.items c.back.place c.index-at.result.now c.back-test.true c.back.invariant.within c.index-at.ensures) c.requires.places c.numbered.result.now c.numbered.ensures))
-        | else-is_in w ↦ w.found-is ∙ none_counted c.back.found _ (belongs (Of c.args.session) c.numbered.result.now) c.numbered.result.now c.back.invariant.so_far (sym c.is_in.ensures ∙ w.if-is_in.false) ∙ ap length (sym (step_back c.args.marked.now c.args.self.now.places.items (Of c.args.session) c.back.place c.index-at.result.now c.back.invariant.group (place_there c.args.self.now.places.items c.back.place c.index-at.result.now c.back-test.true c.back.invariant.within c.index-at.ensures) c.requires.places c.numbered.result.now c.numbered.ensures))
+        | then-is_in w ↦ w.found-is ∙ one_counted c.back.found _ (belongs (Of c.args.session) c.numbered.result.now) c.numbered.result.now c.back.invariant.so_far (sym c.is_in.ensures ∙ w.if-is_in.true) ∙ ap length (sym (step_back c.args.marked.now c.args.self.now.places.items (Of c.args.session) c.back.place c.index-at.result.now c.back.invariant.group (place_there c.args.self.now.places.items c.back.place c.index-at.result.now c.back-test.true c.back.invariant.within c.index-at.ensures) c.requires.index.places c.numbered.result.now c.numbered.ensures))
+        | else-is_in w ↦ w.found-is ∙ none_counted c.back.found _ (belongs (Of c.args.session) c.numbered.result.now) c.numbered.result.now c.back.invariant.so_far (sym c.is_in.ensures ∙ w.if-is_in.false) ∙ ap length (sym (step_back c.args.marked.now c.args.self.now.places.items (Of c.args.session) c.back.place c.index-at.result.now c.back.invariant.group (place_there c.args.self.now.places.items c.back.place c.index-at.result.now c.back-test.true c.back.invariant.within c.index-at.ensures) c.requires.index.places c.numbered.result.now c.numbered.ensures))
       ];
       few = elim c.if-is_in.branch [
         | then-is_in w ↦ omega (arith, w.found-is, at.earlier, c.back.invariant.few, c.back-test.true)
@@ -48,3 +49,9 @@ back-preserved c =
 
 pub overflow_add-found : goal.overflow_add-found
 overflow_add-found c = omega (arith, c.back.invariant.few, c.session_places-place.type_inv, c.back-test.true)
+
+pub returns-then-from-settled : goal.returns-then-from-settled
+returns-then-from-settled c =
+    let number : number_at c.args.self.now.places.items c.back.place ≡ c.index-at.result.now.number = ap number_of (place_there c.args.self.now.places.items c.back.place c.index-at.result.now c.back-test.true c.back.invariant.within c.index-at.ensures) in
+    c.back.invariant.so_far
+    ∙ ap length (none_before c.args.session c.args.settled c.args.marked.now c.args.self.now.places.items c.back.place c.requires.off (omega (arith, number, c.from.ensures, c.if-from-settled.true)))

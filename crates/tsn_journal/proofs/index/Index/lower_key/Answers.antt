@@ -5,18 +5,19 @@ use Rattle.tsn_journal.specs.Index.{IsLast, belongs, set_at}
 use Rattle.tsn_journal.specs.Latest.{latest_of}
 use Rattle.tsn_journal.proofs.Indexing.{reindexed}
 use Rattle.tsn_journal.proofs.Lowering.{index_lowered}
+use Rattle.tsn_journal.proofs.Off.{none_on, none_refers}
 use Rattle.tsn_journal.proofs.Rows.{referred_stay, set_key_both, touched_stay}
 use Rattle.tsn_journal.proofs.index.Index.lower_key.Goals as goal
 
 pub first_from-on-requires-clause-latest : goal.first_from-on-requires-clause-latest
 first_from-on-requires-clause-latest c =
     let g = On c.args.key.now in
-    subst (λ j. IsLast g (belongs g) c.args.marked.now c.args.self.now.places.items j (length c.args.marked.now + 1)) (sym c.key_places-latest.ensures.on) (c.requires.latest_is g)
+    subst (λ j. IsLast g (belongs g) c.args.marked.now c.args.self.now.places.items j (length c.args.marked.now + 1)) (sym c.key_places-latest.ensures.on) (c.requires.index.latest_is g)
 
 pub first_from-refers-requires-clause-latest : goal.first_from-refers-requires-clause-latest
 first_from-refers-requires-clause-latest c =
     let g = RefersTo c.args.key.now in
-    subst (λ j. IsLast g (belongs g) c.args.marked.now c.args.self.now.places.items j (length c.args.marked.now + 1)) (sym c.key_places-latest.ensures.refers) (c.requires.latest_is g)
+    subst (λ j. IsLast g (belongs g) c.args.marked.now c.args.self.now.places.items j (length c.args.marked.now + 1)) (sym c.key_places-latest.ensures.refers) (c.requires.index.latest_is g)
 
 pub returns-clause-index : goal.returns-clause-index
 returns-clause-index c =
@@ -28,7 +29,7 @@ returns-clause-index c =
     let k = c.first_from-refers.result in
     reindexed ms _ ps (set_at (RefersTo key) k (set_at (On key) j l)) (latest_of c.set_key.new.self)
     (set_key_both c.args.self.now.latest c.set_key.new.self key (record { on = j; refers = k; touched = c.key_places-latest.result.touched; referred = c.key_places-latest.result.referred }) c.set_key.ensures.rows c.set_key.ensures.sessions)
-    (index_lowered ms ps (set_at (On key) j l) (RefersTo key) k (index_lowered ms ps l (On key) j c.requires c.first_from-on.ensures) c.first_from-refers.ensures)
+    (index_lowered ms ps (set_at (On key) j l) (RefersTo key) k (index_lowered ms ps l (On key) j c.requires.index c.first_from-on.ensures) c.first_from-refers.ensures)
 
 pub returns-clause-tells : goal.returns-clause-tells
 returns-clause-tells c =
@@ -40,3 +41,9 @@ returns-clause-tells c =
       on = touched_stay l k c.args.key.now row c.set_key.ensures.rows c.set_key.ensures.sessions c.key_places-latest.ensures.touched;
       to = referred_stay l k c.args.key.now row c.set_key.ensures.rows c.set_key.ensures.sessions c.key_places-latest.ensures.referred;
     }
+
+pub first_from-on-requires-clause-settled : goal.first_from-on-requires-clause-settled
+first_from-on-requires-clause-settled c = none_on c.args.key.now c.args.settled c.args.marked.now c.requires.off
+
+pub first_from-refers-requires-clause-settled : goal.first_from-refers-requires-clause-settled
+first_from-refers-requires-clause-settled c = none_refers c.args.key.now c.args.settled c.args.marked.now c.requires.off

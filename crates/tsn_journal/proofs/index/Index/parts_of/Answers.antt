@@ -1,8 +1,9 @@
-use Rattle.std.proofs.Common.{◌+◌, ◌≤◌, sym, ◌∙◌, ap, subst, arith, length}
+use Rattle.std.proofs.Common.{◌≡◌, ◌+◌, ◌≤◌, sym, ◌∙◌, ap, subst, arith, length}
 use Rattle.tsn_journal.specs.Marks.{added_in}
-use Rattle.tsn_journal.specs.Index.{IsLast, belongs, is_of, number_at, place_at}
+use Rattle.tsn_journal.specs.Index.{IsLast, belongs, is_of, number_at, number_of, place_at}
 use Rattle.tsn_journal.specs.declared.groups.Group.TheVariants.{Of}
 use Rattle.tsn_journal.proofs.Links.{next_group, place_there, the_place}
+use Rattle.tsn_journal.proofs.Off.{none_before}
 use Rattle.tsn_journal.proofs.Walking.{filter_none, none_after, step_back, none_added, one_added}
 use Rattle.tsn_journal.proofs.index.Index.parts_of.Goals as goal
 use Rattle.tsn_journal.proofs.index.Index.parts_of.Goals.{then-is_in, else-is_in}
@@ -11,8 +12,8 @@ pub back-init : goal.back-init
 back-init c =
     let ps = c.args.self.now.places.items in
     let g = Of c.args.session in
-    let at = c.requires.latest_is g in
-    let none = none_after g (belongs g) c.args.marked.now ps c.session_places-place.result.standing (subst (λ j. IsLast g (belongs g) c.args.marked.now ps j (length c.args.marked.now + 1)) (sym c.session_places-place.ensures.standing) (c.requires.latest_is g)) in
+    let at = c.requires.index.latest_is g in
+    let none = none_after g (belongs g) c.args.marked.now ps c.session_places-place.result.standing (subst (λ j. IsLast g (belongs g) c.args.marked.now ps j (length c.args.marked.now + 1)) (sym c.session_places-place.ensures.standing) (c.requires.index.latest_is g)) in
     record {
       within = subst (λ j. j ≤ length ps) (sym c.session_places-place.ensures.standing) at.within;
       group = ap (λ j. is_of g (place_at ps j)) c.session_places-place.ensures.standing ∙ at.group;
@@ -21,25 +22,25 @@ back-init c =
     }
 
 pub numbered-entry-requires-clause-some : goal.numbered-entry-requires-clause-some
-numbered-entry-requires-clause-some c = (the_place c.args.marked.now c.args.self.now.places.items (Of c.args.session) c.back.place c.index-at.result.now c.back.invariant.group (place_there c.args.self.now.places.items c.back.place c.index-at.result.now c.back-test.true c.back.invariant.within c.index-at.ensures) c.requires.places).some
+numbered-entry-requires-clause-some c = (the_place c.args.marked.now c.args.self.now.places.items (Of c.args.session) c.back.place c.index-at.result.now c.back.invariant.group (place_there c.args.self.now.places.items c.back.place c.index-at.result.now c.back-test.true c.back.invariant.within c.index-at.ensures) c.requires.index.places).some
 
 pub numbered-entry-requires-clause-within : goal.numbered-entry-requires-clause-within
-numbered-entry-requires-clause-within c = (the_place c.args.marked.now c.args.self.now.places.items (Of c.args.session) c.back.place c.index-at.result.now c.back.invariant.group (place_there c.args.self.now.places.items c.back.place c.index-at.result.now c.back-test.true c.back.invariant.within c.index-at.ensures) c.requires.places).within
+numbered-entry-requires-clause-within c = (the_place c.args.marked.now c.args.self.now.places.items (Of c.args.session) c.back.place c.index-at.result.now c.back.invariant.group (place_there c.args.self.now.places.items c.back.place c.index-at.result.now c.back-test.true c.back.invariant.within c.index-at.ensures) c.requires.index.places).within
 
 pub back-smaller : goal.back-smaller
 back-smaller c =
-    let at = the_place c.args.marked.now c.args.self.now.places.items (Of c.args.session) c.back.place c.index-at.result.now c.back.invariant.group (place_there c.args.self.now.places.items c.back.place c.index-at.result.now c.back-test.true c.back.invariant.within c.index-at.ensures) c.requires.places in
+    let at = the_place c.args.marked.now c.args.self.now.places.items (Of c.args.session) c.back.place c.index-at.result.now c.back.invariant.group (place_there c.args.self.now.places.items c.back.place c.index-at.result.now c.back-test.true c.back.invariant.within c.index-at.ensures) c.requires.index.places in
     omega (arith, at.earlier, c.back-test.true)
 
 pub back-preserved : goal.back-preserved
 back-preserved c =
-    let at = the_place c.args.marked.now c.args.self.now.places.items (Of c.args.session) c.back.place c.index-at.result.now c.back.invariant.group (place_there c.args.self.now.places.items c.back.place c.index-at.result.now c.back-test.true c.back.invariant.within c.index-at.ensures) c.requires.places in
+    let at = the_place c.args.marked.now c.args.self.now.places.items (Of c.args.session) c.back.place c.index-at.result.now c.back.invariant.group (place_there c.args.self.now.places.items c.back.place c.index-at.result.now c.back-test.true c.back.invariant.within c.index-at.ensures) c.requires.index.places in
     record {
       within = at.last.within;
-      group = next_group c.args.marked.now c.args.self.now.places.items (Of c.args.session) c.back.place c.index-at.result.now c.back.invariant.group (place_there c.args.self.now.places.items c.back.place c.index-at.result.now c.back-test.true c.back.invariant.within c.index-at.ensures) c.requires.places;
+      group = next_group c.args.marked.now c.args.self.now.places.items (Of c.args.session) c.back.place c.index-at.result.now c.back.invariant.group (place_there c.args.self.now.places.items c.back.place c.index-at.result.now c.back-test.true c.back.invariant.within c.index-at.ensures) c.requires.index.places;
       so_far = elim c.if-is_in.branch [
-        | then-is_in w ↦ w.found-is ∙ one_added c.back.found _ (belongs (Of c.args.session) c.numbered-entry.result.now) c.numbered-entry.result.now w.added_parts-found.result c.back.invariant.so_far (sym c.is_in.ensures ∙ w.if-is_in.true) w.added_parts-found.ensures.parts ∙ ap added_in (sym (step_back c.args.marked.now c.args.self.now.places.items (Of c.args.session) c.back.place c.index-at.result.now c.back.invariant.group (place_there c.args.self.now.places.items c.back.place c.index-at.result.now c.back-test.true c.back.invariant.within c.index-at.ensures) c.requires.places c.numbered-entry.result.now c.numbered-entry.ensures))
-        | else-is_in w ↦ w.found-is ∙ none_added c.back.found _ (belongs (Of c.args.session) c.numbered-entry.result.now) c.numbered-entry.result.now c.back.invariant.so_far (sym c.is_in.ensures ∙ w.if-is_in.false) ∙ ap added_in (sym (step_back c.args.marked.now c.args.self.now.places.items (Of c.args.session) c.back.place c.index-at.result.now c.back.invariant.group (place_there c.args.self.now.places.items c.back.place c.index-at.result.now c.back-test.true c.back.invariant.within c.index-at.ensures) c.requires.places c.numbered-entry.result.now c.numbered-entry.ensures))
+        | then-is_in w ↦ w.found-is ∙ one_added c.back.found _ (belongs (Of c.args.session) c.numbered-entry.result.now) c.numbered-entry.result.now w.added_parts-found.result c.back.invariant.so_far (sym c.is_in.ensures ∙ w.if-is_in.true) w.added_parts-found.ensures.parts ∙ ap added_in (sym (step_back c.args.marked.now c.args.self.now.places.items (Of c.args.session) c.back.place c.index-at.result.now c.back.invariant.group (place_there c.args.self.now.places.items c.back.place c.index-at.result.now c.back-test.true c.back.invariant.within c.index-at.ensures) c.requires.index.places c.numbered-entry.result.now c.numbered-entry.ensures))
+        | else-is_in w ↦ w.found-is ∙ none_added c.back.found _ (belongs (Of c.args.session) c.numbered-entry.result.now) c.numbered-entry.result.now c.back.invariant.so_far (sym c.is_in.ensures ∙ w.if-is_in.false) ∙ ap added_in (sym (step_back c.args.marked.now c.args.self.now.places.items (Of c.args.session) c.back.place c.index-at.result.now c.back.invariant.group (place_there c.args.self.now.places.items c.back.place c.index-at.result.now c.back-test.true c.back.invariant.within c.index-at.ensures) c.requires.index.places c.numbered-entry.result.now c.numbered-entry.ensures))
       ];
       few = elim c.if-is_in.branch [
         | then-is_in w ↦ omega (arith, w.found-is, w.added_parts-found.ensures.few, at.earlier, c.back.invariant.few, c.back-test.true)
@@ -49,3 +50,9 @@ back-preserved c =
 
 pub overflow_add-found : goal.overflow_add-found
 overflow_add-found c = omega (arith, c.back.invariant.few, c.session_places-place.type_inv, c.back-test.true)
+
+pub returns-then-from-settled : goal.returns-then-from-settled
+returns-then-from-settled c =
+    let number : number_at c.args.self.now.places.items c.back.place ≡ c.index-at.result.now.number = ap number_of (place_there c.args.self.now.places.items c.back.place c.index-at.result.now c.back-test.true c.back.invariant.within c.index-at.ensures) in
+    c.back.invariant.so_far
+    ∙ ap added_in (none_before c.args.session c.args.settled c.args.marked.now c.args.self.now.places.items c.back.place c.requires.off (omega (arith, number, c.from.ensures, c.if-from-settled.true)))

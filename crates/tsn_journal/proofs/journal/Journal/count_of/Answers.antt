@@ -1,6 +1,6 @@
 use Rattle.std.proofs.Common.{◌≡◌, ◌∙◌, ap, arith, filter, length, sym, subst}
 use Rattle.tsn_journal.specs.Finding.{own_standing}
-use Rattle.tsn_journal.specs.Marks.{Log, entries_of, is_own}
+use Rattle.tsn_journal.specs.Marks.{AreOff, Log, entries_of, is_own}
 use Rattle.tsn_journal.specs.declared.entries.MarkedEntry.{MarkedEntry}
 use Rattle.std.proofs.lemmas.List.{length-map}
 use Rattle.tsn_journal.proofs.Walking.{few_pass}
@@ -23,5 +23,8 @@ returns-clause-few c =
     let all : length (entries_of ms) ≡ length c.args.self.now.entries = ap (λ (l : Log). length l.entries) c.self.view_is in
     omega (arith, counted, few_pass (is_own c.args.session) ms, length-map ms (λ (m : MarkedEntry). m.entry), all)
 
-pub count_of-requires : goal.count_of-requires
-count_of-requires c = subst (λ xs. IsIndexed xs c.self.inside.index) (sym c.deref.ensures.value) c.self.invariant.indexed
+pub count_of-requires-clause-index : goal.count_of-requires-clause-index
+count_of-requires-clause-index c = subst (λ xs. IsIndexed xs c.self.inside.index) (sym c.deref.ensures.value) c.self.invariant.indexed
+
+pub count_of-requires-clause-off : goal.count_of-requires-clause-off
+count_of-requires-clause-off c = subst (AreOff c.self.inside.settled) (sym c.deref.ensures.value) c.self.invariant.off

@@ -1,7 +1,7 @@
 use Rattle.std.proofs.Common.{◌∙◌, ap, filter, sym, subst}
 use Rattle.tsn_journal.specs.Finding.{own_standing, parts_of_all}
 use Rattle.tsn_journal.specs.Index.{IsIndexed}
-use Rattle.tsn_journal.specs.Marks.{Log, added_in, is_own}
+use Rattle.tsn_journal.specs.Marks.{AreOff, Log, added_in, is_own}
 use Rattle.tsn_journal.proofs.Finders.{own_parts}
 use Rattle.tsn_journal.proofs.journal.Journal.parts_of.Goals as goal
 
@@ -13,5 +13,8 @@ returns c =
     ∙ own_parts c.self.inside.marked.items c.self.invariant.journal s
     ∙ ap (λ (l : Log). parts_of_all (own_standing l.entries s)) c.self.view_is
 
-pub parts_of-requires : goal.parts_of-requires
-parts_of-requires c = subst (λ xs. IsIndexed xs c.self.inside.index) (sym c.deref.ensures.value) c.self.invariant.indexed
+pub parts_of-requires-clause-index : goal.parts_of-requires-clause-index
+parts_of-requires-clause-index c = subst (λ xs. IsIndexed xs c.self.inside.index) (sym c.deref.ensures.value) c.self.invariant.indexed
+
+pub parts_of-requires-clause-off : goal.parts_of-requires-clause-off
+parts_of-requires-clause-off c = subst (AreOff c.self.inside.settled) (sym c.deref.ensures.value) c.self.invariant.off

@@ -1,10 +1,10 @@
 use Rattle.std.proofs.Common.{◌≤◌, refl, sym, ◌∙◌, ap, subst, drop, length, map, add-zero, arith, max}
 use Rattle.tsn_journal.specs.Entries.{IsNumbered, added_parts, with_entry}
 use Rattle.tsn_journal.specs.Index.{IsIndexed, IsIndexedButNewest, NewestAdds, TakesRoom, places_for}
-use Rattle.tsn_journal.specs.Marks.{Log, entries_of, mark_off}
+use Rattle.tsn_journal.specs.Marks.{AreOff, Log, entries_of, mark_off}
 use Rattle.std.specs.Vec.{vec_capacity, vec_len}
 use Rattle.tsn_journal.proofs.Indexing.{takes_more}
-use Rattle.tsn_journal.proofs.Keeping.{kept_pushed, pushed_few, pushed_adds, pushed_index, pushed_numbered, pushed_some, pushed_tells, room_for_one, settles_there}
+use Rattle.tsn_journal.proofs.Keeping.{kept_pushed, off_more, pushed_few, pushed_adds, pushed_index, pushed_numbered, pushed_some, pushed_tells, room_for_one, settles_there}
 use Rattle.tsn_journal.proofs.Marking.{entries_pushed, pushed_items}
 use Rattle.tsn_journal.proofs.Telling.{tells_same}
 use Rattle.tsn_journal.specs.Touched.{NewestTold}
@@ -49,7 +49,7 @@ enter-requires-clause-few c =
     let ms = c.self.inside.marked.items in
     let same = sym (ap length c.deref_mut.ensures.value) ∙ c.deref_mut.ensures.len in
     let room : 1 ≤ c.self.inside.room = subst (λ (l : Log). 1 ≤ l.spare) (sym c.self.view_is) c.requires.room in
-    subst (λ xs. length xs ≤ 65536) (sym c.deref.ensures.value)
+    subst (λ xs. length xs ≤ 262144) (sym c.deref.ensures.value)
     (pushed_few c.args.what c.args.session ms c.push_reserved.new.self.items
     (pushed_items c.args.what c.args.session c.self.inside.marked.len c.len.result ms (drop (length c.put_off.new.marked) ms) c.put_off.new.marked c.push_reserved.new.self.items same c.len.ensures
     (c.put_off.ensures ∙ ap (map (mark_off c.args.what)) c.deref_mut.ensures.value) c.push_reserved.ensures.items)
@@ -68,6 +68,17 @@ leave-requires-clause-numbered c =
     (pushed_items c.args.what c.args.session c.self.inside.marked.len c.len.result ms (drop (length c.put_off.new.marked) ms) c.put_off.new.marked c.push_reserved.new.self.items same c.len.ensures
     (c.put_off.ensures ∙ ap (map (mark_off c.args.what)) c.deref_mut.ensures.value) c.push_reserved.ensures.items)
     c.self.invariant.journal (omega (arith, c.self.invariant.few, same, room)))
+
+pub leave-requires-clause-off : goal.leave-requires-clause-off
+leave-requires-clause-off c =
+    let ms = c.self.inside.marked.items in
+    let same = sym (ap length c.deref_mut.ensures.value) ∙ c.deref_mut.ensures.len in
+    subst (AreOff c.max-settled.result) (sym c.deref-2.ensures.value)
+    (off_more c.args.what c.args.session ms c.push_reserved.new.self.items
+    (pushed_items c.args.what c.args.session c.self.inside.marked.len c.len.result ms (drop (length c.put_off.new.marked) ms) c.put_off.new.marked c.push_reserved.new.self.items same c.len.ensures
+    (c.put_off.ensures ∙ ap (map (mark_off c.args.what)) c.deref_mut.ensures.value) c.push_reserved.ensures.items)
+    c.self.inside.settled c.max-settled.result c.self.invariant.journal (omega (arith, c.self.invariant.settled_there, same)) (settles_there c.args.what ms _ _ c.self.view_is refl c.requires.settles)
+    (c.max-settled.ensures ∙ ap (max c.self.inside.settled) c.settles_to.ensures) c.self.invariant.off)
 
 pub invariant_of-self : goal.invariant_of-self
 invariant_of-self c =

@@ -1,0 +1,33 @@
+-- The first entries, whose marks are off, belong to no group of what stands.
+use Rattle.std.proofs.Common.{◌≡◌, ℕ, zero, suc, ◌+◌, ◌<◌, ◌≤◌, Bool, false, cond, List, [], ◌∷◌, sym, ◌∙◌, ap, Option, Some, None, arith, drop, filter}
+use Rattle.std.specs.List.{slice_get}
+use Rattle.tsn_types.specs.declared.keys.Key.{Key}
+use Rattle.tsn_journal.specs.Entries.{adds}
+use Rattle.tsn_journal.specs.declared.entries.MarkedEntry.{MarkedEntry}
+use Rattle.tsn_journal.specs.declared.groups.Group.TheVariants.{On, RefersTo, Of}
+use Rattle.tsn_journal.specs.declared.index.Place.{Place}
+use Rattle.tsn_journal.specs.Index.{NoneBetween, belongs, is_on, number_at, refers}
+use Rattle.tsn_journal.specs.Marks.{AreOff, is_own}
+use Rattle.tsn_journal.proofs.Walking.{filter_gap}
+
+off_at : (n : ℕ) (ms : List MarkedEntry) → AreOff n ms → (i : ℕ) (m : MarkedEntry) → i < n → slice_get ms i ≡ Some m → m.is_open ≡ false
+off_at zero ms h i m lt at = absurd (omega arith)
+off_at (suc n) [] h i m lt at = (cc)
+off_at (suc n) (x ∷ ms) h zero m lt at = ap (λ (o : Option MarkedEntry). is_open_of o) (sym at) ∙ h.0 where
+  is_open_of : Option MarkedEntry → Bool
+  is_open_of None = false
+  is_open_of (Some y) = y.is_open
+off_at (suc n) (x ∷ ms) h (suc i) m lt at = off_at n ms h.1 i m (omega arith) at
+
+pub none_on : (k : Key) (n : ℕ) (ms : List MarkedEntry) → AreOff n ms → NoneBetween (belongs (On k)) ms 0 (n + 1)
+none_on k n ms h i m low lt at = ap (λ b. is_on k (cond b (adds m.entry.what) None)) (off_at n ms h i m (omega arith) at)
+
+pub none_refers : (k : Key) (n : ℕ) (ms : List MarkedEntry) → AreOff n ms → NoneBetween (belongs (RefersTo k)) ms 0 (n + 1)
+none_refers k n ms h i m low lt at = ap (λ b. refers k (cond b (adds m.entry.what) None)) (off_at n ms h i m (omega arith) at)
+
+pub none_own : (s n : ℕ) (ms : List MarkedEntry) → AreOff n ms → NoneBetween (belongs (Of s)) ms 0 (n + 1)
+none_own s n ms h i m low lt at = ap (λ b. is_own s (record { entry = m.entry; is_open = b })) (off_at n ms h i m (omega arith) at)
+
+-- so a walk back along the session's entries may end at the first place up to there
+pub none_before : (s n : ℕ) (ms : List MarkedEntry) (ps : List Place) (j : ℕ) → AreOff n ms → number_at ps j ≤ n → filter (belongs (Of s)) (drop (number_at ps j) ms) ≡ filter (belongs (Of s)) ms
+none_before s n ms ps j h le = sym (filter_gap (belongs (Of s)) ms 0 (number_at ps j) (omega arith) (λ i x low lt at. none_own s n ms h i x low (omega arith) at))
