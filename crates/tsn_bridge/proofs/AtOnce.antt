@@ -5,6 +5,7 @@ use Rattle.std.proofs.lemmas.Bool.Decides.{nat_tests}
 use Rattle.tsn_types.specs.declared.refusals.Refusal.{Refusal}
 use Rattle.tsn_types.specs.declared.refusals.Refusal.TheVariants.{JournalFull, Memory}
 use Rattle.tsn_types.specs.Limits.{unless}
+use Rattle.tsn_types.specs.Refusals.{least}
 use Rattle.tsn_edit.specs.declared.Edit.{Edit}
 use Rattle.tsn_edit.specs.Batches.{EditsInRange, IsBatch, change_of, result}
 use Rattle.tsn_edit.specs.Changes.{Fits, restored}
@@ -13,7 +14,7 @@ use Rattle.tsn_edit.proofs.InOrder.{change_is_result}
 use Rattle.tsn_edit.proofs.KeyFacts.{by_option}
 use Rattle.tsn_config.proofs.Batches.{batch_fits}
 use Rattle.tsn_journal.specs.declared.entries.What.TheVariants.{Made}
-use Rattle.tsn_journal.specs.Entries.{Applied, most_entries, undone as taken_back}
+use Rattle.tsn_journal.specs.Entries.{Applied, most_entries, no_room, undone as taken_back}
 use Rattle.tsn_journal.specs.Finding.{last_of}
 use Rattle.tsn_undo.specs.Ledger.{Ledger, present}
 use Rattle.tsn_undo.specs.Soundness.{IsSound}
@@ -27,7 +28,7 @@ use Rattle.tsn_bridge.specs.declared.reply.Reply.TheVariants.{Entry, EntryOf, Re
 use Rattle.tsn_bridge.specs.Edits.{changed_state, edit_rule, next, undo_rule}
 use Rattle.tsn_bridge.specs.Rule.{Allows, is_given}
 use Rattle.tsn_bridge.specs.State.{State}
-use Rattle.tsn_bridge.proofs.Stepping.{accepted, given, refused, was_given}
+use Rattle.tsn_bridge.proofs.Stepping.{AllowsAt, accepted, given, refused, was_given}
 
 pub done_of : {A : Type 0} (x y : A) → Some x ≡ Some y → x ≡ y
 done_of x y h = (cc)
@@ -127,14 +128,37 @@ module _ (before edited' between : State) (session : ℕ) (batch : List Edit) (e
   only_full true why h = (cc)
   only_full false why h = (cc)
 
-  pub free : edited'.sessions ≤ between.sessions → (after : State) (why : Refusal) → Allows (undo_rule between session) between (Refused why) after → (why ≡ JournalFull) ⊎ (why ≡ Memory)
-  free more after why back =
+  -- that undo has no cause but a full journal
+  cause_is : edited'.sessions ≤ between.sessions → least (undo_rule between session).causes ≡ no_room between.book.entries 1
+  cause_is more =
       let is = edited before edited' session batch entry made' in
       let known : is_given edited' session ≡ true = ap (λ (s : State). is_given s session) is.state ∙ is.known in
-      let causes = given (is_given between session) (undo_refusal between.book session) (still session edited'.sessions between.sessions more known)
-      ∙ free_at_once before.book between.book session batch entry sound makes in
+      given (is_given between session) (undo_refusal between.book session) (still session edited'.sessions between.sessions more known)
+      ∙ free_at_once before.book between.book session batch entry sound makes
+
+  pub free : edited'.sessions ≤ between.sessions → (after : State) (why : Refusal) → Allows (undo_rule between session) between (Refused why) after → (why ≡ JournalFull) ⊎ (why ≡ Memory)
+  free more after why back =
       elim (refused (undo_rule between session) between after why
       (λ done. no_refusal between session (last_of between.book.entries session) why after done) back) as (λ _. (why ≡ JournalFull) ⊎ (why ≡ Memory)) [
-        | inl cause ↦ inl (only_full (nat_le (length between.book.entries + 1) most_entries) why (sym causes ∙ cause))
+        | inl cause ↦ inl (only_full (nat_le (length between.book.entries + 1) most_entries) why (sym (cause_is more) ∙ cause))
         | inr memory ↦ inr memory
+      ]
+
+  pub full : edited'.sessions ≤ between.sessions → (after : State) (reply : Reply) → Allows (undo_rule between session) between reply after → no_room between.book.entries 1 ≡ Some JournalFull → (reply ≡ Refused JournalFull) × (after ≡ between)
+  full more after reply back none = subst (λ o. AllowsAt o (undo_rule between session) between reply after) (cause_is more ∙ none) back
+
+  -- what is done took that edit back
+  done_is : (after : State) (reply : Reply) → Allows (undo_rule between session) between reply after → (undo_rule between session).done ≡ Some (reply, after) → reply ≡ EntryOf (next between) entry
+  done_is after reply back done = by_option (last_of between.book.entries session)
+      (λ none. let never : None ≡ Some (reply, after) = sym (ap (done_by between session) none) ∙ done in (cc))
+      (λ x some.
+      let is : EntryOf (next between) x.number ≡ reply = ap (λ (p : Reply × State). p.0) (done_of _ _ (sym (ap (done_by between session) some) ∙ done)) in
+      let of : x.number ≡ entry = (undone after (next between) x.number (subst (λ r. Allows (undo_rule between session) between r after) (sym is) back)).0 in
+      sym is ∙ ap (λ n. EntryOf (next between) n) of)
+
+  pub with_room : edited'.sessions ≤ between.sessions → (after : State) (reply : Reply) → Allows (undo_rule between session) between reply after → no_room between.book.entries 1 ≡ None → (reply ≡ EntryOf (next between) entry) ⊎ ((reply ≡ Refused Memory) × (after ≡ between))
+  with_room more after reply back room =
+      elim (subst (λ o. AllowsAt o (undo_rule between session) between reply after) (cause_is more ∙ room) back) as (λ _. (reply ≡ EntryOf (next between) entry) ⊎ ((reply ≡ Refused Memory) × (after ≡ between))) [
+        | inl done ↦ inl (done_is after reply back done)
+        | inr memory ↦ inr (memory.1, memory.2)
       ]

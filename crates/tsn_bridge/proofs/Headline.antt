@@ -1,5 +1,5 @@
 -- The parts of the headline hold of every state with a sound journal.
-use Rattle.std.proofs.Common.{◌≡◌, ◌≤◌, ◌-◌, ◌%◌, ℕ, true, false, cond, [], ◌∷◌, List, refl, sym, ◌∙◌, ap, subst, Option, Some}
+use Rattle.std.proofs.Common.{◌≡◌, ◌≤◌, ◌-◌, ◌%◌, ℕ, true, false, cond, [], ◌∷◌, List, refl, sym, ◌∙◌, ap, subst, Option, Some, None}
 use Rattle.std.specs.Prelude.{◌⊎◌, ◌==◌, nat_lt}
 use Rattle.std.specs.FinMap.{get}
 use Rattle.tsn_types.specs.declared.keys.Key.{Key}
@@ -23,29 +23,34 @@ use Rattle.tsn_edit.proofs.KeyFacts.{before_or, part_on}
 use Rattle.tsn_schedule.specs.Entries.{entry_at}
 use Rattle.tsn_schedule.specs.Refusing.{has_entries}
 use Rattle.tsn_schedule.specs.Times.{change_of}
-use Rattle.tsn_journal.specs.Entries.{Applied}
+use Rattle.tsn_edit.specs.Runs.{run}
+use Rattle.tsn_journal.specs.Entries.{Applied, changes, no_room, standing, undone as taken_back}
 use Rattle.tsn_journal.specs.Finding.{standing_entry}
 use Rattle.tsn_journal.proofs.Standing.{standing_found}
-use Rattle.tsn_undo.specs.Ledger.{present}
+use Rattle.tsn_undo.specs.Ledger.{Ledger, base_of, enter, present}
+use Rattle.tsn_undo.specs.Commuting.{value_before}
+use Rattle.tsn_undo.proofs.Adding.{base_kept, kept_base}
+use Rattle.tsn_undo.proofs.Commutation.{commutation}
+use Rattle.tsn_undo.proofs.UndoAll.{free_of_all, own, own_closed}
 use Rattle.tsn_undo.proofs.Making.{kept_now, makes_undo}
 use Rattle.tsn_bridge.specs.declared.command.Command.{Command}
 use Rattle.tsn_bridge.specs.declared.command.Command.TheVariants as commands
 use Rattle.tsn_bridge.specs.declared.reply.Reply.{Reply}
-use Rattle.tsn_bridge.specs.declared.reply.Reply.TheVariants.{Acted, Entry, EntryOf, Refused}
+use Rattle.tsn_bridge.specs.declared.reply.Reply.TheVariants.{Acted, Entry, EntryOf, Refused, TakenBack}
 use Rattle.tsn_bridge.specs.Acts.{apply_change, apply_rule, has_entry, instant}
-use Rattle.tsn_bridge.specs.Edits.{undo_rule}
-use Rattle.tsn_bridge.specs.Headline.{AtOnceUndone, EditsLast, GateRuns, OthersAlone, OthersLeft, PortRuns, PutsBack, RestoredList}
-use Rattle.tsn_bridge.specs.Histories.{AreInRange, CommandInRange, Leads, StateIsSound, Answered, edits_of}
+use Rattle.tsn_bridge.specs.Edits.{edit_rule, next, undo_rule}
+use Rattle.tsn_bridge.specs.Headline.{AtOnceUndone, EditsLast, GateRestored, GateRuns, OthersAlone, OthersLeft, PortRestored, PortRuns, PutsAllBack, PutsBack, RestoredList}
+use Rattle.tsn_bridge.specs.Histories.{CommandInRange, StateIsSound, edits_of}
 use Rattle.tsn_bridge.specs.Machine.{Step}
 use Rattle.tsn_bridge.specs.Quiet.{SinceQuiet}
 use Rattle.tsn_bridge.specs.Rule.{Allows}
 use Rattle.tsn_bridge.specs.State.{State}
-use Rattle.tsn_bridge.proofs.AtOnce.{done_of, free, taken, taken_map, undone as undone_at_once}
+use Rattle.tsn_bridge.proofs.AtOnce.{done_of, free, full, taken, taken_map, undone as undone_at_once, with_room}
 use Rattle.tsn_bridge.proofs.Interleaving.{all_taken_back, follow, follows, made_by, same_edits}
 use Rattle.tsn_bridge.proofs.KeySteps.{applied_finds}
 use Rattle.tsn_bridge.proofs.Restored.{GoesOn, restored_gate, restored_port}
 use Rattle.tsn_bridge.proofs.Stepping.{accepted}
-use Rattle.tsn_bridge.proofs.WhyNotAll.{not_all}
+use Rattle.tsn_bridge.proofs.WhyNotAll.{not_all, surely_blocked}
 
 -- ---- an edit at once undone
 
@@ -72,16 +77,32 @@ module _ (before between : State) (session : ℕ) (command : Command) (entry : �
       let fine = edits_in_range command last.batch last.asks_for last.ranges in
       undone_at_once before last.edited between session last.batch entry fine.0 fine.1 sound (made_by before last.edited session command last.batch entry last.asks_for last.step) same_book after number of back
 
-  free_edit : (after : State) (why : Refusal) → Allows (undo_rule between session) between (Refused why) after → (why ≡ JournalFull) ⊎ (why ≡ Memory)
-  free_edit after why back =
-      let fine = edits_in_range command last.batch last.asks_for last.ranges in
-      free before last.edited between session last.batch entry fine.0 fine.1 sound (made_by before last.edited session command last.batch entry last.asks_for last.step) same_book
-      (follow last.asks last.edited between sound_edited last.in_range last.leads).sessions after why back
+  -- what is said of the batch of the edit and the undo after it
+  module _ (after : State) where
+    sessions_on : last.edited.sessions ≤ between.sessions
+    sessions_on = (follow last.asks last.edited between sound_edited last.in_range last.leads).sessions
+
+    made : Allows (edit_rule before session last.batch) before (Entry entry) last.edited
+    made = made_by before last.edited session command last.batch entry last.asks_for last.step
+
+    fine : IsBatch last.batch × EditsInRange last.batch
+    fine = edits_in_range command last.batch last.asks_for last.ranges
+
+    free_edit : (why : Refusal) → Allows (undo_rule between session) between (Refused why) after → (why ≡ JournalFull) ⊎ (why ≡ Memory)
+    free_edit why back = free before last.edited between session last.batch entry fine.0 fine.1 sound made same_book sessions_on after why back
+
+    full_edit : (reply : Reply) → Allows (undo_rule between session) between reply after → no_room between.book.entries 1 ≡ Some JournalFull → (reply ≡ Refused JournalFull) × (after ≡ between)
+    full_edit reply back none = full before last.edited between session last.batch entry fine.0 fine.1 sound made same_book sessions_on after reply back none
+
+    room_edit : (reply : Reply) → Allows (undo_rule between session) between reply after → no_room between.book.entries 1 ≡ None → (reply ≡ EntryOf (next between) entry) ⊎ ((reply ≡ Refused Memory) × (after ≡ between))
+    room_edit reply back room = with_room before last.edited between session last.batch entry fine.0 fine.1 sound made same_book sessions_on after reply back room
 
 pub at_once_undone : (s : State) → StateIsSound s → AtOnceUndone s
 at_once_undone s sound = record {
   accepted = λ between after session command entry number of last back. undone_edit s between session command entry sound last after number of back;
   refused = λ between after session command entry why last back. free_edit s between session command entry sound last after why back;
+  full = λ between after session command entry reply last back none. full_edit s between session command entry sound last after reply back none;
+  with_room = λ between after session command entry reply last back room. room_edit s between session command entry sound last after reply back room;
 }
 
 -- ---- an undo of all
@@ -90,6 +111,7 @@ pub others_alone_left : (s : State) → StateIsSound s → OthersAlone s
 others_alone_left s sound = record {
   accepted = λ after session count entry back. let is = all_taken_back s session count entry after sound back in (is.map, is.good, is.stands);
   refused = λ after session why back. not_all s session why after sound back;
+  blocked = λ after session x y reply pair known back. surely_blocked s session x y reply after sound pair known back;
 }
 
 -- ---- an undo of one entry
@@ -97,7 +119,18 @@ others_alone_left s sound = record {
 pub others_left : (s : State) → StateIsSound s → OthersLeft s
 others_left s sound after session number of back =
     let is = taken s after session number of back in
-    (makes_undo s.book session of sound is.free number after.book is.number_is (ap (λ (t : State). t.book) is.state)).leaves
+    let x = is.free.newest in
+    let book : after.book ≡ enter s.book session (taken_back x) = ap (λ (t : State). t.book) is.state in
+    record {
+      newest = x;
+      newest_is = is.free.newest_is;
+      of_is = is.free.of_is;
+      number_is = is.number_is;
+      limits = ap (λ (b : Ledger). b.limits) book;
+      opening = ap (λ (b : Ledger). b.opening) book;
+      base = ap base_of book ∙ base_kept s.book.opening s.book.entries session (taken_back x) tt;
+      leaves = (makes_undo s.book session of sound is.free number after.book is.number_is book).leaves;
+    }
 
 -- ---- a restored list
 
@@ -175,14 +208,35 @@ put_back s undone k r sound back =
     ∙ ap (λ o. before_or o (get (present s.book) k)) back.part_is
     ∙ back.stood
 
-module _ (s undone : State) (k : Key) (r : Record) (sound : StateIsSound s) (back : PutsBack s undone k r) where
-  sound_on : (asks : List Answered) (ready : State) → AreInRange asks → Leads undone asks ready → StateIsSound ready
-  sound_on asks ready ranges leads =
-      let one = follows s back.session commands.Undo (EntryOf back.number back.of) undone sound tt back.step in
-      (follow asks undone ready one.sound ranges leads).sound
+-- and so does the record that an undo of all put back
+all_put_back : (s undone : State) (k : Key) (r : Record) → StateIsSound s → PutsAllBack s undone k r → get (present undone.book) k ≡ Some r
+all_put_back s undone k r sound back =
+    let taken = all_taken_back s back.session back.count back.entry undone sound back.step in
+    let closed = own_closed s.book.entries back.session sound.numbered (free_of_all s.book back.session taken.free).none in
+    let commutes = commutation s.book.limits (base_of s.book) (standing s.book.entries) (own back.session) (kept_base s.book.limits s.book.opening s.book.entries sound) sound.good closed in
+    ap (λ (c : Configuration). get c k) taken.map
+    ∙ commutes.ends k
+    ∙ ap (λ o. value_before o (get (run (base_of s.book) (changes (standing s.book.entries))) k)) back.part_is
+    ∙ back.stood
+
+-- where a sound state has the record, its list runs so
+module _ (undone : State) (sound : StateIsSound undone) where
+  port_restored : (m : ℕ) (p : PortGates) → get (present undone.book) (Port m) ≡ Some (records.Port p) → PortRestored undone m p
+  port_restored m p stands = (stands, λ asks ready ranges leads is. port_runs ready m p (follow asks undone ready sound ranges leads).sound is)
+
+  gate_restored : (m : ℕ) (g : StreamGate) → get (present undone.book) (Gate m) ≡ Some (records.Gate g) → GateRestored undone m g
+  gate_restored m g stands = (stands, λ asks ready ranges leads is. gate_runs ready m g (follow asks undone ready sound ranges leads).sound is)
+
+sound_undone : (s undone : State) (k : Key) (r : Record) → StateIsSound s → PutsBack s undone k r → StateIsSound undone
+sound_undone s undone k r sound back = (follows s back.session commands.Undo (EntryOf back.number back.of) undone sound tt back.step).sound
+
+sound_all_undone : (s undone : State) (k : Key) (r : Record) → StateIsSound s → PutsAllBack s undone k r → StateIsSound undone
+sound_all_undone s undone k r sound back = (follows s back.session commands.UndoAll (TakenBack back.count back.entry) undone sound tt back.step).sound
 
 pub restored_list : (s : State) → StateIsSound s → RestoredList s
 restored_list s sound = record {
-  port = λ undone m p back. (put_back s undone (Port m) (records.Port p) sound back, λ asks ready ranges leads is. port_runs ready m p (sound_on s undone (Port m) (records.Port p) sound back asks ready ranges leads) is);
-  gate = λ undone m g back. (put_back s undone (Gate m) (records.Gate g) sound back, λ asks ready ranges leads is. gate_runs ready m g (sound_on s undone (Gate m) (records.Gate g) sound back asks ready ranges leads) is);
+  port = λ undone m p back. port_restored undone (sound_undone s undone (Port m) (records.Port p) sound back) m p (put_back s undone (Port m) (records.Port p) sound back);
+  gate = λ undone m g back. gate_restored undone (sound_undone s undone (Gate m) (records.Gate g) sound back) m g (put_back s undone (Gate m) (records.Gate g) sound back);
+  port_of_all = λ undone m p back. port_restored undone (sound_all_undone s undone (Port m) (records.Port p) sound back) m p (all_put_back s undone (Port m) (records.Port p) sound back);
+  gate_of_all = λ undone m g back. gate_restored undone (sound_all_undone s undone (Gate m) (records.Gate g) sound back) m g (all_put_back s undone (Gate m) (records.Gate g) sound back);
 }

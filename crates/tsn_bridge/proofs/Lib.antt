@@ -11,10 +11,12 @@ pub mod TiedActs
 pub mod Causes
 pub mod Telling
 pub mod KeySteps
+pub mod Showing
 pub mod Restored
 pub mod LastActs
 pub mod Later
 pub mod Headline
+pub mod Blocking
 pub mod WhyNotAll
 pub mod Examples
 pub mod Turning

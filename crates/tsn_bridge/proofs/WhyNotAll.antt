@@ -11,7 +11,7 @@ use Rattle.tsn_edit.proofs.KeyFacts.{by_bool}
 use Rattle.tsn_journal.specs.Entries.{Applied, changes, most_entries, no_room, standing}
 use Rattle.tsn_journal.specs.Finding.{find_conflict_of_others, find_own_in_conflict, own_standing}
 use Rattle.tsn_undo.specs.Ledger.{base_of}
-use Rattle.tsn_undo.specs.UndoAll.{conflict_with_others, undo_all_cause, undo_all_refusal}
+use Rattle.tsn_undo.specs.UndoAll.{BlocksAll, conflict_with_others, undo_all_cause, undo_all_refusal}
 use Rattle.tsn_undo.proofs.Named.{names_conflict}
 use Rattle.tsn_undo.proofs.UndoAll.{undo_all_refusal-first}
 use Rattle.tsn_bridge.specs.declared.command.Command.TheVariants as commands
@@ -24,8 +24,9 @@ use Rattle.tsn_bridge.specs.Machine.{Step}
 use Rattle.tsn_bridge.specs.Rule.{is_given}
 use Rattle.tsn_bridge.specs.State.{State}
 use Rattle.tsn_bridge.proofs.AtOnce.{done_of}
+use Rattle.tsn_bridge.proofs.Blocking.{finds_pair, named_first}
 use Rattle.tsn_bridge.proofs.Interleaving.{outcome}
-use Rattle.tsn_bridge.proofs.Stepping.{refused}
+use Rattle.tsn_bridge.proofs.Stepping.{AllowsAt, given, refused}
 
 -- where none passes a test, all pass its opposite
 all_others : (p : Applied → Bool) (xs : List Applied) → filter p xs ≡ [] → filter (λ x. not (p x)) xs ≡ xs
@@ -52,17 +53,19 @@ module _ (s : State) (n : ℕ) (sound : StateIsSound s) where
   named : (why : Refusal) → undo_all_refusal s.book n ≡ Some why → Named why
   named why h = from (own_standing s.book.entries n) refl (sym (undo_all_refusal-first s.book n) ∙ h)
     where
-      latest : (x : Applied) (o : Option Applied) → option_or (option_map (λ f. Conflict x.number f.number) o) (no_room s.book.entries (length (own_standing s.book.entries n))) ≡ Some why → Named why
-      latest x None e = full why e
-      latest x (Some f) e = let same : Conflict x.number f.number ≡ why = (cc) in subst Named same (names_conflict s.book n x.number f.number sound (h ∙ ap Some (sym same)), refl)
+      latest : (x : Applied) (o : Option Applied) → find_own_in_conflict s.book.entries n ≡ Some x → find_conflict_of_others s.book.entries x ≡ o → option_or (option_map (λ f. Conflict x.number f.number) o) (no_room s.book.entries (length (own_standing s.book.entries n))) ≡ Some why → Named why
+      latest x None mine theirs e = full why e
+      latest x (Some f) mine theirs e =
+          let same : Conflict x.number f.number ≡ why = (cc) in
+          subst Named same (named_first s.book.entries n sound.numbered x f mine theirs (names_conflict s.book n x.number f.number sound (h ∙ ap Some (sym same))), refl)
 
-      conflict : (o : Option Applied) → option_or (conflict_with_others s.book.entries o) (no_room s.book.entries (length (own_standing s.book.entries n))) ≡ Some why → Named why
-      conflict None e = full why e
-      conflict (Some x) e = latest x (find_conflict_of_others s.book.entries x) e
+      conflict : (o : Option Applied) → find_own_in_conflict s.book.entries n ≡ o → option_or (conflict_with_others s.book.entries o) (no_room s.book.entries (length (own_standing s.book.entries n))) ≡ Some why → Named why
+      conflict None mine e = full why e
+      conflict (Some x) mine e = latest x (find_conflict_of_others s.book.entries x) mine refl e
 
       from : (xs : List Applied) → own_standing s.book.entries n ≡ xs → option_or (undo_all_cause s.book.entries n xs) (no_room s.book.entries (length (own_standing s.book.entries n))) ≡ Some why → Named why
       from [] is e = let same : NothingToUndo ≡ why = (cc) in subst Named same (nothing is)
-      from (x ∷ xs) is e = conflict (find_own_in_conflict s.book.entries n) e
+      from (x ∷ xs) is e = conflict (find_own_in_conflict s.book.entries n) refl e
 
   least_cause : (g : Bool) (o : Option Refusal) (why : Refusal) → is_given s n ≡ g → undo_all_refusal s.book n ≡ o → least (unless g NoSession ∷ o ∷ []) ≡ Some why → WhyNotAll s n why
   least_cause true None why known is h = (cc)
@@ -88,3 +91,22 @@ not_all s n why new sound step = (
 
     never : (undo_all_rule s n).done ≡ Some (Refused why, new) → ⊥
     never done = taken_is_none done
+
+-- where a pair of entries is in the way, an undo of all is refused for a conflict
+pub surely_blocked : (s : State) (n x y : ℕ) (reply : Reply) (new : State) → StateIsSound s → BlocksAll s.book.entries n x y → is_given s n ≡ true → Step s n commands.UndoAll reply new
+    → (own : ℕ) × (other : ℕ) × (reply ≡ Refused (Conflict own other))
+surely_blocked s n x y reply new sound pair known step =
+    let es = s.book.entries in
+    let found = finds_pair es n sound.numbered x y pair in
+    let why = Conflict found.own.number found.other.number in
+    let named : conflict_with_others es (find_own_in_conflict es n) ≡ Some why =
+    ap (conflict_with_others es) found.own_is ∙ ap (option_map (λ (f : Applied). Conflict found.own.number f.number)) found.other_is in
+    let cause : undo_all_cause es n (own_standing es n) ≡ Some why = there (own_standing es n) why found.some_own named in
+    let refusal : undo_all_refusal s.book n ≡ Some why = undo_all_refusal-first s.book n ∙ ap (λ o. option_or o (no_room es (length (own_standing es n)))) cause in
+    let at : AllowsAt (Some why) (undo_all_rule s n) s reply new =
+    subst (λ o. AllowsAt o (undo_all_rule s n) s reply new) (given (is_given s n) (undo_all_refusal s.book n) known ∙ refusal) step in
+    (found.own.number, found.other.number, at.0)
+  where
+    there : (xs : List Applied) (why : Refusal) → (xs ≡ [] → ⊥) → conflict_with_others s.book.entries (find_own_in_conflict s.book.entries n) ≡ Some why → undo_all_cause s.book.entries n xs ≡ Some why
+    there [] why some h = absurd (some refl)
+    there (z ∷ xs) why some h = h

@@ -1,8 +1,10 @@
 -- The rules of what reads and changes nothing.
-use Rattle.std.specs.Prelude.{ℕ, true, [], ◌∷◌, Some, is_some, option_map}
+use Rattle.std.specs.Prelude.{ℕ, Bool, true, false, [], ◌∷◌, Some, is_some, option_map}
 use Rattle.std.specs.FinMap.{get}
 use Rattle.tsn_types.specs.declared.keys.Key.{Key}
 use Rattle.tsn_types.specs.declared.keys.Kind.{Kind}
+use Rattle.tsn_types.specs.declared.records.Record.{Record}
+use Rattle.tsn_types.specs.declared.records.Record.TheVariants as records
 use Rattle.tsn_types.specs.declared.refusals.Field.TheVariants as fields
 use Rattle.tsn_types.specs.declared.refusals.Refusal.TheVariants.{Range, Missing}
 use Rattle.tsn_types.specs.Limits.{unless, holds_key}
@@ -10,15 +12,23 @@ use Rattle.tsn_config.specs.Ids.{ids_of}
 use Rattle.tsn_journal.specs.Finding.{since}
 use Rattle.tsn_undo.specs.Ledger.{present}
 use Rattle.tsn_bridge.specs.declared.reply.Reply.TheVariants.{Entries, Ids, Shown}
+use Rattle.tsn_bridge.specs.Acts.{has_list}
 use Rattle.tsn_bridge.specs.State.{State}
 use Rattle.tsn_bridge.specs.Rule.{Rule, no_session}
 
--- a show answers the record at the key
+-- a record that has a list, which a copy takes memory for
+abbrev pub record_has_list : Record → Bool
+record_has_list (records.Port r) = true
+record_has_list (records.Filter r) = false
+record_has_list (records.Gate r) = true
+record_has_list (records.Meter r) = false
+
+-- a show answers the record at the key; only that of a port or a stream gate, which have lists, takes memory
 abbrev pub show_rule : State → ℕ → Key → Rule
 show_rule s n k = record {
   causes = unless (holds_key s.book.limits k) (Range fields.Key) ∷ no_session s n ∷ unless (is_some (get (present s.book) k)) (Missing k) ∷ [];
   done = option_map (λ r. (Shown k r, s)) (get (present s.book) k);
-  takes_memory = true;
+  takes_memory = has_list k;
 }
 
 -- a list answers the numbers of all instances of the kind

@@ -4,12 +4,14 @@
 //! the machine's state. The book and the runtime are one pair, whose type says that they are tied.
 //! A refused command changes nothing; of several causes the one of the least number is answered, and want of memory
 //! only where no other cause holds.
-ghost use Rattle.std.specs.Prelude.{◌≡◌, ◌⊎◌, ◌∷◌, [], IfOk, IfErr, OnOk, Some, None};
+ghost use Rattle.std.specs.Prelude.{◌≡◌, ◌⊎◌, ◌∷◌, [], Err, IfOk, IfErr, OnErr, OnOk, Some, None, true};
+ghost use Rattle.tsn_types.specs.declared.refusals.Refusal.{Refusal as AnyRefusal};
 ghost use Rattle.tsn_types.specs.declared.refusals.Refusal.TheVariants.{Memory, NoSession};
+ghost use Rattle.tsn_types.specs.Lent.{lent_record};
 ghost use Rattle.tsn_types.specs.Refusals.{least};
 ghost use Rattle.tsn_edit.specs.Configuration.{IsWellKept};
 ghost use Rattle.tsn_edit.specs.Runs.{run, IsGood};
-ghost use Rattle.tsn_config.specs.Opening.{opening_refusal};
+ghost use Rattle.tsn_config.specs.Opening.{limits_cause, opening_refusal};
 ghost use Rattle.tsn_journal.specs.Entries.{changes, standing};
 ghost use Rattle.tsn_undo.specs.Ledger.{base_of, present};
 ghost use Rattle.tsn_undo.specs.Soundness.{IsSound};
@@ -21,7 +23,7 @@ ghost use Rattle.tsn_bridge.specs.Frames.{frame_rule};
 ghost use Rattle.tsn_bridge.specs.Later.{IsWhole};
 ghost use Rattle.tsn_bridge.specs.Looking.{counters_rule, states_rule};
 ghost use Rattle.tsn_bridge.specs.Machine.{Step};
-ghost use Rattle.tsn_bridge.specs.Reads.{list_rule, show_rule, since_rule};
+ghost use Rattle.tsn_bridge.specs.Reads.{list_rule, record_has_list, show_rule, since_rule};
 ghost use Rattle.tsn_bridge.specs.Rule.{Allows, is_given};
 ghost use Rattle.tsn_bridge.specs.Sessions.{hello_rule};
 ghost use Rattle.tsn_bridge.specs.Settling.{settle_rule};
@@ -29,7 +31,7 @@ ghost use Rattle.tsn_bridge.specs.Settling.{settle_rule};
 use crate::command::Command;
 use crate::pair::Pair;
 use crate::reply::Reply;
-use std::alloc::Global;
+use std::alloc::{AllocError, Global};
 use std::marker::Model;
 use tsn_chain::frame::Frame;
 use tsn_config::Config;
@@ -42,6 +44,7 @@ use tsn_schedule::runner::Past;
 use tsn_types::keys::{Key, Kind};
 use tsn_types::limits::Limits;
 use tsn_types::numbers::Instant;
+use tsn_types::records::{Record, RecordRef};
 use tsn_types::refusals::{Field, Refusal};
 
 /// How many sessions a bridge gives out at most.
@@ -91,7 +94,8 @@ impl Model for Bridge {
 impl Bridge {
     /// A bridge that begins with the setup. Refused are, in this order: the first record whose identifier, gate, meter
     /// or list is outside the limits (4, field `id` for the identifier), the first key that is given twice (7), and the
-    /// first absent reference of the least filter (8); want of memory (18) may be answered in place of any answer.
+    /// first absent reference of the least filter (8). A refusal for limits is answered whatever memory there is; want of
+    /// memory (18) may be answered in place of any other answer.
     pub fn new(alloc: Global, setup: Setup) -> Result<Bridge, Refusal>
         ensures admitted { OnOk result (opening_refusal setup.limits setup.records ≡ None) }
         ensures begins { IfOk result (λ bridge. bridge ≡ begun setup.limits setup.records) }
@@ -99,6 +103,7 @@ impl Bridge {
         ensures opened { IfOk result (λ bridge. IsOpened bridge) }
         ensures refused { IfErr result (λ why.
             (opening_refusal setup.limits setup.records ≡ Some why) ⊎ (why ≡ Memory)) }
+        ensures beyond { (why : AnyRefusal) → limits_cause setup.limits setup.records ≡ Some why → result ≡ Err why }
     {
         let Setup { limits, records } = setup;
         let config = match Config::open(alloc, limits, records) {
@@ -336,7 +341,7 @@ impl Bridge {
             return Reply::Refused(Refusal::NoSession);
         }
         match self.config().get(*key) {
-            Some(found) => match found.try_clone() {
+            Some(found) => match copy_of(found) {
                 Ok(value) => Reply::Shown { key: *key, value },
                 Err(_) => Reply::Refused(Refusal::Memory),
             },
@@ -366,6 +371,18 @@ impl Bridge {
             Ok(entries) => Reply::Entries { entries },
             Err(_) => Reply::Refused(Refusal::Memory),
         }
+    }
+}
+
+/// A record that equals the one that is lent. Only a record with a list takes memory.
+fn copy_of(found: RecordRef<'_>) -> Result<Record, AllocError>
+    ensures copy { IfOk result (λ copy. copy ≡ lent_record found.entry) }
+    ensures memory { OnErr result (record_has_list (lent_record found.entry) ≡ true) }
+{
+    match found {
+        RecordRef::Filter(filter) => Ok(Record::Filter(*filter)),
+        RecordRef::Meter(meter) => Ok(Record::Meter(*meter)),
+        RecordRef::Port(_) | RecordRef::Gate(_) => found.try_clone(),
     }
 }
 

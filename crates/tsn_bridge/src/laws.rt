@@ -52,10 +52,14 @@ ghost use Rattle.tsn_bridge.specs.Turns.{Turns};
 /// other sessions' standing edits alone give, or is refused naming a later edit that touches or refers to their
 /// instances; and a changeover to the restored list, its base time past, gives that list's gate states at every later
 /// instant: from the change time, which the apply tells, until the next act on that list, while its port or gate is
-/// there. An undo of one entry that is answered leaves what all other standing entries give. Of refusals: an undo at
-/// once is refused for a full journal or want of memory alone; an undo of all as `WhyNotAll` says, and then it changed
-/// nothing; a look at the restored list's states, by a session that was given out, not at all. Nothing is asked of the
-/// state but that the commands led to it.
+/// there. The list is one that an undo of one entry put back, or an undo of all. An undo of one entry that is answered
+/// took back the session's newest standing entry, and leaves what all other standing entries give, with the limits and
+/// the opening as they were. Of refusals: an undo at once is refused for a full journal where the journal is full,
+/// always and for nothing else, and where it is not, for want of memory alone, and then it changed nothing; an undo of
+/// all as `WhyNotAll` says, which for a conflict names the newest own entry in conflict and the latest other one in
+/// conflict with it, as it always does where there is one and the session was given out, and then it changed nothing; a
+/// look at the restored list's states, by a session that was given out, not at all. Nothing is asked of the state but
+/// that the commands led to it.
 pub fn headline()
     ensures at_once_undone { (limits : AnyLimits) (records : List (AnyKey × AnyRecord)) (asks : List Answered) (now : State) →
         Opens limits records → AreInRange asks → Leads (begun limits records) asks now → AtOnceUndone now }
@@ -137,7 +141,7 @@ pub fn edit_at_once_undone()
 /// the limits and the opening are as they were. After it, a session's edit that is answered with an entry and at once
 /// undone leaves the configuration as it was; an undo of all of a session leaves exactly what the other sessions'
 /// standing entries alone give, or names what stands in the way; an undo of one entry leaves what all others give; and
-/// a list that an undo restored, once it is applied with its base past, gives its own states.
+/// a list that an undo, or an undo of all, restored, once it is applied with its base past, gives its own states.
 pub fn over_every_interleaving()
     ensures sound { (start now : State) (asks : List Answered) →
         StateIsSound start → AreInRange asks → Leads start asks now →

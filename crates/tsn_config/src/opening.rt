@@ -3,10 +3,11 @@
 //! The records are looked at one after another for limits, and then put into empty tables, where a key that stands
 //! there already is a repetition. Ports that are left out get the default record, and then references are looked at.
 //! What makes the outcome well kept is just that none of these looks found a cause.
-ghost use Rattle.std.specs.Prelude.{◌≡◌, ◌+◌, ◌≤◌, ◌⊎◌, ◌++◌, IfErr, IfOk, IsSome, IsTrue, OnOk, List, [], None, Some};
+ghost use Rattle.std.specs.Prelude.{◌≡◌, ◌+◌, ◌≤◌, ◌⊎◌, ◌++◌, Err, IfErr, IfOk, IsSome, IsTrue, OnOk, List, [], None, Some};
 ghost use Rattle.std.specs.FinMap as map;
 ghost use Rattle.tsn_types.specs.Bounds.{AreInRange};
 ghost use Rattle.tsn_types.specs.Numbers.{most_ports};
+ghost use Rattle.tsn_types.specs.declared.refusals.Refusal.{Refusal as AnyRefusal};
 ghost use Rattle.tsn_types.specs.declared.refusals.Refusal.TheVariants.{Exists, Memory};
 ghost use Rattle.tsn_types.specs.declared.records.Record.TheVariants.{Port as PortRecord};
 ghost use Rattle.tsn_config.specs.Opening.{AreOfKind, RecordsInRange, default_port, default_ports, limit_cause, limits_cause, opening, opening_refusal, repeated_key, with_port};
@@ -29,7 +30,8 @@ impl Config {
     ///
     /// Refused are, in this order: the first record whose identifier, gate, meter or list is outside the limits (4, by
     /// that field, `id` for the identifier); the first key that stands earlier in the list (7); the first absent reference of the least filter, its
-    /// gate before its meter (8). Want of memory (18) may be answered in place of any answer.
+    /// gate before its meter (8). Limits are looked at before any memory is taken, so that a refusal for them is answered
+    /// whatever memory there is; want of memory (18) may be answered in place of any other answer.
     pub fn open(alloc: Global, limits: Limits, records: Records) -> Result<Config, Refusal>
         ensures admitted { OnOk result (opening_refusal limits records ≡ None) }
         ensures bounds { OnOk result (AreInRange limits) }
@@ -37,6 +39,7 @@ impl Config {
         ensures limits { IfOk result (λ config. config.limits ≡ limits) }
         ensures map { IfOk result (λ config. config.map ≡ opening limits records) }
         ensures err { IfErr result (λ why. (opening_refusal limits records ≡ Some why) ⊎ (why ≡ Memory)) }
+        ensures beyond { (why : AnyRefusal) → limits_cause limits records ≡ Some why → result ≡ Err why }
     {
         let items = records.into_items();
         if let Some(why) = refuse_limits(limits, &items) {

@@ -20,7 +20,10 @@ abbrev pub redo_cause : List Entry → Option Applied → Bool → Option Refusa
 redo_cause es None fits = Some NothingToRedo
 redo_cause es (Some u) fits = if fits then None else option_map (λ f. RedoConflict f.number) (find_redo_conflict es u)
 
--- P holds of why a redo of the session is refused: nothing to redo, it doesn't fit, a full journal
+-- P holds of why a redo of the session is refused: nothing to redo, it doesn't fit, a full journal.
+-- Read alone, this knows no cause where what would be redone doesn't fit and no later entry is in conflict with it, so that a
+-- redo which is refused there could only tell of want of memory. No book comes to that: its ledger is sound, and in a sound
+-- one there is such an entry, by the law `redo_has_an_entry_to_name`.
 pub record WhyNoRedo (b : Ledger) (s : ℕ) (P : Option Refusal → Type 0) : Type 0 where
   pub fits : Bool
   pub tells : TellsFit b (redo_of b.entries s) fits
