@@ -6,7 +6,7 @@ service must answer, member for member.
 from crowd import REFUSALS, kind_of, references
 
 KINDS = ("port", "filter", "gate", "meter")
-MOST_ENTRIES = 65536
+MOST_ENTRIES = 262144
 PORT = {"base": 0, "cycle": 1000000, "extension": 0, "gates": 255, "list": []}
 
 

@@ -219,7 +219,7 @@ class Refusals(unittest.TestCase):
         with self.assertRaises(tsnd.Shape):
             self.connection.ask({"do": "dance"})
         with self.assertRaises(tsnd.TooLong):
-            self.connection.ask({"do": "x" * 65_536})
+            self.connection.ask({"do": "x" * 131_072})
 
 
 class Stories(unittest.TestCase):

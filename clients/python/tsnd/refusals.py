@@ -25,7 +25,7 @@ class Refused(Exception):
 
 
 class TooLong(Refused):
-    """A line of more than 65,536 bytes."""
+    """A line of more than 131,072 bytes."""
 
     number = 1
 

@@ -144,13 +144,13 @@ fn has(rt: &impl Abort, bridge: &Bridge, entries: usize, has_meter: bool) {
 }
 
 fn fill_up(rt: &impl Abort, bridge: &mut Bridge) -> Result<(), Fail> {
-    fill(bridge, 32_767)?;
-    has(rt, bridge, 65_534, false);
-    assert!(rt; is_entry(create(bridge, 1, 1)?, 65_535));
-    assert!(rt; is_entry(create(bridge, 1, 2)?, 65_536));
+    fill(bridge, 131_071)?;
+    has(rt, bridge, 262_142, false);
+    assert!(rt; is_entry(create(bridge, 1, 1)?, 262_143));
+    assert!(rt; is_entry(create(bridge, 1, 2)?, 262_144));
     assert!(rt; is_refused(create(bridge, 1, 3)?, Refusal::JournalFull));
     assert!(rt; is_refused(step(bridge, 1, Command::Undo)?, Refusal::JournalFull));
-    has(rt, bridge, 65_536, true);
+    has(rt, bridge, 262_144, true);
     Ok(())
 }
 

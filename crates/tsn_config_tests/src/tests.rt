@@ -217,7 +217,7 @@ fn every_port_and_kind(alloc: Global) -> Result<Records, Fail> {
         alloc,
         &[
             Row::Filter(5, 7, Some(9)),
-            Row::Gate(7, 1_024),
+            Row::Gate(7, 4_096),
             Row::Meter(9),
         ],
     )?;
@@ -253,7 +253,7 @@ fn has_every_other_kind(rt: &impl Abort, alloc: Global, config: &Config) -> Resu
         &config.filters().ids(alloc)?.as_slice(),
         &([3, 5].as_slice()),
     );
-    let gate = Record::Gate(gate_with(alloc, 1_024)?);
+    let gate = Record::Gate(gate_with(alloc, 4_096)?);
     let gate_7 = Key::Gate(GateId::new(7).unwrap());
     assert!(rt; stands(config, gate_7, &gate));
     let filter_5 = Record::Filter(filter(7, on_meter(9)));
@@ -267,7 +267,7 @@ fn has_every_other_kind(rt: &impl Abort, alloc: Global, config: &Config) -> Resu
 #[test]
 fn a_copy_has_every_record(rt: HostRuntime) -> Result<(), Fail> {
     let alloc = rt.alloc();
-    let most = Limits::new(64, 16, 16, 16, 1_024).unwrap();
+    let most = Limits::new(64, 16, 16, 16, 4_096).unwrap();
     on_a_config(alloc, most, every_port_and_kind(alloc)?, |config| {
         make_first_entries(&rt, alloc, config)?;
         on_a_copy(config, |copy| {

@@ -117,7 +117,7 @@ fn is_copied(
 fn listed_change(alloc: Global) -> Result<Change, AllocError> {
     Ok(Change::of(Part {
         key: port_key(),
-        before: Some(port(alloc, 1, 1_024)?),
+        before: Some(port(alloc, 1, 4_096)?),
         after: Some(port(alloc, 128, 1)?),
     }))
 }
@@ -125,7 +125,7 @@ fn listed_change(alloc: Global) -> Result<Change, AllocError> {
 /// A change of a port with the longest list, and one that has no value after it.
 #[test]
 fn a_copy_has_the_key_and_both_values(rt: HostRuntime) -> Result<(), Fail> {
-    let before = port(rt.alloc(), 1, 1_024)?;
+    let before = port(rt.alloc(), 1, 4_096)?;
     let after = port(rt.alloc(), 128, 1)?;
     let change = listed_change(rt.alloc())?;
     is_copied(&rt, &change, port_key(), &before, &after)?;

@@ -19,7 +19,7 @@ use std::marker::Model;
 use tsn_types::refusals::Refusal;
 
 /// How many entries a journal holds at most.
-pub const MOST_ENTRIES: usize = 65_536;
+pub const MOST_ENTRIES: usize = 262_144;
 
 /// Which session did what, entry by entry. `entries` is the list of its entries, `spare` the number of entries that it
 /// certainly has room for, and `parts` that of parts of changes.
@@ -199,22 +199,26 @@ impl Journal {
         ensures count { result ≡ length (own_standing self.now.entries session) }
         ensures few { result ≤ length self.now.entries }
     {
-        self.index.count_of(&self.marked, session)
+        self.index.count_of(&self.marked, session, self.settled)
     }
 
     /// How many parts the changes of the session's standing entries have in all. It takes no memory.
     pub fn parts_of(&self, session: u32) -> usize
         ensures { result ≡ parts_of_all (own_standing self.now.entries session) }
     {
-        self.index.parts_of(&self.marked, session)
+        self.index.parts_of(&self.marked, session, self.settled)
     }
 
     /// The numbers of the session's standing entries, rising. Refused only for want of memory.
     pub fn standing_of(&self, session: u32) -> Result<Vec<u64>, AllocError>
         ensures { IfOk result (λ numbers. numbers.items ≡ map (λ x. x.number) (own_standing self.now.entries session)) }
     {
-        self.index
-            .numbers_of(*self.marked.allocator(), &self.marked, session)
+        self.index.numbers_of(
+            *self.marked.allocator(),
+            &self.marked,
+            session,
+            self.settled,
+        )
     }
 
     /// Copies of the entries of a greater number. Refused only for want of memory.

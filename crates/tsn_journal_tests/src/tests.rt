@@ -177,15 +177,19 @@ fn an_entry_has_its_number_and_session(rt: HostRuntime) -> Result<(), Fail> {
     laws::limits();
     on_a_journal(rt.alloc(), |journal| {
         same(&rt, &journal.len(), &0);
-        same(&rt, &MOST_ENTRIES, &65_536);
-        same(&rt, &journal.reserve(65_537, 0), &Err(Refusal::JournalFull));
+        same(&rt, &MOST_ENTRIES, &262_144);
+        same(
+            &rt,
+            &journal.reserve(262_145, 0),
+            &Err(Refusal::JournalFull),
+        );
         creates(&rt, journal, 7, 5, 1);
         same(
             &rt,
-            &journal.reserve(65_536, 65_536),
+            &journal.reserve(262_144, 262_144),
             &Err(Refusal::JournalFull),
         );
-        same(&rt, &journal.reserve(65_535, 65_535), &Ok(()));
+        same(&rt, &journal.reserve(262_143, 262_143), &Ok(()));
         creates(&rt, journal, 8, 6, 2);
         has_two_entries(&rt, journal);
         tells_copies(&rt, journal);

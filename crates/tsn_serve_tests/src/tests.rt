@@ -71,10 +71,10 @@ fn lines_end_at_line_feeds_and_at_the_end(rt: HostRuntime) -> Result<(), Fail> {
         (0, b"a\n", b"line\n"),
         (0, b"\n\nb", b"empty\nempty\nline\n"),
         (0, b"a\n\r\n b\n\n", b"line\nline\nline\nempty\n"),
-        (65535, b"\r\n\n", b"longest\nempty\n"),
-        (65536, b"", b"longest\n"),
-        (65536, b"\r\n\n", b"too long\nempty\n"),
-        (65537, b"", b"too long\n"),
+        (131071, b"\r\n\n", b"longest\nempty\n"),
+        (131072, b"", b"longest\n"),
+        (131072, b"\r\n\n", b"too long\nempty\n"),
+        (131073, b"", b"too long\n"),
         (200000, b"\n\n", b"too long\nempty\n"),
     ];
     for (count, rest, want) in cases {

@@ -39,7 +39,7 @@ pub fn documents_are_refused()
     ensures none_given { setup_of (codes "[[port]]\nid = 1") ≡ Err refusals.Shape }
     ensures shape_first { setup_of (codes "ports = 0\n[[port]]\nid = 0") ≡ Err refusals.Shape }
     ensures limits_in_order { setup_of (codes "list_max = 0\nmax_gates = 0") ≡ Err (refusals.Range fields.MaxGates) }
-    ensures limits_first { setup_of (codes "list_max = 1025\n[[filter]]\nid = 65536\ngate = 0\noversize = true")
+    ensures limits_first { setup_of (codes "list_max = 4097\n[[filter]]\nid = 65536\ngate = 0\noversize = true")
         ≡ Err (refusals.Range fields.ListMax) }
     ensures id_first { setup_of (codes "[[filter]]\ngate = 65536\nid = 65536\noversize = true")
         ≡ Err (refusals.Range fields.Id) }

@@ -98,7 +98,7 @@ pub const LIMITS: [Row; 5] = [
     number_row!(
         "list_max",
         "1",
-        "0 1025 9223372036854775807",
+        "0 4097 9223372036854775807",
         Field::ListMax,
         true
     ),

@@ -15,7 +15,7 @@ most_instances = 65536
 
 -- the entries of a gate control list (SupportedListMax)
 abbrev pub longest_list : ℕ
-longest_list = 1024
+longest_list = 4096
 
 -- each limit is from 1 to the most that there may be
 abbrev pub AreInRange : Bounds → Type 0

@@ -16,10 +16,10 @@ use std::marker::Model;
 pub const MOST_INSTANCES: u64 = 65_536;
 
 /// The most entries that a gate control list may have.
-pub const LONGEST_LIST: u64 = 1_024;
+pub const LONGEST_LIST: u64 = 4_096;
 
 /// The number of ports (1 to 64), the sizes of the stream filter, stream gate and flow meter tables (1 to 65,536 each,
-/// 802.1Q-2018, 12.31.1) and the greatest length of a gate control list (SupportedListMax, 1 to 1,024).
+/// 802.1Q-2018, 12.31.1) and the greatest length of a gate control list (SupportedListMax, 1 to 4,096).
 #[derive(Clone, Copy, Debug)]
 pub struct Limits {
     ports: u64,
@@ -42,7 +42,7 @@ impl Model for Limits {
 }
 
 impl Limits {
-    /// The limits: 1 to 64 ports; 1 to 65,536 stream filters, stream gates and flow meters; lists of up to 1 to 1,024
+    /// The limits: 1 to 64 ports; 1 to 65,536 stream filters, stream gates and flow meters; lists of up to 1 to 4,096
     /// entries. Refused where one is outside its range.
     pub fn new(
         ports: u64,

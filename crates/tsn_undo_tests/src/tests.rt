@@ -138,7 +138,7 @@ fn acts(rt: &impl Abort, book: &mut Book, wanted: Result<u64, Refusal>) {
 
 /// Room is made for as many entries as a journal holds, and an act is an entry that changes nothing.
 fn make_room(rt: &impl Abort, book: &mut Book) {
-    same(rt, &book.reserve(65_537), &Err(Refusal::JournalFull));
+    same(rt, &book.reserve(262_145), &Err(Refusal::JournalFull));
     same(rt, &book.reserve(2), &Ok(()));
     enters(rt, book, 1, create(1), 1);
     same(rt, &book.journal().len(), &1);
@@ -152,16 +152,16 @@ fn make_room(rt: &impl Abort, book: &mut Book) {
 fn fill_up(rt: &impl Abort, book: &mut Book) -> Result<(), Refusal> {
     enters(rt, book, 3, create(7), 4);
     enters(rt, book, 2, remove(7), 5);
-    fill(book, 32_764)
+    fill(book, 131_068)
 }
 
 /// With one entry free two are not taken back.
 fn use_the_last_entry(rt: &impl Abort, book: &mut Book) {
-    enters(rt, book, 1, create(1), 65_534);
-    enters(rt, book, 1, create(2), 65_535);
+    enters(rt, book, 1, create(1), 262_142);
+    enters(rt, book, 1, create(2), 262_143);
     undoes_all(rt, book, 1, Err(Refusal::JournalFull));
     same(rt, &book.journal().count_of(1), &2);
-    undoes(rt, book, 1, 65_536, 65_535);
+    undoes(rt, book, 1, 262_144, 262_143);
 }
 
 /// In a full journal nothing is entered; that nothing stands, that something is in conflict and that a settle has nothing
@@ -180,9 +180,9 @@ fn is_full(rt: &impl Abort, book: &mut Book) {
     undoes_all(rt, book, 3, Err(conflict(4, 5)));
     is_not_undone(rt, book, 4, &Refusal::NothingToUndo);
     undoes_all(rt, book, 4, Err(Refusal::NothingToUndo));
-    is_not_settled(rt, book, 65_537, &Refusal::Range(Field::Upto));
+    is_not_settled(rt, book, 262_145, &Refusal::Range(Field::Upto));
     is_not_settled(rt, book, 0, &Refusal::Settled { upto: 0 });
-    is_not_settled(rt, book, 65_536, &Refusal::JournalFull);
+    is_not_settled(rt, book, 262_144, &Refusal::JournalFull);
     acts(rt, book, Err(Refusal::JournalFull));
     same(rt, &book.reserve(1), &Err(Refusal::JournalFull));
     same(rt, &book.reserve(0), &Ok(()));

@@ -5,7 +5,7 @@ use std::alloc::Global;
 use tsn_bytes::{ByteIn, ByteOut, Failed, Fault, put_all};
 use tsn_serve::Responder;
 
-/// Answers an empty line with `empty`, a line of 65,536 bytes with `longest`, a longer one with `too long`, and any
+/// Answers an empty line with `empty`, a line of 131,072 bytes with `longest`, a longer one with `too long`, and any
 /// other with `line`.
 #[derive(Drop)]
 pub struct Lengths {
@@ -29,7 +29,7 @@ impl Responder for Lengths {
         };
         match line.len() {
             0 => put_all(writer, b"empty\n"),
-            65536 => put_all(writer, b"longest\n"),
+            131072 => put_all(writer, b"longest\n"),
             _ => put_all(writer, b"line\n"),
         }
     }

@@ -124,7 +124,7 @@ fn worked_scripts_in_every_spelling(rt: HostRuntime) -> Result<(), Fail> {
 // A session that was not given out, a hello, an empty line, a line that is too long, and a line without its end.
 fn handled_lines(alloc: Global) -> Result<Vec<u8>, AllocError> {
     let mut input = Vec::from_slice(alloc, b"{\"do\":\"undo\",\"s\":1}\n{\"do\":\"hello\"}\n\n")?;
-    input.extend_from_slice(repeated(alloc, b"x", 65537)?.as_slice())?;
+    input.extend_from_slice(repeated(alloc, b"x", 131073)?.as_slice())?;
     input.extend_from_slice(b"\n{\"do\":\"undo\",\"s\":1}\n{\"do\":\"undo\"")?;
     Ok(input)
 }

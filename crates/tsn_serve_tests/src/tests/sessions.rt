@@ -49,7 +49,7 @@ fn lines(alloc: Global) -> Result<Vec<u8>, Fail> {
         {\"do\":\"hello\"}\n{\"do\":\"undo\",\"s\":1}\n{\"do\":\"show\",\"key\":\"gate 99\",\"s\":1}\n\
         {\"do\":\"show\",\"key\":\"gate 99\",\"s\":2}\n{\"do\":\"undo\",\"s\":2}\n\n",
     )?;
-    for _ in 0..65537u32 {
+    for _ in 0..131073u32 {
         input.push(b'x')?;
     }
     input.extend_from_slice(b"\n{\"do\":\"list\",\"kind\":\"gate\",\"s\":2}\n{\"do\":\"undo\"")?;

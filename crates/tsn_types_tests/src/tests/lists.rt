@@ -30,9 +30,9 @@ fn a_list_grows_to_its_greatest_length(rt: HostRuntime) -> Result<(), Fail> {
     for entry in 0..LONGEST_LIST {
         list.push(entry)?;
     }
-    same(&rt, &list.len(), &1_024);
-    same(&rt, &list.get(1_023).copied(), &Some(1_023));
-    same(&rt, &list.get(1_024).copied(), &None);
+    same(&rt, &list.len(), &4_096);
+    same(&rt, &list.get(4_095).copied(), &Some(4_095));
+    same(&rt, &list.get(4_096).copied(), &None);
     assert!(rt; list.try_clone()? == list);
     Ok(())
 }
