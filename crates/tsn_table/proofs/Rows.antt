@@ -1,0 +1,38 @@
+-- A hash map's rows as a finite map from numbers.
+use Rattle.std.proofs.Common.{◌≡◌, ℕ, cond, List, [], ◌∷◌, refl, sym, ◌∙◌, ap, Some, None, arith}
+use Rattle.std.specs.Prelude.{nat_eq}
+use Rattle.std.specs.Ordering.{nat_cmp, eq_by_cmp}
+use Rattle.std.specs.FinMap.{FinMap, find, from_entries, get, insert, remove, same_map, get-from_entries, get-insert, get-remove, nat_cmp-IsAntisymmetric}
+use Rattle.std.specs.Map.{lookup}
+use Rattle.std.proofs.lemmas.Cmp.{nat_cmp_total}
+use Rattle.std.proofs.lemmas.Bool.Decides.{nat_tests}
+
+-- that two numbers are equal, told by either test
+pub equal_by : (k x : ℕ) → nat_eq k x ≡ eq_by_cmp nat_cmp k x
+equal_by k x = grind (arith, nat_tests)
+
+pub equal_by_turned : (k x : ℕ) → nat_eq k x ≡ eq_by_cmp nat_cmp x k
+equal_by_turned k x = grind (arith, nat_tests)
+
+module _ {X : Type 0} where
+  pub lookup_is : (k : ℕ) (es : List (ℕ × X)) → lookup (nat_eq k) es ≡ find nat_cmp k es
+  lookup_is k [] = refl
+  lookup_is k (e ∷ es) = ap (λ b. cond b (Some e.1) (lookup (nat_eq k) es)) (equal_by k e.0) ∙ ap (cond (eq_by_cmp nat_cmp k e.0) (Some e.1)) (lookup_is k es)
+
+  -- what a number finds in the rows is what the map has at it
+  pub found : (es : List (ℕ × X)) (m : FinMap nat_cmp X) → from_entries es ≡ m → (k : ℕ) → lookup (nat_eq k) es ≡ get m k
+  found es m is k = lookup_is k es ∙ sym (get-from_entries nat_cmp_total es k) ∙ ap (λ n. get n k) is
+
+  -- rows in which each number finds the same are the same map
+  pub same_rows : (es fs : List (ℕ × X)) (m : FinMap nat_cmp X) → from_entries es ≡ m → ((q : ℕ) → lookup (nat_eq q) fs ≡ lookup (nat_eq q) es) → from_entries fs ≡ m
+  same_rows es fs m is same = same_map nat_cmp_total nat_cmp-IsAntisymmetric _ _ (λ q. sym (found fs _ refl q) ∙ same q ∙ found es m is q)
+
+  pub rows_put : (es fs : List (ℕ × X)) (m : FinMap nat_cmp X) (k : ℕ) (v : X) → from_entries es ≡ m →
+      ((q : ℕ) → lookup (nat_eq q) fs ≡ cond (nat_eq k q) (Some v) (lookup (nat_eq q) es)) → from_entries fs ≡ insert m k v
+  rows_put es fs m k v is puts = same_map nat_cmp_total nat_cmp-IsAntisymmetric _ _ (λ q.
+      sym (found fs _ refl q) ∙ puts q ∙ ap (cond (nat_eq k q) (Some v)) (found es m is q) ∙ ap (λ b. cond b (Some v) (get m q)) (equal_by_turned k q) ∙ sym (get-insert nat_cmp_total m k v q))
+
+  pub rows_taken : (es fs : List (ℕ × X)) (m : FinMap nat_cmp X) (k : ℕ) → from_entries es ≡ m →
+      ((q : ℕ) → lookup (nat_eq q) fs ≡ cond (nat_eq k q) None (lookup (nat_eq q) es)) → from_entries fs ≡ remove m k
+  rows_taken es fs m k is takes = same_map nat_cmp_total nat_cmp-IsAntisymmetric _ _ (λ q.
+      sym (found fs _ refl q) ∙ takes q ∙ ap (cond (nat_eq k q) None) (found es m is q) ∙ ap (λ b. cond b None (get m q)) (equal_by_turned k q) ∙ sym (get-remove nat_cmp_total m k q))
