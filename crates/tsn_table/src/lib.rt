@@ -13,6 +13,11 @@ ghost use Rattle.std.specs.HashMap as hash;
 ghost use Rattle.tsn_table.specs.Firsts.{AnswersAs, first_id, least_id, lesser};
 ghost use Rattle.tsn_table.specs.Copies.{Copies};
 
+mod numbers;
+mod tree;
+
+pub use numbers::Numbers;
+
 use std::alloc::{AllocError, Global};
 use std::collections::HashMap;
 use std::marker::Model;
