@@ -1,5 +1,5 @@
 -- Lists of numbers that rise: around a number k in their midst, and as maps.
-use Rattle.std.proofs.Common.{◌≡◌, ◌⊎◌, inl, inr, ℕ, ◌<◌, ◌≤◌, Bool, true, false, cond, not, eqb, ltb, List, [], ◌∷◌, ◌++◌, refl, sym, ap, ◌∙◌, subst, Option, Some, None, IsSome, arith}
+use Rattle.std.proofs.Common.{◌≡◌, ◌⊎◌, inl, inr, ℕ, ◌<◌, ◌≤◌, Bool, true, false, cond, not, eqb, ltb, List, [], ◌∷◌, ◌++◌, refl, sym, ap, ◌∙◌, subst, Option, Some, None, IsSome, length, length-append, arith}
 use Rattle.std.specs.Prelude.{IfSome, MatchOption}
 use Rattle.std.specs.Option.{option_or}
 use Rattle.std.specs.Ordering.{nat_cmp, eq_by_cmp}
@@ -28,6 +28,10 @@ rising_front (x ∷ l) k r s = (all_front (λ z. x < z) l (k ∷ r) s.0, rising_
 pub rising_back : (l : List ℕ) (k : ℕ) (r : List ℕ) → IsRising (l ++ k ∷ r) → IsRising r
 rising_back [] k r s = s.1
 rising_back (x ∷ l) k r s = rising_back l k r s.1
+
+-- both sides are shorter than the whole
+pub sides_shorter : (all l : List ℕ) (k : ℕ) (r : List ℕ) (n : ℕ) → all ≡ l ++ k ∷ r → length all ≡ n → (length l < n) × (length r < n)
+sides_shorter all l k r n is same = omega (arith, ap length is, length-append l (k ∷ r))
 
 -- a number that is put in
 all_put : (P : ℕ → Type 0) (x : ℕ) (ys : List ℕ) → P x → AllNumbers P ys → AllNumbers P (put_number x ys)
@@ -124,6 +128,14 @@ pub first_left : (x k : ℕ) (l r : List ℕ) → x ≤ k → first_from x (l ++
 first_left x k [] r p = rw (le-ltb k x p)
 first_left x k (y ∷ ys) r p = first_by (ltb y x) y k _ _ (first_left x k ys r p)
 
+or_none : (o : Option ℕ) → option_or o None ≡ o
+or_none None = refl
+or_none (Some n) = refl
+
+pub or_taken : (o : Option ℕ) (k : ℕ) (above : Option ℕ) → option_or o (Some k) ≡ option_or (option_or o (Some k)) above
+or_taken None k above = refl
+or_taken (Some n) k above = refl
+
 pub first_right : (x k : ℕ) (l r : List ℕ) → k < x → IsRising (l ++ k ∷ r) → first_from x (l ++ k ∷ r) ≡ first_from x r
 first_right x k [] r p s = rw (lt-ltb k x p)
 first_right x k (y ∷ ys) r p s =
@@ -131,7 +143,7 @@ first_right x k (y ∷ ys) r p s =
     rw (lt-ltb y x (omega arith)) (first_right x k ys r p s.1)
 
 -- what the map answers
-there : ℕ → List ℕ → Option (Unit {0})
+abbrev there : ℕ → List ℕ → Option (Unit {0})
 there q xs = find nat_cmp q (units xs)
 
 there_put : (x q : ℕ) (xs : List ℕ) → there q (put_number x xs) ≡ cond (eq_by_cmp nat_cmp q x) (Some tt) (there q xs)
@@ -247,11 +259,17 @@ first_least from id (y ∷ ys) s by h = elim (ltb y from) as (λ b. ltb y from �
       | inr j ↦ there_above y id zs a.1 j
     ]
 
--- the same of a map and of an answer that is known by equations
+-- the same of a map and of an answer that are known by equations
 pub there_in : (from : ℕ) (xs : List ℕ) (m : FinMap nat_cmp (Unit {0})) (o : Option ℕ) → map_of xs ≡ m → o ≡ option_or (first_from from xs) None
     → IfSome o (λ id. (from ≤ id) × IsSome (get m id))
-there_in from xs m o is answer = ?
+there_in from xs m o is answer = subst (λ p. IfSome p (λ id. (from ≤ id) × IsSome (get m id))) (sym (answer ∙ or_none (first_from from xs))) (by (first_from from xs) (first_there from xs))
+  where
+    by : (p : Option ℕ) → IfSome p (λ id. (from ≤ id) × IsSome (there id xs)) → IfSome p (λ id. (from ≤ id) × IsSome (get m id))
+    by None h = tt
+    by (Some id) h = (h.0, subst IsSome (sym (get_map xs id) ∙ ap (λ (n : FinMap nat_cmp (Unit {0})). get n id) is) h.1)
 
 pub least_in : (from id : ℕ) (xs : List ℕ) (m : FinMap nat_cmp (Unit {0})) (o : Option ℕ) → map_of xs ≡ m → o ≡ option_or (first_from from xs) None
     → IsRising xs → from ≤ id → IsSome (get m id) → MatchOption o ⊥ (λ least. least ≤ id)
-least_in from id xs m o is answer s by h = ?
+least_in from id xs m o is answer s by h =
+    subst (λ p. MatchOption p ⊥ (λ least. least ≤ id)) (sym (answer ∙ or_none (first_from from xs)))
+    (first_least from id xs s by (subst IsSome (ap (λ (n : FinMap nat_cmp (Unit {0})). get n id) (sym is) ∙ get_map xs id) h))
