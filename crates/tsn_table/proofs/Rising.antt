@@ -1,9 +1,9 @@
 -- Lists of numbers that rise: around a number k in their midst, and as maps.
-use Rattle.std.proofs.Common.{◌≡◌, ◌⊎◌, inl, inr, ℕ, ◌<◌, ◌≤◌, Bool, true, false, cond, not, eqb, ltb, List, [], ◌∷◌, ◌++◌, refl, sym, ap, ◌∙◌, subst, Option, Some, None, IsSome, length, length-append, arith}
+use Rattle.std.proofs.Common.{◌≡◌, ◌⊎◌, inl, inr, ℕ, ◌<◌, ◌≤◌, Bool, true, false, cond, eqb, ltb, List, [], ◌∷◌, ◌++◌, refl, sym, ap, ◌∙◌, subst, Option, Some, None, IsSome, length, length-append, arith}
 use Rattle.std.specs.Prelude.{IfSome, MatchOption}
 use Rattle.std.specs.Option.{option_or}
 use Rattle.std.specs.Ordering.{nat_cmp, eq_by_cmp}
-use Rattle.std.specs.FinMap.{FinMap, find, get, insert, remove, empty, get-empty, get-insert, get-remove, get-from_entries, same_map, nat_cmp-IsAntisymmetric}
+use Rattle.std.specs.FinMap.{FinMap, find, get, insert, remove, get-insert, get-remove, get-from_entries, same_map, nat_cmp-IsAntisymmetric}
 use Rattle.std.proofs.lemmas.Cmp.{nat_cmp_total}
 use Rattle.std.proofs.lemmas.Bool.{lt-ltb, le-ltb, ltb-true, ltb-false, eq-eqb, ne_eqb, cases_lt}
 use Rattle.std.proofs.lemmas.Bool.Decides.{nat_tests}
@@ -210,6 +210,23 @@ pub map_there : (m : FinMap nat_cmp (Unit {0})) (x : ℕ) → IsSome (get m x) �
 map_there m x h = same_map nat_cmp_total nat_cmp-IsAntisymmetric _ _ (λ q.
     same_or (eq_by_cmp nat_cmp q x) (get m q) (λ e. ap (get m) (tied q x e) ∙ unit_some (get m x) h)
     ∙ sym (get-insert nat_cmp_total m x tt q))
+
+-- what a put leaves: a new number comes in where a node waits, and else all stays
+pub put_rises : (x : ℕ) (xs now : List ℕ) (n : ℕ) → (0 < n → now ≡ put_number x xs) → (n ≡ 0 → now ≡ xs) → IsRising xs → IsRising now
+put_rises x xs now n some none s = elim (cases_lt 0 n) [
+  | inl full ↦ subst IsRising (sym (some full)) (rising_put x xs s)
+  | inr spent ↦ subst IsRising (sym (none (omega arith))) s
+]
+
+pub put_now : (x : ℕ) (xs now : List ℕ) (n spare : ℕ) (m : FinMap nat_cmp (Unit {0})) → (0 < n → now ≡ put_number x xs) → (n ≡ 0 → now ≡ xs)
+    → spare ≤ n → map_of xs ≡ m → IsSome (get m x) ⊎ (1 ≤ spare) → map_of now ≡ insert m x tt
+put_now x xs now n spare m some none le is h = elim (cases_lt 0 n) [
+  | inl full ↦ ap map_of (some full) ∙ map_put x xs ∙ ap (λ (o : FinMap nat_cmp (Unit {0})). insert o x tt) is
+  | inr spent ↦ elim h [
+    | inl is_in ↦ ap map_of (none (omega arith)) ∙ is ∙ map_there m x is_in
+    | inr room ↦ absurd (omega arith)
+  ]
+]
 
 some_there : (q y : ℕ) (ys : List ℕ) → IsSome (there q (y ∷ ys)) → (q ≡ y) ⊎ IsSome (there q ys)
 some_there q y ys h = elim (eq_by_cmp nat_cmp q y) as (λ b. eq_by_cmp nat_cmp q y ≡ b → IsSome (cond b (Some tt) (there q ys)) → (q ≡ y) ⊎ IsSome (there q ys)) [

@@ -17,7 +17,6 @@ mod numbers;
 mod tree;
 
 pub use numbers::Numbers;
-
 use std::alloc::{AllocError, Global};
 use std::collections::HashMap;
 use std::marker::Model;

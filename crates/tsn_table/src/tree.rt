@@ -52,9 +52,7 @@ fn sides_of(node: &mut Box<Node>) -> (Tree, Tree)
 fn joined(mut node: Box<Node>, left: Tree, right: Tree) -> Box<Node>
     ensures { numbers_below result.value ≡ numbers_of left ++ node.value.number ∷ numbers_of right }
 {
-    node.height = height_of(&left)
-        .max(height_of(&right))
-        .saturating_add(1);
+    node.height = height_of(&left).max(height_of(&right)).saturating_add(1);
     node.left = left;
     node.right = right;
     node

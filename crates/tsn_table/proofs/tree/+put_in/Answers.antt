@@ -1,4 +1,4 @@
-use Rattle.std.proofs.Common.{◌≡◌, ◌<◌, length, ap, ◌∙◌, subst, arith}
+use Rattle.std.proofs.Common.{◌≡◌, ◌<◌, ap, ◌∙◌, subst, arith}
 use Rattle.tsn_table.specs.Rising.{IsRising}
 use Rattle.tsn_table.specs.Tree.{numbers_of}
 use Rattle.tsn_table.proofs.Rising.{rising_front, rising_back, sides_shorter, put_left, put_middle, put_right}
