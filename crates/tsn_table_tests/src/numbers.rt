@@ -5,6 +5,8 @@ use crate::comparing::same;
 use std::alloc::{AllocError, Global};
 use std::process::Abort;
 use std::test::Fail;
+use std::thread;
+use std::thread::{Threads, join};
 use tsn_table::Numbers;
 
 // The set of the numbers 4, 1 and 6, which come in this order.
@@ -53,7 +55,7 @@ fn finds_the_first_number_from_one_on(rt: HostRuntime) -> Result<(), Fail> {
 #[test]
 fn a_number_comes_in_once(rt: HostRuntime) -> Result<(), Fail> {
     let mut numbers = three_numbers(rt.alloc())?;
-    numbers.reserve(1)?;
+    numbers.reserve(2)?;
     numbers.put(4);
     numbers.put(5);
     let list = listed(&numbers, rt.alloc(), 9)?;
@@ -90,7 +92,9 @@ fn copies_every_number(rt: HostRuntime) -> Result<(), Fail> {
 const MANY: u64 = 65_536;
 
 // The set of MANY numbers, which come in the order that `nth` says.
-fn many<F: Fn(u64) -> u64 + Drop>(alloc: Global, nth: F) -> Result<Numbers, AllocError> {
+fn many<F: Fn(u64) -> u64 + Drop>(alloc: Global, nth: F) -> Result<Numbers, AllocError>
+    requires { F.IsAlwaysCallable nth }
+{
     let mut numbers = Numbers::new(alloc);
     for n in 0..MANY {
         numbers.reserve(1)?;
@@ -195,10 +199,18 @@ fn history(rt: &impl Abort, alloc: Global, bound: u64, mut seed: u64) -> Result<
         let (next, from) = drawn(seed, bound);
         seed = next;
         same(rt, &numbers.first_from(from), &first_of_list(&list, from));
-        same(rt, &numbers.first_from(number), &first_of_list(&list, number));
+        same(
+            rt,
+            &numbers.first_from(number),
+            &first_of_list(&list, number),
+        );
     }
     let copy = numbers.copy()?;
-    same(rt, &listed(&copy, alloc, 6_000)?.as_slice(), &list.as_slice());
+    same(
+        rt,
+        &listed(&copy, alloc, 6_000)?.as_slice(),
+        &list.as_slice(),
+    );
     Ok(())
 }
 
@@ -210,4 +222,39 @@ fn a_history_of_few_numbers(rt: HostRuntime) -> Result<(), Fail> {
 #[test]
 fn a_history_of_many_numbers(rt: HostRuntime) -> Result<(), Fail> {
     history(&rt, rt.alloc(), 5_000, 2)
+}
+
+// What two threads find in one set.
+fn found_by_two<R: Threads + Sync>(rt: &R, numbers: &Numbers) -> (Option<u64>, Option<u64>) {
+    join(rt, || numbers.first_from(0), || numbers.first_from(5))
+}
+
+// A set goes to another thread and back.
+fn sent<R: Threads + Sync>(rt: &R, sets: Vec<Numbers>) -> Result<Vec<Numbers>, AllocError> {
+    let take_four = |set: Numbers| -> Numbers {
+        let mut set = set;
+        set.take(4);
+        set
+    };
+    thread::map_vec(rt, sets, &take_four)
+}
+
+#[test]
+fn threads_share_a_set(rt: HostRuntime) -> Result<(), Fail> {
+    let numbers = three_numbers(rt.alloc())?;
+    let (first, second) = found_by_two(&rt, &numbers);
+    same(&rt, &first, &Some(1));
+    same(&rt, &second, &Some(6));
+    Ok(())
+}
+
+#[test]
+fn a_set_goes_to_another_thread(rt: HostRuntime) -> Result<(), Fail> {
+    let mut sets = Vec::new(rt.alloc());
+    sets.push(three_numbers(rt.alloc())?)?;
+    let sets = sent(&rt, sets)?;
+    for set in &sets {
+        same(&rt, &set.first_from(2), &Some(6));
+    }
+    Ok(())
 }
