@@ -263,17 +263,33 @@ pub(crate) fn own_in_conflict(index: &Index, marked: &[MarkedEntry], session: u3
     requires numbered { IsNumbered 1 (entries_of marked.now) }
     ensures { result ≡ newest_blocked session marked.now marked.now }
 {
-    let latest = index.latest.session_places(session).standing;
-    let newest = index.last_in(
-        marked,
-        &Group::Of(session),
-        latest,
-        &|own: &MarkedEntry| { is_blocked(index, marked, own) },
-    );
-    match newest {
+    match newest_blocked(index, marked, session) {
         Some(found) => Some(found.entry.number),
         None => None,
     }
+}
+
+/// The same entry itself.
+fn newest_blocked<'a>(
+    index: &Index,
+    marked: &'a [MarkedEntry],
+    session: u32,
+) -> Option<&'a MarkedEntry>
+    requires index { IsIndexed marked.now index.now }
+    requires numbered { IsNumbered 1 (entries_of marked.now) }
+    ensures { option_copied result ≡ last_where (λ m. is_own session m && is_some (conflict_of_others marked.now m.entry)) marked.now }
+{
+    let latest = index.latest.session_places(session).standing;
+    index.last_in(
+        marked,
+        &Group::Of(session),
+        latest,
+        &|own: &MarkedEntry|
+            requires index { IsIndexed marked.now index.now }
+            requires numbered { IsNumbered 1 (entries_of marked.now) }
+            ensures { result ≡ is_some (conflict_of_others marked.entry.now own.now.entry) }
+        { is_blocked(index, marked, own) },
+    )
 }
 
 /// Puts off the marks of the entries that are taken back or settled, where those of the first ones up to `settled` are off

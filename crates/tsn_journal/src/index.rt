@@ -3,7 +3,7 @@
 //! Places are only ever added. A link leads back from each to the last place before it in its group, and another to the
 //! last one that is of another session, so that a session's own entries are passed in one step; which of the entries
 //! still belong to the group, the marks say.
-ghost use Rattle.std.specs.Prelude.{◌≡◌, ◌&&◌, ◌+◌, ◌-◌, ◌≤◌, ◌∷◌, [], Bool, IfOk, List, OnOk, Option, Some, filter, length, map, option_map, option_to_list, slice_get, true};
+ghost use Rattle.std.specs.Prelude.{◌≡◌, ◌&&◌, ◌+◌, ◌-◌, ◌≤◌, ◌∷◌, [], Bool, IfOk, List, OnOk, Option, Some, filter, length, map, option_map, option_to_list, reverse, slice_get, true};
 ghost use Rattle.std.specs.Option.{option_copied};
 ghost use Rattle.tsn_journal.specs.declared.entries.MarkedEntry.{MarkedEntry as AnyEntry};
 ghost use Rattle.tsn_journal.specs.declared.groups.Group.{Group as AnyGroup};
@@ -460,8 +460,8 @@ impl Index {
         found
     }
 
-    /// The numbers of the session's standing entries. Those up to the number `settled` are off. Refused only for want of
-    /// memory.
+    /// The numbers of the session's standing entries, rising. Those up to the number `settled` are off. Refused only for
+    /// want of memory.
     pub(crate) fn numbers_of(
         &self,
         alloc: Global,
@@ -472,6 +472,24 @@ impl Index {
         requires index { IsIndexed marked.now self.now }
         requires off { AreOff settled marked.now }
         ensures { IfOk result (λ numbers. numbers.items ≡ map (λ m. m.entry.number) (filter (belongs (Of session)) marked.now)) }
+    {
+        let mut found = self.falling_numbers_of(alloc, marked, session, settled)?;
+        found.reverse();
+        Ok(found)
+    }
+
+    /// The numbers of the session's standing entries, falling. Those up to the number `settled` are off. Refused only for
+    /// want of memory.
+    fn falling_numbers_of(
+        &self,
+        alloc: Global,
+        marked: &[MarkedEntry],
+        session: u32,
+        settled: u64,
+    ) -> Result<Vec<u64>, AllocError>
+        requires index { IsIndexed marked.now self.now }
+        requires off { AreOff settled marked.now }
+        ensures { IfOk result (λ numbers. reverse numbers.items ≡ map (λ m. m.entry.number) (filter (belongs (Of session)) marked.now)) }
     {
         let group = &Group::Of(session);
         let mut found = Vec::new(alloc);
@@ -487,7 +505,6 @@ impl Index {
             }
             place = at.before;
         }
-        found.reverse();
         Ok(found)
     }
 

@@ -6,8 +6,8 @@ use Rattle.tsn_journal.specs.declared.groups.Group.TheVariants.{Of}
 use Rattle.tsn_journal.proofs.Links.{next_group, place_there, the_place}
 use Rattle.tsn_journal.proofs.Off.{none_before}
 use Rattle.tsn_journal.proofs.Walking.{filter_none, none_after, step_back, none_numbered, one_numbered}
-use Rattle.tsn_journal.proofs.index.Index.numbers_of.Goals as goal
-use Rattle.tsn_journal.proofs.index.Index.numbers_of.Goals.{else-back-test, then-back-test+then-from-settled, then-is_in+in_ok-push, else-is_in}
+use Rattle.tsn_journal.proofs.index.Index.falling_numbers_of.Goals as goal
+use Rattle.tsn_journal.proofs.index.Index.falling_numbers_of.Goals.{else-back-test, then-back-test+then-from-settled, then-is_in+in_ok-push, else-is_in}
 
 pub back-init : goal.back-init
 back-init c =
@@ -53,6 +53,5 @@ returns c =
           let number : number_at ps c.back.place ≡ w.index-at.result.now.number = ap number_of (place_there c.args.self.now.places.items c.back.place w.index-at.result.now w.back-test.true c.back.invariant.within w.index-at.ensures) in
           omega (arith, number, w.from.ensures, w.if-from-settled.true)
     ] in
-    c.reverse.ensures.items
-    ∙ c.back.invariant.so_far
+    c.back.invariant.so_far
     ∙ ap (map (λ (m : MarkedEntry). m.entry.number)) (none_before c.args.session c.args.settled c.args.marked.now ps c.back.place c.requires.off passed)

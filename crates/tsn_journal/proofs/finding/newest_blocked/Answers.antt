@@ -1,0 +1,10 @@
+use Rattle.std.proofs.Common.{Bool, rules}
+use Rattle.std.specs.Prelude.{is_some}
+use Rattle.tsn_journal.specs.declared.entries.MarkedEntry.{MarkedEntry}
+use Rattle.tsn_journal.specs.Marks.{conflict_of_others}
+use Rattle.tsn_journal.proofs.finding.newest_blocked.Goals as goal
+
+pub returns : goal.returns
+returns c =
+    let p : MarkedEntry → Bool = λ m. is_some (conflict_of_others c.args.marked.now m.entry) in
+    c.last_in.ensures p (λ x b h. search rules)
