@@ -4,6 +4,7 @@
 //! it.
 ghost use Rattle.std.specs.Prelude.{◌≡◌, ◌+◌, ◌≤◌, IsOk, OnOk};
 ghost use Rattle.tsn_edit.specs.Changes.{Fits, after_change, room_of};
+ghost use Rattle.tsn_config.specs.Kinds.{AreOfKinds};
 
 use crate::Config;
 use std::alloc::AllocError;
@@ -31,9 +32,19 @@ impl Config {
         ensures map { self.new.map ≡ after_change self.old.map change }
         ensures spare { self.old.spare ≤ self.new.spare + room_of change }
     {
+        self.tell_kinds(&change);
         match change.into_parts() {
             Parts::One(part) => self.rows.set(part.key, part.after),
             Parts::Many(parts) => self.rows.set_all(parts),
         }
+    }
+
+    // The values after of a change that fits are of their keys' kinds. It does nothing as the program runs.
+    fn tell_kinds(&self, change: &Change)
+        requires { Fits self.now.limits self.now.map change.now }
+        ensures { AreOfKinds change.now }
+    {
+        // The proof needs what the type keeps, which reading a field gives.
+        let _kept = &self.limits;
     }
 }
