@@ -1,10 +1,12 @@
 -- Why edits and undos are refused, and the entry that an undo takes back.
-use Rattle.std.proofs.Common.{◌≡◌, ℕ, Bool, true, Bor, List, Option, Some, None, refl, sym, ◌∙◌, ap, arith, length, ◌+◌}
-use Rattle.std.specs.Prelude.{◌==◌, is_some, nat_le, option_map}
+use Rattle.std.proofs.Common.{◌≡◌, ℕ, Bool, true, Bor, List, Option, Some, None, refl, sym, ◌∙◌, ap, subst, arith, length, ◌+◌}
+use Rattle.std.specs.Prelude.{◌==◌, IfSome, is_some, nat_le, option_map}
 use Rattle.std.specs.Option.{option_and_then, option_copied, option_or}
 use Rattle.tsn_types.specs.declared.refusals.Refusal.{Refusal}
 use Rattle.tsn_types.specs.declared.refusals.Refusal.TheVariants.{Conflict, JournalFull, Memory}
 use Rattle.tsn_types.specs.Refusals.{IsLeastOrMemory}
+use Rattle.tsn_types.specs.declared.limits.Limits.{Limits}
+use Rattle.tsn_edit.specs.Configuration.{Configuration}
 use Rattle.tsn_types.proofs.Ordered.{AtMost, least-before}
 use Rattle.tsn_edit.specs.declared.Edit.{Edit}
 use Rattle.tsn_edit.specs.Batches.{refusal}
@@ -25,6 +27,10 @@ at_most_more (Some why) h = omega arith
 
 pub edit_refusal-first : (b : Ledger) (batch : List Edit) → edit_refusal b batch ≡ option_or (refusal b.limits (present b) batch) (no_room b.entries 1)
 edit_refusal-first b batch = least-before 17 (refusal b.limits (present b) batch) (nat_le (length b.entries + 1) most_entries) JournalFull (at_most_more _ (batch_refusal-most b.limits (present b) batch)) (omega arith)
+
+-- what the configuration says of a batch comes before a full journal
+pub batch_first : (l : Limits) (c : Configuration) (batch : List Edit) → (refusal l c batch ≡ refusal l c batch) × AtMost 9 (refusal l c batch)
+batch_first l c batch = (refl, batch_refusal-most l c batch)
 
 undo_cause-most : (es : List Entry) (o : Option Applied) → AtMost 17 (undo_cause es o)
 undo_cause-most es None = omega arith
@@ -72,6 +78,16 @@ newest_of es test own numbered is = by_option (last_where test (standing es))
     let both : Some own ≡ Some x.number = is ∙ ap number_of some in
     let same : own ≡ x.number = (cc) in
     record { newest = x; last = some; own_is = same; stands = ap (standing_entry es) same ∙ standing_found es test x numbered some })
+
+-- the last standing entry that passes a test is the standing entry of its number
+pub found_stands : (test : Applied → Bool) (es : List Entry) → IsNumbered 1 es
+    → (last_where test (standing es) ≡ last_where test (standing es)) × IfSome (last_where test (standing es)) (λ x. standing_entry es x.number ≡ Some x)
+found_stands test es numbered = (
+  refl,
+  by_option (last_where test (standing es))
+      (λ none. subst (λ o. IfSome o (λ x. standing_entry es x.number ≡ Some x)) (sym none) tt)
+      (λ x some. subst (λ o. IfSome o (λ x. standing_entry es x.number ≡ Some x)) (sym some) (standing_found es test x numbered some)),
+)
 
 -- what the finder answers, as the cause
 pub conflict_named : (o : Option Applied) (n own : ℕ) (r : Option ℕ) → own ≡ n → r ≡ number_of o → option_map (λ f. Conflict n f.number) o ≡ option_map (λ k. Conflict own k) r

@@ -178,6 +178,7 @@ impl Book {
     }
 
     /// Why the batch would be refused, but for want of memory. It takes no memory.
+    #[tactic(auto, using(crate::proofs::Free::batch_first))]
     pub fn refuse_edit(&self, batch: &Batch) -> Option<Refusal>
         ensures { result ≡ edit_refusal self.now.ledger batch.now }
     {
@@ -208,6 +209,7 @@ impl Book {
     }
 
     /// The number of the entry that an undo of the session takes back, or why it is refused, but for want of memory.
+    #[tactic(auto, using(crate::proofs::Free::found_stands))]
     fn newest_free(&self, session: u32) -> Result<u64, Refusal>
         ensures ok { IfOk result (λ of. IsFree self.now.ledger session of) }
         ensures err { IfErr result (λ why. undo_refusal self.now.ledger session ≡ Some why) }

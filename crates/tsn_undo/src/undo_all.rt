@@ -45,6 +45,7 @@ impl Book {
     }
 
     /// The newest own standing entry with a later one of another session in conflict, and the latest such.
+    #[tactic(auto, using(crate::proofs::Free::found_stands))]
     fn conflict_with_others(&self, session: u32) -> Option<Refusal>
         ensures { result ≡ conflict_with_others self.now.ledger.entries (find_own_in_conflict self.now.ledger.entries session) }
     {
