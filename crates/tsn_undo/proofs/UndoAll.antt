@@ -25,7 +25,7 @@ use Rattle.tsn_undo.specs.Commuting.{IsClosed}
 use Rattle.tsn_undo.specs.declared.book.TakingBack.{TakingBack}
 use Rattle.tsn_undo.specs.Ledger.{Ledger, enter, present}
 use Rattle.tsn_undo.specs.Soundness.{IsSound, base}
-use Rattle.tsn_undo.specs.UndoAll.{TakesAllBack, conflict_with_others, taking_back, undo_all_cause, undo_all_refusal, with_undone}
+use Rattle.tsn_undo.specs.UndoAll.{TakesAllBack, all_undone, conflict_with_others, taking_back, undo_all_cause, undo_all_refusal, with_undone}
 use Rattle.tsn_undo.proofs.Adding.{base_kept}
 use Rattle.tsn_undo.proofs.Commutation.{each_both}
 use Rattle.tsn_undo.proofs.Free.{or_none}
@@ -348,25 +348,6 @@ own_at es s numbers i numbered is within =
 
 -- ---- what takes the entries back, one by one
 
--- of the session's standing entries those of backs are still to be taken back, and the ledger is now the one after the others were
-pub record IsUndoing (b : Ledger) (s : ℕ) (backs : List TakingBack) (now : Ledger) : Type 0 where
-  pub xs : List Applied
-  pub ys : List Applied
-  pub backs_is : backs ≡ map taking_back xs
-  pub now_is : now ≡ record b { entries = with_undone b.entries s ys }
-  pub taken : IsTaken b.limits b.opening b.entries s xs ys
-  pub all : own_standing b.entries s ≡ xs ++ ys
-
-pub begin_undoing : (b : Ledger) (s : ℕ) (backs : List TakingBack) → SoundLedger b → undo_all_refusal b s ≡ None → backs ≡ map taking_back (own_standing b.entries s) → IsUndoing b s backs b
-begin_undoing b s backs sound free is = record {
-  xs = own_standing b.entries s;
-  ys = [];
-  backs_is = is;
-  now_is = refl;
-  taken = begin_taken b.limits b.opening b.entries s sound (free_of_all b s free).none;
-  all = sym (append_nil (own_standing b.entries s));
-}
-
 -- the last of mapped elements
 record IsLastMapped (xs : List Applied) (front : List TakingBack) (back : TakingBack) : Type 0 where
   init : List Applied
@@ -386,38 +367,33 @@ last_mapped (x ∷ xs) (f ∷ front) back h =
     let m = last_mapped xs front back rest in
     record { init = x ∷ m.init; end = m.end; is = ap (λ zs. x ∷ zs) m.is; front_is = (λ i. here i ∷ m.front_is i); back_is = m.back_is }
 
--- one more is taken back
-pub record IsNextUndoing (b : Ledger) (s : ℕ) (front : List TakingBack) (back : TakingBack) (now : Ledger) : Type 0 where
-  pub same : back.entered ≡ back.applied
-  pub fits : Fits now.limits (present now) back.applied
-  pub sound : IsSound now.limits now.opening (with_entry now.entries s (Undone back.of back.applied))
-  pub undoing : (new : Ledger) → new ≡ enter now s (Undone back.of back.applied) → IsUndoing b s front new
+with_undone-last : (es : List Entry) (s : ℕ) (xs : List Applied) (x : Applied) → with_undone (with_entry es s (undone x)) s xs ≡ with_undone es s (xs ++ x ∷ [])
+with_undone-last es s [] x = refl
+with_undone-last es s (y ∷ xs) x = ap (λ zs. with_entry zs s (undone y)) (with_undone-last es s xs x)
 
-pub next_undoing : (b : Ledger) (s : ℕ) (backs front : List TakingBack) (back : TakingBack) (now : Ledger) → IsUndoing b s backs now → backs ≡ front ++ back ∷ [] → IsNextUndoing b s front back now
-next_undoing b s backs front back now u is =
-    let m = last_mapped u.xs front back (sym is ∙ u.backs_is) in
+-- the last of the own standing entries fits its place, and the others can be taken back behind it
+pub record IsLastUndone (b : Ledger) (s : ℕ) (rest : List TakingBack) (back : TakingBack) : Type 0 where
+  pub same : back.entered ≡ back.applied
+  pub fits : Fits b.limits (present b) back.applied
+  pub sound : IsSound b.limits b.opening (with_entry b.entries s (Undone back.of back.applied))
+  pub left : rest ≡ map taking_back (own_standing (with_entry b.entries s (Undone back.of back.applied)) s)
+  pub closed : IsClosed (own s) (standing (with_entry b.entries s (Undone back.of back.applied)))
+  pub all : all_undone (enter b s (Undone back.of back.applied)) s ≡ all_undone b s
+
+pub last_undone : (b : Ledger) (s : ℕ) (rest : List TakingBack) (back : TakingBack) → SoundLedger b → IsClosed (own s) (standing b.entries) → rest ++ back ∷ [] ≡ map taking_back (own_standing b.entries s)
+    → IsLastUndone b s rest back
+last_undone b s rest back sound closed is =
+    let es = b.entries in
+    let m = last_mapped (own_standing es s) rest back is in
     let x = m.end in
-    let t = next_taken b.limits b.opening b.entries s m.init x u.ys (subst (λ zs. IsTaken b.limits b.opening b.entries s zs u.ys) m.is u.taken) in
-    let what : ◌≡◌ {A = What} (Undone back.of back.applied) (undone x) = (λ i. Undone (m.back_is i).of (m.back_is i).applied) in
+    let t = next_taken b.limits b.opening es s m.init x [] (record { sound = sound; closed = closed; mine = m.is; others = refl }) in
+    let what : ◌≡◌ {A = What} (undone x) (Undone back.of back.applied) = (λ i. Undone ((sym m.back_is) i).of ((sym m.back_is) i).applied) in
     record {
       same = (λ i. (m.back_is i).entered) ∙ sym (λ i. (m.back_is i).applied);
-      fits = subst (λ (p : Ledger × Change). Fits p.0.limits (present p.0) p.1) (λ i. (sym u.now_is i, (sym m.back_is i).applied)) t.step.fits;
-      sound = subst (λ (p : Ledger × What). IsSound p.0.limits p.0.opening (with_entry p.0.entries s p.1)) (λ i. (sym u.now_is i, sym what i)) t.step.sound;
-      undoing = λ new after. record {
-        xs = m.init;
-        ys = x ∷ u.ys;
-        backs_is = m.front_is;
-        now_is = after ∙ (λ i. enter (u.now_is i) s (what i));
-        taken = t.taken;
-        all = u.all ∙ ap (λ zs. zs ++ u.ys) m.is ∙ append_assoc m.init (x ∷ []) u.ys;
-      };
+      fits = subst (λ (e : Change). Fits b.limits (present b) e) (λ i. (sym m.back_is i).applied) t.step.fits;
+      sound = subst (λ (w : What). IsSound b.limits b.opening (with_entry es s w)) what t.step.sound;
+      left = subst (λ (w : What). rest ≡ map taking_back (own_standing (with_entry es s w) s)) what (m.front_is ∙ ap (map taking_back) (sym t.taken.mine));
+      closed = subst (λ (w : What). IsClosed (own s) (standing (with_entry es s w))) what t.taken.closed;
+      all = subst (λ (w : What). all_undone (enter b s w) s ≡ all_undone b s) what
+          (ap (λ zs. record b { entries = zs }) (ap (with_undone (with_entry es s (undone x)) s) t.taken.mine ∙ with_undone-last es s m.init x ∙ ap (with_undone es s) (sym m.is)));
     }
-
-pub all_undone : (b : Ledger) (s : ℕ) (now : Ledger) → IsUndoing b s [] now → now ≡ record b { entries = with_undone b.entries s (own_standing b.entries s) }
-all_undone b s now u =
-    let none : u.xs ≡ [] = no_more u.xs u.backs_is in
-    u.now_is ∙ ap (λ zs. record b { entries = with_undone b.entries s zs }) (sym (u.all ∙ ap (λ zs. zs ++ u.ys) none))
-  where
-    no_more : (xs : List Applied) → [] ≡ map taking_back xs → xs ≡ []
-    no_more [] h = refl
-    no_more (x ∷ xs) h = (cc)

@@ -37,6 +37,10 @@ abbrev pub with_undone : List Entry → ℕ → List Applied → List Entry
 with_undone es s [] = es
 with_undone es s (x ∷ xs) = with_entry (with_undone es s xs) s (undone x)
 
+-- the ledger once all standing entries of the session are taken back
+abbrev pub all_undone : Ledger → ℕ → Ledger
+all_undone b s = record b { entries = with_undone b.entries s (own_standing b.entries s) }
+
 -- what takes a standing entry back
 abbrev pub taking_back : Applied → TakingBack
 taking_back x = record { of = x.number; entered = inverse x.change; applied = inverse x.change }

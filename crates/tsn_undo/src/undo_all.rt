@@ -1,12 +1,13 @@
 //! Undo of all that a session has standing, in one call: every entry or none.
-ghost use Rattle.std.specs.Prelude.{◌≡◌, ◌*◌, ◌≤◌, IfErr, IfOk, OnErr, None, length, map};
+ghost use Rattle.std.specs.Prelude.{◌≡◌, ◌==◌, ◌*◌, ◌≤◌, ◌∷◌, ◌++◌, [], IfErr, IfOk, OnErr, None, length, map};
+ghost use Rattle.tsn_edit.specs.Changes.{room_of};
 ghost use Rattle.tsn_types.specs.declared.refusals.Refusal.TheVariants.{Memory};
 ghost use Rattle.tsn_types.specs.Refusals.{IsLeastOrMemory};
-ghost use Rattle.tsn_journal.specs.Entries.{most_entries};
+ghost use Rattle.tsn_journal.specs.Entries.{most_entries, standing};
 ghost use Rattle.tsn_journal.specs.Finding.{find_own_in_conflict, own_standing};
+ghost use Rattle.tsn_undo.specs.Commuting.{IsClosed};
 ghost use Rattle.tsn_undo.specs.Ledger.{Holds, Takes};
-ghost use Rattle.tsn_undo.specs.Soundness.{IsSound};
-ghost use Rattle.tsn_undo.specs.UndoAll.{TakesAllBack, conflict_with_others, room_left, room_of_all, taking_back, undo_all_refusal, with_undone};
+ghost use Rattle.tsn_undo.specs.UndoAll.{TakesAllBack, all_undone, conflict_with_others, room_left, taking_back, undo_all_refusal};
 
 use crate::book::{Book, TakingBack};
 use std::alloc::AllocError;
@@ -86,16 +87,33 @@ impl Book {
     }
 
     /// Applies and enters what takes back the session's standing entries, the last one first, in room for all.
+    #[tactic(auto, using(crate::proofs::Room::room_split, std::proofs::lemmas::Grind::common_steps))]
     fn enter_all_undone(&mut self, session: u32, mut backs: Vec<TakingBack>)
         requires backs { backs.items ≡ map taking_back (own_standing self.old.ledger.entries session) }
-        requires sound { IsSound self.old.ledger.limits self.old.ledger.opening self.old.ledger.entries }
-        requires free { undo_all_refusal self.old.ledger session ≡ None }
-        requires room { Holds self.old.room (length (own_standing self.old.ledger.entries session)) (room_of_all (own_standing self.old.ledger.entries session)) }
-        ensures { self.new.ledger ≡ record self.old.ledger { entries = with_undone self.old.ledger.entries session (own_standing self.old.ledger.entries session) } }
+        requires closed { IsClosed (λ x. x.session == session) (standing self.old.ledger.entries) }
+        requires room { Holds self.old.room (length backs.items) (room_left backs.items) }
+        ensures { self.new.ledger ≡ all_undone self.old.ledger session }
     {
-        while let Some(back) = backs.pop() {
-            self.enter_undone(session, back);
+        'each: while let Some(back) = backs.pop() {
+            self.enter_last_undone(session, back, &backs);
         }
+    }
+
+    /// Applies and enters what takes back the last of the session's standing entries, in room for it. What takes back the
+    /// others is `rest`, at which only the proof looks.
+    fn enter_last_undone(&mut self, session: u32, back: TakingBack, rest: &[TakingBack])
+        requires last { rest.now ++ back ∷ [] ≡ map taking_back (own_standing self.old.ledger.entries session) }
+        requires closed { IsClosed (λ x. x.session == session) (standing self.old.ledger.entries) }
+        requires room { Holds self.old.room 1 (room_of back.applied) }
+        ensures left { rest.now ≡ map taking_back (own_standing self.new.ledger.entries session) }
+        ensures closed { IsClosed (λ x. x.session == session) (standing self.new.ledger.entries) }
+        ensures all { all_undone self.new.ledger session ≡ all_undone self.old.ledger session }
+        ensures room { Takes self.old.room 1 (room_of back.applied) self.new.room }
+    {
+        // That the entries are sound is the type's rule, which the proof has where a field is looked at.
+        let _ = &self.journal;
+        let _ = rest;
+        self.enter_undone(session, back);
     }
 }
 

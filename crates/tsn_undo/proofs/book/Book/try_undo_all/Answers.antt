@@ -1,11 +1,14 @@
 use Rattle.std.proofs.Common.{◌≡◌, ◌∙◌, ap, arith, length, sym, subst}
 use Rattle.std.proofs.lemmas.List.{length-map}
+use Rattle.std.specs.Prelude.{◌==◌}
+use Rattle.tsn_journal.specs.Entries.{Applied, standing}
 use Rattle.tsn_journal.specs.Finding.{own_standing}
+use Rattle.tsn_undo.specs.Commuting.{IsClosed}
 use Rattle.tsn_undo.specs.Ledger.{Ledger, LedgerWithRoom}
-use Rattle.tsn_undo.specs.UndoAll.{room_left, room_of_all, taking_back, with_undone}
+use Rattle.tsn_undo.specs.UndoAll.{taking_back, with_undone}
 use Rattle.tsn_undo.proofs.Making.{SoundLedger}
-use Rattle.tsn_undo.proofs.Room.{few_own, room_left-all}
-use Rattle.tsn_undo.proofs.UndoAll.{makes_all}
+use Rattle.tsn_undo.proofs.Room.{few_own}
+use Rattle.tsn_undo.proofs.UndoAll.{free_of_all, makes_all, own_closed}
 use Rattle.tsn_undo.proofs.book.Book.try_undo_all.Goals as goal
 
 pub parts_of-requires : goal.parts_of-requires
@@ -17,16 +20,12 @@ parts_of-requires c =
 pub reserve_parts-requires : goal.reserve_parts-requires
 reserve_parts-requires c = omega (arith, c.parts_of.ensures.few, c.deref.ensures.len, c.len-count.ensures)
 
-pub enter_all_undone-requires-clause-sound : goal.enter_all_undone-requires-clause-sound
-enter_all_undone-requires-clause-sound c = subst SoundLedger (sym c.reserve_parts.ensures.ledger) (subst (λ (a : LedgerWithRoom). SoundLedger a.ledger) c.self.view_is c.self.invariant.sound)
-
-pub enter_all_undone-requires-clause-room : goal.enter_all_undone-requires-clause-room
-enter_all_undone-requires-clause-room c =
+pub enter_all_undone-requires-clause-closed : goal.enter_all_undone-requires-clause-closed
+enter_all_undone-requires-clause-closed c =
+    let b = c.args.self.now.ledger in
     let s = c.args.session in
-    let own = own_standing c.args.self.now.ledger.entries s in
-    let backs = c.deref.ensures.value ∙ c.in_ok-backs.ensures in
-    let now = ap (λ (l : Ledger). own_standing l.entries s) c.reserve_parts.ensures.ledger in
-    (omega (arith, ap length backs, length-map own taking_back, ap length now, c.deref.ensures.len, c.len-count.ensures, c.in_default.ensures.ok.0), omega (arith, c.parts_of.ensures.parts, ap room_left backs, room_left-all own, ap room_of_all now, c.in_default.ensures.ok.1))
+    let sound : SoundLedger b = subst (λ (a : LedgerWithRoom). SoundLedger a.ledger) c.self.view_is c.self.invariant.sound in
+    subst (λ (l : Ledger). IsClosed (λ (x : Applied). x.session == s) (standing l.entries)) (sym c.reserve_parts.ensures.ledger) (own_closed b.entries s sound.numbered (free_of_all b s c.requires).none)
 
 pub returns-clause-ok : goal.returns-clause-ok
 returns-clause-ok c =
