@@ -14,7 +14,7 @@ use Rattle.tsn_journal.specs.declared.entries.Entry.{Entry}
 use Rattle.tsn_journal.specs.declared.entries.MarkedEntry.{MarkedEntry}
 use Rattle.tsn_journal.specs.Entries.{Applied, adds, applied, applies, is_made, is_closed, standing, undoes}
 use Rattle.tsn_journal.specs.Finding.{find_conflict_of_others, find_own_in_conflict, last_where, later_than, may_redo, own_standing, parts_of_all, redo_of, standing_entry, undone_entry}
-use Rattle.tsn_journal.specs.Marks.{AreMarked, IsJournal, added_in, conflict_of_others, ends_redo, entries_of, is_in_conflict, is_others, is_own, stands}
+use Rattle.tsn_journal.specs.Marks.{AreMarked, IsJournal, added_in, conflict_of_others, ends_redo, entries_of, is_in_conflict, is_others, is_own, newest_blocked, stands}
 use Rattle.tsn_journal.proofs.Collecting.{IsOwn, applied-own, collect-marked, filter_marked, filter_parts, find_marked, last_marked, later_marked, passes, standing-marked, stands-own}
 
 abbrev num : Option Applied → Option ℕ
@@ -134,6 +134,10 @@ module _ (ms : List MarkedEntry) (is : IsJournal ms) where
 
   pub own_parts : (s : ℕ) → added_in (filter (is_own s) ms) ≡ parts_of_all (own_standing (entries_of ms) s)
   own_parts s = sym (ap (λ xs. parts_of_all (filter (λ x. x.session == s) xs)) (standing-marked ms is.marked) ∙ filter_parts (λ x. x.session == s) (is_own s) ms (own_agrees s))
+
+-- a session's newest standing entry that is blocked, by number
+pub blocked_named : (ms : List MarkedEntry) (s : ℕ) → IsJournal ms → newest_blocked s ms ms ≡ num (find_own_in_conflict (entries_of ms) s)
+blocked_named ms s is = own_in_conflict_is ms is s
 
 -- ---- what may be redone
 

@@ -168,14 +168,19 @@ impl Journal {
     pub fn last_of(&self, session: u32) -> Option<u64>
         ensures { result ≡ option_map (λ x. x.number) (last_of self.now.entries session) }
     {
-        let latest = self.index.latest.session_places(session).standing;
-        match self
-            .index
-            .latest_in(&self.marked, &Group::Of(session), latest)
-        {
+        match self.newest_of(session) {
             Some(marked) => Some(marked.entry.number),
             None => None,
         }
+    }
+
+    /// The session's newest standing entry itself.
+    fn newest_of(&self, session: u32) -> Option<&MarkedEntry>
+        ensures { option_map (λ m. m.entry.number) (option_copied result) ≡ option_map (λ x. x.number) (last_of self.now.entries session) }
+    {
+        let latest = self.index.latest.session_places(session).standing;
+        self.index
+            .latest_in(&self.marked, &Group::Of(session), latest)
     }
 
     /// The number of the session's newest Undone entry that may be redone, if there is one: it comes after the
@@ -250,6 +255,7 @@ impl Journal {
 
     /// The number of the session's newest standing entry that has a later standing entry of another session in conflict
     /// with it, if there is one. It takes no memory.
+    #[tactic(auto, using(crate::proofs::Finders::blocked_named))]
     pub fn find_own_in_conflict(&self, session: u32) -> Option<u64>
         ensures { result ≡ option_map (λ x. x.number) (find_own_in_conflict self.now.entries session) }
     {

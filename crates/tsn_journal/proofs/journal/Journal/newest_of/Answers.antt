@@ -1,13 +1,12 @@
 use Rattle.std.proofs.Common.{◌≡◌, ℕ, List, Option, sym, ◌∙◌, ap, subst}
 use Rattle.std.specs.Prelude.{◌==◌, option_map}
-use Rattle.std.specs.Option.{option_copied}
 use Rattle.tsn_journal.specs.declared.entries.MarkedEntry.{MarkedEntry}
 use Rattle.tsn_journal.specs.Entries.{Applied}
 use Rattle.tsn_journal.specs.Finding.{last_of, last_where}
 use Rattle.tsn_journal.specs.Marks.{IsJournal, Log, entries_of, is_own}
 use Rattle.tsn_journal.proofs.Finders.{last_standing, own_agrees}
 use Rattle.tsn_journal.specs.Index.{IsIndexed}
-use Rattle.tsn_journal.proofs.journal.Journal.last_of.Goals as goal
+use Rattle.tsn_journal.proofs.journal.Journal.newest_of.Goals as goal
 
 looked_for : (s : ℕ) (looked : Option MarkedEntry) (now ms : List MarkedEntry) → IsJournal ms → looked ≡ last_where (is_own s) now → now ≡ ms
     → option_map (λ (m : MarkedEntry). m.entry.number) looked ≡ option_map (λ (x : Applied). x.number) (last_of (entries_of ms) s)
@@ -15,14 +14,9 @@ looked_for s looked now ms journal is same =
     ap (option_map (λ (m : MarkedEntry). m.entry.number)) (is ∙ ap (last_where (is_own s)) same)
     ∙ last_standing ms journal (λ x. x.session == s) (is_own s) (own_agrees s)
 
-pub returns-in-Some : goal.returns-in-Some
-returns-in-Some c =
-    looked_for c.args.session _ _ _ c.self.invariant.journal (sym (ap option_copied c.in-Some.is) ∙ c.latest_in.ensures) c.deref.ensures.value
-    ∙ ap (λ (l : Log). option_map (λ (x : Applied). x.number) (last_of l.entries c.args.session)) c.self.view_is
-
-pub returns-in-None : goal.returns-in-None
-returns-in-None c =
-    looked_for c.args.session _ _ _ c.self.invariant.journal (sym (ap option_copied c.in-None.is) ∙ c.latest_in.ensures) c.deref.ensures.value
+pub returns : goal.returns
+returns c =
+    looked_for c.args.session _ _ _ c.self.invariant.journal c.latest_in.ensures c.deref.ensures.value
     ∙ ap (λ (l : Log). option_map (λ (x : Applied). x.number) (last_of l.entries c.args.session)) c.self.view_is
 
 pub latest_in-requires-clause-index : goal.latest_in-requires-clause-index
