@@ -65,20 +65,6 @@ undo_free b s x last free =
 abbrev pub number_of : Option Applied → Option ℕ
 number_of o = option_map (λ (x : Applied). x.number) o
 
-pub record IsNewest (es : List Entry) (test : Applied → Bool) (own : ℕ) : Type 0 where
-  pub newest : Applied
-  pub last : last_where test (standing es) ≡ Some newest
-  pub own_is : own ≡ newest.number
-  pub stands : standing_entry es own ≡ Some newest
-
-pub newest_of : (es : List Entry) (test : Applied → Bool) (own : ℕ) → IsNumbered 1 es → Some own ≡ number_of (last_where test (standing es)) → IsNewest es test own
-newest_of es test own numbered is = by_option (last_where test (standing es))
-    (λ none. let never : Some own ≡ None = is ∙ ap number_of none in (cc))
-    (λ x some.
-    let both : Some own ≡ Some x.number = is ∙ ap number_of some in
-    let same : own ≡ x.number = (cc) in
-    record { newest = x; last = some; own_is = same; stands = ap (standing_entry es) same ∙ standing_found es test x numbered some })
-
 -- the last standing entry that passes a test is the standing entry of its number
 pub found_stands : (test : Applied → Bool) (es : List Entry) → IsNumbered 1 es
     → (last_where test (standing es) ≡ last_where test (standing es)) × IfSome (last_where test (standing es)) (λ x. standing_entry es x.number ≡ Some x)
@@ -88,15 +74,6 @@ found_stands test es numbered = (
       (λ none. subst (λ o. IfSome o (λ x. standing_entry es x.number ≡ Some x)) (sym none) tt)
       (λ x some. subst (λ o. IfSome o (λ x. standing_entry es x.number ≡ Some x)) (sym some) (standing_found es test x numbered some)),
 )
-
--- what the finder answers, as the cause
-pub conflict_named : (o : Option Applied) (n own : ℕ) (r : Option ℕ) → own ≡ n → r ≡ number_of o → option_map (λ f. Conflict n f.number) o ≡ option_map (λ k. Conflict own k) r
-conflict_named o n own r same is =
-    both o ∙ ap (option_map (λ k. Conflict n k)) (sym is) ∙ ap (λ n. option_map (λ k. Conflict n k) r) (sym same)
-  where
-    both : (o : Option Applied) → option_map (λ f. Conflict n f.number) o ≡ option_map (λ k. Conflict n k) (number_of o)
-    both None = refl
-    both (Some f) = refl
 
 -- ---- looking up what is taken back
 

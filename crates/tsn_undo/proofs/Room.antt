@@ -1,23 +1,18 @@
 -- The room that taking back several entries takes.
 use Rattle.std.proofs.Common.{◌≡◌, ℕ, ◌+◌, ◌++◌, ◌<◌, ◌≤◌, Bool, true, false, cond, List, [], ◌∷◌, ◌∙◌, Option, Some, None, ap, refl, sym, add_assoc, arith, get_or, length, take}
-use Rattle.std.specs.Prelude.{map, nat_le, nat_lt}
+use Rattle.std.specs.Prelude.{nat_le, nat_lt}
 use Rattle.std.proofs.lemmas.Bool.Decides.{nat_tests}
 use Rattle.std.proofs.lemmas.List.{take_more}
 use Rattle.tsn_edit.specs.Changes.{room_of}
-use Rattle.tsn_edit.specs.Parts.{inverse}
 use Rattle.tsn_types.specs.declared.refusals.Refusal.{Refusal}
 use Rattle.tsn_types.specs.declared.refusals.Refusal.TheVariants.{JournalFull}
 use Rattle.tsn_types.specs.Limits.{unless}
 use Rattle.tsn_types.specs.Refusals.{least, rank_of}
-use Rattle.tsn_journal.specs.Entries.{Applied, most_entries, no_room}
+use Rattle.tsn_journal.specs.Entries.{most_entries, no_room}
 use Rattle.tsn_journal.specs.Finding.{own_standing}
 use Rattle.tsn_undo.specs.Ledger.{Ledger}
 use Rattle.tsn_undo.specs.declared.book.TakingBack.{TakingBack}
-use Rattle.tsn_undo.specs.UndoAll.{room_left, room_of_all, taking_back, undo_all_cause, undo_all_refusal}
-
-pub room_left-all : (xs : List Applied) → room_left (map taking_back xs) ≡ room_of_all xs
-room_left-all [] = refl
-room_left-all (x ∷ xs) = ap (λ n. room_of (inverse x.change) + n) (room_left-all xs)
+use Rattle.tsn_undo.specs.UndoAll.{room_left, undo_all_cause, undo_all_refusal}
 
 pub room_left-last : (xs : List TakingBack) (x : TakingBack) → room_left (xs ++ x ∷ []) ≡ room_left xs + room_of x.applied
 room_left-last [] x = omega arith

@@ -1,9 +1,8 @@
 -- What a settle leaves of a sound ledger, and why it is refused.
-use Rattle.std.proofs.Common.{◌≡◌, ℕ, ◌+◌, ◌<◌, ◌≤◌, Bool, true, cond, not, List, [], ◌∷◌, refl, sym, ◌∙◌, ap, Option, Some, None, arith, length}
+use Rattle.std.proofs.Common.{◌≡◌, ℕ, ◌+◌, ◌<◌, ◌≤◌, true, cond, not, List, [], ◌∷◌, refl, sym, ◌∙◌, ap, None, arith, length}
 use Rattle.std.specs.Prelude.{filter, max, nat_le, nat_lt}
 use Rattle.std.proofs.lemmas.Bool.Decides.{nat_tests}
 use Rattle.tsn_types.specs.declared.refusals.Field.TheVariants.{Upto}
-use Rattle.tsn_types.specs.declared.refusals.Refusal.{Refusal}
 use Rattle.tsn_types.specs.declared.refusals.Refusal.TheVariants.{Range, Settled as SettledAlready}
 use Rattle.tsn_types.specs.Limits.{first_cause, unless}
 use Rattle.tsn_types.proofs.Causes.{each_none, unless-None}

@@ -50,11 +50,6 @@ abbrev pub room_left : List TakingBack → ℕ
 room_left [] = 0
 room_left (x ∷ xs) = room_of x.applied + room_left xs
 
--- the parts for which taking back all of xs takes room
-abbrev pub room_of_all : List Applied → ℕ
-room_of_all [] = 0
-room_of_all (x ∷ xs) = room_of (inverse x.change) + room_of_all xs
-
 -- an undo of all makes an Undone entry for each standing entry of the session, newest first: what stands is then what
 -- stood of the other sessions, whose run alone is good and gives the map
 pub record TakesAllBack (b : Ledger) (s count last : ℕ) (new : Ledger) : Type 0 where
