@@ -17,9 +17,6 @@ parts_of-requires c =
     let own = own_standing b.entries c.args.session in
     omega (arith, ap length c.deref.ensures.value, ap length c.in_ok-backs.ensures, length-map own taking_back, few_own b c.args.session c.requires)
 
-pub reserve_parts-requires : goal.reserve_parts-requires
-reserve_parts-requires c = omega (arith, c.parts_of.ensures.few, c.deref.ensures.len, c.len-count.ensures)
-
 pub enter_all_undone-requires-clause-closed : goal.enter_all_undone-requires-clause-closed
 enter_all_undone-requires-clause-closed c =
     let b = c.args.self.now.ledger in
