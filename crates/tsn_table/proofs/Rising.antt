@@ -49,7 +49,7 @@ rising_put_by x y ys true b p q s u =
 rising_put_by x y ys false true p q s u = (all_put (λ z. y < z) x ys (ltb-true y x q) s.0, u)
 rising_put_by x y ys false false p q s u = s
 
-pub rising_put : (x : ℕ) (ys : List ℕ) → IsRising ys → IsRising (put_number x ys)
+rising_put : (x : ℕ) (ys : List ℕ) → IsRising ys → IsRising (put_number x ys)
 rising_put x [] s = (tt, tt)
 rising_put x (y ∷ ys) s = rising_put_by x y ys (ltb x y) (ltb y x) refl refl s (rising_put x ys s.1)
 
@@ -76,6 +76,8 @@ put_middle x k [] r e s = rw (le-ltb x k (omega arith), le-ltb k x (omega arith)
 put_middle x k (y ∷ ys) r e s =
     let q : y < k = all_middle (λ z. y < z) ys k r s.0 in
     put_later x y (ys ++ k ∷ r) (omega arith) ∙ ap (λ z. y ∷ z) (put_middle x k ys r e s.1)
+
+pub ruleset puts = (put_left, put_middle, put_right)
 
 -- a number that is taken out
 all_without : (P : ℕ → Type 0) (x : ℕ) (ys : List ℕ) → AllNumbers P ys → AllNumbers P (without_number x ys)
@@ -119,6 +121,8 @@ without_middle x k (y ∷ ys) r e s =
     let q : y < k = all_middle (λ z. y < z) ys k r s.0 in
     without_later x y (ys ++ k ∷ r) (omega arith) ∙ ap (λ z. y ∷ z) (without_middle x k ys r e s.1)
 
+pub ruleset withouts = (without_left, without_middle, without_right)
+
 -- the first number from one on
 first_by : (b : Bool) (y k : ℕ) (o p : Option ℕ) → p ≡ option_or o (Some k) → cond b p (Some y) ≡ option_or (cond b o (Some y)) (Some k)
 first_by true y k o p e = e
@@ -141,6 +145,8 @@ first_right x k [] r p s = rw (lt-ltb k x p)
 first_right x k (y ∷ ys) r p s =
     let q : y < k = all_middle (λ z. y < z) ys k r s.0 in
     rw (lt-ltb y x (omega arith)) (first_right x k ys r p s.1)
+
+pub ruleset firsts = (first_left, first_right, or_taken)
 
 -- what the map answers
 abbrev there : ℕ → List ℕ → Option (Unit {0})
@@ -184,7 +190,7 @@ there_without x q (y ∷ ys) =
 get_map : (xs : List ℕ) (q : ℕ) → get (map_of xs) q ≡ there q xs
 get_map xs q = get-from_entries nat_cmp_total (units xs) q
 
-pub map_put : (x : ℕ) (xs : List ℕ) → map_of (put_number x xs) ≡ insert (map_of xs) x tt
+map_put : (x : ℕ) (xs : List ℕ) → map_of (put_number x xs) ≡ insert (map_of xs) x tt
 map_put x xs = same_map nat_cmp_total nat_cmp-IsAntisymmetric _ _ (λ q.
     get_map (put_number x xs) q ∙ there_put x q xs
     ∙ ap (cond (eq_by_cmp nat_cmp q x) (Some tt)) (sym (get_map xs q)) ∙ sym (get-insert nat_cmp_total (map_of xs) x tt q))
@@ -206,7 +212,7 @@ tied : (q x : ℕ) → eq_by_cmp nat_cmp q x ≡ true → q ≡ x
 tied q x e = grind (arith, nat_tests)
 
 -- to put in what is there changes nothing
-pub map_there : (m : FinMap nat_cmp (Unit {0})) (x : ℕ) → IsSome (get m x) → m ≡ insert m x tt
+map_there : (m : FinMap nat_cmp (Unit {0})) (x : ℕ) → IsSome (get m x) → m ≡ insert m x tt
 map_there m x h = same_map nat_cmp_total nat_cmp-IsAntisymmetric _ _ (λ q.
     same_or (eq_by_cmp nat_cmp q x) (get m q) (λ e. ap (get m) (tied q x e) ∙ unit_some (get m x) h)
     ∙ sym (get-insert nat_cmp_total m x tt q))

@@ -114,6 +114,7 @@ fn levelled(node: Box<Node>, left: Tree, right: Tree) -> Tree
 }
 
 /// The least number that is `from` or more, and else `above`.
+#[tactic(auto, using(crate::proofs::Rising::firsts))]
 pub(crate) fn first_in(tree: &Tree, from: u64, above: Option<u64>) -> Option<u64>
     requires rising { IsRising (numbers_of tree.now) }
     ensures { result ≡ option_or (first_from from (numbers_of tree.now)) above }
@@ -131,6 +132,7 @@ pub(crate) fn first_in(tree: &Tree, from: u64, above: Option<u64>) -> Option<u64
 }
 
 /// Puts a number into a tree. A new number needs a node of the pool; where the pool has none, the tree stays as it is.
+#[tactic(auto, using(crate::proofs::Rising::puts))]
 pub(crate) fn put_in(tree: Tree, id: u64, pool: &mut Vec<Box<Node>>) -> Tree
     requires rising { IsRising (numbers_of tree) }
     ensures some { 0 < vec_len pool.old → numbers_of result ≡ put_number id (numbers_of tree) }
@@ -170,6 +172,7 @@ fn sole(id: u64, pool: &mut Vec<Box<Node>>) -> Tree
 }
 
 /// Takes a number out of a tree, where it is there. Its node goes to the pool, if it has room for one.
+#[tactic(auto, using(crate::proofs::Rising::withouts))]
 pub(crate) fn take_from(tree: Tree, id: u64, pool: &mut Vec<Box<Node>>) -> Tree
     requires rising { IsRising (numbers_of tree) }
     ensures numbers { numbers_of result ≡ without_number id (numbers_of tree) }
