@@ -1,8 +1,8 @@
-//! Tables of numbered rows.
+//! Tables of numbered rows, and sets of numbers in their order.
 //!
 //! A `Table` is a hash map that its users see as a finite map from numbers to rows, and beside it the number of rows that it
-//! surely has room for. A look-up, a new row and a removal cost the same wherever they fall: no row behind them moves. It
-//! relies on the standard library alone.
+//! surely has room for. A look-up, a new row and a removal cost the same wherever they fall: no row behind them moves. A
+//! `Numbers` is a search tree that its users see as a set. Both rely on the standard library alone.
 #![tactic(auto)]
 
 ghost use Rattle.std.specs.Prelude.{◌≡◌, ℕ, Bool, ◌+◌, ◌<◌, ◌≤◌, ◌⊎◌, IsOk, IsSome, IfOk, OnOk, OnErr, Some, MatchOption, cond, nat_eq};
@@ -13,14 +13,15 @@ ghost use Rattle.std.specs.HashMap as hash;
 ghost use Rattle.tsn_table.specs.Firsts.{AnswersAs, first_id, least_id, lesser};
 ghost use Rattle.tsn_table.specs.Copies.{Copies};
 
-mod numbers;
-mod tree;
-
-pub use numbers::Numbers;
 use std::alloc::{AllocError, Global};
 use std::collections::HashMap;
 use std::marker::Model;
 use std::mem;
+
+mod numbers;
+mod tree;
+
+pub use numbers::Numbers;
 
 /// A finite map from numbers to rows. `map` is the map, and `spare` a number of rows of new numbers that can come in with no
 /// more memory.
