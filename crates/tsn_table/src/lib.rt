@@ -5,7 +5,7 @@
 //! `Numbers` is a search tree that its users see as a set. Both rely on the standard library alone.
 #![tactic(auto)]
 
-ghost use Rattle.std.specs.Prelude.{◌≡◌, ℕ, Bool, ◌+◌, ◌<◌, ◌≤◌, ◌⊎◌, IsOk, IsSome, IfOk, OnOk, OnErr, Some, MatchOption, cond, nat_eq};
+ghost use Rattle.std.specs.Prelude.{◌≡◌, ℕ, Bool, ◌+◌, ◌<◌, ◌≤◌, ◌⊎◌, IsOk, IsSome, IfOk, OnOk, OnErr, Some, MatchOption, cond, length, nat_eq};
 ghost use Rattle.std.specs.Ordering.{nat_cmp};
 ghost use Rattle.std.specs.Option.{option_copied};
 ghost use Rattle.std.specs.FinMap as map;
@@ -76,10 +76,14 @@ impl<R: Drop> Table<R> {
         least_of(&self.rows, &test)
     }
 
-    /// The numbers of all rows, ascending. Refused only for want of memory.
+    /// The numbers of all rows, ascending. Refused only for want of memory, and never where there is no row.
     pub fn ids(&self, alloc: Global) -> Result<Vec<u64>, AllocError>
-        ensures { IfOk result (λ ids. ids.items ≡ map.keys self.now.map) }
+        ensures ids { IfOk result (λ ids. ids.items ≡ map.keys self.now.map) }
+        ensures memory { OnErr result (0 < length (map.keys self.now.map)) }
     {
+        if self.rows.is_empty() {
+            return Ok(Vec::new(alloc));
+        }
         let mut ids = ids_of(&self.rows, alloc)?;
         ids.sort_unstable();
         Ok(ids)
