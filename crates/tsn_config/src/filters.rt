@@ -225,13 +225,6 @@ impl Filters {
         self.rows.get(id)
     }
 
-    /// The numbers of all filters, ascending. Refused only for want of memory.
-    pub(crate) fn ids(&self, alloc: Global) -> Result<Vec<u64>, AllocError>
-        ensures { IfOk result (λ ids. ids.items ≡ map.keys self.now.map) }
-    {
-        self.rows.ids(alloc)
-    }
-
     /// The filters as a table of their own.
     pub(crate) fn rows(&self) -> &Table<StreamFilter>
         ensures { result.now.map ≡ self.now.map }

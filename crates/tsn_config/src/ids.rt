@@ -1,7 +1,7 @@
 //! The numbers of the instances that are there.
 //!
 //! It relies on the rows of each kind, which are kept in the order of their numbers.
-ghost use Rattle.std.specs.Prelude.{◌≡◌, IfOk};
+ghost use Rattle.std.specs.Prelude.{◌≡◌, ◌<◌, IfOk, OnErr, length};
 ghost use Rattle.tsn_config.specs.Ids.{ids_of};
 
 use crate::Config;
@@ -33,9 +33,11 @@ impl Ids {
 }
 
 impl Config {
-    /// The numbers of all instances of the kind that are there, ascending. Refused only for want of memory.
+    /// The numbers of all instances of the kind that are there, ascending. Refused only for want of memory, and never
+    /// where there is none.
     pub fn ids(&self, alloc: Global, kind: Kind) -> Result<Ids, AllocError>
-        ensures { IfOk result (λ ids. ids ≡ ids_of kind self.now.map) }
+        ensures ids { IfOk result (λ ids. ids ≡ ids_of kind self.now.map) }
+        ensures memory { OnErr result (0 < length (ids_of kind self.now.map)) }
     {
         Ok(Ids {
             ids: self.rows.ids(alloc, kind)?,

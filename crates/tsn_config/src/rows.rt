@@ -2,7 +2,7 @@
 //!
 //! Nothing here knows the limits: a map that is not well kept can stand here while a configuration is opened. It
 //! relies on the tables alone, and each call works in the table of its key's kind.
-ghost use Rattle.std.specs.Prelude.{◌≡◌, ℕ, ◌+◌, ◌<◌, ◌≤◌, IfOk, IfSome, IsOk, IsTrue, MatchOption, OnOk, is_some, length, option_map};
+ghost use Rattle.std.specs.Prelude.{◌≡◌, ℕ, ◌+◌, ◌<◌, ◌≤◌, IfOk, IfSome, IsOk, IsTrue, MatchOption, OnErr, OnOk, is_some, length, option_map};
 ghost use Rattle.std.specs.FinMap as map;
 ghost use Rattle.std.specs.FinMap.{FinMap};
 ghost use Rattle.std.specs.Ordering.{nat_cmp};
@@ -63,13 +63,14 @@ impl Rows {
         }
     }
 
-    /// The numbers of the rows of the kind, ascending. Refused only for want of memory.
+    /// The numbers of the rows of the kind, ascending. Refused only for want of memory, and never where there is none.
     pub(crate) fn ids(&self, alloc: Global, kind: Kind) -> Result<Vec<u64>, AllocError>
-        ensures { IfOk result (λ ids. ids.items ≡ ids_of kind self.now.map) }
+        ensures ids { IfOk result (λ ids. ids.items ≡ ids_of kind self.now.map) }
+        ensures memory { OnErr result (0 < length (ids_of kind self.now.map)) }
     {
         match kind {
             Kind::Port => self.ports.ids(alloc),
-            Kind::Filter => self.filters.ids(alloc),
+            Kind::Filter => self.filters.rows().ids(alloc),
             Kind::Gate => self.gates.ids(alloc),
             Kind::Meter => self.meters.ids(alloc),
         }
