@@ -1,9 +1,11 @@
--- A show that wants memory shows a record with a list.
-use Rattle.std.proofs.Common.{◌≡◌, ℕ, true, Some, None, [], ◌∷◌, refl}
+-- A show that wants memory shows a record with a list, and a list that wants it is of a kind with an instance.
+use Rattle.std.proofs.Common.{◌≡◌, ℕ, ◌<◌, length, true, Some, None, [], ◌∷◌, refl}
 use Rattle.std.specs.Prelude.{is_some}
 use Rattle.std.specs.FinMap.{get}
+use Rattle.std.proofs.lemmas.Bool.{lt-ltb}
 use Rattle.tsn_types.specs.declared.keys.Key.{Key}
 use Rattle.tsn_types.specs.declared.keys.Key.TheVariants.{Filter, Gate, Meter, Port}
+use Rattle.tsn_types.specs.declared.keys.Kind.{Kind}
 use Rattle.tsn_types.specs.declared.limits.Limits.{Limits}
 use Rattle.tsn_types.specs.declared.records.Record.{Record}
 use Rattle.tsn_types.specs.declared.records.Record.TheVariants as records
@@ -12,10 +14,11 @@ use Rattle.tsn_types.specs.declared.refusals.Refusal.TheVariants.{Memory, Missin
 use Rattle.tsn_types.specs.Limits.{HoldsRecord, holds_key, unless}
 use Rattle.tsn_types.specs.Refusals.{least}
 use Rattle.tsn_edit.specs.Configuration.{IsWellKept}
+use Rattle.tsn_config.specs.Ids.{ids_of}
 use Rattle.tsn_undo.specs.Ledger.{present}
 use Rattle.tsn_bridge.specs.declared.reply.Reply.TheVariants.{Refused}
 use Rattle.tsn_bridge.specs.Acts.{has_list}
-use Rattle.tsn_bridge.specs.Reads.{record_has_list, show_rule}
+use Rattle.tsn_bridge.specs.Reads.{list_rule, record_has_list, show_rule}
 use Rattle.tsn_bridge.specs.Rule.{Allows, is_given}
 use Rattle.tsn_bridge.specs.State.{State}
 use Rattle.tsn_bridge.proofs.Stepping.{is_refused}
@@ -39,3 +42,7 @@ show_refused s n k r kept holds known stands list =
     is_refused (show_rule s n k) s (Refused Memory) s None Memory
     (λ i. least (unless (holds i) (Range fields.Key) ∷ unless (known i) NoSession ∷ unless (is_some (stands i)) (Missing k) ∷ []))
     (has_list_of s.book.limits k r (kept.within k r stands).1 list) refl refl refl
+
+pub list_refused : (s : State) (n : ℕ) (kind : Kind) → is_given s n ≡ true → 0 < length (ids_of kind (present s.book)) → Allows (list_rule s n kind) s (Refused Memory) s
+list_refused s n kind known some =
+    is_refused (list_rule s n kind) s (Refused Memory) s None Memory (λ i. least (unless (known i) NoSession ∷ [])) (lt-ltb 0 (length (ids_of kind (present s.book))) some) refl refl refl

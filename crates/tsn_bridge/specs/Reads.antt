@@ -1,5 +1,5 @@
 -- The rules of what reads and changes nothing.
-use Rattle.std.specs.Prelude.{ℕ, Bool, true, false, [], ◌∷◌, Some, is_some, option_map}
+use Rattle.std.specs.Prelude.{ℕ, Bool, true, false, [], ◌∷◌, Some, is_some, length, nat_lt, option_map}
 use Rattle.std.specs.FinMap.{get}
 use Rattle.tsn_types.specs.declared.keys.Key.{Key}
 use Rattle.tsn_types.specs.declared.keys.Kind.{Kind}
@@ -31,9 +31,13 @@ show_rule s n k = record {
   takes_memory = has_list k;
 }
 
--- a list answers the numbers of all instances of the kind
+-- a list answers the numbers of all instances of the kind; where there is none, it takes no memory
 abbrev pub list_rule : State → ℕ → Kind → Rule
-list_rule s n kind = record { causes = no_session s n ∷ []; done = Some (Ids (ids_of kind (present s.book)), s); takes_memory = true }
+list_rule s n kind = record {
+  causes = no_session s n ∷ [];
+  done = Some (Ids (ids_of kind (present s.book)), s);
+  takes_memory = nat_lt 0 (length (ids_of kind (present s.book)));
+}
 
 -- a since answers the journal's entries of a greater number
 abbrev pub since_rule : State → ℕ → ℕ → Rule
