@@ -60,10 +60,14 @@ told_read old text (Ok ask) reply new reads h = elim h [
 told_read old text (Err why) reply new reads h = told_refused old (Some text) reply new why h.0 (inl reads) h.1
 
 told : (old : Caller) (line : Option (List ℕ)) (reply : Reply) (new : Caller) → Says Asks old line reply new → IsTold old line reply new
-told old None reply new h = told_refused old None reply new refusals.TooLong h.0 refl h.1
-told old (Some text) reply new h = elim h [
-  | inl p ↦ told_read old text (line_of text) reply new refl p
-  | inr r ↦ told_refused old (Some text) reply new refusals.Memory r.0 (inr (inl refl)) r.1
+told old None reply new h =
+    let r : Replies Asks old (Err refusals.TooLong) reply new = subst (λ read. Replies Asks old read reply new) h.1 h.2 in
+    told_refused old None reply new refusals.TooLong r.0 refl r.1
+told old (Some text) reply new h = elim h.1 [
+  | inl read ↦ told_read old text h.0 reply new (sym read) h.2
+  | inr memory ↦
+      let r : Replies Asks old (Err refusals.Memory) reply new = subst (λ read. Replies Asks old read reply new) memory h.2 in
+      told_refused old (Some text) reply new refusals.Memory r.0 (inr (inl refl)) r.1
 ]
 
 -- where either list has an element, one of them has

@@ -22,13 +22,15 @@ abbrev pub Replies : {S : Type 0} → Replying S → S → Result Ask Refusal �
 Replies replying old (Ok ask) reply new = replying old ask reply new
 Replies replying old (Err refusal) reply new = (reply ≡ replies.Refused refusal) × (new ≡ old)
 
--- The reply to a line. A line that is too long is refused, by refusal 1, and changes nothing. In reading, want of
--- memory may stand in place of any other reply; it changes nothing.
+-- What a line may be read as. One that is too long is refused, by refusal 1. Want of memory may stand in place of what any
+-- other says.
+abbrev pub MayRead : Option (List ℕ) → Result Ask Refusal → Type 0
+MayRead None read = read ≡ Err refusals.TooLong
+MayRead (Some line) read = (read ≡ line_of line) ⊎ (read ≡ Err refusals.Memory)
+
+-- The reply to a line is that to what it was read as.
 abbrev pub Says : {S : Type 0} → Replying S → S → Option (List ℕ) → Reply → S → Type 0
-Says replying old None reply new = (reply ≡ replies.Refused refusals.TooLong) × (new ≡ old)
-Says replying old (Some line) reply new =
-    Replies replying old (line_of line) reply new
-    ⊎ ((reply ≡ replies.Refused refusals.Memory) × (new ≡ old))
+Says replying old line reply new = (read : Result Ask Refusal) × MayRead line read × Replies replying old read reply new
 
 -- The text of a line is that of the reply to it.
 abbrev pub SaysText : {S : Type 0} → Replying S → Answering S

@@ -1,10 +1,11 @@
 -- What a connection does with its lines: each is answered by a call of its seat, or refused with no call.
-use Rattle.std.specs.Prelude.{◌≡◌, ◌⊎◌, ℕ, ◌≤◌, ◌^◌, List, [], ◌∷◌, ◌++◌, Option, Some, Ok}
+use Rattle.std.specs.Prelude.{◌≡◌, ◌⊎◌, ℕ, ◌≤◌, ◌^◌, List, [], ◌∷◌, ◌++◌, Option, Some, Result, Ok}
 use Rattle.tsn_desk.specs.declared.history.Entry.{Entry}
 use Rattle.tsn_desk.specs.declared.desk.Seat.{Seat}
 use Rattle.tsn_desk.specs.declared.desk.Desk.{Desk}
 use Rattle.tsn_desk.specs.History.{Begins, IsLegal, calls_by, call}
 use Rattle.tsn_desk.specs.Desks.{seen, made, number, tickets, first_of, DeskId, id_of}
+use Rattle.tsn_types.specs.declared.refusals.Refusal.{Refusal}
 use Rattle.tsn_types.specs.declared.refusals.Refusal.TheVariants as refusals
 use Rattle.tsn_bytes.specs.declared.bytes.Fault.TheVariants.{Exhausted}
 use Rattle.tsn_bridge.specs.State.{State}
@@ -13,9 +14,8 @@ use Rattle.tsn_bridge.specs.declared.command.Ask.{Ask}
 use Rattle.tsn_bridge.specs.declared.command.Command.TheVariants as commands
 use Rattle.tsn_bridge.specs.declared.reply.Reply.{Reply}
 use Rattle.tsn_bridge.specs.declared.reply.Reply.TheVariants as replies
-use Rattle.tsn_wire.specs.Reading.{line_of}
 use Rattle.tsn_serve.specs.Script.{Answering, Breaking}
-use Rattle.tsn_serve.specs.Answers.{SaysText, CutsText}
+use Rattle.tsn_serve.specs.Answers.{MayRead, SaysText, CutsText}
 
 -- One end of a connection: the desk and the machine that it began with; the seat's number, what it has seen of the
 -- history, the calls that it has made and how many tickets it has seen drawn; and the session of the connection's
@@ -73,13 +73,11 @@ Asks old ask reply new =
 abbrev pub Talks : Answering Caller
 Talks old line text new = SaysText Asks old line text new
 
--- No ticket was left for the call that the line asks for. Of the seat only the number of tickets that it has seen is
--- new.
-pub record Tires (old : Caller) (line : Option (List ℕ)) (new : Caller) : Type 0 where
-  pub text : List ℕ
+-- No ticket was left for the call of the command that was read. Of the seat only the number of tickets that it has seen
+-- is new.
+pub record Tires (old : Caller) (read : Result Ask Refusal) (new : Caller) : Type 0 where
   pub ask : Ask
-  pub line_is : line ≡ Some text
-  pub reads : line_of text ≡ Ok ask
+  pub is_read : read ≡ Ok ask
   pub may : MayAsk old.latest ask
   pub none_left : 2 ^ 63 ≤ new.tickets
   pub same : new ≡ record old { tickets = new.tickets }
@@ -89,7 +87,7 @@ pub record Tires (old : Caller) (line : Option (List ℕ)) (new : Caller) : Type
 abbrev pub BreaksTalk : Breaking Caller
 BreaksTalk old line fault part new =
     CutsText Asks old line fault part new
-    ⊎ ((fault ≡ Exhausted) × (part ≡ []) × Tires old line new)
+    ⊎ ((fault ≡ Exhausted) × (part ≡ []) × ((read : Result Ask Refusal) × MayRead line read × Tires old read new))
 
 -- What calls do to a caller: under its number, at its desk, it has seen and made no less; and what it has seen is legal,
 -- with just its own calls of its number, where that was so before.

@@ -3,13 +3,13 @@
 ghost use Rattle.std.specs.Prelude.{◌≡◌, ◌^◌, ◌≤◌, ◌↔◌, ℕ, Option, None, IsTrue, IfOk, IfErr, OnErr, IsErrOf, option_map};
 ghost use Rattle.tsn_bytes.specs.declared.bytes.Fault.TheVariants.{Memory, Exhausted};
 ghost use Rattle.tsn_desk.specs.Desks.{IsSeatOf, id_of, first_of};
-ghost use Rattle.tsn_serve.specs.Answers.{Says};
+ghost use Rattle.tsn_serve.specs.Answers.{Replies};
 ghost use Rattle.tsn_serve.specs.Talk.{MayAsk, Calls, Asks, Tires, Talks, BreaksTalk, Goes, caller_of, latest_after};
 ghost use Rattle.tsn_serve.specs.Outcomes.{Outcome, moment, most_reads};
 
 use crate::gate::Gate;
 use crate::responder::{Responder, answer_lines};
-use crate::script::READS;
+use crate::script::{READS, read_line};
 use std::alloc::Global;
 use std::marker::Model;
 use std::sync::Wait;
@@ -20,7 +20,6 @@ use tsn_bytes::{ByteIn, ByteOut, Fault};
 use tsn_desk::desk::{Desk, Seat};
 use tsn_replies::write_reply;
 use tsn_types::refusals::Refusal;
-use tsn_wire::command_of;
 
 // The session of the latest hello, once this reply came.
 fn latest_after(latest: Option<u32>, reply: &Reply) -> Option<u32>
@@ -123,16 +122,13 @@ impl<'a, R: Wait, G: Gate> Connection<'a, R, G> {
         Ok(reply)
     }
 
-    // The reply to a line, none of one that is too long.
-    fn reply_to(&mut self, alloc: Global, line: Option<&[u8]>) -> Result<Reply, Fault>
-        ensures ok { IfOk result (λ reply. Says Asks self.old (option_map (λ s. s.now) line.entry) reply self.new) }
+    // The reply to what a line was read as.
+    fn reply_to(&mut self, read: Result<Ask, Refusal>) -> Result<Reply, Fault>
+        ensures ok { IfOk result (λ reply. Replies Asks self.old read reply self.new) }
         ensures fault { IfErr result (λ e. e ≡ Exhausted) }
-        ensures tired { OnErr result (Tires self.old (option_map (λ s. s.now) line.entry) self.new) }
+        ensures tired { OnErr result (Tires self.old read self.new) }
     {
-        let Some(line) = line else {
-            return Ok(Reply::Refused(Refusal::TooLong));
-        };
-        let ask = match command_of(alloc, line) {
+        let ask = match read {
             Ok(ask) => ask,
             Err(refusal) => return Ok(Reply::Refused(refusal)),
         };
@@ -154,7 +150,8 @@ impl<'a, R: Wait, G: Gate> Responder for Connection<'a, R, G> {
         line: Option<&[u8]>,
         writer: &mut W,
     ) -> Result<(), Fault> {
-        let reply = match self.reply_to(alloc, line) {
+        let read = read_line(alloc, line);
+        let reply = match self.reply_to(read) {
             Ok(reply) => reply,
             Err(fault) => return Err(fault),
         };

@@ -3,12 +3,13 @@
 ghost use Rattle.std.specs.Prelude.{◌≡◌, ◌≢◌, IsErrOf, Err, option_map};
 ghost use Rattle.tsn_bytes.specs.declared.bytes.Fault.TheVariants.{Memory, Exhausted};
 ghost use Rattle.tsn_bridge.specs.Histories as machine;
-ghost use Rattle.tsn_serve.specs.Answers.{Says, Answers, BreaksInWriting};
+ghost use Rattle.tsn_serve.specs.Answers.{MayRead, Replies, Answers, BreaksInWriting};
 ghost use Rattle.tsn_serve.specs.Outcomes.{Outcome, moment, most_reads};
 
 use crate::responder::{Responder, answer_lines};
 use std::alloc::Global;
 use tsn_bridge::bridge::Bridge;
+use tsn_bridge::command::Ask;
 use tsn_bridge::reply::Reply;
 use tsn_bytes::{ByteIn, ByteOut, Fault};
 use tsn_replies::write_reply;
@@ -18,14 +19,19 @@ use tsn_wire::command_of;
 // The most reads of one run over lines.
 pub(crate) const READS: u64 = 4_294_967_296;
 
-// The reply to a line, none of one that is too long. Only the machine's step changes the bridge.
-fn reply_to(alloc: Global, bridge: &mut Bridge, line: Option<&[u8]>) -> Reply
-    ensures { Says machine.Answers bridge.old (option_map (λ s. s.now) line.entry) result bridge.new }
+// What a line is read as, none being one that is too long. It tests nothing of what the reader answers.
+pub(crate) fn read_line(alloc: Global, line: Option<&[u8]>) -> Result<Ask, Refusal>
+    ensures { MayRead (option_map (λ s. s.now) line.entry) result }
 {
-    let Some(line) = line else {
-        return Reply::Refused(Refusal::TooLong);
-    };
-    match command_of(alloc, line) {
+    line.map_or(Err(Refusal::TooLong), |line| command_of(alloc, line))
+}
+
+// The reply to what a line was read as: that to the command, or the refusal that reading gave. Only the machine's step
+// changes the bridge.
+fn reply_to(bridge: &mut Bridge, read: Result<Ask, Refusal>) -> Reply
+    ensures { Replies machine.Answers bridge.old read result bridge.new }
+{
+    match read {
         Ok(ask) => bridge.step(ask.session, ask.command),
         Err(refusal) => Reply::Refused(refusal),
     }
@@ -42,7 +48,8 @@ impl Responder for Bridge {
         line: Option<&[u8]>,
         writer: &mut W,
     ) -> Result<(), Fault> {
-        let reply = reply_to(alloc, self, line);
+        let read = read_line(alloc, line);
+        let reply = reply_to(self, read);
         write_reply(writer, &reply)
     }
 }
