@@ -235,6 +235,7 @@ pub fn write_states<W: ByteOut>(
     requires last { instant_of listing.now (listing.now.count - 1) ≤ greatest_instant }
     requires seen { IsSeenFrom bridge.old port listing.now.from }
     ensures ok { OnOk result (Appends (W.taken writer.old) (W.taken writer.new) (lines bridge.old listing.now listing.now.count)) }
+    ensures worked { OnOk result (W.has_failed writer.new ≡ W.has_failed writer.old) }
     ensures fault { IfErr result (λ fault. fault ≡ Write) }
     ensures failed { OnErr result (W.has_failed writer.new ≡ true) }
     ensures cut { OnErr result (EndsEarly bridge.old listing.now (W.taken writer.old) (W.taken writer.new)) }
