@@ -1,5 +1,5 @@
 -- A hash map's rows as a finite map from numbers.
-use Rattle.std.proofs.Common.{◌≡◌, ◌⊎◌, inl, inr, IsSome, ℕ, ◌<◌, ◌≤◌, Bool, true, false, cond, List, [], ◌∷◌, ◌++◌, map, length, refl, sym, ◌∙◌, ap, subst, Option, Some, None, arith}
+use Rattle.std.proofs.Common.{◌≡◌, ℕ, ◌<◌, true, cond, List, [], ◌∷◌, map, length, refl, sym, ◌∙◌, ap, Some, None, arith}
 use Rattle.std.specs.Prelude.{nat_eq}
 use Rattle.std.specs.Ordering.{nat_cmp, eq_by_cmp}
 use Rattle.std.specs.FinMap.{FinMap, find, from_entries, entries, keys, len, len-entries, len-empty, get, get-entries, insert, remove, same_map, get-from_entries, get-insert, get-remove, nat_cmp-IsAntisymmetric}

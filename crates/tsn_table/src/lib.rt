@@ -62,6 +62,7 @@ impl<R: Drop> Table<R> {
     }
 
     /// The row of the number, none where there is none.
+    #[tactic(auto, using(crate::proofs::Rows::found))]
     pub fn get(&self, id: u64) -> Option<&R>
         ensures { option_copied result ≡ map.get self.now.map id }
     {
@@ -77,6 +78,7 @@ impl<R: Drop> Table<R> {
     }
 
     /// The numbers of all rows, ascending. Refused only for want of memory, and never where there is no row.
+    #[tactic(auto, using(crate::proofs::Rows::no_rows, crate::proofs::Rows::some_rows))]
     pub fn ids(&self, alloc: Global) -> Result<Vec<u64>, AllocError>
         ensures ids { IfOk result (λ ids. ids.items ≡ map.keys self.now.map) }
         ensures memory { OnErr result (0 < length (map.keys self.now.map)) }
@@ -90,6 +92,7 @@ impl<R: Drop> Table<R> {
     }
 
     /// A table of equal rows with no room for more, each row copied by `copy_row`. Refused only for want of memory.
+    #[tactic(auto, using(crate::proofs::Rows::same_rows))]
     pub fn copy<F: Fn(&R) -> Result<R, AllocError> + Drop>(
         &self,
         copy_row: F,
@@ -110,6 +113,7 @@ impl<R: Drop> Table<R> {
 
     /// Makes room for at least `count` rows of new numbers. It is refused only for want of memory, and never
     /// where there is that room already; refused, it leaves the table as it was.
+    #[tactic(auto, using(crate::proofs::Rows::same_rows))]
     pub fn reserve(&mut self, count: usize) -> Result<(), AllocError>
         ensures map { self.new.map ≡ self.old.map }
         ensures ok { OnOk result (count ≤ self.new.spare) }
@@ -126,6 +130,7 @@ impl<R: Drop> Table<R> {
 
     /// Sets the row of the number and gives the one that it had. A new number needs room and takes room for one
     /// row; a number that has a row takes none. It takes no memory.
+    #[tactic(auto, using(crate::proofs::Rows::found, crate::proofs::Rows::rows_put, crate::proofs::Orders::room))]
     pub fn put(&mut self, id: u64, row: R) -> Option<R>
         requires { IsSome (map.get self.old.map id) ⊎ (1 ≤ self.old.spare) }
         ensures before { result ≡ map.get self.old.map id }
@@ -144,6 +149,7 @@ impl<R: Drop> Table<R> {
     }
 
     /// Takes the row of the number out and gives it. It takes no room.
+    #[tactic(auto, using(crate::proofs::Rows::found, crate::proofs::Rows::rows_taken))]
     pub fn take(&mut self, id: u64) -> Option<R>
         ensures before { result ≡ map.get self.old.map id }
         ensures map { self.new.map ≡ map.remove self.old.map id }
