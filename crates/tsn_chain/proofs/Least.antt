@@ -7,7 +7,7 @@ use Rattle.std.specs.Cmp.{nat_cmp_total}
 use Rattle.std.specs.FinMap.{FinMap, get, find, entries, entries_sorted, get-entries, get-from_entries, same_map, nat_cmp-IsAntisymmetric}
 use Rattle.tsn_table.specs.Firsts.{first_id, lesser}
 use Rattle.tsn_table.proofs.Firsts.{LeastIn, least_in, first_either}
-use Rattle.tsn_table.proofs.Places.{of_T}
+use Rattle.tsn_table.proofs.Orders.{of_T}
 use Rattle.tsn_config.specs.Filters.{is_just, specifies}
 use Rattle.tsn_types.specs.declared.keys.Key.{Key}
 use Rattle.tsn_types.specs.declared.keys.Key.TheVariants.{Port, Filter, Gate, Meter}

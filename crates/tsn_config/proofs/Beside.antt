@@ -5,7 +5,7 @@ use Rattle.std.specs.FinMap.{get, entries, entries_sorted, get-entries, find as 
 use Rattle.std.specs.FinMap.Entries.{below_all}
 use Rattle.std.specs.Ordering.{is_lt}
 use Rattle.std.proofs.lemmas.Bool.{and_from, and_parts, cases_lt}
-use Rattle.tsn_table.proofs.Places.{less_is}
+use Rattle.tsn_table.proofs.Orders.{less_is}
 use Rattle.tsn_types.specs.declared.keys.Key.{Key}
 use Rattle.tsn_types.specs.declared.keys.Key.TheVariants.{Port, Filter, Gate, Meter}
 use Rattle.tsn_types.specs.declared.refusals.Refusal.TheVariants.{Referred}

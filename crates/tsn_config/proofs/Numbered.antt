@@ -1,10 +1,9 @@
--- The numbers of one kind are those of its table, and which table has none.
-use Rattle.std.proofs.Common.{◌≡◌, ℕ, ◌<◌, ◌≤◌, true, false, cond, List, [], ◌∷◌, ◌++◌, refl, sym, subst, ◌∙◌, ap, map, length, IsSome, arith}
-use Rattle.std.proofs.lemmas.Bool.Decides.{nat_tests}
+-- The numbers of one kind are those of its table.
+use Rattle.std.proofs.Common.{◌≡◌, ℕ, true, false, cond, List, [], ◌∷◌, ◌++◌, refl, ◌∙◌, ap, map}
 use Rattle.std.specs.Prelude.{filter}
 use Rattle.std.proofs.lemmas.List.{append-nil}
-use Rattle.std.specs.Ordering.{nat_cmp, eq_by_cmp}
-use Rattle.std.specs.FinMap.{FinMap, entries, find, get, get-entries, keys}
+use Rattle.std.specs.Ordering.{nat_cmp}
+use Rattle.std.specs.FinMap.{FinMap, entries, keys}
 use Rattle.tsn_types.specs.declared.keys.Key.{Key}
 use Rattle.tsn_types.specs.declared.keys.Key.TheVariants.{Port, Filter, Gate, Meter}
 use Rattle.tsn_types.specs.declared.keys.Kind.{Kind}
@@ -82,24 +81,3 @@ module _ (ps : FinMap nat_cmp PortGates) (fs : FinMap nat_cmp StreamFilter) (gs 
   pub ids_of_meters : ids_of kinds.Meter (map_of_tables ps fs gs ms) ≡ keys ms
   ids_of_meters = parts kinds.Meter ∙ (λ i. none_picked Port PortRecord kinds.Meter (λ n. refl) (entries ps) i
       ++ (none_picked Filter FilterRecord kinds.Meter (λ n. refl) (entries fs) i ++ (none_picked Gate GateRecord kinds.Meter (λ n. refl) (entries gs) i ++ all_picked Meter MeterRecord kinds.Meter (λ n. refl) (λ n. refl) (entries ms) i)))
-
-module _ {X : Type 0} where
-  -- the number of a first row has a row
-  first_row : (e : ℕ × X) (es : List (ℕ × X)) → IsSome (find nat_cmp e.0 (e ∷ es))
-  first_row e es = let itself : eq_by_cmp nat_cmp e.0 e.0 ≡ true = grind (arith, nat_tests) in rw itself refl
-
-  no_rows : (es : List (ℕ × X)) → ((n : ℕ) → IsSome (find nat_cmp n es) → ⊥) → map (λ (e : ℕ × X). e.0) es ≡ []
-  no_rows [] none = refl
-  no_rows (e ∷ es) none = absurd (none e.0 (first_row e es))
-
-  some_rows : (es : List (ℕ × X)) (n : ℕ) → IsSome (find nat_cmp n es) → 0 < length (map (λ (e : ℕ × X). e.0) es)
-  some_rows [] n some = absurd cc
-  some_rows (e ∷ es) n some = omega arith
-
-  -- a table that has no row from 0 on has no number
-  pub no_number : (m : FinMap nat_cmp X) → ((n : ℕ) → 0 ≤ n → IsSome (get m n) → ⊥) → keys m ≡ []
-  no_number m none = no_rows (entries m) (λ n some. none n (omega arith) (subst IsSome (sym (get-entries m n)) some))
-
-  -- a table that has a row has a number
-  pub some_number : (m : FinMap nat_cmp X) (n : ℕ) → IsSome (get m n) → 0 < length (keys m)
-  some_number m n some = some_rows (entries m) n (subst IsSome (get-entries m n) some)

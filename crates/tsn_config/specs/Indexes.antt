@@ -32,11 +32,11 @@ abbrev pub is_the : ℕ → Option ℕ → Bool
 is_the q None = false
 is_the q (Some a) = nat_eq a q
 
--- An index has the row q * 65,536 + n where the filter n is about q, and no other row.
+-- An index has the number q * 65,536 + n where the filter n is about q, and no other.
 abbrev pub Indexes : (StreamFilter → Option ℕ) → FinMap nat_cmp StreamFilter → FinMap nat_cmp (Unit {0}) → Type 0
 Indexes about fs index = (c : ℕ) → is_some (get index c) ≡ is_the (c / 65536) (about_at about (get fs (c % 65536)))
 
--- an index without the row of a filter, and with one
+-- an index without a filter, and with one
 abbrev pub left : FinMap nat_cmp (Unit {0}) → ℕ → Option ℕ → FinMap nat_cmp (Unit {0})
 left index n None = index
 left index n (Some q) = remove index (q * 65536 + n)

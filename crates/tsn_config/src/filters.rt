@@ -1,7 +1,7 @@
 //! The stream filters by number, with three indexes: of the filters by the gate that they refer to, by the meter, and by
 //! their stream handle and priority specifications.
 //!
-//! What is sought in an index is its least filter, by one binary search: who refers to a gate or a meter, and which filter
+//! What is sought in an index is its least filter, by one way down a tree: who refers to a gate or a meter, and which filter
 //! has two specifications. The type says that each index has just the filters that the table has. Setting a filter takes
 //! no memory; room is made ahead.
 ghost use Rattle.std.specs.Prelude.{◌≡◌, ℕ, ◌+◌, ◌*◌, ◌^◌, ◌<◌, ◌≤◌, Bool, Option, None, IfOk, IfSome, IsOk, IsSome, IsTrue, MatchOption, OnOk, option_map};
@@ -22,7 +22,7 @@ ghost use Rattle.tsn_config.specs.Views.{set_row};
 use crate::rows::{into_filter, set_row_of};
 use std::alloc::{AllocError, Global};
 use std::marker::Model;
-use tsn_table::Table;
+use tsn_table::{Numbers, Table};
 use tsn_types::keys::Key;
 use tsn_types::numbers::{FilterId, Handle, Priority};
 use tsn_types::records::{Record, StreamFilter};
@@ -32,10 +32,10 @@ use tsn_types::records::{Record, StreamFilter};
 #[derive(Debug, Drop)]
 pub(crate) struct Filters {
     rows: Table<StreamFilter>,
-    // in each a row for what a filter is about, and its number
-    by_gate: Table<()>,
-    by_meter: Table<()>,
-    by_match: Table<()>,
+    // in each a number for what a filter is about and for its own number
+    by_gate: Numbers,
+    by_meter: Numbers,
+    by_match: Numbers,
 }
 
 impl Model for Filters {
@@ -128,20 +128,20 @@ fn about_value(value: &Option<Record>) -> About
     }
 }
 
-// Takes the row of a filter out of an index.
-fn leave(index: &mut Table<()>, id: u64, about: Option<u64>)
+// Takes a filter out of an index.
+fn leave(index: &mut Numbers, id: u64, about: Option<u64>)
     requires id { id < 65536 }
     requires about { IfSome about (λ q. q < 2 ^ 40) }
     ensures map { index.new.map ≡ left index.old.map id about }
     ensures spare { index.old.spare ≤ index.new.spare }
 {
     if let Some(about) = about {
-        let _ = index.take(about * 65_536 + id);
+        index.take(about * 65_536 + id);
     }
 }
 
-// Puts the row of a filter into an index.
-fn enter(index: &mut Table<()>, id: u64, about: Option<u64>)
+// Puts a filter into an index.
+fn enter(index: &mut Numbers, id: u64, about: Option<u64>)
     requires id { id < 65536 }
     requires about { IfSome about (λ q. q < 2 ^ 40) }
     requires room { 1 ≤ index.old.spare }
@@ -149,12 +149,12 @@ fn enter(index: &mut Table<()>, id: u64, about: Option<u64>)
     ensures spare { index.old.spare ≤ index.new.spare + 1 }
 {
     if let Some(about) = about {
-        let _ = index.put(about * 65_536 + id, ());
+        index.put(about * 65_536 + id);
     }
 }
 
 // Moves a filter in an index from what it was about to what it is about.
-fn move_in(index: &mut Table<()>, id: u64, before: Option<u64>, after: Option<u64>)
+fn move_in(index: &mut Numbers, id: u64, before: Option<u64>, after: Option<u64>)
     requires id { id < 65536 }
     requires before { IfSome before (λ q. q < 2 ^ 40) }
     requires after { IfSome after (λ q. q < 2 ^ 40) }
@@ -172,7 +172,7 @@ fn move_in(index: &mut Table<()>, id: u64, before: Option<u64>, after: Option<u6
 }
 
 // The least filter that is about the number.
-fn least_about(index: &Table<()>, about: u64) -> Option<u64>
+fn least_about(index: &Numbers, about: u64) -> Option<u64>
     requires { about < 2 ^ 40 }
     ensures small { IfSome result (λ n. n < 65536) }
     ensures least { (what : AnyFilter → Option ℕ) (fs : FinMap nat_cmp AnyFilter) (p : AnyFilter → Bool) →
@@ -189,7 +189,7 @@ fn least_about(index: &Table<()>, about: u64) -> Option<u64>
 }
 
 // The least filter from this one on that is about the number.
-fn next_about(index: &Table<()>, about: u64, from: u64) -> Option<u64>
+fn next_about(index: &Numbers, about: u64, from: u64) -> Option<u64>
     requires about { about < 2 ^ 40 }
     requires from { from ≤ 65536 }
     ensures small { IfSome result (λ n. n < 65536) }
@@ -212,9 +212,9 @@ impl Filters {
     {
         Filters {
             rows: Table::new(alloc),
-            by_gate: Table::new(alloc),
-            by_meter: Table::new(alloc),
-            by_match: Table::new(alloc),
+            by_gate: Numbers::new(alloc),
+            by_meter: Numbers::new(alloc),
+            by_match: Numbers::new(alloc),
         }
     }
 
@@ -290,9 +290,9 @@ impl Filters {
     {
         Ok(Filters {
             rows: self.rows.copy(|row| Ok(*row))?,
-            by_gate: self.by_gate.copy(|row| Ok(*row))?,
-            by_meter: self.by_meter.copy(|row| Ok(*row))?,
-            by_match: self.by_match.copy(|row| Ok(*row))?,
+            by_gate: self.by_gate.copy()?,
+            by_meter: self.by_meter.copy()?,
+            by_match: self.by_match.copy()?,
         })
     }
 

@@ -69,10 +69,10 @@ impl Rows {
         ensures memory { OnErr result (0 < length (ids_of kind self.now.map)) }
     {
         match kind {
-            Kind::Port => numbers_of(alloc, &self.ports),
-            Kind::Filter => numbers_of(alloc, self.filters.rows()),
-            Kind::Gate => numbers_of(alloc, &self.gates),
-            Kind::Meter => numbers_of(alloc, &self.meters),
+            Kind::Port => self.ports.ids(alloc),
+            Kind::Filter => self.filters.rows().ids(alloc),
+            Kind::Gate => self.gates.ids(alloc),
+            Kind::Meter => self.meters.ids(alloc),
         }
     }
 
@@ -235,17 +235,6 @@ impl Rows {
         while let Some(part) = parts.pop() {
             self.set(part.key, part.after);
         }
-    }
-}
-
-/// The numbers of the rows of a table. Where there is none it takes no memory.
-fn numbers_of<R: Drop>(alloc: Global, table: &Table<R>) -> Result<Vec<u64>, AllocError>
-    ensures ids { IfOk result (λ ids. ids.items ≡ map.keys table.now.map) }
-    ensures memory { OnErr result (0 < length (map.keys table.now.map)) }
-{
-    match table.first_from(0) {
-        Some(_) => table.ids(alloc),
-        None => Ok(Vec::new(alloc)),
     }
 }
 

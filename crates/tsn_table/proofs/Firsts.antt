@@ -6,7 +6,7 @@ use Rattle.std.specs.FinMap.{find, is_sorted}
 use Rattle.std.specs.FinMap.Entries.{below_all}
 use Rattle.std.proofs.lemmas.Bool.{cases_lt, and_parts, lt-ltb}
 use Rattle.tsn_table.specs.Firsts.{first_id, lesser}
-use Rattle.tsn_table.proofs.Places.{less_is, is_less, is_greater, is_equal}
+use Rattle.tsn_table.proofs.Orders.{less_is, is_less, is_greater, is_equal}
 
 pub not_some : {A : Type 0} (o : Option A) (x : A) → o ≡ None → o ≡ Some x → ⊥
 not_some None x n s = absurd (cc)
@@ -32,7 +32,7 @@ module _ {X : Type 0} (p : X → Bool) where
       let here : k < e.0 = omega arith in
       rw (is_less k e.0 here) (find_below k x es le ((and_parts (is_lt (nat_cmp x e.0)) _ h).1))
 
-  missed : (b : Bool) (e : ℕ × X) (o : Option X) → p e.1 ≡ false → ((q : X) → o ≡ Some q → p q ≡ false) → (q : X) → cond b (Some e.1) o ≡ Some q → p q ≡ false
+  pub missed : (b : Bool) (e : ℕ × X) (o : Option X) → p e.1 ≡ false → ((q : X) → o ≡ Some q → p q ≡ false) → (q : X) → cond b (Some e.1) o ≡ Some q → p q ≡ false
   missed true e o f rest q is = ap p (sym (some_of e.1 q is)) ∙ f
   missed false e o f rest q is = rest q is
 
@@ -51,7 +51,7 @@ module _ {X : Type 0} (p : X → Bool) where
       let none : find nat_cmp k (e ∷ es) ≡ None = rw (is_less k e.0 lt) (find_below k e.0 es (omega arith) b) in
       absurd (not_some (find nat_cmp k (e ∷ es)) q none is)
 
-  first_row : (e : ℕ × X) (es : List (ℕ × X)) → find nat_cmp e.0 (e ∷ es) ≡ Some e.1
+  pub first_row : (e : ℕ × X) (es : List (ℕ × X)) → find nat_cmp e.0 (e ∷ es) ≡ Some e.1
   first_row e es = rw (is_equal e.0 e.0 refl) refl
 
   pub least_in : (es : List (ℕ × X)) → is_sorted nat_cmp es ≡ true → LeastIn es (first_id p es)

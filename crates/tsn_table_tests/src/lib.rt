@@ -6,4 +6,6 @@
 #[cfg(test)]
 mod comparing;
 #[cfg(test)]
+mod numbers;
+#[cfg(test)]
 mod tests;

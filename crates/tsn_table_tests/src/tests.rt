@@ -91,9 +91,9 @@ fn takes_a_row_out(rt: HostRuntime) -> Result<(), Fail> {
     Ok(())
 }
 
-// The rows behind the first one move up in their order.
+// The others stay what they were.
 #[test]
-fn taking_the_first_row_keeps_the_order(rt: HostRuntime) -> Result<(), Fail> {
+fn taking_the_first_row_keeps_the_others(rt: HostRuntime) -> Result<(), Fail> {
     let mut table = three_rows(rt.alloc())?;
     same(&rt, &table.take(1), &Some(10));
     same(&rt, &table.ids(rt.alloc())?.as_slice(), &[4, 6].as_slice());
@@ -132,9 +132,10 @@ fn a_reserve_of_10000_rows_keeps_the_rows(rt: HostRuntime) -> Result<(), Fail> {
 #[test]
 fn the_largest_table_is_listed_and_copied(rt: HostRuntime) -> Result<(), Fail> {
     let mut table = Table::new(rt.alloc());
-    for id in 0..65_536 {
+    for below in 0..65_536 {
+        let id = 65_535 - below;
         table.reserve(1)?;
-        let _ = table.put(id, 65_535 - id);
+        let _ = table.put(id, below);
     }
     let copy = table.copy(|row| Ok(*row))?;
     let ids = copy.ids(rt.alloc())?;

@@ -1,0 +1,298 @@
+-- Lists of numbers that rise: around a number k in their midst, and as maps.
+use Rattle.std.proofs.Common.{◌≡◌, ◌⊎◌, inl, inr, ℕ, ◌<◌, ◌≤◌, Bool, true, false, cond, eqb, ltb, List, [], ◌∷◌, ◌++◌, refl, sym, ap, ◌∙◌, subst, Option, Some, None, IsSome, length, length-append, arith}
+use Rattle.std.specs.Prelude.{IfSome, MatchOption}
+use Rattle.std.specs.Option.{option_or}
+use Rattle.std.specs.Ordering.{nat_cmp, eq_by_cmp}
+use Rattle.std.specs.FinMap.{FinMap, find, get, insert, remove, get-insert, get-remove, get-from_entries, same_map, nat_cmp-IsAntisymmetric}
+use Rattle.std.proofs.lemmas.Cmp.{nat_cmp_total}
+use Rattle.std.proofs.lemmas.Bool.{lt-ltb, le-ltb, ltb-true, ltb-false, eq-eqb, ne_eqb, cases_lt}
+use Rattle.std.proofs.lemmas.Bool.Decides.{nat_tests}
+use Rattle.tsn_table.specs.Rising.{AllNumbers, IsRising, put_number, without_number, first_from, units, map_of}
+
+all_weaker : (P Q : ℕ → Type 0) → ((y : ℕ) → P y → Q y) → (xs : List ℕ) → AllNumbers P xs → AllNumbers Q xs
+all_weaker P Q f [] a = tt
+all_weaker P Q f (y ∷ ys) a = (f y a.0, all_weaker P Q f ys a.1)
+
+all_front : (P : ℕ → Type 0) (l m : List ℕ) → AllNumbers P (l ++ m) → AllNumbers P l
+all_front P [] m a = tt
+all_front P (x ∷ l) m a = (a.0, all_front P l m a.1)
+
+all_middle : (P : ℕ → Type 0) (l : List ℕ) (k : ℕ) (r : List ℕ) → AllNumbers P (l ++ k ∷ r) → P k
+all_middle P [] k r a = a.0
+all_middle P (y ∷ ys) k r a = all_middle P ys k r a.1
+
+pub rising_front : (l : List ℕ) (k : ℕ) (r : List ℕ) → IsRising (l ++ k ∷ r) → IsRising l
+rising_front [] k r s = tt
+rising_front (x ∷ l) k r s = (all_front (λ z. x < z) l (k ∷ r) s.0, rising_front l k r s.1)
+
+pub rising_back : (l : List ℕ) (k : ℕ) (r : List ℕ) → IsRising (l ++ k ∷ r) → IsRising r
+rising_back [] k r s = s.1
+rising_back (x ∷ l) k r s = rising_back l k r s.1
+
+-- both sides are shorter than the whole
+pub sides_shorter : (all l : List ℕ) (k : ℕ) (r : List ℕ) (n : ℕ) → all ≡ l ++ k ∷ r → length all ≡ n → (length l < n) × (length r < n)
+sides_shorter all l k r n is same = omega (arith, ap length is, length-append l (k ∷ r))
+
+-- a number that is put in
+all_put : (P : ℕ → Type 0) (x : ℕ) (ys : List ℕ) → P x → AllNumbers P ys → AllNumbers P (put_number x ys)
+all_put P x [] p a = (p, tt)
+all_put P x (y ∷ ys) p a =
+    elim (ltb x y) as (λ b. AllNumbers P (cond b (x ∷ y ∷ ys) (y ∷ cond (ltb y x) (put_number x ys) ys))) [
+      | true ↦ (p, a)
+      | false ↦ (a.0, elim (ltb y x) as (λ b. AllNumbers P (cond b (put_number x ys) ys)) [ true ↦ all_put P x ys p a.1 | false ↦ a.1 ])
+    ]
+
+rising_put_by : (x y : ℕ) (ys : List ℕ) (a b : Bool) → ltb x y ≡ a → ltb y x ≡ b → IsRising (y ∷ ys) → IsRising (put_number x ys) → IsRising (cond a (x ∷ y ∷ ys) (y ∷ cond b (put_number x ys) ys))
+rising_put_by x y ys true b p q s u =
+    let h : x < y = ltb-true x y p in
+    ((h, all_weaker (λ z. y < z) (λ z. x < z) (λ z r. omega arith) ys s.0), s)
+rising_put_by x y ys false true p q s u = (all_put (λ z. y < z) x ys (ltb-true y x q) s.0, u)
+rising_put_by x y ys false false p q s u = s
+
+rising_put : (x : ℕ) (ys : List ℕ) → IsRising ys → IsRising (put_number x ys)
+rising_put x [] s = (tt, tt)
+rising_put x (y ∷ ys) s = rising_put_by x y ys (ltb x y) (ltb y x) refl refl s (rising_put x ys s.1)
+
+put_by : (a b : Bool) (x y : ℕ) (ys us m vs : List ℕ) → vs ≡ us ++ m → cond a (x ∷ y ∷ (ys ++ m)) (y ∷ cond b vs (ys ++ m)) ≡ cond a (x ∷ y ∷ ys) (y ∷ cond b us ys) ++ m
+put_by true b x y ys us m vs e = refl
+put_by false true x y ys us m vs e = ap (λ z. y ∷ z) e
+put_by false false x y ys us m vs e = refl
+
+pub put_left : (x k : ℕ) (l r : List ℕ) → x < k → put_number x (l ++ k ∷ r) ≡ put_number x l ++ k ∷ r
+put_left x k [] r p = rw (lt-ltb x k p)
+put_left x k (y ∷ ys) r p = put_by (ltb x y) (ltb y x) x y ys (put_number x ys) (k ∷ r) _ (put_left x k ys r p)
+
+put_later : (x y : ℕ) (ys : List ℕ) → y < x → put_number x (y ∷ ys) ≡ y ∷ put_number x ys
+put_later x y ys p = rw (le-ltb x y (omega arith), lt-ltb y x p)
+
+pub put_right : (x k : ℕ) (l r : List ℕ) → k < x → IsRising (l ++ k ∷ r) → put_number x (l ++ k ∷ r) ≡ l ++ k ∷ put_number x r
+put_right x k [] r p s = put_later x k r p
+put_right x k (y ∷ ys) r p s =
+    let q : y < k = all_middle (λ z. y < z) ys k r s.0 in
+    put_later x y (ys ++ k ∷ r) (omega arith) ∙ ap (λ z. y ∷ z) (put_right x k ys r p s.1)
+
+pub put_middle : (x k : ℕ) (l r : List ℕ) → x ≡ k → IsRising (l ++ k ∷ r) → put_number x (l ++ k ∷ r) ≡ l ++ k ∷ r
+put_middle x k [] r e s = rw (le-ltb x k (omega arith), le-ltb k x (omega arith))
+put_middle x k (y ∷ ys) r e s =
+    let q : y < k = all_middle (λ z. y < z) ys k r s.0 in
+    put_later x y (ys ++ k ∷ r) (omega arith) ∙ ap (λ z. y ∷ z) (put_middle x k ys r e s.1)
+
+pub ruleset puts = (put_left, put_middle, put_right)
+
+-- a number that is taken out
+all_without : (P : ℕ → Type 0) (x : ℕ) (ys : List ℕ) → AllNumbers P ys → AllNumbers P (without_number x ys)
+all_without P x [] a = tt
+all_without P x (y ∷ ys) a = elim (eqb x y) as (λ b. AllNumbers P (cond b (without_number x ys) (y ∷ without_number x ys))) [
+  | true ↦ all_without P x ys a.1
+  | false ↦ (a.0, all_without P x ys a.1)
+]
+
+pub rising_without : (x : ℕ) (ys : List ℕ) → IsRising ys → IsRising (without_number x ys)
+rising_without x [] s = tt
+rising_without x (y ∷ ys) s = elim (eqb x y) as (λ b. IsRising (cond b (without_number x ys) (y ∷ without_number x ys))) [
+  | true ↦ rising_without x ys s.1
+  | false ↦ (all_without (λ z. y < z) x ys s.0, rising_without x ys s.1)
+]
+
+without_above : (x : ℕ) (ys : List ℕ) → AllNumbers (λ z. x < z) ys → without_number x ys ≡ ys
+without_above x [] a = refl
+without_above x (y ∷ ys) a = let p : x < y = a.0 in rw (ne_eqb x y (omega arith)) (ap (λ z. y ∷ z) (without_above x ys a.1))
+
+without_by : (b : Bool) (y : ℕ) (us m vs : List ℕ) → vs ≡ us ++ m → cond b vs (y ∷ vs) ≡ cond b us (y ∷ us) ++ m
+without_by true y us m vs e = e
+without_by false y us m vs e = ap (λ z. y ∷ z) e
+
+pub without_left : (x k : ℕ) (l r : List ℕ) → x < k → IsRising (l ++ k ∷ r) → without_number x (l ++ k ∷ r) ≡ without_number x l ++ k ∷ r
+without_left x k [] r p s = without_above x (k ∷ r) (p, all_weaker (λ z. k < z) (λ z. x < z) (λ z q. omega arith) r s.0)
+without_left x k (y ∷ ys) r p s = without_by (eqb x y) y (without_number x ys) (k ∷ r) _ (without_left x k ys r p s.1)
+
+without_later : (x y : ℕ) (ys : List ℕ) → y < x → without_number x (y ∷ ys) ≡ y ∷ without_number x ys
+without_later x y ys p = rw (ne_eqb x y (omega arith))
+
+pub without_right : (x k : ℕ) (l r : List ℕ) → k < x → IsRising (l ++ k ∷ r) → without_number x (l ++ k ∷ r) ≡ l ++ k ∷ without_number x r
+without_right x k [] r p s = without_later x k r p
+without_right x k (y ∷ ys) r p s =
+    let q : y < k = all_middle (λ z. y < z) ys k r s.0 in
+    without_later x y (ys ++ k ∷ r) (omega arith) ∙ ap (λ z. y ∷ z) (without_right x k ys r p s.1)
+
+pub without_middle : (x k : ℕ) (l r : List ℕ) → x ≡ k → IsRising (l ++ k ∷ r) → without_number x (l ++ k ∷ r) ≡ l ++ r
+without_middle x k [] r e s = rw (eq-eqb x k e) (without_above x r (subst (λ n. AllNumbers (λ z. n < z) r) (sym e) s.0))
+without_middle x k (y ∷ ys) r e s =
+    let q : y < k = all_middle (λ z. y < z) ys k r s.0 in
+    without_later x y (ys ++ k ∷ r) (omega arith) ∙ ap (λ z. y ∷ z) (without_middle x k ys r e s.1)
+
+pub ruleset withouts = (without_left, without_middle, without_right)
+
+-- the first number from one on
+first_by : (b : Bool) (y k : ℕ) (o p : Option ℕ) → p ≡ option_or o (Some k) → cond b p (Some y) ≡ option_or (cond b o (Some y)) (Some k)
+first_by true y k o p e = e
+first_by false y k o p e = refl
+
+pub first_left : (x k : ℕ) (l r : List ℕ) → x ≤ k → first_from x (l ++ k ∷ r) ≡ option_or (first_from x l) (Some k)
+first_left x k [] r p = rw (le-ltb k x p)
+first_left x k (y ∷ ys) r p = first_by (ltb y x) y k _ _ (first_left x k ys r p)
+
+or_none : (o : Option ℕ) → option_or o None ≡ o
+or_none None = refl
+or_none (Some n) = refl
+
+pub or_taken : (o : Option ℕ) (k : ℕ) (above : Option ℕ) → option_or o (Some k) ≡ option_or (option_or o (Some k)) above
+or_taken None k above = refl
+or_taken (Some n) k above = refl
+
+pub first_right : (x k : ℕ) (l r : List ℕ) → k < x → IsRising (l ++ k ∷ r) → first_from x (l ++ k ∷ r) ≡ first_from x r
+first_right x k [] r p s = rw (lt-ltb k x p)
+first_right x k (y ∷ ys) r p s =
+    let q : y < k = all_middle (λ z. y < z) ys k r s.0 in
+    rw (lt-ltb y x (omega arith)) (first_right x k ys r p s.1)
+
+pub ruleset firsts = (first_left, first_right, or_taken)
+
+-- what the map answers
+abbrev there : ℕ → List ℕ → Option (Unit {0})
+there q xs = find nat_cmp q (units xs)
+
+there_put : (x q : ℕ) (xs : List ℕ) → there q (put_number x xs) ≡ cond (eq_by_cmp nat_cmp q x) (Some tt) (there q xs)
+there_put x q [] = refl
+there_put x q (y ∷ ys) =
+    elim (ltb x y) as (λ a. ltb x y ≡ a → there q (cond a (x ∷ y ∷ ys) (y ∷ cond (ltb y x) (put_number x ys) ys)) ≡ cond (eq_by_cmp nat_cmp q x) (Some tt) (there q (y ∷ ys))) [
+      | true ↦ λ e. refl
+      | false ↦ λ e. elim (ltb y x) as (λ b. ltb y x ≡ b → there q (y ∷ cond b (put_number x ys) ys) ≡ cond (eq_by_cmp nat_cmp q x) (Some tt) (there q (y ∷ ys))) [
+        | true ↦ λ d. there_later x y q (there q ys) _ (ltb-true y x d) (there_put x q ys)
+        | false ↦ λ d. there_same x y q (there q ys) (ltb-false x y e) (ltb-false y x d)
+      ] refl
+    ] refl
+  where
+    there_later : (x y q : ℕ) (o p : Option (Unit {0})) → y < x → p ≡ cond (eq_by_cmp nat_cmp q x) (Some tt) o
+        → cond (eq_by_cmp nat_cmp q y) (Some tt) p ≡ cond (eq_by_cmp nat_cmp q x) (Some tt) (cond (eq_by_cmp nat_cmp q y) (Some tt) o)
+    there_later x y q o p less e = grind (arith, nat_tests)
+
+    there_same : (x y q : ℕ) (o : Option (Unit {0})) → y ≤ x → x ≤ y
+        → cond (eq_by_cmp nat_cmp q y) (Some tt) o ≡ cond (eq_by_cmp nat_cmp q x) (Some tt) (cond (eq_by_cmp nat_cmp q y) (Some tt) o)
+    there_same x y q o le ge = grind (arith, nat_tests)
+
+there_without : (x q : ℕ) (xs : List ℕ) → there q (without_number x xs) ≡ cond (eq_by_cmp nat_cmp q x) None (there q xs)
+there_without x q [] = grind (arith, nat_tests)
+there_without x q (y ∷ ys) =
+    elim (eqb x y) as (λ b. eqb x y ≡ b → there q (cond b (without_number x ys) (y ∷ without_number x ys)) ≡ cond (eq_by_cmp nat_cmp q x) None (there q (y ∷ ys))) [
+      | true ↦ λ e. here x y q (there q ys) _ e (there_without x q ys)
+      | false ↦ λ e. later x y q (there q ys) _ e (there_without x q ys)
+    ] refl
+  where
+    here : (x y q : ℕ) (o p : Option (Unit {0})) → eqb x y ≡ true → p ≡ cond (eq_by_cmp nat_cmp q x) None o
+        → p ≡ cond (eq_by_cmp nat_cmp q x) None (cond (eq_by_cmp nat_cmp q y) (Some tt) o)
+    here x y q o p same e = grind (arith, nat_tests)
+
+    later : (x y q : ℕ) (o p : Option (Unit {0})) → eqb x y ≡ false → p ≡ cond (eq_by_cmp nat_cmp q x) None o
+        → cond (eq_by_cmp nat_cmp q y) (Some tt) p ≡ cond (eq_by_cmp nat_cmp q x) None (cond (eq_by_cmp nat_cmp q y) (Some tt) o)
+    later x y q o p other e = grind (arith, nat_tests)
+
+get_map : (xs : List ℕ) (q : ℕ) → get (map_of xs) q ≡ there q xs
+get_map xs q = get-from_entries nat_cmp_total (units xs) q
+
+map_put : (x : ℕ) (xs : List ℕ) → map_of (put_number x xs) ≡ insert (map_of xs) x tt
+map_put x xs = same_map nat_cmp_total nat_cmp-IsAntisymmetric _ _ (λ q.
+    get_map (put_number x xs) q ∙ there_put x q xs
+    ∙ ap (cond (eq_by_cmp nat_cmp q x) (Some tt)) (sym (get_map xs q)) ∙ sym (get-insert nat_cmp_total (map_of xs) x tt q))
+
+pub map_without : (x : ℕ) (xs : List ℕ) → map_of (without_number x xs) ≡ remove (map_of xs) x
+map_without x xs = same_map nat_cmp_total nat_cmp-IsAntisymmetric _ _ (λ q.
+    get_map (without_number x xs) q ∙ there_without x q xs
+    ∙ ap (cond (eq_by_cmp nat_cmp q x) None) (sym (get_map xs q)) ∙ sym (get-remove nat_cmp_total (map_of xs) x q))
+
+unit_some : (o : Option (Unit {0})) → IsSome o → o ≡ Some tt
+unit_some None h = absurd (cc)
+unit_some (Some u) h = refl
+
+same_or : (b : Bool) (o : Option (Unit {0})) → (b ≡ true → o ≡ Some tt) → o ≡ cond b (Some tt) o
+same_or true o h = h refl
+same_or false o h = refl
+
+tied : (q x : ℕ) → eq_by_cmp nat_cmp q x ≡ true → q ≡ x
+tied q x e = grind (arith, nat_tests)
+
+-- to put in what is there changes nothing
+map_there : (m : FinMap nat_cmp (Unit {0})) (x : ℕ) → IsSome (get m x) → m ≡ insert m x tt
+map_there m x h = same_map nat_cmp_total nat_cmp-IsAntisymmetric _ _ (λ q.
+    same_or (eq_by_cmp nat_cmp q x) (get m q) (λ e. ap (get m) (tied q x e) ∙ unit_some (get m x) h)
+    ∙ sym (get-insert nat_cmp_total m x tt q))
+
+-- what a put leaves: a new number comes in where a node waits, and else all stays
+pub put_rises : (x : ℕ) (xs now : List ℕ) (n : ℕ) → (0 < n → now ≡ put_number x xs) → (n ≡ 0 → now ≡ xs) → IsRising xs → IsRising now
+put_rises x xs now n some none s = elim (cases_lt 0 n) [
+  | inl full ↦ subst IsRising (sym (some full)) (rising_put x xs s)
+  | inr spent ↦ subst IsRising (sym (none (omega arith))) s
+]
+
+pub put_now : (x : ℕ) (xs now : List ℕ) (n spare : ℕ) (m : FinMap nat_cmp (Unit {0})) → (0 < n → now ≡ put_number x xs) → (n ≡ 0 → now ≡ xs)
+    → spare ≤ n → map_of xs ≡ m → IsSome (get m x) ⊎ (1 ≤ spare) → map_of now ≡ insert m x tt
+put_now x xs now n spare m some none le is h = elim (cases_lt 0 n) [
+  | inl full ↦ ap map_of (some full) ∙ map_put x xs ∙ ap (λ (o : FinMap nat_cmp (Unit {0})). insert o x tt) is
+  | inr spent ↦ elim h [
+    | inl is_in ↦ ap map_of (none (omega arith)) ∙ is ∙ map_there m x is_in
+    | inr room ↦ absurd (omega arith)
+  ]
+]
+
+some_there : (q y : ℕ) (ys : List ℕ) → IsSome (there q (y ∷ ys)) → (q ≡ y) ⊎ IsSome (there q ys)
+some_there q y ys h = elim (eq_by_cmp nat_cmp q y) as (λ b. eq_by_cmp nat_cmp q y ≡ b → IsSome (cond b (Some tt) (there q ys)) → (q ≡ y) ⊎ IsSome (there q ys)) [
+  | true ↦ λ e _. inl (tied q y e)
+  | false ↦ λ e i. inr i
+] refl h
+
+there_head : (y : ℕ) (ys : List ℕ) → IsSome (there y (y ∷ ys))
+there_head y ys = subst IsSome (sym (by y (there y ys))) refl
+  where
+    by : (y : ℕ) (o : Option (Unit {0})) → cond (eq_by_cmp nat_cmp y y) (Some tt) o ≡ Some tt
+    by y o = grind (arith, nat_tests)
+
+there_tail : (q y : ℕ) (ys : List ℕ) → IsSome (there q ys) → IsSome (there q (y ∷ ys))
+there_tail q y ys h = elim (eq_by_cmp nat_cmp q y) as (λ b. IsSome (cond b (Some tt) (there q ys))) [ true ↦ refl | false ↦ h ]
+
+-- the first number from one on is there
+first_there : (from : ℕ) (xs : List ℕ) → IfSome (first_from from xs) (λ id. (from ≤ id) × IsSome (there id xs))
+first_there from [] = tt
+first_there from (y ∷ ys) = elim (ltb y from) as (λ b. ltb y from ≡ b → IfSome (cond b (first_from from ys) (Some y)) (λ id. (from ≤ id) × IsSome (there id (y ∷ ys)))) [
+  | true ↦ λ e. more (first_from from ys) (first_there from ys)
+  | false ↦ λ e. (ltb-false y from e, there_head y ys)
+] refl
+  where
+    more : (o : Option ℕ) → IfSome o (λ id. (from ≤ id) × IsSome (there id ys)) → IfSome o (λ id. (from ≤ id) × IsSome (there id (y ∷ ys)))
+    more None h = tt
+    more (Some id) h = (h.0, there_tail id y ys h.1)
+
+-- and no lesser one is
+first_least : (from id : ℕ) (xs : List ℕ) → IsRising xs → from ≤ id → IsSome (there id xs) → MatchOption (first_from from xs) ⊥ (λ least. least ≤ id)
+first_least from id [] s by h = absurd (cc)
+first_least from id (y ∷ ys) s by h = elim (ltb y from) as (λ b. ltb y from ≡ b → MatchOption (cond b (first_from from ys) (Some y)) ⊥ (λ least. least ≤ id)) [
+  | true ↦ λ e. elim (some_there id y ys h) [
+    | inl same ↦ let less : y < from = ltb-true y from e in absurd (omega arith)
+    | inr i ↦ first_least from id ys s.1 by i
+  ]
+  | false ↦ λ e. elim (some_there id y ys h) [
+    | inl same ↦ omega arith
+    | inr i ↦ let less : y < id = there_above y id ys s.0 i in omega arith
+  ]
+] refl
+  where
+    there_above : (y id : ℕ) (ys : List ℕ) → AllNumbers (λ z. y < z) ys → IsSome (there id ys) → y < id
+    there_above y id [] a i = absurd (cc)
+    there_above y id (z ∷ zs) a i = elim (some_there id z zs i) [
+      | inl same ↦ let less : y < z = a.0 in omega arith
+      | inr j ↦ there_above y id zs a.1 j
+    ]
+
+-- the same of a map and of an answer that are known by equations
+pub there_in : (from : ℕ) (xs : List ℕ) (m : FinMap nat_cmp (Unit {0})) (o : Option ℕ) → map_of xs ≡ m → o ≡ option_or (first_from from xs) None
+    → IfSome o (λ id. (from ≤ id) × IsSome (get m id))
+there_in from xs m o is answer = subst (λ p. IfSome p (λ id. (from ≤ id) × IsSome (get m id))) (sym (answer ∙ or_none (first_from from xs))) (by (first_from from xs) (first_there from xs))
+  where
+    by : (p : Option ℕ) → IfSome p (λ id. (from ≤ id) × IsSome (there id xs)) → IfSome p (λ id. (from ≤ id) × IsSome (get m id))
+    by None h = tt
+    by (Some id) h = (h.0, subst IsSome (sym (get_map xs id) ∙ ap (λ (n : FinMap nat_cmp (Unit {0})). get n id) is) h.1)
+
+pub least_in : (from id : ℕ) (xs : List ℕ) (m : FinMap nat_cmp (Unit {0})) (o : Option ℕ) → map_of xs ≡ m → o ≡ option_or (first_from from xs) None
+    → IsRising xs → from ≤ id → IsSome (get m id) → MatchOption o ⊥ (λ least. least ≤ id)
+least_in from id xs m o is answer s by h =
+    subst (λ p. MatchOption p ⊥ (λ least. least ≤ id)) (sym (answer ∙ or_none (first_from from xs)))
+    (first_least from id xs s by (subst IsSome (ap (λ (n : FinMap nat_cmp (Unit {0})). get n id) (sym is) ∙ get_map xs id) h))
