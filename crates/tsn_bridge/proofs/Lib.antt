@@ -9,6 +9,7 @@ pub mod Tied
 pub mod Framing
 pub mod TiedActs
 pub mod Causes
+pub mod Crossing
 pub mod Telling
 pub mod KeySteps
 pub mod Showing

@@ -8,3 +8,4 @@ pub mod Least
 pub mod Standing
 pub mod Swapped
 pub mod Timely
+pub mod Crossing

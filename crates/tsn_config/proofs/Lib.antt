@@ -1,6 +1,7 @@
 pub mod Among
 pub mod Batches
 pub mod Beside
+pub mod Crossing
 pub mod Dangling
 pub mod Deciding
 pub mod Edits

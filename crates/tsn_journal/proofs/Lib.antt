@@ -20,3 +20,4 @@ pub mod Standing
 pub mod Telling
 pub mod Under
 pub mod Walking
+pub mod Crossing

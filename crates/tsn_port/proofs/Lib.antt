@@ -1,3 +1,4 @@
+pub mod Crossing
 pub mod Acting
 pub mod Asking
 pub mod Following

@@ -1,4 +1,4 @@
-use Rattle.std.proofs.Common.{rules, List, [], inr, refl}
+use Rattle.std.proofs.Common.{rules, [], inr, refl}
 use Rattle.tsn_serve.proofs.Writing.{broke_in_talking}
 use Rattle.tsn_serve.proofs.connection.ConnectionResponder.answer.Goals as goal
 
