@@ -1,6 +1,6 @@
 //! The numbers of the instances that are there.
 //!
-//! It relies on the rows of each kind, which are kept in the order of their numbers.
+//! It relies on the tables of each kind, which tell their numbers in order.
 ghost use Rattle.std.specs.Prelude.{◌≡◌, ◌<◌, IfOk, OnErr, length};
 ghost use Rattle.tsn_config.specs.Ids.{ids_of};
 
