@@ -1,5 +1,5 @@
 -- The numbers of one kind are those of its table.
-use Rattle.std.proofs.Common.{◌≡◌, ℕ, true, false, cond, List, [], ◌∷◌, ◌++◌, refl, ◌∙◌, ap, map}
+use Rattle.std.proofs.Common.{◌≡◌, ℕ, true, false, cond, List, [], ◌∷◌, ◌++◌, refl, sym, ◌∙◌, ap, map}
 use Rattle.std.specs.Prelude.{filter}
 use Rattle.std.proofs.lemmas.List.{append-nil}
 use Rattle.std.specs.Ordering.{nat_cmp}
@@ -15,6 +15,7 @@ use Rattle.tsn_types.specs.declared.records.StreamFilter.{StreamFilter}
 use Rattle.tsn_types.specs.declared.records.StreamGate.{StreamGate}
 use Rattle.tsn_types.specs.declared.records.FlowMeter.{FlowMeter}
 use Rattle.tsn_types.specs.Keys.{number_of}
+use Rattle.tsn_edit.specs.Configuration.{Configuration}
 use Rattle.tsn_config.specs.Views.{keyed_rows, map_of_tables}
 use Rattle.tsn_config.specs.Ids.{is_of, ids_of}
 use Rattle.tsn_config.proofs.Listed.{entries-map_of_tables}
@@ -81,3 +82,16 @@ module _ (ps : FinMap nat_cmp PortGates) (fs : FinMap nat_cmp StreamFilter) (gs 
   pub ids_of_meters : ids_of kinds.Meter (map_of_tables ps fs gs ms) ≡ keys ms
   ids_of_meters = parts kinds.Meter ∙ (λ i. none_picked Port PortRecord kinds.Meter (λ n. refl) (entries ps) i
       ++ (none_picked Filter FilterRecord kinds.Meter (λ n. refl) (entries fs) i ++ (none_picked Gate GateRecord kinds.Meter (λ n. refl) (entries gs) i ++ all_picked Meter MeterRecord kinds.Meter (λ n. refl) (λ n. refl) (entries ms) i)))
+
+  -- the same of any kind and map, by what they are
+  pub ports_numbered : (kind : Kind) (m : Configuration) → map_of_tables ps fs gs ms ≡ m → kind ≡ kinds.Port → ids_of kind m ≡ keys ps
+  ports_numbered kind m tables is = (λ i. ids_of (is i) (sym tables i)) ∙ ids_of_ports
+
+  pub filters_numbered : (kind : Kind) (m : Configuration) → map_of_tables ps fs gs ms ≡ m → kind ≡ kinds.Filter → ids_of kind m ≡ keys fs
+  filters_numbered kind m tables is = (λ i. ids_of (is i) (sym tables i)) ∙ ids_of_filters
+
+  pub gates_numbered : (kind : Kind) (m : Configuration) → map_of_tables ps fs gs ms ≡ m → kind ≡ kinds.Gate → ids_of kind m ≡ keys gs
+  gates_numbered kind m tables is = (λ i. ids_of (is i) (sym tables i)) ∙ ids_of_gates
+
+  pub meters_numbered : (kind : Kind) (m : Configuration) → map_of_tables ps fs gs ms ≡ m → kind ≡ kinds.Meter → ids_of kind m ≡ keys ms
+  meters_numbered kind m tables is = (λ i. ids_of (is i) (sym tables i)) ∙ ids_of_meters

@@ -64,6 +64,7 @@ impl Rows {
     }
 
     /// The numbers of the rows of the kind, ascending. Refused only for want of memory, and never where there is none.
+    #[tactic(auto, using(crate::proofs::Numbered::ports_numbered, crate::proofs::Numbered::filters_numbered, crate::proofs::Numbered::gates_numbered, crate::proofs::Numbered::meters_numbered))]
     pub(crate) fn ids(&self, alloc: Global, kind: Kind) -> Result<Vec<u64>, AllocError>
         ensures ids { IfOk result (λ ids. ids.items ≡ ids_of kind self.now.map) }
         ensures memory { OnErr result (0 < length (ids_of kind self.now.map)) }
