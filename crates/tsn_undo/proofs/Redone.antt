@@ -1,6 +1,6 @@
 -- The inverse of an applied change fits where no later change is in conflict, and what a redo leaves of a sound ledger.
 use Rattle.std.proofs.Common.{◌≡◌, ℕ, ◌+◌, Bool, true, false, cond, List, [], ◌∷◌, ◌++◌, refl, sym, ◌∙◌, ap, subst, Option, Some, None, arith, length}
-use Rattle.std.specs.Prelude.{◌==◌, IsSome, is_some, nat_le, option_map}
+use Rattle.std.specs.Prelude.{◌==◌, ◌↔◌, IfSome, IsSome, IsTrue, is_some, nat_le, option_map}
 use Rattle.std.specs.List.{AllByRecursion, cons_option, find}
 use Rattle.std.specs.Option.{option_or}
 use Rattle.tsn_types.specs.declared.limits.Limits.{Limits}
@@ -21,7 +21,7 @@ use Rattle.tsn_journal.specs.Finding.{change_at, entry, find_redo_conflict, late
 use Rattle.tsn_journal.proofs.Numbers.{Rises, changes-append, last_where_none, later_than_rest, rises_collect}
 use Rattle.tsn_journal.proofs.Standing.{entry_applied, redo_found, undone_change, undone_is_entry}
 use Rattle.tsn_undo.specs.Ledger.{Ledger, enter, present}
-use Rattle.tsn_undo.specs.Redo.{IsRedoable, Redoes, TellsFit, WhyNoRedo, redo_cause}
+use Rattle.tsn_undo.specs.Redo.{IsRedoCause, IsRedoable, Redoes, TellsFit, redo_cause}
 use Rattle.tsn_undo.specs.Soundness.{IsSound, configuration}
 use Rattle.tsn_undo.proofs.Adding.{configuration_push, sound_added}
 use Rattle.tsn_undo.proofs.Free.{number_of}
@@ -98,74 +98,63 @@ cause_most es (Some u) false = conflict_most (find_redo_conflict es u)
     conflict_most None = tt
     conflict_most (Some f) = omega arith
 
+-- the cause of a redo comes before a full journal
+pub cause_first : (es : List Entry) (o : Option Applied) (fits : Bool) → (redo_cause es o fits ≡ redo_cause es o fits) × AtMost 17 (redo_cause es o fits)
+cause_first es o fits = (refl, cause_most es o fits)
+
 pub redo_refusal-first : (es : List Entry) (o : Option Applied) (fits : Bool) → least (redo_cause es o fits ∷ no_room es 1 ∷ []) ≡ option_or (redo_cause es o fits) (no_room es 1)
 redo_refusal-first es o fits = least-before 17 (redo_cause es o fits) (nat_le (length es + 1) most_entries) JournalFull (cause_most es o fits) (omega arith)
 
 -- ---- what a session may redo, by its number
 
-pub record IsNewestUndone (es : List Entry) (s of : ℕ) : Type 0 where
-  pub undone : Applied
-  pub undone_is : redo_of es s ≡ Some undone
-  pub of_is : of ≡ undone.number
-  pub there : undone_entry es of ≡ Some undone
-  pub change : change_at es of ≡ Some undone.change
-
-pub newest_undone : (es : List Entry) (s of : ℕ) → IsNumbered 1 es → Some of ≡ number_of (redo_of es s) → IsNewestUndone es s of
-newest_undone es s of numbered is = by_option (redo_of es s)
-    (λ none. let never : Some of ≡ None = is ∙ ap number_of none in (cc))
-    (λ u some.
-    let both : Some of ≡ Some u.number = is ∙ ap number_of some in
-    let same : of ≡ u.number = (cc) in
-    let there : undone_entry es of ≡ Some u = ap (undone_entry es) same ∙ (redo_found 1 s es u numbered some).1 in
-    record { undone = u; undone_is = some; of_is = same; there = there; change = undone_change es of u numbered there })
+-- the Undone entry that a session may redo, and its change, are at its number
+pub undone_there : (es : List Entry) (s : ℕ) → IsNumbered 1 es
+    → (redo_of es s ≡ redo_of es s) × IfSome (redo_of es s) (λ u. (undone_entry es u.number ≡ Some u) × (change_at es u.number ≡ Some u.change))
+undone_there es s numbered = (
+  refl,
+  by_option (redo_of es s)
+      (λ none. subst (λ o. IfSome o (λ u. (undone_entry es u.number ≡ Some u) × (change_at es u.number ≡ Some u.change))) (sym none) tt)
+      (λ u some.
+      let there : undone_entry es u.number ≡ Some u = (redo_found 1 s es u numbered some).1 in
+      subst (λ o. IfSome o (λ u. (undone_entry es u.number ≡ Some u) × (change_at es u.number ≡ Some u.change))) (sym some) (there, undone_change es u.number u numbered there)),
+)
 
 is_mapped : (o : Option Applied) → is_some (number_of o) ≡ is_some o
 is_mapped None = refl
 is_mapped (Some x) = refl
 
 -- where it doesn't fit, the finder names an entry
-pub names_one : (b : Ledger) (s : ℕ) (u : Applied) (r : Option ℕ) → SoundLedger b → redo_of b.entries s ≡ Some u → r ≡ number_of (find_redo_conflict b.entries u) → ¬ (Fits b.limits (present b) (inverse u.change)) → is_some r ≡ true
-names_one b s u r sound is found not_fits =
-    ap is_some found ∙ is_mapped (find_redo_conflict b.entries u) ∙ redo_names b.limits b.opening b.entries s u sound is not_fits
+pub names_one : (b : Ledger) (s of : ℕ) (es : List Entry) (fits : Bool) (r : Option ℕ) → SoundLedger b → es ≡ b.entries → number_of (redo_of b.entries s) ≡ Some of
+    → ((e : Change) → change_at b.entries of ≡ Some e → IsTrue fits ↔ Fits b.limits (present b) (inverse e)) → fits ≡ false
+    → ((u : Applied) → undone_entry es of ≡ Some u → r ≡ number_of (find_redo_conflict es u)) → is_some r ≡ true
+names_one b s of es fits r sound same named tells off finds = by_option (redo_of b.entries s)
+    (λ none. let never : Some of ≡ None = sym named ∙ ap number_of none in (cc))
+    (λ u some.
+    let both : Some of ≡ Some u.number = sym named ∙ ap number_of some in
+    let at : of ≡ u.number = (cc) in
+    let there : undone_entry b.entries of ≡ Some u = ap (undone_entry b.entries) at ∙ (redo_found 1 s b.entries u sound.numbered some).1 in
+    let change : change_at b.entries of ≡ Some u.change = undone_change b.entries of u sound.numbered there in
+    let found : r ≡ number_of (find_redo_conflict b.entries u) = finds u (ap (λ es. undone_entry es of) same ∙ there) ∙ ap (λ es. number_of (find_redo_conflict es u)) same in
+    let not_fits : ¬ (Fits b.limits (present b) (inverse u.change)) = λ f. let t : fits ≡ true = (tells u.change change).1 f in (cc) in
+    ap is_some found ∙ is_mapped (find_redo_conflict b.entries u) ∙ redo_names b.limits b.opening b.entries s u sound some not_fits)
 
-named_conflict : (o : Option Applied) (r : Option ℕ) (k : ℕ) → r ≡ number_of o → r ≡ Some k → option_map (λ f. RedoConflict f.number) o ≡ Some (RedoConflict k)
-named_conflict None r k is some = let never : None ≡ Some k = sym is ∙ some in (cc)
-named_conflict (Some f) r k is some = let both : Some f.number ≡ Some k = sym is ∙ some in let same : f.number ≡ k = (cc) in ap (λ n. Some (RedoConflict n)) same
+-- where it doesn't fit, a cause is told
+fits_untold : (b : Ledger) (s : ℕ) (u : Applied) (fits : Bool) → SoundLedger b → redo_of b.entries s ≡ Some u → TellsFit b (Some u) fits → redo_cause b.entries (Some u) fits ≡ None → Fits b.limits (present b) (inverse u.change)
+fits_untold b s u true sound is tells none = tells.0 refl
+fits_untold b s u false sound is tells none = by_option (find_redo_conflict b.entries u)
+    (λ no. inverse_fits b.limits b.opening b.entries u sound (undone_split b.limits b.opening b.entries s u sound is) no)
+    (λ f some. let never : Some (RedoConflict f.number) ≡ None = sym (ap (λ o. option_map (λ f. RedoConflict f.number) o) some) ∙ none in (cc))
 
-module _ (b : Ledger) (s : ℕ) (u : Applied) (is : redo_of b.entries s ≡ Some u) where
-  pub refused_conflict : (r : Option ℕ) (k : ℕ) → r ≡ number_of (find_redo_conflict b.entries u) → r ≡ Some k → ¬ (Fits b.limits (present b) (inverse u.change)) → WhyNoRedo b s (λ cause. cause ≡ Some (RedoConflict k))
-  refused_conflict r k found some not_fits = record {
-    fits = false;
-    tells = subst (λ o. TellsFit b o false) (sym is) ((λ never. absurd (off never)), (λ f. absurd (not_fits f)));
-    holds =
-        redo_refusal-first b.entries (redo_of b.entries s) false
-        ∙ ap (λ o. option_or (redo_cause b.entries o false) (no_room b.entries 1)) is
-        ∙ ap (λ o. option_or o (no_room b.entries 1)) (named_conflict (find_redo_conflict b.entries u) r k found some);
-  }
-    where
-      off : false ≡ true → ⊥
-      off h = (cc)
-
-  pub refused_room : (why : Refusal) → no_room b.entries 1 ≡ Some why → Fits b.limits (present b) (inverse u.change) → WhyNoRedo b s (λ cause. cause ≡ Some why)
-  refused_room why full f = record {
-    fits = true;
-    tells = subst (λ o. TellsFit b o true) (sym is) ((λ _. f), (λ _. refl));
-    holds =
-        redo_refusal-first b.entries (redo_of b.entries s) true
-        ∙ ap (λ o. option_or (redo_cause b.entries o true) (no_room b.entries 1)) is
-        ∙ full;
-  }
-
--- what may be redone is refused by nothing
-pub redo_free : (b : Ledger) (s of : ℕ) → IsRedoable b s of → WhyNoRedo b s (λ cause. None ≡ cause)
-redo_free b s of is = record {
-  fits = true;
-  tells = subst (λ o. TellsFit b o true) (sym is.undone_is) ((λ _. is.fits), (λ _. refl));
-  holds = sym (
-      redo_refusal-first b.entries (redo_of b.entries s) true
-      ∙ ap (λ o. option_or (redo_cause b.entries o true) (no_room b.entries 1)) is.undone_is
-      ∙ is.room);
-}
+-- what the session may redo, by its number, is redoable where no cause refuses it
+pub may_redo : (b : Ledger) (s of : ℕ) (cause : Option Refusal) → SoundLedger b → number_of (redo_of b.entries s) ≡ Some of → IsRedoCause b s cause → cause ≡ None → no_room b.entries 1 ≡ None → IsRedoable b s of
+may_redo b s of cause sound named why none room = by_option (redo_of b.entries s)
+    (λ no. let never : Some of ≡ None = sym named ∙ ap number_of no in (cc))
+    (λ u some.
+    let both : Some of ≡ Some u.number = sym named ∙ ap number_of some in
+    let same : of ≡ u.number = (cc) in
+    let tells : TellsFit b (Some u) why.fits = subst (λ o. TellsFit b o why.fits) some why.tells in
+    let nothing : redo_cause b.entries (Some u) why.fits ≡ None = ap (λ o. redo_cause b.entries o why.fits) (sym some) ∙ sym why.is ∙ none in
+    record { undone = u; undone_is = some; fits = fits_untold b s u why.fits sound some tells nothing; room = room; of_is = same })
 
 -- ---- what a redo leaves
 

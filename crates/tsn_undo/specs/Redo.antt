@@ -20,6 +20,12 @@ abbrev pub redo_cause : List Entry → Option Applied → Bool → Option Refusa
 redo_cause es None fits = Some NothingToRedo
 redo_cause es (Some u) fits = if fits then None else option_map (λ f. RedoConflict f.number) (find_redo_conflict es u)
 
+-- the cause is that of a redo of the session, told before a full journal
+pub record IsRedoCause (b : Ledger) (s : ℕ) (cause : Option Refusal) : Type 0 where
+  pub fits : Bool
+  pub tells : TellsFit b (redo_of b.entries s) fits
+  pub is : cause ≡ redo_cause b.entries (redo_of b.entries s) fits
+
 -- P holds of why a redo of the session is refused: nothing to redo, it doesn't fit, a full journal.
 -- Read alone, this knows no cause where what would be redone doesn't fit and no later entry is in conflict with it, so that a
 -- redo which is refused there could only tell of want of memory. No book comes to that: its ledger is sound, and in a sound

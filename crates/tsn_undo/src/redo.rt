@@ -1,12 +1,12 @@
 //! Redo: a session takes back its newest undo.
-ghost use Rattle.std.specs.Prelude.{◌≡◌, ◌↔◌, IfErr, IfOk, IsSome, IsTrue, OnErr, Some};
+ghost use Rattle.std.specs.Prelude.{◌≡◌, ◌↔◌, IfErr, IfOk, IsSome, IsTrue, OnErr, Some, option_map};
 ghost use Rattle.tsn_types.specs.declared.refusals.Refusal.TheVariants.{Memory};
 ghost use Rattle.tsn_types.specs.Refusals.{IsLeastOrMemory};
 ghost use Rattle.tsn_edit.specs.Changes.{Fits};
 ghost use Rattle.tsn_edit.specs.Parts.{Change as AnyChange, inverse};
-ghost use Rattle.tsn_journal.specs.Finding.{change_at};
+ghost use Rattle.tsn_journal.specs.Finding.{change_at, redo_of};
 ghost use Rattle.tsn_undo.specs.Ledger.{Takes, present};
-ghost use Rattle.tsn_undo.specs.Redo.{IsRedoable, Redoes, WhyNoRedo};
+ghost use Rattle.tsn_undo.specs.Redo.{IsRedoCause, IsRedoable, Redoes, WhyNoRedo};
 
 use crate::book::{Book, TakingBack};
 use tsn_journal::entries::What;
@@ -44,6 +44,7 @@ impl Book {
     }
 
     /// The number of the entry that a redo of the session takes back, or why it is refused, but for want of memory.
+    #[tactic(auto, using(crate::proofs::Redone::cause_first, crate::proofs::Redone::may_redo))]
     fn redoable(&self, session: u32) -> Result<u64, Refusal>
         ensures ok { IfOk result (λ of. IsRedoable self.now.ledger session of) }
         ensures err { IfErr result (λ why. WhyNoRedo self.now.ledger session (λ cause. cause ≡ Some why)) }
@@ -51,15 +52,31 @@ impl Book {
         let Some(of) = self.journal().redo_of(session) else {
             return Err(Refusal::NothingToRedo);
         };
-        if !self.fits_back(of) {
-            // Where it does not fit, a later entry is in conflict.
-            let other = self.journal().find_redo_conflict(of).unwrap();
-            return Err(Refusal::RedoConflict { other });
+        if let Some(why) = self.redo_conflict(session, of) {
+            return Err(why);
         }
         if let Some(why) = self.refuse_entries(1) {
             return Err(why);
         }
         Ok(of)
+    }
+
+    /// Where the inverse of the change that the session may redo does not fit the configuration, the refusal that names
+    /// the latest later entry in conflict with it. The number is that of what may be redone; only the proof looks at the
+    /// session.
+    #[tactic(auto, using(crate::proofs::Redone::undone_there))]
+    fn redo_conflict(&self, session: u32, of: u64) -> Option<Refusal>
+        requires { option_map (λ x. x.number) (redo_of self.now.ledger.entries session) ≡ Some of }
+        ensures { IsRedoCause self.now.ledger session result }
+    {
+        let _ = session;
+        let journal = self.journal();
+        if self.fits_back(of) {
+            return None;
+        }
+        // Where it does not fit, a later entry is in conflict.
+        let other = journal.find_redo_conflict(of).unwrap();
+        Some(Refusal::RedoConflict { other })
     }
 
     /// Whether the inverse of the change of the entry of the number fits the configuration.
