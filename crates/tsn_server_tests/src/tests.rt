@@ -12,7 +12,7 @@ use std::sync::Wait;
 use std::test::Fail;
 use std::thread::{Threads, join};
 use tsn_bridge::bridge::Bridge;
-use tsn_bytes::MemOut;
+use tsn_bytes::{Fault, MemOut};
 use tsn_server::{ServerFault, TcpSource, listen_on, serve_bridge};
 use tsn_setup::setup_of;
 use tsn_types::numbers::Instant;
@@ -23,44 +23,43 @@ const SETUP: &'static [u8] =
     list = [{gates = 1, interval = 300}, {gates = 128, interval = 700}]\n";
 
 /// A new bridge with that setup.
-fn new_bridge(alloc: Global) -> Result<Bridge, Fail>
+fn new_bridge(alloc: Global) -> Result<Bridge, ServerFault>
     ensures { IfOk result (λ bridge. IsOpened bridge) }
 {
-    Ok(Bridge::new(alloc, setup_of(alloc, SETUP)?)?)
+    let Ok(setup) = setup_of(alloc, SETUP) else {
+        return Err(ServerFault::Fault(Fault::Memory));
+    };
+    let Ok(bridge) = Bridge::new(alloc, setup) else {
+        return Err(ServerFault::Fault(Fault::Memory));
+    };
+    Ok(bridge)
 }
 
-/// Serves the source's connections one after the other, and gives what was written.
+/// Serves a new bridge to the source's connections, one after the other, and gives what was written.
 fn serve<R: Wait + Threads + Sync>(
     rt: &R,
     alloc: Global,
-    bridge: Bridge,
     source: &TcpSource,
     at: Instant,
-) -> Result<MemOut, ServerFault>
-    requires { IsOpened bridge }
-{
+) -> Result<MemOut, ServerFault> {
+    let bridge = new_bridge(alloc)?;
     let mut output = MemOut::new(Vec::new(alloc), 100, None);
     serve_bridge(rt, alloc, bridge, 1, source, at, &mut output)?;
     Ok(output)
 }
 
-/// Serves the bridge to one client beside it.
+/// Serves a new bridge to one client beside it.
 fn serve_client<R: Net<Stream = TcpStream> + Wait + Threads + Sync>(
     rt: &R,
     alloc: Global,
-    bridge: Bridge,
     listener: TcpListener,
     address: SocketAddr,
     at: Instant,
-) -> (Result<MemOut, ServerFault>, io::Result<(Vec<u8>, Vec<u8>)>)
-    requires { IsOpened bridge }
-{
+) -> (Result<MemOut, ServerFault>, io::Result<(Vec<u8>, Vec<u8>)>) {
     let source = TcpSource::new(listener, 1);
     join(
         rt,
-        || -> Result<MemOut, ServerFault>
-            requires { IsOpened bridge }
-        { serve(rt, alloc, bridge, &source, at) },
+        || serve(rt, alloc, &source, at),
         || enable_and_apply(rt, alloc, address),
     )
 }
@@ -72,11 +71,10 @@ fn tells<R: Net<Listener = TcpListener, Stream = TcpStream> + Wait + Threads + A
     at: Instant,
     wanted: &[u8],
 ) -> Result<(), Fail> {
-    let bridge = new_bridge(alloc)?;
     let Some((listener, address)) = listen_on(rt, "127.0.0.1:0") else {
         return Err(Fail::from("no listener"));
     };
-    let (served, replied) = serve_client(rt, alloc, bridge, listener, address, at);
+    let (served, replied) = serve_client(rt, alloc, listener, address, at);
     let (enabled, applied) = replied?;
     same(
         rt,
