@@ -9,7 +9,6 @@ ghost use Rattle.std.specs.FinMap as map;
 use crate::tree::{Node, Tree, copy_in, fill, first_in, put_in, take_from};
 use std::alloc::{AllocError, Global};
 use std::marker::Model;
-use std::mem;
 
 /// A set of numbers. `map` has the numbers as its keys, and `spare` is how many new numbers can come in with no more
 /// memory.
@@ -94,8 +93,7 @@ impl Numbers {
         ensures map { self.new.map ≡ map.insert self.old.map id tt }
         ensures room { self.old.spare ≤ self.new.spare + 1 }
     {
-        let tree = mem::replace(&mut self.tree, Tree::Empty);
-        self.tree = put_in(tree, id, &mut self.pool);
+        put_in(&mut self.tree, id, &mut self.pool);
         self.room = self.room.min(self.pool.len());
     }
 
@@ -104,8 +102,7 @@ impl Numbers {
         ensures map { self.new.map ≡ map.remove self.old.map id }
         ensures room { self.old.spare ≤ self.new.spare }
     {
-        let tree = mem::replace(&mut self.tree, Tree::Empty);
-        self.tree = take_from(tree, id, &mut self.pool);
+        take_from(&mut self.tree, id, &mut self.pool);
     }
 
     /// A set of the same numbers that has room for no new one. Refused only for want of memory.

@@ -2,7 +2,7 @@
 //!
 //! What is promised of a tree is said of its numbers in their order. The heights only steer the rotations that keep the
 //! tree low: a wrong height would cost time and nothing else.
-ghost use Rattle.std.specs.Prelude.{◌≡◌, [], ◌∷◌, ◌++◌, ◌+◌, ◌<◌, ◌≤◌, IfOk, OnOk};
+ghost use Rattle.std.specs.Prelude.{◌≡◌, [], ◌∷◌, ◌++◌, ◌+◌, ◌<◌, ◌≢◌, ◌≤◌, IfOk, OnOk};
 ghost use Rattle.std.specs.Option.{option_or};
 ghost use Rattle.std.specs.Vec.{vec_len};
 ghost use Rattle.tsn_table.specs.Rising.{IsRising, first_from, put_number, without_number};
@@ -113,6 +113,34 @@ fn levelled(node: Box<Node>, left: Tree, right: Tree) -> Tree
     })
 }
 
+// Turns a tree of which one side is too high for the other, and tells whether its height is another now.
+fn level(tree: &mut Tree) -> bool
+    ensures { numbers_of tree.new ≡ numbers_of tree.old }
+{
+    let Tree::Fork(node) = tree else {
+        return false;
+    };
+    let height = node.height;
+    let left = height_of(&node.left);
+    let right = height_of(&node.right);
+    if left.abs_diff(right) > 1 {
+        turn(tree);
+    } else {
+        node.height = left.max(right).saturating_add(1);
+    }
+    height_of(tree) != height
+}
+
+// Turns the tree.
+fn turn(tree: &mut Tree)
+    ensures { numbers_of tree.new ≡ numbers_of tree.old }
+{
+    if let Tree::Fork(mut node) = mem::replace(tree, Tree::Empty) {
+        let (left, right) = sides_of(&mut node);
+        *tree = levelled(node, left, right);
+    }
+}
+
 /// The least number that is `from` or more, and else `above`.
 #[tactic(auto, using(crate::proofs::Rising::firsts))]
 pub(crate) fn first_in(tree: &Tree, from: u64, above: Option<u64>) -> Option<u64>
@@ -131,28 +159,40 @@ pub(crate) fn first_in(tree: &Tree, from: u64, above: Option<u64>) -> Option<u64
     }
 }
 
-/// Puts a number into a tree. A new number needs a node of the pool; where the pool has none, the tree stays as it is.
+/// Puts a number into a tree. A new number needs a node of the pool; where the pool has none, the tree stays as it is. It
+/// tells whether the height may be another.
+#[cycle(putting)]
 #[tactic(auto, using(crate::proofs::Rising::puts))]
-pub(crate) fn put_in(tree: Tree, id: u64, pool: &mut Vec<Box<Node>>) -> Tree
-    requires rising { IsRising (numbers_of tree) }
-    ensures some { 0 < vec_len pool.old → numbers_of result ≡ put_number id (numbers_of tree) }
-    ensures none { vec_len pool.old ≡ 0 → numbers_of result ≡ numbers_of tree }
+pub(crate) fn put_in(tree: &mut Tree, id: u64, pool: &mut Vec<Box<Node>>) -> bool
+    requires rising { IsRising (numbers_of tree.old) }
+    ensures some { 0 < vec_len pool.old → numbers_of tree.new ≡ put_number id (numbers_of tree.old) }
+    ensures none { vec_len pool.old ≡ 0 → numbers_of tree.new ≡ numbers_of tree.old }
 
     // It takes one node at most.
     ensures room { vec_len pool.old ≤ vec_len pool.new + 1 }
 {
-    let Tree::Fork(mut node) = tree else {
-        return sole(id, pool);
+    let Tree::Fork(node) = tree else {
+        *tree = sole(id, pool);
+        return true;
     };
-    let (left, right) = sides_of(&mut node);
+    put_below(node, id, pool) && level(tree)
+}
+
+// The same below a node.
+#[cycle(putting)]
+#[tactic(auto, using(crate::proofs::Rising::puts))]
+fn put_below(node: &mut Box<Node>, id: u64, pool: &mut Vec<Box<Node>>) -> bool
+    requires rising { IsRising (numbers_below node.old.value) }
+    ensures some { 0 < vec_len pool.old → numbers_below node.new.value ≡ put_number id (numbers_below node.old.value) }
+    ensures none { vec_len pool.old ≡ 0 → numbers_below node.new.value ≡ numbers_below node.old.value }
+    ensures room { vec_len pool.old ≤ vec_len pool.new + 1 }
+{
     if id < node.number {
-        let left = put_in(left, id, pool);
-        levelled(node, left, right)
+        put_in(&mut node.left, id, pool)
     } else if node.number < id {
-        let right = put_in(right, id, pool);
-        levelled(node, left, right)
+        put_in(&mut node.right, id, pool)
     } else {
-        Tree::Fork(joined(node, left, right))
+        false
     }
 }
 
@@ -171,26 +211,41 @@ fn sole(id: u64, pool: &mut Vec<Box<Node>>) -> Tree
     }
 }
 
-/// Takes a number out of a tree, where it is there. Its node goes to the pool, if it has room for one.
+/// Takes a number out of a tree, where it is there. Its node goes to the pool, if it has room for one. It tells whether
+/// the height may be another.
+#[cycle(taking)]
 #[tactic(auto, using(crate::proofs::Rising::withouts))]
-pub(crate) fn take_from(tree: Tree, id: u64, pool: &mut Vec<Box<Node>>) -> Tree
-    requires rising { IsRising (numbers_of tree) }
-    ensures numbers { numbers_of result ≡ without_number id (numbers_of tree) }
+pub(crate) fn take_from(tree: &mut Tree, id: u64, pool: &mut Vec<Box<Node>>) -> bool
+    requires rising { IsRising (numbers_of tree.old) }
+    ensures numbers { numbers_of tree.new ≡ without_number id (numbers_of tree.old) }
     ensures room { vec_len pool.old ≤ vec_len pool.new }
 {
-    let Tree::Fork(mut node) = tree else {
-        return Tree::Empty;
+    let Tree::Fork(node) = tree else {
+        return false;
     };
-    let (left, right) = sides_of(&mut node);
-    if id < node.number {
-        let left = take_from(left, id, pool);
-        levelled(node, left, right)
-    } else if node.number < id {
-        let right = take_from(right, id, pool);
-        levelled(node, left, right)
-    } else {
+    if id != node.number {
+        return take_below(node, id, pool) && level(tree);
+    }
+    let (left, right) = sides_of(node);
+    if let Tree::Fork(node) = mem::replace(tree, merged(left, right)) {
         give_back(node, pool);
-        merged(left, right)
+    }
+    true
+}
+
+// The same on the sides of a node of another number.
+#[cycle(taking)]
+#[tactic(auto, using(crate::proofs::Rising::withouts))]
+fn take_below(node: &mut Box<Node>, id: u64, pool: &mut Vec<Box<Node>>) -> bool
+    requires rising { IsRising (numbers_below node.old.value) }
+    requires other { id ≢ node.old.value.number }
+    ensures numbers { numbers_below node.new.value ≡ without_number id (numbers_below node.old.value) }
+    ensures room { vec_len pool.old ≤ vec_len pool.new }
+{
+    if id < node.number {
+        take_from(&mut node.left, id, pool)
+    } else {
+        take_from(&mut node.right, id, pool)
     }
 }
 
