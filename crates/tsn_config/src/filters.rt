@@ -309,16 +309,17 @@ impl Filters {
         self.by_match.reserve(count)
     }
 
-    /// Sets the filter of the number, or takes it out.
-    pub(crate) fn set(&mut self, id: FilterId, value: Option<Record>)
+    /// Sets the filter of the number, or takes it out, and gives the one that was there.
+    pub(crate) fn set(&mut self, id: FilterId, value: Option<Record>) -> Option<StreamFilter>
         requires { 1 ≤ self.old.spare }
+        ensures before { result ≡ map.get self.old.map id }
         ensures map { self.new.map ≡ set_row self.old.map id (filter_of value) }
         ensures spare { self.old.spare ≤ self.new.spare + 1 }
     {
         let id = id.get();
         let before = self.about(id);
         let after = about_value(&value);
-        set_row_of(&mut self.rows, id, into_filter(value));
+        let kept = set_row_of(&mut self.rows, id, into_filter(value));
         move_in(&mut self.by_gate, id, before.gate, after.gate);
         move_in(&mut self.by_meter, id, before.meter, after.meter);
         move_in(
@@ -327,5 +328,6 @@ impl Filters {
             before.specifications,
             after.specifications,
         );
+        kept
     }
 }

@@ -211,18 +211,23 @@ impl Rows {
         self.meters.reserve(count)
     }
 
-    /// Sets the value of the key, or takes the key out.
-    pub(crate) fn set(&mut self, key: Key, value: Option<Record>)
+    /// Sets the value of the key, or takes the key out, and gives the value that stood there.
+    pub(crate) fn set(&mut self, key: Key, value: Option<Record>) -> Option<Record>
         requires kind { IfSome value (λ r. IsTrue (is_of_kind key r)) }
         requires room { 1 ≤ self.old.spare }
+        ensures before { result ≡ map.get self.old.map key }
         ensures map { self.new.map ≡ put self.old.map key value }
         ensures spare { self.old.spare ≤ self.new.spare + 1 }
     {
         match key {
-            Key::Port(id) => set_row_of(&mut self.ports, id.get(), into_port(value)),
-            Key::Filter(id) => self.filters.set(id, value),
-            Key::Gate(id) => set_row_of(&mut self.gates, id.get(), into_gate(value)),
-            Key::Meter(id) => set_row_of(&mut self.meters, id.get(), into_meter(value)),
+            Key::Port(id) => port_record(set_row_of(&mut self.ports, id.get(), into_port(value))),
+            Key::Filter(id) => filter_record(self.filters.set(id, value)),
+            Key::Gate(id) => gate_record(set_row_of(&mut self.gates, id.get(), into_gate(value))),
+            Key::Meter(id) => meter_record(set_row_of(
+                &mut self.meters,
+                id.get(),
+                into_meter(value),
+            )),
         }
     }
 
@@ -234,24 +239,21 @@ impl Rows {
         ensures spare { self.old.spare ≤ self.new.spare + length parts.items }
     {
         while let Some(part) = parts.pop() {
-            self.set(part.key, part.after);
+            let _ = self.set(part.key, part.after);
         }
     }
 }
 
-/// Sets the row of the number, or takes it out.
-pub(crate) fn set_row_of<R: Drop>(table: &mut Table<R>, id: u64, row: Option<R>)
+/// Sets the row of the number, or takes it out, and gives the one that was there.
+pub(crate) fn set_row_of<R: Drop>(table: &mut Table<R>, id: u64, row: Option<R>) -> Option<R>
     requires { 1 ≤ table.old.spare }
+    ensures before { result ≡ map.get table.old.map id }
     ensures map { table.new.map ≡ set_row table.old.map id row }
     ensures spare { table.old.spare ≤ table.new.spare + 1 }
 {
     match row {
-        Some(row) => {
-            let _ = table.put(id, row);
-        }
-        None => {
-            let _ = table.take(id);
-        }
+        Some(row) => table.put(id, row),
+        None => table.take(id),
     }
 }
 
@@ -290,4 +292,28 @@ fn into_meter(value: Option<Record>) -> Option<FlowMeter>
         Some(Record::Meter(row)) => Some(*row),
         _ => None,
     }
+}
+
+fn port_record(row: Option<PortGates>) -> Option<Record>
+    ensures { result ≡ option_map Record.Port row }
+{
+    Some(Record::Port(row?))
+}
+
+fn filter_record(row: Option<StreamFilter>) -> Option<Record>
+    ensures { result ≡ option_map Record.Filter row }
+{
+    Some(Record::Filter(row?))
+}
+
+fn gate_record(row: Option<StreamGate>) -> Option<Record>
+    ensures { result ≡ option_map Record.Gate row }
+{
+    Some(Record::Gate(row?))
+}
+
+fn meter_record(row: Option<FlowMeter>) -> Option<Record>
+    ensures { result ≡ option_map Record.Meter row }
+{
+    Some(Record::Meter(row?))
 }

@@ -71,8 +71,8 @@ impl Part {
         }
     }
 
-    // A copy that equals its source.
-    fn try_clone(&self) -> Result<Part, AllocError>
+    /// A copy that equals its source.
+    pub fn try_clone(&self) -> Result<Part, AllocError>
         ensures { IfOk result (λ copy. copy ≡ self.now) }
     {
         Ok(Part {

@@ -8,11 +8,12 @@ ghost use Rattle.std.specs.Prelude.{◌≡◌, ◌*◌, ◌+◌, ◌≤◌, [], 
 ghost use Rattle.tsn_types.specs.declared.refusals.Refusal.TheVariants.{Memory};
 ghost use Rattle.tsn_types.specs.Refusals.{IsLeastOrMemory};
 ghost use Rattle.std.specs.Option.{option_map_or};
+ghost use Rattle.tsn_edit.specs.Batches.{change_of, refusal};
 ghost use Rattle.tsn_edit.specs.Changes.{Fits, room_of};
 ghost use Rattle.tsn_edit.specs.Configuration.{IsWellKept};
 ghost use Rattle.tsn_edit.specs.Parts.{Change as AnyChange, inverse};
 ghost use Rattle.tsn_edit.specs.Runs.{run, IsGood};
-ghost use Rattle.tsn_journal.specs.declared.entries.What.TheVariants.{Acted, Undone};
+ghost use Rattle.tsn_journal.specs.declared.entries.What.TheVariants.{Acted, Made, Undone};
 ghost use Rattle.tsn_journal.specs.Entries.{Applied, applies, changes, most_entries, no_room, settles_to, standing, with_entry};
 ghost use Rattle.tsn_journal.specs.Finding.{change_at};
 ghost use Rattle.tsn_undo.specs.Ledger.{Holds, Takes, base_of, enter, present};
@@ -234,14 +235,24 @@ impl Book {
         ensures unchanged { OnErr result (self.new.ledger ≡ self.old.ledger) }
         ensures kept { OnErr result (Takes self.old.room 0 0 self.new.room) }
     {
-        // That the keys are distinct is the type's rule, which the proof has where the edits are looked at.
-        let _ = batch.edits();
-        let change = self.config().change_of(batch)?;
-        let copy = change.try_clone()?;
-        if let Err(why) = self.reserve_parts(1, change.parts().len()) {
+        if let Err(why) = self.reserve_parts(1, batch.edits().len()) {
             return Err(why);
         }
-        Ok(self.append(session, What::Made(copy), Some(change)))
+        Ok(self.make(session, batch)?)
+    }
+
+    /// Makes edits that the configuration admits and enters them, in room for both.
+    fn make(&mut self, session: u32, batch: Batch) -> Result<u64, AllocError>
+        requires room { Holds self.old.room 1 (length batch) }
+        requires admitted { refusal self.old.ledger.limits (present self.old.ledger) batch ≡ None }
+        ensures number { IfOk result (λ number. number ≡ length self.old.ledger.entries + 1) }
+        ensures after { OnOk result (self.new.ledger ≡ enter self.old.ledger session (Made (change_of (present self.old.ledger) batch))) }
+        ensures fits { OnOk result (Fits self.old.ledger.limits (present self.old.ledger) (change_of (present self.old.ledger) batch)) }
+        ensures unchanged { OnErr result (self.new.ledger ≡ self.old.ledger) }
+        ensures kept { OnErr result (Takes self.old.room 0 0 self.new.room) }
+    {
+        let change = self.config.make(batch)?;
+        Ok(self.journal.push(session, What::Made(change)))
     }
 
     /// Takes back the entry of the number, which nothing but want of memory refuses.

@@ -17,7 +17,7 @@ invariant_of-self c =
     let before = c.about-before.ensures in
     let after = c.about_value-after.ensures in
     let seen = sym c.self.view_is in
-    subst (λ fs. IsIndexed fs c.move_in.new.index.map c.move_in-2.new.index.map c.move_in-3.new.index.map) (sym (c.set_row_of.ensures.map ∙ ap (set_row i.rows.map n) c.into_filter.ensures))
+    subst (λ fs. IsIndexed fs c.move_in.new.index.map c.move_in-2.new.index.map c.move_in-3.new.index.map) (sym (c.set_row_of-kept.ensures.map ∙ ap (set_row i.rows.map n) c.into_filter.ensures))
     (record {
       small = still_small i.rows.map n value (omega arith) kept.small;
       narrow = still_narrow i.rows.map n value after.narrow kept.narrow;
