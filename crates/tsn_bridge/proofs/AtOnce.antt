@@ -110,7 +110,7 @@ module _ (before edited' between : State) (session : ℕ) (batch : List Edit) (e
   makes : Edits before.book session batch entry between.book
   makes =
       let is = edited before edited' session batch entry made' in
-      makes_edit before.book session batch sound fits_now is_batch is.admitted entry between.book is.number_is (same ∙ ap (λ (s : State). s.book) is.state)
+      makes_edit before.book session batch fits_now is_batch is.admitted entry between.book is.number_is (same ∙ ap (λ (s : State). s.book) is.state)
 
   sound_between : IsSound between.book.limits between.book.opening between.book.entries
   sound_between = subst (λ (b : Ledger). IsSound b.limits b.opening b.entries) (sym makes.after) (edit_sound before.book session batch sound fits_now)

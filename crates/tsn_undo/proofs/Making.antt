@@ -30,10 +30,11 @@ kept_now b sound = end_kept b.limits b.opening (changes (collect applies b.entri
 
 -- ---- an edit
 
-module _ (b : Ledger) (s : ℕ) (batch : List Edit) (fits : Fits b.limits (present b) (change_of (present b) batch)) where
-  edit_sound : SoundLedger b → IsSound b.limits b.opening (with_entry b.entries s (Made (change_of (present b) batch)))
-  edit_sound sound = sound_added b.limits b.opening b.entries s (Made (change_of (present b) batch)) sound tt (λ n. refl) (change_of (present b) batch) refl refl fits
+pub edit_sound : (b : Ledger) (s : ℕ) (batch : List Edit) → SoundLedger b → Fits b.limits (present b) (change_of (present b) batch)
+    → IsSound b.limits b.opening (with_entry b.entries s (Made (change_of (present b) batch)))
+edit_sound b s batch sound fits = sound_added b.limits b.opening b.entries s (Made (change_of (present b) batch)) sound tt (λ n. refl) (change_of (present b) batch) refl refl fits
 
+module _ (b : Ledger) (s : ℕ) (batch : List Edit) (fits : Fits b.limits (present b) (change_of (present b) batch)) where
   pub makes_edit : IsBatch batch → edit_refusal b batch ≡ None → (number : ℕ) (new : Ledger) → number ≡ length b.entries + 1 → new ≡ enter b s (Made (change_of (present b) batch)) → Edits b s batch number new
   makes_edit is admitted number new number_is after = record {
     admitted = admitted;
@@ -69,7 +70,7 @@ module _ (l : Limits) (m : Configuration) (es : List Entry) (now : Ledger) (view
     made = change_of (present now) batch
 
     sound_made : IsSound now.limits now.opening (with_entry now.entries s (Made made))
-    sound_made = edit_sound now s batch (own_fits fits) own_sound
+    sound_made = edit_sound now s batch own_sound (own_fits fits)
 
     entries_made : es' ≡ with_entry es s (Made made)
     entries_made = entries ∙ ap (λ c. with_entry es s (Made c)) (change ∙ own_change)
