@@ -10,6 +10,7 @@ ghost use Rattle.std.specs.Ordering.{nat_cmp};
 ghost use Rattle.std.specs.Option.{option_copied};
 ghost use Rattle.std.specs.FinMap as map;
 ghost use Rattle.std.specs.HashMap as hash;
+ghost use Rattle.std.specs.List.Sorted.{IsPermutation, IsSorted};
 ghost use Rattle.tsn_table.specs.Firsts.{AnswersAs, first_id, least_id, lesser};
 ghost use Rattle.tsn_table.specs.Copies.{Copies};
 
@@ -86,9 +87,8 @@ impl<R: Drop> Table<R> {
         if self.rows.is_empty() {
             return Ok(Vec::new(alloc));
         }
-        let mut ids = ids_of(&self.rows, alloc)?;
-        ids.sort_unstable();
-        Ok(ids)
+        let ids = ids_of(&self.rows, alloc)?;
+        Ok(ascending(ids))
     }
 
     /// A table of equal rows with no room for more, each row copied by `copy_row`. Refused only for want of memory.
@@ -165,6 +165,15 @@ fn ids_of<R>(rows: &HashMap<u64, R>, alloc: Global) -> Result<Vec<u64>, AllocErr
     ensures unique { hash.IsUnique nat_eq rows.now }
 {
     rows.keys().copied().collect(alloc)
+}
+
+// The same numbers, in their order.
+fn ascending(mut ids: Vec<u64>) -> Vec<u64>
+    ensures permutation { IsPermutation ids.items result.items }
+    ensures sorted { IsSorted nat_cmp result.items }
+{
+    ids.sort_unstable();
+    ids
 }
 
 // The least number whose row passes the test.
