@@ -1,7 +1,7 @@
 use Rattle.std.proofs.Common.{◌∙◌, ap, arith, length}
 use Rattle.tsn_edit.proofs.InOrder.{length_change}
 use Rattle.tsn_undo.specs.Ledger.{LedgerWithRoom}
-use Rattle.tsn_undo.proofs.Making.{made_book, made_ledger, own_refusal}
+use Rattle.tsn_undo.proofs.Making.{made_book, own_refusal}
 use Rattle.tsn_undo.proofs.book.Book.make.Goals as goal
 
 pub make-requires-clause-admitted : goal.make-requires-clause-admitted
@@ -18,10 +18,4 @@ pub invariant_of-self-2 : goal.invariant_of-self-2
 invariant_of-self-2 c =
     let i = c.self.inside in
     made_book i.config.limits i.config.map i.journal.entries c.args.self.now.ledger (ap (λ (a : LedgerWithRoom). a.ledger) c.self.view_is) c.self.invariant c.args.batch c.args.session
-    c.make.new.self.limits c.make.new.self.map c.push.new.self.entries c.in_ok-change.change c.make.ensures.limits c.in_ok-change.ensures.change c.in_ok-change.ensures.fits c.in_ok-change.ensures.map c.push.ensures.entries
-
-pub returns-clause-after : goal.returns-clause-after
-returns-clause-after c =
-    let i = c.self.inside in
-    made_ledger i.config.limits i.config.map i.journal.entries c.args.self.now.ledger (ap (λ (a : LedgerWithRoom). a.ledger) c.self.view_is) c.self.invariant c.args.batch c.args.session
     c.make.new.self.limits c.make.new.self.map c.push.new.self.entries c.in_ok-change.change c.make.ensures.limits c.in_ok-change.ensures.change c.in_ok-change.ensures.fits c.in_ok-change.ensures.map c.push.ensures.entries
