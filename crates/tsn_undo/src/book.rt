@@ -242,7 +242,7 @@ impl Book {
     }
 
     /// Makes edits that the configuration admits and enters them, in room for both.
-    #[tactic(auto, using(crate::proofs::Making::made_ledger))]
+    #[tactic(auto, using(crate::proofs::Making::made_ledger, tsn_edit::proofs::InOrder::length_change, std::proofs::lemmas::Grind::common_steps))]
     fn make(&mut self, session: u32, batch: Batch) -> Result<u64, AllocError>
         requires room { Holds self.old.room 1 (length batch) }
         requires admitted { refusal self.old.ledger.limits (present self.old.ledger) batch ≡ None }

@@ -1,5 +1,4 @@
-use Rattle.std.proofs.Common.{◌∙◌, ap, arith, length}
-use Rattle.tsn_edit.proofs.InOrder.{length_change}
+use Rattle.std.proofs.Common.{◌∙◌, ap}
 use Rattle.tsn_undo.specs.Ledger.{LedgerWithRoom}
 use Rattle.tsn_undo.proofs.Making.{made_book, own_refusal}
 use Rattle.tsn_undo.proofs.book.Book.make.Goals as goal
@@ -8,11 +7,6 @@ pub make-requires-clause-admitted : goal.make-requires-clause-admitted
 make-requires-clause-admitted c =
     let i = c.self.inside in
     own_refusal i.config.limits i.config.map i.journal.entries c.args.self.now.ledger (ap (λ (a : LedgerWithRoom). a.ledger) c.self.view_is) c.self.invariant c.args.batch ∙ c.requires.admitted
-
-pub push-requires-clause-parts : goal.push-requires-clause-parts
-push-requires-clause-parts c =
-    let i = c.self.inside in
-    omega (arith, ap length c.in_ok-change.ensures.change, length_change i.config.map c.args.batch, c.requires.room.1, ap (λ (a : LedgerWithRoom). a.room.parts) c.self.view_is)
 
 pub invariant_of-self-2 : goal.invariant_of-self-2
 invariant_of-self-2 c =
