@@ -1,12 +1,12 @@
 -- A place in a text goes on behind a piece or behind digits.
-use Rattle.std.proofs.Common.{◌≡◌, ℕ, ◌+◌, ◌-◌, ◌*◌, ◌^◌, ◌<◌, ◌≤◌, ◌++◌, List, [], ◌∷◌, length, take, drop, get_or, true, decimal, refl, sym, ap, ◌∙◌, arith, length-drop, length-append, get_or-take}
+use Rattle.std.proofs.Common.{◌≡◌, ℕ, ◌+◌, ◌-◌, ◌*◌, ◌^◌, ◌<◌, ◌≤◌, ◌≢◌, ◌++◌, List, [], ◌∷◌, length, take, drop, get_or, true, decimal, refl, sym, ap, ◌∙◌, arith, length-drop, length-append, get_or-take}
 use Rattle.std.specs.Char.{is_ascii_digit, digit_value}
 use Rattle.std.specs.List.{list_all}
 use Rattle.std.specs.Str.Parse.{digits_value}
 use Rattle.std.proofs.lemmas.Bool.{leb-true}
 use Rattle.std.proofs.lemmas.Fmt.{decimal-digits_value}
 use Rattle.std.proofs.lemmas.Int.Digits.{digits_value_push}
-use Rattle.std.proofs.lemmas.List.{drop-drop, take_more, length-take-le}
+use Rattle.std.proofs.lemmas.List.{drop-drop, get_or_append_left, take_more, take-append-drop, length-take-le}
 use Rattle.std.proofs.lemmas.List.Folds.{list_all-append}
 use Rattle.std.proofs.lemmas.Str.{digit_value_digit}
 use Rattle.std.proofs.Math.Seq.{drop-append_seam}
@@ -20,6 +20,12 @@ behind text piece rest at fits is =
     let tail : rest ≡ drop (length text - length rest) text =
     sym (drop-append_seam piece rest) ∙ sym (ap (drop (length piece)) is) ∙ drop-drop (length piece) at text ∙ ap (λ n. drop n text) place in
     is ∙ ap (λ l. piece ++ l) tail
+
+-- the same where the piece was compared with what is left
+pub behind_piece : (text piece : List ℕ) (at : ℕ) → take (length piece) (drop at text) ≡ piece → drop at text ≡ piece ++ drop (at + length piece) text
+behind_piece text piece at same =
+    sym (take-append-drop (length piece) (drop at text)) ∙ ap (λ l. l ++ drop (length piece) (drop at text)) same
+    ∙ ap (λ l. piece ++ l) (drop-drop (length piece) at text ∙ ap (λ n. drop n text) (omega arith))
 
 all_digits_more : (ds : List ℕ) (d : ℕ) → list_all is_ascii_digit ds ≡ true → is_ascii_digit d ≡ true → list_all is_ascii_digit (ds ++ d ∷ []) ≡ true
 all_digits_more ds d all one = list_all-append is_ascii_digit ds (d ∷ []) ∙ rw (all, one) refl
@@ -43,3 +49,16 @@ spell text count value fits all is small some lead =
     let size : length (take count text) ≡ count = length-take-le count text fits in
     let first = get_or-take count text 0 0 some in
     sym (ap decimal is ∙ decimal-digits_value own (take count text) all (omega (arith, size)) (λ e. size ∙ lead (sym first ∙ e)) (omega (arith, is)))
+
+-- two texts that begin alike go on alike by one byte
+pub one_more : (text piece : List ℕ) (count : ℕ) → count < length piece → length piece ≤ length text → get_or text count 0 ≡ get_or piece count 0 → take count text ≡ take count piece → take (count + 1) text ≡ take (count + 1) piece
+one_more text piece count within fits byte same =
+    take_more text count 0 (omega arith) ∙ ap (λ l. l ++ get_or text count 0 ∷ []) same ∙ ap (λ b. take count piece ++ b ∷ []) byte ∙ sym (take_more piece count 0 within)
+
+-- a text with another byte does not begin with the piece
+pub mismatch : (text piece rest : List ℕ) (count : ℕ) → count < length piece → get_or text count 0 ≢ get_or piece count 0 → text ≢ piece ++ rest
+mismatch text piece rest count within other e = other (ap (λ l. get_or l count 0) e ∙ get_or_append_left piece rest 0 count within)
+
+-- and neither does a text that is shorter
+pub too_short : (text piece rest : List ℕ) → length text < length piece → text ≢ piece ++ rest
+too_short text piece rest short e = let size : length text ≡ length piece + length rest = ap length e ∙ length-append piece rest in omega arith

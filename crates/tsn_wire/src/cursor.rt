@@ -69,6 +69,28 @@ fn leading_space(text: &[u8]) -> usize
     count
 }
 
+// Whether the text begins with the piece. It goes byte by byte: where the piece is written out at the call, the compiler leaves no
+// loop of it.
+#[inline(always)]
+#[tactic(auto, using(crate::proofs::Places::one_more, crate::proofs::Places::mismatch, crate::proofs::Places::too_short))]
+fn begins_with(text: &[u8], piece: &[u8]) -> bool
+    ensures found { IsTrue result → take (length piece.now) text.now ≡ piece.now }
+    ensures fits { IsTrue result → length piece.now ≤ length text.now }
+    ensures missed { result ≡ false → (rest : List ℕ) → text.now ≢ piece.now ++ rest }
+{
+    if text.len() < piece.len() {
+        return false;
+    }
+    let mut count: usize = 0;
+    'bytes: while count < piece.len() {
+        if text[count] != piece[count] {
+            return false;
+        }
+        count += 1;
+    }
+    true
+}
+
 impl<'a> Cursor<'a> {
     /// All of the text is left.
     pub fn new(text: &'a [u8]) -> Cursor<'a>
@@ -78,21 +100,21 @@ impl<'a> Cursor<'a> {
     }
 
     /// Goes behind the piece, where what is left begins with it.
+    #[inline(always)]
     pub fn take(&mut self, piece: &str) -> bool
         ensures took { IsTrue result → self.old ≡ piece.now ++ self.new }
         ensures missed { result ≡ false → (rest : List ℕ) → self.old ≢ piece.now ++ rest }
         ensures kept { result ≡ false → self.new ≡ self.old }
     {
-        match self.text[self.at..].strip_prefix(piece.as_bytes()) {
-            Some(rest) => {
-                self.at = self.text.len() - rest.len();
-                true
-            }
-            None => false,
+        if !begins_with(&self.text[self.at..], piece.as_bytes()) {
+            return false;
         }
+        self.at += piece.len();
+        true
     }
 
     /// Goes behind the piece, which must come next; None exactly where it does not.
+    #[inline(always)]
     pub fn expect(&mut self, piece: &str) -> Option<()>
         ensures { MatchOption result ((rest : List ℕ) → self.old ≢ piece.now ++ rest)
             (λ _. self.old ≡ piece.now ++ self.new) }
@@ -155,6 +177,7 @@ impl<'a> Cursor<'a> {
     }
 
     /// Goes behind the name in quotes, where what is left begins with it.
+    #[inline(always)]
     pub fn quoted(&mut self, name: &str) -> bool
         requires { is_bare name.now ≡ true }
         ensures { IsTrue result → lexed self.old ≡ token (Token.string name.now) ∷ lexed self.new }

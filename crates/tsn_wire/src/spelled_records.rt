@@ -20,6 +20,7 @@ use tsn_types::keys::Kind;
 use tsn_types::lists::ControlList;
 use tsn_types::numbers::identifiers::GREATEST_INSTANCE;
 
+#[inline(always)]
 pub fn number_member(text: &mut Cursor<'_>, name: &str) -> Option<u64>
     ensures { IfSome result (λ n. IsSmall n × (text.old ≡ name.now ++ (decimal n ++ text.new))) }
 {
@@ -27,6 +28,7 @@ pub fn number_member(text: &mut Cursor<'_>, name: &str) -> Option<u64>
     text.number()
 }
 
+#[inline(always)]
 fn optional_member(text: &mut Cursor<'_>, name: &str) -> Option<Option<u64>>
     ensures { IfSome result (λ o. IfSome o IsSmall
         × (text.old ≡ name.now ++ (compact_text (or_null o) ++ text.new))) }
@@ -39,6 +41,7 @@ fn optional_member(text: &mut Cursor<'_>, name: &str) -> Option<Option<u64>>
     Some(Some(number))
 }
 
+#[inline(always)]
 fn flag_member(text: &mut Cursor<'_>, name: &str) -> Option<bool>
     ensures { IfSome result (λ b. text.old ≡ name.now ++ (compact_text (boolean b) ++ text.new)) }
 {
