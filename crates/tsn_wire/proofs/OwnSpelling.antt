@@ -27,7 +27,9 @@ use Rattle.tsn_records.specs.Records.{port_entry_shape, gate_entry_shape, list_s
 use Rattle.tsn_wire.specs.Reading.{data_of, line_of_draft, reading}
 use Rattle.tsn_records.specs.Shown.{whole_data, or_null}
 use Rattle.tsn_wire.specs.Lines.{batch_members}
-use Rattle.tsn_wire.specs.Spelled.{IsSmall, IsNoPort, EditIsSmall, batch_value, edit_value, port_entry_value, gate_entry_value, port_value, filter_value, gate_value, meter_value, record_value, PortEntryIsSmall, GateEntryIsSmall, PortIsSmall, GateIsSmall, FilterIsSmall, MeterIsSmall, RecordIsSmall, Spells, SpellsFront}
+use Rattle.tsn_wire.specs.Spelled.{IsSmall, IsNoPort, EditIsSmall, batch_value, edit_value, port_entry_value, gate_entry_value, port_value, filter_value, gate_value, meter_value, record_value, PortEntryIsSmall, GateEntryIsSmall, PortIsSmall, GateIsSmall, FilterIsSmall, MeterIsSmall, RecordIsSmall, Spells}
+use Rattle.tsn_wire.specs.SpelledFront.{SpellsFront, SpellsStates}
+use Rattle.tsn_wire.specs.Values.{states_data}
 use Rattle.tsn_records.specs.declared.drafts.PortEntryDraft.{PortEntryDraft}
 use Rattle.tsn_records.specs.declared.drafts.GateEntryDraft.{GateEntryDraft}
 use Rattle.tsn_records.specs.declared.drafts.PortDraft.{PortDraft}
@@ -43,6 +45,7 @@ use Rattle.tsn_wire.specs.declared.drafts.EditDraft.TheVariants as edits
 use Rattle.tsn_wire.specs.declared.drafts.LineDraft.{LineDraft}
 use Rattle.tsn_wire.specs.declared.drafts.LineDraft.TheVariants.{Session}
 use Rattle.tsn_records.specs.declared.unread.Unread.{Unread}
+use Rattle.tsn_wire.proofs.Acting.{counters_shaped, states_shaped}
 use Rattle.tsn_wire.proofs.Answering.{data_of_read}
 use Rattle.tsn_wire.proofs.EditShapes.{IsKept, batch_kept}
 use Rattle.tsn_records.proofs.Escaping.{escape_key}
@@ -55,13 +58,13 @@ abbrev pub whole : Option (json.Json × List Token) → Option Data
 whole o = option_and_then of_json (option_and_then (λ p. json.if_last p.0 p.1) o)
 
 -- a value whose numbers are small whole ones, and that nests no deeper than n
-record IsPlain (n : ℕ) (d : Data) : Type 0 where
-  same : of_json (outline d) ≡ Some d
-  numbers : HasNumbers (outline d)
-  shallow : depth (outline d) ≤ n
+pub record IsPlain (n : ℕ) (d : Data) : Type 0 where
+  pub same : of_json (outline d) ≡ Some d
+  pub numbers : HasNumbers (outline d)
+  pub shallow : depth (outline d) ≤ n
 
 -- the compact text of such a value is read as the value
-printed_reads : (line : List ℕ) (d : Data) → IsPlain 127 d → line ≡ compact_text d → IsUtf8 line → data_of line ≡ Some d
+pub printed_reads : (line : List ℕ) (d : Data) → IsPlain 127 d → line ≡ compact_text d → IsUtf8 line → data_of line ≡ Some d
 printed_reads line d plain is utf8 =
     let j = outline d in
     let text : line ≡ print (json_tokens j) = is ∙ sym (print-outline d) in
@@ -260,6 +263,10 @@ show_text : (s : ℕ) (k : Kind) (n : ℕ) → IsInstanceId n → codes "{\"do\"
 unfolding escape_byte
 show_text s k n small = quoted_key (codes "{\"do\":\"show\",\"key\":\"") (tail s) k n small
 
+counters_text : (s : ℕ) (k : Kind) (n : ℕ) → IsInstanceId n → codes "{\"do\":\"counters\",\"key\":\"" ++ (spelled_key k n ++ (codes "\"" ++ tail s)) ≡ compact_text (keyed (codes "counters") s k n)
+unfolding escape_byte
+counters_text s k n small = quoted_key (codes "{\"do\":\"counters\",\"key\":\"") (tail s) k n small
+
 pub remove_shaped : (s : ℕ) (k : Kind) (n : ℕ) → IsInstanceId n → IsNoPort k → line_shape (keyed (codes "remove") s k n) ≡ Ok (Session s (Remove (record { kind = k; number = n })))
 unfolding line_shape command_shape remove_shape removed_key
 remove_shaped s kinds.Port n small other = absurd other
@@ -380,6 +387,26 @@ pub asked_shaped : (s after : ℕ) → line_shape (asked s after) ≡ Ok (Sessio
 unfolding line_shape command_shape since_shape
 asked_shaped s after = refl
 
+-- a look at states
+states_plain : (s : ℕ) (k : Kind) (n at : ℕ) → IsSmall s → IsSmall at → IsPlain 127 (states_data s (spelled_key k n) at)
+states_plain s k n at small small_at = record {
+  same = rw (number_of-decimal at small_at, number_of-decimal s small) refl;
+  numbers = (IsNumber-decimal at small_at, (tt, (tt, (IsNumber-decimal s small, tt))));
+  shallow = omega arith;
+}
+
+states_text : (s : ℕ) (k : Kind) (n at : ℕ) → IsInstanceId n → codes "{\"at\":" ++ (decimal at ++ (codes ",\"do\":\"states\",\"key\":\"" ++ (spelled_key k n ++ (codes "\"" ++ tail s)))) ≡ compact_text (states_data s (spelled_key k n) at)
+unfolding escape_byte
+states_text s k n at small = ap (λ l. codes "{\"at\":" ++ (decimal at ++ l)) (quoted_key (codes ",\"do\":\"states\",\"key\":\"") (tail s) k n small)
+
+states_says : (line text rest : List ℕ) (command : CommandDraft) (s : ℕ) → line ≡ codes "{\"at\":" ++ text → SpellsStates text command rest → IsSmall s → rest ≡ tail s → IsUtf8 line → reading line ≡ line_of_draft (Session s command)
+states_says line text rest command s first (key, at, asks, small_at, k, has, is) small last utf8 =
+    let whole_line = first ∙ ap (λ l. codes "{\"at\":" ++ l) (is ∙ ap (λ l. decimal at ++ (codes ",\"do\":\"states\",\"key\":\"" ++ (spelled_key key.kind key.number ++ (codes "\"" ++ l)))) last) in
+    reading_of line (states_data s (spelled_key key.kind key.number) at) (Session s (States key at))
+    (printed_reads line _ (states_plain s key.kind key.number at small small_at) (whole_line ∙ states_text s key.kind key.number at k) utf8)
+    (states_shaped s key.kind key.number at k has)
+    ∙ ap (λ (c : CommandDraft). line_of_draft (Session s c)) (sym asks)
+
 -- ---- the line of any of them
 
 spelled_says : (line text rest : List ℕ) (command : CommandDraft) (s : ℕ) → line ≡ codes "{\"do\":\"" ++ text → Spells text command rest → IsSmall s → rest ≡ tail s → IsUtf8 line → reading line ≡ line_of_draft (Session s command)
@@ -415,6 +442,11 @@ spelled_says line text rest (Show key) s first (k, is) small last utf8 =
     reading_of line (keyed (codes "show") s key.kind key.number) (Session s (Show key))
     (printed_reads line _ (keyed_plain (codes "show") s key.kind key.number small) (whole_line ∙ show_text s key.kind key.number k) utf8)
     (show_shaped s key.kind key.number k)
+spelled_says line text rest (Counters key) s first (k, is) small last utf8 =
+    let whole_line = first ∙ ap (λ l. codes "{\"do\":\"" ++ l) (is ∙ ap (λ l. codes "counters\",\"key\":\"" ++ (spelled_key key.kind key.number ++ (codes "\"" ++ l))) last) in
+    reading_of line (keyed (codes "counters") s key.kind key.number) (Session s (Counters key))
+    (printed_reads line _ (keyed_plain (codes "counters") s key.kind key.number small) (whole_line ∙ counters_text s key.kind key.number k) utf8)
+    (counters_shaped s key.kind key.number k)
 spelled_says line text rest (ListKind k) s first is small last utf8 =
     let whole_line = first ∙ ap (λ l. codes "{\"do\":\"" ++ l) (is ∙ ap (λ l. codes "list\",\"kind\":\"" ++ (kind_text k ++ (codes "\"" ++ l))) last) in
     reading_of line (listed s k) (Session s (ListKind k)) (printed_reads line _ (listed_plain s k small) (whole_line ∙ listed_text s k) utf8) (listed_shaped s k)
@@ -424,7 +456,6 @@ spelled_says line text rest (Disable key now) s first never small last utf8 = ab
 spelled_says line text rest (Apply key now) s first never small last utf8 = absurd never
 spelled_says line text rest (Frame frame now) s first never small last utf8 = absurd never
 spelled_says line text rest (States key at) s first never small last utf8 = absurd never
-spelled_says line text rest (Counters key) s first never small last utf8 = absurd never
 spelled_says line text rest (Since after) s first never small last utf8 = absurd never
 
 pub front_says : (line rest : List ℕ) (command : CommandDraft) (s : ℕ) → SpellsFront line command rest → IsSmall s → rest ≡ tail s → IsUtf8 line → reading line ≡ line_of_draft (Session s command)
@@ -432,4 +463,5 @@ front_says line rest command s (inl (after, asks, small_after, is)) small last u
     let whole_line = is ∙ ap (λ l. codes "{\"after\":" ++ (decimal after ++ (codes ",\"do\":\"since\"" ++ l))) last in
     reading_of line (asked s after) (Session s (Since after)) (printed_reads line _ (asked_plain s after small small_after) (whole_line ∙ asked_text s after) utf8) (asked_shaped s after)
     ∙ ap (λ (c : CommandDraft). line_of_draft (Session s c)) (sym asks)
-front_says line rest command s (inr (text, first, spells)) small last utf8 = spelled_says line text rest command s first spells small last utf8
+front_says line rest command s (inr (inl (text, first, spells))) small last utf8 = states_says line text rest command s first spells small last utf8
+front_says line rest command s (inr (inr (text, first, spells))) small last utf8 = spelled_says line text rest command s first spells small last utf8

@@ -142,7 +142,7 @@ SpellsRecord text key value rest =
     × (text ≡ spelled_key key.kind key.number ++ (codes "\",\"record\":" ++ (compact_text (record_value value) ++ rest)))
 
 -- The text begins with what follows `{"do":"` in a command's line, up to `,"s":`, and the rest comes after it. Lines that
--- settle, act on a list, hand in a frame or look at states or counters are not read so.
+-- settle or act on a list are not read so, those that hand in a frame elsewhere, and those that look at states begin otherwise.
 abbrev pub Spells : List ℕ → CommandDraft → List ℕ → Type 0
 Spells text (Create key value) rest = (behind : List ℕ) × (text ≡ codes "create\",\"key\":\"" ++ behind) × SpellsRecord behind key value rest
 Spells text (Replace key value) rest = (behind : List ℕ) × (text ≡ codes "replace\",\"key\":\"" ++ behind) × SpellsRecord behind key value rest
@@ -157,13 +157,7 @@ Spells text (Disable key now) rest = ⊥
 Spells text (Apply key now) rest = ⊥
 Spells text (Frame frame now) rest = ⊥
 Spells text (States key at) rest = ⊥
-Spells text (Counters key) rest = ⊥
+Spells text (Counters key) rest = IsKey key × (text ≡ codes "counters\",\"key\":\"" ++ (spelled_key key.kind key.number ++ (codes "\"" ++ rest)))
 Spells text (Show key) rest = IsKey key × (text ≡ codes "show\",\"key\":\"" ++ (spelled_key key.kind key.number ++ (codes "\"" ++ rest)))
 Spells text (ListKind kind) rest = text ≡ codes "list\",\"kind\":\"" ++ (kind_text kind ++ (codes "\"" ++ rest))
 Spells text (Since after) rest = ⊥
-
--- The line begins with a command's members up to `,"s":`, and the rest comes after them. Of a since the first member is `after`, and of any other command `do`.
-abbrev pub SpellsFront : List ℕ → CommandDraft → List ℕ → Type 0
-SpellsFront line command rest =
-    ((after : ℕ) × (command ≡ Since after) × IsSmall after × (line ≡ codes "{\"after\":" ++ (decimal after ++ (codes ",\"do\":\"since\"" ++ rest))))
-    ⊎ ((text : List ℕ) × (line ≡ codes "{\"do\":\"" ++ text) × Spells text command rest)

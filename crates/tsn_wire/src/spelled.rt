@@ -1,6 +1,6 @@
 //! Lines in the service's own spelling, read with no tree.
 //!
-//! An edit or a batch, an undo or a redo, or a question for records or entries that is compact and has its members in
+//! An edit or a batch, an undo or a redo, a frame or a look that is compact and has its members in
 //! ascending order of their names, as the service writes them, is read piece by piece, and only a list and a batch take
 //! memory. Any other line is read from its lexemes by `any_line`, and what that does not read, as any other batch, is
 //! left to `serde_json`.
@@ -12,13 +12,14 @@ ghost use Rattle.tsn_records.specs.Keys.{kind_text, spelled_key};
 ghost use Rattle.tsn_wire.specs.Reading.{line_of_draft, reading};
 ghost use Rattle.tsn_records.specs.Shown.{or_null, list_array};
 ghost use Rattle.tsn_wire.specs.Lexed.{lexed, ReadsValue};
-ghost use Rattle.tsn_wire.specs.Spelled.{port_entry_value, gate_entry_value, port_value, filter_value, gate_value, meter_value, IsSmall, IsKey, PortEntryIsSmall, GateEntryIsSmall, PortIsSmall, GateIsSmall, FilterIsSmall, MeterIsSmall, SpellsRecord, Spells, SpellsFront};
+ghost use Rattle.tsn_wire.specs.Spelled.{port_entry_value, gate_entry_value, port_value, filter_value, gate_value, meter_value, IsSmall, IsKey, PortEntryIsSmall, GateEntryIsSmall, PortIsSmall, GateIsSmall, FilterIsSmall, MeterIsSmall, SpellsRecord, Spells};
+ghost use Rattle.tsn_wire.specs.SpelledFront.{SpellsFront, SpellsStates};
 
 use crate::any_line::any_draft;
 use crate::cursor::Cursor;
-use crate::drafts::{CommandDraft, LineDraft};
+use crate::drafts::{CommandDraft, FrameDraft, LineDraft};
 use crate::spelled_batch::batch;
-use crate::spelled_records::{key, keyed_record, kind, number_member};
+use crate::spelled_records::{flag_member, key, keyed_record, kind, number_member};
 use std::alloc::Global;
 use tsn_types::keys::Kind;
 
@@ -80,6 +81,12 @@ fn look(alloc: Global, text: &mut Cursor<'_>) -> Option<CommandDraft>
             text.expect("\"")?;
             Some(CommandDraft::Show { key })
         }
+        (b'o', _) => {
+            text.expect("counters\",\"key\":\"")?;
+            let key = key(text)?;
+            text.expect("\"")?;
+            Some(CommandDraft::Counters { key })
+        }
         (b'i', _) => {
             text.expect("list\",\"kind\":\"")?;
             let kind = kind(text)?;
@@ -99,16 +106,43 @@ fn after(text: &mut Cursor<'_>) -> Option<u64>
     Some(number)
 }
 
-// What comes before the session. A since begins with the member `after`, any other command with `do`.
+// What a look at states asks for, behind the name of its first member.
+fn states(text: &mut Cursor<'_>) -> Option<CommandDraft>
+    ensures { IfSome result (λ command. SpellsStates text.old command text.new) }
+{
+    let at = text.number()?;
+    text.expect(",\"do\":\"states\",\"key\":\"")?;
+    let key = key(text)?;
+    match key.kind {
+        Kind::Filter | Kind::Meter => return None,
+        Kind::Port | Kind::Gate => {}
+    }
+    text.expect("\"")?;
+    Some(CommandDraft::States { key, at })
+}
+
+// What comes before the session. A look at states begins with the member `at`, a since with `after`, any other command with
+// `do`.
 fn front(alloc: Global, text: &mut Cursor<'_>) -> Option<CommandDraft>
     ensures { IfSome result (λ command. SpellsFront text.old command text.new) }
 {
-    if text.take("{\"after\":") {
-        let after = after(text)?;
-        return Some(CommandDraft::Since { after });
+    if text.take("{\"do\":\"") {
+        return command(alloc, text);
     }
-    text.expect("{\"do\":\"")?;
-    command(alloc, text)
+    if text.take("{\"at\":") {
+        return states(text);
+    }
+    text.expect("{\"after\":")?;
+    let after = after(text)?;
+    Some(CommandDraft::Since { after })
+}
+
+// The brace that closes the line.
+fn close(text: &mut Cursor<'_>) -> Option<()>
+    ensures { IfSome result (λ _. text.old ≡ codes "}") }
+{
+    text.expect("}")?;
+    text.end()
 }
 
 // The session, and the end of the line.
@@ -117,8 +151,7 @@ fn session(text: &mut Cursor<'_>) -> Option<u64>
         × (text.old ≡ codes ",\"s\":" ++ (decimal s ++ codes "}"))) }
 {
     let number = number_member(text, ",\"s\":")?;
-    text.expect("}")?;
-    text.end()?;
+    close(text)?;
     Some(number)
 }
 
@@ -135,11 +168,39 @@ fn own_draft(alloc: Global, line: &[u8]) -> Option<LineDraft>
     }
 }
 
+// The frame that a line in the service's own spelling hands in; none of any other line.
+fn own_frame(line: &[u8]) -> Option<LineDraft>
+    ensures { IfSome result (λ draft. reading line.now ≡ line_of_draft draft) }
+{
+    let mut text = Cursor::new(line);
+    let handle = number_member(&mut text, "{\"do\":\"frame\",\"handle\":")?;
+    let now = number_member(&mut text, ",\"now\":")?;
+    let octets = number_member(&mut text, ",\"octets\":")?;
+    let priority = number_member(&mut text, ",\"priority\":")?;
+    let session = number_member(&mut text, ",\"s\":")?;
+    let yellow = flag_member(&mut text, ",\"yellow\":")?;
+    close(&mut text)?;
+    let frame = FrameDraft {
+        handle,
+        priority,
+        octets,
+        yellow,
+    };
+    let command = CommandDraft::Frame { frame, now };
+    match std::str::from_utf8(line) {
+        Ok(_) => Some(LineDraft::Session { session, command }),
+        Err(_) => None,
+    }
+}
+
 /// The draft that a line is, in the service's own spelling or in another that is read with no tree.
 /// None says nothing of the line: `command_of` then reads it as a tree.
 pub fn spelled_draft(alloc: Global, line: &[u8]) -> Option<LineDraft>
     ensures { IfSome result (λ draft. reading line.now ≡ line_of_draft draft) }
 {
+    if let Some(draft) = own_frame(line) {
+        return Some(draft);
+    }
     match own_draft(alloc, line) {
         Some(draft) => Some(draft),
         None => any_draft(alloc, line),

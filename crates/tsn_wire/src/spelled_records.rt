@@ -7,7 +7,7 @@ ghost use Rattle.tsn_records.specs.Keys.{kind_text, spelled_key};
 ghost use Rattle.tsn_wire.specs.Reading.{line_of_draft, reading};
 ghost use Rattle.tsn_records.specs.Shown.{or_null, list_array};
 ghost use Rattle.tsn_wire.specs.Lexed.{lexed, ReadsValue};
-ghost use Rattle.tsn_wire.specs.Spelled.{port_entry_value, gate_entry_value, port_value, filter_value, gate_value, meter_value, IsSmall, IsKey, PortEntryIsSmall, GateEntryIsSmall, PortIsSmall, GateIsSmall, FilterIsSmall, MeterIsSmall, SpellsRecord, Spells, SpellsFront};
+ghost use Rattle.tsn_wire.specs.Spelled.{port_entry_value, gate_entry_value, port_value, filter_value, gate_value, meter_value, IsSmall, IsKey, PortEntryIsSmall, GateEntryIsSmall, PortIsSmall, GateIsSmall, FilterIsSmall, MeterIsSmall, SpellsRecord, Spells};
 
 use crate::cursor::Cursor;
 use crate::lexemes::{scanned_gate_entry, scanned_port_entry};
@@ -42,7 +42,7 @@ fn optional_member(text: &mut Cursor<'_>, name: &str) -> Option<Option<u64>>
 }
 
 #[inline(always)]
-fn flag_member(text: &mut Cursor<'_>, name: &str) -> Option<bool>
+pub fn flag_member(text: &mut Cursor<'_>, name: &str) -> Option<bool>
     ensures { IfSome result (λ b. text.old ≡ name.now ++ (compact_text (boolean b) ++ text.new)) }
 {
     text.expect(name)?;

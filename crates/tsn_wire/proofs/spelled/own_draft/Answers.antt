@@ -1,6 +1,6 @@
 use Rattle.std.proofs.Common.{rules, subst}
 use Rattle.tsn_wire.proofs.OwnSpelling.{front_says}
-use Rattle.tsn_wire.specs.Spelled.{SpellsFront}
+use Rattle.tsn_wire.specs.SpelledFront.{SpellsFront}
 use Rattle.tsn_wire.proofs.spelled.own_draft.Goals as goal
 
 pub returns-in-Ok : goal.returns-in-Ok
