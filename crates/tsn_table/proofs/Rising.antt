@@ -128,7 +128,7 @@ first_by : (b : Bool) (y k : ℕ) (o p : Option ℕ) → p ≡ option_or o (Some
 first_by true y k o p e = e
 first_by false y k o p e = refl
 
-pub first_left : (x k : ℕ) (l r : List ℕ) → x ≤ k → first_from x (l ++ k ∷ r) ≡ option_or (first_from x l) (Some k)
+first_left : (x k : ℕ) (l r : List ℕ) → x ≤ k → first_from x (l ++ k ∷ r) ≡ option_or (first_from x l) (Some k)
 first_left x k [] r p = rw (le-ltb k x p)
 first_left x k (y ∷ ys) r p = first_by (ltb y x) y k _ _ (first_left x k ys r p)
 
@@ -136,17 +136,24 @@ or_none : (o : Option ℕ) → option_or o None ≡ o
 or_none None = refl
 or_none (Some n) = refl
 
-pub or_taken : (o : Option ℕ) (k : ℕ) (above : Option ℕ) → option_or o (Some k) ≡ option_or (option_or o (Some k)) above
+or_taken : (o : Option ℕ) (k : ℕ) (above : Option ℕ) → option_or o (Some k) ≡ option_or (option_or o (Some k)) above
 or_taken None k above = refl
 or_taken (Some n) k above = refl
 
-pub first_right : (x k : ℕ) (l r : List ℕ) → k < x → IsRising (l ++ k ∷ r) → first_from x (l ++ k ∷ r) ≡ first_from x r
+first_right : (x k : ℕ) (l r : List ℕ) → k < x → IsRising (l ++ k ∷ r) → first_from x (l ++ k ∷ r) ≡ first_from x r
 first_right x k [] r p s = rw (lt-ltb k x p)
 first_right x k (y ∷ ys) r p s =
     let q : y < k = all_middle (λ z. y < z) ys k r s.0 in
     rw (lt-ltb y x (omega arith)) (first_right x k ys r p s.1)
 
-pub ruleset firsts = (first_left, first_right, or_taken)
+-- a search that goes on in one side finds what it would find in the whole
+pub finds_right : (x k : ℕ) (all l r : List ℕ) (above found : Option ℕ) → all ≡ l ++ k ∷ r → k < x → IsRising all → option_or (first_from x all) above ≡ found → option_or (first_from x r) above ≡ found
+finds_right x k all l r above found is p s same =
+    ap (λ o. option_or o above) (sym (first_right x k l r p (subst IsRising is s))) ∙ ap (λ ns. option_or (first_from x ns) above) (sym is) ∙ same
+
+pub finds_left : (x k : ℕ) (all l r : List ℕ) (above found : Option ℕ) → all ≡ l ++ k ∷ r → x ≤ k → option_or (first_from x all) above ≡ found → option_or (first_from x l) (Some k) ≡ found
+finds_left x k all l r above found is p same =
+    or_taken (first_from x l) k above ∙ ap (λ o. option_or o above) (sym (first_left x k l r p)) ∙ ap (λ ns. option_or (first_from x ns) above) (sym is) ∙ same
 
 -- what the map answers
 abbrev there : ℕ → List ℕ → Option (Unit {0})

@@ -142,21 +142,19 @@ fn turn(tree: &mut Tree)
 }
 
 /// The least number that is `from` or more, and else `above`.
-#[tactic(auto, using(crate::proofs::Rising::firsts))]
-pub(crate) fn first_in(tree: &Tree, from: u64, above: Option<u64>) -> Option<u64>
+pub(crate) fn first_in(mut tree: &Tree, from: u64, mut above: Option<u64>) -> Option<u64>
     requires rising { IsRising (numbers_of tree.now) }
     ensures { result ≡ option_or (first_from from (numbers_of tree.now)) above }
 {
-    match tree {
-        Tree::Empty => above,
-        Tree::Fork(node) => {
-            if node.number < from {
-                first_in(&node.right, from, above)
-            } else {
-                first_in(&node.left, from, Some(node.number))
-            }
+    while let Tree::Fork(node) = tree {
+        if node.number < from {
+            tree = &node.right;
+        } else {
+            above = Some(node.number);
+            tree = &node.left;
         }
     }
+    above
 }
 
 /// Puts a number into a tree. A new number needs a node of the pool; where the pool has none, the tree stays as it is. It
