@@ -1,5 +1,5 @@
 -- Lists of numbers that rise: around a number k in their midst, and as maps.
-use Rattle.std.proofs.Common.{◌≡◌, ◌⊎◌, inl, inr, ℕ, ◌<◌, ◌≤◌, Bool, true, false, cond, eqb, ltb, List, [], ◌∷◌, ◌++◌, refl, sym, ap, ◌∙◌, subst, Option, Some, None, IsSome, length, length-append, arith}
+use Rattle.std.proofs.Common.{◌≡◌, ◌⊎◌, inl, inr, ℕ, ◌<◌, ◌≤◌, Bool, true, false, cond, eqb, ltb, List, [], ◌∷◌, ◌++◌, refl, sym, ap, ◌∙◌, subst, Option, Some, None, IsSome, length, length-append, append-nil, arith}
 use Rattle.std.specs.Prelude.{IfSome, MatchOption}
 use Rattle.std.specs.Option.{option_or}
 use Rattle.std.specs.Ordering.{nat_cmp, eq_by_cmp}
@@ -154,6 +154,35 @@ finds_right x k all l r above found is p s same =
 pub finds_left : (x k : ℕ) (all l r : List ℕ) (above found : Option ℕ) → all ≡ l ++ k ∷ r → x ≤ k → option_or (first_from x all) above ≡ found → option_or (first_from x l) (Some k) ≡ found
 finds_left x k all l r above found is p same =
     or_taken (first_from x l) k above ∙ ap (λ o. option_or o above) (sym (first_left x k l r p)) ∙ ap (λ ns. option_or (first_from x ns) above) (sym is) ∙ same
+
+-- the next number after one that goes comes in its place
+abbrev number_in : Option ℕ → ℕ
+number_in None = 0
+number_in (Some n) = n
+
+pub no_next : (ys : List ℕ) → option_or (first_from 0 ys) None ≡ None → ys ≡ []
+no_next [] e = refl
+no_next (y ∷ ys) e =
+    let first : option_or (first_from 0 (y ∷ ys)) None ≡ Some y = rw (le-ltb y 0 (omega arith)) refl in
+    let none : Some y ≡ None = sym first ∙ e in
+    absurd (cc)
+
+rest_of : (next : ℕ) (ys : List ℕ) → IsRising ys → option_or (first_from 0 ys) None ≡ Some next → ys ≡ next ∷ without_number next ys
+rest_of next [] s e = absurd (cc)
+rest_of next (y ∷ ys) s e =
+    let first : option_or (first_from 0 (y ∷ ys)) None ≡ Some y = rw (le-ltb y 0 (omega arith)) refl in
+    let is : y ≡ next = ap number_in (sym first ∙ e) in
+    rw (eq-eqb next y (sym is)) (ap (λ n. n ∷ ys) is ∙ ap (λ t. next ∷ t) (sym (without_above next ys (subst (λ n. AllNumbers (λ z. n < z) ys) is s.0))))
+
+pub next_in_place : (x k next : ℕ) (all l r new : List ℕ) → all ≡ l ++ k ∷ r → x ≡ k → IsRising all → option_or (first_from 0 r) None ≡ Some next → new ≡ l ++ next ∷ without_number next r → new ≡ without_number x all
+next_in_place x k next all l r new is e s f n =
+    let s' : IsRising (l ++ k ∷ r) = subst IsRising is s in
+    n ∙ ap (λ t. l ++ t) (sym (rest_of next r (rising_back l k r s') f)) ∙ sym (without_middle x k l r e s') ∙ ap (without_number x) (sym is)
+
+pub last_out : (x k : ℕ) (all l r new : List ℕ) → all ≡ l ++ k ∷ r → x ≡ k → IsRising all → option_or (first_from 0 r) None ≡ None → new ≡ l → new ≡ without_number x all
+last_out x k all l r new is e s f n =
+    let s' : IsRising (l ++ k ∷ r) = subst IsRising is s in
+    n ∙ sym (append-nil l) ∙ ap (λ t. l ++ t) (sym (no_next r f)) ∙ sym (without_middle x k l r e s') ∙ ap (without_number x) (sym is)
 
 -- what the map answers
 abbrev there : ℕ → List ℕ → Option (Unit {0})

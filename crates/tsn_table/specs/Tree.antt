@@ -7,7 +7,7 @@ use Rattle.tsn_table.specs.declared.tree.Node.{Node}
 
 abbrev pub numbers_of : Tree → List ℕ
 numbers_of Empty = []
-numbers_of (Fork' place number height left right) = numbers_of left ++ number ∷ numbers_of right
+numbers_of (Fork' place number left_height right_height left right) = numbers_of left ++ number ∷ numbers_of right
 
 -- those of a node and of both its sides
 abbrev pub numbers_below : Node → List ℕ

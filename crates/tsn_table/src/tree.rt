@@ -24,121 +24,149 @@ pub(crate) enum Tree {
 #[derive(Debug, Drop)]
 pub(crate) struct Node {
     number: u64,
-    height: u8,
+    // how high the sides are said to be
+    left_height: u8,
+    right_height: u8,
     left: Tree,
     right: Tree,
 }
 
-// How high the tree is said to be.
-fn height_of(tree: &Tree) -> u8 {
-    match tree {
-        Tree::Empty => 0,
-        Tree::Fork(node) => node.height,
+// How high the tree of the node is said to be.
+#[inline]
+fn height_of(node: &Node) -> u8 {
+    node.left_height.max(node.right_height).saturating_add(1)
+}
+
+// The left side is one higher than it was. It tells whether it is the higher side now.
+#[inline]
+fn left_rises(node: &mut Box<Node>) -> bool
+    ensures { numbers_below node.new.value ≡ numbers_below node.old.value }
+{
+    node.left_height = node.left_height.saturating_add(1);
+    node.left_height > node.right_height
+}
+
+// The same on the right.
+#[inline]
+fn right_rises(node: &mut Box<Node>) -> bool
+    ensures { numbers_below node.new.value ≡ numbers_below node.old.value }
+{
+    node.right_height = node.right_height.saturating_add(1);
+    node.right_height > node.left_height
+}
+
+// The left side is one lower than it was. It tells whether it was another height than the right side.
+#[inline]
+fn left_falls(node: &mut Box<Node>) -> bool
+    ensures { numbers_below node.new.value ≡ numbers_below node.old.value }
+{
+    let height = node.left_height;
+    node.left_height = height.saturating_sub(1);
+    height != node.right_height
+}
+
+// The same on the right.
+#[inline]
+fn right_falls(node: &mut Box<Node>) -> bool
+    ensures { numbers_below node.new.value ≡ numbers_below node.old.value }
+{
+    let height = node.right_height;
+    node.right_height = height.saturating_sub(1);
+    height != node.left_height
+}
+
+// The node above its left side comes down on the right of that side's node, which takes the place above it.
+fn turned_right(mut node: Box<Node>, mut left: Box<Node>) -> Box<Node>
+    ensures { numbers_below result.value ≡ numbers_below left.value ++ node.value.number ∷ numbers_of node.value.right }
+{
+    node.left_height = left.right_height;
+    node.left = mem::replace(&mut left.right, Tree::Empty);
+    left.right_height = height_of(&node);
+    left.right = Tree::Fork(node);
+    left
+}
+
+// The node above its right side comes down on the left of that side's node, which takes the place above it.
+fn turned_left(mut node: Box<Node>, mut right: Box<Node>) -> Box<Node>
+    ensures { numbers_below result.value ≡ numbers_of node.value.left ++ node.value.number ∷ numbers_below right.value }
+{
+    node.right_height = right.left_height;
+    node.right = mem::replace(&mut right.left, Tree::Empty);
+    right.left_height = height_of(&node);
+    right.left = Tree::Fork(node);
+    right
+}
+
+// The same numbers, with a left side that is not the lower one.
+fn leaning_left(mut node: Box<Node>) -> Box<Node>
+    ensures { numbers_below result.value ≡ numbers_below node.value }
+{
+    if node.right_height <= node.left_height {
+        return node;
+    }
+    match mem::replace(&mut node.right, Tree::Empty) {
+        Tree::Empty => node,
+        Tree::Fork(right) => turned_left(node, right),
     }
 }
 
-// Takes both sides off a node.
-fn sides_of(node: &mut Box<Node>) -> (Tree, Tree)
-    ensures left { result.0 ≡ node.old.value.left }
-    ensures right { result.1 ≡ node.old.value.right }
-    ensures number { node.new.value.number ≡ node.old.value.number }
+// The same numbers, with a right side that is not the lower one.
+fn leaning_right(mut node: Box<Node>) -> Box<Node>
+    ensures { numbers_below result.value ≡ numbers_below node.value }
 {
-    let left = mem::replace(&mut node.left, Tree::Empty);
-    let right = mem::replace(&mut node.right, Tree::Empty);
-    (left, right)
-}
-
-// The node between two trees.
-fn joined(mut node: Box<Node>, left: Tree, right: Tree) -> Box<Node>
-    ensures { numbers_below result.value ≡ numbers_of left ++ node.value.number ∷ numbers_of right }
-{
-    node.height = height_of(&left).max(height_of(&right)).saturating_add(1);
-    node.left = left;
-    node.right = right;
-    node
-}
-
-// The same where the left tree is too high.
-fn leaning_left(node: Box<Node>, left: Tree, right: Tree) -> Box<Node>
-    ensures { numbers_below result.value ≡ numbers_of left ++ node.value.number ∷ numbers_of right }
-{
-    let Tree::Fork(mut upper) = left else {
-        return joined(node, Tree::Empty, right);
-    };
-    let (outer, inner) = sides_of(&mut upper);
-    if height_of(&inner) <= height_of(&outer) {
-        return joined(upper, outer, Tree::Fork(joined(node, inner, right)));
+    if node.left_height <= node.right_height {
+        return node;
     }
-    let Tree::Fork(mut middle) = inner else {
-        return joined(upper, outer, Tree::Fork(joined(node, Tree::Empty, right)));
-    };
-    let (low, high) = sides_of(&mut middle);
-    let upper = joined(upper, outer, low);
-    let node = joined(node, high, right);
-    joined(middle, Tree::Fork(upper), Tree::Fork(node))
-}
-
-// The same where the right tree is too high.
-fn leaning_right(node: Box<Node>, left: Tree, right: Tree) -> Box<Node>
-    ensures { numbers_below result.value ≡ numbers_of left ++ node.value.number ∷ numbers_of right }
-{
-    let Tree::Fork(mut upper) = right else {
-        return joined(node, left, Tree::Empty);
-    };
-    let (inner, outer) = sides_of(&mut upper);
-    if height_of(&inner) <= height_of(&outer) {
-        return joined(upper, Tree::Fork(joined(node, left, inner)), outer);
+    match mem::replace(&mut node.left, Tree::Empty) {
+        Tree::Empty => node,
+        Tree::Fork(left) => turned_right(node, left),
     }
-    let Tree::Fork(mut middle) = inner else {
-        return joined(upper, Tree::Fork(joined(node, left, Tree::Empty)), outer);
-    };
-    let (low, high) = sides_of(&mut middle);
-    let node = joined(node, left, low);
-    let upper = joined(upper, high, outer);
-    joined(middle, Tree::Fork(node), Tree::Fork(upper))
 }
 
-// The node between two trees, turned where one of them is too high for the other.
-fn levelled(node: Box<Node>, left: Tree, right: Tree) -> Tree
-    ensures { numbers_of result ≡ numbers_of left ++ node.value.number ∷ numbers_of right }
+// The same numbers where one side is too high for the other: the node of that side is above now.
+fn turned(mut node: Box<Node>) -> Box<Node>
+    ensures { numbers_below result.value ≡ numbers_below node.value }
 {
-    let left_height = height_of(&left);
-    let right_height = height_of(&right);
-    Tree::Fork(if left_height > right_height.saturating_add(1) {
-        leaning_left(node, left, right)
-    } else if right_height > left_height.saturating_add(1) {
-        leaning_right(node, left, right)
+    if node.left_height > node.right_height {
+        match mem::replace(&mut node.left, Tree::Empty) {
+            Tree::Empty => node,
+            Tree::Fork(left) => turned_right(node, leaning_left(left)),
+        }
     } else {
-        joined(node, left, right)
-    })
+        match mem::replace(&mut node.right, Tree::Empty) {
+            Tree::Empty => node,
+            Tree::Fork(right) => turned_left(node, leaning_right(right)),
+        }
+    }
 }
 
-// Turns a tree of which one side is too high for the other, and tells whether its height is another now.
+// Turns a tree of which one side is too high for the other, and tells whether both are as high as each other then.
+#[inline]
 fn level(tree: &mut Tree) -> bool
     ensures { numbers_of tree.new ≡ numbers_of tree.old }
 {
     let Tree::Fork(node) = tree else {
-        return false;
+        return true;
     };
-    let height = node.height;
-    let left = height_of(&node.left);
-    let right = height_of(&node.right);
-    if left.abs_diff(right) > 1 {
-        turn(tree);
-    } else {
-        node.height = left.max(right).saturating_add(1);
+    match node.left_height.abs_diff(node.right_height) {
+        0 => true,
+        1 => false,
+        _ => turn(tree),
     }
-    height_of(tree) != height
 }
 
-// Turns the tree.
-fn turn(tree: &mut Tree)
+// Turns the tree, and tells the same.
+#[inline(never)]
+fn turn(tree: &mut Tree) -> bool
     ensures { numbers_of tree.new ≡ numbers_of tree.old }
 {
-    if let Tree::Fork(mut node) = mem::replace(tree, Tree::Empty) {
-        let (left, right) = sides_of(&mut node);
-        *tree = levelled(node, left, right);
-    }
+    let Tree::Fork(node) = mem::replace(tree, Tree::Empty) else {
+        return true;
+    };
+    let node = turned(node);
+    let level = node.left_height == node.right_height;
+    *tree = Tree::Fork(node);
+    level
 }
 
 /// The least number that is `from` or more, and else `above`.
@@ -158,7 +186,7 @@ pub(crate) fn first_in(mut tree: &Tree, from: u64, mut above: Option<u64>) -> Op
 }
 
 /// Puts a number into a tree. A new number needs a node of the pool; where the pool has none, the tree stays as it is. It
-/// tells whether the height may be another.
+/// tells whether the tree is higher now.
 #[cycle(putting)]
 #[tactic(auto, using(crate::proofs::Rising::puts))]
 pub(crate) fn put_in(tree: &mut Tree, id: u64, pool: &mut Vec<Box<Node>>) -> bool
@@ -173,10 +201,10 @@ pub(crate) fn put_in(tree: &mut Tree, id: u64, pool: &mut Vec<Box<Node>>) -> boo
         *tree = sole(id, pool);
         return true;
     };
-    put_below(node, id, pool) && level(tree)
+    put_below(node, id, pool) && !level(tree)
 }
 
-// The same below a node.
+// The same below a node. It tells whether one side is the higher one, and higher than it was.
 #[cycle(putting)]
 #[tactic(auto, using(crate::proofs::Rising::puts))]
 fn put_below(node: &mut Box<Node>, id: u64, pool: &mut Vec<Box<Node>>) -> bool
@@ -186,9 +214,9 @@ fn put_below(node: &mut Box<Node>, id: u64, pool: &mut Vec<Box<Node>>) -> bool
     ensures room { vec_len pool.old ≤ vec_len pool.new + 1 }
 {
     if id < node.number {
-        put_in(&mut node.left, id, pool)
+        put_in(&mut node.left, id, pool) && left_rises(node)
     } else if node.number < id {
-        put_in(&mut node.right, id, pool)
+        put_in(&mut node.right, id, pool) && right_rises(node)
     } else {
         false
     }
@@ -202,15 +230,28 @@ fn sole(id: u64, pool: &mut Vec<Box<Node>>) -> Tree
 {
     match pool.pop() {
         Some(mut node) => {
-            node.number = id;
-            Tree::Fork(joined(node, Tree::Empty, Tree::Empty))
+            *node = node_of(id);
+            Tree::Fork(node)
         }
         None => Tree::Empty,
     }
 }
 
+// A node with nothing on either side.
+fn node_of(number: u64) -> Node
+    ensures { numbers_below result ≡ number ∷ [] }
+{
+    Node {
+        number,
+        left_height: 0,
+        right_height: 0,
+        left: Tree::Empty,
+        right: Tree::Empty,
+    }
+}
+
 /// Takes a number out of a tree, where it is there. Its node goes to the pool, if it has room for one. It tells whether
-/// the height may be another.
+/// the tree is lower now.
 #[cycle(taking)]
 #[tactic(auto, using(crate::proofs::Rising::withouts))]
 pub(crate) fn take_from(tree: &mut Tree, id: u64, pool: &mut Vec<Box<Node>>) -> bool
@@ -224,14 +265,17 @@ pub(crate) fn take_from(tree: &mut Tree, id: u64, pool: &mut Vec<Box<Node>>) -> 
     if id != node.number {
         return take_below(node, id, pool) && level(tree);
     }
-    let (left, right) = sides_of(node);
-    if let Tree::Fork(node) = mem::replace(tree, merged(left, right)) {
+    if let Some(next) = first_in(&node.right, 0, None) {
+        return take_next(node, next, pool) && level(tree);
+    }
+    let left = mem::replace(&mut node.left, Tree::Empty);
+    if let Tree::Fork(node) = mem::replace(tree, left) {
         give_back(node, pool);
     }
     true
 }
 
-// The same on the sides of a node of another number.
+// The same on the sides of a node of another number. It tells whether one side is lower, and was not as high as the other.
 #[cycle(taking)]
 #[tactic(auto, using(crate::proofs::Rising::withouts))]
 fn take_below(node: &mut Box<Node>, id: u64, pool: &mut Vec<Box<Node>>) -> bool
@@ -241,45 +285,30 @@ fn take_below(node: &mut Box<Node>, id: u64, pool: &mut Vec<Box<Node>>) -> bool
     ensures room { vec_len pool.old ≤ vec_len pool.new }
 {
     if id < node.number {
-        take_from(&mut node.left, id, pool)
+        take_from(&mut node.left, id, pool) && left_falls(node)
     } else {
-        take_from(&mut node.right, id, pool)
+        take_from(&mut node.right, id, pool) && right_falls(node)
     }
 }
 
+// The same at the node's number, where the next greater one, of the right side, comes in its place.
+#[cycle(taking)]
+fn take_next(node: &mut Box<Node>, next: u64, pool: &mut Vec<Box<Node>>) -> bool
+    requires rising { IsRising (numbers_below node.old.value) }
+    ensures numbers { numbers_below node.new.value ≡ numbers_of node.old.value.left ++ next ∷ without_number next (numbers_of node.old.value.right) }
+    ensures room { vec_len pool.old ≤ vec_len pool.new }
+{
+    node.number = next;
+    take_from(&mut node.right, next, pool) && right_falls(node)
+}
+
 // A node that waits for another number.
+#[inline(never)]
 fn give_back(node: Box<Node>, pool: &mut Vec<Box<Node>>)
     ensures { vec_len pool.old ≤ vec_len pool.new }
 {
     if pool.len() < pool.capacity() {
         pool.push_reserved(node);
-    }
-}
-
-// The numbers of both trees, where those of the left are the lesser ones.
-fn merged(left: Tree, right: Tree) -> Tree
-    ensures { numbers_of result ≡ numbers_of left ++ numbers_of right }
-{
-    match right {
-        Tree::Empty => left,
-        Tree::Fork(node) => {
-            let (least, rest) = least_of(node);
-            levelled(least, left, rest)
-        }
-    }
-}
-
-// The node of the least number, and the tree of the others.
-fn least_of(mut node: Box<Node>) -> (Box<Node>, Tree)
-    ensures { numbers_below node.value ≡ result.0.value.number ∷ numbers_of result.1 }
-{
-    let (left, right) = sides_of(&mut node);
-    match left {
-        Tree::Empty => (node, right),
-        Tree::Fork(left) => {
-            let (least, rest) = least_of(left);
-            (least, levelled(node, rest, right))
-        }
     }
 }
 
@@ -294,7 +323,8 @@ pub(crate) fn copy_in(tree: &Tree, alloc: Global) -> Result<Tree, AllocError>
             let right = copy_in(&node.right, alloc)?;
             let copy = Node {
                 number: node.number,
-                height: node.height,
+                left_height: node.left_height,
+                right_height: node.right_height,
                 left,
                 right,
             };
@@ -311,13 +341,7 @@ pub(crate) fn fill(pool: &mut Vec<Box<Node>>, count: usize) -> Result<(), AllocE
     let alloc = *pool.allocator();
     pool.reserve(count.saturating_sub(pool.len()))?;
     while pool.len() < count {
-        let node = Node {
-            number: 0,
-            height: 0,
-            left: Tree::Empty,
-            right: Tree::Empty,
-        };
-        pool.push_reserved(Box::new(alloc, node)?);
+        pool.push_reserved(Box::new(alloc, node_of(0))?);
     }
     Ok(())
 }
