@@ -141,7 +141,7 @@ fn turned(mut node: Box<Node>) -> Box<Node>
 }
 
 // Turns a tree of which one side is too high for the other, and tells whether both are as high as each other then.
-#[inline]
+#[inline(always)]
 fn level(tree: &mut Tree) -> bool
     ensures { numbers_of tree.new ≡ numbers_of tree.old }
 {
@@ -198,8 +198,7 @@ pub(crate) fn put_in(tree: &mut Tree, id: u64, pool: &mut Vec<Box<Node>>) -> boo
     ensures room { vec_len pool.old ≤ vec_len pool.new + 1 }
 {
     let Tree::Fork(node) = tree else {
-        *tree = sole(id, pool);
-        return true;
+        return plant(tree, id, pool);
     };
     put_below(node, id, pool) && !level(tree)
 }
@@ -222,19 +221,19 @@ fn put_below(node: &mut Box<Node>, id: u64, pool: &mut Vec<Box<Node>>) -> bool
     }
 }
 
-// The tree of one number, where the pool has a node for it.
-fn sole(id: u64, pool: &mut Vec<Box<Node>>) -> Tree
-    ensures some { 0 < vec_len pool.old → numbers_of result ≡ id ∷ [] }
-    ensures none { vec_len pool.old ≡ 0 → numbers_of result ≡ [] }
+// Puts the number in the place of an empty tree, where the pool has a node for it. It tells whether it had one.
+#[inline(never)]
+fn plant(tree: &mut Tree, id: u64, pool: &mut Vec<Box<Node>>) -> bool
+    ensures some { 0 < vec_len pool.old → numbers_of tree.new ≡ id ∷ [] }
+    ensures none { vec_len pool.old ≡ 0 → numbers_of tree.new ≡ numbers_of tree.old }
     ensures room { vec_len pool.old ≤ vec_len pool.new + 1 }
 {
-    match pool.pop() {
-        Some(mut node) => {
-            *node = node_of(id);
-            Tree::Fork(node)
-        }
-        None => Tree::Empty,
-    }
+    let Some(mut node) = pool.pop() else {
+        return false;
+    };
+    *node = node_of(id);
+    *tree = Tree::Fork(node);
+    true
 }
 
 // A node with nothing on either side.
