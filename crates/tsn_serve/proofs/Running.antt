@@ -2,10 +2,10 @@
 use Rattle.std.proofs.Common.{◌≡◌, ◌≢◌, inl, inr, ℕ, ◌≤◌, ◌++◌, length, true, false, List, [], ◌∷◌, Option, Some, refl, sym, ap, ◌∙◌, subst, append_assoc, append-nil}
 use Rattle.std.specs.List.{flat_map}
 use Rattle.tsn_bytes.specs.declared.bytes.Fault.{Fault}
-use Rattle.tsn_serve.specs.Lines.{line_feed, longest_line, HasNoLineFeed, Splits, with_line_feed, short_line, short_line_and}
+use Rattle.tsn_serve.specs.Lines.{line_feed, longest_line, HasNoLineFeed, Splits, with_line_feed, short_line, short_line_with}
 use Rattle.tsn_serve.specs.Script.{Answering, Breaking, Run, AreFirst, BrokenScript}
 use Rattle.tsn_serve.specs.Pieces.{Going, Feeds, Ends, Breaks, EndBreaks}
-use Rattle.tsn_serve.proofs.Cutting.{all_more, short_line_short, short_line_and_is, splits_at_feed, splits_on, short_line_nil, last_of_kept}
+use Rattle.tsn_serve.proofs.Cutting.{all_more, short_line_short, short_line_with_is, splits_at_feed, splits_on, short_line_nil, last_of_kept}
 
 -- one line more at the end of a run
 pub run_more : {S : Type 0} (answers : Answering S) (old : S) (lines : List (List ℕ)) (text : List ℕ) (mid : S) (line reply : List ℕ) (new : S) → Run answers old lines text mid → answers mid (short_line line) reply new → Run answers old (lines ++ line ∷ []) (text ++ reply) new
@@ -20,13 +20,13 @@ opened answers s = record { lines = []; rest = []; splits = record { whole = ref
 
 -- ---- pieces
 
--- a byte that is no line feed goes on the line that is kept
-pub fed_byte : {S : Type 0} (answers : Answering S) (now : S) (kept : Option (List ℕ)) (b : ℕ) (kept' : Option (List ℕ)) → b ≢ line_feed → kept' ≡ short_line_and kept b → Feeds answers now kept (b ∷ []) [] now kept'
-fed_byte answers now kept b kept' other e opening input before h = record {
+-- bytes without a line feed go on the line that is kept
+pub fed_bytes : {S : Type 0} (answers : Answering S) (now : S) (kept : Option (List ℕ)) (more : List ℕ) (kept' : Option (List ℕ)) → HasNoLineFeed more → kept' ≡ short_line_with kept more → Feeds answers now kept more [] now kept'
+fed_bytes answers now kept more kept' other e opening input before h = record {
   lines = h.lines;
-  rest = h.rest ++ b ∷ [];
-  splits = splits_on input h.lines h.rest b other h.splits;
-  kept_is = e ∙ (ap (λ k. short_line_and k b) h.kept_is ∙ short_line_and_is h.rest b);
+  rest = h.rest ++ more;
+  splits = splits_on input h.lines h.rest more other h.splits;
+  kept_is = e ∙ (ap (λ k. short_line_with k more) h.kept_is ∙ short_line_with_is h.rest more);
   run = rw append-nil h.run;
 }
 

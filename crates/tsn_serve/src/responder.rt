@@ -1,11 +1,11 @@
 //! The loop that answers lines, in whatever pieces their bytes come.
 //! It is generic in what answers a line, and relies on that one's contract, on the reader's and on the writer's.
-ghost use Rattle.std.specs.Prelude.{◌≡◌, ◌≢◌, ◌⊎◌, ◌<◌, ◌≤◌, ◌+◌, ◌++◌, ℕ, Option, List, [], ◌∷◌, length, take, Some, IfSome, true, IfOk, IfErr, OnOk, OnErr, IsErrOf, Err, option_map};
+ghost use Rattle.std.specs.Prelude.{◌≡◌, ◌≢◌, ◌⊎◌, ◌<◌, ◌≤◌, ◌+◌, ◌++◌, ℕ, Option, List, [], ◌∷◌, length, take, Some, IfSome, true, IfOk, IfErr, OnOk, OnErr, IsErrOf, Err, option_map, slice_index};
 ghost use Rattle.std.specs.Io.KnownBytes.{Appends, Consumes, Keeps, IsAtEnd};
 ghost use Rattle.tsn_bytes.specs.Bytes.{Counts};
 ghost use Rattle.tsn_bytes.specs.declared.bytes.Fault.{Fault as AnyFault};
 ghost use Rattle.tsn_bytes.specs.declared.bytes.Fault.TheVariants.{Write, Memory, Exhausted};
-ghost use Rattle.tsn_serve.specs.Lines.{HasNoLineFeed, longest_line};
+ghost use Rattle.tsn_serve.specs.Lines.{HasNoLineFeed, line_feed, longest_line};
 ghost use Rattle.tsn_serve.specs.Pieces.{Feeds, Ends, Breaks, EndBreaks};
 ghost use Rattle.tsn_serve.specs.Outcomes.{Outcome, moment};
 
@@ -64,28 +64,36 @@ fn whole_line<'p>(line: &LineBuffer, bytes: &'p [u8]) -> Option<&'p [u8]>
     Some(&bytes[..end])
 }
 
-// Goes on by one byte.
-fn feed_byte<A: Responder, W: ByteOut>(
+// The bytes up to the first line feed, all of them where there is none.
+fn up_to_line_feed(bytes: &[u8]) -> &[u8]
+    ensures one { HasNoLineFeed result.now }
+    ensures fits { length result.now ≤ length bytes.now }
+    ensures front { take (length result.now) bytes.now ≡ result.now }
+    ensures next { length result.now < length bytes.now → slice_index bytes.now (length result.now) ≡ line_feed }
+{
+    match memchr(b'\n', bytes) {
+        Some(end) => &bytes[..end],
+        None => bytes,
+    }
+}
+
+// Ends the line that is kept, at a line feed.
+fn end_line<A: Responder, W: ByteOut>(
     alloc: Global,
     responder: &mut A,
     line: &mut LineBuffer,
-    byte: u8,
     writer: &mut W,
 ) -> Result<(), Fault>
     ensures ok { OnOk result ((text : List ℕ)
-        × Feeds A.answers responder.old line.old (byte ∷ []) text responder.new line.new
+        × Feeds A.answers responder.old line.old (line_feed ∷ []) text responder.new line.new
         × Appends (W.taken writer.old) (W.taken writer.new) text) }
     ensures worked { result ≢ Err Write → W.has_failed writer.new ≡ W.has_failed writer.old }
     ensures fault { IfErr result (λ e. (e ≡ Write) ⊎ (e ≡ Exhausted)) }
     ensures failed { IsErrOf result Write → W.has_failed writer.new ≡ true }
     ensures broken { IfErr result (λ e. (written : List ℕ)
-        × Breaks A.answers A.breaks e responder.old line.old (byte ∷ []) written responder.new
+        × Breaks A.answers A.breaks e responder.old line.old (line_feed ∷ []) written responder.new
         × Appends (W.taken writer.old) (W.taken writer.new) written) }
 {
-    if byte != b'\n' {
-        line.push(byte);
-        return Ok(());
-    }
     match responder.answer(alloc, line.get(), writer) {
         Ok(()) => {
             line.clear();
@@ -95,7 +103,38 @@ fn feed_byte<A: Responder, W: ByteOut>(
     }
 }
 
-// Goes on by the line that lies whole in front, or else by one byte, and says by how many bytes.
+// Goes on by a part of a line, up to its line feed, or by the line feed alone, and says by how many bytes.
+fn feed_part<A: Responder, W: ByteOut>(
+    alloc: Global,
+    responder: &mut A,
+    line: &mut LineBuffer,
+    bytes: &[u8],
+    writer: &mut W,
+) -> Result<usize, Fault>
+    requires { 0 < length bytes.now }
+    ensures count { IfOk result (λ n. (0 < n) × (n ≤ length bytes.now)) }
+    ensures ok { IfOk result (λ n. (text : List ℕ)
+        × Feeds A.answers responder.old line.old (take n bytes.now) text responder.new line.new
+        × Appends (W.taken writer.old) (W.taken writer.new) text) }
+    ensures worked { result ≢ Err Write → W.has_failed writer.new ≡ W.has_failed writer.old }
+    ensures fault { IfErr result (λ e. (e ≡ Write) ⊎ (e ≡ Exhausted)) }
+    ensures failed { IsErrOf result Write → W.has_failed writer.new ≡ true }
+    ensures broken { IfErr result (λ e. (written : List ℕ)
+        × Breaks A.answers A.breaks e responder.old line.old bytes.now written responder.new
+        × Appends (W.taken writer.old) (W.taken writer.new) written) }
+{
+    if bytes[0] == b'\n' {
+        return match end_line(alloc, responder, line, writer) {
+            Ok(()) => Ok(1),
+            Err(fault) => Err(fault),
+        };
+    }
+    let part = up_to_line_feed(bytes);
+    line.push_all(part);
+    Ok(part.len())
+}
+
+// Goes on by the line that lies whole in front, or else by a part of one, and says by how many bytes.
 fn feed_front<A: Responder, W: ByteOut>(
     alloc: Global,
     responder: &mut A,
@@ -120,10 +159,7 @@ fn feed_front<A: Responder, W: ByteOut>(
             Ok(()) => Ok(whole.len() + 1),
             Err(fault) => Err(fault),
         },
-        None => match feed_byte(alloc, responder, line, bytes[0], writer) {
-            Ok(()) => Ok(1),
-            Err(fault) => Err(fault),
-        },
+        None => feed_part(alloc, responder, line, bytes, writer),
     }
 }
 

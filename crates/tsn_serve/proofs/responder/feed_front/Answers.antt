@@ -29,14 +29,3 @@ returns-in-Err-clause-broken g c =
           (broken_more answers breaks c.in-Err.fault c.args.responder.now c.answer.new.self c.args.line.now (take (length whole + 1) bytes) (drop (length whole + 1) bytes) broken.0 front),
       broken.2,
     )
-
-pub returns-in-Err-feed_byte-clause-broken : goal.returns-in-Err-feed_byte-clause-broken
-returns-in-Err-feed_byte-clause-broken g c =
-    let broken = c.in-Err-feed_byte.ensures.broken in
-    let bytes = c.args.bytes.now in (
-      broken.0,
-      broken_as g.A.Responder.answers g.A.Responder.breaks c.in-Err-feed_byte.fault c.args.responder.now c.feed_byte.new.responder c.args.line.now _ bytes broken.0
-          (ap (λ l. l ++ drop 1 bytes) (sym (take_more bytes 0 0 c.requires)) ∙ take-append-drop 1 bytes)
-          (broken_more g.A.Responder.answers g.A.Responder.breaks c.in-Err-feed_byte.fault c.args.responder.now c.feed_byte.new.responder c.args.line.now (get_or bytes 0 0 ∷ []) (drop 1 bytes) broken.0 broken.1),
-      broken.2,
-    )
