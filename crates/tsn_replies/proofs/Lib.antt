@@ -1,4 +1,5 @@
 pub mod Lines
 pub mod Names
+pub mod Numerals
 pub mod Pieces
 pub mod Telling

@@ -3,6 +3,7 @@
 //! A reply is written to a writer of bytes piece by piece. None of it takes memory.
 #![tactic(auto)]
 
+mod digits;
 pub mod laws;
 mod reply;
 mod running;

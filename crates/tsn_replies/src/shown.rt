@@ -39,16 +39,17 @@ fn number_in(key: Key) -> u64
     }
 }
 
-// What comes before the number of a key.
-fn name_before(key: &Key) -> &'static str
-    ensures text { result.now ++ decimal (number_of key.now) ≡ key_text key.now }
-    ensures len { length result.now ≤ 7 }
+// Puts what comes before the number of a key at the end.
+fn push_name(text: &mut ShortText, key: &Key)
+    requires { length text.old + 7 ≤ CAPACITY }
+    ensures text { text.new ++ decimal (number_of key.now) ≡ text.old ++ key_text key.now }
+    ensures len { length text.new ≤ length text.old + 7 }
 {
     match key {
-        Key::Port(_) => "port ",
-        Key::Filter(_) => "filter ",
-        Key::Gate(_) => "gate ",
-        Key::Meter(_) => "meter ",
+        Key::Port(_) => text.push("port "),
+        Key::Filter(_) => text.push("filter "),
+        Key::Gate(_) => text.push("gate "),
+        Key::Meter(_) => text.push("meter "),
     }
 }
 
@@ -62,7 +63,7 @@ pub fn push_key(text: &mut ShortText, key: Key)
     ensures text { text.new ≡ text.old ++ key_text key }
     ensures len { length text.new ≤ length text.old + LONGEST_KEY }
 {
-    text.push(name_before(&key));
+    push_name(text, &key);
     text.push_number(number_in(key));
 }
 

@@ -1,6 +1,7 @@
 //! A short text in a buffer of fixed size, which takes no memory.
 ghost use Rattle.std.specs.Prelude.{◌≡◌, ◌+◌, ◌≤◌, [], ◌++◌, length, decimal};
 
+use crate::digits::put_number;
 use std::marker::Model;
 
 /// How many bytes a short text holds.
@@ -64,8 +65,7 @@ impl ShortText {
         ensures text { self.new ≡ self.old ++ decimal number }
         ensures len { length self.new ≤ length self.old + MOST_DIGITS }
     {
-        let mut buffer = itoa::Buffer::new();
-        self.push(buffer.format(number));
+        self.len = put_number(&mut self.bytes, self.len, number);
     }
 
     /// The text is empty again.
