@@ -1,13 +1,12 @@
 -- The digits of a number, put behind a text piece by piece.
-use Rattle.std.proofs.Common.{◌≡◌, ℕ, ◌+◌, ◌*◌, ◌/◌, ◌%◌, ◌^◌, ◌<◌, ◌≤◌, Bool, true, ◌&&◌, ◌==◌, List, ◌++◌, get_or, set, length, take, length-set, decimal, refl, ap, subst, ◌∙◌, arith, zero-add, append_assoc}
+use Rattle.std.proofs.Common.{◌≡◌, ℕ, ◌+◌, ◌*◌, ◌/◌, ◌%◌, ◌^◌, ◌<◌, ◌≤◌, Bool, true, ◌&&◌, ◌==◌, List, [], ◌∷◌, ◌++◌, get_or, set, length, take, length-set, decimal, refl, ap, subst, ◌∙◌, arith, zero-add, append_assoc}
 use Rattle.std.specs.List.{AllPass, range_with_len}
 use Rattle.std.proofs.lemmas.Bool.{and_parts, eqb-true}
-use Rattle.std.proofs.lemmas.Fmt.{decimal_digit}
+use Rattle.std.proofs.lemmas.Fmt.{decimal_digit, decimal_step}
 use Rattle.std.proofs.lemmas.List.{take_more_set}
 use Rattle.std.proofs.lemmas.List.Elements.{All-get_or}
 use Rattle.std.proofs.lemmas.List.FromFn.{get_or-range_with_len, length-range_with_len}
 use Rattle.std.proofs.lemmas.List.Sums.{AllPass-from_list_all}
-use Rattle.itoa.proofs.Decimal.{decimal_two, decimal_pair, decimal_four}
 use Rattle.tsn_replies.specs.Digits.{two_digits, four_digits, eight_digits}
 use Rattle.tsn_replies.specs.declared.digits.TheConstants.{PAIRS}
 
@@ -25,6 +24,35 @@ pairs_at n h =
     let passes = All-get_or (λ k. is_pair k ≡ true) (range_with_len 0 100) n 0 (omega (arith, length-range_with_len 0 100)) all_are_pairs in
     let both = and_parts (get_or PAIRS (2 * n) 0 == 48 + n / 10) _ (subst (λ k. is_pair k ≡ true) here passes) in
     (eqb-true _ _ both.0, eqb-true _ _ both.1)
+
+-- ---- a number is its front and its last digits
+
+last_two : (n : ℕ) → 100 ≤ n → n < 2 ^ 64 → decimal n ≡ decimal (n / 100) ++ two_digits (n % 100)
+last_two n low high =
+    let front : n / 10 / 10 ≡ n / 100 = omega arith in
+    let tens : n / 10 % 10 ≡ n % 100 / 10 = omega arith in
+    let ones : n % 10 ≡ n % 100 % 10 = omega arith in
+    decimal_step n (omega arith) high ∙ ap (λ l. l ++ ((48 + n % 10) ∷ [])) (decimal_step (n / 10) (omega arith) (omega arith))
+    ∙ append_assoc (decimal (n / 10 / 10)) ((48 + n / 10 % 10) ∷ []) ((48 + n % 10) ∷ [])
+    ∙ rw (front, tens, ones)
+
+last_four : (n : ℕ) → 10000 ≤ n → n < 2 ^ 64 → decimal n ≡ decimal (n / 10000) ++ four_digits (n % 10000)
+last_four n low high =
+    let front : n / 100 / 100 ≡ n / 10000 = omega arith in
+    let middle : n / 100 % 100 ≡ n % 10000 / 100 = omega arith in
+    let back : n % 100 ≡ n % 10000 % 100 = omega arith in
+    last_two n (omega arith) high ∙ ap (λ l. l ++ two_digits (n % 100)) (last_two (n / 100) (omega arith) (omega arith))
+    ∙ append_assoc (decimal (n / 100 / 100)) (two_digits (n / 100 % 100)) (two_digits (n % 100))
+    ∙ rw (front, middle, back)
+
+last_eight : (n : ℕ) → 100000000 ≤ n → n < 2 ^ 64 → decimal n ≡ decimal (n / 100000000) ++ eight_digits (n % 100000000)
+last_eight n low high =
+    let front : n / 10000 / 10000 ≡ n / 100000000 = omega arith in
+    let middle : n / 10000 % 10000 ≡ n % 100000000 / 10000 = omega arith in
+    let back : n % 10000 ≡ n % 100000000 % 10000 = omega arith in
+    last_four n (omega arith) high ∙ ap (λ l. l ++ four_digits (n % 10000)) (last_four (n / 10000) (omega arith) (omega arith))
+    ∙ append_assoc (decimal (n / 10000 / 10000)) (four_digits (n / 10000 % 10000)) (four_digits (n % 10000))
+    ∙ rw (front, middle, back)
 
 -- ---- pieces
 
@@ -44,31 +72,22 @@ pub one_digit : (xs : List ℕ) (at n : ℕ) → n < 10 → at + 1 ≤ length xs
 one_digit xs at n h room = rw (decimal_digit n h) (take_more_set xs at (48 + n) (omega arith))
 
 pub below_hundred : (t0 t1 : List ℕ) (n : ℕ) → 10 ≤ n → n < 100 → t1 ≡ t0 ++ two_digits n → t1 ≡ t0 ++ decimal n
-below_hundred t0 t1 n low high e = rw (decimal_two n low high) e
+below_hundred t0 t1 n low high e = rw (decimal_step n low (omega arith), decimal_digit (n / 10) (omega arith)) e
 
 pub up_to_four : (t0 t1 t2 : List ℕ) (n : ℕ) → 100 ≤ n → n < 2 ^ 64
     → t1 ≡ t0 ++ decimal (n / 100)
     → t2 ≡ t1 ++ two_digits (n % 100)
     → t2 ≡ t0 ++ decimal n
-up_to_four t0 t1 t2 n low high e1 e2 = rw (decimal_pair n low high) (two_pieces t0 t1 t2 _ _ e1 e2)
+up_to_four t0 t1 t2 n low high e1 e2 = rw (last_two n low high) (two_pieces t0 t1 t2 _ _ e1 e2)
 
 pub up_to_eight : (t0 t1 t2 : List ℕ) (n : ℕ) → 10000 ≤ n → n < 2 ^ 64
     → t1 ≡ t0 ++ decimal (n / 10000)
     → t2 ≡ t1 ++ four_digits (n % 10000)
     → t2 ≡ t0 ++ decimal n
-up_to_eight t0 t1 t2 n low high e1 e2 = rw (decimal_four n low high) (two_pieces t0 t1 t2 _ _ e1 e2)
-
-decimal_eight : (n : ℕ) → 100000000 ≤ n → n < 2 ^ 64 → decimal n ≡ decimal (n / 100000000) ++ eight_digits (n % 100000000)
-decimal_eight n low high =
-    let front : n / 10000 / 10000 ≡ n / 100000000 = omega arith in
-    let middle : n / 10000 % 10000 ≡ n % 100000000 / 10000 = omega arith in
-    let back : n % 10000 ≡ n % 100000000 % 10000 = omega arith in
-    decimal_four n (omega arith) high ∙ ap (λ l. l ++ four_digits (n % 10000)) (decimal_four (n / 10000) (omega arith) (omega arith))
-    ∙ append_assoc (decimal (n / 10000 / 10000)) (four_digits (n / 10000 % 10000)) (four_digits (n % 10000))
-    ∙ rw (front, middle, back)
+up_to_eight t0 t1 t2 n low high e1 e2 = rw (last_four n low high) (two_pieces t0 t1 t2 _ _ e1 e2)
 
 pub beyond_eight : (t0 t1 t2 : List ℕ) (n : ℕ) → 100000000 ≤ n → n < 2 ^ 64
     → t1 ≡ t0 ++ decimal (n / 100000000)
     → t2 ≡ t1 ++ eight_digits (n % 100000000)
     → t2 ≡ t0 ++ decimal n
-beyond_eight t0 t1 t2 n low high e1 e2 = rw (decimal_eight n low high) (two_pieces t0 t1 t2 _ _ e1 e2)
+beyond_eight t0 t1 t2 n low high e1 e2 = rw (last_eight n low high) (two_pieces t0 t1 t2 _ _ e1 e2)
