@@ -19,6 +19,7 @@ use tsn_bytes::{ByteOut, Fault, put_all};
 use tsn_types::keys::Key;
 use tsn_types::refusals::{Field, Refusal};
 
+#[inline(always)]
 fn push_number_member(text: &mut ShortText, name: &str, number: u64)
     requires { length text.old + length name.now + 24 ≤ CAPACITY }
     ensures text { text.new ≡ text.old ++ number_member name.now number }
@@ -31,6 +32,7 @@ fn push_number_member(text: &mut ShortText, name: &str, number: u64)
     text.push(",");
 }
 
+#[inline(always)]
 fn push_key_member(text: &mut ShortText, name: &str, key: Key)
     requires { length text.old + length name.now + 33 ≤ CAPACITY }
     ensures text { text.new ≡ text.old ++ text_member name.now (key_text key) }
@@ -50,7 +52,7 @@ fn push_field_member(text: &mut ShortText, field: Field)
     ensures len { length text.new ≤ length text.old + 22 }
 {
     text.push("\"field\":\"");
-    text.push(field.name());
+    text.push_copied(field.name());
     text.push("\",");
 }
 
@@ -107,7 +109,7 @@ fn push_refusal(text: &mut ShortText, refusal: &Refusal)
     text.push_number(refusal.number());
     push_behind(text, refusal);
     text.push(",\"why\":\"");
-    text.push(refusal.name());
+    text.push_copied(refusal.name());
     text.push("\"}\n");
 }
 

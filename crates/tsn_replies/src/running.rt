@@ -74,7 +74,7 @@ fn push_drop(text: &mut ShortText, filter: FilterId, now: Instant, cause: DropCa
 {
     push_number(text, "{\"filter\":", filter.get());
     push_number(text, ",\"now\":", now.get());
-    text.push(cause_rest(cause));
+    text.push_copied(cause_rest(cause));
 }
 
 /// Puts the line of a verdict into an empty text.

@@ -68,6 +68,7 @@ pub fn push_key(text: &mut ShortText, key: Key)
 }
 
 /// Puts the name and behind it the flag at the end.
+#[inline(always)]
 pub fn push_flag(text: &mut ShortText, name: &str, flag: bool)
     requires { length text.old + length name.now + 5 ≤ CAPACITY }
     ensures text { text.new ≡ text.old ++ (name.now ++ compact_text (boolean flag)) }
@@ -82,6 +83,7 @@ pub fn push_flag(text: &mut ShortText, name: &str, flag: bool)
 }
 
 /// Puts the name and behind it the number at the end.
+#[inline(always)]
 pub fn push_number(text: &mut ShortText, name: &str, number: u64)
     requires { length text.old + length name.now + MOST_DIGITS ≤ CAPACITY }
     ensures text { text.new ≡ text.old ++ (name.now ++ decimal number) }
@@ -92,6 +94,7 @@ pub fn push_number(text: &mut ShortText, name: &str, number: u64)
 }
 
 /// Puts the name and behind it the number at the end, or null.
+#[inline(always)]
 pub fn push_or_null(text: &mut ShortText, name: &str, number: Option<u64>)
     requires { length text.old + length name.now + MOST_DIGITS ≤ CAPACITY }
     ensures text { text.new ≡ text.old ++ (name.now ++ compact_text (or_null number)) }

@@ -51,7 +51,23 @@ impl ShortText {
     }
 
     /// Puts the piece at the end. There must be room for it.
+    #[inline(always)]
     pub fn push(&mut self, piece: &str)
+        requires { length self.old + length piece.now ≤ CAPACITY }
+        ensures text { self.new ≡ self.old ++ piece.now }
+        ensures len { length self.new ≡ length self.old + length piece.now }
+    {
+        // Byte by byte, which for a constant piece is a store of whole words.
+        let piece = piece.as_bytes();
+        let at = self.len;
+        for (place, byte) in piece.iter().enumerate() {
+            self.bytes[at + place] = *byte;
+        }
+        self.len = at + piece.len();
+    }
+
+    /// As `push`, by a copy, for a piece that is not known before the program runs.
+    pub(crate) fn push_copied(&mut self, piece: &str)
         requires { length self.old + length piece.now ≤ CAPACITY }
         ensures text { self.new ≡ self.old ++ piece.now }
         ensures len { length self.new ≡ length self.old + length piece.now }

@@ -17,6 +17,7 @@ use tsn_journal::entries::{Act, Entry, What};
 use tsn_types::keys::Key;
 
 // Puts a key in quotes at the end.
+#[inline(always)]
 fn push_quoted(text: &mut ShortText, key: Key)
     requires { length text.old + 29 ≤ CAPACITY }
     ensures text { text.new ≡ text.old ++ compact_text (key_data key) }
@@ -27,6 +28,7 @@ fn push_quoted(text: &mut ShortText, key: Key)
     text.push("\"");
 }
 
+#[inline(always)]
 fn push_key_text(text: &mut ShortText, name: &str, key: Key)
     requires { length text.old + length name.now + 29 ≤ CAPACITY }
     ensures text { text.new ≡ text.old ++ (name.now ++ compact_text (key_data key)) }
@@ -129,7 +131,7 @@ fn push_acted(text: &mut ShortText, number: u64, session: u32, act: Act, key: Ke
     ensures text { text.new ≡ text.old ++ compact_text (acted_data number session act key now) }
     ensures len { length text.new ≤ length text.old + LONGEST_ITEM }
 {
-    text.push(act_front(act));
+    text.push_copied(act_front(act));
     push_number(text, ",\"entry\":", number);
     push_key_text(text, ",\"key\":", key);
     push_number(text, ",\"now\":", now);
