@@ -327,26 +327,14 @@ impl Index {
     {
         for part in parts {
             let refs = refs_of(&part.after);
-            self.lower_key(marked, &part.key, settled);
+            self.lower_on(marked, &part.key, settled);
             self.lower_ref(marked, &refs.first, settled);
             self.lower_ref(marked, &refs.second, settled);
         }
     }
 
-    fn lower_ref(&mut self, marked: &[MarkedEntry], key: &Option<Key>, settled: u64)
-        requires index { IsIndexed marked.now self.old }
-        requires off { AreOff settled marked.now }
-        ensures index { IsIndexed marked.now self.new }
-        ensures tells { TellsSame self.old self.new }
-        ensures room { TakesRoom 0 self.old self.new }
-    {
-        if let Some(key) = key {
-            self.lower_key(marked, key, settled);
-        }
-    }
-
-    /// The same for the two groups of a key.
-    fn lower_key(&mut self, marked: &[MarkedEntry], key: &Key, settled: u64)
+    /// The same for the entries on the key.
+    fn lower_on(&mut self, marked: &[MarkedEntry], key: &Key, settled: u64)
         requires index { IsIndexed marked.now self.old }
         requires off { AreOff settled marked.now }
         ensures index { IsIndexed marked.now self.new }
@@ -354,19 +342,36 @@ impl Index {
         ensures room { TakesRoom 0 self.old self.new }
     {
         let latest = self.latest.key_places(*key);
-        if latest.on == 0 && latest.refers == 0 {
+        if latest.on == 0 {
             return;
         }
         let on = self.first_from(marked, &Group::On(*key), latest.on, settled);
+        if on == latest.on {
+            return;
+        }
+        self.latest.set_key(*key, KeyPlaces { on, ..latest });
+    }
+
+    /// The same for the entries that refer to the key, if there is a key.
+    fn lower_ref(&mut self, marked: &[MarkedEntry], key: &Option<Key>, settled: u64)
+        requires index { IsIndexed marked.now self.old }
+        requires off { AreOff settled marked.now }
+        ensures index { IsIndexed marked.now self.new }
+        ensures tells { TellsSame self.old self.new }
+        ensures room { TakesRoom 0 self.old self.new }
+    {
+        let Some(key) = key else {
+            return;
+        };
+        let latest = self.latest.key_places(*key);
+        if latest.refers == 0 {
+            return;
+        }
         let refers = self.first_from(marked, &Group::RefersTo(*key), latest.refers, settled);
-        self.latest.set_key(
-            *key,
-            KeyPlaces {
-                on,
-                refers,
-                ..latest
-            },
-        );
+        if refers == latest.refers {
+            return;
+        }
+        self.latest.set_key(*key, KeyPlaces { refers, ..latest });
     }
 
     /// The same for the two groups of a session.
