@@ -155,7 +155,7 @@ module _ (ms : List MarkedEntry) (a : Index) (e : Entry) (can : CanTell ms a e) 
       ap (above e.number) then
       ∙ both_later e.number latest found _ _ so_far here
       ∙ ap (above e.number)
-      (sought_more (λ m. true) ms (take i ps) (p ∷ []) can.numbered
+      (sought_more (λ m. true) 1 ms (take i ps) (p ∷ []) can.numbered
       ∙ ap (λ (es : Change). at (last_where (λ m. true && is_in_conflict (applies m.entry.what) es) ms)) (sym (take_next ps i p short is)))
 
 -- ---- a change is on the keys of its parts

@@ -1,5 +1,5 @@
 -- A conflict with a change, sought in the groups of its key and of what it refers to.
-use Rattle.std.proofs.Common.{◌≡◌, ℕ, zero, suc, ◌+◌, ◌<◌, ◌≤◌, Bool, true, false, cond, ◌||◌, ◌&&◌, List, [], ◌∷◌, ◌++◌, refl, sym, ◌∙◌, ap, Option, Some, None, arith, drop, take, get_or, length, append_assoc}
+use Rattle.std.proofs.Common.{◌≡◌, ℕ, zero, suc, ◌+◌, ◌<◌, ◌≤◌, Bool, true, false, cond, ◌||◌, ◌&&◌, List, [], ◌∷◌, ◌++◌, refl, sym, ◌∙◌, ap, subst, Option, Some, None, arith, drop, take, get_or, length, append_assoc}
 use Rattle.std.specs.Prelude.{is_some, nat_lt, option_map, option_to_list}
 use Rattle.std.specs.Option.{option_or}
 use Rattle.std.proofs.lemmas.Bool.Decides.{nat_tests}
@@ -129,16 +129,23 @@ module _ (c : Part) (refs : Refs) (same : keys_of_refs refs ≡ refs_of c.before
   pub the_test : (m : MarkedEntry) → in_groups c refs p m ≡ ((is_some (stands m) && p m) && is_in_conflict (applies m.entry.what) (c ∷ []))
   the_test m = each_test m m.is_open m.entry.what refl refl ∙ ap (λ b. (b && p m) && is_in_conflict (applies m.entry.what) (c ∷ [])) (some_stands m)
 
-  pub sought_groups : (ms : List MarkedEntry) → IsNumbered 1 (entries_of ms)
+  pub sought_groups : (n : ℕ) (ms : List MarkedEntry) → IsNumbered n (entries_of ms)
       → later_of (later_of (at (last_where (λ m. belongs (On c.key) m && p m) ms)) (at (last_where (λ m. belongs (RefersTo c.key) m && p m) ms)))
       (later_of (at (last_where (λ m. is_on_any refs.first m && p m) ms)) (at (last_where (λ m. is_on_any refs.second m && p m) ms)))
       ≡ at (last_where (λ m. (is_some (stands m) && p m) && is_in_conflict (applies m.entry.what) (c ∷ [])) ms)
-  sought_groups ms numbered =
-      (λ i. later_of (sym (last_either (λ m. belongs (On c.key) m && p m) (λ m. belongs (RefersTo c.key) m && p m) 1 ms numbered) i) (sym (last_either (λ m. is_on_any refs.first m && p m) (λ m. is_on_any refs.second m && p m) 1 ms numbered) i))
-      ∙ sym (last_either (λ m. (belongs (On c.key) m && p m) || (belongs (RefersTo c.key) m && p m)) (λ m. (is_on_any refs.first m && p m) || (is_on_any refs.second m && p m)) 1 ms numbered)
+  sought_groups n ms numbered =
+      (λ i. later_of (sym (last_either (λ m. belongs (On c.key) m && p m) (λ m. belongs (RefersTo c.key) m && p m) n ms numbered) i) (sym (last_either (λ m. is_on_any refs.first m && p m) (λ m. is_on_any refs.second m && p m) n ms numbered) i))
+      ∙ sym (last_either (λ m. (belongs (On c.key) m && p m) || (belongs (RefersTo c.key) m && p m)) (λ m. (is_on_any refs.first m && p m) || (is_on_any refs.second m && p m)) n ms numbered)
       ∙ ap (λ (t : MarkedEntry → Bool). at (last_where t ms)) (λ i m. the_test m i)
 
 -- ---- the last of the later ones
+
+-- the numbers of the later ones follow one another, too
+pub numbered_after : (k n : ℕ) (ms : List MarkedEntry) → IsNumbered k (entries_of ms) → IsNumbered (k + n) (entries_of (drop n ms))
+numbered_after k zero [] h = h
+numbered_after k zero (m ∷ ms) h = subst (λ j. IsNumbered j (entries_of (m ∷ ms))) (let e : k ≡ k + 0 = omega arith in e) h
+numbered_after k (suc n) [] h = h
+numbered_after k (suc n) (m ∷ ms) h = subst (λ j. IsNumbered j (entries_of (drop n ms))) (let e : (k + 1) + n ≡ k + suc n = omega arith in e) (numbered_after (k + 1) n ms h.1)
 
 above_is : (n k : ℕ) → n < k → nat_lt n k ≡ true
 above_is n k h = grind (arith, nat_tests)
@@ -212,11 +219,11 @@ and_either true a b = refl
 and_either false a b = refl
 
 -- the latest entry in conflict with one part more
-pub sought_more : (q : MarkedEntry → Bool) (ms : List MarkedEntry) (es fs : Change) → IsNumbered 1 (entries_of ms)
+pub sought_more : (q : MarkedEntry → Bool) (n : ℕ) (ms : List MarkedEntry) (es fs : Change) → IsNumbered n (entries_of ms)
     → later_of (at (last_where (λ m. q m && is_in_conflict (applies m.entry.what) es) ms)) (at (last_where (λ m. q m && is_in_conflict (applies m.entry.what) fs) ms))
     ≡ at (last_where (λ m. q m && is_in_conflict (applies m.entry.what) (es ++ fs)) ms)
-sought_more q ms es fs numbered =
-    sym (last_either (λ m. q m && is_in_conflict (applies m.entry.what) es) (λ m. q m && is_in_conflict (applies m.entry.what) fs) 1 ms numbered)
+sought_more q n ms es fs numbered =
+    sym (last_either (λ m. q m && is_in_conflict (applies m.entry.what) es) (λ m. q m && is_in_conflict (applies m.entry.what) fs) n ms numbered)
     ∙ ap (λ (t : MarkedEntry → Bool). at (last_where t ms))
     (λ i m. sym (ap (λ b. q m && b) (in_conflict_both (applies m.entry.what) es fs) ∙ and_either (q m) (is_in_conflict (applies m.entry.what) es) (is_in_conflict (applies m.entry.what) fs)) i)
 
@@ -230,13 +237,13 @@ pub take_next : (ps : List Part) (i : ℕ) (p : Part) → i < length ps → p �
 take_next ps i p short is = take_more ps i p short ∙ ap (λ x. take i ps ++ x ∷ []) (sym is)
 
 -- a step of the loop over the parts of a change
-pub sought_next : (q : MarkedEntry → Bool) (ms : List MarkedEntry) (ps : List Part) (i : ℕ) (p : Part) (latest found next : Option ℕ) → IsNumbered 1 (entries_of ms) → i < length ps → p ≡ get_or ps i p
+pub sought_next : (q : MarkedEntry → Bool) (n : ℕ) (ms : List MarkedEntry) (ps : List Part) (i : ℕ) (p : Part) (latest found next : Option ℕ) → IsNumbered n (entries_of ms) → i < length ps → p ≡ get_or ps i p
     → latest ≡ at (last_where (λ m. q m && is_in_conflict (applies m.entry.what) (take i ps)) ms)
     → found ≡ at (last_where (λ m. q m && is_in_conflict (applies m.entry.what) (p ∷ [])) ms)
     → next ≡ later_of latest found
     → next ≡ at (last_where (λ m. q m && is_in_conflict (applies m.entry.what) (take (i + 1) ps)) ms)
-sought_next q ms ps i p latest found next numbered short is so_far here then =
+sought_next q n ms ps i p latest found next numbered short is so_far here then =
     then
     ∙ (λ j. later_of (so_far j) (here j))
-    ∙ sought_more q ms (take i ps) (p ∷ []) numbered
+    ∙ sought_more q n ms (take i ps) (p ∷ []) numbered
     ∙ ap (λ (es : Change). at (last_where (λ m. q m && is_in_conflict (applies m.entry.what) es) ms)) (sym (take_next ps i p short is))

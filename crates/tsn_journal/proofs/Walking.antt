@@ -32,6 +32,14 @@ pub found_from : {A : Type 0} (t : A → Bool) (xs : List A) (n : ℕ) (x : A) �
 found_from t xs n x some within at none pass =
     found_here t xs (n - 1) x (omega arith) (sym (get_or_from_slice_get xs (n - 1) x x at)) (ap (λ k. last_where t (drop k xs)) (let e : (n - 1) + 1 ≡ n = omega arith in e) ∙ none_from t xs n none) pass
 
+-- the same among those after the first k
+pub found_after : {A : Type 0} (t : A → Bool) (xs : List A) (k n : ℕ) (x : A) → k < n → n ≤ length xs → slice_get xs (n - 1) ≡ Some x → NoneFrom t xs n → t x ≡ true → last_where t (drop k xs) ≡ Some x
+found_after t [] k n x more within at none pass = absurd (omega arith)
+found_after t (y ∷ xs) zero n x more within at none pass = found_from t (y ∷ xs) n x (omega arith) within at none pass
+found_after t (y ∷ xs) (suc k) n x more within at none pass =
+    let next : suc ((n - 1) - 1) ≡ n - 1 = omega arith in
+    found_after t xs k (n - 1) x (omega arith) (omega arith) (ap (slice_get (y ∷ xs)) next ∙ at) (λ i z low there. none (suc i) z (omega arith) there) pass
+
 pub in_list : {A : Type 0} (xs : List A) (i : ℕ) (x : A) → slice_get xs i ≡ Some x → i + 1 < length xs + 1
 in_list xs i x h = let in' : i < length xs = slice_get_within xs i x h in omega arith
 

@@ -102,26 +102,34 @@ pub(crate) fn conflict_after<F: Fn(&MarkedEntry) -> bool>(
     )
 }
 
+/// The entry's number, if there is an entry.
+fn number_of(found: Option<&MarkedEntry>) -> Option<u64>
+    ensures { result ≡ option_map (λ m. m.entry.number) (option_copied found.entry) }
+{
+    match found {
+        Some(found) => Some(found.entry.number),
+        None => None,
+    }
+}
+
 /// The number of the last entry of the group, whose newest place this is, of any session, or of others than the one
-/// given.
+/// given, among those after the number `after`.
 fn number_in(
     index: &Index,
     marked: &[MarkedEntry],
     group: &Group,
     latest: u32,
     but: Option<u32>,
+    after: u64,
 ) -> Option<u64>
     requires index { IsIndexed marked.now index.now }
+    requires numbered { IsNumbered 1 (entries_of marked.now) }
     requires latest { latest ≡ latest_of index.now.latest group.now }
-    ensures { result ≡ option_map (λ m. m.entry.number) (last_where (λ m. belongs group.now m && is_sought but m) marked.now) }
+    ensures { result ≡ option_map (λ m. m.entry.number) (last_where (λ m. belongs group.now m && is_sought but m) (drop after marked.now)) }
 {
-    let found = match but {
-        None => index.latest_in(marked, group, latest),
-        Some(session) => index.last_of_others(marked, group, latest, session),
-    };
-    match found {
-        Some(found) => Some(found.entry.number),
-        None => None,
+    match but {
+        None => above(number_of(index.latest_in(marked, group, latest)), after),
+        Some(session) => number_of(index.last_of_others(marked, group, latest, session, after)),
     }
 }
 
@@ -131,14 +139,16 @@ fn number_on(
     marked: &[MarkedEntry],
     key: &Option<Key>,
     but: Option<u32>,
+    after: u64,
 ) -> Option<u64>
-    requires { IsIndexed marked.now index.now }
-    ensures { result ≡ option_map (λ m. m.entry.number) (last_where (λ m. is_on_any key.now m && is_sought but m) marked.now) }
+    requires index { IsIndexed marked.now index.now }
+    requires numbered { IsNumbered 1 (entries_of marked.now) }
+    ensures { result ≡ option_map (λ m. m.entry.number) (last_where (λ m. is_on_any key.now m && is_sought but m) (drop after marked.now)) }
 {
     match key {
         Some(key) => {
             let latest = index.latest.key_places(*key).on;
-            number_in(index, marked, &Group::On(*key), latest, but)
+            number_in(index, marked, &Group::On(*key), latest, but, after)
         }
         None => None,
     }
@@ -150,15 +160,16 @@ fn latest_conflict(
     marked: &[MarkedEntry],
     change: &Change,
     but: Option<u32>,
+    after: u64,
 ) -> Option<u64>
     requires index { IsIndexed marked.now index.now }
     requires numbered { IsNumbered 1 (entries_of marked.now) }
     ensures { result ≡ option_map (λ m. m.entry.number)
-        (last_where (λ m. (is_some (stands m) && is_sought but m) && is_in_conflict (applies m.entry.what) change.now) marked.now) }
+        (last_where (λ m. (is_some (stands m) && is_sought but m) && is_in_conflict (applies m.entry.what) change.now) (drop after marked.now)) }
 {
     let mut latest = None;
     for part in change.parts() {
-        let with_part = conflict_with_part(index, marked, part, but);
+        let with_part = conflict_with_part(index, marked, part, but, after);
         latest = later_of(latest, with_part);
     }
     latest
@@ -170,24 +181,26 @@ fn conflict_with_part(
     marked: &[MarkedEntry],
     part: &Part,
     but: Option<u32>,
+    after: u64,
 ) -> Option<u64>
     requires index { IsIndexed marked.now index.now }
     requires numbered { IsNumbered 1 (entries_of marked.now) }
     ensures { result ≡ option_map (λ m. m.entry.number)
-        (last_where (λ m. (is_some (stands m) && is_sought but m) && is_in_conflict (applies m.entry.what) (part.now ∷ [])) marked.now) }
+        (last_where (λ m. (is_some (stands m) && is_sought but m) && is_in_conflict (applies m.entry.what) (part.now ∷ [])) (drop after marked.now)) }
 {
     let latest = index.latest.key_places(part.key);
-    let on_key = number_in(index, marked, &Group::On(part.key), latest.on, but);
+    let on_key = number_in(index, marked, &Group::On(part.key), latest.on, but, after);
     let to_key = number_in(
         index,
         marked,
         &Group::RefersTo(part.key),
         latest.refers,
         but,
+        after,
     );
     let refs = refs_of(&part.before);
-    let on_first = number_on(index, marked, &refs.first, but);
-    let on_second = number_on(index, marked, &refs.second, but);
+    let on_first = number_on(index, marked, &refs.first, but, after);
+    let on_second = number_on(index, marked, &refs.second, but, after);
     let by_key = later_of(on_key, to_key);
     let by_refs = later_of(on_first, on_second);
     later_of(by_key, by_refs)
@@ -218,7 +231,7 @@ pub(crate) fn standing_conflict_after(
 {
     let earlier = earlier?;
     let change = earlier.what.change()?;
-    above(latest_conflict(index, marked, change, but), earlier.number)
+    latest_conflict(index, marked, change, but, earlier.number)
 }
 
 /// The number of the latest standing entry of another session after the earlier one that is in conflict with it.

@@ -3,7 +3,7 @@
 //! Places are only ever added. A link leads back from each to the last place before it in its group, and another to the
 //! last one that is of another session, so that a session's own entries are passed in one step; which of the entries
 //! still belong to the group, the marks say.
-ghost use Rattle.std.specs.Prelude.{◌≡◌, ◌&&◌, ◌+◌, ◌-◌, ◌≤◌, ◌∷◌, [], Bool, IfOk, List, OnOk, Option, Some, filter, length, map, option_map, option_to_list, reverse, slice_get, true};
+ghost use Rattle.std.specs.Prelude.{◌≡◌, ◌&&◌, ◌+◌, ◌-◌, ◌≤◌, ◌∷◌, [], Bool, IfOk, List, OnOk, Option, Some, drop, filter, length, map, option_map, option_to_list, reverse, slice_get, true};
 ghost use Rattle.std.specs.Option.{option_copied};
 ghost use Rattle.tsn_journal.specs.declared.entries.MarkedEntry.{MarkedEntry as AnyEntry};
 ghost use Rattle.tsn_journal.specs.declared.groups.Group.{Group as AnyGroup};
@@ -553,22 +553,27 @@ impl Index {
         None
     }
 
-    /// The last entry of the group, whose newest place this is, that is of another session than this one. Entries of
-    /// the session are passed in one step, however many there are.
+    /// The last entry of the group, whose newest place this is, that is of another session than this one, among those
+    /// after the number `after`. Entries of the session are passed in one step, however many there are, and none up to
+    /// that number is looked at.
     pub(crate) fn last_of_others<'a>(
         &self,
         marked: &'a [MarkedEntry],
         group: &Group,
         latest: u32,
         session: u32,
+        after: u64,
     ) -> Option<&'a MarkedEntry>
         requires index { IsIndexed marked.now self.now }
         requires latest { latest ≡ latest_of self.now.latest group.now }
-        ensures { option_copied result ≡ last_where (belongs_to_others group.now session) marked.now }
+        ensures { option_copied result ≡ last_where (belongs_to_others group.now session) (drop after marked.now) }
     {
         let mut place = latest;
         'back: while place != 0 {
             let found = &self.places[place as usize - 1];
+            if u64::from(found.number) <= after {
+                return None;
+            }
             let entry = numbered(marked, found.number);
             if entry.is_of(session) {
                 place = found.other;

@@ -6,10 +6,9 @@ use Rattle.tsn_journal.specs.declared.entries.Entry.{Entry}
 use Rattle.tsn_journal.specs.declared.entries.MarkedEntry.{MarkedEntry}
 use Rattle.tsn_journal.specs.Entries.{applies}
 use Rattle.tsn_journal.specs.Finding.{last_where}
-use Rattle.tsn_journal.specs.Index.{above, is_sought}
+use Rattle.tsn_journal.specs.Index.{is_sought}
 use Rattle.tsn_journal.specs.Marks.{conflict_after, is_in_conflict, stands}
 use Rattle.std.proofs.Common.{drop}
-use Rattle.tsn_journal.proofs.Sought.{later_last}
 use Rattle.tsn_journal.proofs.finding.standing_conflict_after.Goals as goal
 
 pub returns : goal.returns
@@ -20,8 +19,6 @@ returns c =
     let q : MarkedEntry → Bool = λ m. is_some (stands m) && is_sought c.args.but m in
     let is : option_copied c.args.earlier ≡ Some e = ap option_copied c.in_ok-earlier.was in
     let changed : applies e.what ≡ Some d = sym c.change.ensures ∙ ap option_copied c.in_ok-change.was in
-    c.above.ensures
-    ∙ ap (above e.number) c.latest_conflict.ensures
-    ∙ later_last (λ m. q m && is_in_conflict (applies m.entry.what) d) e.number ms c.requires.numbered
+    c.latest_conflict.ensures
     ∙ ap (λ o. option_map (λ (m : MarkedEntry). m.entry.number) (option_and_then (λ h. last_where (λ m. q m && is_in_conflict (applies m.entry.what) h) (drop e.number ms)) o)) (sym changed)
     ∙ ap (λ o. option_map (λ (m : MarkedEntry). m.entry.number) (option_and_then (conflict_after q ms) o)) (sym is)
