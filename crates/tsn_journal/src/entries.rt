@@ -207,8 +207,9 @@ fn copied(alloc: Global, marked: &[MarkedEntry]) -> Result<Vec<Entry>, AllocErro
 /// An entry with a mark that is on until a later entry takes it back or settles it.
 #[derive(Debug, Drop)]
 pub(crate) struct MarkedEntry {
-    pub(crate) entry: Entry,
+    // before the entry, so that the two lie beside what a search looks at first
     pub(crate) is_open: bool,
+    pub(crate) entry: Entry,
 }
 
 impl MarkedEntry {

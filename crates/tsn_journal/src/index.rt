@@ -426,7 +426,6 @@ impl Index {
         requires off { AreOff settled marked.now }
         ensures { result ≡ length (filter (belongs (Of session)) marked.now) }
     {
-        let group = &Group::Of(session);
         let mut found = 0;
         let mut place = self.latest.session_places(session).standing;
         'back: while place != 0 {
@@ -434,7 +433,7 @@ impl Index {
             if u64::from(at.number) <= settled {
                 break;
             }
-            if numbered(marked, at.number).is_in(group) {
+            if numbered(marked, at.number).is_own(session) {
                 found += 1;
             }
             place = at.before;
@@ -448,7 +447,6 @@ impl Index {
         requires off { AreOff settled marked.now }
         ensures { result ≡ added_in (filter (belongs (Of session)) marked.now) }
     {
-        let group = &Group::Of(session);
         let mut found = 0;
         let mut place = self.latest.session_places(session).standing;
         'back: while place != 0 {
@@ -457,7 +455,7 @@ impl Index {
                 break;
             }
             let entry = numbered(marked, at.number);
-            if entry.is_in(group) {
+            if entry.is_own(session) {
                 found += entry.entry.what.added_parts();
             }
             place = at.before;
@@ -496,7 +494,6 @@ impl Index {
         requires off { AreOff settled marked.now }
         ensures { IfOk result (λ numbers. reverse numbers.items ≡ map (λ m. m.entry.number) (filter (belongs (Of session)) marked.now)) }
     {
-        let group = &Group::Of(session);
         let mut found = Vec::new(alloc);
         let mut place = self.latest.session_places(session).standing;
         'back: while place != 0 {
@@ -505,7 +502,7 @@ impl Index {
                 break;
             }
             let entry = numbered(marked, at.number);
-            if entry.is_in(group) {
+            if entry.is_own(session) {
                 found.push(entry.entry.number)?;
             }
             place = at.before;

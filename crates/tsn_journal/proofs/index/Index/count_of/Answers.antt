@@ -5,7 +5,7 @@ use Rattle.tsn_journal.proofs.Links.{next_group, place_there, the_place}
 use Rattle.tsn_journal.proofs.Off.{none_before}
 use Rattle.tsn_journal.proofs.Walking.{filter_none, none_after, step_back, none_counted, one_counted}
 use Rattle.tsn_journal.proofs.index.Index.count_of.Goals as goal
-use Rattle.tsn_journal.proofs.index.Index.count_of.Goals.{then-is_in, else-is_in}
+use Rattle.tsn_journal.proofs.index.Index.count_of.Goals.{then-is_own, else-is_own}
 
 pub back-init : goal.back-init
 back-init c =
@@ -37,13 +37,13 @@ back-preserved c =
     record {
       within = at.last.within;
       group = next_group c.args.marked.now c.args.self.now.places.items (Of c.args.session) c.back.place c.index-at.result.now c.back.invariant.group (place_there c.args.self.now.places.items c.back.place c.index-at.result.now c.back-test.true c.back.invariant.within c.index-at.ensures) c.requires.index.places;
-      so_far = elim c.if-is_in.branch [
-        | then-is_in w ↦ w.found-is ∙ one_counted c.back.found _ (belongs (Of c.args.session) c.numbered.result.now) c.numbered.result.now c.back.invariant.so_far (sym c.is_in.ensures ∙ w.if-is_in.true) ∙ ap length (sym (step_back c.args.marked.now c.args.self.now.places.items (Of c.args.session) c.back.place c.index-at.result.now c.back.invariant.group (place_there c.args.self.now.places.items c.back.place c.index-at.result.now c.back-test.true c.back.invariant.within c.index-at.ensures) c.requires.index.places c.numbered.result.now c.numbered.ensures))
-        | else-is_in w ↦ w.found-is ∙ none_counted c.back.found _ (belongs (Of c.args.session) c.numbered.result.now) c.numbered.result.now c.back.invariant.so_far (sym c.is_in.ensures ∙ w.if-is_in.false) ∙ ap length (sym (step_back c.args.marked.now c.args.self.now.places.items (Of c.args.session) c.back.place c.index-at.result.now c.back.invariant.group (place_there c.args.self.now.places.items c.back.place c.index-at.result.now c.back-test.true c.back.invariant.within c.index-at.ensures) c.requires.index.places c.numbered.result.now c.numbered.ensures))
+      so_far = elim c.if-is_own.branch [
+        | then-is_own w ↦ w.found-is ∙ one_counted c.back.found _ (belongs (Of c.args.session) c.numbered.result.now) c.numbered.result.now c.back.invariant.so_far (sym c.is_own.ensures ∙ w.if-is_own.true) ∙ ap length (sym (step_back c.args.marked.now c.args.self.now.places.items (Of c.args.session) c.back.place c.index-at.result.now c.back.invariant.group (place_there c.args.self.now.places.items c.back.place c.index-at.result.now c.back-test.true c.back.invariant.within c.index-at.ensures) c.requires.index.places c.numbered.result.now c.numbered.ensures))
+        | else-is_own w ↦ w.found-is ∙ none_counted c.back.found _ (belongs (Of c.args.session) c.numbered.result.now) c.numbered.result.now c.back.invariant.so_far (sym c.is_own.ensures ∙ w.if-is_own.false) ∙ ap length (sym (step_back c.args.marked.now c.args.self.now.places.items (Of c.args.session) c.back.place c.index-at.result.now c.back.invariant.group (place_there c.args.self.now.places.items c.back.place c.index-at.result.now c.back-test.true c.back.invariant.within c.index-at.ensures) c.requires.index.places c.numbered.result.now c.numbered.ensures))
       ];
-      few = elim c.if-is_in.branch [
-        | then-is_in w ↦ omega (arith, w.found-is, at.earlier, c.back.invariant.few, c.back-test.true)
-        | else-is_in w ↦ omega (arith, w.found-is, at.earlier, c.back.invariant.few, c.back-test.true)
+      few = elim c.if-is_own.branch [
+        | then-is_own w ↦ omega (arith, w.found-is, at.earlier, c.back.invariant.few, c.back-test.true)
+        | else-is_own w ↦ omega (arith, w.found-is, at.earlier, c.back.invariant.few, c.back-test.true)
       ];
     }
 

@@ -7,7 +7,7 @@ use Rattle.tsn_journal.proofs.Links.{next_group, place_there, the_place}
 use Rattle.tsn_journal.proofs.Off.{none_before}
 use Rattle.tsn_journal.proofs.Walking.{filter_none, none_after, step_back, none_numbered, one_numbered}
 use Rattle.tsn_journal.proofs.index.Index.falling_numbers_of.Goals as goal
-use Rattle.tsn_journal.proofs.index.Index.falling_numbers_of.Goals.{else-back-test, then-back-test+then-from-settled, then-is_in+in_ok-push, else-is_in}
+use Rattle.tsn_journal.proofs.index.Index.falling_numbers_of.Goals.{else-back-test, then-back-test+then-from-settled, then-is_own+in_ok-push, else-is_own}
 
 pub back-init : goal.back-init
 back-init c =
@@ -38,9 +38,9 @@ back-preserved c =
     record {
       within = at.last.within;
       group = next_group c.args.marked.now c.args.self.now.places.items (Of c.args.session) c.back.place c.index-at.result.now c.back.invariant.group (place_there c.args.self.now.places.items c.back.place c.index-at.result.now c.back-test.true c.back.invariant.within c.index-at.ensures) c.requires.index.places;
-      so_far = elim c.if-is_in.branch [
-        | then-is_in+in_ok-push w ↦ (λ i. reverse (w.found-is i).items) ∙ ap reverse (w.in_ok-push.ensures.items) ∙ one_numbered c.back.found.items _ (belongs (Of c.args.session) c.numbered-entry.result.now) c.numbered-entry.result.now c.back.invariant.so_far (sym c.is_in.ensures ∙ w.if-is_in.true) ∙ ap (map (λ (m : MarkedEntry). m.entry.number)) (sym (step_back c.args.marked.now c.args.self.now.places.items (Of c.args.session) c.back.place c.index-at.result.now c.back.invariant.group (place_there c.args.self.now.places.items c.back.place c.index-at.result.now c.back-test.true c.back.invariant.within c.index-at.ensures) c.requires.index.places c.numbered-entry.result.now c.numbered-entry.ensures))
-        | else-is_in w ↦ (λ i. reverse (w.found-is i).items) ∙ none_numbered c.back.found.items _ (belongs (Of c.args.session) c.numbered-entry.result.now) c.numbered-entry.result.now c.back.invariant.so_far (sym c.is_in.ensures ∙ w.if-is_in.false) ∙ ap (map (λ (m : MarkedEntry). m.entry.number)) (sym (step_back c.args.marked.now c.args.self.now.places.items (Of c.args.session) c.back.place c.index-at.result.now c.back.invariant.group (place_there c.args.self.now.places.items c.back.place c.index-at.result.now c.back-test.true c.back.invariant.within c.index-at.ensures) c.requires.index.places c.numbered-entry.result.now c.numbered-entry.ensures))
+      so_far = elim c.if-is_own.branch [
+        | then-is_own+in_ok-push w ↦ (λ i. reverse (w.found-is i).items) ∙ ap reverse (w.in_ok-push.ensures.items) ∙ one_numbered c.back.found.items _ (belongs (Of c.args.session) c.numbered-entry.result.now) c.numbered-entry.result.now c.back.invariant.so_far (sym c.is_own.ensures ∙ w.if-is_own.true) ∙ ap (map (λ (m : MarkedEntry). m.entry.number)) (sym (step_back c.args.marked.now c.args.self.now.places.items (Of c.args.session) c.back.place c.index-at.result.now c.back.invariant.group (place_there c.args.self.now.places.items c.back.place c.index-at.result.now c.back-test.true c.back.invariant.within c.index-at.ensures) c.requires.index.places c.numbered-entry.result.now c.numbered-entry.ensures))
+        | else-is_own w ↦ (λ i. reverse (w.found-is i).items) ∙ none_numbered c.back.found.items _ (belongs (Of c.args.session) c.numbered-entry.result.now) c.numbered-entry.result.now c.back.invariant.so_far (sym c.is_own.ensures ∙ w.if-is_own.false) ∙ ap (map (λ (m : MarkedEntry). m.entry.number)) (sym (step_back c.args.marked.now c.args.self.now.places.items (Of c.args.session) c.back.place c.index-at.result.now c.back.invariant.group (place_there c.args.self.now.places.items c.back.place c.index-at.result.now c.back-test.true c.back.invariant.within c.index-at.ensures) c.requires.index.places c.numbered-entry.result.now c.numbered-entry.ensures))
       ];
     }
 

@@ -6,7 +6,7 @@ use Rattle.tsn_journal.proofs.Links.{next_group, place_there, the_place}
 use Rattle.tsn_journal.proofs.Off.{none_before}
 use Rattle.tsn_journal.proofs.Walking.{filter_none, none_after, step_back, none_added, one_added}
 use Rattle.tsn_journal.proofs.index.Index.parts_of.Goals as goal
-use Rattle.tsn_journal.proofs.index.Index.parts_of.Goals.{then-is_in, else-is_in}
+use Rattle.tsn_journal.proofs.index.Index.parts_of.Goals.{then-is_own, else-is_own}
 
 pub back-init : goal.back-init
 back-init c =
@@ -38,13 +38,13 @@ back-preserved c =
     record {
       within = at.last.within;
       group = next_group c.args.marked.now c.args.self.now.places.items (Of c.args.session) c.back.place c.index-at.result.now c.back.invariant.group (place_there c.args.self.now.places.items c.back.place c.index-at.result.now c.back-test.true c.back.invariant.within c.index-at.ensures) c.requires.index.places;
-      so_far = elim c.if-is_in.branch [
-        | then-is_in w ↦ w.found-is ∙ one_added c.back.found _ (belongs (Of c.args.session) c.numbered-entry.result.now) c.numbered-entry.result.now w.added_parts-found.result c.back.invariant.so_far (sym c.is_in.ensures ∙ w.if-is_in.true) w.added_parts-found.ensures.parts ∙ ap added_in (sym (step_back c.args.marked.now c.args.self.now.places.items (Of c.args.session) c.back.place c.index-at.result.now c.back.invariant.group (place_there c.args.self.now.places.items c.back.place c.index-at.result.now c.back-test.true c.back.invariant.within c.index-at.ensures) c.requires.index.places c.numbered-entry.result.now c.numbered-entry.ensures))
-        | else-is_in w ↦ w.found-is ∙ none_added c.back.found _ (belongs (Of c.args.session) c.numbered-entry.result.now) c.numbered-entry.result.now c.back.invariant.so_far (sym c.is_in.ensures ∙ w.if-is_in.false) ∙ ap added_in (sym (step_back c.args.marked.now c.args.self.now.places.items (Of c.args.session) c.back.place c.index-at.result.now c.back.invariant.group (place_there c.args.self.now.places.items c.back.place c.index-at.result.now c.back-test.true c.back.invariant.within c.index-at.ensures) c.requires.index.places c.numbered-entry.result.now c.numbered-entry.ensures))
+      so_far = elim c.if-is_own.branch [
+        | then-is_own w ↦ w.found-is ∙ one_added c.back.found _ (belongs (Of c.args.session) c.numbered-entry.result.now) c.numbered-entry.result.now w.added_parts-found.result c.back.invariant.so_far (sym c.is_own.ensures ∙ w.if-is_own.true) w.added_parts-found.ensures.parts ∙ ap added_in (sym (step_back c.args.marked.now c.args.self.now.places.items (Of c.args.session) c.back.place c.index-at.result.now c.back.invariant.group (place_there c.args.self.now.places.items c.back.place c.index-at.result.now c.back-test.true c.back.invariant.within c.index-at.ensures) c.requires.index.places c.numbered-entry.result.now c.numbered-entry.ensures))
+        | else-is_own w ↦ w.found-is ∙ none_added c.back.found _ (belongs (Of c.args.session) c.numbered-entry.result.now) c.numbered-entry.result.now c.back.invariant.so_far (sym c.is_own.ensures ∙ w.if-is_own.false) ∙ ap added_in (sym (step_back c.args.marked.now c.args.self.now.places.items (Of c.args.session) c.back.place c.index-at.result.now c.back.invariant.group (place_there c.args.self.now.places.items c.back.place c.index-at.result.now c.back-test.true c.back.invariant.within c.index-at.ensures) c.requires.index.places c.numbered-entry.result.now c.numbered-entry.ensures))
       ];
-      few = elim c.if-is_in.branch [
-        | then-is_in w ↦ omega (arith, w.found-is, w.added_parts-found.ensures.few, at.earlier, c.back.invariant.few, c.back-test.true)
-        | else-is_in w ↦ omega (arith, w.found-is, at.earlier, c.back.invariant.few, c.back-test.true)
+      few = elim c.if-is_own.branch [
+        | then-is_own w ↦ omega (arith, w.found-is, w.added_parts-found.ensures.few, at.earlier, c.back.invariant.few, c.back-test.true)
+        | else-is_own w ↦ omega (arith, w.found-is, at.earlier, c.back.invariant.few, c.back-test.true)
       ];
     }
 
