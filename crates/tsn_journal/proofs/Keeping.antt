@@ -6,13 +6,15 @@ use Rattle.tsn_journal.specs.declared.entries.MarkedEntry.{MarkedEntry}
 use Rattle.tsn_journal.specs.declared.groups.Group.{Group}
 use Rattle.tsn_journal.specs.declared.index.Index.{Index}
 use Rattle.tsn_journal.specs.Index.{ArePlaces, HasRoom, IsIndexed, IsIndexedButNewest, IsLast, NewestAdds, TakesNoRoom, TakesRoom, belongs, places_for}
+use Rattle.tsn_journal.specs.Crossed.{IsFreeAbove, NoneCrossed}
 use Rattle.tsn_journal.specs.Kept.{IsKept}
 use Rattle.tsn_journal.specs.Latest.{latest_of}
 use Rattle.tsn_journal.specs.Touched.{NewestTold, Tells, TellsSame}
 use Rattle.std.specs.List.{slice_get}
 use Rattle.std.specs.Prelude.{max}
-use Rattle.tsn_journal.specs.Entries.{IsNumbered, added_parts, settled, settles_to}
+use Rattle.tsn_journal.specs.Entries.{IsNumbered, added_parts, adds, settled, settles_to}
 use Rattle.tsn_journal.specs.Marks.{AreOff, IsJournal, Log, entries_of, mark_off}
+use Rattle.tsn_journal.proofs.Bounding.{free_pushed}
 use Rattle.tsn_journal.proofs.Closing.{off_pushed, settled_push}
 use Rattle.tsn_journal.proofs.Indexing.{indexed_more, indexed_off}
 use Rattle.tsn_journal.proofs.Links.{end_at, some_of}
@@ -34,8 +36,8 @@ no_index a places latest = record {
       (subst (λ j. IsLast g (belongs g) [] [] j 1) (sym (latest g)) (record { within = omega arith; group = refl; none_later = λ i m low high at. (cc) }));
 }
 
-module _ (ms : List MarkedEntry) (len capacity : ℕ) (a : Index) (room parts upto : ℕ) (is : IsKept ms len capacity a room parts upto) (ns : List MarkedEntry) (b : Index) (same : ns ≡ ms) (places : b.places.items ≡ a.places.items) (latest : (g : Group) → latest_of b.latest g ≡ latest_of a.latest g) (tells : TellsSame a b) where
-  pub kept_reserved : (len' capacity' room' parts' : ℕ) → len' ≡ len → len' + room' ≤ capacity' → len' + room' ≤ 262144 → parts' ≤ 4194304 → HasRoom (places_for room' parts') b → IsKept ns len' capacity' b room' parts' upto
+module _ (ms : List MarkedEntry) (len capacity : ℕ) (a : Index) (room parts upto crossed : ℕ) (is : IsKept ms len capacity a room parts upto crossed) (ns : List MarkedEntry) (b : Index) (same : ns ≡ ms) (places : b.places.items ≡ a.places.items) (latest : (g : Group) → latest_of b.latest g ≡ latest_of a.latest g) (tells : TellsSame a b) where
+  pub kept_reserved : (len' capacity' room' parts' : ℕ) → len' ≡ len → len' + room' ≤ capacity' → len' + room' ≤ 262144 → parts' ≤ 4194304 → HasRoom (places_for room' parts') b → IsKept ns len' capacity' b room' parts' upto crossed
   kept_reserved len' capacity' room' parts' as_many entries few few_parts places' = record {
     journal = subst IsJournal (sym same) is.journal;
     indexed = subst (λ xs. IsIndexed xs b) (sym same) (indexed_same ms a b places latest is.indexed);
@@ -48,6 +50,7 @@ module _ (ms : List MarkedEntry) (len capacity : ℕ) (a : Index) (room parts up
     settled = is.settled ∙ ap (λ xs. settled (entries_of xs)) (sym same);
     settled_there = omega (arith, is.settled_there, as_many);
     off = subst (AreOff upto) (sym same) is.off;
+    free = subst (IsFreeAbove crossed) (sym same) is.free;
   }
 
 pub still_room : (n : ℕ) (a b : Index) → TakesNoRoom a b → HasRoom n a → HasRoom n b
@@ -93,9 +96,9 @@ module _ (w : What) (s : ℕ) (ms ns : List MarkedEntry) (pushed : ns ≡ map (m
   off_more upto now is within there now_is off =
       subst (λ n. AreOff n ns) (sym now_is) (subst (AreOff (max upto (settles_to w))) (sym pushed) (off_pushed w upto ms (new_entry ms s w) is.numbered within there off))
 
-  pub kept_pushed : (len capacity len' capacity' room parts k upto now : ℕ) (a b : Index) → 1 ≤ room → k ≤ parts → k ≤ 16 → IsKept ms len capacity a room parts upto → settles_to w ≤ length ms → now ≡ max upto (settles_to w) → length ms ≡ len → len' ≡ len + 1 → capacity' ≡ capacity → IsIndexed ns b → Tells (entries_of ns) b
-      → TakesRoom (places_for 1 k) a b → IsKept ns len' capacity' b (room - 1) (parts - k) now
-  kept_pushed len capacity len' capacity' room parts k upto now a b some fewer wide is there now_is count longer same indexed tells takes = record {
+  pub kept_pushed : (len capacity len' capacity' room parts k upto now crossed more : ℕ) (a b : Index) → 1 ≤ room → k ≤ parts → k ≤ 16 → IsKept ms len capacity a room parts upto crossed → IsFreeAbove more ns → settles_to w ≤ length ms → now ≡ max upto (settles_to w) → length ms ≡ len → len' ≡ len + 1 → capacity' ≡ capacity → IsIndexed ns b → Tells (entries_of ns) b
+      → TakesRoom (places_for 1 k) a b → IsKept ns len' capacity' b (room - 1) (parts - k) now more
+  kept_pushed len capacity len' capacity' room parts k upto now crossed more a b some fewer wide is free there now_is count longer same indexed tells takes = record {
     journal = journal_push ms s w ns is.journal (omega (arith, is.few)) pushed;
     indexed = indexed;
     tells = tells;
@@ -107,7 +110,11 @@ module _ (w : What) (s : ℕ) (ms ns : List MarkedEntry) (pushed : ns ≡ map (m
     settled = now_is ∙ ap (λ n. max n (settles_to w)) is.settled ∙ sym (settled_push (entries_of ms) (record { number = length (entries_of ms) + 1; session = s; what = w })) ∙ sym (ap settled (entries_pushed ms s w)) ∙ ap (λ xs. settled (entries_of xs)) (sym pushed);
     settled_there = omega (arith, is.settled_there, there, count, longer);
     off = off_more upto now is.journal (omega (arith, is.settled_there, count)) there now_is is.off;
+    free = free;
   }
+
+  pub pushed_free : (crossed more : ℕ) → IsFreeAbove crossed ms → NoneCrossed more (adds w) s ms → crossed ≤ more → IsFreeAbove more ns
+  pushed_free crossed more is none up = subst (IsFreeAbove more) (sym pushed) (free_pushed w s ms (new_entry ms s w) refl refl crossed more is none up)
 
   newest_is : slice_get ns (length ns - 1) ≡ Some (new_entry ms s w)
   newest_is =

@@ -20,4 +20,5 @@ pub mod Standing
 pub mod Telling
 pub mod Under
 pub mod Walking
+pub mod Bounding
 pub mod Crossing

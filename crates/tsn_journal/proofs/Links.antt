@@ -6,7 +6,7 @@ use Rattle.std.proofs.lemmas.Option.{slice_get_read}
 use Rattle.tsn_journal.specs.declared.entries.MarkedEntry.{MarkedEntry}
 use Rattle.tsn_journal.specs.declared.groups.Group.{Group}
 use Rattle.tsn_journal.specs.declared.index.Place.{Place}
-use Rattle.tsn_journal.specs.Index.{ArePlaces, IsLast, IsPlace, NoneBetween, belongs, belongs_to_others, is_by, is_of, number_at, number_of, place_at}
+use Rattle.tsn_journal.specs.Index.{ArePlaces, IsLast, IsPlace, NoneBetween, NoneFrom, belongs, belongs_to_others, is_by, is_of, number_at, number_of, place_at}
 use Rattle.tsn_journal.proofs.Grouping.{one_group}
 
 -- ---- lists with one element more
@@ -88,6 +88,18 @@ module _ (ms : List MarkedEntry) (ps : List Place) (g : Group) (j : ℕ) (p : Pl
         | inr rest ↦ elim rest [
           | inl same ↦ ap t (some_of x m (sym at' ∙ ap (slice_get ms) same ∙ here)) ∙ fails
           | inr after ↦ none i x (omega arith) high at'
+        ]
+      ]
+
+  -- the same where nothing from a number below the place's on passes
+  pub step_beyond : (t : MarkedEntry → Bool) (limit : ℕ) → ((m : MarkedEntry) → belongs g m ≡ false → t m ≡ false) → (n : ℕ) → n < p.number → NoneFrom t ms n → NoneBetween t ms (number_at ps p.before) limit
+  step_beyond t limit out n below none i x low high at' =
+      let first : 1 ≤ p.number = the_place.some in
+      elim (where_at (p.number - 1) i) [
+        | inl before ↦ out x (subst (λ h. belongs h x ≡ false) one (the_place.last.none_later i x low (omega arith) at'))
+        | inr rest ↦ elim rest [
+          | inl same ↦ none i x (omega arith) at'
+          | inr after ↦ none i x (omega arith) at'
         ]
       ]
 

@@ -12,13 +12,9 @@ use Rattle.tsn_journal.specs.declared.index.Place.{Place}
 use Rattle.tsn_journal.specs.Finding.{last_where}
 use Rattle.tsn_journal.specs.Entries.{added_parts}
 use Rattle.tsn_journal.specs.Marks.{added_in}
-use Rattle.tsn_journal.specs.Index.{ArePlaces, IsLast, belongs, is_of, number_at, number_of, place_at}
+use Rattle.tsn_journal.specs.Index.{ArePlaces, IsLast, NoneFrom, belongs, is_of, number_at, number_of, place_at}
 use Rattle.tsn_journal.proofs.Links.{one, the_place}
 use Rattle.tsn_journal.proofs.LastWhere.{found_here}
-
--- nothing from n on passes
-abbrev pub NoneFrom : {A : Type 0} → (A → Bool) → List A → ℕ → Type 0
-NoneFrom {A} t xs n = (i : ℕ) (x : A) → n ≤ i → slice_get xs i ≡ Some x → t x ≡ false
 
 pub none_from : {A : Type 0} (t : A → Bool) (xs : List A) (n : ℕ) → NoneFrom t xs n → last_where t (drop n xs) ≡ None
 none_from t [] zero h = refl

@@ -80,6 +80,10 @@ is_of g (Some p) = same_group p.group g
 abbrev pub NoneBetween : (MarkedEntry → Bool) → List MarkedEntry → ℕ → ℕ → Type 0
 NoneBetween t ms n limit = (i : ℕ) (m : MarkedEntry) → n ≤ i → i + 1 < limit → slice_get ms i ≡ Some m → t m ≡ false
 
+-- nothing from n on passes
+abbrev pub NoneFrom : {A : Type 0} → (A → Bool) → List A → ℕ → Type 0
+NoneFrom {A} t xs n = (i : ℕ) (x : A) → n ≤ i → slice_get xs i ≡ Some x → t x ≡ false
+
 -- at the place j, or at none, is the last of the entries of the group below the limit that may pass the test
 pub record IsLast (g : Group) (t : MarkedEntry → Bool) (ms : List MarkedEntry) (ps : List Place) (j limit : ℕ) : Type 0 where
   pub within : j ≤ length ps

@@ -2,14 +2,15 @@
 use Rattle.std.specs.Prelude.{◌≡◌, ℕ, ◌+◌, ◌*◌, ◌≤◌, List, length}
 use Rattle.tsn_journal.specs.declared.entries.MarkedEntry.{MarkedEntry}
 use Rattle.tsn_journal.specs.declared.index.Index.{Index}
+use Rattle.tsn_journal.specs.Crossed.{IsFreeAbove}
 use Rattle.tsn_journal.specs.Entries.{most_entries, settled}
 use Rattle.tsn_journal.specs.Index.{HasRoom, IsIndexed, places_for}
 use Rattle.tsn_journal.specs.Marks.{AreOff, IsJournal, entries_of}
 use Rattle.tsn_journal.specs.Touched.{Tells}
 
--- with all in the index and told by its rows, with room for as many entries and parts more as it says, and settled up to the
--- number that it says
-pub record IsKept (ms : List MarkedEntry) (len capacity : ℕ) (index : Index) (room parts upto : ℕ) : Type 0 where
+-- with all in the index and told by its rows, with room for as many entries and parts more as it says, settled up to the
+-- number that it says, and with none blocked above the other number that it says
+pub record IsKept (ms : List MarkedEntry) (len capacity : ℕ) (index : Index) (room parts upto crossed : ℕ) : Type 0 where
   pub journal : IsJournal ms
   pub indexed : IsIndexed ms index
   pub tells : Tells (entries_of ms) index
@@ -21,3 +22,4 @@ pub record IsKept (ms : List MarkedEntry) (len capacity : ℕ) (index : Index) (
   pub settled : upto ≡ settled (entries_of ms)
   pub settled_there : upto ≤ len
   pub off : AreOff upto ms
+  pub free : IsFreeAbove crossed ms

@@ -1,3 +1,4 @@
+pub mod Crossed
 pub mod Entries
 pub mod Finding
 pub mod Index

@@ -2,6 +2,7 @@
 ghost use Rattle.std.specs.Prelude.{◌≡◌, ◌==◌, ◌+◌, ◌<◌, ◌≤◌, ◌⊎◌, ◌&&◌, ◌∷◌, [], Bool, IfOk, IfSome, IsNone, drop, filter, is_some, length, map, option_map};
 ghost use Rattle.std.specs.List.{find};
 ghost use Rattle.std.specs.Option.{option_and_then, option_copied};
+ghost use Rattle.tsn_journal.specs.Crossed.{IsFreeAbove};
 ghost use Rattle.tsn_journal.specs.Entries.{IsNoSettle, IsNumbered, applies, settles_to};
 ghost use Rattle.tsn_journal.specs.Finding.{last_where};
 ghost use Rattle.tsn_journal.specs.Latest.{latest_of};
@@ -270,13 +271,19 @@ pub(crate) fn later_of(first: Option<u64>, second: Option<u64>) -> Option<u64>
 }
 
 /// The number of the session's newest standing entry that a later standing entry of another session is in conflict
-/// with, sought from each of the session's entries.
-pub(crate) fn own_in_conflict(index: &Index, marked: &[MarkedEntry], session: u32) -> Option<u64>
+/// with, sought from each of the session's entries. None above the number `crossed` is so.
+pub(crate) fn own_in_conflict(
+    index: &Index,
+    marked: &[MarkedEntry],
+    session: u32,
+    crossed: u64,
+) -> Option<u64>
     requires index { IsIndexed marked.now index.now }
     requires numbered { IsNumbered 1 (entries_of marked.now) }
+    requires free { IsFreeAbove crossed marked.now }
     ensures { result ≡ newest_blocked session marked.now marked.now }
 {
-    match newest_blocked(index, marked, session) {
+    match newest_blocked(index, marked, session, crossed) {
         Some(found) => Some(found.entry.number),
         None => None,
     }
@@ -287,16 +294,17 @@ fn newest_blocked<'a>(
     index: &Index,
     marked: &'a [MarkedEntry],
     session: u32,
+    crossed: u64,
 ) -> Option<&'a MarkedEntry>
     requires index { IsIndexed marked.now index.now }
     requires numbered { IsNumbered 1 (entries_of marked.now) }
+    requires free { IsFreeAbove crossed marked.now }
     ensures { option_copied result ≡ last_where (λ m. is_own session m && is_some (conflict_of_others marked.now m.entry)) marked.now }
 {
-    let latest = index.latest.session_places(session).standing;
-    index.last_in(
+    index.last_own(
         marked,
-        &Group::Of(session),
-        latest,
+        session,
+        crossed,
         &|own: &MarkedEntry|
             requires index { IsIndexed marked.now index.now }
             requires numbered { IsNumbered 1 (entries_of marked.now) }

@@ -10,9 +10,9 @@ ghost use Rattle.tsn_journal.specs.declared.groups.Group.{Group as AnyGroup};
 ghost use Rattle.tsn_journal.specs.Entries.{most_entries};
 ghost use Rattle.tsn_journal.specs.Finding.{last_where};
 ghost use Rattle.tsn_journal.specs.declared.groups.Group.TheVariants.{EndsRedo, Of, On, RefersTo};
-ghost use Rattle.tsn_journal.specs.Index.{Adds, ArePlaces, HasPlaces, HasRoom, IsIndexed, IsIndexedBut, IsIndexedButNewest, IsLast, IsNewest, NewestAdds, NoneBetween, TakesNoRoom, TakesPlaces, TakesRoom, belongs, belongs_to_others, group_if, is_by, most_places, number_at, other_of, places_for};
+ghost use Rattle.tsn_journal.specs.Index.{Adds, ArePlaces, HasPlaces, HasRoom, IsIndexed, IsIndexedBut, IsIndexedButNewest, IsLast, IsNewest, NewestAdds, NoneBetween, TakesNoRoom, TakesPlaces, TakesRoom, NoneFrom, belongs, belongs_to_others, group_if, is_by, most_places, number_at, other_of, places_for};
 ghost use Rattle.tsn_journal.specs.Latest.{latest_of};
-ghost use Rattle.tsn_journal.specs.Marks.{AreOff, added_in};
+ghost use Rattle.tsn_journal.specs.Marks.{AreOff, added_in, is_own};
 ghost use Rattle.tsn_journal.specs.Tests.{Tests};
 ghost use Rattle.tsn_journal.specs.Touched.{NewestTold, Tells, TellsSame, Told};
 ghost use Rattle.tsn_edit.specs.Changes.{keys_of, refs_after};
@@ -544,6 +544,34 @@ impl Index {
             let entry = numbered(marked, found.number);
             if entry.is_in(group) && test(entry) {
                 return Some(entry);
+            }
+            place = found.before;
+        }
+        None
+    }
+
+    /// The session's last standing entry that passes the test, where none above the number `upto` does. At those it does
+    /// not look.
+    pub(crate) fn last_own<'a, F: Fn(&MarkedEntry) -> bool>(
+        &self,
+        marked: &'a [MarkedEntry],
+        session: u32,
+        upto: u64,
+        test: &F,
+    ) -> Option<&'a MarkedEntry>
+        requires callable { F.IsAlwaysCallable test.now }
+        requires index { IsIndexed marked.now self.now }
+        ensures { (p : AnyEntry → Bool) → Tests F.Fn p test.now → NoneFrom (λ m. is_own session m && p m) marked.now upto
+            → option_copied result ≡ last_where (λ m. is_own session m && p m) marked.now }
+    {
+        let mut place = self.latest.session_places(session).standing;
+        'back: while place != 0 {
+            let found = &self.places[place as usize - 1];
+            if u64::from(found.number) <= upto {
+                let entry = numbered(marked, found.number);
+                if entry.is_own(session) && test(entry) {
+                    return Some(entry);
+                }
             }
             place = found.before;
         }

@@ -7,6 +7,7 @@ ghost use Rattle.tsn_types.specs.Refusals.{IsLeastOrMemory};
 ghost use Rattle.tsn_journal.specs.Entries.{Applied, added_parts, most_entries, no_room, settled, settles_to, with_entry};
 ghost use Rattle.tsn_journal.specs.Finding.{entry, find_conflict, find_conflict_of_others, find_own_in_conflict, find_redo_conflict, last_of, own_standing, parts_of_all, redo_of, since, standing_entry, undone_entry};
 
+use crate::crossed::crossed_by;
 use crate::entries::{Entries, Entry, MarkedEntry, What};
 use crate::finding::{
     after, at, conflict_of_others, leave, own_in_conflict, put_off, standing_conflict_after,
@@ -33,6 +34,8 @@ pub struct Journal {
     parts: usize,
     /// Up to which number the entries are settled.
     settled: u64,
+    /// Above which number no entry has a later standing one of another session in conflict with it.
+    crossed: u64,
 }
 
 impl Model for Journal {
@@ -46,7 +49,7 @@ impl Model for Journal {
 
     ghost view = { λ a. record { entries = entries_of a.marked.items; spare = a.room; parts = a.parts } };
 
-    ghost invariant = { λ a. IsKept a.marked.items (vec_len a.marked) (vec_capacity a.marked) a.index a.room a.parts a.settled };
+    ghost invariant = { λ a. IsKept a.marked.items (vec_len a.marked) (vec_capacity a.marked) a.index a.room a.parts a.settled a.crossed };
 }
 
 impl Journal {
@@ -60,6 +63,7 @@ impl Journal {
             room: 0,
             parts: 0,
             settled: 0,
+            crossed: 0,
         }
     }
 
@@ -112,6 +116,7 @@ impl Journal {
     {
         let parts = what.added_parts();
         let settled = self.settled.max(what.settles_to());
+        let crossed = crossed_by(&self.index, &self.marked, session, &what, self.crossed);
         put_off(&mut self.marked, &what, self.settled);
         let number = self.marked.len() as u64 + 1;
         let taken_back = what.names();
@@ -132,6 +137,7 @@ impl Journal {
             settled as usize,
         );
         self.settled = settled;
+        self.crossed = crossed;
         self.room -= 1;
         self.parts -= parts;
         number
@@ -259,7 +265,7 @@ impl Journal {
     pub fn find_own_in_conflict(&self, session: u32) -> Option<u64>
         ensures { result ≡ option_map (λ x. x.number) (find_own_in_conflict self.now.entries session) }
     {
-        own_in_conflict(&self.index, &self.marked, session)
+        own_in_conflict(&self.index, &self.marked, session, self.crossed)
     }
 
     /// The number of the latest later entry of any kind whose change is in conflict with that of the Undone entry of

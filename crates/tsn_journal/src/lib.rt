@@ -6,6 +6,7 @@
 //! entries stand, and each finder's answer, is defined in `specs/` over the list alone. No call reads a configuration.
 #![tactic(auto)]
 
+mod crossed;
 pub mod entries;
 mod finding;
 mod groups;

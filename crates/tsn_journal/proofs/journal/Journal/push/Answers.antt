@@ -1,20 +1,27 @@
 use Rattle.std.proofs.Common.{◌≤◌, refl, sym, ◌∙◌, ap, subst, drop, length, map, add-zero, arith, max}
-use Rattle.tsn_journal.specs.Entries.{IsNumbered, added_parts, with_entry}
+use Rattle.tsn_journal.specs.Crossed.{NoneCrossed}
+use Rattle.tsn_journal.specs.Entries.{IsNumbered, added_parts, adds, with_entry}
 use Rattle.tsn_journal.specs.Index.{IsIndexed, IsIndexedButNewest, NewestAdds, TakesRoom, places_for}
 use Rattle.tsn_journal.specs.Marks.{AreOff, Log, entries_of, mark_off}
 use Rattle.std.specs.Vec.{vec_capacity, vec_len}
 use Rattle.tsn_journal.proofs.Indexing.{takes_more}
-use Rattle.tsn_journal.proofs.Keeping.{kept_pushed, off_more, pushed_few, pushed_adds, pushed_index, pushed_numbered, pushed_some, pushed_tells, room_for_one, settles_there}
+use Rattle.tsn_journal.proofs.Keeping.{kept_pushed, off_more, pushed_few, pushed_adds, pushed_free, pushed_index, pushed_numbered, pushed_some, pushed_tells, room_for_one, settles_there}
 use Rattle.tsn_journal.proofs.Marking.{entries_pushed, pushed_items}
 use Rattle.tsn_journal.proofs.Telling.{tells_same}
 use Rattle.tsn_journal.specs.Touched.{NewestTold}
 use Rattle.tsn_journal.proofs.journal.Journal.push.Goals as goal
 
+pub crossed_by-crossed-requires-clause-index : goal.crossed_by-crossed-requires-clause-index
+crossed_by-crossed-requires-clause-index c = subst (λ xs. IsIndexed xs c.self.inside.index) (sym c.deref.ensures.value) c.self.invariant.indexed
+
+pub crossed_by-crossed-requires-clause-numbered : goal.crossed_by-crossed-requires-clause-numbered
+crossed_by-crossed-requires-clause-numbered c = subst (λ xs. IsNumbered 1 (entries_of xs)) (sym c.deref.ensures.value) c.self.invariant.journal.numbered
+
 pub enter-requires-clause-index : goal.enter-requires-clause-index
 enter-requires-clause-index c =
     let ms = c.self.inside.marked.items in
     let same = sym (ap length c.deref_mut.ensures.value) ∙ c.deref_mut.ensures.len in
-    subst (λ xs. IsIndexedButNewest xs c.self.inside.index) (sym c.deref.ensures.value)
+    subst (λ xs. IsIndexedButNewest xs c.self.inside.index) (sym c.deref-2.ensures.value)
     (pushed_index c.args.what c.args.session ms c.push_reserved.new.self.items
     (pushed_items c.args.what c.args.session c.self.inside.marked.len c.len.result ms (drop (length c.put_off.new.marked) ms) c.put_off.new.marked c.push_reserved.new.self.items same c.len.ensures
     (c.put_off.ensures ∙ ap (map (mark_off c.args.what)) c.deref_mut.ensures.value) c.push_reserved.ensures.items)
@@ -29,8 +36,8 @@ pub enter-requires-clause-parts : goal.enter-requires-clause-parts
 enter-requires-clause-parts c =
     let ms = c.self.inside.marked.items in
     let same = sym (ap length c.deref_mut.ensures.value) ∙ c.deref_mut.ensures.len in
-    subst (NewestAdds c.deref.result.now) (sym c.added_parts-parts.ensures.parts)
-    (subst (λ xs. NewestAdds xs (added_parts c.args.what)) (sym c.deref.ensures.value)
+    subst (NewestAdds c.deref-2.result.now) (sym c.added_parts-parts.ensures.parts)
+    (subst (λ xs. NewestAdds xs (added_parts c.args.what)) (sym c.deref-2.ensures.value)
     (pushed_adds c.args.what c.args.session ms c.push_reserved.new.self.items
     (pushed_items c.args.what c.args.session c.self.inside.marked.len c.len.result ms (drop (length c.put_off.new.marked) ms) c.put_off.new.marked c.push_reserved.new.self.items same c.len.ensures
     (c.put_off.ensures ∙ ap (map (mark_off c.args.what)) c.deref_mut.ensures.value) c.push_reserved.ensures.items)))
@@ -39,7 +46,7 @@ pub enter-requires-clause-some : goal.enter-requires-clause-some
 enter-requires-clause-some c =
     let ms = c.self.inside.marked.items in
     let same = sym (ap length c.deref_mut.ensures.value) ∙ c.deref_mut.ensures.len in
-    subst (λ xs. 1 ≤ length xs) (sym c.deref.ensures.value)
+    subst (λ xs. 1 ≤ length xs) (sym c.deref-2.ensures.value)
     (pushed_some c.args.what c.args.session ms c.push_reserved.new.self.items
     (pushed_items c.args.what c.args.session c.self.inside.marked.len c.len.result ms (drop (length c.put_off.new.marked) ms) c.put_off.new.marked c.push_reserved.new.self.items same c.len.ensures
     (c.put_off.ensures ∙ ap (map (mark_off c.args.what)) c.deref_mut.ensures.value) c.push_reserved.ensures.items))
@@ -49,21 +56,21 @@ enter-requires-clause-few c =
     let ms = c.self.inside.marked.items in
     let same = sym (ap length c.deref_mut.ensures.value) ∙ c.deref_mut.ensures.len in
     let room : 1 ≤ c.self.inside.room = subst (λ (l : Log). 1 ≤ l.spare) (sym c.self.view_is) c.requires.room in
-    subst (λ xs. length xs ≤ 262144) (sym c.deref.ensures.value)
+    subst (λ xs. length xs ≤ 262144) (sym c.deref-2.ensures.value)
     (pushed_few c.args.what c.args.session ms c.push_reserved.new.self.items
     (pushed_items c.args.what c.args.session c.self.inside.marked.len c.len.result ms (drop (length c.put_off.new.marked) ms) c.put_off.new.marked c.push_reserved.new.self.items same c.len.ensures
     (c.put_off.ensures ∙ ap (map (mark_off c.args.what)) c.deref_mut.ensures.value) c.push_reserved.ensures.items)
     (omega (arith, c.self.invariant.few, same, room)))
 
 pub leave-requires-clause-index : goal.leave-requires-clause-index
-leave-requires-clause-index c = subst (λ xs. IsIndexed xs c.enter.new.self) (c.deref.ensures.value ∙ sym c.deref-2.ensures.value) c.enter.ensures.index
+leave-requires-clause-index c = subst (λ xs. IsIndexed xs c.enter.new.self) (c.deref-2.ensures.value ∙ sym c.deref-3.ensures.value) c.enter.ensures.index
 
 pub leave-requires-clause-numbered : goal.leave-requires-clause-numbered
 leave-requires-clause-numbered c =
     let ms = c.self.inside.marked.items in
     let same = sym (ap length c.deref_mut.ensures.value) ∙ c.deref_mut.ensures.len in
     let room : 1 ≤ c.self.inside.room = subst (λ (l : Log). 1 ≤ l.spare) (sym c.self.view_is) c.requires.room in
-    subst (λ xs. IsNumbered 1 (entries_of xs)) (sym c.deref-2.ensures.value)
+    subst (λ xs. IsNumbered 1 (entries_of xs)) (sym c.deref-3.ensures.value)
     (pushed_numbered c.args.what c.args.session ms c.push_reserved.new.self.items
     (pushed_items c.args.what c.args.session c.self.inside.marked.len c.len.result ms (drop (length c.put_off.new.marked) ms) c.put_off.new.marked c.push_reserved.new.self.items same c.len.ensures
     (c.put_off.ensures ∙ ap (map (mark_off c.args.what)) c.deref_mut.ensures.value) c.push_reserved.ensures.items)
@@ -73,7 +80,7 @@ pub leave-requires-clause-off : goal.leave-requires-clause-off
 leave-requires-clause-off c =
     let ms = c.self.inside.marked.items in
     let same = sym (ap length c.deref_mut.ensures.value) ∙ c.deref_mut.ensures.len in
-    subst (AreOff c.max-settled.result) (sym c.deref-2.ensures.value)
+    subst (AreOff c.max-settled.result) (sym c.deref-3.ensures.value)
     (off_more c.args.what c.args.session ms c.push_reserved.new.self.items
     (pushed_items c.args.what c.args.session c.self.inside.marked.len c.len.result ms (drop (length c.put_off.new.marked) ms) c.put_off.new.marked c.push_reserved.new.self.items same c.len.ensures
     (c.put_off.ensures ∙ ap (map (mark_off c.args.what)) c.deref_mut.ensures.value) c.push_reserved.ensures.items)
@@ -87,17 +94,22 @@ invariant_of-self c =
     kept_pushed c.args.what c.args.session ms c.push_reserved.new.self.items
     (pushed_items c.args.what c.args.session c.self.inside.marked.len c.len.result ms (drop (length c.put_off.new.marked) ms) c.put_off.new.marked c.push_reserved.new.self.items same c.len.ensures
     (c.put_off.ensures ∙ ap (map (mark_off c.args.what)) c.deref_mut.ensures.value) c.push_reserved.ensures.items)
-    (vec_len c.self.inside.marked) (vec_capacity c.self.inside.marked) _ _ c.self.inside.room c.self.inside.parts c.added_parts-parts.result c.self.inside.settled c.max-settled.result c.self.inside.index c.leave.new.index
+    (vec_len c.self.inside.marked) (vec_capacity c.self.inside.marked) _ _ c.self.inside.room c.self.inside.parts c.added_parts-parts.result c.self.inside.settled c.max-settled.result c.self.inside.crossed c.crossed_by-crossed.result c.self.inside.index c.leave.new.index
     (subst (λ (l : Log). 1 ≤ l.spare) (sym c.self.view_is) c.requires.room)
     (subst (λ (l : Log). c.added_parts-parts.result ≤ l.parts) (sym c.self.view_is) (omega (arith, c.added_parts-parts.ensures.parts, c.requires.parts)))
-    c.added_parts-parts.ensures.few c.self.invariant (settles_there c.args.what ms _ _ c.self.view_is refl c.requires.settles) (c.max-settled.ensures ∙ ap (max c.self.inside.settled) c.settles_to.ensures) same c.push_reserved.ensures.len c.push_reserved.ensures.capacity
-    (subst (λ xs. IsIndexed xs c.leave.new.index) c.deref-2.ensures.value c.leave.ensures.index)
+    c.added_parts-parts.ensures.few c.self.invariant
+    (pushed_free c.args.what c.args.session ms c.push_reserved.new.self.items
+    (pushed_items c.args.what c.args.session c.self.inside.marked.len c.len.result ms (drop (length c.put_off.new.marked) ms) c.put_off.new.marked c.push_reserved.new.self.items same c.len.ensures
+    (c.put_off.ensures ∙ ap (map (mark_off c.args.what)) c.deref_mut.ensures.value) c.push_reserved.ensures.items)
+    c.self.inside.crossed c.crossed_by-crossed.result c.self.invariant.free (subst (NoneCrossed c.crossed_by-crossed.result (adds c.args.what) c.args.session) c.deref.ensures.value c.crossed_by-crossed.ensures.free) c.crossed_by-crossed.ensures.rises)
+    (settles_there c.args.what ms _ _ c.self.view_is refl c.requires.settles) (c.max-settled.ensures ∙ ap (max c.self.inside.settled) c.settles_to.ensures) same c.push_reserved.ensures.len c.push_reserved.ensures.capacity
+    (subst (λ xs. IsIndexed xs c.leave.new.index) c.deref-3.ensures.value c.leave.ensures.index)
     (tells_same (entries_of c.push_reserved.new.self.items) c.enter.new.self c.leave.new.index c.leave.ensures.tells
     (pushed_tells c.args.what c.args.session ms c.push_reserved.new.self.items
     (pushed_items c.args.what c.args.session c.self.inside.marked.len c.len.result ms (drop (length c.put_off.new.marked) ms) c.put_off.new.marked c.push_reserved.new.self.items same c.len.ensures
     (c.put_off.ensures ∙ ap (map (mark_off c.args.what)) c.deref_mut.ensures.value) c.push_reserved.ensures.items)
     c.self.inside.index c.enter.new.self c.self.invariant.journal.numbered c.self.invariant.tells
-    (subst (λ xs. NewestTold xs (length xs) c.self.inside.index c.enter.new.self) c.deref.ensures.value c.enter.ensures.told)))
+    (subst (λ xs. NewestTold xs (length xs) c.self.inside.index c.enter.new.self) c.deref-2.ensures.value c.enter.ensures.told)))
     (subst (λ n. TakesRoom n c.self.inside.index c.leave.new.index) (add-zero (places_for 1 c.added_parts-parts.result))
     (takes_more (places_for 1 c.added_parts-parts.result) 0 c.self.inside.index c.enter.new.self c.leave.new.index c.enter.ensures.room c.leave.ensures.room))
 

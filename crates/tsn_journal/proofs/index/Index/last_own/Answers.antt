@@ -1,0 +1,67 @@
+use Rattle.std.proofs.Common.{◌+◌, ◌≤◌, ◌&&◌, Bool, sym, ◌∙◌, subst, arith, length}
+use Rattle.tsn_journal.specs.declared.entries.MarkedEntry.{MarkedEntry}
+use Rattle.tsn_journal.specs.declared.groups.Group.TheVariants.{Of}
+use Rattle.tsn_journal.specs.Index.{IsLast, belongs, number_at, number_of}
+use Rattle.tsn_journal.specs.Marks.{is_own}
+use Rattle.tsn_journal.proofs.Links.{next_group, place_there, step_beyond, step_none, the_place}
+use Rattle.tsn_journal.proofs.Walking.{and_false, and_out, both_true, found_from, in_list, none_from}
+use Rattle.tsn_journal.proofs.index.Index.last_own.Goals as goal
+use Rattle.tsn_journal.proofs.index.Index.last_own.Goals.{then-from-upto+else-is_own, else-is_own-via-then-is_own+else-test, else-is_own-via-else-is_own, else-from-upto}
+
+pub back-init : goal.back-init
+back-init g c =
+    let ps = c.args.self.now.places.items in
+    let h = Of c.args.session in
+    let at : IsLast h (belongs h) c.args.marked.now ps c.session_places-place.result.standing (length c.args.marked.now + 1) =
+    subst (λ j. IsLast h (belongs h) c.args.marked.now ps j (length c.args.marked.now + 1)) (sym c.session_places-place.ensures.standing) (c.requires.index.latest_is h) in
+    record {
+      within = at.within;
+      group = at.group;
+      none_later = λ p answers above i m low high is. and_out p (belongs h) m (at.none_later i m low high is);
+    }
+
+pub numbered-entry-requires-clause-some : goal.numbered-entry-requires-clause-some
+numbered-entry-requires-clause-some g c = (the_place c.args.marked.now c.args.self.now.places.items (Of c.args.session) c.back.place c.index-found.result.now c.back.invariant.group (place_there c.args.self.now.places.items c.back.place c.index-found.result.now c.back-test.true c.back.invariant.within c.index-found.ensures) c.requires.index.places).some
+
+pub numbered-entry-requires-clause-within : goal.numbered-entry-requires-clause-within
+numbered-entry-requires-clause-within g c = (the_place c.args.marked.now c.args.self.now.places.items (Of c.args.session) c.back.place c.index-found.result.now c.back.invariant.group (place_there c.args.self.now.places.items c.back.place c.index-found.result.now c.back-test.true c.back.invariant.within c.index-found.ensures) c.requires.index.places).within
+
+pub back-smaller : goal.back-smaller
+back-smaller g c =
+    let at = the_place c.args.marked.now c.args.self.now.places.items (Of c.args.session) c.back.place c.index-found.result.now c.back.invariant.group (place_there c.args.self.now.places.items c.back.place c.index-found.result.now c.back-test.true c.back.invariant.within c.index-found.ensures) c.requires.index.places in
+    omega (arith, at.earlier, c.back-test.true)
+
+pub returns-then-test : goal.returns-then-test
+returns-then-test g c = λ p answers above.
+    let at = the_place c.args.marked.now c.args.self.now.places.items (Of c.args.session) c.back.place c.index-found.result.now c.back.invariant.group (place_there c.args.self.now.places.items c.back.place c.index-found.result.now c.back-test.true c.back.invariant.within c.index-found.ensures) c.requires.index.places in
+    let here = (place_there c.args.self.now.places.items c.back.place c.index-found.result.now c.back-test.true c.back.invariant.within c.index-found.ensures) in
+    sym (found_from (λ m. is_own c.args.session m && p m) c.args.marked.now c.index-found.result.now.number c.numbered-entry.result.now at.some at.within c.numbered-entry.ensures
+    (λ i m low is. c.back.invariant.none_later p answers above i m (subst (λ o. number_of o ≤ i) (sym here) low) (in_list c.args.marked.now i m is) is)
+    (both_true _ _ (sym c.is_own.ensures ∙ c.if-is_own.true) (sym (answers _ _ c.test.ensures) ∙ c.if-test.true)))
+
+pub back-preserved : goal.back-preserved
+back-preserved g c =
+    let at = the_place c.args.marked.now c.args.self.now.places.items (Of c.args.session) c.back.place c.index-found.result.now c.back.invariant.group (place_there c.args.self.now.places.items c.back.place c.index-found.result.now c.back-test.true c.back.invariant.within c.index-found.ensures) c.requires.index.places in
+    record {
+      within = at.last.within;
+      group = next_group c.args.marked.now c.args.self.now.places.items (Of c.args.session) c.back.place c.index-found.result.now c.back.invariant.group (place_there c.args.self.now.places.items c.back.place c.index-found.result.now c.back-test.true c.back.invariant.within c.index-found.ensures) c.requires.index.places;
+      none_later = λ p answers above.
+          let t : MarkedEntry → Bool = λ m. is_own c.args.session m && p m in
+          elim c.if-from-upto.branch [
+            | then-from-upto+else-is_own w ↦
+                step_none c.args.marked.now c.args.self.now.places.items (Of c.args.session) c.back.place c.index-found.result.now c.back.invariant.group (place_there c.args.self.now.places.items c.back.place c.index-found.result.now c.back-test.true c.back.invariant.within c.index-found.ensures) c.requires.index.places
+                t (length c.args.marked.now + 1) (and_out p (belongs (Of c.args.session))) (c.back.invariant.none_later p answers above) w.numbered-entry.result.now w.numbered-entry.ensures
+                (elim w.else-is_own.branch [
+                  | else-is_own-via-then-is_own+else-test v ↦ and_false _ _ (sym (answers _ _ v.test.ensures) ∙ v.if-test.false)
+                  | else-is_own-via-else-is_own v ↦ and_out p (belongs (Of c.args.session)) w.numbered-entry.result.now (sym w.is_own.ensures ∙ v.if-is_own.false)
+                ])
+            | else-from-upto w ↦
+                step_beyond c.args.marked.now c.args.self.now.places.items (Of c.args.session) c.back.place c.index-found.result.now c.back.invariant.group (place_there c.args.self.now.places.items c.back.place c.index-found.result.now c.back-test.true c.back.invariant.within c.index-found.ensures) c.requires.index.places
+                t (length c.args.marked.now + 1) (and_out p (belongs (Of c.args.session))) c.args.upto (omega (arith, w.if-from-upto.false, c.from.ensures)) above
+          ];
+    }
+
+pub returns : goal.returns
+returns g c = λ p answers above.
+    let t : MarkedEntry → Bool = λ m. is_own c.args.session m && p m in
+    sym (none_from t c.args.marked.now 0 (λ i m low is. c.back.invariant.none_later p answers above i m (subst (λ j. number_at c.args.self.now.places.items j ≤ i) (sym c.back-test.false) (omega arith)) (in_list c.args.marked.now i m is) is))

@@ -1,0 +1,45 @@
+-- Up to which number a standing entry may have a later standing one of another session in conflict with it.
+use Rattle.std.specs.Prelude.{◌≡◌, ℕ, ◌<◌, ◌≤◌, Bool, true, false, not, ◌&&◌, List, Option, Some, None, ◌==◌}
+use Rattle.std.specs.List.{slice_get}
+use Rattle.tsn_edit.specs.Changes.{conflicts}
+use Rattle.tsn_edit.specs.Parts.{Change}
+use Rattle.tsn_journal.specs.declared.entries.MarkedEntry.{MarkedEntry}
+use Rattle.tsn_journal.specs.Index.{is_on_any, standing_change}
+use Rattle.tsn_types.specs.declared.keys.Key.{Key}
+use Rattle.tsn_types.specs.declared.keys.Key.TheVariants.{Port, Filter, Gate, Meter}
+
+-- whether the later change f conflicts with a change, if there is one
+abbrev pub is_hit : Change → Option Change → Bool
+is_hit f None = false
+is_hit f (Some c) = conflicts f c
+
+-- whether the later change f, if there is one, conflicts with a change, if there is one
+abbrev pub hits : Option Change → Option Change → Bool
+hits None o = false
+hits (Some f) o = is_hit f o
+
+-- whether e stands and is another session's, and the session's later change f, if there is one, conflicts with its
+abbrev pub crosses : Option Change → ℕ → MarkedEntry → Bool
+crosses f s e = hits f (standing_change e) && not (e.entry.session == s)
+
+-- the session's change f, if there is one, conflicts with none of these above the number n
+abbrev pub NoneCrossed : ℕ → Option Change → ℕ → List MarkedEntry → Type 0
+NoneCrossed n f s ms = (i : ℕ) (e : MarkedEntry) → n ≤ i → slice_get ms i ≡ Some e → crosses f s e ≡ false
+
+-- no entry above the number n has a later standing one of another session in conflict with it
+abbrev pub IsFreeAbove : ℕ → List MarkedEntry → Type 0
+IsFreeAbove n ms = (i j : ℕ) (e m : MarkedEntry) → n ≤ i → i < j → slice_get ms i ≡ Some e → slice_get ms j ≡ Some m → crosses (standing_change m) m.entry.session e ≡ false
+
+-- above the number n, other sessions have nothing standing on the key, if there is a key
+abbrev pub is_on_of_others : Option Key → ℕ → MarkedEntry → Bool
+is_on_of_others k s e = is_on_any k e && not (e.entry.session == s)
+
+abbrev pub NoneOn : ℕ → Option Key → ℕ → List MarkedEntry → Type 0
+NoneOn n k s ms = (i : ℕ) (e : MarkedEntry) → n ≤ i → slice_get ms i ≡ Some e → is_on_of_others k s e ≡ false
+
+-- whether a value may refer to what has the key: a filter refers to gates and meters
+abbrev pub is_referred : Key → Bool
+is_referred (Port n) = false
+is_referred (Filter n) = false
+is_referred (Gate n) = true
+is_referred (Meter n) = true

@@ -1,0 +1,107 @@
+//! Up to which number a standing entry may have a later standing one of another session in conflict with it.
+//!
+//! The number is raised as an entry comes in, to the newest one of another session that it is in conflict with, and it
+//! never falls. What stands above it need not be looked at where an entry that is blocked is sought.
+ghost use Rattle.std.specs.Prelude.{◌≡◌, ◌≤◌, ◌∷◌, [], Some};
+ghost use Rattle.tsn_journal.specs.Crossed.{NoneCrossed, NoneOn, is_referred};
+ghost use Rattle.tsn_journal.specs.Entries.{IsNumbered, adds};
+ghost use Rattle.tsn_journal.specs.Index.{IsIndexed};
+ghost use Rattle.tsn_journal.specs.Marks.{entries_of};
+
+use crate::entries::{MarkedEntry, What};
+use crate::groups::{Group, refs_of};
+use crate::index::Index;
+use tsn_edit::Part;
+use tsn_types::keys::Key;
+
+/// The number, or the greater one up to which the session's change, where this adds one, is in conflict with what other
+/// sessions have standing.
+pub(crate) fn crossed_by(
+    index: &Index,
+    marked: &[MarkedEntry],
+    session: u32,
+    what: &What,
+    number: u64,
+) -> u64
+    requires index { IsIndexed marked.now index.now }
+    requires numbered { IsNumbered 1 (entries_of marked.now) }
+    ensures free { NoneCrossed result (adds what.now) session marked.now }
+    ensures rises { number ≤ result }
+{
+    match what.added() {
+        Some(change) => crossed_by_parts(index, marked, session, change.parts(), number),
+        None => number,
+    }
+}
+
+/// The same for a change of these parts.
+fn crossed_by_parts(
+    index: &Index,
+    marked: &[MarkedEntry],
+    session: u32,
+    parts: &[Part],
+    number: u64,
+) -> u64
+    requires index { IsIndexed marked.now index.now }
+    requires numbered { IsNumbered 1 (entries_of marked.now) }
+    ensures free { NoneCrossed result (Some parts.now) session marked.now }
+    ensures rises { number ≤ result }
+{
+    let mut crossed = number;
+    for part in parts {
+        crossed = crossed_by_part(index, marked, session, part, crossed);
+    }
+    crossed
+}
+
+/// The same for a change of the part alone. Any entry may have referred to a gate or a meter before its change.
+fn crossed_by_part(
+    index: &Index,
+    marked: &[MarkedEntry],
+    session: u32,
+    part: &Part,
+    number: u64,
+) -> u64
+    requires index { IsIndexed marked.now index.now }
+    requires numbered { IsNumbered 1 (entries_of marked.now) }
+    ensures free { NoneCrossed result (Some (part.now ∷ [])) session marked.now }
+    ensures rises { number ≤ result }
+{
+    if is_referred(&part.key) {
+        return number.max(marked.len() as u64);
+    }
+    let refs = refs_of(&part.after);
+    let on_key = newest_on(index, marked, session, &Some(part.key), number);
+    let on_first = newest_on(index, marked, session, &refs.first, on_key);
+    newest_on(index, marked, session, &refs.second, on_first)
+}
+
+/// Whether a value may refer to what has the key.
+fn is_referred(key: &Key) -> bool
+    ensures { result ≡ is_referred key.now }
+{
+    matches!(key, Key::Gate(_) | Key::Meter(_))
+}
+
+/// The number, or the greater one of the newest entry that other sessions have standing on the key, if there is a key.
+fn newest_on(
+    index: &Index,
+    marked: &[MarkedEntry],
+    session: u32,
+    key: &Option<Key>,
+    number: u64,
+) -> u64
+    requires index { IsIndexed marked.now index.now }
+    requires numbered { IsNumbered 1 (entries_of marked.now) }
+    ensures none { NoneOn result key.now session marked.now }
+    ensures rises { number ≤ result }
+{
+    let Some(key) = key else {
+        return number;
+    };
+    let latest = index.latest.key_places(*key).on;
+    match index.last_of_others(marked, &Group::On(*key), latest, session, number) {
+        Some(found) => found.entry.number.max(number),
+        None => number,
+    }
+}
