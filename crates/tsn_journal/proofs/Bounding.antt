@@ -1,30 +1,30 @@
 -- Up to which number a later entry of another session may be in conflict with those that stand.
-use Rattle.std.proofs.Common.{◌≡◌, ℕ, zero, suc, ◌+◌, ◌<◌, ◌≤◌, Bool, true, false, cond, ◌||◌, ◌&&◌, not, List, [], ◌∷◌, ◌++◌, refl, sym, ◌∙◌, ap, Option, Some, None, arith, drop, length, map, append_assoc, inl, inr}
-use Rattle.std.specs.Prelude.{◌==◌, is_some, option_map, option_to_list}
-use Rattle.std.specs.List.{slice_get}
+use Rattle.std.proofs.Common.{◌≡◌, ℕ, zero, suc, ◌+◌, ◌≤◌, Bool, true, false, cond, ◌||◌, ◌&&◌, not, List, [], ◌∷◌, ◌++◌, refl, sym, ◌∙◌, ap, Option, Some, None, arith, drop, length, map, append_assoc, inl, inr}
+use Rattle.std.specs.Prelude.{◌==◌, is_some, option_map}
+use Rattle.std.specs.List.{list_any, slice_get}
 use Rattle.std.specs.Option.{option_and_then, option_or}
 use Rattle.std.proofs.lemmas.Cmp.{nat_eq_equiv}
-use Rattle.std.proofs.lemmas.List.{length-append}
+use Rattle.std.proofs.lemmas.List.{length-append, length-map}
 use Rattle.std.proofs.lemmas.Option.{slice_get-map, slice_get_within}
 use Rattle.tsn_types.specs.declared.keys.Key.{Key}
 use Rattle.tsn_types.specs.declared.keys.Key.TheVariants.{Port, Filter, Gate, Meter}
-use Rattle.tsn_types.specs.declared.records.Refs.{Refs}
+use Rattle.tsn_journal.specs.declared.groups.Group.TheVariants.{On}
 use Rattle.tsn_types.specs.declared.records.Record.{Record}
 use Rattle.tsn_types.specs.declared.records.Record.TheVariants.{Port as PortRecord, Filter as FilterRecord, Gate as GateRecord, Meter as MeterRecord}
-use Rattle.tsn_types.specs.Keys.{has, keys_of_refs, meets, meter_ref, refs_of}
+use Rattle.tsn_types.specs.Keys.{has, meets, meter_ref, refs_of, same_key}
 use Rattle.tsn_edit.specs.Changes.{conflicts, keys_of, refs_after, refs_before}
 use Rattle.tsn_edit.specs.Parts.{Change, Part, parts}
 use Rattle.tsn_edit.proofs.KeyFacts.{by_bool, by_option, has-append, keys_of-append}
 use Rattle.tsn_journal.specs.declared.entries.What.{What}
 use Rattle.tsn_journal.specs.declared.entries.What.TheVariants.{Made, Undone, Redone, Acted, Settled}
 use Rattle.tsn_journal.specs.declared.entries.MarkedEntry.{MarkedEntry}
-use Rattle.tsn_journal.specs.Crossed.{IsFreeAbove, NoneCrossed, crosses, hits, is_hit, is_on_of_others, is_referred}
+use Rattle.tsn_journal.specs.Crossed.{IsFreeAbove, NoneCrossed, NoneReferred, crosses, hits, is_hit, is_on_referred, is_referred}
 use Rattle.tsn_journal.specs.Entries.{Applied, IsNumbered, adds, applied, applies, closes}
 use Rattle.tsn_journal.specs.Finding.{last_where}
-use Rattle.tsn_journal.specs.Index.{NoneFrom, is_on_any, standing_change}
+use Rattle.tsn_journal.specs.Index.{NoneFrom, belongs_to_others, is_on, standing_change}
 use Rattle.tsn_journal.specs.Marks.{conflict_of_others, entries_of, is_in_conflict, is_others, is_own, mark_off, stands}
 use Rattle.tsn_journal.proofs.Links.{end_at, front_at, none_some, some_of, where_at}
-use Rattle.tsn_journal.proofs.Sought.{any_standing, on_any, swap_or}
+use Rattle.tsn_journal.proofs.Sought.{swap_or}
 use Rattle.tsn_journal.proofs.Under.{no_lower}
 use Rattle.tsn_journal.proofs.Walking.{and_false, and_true, none_from}
 
@@ -81,28 +81,51 @@ before_apart : (k : Key) → is_referred k ≡ false → (ps : List Part) → ha
 before_apart k h [] = refl
 before_apart k h (p ∷ ps) = has-append (refs_of p.before) (refs_before ps) k ∙ or_both _ _ (value_apart k h p.before) (before_apart k h ps)
 
-refs_apart : (a b : Option Key) (c : Change) → on_any a c ≡ false → on_any b c ≡ false → meets ((option_to_list a ++ option_to_list b) ++ []) (keys_of (parts c)) ≡ false
-refs_apart None None c h k = refl
-refs_apart None (Some y) c h k = or_both _ _ k refl
-refs_apart (Some x) None c h k = or_both _ _ h refl
-refs_apart (Some x) (Some y) c h k = or_both _ _ h (or_both _ _ k refl)
+first_false : (a b : Bool) → (a || b) ≡ false → a ≡ false
+first_false true b h = h
+first_false false b h = refl
 
-module _ (p : Part) (refs : Refs) (same : keys_of_refs refs ≡ refs_of p.after) (kind : is_referred p.key ≡ false) (e : MarkedEntry) where
-  apart : (c : Change) → on_any (Some p.key) c ≡ false → on_any refs.first c ≡ false → on_any refs.second c ≡ false → conflicts (p ∷ []) c ≡ false
-  apart c key first second =
+second_false : (a b : Bool) → (a || b) ≡ false → b ≡ false
+second_false true b h = (cc)
+second_false false b h = h
+
+two_keys : (r k : Key) → is_referred r ≡ true → is_referred k ≡ false → same_key r k ≡ false
+two_keys (Gate n) (Port m) h f = refl
+two_keys (Gate n) (Filter m) h f = refl
+two_keys (Meter n) (Port m) h f = refl
+two_keys (Meter n) (Filter m) h f = refl
+two_keys r k h f = (cc)
+
+-- a change on no key of such a kind is on nothing that a value refers to
+key_apart : (r : Key) → is_referred r ≡ true → (ks : List Key) → list_any is_referred ks ≡ false → has ks r ≡ false
+key_apart r h [] f = refl
+key_apart r h (k ∷ ks) f = or_both _ _ (two_keys r k h (first_false _ _ f)) (key_apart r h ks (second_false _ _ f))
+
+meter_meets : (o : Option ℕ) (ks : List Key) → list_any is_referred ks ≡ false → meets (meter_ref o ++ []) ks ≡ false
+meter_meets None ks f = refl
+meter_meets (Some m) ks f = or_both _ _ (key_apart (Meter m) refl ks f) refl
+
+value_meets : (v : Option Record) (ks : List Key) → list_any is_referred ks ≡ false → meets (refs_of v ++ []) ks ≡ false
+value_meets None ks f = refl
+value_meets (Some (PortRecord r)) ks f = refl
+value_meets (Some (FilterRecord r)) ks f = or_both _ _ (key_apart (Gate r.gate) refl ks f) (meter_meets r.meter ks f)
+value_meets (Some (GateRecord r)) ks f = refl
+value_meets (Some (MeterRecord r)) ks f = refl
+
+module _ (p : Part) (kind : is_referred p.key ≡ false) (e : MarkedEntry) (none : is_on_referred (standing_change e) ≡ false) where
+  apart : (c : Change) → standing_change e ≡ Some c → has (keys_of (parts c)) p.key ≡ false → conflicts (p ∷ []) c ≡ false
+  apart c some key =
       or_both _ _ (or_both _ _ key refl)
-      (or_both _ _ (ap (λ rs. meets (rs ++ []) (keys_of (parts c))) (sym same) ∙ refs_apart refs.first refs.second c first second) (or_both _ _ (before_apart p.key kind (parts c)) refl))
+      (or_both _ _ (value_meets p.after (keys_of (parts c)) (ap is_on_referred (sym some) ∙ none)) (or_both _ _ (before_apart p.key kind (parts c)) refl))
 
-  pub part_crosses : (s : ℕ) → is_on_of_others (Some p.key) s e ≡ false → is_on_of_others refs.first s e ≡ false → is_on_of_others refs.second s e ≡ false → crosses (Some (p ∷ [])) s e ≡ false
-  part_crosses s key first second =
+  pub part_crosses : (s : ℕ) → belongs_to_others (On p.key) s e ≡ false → crosses (Some (p ∷ [])) s e ≡ false
+  part_crosses s key =
       let own : Bool = not (e.entry.session == s) in
       by_bool own
       (λ yes. ap (λ b. b && own)
       (by_option (standing_change e)
-      (λ none. ap (is_hit (p ∷ [])) none)
-      (λ c some.
-      let off : (o : Option Key) → is_on_of_others o s e ≡ false → on_any o c ≡ false = λ o h. sym (any_standing e c some o) ∙ out_of_and (is_on_any o e) own yes h in
-      ap (is_hit (p ∷ [])) some ∙ apart c (off (Some p.key) key) (off refs.first first) (off refs.second second))))
+      (λ none'. ap (is_hit (p ∷ [])) none')
+      (λ c some. ap (is_hit (p ∷ [])) some ∙ apart c some (ap (is_on p.key) (sym some) ∙ out_of_and (is_on p.key (standing_change e)) own yes key))))
       (λ no. and_false (hits (Some (p ∷ [])) (standing_change e)) own no)
 
 -- ---- a change of several parts
@@ -143,6 +166,13 @@ both_cross es fs s e h k =
     ∙ both_conflict es fs c
     ∙ or_both _ _ (ap (is_hit es) (sym some) ∙ out_of_and (is_hit es (standing_change e)) own yes h) (ap (is_hit fs) (sym some) ∙ out_of_and (is_hit fs (standing_change e)) own yes k))))
     (λ no. and_false (hits (Some (es ++ fs)) (standing_change e)) own no)
+
+pub both_referred : (es fs : Change) → is_on_referred (Some es) ≡ false → is_on_referred (Some fs) ≡ false → is_on_referred (Some (es ++ fs)) ≡ false
+both_referred [] fs h k = k
+both_referred (p ∷ es) fs h k = or_both _ _ (first_false _ _ h) (both_referred es fs (second_false _ _ h) k)
+
+pub one_referred : (p : Part) → is_referred p.key ≡ false → is_on_referred (Some (p ∷ [])) ≡ false
+one_referred p h = or_both _ _ h refl
 
 -- ---- what is free stays so
 
@@ -188,6 +218,22 @@ free_pushed w s ms x change by n b is none up = λ i j e m le lt ei mj.
             ∙ (λ k. crosses (change k) (by k) e)
             ∙ source w ms i e (sym (front_at xs (x ∷ []) i (omega arith)) ∙ ei) (λ y yi ye. (λ k. crosses (adds w) s (sym ye k)) ∙ under_falls w (adds w) s y (none i y le yi))
         | inr after ↦ absurd (omega (arith, slice_get_within (xs ++ x ∷ []) j m mj, length-append xs (x ∷ [])))
+      ]
+    ]
+
+referred_falls : (w : What) (e : MarkedEntry) → is_on_referred (standing_change e) ≡ false → is_on_referred (standing_change (mark_off w e)) ≡ false
+referred_falls w e h =
+    elim (closes w e.entry) as (λ b. is_on_referred (standing_change (cond b (record { entry = e.entry; is_open = false }) e)) ≡ false) [ true ↦ refl | false ↦ h ]
+
+pub referred_pushed : (w : What) (ms : List MarkedEntry) (x : MarkedEntry) → standing_change x ≡ adds w → (n b : ℕ) → NoneReferred n ms → n ≤ b → (b ≤ length ms → is_on_referred (adds w) ≡ false) → NoneReferred b (map (mark_off w) ms ++ x ∷ [])
+referred_pushed w ms x change n b is up own = λ i e le ei.
+    let xs = map (mark_off w) ms in
+    let as_long : length xs ≡ length ms = length-map ms (mark_off w) in
+    elim (where_at (length xs) i) [
+      | inl before ↦ source w ms i e (sym (front_at xs (x ∷ []) i before) ∙ ei) (λ y yi ye. (λ k. is_on_referred (standing_change (sym ye k))) ∙ referred_falls w y (is i y (omega arith) yi))
+      | inr rest ↦ elim rest [
+        | inl here ↦ (λ k. is_on_referred (standing_change (some_of e x (sym ei ∙ end_at xs x i here) k))) ∙ ap is_on_referred change ∙ own (omega arith)
+        | inr after ↦ absurd (omega (arith, slice_get_within (xs ++ x ∷ []) i e ei, length-append xs (x ∷ [])))
       ]
     ]
 

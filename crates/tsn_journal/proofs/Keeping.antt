@@ -1,12 +1,12 @@
 -- A journal with its index: with more room, and with an entry more.
-use Rattle.std.proofs.Common.{◌≡◌, ℕ, ◌+◌, ◌-◌, ◌≤◌, List, [], ◌∷◌, ◌++◌, refl, sym, ◌∙◌, ap, subst, arith, length, map, Some}
+use Rattle.std.proofs.Common.{◌≡◌, ℕ, ◌+◌, ◌-◌, ◌≤◌, List, [], ◌∷◌, ◌++◌, refl, sym, ◌∙◌, ap, subst, arith, length, map, Some, false}
 use Rattle.std.proofs.lemmas.List.{length-append, length-map, map-append}
 use Rattle.tsn_journal.specs.declared.entries.What.{What}
 use Rattle.tsn_journal.specs.declared.entries.MarkedEntry.{MarkedEntry}
 use Rattle.tsn_journal.specs.declared.groups.Group.{Group}
 use Rattle.tsn_journal.specs.declared.index.Index.{Index}
 use Rattle.tsn_journal.specs.Index.{ArePlaces, HasRoom, IsIndexed, IsIndexedButNewest, IsLast, NewestAdds, TakesNoRoom, TakesRoom, belongs, places_for}
-use Rattle.tsn_journal.specs.Crossed.{IsFreeAbove, NoneCrossed}
+use Rattle.tsn_journal.specs.Crossed.{IsFreeAbove, NoneCrossed, NoneReferred, is_on_referred}
 use Rattle.tsn_journal.specs.Kept.{IsKept}
 use Rattle.tsn_journal.specs.Latest.{latest_of}
 use Rattle.tsn_journal.specs.Touched.{NewestTold, Tells, TellsSame}
@@ -14,7 +14,7 @@ use Rattle.std.specs.List.{slice_get}
 use Rattle.std.specs.Prelude.{max}
 use Rattle.tsn_journal.specs.Entries.{IsNumbered, added_parts, adds, settled, settles_to}
 use Rattle.tsn_journal.specs.Marks.{AreOff, IsJournal, Log, entries_of, mark_off}
-use Rattle.tsn_journal.proofs.Bounding.{free_pushed}
+use Rattle.tsn_journal.proofs.Bounding.{free_pushed, referred_pushed}
 use Rattle.tsn_journal.proofs.Closing.{off_pushed, settled_push}
 use Rattle.tsn_journal.proofs.Indexing.{indexed_more, indexed_off}
 use Rattle.tsn_journal.proofs.Links.{end_at, some_of}
@@ -51,6 +51,7 @@ module _ (ms : List MarkedEntry) (len capacity : ℕ) (a : Index) (room parts up
     settled_there = omega (arith, is.settled_there, as_many);
     off = subst (AreOff upto) (sym same) is.off;
     free = subst (IsFreeAbove crossed) (sym same) is.free;
+    referred = subst (NoneReferred crossed) (sym same) is.referred;
   }
 
 pub still_room : (n : ℕ) (a b : Index) → TakesNoRoom a b → HasRoom n a → HasRoom n b
@@ -96,9 +97,9 @@ module _ (w : What) (s : ℕ) (ms ns : List MarkedEntry) (pushed : ns ≡ map (m
   off_more upto now is within there now_is off =
       subst (λ n. AreOff n ns) (sym now_is) (subst (AreOff (max upto (settles_to w))) (sym pushed) (off_pushed w upto ms (new_entry ms s w) is.numbered within there off))
 
-  pub kept_pushed : (len capacity len' capacity' room parts k upto now crossed more : ℕ) (a b : Index) → 1 ≤ room → k ≤ parts → k ≤ 16 → IsKept ms len capacity a room parts upto crossed → IsFreeAbove more ns → settles_to w ≤ length ms → now ≡ max upto (settles_to w) → length ms ≡ len → len' ≡ len + 1 → capacity' ≡ capacity → IsIndexed ns b → Tells (entries_of ns) b
+  pub kept_pushed : (len capacity len' capacity' room parts k upto now crossed more : ℕ) (a b : Index) → 1 ≤ room → k ≤ parts → k ≤ 16 → IsKept ms len capacity a room parts upto crossed → IsFreeAbove more ns → NoneReferred more ns → settles_to w ≤ length ms → now ≡ max upto (settles_to w) → length ms ≡ len → len' ≡ len + 1 → capacity' ≡ capacity → IsIndexed ns b → Tells (entries_of ns) b
       → TakesRoom (places_for 1 k) a b → IsKept ns len' capacity' b (room - 1) (parts - k) now more
-  kept_pushed len capacity len' capacity' room parts k upto now crossed more a b some fewer wide is free there now_is count longer same indexed tells takes = record {
+  kept_pushed len capacity len' capacity' room parts k upto now crossed more a b some fewer wide is free referred there now_is count longer same indexed tells takes = record {
     journal = journal_push ms s w ns is.journal (omega (arith, is.few)) pushed;
     indexed = indexed;
     tells = tells;
@@ -111,10 +112,14 @@ module _ (w : What) (s : ℕ) (ms ns : List MarkedEntry) (pushed : ns ≡ map (m
     settled_there = omega (arith, is.settled_there, there, count, longer);
     off = off_more upto now is.journal (omega (arith, is.settled_there, count)) there now_is is.off;
     free = free;
+    referred = referred;
   }
 
   pub pushed_free : (crossed more : ℕ) → IsFreeAbove crossed ms → NoneCrossed more (adds w) s ms → crossed ≤ more → IsFreeAbove more ns
   pushed_free crossed more is none up = subst (IsFreeAbove more) (sym pushed) (free_pushed w s ms (new_entry ms s w) refl refl crossed more is none up)
+
+  pub pushed_referred : (crossed more : ℕ) → NoneReferred crossed ms → crossed ≤ more → (more ≤ length ms → is_on_referred (adds w) ≡ false) → NoneReferred more ns
+  pushed_referred crossed more is up own = subst (NoneReferred more) (sym pushed) (referred_pushed w ms (new_entry ms s w) refl crossed more is up own)
 
   newest_is : slice_get ns (length ns - 1) ≡ Some (new_entry ms s w)
   newest_is =

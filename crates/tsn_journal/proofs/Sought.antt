@@ -89,7 +89,7 @@ in_conflict p d refs same =
     ∙ or_three (has (keys_of (parts d)) p.key) (has (refs_after (parts d)) p.key) (meets (keys_of (parts d)) (refs_of p.before ++ []))
     ∙ (λ i. sym (meets_one (keys_of (parts d)) p.key) i || (sym (meets_one (refs_after (parts d)) p.key) i || meets (keys_of (parts d)) (refs_of p.before ++ [])))
 
-pub any_standing : (m : MarkedEntry) (d : Change) → standing_change m ≡ Some d → (o : Option Key) → is_on_any o m ≡ on_any o d
+any_standing : (m : MarkedEntry) (d : Change) → standing_change m ≡ Some d → (o : Option Key) → is_on_any o m ≡ on_any o d
 any_standing m d is None = refl
 any_standing m d is (Some k) = ap (is_on k) is
 

@@ -1,10 +1,11 @@
 -- Up to which number a standing entry may have a later standing one of another session in conflict with it.
 use Rattle.std.specs.Prelude.{◌≡◌, ℕ, ◌<◌, ◌≤◌, Bool, true, false, not, ◌&&◌, List, Option, Some, None, ◌==◌}
-use Rattle.std.specs.List.{slice_get}
-use Rattle.tsn_edit.specs.Changes.{conflicts}
-use Rattle.tsn_edit.specs.Parts.{Change}
+use Rattle.std.specs.List.{list_any, slice_get}
+use Rattle.tsn_edit.specs.Changes.{conflicts, keys_of}
+use Rattle.tsn_edit.specs.Parts.{Change, parts}
 use Rattle.tsn_journal.specs.declared.entries.MarkedEntry.{MarkedEntry}
-use Rattle.tsn_journal.specs.Index.{is_on_any, standing_change}
+use Rattle.tsn_journal.specs.Index.{belongs_to_others, standing_change}
+use Rattle.tsn_journal.specs.declared.groups.Group.TheVariants.{On}
 use Rattle.tsn_types.specs.declared.keys.Key.{Key}
 use Rattle.tsn_types.specs.declared.keys.Key.TheVariants.{Port, Filter, Gate, Meter}
 
@@ -30,12 +31,9 @@ NoneCrossed n f s ms = (i : ℕ) (e : MarkedEntry) → n ≤ i → slice_get ms 
 abbrev pub IsFreeAbove : ℕ → List MarkedEntry → Type 0
 IsFreeAbove n ms = (i j : ℕ) (e m : MarkedEntry) → n ≤ i → i < j → slice_get ms i ≡ Some e → slice_get ms j ≡ Some m → crosses (standing_change m) m.entry.session e ≡ false
 
--- above the number n, other sessions have nothing standing on the key, if there is a key
-abbrev pub is_on_of_others : Option Key → ℕ → MarkedEntry → Bool
-is_on_of_others k s e = is_on_any k e && not (e.entry.session == s)
-
-abbrev pub NoneOn : ℕ → Option Key → ℕ → List MarkedEntry → Type 0
-NoneOn n k s ms = (i : ℕ) (e : MarkedEntry) → n ≤ i → slice_get ms i ≡ Some e → is_on_of_others k s e ≡ false
+-- above the number n, other sessions have nothing standing on the key
+abbrev pub NoneOn : ℕ → Key → ℕ → List MarkedEntry → Type 0
+NoneOn n k s ms = (i : ℕ) (e : MarkedEntry) → n ≤ i → slice_get ms i ≡ Some e → belongs_to_others (On k) s e ≡ false
 
 -- whether a value may refer to what has the key: a filter refers to gates and meters
 abbrev pub is_referred : Key → Bool
@@ -43,3 +41,12 @@ is_referred (Port n) = false
 is_referred (Filter n) = false
 is_referred (Gate n) = true
 is_referred (Meter n) = true
+
+-- whether the change, if there is one, is on such a key
+abbrev pub is_on_referred : Option Change → Bool
+is_on_referred None = false
+is_on_referred (Some c) = list_any is_referred (keys_of (parts c))
+
+-- nothing that stands above the number n is on such a key
+abbrev pub NoneReferred : ℕ → List MarkedEntry → Type 0
+NoneReferred n ms = (i : ℕ) (e : MarkedEntry) → n ≤ i → slice_get ms i ≡ Some e → is_on_referred (standing_change e) ≡ false

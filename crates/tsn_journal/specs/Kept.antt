@@ -2,14 +2,15 @@
 use Rattle.std.specs.Prelude.{◌≡◌, ℕ, ◌+◌, ◌*◌, ◌≤◌, List, length}
 use Rattle.tsn_journal.specs.declared.entries.MarkedEntry.{MarkedEntry}
 use Rattle.tsn_journal.specs.declared.index.Index.{Index}
-use Rattle.tsn_journal.specs.Crossed.{IsFreeAbove}
+use Rattle.tsn_journal.specs.Crossed.{IsFreeAbove, NoneReferred}
 use Rattle.tsn_journal.specs.Entries.{most_entries, settled}
 use Rattle.tsn_journal.specs.Index.{HasRoom, IsIndexed, places_for}
 use Rattle.tsn_journal.specs.Marks.{AreOff, IsJournal, entries_of}
 use Rattle.tsn_journal.specs.Touched.{Tells}
 
 -- with all in the index and told by its rows, with room for as many entries and parts more as it says, settled up to the
--- number that it says, and with none blocked above the other number that it says
+-- number that it says, and with none blocked, and none on a gate or
+-- a meter, above the other number that it says
 pub record IsKept (ms : List MarkedEntry) (len capacity : ℕ) (index : Index) (room parts upto crossed : ℕ) : Type 0 where
   pub journal : IsJournal ms
   pub indexed : IsIndexed ms index
@@ -23,3 +24,4 @@ pub record IsKept (ms : List MarkedEntry) (len capacity : ℕ) (index : Index) (
   pub settled_there : upto ≤ len
   pub off : AreOff upto ms
   pub free : IsFreeAbove crossed ms
+  pub referred : NoneReferred crossed ms

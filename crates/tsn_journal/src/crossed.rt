@@ -1,21 +1,23 @@
 //! Up to which number a standing entry may have a later standing one of another session in conflict with it.
 //!
 //! The number is raised as an entry comes in, to the newest one of another session that it is in conflict with, and it
-//! never falls. What stands above it need not be looked at where an entry that is blocked is sought.
-ghost use Rattle.std.specs.Prelude.{◌≡◌, ◌≤◌, ◌∷◌, [], Some};
-ghost use Rattle.tsn_journal.specs.Crossed.{NoneCrossed, NoneOn, is_referred};
+//! never falls. An entry on a gate or a meter, to which values may refer, raises it to its own number. What stands above it
+//! need not be looked at where an entry that is blocked is sought.
+ghost use Rattle.std.specs.Prelude.{◌≡◌, ◌≤◌, ◌∷◌, [], Some, false, length};
+ghost use Rattle.tsn_journal.specs.Crossed.{NoneCrossed, NoneOn, NoneReferred, is_on_referred, is_referred};
 ghost use Rattle.tsn_journal.specs.Entries.{IsNumbered, adds};
 ghost use Rattle.tsn_journal.specs.Index.{IsIndexed};
 ghost use Rattle.tsn_journal.specs.Marks.{entries_of};
 
 use crate::entries::{MarkedEntry, What};
-use crate::groups::{Group, refs_of};
+use crate::groups::Group;
 use crate::index::Index;
 use tsn_edit::Part;
 use tsn_types::keys::Key;
 
 /// The number, or the greater one up to which the session's change, where this adds one, is in conflict with what other
-/// sessions have standing.
+/// sessions have standing. The numbers of what stands on gates and meters lie below the number, and so does that of the
+/// change then, where it is on one.
 pub(crate) fn crossed_by(
     index: &Index,
     marked: &[MarkedEntry],
@@ -25,8 +27,10 @@ pub(crate) fn crossed_by(
 ) -> u64
     requires index { IsIndexed marked.now index.now }
     requires numbered { IsNumbered 1 (entries_of marked.now) }
+    requires referred { NoneReferred number marked.now }
     ensures free { NoneCrossed result (adds what.now) session marked.now }
     ensures rises { number ≤ result }
+    ensures own { result ≤ length marked.now → is_on_referred (adds what.now) ≡ false }
 {
     match what.added() {
         Some(change) => crossed_by_parts(index, marked, session, change.parts(), number),
@@ -44,8 +48,10 @@ fn crossed_by_parts(
 ) -> u64
     requires index { IsIndexed marked.now index.now }
     requires numbered { IsNumbered 1 (entries_of marked.now) }
+    requires referred { NoneReferred number marked.now }
     ensures free { NoneCrossed result (Some parts.now) session marked.now }
     ensures rises { number ≤ result }
+    ensures own { result ≤ length marked.now → is_on_referred (Some parts.now) ≡ false }
 {
     let mut crossed = number;
     for part in parts {
@@ -54,7 +60,8 @@ fn crossed_by_parts(
     crossed
 }
 
-/// The same for a change of the part alone. Any entry may have referred to a gate or a meter before its change.
+/// The same for a change of the part alone. A value before may have referred to a gate or a meter in any entry; and what a
+/// value after refers to is one, so that the number is above what stands on it.
 fn crossed_by_part(
     index: &Index,
     marked: &[MarkedEntry],
@@ -64,16 +71,16 @@ fn crossed_by_part(
 ) -> u64
     requires index { IsIndexed marked.now index.now }
     requires numbered { IsNumbered 1 (entries_of marked.now) }
+    requires referred { NoneReferred number marked.now }
     ensures free { NoneCrossed result (Some (part.now ∷ [])) session marked.now }
     ensures rises { number ≤ result }
+    ensures own { result ≤ length marked.now → is_referred part.now.key ≡ false }
 {
     if is_referred(&part.key) {
-        return number.max(marked.len() as u64);
+        number.max(marked.len() as u64 + 1)
+    } else {
+        newest_on(index, marked, session, &part.key, number)
     }
-    let refs = refs_of(&part.after);
-    let on_key = newest_on(index, marked, session, &Some(part.key), number);
-    let on_first = newest_on(index, marked, session, &refs.first, on_key);
-    newest_on(index, marked, session, &refs.second, on_first)
 }
 
 /// Whether a value may refer to what has the key.
@@ -83,22 +90,13 @@ fn is_referred(key: &Key) -> bool
     matches!(key, Key::Gate(_) | Key::Meter(_))
 }
 
-/// The number, or the greater one of the newest entry that other sessions have standing on the key, if there is a key.
-fn newest_on(
-    index: &Index,
-    marked: &[MarkedEntry],
-    session: u32,
-    key: &Option<Key>,
-    number: u64,
-) -> u64
+/// The number, or the greater one of the newest entry that other sessions have standing on the key.
+fn newest_on(index: &Index, marked: &[MarkedEntry], session: u32, key: &Key, number: u64) -> u64
     requires index { IsIndexed marked.now index.now }
     requires numbered { IsNumbered 1 (entries_of marked.now) }
     ensures none { NoneOn result key.now session marked.now }
     ensures rises { number ≤ result }
 {
-    let Some(key) = key else {
-        return number;
-    };
     let latest = index.latest.key_places(*key).on;
     match index.last_of_others(marked, &Group::On(*key), latest, session, number) {
         Some(found) => found.entry.number.max(number),

@@ -389,6 +389,9 @@ impl Index {
         let standing = self.first_from(marked, &Group::Of(session), latest.standing, settled);
         // a settled edit still ends a search for a redo
         let ends_redo = self.first_from(marked, &Group::EndsRedo(session), latest.ends_redo, 0);
+        if standing == latest.standing && ends_redo == latest.ends_redo {
+            return;
+        }
         self.latest.set_session(
             session,
             SessionPlaces {

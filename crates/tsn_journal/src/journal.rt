@@ -34,7 +34,8 @@ pub struct Journal {
     parts: usize,
     /// Up to which number the entries are settled.
     settled: u64,
-    /// Above which number no entry has a later standing one of another session in conflict with it.
+    /// Above which number no entry stands on a gate or a meter, nor has a later standing one of another session in conflict
+    /// with it.
     crossed: u64,
 }
 

@@ -1,12 +1,15 @@
-use Rattle.std.proofs.Common.{◌≤◌, ◌∷◌, [], Some, arith, ◌∙◌, ap, take}
+use Rattle.std.proofs.Common.{◌≤◌, ◌∷◌, [], Some, arith, refl, ◌∙◌, ap, take}
 use Rattle.tsn_edit.specs.Parts.{Change}
-use Rattle.tsn_journal.specs.Crossed.{crosses}
-use Rattle.tsn_journal.proofs.Bounding.{both_cross, none_cross}
+use Rattle.tsn_journal.specs.Crossed.{crosses, is_on_referred}
+use Rattle.tsn_journal.proofs.Bounding.{both_cross, both_referred, none_cross, one_referred}
 use Rattle.tsn_journal.proofs.Sought.{take_next}
 use Rattle.tsn_journal.proofs.crossed.crossed_by_parts.Goals as goal
 
 pub loop-part-init : goal.loop-part-init
-loop-part-init c = record { free = λ i e le at. none_cross c.args.session e; rises = omega arith }
+loop-part-init c = record { free = λ i e le at. none_cross c.args.session e; rises = omega arith; own = λ le. refl }
+
+pub crossed_by_part-crossed-requires-clause-referred : goal.crossed_by_part-crossed-requires-clause-referred
+crossed_by_part-crossed-requires-clause-referred c = λ i e le at. c.requires.referred i e (omega (arith, c.loop-part.invariant.rises, le)) at
 
 pub loop-part-preserved : goal.loop-part-preserved
 loop-part-preserved c =
@@ -18,4 +21,7 @@ loop-part-preserved c =
           ap (λ (ps : Change). crosses (Some ps) c.args.session e) (take_next c.args.parts.now j p (omega arith) c.part-item.is)
           ∙ both_cross (take j c.args.parts.now) (p ∷ []) c.args.session e (c.loop-part.invariant.free i e (omega arith) at) (c.crossed_by_part-crossed.ensures.free i e le at);
       rises = omega (arith, c.loop-part.invariant.rises);
+      own = λ le.
+          ap (λ (ps : Change). is_on_referred (Some ps)) (take_next c.args.parts.now j p (omega arith) c.part-item.is)
+          ∙ both_referred (take j c.args.parts.now) (p ∷ []) (c.loop-part.invariant.own (omega arith)) (one_referred p (c.crossed_by_part-crossed.ensures.own le));
     }

@@ -1,11 +1,11 @@
 use Rattle.std.proofs.Common.{◌≤◌, refl, sym, ◌∙◌, ap, subst, drop, length, map, add-zero, arith, max}
-use Rattle.tsn_journal.specs.Crossed.{NoneCrossed}
+use Rattle.tsn_journal.specs.Crossed.{NoneCrossed, NoneReferred}
 use Rattle.tsn_journal.specs.Entries.{IsNumbered, added_parts, adds, with_entry}
 use Rattle.tsn_journal.specs.Index.{IsIndexed, IsIndexedButNewest, NewestAdds, TakesRoom, places_for}
 use Rattle.tsn_journal.specs.Marks.{AreOff, Log, entries_of, mark_off}
 use Rattle.std.specs.Vec.{vec_capacity, vec_len}
 use Rattle.tsn_journal.proofs.Indexing.{takes_more}
-use Rattle.tsn_journal.proofs.Keeping.{kept_pushed, off_more, pushed_few, pushed_adds, pushed_free, pushed_index, pushed_numbered, pushed_some, pushed_tells, room_for_one, settles_there}
+use Rattle.tsn_journal.proofs.Keeping.{kept_pushed, off_more, pushed_few, pushed_adds, pushed_free, pushed_index, pushed_numbered, pushed_referred, pushed_some, pushed_tells, room_for_one, settles_there}
 use Rattle.tsn_journal.proofs.Marking.{entries_pushed, pushed_items}
 use Rattle.tsn_journal.proofs.Telling.{tells_same}
 use Rattle.tsn_journal.specs.Touched.{NewestTold}
@@ -16,6 +16,9 @@ crossed_by-crossed-requires-clause-index c = subst (λ xs. IsIndexed xs c.self.i
 
 pub crossed_by-crossed-requires-clause-numbered : goal.crossed_by-crossed-requires-clause-numbered
 crossed_by-crossed-requires-clause-numbered c = subst (λ xs. IsNumbered 1 (entries_of xs)) (sym c.deref.ensures.value) c.self.invariant.journal.numbered
+
+pub crossed_by-crossed-requires-clause-referred : goal.crossed_by-crossed-requires-clause-referred
+crossed_by-crossed-requires-clause-referred c = subst (NoneReferred c.self.inside.crossed) (sym c.deref.ensures.value) c.self.invariant.referred
 
 pub enter-requires-clause-index : goal.enter-requires-clause-index
 enter-requires-clause-index c =
@@ -102,6 +105,11 @@ invariant_of-self c =
     (pushed_items c.args.what c.args.session c.self.inside.marked.len c.len.result ms (drop (length c.put_off.new.marked) ms) c.put_off.new.marked c.push_reserved.new.self.items same c.len.ensures
     (c.put_off.ensures ∙ ap (map (mark_off c.args.what)) c.deref_mut.ensures.value) c.push_reserved.ensures.items)
     c.self.inside.crossed c.crossed_by-crossed.result c.self.invariant.free (subst (NoneCrossed c.crossed_by-crossed.result (adds c.args.what) c.args.session) c.deref.ensures.value c.crossed_by-crossed.ensures.free) c.crossed_by-crossed.ensures.rises)
+    (pushed_referred c.args.what c.args.session ms c.push_reserved.new.self.items
+    (pushed_items c.args.what c.args.session c.self.inside.marked.len c.len.result ms (drop (length c.put_off.new.marked) ms) c.put_off.new.marked c.push_reserved.new.self.items same c.len.ensures
+    (c.put_off.ensures ∙ ap (map (mark_off c.args.what)) c.deref_mut.ensures.value) c.push_reserved.ensures.items)
+    c.self.inside.crossed c.crossed_by-crossed.result c.self.invariant.referred c.crossed_by-crossed.ensures.rises
+    (λ le. c.crossed_by-crossed.ensures.own (subst (λ xs. c.crossed_by-crossed.result ≤ length xs) (sym c.deref.ensures.value) le)))
     (settles_there c.args.what ms _ _ c.self.view_is refl c.requires.settles) (c.max-settled.ensures ∙ ap (max c.self.inside.settled) c.settles_to.ensures) same c.push_reserved.ensures.len c.push_reserved.ensures.capacity
     (subst (λ xs. IsIndexed xs c.leave.new.index) c.deref-3.ensures.value c.leave.ensures.index)
     (tells_same (entries_of c.push_reserved.new.self.items) c.enter.new.self c.leave.new.index c.leave.ensures.tells
