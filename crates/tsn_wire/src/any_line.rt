@@ -34,7 +34,24 @@ pub struct LineMembers {
     pub yellow: Option<bool>,
 }
 
-// The record of a key that was read before it.
+// The kind of the record that comes next: that of the key, where one was read before, or else guessed from the first member's name. A
+// wrong guess costs another way to read the line, and nothing else.
+fn kind_ahead(key: Option<KeyDraft>, text: &mut Cursor<'_>) -> Kind
+    ensures { lexed text.new ≡ lexed text.old }
+{
+    if let Some(key) = key {
+        return key.kind;
+    }
+    text.skip();
+    match text.letters_inside() {
+        (b'b', _) | (b'c', b'y') | (b'e', b'x') | (b'l', _) => Kind::Port,
+        (b'i', _) | (b'o', b'p') | (b'o', b'c') => Kind::Gate,
+        (b'a', _) | (b'c', _) | (b'd', _) | (b'e', _) => Kind::Meter,
+        _ => Kind::Filter,
+    }
+}
+
+// The record of a key that was read before it, or of a kind that is guessed where none was.
 fn record_slot(
     alloc: Global,
     text: &mut Cursor<'_>,
@@ -53,7 +70,8 @@ fn record_slot(
     if !text.mark(b':') {
         return None;
     }
-    let value = record(alloc, key?.kind, text)?;
+    let kind = kind_ahead(key, text);
+    let value = record(alloc, kind, text)?;
     *slot = Some(value);
     Some(())
 }

@@ -200,6 +200,18 @@ impl<'a> Cursor<'a> {
         (rest[1], rest[2])
     }
 
+    /// The first two letters of the first name in quotes within the next few bytes, for a guess at what an object is; zeros where
+    /// there are none.
+    pub fn letters_inside(&self) -> (u8, u8) {
+        let rest = &self.text[self.at..];
+        for (place, byte) in rest.iter().enumerate().take(8) {
+            if *byte == b'"' && place + 2 < rest.len() {
+                return (rest[place + 1], rest[place + 2]);
+            }
+        }
+        (0, 0)
+    }
+
     /// Whether a number or a word may end here.
     pub fn ends_word(&self) -> bool
         ensures { result ≡ ends_word self.now }
