@@ -1,6 +1,9 @@
 -- The first entries, whose marks are off, belong to no group of what stands.
-use Rattle.std.proofs.Common.{◌≡◌, ℕ, zero, suc, ◌+◌, ◌<◌, ◌≤◌, Bool, false, cond, List, [], ◌∷◌, sym, ◌∙◌, ap, Option, Some, None, arith, drop, filter}
+use Rattle.std.proofs.Common.{◌≡◌, ℕ, zero, suc, ◌+◌, ◌-◌, ◌<◌, ◌≤◌, Bool, false, cond, List, [], ◌∷◌, ◌++◌, take, sym, ◌∙◌, ap, Option, Some, None, arith, drop, filter}
 use Rattle.std.specs.List.{slice_get}
+use Rattle.std.proofs.Math.Seq.{drop-nil}
+use Rattle.std.proofs.lemmas.List.{take-append-drop}
+use Rattle.std.proofs.lemmas.List.Elements.{filter-append}
 use Rattle.tsn_types.specs.declared.keys.Key.{Key}
 use Rattle.tsn_journal.specs.Entries.{adds}
 use Rattle.tsn_journal.specs.declared.entries.MarkedEntry.{MarkedEntry}
@@ -31,3 +34,18 @@ none_own s n ms h i m low lt at = ap (λ b. is_own s (record { entry = m.entry; 
 -- so a walk back along the session's entries may end at the first place up to there
 pub none_before : (s n : ℕ) (ms : List MarkedEntry) (ps : List Place) (j : ℕ) → AreOff n ms → number_at ps j ≤ n → filter (belongs (Of s)) (drop (number_at ps j) ms) ≡ filter (belongs (Of s)) ms
 none_before s n ms ps j h le = sym (filter_gap (belongs (Of s)) ms 0 (number_at ps j) (omega arith) (λ i x low lt at. none_own s n ms h i x low (omega arith) at))
+
+drop_twice : {A : Type 0} (k n : ℕ) (xs : List A) → drop k (drop n xs) ≡ drop (n + k) xs
+drop_twice k zero xs = ap (λ j. drop j xs) (let e : k ≡ 0 + k = omega arith in e)
+drop_twice k (suc n) [] = drop-nil k ∙ sym (drop-nil (suc n + k))
+drop_twice k (suc n) (x ∷ xs) = drop_twice k n xs ∙ ap (λ j. drop j (x ∷ xs)) (let e : suc (n + k) ≡ suc n + k = omega arith in e)
+
+-- those after the place of a number are those from there on, and those between it and the ones that are off
+pub own_split : (s off n : ℕ) (ms : List MarkedEntry) → AreOff off ms → off ≤ n
+    → filter (belongs (Of s)) (take (n - off) (drop off ms)) ++ filter (belongs (Of s)) (drop n ms) ≡ filter (belongs (Of s)) ms
+own_split s off n ms h le =
+    let t : MarkedEntry → Bool = belongs (Of s) in
+    ap (λ xs. filter t (take (n - off) (drop off ms)) ++ filter t xs) (sym (drop_twice (n - off) off ms ∙ ap (λ k. drop k ms) (let e : off + (n - off) ≡ n = omega arith in e)))
+    ∙ sym (filter-append t (take (n - off) (drop off ms)) (drop (n - off) (drop off ms)))
+    ∙ ap (filter t) (take-append-drop (n - off) (drop off ms))
+    ∙ sym (filter_gap t ms 0 off (omega arith) (λ i x low lt at. none_own s off ms h i x low (omega arith) at))

@@ -3,6 +3,7 @@ use Rattle.std.proofs.Common.{◌≡◌, ℕ, zero, suc, ◌+◌, ◌-◌, ◌<�
 use Rattle.std.specs.List.{slice_get}
 use Rattle.std.specs.Prelude.{reverse}
 use Rattle.std.proofs.lemmas.List.{reverse-append}
+use Rattle.std.proofs.lemmas.List.Elements.{filter-append}
 use Rattle.std.specs.Option.{option_or}
 use Rattle.std.proofs.lemmas.Option.{get_or_from_slice_get, slice_get_within}
 use Rattle.std.proofs.Math.Seq.{drop-cons}
@@ -102,6 +103,13 @@ one_counted n F false m same holds = (cc)
 pub none_counted : (n : ℕ) (F : List MarkedEntry) (b : Bool) (m : MarkedEntry) → n ≡ length F → b ≡ false → n ≡ length (cond b (m ∷ F) F)
 none_counted n F true m same fails = (cc)
 none_counted n F false m same fails = same
+
+pub added_both : (xs ys : List MarkedEntry) → added_in (xs ++ ys) ≡ added_in xs + added_in ys
+added_both [] ys = omega arith
+added_both (x ∷ xs) ys = let rest = added_both xs ys in omega (arith, rest)
+
+pub added_more : (t : MarkedEntry → Bool) (xs : List MarkedEntry) (x : MarkedEntry) → added_in (filter t (xs ++ x ∷ [])) ≡ added_in (filter t xs) + added_in (cond (t x) (x ∷ []) [])
+added_more t xs x = ap added_in (filter-append t xs (x ∷ [])) ∙ added_both (filter t xs) (cond (t x) (x ∷ []) [])
 
 pub one_added : (n : ℕ) (F : List MarkedEntry) (b : Bool) (m : MarkedEntry) (k : ℕ) → n ≡ added_in F → b ≡ true → k ≡ added_parts m.entry.what → n + k ≡ added_in (cond b (m ∷ F) F)
 one_added n F true m k same holds parts = omega (arith, same, parts)

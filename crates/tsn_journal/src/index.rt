@@ -3,7 +3,7 @@
 //! Places are only ever added. A link leads back from each to the last place before it in its group, and another to the
 //! last one that is of another session, so that a session's own entries are passed in one step; which of the entries
 //! still belong to the group, the marks say.
-ghost use Rattle.std.specs.Prelude.{◌≡◌, ◌&&◌, ◌+◌, ◌-◌, ◌≤◌, ◌∷◌, [], Bool, IfOk, List, OnOk, Option, Some, drop, filter, length, map, option_map, option_to_list, reverse, slice_get, true};
+ghost use Rattle.std.specs.Prelude.{◌≡◌, ◌&&◌, ◌*◌, ◌+◌, ◌-◌, ◌≤◌, ◌∷◌, [], Bool, IfOk, List, OnOk, Option, Some, drop, filter, length, map, option_map, option_to_list, reverse, slice_get, true};
 ghost use Rattle.std.specs.Option.{option_copied};
 ghost use Rattle.tsn_journal.specs.declared.entries.MarkedEntry.{MarkedEntry as AnyEntry};
 ghost use Rattle.tsn_journal.specs.declared.groups.Group.{Group as AnyGroup};
@@ -24,6 +24,9 @@ use crate::latest::{KeyPlaces, Latest, SessionPlaces};
 use std::alloc::{AllocError, Global};
 use tsn_edit::{Change, Part};
 use tsn_types::keys::Key;
+
+/// How many entries are looked at in order in the time that one takes that is found by its place.
+const IN_ORDER: u64 = 4;
 
 /// The place of an entry in a group. Places are counted from 1, and 0 is none.
 #[derive(Clone, Copy, Debug)]
@@ -423,7 +426,8 @@ impl Index {
         place
     }
 
-    /// How many standing entries the session has. Those up to the number `settled` are off.
+    /// How many standing entries the session has. Those up to the number `settled` are off. Once so many were found that to
+    /// go through the rest in order takes no longer, it does that.
     pub(crate) fn count_of(&self, marked: &[MarkedEntry], session: u32, settled: u64) -> usize
         requires index { IsIndexed marked.now self.now }
         requires off { AreOff settled marked.now }
@@ -436,6 +440,10 @@ impl Index {
             if u64::from(at.number) <= settled {
                 break;
             }
+            if (u64::from(at.number) - settled) / IN_ORDER <= found as u64 {
+                let left = &marked[settled as usize..at.number as usize];
+                return found + count_own(left, session);
+            }
             if numbered(marked, at.number).is_own(session) {
                 found += 1;
             }
@@ -444,19 +452,26 @@ impl Index {
         found
     }
 
-    /// How many parts the changes of the session's standing entries have. Those up to the number `settled` are off.
+    /// How many parts the changes of the session's standing entries have. Those up to the number `settled` are off. It goes
+    /// through the rest in order, too, once so many places were passed.
     pub(crate) fn parts_of(&self, marked: &[MarkedEntry], session: u32, settled: u64) -> usize
         requires index { IsIndexed marked.now self.now }
         requires off { AreOff settled marked.now }
         ensures { result ≡ added_in (filter (belongs (Of session)) marked.now) }
     {
         let mut found = 0;
+        let mut passed = 0;
         let mut place = self.latest.session_places(session).standing;
         'back: while place != 0 {
             let at = &self.places[place as usize - 1];
             if u64::from(at.number) <= settled {
                 break;
             }
+            if (u64::from(at.number) - settled) / IN_ORDER <= passed {
+                let left = &marked[settled as usize..at.number as usize];
+                return found + parts_of_own(left, session);
+            }
+            passed += 1;
             let entry = numbered(marked, at.number);
             if entry.is_own(session) {
                 found += entry.entry.what.added_parts();
@@ -613,6 +628,34 @@ impl Index {
         }
         None
     }
+}
+
+/// How many of the entries stand and are the session's.
+fn count_own(marked: &[MarkedEntry], session: u32) -> usize
+    ensures count { result ≡ length (filter (belongs (Of session)) marked.now) }
+    ensures few { result ≤ length marked.now }
+{
+    let mut found = 0;
+    for entry in marked {
+        if entry.is_own(session) {
+            found += 1;
+        }
+    }
+    found
+}
+
+/// How many parts the changes of those of the entries have that stand and are the session's.
+fn parts_of_own(marked: &[MarkedEntry], session: u32) -> usize
+    ensures parts { result ≡ added_in (filter (belongs (Of session)) marked.now) }
+    ensures few { result ≤ 16 * length marked.now }
+{
+    let mut found = 0;
+    for entry in marked {
+        if entry.is_own(session) {
+            found += entry.entry.what.added_parts();
+        }
+    }
+    found
 }
 
 /// The entry of the number, which is there.

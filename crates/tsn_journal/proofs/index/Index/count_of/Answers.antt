@@ -1,8 +1,10 @@
-use Rattle.std.proofs.Common.{◌≡◌, ◌+◌, ◌≤◌, sym, ◌∙◌, ap, subst, arith, length}
+use Rattle.std.proofs.Common.{◌≡◌, ◌+◌, ◌-◌, ◌≤◌, Bool, sym, ◌∙◌, ap, subst, arith, length, drop, take, filter}
+use Rattle.std.proofs.lemmas.List.{length-append}
+use Rattle.tsn_journal.specs.declared.entries.MarkedEntry.{MarkedEntry}
 use Rattle.tsn_journal.specs.Index.{IsLast, belongs, is_of, number_at, number_of, place_at}
 use Rattle.tsn_journal.specs.declared.groups.Group.TheVariants.{Of}
 use Rattle.tsn_journal.proofs.Links.{next_group, place_there, the_place}
-use Rattle.tsn_journal.proofs.Off.{none_before}
+use Rattle.tsn_journal.proofs.Off.{none_before, own_split}
 use Rattle.tsn_journal.proofs.Walking.{filter_none, none_after, step_back, none_counted, one_counted}
 use Rattle.tsn_journal.proofs.index.Index.count_of.Goals as goal
 use Rattle.tsn_journal.proofs.index.Index.count_of.Goals.{then-is_own, else-is_own}
@@ -55,3 +57,18 @@ returns-then-from-settled c =
     let number : number_at c.args.self.now.places.items c.back.place ≡ c.index-at.result.now.number = ap number_of (place_there c.args.self.now.places.items c.back.place c.index-at.result.now c.back-test.true c.back.invariant.within c.index-at.ensures) in
     c.back.invariant.so_far
     ∙ ap length (none_before c.args.session c.args.settled c.args.marked.now c.args.self.now.places.items c.back.place c.requires.off (omega (arith, number, c.from.ensures, c.if-from-settled.true)))
+
+pub slice_bounds-left-end : goal.slice_bounds-left-end
+slice_bounds-left-end c = (the_place c.args.marked.now c.args.self.now.places.items (Of c.args.session) c.back.place c.index-at.result.now c.back.invariant.group (place_there c.args.self.now.places.items c.back.place c.index-at.result.now c.back-test.true c.back.invariant.within c.index-at.ensures) c.requires.index.places).within
+
+pub returns-then-from-settled-2 : goal.returns-then-from-settled-2
+returns-then-from-settled-2 c =
+    let ms = c.args.marked.now in
+    let n = c.index-at.result.now.number in
+    let number : number_at c.args.self.now.places.items c.back.place ≡ n = ap number_of (place_there c.args.self.now.places.items c.back.place c.index-at.result.now c.back-test.true c.back.invariant.within c.index-at.ensures) in
+    let t : MarkedEntry → Bool = belongs (Of c.args.session) in
+    let split = own_split c.args.session c.args.settled n ms c.requires.off (omega (arith, c.from.ensures, c.if-from-settled.false)) in
+    (let turn : c.back.found + c.count_own.result ≡ c.count_own.result + c.back.found = omega arith in turn)
+    ∙ (λ i. c.count_own.ensures.count i + (c.back.invariant.so_far ∙ ap (λ k. length (filter t (drop k ms))) number) i)
+    ∙ sym (length-append (filter t (take (n - c.args.settled) (drop c.args.settled ms))) (filter t (drop n ms)))
+    ∙ ap length split

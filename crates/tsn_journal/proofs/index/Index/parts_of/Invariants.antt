@@ -9,6 +9,7 @@ invariant-back l = record {
   within : l.place ≤ length l.self.places.items;
   group : is_of (Of l.session) (place_at l.self.places.items l.place) ≡ true;
   so_far : l.found ≡ added_in (filter (belongs (Of l.session)) (drop (number_at l.self.places.items l.place) l.marked));
+  counted : l.passed + l.place ≤ l.initial.place;
   few : l.found + 16 * l.place ≤ 16 * l.initial.place;
 }
 
