@@ -1,6 +1,6 @@
 //! Which lines are read with no tree: those of each command, compact, with their members in ascending order and in the
 //! order of `docs/formats.md`, and the same with a space behind each comma and each colon; of a batch the first of these
-//! alone.
+//! alone; and a record ahead of its key.
 use std::alloc::{AllocError, Global};
 use std::process::Abort;
 use std::test::Fail;
@@ -18,6 +18,8 @@ const LINES: &'static [&'static str] = &[
     "{\"do\":\"replace\",\"s\":1,\"key\":\"port 64\",\"record\":{\"gates\":255,\"list\":[],\"cycle\":1000,\"extension\":2,\"base\":3}}",
     "{\"do\":\"replace\",\"key\":\"filter 0\",\"record\":{\"gate\":9,\"handle\":4294967295,\"max_sdu\":1500,\"meter\":null,\"oversize\":true,\"priority\":null},\"s\":2}",
     "{\"do\":\"replace\",\"s\":2,\"key\":\"filter 0\",\"record\":{\"handle\":4294967295,\"priority\":null,\"gate\":9,\"max_sdu\":1500,\"meter\":null,\"oversize\":true}}",
+    "{\"record\":{\"handle\":4294967295,\"priority\":null,\"gate\":9,\"max_sdu\":1500,\"meter\":null,\"oversize\":true},\"s\":2,\"do\":\"replace\",\"key\":\"filter 0\"}",
+    "{\"record\":{\"open\":true,\"ipv\":7,\"list\":[],\"cycle\":3000,\"extension\":1,\"base\":0,\"invalid_rx\":true,\"octets_exceeded\":false},\"s\":1,\"do\":\"create\",\"key\":\"gate 7\"}",
     "{\"do\":\"remove\",\"key\":\"filter 0\",\"s\":1}",
     "{\"do\":\"remove\",\"s\":1,\"key\":\"filter 0\"}",
     "{\"do\":\"undo\",\"s\":1}",
