@@ -174,16 +174,15 @@ fn hexadecimal(digit: u8) -> u8
     }
 }
 
-// The line of an instant.
-fn line_of(at: Instant, gates: u8) -> ShortText
-    ensures { result ≡ state_line at (Some (shown.Port gates)) }
+// The line of an instant, in place of what the text had.
+fn put_line(text: &mut ShortText, at: Instant, gates: u8)
+    ensures { text.new ≡ state_line at (Some (shown.Port gates)) }
 {
-    let mut text = ShortText::new();
+    text.clear();
     text.push_number(at.get());
     text.push(" ");
     text.push_bytes(&[hexadecimal(gates / 16), hexadecimal(gates % 16)]);
     text.push("\n");
-    text
 }
 
 // The gates that a reply tells.
@@ -210,18 +209,24 @@ fn gates_at(bridge: &mut Bridge, port: PortId, at: Instant) -> u8
     }
 }
 
-// The line of this number.
-fn line_at(bridge: &mut Bridge, port: PortId, listing: &Listing, place: u64) -> ShortText
+// The line of this number, in place of what the text had.
+fn put_line_at(
+    text: &mut ShortText,
+    bridge: &mut Bridge,
+    port: PortId,
+    listing: &Listing,
+    place: u64,
+)
     requires port { port ≡ listing.now.port }
     requires place { place < listing.now.count }
     requires last { instant_of listing.now (listing.now.count - 1) ≤ greatest_instant }
     requires seen { IsSeenFrom bridge.old port listing.now.from }
     ensures stays { bridge.new ≡ bridge.old }
-    ensures line { result ≡ line_at bridge.old listing.now place }
+    ensures line { text.new ≡ line_at bridge.old listing.now place }
 {
     let at = instant_at(listing, place);
     let gates = gates_at(bridge, port, at);
-    line_of(at, gates)
+    put_line(text, at, gates);
 }
 
 /// Writes the line of each instant. Where the writer fails, the lines before were written, and of this one a front.
@@ -240,8 +245,9 @@ pub fn write_states<W: ByteOut>(
     ensures failed { OnErr result (W.has_failed writer.new ≡ true) }
     ensures cut { OnErr result (EndsEarly bridge.old listing.now (W.taken writer.old) (W.taken writer.new)) }
 {
+    let mut line = ShortText::new();
     for place in 0..listing.count {
-        let line = line_at(bridge, port, listing, place);
+        put_line_at(&mut line, bridge, port, listing, place);
         put_all(writer, line.as_slice())?;
     }
     Ok(())
