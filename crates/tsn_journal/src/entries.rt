@@ -207,7 +207,7 @@ fn copied(alloc: Global, marked: &[MarkedEntry]) -> Result<Vec<Entry>, AllocErro
 /// An entry with a mark that is on until a later entry takes it back or settles it.
 #[derive(Debug, Drop)]
 pub(crate) struct MarkedEntry {
-    // before the entry, so that the two lie beside what a search looks at first
+    // ahead of the entry, so that it lies beside the members that a search looks at first
     pub(crate) is_open: bool,
     pub(crate) entry: Entry,
 }

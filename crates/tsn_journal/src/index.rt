@@ -10,7 +10,7 @@ ghost use Rattle.tsn_journal.specs.declared.groups.Group.{Group as AnyGroup};
 ghost use Rattle.tsn_journal.specs.Entries.{most_entries};
 ghost use Rattle.tsn_journal.specs.Finding.{last_where};
 ghost use Rattle.tsn_journal.specs.declared.groups.Group.TheVariants.{EndsRedo, Of, On, RefersTo};
-ghost use Rattle.tsn_journal.specs.Index.{Adds, ArePlaces, HasPlaces, HasRoom, IsIndexed, IsIndexedBut, IsIndexedButNewest, IsLast, IsNewest, NewestAdds, NoneBetween, TakesNoRoom, TakesPlaces, TakesRoom, NoneFrom, belongs, belongs_to_others, group_if, is_by, most_places, number_at, other_of, places_for};
+ghost use Rattle.tsn_journal.specs.Index.{Adds, ArePlaces, HasPlaces, HasRoom, IsIndexed, IsIndexedBut, IsIndexedButNewest, IsLast, IsNewest, NewestAdds, NoneBetween, NoneFrom, TakesNoRoom, TakesPlaces, TakesRoom, belongs, belongs_to_others, group_if, is_by, most_places, number_at, other_of, places_for};
 ghost use Rattle.tsn_journal.specs.Latest.{latest_of};
 ghost use Rattle.tsn_journal.specs.Marks.{AreOff, added_in, is_own};
 ghost use Rattle.tsn_journal.specs.Tests.{Tests};
@@ -426,8 +426,8 @@ impl Index {
         place
     }
 
-    /// How many standing entries the session has. Those up to the number `settled` are off. Once so many were found that to
-    /// go through the rest in order takes no longer, it does that.
+    /// How many standing entries the session has. Those up to the number `settled` are off. Once it found a quarter of what is
+    /// left, it goes through the rest in order, whosever that is.
     pub(crate) fn count_of(&self, marked: &[MarkedEntry], session: u32, settled: u64) -> usize
         requires index { IsIndexed marked.now self.now }
         requires off { AreOff settled marked.now }

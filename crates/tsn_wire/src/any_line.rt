@@ -428,8 +428,8 @@ fn line_draft(found: LineMembers, count: u32) -> Option<LineDraft>
 }
 
 /// The draft that a line is, whatever the order of its members and the white space between; none, for instance, of a
-/// batch and of a settle, where a member is missing, unknown or given twice, where a text has an escape, where a record comes before its
-/// key, where a key's number is over 65,535, or where memory is wanting.
+/// batch and of a settle, where a member is missing, unknown or given twice, where a text has an escape, where the kind of a record ahead
+/// of its key is not the one that its first member lets guess, where a key's number is over 65,535, or where memory is wanting.
 pub fn any_draft(alloc: Global, line: &[u8]) -> Option<LineDraft>
     ensures { IfSome result (λ draft. reading line.now ≡ line_of_draft draft) }
 {
