@@ -1,7 +1,7 @@
 -- A journal may go to another thread. Part by part, since a search of all of it would come to its limit.
 use denote.Param.Send.{IsSend, sendable}
 use Rattle.std.proofs.Crossing.{crosses}
-use Rattle.std.proofs.MapsCrossing as maps
+use Rattle.tsn_table.proofs.Crossing.{table_send}
 use Rattle.tsn_types.specs.contracts.records.Record as Record
 use Rattle.tsn_edit.specs.contracts.Change as Change
 use Rattle.tsn_edit.specs.contracts.Part as Part
@@ -30,7 +30,7 @@ marked_send : IsSend (MarkedEntry.the_field).row
 marked_send = search (entry_send, crosses, sendable) depth 60 fits 20000
 
 index_send : IsSend (Index.the_field).row
-index_send = search (maps.crosses, crosses, sendable) depth 200 fits 20000
+index_send = search (table_send, crosses, sendable) depth 200 fits 20000
 
 pub journal_send : IsSend (Journal.the_field).row
 journal_send = search (marked_send, index_send, crosses, sendable) depth 60 fits 20000

@@ -1,11 +1,18 @@
 -- A set of numbers may go to another thread, and threads may share one.
+use denote.RattleType.{RattleType}
 use denote.Param.Send.{IsSend, IsSync, sendable}
 use Rattle.std.proofs.Crossing.{crosses}
 use Rattle.tsn_table.proofs.tree.Tree.TheLaws.TheKnot as knot
 use Rattle.tsn_table.specs.contracts.numbers.Numbers as Numbers
+use Rattle.tsn_table.specs.contracts.Table as Table
 
 pub numbers_send : IsSend Numbers.the_row
 numbers_send = search (knot.crosses, sendable, crosses) depth 60 fits 20000
 
 pub numbers_sync : IsSync Numbers.the_row
 numbers_sync = search (knot.crosses, sendable, crosses) depth 60 fits 20000
+
+-- a table may go to another thread where its rows may
+module _ (R : RattleType) where
+  pub table_send : IsSend R → IsSend (Table.the_field R).row
+  table_send s = search (sendable, crosses) depth 60 fits 20000

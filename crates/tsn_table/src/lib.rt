@@ -1,24 +1,28 @@
 //! Tables of numbered rows, and sets of numbers in their order.
 //!
 //! A `Table` is a hash map that its users see as a finite map from numbers to rows, and beside it the number of rows that it
-//! surely has room for. A look-up, a new row and a removal cost the same wherever they fall: no row behind them moves. A
-//! `Numbers` is a search tree that its users see as a set. Both rely on the standard library alone.
+//! surely has room for. A look-up, a new row and a removal cost the same wherever they fall: no row behind them moves. Where
+//! a small number's row may lie is guessed first; the guess is tested, and the number hashed where it fails. A `Numbers` is a
+//! search tree that its users see as a set.
 #![tactic(auto)]
 
-ghost use Rattle.std.specs.Prelude.{◌≡◌, ℕ, Bool, ◌+◌, ◌<◌, ◌≤◌, ◌⊎◌, IsOk, IsSome, IfOk, OnOk, OnErr, Some, MatchOption, cond, length, nat_eq};
+ghost use Rattle.std.specs.Prelude.{◌≡◌, ℕ, Bool, ◌+◌, ◌<◌, ◌≤◌, ◌⊎◌, IsOk, IsSome, IfOk, OnOk, OnErr, Some, None, MatchOption, cond, length, nat_eq};
 ghost use Rattle.std.specs.Ordering.{nat_cmp};
 ghost use Rattle.std.specs.Option.{option_copied};
 ghost use Rattle.std.specs.FinMap as map;
 ghost use Rattle.std.specs.HashMap as hash;
 ghost use Rattle.std.specs.List.Sorted.{IsPermutation, IsSorted};
+ghost use Rattle.tsn_table.specs.Places.{LiesAt};
 ghost use Rattle.tsn_table.specs.Firsts.{AnswersAs, first_id, least_id, lesser};
 ghost use Rattle.tsn_table.specs.Copies.{Copies};
 
+use crate::hints::Hints;
+use indexmap::IndexMap;
 use std::alloc::{AllocError, Global};
-use std::collections::HashMap;
 use std::marker::Model;
 use std::mem;
 
+mod hints;
 mod numbers;
 mod tree;
 
@@ -26,12 +30,14 @@ pub use numbers::Numbers;
 
 /// A finite map from numbers to rows. `map` is the map, and `spare` a number of rows of new numbers that can come in with no
 /// more memory.
-#[derive(Debug, Drop)]
+#[derive(Debug)]
 pub struct Table<R> {
     alloc: Global,
-    rows: HashMap<u64, R>,
+    rows: IndexMap<u64, R>,
     // how many rows of new numbers were promised room
     room: usize,
+    // at which place among the rows that of a small number may lie
+    hints: Hints,
 }
 
 impl<R> Model for Table<R> {
@@ -49,6 +55,18 @@ impl<R> Model for Table<R> {
     ghost invariant = { λ a. a.room ≤ spare a.rows };
 }
 
+// Written out, so that a proof of what holds a table does not go by what it is made of.
+impl<R: Drop> Drop for Table<R> {
+    fn drop(self) {
+        let Table {
+            alloc: _,
+            rows: _,
+            room: _,
+            hints: _,
+        } = self;
+    }
+}
+
 impl<R: Drop> Table<R> {
     /// The table with no row. It takes no memory and has room for none.
     pub fn new(alloc: Global) -> Self
@@ -57,8 +75,9 @@ impl<R: Drop> Table<R> {
     {
         Table {
             alloc,
-            rows: HashMap::new(alloc),
+            rows: IndexMap::new(alloc),
             room: 0,
+            hints: Hints::new(alloc),
         }
     }
 
@@ -67,6 +86,11 @@ impl<R: Drop> Table<R> {
     pub fn get(&self, id: u64) -> Option<&R>
         ensures { option_copied result ≡ map.get self.now.map id }
     {
+        if let Some((number, row)) = self.rows.get_index(self.hints.guess(id)) {
+            if *number == id {
+                return Some(row);
+            }
+        }
         self.rows.get(&id)
     }
 
@@ -108,6 +132,7 @@ impl<R: Drop> Table<R> {
             alloc: self.alloc,
             rows: copy_of(&self.rows, self.alloc, &copy_row)?,
             room: 0,
+            hints: Hints::new(self.alloc),
         })
     }
 
@@ -125,6 +150,9 @@ impl<R: Drop> Table<R> {
             self.rows.reserve(count)?;
             self.room = count;
         }
+        if self.hints.are_wanted() {
+            self.hints.make(&self.rows);
+        }
         Ok(())
     }
 
@@ -140,11 +168,12 @@ impl<R: Drop> Table<R> {
         // Either way it takes room for one row at most.
         ensures room { self.old.spare ≤ self.new.spare + 1 }
     {
-        if let Some(kept) = self.rows.get_mut(&id) {
-            return Some(mem::replace(kept, row));
+        if let Some(place) = place_of(&self.rows, &self.hints, id) {
+            return Some(replace_at(&mut self.rows, id, place, row));
         }
         self.room -= 1;
         set_row(&mut self.rows, id, row);
+        self.hints.note(id, self.rows.len() - 1);
         None
     }
 
@@ -155,12 +184,60 @@ impl<R: Drop> Table<R> {
         ensures map { self.new.map ≡ map.remove self.old.map id }
         ensures spare { self.new.spare ≡ self.old.spare }
     {
-        self.rows.remove(&id)
+        let place = place_of(&self.rows, &self.hints, id)?;
+        let row = take_at(&mut self.rows, id, place);
+        // the last row took its place
+        if let Some((moved, _)) = self.rows.get_index(place) {
+            self.hints.note(*moved, place);
+        }
+        Some(row)
+    }
+}
+
+// The place of the number's row, none where it has none.
+fn place_of<R>(rows: &IndexMap<u64, R>, hints: &Hints, id: u64) -> Option<usize>
+    ensures { MatchOption result (hash.get nat_eq rows.now id ≡ None) (λ place. LiesAt rows.now id place) }
+{
+    let place = hints.guess(id);
+    if let Some((found, _)) = rows.get_index(place) {
+        if *found == id {
+            return Some(place);
+        }
+    }
+    let (place, _, _) = rows.get_full(&id)?;
+    Some(place)
+}
+
+// Sets the row of the number, which lies at the place, and gives the one that it had.
+fn replace_at<R: Drop>(rows: &mut IndexMap<u64, R>, id: u64, place: usize, row: R) -> R
+    requires { LiesAt rows.old id place }
+    ensures before { hash.get nat_eq rows.old id ≡ Some result }
+    ensures rows { (q : ℕ) → hash.get nat_eq rows.new q ≡ cond (nat_eq id q) (Some row) (hash.get nat_eq rows.old q) }
+    ensures spare { hash.spare rows.new ≡ hash.spare rows.old }
+{
+    match rows.get_index_mut(place) {
+        Some(kept) => mem::replace(kept, row),
+        None => unreachable!(),
+    }
+}
+
+// Takes the row of the number, which lies at the place, out and gives it.
+fn take_at<R: Drop>(rows: &mut IndexMap<u64, R>, id: u64, place: usize) -> R
+    requires { LiesAt rows.old id place }
+    ensures before { hash.get nat_eq rows.old id ≡ Some result }
+    ensures rows { (q : ℕ) → hash.get nat_eq rows.new q ≡ cond (nat_eq id q) None (hash.get nat_eq rows.old q) }
+    ensures spare { hash.spare rows.old ≤ hash.spare rows.new }
+{
+    // the proof needs that no two rows have one number, which the length tells
+    let _len = rows.len();
+    match rows.swap_remove_index(place) {
+        Some((_, row)) => row,
+        None => unreachable!(),
     }
 }
 
 // The numbers of the rows, in the order of the rows.
-fn ids_of<R>(rows: &HashMap<u64, R>, alloc: Global) -> Result<Vec<u64>, AllocError>
+fn ids_of<R>(rows: &IndexMap<u64, R>, alloc: Global) -> Result<Vec<u64>, AllocError>
     ensures items { IfOk result (λ ids. ids.items ≡ hash.keys rows.now) }
     ensures unique { hash.IsUnique nat_eq rows.now }
 {
@@ -177,7 +254,7 @@ fn ascending(mut ids: Vec<u64>) -> Vec<u64>
 }
 
 // The least number whose row passes the test.
-fn least_of<R, F: Fn(&R) -> bool>(rows: &HashMap<u64, R>, test: &F) -> Option<u64>
+fn least_of<R, F: Fn(&R) -> bool>(rows: &IndexMap<u64, R>, test: &F) -> Option<u64>
     requires { F.IsAlwaysCallable test.now }
     ensures least { (p : R → Bool) → AnswersAs F.Fn p test.now → result ≡ least_id p rows.now.entries }
     ensures unique { hash.IsUnique nat_eq rows.now }
@@ -202,7 +279,7 @@ fn lesser_of(least: Option<u64>, id: u64) -> Option<u64>
 }
 
 // Sets the row of a number, where there is room for one more.
-fn set_row<R: Drop>(rows: &mut HashMap<u64, R>, id: u64, row: R)
+fn set_row<R: Drop>(rows: &mut IndexMap<u64, R>, id: u64, row: R)
     requires { 1 ≤ hash.spare rows.old }
     ensures rows { (q : ℕ) → hash.get nat_eq rows.new q ≡ cond (nat_eq id q) (Some row) (hash.get nat_eq rows.old q) }
     ensures spare { hash.spare rows.old ≤ hash.spare rows.new + 1 }
@@ -215,15 +292,15 @@ fn set_row<R: Drop>(rows: &mut HashMap<u64, R>, id: u64, row: R)
 
 // Equal copies of the rows.
 fn copy_of<R: Drop, F: Fn(&R) -> Result<R, AllocError>>(
-    rows: &HashMap<u64, R>,
+    rows: &IndexMap<u64, R>,
     alloc: Global,
     copy_row: &F,
-) -> Result<HashMap<u64, R>, AllocError>
+) -> Result<IndexMap<u64, R>, AllocError>
     requires callable { F.IsAlwaysCallable copy_row.now }
     requires equal { Copies F.Fn copy_row.now }
     ensures { IfOk result (λ copy. (q : ℕ) → hash.get nat_eq copy q ≡ hash.get nat_eq rows.now q) }
 {
-    let mut copy = HashMap::with_capacity(alloc, rows.len())?;
+    let mut copy = IndexMap::with_capacity(alloc, rows.len())?;
     for (id, row) in rows.iter() {
         set_row(&mut copy, *id, copy_row(row)?);
     }

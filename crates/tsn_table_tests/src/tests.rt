@@ -128,6 +128,31 @@ fn a_reserve_of_10000_rows_keeps_the_rows(rt: HostRuntime) -> Result<(), Fail> {
     Ok(())
 }
 
+// Where numbers may be guessed at and where they may not, with a row that is moved when another is taken.
+#[test]
+fn great_numbers_keep_their_rows(rt: HostRuntime) -> Result<(), Fail> {
+    let mut table = Table::new(rt.alloc());
+    table.reserve(4)?;
+    let _ = table.put(65_535, 1);
+    let _ = table.put(65_536, 2);
+    let _ = table.put(u64::MAX, 3);
+    let _ = table.put(511, 4);
+    table.reserve(4)?;
+    same(&rt, &table.take(65_535), &Some(1));
+    same(&rt, &table.get(65_535).copied(), &None);
+    same(&rt, &table.get(65_536).copied(), &Some(2));
+    same(&rt, &table.get(u64::MAX).copied(), &Some(3));
+    same(&rt, &table.put(511, 44), &Some(4));
+    same(&rt, &table.put(0, 5), &None);
+    same(&rt, &table.get(511).copied(), &Some(44));
+    same(
+        &rt,
+        &table.ids(rt.alloc())?.as_slice(),
+        &[0, 511, 65_536, u64::MAX].as_slice(),
+    );
+    Ok(())
+}
+
 // As many rows as the largest table of a bridge has.
 #[test]
 fn the_largest_table_is_listed_and_copied(rt: HostRuntime) -> Result<(), Fail> {

@@ -1,5 +1,6 @@
 pub mod Adding
 pub mod AtOnce
+pub mod Begun
 pub mod Free
 pub mod Making
 pub mod Rewinding

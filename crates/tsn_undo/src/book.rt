@@ -67,6 +67,8 @@ impl Book {
         ensures ledger { result.ledger ≡ record { limits = config.limits; opening = config.map; entries = [] } }
         ensures room { result.room ≡ record { entries = 0; parts = 0 } }
     {
+        // The proof needs what the configuration's type keeps, which its limits tell.
+        let _kept = config.limits();
         Book {
             config,
             journal: Journal::new(alloc),
