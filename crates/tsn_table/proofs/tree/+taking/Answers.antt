@@ -31,7 +31,7 @@ take_from-returns-then-take_next-clause-numbers t c =
     let node = c.in-Fork.node.value in
     next_in_place c.args.id node.number c.in-Some.next _ (numbers_of node.left) (numbers_of node.right) _ (ap numbers_of c.in-Fork.is) (rw c.deref.ensures at c.if-id-deref.false) c.requires.rising
     (sym (rw c.deref-2.ensures at c.first_in.ensures) ∙ c.in-Some.is)
-    (c.level-then-take_next.ensures ∙ c.take_next.ensures.numbers)
+    (c.level-then-take_next.ensures.numbers ∙ c.take_next.ensures.numbers)
 
 pub take_from-returns-else-take_next-clause-numbers : goal.take_from-returns-else-take_next-clause-numbers
 take_from-returns-else-take_next-clause-numbers t c =
