@@ -13,9 +13,11 @@ ghost use Rattle.tsn_edit.specs.Configuration.{IsWellKept};
 ghost use Rattle.tsn_edit.specs.Runs.{run, IsGood};
 ghost use Rattle.tsn_config.specs.Opening.{limits_cause, opening_refusal};
 ghost use Rattle.tsn_journal.specs.Entries.{changes, standing};
+ghost use Rattle.tsn_journal.specs.Marks.{entries_of};
 ghost use Rattle.tsn_undo.specs.Ledger.{base_of, present};
 ghost use Rattle.tsn_undo.specs.Soundness.{IsSound};
 ghost use Rattle.tsn_types.specs.Limits.{first_cause};
+ghost use Rattle.tsn_bridge.specs.declared.reply.Reply.TheVariants.{Entries, Refused, Shown};
 ghost use Rattle.tsn_bridge.specs.Acts.{act_rule, key_causes, list_causes};
 ghost use Rattle.tsn_bridge.specs.Beginning.{IsOpened, Opens, begun, standard_limits};
 ghost use Rattle.tsn_bridge.specs.Edits.{AllowsRedo, edit_rule, undo_all_rule, undo_rule};
@@ -38,7 +40,7 @@ use tsn_config::Config;
 use tsn_config::records::Records;
 use tsn_edit::Edit;
 use tsn_edit::batches::Batch;
-use tsn_journal::entries::Act;
+use tsn_journal::entries::{Act, MarkedEntry};
 use tsn_journal::journal::Journal;
 use tsn_schedule::runner::Past;
 use tsn_types::keys::{Key, Kind};
@@ -163,6 +165,35 @@ impl Bridge {
         ensures stands { result.now.map ≡ run (base_of self.now.book) (changes (standing self.now.book.entries)) }
     {
         self.pair.book().config()
+    }
+
+    /// The record at the key, lent, which a show by the session answers; refused as a show is, and never for want of memory.
+    pub fn lent_record(&self, session: u32, key: &Key) -> Result<RecordRef<'_>, Refusal>
+        ensures ok { IfOk result (λ found. Allows (show_rule self.now session key.now) self.now (Shown key.now (lent_record found)) self.now) }
+        ensures refused { IfErr result (λ why. Allows (show_rule self.now session key.now) self.now (Refused why) self.now) }
+    {
+        if !self.config().limits().holds(*key) {
+            return Err(Refusal::Range(Field::Key));
+        }
+        if !self.is_given(session) {
+            return Err(Refusal::NoSession);
+        }
+        match self.config().get(*key) {
+            Some(found) => Ok(found),
+            None => Err(Refusal::Missing(*key)),
+        }
+    }
+
+    /// The entries of a greater number than `after`, as they are kept, which a since by the session answers; refused as a
+    /// since is, and never for want of memory.
+    pub fn kept_since(&self, session: u32, after: u32) -> Result<&[MarkedEntry], Refusal>
+        ensures ok { IfOk result (λ kept. Allows (since_rule self.now session after) self.now (Entries (entries_of kept.now)) self.now) }
+        ensures refused { IfErr result (λ why. Allows (since_rule self.now session after) self.now (Refused why) self.now) }
+    {
+        if !self.is_given(session) {
+            return Err(Refusal::NoSession);
+        }
+        Ok(self.journal().kept_since(u64::from(after)))
     }
 
     /// The journal of what the sessions did.

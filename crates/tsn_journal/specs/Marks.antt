@@ -21,6 +21,10 @@ abbrev pub log_code : Coded Log
 log_code =
     code_by (List Entry × (ℕ × ℕ)) (coded× (coded_list entry_row.the_row.coded) (coded× coded_ℕ coded_ℕ)) (λ l. (l.entries, (l.spare, l.parts))) (λ p. record { entries = p.0; spare = p.1.0; parts = p.1.1 }) (λ _. refl)
 
+-- the entry that is kept with a mark
+abbrev pub entry_in : MarkedEntry → Entry
+entry_in m = m.entry
+
 abbrev pub entries_of : List MarkedEntry → List Entry
 entries_of ms = map (λ m. m.entry) ms
 

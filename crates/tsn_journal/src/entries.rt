@@ -3,7 +3,7 @@ ghost use Rattle.std.specs.Prelude.{◌≡◌, ◌≤◌, ◌==◌, IfOk, is_som
 ghost use Rattle.std.specs.Option.{option_copied};
 ghost use Rattle.tsn_edit.specs.Parts.{most_parts};
 ghost use Rattle.tsn_journal.specs.Entries.{added_parts, adds, applied, applies, closes, is_made, names, settles_to, undoes};
-ghost use Rattle.tsn_journal.specs.Marks.{ends_redo, entries_of, is_in_conflict, is_own, stands};
+ghost use Rattle.tsn_journal.specs.Marks.{ends_redo, entries_of, entry_in, is_in_conflict, is_own, stands};
 
 use std::alloc::{AllocError, Global};
 use std::marker::Model;
@@ -204,15 +204,22 @@ fn copied(alloc: Global, marked: &[MarkedEntry]) -> Result<Vec<Entry>, AllocErro
     Ok(copies)
 }
 
-/// An entry with a mark that is on until a later entry takes it back or settles it.
+/// An entry as the journal keeps it: with a mark that is on until a later entry takes it back or settles it.
 #[derive(Debug, Drop)]
-pub(crate) struct MarkedEntry {
+pub struct MarkedEntry {
     // ahead of the entry, so that it lies beside the members that a search looks at first
     pub(crate) is_open: bool,
     pub(crate) entry: Entry,
 }
 
 impl MarkedEntry {
+    /// The entry.
+    pub fn entry(&self) -> &Entry
+        ensures { result.now ≡ entry_in self.now }
+    {
+        &self.entry
+    }
+
     /// Whether the entry stands.
     pub(crate) fn stands(&self) -> bool
         ensures { result ≡ is_some (stands self.now) }

@@ -5,6 +5,7 @@ ghost use Rattle.std.specs.Prelude.{◌≡◌, ◌*◌, ◌+◌, ◌≤◌, [], 
 ghost use Rattle.std.specs.Option.{option_copied};
 ghost use Rattle.tsn_types.specs.Refusals.{IsLeastOrMemory};
 ghost use Rattle.tsn_journal.specs.Entries.{Applied, added_parts, most_entries, no_room, settled, settles_to, with_entry};
+ghost use Rattle.tsn_journal.specs.Marks.{entries_of};
 ghost use Rattle.tsn_journal.specs.Finding.{entry, find_conflict, find_conflict_of_others, find_own_in_conflict, find_redo_conflict, last_of, own_standing, parts_of_all, redo_of, since, standing_entry, undone_entry};
 
 use crate::crossed::crossed_by;
@@ -238,6 +239,13 @@ impl Journal {
         ensures { IfOk result (λ copies. copies ≡ since self.now.entries number) }
     {
         Entries::copies_of(*self.marked.allocator(), after(&self.marked, number))
+    }
+
+    /// The entries of a greater number, as they are kept. It takes no memory.
+    pub fn kept_since(&self, number: u64) -> &[MarkedEntry]
+        ensures { entries_of result.now ≡ since self.now.entries number }
+    {
+        after(&self.marked, number)
     }
 
     /// The number of the latest later standing entry in conflict with the standing entry of the number, if there is

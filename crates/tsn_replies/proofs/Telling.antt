@@ -9,12 +9,14 @@ use Rattle.tsn_edit.specs.Changes.{keys_of}
 use Rattle.tsn_edit.specs.Parts.{Part}
 use Rattle.tsn_journal.specs.declared.entries.Act.{Act}
 use Rattle.tsn_journal.specs.declared.entries.Entry.{Entry}
+use Rattle.tsn_journal.specs.declared.entries.MarkedEntry.{MarkedEntry}
+use Rattle.tsn_journal.specs.Marks.{entries_of}
 use Rattle.tsn_types.specs.declared.keys.Key.{Key}
 use Rattle.tsn_types.specs.Keys.{number_of}
 use Rattle.tsn_records.specs.Keys.{key_text}
 use Rattle.tsn_records.specs.Shown.{whole_data}
-use Rattle.tsn_replies.specs.Pieces.{keys_piece, taking_back_front}
-use Rattle.tsn_replies.specs.Told.{act_name, key_data, with_keys, made_data, taking_back_data, acted_data, settled_data, entry_data, entries_data}
+use Rattle.tsn_replies.specs.Pieces.{keys_piece, taking_back_front, told_line}
+use Rattle.tsn_replies.specs.Told.{act_name, key_data, with_keys, made_data, taking_back_data, acted_data, settled_data, entry_data, entries_data, kept_data}
 use Rattle.tsn_replies.proofs.Pieces.{behind, behind_none, behind_more, behind_closed, text_unescaped}
 
 quoted_of : (key t0 t1 t2 t3 : List ℕ) → t1 ≡ t0 ++ codes "\"" → t2 ≡ t1 ++ key → t3 ≡ t2 ++ codes "\"" → t3 ≡ t0 ++ (codes "\"" ++ (key ++ codes "\""))
@@ -182,6 +184,18 @@ settled_pieces number session upto t0 t1 t2 t3 t4 e1 e2 e3 e4 = settled_of (deci
 entries_text_of : (items : List ℕ) → codes "{\"entries\":[" ++ (items ++ codes "}\n") ≡ (codes "{\"entries\":[" ++ (items ++ codes "}")) ++ codes "\n"
 entries_text_of items = simp append_assoc
 
-pub entries_line : (es : List Entry) (t rest : List ℕ) → t ≡ codes "{\"entries\":[" → rest ≡ codes "}\n" → t ++ (items_text false (items_of (map entry_data es)) ++ rest) ≡ compact_text (entries_data es) ++ codes "\n"
+pub entries_line : (es : List Entry) → told_line (map entry_data es) ≡ compact_text (entries_data es) ++ codes "\n"
 unfolding escape_byte
-entries_line es t rest e1 e2 = rw (e1, e2) (entries_text_of (items_text false (items_of (map entry_data es))))
+entries_line es = entries_text_of (items_text false (items_of (map entry_data es)))
+
+-- entries that are kept are told as their entries are
+kept_items : (ms : List MarkedEntry) → items_of (map kept_data ms) ≡ items_of (map entry_data (entries_of ms))
+kept_items [] = refl
+kept_items (m ∷ ms) = ap (item (entry_data m.entry)) (kept_items ms)
+
+pub kept_line : (ms : List MarkedEntry) → told_line (map kept_data ms) ≡ compact_text (entries_data (entries_of ms)) ++ codes "\n"
+kept_line ms = ap (λ l. codes "{\"entries\":[" ++ (items_text false l ++ codes "}\n")) (kept_items ms) ∙ entries_line (entries_of ms)
+
+-- what is pushed first, and what is written behind it
+pub told_of : (t t1 items rest : List ℕ) → t ≡ [] → t1 ≡ t ++ codes "{\"entries\":[" → rest ≡ codes "}\n" → t1 ++ (items ++ rest) ≡ codes "{\"entries\":[" ++ (items ++ codes "}\n")
+told_of t t1 items rest e0 e1 e2 = rw (e1, e0, e2) refl

@@ -1,10 +1,10 @@
 -- The text of a shown record in pieces: what stands before its list and behind it, and what a writer took of a text
 -- whose end is still held. All of it is for private clauses.
-use Rattle.std.specs.Prelude.{◌≡◌, ◌++◌, ℕ, List, [], ◌∷◌, map, Option, codes, decimal}
+use Rattle.std.specs.Prelude.{◌≡◌, ◌++◌, ℕ, List, [], ◌∷◌, map, false, Option, codes, decimal}
 use Rattle.std.specs.Io.KnownBytes.{Appends}
-use Rattle.serde_json.specs.Data.{array, boolean, string}
+use Rattle.serde_json.specs.Data.{Data, array, boolean, string}
 use Rattle.serde_json.specs.View.{items_of}
-use Rattle.serde_json.specs.Written.{compact_text}
+use Rattle.serde_json.specs.Written.{compact_text, items_text}
 use Rattle.tsn_types.specs.declared.keys.Key.{Key}
 use Rattle.tsn_types.specs.declared.records.PortGates.{PortGates}
 use Rattle.tsn_types.specs.declared.records.StreamGate.{StreamGate}
@@ -57,3 +57,7 @@ taking_back_front number session of keys =
     ++ (keys_piece keys
     ++ (codes ",\"of\":" ++ (decimal of
     ++ (codes ",\"session\":" ++ decimal session)))))
+
+-- the line of entries as they are told, in their order
+abbrev pub told_line : List Data → List ℕ
+told_line told = codes "{\"entries\":[" ++ (items_text false (items_of told) ++ codes "}\n")

@@ -7,6 +7,8 @@ use Rattle.tsn_edit.specs.Parts.{parts}
 use Rattle.tsn_journal.specs.declared.entries.Act.{Act}
 use Rattle.tsn_journal.specs.declared.entries.Act.TheVariants.{Enable, Disable, Apply}
 use Rattle.tsn_journal.specs.declared.entries.Entry.{Entry}
+use Rattle.tsn_journal.specs.declared.entries.MarkedEntry.{MarkedEntry}
+use Rattle.tsn_journal.specs.Marks.{entry_in}
 use Rattle.tsn_journal.specs.declared.entries.What.{What}
 use Rattle.tsn_journal.specs.declared.entries.What.TheVariants.{Made, Undone, Redone, Acted, Settled}
 use Rattle.tsn_types.specs.declared.keys.Key.{Key}
@@ -83,6 +85,10 @@ what_data number session (Settled upto) = settled_data number session upto
 
 abbrev pub entry_data : Entry → Data
 entry_data e = what_data e.number e.session e.what
+
+-- an entry that is kept with a mark, of which nothing is told
+abbrev pub kept_data : MarkedEntry → Data
+kept_data m = entry_data (entry_in m)
 
 -- `{"entries":[..]}`
 abbrev pub entries_data : List Entry → Data

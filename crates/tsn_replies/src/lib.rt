@@ -11,7 +11,7 @@ mod shown;
 mod text;
 mod told;
 
-pub use reply::{write_refusal, write_reply};
+pub use reply::{write_kept, write_lent, write_refusal, write_reply};
 pub use shown::write_ids;
 pub use text::{CAPACITY, MOST_DIGITS, ShortText};
 pub use told::write_entries;

@@ -4,19 +4,23 @@
 //! as many as they fill. No reply takes memory.
 ghost use Rattle.std.specs.Prelude.{◌≡◌, ◌+◌, ◌≤◌, ◌++◌, [], length, true, IfErr, OnOk, OnErr, codes};
 ghost use Rattle.std.specs.Io.KnownBytes.{Appends};
+ghost use Rattle.tsn_types.specs.Lent.{lent_record};
 ghost use Rattle.tsn_types.specs.Refusals.{name_of, field_name};
+ghost use Rattle.tsn_journal.specs.Marks.{entries_of};
 ghost use Rattle.tsn_bytes.specs.Bytes.{IsCut};
 ghost use Rattle.tsn_replies.specs.Replies.{number_member, text_member, members_of, behind_of, refusal_text, reply_text};
 ghost use Rattle.tsn_records.specs.Keys.{key_text};
 ghost use Rattle.tsn_bytes.specs.declared.bytes.Fault.TheVariants.{Write};
 
 use crate::running::{push_act, push_counters, push_state, push_verdict};
-use crate::shown::{push_key, write_ids, write_shown};
+use crate::shown::{push_key, write_ids, write_lent_record, write_shown};
 use crate::text::{CAPACITY, ShortText};
-use crate::told::write_entries;
+use crate::told::{write_entries, write_kept_entries};
 use tsn_bridge::reply::Reply;
 use tsn_bytes::{ByteOut, Fault, put_all};
+use tsn_journal::entries::MarkedEntry;
 use tsn_types::keys::Key;
+use tsn_types::records::RecordRef;
 use tsn_types::refusals::{Field, Refusal};
 
 #[inline(always)]
@@ -248,4 +252,30 @@ pub fn write_reply<W: ByteOut>(writer: &mut W, reply: &Reply) -> Result<(), Faul
             put_text(writer, &text)
         }
     }
+}
+
+/// Writes the line of a reply that shows a record, of one that is lent, as `write_reply` does that of a copy of it.
+pub fn write_lent<W: ByteOut>(writer: &mut W, key: Key, lent: RecordRef<'_>) -> Result<(), Fault>
+    ensures ok { OnOk result
+        (Appends (W.taken writer.old) (W.taken writer.new) (reply_text (Reply.Shown key (lent_record lent.entry)))) }
+    ensures worked { OnOk result (W.has_failed writer.new ≡ W.has_failed writer.old) }
+    ensures fault { IfErr result (λ e. e ≡ Write) }
+    ensures failed { OnErr result (W.has_failed writer.new ≡ true) }
+    ensures cut { OnErr result
+        (IsCut (W.taken writer.old) (W.taken writer.new) (reply_text (Reply.Shown key (lent_record lent.entry)))) }
+{
+    write_lent_record(writer, &mut ShortText::new(), key, lent)
+}
+
+/// Writes the line of a reply of entries, as the journal keeps them, as `write_reply` does that of copies of them.
+pub fn write_kept<W: ByteOut>(writer: &mut W, entries: &[MarkedEntry]) -> Result<(), Fault>
+    ensures ok { OnOk result
+        (Appends (W.taken writer.old) (W.taken writer.new) (reply_text (Reply.Entries (entries_of entries.now)))) }
+    ensures worked { OnOk result (W.has_failed writer.new ≡ W.has_failed writer.old) }
+    ensures fault { IfErr result (λ e. e ≡ Write) }
+    ensures failed { OnErr result (W.has_failed writer.new ≡ true) }
+    ensures cut { OnErr result
+        (IsCut (W.taken writer.old) (W.taken writer.new) (reply_text (Reply.Entries (entries_of entries.now)))) }
+{
+    write_kept_entries(writer, &mut ShortText::new(), entries)
 }

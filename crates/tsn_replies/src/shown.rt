@@ -11,6 +11,7 @@ ghost use Rattle.tsn_bytes.specs.Bytes.{IsCut};
 ghost use Rattle.tsn_bytes.specs.declared.bytes.Fault.TheVariants.{Write};
 ghost use Rattle.tsn_types.specs.declared.records.Record.TheVariants as records;
 ghost use Rattle.tsn_types.specs.Keys.{number_of};
+ghost use Rattle.tsn_types.specs.Lent.{lent_record};
 ghost use Rattle.tsn_types.specs.Numbers.{greatest_instance};
 ghost use Rattle.tsn_records.specs.Shown.{whole_data, or_null, port_entry_data, gate_entry_data, filter_data, meter_data};
 ghost use Rattle.tsn_replies.specs.Told.{shown_data, ids_data};
@@ -22,7 +23,7 @@ use tsn_bytes::{ByteOut, Fault, put_all};
 use tsn_types::keys::Key;
 use tsn_types::numbers::{Handle, MaxSdu, MeterId, Octets, Priority};
 use tsn_types::records::{
-    FlowMeter, GateEntry, PortEntry, PortGates, Record, StreamFilter, StreamGate,
+    FlowMeter, GateEntry, PortEntry, PortGates, Record, RecordRef, StreamFilter, StreamGate,
 };
 
 // ---- pieces
@@ -417,6 +418,36 @@ pub fn write_shown<W: ByteOut>(
         }
         Record::Gate(gate) => write_gate(writer, text, key, gate),
         Record::Meter(meter) => {
+            push_meter_line(text, key, meter);
+            put_all(writer, text.as_slice())
+        }
+    }
+}
+
+/// Writes the line of a key and a record that is lent, as `write_shown` does that of a record.
+pub fn write_lent_record<W: ByteOut>(
+    writer: &mut W,
+    text: &mut ShortText,
+    key: Key,
+    lent: RecordRef<'_>,
+) -> Result<(), Fault>
+    requires { text.old ≡ [] }
+    ensures ok { OnOk result (Appends (W.taken writer.old) (W.taken writer.new)
+        (compact_text (shown_data key (lent_record lent.entry)) ++ codes "\n")) }
+    ensures worked { OnOk result (W.has_failed writer.new ≡ W.has_failed writer.old) }
+    ensures fault { IfErr result (λ e. e ≡ Write) }
+    ensures failed { OnErr result (W.has_failed writer.new ≡ true) }
+    ensures cut { OnErr result (IsCut (W.taken writer.old) (W.taken writer.new)
+        (compact_text (shown_data key (lent_record lent.entry)) ++ codes "\n")) }
+{
+    match lent {
+        RecordRef::Port(port) => write_port(writer, text, key, port),
+        RecordRef::Filter(filter) => {
+            push_filter_line(text, key, filter);
+            put_all(writer, text.as_slice())
+        }
+        RecordRef::Gate(gate) => write_gate(writer, text, key, gate),
+        RecordRef::Meter(meter) => {
             push_meter_line(text, key, meter);
             put_all(writer, text.as_slice())
         }

@@ -1,19 +1,20 @@
 //! The line of entries of the journal, spelled piece by piece. None of it takes memory.
-ghost use Rattle.std.specs.Prelude.{◌≡◌, ◌+◌, ◌≤◌, ◌++◌, [], length, true, IfErr, OnOk, OnErr, codes};
+ghost use Rattle.std.specs.Prelude.{◌≡◌, ◌+◌, ◌≤◌, ◌++◌, [], length, map, true, IfErr, OnOk, OnErr, codes};
 ghost use Rattle.std.specs.Io.KnownBytes.{Appends};
 ghost use Rattle.serde_json.specs.Data.{string};
 ghost use Rattle.serde_json.specs.Written.{compact_text};
 ghost use Rattle.tsn_edit.specs.Changes.{keys_of};
 ghost use Rattle.tsn_bytes.specs.Bytes.{IsCut};
 ghost use Rattle.tsn_bytes.specs.declared.bytes.Fault.TheVariants.{Write};
-ghost use Rattle.tsn_replies.specs.Pieces.{keys_piece, taking_back_front};
-ghost use Rattle.tsn_replies.specs.Told.{act_name, key_data, made_data, taking_back_data, acted_data, settled_data, entry_data, entries_data};
+ghost use Rattle.tsn_replies.specs.Pieces.{keys_piece, taking_back_front, told_line};
+ghost use Rattle.tsn_replies.specs.Told.{act_name, key_data, made_data, taking_back_data, acted_data, settled_data, entry_data, entries_data, kept_data};
+ghost use Rattle.tsn_journal.specs.Marks.{entries_of};
 
 use crate::shown::{LONGEST_ITEM, LONGEST_KEY, ShownItem, push_key, push_number, write_listed};
 use crate::text::{CAPACITY, ShortText};
 use tsn_bytes::{ByteOut, Fault};
 use tsn_edit::{Change, MOST_PARTS, Part};
-use tsn_journal::entries::{Act, Entry, What};
+use tsn_journal::entries::{Act, Entry, MarkedEntry, What};
 use tsn_types::keys::Key;
 
 // Puts a key in quotes at the end.
@@ -179,6 +180,31 @@ impl ShownItem for Entry {
     }
 }
 
+impl ShownItem for MarkedEntry {
+    ghost shown = { kept_data };
+
+    fn push(&self, text: &mut ShortText) {
+        push_entry(text, self.entry());
+    }
+}
+
+// Writes the line of entries in either form, in their order.
+fn write_told<W: ByteOut, I: ShownItem>(
+    writer: &mut W,
+    text: &mut ShortText,
+    entries: &[I],
+) -> Result<(), Fault>
+    requires { text.old ≡ [] }
+    ensures ok { OnOk result (Appends (W.taken writer.old) (W.taken writer.new) (told_line (map I.shown entries.now))) }
+    ensures worked { OnOk result (W.has_failed writer.new ≡ W.has_failed writer.old) }
+    ensures fault { IfErr result (λ e. e ≡ Write) }
+    ensures failed { OnErr result (W.has_failed writer.new ≡ true) }
+    ensures cut { OnErr result (IsCut (W.taken writer.old) (W.taken writer.new) (told_line (map I.shown entries.now))) }
+{
+    text.push("{\"entries\":[");
+    write_listed(writer, text, entries, b"}\n")
+}
+
 /// Writes the line of entries, in their order, by way of an empty text. Its one fault is `Write`; what went out is then
 /// a front of the line.
 pub fn write_entries<W: ByteOut>(
@@ -195,6 +221,23 @@ pub fn write_entries<W: ByteOut>(
     ensures cut { OnErr result (IsCut (W.taken writer.old) (W.taken writer.new)
         (compact_text (entries_data entries.now) ++ codes "\n")) }
 {
-    text.push("{\"entries\":[");
-    write_listed(writer, text, entries, b"}\n")
+    write_told(writer, text, entries)
+}
+
+/// Writes the line of entries as the journal keeps them, as `write_entries` does that of copies of them.
+pub fn write_kept_entries<W: ByteOut>(
+    writer: &mut W,
+    text: &mut ShortText,
+    entries: &[MarkedEntry],
+) -> Result<(), Fault>
+    requires { text.old ≡ [] }
+    ensures ok { OnOk result (Appends (W.taken writer.old) (W.taken writer.new)
+        (compact_text (entries_data (entries_of entries.now)) ++ codes "\n")) }
+    ensures worked { OnOk result (W.has_failed writer.new ≡ W.has_failed writer.old) }
+    ensures fault { IfErr result (λ e. e ≡ Write) }
+    ensures failed { OnErr result (W.has_failed writer.new ≡ true) }
+    ensures cut { OnErr result (IsCut (W.taken writer.old) (W.taken writer.new)
+        (compact_text (entries_data (entries_of entries.now)) ++ codes "\n")) }
+{
+    write_told(writer, text, entries)
 }

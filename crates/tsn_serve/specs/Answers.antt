@@ -8,6 +8,7 @@ use Rattle.tsn_bridge.specs.declared.reply.Reply.{Reply}
 use Rattle.tsn_bridge.specs.declared.reply.Reply.TheVariants as replies
 use Rattle.tsn_bridge.specs.Histories as machine
 use Rattle.tsn_bridge.specs.declared.command.Ask.{Ask}
+use Rattle.tsn_bridge.specs.declared.command.Command.{Command}
 use Rattle.tsn_wire.specs.Reading.{line_of}
 use Rattle.tsn_replies.specs.Replies.{reply_text}
 use Rattle.tsn_serve.specs.Script.{Answering, Breaking, IsFront}
@@ -31,6 +32,14 @@ MayRead (Some line) read = (read ≡ line_of line) ⊎ (read ≡ Err refusals.Me
 -- The reply to a line is that to what it was read as.
 abbrev pub Says : {S : Type 0} → Replying S → S → Option (List ℕ) → Reply → S → Type 0
 Says replying old line reply new = (read : Result Ask Refusal) × MayRead line read × Replies replying old read reply new
+
+-- A command that changes nothing may have a reply whose text is as P says.
+abbrev pub SaysOf : {S : Type 0} → Replying S → S → Ask → (List ℕ → Type 0) → Type 0
+SaysOf replying s ask P = (reply : Reply) × replying s ask reply s × P (reply_text reply)
+
+-- what a session asks
+abbrev pub asked : ℕ → Command → Ask
+asked session command = record { session = session; command = command }
 
 -- The text of a line is that of the reply to it.
 abbrev pub SaysText : {S : Type 0} → Replying S → Answering S

@@ -1,18 +1,22 @@
 //! The run of a script over a bridge: each line is read, taken as a step, and answered.
 //! It relies on the loop over lines, on the reading of a line, on the bridge's step and on the text of a reply.
-ghost use Rattle.std.specs.Prelude.{◌≡◌, ◌≢◌, IsErrOf, Err, option_map};
-ghost use Rattle.tsn_bytes.specs.declared.bytes.Fault.TheVariants.{Memory, Exhausted};
+ghost use Rattle.std.specs.Prelude.{◌≡◌, ◌≢◌, true, IfErr, OnErr, OnOk, IsErrOf, Err, option_map};
+ghost use Rattle.std.specs.Io.KnownBytes.{Appends};
+ghost use Rattle.tsn_bytes.specs.Bytes.{IsCut};
+ghost use Rattle.tsn_bytes.specs.declared.bytes.Fault.TheVariants.{Memory, Exhausted, Write};
+ghost use Rattle.tsn_bridge.specs.declared.command.Command.TheVariants.{Show, Since};
 ghost use Rattle.tsn_bridge.specs.Histories as machine;
-ghost use Rattle.tsn_serve.specs.Answers.{MayRead, Replies, Answers, BreaksInWriting};
+ghost use Rattle.tsn_serve.specs.Answers.{MayRead, Replies, SaysOf, Answers, BreaksInWriting, asked};
 ghost use Rattle.tsn_serve.specs.Outcomes.{Outcome, moment, most_reads};
 
 use crate::responder::{Responder, answer_lines};
 use std::alloc::Global;
 use tsn_bridge::bridge::Bridge;
-use tsn_bridge::command::Ask;
+use tsn_bridge::command::{Ask, Command};
 use tsn_bridge::reply::Reply;
 use tsn_bytes::{ByteIn, ByteOut, Fault};
-use tsn_replies::write_reply;
+use tsn_replies::{write_kept, write_lent, write_refusal, write_reply};
+use tsn_types::keys::Key;
 use tsn_types::refusals::Refusal;
 use tsn_wire::command_of;
 
@@ -37,6 +41,44 @@ fn reply_to(bridge: &mut Bridge, read: Result<Ask, Refusal>) -> Reply
     }
 }
 
+// Answers a show by the record itself.
+fn answer_show<W: ByteOut>(
+    bridge: &Bridge,
+    session: u32,
+    key: Key,
+    writer: &mut W,
+) -> Result<(), Fault>
+    ensures ok { OnOk result (SaysOf machine.Answers bridge.now (asked session (Show key)) (λ text. Appends (W.taken writer.old) (W.taken writer.new) text)) }
+    ensures worked { OnOk result (W.has_failed writer.new ≡ W.has_failed writer.old) }
+    ensures fault { IfErr result (λ e. e ≡ Write) }
+    ensures failed { OnErr result (W.has_failed writer.new ≡ true) }
+    ensures cut { OnErr result (SaysOf machine.Answers bridge.now (asked session (Show key)) (λ text. IsCut (W.taken writer.old) (W.taken writer.new) text)) }
+{
+    match bridge.lent_record(session, &key) {
+        Ok(found) => write_lent(writer, key, found),
+        Err(why) => write_refusal(writer, &why),
+    }
+}
+
+// Answers a since by the entries themselves.
+fn answer_since<W: ByteOut>(
+    bridge: &Bridge,
+    session: u32,
+    after: u32,
+    writer: &mut W,
+) -> Result<(), Fault>
+    ensures ok { OnOk result (SaysOf machine.Answers bridge.now (asked session (Since after)) (λ text. Appends (W.taken writer.old) (W.taken writer.new) text)) }
+    ensures worked { OnOk result (W.has_failed writer.new ≡ W.has_failed writer.old) }
+    ensures fault { IfErr result (λ e. e ≡ Write) }
+    ensures failed { OnErr result (W.has_failed writer.new ≡ true) }
+    ensures cut { OnErr result (SaysOf machine.Answers bridge.now (asked session (Since after)) (λ text. IsCut (W.taken writer.old) (W.taken writer.new) text)) }
+{
+    match bridge.kept_since(session, after) {
+        Ok(kept) => write_kept(writer, kept),
+        Err(why) => write_refusal(writer, &why),
+    }
+}
+
 impl Responder for Bridge {
     ghost answers = { Answers };
 
@@ -49,6 +91,13 @@ impl Responder for Bridge {
         writer: &mut W,
     ) -> Result<(), Fault> {
         let read = read_line(alloc, line);
+        if let Ok(ask) = &read {
+            match &ask.command {
+                Command::Show { key } => return answer_show(self, ask.session, *key, writer),
+                Command::Since { after } => return answer_since(self, ask.session, *after, writer),
+                _ => {}
+            }
+        }
         let reply = reply_to(self, read);
         write_reply(writer, &reply)
     }

@@ -1,4 +1,4 @@
-use Rattle.std.proofs.Common.{subst, refl, ap, codes, ◌++◌, ◌∙◌}
+use Rattle.std.proofs.Common.{subst}
 use Rattle.std.specs.Io.KnownBytes.{Appends}
 use Rattle.std.proofs.lemmas.Result.{on_ok_weaker, on_err_weaker}
 use Rattle.tsn_bytes.specs.Bytes.{IsCut}
@@ -6,7 +6,7 @@ use Rattle.tsn_replies.proofs.Telling.{entries_line}
 use Rattle.tsn_replies.proofs.told.write_entries.Goals as goal
 
 pub returns-clause-ok : goal.returns-clause-ok
-returns-clause-ok g c = on_ok_weaker c.write_listed.result (subst (Appends _ _) (entries_line c.args.entries.now c.push.new.self _ (c.push.ensures.text ∙ ap (λ l. l ++ codes "{\"entries\":[") c.requires) refl)) c.write_listed.ensures.ok
+returns-clause-ok g c = on_ok_weaker c.write_told.result (subst (Appends _ _) (entries_line c.args.entries.now)) c.write_told.ensures.ok
 
 pub returns-clause-cut : goal.returns-clause-cut
-returns-clause-cut g c = on_err_weaker c.write_listed.result (subst (IsCut _ _) (entries_line c.args.entries.now c.push.new.self _ (c.push.ensures.text ∙ ap (λ l. l ++ codes "{\"entries\":[") c.requires) refl)) c.write_listed.ensures.cut
+returns-clause-cut g c = on_err_weaker c.write_told.result (subst (IsCut _ _) (entries_line c.args.entries.now)) c.write_told.ensures.cut
