@@ -314,7 +314,8 @@ impl Bridge {
         Reply::Framed(self.pair.frame(frame, now))
     }
 
-    fn states(&self, session: u32, key: &Key, at: Instant) -> Reply
+    /// The answer to a look at the state of a port's or a stream gate's gates at an instant, as `step` gives it.
+    pub fn states(&self, session: u32, key: &Key, at: Instant) -> Reply
         ensures { Allows (states_rule self.now session key.now at) self.now result self.now }
     {
         if let Some(why) = self.refuse_list(session, key) {

@@ -196,13 +196,11 @@ fn gates_told(reply: Reply) -> Option<u8>
 }
 
 // The gates of the port at the instant.
-fn gates_at(bridge: &mut Bridge, port: PortId, at: Instant) -> u8
-    requires { IsSeenFrom bridge.old port at }
-    ensures gates { shows bridge.old (Port port) at ≡ Some (shown.Port result) }
-    ensures stays { bridge.new ≡ bridge.old }
+fn gates_at(bridge: &Bridge, port: PortId, at: Instant) -> u8
+    requires { IsSeenFrom bridge.now port at }
+    ensures { shows bridge.now (Port port) at ≡ Some (shown.Port result) }
 {
-    let key = Key::Port(port);
-    let reply = bridge.step(1, Command::States { key, at });
+    let reply = bridge.states(1, &Key::Port(port), at);
     match gates_told(reply) {
         Some(gates) => gates,
         None => unreachable!(),
@@ -210,19 +208,12 @@ fn gates_at(bridge: &mut Bridge, port: PortId, at: Instant) -> u8
 }
 
 // The line of this number, in place of what the text had.
-fn put_line_at(
-    text: &mut ShortText,
-    bridge: &mut Bridge,
-    port: PortId,
-    listing: &Listing,
-    place: u64,
-)
+fn put_line_at(text: &mut ShortText, bridge: &Bridge, port: PortId, listing: &Listing, place: u64)
     requires port { port ≡ listing.now.port }
     requires place { place < listing.now.count }
     requires last { instant_of listing.now (listing.now.count - 1) ≤ greatest_instant }
-    requires seen { IsSeenFrom bridge.old port listing.now.from }
-    ensures stays { bridge.new ≡ bridge.old }
-    ensures line { text.new ≡ line_at bridge.old listing.now place }
+    requires seen { IsSeenFrom bridge.now port listing.now.from }
+    ensures { text.new ≡ line_at bridge.now listing.now place }
 {
     let at = instant_at(listing, place);
     let gates = gates_at(bridge, port, at);
