@@ -1,8 +1,8 @@
 -- Walking back from the latest place of a group, a link at a time.
-use Rattle.std.proofs.Common.{◌≡◌, ℕ, zero, suc, ◌+◌, ◌-◌, ◌<◌, ◌≤◌, Bool, true, false, cond, ◌&&◌, List, [], ◌∷◌, refl, sym, ◌∙◌, ap, subst, Some, None, arith, length, drop, filter, map, ◌++◌, add-one}
+use Rattle.std.proofs.Common.{◌≡◌, ℕ, zero, suc, ◌+◌, ◌-◌, ◌<◌, ◌≤◌, Bool, true, false, cond, ◌&&◌, List, [], ◌∷◌, refl, sym, ◌∙◌, ap, subst, Some, None, arith, length, drop, take, filter, map, ◌++◌, add-one}
 use Rattle.std.specs.List.{slice_get}
 use Rattle.std.specs.Prelude.{reverse}
-use Rattle.std.proofs.lemmas.List.{reverse-append}
+use Rattle.std.proofs.lemmas.List.{reverse-append, take-append-drop}
 use Rattle.std.proofs.lemmas.List.Elements.{filter-append}
 use Rattle.std.specs.Option.{option_or}
 use Rattle.std.proofs.lemmas.Option.{get_or_from_slice_get, slice_get_within}
@@ -15,7 +15,7 @@ use Rattle.tsn_journal.specs.Entries.{added_parts}
 use Rattle.tsn_journal.specs.Marks.{added_in}
 use Rattle.tsn_journal.specs.Index.{ArePlaces, IsLast, NoneFrom, belongs, is_of, number_at, number_of, place_at}
 use Rattle.tsn_journal.proofs.Links.{one, the_place}
-use Rattle.tsn_journal.proofs.LastWhere.{found_here}
+use Rattle.tsn_journal.proofs.LastWhere.{found_here, last_where-append}
 
 pub none_from : {A : Type 0} (t : A → Bool) (xs : List A) (n : ℕ) → NoneFrom t xs n → last_where t (drop n xs) ≡ None
 none_from t [] zero h = refl
@@ -24,6 +24,11 @@ none_from t (x ∷ xs) zero h =
     ap (λ o. option_or o (cond (t x) (Some x) None)) (none_from t xs zero (λ i y low at. h (suc i) y (omega arith) at))
     ∙ ap (λ b. cond b (Some x) None) (h zero x (omega arith) refl)
 none_from t (x ∷ xs) (suc n) h = none_from t xs n (λ i y low at. h (suc i) y (omega arith) at)
+
+-- where none is from n on, the last is among the first n
+pub last_upto : {A : Type 0} (t : A → Bool) (xs : List A) (n : ℕ) → NoneFrom t xs n → last_where t (take n xs) ≡ last_where t xs
+last_upto t xs n none =
+    sym (ap (last_where t) (sym (take-append-drop n xs)) ∙ last_where-append t (take n xs) (drop n xs) ∙ ap (λ o. option_or o (last_where t (take n xs))) (none_from t xs n none))
 
 pub found_from : {A : Type 0} (t : A → Bool) (xs : List A) (n : ℕ) (x : A) → 1 ≤ n → n ≤ length xs → slice_get xs (n - 1) ≡ Some x → NoneFrom t xs n → t x ≡ true → last_where t xs ≡ Some x
 found_from t xs n x some within at none pass =

@@ -569,7 +569,7 @@ impl Index {
     }
 
     /// The session's last standing entry that passes the test, where none above the number `upto` does. At those it does
-    /// not look.
+    /// not look; once it passed as many places of theirs as there are entries up to the number, it goes through these in order.
     pub(crate) fn last_own<'a, F: Fn(&MarkedEntry) -> bool>(
         &self,
         marked: &'a [MarkedEntry],
@@ -583,6 +583,7 @@ impl Index {
             → option_copied result ≡ last_where (λ m. is_own session m && p m) marked.now }
     {
         let mut place = self.latest.session_places(session).standing;
+        let mut passed = 0;
         'back: while place != 0 {
             let found = &self.places[place as usize - 1];
             if u64::from(found.number) <= upto {
@@ -590,6 +591,11 @@ impl Index {
                 if entry.is_own(session) && test(entry) {
                     return Some(entry);
                 }
+            } else {
+                if passed >= upto {
+                    return last_own_of(&marked[..upto as usize], session, test);
+                }
+                passed += 1;
             }
             place = found.before;
         }
@@ -628,6 +634,26 @@ impl Index {
         }
         None
     }
+}
+
+/// The last of the entries that stands, is the session's and passes the test. It goes through them in order.
+fn last_own_of<'a, F: Fn(&MarkedEntry) -> bool>(
+    marked: &'a [MarkedEntry],
+    session: u32,
+    test: &F,
+) -> Option<&'a MarkedEntry>
+    requires { F.IsAlwaysCallable test.now }
+    ensures { (p : AnyEntry → Bool) → Tests F.Fn p test.now → option_copied result ≡ last_where (λ m. is_own session m && p m) marked.now }
+{
+    let mut place = marked.len();
+    'back: while 0 < place {
+        place -= 1;
+        let last = &marked[place];
+        if last.is_own(session) && test(last) {
+            return Some(last);
+        }
+    }
+    None
 }
 
 /// How many of the entries stand and are the session's.

@@ -1,6 +1,7 @@
 pub mod Adding
 pub mod AtOnce
 pub mod Begun
+pub mod Blocked
 pub mod Free
 pub mod Making
 pub mod Rewinding

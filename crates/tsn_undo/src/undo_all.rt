@@ -1,5 +1,5 @@
 //! Undo of all that a session has standing, in one call: every entry or none.
-ghost use Rattle.std.specs.Prelude.{◌≡◌, ◌==◌, ◌*◌, ◌≤◌, ◌∷◌, ◌++◌, [], IfErr, IfOk, OnErr, None, length, map};
+ghost use Rattle.std.specs.Prelude.{◌≡◌, ◌==◌, ◌*◌, ◌≤◌, ◌∷◌, ◌++◌, [], IfErr, IfOk, IfSome, OnErr, None, Some, length, map};
 ghost use Rattle.tsn_edit.specs.Changes.{room_of};
 ghost use Rattle.tsn_types.specs.declared.refusals.Refusal.TheVariants.{Memory};
 ghost use Rattle.tsn_types.specs.Refusals.{IsLeastOrMemory};
@@ -35,14 +35,24 @@ impl Book {
     pub fn refuse_undo_all(&self, session: u32) -> Option<Refusal>
         ensures { result ≡ undo_all_refusal self.now.ledger session }
     {
+        // A conflict is found without the count, and only where there is something to count.
+        if let Some(why) = self.refuse_blocked(session) {
+            return Some(why);
+        }
         let count = self.journal().count_of(session);
         if count == 0 {
             return Some(Refusal::NothingToUndo);
         }
-        if let Some(why) = self.conflict_with_others(session) {
-            return Some(why);
-        }
         self.refuse_entries(count)
+    }
+
+    /// Why an undo of all of the session is blocked, if it is: the refusal 11 that it would have. It takes no memory, and
+    /// counts nothing.
+    pub fn refuse_blocked(&self, session: u32) -> Option<Refusal>
+        ensures conflict { result ≡ conflict_with_others self.now.ledger.entries (find_own_in_conflict self.now.ledger.entries session) }
+        ensures refused { IfSome result (λ why. undo_all_refusal self.now.ledger session ≡ Some why) }
+    {
+        self.conflict_with_others(session)
     }
 
     /// The newest own standing entry with a later one of another session in conflict, and the latest such.

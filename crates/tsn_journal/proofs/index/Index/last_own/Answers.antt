@@ -1,12 +1,13 @@
 use Rattle.std.proofs.Common.{◌+◌, ◌≤◌, ◌&&◌, Bool, sym, ◌∙◌, subst, arith, length}
+use Rattle.std.proofs.lemmas.List.{length-take-le}
 use Rattle.tsn_journal.specs.declared.entries.MarkedEntry.{MarkedEntry}
 use Rattle.tsn_journal.specs.declared.groups.Group.TheVariants.{Of}
 use Rattle.tsn_journal.specs.Index.{IsLast, belongs, number_at, number_of}
 use Rattle.tsn_journal.specs.Marks.{is_own}
 use Rattle.tsn_journal.proofs.Links.{next_group, place_there, step_beyond, step_none, the_place}
-use Rattle.tsn_journal.proofs.Walking.{and_false, and_out, both_true, found_from, in_list, none_from}
+use Rattle.tsn_journal.proofs.Walking.{and_false, and_out, both_true, found_from, in_list, last_upto, none_from}
 use Rattle.tsn_journal.proofs.index.Index.last_own.Goals as goal
-use Rattle.tsn_journal.proofs.index.Index.last_own.Goals.{then-from-upto+else-is_own, else-is_own-via-then-is_own+else-test, else-is_own-via-else-is_own, else-from-upto}
+use Rattle.tsn_journal.proofs.index.Index.last_own.Goals.{then-from-upto+else-is_own, else-is_own-via-then-is_own+else-test, else-is_own-via-else-is_own, else-from-upto+else-passed-upto}
 
 pub back-init : goal.back-init
 back-init g c =
@@ -55,7 +56,7 @@ back-preserved g c =
                   | else-is_own-via-then-is_own+else-test v ↦ and_false _ _ (sym (answers _ _ v.test.ensures) ∙ v.if-test.false)
                   | else-is_own-via-else-is_own v ↦ and_out p (belongs (Of c.args.session)) w.numbered-entry.result.now (sym w.is_own.ensures ∙ v.if-is_own.false)
                 ])
-            | else-from-upto w ↦
+            | else-from-upto+else-passed-upto w ↦
                 step_beyond c.args.marked.now c.args.self.now.places.items (Of c.args.session) c.back.place c.index-found.result.now c.back.invariant.group (place_there c.args.self.now.places.items c.back.place c.index-found.result.now c.back-test.true c.back.invariant.within c.index-found.ensures) c.requires.index.places
                 t (length c.args.marked.now + 1) (and_out p (belongs (Of c.args.session))) c.args.upto (omega (arith, w.if-from-upto.false, c.from.ensures)) above
           ];
@@ -65,3 +66,13 @@ pub returns : goal.returns
 returns g c = λ p answers above.
     let t : MarkedEntry → Bool = λ m. is_own c.args.session m && p m in
     sym (none_from t c.args.marked.now 0 (λ i m low is. c.back.invariant.none_later p answers above i m (subst (λ j. number_at c.args.self.now.places.items j ≤ i) (sym c.back-test.false) (omega arith)) (in_list c.args.marked.now i m is) is))
+
+pub slice_bounds-last_own_of-end : goal.slice_bounds-last_own_of-end
+slice_bounds-last_own_of-end g c =
+    let at = the_place c.args.marked.now c.args.self.now.places.items (Of c.args.session) c.back.place c.index-found.result.now c.back.invariant.group (place_there c.args.self.now.places.items c.back.place c.index-found.result.now c.back-test.true c.back.invariant.within c.index-found.ensures) c.requires.index.places in
+    let number = c.from.ensures in
+    let within : c.args.upto ≤ length c.args.marked.now = omega (arith, c.if-from-upto.false, at.within, number) in
+    omega (arith, within, length-take-le c.args.upto c.args.marked.now within)
+
+pub returns-then-passed-upto : goal.returns-then-passed-upto
+returns-then-passed-upto g c = λ p answers above. c.last_own_of.ensures p answers ∙ last_upto (λ m. is_own c.args.session m && p m) c.args.marked.now c.args.upto above

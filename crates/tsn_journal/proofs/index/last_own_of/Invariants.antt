@@ -1,0 +1,14 @@
+use Rattle.std.proofs.Common.{◌≡◌, ◌≤◌, ◌&&◌, Bool, None, length, drop}
+use Rattle.tsn_journal.specs.Finding.{last_where}
+use Rattle.tsn_journal.specs.Marks.{is_own}
+use Rattle.tsn_journal.specs.Tests.{Tests}
+use Rattle.tsn_journal.specs.declared.entries.MarkedEntry.{MarkedEntry}
+use Rattle.tsn_journal.proofs.index.last_own_of.Given as goal
+
+abbrev pub invariant-back : goal.invariant-back
+invariant-back g l =
+    (l.place ≤ length l.marked)
+    × ((p : MarkedEntry → Bool) → Tests g.F.Fn p l.test → last_where (λ m. is_own l.session m && p m) (drop l.place l.marked) ≡ None)
+
+abbrev pub decreases-back : goal.decreases-back
+decreases-back g l = l.place
