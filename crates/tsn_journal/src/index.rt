@@ -569,7 +569,7 @@ impl Index {
     }
 
     /// The session's last standing entry that passes the test, where none above the number `upto` does. At those it does
-    /// not look; once it passed as many places of theirs as there are entries up to the number, it goes through these in order.
+    /// not look; once it passed as many places of theirs as there are entries up to the number, it goes back through these, one by one.
     pub(crate) fn last_own<'a, F: Fn(&MarkedEntry) -> bool>(
         &self,
         marked: &'a [MarkedEntry],
@@ -636,7 +636,7 @@ impl Index {
     }
 }
 
-/// The last of the entries that stands, is the session's and passes the test. It goes through them in order.
+/// The last of the entries that stands, is the session's and passes the test. It goes back through them, one by one.
 fn last_own_of<'a, F: Fn(&MarkedEntry) -> bool>(
     marked: &'a [MarkedEntry],
     session: u32,

@@ -8,10 +8,10 @@ use std::alloc::Global;
 /// The numbers below this one may have a guess.
 const MOST: usize = 65_536;
 
-/// How many guesses there are for each row, at most, beside those of a small table.
+/// How many guesses may be wanted for each row, beside those of a small table. They are made up to a power of two.
 const FOR_EACH_ROW: usize = 8;
 
-/// How many guesses a table of few rows may have.
+/// How many guesses may be wanted in a table of few rows.
 const OF_FEW: usize = 512;
 
 /// A place for each number below their count.

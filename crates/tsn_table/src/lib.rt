@@ -1,7 +1,7 @@
 //! Tables of numbered rows, and sets of numbers in their order.
 //!
 //! A `Table` is a hash map that its users see as a finite map from numbers to rows, and beside it the number of rows that it
-//! surely has room for. A look-up, a new row and a removal cost the same wherever they fall: no row behind them moves. Where
+//! surely has room for. A look-up, a new row and a removal cost the same wherever they fall: no row but the last one moves. Where
 //! a small number's row may lie is guessed first; the guess is tested, and the number hashed where it fails. A `Numbers` is a
 //! search tree that its users see as a set.
 #![tactic(auto)]

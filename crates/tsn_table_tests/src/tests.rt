@@ -128,27 +128,33 @@ fn a_reserve_of_10000_rows_keeps_the_rows(rt: HostRuntime) -> Result<(), Fail> {
     Ok(())
 }
 
-// Where numbers may be guessed at and where they may not, with a row that is moved when another is taken.
+// Numbers that have a guess, with one of a row that is moved when another is taken, and then numbers that have none.
 #[test]
-fn great_numbers_keep_their_rows(rt: HostRuntime) -> Result<(), Fail> {
+fn great_and_small_numbers_keep_their_rows(rt: HostRuntime) -> Result<(), Fail> {
     let mut table = Table::new(rt.alloc());
-    table.reserve(4)?;
-    let _ = table.put(65_535, 1);
-    let _ = table.put(65_536, 2);
-    let _ = table.put(u64::MAX, 3);
-    let _ = table.put(511, 4);
-    table.reserve(4)?;
-    same(&rt, &table.take(65_535), &Some(1));
+    table.reserve(3)?;
+    let _ = table.put(1, 10);
+    let _ = table.put(2, 20);
+    let _ = table.put(300, 30);
+    table.reserve(5)?;
+    same(&rt, &table.put(2, 22), &Some(20));
+    same(&rt, &table.take(1), &Some(10));
+    same(&rt, &table.get(1).copied(), &None);
+    same(&rt, &table.get(300).copied(), &Some(30));
+    let _ = table.put(511, 40);
+    let _ = table.put(65_535, 50);
+    let _ = table.put(65_536, 60);
+    let _ = table.put(u64::MAX, 70);
+    table.reserve(1)?;
+    same(&rt, &table.take(65_535), &Some(50));
     same(&rt, &table.get(65_535).copied(), &None);
-    same(&rt, &table.get(65_536).copied(), &Some(2));
-    same(&rt, &table.get(u64::MAX).copied(), &Some(3));
-    same(&rt, &table.put(511, 44), &Some(4));
-    same(&rt, &table.put(0, 5), &None);
-    same(&rt, &table.get(511).copied(), &Some(44));
+    same(&rt, &table.get(65_536).copied(), &Some(60));
+    same(&rt, &table.get(u64::MAX).copied(), &Some(70));
+    same(&rt, &table.put(511, 44), &Some(40));
     same(
         &rt,
         &table.ids(rt.alloc())?.as_slice(),
-        &[0, 511, 65_536, u64::MAX].as_slice(),
+        &[2, 300, 511, 65_536, u64::MAX].as_slice(),
     );
     Ok(())
 }
