@@ -1,15 +1,16 @@
 -- Lists of numbers that rise: around a number k in their midst, and as maps.
-use Rattle.std.proofs.Common.{◌≡◌, ◌⊎◌, inl, inr, ℕ, ◌<◌, ◌≤◌, Bool, true, false, cond, eqb, ltb, List, [], ◌∷◌, ◌++◌, refl, sym, ap, ◌∙◌, subst, Option, Some, None, IsSome, length, length-append, append-nil, arith}
+use Rattle.std.proofs.Common.{◌≡◌, ◌⊎◌, inl, inr, ℕ, ◌<◌, ◌≤◌, Bool, true, false, cond, eqb, ltb, List, [], ◌∷◌, ◌++◌, refl, sym, ap, ◌∙◌, subst, Option, Some, None, IsSome, append-nil, arith}
 use Rattle.std.specs.Prelude.{IfSome, MatchOption}
 use Rattle.std.specs.Option.{option_or}
 use Rattle.std.specs.Ordering.{nat_cmp, eq_by_cmp}
 use Rattle.std.specs.FinMap.{FinMap, find, get, insert, remove, get-insert, get-remove, get-from_entries, same_map, nat_cmp-IsAntisymmetric}
 use Rattle.std.proofs.lemmas.Cmp.{nat_cmp_total}
-use Rattle.std.proofs.lemmas.Bool.{lt-ltb, le-ltb, ltb-true, ltb-false, eq-eqb, ne_eqb, cases_lt}
+use Rattle.std.proofs.lemmas.Bool.{lt-ltb, le-ltb, ltb-true, ltb-false, eq-eqb, ne_eqb}
 use Rattle.std.proofs.lemmas.Bool.Decides.{nat_tests}
+use Rattle.std.proofs.lemmas.List.{append_assoc}
 use Rattle.tsn_table.specs.Rising.{AllNumbers, IsRising, put_number, without_number, first_from, units, map_of}
 
-all_weaker : (P Q : ℕ → Type 0) → ((y : ℕ) → P y → Q y) → (xs : List ℕ) → AllNumbers P xs → AllNumbers Q xs
+pub all_weaker : (P Q : ℕ → Type 0) → ((y : ℕ) → P y → Q y) → (xs : List ℕ) → AllNumbers P xs → AllNumbers Q xs
 all_weaker P Q f [] a = tt
 all_weaker P Q f (y ∷ ys) a = (f y a.0, all_weaker P Q f ys a.1)
 
@@ -17,21 +18,17 @@ all_front : (P : ℕ → Type 0) (l m : List ℕ) → AllNumbers P (l ++ m) → 
 all_front P [] m a = tt
 all_front P (x ∷ l) m a = (a.0, all_front P l m a.1)
 
-all_middle : (P : ℕ → Type 0) (l : List ℕ) (k : ℕ) (r : List ℕ) → AllNumbers P (l ++ k ∷ r) → P k
+pub all_middle : (P : ℕ → Type 0) (l : List ℕ) (k : ℕ) (r : List ℕ) → AllNumbers P (l ++ k ∷ r) → P k
 all_middle P [] k r a = a.0
 all_middle P (y ∷ ys) k r a = all_middle P ys k r a.1
 
-pub rising_front : (l : List ℕ) (k : ℕ) (r : List ℕ) → IsRising (l ++ k ∷ r) → IsRising l
-rising_front [] k r s = tt
-rising_front (x ∷ l) k r s = (all_front (λ z. x < z) l (k ∷ r) s.0, rising_front l k r s.1)
+pub rising_front : (l m : List ℕ) → IsRising (l ++ m) → IsRising l
+rising_front [] m s = tt
+rising_front (x ∷ l) m s = (all_front (λ z. x < z) l m s.0, rising_front l m s.1)
 
-pub rising_back : (l : List ℕ) (k : ℕ) (r : List ℕ) → IsRising (l ++ k ∷ r) → IsRising r
-rising_back [] k r s = s.1
-rising_back (x ∷ l) k r s = rising_back l k r s.1
-
--- both sides are shorter than the whole
-pub sides_shorter : (all l : List ℕ) (k : ℕ) (r : List ℕ) (n : ℕ) → all ≡ l ++ k ∷ r → length all ≡ n → (length l < n) × (length r < n)
-sides_shorter all l k r n is same = omega (arith, ap length is, length-append l (k ∷ r))
+pub rising_back : (l m : List ℕ) → IsRising (l ++ m) → IsRising m
+rising_back [] m s = s
+rising_back (x ∷ l) m s = rising_back l m s.1
 
 -- a number that is put in
 all_put : (P : ℕ → Type 0) (x : ℕ) (ys : List ℕ) → P x → AllNumbers P ys → AllNumbers P (put_number x ys)
@@ -49,11 +46,11 @@ rising_put_by x y ys true b p q s u =
 rising_put_by x y ys false true p q s u = (all_put (λ z. y < z) x ys (ltb-true y x q) s.0, u)
 rising_put_by x y ys false false p q s u = s
 
-rising_put : (x : ℕ) (ys : List ℕ) → IsRising ys → IsRising (put_number x ys)
+pub rising_put : (x : ℕ) (ys : List ℕ) → IsRising ys → IsRising (put_number x ys)
 rising_put x [] s = (tt, tt)
 rising_put x (y ∷ ys) s = rising_put_by x y ys (ltb x y) (ltb y x) refl refl s (rising_put x ys s.1)
 
-put_by : (a b : Bool) (x y : ℕ) (ys us m vs : List ℕ) → vs ≡ us ++ m → cond a (x ∷ y ∷ (ys ++ m)) (y ∷ cond b vs (ys ++ m)) ≡ cond a (x ∷ y ∷ ys) (y ∷ cond b us ys) ++ m
+pub put_by : (a b : Bool) (x y : ℕ) (ys us m vs : List ℕ) → vs ≡ us ++ m → cond a (x ∷ y ∷ (ys ++ m)) (y ∷ cond b vs (ys ++ m)) ≡ cond a (x ∷ y ∷ ys) (y ∷ cond b us ys) ++ m
 put_by true b x y ys us m vs e = refl
 put_by false true x y ys us m vs e = ap (λ z. y ∷ z) e
 put_by false false x y ys us m vs e = refl
@@ -62,22 +59,14 @@ pub put_left : (x k : ℕ) (l r : List ℕ) → x < k → put_number x (l ++ k �
 put_left x k [] r p = rw (lt-ltb x k p)
 put_left x k (y ∷ ys) r p = put_by (ltb x y) (ltb y x) x y ys (put_number x ys) (k ∷ r) _ (put_left x k ys r p)
 
-put_later : (x y : ℕ) (ys : List ℕ) → y < x → put_number x (y ∷ ys) ≡ y ∷ put_number x ys
+pub put_later : (x y : ℕ) (ys : List ℕ) → y < x → put_number x (y ∷ ys) ≡ y ∷ put_number x ys
 put_later x y ys p = rw (le-ltb x y (omega arith), lt-ltb y x p)
-
-pub put_right : (x k : ℕ) (l r : List ℕ) → k < x → IsRising (l ++ k ∷ r) → put_number x (l ++ k ∷ r) ≡ l ++ k ∷ put_number x r
-put_right x k [] r p s = put_later x k r p
-put_right x k (y ∷ ys) r p s =
-    let q : y < k = all_middle (λ z. y < z) ys k r s.0 in
-    put_later x y (ys ++ k ∷ r) (omega arith) ∙ ap (λ z. y ∷ z) (put_right x k ys r p s.1)
 
 pub put_middle : (x k : ℕ) (l r : List ℕ) → x ≡ k → IsRising (l ++ k ∷ r) → put_number x (l ++ k ∷ r) ≡ l ++ k ∷ r
 put_middle x k [] r e s = rw (le-ltb x k (omega arith), le-ltb k x (omega arith))
 put_middle x k (y ∷ ys) r e s =
     let q : y < k = all_middle (λ z. y < z) ys k r s.0 in
     put_later x y (ys ++ k ∷ r) (omega arith) ∙ ap (λ z. y ∷ z) (put_middle x k ys r e s.1)
-
-pub ruleset puts = (put_left, put_middle, put_right)
 
 -- a number that is taken out
 all_without : (P : ℕ → Type 0) (x : ℕ) (ys : List ℕ) → AllNumbers P ys → AllNumbers P (without_number x ys)
@@ -94,11 +83,11 @@ rising_without x (y ∷ ys) s = elim (eqb x y) as (λ b. IsRising (cond b (witho
   | false ↦ (all_without (λ z. y < z) x ys s.0, rising_without x ys s.1)
 ]
 
-without_above : (x : ℕ) (ys : List ℕ) → AllNumbers (λ z. x < z) ys → without_number x ys ≡ ys
+pub without_above : (x : ℕ) (ys : List ℕ) → AllNumbers (λ z. x < z) ys → without_number x ys ≡ ys
 without_above x [] a = refl
 without_above x (y ∷ ys) a = let p : x < y = a.0 in rw (ne_eqb x y (omega arith)) (ap (λ z. y ∷ z) (without_above x ys a.1))
 
-without_by : (b : Bool) (y : ℕ) (us m vs : List ℕ) → vs ≡ us ++ m → cond b vs (y ∷ vs) ≡ cond b us (y ∷ us) ++ m
+pub without_by : (b : Bool) (y : ℕ) (us m vs : List ℕ) → vs ≡ us ++ m → cond b vs (y ∷ vs) ≡ cond b us (y ∷ us) ++ m
 without_by true y us m vs e = e
 without_by false y us m vs e = ap (λ z. y ∷ z) e
 
@@ -106,22 +95,14 @@ pub without_left : (x k : ℕ) (l r : List ℕ) → x < k → IsRising (l ++ k �
 without_left x k [] r p s = without_above x (k ∷ r) (p, all_weaker (λ z. k < z) (λ z. x < z) (λ z q. omega arith) r s.0)
 without_left x k (y ∷ ys) r p s = without_by (eqb x y) y (without_number x ys) (k ∷ r) _ (without_left x k ys r p s.1)
 
-without_later : (x y : ℕ) (ys : List ℕ) → y < x → without_number x (y ∷ ys) ≡ y ∷ without_number x ys
+pub without_later : (x y : ℕ) (ys : List ℕ) → y < x → without_number x (y ∷ ys) ≡ y ∷ without_number x ys
 without_later x y ys p = rw (ne_eqb x y (omega arith))
-
-pub without_right : (x k : ℕ) (l r : List ℕ) → k < x → IsRising (l ++ k ∷ r) → without_number x (l ++ k ∷ r) ≡ l ++ k ∷ without_number x r
-without_right x k [] r p s = without_later x k r p
-without_right x k (y ∷ ys) r p s =
-    let q : y < k = all_middle (λ z. y < z) ys k r s.0 in
-    without_later x y (ys ++ k ∷ r) (omega arith) ∙ ap (λ z. y ∷ z) (without_right x k ys r p s.1)
 
 pub without_middle : (x k : ℕ) (l r : List ℕ) → x ≡ k → IsRising (l ++ k ∷ r) → without_number x (l ++ k ∷ r) ≡ l ++ r
 without_middle x k [] r e s = rw (eq-eqb x k e) (without_above x r (subst (λ n. AllNumbers (λ z. n < z) r) (sym e) s.0))
 without_middle x k (y ∷ ys) r e s =
     let q : y < k = all_middle (λ z. y < z) ys k r s.0 in
     without_later x y (ys ++ k ∷ r) (omega arith) ∙ ap (λ z. y ∷ z) (without_middle x k ys r e s.1)
-
-pub ruleset withouts = (without_left, without_middle, without_right)
 
 -- the first number from one on
 first_by : (b : Bool) (y k : ℕ) (o p : Option ℕ) → p ≡ option_or o (Some k) → cond b p (Some y) ≡ option_or (cond b o (Some y)) (Some k)
@@ -155,6 +136,10 @@ pub finds_left : (x k : ℕ) (all l r : List ℕ) (above found : Option ℕ) →
 finds_left x k all l r above found is p same =
     or_taken (first_from x l) k above ∙ ap (λ o. option_or o above) (sym (first_left x k l r p)) ∙ ap (λ ns. option_or (first_from x ns) above) (sym is) ∙ same
 
+-- what stands before k, where other numbers stand before all
+pub around : (b all l : List ℕ) (k : ℕ) (m r : List ℕ) → all ≡ l ++ ((k ∷ m) ++ r) → b ++ all ≡ (b ++ l) ++ k ∷ (m ++ r)
+around b all l k m r is = ap (λ z. b ++ z) is ∙ sym (append_assoc b l (k ∷ (m ++ r)))
+
 -- the next number after one that goes comes in its place
 abbrev number_in : Option ℕ → ℕ
 number_in None = 0
@@ -174,15 +159,13 @@ rest_of next (y ∷ ys) s e =
     let is : y ≡ next = ap number_in (sym first ∙ e) in
     rw (eq-eqb next y (sym is)) (ap (λ n. n ∷ ys) is ∙ ap (λ t. next ∷ t) (sym (without_above next ys (subst (λ n. AllNumbers (λ z. n < z) ys) is s.0))))
 
-pub next_in_place : (x k next : ℕ) (all l r new : List ℕ) → all ≡ l ++ k ∷ r → x ≡ k → IsRising all → option_or (first_from 0 r) None ≡ Some next → new ≡ l ++ next ∷ without_number next r → new ≡ without_number x all
-next_in_place x k next all l r new is e s f n =
-    let s' : IsRising (l ++ k ∷ r) = subst IsRising is s in
-    n ∙ ap (λ t. l ++ t) (sym (rest_of next r (rising_back l k r s') f)) ∙ sym (without_middle x k l r e s') ∙ ap (without_number x) (sym is)
-
-pub last_out : (x k : ℕ) (all l r new : List ℕ) → all ≡ l ++ k ∷ r → x ≡ k → IsRising all → option_or (first_from 0 r) None ≡ None → new ≡ l → new ≡ without_number x all
-last_out x k all l r new is e s f n =
-    let s' : IsRising (l ++ k ∷ r) = subst IsRising is s in
-    n ∙ sym (append-nil l) ∙ ap (λ t. l ++ t) (sym (no_next r f)) ∙ sym (without_middle x k l r e s') ∙ ap (without_number x) (sym is)
+pub after_only : (x : ℕ) (l b r : List ℕ) (next : Option ℕ) → b ≡ x ∷ [] → IsRising (l ++ (b ++ r)) → next ≡ option_or (first_from 0 r) None
+    → MatchOption next (without_number x (l ++ (b ++ r)) ≡ l) (λ n. without_number x (l ++ (b ++ r)) ≡ l ++ n ∷ without_number n r)
+after_only x l b r next only s is = subst (λ c. IsRising (l ++ (c ++ r)) → MatchOption next (without_number x (l ++ (c ++ r)) ≡ l) (λ n. without_number x (l ++ (c ++ r)) ≡ l ++ n ∷ without_number n r)) (sym only) (by next is) s
+  where
+    by : (o : Option ℕ) → o ≡ option_or (first_from 0 r) None → IsRising (l ++ x ∷ r) → MatchOption o (without_number x (l ++ x ∷ r) ≡ l) (λ n. without_number x (l ++ x ∷ r) ≡ l ++ n ∷ without_number n r)
+    by None e s = without_middle x x l r refl s ∙ ap (λ t. l ++ t) (no_next r (sym e)) ∙ append-nil l
+    by (Some n) e s = without_middle x x l r refl s ∙ ap (λ t. l ++ t) (rest_of n r (rising_back l (x ∷ r) s).1 (sym e))
 
 -- what the map answers
 abbrev there : ℕ → List ℕ → Option (Unit {0})
@@ -226,7 +209,7 @@ there_without x q (y ∷ ys) =
 get_map : (xs : List ℕ) (q : ℕ) → get (map_of xs) q ≡ there q xs
 get_map xs q = get-from_entries nat_cmp_total (units xs) q
 
-map_put : (x : ℕ) (xs : List ℕ) → map_of (put_number x xs) ≡ insert (map_of xs) x tt
+pub map_put : (x : ℕ) (xs : List ℕ) → map_of (put_number x xs) ≡ insert (map_of xs) x tt
 map_put x xs = same_map nat_cmp_total nat_cmp-IsAntisymmetric _ _ (λ q.
     get_map (put_number x xs) q ∙ there_put x q xs
     ∙ ap (cond (eq_by_cmp nat_cmp q x) (Some tt)) (sym (get_map xs q)) ∙ sym (get-insert nat_cmp_total (map_of xs) x tt q))
@@ -253,21 +236,11 @@ map_there m x h = same_map nat_cmp_total nat_cmp-IsAntisymmetric _ _ (λ q.
     same_or (eq_by_cmp nat_cmp q x) (get m q) (λ e. ap (get m) (tied q x e) ∙ unit_some (get m x) h)
     ∙ sym (get-insert nat_cmp_total m x tt q))
 
--- what a put leaves: a new number comes in where a node waits, and else all stays
-pub put_rises : (x : ℕ) (xs now : List ℕ) (n : ℕ) → (0 < n → now ≡ put_number x xs) → (n ≡ 0 → now ≡ xs) → IsRising xs → IsRising now
-put_rises x xs now n some none s = elim (cases_lt 0 n) [
-  | inl full ↦ subst IsRising (sym (some full)) (rising_put x xs s)
-  | inr spent ↦ subst IsRising (sym (none (omega arith))) s
-]
-
-pub put_now : (x : ℕ) (xs now : List ℕ) (n spare : ℕ) (m : FinMap nat_cmp (Unit {0})) → (0 < n → now ≡ put_number x xs) → (n ≡ 0 → now ≡ xs)
-    → spare ≤ n → map_of xs ≡ m → IsSome (get m x) ⊎ (1 ≤ spare) → map_of now ≡ insert m x tt
-put_now x xs now n spare m some none le is h = elim (cases_lt 0 n) [
-  | inl full ↦ ap map_of (some full) ∙ map_put x xs ∙ ap (λ (o : FinMap nat_cmp (Unit {0})). insert o x tt) is
-  | inr spent ↦ elim h [
-    | inl is_in ↦ ap map_of (none (omega arith)) ∙ is ∙ map_there m x is_in
-    | inr room ↦ absurd (omega arith)
-  ]
+-- where there is no room the number is there, so a put of it changes nothing
+pub put_nothing : (m : FinMap nat_cmp (Unit {0})) (x spare : ℕ) → spare ≡ 0 → IsSome (get m x) ⊎ (1 ≤ spare) → m ≡ insert m x tt
+put_nothing m x spare none h = elim h [
+  | inl is_in ↦ map_there m x is_in
+  | inr room ↦ absurd (omega arith)
 ]
 
 some_there : (q y : ℕ) (ys : List ℕ) → IsSome (there q (y ∷ ys)) → (q ≡ y) ⊎ IsSome (there q ys)

@@ -22,6 +22,7 @@ use std::alloc::{AllocError, Global};
 use std::marker::Model;
 use std::mem;
 
+mod block;
 mod hints;
 mod numbers;
 mod tree;

@@ -1,12 +1,14 @@
 //! Sets of numbers, kept in their order.
 //!
-//! A `Numbers` is a search tree that its users see as a finite map from its numbers to nothing, and beside it the number
-//! of new numbers that it still has room for. To put a number in or to take one out costs the logarithm of how many there
-//! are.
+//! A `Numbers` is a search tree of blocks of numbers that its users see as a finite map from its numbers to nothing, and
+//! beside it the number of new numbers that it still has room for. To put a number in or to take one out costs the
+//! logarithm of how many there are.
 ghost use Rattle.std.specs.Prelude.{◌≡◌, ℕ, ◌+◌, ◌≤◌, ◌⊎◌, IsOk, IsSome, IfOk, IfSome, OnOk, OnErr, MatchOption};
 ghost use Rattle.std.specs.FinMap as map;
 
-use crate::tree::{Node, Tree, copy_in, fill, first_in, put_in, take_from};
+use crate::tree::{
+    Node, Tally, Tree, copy_in, fill_pool, first_in, nodes_for, put_among, room_left, take_out,
+};
 use std::alloc::{AllocError, Global};
 use std::marker::Model;
 
@@ -15,15 +17,16 @@ use std::marker::Model;
 #[derive(Debug)]
 pub struct Numbers {
     tree: Tree,
-    // nodes that wait, of which `room` are promised
+    // nodes that wait, which are enough for `room` new numbers
     pool: Vec<Box<Node>>,
     room: usize,
+    // how far the blocks are over half full in all, or the greatest number there is
+    excess: usize,
 }
 
 impl Model for Numbers {
-    ghost use Rattle.std.specs.Prelude.{◌≤◌};
     ghost use base.Stored.{coded_unit};
-    ghost use Rattle.std.specs.Vec.{vec_len};
+    ghost use Rattle.std.specs.Vec.{vec_capacity, vec_len};
     ghost use Rattle.tsn_table.specs.View.{TableView, table_code};
 
     ghost Value = { TableView (Unit {0}) };
@@ -31,11 +34,11 @@ impl Model for Numbers {
     ghost coded = { table_code coded_unit };
 
     ghost use Rattle.tsn_table.specs.Rising.{IsRising, map_of};
-    ghost use Rattle.tsn_table.specs.Tree.{numbers_of};
+    ghost use Rattle.tsn_table.specs.Tree.{HasRoom, IsAtLeast, excess_of, numbers_of};
 
     ghost view = { λ a. record { map = map_of (numbers_of a.tree); spare = a.room } };
 
-    ghost invariant = { λ a. IsRising (numbers_of a.tree) × (a.room ≤ vec_len a.pool) };
+    ghost invariant = { λ a. IsRising (numbers_of a.tree) × HasRoom a.room (vec_len a.pool) (vec_capacity a.pool) a.tree × IsAtLeast a.excess (excess_of a.tree) };
 }
 
 // Written out, so that a proof of what holds a set does not go by whether its tree is empty.
@@ -45,6 +48,7 @@ impl Drop for Numbers {
             tree: _,
             pool: _,
             room: _,
+            excess: _,
         } = self;
     }
 }
@@ -59,6 +63,7 @@ impl Numbers {
             tree: Tree::Empty,
             pool: Vec::new(alloc),
             room: 0,
+            excess: 0,
         }
     }
 
@@ -80,7 +85,10 @@ impl Numbers {
         ensures enough { count ≤ self.old.spare → IsOk result }
     {
         if self.room < count {
-            fill(&mut self.pool, count)?;
+            if self.pool.len() < count {
+                let nodes = nodes_for(count, self.excess);
+                fill_pool(&mut self.pool, nodes)?;
+            }
             self.room = count;
         }
         Ok(())
@@ -93,8 +101,14 @@ impl Numbers {
         ensures map { self.new.map ≡ map.insert self.old.map id tt }
         ensures room { self.old.spare ≤ self.new.spare + 1 }
     {
-        put_in(&mut self.tree, id, &mut self.pool);
-        self.room = self.room.min(self.pool.len());
+        // with no node there is no room, so the number is there
+        if self.pool.is_empty() {
+            return;
+        }
+        let mut tally = Tally::none();
+        put_among(&mut self.tree, id, &mut self.pool, &mut tally);
+        self.excess = tally.applied(self.excess);
+        self.room = room_left(self.room, self.pool.len(), tally.came);
     }
 
     /// Takes a number out, if it is there.
@@ -102,7 +116,9 @@ impl Numbers {
         ensures map { self.new.map ≡ map.remove self.old.map id }
         ensures room { self.old.spare ≤ self.new.spare }
     {
-        take_from(&mut self.tree, id, &mut self.pool);
+        let mut tally = Tally::none();
+        take_out(&mut self.tree, id, &mut self.pool, &mut tally);
+        self.excess = tally.applied(self.excess);
     }
 
     /// A set of the same numbers that has room for no new one. Refused only for want of memory.
@@ -115,6 +131,7 @@ impl Numbers {
             tree: copy_in(&self.tree, alloc)?,
             pool: Vec::new(alloc),
             room: 0,
+            excess: self.excess,
         })
     }
 }

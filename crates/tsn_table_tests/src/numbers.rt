@@ -145,6 +145,22 @@ fn many_numbers_from_the_middle_out(rt: HostRuntime) -> Result<(), Fail> {
     Ok(())
 }
 
+// All room is made at the first number that comes in, beside some that are there.
+#[test]
+fn much_room_at_once(rt: HostRuntime) -> Result<(), Fail> {
+    let mut numbers = Numbers::new(rt.alloc());
+    for n in 0..100 {
+        numbers.reserve(1)?;
+        numbers.put(n * 600);
+    }
+    for n in 0..MANY {
+        numbers.reserve((MANY - n) as usize)?;
+        numbers.put(n.wrapping_mul(40_503) % MANY);
+    }
+    emptied(&rt, numbers);
+    Ok(())
+}
+
 // The next state of a generator, and a number below `bound` from it.
 fn drawn(seed: u64, bound: u64) -> (u64, u64)
     requires { 0 < bound }

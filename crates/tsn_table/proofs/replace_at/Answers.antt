@@ -1,4 +1,4 @@
-use Rattle.std.proofs.Common.{Some, cond, sym, subst, ap, ◌∙◌, nat_eq}
+use Rattle.std.proofs.Common.{Some, cond, sym, ap, ◌∙◌, nat_eq}
 use Rattle.std.specs.HashMap as hash
 use Rattle.std.proofs.lemmas.Cmp.{nat_eq_equiv}
 use Rattle.indexmap.proofs.CallerLemmas.{updates-with_value_at}

@@ -1,0 +1,32 @@
+-- The numbers of a block in their order, and where among numbers one stands.
+use Rattle.std.specs.Prelude.{◌≡◌, ℕ, ◌-◌, min, List, ◌∷◌, Result, MatchResult, Some, length, slice_get, insert, remove}
+use Rattle.tsn_table.specs.Rising.{put_number, without_number, first_from}
+use Rattle.tsn_table.specs.declared.block.Block.{Block}
+
+-- how many numbers a block has behind its least one, where it has as many as it can; and half of them
+abbrev pub most_more : ℕ
+most_more = 62
+
+abbrev pub half : ℕ
+half = 31
+
+abbrev pub numbers_in : Block → List ℕ
+numbers_in block = block.least ∷ block.more.items
+
+-- how many numbers a block has over its half, behind its least one: at most as many as half of them
+abbrev pub over : Block → ℕ
+over block = min half (length block.more.items - half)
+
+-- where x stands among xs, or would stand: what a put of x leaves, and a removal, and which number from x on is the first
+pub record IsPlaceOf (x : ℕ) (xs : List ℕ) (at : ℕ) : Type 0 where
+  pub put : put_number x xs ≡ xs
+  pub without : without_number x xs ≡ remove xs at
+  pub first : first_from x xs ≡ Some x
+
+pub record IsGapFor (x : ℕ) (xs : List ℕ) (at : ℕ) : Type 0 where
+  pub put : put_number x xs ≡ insert xs at x
+  pub without : without_number x xs ≡ xs
+  pub first : first_from x xs ≡ slice_get xs at
+
+abbrev pub Places : ℕ → List ℕ → Result ℕ ℕ → Type 0
+Places x xs r = MatchResult r (IsPlaceOf x xs) (IsGapFor x xs)
