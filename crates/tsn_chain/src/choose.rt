@@ -1,7 +1,7 @@
 //! The choice of a frame's filter.
 //!
 //! A filter that matches has one of four pairs of specifications: the frame's handle or the wildcard, with its priority or
-//! the wildcard. A configuration tells the least filter of each pair, so a frame goes along no filters.
+//! the wildcard. A configuration tells the least filter of two pairs, so a frame goes along no filters.
 ghost use Rattle.std.specs.Prelude.{◌≡◌, ◌<◌, ℕ, IsSome, Bool, List, Option, Some, None, false, true};
 ghost use Rattle.std.specs.FinMap as map;
 ghost use Rattle.std.specs.FinMap.{FinMap};
@@ -68,14 +68,12 @@ fn lesser(left: Option<FilterId>, right: Option<FilterId>) -> Option<FilterId>
     }
 }
 
-/// The same of a configuration's filters, by four binary searches.
+/// The same of a configuration's filters, by two to four binary searches.
 pub fn choose_in(config: &Config, handle: Handle, priority: Priority) -> Option<FilterId>
     ensures chosen { (fs : FinMap nat_cmp AnyFilter) → AreFilters fs config.now.map → result ≡ chosen handle priority fs }
     ensures least { (fs : FinMap nat_cmp AnyFilter) → AreFilters fs config.now.map → IsLeast handle priority fs result }
 {
-    let both = config.first_with(Some(handle), Some(priority));
-    let any_priority = config.first_with(Some(handle), None);
-    let any_handle = config.first_with(None, Some(priority));
-    let any = config.first_with(None, None);
-    lesser(lesser(both, any_priority), lesser(any_handle, any))
+    let own = config.first_with_either(Some(handle), priority);
+    let any = config.first_with_either(None, priority);
+    lesser(own, any)
 }

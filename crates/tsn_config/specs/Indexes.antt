@@ -1,5 +1,5 @@
 -- Indexes of the stream filters: which filters are about a number.
-use Rattle.std.specs.Prelude.{◌≡◌, ℕ, ◌+◌, ◌*◌, ◌/◌, ◌%◌, ◌<◌, nat_eq, Bool, false, Option, Some, None, IsSome, is_some}
+use Rattle.std.specs.Prelude.{◌≡◌, ℕ, ◌+◌, ◌*◌, ◌/◌, ◌%◌, ◌<◌, ◌≤◌, nat_eq, Bool, false, Option, Some, None, IfSome, IsSome, MatchOption, is_some}
 use Rattle.std.specs.Ordering.{nat_cmp}
 use Rattle.std.specs.FinMap.{FinMap, get, insert, remove}
 use Rattle.tsn_types.specs.declared.records.StreamFilter.{StreamFilter}
@@ -35,6 +35,11 @@ is_the q (Some a) = nat_eq a q
 -- An index has the number q * 65,536 + n where the filter n is about q, and no other.
 abbrev pub Indexes : (StreamFilter → Option ℕ) → FinMap nat_cmp StreamFilter → FinMap nat_cmp (Unit {0}) → Type 0
 Indexes about fs index = (c : ℕ) → is_some (get index c) ≡ is_the (c / 65536) (about_at about (get fs (c % 65536)))
+
+-- the first number of an index from one on
+pub record IsFirst (index : FinMap nat_cmp (Unit {0})) (from : ℕ) (first : Option ℕ) : Type 0 where
+  pub there : IfSome first (λ n. (from ≤ n) × IsSome (get index n))
+  pub least : (n : ℕ) → from ≤ n → IsSome (get index n) → MatchOption first ⊥ (λ least. least ≤ n)
 
 -- an index without a filter, and with one
 abbrev pub left : FinMap nat_cmp (Unit {0}) → ℕ → Option ℕ → FinMap nat_cmp (Unit {0})

@@ -4,16 +4,16 @@
 //! What is sought in an index is its least filter, by one way down a tree: who refers to a gate or a meter, and which filter
 //! has two specifications. The type says that each index has just the filters that the table has. Setting a filter takes
 //! no memory; room is made ahead.
-ghost use Rattle.std.specs.Prelude.{◌≡◌, ℕ, ◌+◌, ◌*◌, ◌^◌, ◌<◌, ◌≤◌, Bool, Option, None, IfOk, IfSome, IsOk, IsSome, IsTrue, MatchOption, OnOk, option_map};
+ghost use Rattle.std.specs.Prelude.{◌≡◌, ℕ, ◌+◌, ◌*◌, ◌^◌, ◌<◌, ◌≤◌, Bool, Option, None, Some, IfOk, IfSome, IsOk, IsSome, IsTrue, MatchOption, OnOk, option_map};
 ghost use Rattle.std.specs.FinMap as map;
 ghost use Rattle.std.specs.FinMap.{FinMap};
 ghost use Rattle.std.specs.Option.{option_copied};
 ghost use Rattle.std.specs.Ordering.{nat_cmp};
-ghost use Rattle.tsn_table.specs.Firsts.{first_id};
+ghost use Rattle.tsn_table.specs.Firsts.{first_id, lesser};
 ghost use Rattle.tsn_types.specs.Keys.{has, refs};
 ghost use Rattle.tsn_types.specs.declared.records.Record.TheVariants.{Filter as FilterRecord};
 ghost use Rattle.tsn_types.specs.declared.records.StreamFilter.{StreamFilter as AnyFilter};
-ghost use Rattle.tsn_config.specs.Indexes.{about_at, AreSmall, entered, gate_about, Indexes, is_the, left, match_about, meter_about, specification, specified};
+ghost use Rattle.tsn_config.specs.Indexes.{about_at, AreSmall, entered, gate_about, Indexes, IsFirst, is_the, left, match_about, meter_about, specification, specified};
 ghost use Rattle.tsn_config.specs.Filters.{specifies};
 ghost use Rattle.tsn_config.specs.Keeping.{refers};
 ghost use Rattle.tsn_config.specs.Kinds.{filter_of};
@@ -66,7 +66,7 @@ struct About {
 fn specification_of(handle: Option<Handle>, priority: Option<Priority>) -> u64
     ensures value { result ≡ specification handle priority }
     ensures narrow { specified priority < 16 }
-    ensures small { result < 2 ^ 40 }
+    ensures small { result + 16 < 2 ^ 40 }
 {
     let handle = match handle {
         Some(handle) => handle.get() + 1,
@@ -77,6 +77,16 @@ fn specification_of(handle: Option<Handle>, priority: Option<Priority>) -> u64
         None => 0,
     };
     handle * 16 + priority
+}
+
+// The same with a priority, where this is the number of a stream handle's specification and the wildcard.
+fn with_priority(any: u64, priority: Priority) -> u64
+    requires { any + 16 < 2 ^ 40 }
+    ensures value { result ≡ any + specified (Some priority) }
+    ensures narrow { specified (Some priority) < 16 }
+    ensures small { result < 2 ^ 40 }
+{
+    any + priority.get() + 1
 }
 
 // What a filter is about.
@@ -171,6 +181,42 @@ fn move_in(index: &mut Numbers, id: u64, before: Option<u64>, after: Option<u64>
     enter(index, id, after);
 }
 
+// The least filter that is about the number, where this is the first number of an index that is about it or what is greater.
+fn filter_about(first: Option<u64>, about: u64) -> Option<u64>
+    requires { about < 2 ^ 40 }
+    ensures small { IfSome result (λ n. n < 65536) }
+    ensures least { (index : FinMap nat_cmp (Unit {0})) (what : AnyFilter → Option ℕ) (fs : FinMap nat_cmp AnyFilter) (p : AnyFilter → Bool) →
+        IsFirst index (about * 65536) first → Indexes what fs index → AreSmall fs →
+        ((n : ℕ) (r : AnyFilter) → map.get fs n ≡ Some r → p r ≡ is_the about (what r)) →
+        result ≡ first_id p (map.entries fs) }
+{
+    let found = first?;
+    if found / 65_536 == about {
+        Some(found % 65_536)
+    } else {
+        None
+    }
+}
+
+// The first number of an index from this one on.
+fn first_in(index: &Numbers, from: u64) -> Option<u64>
+    ensures { IsFirst index.now.map from result }
+{
+    index.first_from(from)
+}
+
+// The first number of an index from a greater one on, where that from this one on is known.
+fn first_after(index: &Numbers, first: Option<u64>, from: u64, greater: u64) -> Option<u64>
+    requires known { IsFirst index.now.map from first }
+    requires greater { from ≤ greater }
+    ensures { IsFirst index.now.map greater result }
+{
+    match first {
+        Some(number) if number < greater => first_in(index, greater),
+        _ => first,
+    }
+}
+
 // The least filter that is about the number.
 fn least_about(index: &Numbers, about: u64) -> Option<u64>
     requires { about < 2 ^ 40 }
@@ -180,11 +226,34 @@ fn least_about(index: &Numbers, about: u64) -> Option<u64>
         ((n : ℕ) (r : AnyFilter) → map.get fs n ≡ Some r → p r ≡ is_the about (what r)) →
         result ≡ first_id p (map.entries fs) }
 {
-    let found = index.first_from(about * 65_536)?;
-    if found / 65_536 == about {
-        Some(found % 65_536)
-    } else {
-        None
+    filter_about(first_in(index, about * 65_536), about)
+}
+
+// The lesser of the least filter that is about the one number and the least that is about the other, which is less. It is found
+// by one way down a tree, unless some filter is about the lesser number or one between them.
+fn least_of_two(index: &Numbers, about: u64, less: u64) -> Option<u64>
+    requires less { less ≤ about }
+    requires about { about < 2 ^ 40 }
+    ensures small { IfSome result (λ n. n < 65536) }
+    ensures least { (what : AnyFilter → Option ℕ) (fs : FinMap nat_cmp AnyFilter) (p q : AnyFilter → Bool) →
+        Indexes what fs index.now.map → AreSmall fs →
+        ((n : ℕ) (r : AnyFilter) → map.get fs n ≡ Some r → p r ≡ is_the about (what r)) →
+        ((n : ℕ) (r : AnyFilter) → map.get fs n ≡ Some r → q r ≡ is_the less (what r)) →
+        result ≡ lesser (first_id p (map.entries fs)) (first_id q (map.entries fs)) }
+{
+    let first = first_in(index, less * 65_536);
+    let own = first_after(index, first, less * 65_536, about * 65_536);
+    lesser(filter_about(own, about), filter_about(first, less))
+}
+
+// The lesser of two numbers, where there are two.
+fn lesser(left: Option<u64>, right: Option<u64>) -> Option<u64>
+    ensures { result ≡ lesser left right }
+{
+    match (left, right) {
+        (Some(one), Some(other)) => Some(one.min(other)),
+        (Some(one), None) => Some(one),
+        (None, other) => other,
     }
 }
 
@@ -282,6 +351,19 @@ impl Filters {
         ensures least { result ≡ first_id (specifies handle priority) (map.entries self.now.map) }
     {
         least_about(&self.by_match, specification_of(handle, priority))
+    }
+
+    /// The least filter with this stream handle specification that has this priority specification or the wildcard.
+    pub(crate) fn first_with_either(
+        &self,
+        handle: Option<Handle>,
+        priority: Priority,
+    ) -> Option<u64>
+        ensures small { IfSome result (λ n. n < 65536) }
+        ensures least { result ≡ lesser (first_id (specifies handle (Some priority)) (map.entries self.now.map)) (first_id (specifies handle None) (map.entries self.now.map)) }
+    {
+        let any = specification_of(handle, None);
+        least_of_two(&self.by_match, with_priority(any, priority), any)
     }
 
     /// Equal filters in tables of their own. Refused only for want of memory.

@@ -8,11 +8,11 @@
 //! along them.
 #![tactic(auto)]
 
-ghost use Rattle.std.specs.Prelude.{◌≡◌, ℕ, IfOk, option_map};
+ghost use Rattle.std.specs.Prelude.{◌≡◌, ℕ, IfOk, None, Some, option_map};
 ghost use Rattle.std.specs.FinMap as map;
 ghost use Rattle.std.specs.FinMap.{FinMap};
 ghost use Rattle.std.specs.Ordering.{nat_cmp};
-ghost use Rattle.tsn_table.specs.Firsts.{first_id};
+ghost use Rattle.tsn_table.specs.Firsts.{first_id, lesser};
 ghost use Rattle.tsn_types.specs.declared.records.StreamFilter.{StreamFilter as AnyFilter};
 ghost use Rattle.tsn_config.specs.Filters.{AreFilters, specifies};
 ghost use Rattle.tsn_edit.specs.Configuration.{IsWellKept};
@@ -103,6 +103,17 @@ impl Config {
         ensures { (fs : FinMap nat_cmp AnyFilter) → AreFilters fs self.now.map → result ≡ first_id (specifies handle priority) (map.entries fs) }
     {
         let number = self.rows.first_with(handle, priority)?;
+        Some(FilterId::new(number).unwrap())
+    }
+
+    /// The least filter whose stream handle specification is this one, none for the wildcard, and whose priority
+    /// specification is this one or the wildcard. It is found by one binary search, and by another where a filter with that
+    /// handle specification has the wildcard or a lesser priority. It takes no memory.
+    pub fn first_with_either(&self, handle: Option<Handle>, priority: Priority) -> Option<FilterId>
+        ensures { (fs : FinMap nat_cmp AnyFilter) → AreFilters fs self.now.map →
+            result ≡ lesser (first_id (specifies handle (Some priority)) (map.entries fs)) (first_id (specifies handle None) (map.entries fs)) }
+    {
+        let number = self.rows.first_with_either(handle, priority)?;
         Some(FilterId::new(number).unwrap())
     }
 }

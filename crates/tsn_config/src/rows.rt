@@ -2,11 +2,11 @@
 //!
 //! Nothing here knows the limits: a map that is not well kept can stand here while a configuration is opened. It
 //! relies on the tables alone, and each call works in the table of its key's kind.
-ghost use Rattle.std.specs.Prelude.{◌≡◌, ℕ, ◌+◌, ◌<◌, ◌≤◌, IfOk, IfSome, IsOk, IsTrue, MatchOption, OnErr, OnOk, is_some, length, option_map};
+ghost use Rattle.std.specs.Prelude.{◌≡◌, ℕ, ◌+◌, ◌<◌, ◌≤◌, IfOk, IfSome, IsOk, IsTrue, MatchOption, None, OnErr, OnOk, Some, is_some, length, option_map};
 ghost use Rattle.std.specs.FinMap as map;
 ghost use Rattle.std.specs.FinMap.{FinMap};
 ghost use Rattle.std.specs.Ordering.{nat_cmp};
-ghost use Rattle.tsn_table.specs.Firsts.{first_id};
+ghost use Rattle.tsn_table.specs.Firsts.{first_id, lesser};
 ghost use Rattle.tsn_types.specs.declared.records.StreamFilter.{StreamFilter as AnyFilter};
 ghost use Rattle.tsn_config.specs.Filters.{AreFilters, specifies};
 ghost use Rattle.tsn_types.specs.Lent.{lent_record};
@@ -179,6 +179,20 @@ impl Rows {
         ensures least { (fs : FinMap nat_cmp AnyFilter) → AreFilters fs self.now.map → result ≡ first_id (specifies handle priority) (map.entries fs) }
     {
         self.filters.first_with(handle, priority)
+    }
+
+    /// The number of the least filter with this stream handle specification that has this priority specification or the
+    /// wildcard.
+    pub(crate) fn first_with_either(
+        &self,
+        handle: Option<Handle>,
+        priority: Priority,
+    ) -> Option<u64>
+        ensures small { IfSome result (λ n. n < 65536) }
+        ensures least { (fs : FinMap nat_cmp AnyFilter) → AreFilters fs self.now.map →
+            result ≡ lesser (first_id (specifies handle (Some priority)) (map.entries fs)) (first_id (specifies handle None) (map.entries fs)) }
+    {
+        self.filters.first_with_either(handle, priority)
     }
 
     /// The number of the least filter that refers to the key.

@@ -8,13 +8,14 @@ use Rattle.tsn_chain.specs.Chosen.{chosen, IsLeast}
 use Rattle.tsn_chain.proofs.Least.{chosen_of_four, least}
 use Rattle.tsn_chain.proofs.choose.choose_in.Goals as goal
 
--- the least of the four answers
-told : (c : goal.After-lesser-3) (fs : FinMap nat_cmp StreamFilter) → AreFilters fs c.args.config.now.map → c.lesser-3.result ≡ chosen c.args.handle c.args.priority fs
+-- the lesser of the two answers, each of which is the lesser of two
+told : (c : goal.After-lesser) (fs : FinMap nat_cmp StreamFilter) → AreFilters fs c.args.config.now.map → c.lesser.result ≡ chosen c.args.handle c.args.priority fs
 told c fs are =
-    c.lesser-3.ensures
-    ∙ ap (λ o. lesser o c.lesser-2.result) (c.lesser.ensures ∙ ap (λ o. lesser o c.first_with-any_priority.result) (c.first_with-both.ensures fs are) ∙ ap (lesser (first_id (specifies (Some c.args.handle) (Some c.args.priority)) (entries fs))) (c.first_with-any_priority.ensures fs are))
-    ∙ ap (lesser (lesser (first_id (specifies (Some c.args.handle) (Some c.args.priority)) (entries fs)) (first_id (specifies (Some c.args.handle) None) (entries fs))))
-    (c.lesser-2.ensures ∙ ap (λ o. lesser o c.first_with-any.result) (c.first_with-any_handle.ensures fs are) ∙ ap (lesser (first_id (specifies None (Some c.args.priority)) (entries fs))) (c.first_with-any.ensures fs are))
+    let handle = c.args.handle in
+    let priority = Some c.args.priority in
+    c.lesser.ensures
+    ∙ ap (λ o. lesser o c.first_with_either-any.result) (c.first_with_either-own.ensures fs are)
+    ∙ ap (lesser (lesser (first_id (specifies (Some handle) priority) (entries fs)) (first_id (specifies (Some handle) None) (entries fs)))) (c.first_with_either-any.ensures fs are)
     ∙ sym (chosen_of_four c.args.handle c.args.priority fs)
 
 pub returns-clause-chosen : goal.returns-clause-chosen
