@@ -1,5 +1,7 @@
 pub mod Accepting
+pub mod BareNames
 pub mod Documents
+pub mod Filling
 pub mod Keyed
 pub mod LimitsGiven
 pub mod Naming
@@ -8,3 +10,7 @@ pub mod OnLiterals
 pub mod Ordered
 pub mod Rows
 pub mod Shapes
+pub mod Told
+pub mod Turning
+pub mod Values
+pub mod WholeDocuments

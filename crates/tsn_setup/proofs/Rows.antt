@@ -164,7 +164,7 @@ other_at Less names k l x y is known unknown h = h
 other_at Equal names k l x y is known unknown h = let never : false ≡ true = sym unknown ∙ ap (λ n. is_among names n) (same_name k l is) ∙ known in cc
 other_at Greater names k l x y is known unknown h = h
 
-other_member : (names : List (List ℕ)) (ms : Members) (k : List ℕ) → are_among names ms ≡ true → is_among names k ≡ false → get_member k ms ≡ None
+pub other_member : (names : List (List ℕ)) (ms : Members) (k : List ℕ) → are_among names ms ≡ true → is_among names k ≡ false → get_member k ms ≡ None
 other_member names no_members k h unknown = refl
 other_member names (member l d ms) k h unknown =
     let parts = and_parts (is_among names l) (are_among names ms) h in

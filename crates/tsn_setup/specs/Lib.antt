@@ -1,4 +1,6 @@
 pub mod Examples
+pub mod Plain
+pub mod PlainSlots
 pub mod Ranges
 pub mod Setups
 pub mod Tables

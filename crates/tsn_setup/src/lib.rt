@@ -7,8 +7,14 @@
 #![tactic(auto)]
 
 mod drafts;
+mod gathered;
+mod given;
 pub mod laws;
 mod members;
+mod plain;
+mod plain_documents;
+mod plain_entries;
+mod plain_tables;
 mod ranges;
 mod setups;
 mod tables;

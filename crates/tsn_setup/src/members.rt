@@ -45,7 +45,7 @@ pub fn has_only(names: &[&str], value: &Value) -> Result<(), Unread>
     }
 }
 
-fn natural(number: i64) -> Option<u64>
+pub fn natural(number: i64) -> Option<u64>
     ensures { result ≡ natural number }
 {
     u64::try_from(number).ok()

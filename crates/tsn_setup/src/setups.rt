@@ -9,6 +9,7 @@ ghost use Rattle.tsn_setup.specs.Setups.{document_of, setup_shape, setup_of_draf
 
 use crate::drafts::{LimitsDraft, TableDraft};
 use crate::members::has_only;
+use crate::plain_documents::plain_draft;
 use crate::ranges::{keyed_records, limits};
 use crate::tables::{limits_shape, tables_shape};
 use std::alloc::Global;
@@ -69,6 +70,9 @@ fn setup_of_draft(
 fn reading(alloc: Global, text: &[u8]) -> Result<Setup, Unread>
     ensures { Reads result (reading text.now) }
 {
+    if let Some((given, tables)) = plain_draft(alloc, text) {
+        return setup_of_draft(alloc, &given, tables.as_slice());
+    }
     let document = document_of(alloc, text)?;
     let (given, tables) = setup_shape(alloc, &document)?;
     setup_of_draft(alloc, &given, tables.as_slice())

@@ -232,7 +232,7 @@ fn push_each(
     Ok(())
 }
 
-fn name_of(kind: Kind) -> &'static str
+pub fn name_of(kind: Kind) -> &'static str
     ensures { result.now ≡ kind_text kind }
 {
     match kind {

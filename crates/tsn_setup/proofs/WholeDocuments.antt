@@ -1,0 +1,260 @@
+-- Documents in the plain spelling: the limits, then one table after another.
+use Rattle.std.proofs.Common.{◌≡◌, ℕ, suc, ◌-◌, ◌<◌, List, [], ◌∷◌, ◌++◌, Bool, true, false, ◌==◌, ◌||◌, length, Option, Some, None, option_map, Ok, refl, sym, ap, subst, ◌∙◌, arith}
+use Rattle.std.specs.Prelude.{if◌then◌else◌}
+use Rattle.std.specs.List.{list_any}
+use Rattle.std.specs.Str.{bytes_eq, is_utf8}
+use Rattle.toml_parser.specs.Lexical.{first, skip_blank}
+use Rattle.toml.specs.Data.{Data, array, table, Items, no_items, push_item, Members, get_member}
+use Rattle.toml.specs.Tables.{Node, value, open_table, open_array, Nodes, no_nodes, get_node, insert, replace, close_node, close, along_header, array_table, at_key, define}
+use Rattle.toml.specs.Parse.{line, lines, skip_bom}
+use Rattle.toml.proofs.NodeLaws.{get_node-insert, get_node-replace, replace-replace, replace-self, along_found}
+use Rattle.toml.proofs.Turns.{lines_end, lines_more, document_some}
+use Rattle.tsn_types.specs.declared.keys.Kind.{Kind}
+use Rattle.tsn_types.specs.declared.keys.Kind.TheVariants as kinds
+use Rattle.tsn_records.specs.Answers.{each}
+use Rattle.tsn_records.specs.Keys.{kind_text}
+use Rattle.tsn_setup.specs.Tables.{table_shape, limits_shape, tables_of_kind, tables_shape, setup_names}
+use Rattle.tsn_setup.specs.Toml.{are_among, has_only, items_list}
+use Rattle.tsn_setup.specs.Setups.{document_of, setup_shape}
+use Rattle.tsn_setup.specs.Plain.{Slot, tables, tables_given, Stands, Slots, slot_at, put_slot, names, Tells, Frames, ReadsLines, IsArray, ReadsDocument, ReadsTableOf, ReadsWhole}
+use Rattle.tsn_setup.specs.PlainSlots.{limits_slots, document_slots, tables_of}
+use Rattle.tsn_setup.specs.declared.drafts.LimitsDraft.{LimitsDraft}
+use Rattle.tsn_setup.specs.declared.drafts.TableDraft.{TableDraft}
+use Rattle.tsn_setup.specs.declared.plain_documents.DocumentTables.{DocumentTables}
+use Rattle.tsn_setup.proofs.Filling.{closed_at, Changes, replaced, told_after, no_node, insert_other, replace_other, known_by}
+use Rattle.tsn_setup.proofs.Rows.{is_among, same_text, same_bytes, other_member, all_among}
+use Rattle.tsn_setup.proofs.Turning.{each_last, items_pushed}
+
+-- ---- the table under a header
+
+-- the document around the last table of a kind
+abbrev around : List ℕ → Nodes → Items → Nodes → Nodes
+around k root done ns = replace k (open_array done ns) root
+
+framed_at : (k : List ℕ) (root : Nodes) (done : Items) (ns : Nodes) (o : Option Nodes)
+    → option_map (λ new. replace k new (around k root done ns)) (option_map (open_array done) o) ≡ option_map (around k root done) o
+framed_at k root done ns None = refl
+framed_at k root done ns (Some m) = ap Some (replace-replace k (open_array done ns) (open_array done m) root)
+
+around_frames : (k : List ℕ) (root : Nodes) (done : Items) (x : Node) → get_node k root ≡ Some x → Frames (k ∷ []) (around k root done)
+unfolding along_header
+around_frames k root done x there edit ns =
+    along_found k [] edit (around k root done ns) (open_array done ns) (get_node-replace k (open_array done ns) root x there) ∙ framed_at k root done ns (edit ns)
+
+-- the array that a header opens, where there was one or none
+pub record Opens (kind : Kind) (root : Nodes) (ts : List TableDraft) : Type 0 where
+  pub opened : Nodes
+  pub done : Items
+  pub step : at_key (kind_text kind) array_table root ≡ Some opened
+  pub here : get_node (kind_text kind) opened ≡ Some (open_array done no_nodes)
+  pub others : (l : List ℕ) → (l ≡ kind_text kind → ⊥) → get_node l opened ≡ get_node l root
+  pub shaped : each (table_shape kind) (items_list done) ≡ Ok ts
+
+opening_at : (kind : Kind) (root : Nodes) (ts : List TableDraft) (o : Option Node) → get_node (kind_text kind) root ≡ o → IsArray o → tables_given kind (option_map close_node o) ≡ Ok ts → Opens kind root ts
+unfolding at_key
+opening_at kind root ts None is may told = record {
+  opened = insert (kind_text kind) (open_array no_items no_nodes) root;
+  done = no_items;
+  step = rw is refl;
+  here = get_node-insert (kind_text kind) (open_array no_items no_nodes) root;
+  others = λ l other. insert_other l (kind_text kind) (open_array no_items no_nodes) root other;
+  shaped = told;
+}
+opening_at kind root ts (Some (value d)) is may told = absurd may
+opening_at kind root ts (Some (open_table origin inner)) is may told = absurd may
+opening_at kind root ts (Some (open_array done last)) is may told =
+    let all = push_item done (table (close last)) in
+    record {
+      opened = replace (kind_text kind) (open_array all no_nodes) root;
+      done = all;
+      step = rw is refl;
+      here = get_node-replace (kind_text kind) (open_array all no_nodes) root (open_array done last) is;
+      others = λ l other. replace_other l (kind_text kind) (open_array all no_nodes) root other;
+      shaped = told;
+    }
+
+opening : (kind : Kind) (root : Nodes) (ts : List TableDraft) → IsArray (get_node (kind_text kind) root) → tables_given kind (get_member (kind_text kind) (close root)) ≡ Ok ts → Opens kind root ts
+opening kind root ts may told = opening_at kind root ts (get_node (kind_text kind) root) refl may (ap (tables_given kind) (sym (closed_at (kind_text kind) root)) ∙ told)
+
+-- ---- one table more
+
+header_defined : (k : List ℕ) (root opened : Nodes) (path : List (List ℕ)) → at_key k array_table root ≡ Some opened → define (root, path) (([], k), array_table) ≡ Some (opened, k ∷ [])
+unfolding define along_header
+header_defined k root opened path step = rw step refl
+
+told_slot_at : (b : Bool) (k l : List ℕ) (s t : Slot) (slots : Slots) (ms : Members) → bytes_eq k l ≡ b → (if b then Some t else slot_at k slots) ≡ Some s → Stands t (get_member l ms) → (slot_at k slots ≡ Some s → Stands s (get_member k ms))
+    → Stands s (get_member k ms)
+told_slot_at true k l s t slots ms is at told later =
+    let same = same_text k l is in
+    let e : Some t ≡ Some s = at in
+    let this : t ≡ s = cc in
+    subst (λ n. Stands s (get_member n ms)) (sym same) (subst (λ u. Stands u (get_member l ms)) this told)
+told_slot_at false k l s t slots ms is at told later = later at
+
+told_slot : (slots : Slots) (k : List ℕ) (s : Slot) (ms : Members) → slot_at k slots ≡ Some s → Tells ms slots → Stands s (get_member k ms)
+told_slot [] k s ms at told = cc
+told_slot (t ∷ slots) k s ms at told = told_slot_at (bytes_eq k t.0) k t.0 s t.1 slots ms refl at told.0 (λ later. told_slot slots k s ms later told.1)
+
+-- the members around one table more of a kind
+around_changes : (kind : Kind) (root : Nodes) (ts : List TableDraft) (o : Opens kind root ts) (found : Nodes)
+    → Changes (kind_text kind) (array (push_item o.done (table (close found)))) (close root) (close (around (kind_text kind) o.opened o.done found))
+around_changes kind root ts o found =
+    let change = replaced (kind_text kind) (open_array o.done found) (open_array o.done no_nodes) o.opened o.here in
+    record {
+      here = change.here;
+      others = λ l other. change.others l other ∙ closed_at l o.opened ∙ ap (option_map close_node) (o.others l other) ∙ sym (closed_at l root);
+    }
+
+array_still : (b : Bool) (k l : List ℕ) (root opened : Nodes) (done : Items) (found : Nodes) (x : Node) → bytes_eq l k ≡ b → get_node k opened ≡ Some x → ((m : List ℕ) → (m ≡ k → ⊥) → get_node m opened ≡ get_node m root) → IsArray (get_node l root)
+    → IsArray (get_node l (around k opened done found))
+array_still true k l root opened done found x is here others may =
+    let same = same_text l k is in
+    subst (λ n. IsArray (get_node n (around k opened done found))) (sym same) (subst IsArray (sym (get_node-replace k (open_array done found) opened x here)) tt)
+array_still false k l root opened done found x is here others may =
+    let apart : l ≡ k → ⊥ = λ same. let equal = same_bytes l k same in cc in
+    subst IsArray (sym (replace_other l k (open_array done found) opened apart ∙ others l apart)) may
+
+pub table_added : (text : List ℕ) (slots : Slots) (rest behind after : List ℕ) (kind : Kind) (ts : List TableDraft) (draft : TableDraft) → ReadsDocument text slots rest → (length (skip_blank rest) == 0) ≡ false
+    → line (skip_blank rest) ≡ Some ((([], kind_text kind), array_table), behind) → length behind < length rest → ReadsTableOf kind behind draft after → slot_at (kind_text kind) slots ≡ Some (tables kind ts)
+    → ReadsDocument text (put_slot (kind_text kind) (tables kind (ts ++ draft ∷ [])) slots) after
+table_added text slots rest behind after kind ts draft so some head shorter t at =
+    let k = kind_text kind in
+    let told = told_slot slots k (tables kind ts) (close so.root) at so.tells.tells in
+    let o : Opens kind so.root ts = opening kind so.root ts (so.arrays kind) told in
+    let lead = so.leads in
+    let step = lines_more lead.turns (so.root, so.path) _ rest _ behind (omega (arith, lead.room)) some head (header_defined k so.root o.opened so.path o.step) in
+    let inner = t.leads (k ∷ []) (around k o.opened o.done) (around_frames k o.opened o.done (open_array o.done no_nodes) o.here) (lead.turns - 1) (omega (arith, lead.room, shorter)) in
+    let begins : lines (lead.turns - 1) (o.opened, k ∷ []) behind ≡ lines (lead.turns - 1) (around k o.opened o.done no_nodes, k ∷ []) behind =
+    ap (λ ns. lines (lead.turns - 1) (ns, k ∷ []) behind) (sym (replace-self k (open_array o.done no_nodes) o.opened o.here)) in
+    let full : tables_given kind (Some (array (push_item o.done (table (close t.found))))) ≡ Ok (ts ++ draft ∷ []) =
+    ap (each (table_shape kind)) (items_pushed o.done (table (close t.found))) ∙ each_last (table_shape kind) (items_list o.done) ts (table (close t.found)) draft o.shaped t.shaped in
+    record {
+      root = around k o.opened o.done t.found;
+      path = k ∷ [];
+      leads = record { turns = inner.turns; room = inner.room; same = lead.same ∙ step ∙ begins ∙ inner.same };
+      tells = told_after slots k (tables kind ts) (tables kind (ts ++ draft ∷ [])) _ (close so.root) _ (around_changes kind so.root ts o t.found) at full so.tells;
+      arrays = λ other. array_still (bytes_eq (kind_text other) k) k (kind_text other) so.root o.opened o.done t.found _ refl o.here o.others (so.arrays other);
+    }
+
+-- ---- the beginning and the end
+
+any_first : (b : Bool) (p : List ℕ → Bool) (xs ys : List (List ℕ)) → b || list_any p xs ≡ true → (list_any p xs ≡ true → list_any p (xs ++ ys) ≡ true) → b || list_any p (xs ++ ys) ≡ true
+any_first true p xs ys h later = refl
+any_first false p xs ys h later = later h
+
+any_more : (p : List ℕ → Bool) (xs ys : List (List ℕ)) → list_any p xs ≡ true → list_any p (xs ++ ys) ≡ true
+any_more p [] ys h = cc
+any_more p (x ∷ xs) ys h = any_first (p x) p xs ys h (any_more p xs ys)
+
+as_it_is : (o : Option Nodes) → o ≡ option_map (λ ns. ns) o
+as_it_is None = refl
+as_it_is (Some x) = refl
+
+whole_frames : Frames [] (λ ns. ns)
+unfolding along_header
+whole_frames edit ns = as_it_is (edit ns)
+
+missing : (l : LimitsDraft) (kind : Kind) (found : Nodes) → are_among (names (limits_slots l)) (close found) ≡ true → get_member (kind_text kind) (close found) ≡ None
+missing l kinds.Port found only = other_member (names (limits_slots l)) (close found) (kind_text kinds.Port) only refl
+missing l kinds.Filter found only = other_member (names (limits_slots l)) (close found) (kind_text kinds.Filter) only refl
+missing l kinds.Gate found only = other_member (names (limits_slots l)) (close found) (kind_text kinds.Gate) only refl
+missing l kinds.Meter found only = other_member (names (limits_slots l)) (close found) (kind_text kinds.Meter) only refl
+
+none_given : (kind : Kind) (found : Option Data) (ts : List TableDraft) → found ≡ None → ts ≡ [] → tables_given kind found ≡ Ok ts
+none_given kind found ts none nothing = ap (tables_given kind) none ∙ ap Ok (sym nothing)
+
+wider : (xs ys : List (List ℕ)) (ms : Members) → are_among xs ms ≡ true → are_among (xs ++ ys) ms ≡ true
+wider xs ys ms only = all_among (xs ++ ys) ms (λ k there. any_more (λ name. bytes_eq name k) xs ys (known_by (is_among xs k) xs ms k refl only there))
+
+pub document_begun : (text rest : List ℕ) (l : LimitsDraft) (t : DocumentTables) → ReadsLines text (limits_slots l) rest → t.ports.items ≡ [] → t.filters.items ≡ [] → t.gates.items ≡ [] → t.meters.items ≡ []
+    → ReadsDocument text (document_slots l t) rest
+document_begun text rest l t read p f g m =
+    let told = read.tells.tells in
+    let none = λ (kind : Kind). missing l kind read.found read.tells.only in
+    record {
+      root = read.found;
+      path = [];
+      leads = read.leads [] (λ ns. ns) whole_frames (suc (length text)) (omega arith);
+      tells = record {
+        tells = (
+          told.0,
+          (
+            told.1.0,
+            (
+              told.1.1.0,
+              (
+                told.1.1.1.0,
+                (
+                  told.1.1.1.1.0,
+                  (
+                    none_given kinds.Port _ _ (none kinds.Port) p,
+                    (
+                      none_given kinds.Filter _ _ (none kinds.Filter) f,
+                      (
+                        none_given kinds.Gate _ _ (none kinds.Gate) g,
+                        (
+                          none_given kinds.Meter _ _ (none kinds.Meter) m,
+                          tt,
+                        ),
+                      ),
+                    ),
+                  ),
+                ),
+              ),
+            ),
+          ),
+        );
+        only = wider (names (limits_slots l)) (kind_text kinds.Port ∷ kind_text kinds.Filter ∷ kind_text kinds.Gate ∷ kind_text kinds.Meter ∷ []) (close read.found) read.tells.only;
+      };
+      arrays = λ kind. subst IsArray (sym (no_node (get_node (kind_text kind) read.found) (sym (closed_at (kind_text kind) read.found) ∙ none kind))) tt;
+    }
+
+no_mark : (text : List ℕ) → (first text == 0xEF) ≡ false → skip_bom text ≡ text
+unfolding skip_bom
+no_mark text other = rw other refl
+
+pub document_ended : (text : List ℕ) (slots : Slots) (rest : List ℕ) → ReadsDocument text slots rest → length (skip_blank rest) ≡ 0 → (first text == 0xEF) ≡ false → ReadsWhole text slots
+document_ended text slots rest so ends other =
+    let lead = so.leads in
+    let all : lines (suc (length text)) (no_nodes, []) text ≡ Some (so.root, so.path) = lead.same ∙ lines_end lead.turns (so.root, so.path) rest (omega (arith, lead.room)) ends in
+    record {
+      found = close so.root;
+      reads = document_some text (so.root, so.path) (ap (lines (suc (length text)) (no_nodes, [])) (no_mark text other) ∙ all);
+      tells = so.tells;
+    }
+
+-- ---- the shape of the whole
+
+only_these : (names : List (List ℕ)) (ms : Members) → are_among names ms ≡ true → has_only names (table ms) ≡ Ok tt
+only_these names ms h = rw h refl
+
+pub document_shaped : (text : List ℕ) (l : LimitsDraft) (t : DocumentTables) (all : List TableDraft) → is_utf8 text ≡ true → ReadsWhole text (document_slots l t) → all ≡ t.ports.items ++ t.filters.items ++ t.gates.items ++ t.meters.items
+    → (d : Data) × ((document_of text ≡ Some d) × (setup_shape d ≡ Ok (l, all)))
+unfolding setup_shape limits_shape tables_shape tables_of_kind
+document_shaped text l t all utf8 read is =
+    let told = read.tells.tells in (
+      table read.found,
+      (
+        rw (utf8, read.reads) refl,
+        rw (
+          only_these setup_names read.found read.tells.only,
+          told.0,
+          told.1.0,
+          told.1.1.0,
+          told.1.1.1.0,
+          told.1.1.1.1.0,
+          told.1.1.1.1.1.0,
+          told.1.1.1.1.1.1.0,
+          told.1.1.1.1.1.1.1.0,
+          told.1.1.1.1.1.1.1.1.0,
+          is,
+        ) refl,
+      ),
+    )
+
+-- the slot of a kind
+pub own_slot : (kind : Kind) (l : LimitsDraft) (t : DocumentTables) → slot_at (kind_text kind) (document_slots l t) ≡ Some (tables kind (tables_of kind t))
+own_slot kinds.Port l t = refl
+own_slot kinds.Filter l t = refl
+own_slot kinds.Gate l t = refl
+own_slot kinds.Meter l t = refl

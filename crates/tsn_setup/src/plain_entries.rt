@@ -1,0 +1,172 @@
+//! Gate control lists in the plain spelling: arrays of inline tables.
+ghost use Rattle.std.specs.Prelude.{◌≡◌, ◌<◌, Result, length, IfSome};
+ghost use Rattle.toml.specs.Data.{Data};
+ghost use Rattle.tsn_records.specs.declared.unread.Unread.{Unread};
+ghost use Rattle.tsn_setup.specs.Plain.{port_list, gate_list, ReadsEntries, ReadsEntry};
+ghost use Rattle.tsn_setup.specs.PlainSlots.{port_entry_slots, gate_entry_slots};
+ghost use Rattle.tsn_setup.specs.Tables.{port_entry_shape, gate_entry_shape};
+
+use crate::gathered::{Gathered, inline_table, slot};
+use crate::given::Given;
+use crate::plain::behind_element;
+use std::alloc::Global;
+use toml_parser::text::{byte_at, first, skip, skip_blank};
+use tsn_records::drafts::{GateEntryDraft, PortEntryDraft};
+use tsn_types::lists::ControlList;
+
+/// An entry of a gate control list, as a list shows it.
+pub trait PlainEntry: Drop {
+    ghost shape: { Data → Result Self Unread };
+
+    /// The entry that the text begins with, behind its opening brace. None where it is no such entry or is spelled in another
+    /// way, and where memory is refused.
+    fn entry(alloc: Global, text: &str) -> Option<(Self, &str)>
+        ensures value { IfSome result (λ p. ReadsEntry shape text.now p.0 p.1.now) }
+        ensures shorter { IfSome result (λ p. length p.1.now < length text.now) };
+}
+
+/// The members of a port's entry, as far as they were read.
+#[derive(Drop)]
+pub struct PortEntryMembers {
+    pub gates: Option<u64>,
+    pub interval: Option<u64>,
+}
+
+impl Gathered for PortEntryMembers {
+    ghost slots = { port_entry_slots };
+
+    ghost nesting = { 0 };
+
+    fn none() -> PortEntryMembers {
+        PortEntryMembers {
+            gates: None,
+            interval: None,
+        }
+    }
+
+    #[tactic(auto, using(crate::proofs::Values::slot_filled))]
+    fn member<'a>(&mut self, alloc: Global, text: &'a str) -> Option<&'a str> {
+        match first(text) {
+            b'g' => slot(alloc, text, "gates", &mut self.gates),
+            b'i' => slot(alloc, text, "interval", &mut self.interval),
+            _ => None,
+        }
+    }
+}
+
+/// The members of a stream gate's entry, as far as they were read.
+#[derive(Drop)]
+pub struct GateEntryMembers {
+    pub open: Option<bool>,
+    pub ipv: Option<u64>,
+    pub interval: Option<u64>,
+    pub octets: Option<u64>,
+}
+
+impl Gathered for GateEntryMembers {
+    ghost slots = { gate_entry_slots };
+
+    ghost nesting = { 0 };
+
+    fn none() -> GateEntryMembers {
+        GateEntryMembers {
+            open: None,
+            ipv: None,
+            interval: None,
+            octets: None,
+        }
+    }
+
+    #[tactic(auto, using(crate::proofs::Values::slot_filled))]
+    fn member<'a>(&mut self, alloc: Global, text: &'a str) -> Option<&'a str> {
+        match (first(text), byte_at(text, 1)) {
+            (b'i', b'n') => slot(alloc, text, "interval", &mut self.interval),
+            (b'i', _) => slot(alloc, text, "ipv", &mut self.ipv),
+            (b'o', b'c') => slot(alloc, text, "octets", &mut self.octets),
+            (b'o', _) => slot(alloc, text, "open", &mut self.open),
+            _ => None,
+        }
+    }
+}
+
+impl PlainEntry for PortEntryDraft {
+    ghost shape = { port_entry_shape };
+
+    #[tactic(auto, using(crate::proofs::Told::port_entry_told))]
+    fn entry(alloc: Global, text: &str) -> Option<(PortEntryDraft, &str)> {
+        let (found, rest) = inline_table::<PortEntryMembers>(alloc, text)?;
+        let gates = found.gates?;
+        let interval = found.interval?;
+        Some((PortEntryDraft { gates, interval }, rest))
+    }
+}
+
+impl PlainEntry for GateEntryDraft {
+    ghost shape = { gate_entry_shape };
+
+    #[tactic(auto, using(crate::proofs::Told::gate_entry_told))]
+    fn entry(alloc: Global, text: &str) -> Option<(GateEntryDraft, &str)> {
+        let (found, rest) = inline_table::<GateEntryMembers>(alloc, text)?;
+        let is_open = found.open?;
+        let interval = found.interval?;
+        let entry = GateEntryDraft {
+            is_open,
+            ipv: found.ipv,
+            interval,
+            octets: found.octets,
+        };
+        Some((entry, rest))
+    }
+}
+
+// The entries of a list, behind its opening bracket. Each takes three bytes at least, so there are enough turns.
+fn entries<E: PlainEntry>(alloc: Global, text: &str) -> Option<(ControlList<E>, &str)>
+    ensures value { IfSome result (λ p. ReadsEntries E.shape text.now p.0 p.1.now) }
+    ensures shorter { IfSome result (λ p. length p.1.now < length text.now) }
+{
+    let mut list = ControlList::new(alloc);
+    let mut rest = text;
+    'entries: for _ in 0..text.len() {
+        let start = skip_blank(rest, true);
+        if first(start) == b']' {
+            return Some((list, skip(start, 1)));
+        }
+        if first(start) != b'{' {
+            return None;
+        }
+        let (entry, after) = E::entry(alloc, skip(start, 1))?;
+        let Ok(()) = list.push(entry) else {
+            return None;
+        };
+        rest = behind_element(after, b']')?;
+    }
+    None
+}
+
+impl Given for ControlList<PortEntryDraft> {
+    ghost slot = { port_list };
+
+    ghost nesting = { 2 };
+
+    #[tactic(auto, using(crate::proofs::Values::port_list_read))]
+    fn given(alloc: Global, text: &str) -> Option<(ControlList<PortEntryDraft>, &str)> {
+        if first(text) != b'[' {
+            return None;
+        }
+        entries::<PortEntryDraft>(alloc, skip(text, 1))
+    }
+}
+
+impl Given for ControlList<GateEntryDraft> {
+    ghost slot = { gate_list };
+
+    ghost nesting = { 2 };
+
+    #[tactic(auto, using(crate::proofs::Values::gate_list_read))]
+    fn given(alloc: Global, text: &str) -> Option<(ControlList<GateEntryDraft>, &str)> {
+        if first(text) != b'[' {
+            return None;
+        }
+        entries::<GateEntryDraft>(alloc, skip(text, 1))
+    }
+}

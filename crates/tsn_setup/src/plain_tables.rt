@@ -1,0 +1,340 @@
+//! The tables of a document in the plain spelling: records of each kind, whose members come in any order.
+ghost use Rattle.std.specs.Prelude.{◌≡◌, ◌≤◌, length, IfSome};
+ghost use Rattle.tsn_types.specs.declared.keys.Kind.TheVariants as kinds;
+ghost use Rattle.tsn_setup.specs.Plain.{ReadsTableOf};
+ghost use Rattle.tsn_setup.specs.PlainSlots.{port_slots, filter_slots, gate_slots, meter_slots, limits_slots};
+
+use crate::drafts::{LimitsDraft, TableDraft};
+use crate::gathered::{Gathered, slot, table_lines};
+use std::alloc::Global;
+use toml_parser::text::{byte_at, first};
+use tsn_records::drafts::{
+    FilterDraft, GateDraft, GateEntryDraft, MeterDraft, PortDraft, PortEntryDraft, RecordDraft,
+    ScheduleDraft,
+};
+use tsn_types::keys::Kind;
+use tsn_types::lists::ControlList;
+
+/// The members of a port's table, as far as they were read.
+#[derive(Drop)]
+pub struct PortMembers {
+    pub id: Option<u64>,
+    pub gates: Option<u64>,
+    pub list: Option<ControlList<PortEntryDraft>>,
+    pub cycle: Option<u64>,
+    pub extension: Option<u64>,
+    pub base: Option<u64>,
+}
+
+impl Gathered for PortMembers {
+    ghost slots = { port_slots };
+
+    ghost nesting = { 2 };
+
+    fn none() -> PortMembers {
+        PortMembers {
+            id: None,
+            gates: None,
+            list: None,
+            cycle: None,
+            extension: None,
+            base: None,
+        }
+    }
+
+    #[tactic(auto, using(crate::proofs::Values::slot_filled))]
+    fn member<'a>(&mut self, alloc: Global, text: &'a str) -> Option<&'a str> {
+        match first(text) {
+            b'i' => slot(alloc, text, "id", &mut self.id),
+            b'g' => slot(alloc, text, "gates", &mut self.gates),
+            b'l' => slot(alloc, text, "list", &mut self.list),
+            b'c' => slot(alloc, text, "cycle", &mut self.cycle),
+            b'e' => slot(alloc, text, "extension", &mut self.extension),
+            b'b' => slot(alloc, text, "base", &mut self.base),
+            _ => None,
+        }
+    }
+}
+
+/// The members of a filter's table, as far as they were read.
+#[derive(Drop)]
+pub struct FilterMembers {
+    pub id: Option<u64>,
+    pub handle: Option<u64>,
+    pub priority: Option<u64>,
+    pub gate: Option<u64>,
+    pub max_sdu: Option<u64>,
+    pub meter: Option<u64>,
+    pub oversize: Option<bool>,
+}
+
+impl Gathered for FilterMembers {
+    ghost slots = { filter_slots };
+
+    ghost nesting = { 0 };
+
+    fn none() -> FilterMembers {
+        FilterMembers {
+            id: None,
+            handle: None,
+            priority: None,
+            gate: None,
+            max_sdu: None,
+            meter: None,
+            oversize: None,
+        }
+    }
+
+    #[tactic(auto, using(crate::proofs::Values::slot_filled))]
+    fn member<'a>(&mut self, alloc: Global, text: &'a str) -> Option<&'a str> {
+        match (first(text), byte_at(text, 1)) {
+            (b'i', _) => slot(alloc, text, "id", &mut self.id),
+            (b'h', _) => slot(alloc, text, "handle", &mut self.handle),
+            (b'p', _) => slot(alloc, text, "priority", &mut self.priority),
+            (b'g', _) => slot(alloc, text, "gate", &mut self.gate),
+            (b'm', b'a') => slot(alloc, text, "max_sdu", &mut self.max_sdu),
+            (b'm', _) => slot(alloc, text, "meter", &mut self.meter),
+            (b'o', _) => slot(alloc, text, "oversize", &mut self.oversize),
+            _ => None,
+        }
+    }
+}
+
+/// The members of a stream gate's table, as far as they were read.
+#[derive(Drop)]
+pub struct GateMembers {
+    pub id: Option<u64>,
+    pub open: Option<bool>,
+    pub ipv: Option<u64>,
+    pub list: Option<ControlList<GateEntryDraft>>,
+    pub cycle: Option<u64>,
+    pub extension: Option<u64>,
+    pub base: Option<u64>,
+    pub invalid_rx: Option<bool>,
+    pub octets_exceeded: Option<bool>,
+}
+
+impl Gathered for GateMembers {
+    ghost slots = { gate_slots };
+
+    ghost nesting = { 2 };
+
+    fn none() -> GateMembers {
+        GateMembers {
+            id: None,
+            open: None,
+            ipv: None,
+            list: None,
+            cycle: None,
+            extension: None,
+            base: None,
+            invalid_rx: None,
+            octets_exceeded: None,
+        }
+    }
+
+    #[tactic(auto, using(crate::proofs::Values::slot_filled))]
+    fn member<'a>(&mut self, alloc: Global, text: &'a str) -> Option<&'a str> {
+        match (first(text), byte_at(text, 1)) {
+            (b'i', b'd') => slot(alloc, text, "id", &mut self.id),
+            (b'i', b'p') => slot(alloc, text, "ipv", &mut self.ipv),
+            (b'i', _) => slot(alloc, text, "invalid_rx", &mut self.invalid_rx),
+            (b'o', b'p') => slot(alloc, text, "open", &mut self.open),
+            (b'o', _) => slot(alloc, text, "octets_exceeded", &mut self.octets_exceeded),
+            (b'l', _) => slot(alloc, text, "list", &mut self.list),
+            (b'c', _) => slot(alloc, text, "cycle", &mut self.cycle),
+            (b'e', _) => slot(alloc, text, "extension", &mut self.extension),
+            (b'b', _) => slot(alloc, text, "base", &mut self.base),
+            _ => None,
+        }
+    }
+}
+
+/// The members of a meter's table, as far as they were read.
+#[derive(Drop)]
+pub struct MeterMembers {
+    pub id: Option<u64>,
+    pub cir: Option<u64>,
+    pub cbs: Option<u64>,
+    pub eir: Option<u64>,
+    pub ebs: Option<u64>,
+    pub cf: Option<bool>,
+    pub aware: Option<bool>,
+    pub drop_yellow: Option<bool>,
+    pub all_red: Option<bool>,
+}
+
+impl Gathered for MeterMembers {
+    ghost slots = { meter_slots };
+
+    ghost nesting = { 0 };
+
+    fn none() -> MeterMembers {
+        MeterMembers {
+            id: None,
+            cir: None,
+            cbs: None,
+            eir: None,
+            ebs: None,
+            cf: None,
+            aware: None,
+            drop_yellow: None,
+            all_red: None,
+        }
+    }
+
+    #[tactic(auto, using(crate::proofs::Values::slot_filled))]
+    fn member<'a>(&mut self, alloc: Global, text: &'a str) -> Option<&'a str> {
+        match (first(text), byte_at(text, 1)) {
+            (b'i', _) => slot(alloc, text, "id", &mut self.id),
+            (b'c', b'i') => slot(alloc, text, "cir", &mut self.cir),
+            (b'c', b'b') => slot(alloc, text, "cbs", &mut self.cbs),
+            (b'c', _) => slot(alloc, text, "cf", &mut self.cf),
+            (b'e', b'i') => slot(alloc, text, "eir", &mut self.eir),
+            (b'e', _) => slot(alloc, text, "ebs", &mut self.ebs),
+            (b'a', b'w') => slot(alloc, text, "aware", &mut self.aware),
+            (b'a', _) => slot(alloc, text, "all_red", &mut self.all_red),
+            (b'd', _) => slot(alloc, text, "drop_yellow", &mut self.drop_yellow),
+            _ => None,
+        }
+    }
+}
+
+impl Gathered for LimitsDraft {
+    ghost slots = { limits_slots };
+
+    ghost nesting = { 0 };
+
+    fn none() -> LimitsDraft {
+        LimitsDraft {
+            ports: None,
+            max_filters: None,
+            max_gates: None,
+            max_meters: None,
+            list_max: None,
+        }
+    }
+
+    #[tactic(auto, using(crate::proofs::Values::slot_filled))]
+    fn member<'a>(&mut self, alloc: Global, text: &'a str) -> Option<&'a str> {
+        match (first(text), byte_at(text, 4)) {
+            (b'p', _) => slot(alloc, text, "ports", &mut self.ports),
+            (b'm', b'f') => slot(alloc, text, "max_filters", &mut self.max_filters),
+            (b'm', b'g') => slot(alloc, text, "max_gates", &mut self.max_gates),
+            (b'm', _) => slot(alloc, text, "max_meters", &mut self.max_meters),
+            (b'l', _) => slot(alloc, text, "list_max", &mut self.list_max),
+            _ => None,
+        }
+    }
+}
+
+fn port_table(alloc: Global, text: &str) -> Option<(TableDraft, &str)>
+    ensures table { IfSome result (λ p. ReadsTableOf kinds.Port text.now p.0 p.1.now) }
+    ensures within { IfSome result (λ p. length p.1.now ≤ length text.now) }
+{
+    let (found, rest) = table_lines::<PortMembers>(alloc, text)?;
+    let id = found.id?;
+    let gates = found.gates?;
+    let list = found.list?;
+    let cycle = found.cycle?;
+    let extension = found.extension?;
+    let base = found.base?;
+    let admin = ScheduleDraft {
+        list,
+        cycle,
+        extension,
+        base,
+    };
+    let value = RecordDraft::Port(PortDraft { gates, admin });
+    Some((TableDraft { id, value }, rest))
+}
+
+fn filter_table(alloc: Global, text: &str) -> Option<(TableDraft, &str)>
+    ensures table { IfSome result (λ p. ReadsTableOf kinds.Filter text.now p.0 p.1.now) }
+    ensures within { IfSome result (λ p. length p.1.now ≤ length text.now) }
+{
+    let (found, rest) = table_lines::<FilterMembers>(alloc, text)?;
+    let id = found.id?;
+    let gate = found.gate?;
+    let oversize = found.oversize?;
+    let value = RecordDraft::Filter(FilterDraft {
+        handle: found.handle,
+        priority: found.priority,
+        gate,
+        max_sdu: found.max_sdu,
+        meter: found.meter,
+        oversize,
+    });
+    Some((TableDraft { id, value }, rest))
+}
+
+fn gate_table(alloc: Global, text: &str) -> Option<(TableDraft, &str)>
+    ensures table { IfSome result (λ p. ReadsTableOf kinds.Gate text.now p.0 p.1.now) }
+    ensures within { IfSome result (λ p. length p.1.now ≤ length text.now) }
+{
+    let (found, rest) = table_lines::<GateMembers>(alloc, text)?;
+    let id = found.id?;
+    let is_open = found.open?;
+    let ipv = found.ipv;
+    let list = found.list?;
+    let cycle = found.cycle?;
+    let extension = found.extension?;
+    let base = found.base?;
+    let invalid_rx = found.invalid_rx?;
+    let octets_exceeded = found.octets_exceeded?;
+    let admin = ScheduleDraft {
+        list,
+        cycle,
+        extension,
+        base,
+    };
+    let value = RecordDraft::Gate(GateDraft {
+        is_open,
+        ipv,
+        admin,
+        invalid_rx,
+        octets_exceeded,
+    });
+    Some((TableDraft { id, value }, rest))
+}
+
+fn meter_table(alloc: Global, text: &str) -> Option<(TableDraft, &str)>
+    ensures table { IfSome result (λ p. ReadsTableOf kinds.Meter text.now p.0 p.1.now) }
+    ensures within { IfSome result (λ p. length p.1.now ≤ length text.now) }
+{
+    let (found, rest) = table_lines::<MeterMembers>(alloc, text)?;
+    let id = found.id?;
+    let cir = found.cir?;
+    let cbs = found.cbs?;
+    let eir = found.eir?;
+    let ebs = found.ebs?;
+    let cf = found.cf?;
+    let aware = found.aware?;
+    let drop_yellow = found.drop_yellow?;
+    let all_red = found.all_red?;
+    let value = RecordDraft::Meter(MeterDraft {
+        cir,
+        cbs,
+        eir,
+        ebs,
+        cf,
+        aware,
+        drop_yellow,
+        all_red,
+    });
+    Some((TableDraft { id, value }, rest))
+}
+
+/// A table of that kind, behind its header. None where a member is missing, comes twice, is none of its kind or is spelled in
+/// another way, and where memory is refused.
+pub fn plain_table(alloc: Global, kind: Kind, text: &str) -> Option<(TableDraft, &str)>
+    ensures table { IfSome result (λ p. ReadsTableOf kind text.now p.0 p.1.now) }
+    ensures within { IfSome result (λ p. length p.1.now ≤ length text.now) }
+{
+    match kind {
+        Kind::Port => port_table(alloc, text),
+        Kind::Filter => filter_table(alloc, text),
+        Kind::Gate => gate_table(alloc, text),
+        Kind::Meter => meter_table(alloc, text),
+    }
+}
