@@ -1,5 +1,6 @@
 pub mod Accepting
 pub mod BareNames
+pub mod Decimals
 pub mod Documents
 pub mod Filling
 pub mod Keyed

@@ -1,5 +1,6 @@
 pub mod Examples
 pub mod Plain
+pub mod PlainNumbers
 pub mod PlainSlots
 pub mod Ranges
 pub mod Setups
