@@ -13,7 +13,7 @@ use Rattle.tsn_setup.specs.Tables.{port_entry_shape, gate_entry_shape}
 use Rattle.tsn_setup.specs.Toml.{are_among, items_list}
 use Rattle.tsn_setup.specs.Plain.{Slot, number, flag, port_list, gate_list, tables, Stands, IsOpen, Slots, slot_at, put_slot, AreOpen, Tells, names, TellsAll}
 use Rattle.tsn_setup.proofs.Ordered.{order}
-use Rattle.tsn_setup.proofs.Rows.{is_among, same_text, same_bytes, other_member, all_among}
+use Rattle.tsn_setup.proofs.Rows.{is_among, same_name, same_text, same_bytes, known_at, all_among}
 
 -- ---- nodes and the members that they stand for
 
@@ -35,14 +35,11 @@ unequal false k l is other = refl
 differ : (k l : List ℕ) → (k ≡ l → ⊥) → same_key k l ≡ false
 differ k l other = is_eq-slice_cmp k l ∙ unequal (bytes_eq k l) k l refl other
 
-same_at : (k l : List ℕ) → order k l ≡ Equal → k ≡ l
-same_at k l is = same_text k l (sym (is_eq-slice_cmp k l) ∙ ap is_eq is)
-
 insert_other_at : (o : Ordering) (l k m : List ℕ) (x y : Node) (ns : Nodes) → order k m ≡ o → (l ≡ k → ⊥) → get_node l (insert k x ns) ≡ get_node l ns
     → get_node l (match_ordering o (node k x (node m y ns)) (node m x ns) (node m y (insert k x ns))) ≡ get_node l (node m y ns)
 insert_other_at Less l k m x y ns is other later = rw (differ l k other) refl
 insert_other_at Equal l k m x y ns is other later =
-    let apart : l ≡ m → ⊥ = λ same. other (same ∙ sym (same_at k m is)) in
+    let apart : l ≡ m → ⊥ = λ same. other (same ∙ sym (same_name k m is)) in
     rw (differ l m apart) refl
 insert_other_at Greater l k m x y ns is other later = rw later refl
 
@@ -110,20 +107,12 @@ known_name : (slots : Slots) (k : List ℕ) (s : Slot) → slot_at k slots ≡ S
 known_name [] k s at = cc
 known_name (t ∷ slots) k s at = known_first (bytes_eq k t.0) k t.0 s t.1 slots refl at (known_name slots k s)
 
-never : {A : Type 0} → IsSome {T = Data} None → A
-never h = cc
-
--- a name that has a member is known
-pub known_by : (b : Bool) (ns : List (List ℕ)) (ms : Members) (k : List ℕ) → is_among ns k ≡ b → are_among ns ms ≡ true → IsSome (get_member k ms) → b ≡ true
-known_by true ns ms k is only there = refl
-known_by false ns ms k is only there = never (subst IsSome (other_member ns ms k only is) there)
-
 still_known : (b : Bool) (ns : List (List ℕ)) (k l : List ℕ) (d : Data) (before after : Members) → bytes_eq l k ≡ b → is_among ns k ≡ true → Changes k d before after → are_among ns before ≡ true → IsSome (get_member l after)
     → is_among ns l ≡ true
 still_known true ns k l d before after is known change only there = subst (λ n. is_among ns n ≡ true) (sym (same_text l k is)) known
 still_known false ns k l d before after is known change only there =
     let apart : l ≡ k → ⊥ = λ same. let equal = same_bytes l k same in cc in
-    known_by (is_among ns l) ns before l refl only (subst IsSome (change.others l apart) there)
+    known_at (is_among ns l) ns before l refl only (subst IsSome (change.others l apart) there)
 
 -- the slots say the members after the change, too
 pub told_after : (slots : Slots) (k : List ℕ) (s filled : Slot) (d : Data) (before after : Members) → Changes k d before after → slot_at k slots ≡ Some s → Stands filled (Some d) → TellsAll before slots
@@ -158,19 +147,23 @@ not_there (port_list es) (Some d) unread stands = absurd (unlisted (as_array d) 
 not_there (gate_list es) (Some d) unread stands = absurd (unlisted (as_array d) (λ items. each gate_entry_shape (items_list items)) (stands ∙ ap Ok unread))
 not_there (tables kind ts) (Some d) unread stands = absurd unread
 
-open_at : (b : Bool) (k l : List ℕ) (s t : Slot) (slots : Slots) (ms : Members) → bytes_eq k l ≡ b → (if b then Some t else slot_at k slots) ≡ Some s → IsOpen s → Stands t (get_member l ms)
-    → (slot_at k slots ≡ Some s → get_member k ms ≡ None) → get_member k ms ≡ None
-open_at true k l s t slots ms is at unread stands later =
+told_slot_at : (b : Bool) (k l : List ℕ) (s t : Slot) (slots : Slots) (ms : Members) → bytes_eq k l ≡ b → (if b then Some t else slot_at k slots) ≡ Some s → Stands t (get_member l ms) → (slot_at k slots ≡ Some s → Stands s (get_member k ms))
+    → Stands s (get_member k ms)
+told_slot_at true k l s t slots ms is at told later =
     let same = same_text k l is in
     let e : Some t ≡ Some s = at in
     let this : t ≡ s = cc in
-    not_there s (get_member k ms) unread (subst (λ n. Stands s (get_member n ms)) (sym same) (subst (λ u. Stands u (get_member l ms)) this stands))
-open_at false k l s t slots ms is at unread stands later = later at
+    subst (λ n. Stands s (get_member n ms)) (sym same) (subst (λ u. Stands u (get_member l ms)) this told)
+told_slot_at false k l s t slots ms is at told later = later at
 
--- an unread slot's name has no member
+-- what stands at a name is what its slot says
+pub told_slot : (slots : Slots) (k : List ℕ) (s : Slot) (ms : Members) → slot_at k slots ≡ Some s → Tells ms slots → Stands s (get_member k ms)
+told_slot [] k s ms at told = cc
+told_slot (t ∷ slots) k s ms at told = told_slot_at (bytes_eq k t.0) k t.0 s t.1 slots ms refl at told.0 (λ later. told_slot slots k s ms later told.1)
+
+-- an open slot's name has no member
 pub nothing_yet : (slots : Slots) (k : List ℕ) (s : Slot) (ms : Members) → slot_at k slots ≡ Some s → IsOpen s → Tells ms slots → get_member k ms ≡ None
-nothing_yet [] k s ms at unread told = cc
-nothing_yet (t ∷ slots) k s ms at unread told = open_at (bytes_eq k t.0) k t.0 s t.1 slots ms refl at unread told.0 (λ later. nothing_yet slots k s ms later unread told.1)
+nothing_yet slots k s ms at unread told = not_there s (get_member k ms) unread (told_slot slots k s ms at told)
 
 pub no_node : (o : Option Node) → option_map close_node o ≡ None → o ≡ None
 no_node None h = refl

@@ -44,7 +44,7 @@ by_order Greater l e g = g refl
 pub same_text : (a b : List ℕ) → bytes_eq a b ≡ true → a ≡ b
 same_text a b e = (bytes_eq-Decides a b).0 e
 
-same_name : (k l : List ℕ) → order k l ≡ Equal → k ≡ l
+pub same_name : (k l : List ℕ) → order k l ≡ Equal → k ≡ l
 same_name k l e = same_text k l (sym (is_eq-slice_cmp k l) ∙ ap is_eq e)
 
 equal_at : (o : Ordering) → is_eq o ≡ true → o ≡ Equal
@@ -182,7 +182,7 @@ only_among true u h = refl
 only_among false u h = cc
 
 -- a value with a member at a name has only known names
-known_at : (b : Bool) (names : List (List ℕ)) (ms : Members) (k : List ℕ) → is_among names k ≡ b → are_among names ms ≡ true → IsSome (get_member k ms) → b ≡ true
+pub known_at : (b : Bool) (names : List (List ℕ)) (ms : Members) (k : List ℕ) → is_among names k ≡ b → are_among names ms ≡ true → IsSome (get_member k ms) → b ≡ true
 known_at true names ms k is h there = refl
 known_at false names ms k is h there = let none : IsSome {T = Data} None = subst IsSome (other_member names ms k h is) there in cc
 

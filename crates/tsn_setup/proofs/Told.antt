@@ -30,7 +30,7 @@ there f None a h = cc
 there f (Some d) a h = there_at f d (f d) a refl h
 
 -- no other members
-only : (names : List (List ℕ)) (ms : Members) → are_among names ms ≡ true → has_only names (table ms) ≡ Ok tt
+pub only : (names : List (List ℕ)) (ms : Members) → are_among names ms ≡ true → has_only names (table ms) ≡ Ok tt
 only names ms h = rw h refl
 
 pub port_entry_told : (text rest : List ℕ) (m : PortEntryMembers) (gates interval : ℕ) → ReadsTable text (port_entry_slots m) rest → m.gates ≡ Some gates → m.interval ≡ Some interval

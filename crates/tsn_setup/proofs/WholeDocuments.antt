@@ -1,6 +1,5 @@
 -- Documents in the plain spelling: the limits, then one table after another.
 use Rattle.std.proofs.Common.{◌≡◌, ℕ, suc, ◌-◌, ◌<◌, List, [], ◌∷◌, ◌++◌, Bool, true, false, ◌==◌, ◌||◌, length, Option, Some, None, option_map, Ok, refl, sym, ap, subst, ◌∙◌, arith}
-use Rattle.std.specs.Prelude.{if◌then◌else◌}
 use Rattle.std.specs.List.{list_any}
 use Rattle.std.specs.Str.{bytes_eq, is_utf8}
 use Rattle.toml_parser.specs.Lexical.{first, skip_blank}
@@ -14,15 +13,16 @@ use Rattle.tsn_types.specs.declared.keys.Kind.TheVariants as kinds
 use Rattle.tsn_records.specs.Answers.{each}
 use Rattle.tsn_records.specs.Keys.{kind_text}
 use Rattle.tsn_setup.specs.Tables.{table_shape, limits_shape, tables_of_kind, tables_shape, setup_names}
-use Rattle.tsn_setup.specs.Toml.{are_among, has_only, items_list}
+use Rattle.tsn_setup.specs.Toml.{are_among, items_list}
 use Rattle.tsn_setup.specs.Setups.{document_of, setup_shape}
-use Rattle.tsn_setup.specs.Plain.{Slot, tables, tables_given, Stands, Slots, slot_at, put_slot, names, Tells, Frames, ReadsLines, IsArray, ReadsDocument, ReadsTableOf, ReadsWhole}
+use Rattle.tsn_setup.specs.Plain.{tables, tables_given, Slots, slot_at, put_slot, names, Frames, ReadsLines, IsArray, ReadsDocument, ReadsTableOf, ReadsWhole}
 use Rattle.tsn_setup.specs.PlainSlots.{limits_slots, document_slots, tables_of}
 use Rattle.tsn_setup.specs.declared.drafts.LimitsDraft.{LimitsDraft}
 use Rattle.tsn_setup.specs.declared.drafts.TableDraft.{TableDraft}
 use Rattle.tsn_setup.specs.declared.plain_documents.DocumentTables.{DocumentTables}
-use Rattle.tsn_setup.proofs.Filling.{closed_at, Changes, replaced, told_after, no_node, insert_other, replace_other, known_by}
-use Rattle.tsn_setup.proofs.Rows.{is_among, same_text, same_bytes, other_member, all_among}
+use Rattle.tsn_setup.proofs.Filling.{closed_at, Changes, replaced, told_after, no_node, insert_other, replace_other, told_slot}
+use Rattle.tsn_setup.proofs.Rows.{is_among, same_text, same_bytes, known_at, other_member, all_among}
+use Rattle.tsn_setup.proofs.Told.{only}
 use Rattle.tsn_setup.proofs.Turning.{each_last, items_pushed}
 
 -- ---- the table under a header
@@ -81,19 +81,6 @@ opening kind root ts may told = opening_at kind root ts (get_node (kind_text kin
 header_defined : (k : List ℕ) (root opened : Nodes) (path : List (List ℕ)) → at_key k array_table root ≡ Some opened → define (root, path) (([], k), array_table) ≡ Some (opened, k ∷ [])
 unfolding define along_header
 header_defined k root opened path step = rw step refl
-
-told_slot_at : (b : Bool) (k l : List ℕ) (s t : Slot) (slots : Slots) (ms : Members) → bytes_eq k l ≡ b → (if b then Some t else slot_at k slots) ≡ Some s → Stands t (get_member l ms) → (slot_at k slots ≡ Some s → Stands s (get_member k ms))
-    → Stands s (get_member k ms)
-told_slot_at true k l s t slots ms is at told later =
-    let same = same_text k l is in
-    let e : Some t ≡ Some s = at in
-    let this : t ≡ s = cc in
-    subst (λ n. Stands s (get_member n ms)) (sym same) (subst (λ u. Stands u (get_member l ms)) this told)
-told_slot_at false k l s t slots ms is at told later = later at
-
-told_slot : (slots : Slots) (k : List ℕ) (s : Slot) (ms : Members) → slot_at k slots ≡ Some s → Tells ms slots → Stands s (get_member k ms)
-told_slot [] k s ms at told = cc
-told_slot (t ∷ slots) k s ms at told = told_slot_at (bytes_eq k t.0) k t.0 s t.1 slots ms refl at told.0 (λ later. told_slot slots k s ms later told.1)
 
 -- the members around one table more of a kind
 around_changes : (kind : Kind) (root : Nodes) (ts : List TableDraft) (o : Opens kind root ts) (found : Nodes)
@@ -164,7 +151,7 @@ none_given : (kind : Kind) (found : Option Data) (ts : List TableDraft) → foun
 none_given kind found ts none nothing = ap (tables_given kind) none ∙ ap Ok (sym nothing)
 
 wider : (xs ys : List (List ℕ)) (ms : Members) → are_among xs ms ≡ true → are_among (xs ++ ys) ms ≡ true
-wider xs ys ms only = all_among (xs ++ ys) ms (λ k there. any_more (λ name. bytes_eq name k) xs ys (known_by (is_among xs k) xs ms k refl only there))
+wider xs ys ms only = all_among (xs ++ ys) ms (λ k there. any_more (λ name. bytes_eq name k) xs ys (known_at (is_among xs k) xs ms k refl only there))
 
 pub document_begun : (text rest : List ℕ) (l : LimitsDraft) (t : DocumentTables) → ReadsLines text (limits_slots l) rest → t.ports.items ≡ [] → t.filters.items ≡ [] → t.gates.items ≡ [] → t.meters.items ≡ []
     → ReadsDocument text (document_slots l t) rest
@@ -225,9 +212,6 @@ document_ended text slots rest so ends other =
 
 -- ---- the shape of the whole
 
-only_these : (names : List (List ℕ)) (ms : Members) → are_among names ms ≡ true → has_only names (table ms) ≡ Ok tt
-only_these names ms h = rw h refl
-
 pub document_shaped : (text : List ℕ) (l : LimitsDraft) (t : DocumentTables) (all : List TableDraft) → is_utf8 text ≡ true → ReadsWhole text (document_slots l t) → all ≡ t.ports.items ++ t.filters.items ++ t.gates.items ++ t.meters.items
     → (d : Data) × ((document_of text ≡ Some d) × (setup_shape d ≡ Ok (l, all)))
 unfolding setup_shape limits_shape tables_shape tables_of_kind
@@ -237,7 +221,7 @@ document_shaped text l t all utf8 read is =
       (
         rw (utf8, read.reads) refl,
         rw (
-          only_these setup_names read.found read.tells.only,
+          only setup_names read.found read.tells.only,
           told.0,
           told.1.0,
           told.1.1.0,

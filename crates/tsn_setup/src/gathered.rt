@@ -1,5 +1,5 @@
 //! Tables whose members come in any order, each once, in the plain spelling: inline ones, and those that have lines.
-ghost use Rattle.std.specs.Prelude.{◌≡◌, ◌<◌, ◌≤◌, ℕ, true, length, option_map, IfSome};
+ghost use Rattle.std.specs.Prelude.{◌≡◌, ◌<◌, ◌≤◌, ℕ, true, length, IfSome};
 ghost use Rattle.tsn_setup.specs.Plain.{Slots, AreOpen, Fills, ReadsLines, ReadsMember, ReadsTable, is_name};
 
 use crate::given::Given;
