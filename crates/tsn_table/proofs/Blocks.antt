@@ -10,7 +10,10 @@ use Rattle.std.proofs.lemmas.Bool.Decides.{nat_tests}
 use Rattle.std.proofs.lemmas.List.{take_rest}
 use Rattle.std.proofs.lemmas.List.Sorted.{IsNonDecreasingBy-from_default}
 use Rattle.tsn_table.specs.Rising.{AllNumbers, IsRising, put_number, without_number, first_from}
-use Rattle.tsn_table.specs.Blocks.{Places}
+use Rattle.tsn_table.specs.Blocks.{Places, Puts, most_more, numbers_in}
+use Rattle.tsn_table.specs.declared.block.Block.{Block}
+use Rattle.tsn_table.specs.declared.block.Put.{Put}
+use Rattle.tsn_table.specs.declared.block.Put.TheVariants.{There, Came, Full}
 use Rattle.tsn_table.proofs.Firsts.{some_of}
 use Rattle.tsn_table.proofs.Rising.{all_weaker, put_later, put_middle, without_middle, without_later, without_above}
 
@@ -132,3 +135,9 @@ pub not_there : (x least : ℕ) (xs : List ℕ) → x ≤ least → x ≢ least 
 not_there x least xs le other s =
     let less : x < least = omega (arith, le, other) in
     sym (without_above x (least ∷ xs) (less, all_weaker (λ z. least < z) (λ z. x < z) (λ z r. omega arith) xs s.0))
+
+-- a put into a block with a place leaves what it should
+pub put_fits : (x : ℕ) (old new : Block) (r : Put) → Puts x old new r → length old.more.items < most_more → numbers_in new ≡ put_number x (numbers_in old)
+put_fits x old new There is few = is.0
+put_fits x old new Came is few = is.0
+put_fits x old new Full is few = absurd (omega (arith, is.2, few))

@@ -12,7 +12,10 @@ numbers_send = search (knot.crosses, sendable, crosses) depth 60 fits 20000
 pub numbers_sync : IsSync Numbers.the_row
 numbers_sync = search (knot.crosses, sendable, crosses) depth 60 fits 20000
 
--- a table may go to another thread where its rows may
+-- a table may go to another thread where its rows may, and threads may share one where they may share its rows
 module _ (R : RattleType) where
   pub table_send : IsSend R → IsSend (Table.the_field R).row
   table_send s = search (sendable, crosses) depth 60 fits 20000
+
+  pub table_sync : IsSync R → IsSync (Table.the_field R).row
+  table_sync s = search (sendable, crosses) depth 60 fits 20000

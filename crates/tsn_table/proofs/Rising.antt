@@ -209,12 +209,12 @@ there_without x q (y ∷ ys) =
 get_map : (xs : List ℕ) (q : ℕ) → get (map_of xs) q ≡ there q xs
 get_map xs q = get-from_entries nat_cmp_total (units xs) q
 
-pub map_put : (x : ℕ) (xs : List ℕ) → map_of (put_number x xs) ≡ insert (map_of xs) x tt
+map_put : (x : ℕ) (xs : List ℕ) → map_of (put_number x xs) ≡ insert (map_of xs) x tt
 map_put x xs = same_map nat_cmp_total nat_cmp-IsAntisymmetric _ _ (λ q.
     get_map (put_number x xs) q ∙ there_put x q xs
     ∙ ap (cond (eq_by_cmp nat_cmp q x) (Some tt)) (sym (get_map xs q)) ∙ sym (get-insert nat_cmp_total (map_of xs) x tt q))
 
-pub map_without : (x : ℕ) (xs : List ℕ) → map_of (without_number x xs) ≡ remove (map_of xs) x
+map_without : (x : ℕ) (xs : List ℕ) → map_of (without_number x xs) ≡ remove (map_of xs) x
 map_without x xs = same_map nat_cmp_total nat_cmp-IsAntisymmetric _ _ (λ q.
     get_map (without_number x xs) q ∙ there_without x q xs
     ∙ ap (cond (eq_by_cmp nat_cmp q x) None) (sym (get_map xs q)) ∙ sym (get-remove nat_cmp_total (map_of xs) x q))
@@ -305,3 +305,16 @@ pub least_in : (from id : ℕ) (xs : List ℕ) (m : FinMap nat_cmp (Unit {0})) (
 least_in from id xs m o is answer s by h =
     subst (λ p. MatchOption p ⊥ (λ least. least ≤ id)) (sym (answer ∙ or_none (first_from from xs)))
     (first_least from id xs s by (subst IsSome (ap (λ (n : FinMap nat_cmp (Unit {0})). get n id) (sym is) ∙ get_map xs id) h))
+
+-- the map that a put or a removal leaves, where the map before is known by an equation
+pub put_is : (x : ℕ) (xs ys : List ℕ) (m : FinMap nat_cmp (Unit {0})) → map_of xs ≡ m → ys ≡ put_number x xs → map_of ys ≡ insert m x tt
+put_is x xs ys m before is = ap map_of is ∙ map_put x xs ∙ ap (λ (n : FinMap nat_cmp (Unit {0})). insert n x tt) before
+
+pub without_is : (x : ℕ) (xs ys : List ℕ) (m : FinMap nat_cmp (Unit {0})) → map_of xs ≡ m → ys ≡ without_number x xs → map_of ys ≡ remove m x
+without_is x xs ys m before is = ap map_of is ∙ map_without x xs ∙ ap (λ (n : FinMap nat_cmp (Unit {0})). remove n x) before
+
+pub rising_put_is : (x : ℕ) (xs ys : List ℕ) → ys ≡ put_number x xs → IsRising xs → IsRising ys
+rising_put_is x xs ys is s = subst IsRising (sym is) (rising_put x xs s)
+
+pub rising_without_is : (x : ℕ) (xs ys : List ℕ) → ys ≡ without_number x xs → IsRising xs → IsRising ys
+rising_without_is x xs ys is s = subst IsRising (sym is) (rising_without x xs s)

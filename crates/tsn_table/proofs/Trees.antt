@@ -1,42 +1,39 @@
--- Trees, and the pool that their nodes come from.
-use Rattle.std.proofs.Common.{◌≡◌, inl, inr, ℕ, ◌<◌, arith, Bool, true, false, cond, ltb, List, [], ◌∷◌, ◌++◌, Option, Some, None, refl, sym}
+-- Trees, and the nodes that they have.
+use Rattle.std.proofs.Common.{◌≡◌, inl, inr, ℕ, ◌+◌, ◌-◌, arith, List, [], ◌∷◌, ◌++◌, length, length-append, Option, Some, None, refl, sym, ap}
 use Rattle.std.specs.Prelude.{IfNone}
 use Rattle.std.specs.Option.{option_or}
 use Rattle.tsn_table.proofs.Rising.{no_next}
-use Rattle.tsn_table.specs.Rising.{first_from, put_number}
-use Rattle.tsn_table.specs.Tree.{HasPlace, HasRoom, excess_of, need_of, numbers_of}
+use Rattle.tsn_table.specs.Rising.{first_from}
+use Rattle.tsn_table.specs.Tree.{HasRoom, nodes_of, numbers_of}
 use Rattle.tsn_table.specs.declared.tree.Tree.{Tree}
 use Rattle.tsn_table.specs.declared.tree.Tree.TheBlock.{Fork'}
 use Rattle.tsn_table.specs.declared.tree.Tree.TheVariants.{Empty}
 
-pub has_place : (tree : Tree) (len capacity : ℕ) → len < capacity → HasPlace tree len capacity
-has_place Empty len capacity less = tt
-has_place (Fork' place block left_height right_height left right) len capacity less = less
-
--- a tree with a number in it has a node, so it needs no more than its blocks do
-pub needs : (tree : Tree) (x : ℕ) (xs : List ℕ) → numbers_of tree ≡ put_number x xs → need_of tree ≡ excess_of tree
-needs Empty x xs is = absurd (not_empty x xs is)
-  where
-    not_empty : (x : ℕ) (xs : List ℕ) → [] ≡ put_number x xs → ⊥
-    not_empty x [] is = absurd (cc)
-    not_empty x (y ∷ ys) is = by (ltb x y) (ltb y x) is
-      where
-        by : (a b : Bool) → [] ≡ cond a (x ∷ y ∷ ys) (y ∷ cond b (put_number x ys) ys) → ⊥
-        by true b is = absurd (cc)
-        by false b is = absurd (cc)
-needs (Fork' place block left_height right_height left right) x xs is = refl
-
--- a pool of no node has room for no number
-pub no_room : (room len capacity : ℕ) (tree : Tree) → HasRoom room len capacity tree → len ≡ 0 → room ≡ 0
-no_room room len capacity tree h none = elim h [ inl one ↦ omega (arith, one, none) | inr some ↦ omega (arith, some.0, none) ]
-
--- a tree in which no number is the first has no block
+-- a tree in which no number is the first has no node
 not_nothing : (l : List ℕ) (k : ℕ) (m : List ℕ) → l ++ k ∷ m ≡ [] → ⊥
 not_nothing [] k m is = absurd (cc)
 not_nothing (x ∷ l) k m is = absurd (cc)
 
-pub empty_excess : (tree : Tree) (first : Option ℕ) → first ≡ option_or (first_from 0 (numbers_of tree)) None → IfNone first (excess_of tree ≡ 0)
-empty_excess Empty None is = refl
-empty_excess Empty (Some n) is = tt
-empty_excess (Fork' place block left_height right_height left right) None is = absurd (not_nothing (numbers_of left) block.least _ (no_next _ (sym is)))
-empty_excess (Fork' place block left_height right_height left right) (Some n) is = tt
+pub empty_nodes : (tree : Tree) (first : Option ℕ) → first ≡ option_or (first_from 0 (numbers_of tree)) None → IfNone first (nodes_of tree ≡ 0)
+empty_nodes Empty None is = refl
+empty_nodes Empty (Some n) is = tt
+empty_nodes (Fork' place block left_height right_height left right) None is = absurd (not_nothing (numbers_of left) block.least _ (no_next _ (sym is)))
+empty_nodes (Fork' place block left_height right_height left right) (Some n) is = tt
+
+-- nor has one with no node a number
+pub no_nodes : (tree : Tree) → nodes_of tree ≡ 0 → numbers_of tree ≡ []
+no_nodes Empty none = refl
+no_nodes (Fork' place block left_height right_height left right) none = absurd (omega (arith, none))
+
+-- where none is behind the only number of a block, there is one more with it than before it
+pub one_more : (l b r : List ℕ) (x : ℕ) (first : Option ℕ) → b ≡ x ∷ [] → first ≡ option_or (first_from 0 r) None → IfNone first (length (l ++ (b ++ r)) ≡ length l + 1)
+one_more l b r x None only is = omega (arith, length-append l (b ++ r), length-append b r, ap length only, ap length (no_next r (sym is)))
+one_more l b r x (Some n) only is = tt
+
+-- a number that comes in takes room for one
+pub room_goes : (room count nodes : ℕ) → (room ≡ 0 → ⊥) → HasRoom room count nodes → HasRoom (room - 1) (count + 1) nodes
+room_goes room count nodes some h = elim h [ inl none ↦ absurd (some none) | inr is ↦ inr (omega (arith, is.0, some), omega (arith, is.1, some)) ]
+
+-- and one that goes leaves it
+pub room_stays : (room count nodes : ℕ) → HasRoom room count nodes → HasRoom room (count - 1) nodes
+room_stays room count nodes h = elim h [ inl none ↦ inl none | inr is ↦ inr (omega (arith, is.0), omega (arith, is.1)) ]

@@ -2,7 +2,7 @@
 use Rattle.std.specs.Prelude.{◌≡◌, ℕ, ◌<◌, List, ◌++◌, length}
 use Rattle.tsn_table.specs.Blocks.{numbers_in}
 use Rattle.tsn_table.specs.Rising.{IsRising, put_number, without_number}
-use Rattle.tsn_table.specs.Tree.{excess_of, need_of, numbers_of}
+use Rattle.tsn_table.specs.Tree.{numbers_of}
 use Rattle.tsn_table.specs.declared.tree.Node.{Node}
 use Rattle.tsn_table.specs.declared.tree.Side.{Side}
 use Rattle.tsn_table.specs.declared.tree.Side.TheVariants.{Left, Here, Right}
@@ -25,8 +25,7 @@ pub record BelongsRight (x : ℕ) (l b r : List ℕ) : Type 0 where
   pub rising : IsRising r
   pub shorter : length r < length (l ++ (b ++ r))
 
--- that side has a node
 abbrev pub Belongs : ℕ → Node → Side → Type 0
-Belongs x node Left = BelongsLeft x (numbers_of node.left) (numbers_in node.block) (numbers_of node.right) × (need_of node.left ≡ excess_of node.left)
+Belongs x node Left = BelongsLeft x (numbers_of node.left) (numbers_in node.block) (numbers_of node.right)
 Belongs x node Here = BelongsHere x (numbers_of node.left) (numbers_in node.block) (numbers_of node.right)
-Belongs x node Right = BelongsRight x (numbers_of node.left) (numbers_in node.block) (numbers_of node.right) × (need_of node.right ≡ excess_of node.right)
+Belongs x node Right = BelongsRight x (numbers_of node.left) (numbers_in node.block) (numbers_of node.right)

@@ -1,8 +1,6 @@
--- The numbers of a tree in their order, how far its blocks are over half full, and the nodes that wait for more numbers.
-use Rattle.std.specs.Prelude.{◌≡◌, ℕ, ◌+◌, ◌*◌, ◌^◌, ◌<◌, ◌≤◌, ◌⊎◌, length, Bool, false, List, [], ◌++◌}
-use Rattle.tsn_table.specs.Blocks.{half, numbers_in, over}
-use Rattle.tsn_table.specs.declared.block.Block.{Block}
-use Rattle.tsn_table.specs.declared.tree.Tally.{Tally}
+-- The numbers of a tree in their order, its nodes, and the nodes that a set has for its numbers.
+use Rattle.std.specs.Prelude.{◌≡◌, ℕ, ◌+◌, ◌*◌, ◌^◌, ◌<◌, ◌≤◌, ◌⊎◌, length, List, [], ◌++◌}
+use Rattle.tsn_table.specs.Blocks.{numbers_in}
 use Rattle.tsn_table.specs.declared.tree.Tree.{Tree}
 use Rattle.tsn_table.specs.declared.tree.Tree.TheBlock.{Fork'}
 use Rattle.tsn_table.specs.declared.tree.Tree.TheVariants.{Empty}
@@ -16,55 +14,30 @@ numbers_of (Fork' place block left_height right_height left right) = numbers_of 
 abbrev pub numbers_below : Node → List ℕ
 numbers_below node = numbers_of node.left ++ (numbers_in node.block ++ numbers_of node.right)
 
--- how far the blocks are over half full, in all
-abbrev pub excess_of : Tree → ℕ
-excess_of Empty = 0
-excess_of (Fork' place block left_height right_height left right) = excess_of left + over block + excess_of right
+-- how many nodes a tree has
+abbrev pub nodes_of : Tree → ℕ
+nodes_of Empty = 0
+nodes_of (Fork' place block left_height right_height left right) = nodes_of left + nodes_of right + 1
 
-abbrev pub excess_below : Node → ℕ
-excess_below node = excess_of node.left + over node.block + excess_of node.right
+abbrev pub nodes_below : Node → ℕ
+nodes_below node = nodes_of node.left + nodes_of node.right + 1
 
--- the same, where the first number of an empty tree needs a node too
-abbrev pub need_of : Tree → ℕ
-need_of Empty = half
-need_of (Fork' place block left_height right_height left right) = excess_of left + over block + excess_of right
+-- no node has a left side, so the nodes stand in one row
+abbrev pub IsRow : Tree → Type 0
+IsRow Empty = Unit {0}
+IsRow (Fork' place block left_height right_height left right) = (left ≡ Empty) × IsRow right
 
--- at most one of so many nodes goes, and none comes
-abbrev pub Takes : ℕ → ℕ → Type 0
-Takes old new = (old ≤ new + 1) × (new ≤ old)
+-- Two nodes of a row that stand side by side have 64 numbers or more: so its nodes are few. This is what is known of their sum,
+-- where the numbers of the first node count twice.
+abbrev pub IsPacked : Tree → Type 0
+IsPacked Empty = Unit {0}
+IsPacked (Fork' place block left_height right_height left right) =
+    64 * (nodes_of left + nodes_of right + 1) + length (numbers_in block) ≤ 2 * length (numbers_of left ++ (numbers_in block ++ numbers_of right)) + 64
 
--- some nodes come, for which there is a place, and none goes
-abbrev pub Gives : ℕ → ℕ → ℕ → Type 0
-Gives old new capacity = (old ≤ new) × ((old ≡ new) ⊎ (new ≤ capacity))
+-- how many numbers a set has for each of its nodes but one, if it has all that it has room for
+abbrev pub share : ℕ
+share = 24
 
--- a tree is one node at most, and what it has goes into half a block with what another block has
-abbrev pub FitsBeside : Tree → Block → Type 0
-FitsBeside Empty beside = Unit {0}
-FitsBeside (Fork' place block left_height right_height left right) beside =
-    (left ≡ Empty) × (right ≡ Empty) × (length beside.more.items + length block.more.items < half)
-
--- a pool has a place for the node that a tree would give back
-abbrev pub HasPlace : Tree → ℕ → ℕ → Type 0
-HasPlace Empty len capacity = Unit {0}
-HasPlace (Fork' place block left_height right_height left right) len capacity = len < capacity
-
--- So many nodes are enough for count new numbers: one for each; or else one for half a block of them, and of the numbers
--- that blocks have over their halves, since a block comes to be full by these alone, and each half of it has a node then.
-abbrev pub IsEnough : ℕ → ℕ → ℕ → Type 0
-IsEnough count nodes need = (count ≤ nodes) ⊎ (count + need ≤ half * nodes)
-
--- a pool is enough for so many new numbers, also after others were taken out
-abbrev pub HasRoom : ℕ → ℕ → ℕ → Tree → Type 0
-HasRoom room len capacity tree = (room ≤ len) ⊎ ((room + need_of tree ≤ half * len) × HasPlace tree len capacity)
-
--- what is left of room for so many numbers: one less, unless no number came in, or there is a node for each
-abbrev pub IsLeft : ℕ → ℕ → Bool → ℕ → Type 0
-IsLeft room nodes came left = ((came ≡ false) × (left ≡ room)) ⊎ (((room ≤ nodes) × (left ≡ room)) ⊎ ((nodes < room) × (left + 1 ≡ room)))
-
--- a count is no less than n, or is the greatest there is
-abbrev pub IsAtLeast : ℕ → ℕ → Type 0
-IsAtLeast count n = (n ≤ count) ⊎ (2 ^ 64 ≤ count + 1)
-
--- nothing is counted yet
-abbrev pub IsNone : Tally → Type 0
-IsNone tally = (tally.less ≡ 0) × (tally.more ≡ 0) × (tally.came ≡ false)
+-- So many nodes are enough for room more numbers beside count that are there: packed, all these numbers leave a node over.
+abbrev pub HasRoom : ℕ → ℕ → ℕ → Type 0
+HasRoom room count nodes = (room ≡ 0) ⊎ ((room + count + share ≤ share * nodes) × (room + count < 2 ^ 64))

@@ -2,15 +2,16 @@
 ghost use Rattle.std.specs.Prelude.{◌≡◌, true, false, [], ◌∷◌, ◌++◌, ◌+◌, ◌<◌, ◌≤◌, length};
 ghost use Rattle.std.specs.Option.{is_none, option_or};
 ghost use Rattle.std.specs.List.Sorted.{IsSearchInRange};
-ghost use Rattle.tsn_table.specs.Blocks.{Places, half, most_more, numbers_in, over};
+ghost use Rattle.tsn_table.specs.Blocks.{Places, Puts, half, most_more, numbers_in, one_if};
 ghost use Rattle.tsn_table.specs.Rising.{IsRising, first_from, put_number, without_number};
 
 use arrayvec::ArrayVec;
 
-/// How many numbers a block can have behind its least one, and half of that.
+/// How many numbers a block can have behind its least one.
 pub(crate) const MORE: usize = 62;
 
-pub(crate) const HALF: usize = 31;
+// Half of that.
+const HALF: usize = 31;
 
 /// Some numbers, of which there is always one.
 #[derive(Debug, Drop)]
@@ -19,6 +20,14 @@ pub(crate) struct Block {
     more: ArrayVec<u64, MORE>,
     // behind them, since a way down a tree reads it with their count, which lies at their end
     least: u64,
+}
+
+/// What became of a number that was to be put into a block: it was there already, came in, or had no place.
+#[derive(Clone, Copy)]
+pub(crate) enum Put {
+    There,
+    Came,
+    Full,
 }
 
 // Where a number stands among rising ones, or else where it would stand.
@@ -66,19 +75,11 @@ impl Block {
 
     /// A block of the same numbers.
     pub(crate) fn copy(&self) -> Block
-        ensures numbers { numbers_in result ≡ numbers_in self.now }
-        ensures over { over result ≡ over self.now }
+        ensures { numbers_in result ≡ numbers_in self.now }
     {
         let mut copy = Block::new(self.least);
         fill(&mut copy.more, self.more.as_slice());
         copy
-    }
-
-    /// How many numbers the block has over its half.
-    pub(crate) fn over(&self) -> usize
-        ensures { result ≡ over self.now }
-    {
-        self.more.len().saturating_sub(HALF).min(HALF)
     }
 
     /// Makes it the block of one number.
@@ -127,49 +128,44 @@ impl Block {
         }
     }
 
-    /// Puts a number in. It tells whether it is there now; else the block has as many as it can, and stays as it is.
-    pub(crate) fn put(&mut self, id: u64) -> bool
+    /// Puts a number in, and tells what became of it. A full block stays as it is.
+    pub(crate) fn put(&mut self, id: u64) -> Put
         requires rising { IsRising (numbers_in self.old) }
-        ensures put { result ≡ true → numbers_in self.new ≡ put_number id (numbers_in self.old) }
-        ensures over { result ≡ true → over self.new ≤ over self.old + 1 }
-        ensures longer { length self.old.more.items ≤ length self.new.more.items }
-        ensures room { length self.old.more.items < most_more → result ≡ true }
-        ensures full { result ≡ false → length self.old.more.items ≡ most_more }
-        ensures unchanged { result ≡ false → self.new ≡ self.old }
+        ensures { Puts id self.old self.new result }
     {
         if id < self.least {
             return self.put_first(id);
         }
         if id == self.least {
-            return true;
+            return Put::There;
         }
         match seek(self.more.as_slice(), id) {
-            Ok(_) => true,
-            Err(place) => self.more.try_insert(place, id).is_ok(),
+            Ok(_) => Put::There,
+            Err(place) => match self.more.try_insert(place, id) {
+                Ok(()) => Put::Came,
+                Err(_) => Put::Full,
+            },
         }
     }
 
     // The same of a number below all others.
-    fn put_first(&mut self, id: u64) -> bool
-        ensures put { result ≡ true → numbers_in self.new ≡ id ∷ numbers_in self.old }
-        ensures over { result ≡ true → over self.new ≤ over self.old + 1 }
-        ensures room { length self.old.more.items < most_more → result ≡ true }
-        ensures full { result ≡ false → length self.old.more.items ≡ most_more }
-        ensures unchanged { result ≡ false → self.new ≡ self.old }
+    fn put_first(&mut self, id: u64) -> Put
+        requires rising { IsRising (numbers_in self.old) }
+        requires less { id < self.old.least }
+        ensures { Puts id self.old self.new result }
     {
         if self.more.try_insert(0, self.least).is_err() {
-            return false;
+            return Put::Full;
         }
         self.least = id;
-        true
+        Put::Came
     }
 
     /// Puts a number into a full block, whose upper half goes to another one, the numbers of which go.
     pub(crate) fn put_in_half(&mut self, id: u64, upper: &mut Block)
         requires rising { IsRising (numbers_in self.old) }
         requires full { length self.old.more.items ≡ most_more }
-        ensures numbers { numbers_in self.new ++ numbers_in upper.new ≡ put_number id (numbers_in self.old) }
-        ensures over { over self.new + over upper.new ≤ 1 }
+        ensures { numbers_in self.new ++ numbers_in upper.new ≡ put_number id (numbers_in self.old) }
     {
         self.divide(upper);
         if id < upper.least {
@@ -192,29 +188,44 @@ impl Block {
         self.more.truncate(HALF);
     }
 
-    /// Takes in the numbers of another block behind its own ones. They go into half a block.
+    /// Whether the numbers of another block go into this one, too.
+    pub(crate) fn has_place_for(&self, other: &Block) -> bool
+        ensures some { result ≡ true → length self.now.more.items + length other.now.more.items < most_more }
+        ensures none { result ≡ false → most_more ≤ length self.now.more.items + length other.now.more.items }
+    {
+        self.more.len() + other.more.len() < MORE
+    }
+
+    /// Takes in the numbers of another block behind its own ones.
     pub(crate) fn append(&mut self, other: &Block)
-        requires few { length self.old.more.items + length other.now.more.items < half }
-        ensures numbers { numbers_in self.new ≡ numbers_in self.old ++ numbers_in other.now }
-        ensures over { over self.new ≡ 0 }
+        requires few { length self.old.more.items + length other.now.more.items < most_more }
+        ensures { numbers_in self.new ≡ numbers_in self.old ++ numbers_in other.now }
     {
         self.more.push(other.least);
         let _ = self.more.try_extend_from_slice(other.more.as_slice());
     }
 
-    /// Takes a number out, where it is there and not the only one.
-    pub(crate) fn take(&mut self, id: u64)
+    /// Takes a number out, where it is there and not the only one. It tells whether it was there.
+    #[tactic(auto, using(crate::proofs::Blocks::least_goes, crate::proofs::Blocks::not_there))]
+    pub(crate) fn take(&mut self, id: u64) -> bool
         requires rising { IsRising (numbers_in self.old) }
         requires others { self.old.least ≡ id → 0 < length self.old.more.items }
         ensures numbers { numbers_in self.new ≡ without_number id (numbers_in self.old) }
-        ensures over { over self.new ≤ over self.old }
+        ensures shorter { length (numbers_in self.old) ≡ length (numbers_in self.new) + one_if result }
     {
-        if id <= self.least {
-            if id == self.least {
-                self.least = self.more.remove(0);
+        if id == self.least {
+            self.least = self.more.remove(0);
+            return true;
+        }
+        if id < self.least {
+            return false;
+        }
+        match seek(self.more.as_slice(), id) {
+            Ok(place) => {
+                self.more.remove(place);
+                true
             }
-        } else if let Ok(place) = seek(self.more.as_slice(), id) {
-            self.more.remove(place);
+            Err(_) => false,
         }
     }
 }

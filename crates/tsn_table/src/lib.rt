@@ -25,6 +25,7 @@ use std::mem;
 mod block;
 mod hints;
 mod numbers;
+mod packing;
 mod tree;
 
 pub use numbers::Numbers;
@@ -173,8 +174,9 @@ impl<R: Drop> Table<R> {
             return Some(replace_at(&mut self.rows, id, place, row));
         }
         self.room -= 1;
+        let place = self.rows.len();
         set_row(&mut self.rows, id, row);
-        self.hints.note(id, self.rows.len() - 1);
+        self.hints.note(id, place);
         None
     }
 
@@ -196,6 +198,7 @@ impl<R: Drop> Table<R> {
 }
 
 // The place of the number's row, none where it has none.
+#[tactic(auto, using(crate::proofs::Places::lies_at, crate::proofs::Places::found_there))]
 fn place_of<R>(rows: &IndexMap<u64, R>, hints: &Hints, id: u64) -> Option<usize>
     ensures { MatchOption result (hash.get nat_eq rows.now id ≡ None) (λ place. LiesAt rows.now id place) }
 {
@@ -223,6 +226,7 @@ fn replace_at<R: Drop>(rows: &mut IndexMap<u64, R>, id: u64, place: usize, row: 
 }
 
 // Takes the row of the number, which lies at the place, out and gives it.
+
 fn take_at<R: Drop>(rows: &mut IndexMap<u64, R>, id: u64, place: usize) -> R
     requires { LiesAt rows.old id place }
     ensures before { hash.get nat_eq rows.old id ≡ Some result }

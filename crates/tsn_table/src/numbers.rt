@@ -3,12 +3,17 @@
 //! A `Numbers` is a search tree of blocks of numbers that its users see as a finite map from its numbers to nothing, and
 //! beside it the number of new numbers that it still has room for. To put a number in or to take one out costs the
 //! logarithm of how many there are.
-ghost use Rattle.std.specs.Prelude.{◌≡◌, ℕ, ◌+◌, ◌≤◌, ◌⊎◌, IsOk, IsSome, IfOk, IfSome, OnOk, OnErr, MatchOption};
+//!
+//! A set has a node for each 24 of the numbers that it has and has room for, and one more, whatever the order in which they
+//! come and go: room that a number leaves serves any other one. Where no node waits, blocks that stand side by side are packed
+//! together, which gives back a quarter of the nodes.
+ghost use Rattle.std.specs.Prelude.{◌≡◌, ℕ, ◌+◌, ◌*◌, ◌^◌, ◌<◌, ◌≤◌, ◌⊎◌, IsOk, IsSome, IfOk, IfSome, OnOk, OnErr, MatchOption};
 ghost use Rattle.std.specs.FinMap as map;
+ghost use Rattle.std.specs.Vec.{vec_capacity, vec_len};
+ghost use Rattle.tsn_table.specs.Tree.{HasRoom, share};
 
-use crate::tree::{
-    Node, Tally, Tree, copy_in, fill_pool, first_in, nodes_for, put_among, room_left, take_out,
-};
+use crate::packing::{pack, put_packed};
+use crate::tree::{Node, Tree, copy_in, fill_pool, first_in, take_out};
 use std::alloc::{AllocError, Global};
 use std::marker::Model;
 
@@ -17,11 +22,14 @@ use std::marker::Model;
 #[derive(Debug)]
 pub struct Numbers {
     tree: Tree,
-    // nodes that wait, which are enough for `room` new numbers
+    // nodes that wait, with a place for each node of the tree
     pool: Vec<Box<Node>>,
+    // how many new numbers were promised room, and how many have room whenever numbers go
     room: usize,
-    // how far the blocks are over half full in all, or the greatest number there is
-    excess: usize,
+    kept: usize,
+    // how many numbers there are, and how many nodes in the tree and in the pool
+    count: usize,
+    nodes: usize,
 }
 
 impl Model for Numbers {
@@ -33,12 +41,13 @@ impl Model for Numbers {
 
     ghost coded = { table_code coded_unit };
 
-    ghost use Rattle.tsn_table.specs.Rising.{IsRising, map_of};
-    ghost use Rattle.tsn_table.specs.Tree.{HasRoom, IsAtLeast, excess_of, numbers_of};
+    ghost use Rattle.tsn_table.specs.Kept.{IsKept};
+    ghost use Rattle.tsn_table.specs.Rising.{map_of};
+    ghost use Rattle.tsn_table.specs.Tree.{numbers_of};
 
     ghost view = { λ a. record { map = map_of (numbers_of a.tree); spare = a.room } };
 
-    ghost invariant = { λ a. IsRising (numbers_of a.tree) × HasRoom a.room (vec_len a.pool) (vec_capacity a.pool) a.tree × IsAtLeast a.excess (excess_of a.tree) };
+    ghost invariant = { λ a. IsKept a.tree (vec_len a.pool) (vec_capacity a.pool) a.room a.count a.nodes };
 }
 
 // Written out, so that a proof of what holds a set does not go by whether its tree is empty.
@@ -48,9 +57,32 @@ impl Drop for Numbers {
             tree: _,
             pool: _,
             room: _,
-            excess: _,
+            kept: _,
+            count: _,
+            nodes: _,
         } = self;
     }
+}
+
+// How many numbers a set counts on for each of its nodes but one.
+const SHARE: usize = 24;
+
+// For how many new numbers so many nodes are enough, beside the numbers that are there.
+fn room_of(nodes: usize, count: usize) -> usize
+    ensures { HasRoom result count nodes }
+{
+    nodes
+        .saturating_sub(1)
+        .saturating_mul(SHARE)
+        .saturating_sub(count)
+}
+
+// How many nodes are enough for so many new numbers beside those that are there, none where they can't be counted.
+fn nodes_for(room: usize, count: usize) -> Option<usize>
+    ensures { IfSome result (HasRoom room count) }
+{
+    let numbers = room.checked_add(count)?;
+    Some(numbers / SHARE + 2)
 }
 
 impl Numbers {
@@ -63,7 +95,9 @@ impl Numbers {
             tree: Tree::Empty,
             pool: Vec::new(alloc),
             room: 0,
-            excess: 0,
+            kept: 0,
+            count: 0,
+            nodes: 0,
         }
     }
 
@@ -85,40 +119,68 @@ impl Numbers {
         ensures enough { count ≤ self.old.spare → IsOk result }
     {
         if self.room < count {
-            if self.pool.len() < count {
-                let nodes = nodes_for(count, self.excess);
-                fill_pool(&mut self.pool, nodes)?;
+            if room_of(self.nodes, self.count) < count {
+                let nodes = nodes_for(count, self.count).ok_or(AllocError)?;
+                let waiting = self.pool.len();
+                let filled = fill_pool(&mut self.pool, self.nodes, nodes, count);
+                self.nodes += self.pool.len() - waiting;
+                filled?;
             }
             self.room = count;
+            self.kept = self.kept.max(count.saturating_mul(2).saturating_add(2));
         }
         Ok(())
     }
 
     /// Puts a number in. A new number needs room and takes room for one; a number that is there takes none. It takes no
     /// memory.
+    #[tactic(auto, using(crate::proofs::Rising::put_is, crate::proofs::Rising::rising_put_is, crate::proofs::Rising::put_nothing))]
     pub fn put(&mut self, id: u64)
         requires { IsSome (map.get self.old.map id) ⊎ (1 ≤ self.old.spare) }
         ensures map { self.new.map ≡ map.insert self.old.map id tt }
         ensures room { self.old.spare ≤ self.new.spare + 1 }
     {
-        // with no node there is no room, so the number is there
-        if self.pool.is_empty() {
+        // with no room the number is there
+        if self.room == 0 {
             return;
         }
-        let mut tally = Tally::none();
-        put_among(&mut self.tree, id, &mut self.pool, &mut tally);
-        self.excess = tally.applied(self.excess);
-        self.room = room_left(self.room, self.pool.len(), tally.came);
+        let mut came = false;
+        put_packed(&mut self.tree, id, &mut self.pool, self.nodes, &mut came);
+        if came {
+            self.count += 1;
+            self.room -= 1;
+        }
     }
 
     /// Takes a number out, if it is there.
+    #[tactic(auto, using(crate::proofs::Rising::without_is, crate::proofs::Rising::rising_without_is))]
     pub fn take(&mut self, id: u64)
         ensures map { self.new.map ≡ map.remove self.old.map id }
         ensures room { self.old.spare ≤ self.new.spare }
     {
-        let mut tally = Tally::none();
-        take_out(&mut self.tree, id, &mut self.pool, &mut tally);
-        self.excess = tally.applied(self.excess);
+        let mut gone = false;
+        take_out(&mut self.tree, id, &mut self.pool, &mut gone);
+        if gone {
+            self.count -= 1;
+            self.let_go();
+        }
+    }
+
+    // Lets a node go where the others are enough for the room that is kept. Where no node waits, and half of them would be enough,
+    // the tree is packed, so that later ones can go.
+    fn let_go(&mut self)
+        ensures map { self.new.map ≡ self.old.map }
+        ensures spare { self.new.spare ≡ self.old.spare }
+    {
+        let kept = self.room.max(self.kept);
+        if self.pool.is_empty() {
+            if kept < room_of(self.nodes / 2, self.count) {
+                pack(&mut self.tree, &mut self.pool, self.nodes);
+            }
+        } else if kept < room_of(self.nodes - 1, self.count) {
+            self.pool.pop();
+            self.nodes -= 1;
+        }
     }
 
     /// A set of the same numbers that has room for no new one. Refused only for want of memory.
@@ -127,11 +189,14 @@ impl Numbers {
         ensures spare { IfOk result (λ copy. copy.spare ≡ 0) }
     {
         let alloc = *self.pool.allocator();
+        let nodes = self.nodes - self.pool.len();
         Ok(Numbers {
             tree: copy_in(&self.tree, alloc)?,
-            pool: Vec::new(alloc),
+            pool: Vec::with_capacity(alloc, nodes)?,
             room: 0,
-            excess: self.excess,
+            kept: 0,
+            count: self.count,
+            nodes,
         })
     }
 }

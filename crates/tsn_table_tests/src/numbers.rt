@@ -161,6 +161,54 @@ fn much_room_at_once(rt: HostRuntime) -> Result<(), Fail> {
     Ok(())
 }
 
+// How many numbers more than the address space has room for.
+const ABSURD: usize = 1 << 44;
+
+#[test]
+fn absurd_room_is_refused_at_once(rt: HostRuntime) -> Result<(), Fail> {
+    let mut numbers = three_numbers(rt.alloc())?;
+    same(&rt, &numbers.reserve(ABSURD), &Err(AllocError));
+    same(&rt, &numbers.reserve(usize::MAX), &Err(AllocError));
+    numbers.reserve(1)?;
+    numbers.put(5);
+    same(
+        &rt,
+        &listed(&numbers, rt.alloc(), 9)?.as_slice(),
+        &[1, 4, 5, 6].as_slice(),
+    );
+    Ok(())
+}
+
+// Of many numbers one in so many stays, and then as many come in again, elsewhere: the nodes of those that went serve them.
+#[test]
+fn numbers_that_thin_out(rt: HostRuntime) -> Result<(), Fail> {
+    for apart in [2, 7, 33, 64, 1_000] {
+        let mut numbers = many(rt.alloc(), |n| n.wrapping_mul(2))?;
+        let mut list = Vec::new(rt.alloc());
+        for n in 0..MANY {
+            if n % apart == 0 {
+                list.push(n * 2)?;
+            } else {
+                numbers.take(n * 2);
+            }
+        }
+        for n in 0..MANY / 4 {
+            numbers.reserve(1)?;
+            numbers.put(n * 2 + 1);
+        }
+        for n in 0..MANY / 4 {
+            list.push(n * 2 + 1)?;
+        }
+        list.sort_unstable();
+        same(
+            &rt,
+            &listed(&numbers, rt.alloc(), 2 * MANY as usize)?.as_slice(),
+            &list.as_slice(),
+        );
+    }
+    Ok(())
+}
+
 // The next state of a generator, and a number below `bound` from it.
 fn drawn(seed: u64, bound: u64) -> (u64, u64)
     requires { 0 < bound }

@@ -2,6 +2,7 @@
 use crate::comparing::same;
 use std::alloc::{AllocError, Global};
 use std::test::Fail;
+use std::thread::{Threads, join};
 use tsn_table::Table;
 
 // A table of the numbers 4, 1 and 6, which come in this order; each row is ten times its number.
@@ -176,5 +177,19 @@ fn the_largest_table_is_listed_and_copied(rt: HostRuntime) -> Result<(), Fail> {
     }
     same(&rt, &copy.get(0).copied(), &Some(65_535));
     same(&rt, &copy.get(65_535).copied(), &Some(0));
+    Ok(())
+}
+
+// What two threads find in one table.
+fn found_by_two<R: Threads + Sync>(rt: &R, table: &Table<u64>) -> (Option<u64>, Option<u64>) {
+    join(rt, || table.get(4).copied(), || table.get(6).copied())
+}
+
+#[test]
+fn threads_share_a_table(rt: HostRuntime) -> Result<(), Fail> {
+    let table = three_rows(rt.alloc())?;
+    let (first, second) = found_by_two(&rt, &table);
+    same(&rt, &first, &Some(40));
+    same(&rt, &second, &Some(60));
     Ok(())
 }

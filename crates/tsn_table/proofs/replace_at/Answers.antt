@@ -13,5 +13,5 @@ returns-clause-before g c =
 pub returns-clause-rows : goal.returns-clause-rows
 returns-clause-rows g c = λ q.
     let rows = c.args.rows.now in
-    (updates-with_value_at rows c.args.place c.replace.new.dest nat_eq_equiv c.get_index_mut.ensures.unique c.args.id c.requires.0 c.requires.1).0 q
+    (updates-with_value_at rows c.args.place c.replace.new.dest nat_eq_equiv c.get_index_mut.ensures.unique c.args.id c.requires.row c.requires.is_there).0 q
     ∙ ap (λ r. cond (nat_eq c.args.id q) (Some r) (hash.get nat_eq rows q)) c.replace.ensures.after

@@ -1,7 +1,7 @@
 use Rattle.std.proofs.Common.{◌<◌, sym, ap, subst, ◌∙◌}
 use Rattle.tsn_table.specs.Blocks.{numbers_in}
 use Rattle.tsn_table.specs.Rising.{AllNumbers}
-use Rattle.tsn_table.specs.Tree.{excess_of, need_of, numbers_of}
+use Rattle.tsn_table.specs.Tree.{numbers_of}
 use Rattle.tsn_table.proofs.Rising.{rising_back}
 use Rattle.tsn_table.proofs.Sides.{belongs_left, belongs_here, belongs_right, left_below, right_above, right_of, rising_block}
 use Rattle.tsn_table.proofs.tree.side_of.Goals as goal
@@ -21,10 +21,8 @@ returns-in-Empty c =
 
 pub returns-in-Fork : goal.returns-in-Fork
 returns-in-Fork c =
-    let node = c.args.node.now in (
-      belongs_left c.args.id (numbers_of node.left) node.block.least node.block.more.items (numbers_of node.right) (rw c.least.ensures at c.if-id-least.true) c.requires.rising,
-      ap need_of c.in-Fork.is ∙ sym (ap excess_of c.in-Fork.is),
-    )
+    let node = c.args.node.now in
+    belongs_left c.args.id (numbers_of node.left) node.block.least node.block.more.items (numbers_of node.right) (rw c.least.ensures at c.if-id-least.true) c.requires.rising
 
 pub returns-in-Empty-right : goal.returns-in-Empty-right
 returns-in-Empty-right c =
@@ -37,10 +35,8 @@ returns-in-Empty-right c =
 pub returns-in-Fork-right : goal.returns-in-Fork-right
 returns-in-Fork-right c =
     let node = c.args.node.now in
-    let none = sym c.ends_below.ensures ∙ c.if-ends_below.true in (
-      belongs_right c.args.id (numbers_of node.left) node.block.least node.block.more.items (numbers_of node.right) (rw c.least.ensures at c.if-id-least.false) none c.requires.rising,
-      ap need_of c.in-Fork-right.is ∙ sym (ap excess_of c.in-Fork-right.is),
-    )
+    let none = sym c.ends_below.ensures ∙ c.if-ends_below.true in
+    belongs_right c.args.id (numbers_of node.left) node.block.least node.block.more.items (numbers_of node.right) (rw c.least.ensures at c.if-id-least.false) none c.requires.rising
 
 pub returns-else-ends_below : goal.returns-else-ends_below
 returns-else-ends_below c =

@@ -8,4 +8,4 @@ pub returns-clause-there : goal.returns-clause-there
 returns-clause-there c = there_in c.args.from (numbers_of c.self.inside.tree) _ _ (ap (λ (r : TableView _). r.map) c.self.view_is) c.first_in.ensures
 
 pub returns-clause-least : goal.returns-clause-least
-returns-clause-least c id by there = least_in c.args.from id (numbers_of c.self.inside.tree) _ _ (ap (λ (r : TableView _). r.map) c.self.view_is) c.first_in.ensures c.self.invariant.0 by there
+returns-clause-least c id by there = least_in c.args.from id (numbers_of c.self.inside.tree) _ _ (ap (λ (r : TableView _). r.map) c.self.view_is) c.first_in.ensures c.self.invariant.rising by there

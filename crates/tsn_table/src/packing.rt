@@ -1,0 +1,124 @@
+//! A tree packed into few nodes.
+//!
+//! The nodes of the tree are put in a row from the right, and where the numbers of one go into the block of the next, they do, and a
+//! node goes to the pool. Then the row is made a tree again whose sides are as high as each other, or differ by one. All nodes are
+//! touched once, and no memory is taken.
+ghost use Rattle.std.specs.Prelude.{◌≡◌, ◌+◌, ◌*◌, ◌<◌, ◌≤◌, ◌++◌, length};
+ghost use Rattle.std.specs.Vec.{vec_capacity, vec_len};
+ghost use Rattle.tsn_table.specs.Blocks.{numbers_in, one_if};
+ghost use Rattle.tsn_table.specs.Rising.{IsRising, put_number};
+ghost use Rattle.tsn_table.specs.Tree.{nodes_below, nodes_of, numbers_below, numbers_of, share, IsPacked, IsRow};
+
+use crate::tree::{Node, Tree, put_among};
+use std::mem;
+
+/// Packs the blocks of a tree, which has so many nodes with those of the pool. Where it has fewer than 24 numbers for each of its
+/// nodes but one, a node at least goes to the pool.
+pub(crate) fn pack(tree: &mut Tree, pool: &mut Vec<Box<Node>>, nodes: usize)
+    requires nodes { nodes ≡ nodes_of tree.old + vec_len pool.old }
+    requires place { nodes ≤ vec_capacity pool.old }
+    ensures numbers { numbers_of tree.new ≡ numbers_of tree.old }
+    ensures nodes { nodes_of tree.new + vec_len pool.new ≡ nodes_of tree.old + vec_len pool.old }
+    ensures capacity { vec_capacity pool.new ≡ vec_capacity pool.old }
+    ensures some { length (numbers_of tree.old) + share < share * nodes_of tree.old → vec_len pool.old < vec_len pool.new }
+{
+    let mut row = row_of(mem::replace(tree, Tree::Empty), Tree::Empty, pool);
+    *tree = raised(&mut row, nodes - pool.len());
+}
+
+/// Puts a number into a tree, and says whether it came in. The tree is packed first where no node waits.
+pub(crate) fn put_packed(
+    tree: &mut Tree,
+    id: u64,
+    pool: &mut Vec<Box<Node>>,
+    nodes: usize,
+    came: &mut bool,
+)
+    requires rising { IsRising (numbers_of tree.old) }
+    requires nodes { nodes ≡ nodes_of tree.old + vec_len pool.old }
+    requires place { nodes ≤ vec_capacity pool.old }
+    requires few { length (numbers_of tree.old) + share < share * nodes }
+    ensures numbers { numbers_of tree.new ≡ put_number id (numbers_of tree.old) }
+    ensures longer { length (numbers_of tree.new) ≡ length (numbers_of tree.old) + one_if came.new }
+    ensures nodes { nodes ≡ nodes_of tree.new + vec_len pool.new }
+    ensures capacity { vec_capacity pool.new ≡ vec_capacity pool.old }
+{
+    if pool.is_empty() {
+        pack(tree, pool, nodes);
+    }
+    put_among(tree, id, pool, came);
+}
+
+// The nodes of a tree in a row, before another row.
+fn row_of(tree: Tree, behind: Tree, pool: &mut Vec<Box<Node>>) -> Tree
+    requires row { IsRow behind }
+    requires packed { IsPacked behind }
+    requires place { nodes_of tree + nodes_of behind + vec_len pool.old ≤ vec_capacity pool.old }
+    ensures row { IsRow result }
+    ensures packed { IsPacked result }
+    ensures numbers { numbers_of result ≡ numbers_of tree ++ numbers_of behind }
+    ensures nodes { nodes_of result + vec_len pool.new ≡ nodes_of tree + nodes_of behind + vec_len pool.old }
+    ensures capacity { vec_capacity pool.new ≡ vec_capacity pool.old }
+{
+    match tree {
+        Tree::Empty => behind,
+        Tree::Fork(mut node) => {
+            let left = mem::replace(&mut node.left, Tree::Empty);
+            let right = mem::replace(&mut node.right, Tree::Empty);
+            let behind = row_of(right, behind, pool);
+            let row = before(node, behind, pool);
+            row_of(left, row, pool)
+        }
+    }
+}
+
+// A node that has no sides before a row, where the block of the row's first node goes into its own one if it can.
+fn before(mut node: Box<Node>, behind: Tree, pool: &mut Vec<Box<Node>>) -> Tree
+    requires left { nodes_of node.value.left ≡ 0 }
+    requires right { nodes_of node.value.right ≡ 0 }
+    requires row { IsRow behind }
+    requires packed { IsPacked behind }
+    requires place { nodes_of behind + vec_len pool.old < vec_capacity pool.old }
+    ensures row { IsRow result }
+    ensures packed { IsPacked result }
+    ensures numbers { numbers_of result ≡ numbers_in node.value.block ++ numbers_of behind }
+    ensures nodes { nodes_of result + vec_len pool.new ≡ nodes_of behind + 1 + vec_len pool.old }
+    ensures capacity { vec_capacity pool.new ≡ vec_capacity pool.old }
+{
+    node.left = Tree::Empty;
+    match behind {
+        Tree::Fork(mut next) if node.block.has_place_for(&next.block) => {
+            node.block.append(&next.block);
+            node.right = mem::replace(&mut next.right, Tree::Empty);
+            pool.push_reserved(next);
+        }
+        row => node.right = row,
+    }
+    Tree::Fork(node)
+}
+
+// The tree of so many nodes, the first ones of a row.
+fn raised(row: &mut Tree, count: usize) -> Tree
+    requires row { IsRow row.old }
+    requires enough { count ≤ nodes_of row.old }
+    ensures row { IsRow row.new }
+    ensures numbers { numbers_of row.old ≡ numbers_of result ++ numbers_of row.new }
+    ensures count { nodes_of result ≡ count }
+    ensures nodes { nodes_of row.old ≡ count + nodes_of row.new }
+{
+    if count == 0 {
+        return Tree::Empty;
+    }
+    let half = count / 2;
+    let left = raised(row, half);
+    let Tree::Fork(mut node) = mem::replace(row, Tree::Empty) else {
+        unreachable!();
+    };
+    *row = mem::replace(&mut node.right, Tree::Empty);
+    let right = raised(row, count - half - 1);
+    node.left_height = left.height();
+    node.right_height = right.height();
+    node.left = left;
+    node.right = right;
+    Tree::Fork(node)
+}
