@@ -254,10 +254,6 @@ impl Bridge {
         if !self.is_given(session) {
             return Reply::Refused(stranger(&self.pair.book().refuse_undo_all(session)));
         }
-        // what blocks it is sought before anything is counted
-        if let Some(why) = self.pair.book().refuse_blocked(session) {
-            return Reply::Refused(why);
-        }
         match self.pair.undo_all(session) {
             Ok((count, entry)) => Reply::TakenBack { count, entry },
             Err(why) => Reply::Refused(why),

@@ -147,6 +147,10 @@ impl Pair {
         ensures refused { IfErr result (λ why. IsLeastOrMemory (undo_all_refusal self.old.ledger session) why) }
         ensures unchanged { OnErr result (self.new ≡ self.old) }
     {
+        // what blocks it is sought once, before anything is counted
+        if let Some(why) = self.book.refuse_blocked(session) {
+            return Err(why);
+        }
         let first = self.book.journal().len();
         let own = self.book.journal().count_of(session);
         let parts = self.book.journal().parts_of(session);
@@ -157,7 +161,7 @@ impl Pair {
                     .unwrap_or(Refusal::Memory),
             );
         }
-        let (count, last) = self.book.undo_all(session)?;
+        let (count, last) = self.book.undo_all_free(session, own)?;
         follow_each(self.book.journal(), &mut self.runtime, first, own);
         Ok((count, last))
     }

@@ -31,6 +31,22 @@ impl Book {
         self.try_undo_all(session)
     }
 
+    /// The same, where it is known that no conflict blocks it, as `refuse_blocked` tells, and how many entries of the session
+    /// stand.
+    pub fn undo_all_free(&mut self, session: u32, count: usize) -> Result<(u64, u64), Refusal>
+        requires free { conflict_with_others self.old.ledger.entries (find_own_in_conflict self.old.ledger.entries session) ≡ None }
+        requires count { count ≡ length (own_standing self.old.ledger.entries session) }
+        ensures ok { IfOk result (λ numbers. TakesAllBack self.old.ledger session numbers.0 numbers.1 self.new.ledger) }
+        ensures refused { IfErr result (λ why. IsLeastOrMemory (undo_all_refusal self.old.ledger session) why) }
+        ensures unchanged { OnErr result (self.new.ledger ≡ self.old.ledger) }
+        ensures kept { OnErr result (Takes self.old.room 0 0 self.new.room) }
+    {
+        if let Some(why) = self.refuse_count(session, count) {
+            return Err(why);
+        }
+        self.try_undo_all(session)
+    }
+
     /// Why an undo of all of the session would be refused, but for want of memory. It takes no memory.
     pub fn refuse_undo_all(&self, session: u32) -> Option<Refusal>
         ensures { result ≡ undo_all_refusal self.now.ledger session }
@@ -39,7 +55,16 @@ impl Book {
         if let Some(why) = self.refuse_blocked(session) {
             return Some(why);
         }
-        let count = self.journal().count_of(session);
+        self.refuse_count(session, self.journal().count_of(session))
+    }
+
+    // The same where no conflict blocks it, and so many entries of the session stand.
+    fn refuse_count(&self, session: u32, count: usize) -> Option<Refusal>
+        requires free { conflict_with_others self.now.ledger.entries (find_own_in_conflict self.now.ledger.entries session) ≡ None }
+        requires count { count ≡ length (own_standing self.now.ledger.entries session) }
+        ensures { result ≡ undo_all_refusal self.now.ledger session }
+    {
+        let _ = session;
         if count == 0 {
             return Some(Refusal::NothingToUndo);
         }

@@ -19,7 +19,7 @@ invariant_of-self-2 c =
     (c.len-first.ensures.number ∙ ap (λ es. length es) c.journal.ensures.entries)
     (c.count_of-own.ensures.count ∙ ap (λ es. length (own_standing es s)) c.journal-2.ensures.entries)
     c.follow_each.ensures.runners c.follow_each.ensures.frames in
-    tied_all b c.undo_all.new.self.ledger s c.in_ok-count.count c.in_ok-count.last i.runtime c.follow_each.new.runtime c.self.invariant c.journal.ensures.sound c.in_ok-count.ensures.ok f
+    tied_all b c.undo_all_free.new.self.ledger s c.in_ok-count.count c.in_ok-count.last i.runtime c.follow_each.new.runtime c.self.invariant c.journal.ensures.sound c.in_ok-count.ensures.ok f
 
 pub returns-clause-follows : goal.returns-clause-follows
 returns-clause-follows c =
@@ -32,7 +32,7 @@ returns-clause-follows c =
     (c.len-first.ensures.number ∙ ap (λ es. length es) c.journal.ensures.entries)
     (c.count_of-own.ensures.count ∙ ap (λ es. length (own_standing es s)) c.journal-2.ensures.entries)
     c.follow_each.ensures.runners c.follow_each.ensures.frames in
-    let new : PairState = record { ledger = c.undo_all.new.self.ledger; time = c.follow_each.new.runtime.time; frames = c.follow_each.new.runtime.frames } in
+    let new : PairState = record { ledger = c.undo_all_free.new.self.ledger; time = c.follow_each.new.runtime.time; frames = c.follow_each.new.runtime.frames } in
     subst (λ (p : PairState). FollowsAll p (own_standing p.ledger.entries s) new) c.self.view_is (record { frames = f.frames; time = f.time })
 
 pub follow_each-requires-clause-room : goal.follow_each-requires-clause-room
