@@ -1,13 +1,12 @@
 -- Where a binary search among numbers that rise ends, and what an edit at that place does.
-use Rattle.std.proofs.Common.{◌≡◌, ◌≢◌, ◌-◌, Bool, true, false, cond, ltb, Option, subst, ℕ, zero, suc, ◌<◌, ◌≤◌, List, [], ◌∷◌, ◌++◌, length, get_or, Result, Ok, Err, Some, None, refl, sym, ap, ◌∙◌, arith}
-use Rattle.std.specs.Prelude.{take, drop, slice_get, insert, remove}
+use Rattle.std.proofs.Common.{◌≡◌, ◌≢◌, Bool, true, false, cond, ltb, Option, subst, ℕ, zero, suc, ◌<◌, ◌≤◌, List, [], ◌∷◌, length, get_or, Result, Ok, Err, Some, None, refl, sym, ap, ◌∙◌, arith}
+use Rattle.std.specs.Prelude.{slice_get, insert, remove}
 use Rattle.std.specs.List.Sorted.{IsSearchInRange, IsBinarySearchResult, IsNonDecreasingBy}
 use Rattle.std.specs.Ordering.{nat_cmp, ordering_index}
 use Rattle.std.proofs.lemmas.Cmp.{ranked}
 use Rattle.std.proofs.lemmas.Bool.{lt-ltb, le-ltb, ltb-false}
 use Rattle.std.specs.Option.{is_none}
 use Rattle.std.proofs.lemmas.Bool.Decides.{nat_tests}
-use Rattle.std.proofs.lemmas.List.{take_rest}
 use Rattle.std.proofs.lemmas.List.Sorted.{IsNonDecreasingBy-from_default}
 use Rattle.tsn_table.specs.Rising.{AllNumbers, IsRising, put_number, without_number, first_from}
 use Rattle.tsn_table.specs.Blocks.{Places, Puts, most_more, numbers_in}
@@ -115,16 +114,6 @@ ends x y (z ∷ []) zero last s le e =
 ends x y (z ∷ w ∷ ws) zero last s le e = absurd (omega (arith, le))
 ends x y (z ∷ w ∷ ws) (suc at) last s le e =
     ends_by (ltb y x) x y last (first_from x (z ∷ w ∷ ws)) refl (some_has (λ n. y < n) (z ∷ w ∷ ws) (suc at) last s.0 e) (ends x z (w ∷ ws) at last s.1 (omega (arith, le)) e)
-
--- numbers around the one at a place
-parted : (xs : List ℕ) (at : ℕ) → at < length xs → xs ≡ take at xs ++ get_or xs at 0 ∷ drop (suc at) xs
-parted [] at lt = absurd (omega arith)
-parted (x ∷ xs) zero lt = refl
-parted (x ∷ xs) (suc at) lt = ap (λ z. x ∷ z) (parted xs at (omega (arith, lt)))
-
-pub divided : (least at : ℕ) (xs lower upper : List ℕ) → at < length xs → lower ≡ take at xs → upper ≡ take (length xs - suc at) (drop (suc at) xs) → least ∷ xs ≡ least ∷ (lower ++ get_or xs at 0 ∷ upper)
-divided least at xs lower upper lt l u =
-    ap (λ z. least ∷ z) (parted xs at lt ∙ ap (λ z. z ++ get_or xs at 0 ∷ drop (suc at) xs) (sym l) ∙ ap (λ z. lower ++ get_or xs at 0 ∷ z) (sym (u ∙ take_rest xs (suc at))))
 
 -- the least number of a block goes, and the next one comes in its place
 pub least_goes : (x least next : ℕ) (xs rest : List ℕ) → x ≡ least → IsRising (least ∷ xs) → 0 < length xs → next ≡ get_or xs 0 next → rest ≡ remove xs 0 → next ∷ rest ≡ without_number x (least ∷ xs)

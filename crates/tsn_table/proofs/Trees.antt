@@ -1,10 +1,10 @@
 -- Trees, and the nodes that they have.
-use Rattle.std.proofs.Common.{◌≡◌, inl, inr, ℕ, ◌+◌, ◌-◌, arith, List, [], ◌∷◌, ◌++◌, length, length-append, Option, Some, None, refl, sym, ap}
+use Rattle.std.proofs.Common.{◌≡◌, ℕ, ◌+◌, arith, List, [], ◌∷◌, ◌++◌, length, length-append, Option, Some, None, refl, sym, ap}
 use Rattle.std.specs.Prelude.{IfNone}
 use Rattle.std.specs.Option.{option_or}
 use Rattle.tsn_table.proofs.Rising.{no_next}
 use Rattle.tsn_table.specs.Rising.{first_from}
-use Rattle.tsn_table.specs.Tree.{HasRoom, nodes_of, numbers_of}
+use Rattle.tsn_table.specs.Tree.{nodes_of, numbers_of}
 use Rattle.tsn_table.specs.declared.tree.Tree.{Tree}
 use Rattle.tsn_table.specs.declared.tree.Tree.TheBlock.{Fork'}
 use Rattle.tsn_table.specs.declared.tree.Tree.TheVariants.{Empty}
@@ -20,20 +20,7 @@ empty_nodes Empty (Some n) is = tt
 empty_nodes (Fork' place block left_height right_height left right) None is = absurd (not_nothing (numbers_of left) block.least _ (no_next _ (sym is)))
 empty_nodes (Fork' place block left_height right_height left right) (Some n) is = tt
 
--- nor has one with no node a number
-pub no_nodes : (tree : Tree) → nodes_of tree ≡ 0 → numbers_of tree ≡ []
-no_nodes Empty none = refl
-no_nodes (Fork' place block left_height right_height left right) none = absurd (omega (arith, none))
-
 -- where none is behind the only number of a block, there is one more with it than before it
 pub one_more : (l b r : List ℕ) (x : ℕ) (first : Option ℕ) → b ≡ x ∷ [] → first ≡ option_or (first_from 0 r) None → IfNone first (length (l ++ (b ++ r)) ≡ length l + 1)
 one_more l b r x None only is = omega (arith, length-append l (b ++ r), length-append b r, ap length only, ap length (no_next r (sym is)))
 one_more l b r x (Some n) only is = tt
-
--- a number that comes in takes room for one
-pub room_goes : (room count nodes : ℕ) → (room ≡ 0 → ⊥) → HasRoom room count nodes → HasRoom (room - 1) (count + 1) nodes
-room_goes room count nodes some h = elim h [ inl none ↦ absurd (some none) | inr is ↦ inr (omega (arith, is.0, some), omega (arith, is.1, some)) ]
-
--- and one that goes leaves it
-pub room_stays : (room count nodes : ℕ) → HasRoom room count nodes → HasRoom room (count - 1) nodes
-room_stays room count nodes h = elim h [ inl none ↦ inl none | inr is ↦ inr (omega (arith, is.0), omega (arith, is.1)) ]

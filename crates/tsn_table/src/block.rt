@@ -182,9 +182,12 @@ impl Block {
         ensures lower { length self.new.more.items ≡ half }
         ensures upper { length upper.new.more.items + 1 ≡ half }
     {
-        let more = self.more.as_slice();
-        upper.least = more[HALF];
-        fill(&mut upper.more, &more[HALF + 1..]);
+        let (_, behind) = self.more.as_slice().split_at(HALF);
+        let [least, rest @ ..] = behind else {
+            unreachable!();
+        };
+        upper.least = *least;
+        fill(&mut upper.more, rest);
         self.more.truncate(HALF);
     }
 
