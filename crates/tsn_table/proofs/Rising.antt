@@ -1,5 +1,5 @@
 -- Lists of numbers that rise: around a number k in their midst, and as maps.
-use Rattle.std.proofs.Common.{◌≡◌, ◌⊎◌, inl, inr, ℕ, ◌<◌, ◌≤◌, Bool, true, false, cond, eqb, ltb, List, [], ◌∷◌, ◌++◌, refl, sym, ap, ◌∙◌, subst, Option, Some, None, IsSome, append-nil, arith}
+use Rattle.std.proofs.Common.{◌≡◌, ◌⊎◌, inl, inr, ℕ, ◌<◌, ◌≤◌, Bool, true, false, cond, eqb, ltb, List, [], ◌∷◌, ◌++◌, length, refl, sym, ap, ◌∙◌, subst, Option, Some, None, IsSome, append-nil, arith}
 use Rattle.std.specs.Prelude.{IfSome, MatchOption}
 use Rattle.std.specs.Option.{option_or}
 use Rattle.std.specs.Ordering.{nat_cmp, eq_by_cmp}
@@ -318,3 +318,26 @@ rising_put_is x xs ys is s = subst IsRising (sym is) (rising_put x xs s)
 
 pub rising_without_is : (x : ℕ) (xs ys : List ℕ) → ys ≡ without_number x xs → IsRising xs → IsRising ys
 rising_without_is x xs ys is s = subst IsRising (sym is) (rising_without x xs s)
+
+-- where as many numbers are left, the one that was to go was not there
+without_few : (x : ℕ) (xs : List ℕ) → length (without_number x xs) ≤ length xs
+without_few x [] = omega arith
+without_few x (y ∷ ys) = elim (eqb x y) as (λ b. length (cond b (without_number x ys) (y ∷ without_number x ys)) ≤ length (y ∷ ys)) [
+  | true ↦ omega (arith, without_few x ys)
+  | false ↦ omega (arith, without_few x ys)
+]
+
+without_there : (x : ℕ) (xs : List ℕ) → IsSome (there x xs) → length (without_number x xs) < length xs
+without_there x [] h = absurd (cc)
+without_there x (y ∷ ys) h = elim (eqb x y) as (λ b. eqb x y ≡ b → length (cond b (without_number x ys) (y ∷ without_number x ys)) < length (y ∷ ys)) [
+  | true ↦ λ e. omega (arith, without_few x ys)
+  | false ↦ λ e. elim (some_there x y ys h) [
+    | inl same ↦ let is : eqb x y ≡ true = eq-eqb x y same in absurd (cc)
+    | inr i ↦ omega (arith, without_there x ys i)
+  ]
+] refl
+
+pub was_not_there : (x : ℕ) (xs ys : List ℕ) (m : FinMap nat_cmp (Unit {0})) → map_of xs ≡ m → ys ≡ without_number x xs → length xs ≡ length ys → IsSome (get m x) → ⊥
+was_not_there x xs ys m is left same h =
+    let there_is : IsSome (there x xs) = subst IsSome (ap (λ (n : FinMap nat_cmp (Unit {0})). get n x) (sym is) ∙ get_map xs x) h in
+    omega (arith, without_there x xs there_is, ap length left, same)

@@ -38,6 +38,7 @@ IsPacked (Fork' place block left_height right_height left right) =
 abbrev pub share : ℕ
 share = 24
 
--- So many nodes are enough for room more numbers beside count that are there: packed, all these numbers leave a node over.
+-- So many nodes are enough for room more numbers beside count that are there: packed, all these numbers leave a node over. A set of
+-- no number needs none where it has room for none.
 abbrev pub HasRoom : ℕ → ℕ → ℕ → Type 0
-HasRoom room count nodes = (room ≡ 0) ⊎ ((room + count + share ≤ share * nodes) × (room + count < 2 ^ 64))
+HasRoom room count nodes = ((room ≡ 0) × (count ≡ 0)) ⊎ ((room + count + share ≤ share * nodes) × (room + count < 2 ^ 64))

@@ -69,7 +69,7 @@ const SHARE: usize = 24;
 
 // For how many new numbers so many nodes are enough, beside the numbers that are there.
 fn room_of(nodes: usize, count: usize) -> usize
-    ensures { HasRoom result count nodes }
+    ensures { 0 < result → HasRoom result count nodes }
 {
     nodes
         .saturating_sub(1)
@@ -152,16 +152,18 @@ impl Numbers {
         }
     }
 
-    /// Takes a number out, if it is there.
+    /// Takes a number out, if it is there. It leaves room for one, whichever that is.
     #[tactic(auto, using(crate::proofs::Rising::without_is, crate::proofs::Rising::rising_without_is))]
     pub fn take(&mut self, id: u64)
         ensures map { self.new.map ≡ map.remove self.old.map id }
         ensures room { self.old.spare ≤ self.new.spare }
+        ensures back { IsSome (map.get self.old.map id) → 1 ≤ self.new.spare }
     {
         let mut gone = false;
         take_out(&mut self.tree, id, &mut self.pool, &mut gone);
         if gone {
             self.count -= 1;
+            self.room = self.room.max(1);
             self.let_go();
         }
     }
@@ -189,14 +191,19 @@ impl Numbers {
         ensures spare { IfOk result (λ copy. copy.spare ≡ 0) }
     {
         let alloc = *self.pool.allocator();
+        let tree = copy_in(&self.tree, alloc)?;
         let nodes = self.nodes - self.pool.len();
+        let mut pool = Vec::with_capacity(alloc, nodes)?;
+        if 0 < self.count {
+            fill_pool(&mut pool, nodes, self.nodes, 0)?;
+        }
         Ok(Numbers {
-            tree: copy_in(&self.tree, alloc)?,
-            pool: Vec::with_capacity(alloc, nodes)?,
+            tree,
+            nodes: nodes + pool.len(),
+            pool,
             room: 0,
             kept: 0,
             count: self.count,
-            nodes,
         })
     }
 }
