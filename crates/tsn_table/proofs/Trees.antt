@@ -3,6 +3,7 @@ use Rattle.std.proofs.Common.{◌≡◌, ℕ, ◌+◌, arith, List, [], ◌∷�
 use Rattle.std.specs.Prelude.{IfNone}
 use Rattle.std.specs.Option.{option_or}
 use Rattle.tsn_table.proofs.Rising.{no_next}
+use Rattle.tsn_table.specs.Levels.{height_of}
 use Rattle.tsn_table.specs.Rising.{first_from}
 use Rattle.tsn_table.specs.Tree.{nodes_of, numbers_of}
 use Rattle.tsn_table.specs.declared.tree.Tree.{Tree}
@@ -19,6 +20,12 @@ empty_nodes Empty None is = refl
 empty_nodes Empty (Some n) is = tt
 empty_nodes (Fork' place block left_height right_height left right) None is = absurd (not_nothing (numbers_of left) block.least _ (no_next _ (sym is)))
 empty_nodes (Fork' place block left_height right_height left right) (Some n) is = tt
+
+pub empty_height : (tree : Tree) (first : Option ℕ) → first ≡ option_or (first_from 0 (numbers_of tree)) None → IfNone first (height_of tree ≡ 0)
+empty_height Empty None is = refl
+empty_height Empty (Some n) is = tt
+empty_height (Fork' place block left_height right_height left right) None is = absurd (not_nothing (numbers_of left) block.least _ (no_next _ (sym is)))
+empty_height (Fork' place block left_height right_height left right) (Some n) is = tt
 
 -- where none is behind the only number of a block, there is one more with it than before it
 pub one_more : (l b r : List ℕ) (x : ℕ) (first : Option ℕ) → b ≡ x ∷ [] → first ≡ option_or (first_from 0 r) None → IfNone first (length (l ++ (b ++ r)) ≡ length l + 1)

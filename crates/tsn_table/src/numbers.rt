@@ -153,7 +153,7 @@ impl Numbers {
     }
 
     /// Takes a number out, if it is there. It leaves room for one, whichever that is.
-    #[tactic(auto, using(crate::proofs::Rising::without_is, crate::proofs::Rising::rising_without_is))]
+    #[tactic(auto, using(crate::proofs::Rising::without_is, crate::proofs::Rising::rising_without_is, crate::proofs::Levels::low))]
     pub fn take(&mut self, id: u64)
         ensures map { self.new.map ≡ map.remove self.old.map id }
         ensures room { self.old.spare ≤ self.new.spare }

@@ -6,6 +6,7 @@
 ghost use Rattle.std.specs.Prelude.{◌≡◌, ◌+◌, ◌*◌, ◌<◌, ◌≤◌, ◌++◌, length};
 ghost use Rattle.std.specs.Vec.{vec_capacity, vec_len};
 ghost use Rattle.tsn_table.specs.Blocks.{numbers_in, one_if};
+ghost use Rattle.tsn_table.specs.Levels.{height_of, Differs, IsHeightFor, IsLevel};
 ghost use Rattle.tsn_table.specs.Rising.{IsRising, put_number};
 ghost use Rattle.tsn_table.specs.Tree.{nodes_below, nodes_of, numbers_below, numbers_of, share, IsPacked, IsRow};
 
@@ -20,6 +21,7 @@ pub(crate) fn pack(tree: &mut Tree, pool: &mut Vec<Box<Node>>, nodes: usize)
     ensures numbers { numbers_of tree.new ≡ numbers_of tree.old }
     ensures nodes { nodes_of tree.new + vec_len pool.new ≡ nodes_of tree.old + vec_len pool.old }
     ensures capacity { vec_capacity pool.new ≡ vec_capacity pool.old }
+    ensures level { IsLevel tree.new }
     ensures some { length (numbers_of tree.old) + share < share * nodes_of tree.old → vec_len pool.old < vec_len pool.new }
 {
     let mut row = row_of(mem::replace(tree, Tree::Empty), Tree::Empty, pool);
@@ -27,6 +29,7 @@ pub(crate) fn pack(tree: &mut Tree, pool: &mut Vec<Box<Node>>, nodes: usize)
 }
 
 /// Puts a number into a tree, and says whether it came in. The tree is packed first where no node waits.
+#[tactic(auto, using(crate::proofs::Levels::low))]
 pub(crate) fn put_packed(
     tree: &mut Tree,
     id: u64,
@@ -35,9 +38,11 @@ pub(crate) fn put_packed(
     came: &mut bool,
 )
     requires rising { IsRising (numbers_of tree.old) }
+    requires level { IsLevel tree.old }
     requires nodes { nodes ≡ nodes_of tree.old + vec_len pool.old }
     requires place { nodes ≤ vec_capacity pool.old }
     requires few { length (numbers_of tree.old) + share < share * nodes }
+    ensures level { IsLevel tree.new }
     ensures numbers { numbers_of tree.new ≡ put_number id (numbers_of tree.old) }
     ensures longer { length (numbers_of tree.new) ≡ length (numbers_of tree.old) + one_if came.new }
     ensures nodes { nodes ≡ nodes_of tree.new + vec_len pool.new }
@@ -97,7 +102,8 @@ fn before(mut node: Box<Node>, behind: Tree, pool: &mut Vec<Box<Node>>) -> Tree
     Tree::Fork(node)
 }
 
-// The tree of so many nodes, the first ones of a row.
+// The level tree of so many nodes, the first ones of a row.
+#[tactic(auto, using(crate::proofs::Levels::joined))]
 fn raised(row: &mut Tree, count: usize) -> Tree
     requires row { IsRow row.old }
     requires enough { count ≤ nodes_of row.old }
@@ -105,6 +111,8 @@ fn raised(row: &mut Tree, count: usize) -> Tree
     ensures numbers { numbers_of row.old ≡ numbers_of result ++ numbers_of row.new }
     ensures count { nodes_of result ≡ count }
     ensures nodes { nodes_of row.old ≡ count + nodes_of row.new }
+    ensures level { IsLevel result }
+    ensures height { IsHeightFor count (height_of result) }
 {
     if count == 0 {
         return Tree::Empty;
@@ -116,9 +124,20 @@ fn raised(row: &mut Tree, count: usize) -> Tree
     };
     *row = mem::replace(&mut node.right, Tree::Empty);
     let right = raised(row, count - half - 1);
+    Tree::Fork(between(node, left, right))
+}
+
+// The node between two sides that are level and differ by one at most.
+fn between(mut node: Box<Node>, left: Tree, right: Tree) -> Box<Node>
+    requires level { IsLevel left × IsLevel right }
+    requires low { (height_of left < 240) × (height_of right < 240) }
+    requires near { (height_of left ≤ height_of right + 1) × (height_of right ≤ height_of left + 1) }
+    ensures level { Differs 1 result.value }
+    ensures sides { (result.value.left ≡ left) × (result.value.right ≡ right) × (result.value.block ≡ node.value.block) }
+{
     node.left_height = left.height();
     node.right_height = right.height();
     node.left = left;
     node.right = right;
-    Tree::Fork(node)
+    node
 }

@@ -1,11 +1,13 @@
 //! A search tree of blocks of numbers.
 //!
-//! What is promised of a tree is said of its numbers in their order, and of how many nodes it has. The heights only steer the
-//! turns that keep the tree low: a wrong height would cost time and nothing else.
-ghost use Rattle.std.specs.Prelude.{◌≡◌, ◌+◌, ◌<◌, ◌≤◌, ◌++◌, ◌∷◌, [], false, true, IfNone, IfOk, MatchOption, OnOk, length};
+//! What is promised of a tree is said of its numbers in their order, of how many nodes it has, and of its heights: each node tells
+//! the heights of its sides, and they differ by one at most (Adelson-Velsky and Landis). So a way down is short, and so is the row
+//! of calls that goes down it: a tree is twice as high as its nodes' count has digits in base two, at most (proofs/Levels.antt).
+ghost use Rattle.std.specs.Prelude.{◌≡◌, ◌≢◌, max, ◌⊎◌, ◌+◌, ◌<◌, ◌≤◌, ◌++◌, ◌∷◌, [], false, true, IfNone, IfOk, MatchOption, OnOk, length};
 ghost use Rattle.std.specs.Option.{option_or};
 ghost use Rattle.std.specs.Vec.{vec_capacity, vec_len};
 ghost use Rattle.tsn_table.specs.Blocks.{most_more, numbers_in, one_if};
+ghost use Rattle.tsn_table.specs.Levels.{height_below, height_of, Differs, Falls, IsEven, IsLevel, MayDiffer, Rises, Turns};
 ghost use Rattle.tsn_table.specs.Rising.{IsRising, first_from, put_number, without_number};
 ghost use Rattle.tsn_table.specs.Sides.{Belongs};
 ghost use Rattle.tsn_table.specs.Tree.{nodes_below, nodes_of, numbers_below, numbers_of};
@@ -27,7 +29,7 @@ pub(crate) enum Tree {
 #[derive(Debug, Drop)]
 pub(crate) struct Node {
     pub(crate) block: Block,
-    // how high the sides are said to be
+    // how high the sides are
     pub(crate) left_height: u8,
     pub(crate) right_height: u8,
     pub(crate) left: Tree,
@@ -42,91 +44,139 @@ enum Side {
 }
 
 impl Tree {
-    /// How high the tree is said to be.
-    pub(crate) fn height(&self) -> u8 {
+    /// How high the tree is.
+    pub(crate) fn height(&self) -> u8
+        requires level { IsLevel self.now }
+        requires low { height_of self.now < 240 }
+        ensures { result ≡ height_of self.now }
+    {
         match self {
             Tree::Empty => 0,
-            Tree::Fork(node) => height_of(node),
+            Tree::Fork(node) => height_at(node),
         }
     }
 }
 
-// How high the tree of the node is said to be.
+// How high the tree of the node is.
 #[inline]
-fn height_of(node: &Node) -> u8 {
-    node.left_height.max(node.right_height).saturating_add(1)
+fn height_at(node: &Node) -> u8
+    requires left { node.now.left_height ≡ height_of node.now.left }
+    requires right { node.now.right_height ≡ height_of node.now.right }
+    requires low { height_below node.now < 252 }
+    ensures { result ≡ height_below node.now }
+{
+    node.left_height.max(node.right_height) + 1
 }
 
 // The left side is one higher than it was. It tells whether it is the higher side now.
 #[inline]
 fn left_rises(node: &mut Box<Node>) -> bool
+    requires low { node.old.value.left_height < 250 }
     ensures numbers { numbers_below node.new.value ≡ numbers_below node.old.value }
     ensures nodes { nodes_below node.new.value ≡ nodes_below node.old.value }
+    ensures height { node.new.value.left_height ≡ node.old.value.left_height + 1 }
+    ensures others { (node.new.value.right_height ≡ node.old.value.right_height) × (node.new.value.left ≡ node.old.value.left) × (node.new.value.right ≡ node.old.value.right) }
+    ensures higher { result ≡ true → node.new.value.right_height < node.new.value.left_height }
+    ensures lower { result ≡ false → node.new.value.left_height ≤ node.new.value.right_height }
 {
-    node.left_height = node.left_height.saturating_add(1);
+    node.left_height += 1;
     node.left_height > node.right_height
 }
 
 // The same on the right.
 #[inline]
 fn right_rises(node: &mut Box<Node>) -> bool
+    requires low { node.old.value.right_height < 250 }
     ensures numbers { numbers_below node.new.value ≡ numbers_below node.old.value }
     ensures nodes { nodes_below node.new.value ≡ nodes_below node.old.value }
+    ensures height { node.new.value.right_height ≡ node.old.value.right_height + 1 }
+    ensures others { (node.new.value.left_height ≡ node.old.value.left_height) × (node.new.value.left ≡ node.old.value.left) × (node.new.value.right ≡ node.old.value.right) }
+    ensures higher { result ≡ true → node.new.value.left_height < node.new.value.right_height }
+    ensures lower { result ≡ false → node.new.value.right_height ≤ node.new.value.left_height }
 {
-    node.right_height = node.right_height.saturating_add(1);
+    node.right_height += 1;
     node.right_height > node.left_height
 }
 
 // The left side is one lower than it was. It tells whether it was another height than the right side.
 #[inline]
 fn left_falls(node: &mut Box<Node>) -> bool
+    requires some { 0 < node.old.value.left_height }
     ensures numbers { numbers_below node.new.value ≡ numbers_below node.old.value }
     ensures nodes { nodes_below node.new.value ≡ nodes_below node.old.value }
+    ensures height { node.new.value.left_height + 1 ≡ node.old.value.left_height }
+    ensures others { (node.new.value.right_height ≡ node.old.value.right_height) × (node.new.value.left ≡ node.old.value.left) × (node.new.value.right ≡ node.old.value.right) }
+    ensures other { result ≡ true → node.old.value.left_height ≢ node.old.value.right_height }
+    ensures even { result ≡ false → node.old.value.left_height ≡ node.old.value.right_height }
 {
     let height = node.left_height;
-    node.left_height = height.saturating_sub(1);
+    node.left_height = height - 1;
     height != node.right_height
 }
 
 // The same on the right.
 #[inline]
 fn right_falls(node: &mut Box<Node>) -> bool
+    requires some { 0 < node.old.value.right_height }
     ensures numbers { numbers_below node.new.value ≡ numbers_below node.old.value }
     ensures nodes { nodes_below node.new.value ≡ nodes_below node.old.value }
+    ensures height { node.new.value.right_height + 1 ≡ node.old.value.right_height }
+    ensures others { (node.new.value.left_height ≡ node.old.value.left_height) × (node.new.value.left ≡ node.old.value.left) × (node.new.value.right ≡ node.old.value.right) }
+    ensures other { result ≡ true → node.old.value.right_height ≢ node.old.value.left_height }
+    ensures even { result ≡ false → node.old.value.right_height ≡ node.old.value.left_height }
 {
     let height = node.right_height;
-    node.right_height = height.saturating_sub(1);
+    node.right_height = height - 1;
     height != node.left_height
 }
 
 // The node above its left side comes down on the right of that side's node, which takes the place above it.
 fn turned_right(mut node: Box<Node>, mut left: Box<Node>) -> Box<Node>
+    requires left { Differs 2 left.value }
+    requires right { (node.value.right_height ≡ height_of node.value.right) × IsLevel node.value.right }
+    requires near { (height_of left.value.right ≤ height_of node.value.right + 1) × (height_of node.value.right ≤ height_of left.value.right + 1) }
+    requires low { (height_of left.value.right < 250) × (height_of node.value.right < 250) }
     ensures numbers { numbers_below result.value ≡ numbers_below left.value ++ (numbers_in node.value.block ++ numbers_of node.value.right) }
     ensures nodes { nodes_below result.value ≡ nodes_below left.value + nodes_of node.value.right + 1 }
+    ensures left { (result.value.left ≡ left.value.left) × (result.value.left_height ≡ left.value.left_height) }
+    ensures level { IsLevel result.value.right }
+    ensures right { (result.value.right_height ≡ height_of result.value.right) × (height_of result.value.right ≡ max (height_of left.value.right) (height_of node.value.right) + 1) }
 {
     node.left_height = left.right_height;
     node.left = mem::replace(&mut left.right, Tree::Empty);
-    left.right_height = height_of(&node);
+    left.right_height = height_at(&node);
     left.right = Tree::Fork(node);
     left
 }
 
 // The node above its right side comes down on the left of that side's node, which takes the place above it.
 fn turned_left(mut node: Box<Node>, mut right: Box<Node>) -> Box<Node>
+    requires right { Differs 2 right.value }
+    requires left { (node.value.left_height ≡ height_of node.value.left) × IsLevel node.value.left }
+    requires near { (height_of right.value.left ≤ height_of node.value.left + 1) × (height_of node.value.left ≤ height_of right.value.left + 1) }
+    requires low { (height_of right.value.left < 250) × (height_of node.value.left < 250) }
     ensures numbers { numbers_below result.value ≡ numbers_of node.value.left ++ (numbers_in node.value.block ++ numbers_below right.value) }
     ensures nodes { nodes_below result.value ≡ nodes_of node.value.left + nodes_below right.value + 1 }
+    ensures right { (result.value.right ≡ right.value.right) × (result.value.right_height ≡ right.value.right_height) }
+    ensures level { IsLevel result.value.left }
+    ensures left { (result.value.left_height ≡ height_of result.value.left) × (height_of result.value.left ≡ max (height_of node.value.left) (height_of right.value.left) + 1) }
 {
     node.right_height = right.left_height;
     node.right = mem::replace(&mut right.left, Tree::Empty);
-    right.left_height = height_of(&node);
+    right.left_height = height_at(&node);
     right.left = Tree::Fork(node);
     right
 }
 
 // The same numbers, with a left side that is not the lower one.
 fn leaning_left(mut node: Box<Node>) -> Box<Node>
+    requires level { Differs 1 node.value }
+    requires low { height_below node.value < 250 }
     ensures numbers { numbers_below result.value ≡ numbers_below node.value }
     ensures nodes { nodes_below result.value ≡ nodes_below node.value }
+    ensures level { Differs 2 result.value }
+    ensures leans { height_of result.value.right ≤ height_of result.value.left }
+    ensures height { height_below result.value ≡ height_below node.value }
 {
     if node.right_height <= node.left_height {
         return node;
@@ -139,8 +189,13 @@ fn leaning_left(mut node: Box<Node>) -> Box<Node>
 
 // The same numbers, with a right side that is not the lower one.
 fn leaning_right(mut node: Box<Node>) -> Box<Node>
+    requires level { Differs 1 node.value }
+    requires low { height_below node.value < 250 }
     ensures numbers { numbers_below result.value ≡ numbers_below node.value }
     ensures nodes { nodes_below result.value ≡ nodes_below node.value }
+    ensures level { Differs 2 result.value }
+    ensures leans { height_of result.value.left ≤ height_of result.value.right }
+    ensures height { height_below result.value ≡ height_below node.value }
 {
     if node.left_height <= node.right_height {
         return node;
@@ -153,8 +208,14 @@ fn leaning_right(mut node: Box<Node>) -> Box<Node>
 
 // The same numbers where one side is too high for the other: the node of that side is above now.
 fn turned(mut node: Box<Node>) -> Box<Node>
+    requires level { Differs 2 node.value }
+    requires apart { (node.value.left_height ≡ node.value.right_height + 2) ⊎ (node.value.right_height ≡ node.value.left_height + 2) }
+    requires low { height_below node.value < 250 }
     ensures numbers { numbers_below result.value ≡ numbers_below node.value }
     ensures nodes { nodes_below result.value ≡ nodes_below node.value }
+    ensures level { Differs 1 result.value }
+    ensures even { height_of result.value.left ≡ height_of result.value.right → height_below result.value + 1 ≡ height_below node.value }
+    ensures uneven { height_of result.value.left ≢ height_of result.value.right → height_below result.value ≡ height_below node.value }
 {
     if node.left_height > node.right_height {
         match mem::replace(&mut node.left, Tree::Empty) {
@@ -172,8 +233,13 @@ fn turned(mut node: Box<Node>) -> Box<Node>
 // Turns a tree of which one side is too high for the other, and tells whether both are as high as each other then.
 #[inline(always)]
 fn level(tree: &mut Tree) -> bool
+    requires near { MayDiffer 2 tree.old }
+    requires low { height_of tree.old < 250 }
     ensures numbers { numbers_of tree.new ≡ numbers_of tree.old }
     ensures nodes { nodes_of tree.new ≡ nodes_of tree.old }
+    ensures level { IsLevel tree.new }
+    ensures even { IsEven tree.old → (result ≡ true) × (height_of tree.new ≡ height_of tree.old) }
+    ensures uneven { (IsEven tree.old → ⊥) → height_of tree.old ≡ height_of tree.new + one_if result }
 {
     let Tree::Fork(node) = tree else {
         return true;
@@ -188,8 +254,14 @@ fn level(tree: &mut Tree) -> bool
 // Turns the tree, and tells the same.
 #[inline(never)]
 fn turn(tree: &mut Tree) -> bool
+    requires near { MayDiffer 2 tree.old }
+    requires apart { Turns tree.old }
+    requires low { height_of tree.old < 250 }
     ensures numbers { numbers_of tree.new ≡ numbers_of tree.old }
     ensures nodes { nodes_of tree.new ≡ nodes_of tree.old }
+    ensures level { IsLevel tree.new }
+    ensures even { IsEven tree.old → (result ≡ true) × (height_of tree.new ≡ height_of tree.old) }
+    ensures uneven { (IsEven tree.old → ⊥) → height_of tree.old ≡ height_of tree.new + one_if result }
 {
     match mem::replace(tree, Tree::Empty) {
         Tree::Empty => true,
@@ -245,8 +317,13 @@ fn side_of(node: &Node, id: u64) -> Side
 // Puts a node and what is below it before all of a tree, and tells whether the tree is higher now.
 #[cycle(before)]
 fn put_before(tree: &mut Tree, first: Box<Node>) -> bool
+    requires level { IsLevel tree.old }
+    requires low { height_of tree.old < 240 }
+    requires sole { (first.value.left ≡ Tree.Empty) × (first.value.right ≡ Tree.Empty) × (first.value.left_height ≡ 0) × (first.value.right_height ≡ 0) }
     ensures numbers { numbers_of tree.new ≡ numbers_below first.value ++ numbers_of tree.old }
     ensures nodes { nodes_of tree.new ≡ nodes_below first.value + nodes_of tree.old }
+    ensures level { IsLevel tree.new }
+    ensures height { height_of tree.new ≡ height_of tree.old + one_if result }
 {
     match tree {
         Tree::Empty => {
@@ -260,8 +337,12 @@ fn put_before(tree: &mut Tree, first: Box<Node>) -> bool
 // The same below a node. It tells whether one side is the higher one, and higher than it was.
 #[cycle(before)]
 fn put_before_below(node: &mut Box<Node>, first: Box<Node>) -> bool
+    requires level { Differs 1 node.old.value }
+    requires low { height_below node.old.value < 240 }
+    requires sole { (first.value.left ≡ Tree.Empty) × (first.value.right ≡ Tree.Empty) × (first.value.left_height ≡ 0) × (first.value.right_height ≡ 0) }
     ensures numbers { numbers_below node.new.value ≡ numbers_below first.value ++ numbers_below node.old.value }
     ensures nodes { nodes_below node.new.value ≡ nodes_below first.value + nodes_below node.old.value }
+    ensures rises { Rises node.old.value node.new.value result }
 {
     put_before(&mut node.left, first) && left_rises(node)
 }
@@ -269,12 +350,15 @@ fn put_before_below(node: &mut Box<Node>, first: Box<Node>) -> bool
 // Puts a number into the full block of a node, whose upper half goes to another node, the first on the right. It tells
 // whether the right side is the higher one, and higher than it was.
 fn split(node: &mut Box<Node>, id: u64, mut upper: Box<Node>) -> bool
+    requires level { Differs 1 node.old.value }
+    requires low { height_below node.old.value < 240 }
     requires rising { IsRising (numbers_in node.old.value.block) }
     requires full { length node.old.value.block.more.items ≡ most_more }
     requires new { length (put_number id (numbers_in node.old.value.block)) ≡ length (numbers_in node.old.value.block) + 1 }
     ensures numbers { numbers_below node.new.value ≡ numbers_of node.old.value.left ++ (put_number id (numbers_in node.old.value.block) ++ numbers_of node.old.value.right) }
     ensures longer { length (numbers_below node.new.value) ≡ length (numbers_below node.old.value) + 1 }
     ensures nodes { nodes_below node.new.value ≡ nodes_below node.old.value + 1 }
+    ensures rises { Rises node.old.value node.new.value result }
 {
     node.block.put_in_half(id, &mut upper.block);
     upper.left_height = 0;
@@ -287,12 +371,15 @@ fn split(node: &mut Box<Node>, id: u64, mut upper: Box<Node>) -> bool
 // Puts a number into the block of a node, or else into one half of it. It tells whether the right side is the higher one, and
 // higher than it was.
 fn put_here(node: &mut Box<Node>, id: u64, pool: &mut Vec<Box<Node>>, came: &mut bool) -> bool
+    requires level { Differs 1 node.old.value }
+    requires low { height_below node.old.value < 240 }
     requires rising { IsRising (numbers_in node.old.value.block) }
     requires pool { 0 < vec_len pool.old }
     ensures numbers { numbers_below node.new.value ≡ numbers_of node.old.value.left ++ (put_number id (numbers_in node.old.value.block) ++ numbers_of node.old.value.right) }
     ensures longer { length (numbers_below node.new.value) ≡ length (numbers_below node.old.value) + one_if came.new }
     ensures nodes { nodes_below node.new.value + vec_len pool.new ≡ nodes_below node.old.value + vec_len pool.old }
     ensures capacity { vec_capacity pool.new ≡ vec_capacity pool.old }
+    ensures rises { Rises node.old.value node.new.value result }
 {
     match node.block.put(id) {
         Put::There => {
@@ -316,12 +403,15 @@ fn put_here(node: &mut Box<Node>, id: u64, pool: &mut Vec<Box<Node>>, came: &mut
 /// Puts a number into a tree, and says whether it came in. It takes a node of the pool, which has one, where the tree is empty or
 /// the block that the number belongs to is full.
 pub(crate) fn put_among(tree: &mut Tree, id: u64, pool: &mut Vec<Box<Node>>, came: &mut bool)
+    requires level { IsLevel tree.old }
+    requires low { height_of tree.old < 240 }
     requires rising { IsRising (numbers_of tree.old) }
     requires pool { 0 < vec_len pool.old }
     ensures numbers { numbers_of tree.new ≡ put_number id (numbers_of tree.old) }
     ensures longer { length (numbers_of tree.new) ≡ length (numbers_of tree.old) + one_if came.new }
     ensures nodes { nodes_of tree.new + vec_len pool.new ≡ nodes_of tree.old + vec_len pool.old }
     ensures capacity { vec_capacity pool.new ≡ vec_capacity pool.old }
+    ensures level { IsLevel tree.new }
 {
     put_in(tree, id, pool, came);
 }
@@ -329,12 +419,16 @@ pub(crate) fn put_among(tree: &mut Tree, id: u64, pool: &mut Vec<Box<Node>>, cam
 // The same. It tells whether the tree is higher now.
 #[cycle(putting)]
 fn put_in(tree: &mut Tree, id: u64, pool: &mut Vec<Box<Node>>, came: &mut bool) -> bool
+    requires level { IsLevel tree.old }
+    requires low { height_of tree.old < 240 }
     requires rising { IsRising (numbers_of tree.old) }
     requires pool { 0 < vec_len pool.old }
     ensures numbers { numbers_of tree.new ≡ put_number id (numbers_of tree.old) }
     ensures longer { length (numbers_of tree.new) ≡ length (numbers_of tree.old) + one_if came.new }
     ensures nodes { nodes_of tree.new + vec_len pool.new ≡ nodes_of tree.old + vec_len pool.old }
     ensures capacity { vec_capacity pool.new ≡ vec_capacity pool.old }
+    ensures level { IsLevel tree.new }
+    ensures height { height_of tree.new ≡ height_of tree.old + one_if result }
 {
     match tree {
         Tree::Empty => {
@@ -349,12 +443,15 @@ fn put_in(tree: &mut Tree, id: u64, pool: &mut Vec<Box<Node>>, came: &mut bool) 
 // The same below a node. It tells whether one side is the higher one, and higher than it was.
 #[cycle(putting)]
 fn put_below(node: &mut Box<Node>, id: u64, pool: &mut Vec<Box<Node>>, came: &mut bool) -> bool
+    requires level { Differs 1 node.old.value }
+    requires low { height_below node.old.value < 240 }
     requires rising { IsRising (numbers_below node.old.value) }
     requires pool { 0 < vec_len pool.old }
     ensures numbers { numbers_below node.new.value ≡ put_number id (numbers_below node.old.value) }
     ensures longer { length (numbers_below node.new.value) ≡ length (numbers_below node.old.value) + one_if came.new }
     ensures nodes { nodes_below node.new.value + vec_len pool.new ≡ nodes_below node.old.value + vec_len pool.old }
     ensures capacity { vec_capacity pool.new ≡ vec_capacity pool.old }
+    ensures rises { Rises node.old.value node.new.value result }
 {
     match side_of(node, id) {
         Side::Left => put_in(&mut node.left, id, pool, came) && left_rises(node),
@@ -369,6 +466,8 @@ fn plant(tree: &mut Tree, id: u64, pool: &mut Vec<Box<Node>>)
     ensures numbers { numbers_of tree.new ≡ id ∷ [] }
     ensures nodes { nodes_of tree.new + vec_len pool.new ≡ vec_len pool.old }
     ensures capacity { vec_capacity pool.new ≡ vec_capacity pool.old }
+    ensures level { IsLevel tree.new }
+    ensures height { height_of tree.new ≡ 1 }
 {
     let Some(mut node) = pool.pop() else {
         unreachable!();
@@ -387,6 +486,7 @@ fn next_after(node: &Node, id: u64) -> Option<u64>
     requires only { numbers_in node.now.block ≡ id ∷ [] }
     ensures rising { IsRising (numbers_of node.now.right) }
     ensures none { IfNone result (nodes_of node.now.right ≡ 0) }
+    ensures flat { IfNone result (height_of node.now.right ≡ 0) }
     ensures alone { IfNone result (length (numbers_below node.now) ≡ length (numbers_of node.now.left) + 1) }
     ensures rest { MatchOption result (without_number id (numbers_below node.now) ≡ numbers_of node.now.left)
         (λ next. without_number id (numbers_below node.now) ≡ numbers_of node.now.left ++ (next ∷ without_number next (numbers_of node.now.right))) }
@@ -396,12 +496,15 @@ fn next_after(node: &Node, id: u64) -> Option<u64>
 
 /// Takes a number out of a tree, where it is there, and says whether it was. A node that has no number left goes to the pool.
 pub(crate) fn take_out(tree: &mut Tree, id: u64, pool: &mut Vec<Box<Node>>, gone: &mut bool)
+    requires level { IsLevel tree.old }
+    requires low { height_of tree.old < 240 }
     requires rising { IsRising (numbers_of tree.old) }
     requires place { nodes_of tree.old + vec_len pool.old ≤ vec_capacity pool.old }
     ensures numbers { numbers_of tree.new ≡ without_number id (numbers_of tree.old) }
     ensures shorter { length (numbers_of tree.old) ≡ length (numbers_of tree.new) + one_if gone.new }
     ensures nodes { nodes_of tree.new + vec_len pool.new ≡ nodes_of tree.old + vec_len pool.old }
     ensures capacity { vec_capacity pool.new ≡ vec_capacity pool.old }
+    ensures level { IsLevel tree.new }
 {
     take_from(tree, id, pool, gone);
 }
@@ -409,12 +512,16 @@ pub(crate) fn take_out(tree: &mut Tree, id: u64, pool: &mut Vec<Box<Node>>, gone
 // The same. It tells whether the tree is lower now.
 #[cycle(taking)]
 fn take_from(tree: &mut Tree, id: u64, pool: &mut Vec<Box<Node>>, gone: &mut bool) -> bool
+    requires level { IsLevel tree.old }
+    requires low { height_of tree.old < 240 }
     requires rising { IsRising (numbers_of tree.old) }
     requires place { nodes_of tree.old + vec_len pool.old ≤ vec_capacity pool.old }
     ensures numbers { numbers_of tree.new ≡ without_number id (numbers_of tree.old) }
     ensures shorter { length (numbers_of tree.old) ≡ length (numbers_of tree.new) + one_if gone.new }
     ensures nodes { nodes_of tree.new + vec_len pool.new ≡ nodes_of tree.old + vec_len pool.old }
     ensures capacity { vec_capacity pool.new ≡ vec_capacity pool.old }
+    ensures level { IsLevel tree.new }
+    ensures height { height_of tree.old ≡ height_of tree.new + one_if result }
 {
     let Tree::Fork(node) = tree else {
         *gone = false;
@@ -437,6 +544,8 @@ fn take_from(tree: &mut Tree, id: u64, pool: &mut Vec<Box<Node>>, gone: &mut boo
 // The same of a node that has other numbers. It tells whether one side is lower, and was not as high as the other.
 #[cycle(taking)]
 fn take_below(node: &mut Box<Node>, id: u64, pool: &mut Vec<Box<Node>>, gone: &mut bool) -> bool
+    requires level { Differs 1 node.old.value }
+    requires low { height_below node.old.value < 240 }
     requires rising { IsRising (numbers_below node.old.value) }
     requires place { nodes_below node.old.value + vec_len pool.old ≤ vec_capacity pool.old }
     requires others { node.old.value.block.least ≡ id → 0 < length node.old.value.block.more.items }
@@ -444,6 +553,7 @@ fn take_below(node: &mut Box<Node>, id: u64, pool: &mut Vec<Box<Node>>, gone: &m
     ensures shorter { length (numbers_below node.old.value) ≡ length (numbers_below node.new.value) + one_if gone.new }
     ensures nodes { nodes_below node.new.value + vec_len pool.new ≡ nodes_below node.old.value + vec_len pool.old }
     ensures capacity { vec_capacity pool.new ≡ vec_capacity pool.old }
+    ensures falls { Falls node.old.value node.new.value result }
 {
     match side_of(node, id) {
         Side::Left => take_from(&mut node.left, id, pool, gone) && left_falls(node),
@@ -458,6 +568,8 @@ fn take_below(node: &mut Box<Node>, id: u64, pool: &mut Vec<Box<Node>>, gone: &m
 // The same of a node's one number, where the next greater one, of the right side, comes in its place.
 #[cycle(taking)]
 fn take_next(node: &mut Box<Node>, next: u64, pool: &mut Vec<Box<Node>>, gone: &mut bool) -> bool
+    requires level { Differs 1 node.old.value }
+    requires low { height_below node.old.value < 240 }
     requires rising { IsRising (numbers_of node.old.value.right) }
     requires place { nodes_below node.old.value + vec_len pool.old ≤ vec_capacity pool.old }
     requires only { length node.old.value.block.more.items ≡ 0 }
@@ -465,6 +577,7 @@ fn take_next(node: &mut Box<Node>, next: u64, pool: &mut Vec<Box<Node>>, gone: &
     ensures shorter { length (numbers_below node.old.value) ≡ length (numbers_below node.new.value) + one_if gone.new }
     ensures nodes { nodes_below node.new.value + vec_len pool.new ≡ nodes_below node.old.value + vec_len pool.old }
     ensures capacity { vec_capacity pool.new ≡ vec_capacity pool.old }
+    ensures falls { Falls node.old.value node.new.value result }
 {
     node.block.begin(next);
     take_from(&mut node.right, next, pool, gone) && right_falls(node)
@@ -474,6 +587,8 @@ fn take_next(node: &mut Box<Node>, next: u64, pool: &mut Vec<Box<Node>>, gone: &
 pub(crate) fn copy_in(tree: &Tree, alloc: Global) -> Result<Tree, AllocError>
     ensures numbers { IfOk result (λ copy. numbers_of copy ≡ numbers_of tree.now) }
     ensures nodes { IfOk result (λ copy. nodes_of copy ≡ nodes_of tree.now) }
+    ensures level { IfOk result (λ copy. IsLevel tree.now → IsLevel copy) }
+    ensures height { IfOk result (λ copy. height_of copy ≡ height_of tree.now) }
 {
     match tree {
         Tree::Empty => Ok(Tree::Empty),

@@ -1,7 +1,7 @@
 use Rattle.tsn_table.specs.Blocks.{numbers_in}
 use Rattle.tsn_table.specs.Tree.{numbers_of}
 use Rattle.tsn_table.proofs.Rising.{after_only, rising_back}
-use Rattle.tsn_table.proofs.Trees.{empty_nodes, one_more}
+use Rattle.tsn_table.proofs.Trees.{empty_height, empty_nodes, one_more}
 use Rattle.tsn_table.proofs.tree.next_after.Goals as goal
 
 pub first_in-requires : goal.first_in-requires
@@ -26,3 +26,6 @@ pub returns-clause-alone : goal.returns-clause-alone
 returns-clause-alone c =
     let node = c.args.node.now in
     one_more (numbers_of node.left) (numbers_in node.block) (numbers_of node.right) c.args.id c.first_in.result c.requires.only c.first_in.ensures
+
+pub returns-clause-flat : goal.returns-clause-flat
+returns-clause-flat c = empty_height c.args.node.now.right c.first_in.result c.first_in.ensures
