@@ -1,11 +1,13 @@
 /* Counts what the program that it is loaded into asks of memory between two reads of its standard input: each call of malloc, calloc
-   or realloc that its own code makes. The counts, a 32-bit number for each read, go to the file that REQUESTS names at its end. */
+   or realloc that its own code makes. The counts, a 32-bit number for each read, stand in the file that REQUESTS names, from which
+   memory is shared: the program may end without a word. */
 #define _GNU_SOURCE
 #include <dlfcn.h>
 #include <fcntl.h>
 #include <link.h>
 #include <stdint.h>
 #include <stdlib.h>
+#include <sys/mman.h>
 #include <unistd.h>
 
 extern void *__libc_malloc(size_t size);
@@ -16,7 +18,7 @@ extern void *__libc_realloc(void *old, size_t size);
 
 static uintptr_t program_start;
 static uintptr_t program_end;
-static uint32_t counts[MOST_READS];
+static uint32_t *counts;
 static uint32_t reads;
 
 /* The first object is the program. */
@@ -34,22 +36,18 @@ static int find_program(struct dl_phdr_info *object, size_t size, void *unused) 
 }
 
 __attribute__((constructor)) static void begin(void) {
-    dl_iterate_phdr(find_program, NULL);
-}
-
-__attribute__((destructor)) static void end(void) {
     const char *name = getenv("REQUESTS");
-    int file = name == NULL ? -1 : open(name, O_CREAT | O_WRONLY | O_TRUNC, 0600);
-    if (0 <= file) {
-        ssize_t put = write(file, counts, (reads < MOST_READS ? reads + 1 : MOST_READS) * sizeof(uint32_t));
-        (void)put;
-        close(file);
+    int file = name == NULL ? -1 : open(name, O_CREAT | O_RDWR | O_TRUNC, 0600);
+    if (0 <= file && ftruncate(file, MOST_READS * sizeof(uint32_t)) == 0) {
+        void *shared = mmap(NULL, MOST_READS * sizeof(uint32_t), PROT_READ | PROT_WRITE, MAP_SHARED, file, 0);
+        counts = shared == MAP_FAILED ? NULL : shared;
     }
+    dl_iterate_phdr(find_program, NULL);
 }
 
 static void count(const void *caller) {
     uintptr_t place = (uintptr_t)caller;
-    if (program_start <= place && place < program_end && reads < MOST_READS) {
+    if (counts != NULL && program_start <= place && place < program_end && reads < MOST_READS) {
         counts[reads]++;
     }
 }
