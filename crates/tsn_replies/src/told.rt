@@ -228,16 +228,16 @@ pub fn write_entries<W: ByteOut>(
 pub fn write_kept_entries<W: ByteOut>(
     writer: &mut W,
     text: &mut ShortText,
-    entries: &[MarkedEntry],
+    kept: &[MarkedEntry],
 ) -> Result<(), Fault>
     requires { text.old ≡ [] }
     ensures ok { OnOk result (Appends (W.taken writer.old) (W.taken writer.new)
-        (compact_text (entries_data (entries_of entries.now)) ++ codes "\n")) }
+        (compact_text (entries_data (entries_of kept.now)) ++ codes "\n")) }
     ensures worked { OnOk result (W.has_failed writer.new ≡ W.has_failed writer.old) }
     ensures fault { IfErr result (λ e. e ≡ Write) }
     ensures failed { OnErr result (W.has_failed writer.new ≡ true) }
     ensures cut { OnErr result (IsCut (W.taken writer.old) (W.taken writer.new)
-        (compact_text (entries_data (entries_of entries.now)) ++ codes "\n")) }
+        (compact_text (entries_data (entries_of kept.now)) ++ codes "\n")) }
 {
-    write_told(writer, text, entries)
+    write_told(writer, text, kept)
 }

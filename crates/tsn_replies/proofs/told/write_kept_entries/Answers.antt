@@ -6,7 +6,7 @@ use Rattle.tsn_replies.proofs.Telling.{kept_line}
 use Rattle.tsn_replies.proofs.told.write_kept_entries.Goals as goal
 
 pub returns-clause-ok : goal.returns-clause-ok
-returns-clause-ok g c = on_ok_weaker c.write_told.result (subst (Appends _ _) (kept_line c.args.entries.now)) c.write_told.ensures.ok
+returns-clause-ok g c = on_ok_weaker c.write_told.result (subst (Appends _ _) (kept_line c.args.kept.now)) c.write_told.ensures.ok
 
 pub returns-clause-cut : goal.returns-clause-cut
-returns-clause-cut g c = on_err_weaker c.write_told.result (subst (IsCut _ _) (kept_line c.args.entries.now)) c.write_told.ensures.cut
+returns-clause-cut g c = on_err_weaker c.write_told.result (subst (IsCut _ _) (kept_line c.args.kept.now)) c.write_told.ensures.cut
