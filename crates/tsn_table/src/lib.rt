@@ -226,7 +226,6 @@ fn replace_at<R: Drop>(rows: &mut IndexMap<u64, R>, id: u64, place: usize, row: 
 }
 
 // Takes the row of the number, which lies at the place, out and gives it.
-
 fn take_at<R: Drop>(rows: &mut IndexMap<u64, R>, id: u64, place: usize) -> R
     requires { LiesAt rows.old id place }
     ensures before { hash.get nat_eq rows.old id ≡ Some result }

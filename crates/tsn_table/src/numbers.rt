@@ -4,7 +4,7 @@
 //! beside it the number of new numbers that it still has room for. To put a number in or to take one out costs the
 //! logarithm of how many there are.
 //!
-//! A set has a node for each 24 of the numbers that it has and has room for, and one more, whatever the order in which they
+//! A set has at least a node for each 24 of the numbers that it has and has room for, and one more, whatever the order in which they
 //! come and go: room that a number leaves serves any other one. Where no node waits, blocks that stand side by side are packed
 //! together, which gives back a quarter of the nodes.
 ghost use Rattle.std.specs.Prelude.{◌≡◌, ℕ, ◌+◌, ◌*◌, ◌^◌, ◌<◌, ◌≤◌, ◌⊎◌, IsOk, IsSome, IfOk, IfSome, OnOk, OnErr, MatchOption};
@@ -85,6 +85,17 @@ fn nodes_for(room: usize, count: usize) -> Option<usize>
     Some(numbers / SHARE + 2)
 }
 
+// How many nodes a copy has of a set whose tree has so many, and that has so many numbers: no more than these want.
+fn nodes_of_copy(nodes: usize, count: usize) -> usize
+    ensures more { nodes ≤ result }
+    ensures enough { HasRoom 0 count result }
+{
+    if count == 0 {
+        return nodes;
+    }
+    nodes.max(count / SHARE + 2)
+}
+
 impl Numbers {
     /// The set of no number. It takes no memory and has room for none.
     pub fn new(alloc: Global) -> Self
@@ -118,16 +129,18 @@ impl Numbers {
         ensures spare { self.old.spare ≤ self.new.spare }
         ensures enough { count ≤ self.old.spare → IsOk result }
     {
+        self.kept = self.kept.max(count.saturating_mul(2).saturating_add(2));
         if self.room < count {
             if room_of(self.nodes, self.count) < count {
-                let nodes = nodes_for(count, self.count).ok_or(AllocError)?;
+                let Some(nodes) = nodes_for(count, self.count) else {
+                    return Err(AllocError);
+                };
                 let waiting = self.pool.len();
                 let filled = fill_pool(&mut self.pool, self.nodes, nodes, count);
                 self.nodes += self.pool.len() - waiting;
                 filled?;
             }
             self.room = count;
-            self.kept = self.kept.max(count.saturating_mul(2).saturating_add(2));
         }
         Ok(())
     }
@@ -193,10 +206,9 @@ impl Numbers {
         let alloc = *self.pool.allocator();
         let tree = copy_in(&self.tree, alloc)?;
         let nodes = self.nodes - self.pool.len();
-        let mut pool = Vec::with_capacity(alloc, nodes)?;
-        if 0 < self.count {
-            fill_pool(&mut pool, nodes, self.nodes, 0)?;
-        }
+        let wanted = nodes_of_copy(nodes, self.count);
+        let mut pool = Vec::with_capacity(alloc, wanted)?;
+        fill_pool(&mut pool, nodes, wanted, 0)?;
         Ok(Numbers {
             tree,
             nodes: nodes + pool.len(),

@@ -14,7 +14,7 @@ use crate::tree::{Node, Tree, put_among};
 use std::mem;
 
 /// Packs the blocks of a tree, which has so many nodes with those of the pool. Where it has fewer than 24 numbers for each of its
-/// nodes but one, a node at least goes to the pool.
+/// nodes but one, a quarter of them at least goes to the pool.
 pub(crate) fn pack(tree: &mut Tree, pool: &mut Vec<Box<Node>>, nodes: usize)
     requires nodes { nodes ≡ nodes_of tree.old + vec_len pool.old }
     requires place { nodes ≤ vec_capacity pool.old }
@@ -22,7 +22,7 @@ pub(crate) fn pack(tree: &mut Tree, pool: &mut Vec<Box<Node>>, nodes: usize)
     ensures nodes { nodes_of tree.new + vec_len pool.new ≡ nodes_of tree.old + vec_len pool.old }
     ensures capacity { vec_capacity pool.new ≡ vec_capacity pool.old }
     ensures level { IsLevel tree.new }
-    ensures some { length (numbers_of tree.old) + share < share * nodes_of tree.old → vec_len pool.old < vec_len pool.new }
+    ensures quarter { length (numbers_of tree.old) + share < share * nodes_of tree.old → nodes_of tree.old + 4 * vec_len pool.old ≤ 4 * vec_len pool.new }
 {
     let mut row = row_of(mem::replace(tree, Tree::Empty), Tree::Empty, pool);
     *tree = raised(&mut row, nodes - pool.len());

@@ -2,7 +2,8 @@
 //!
 //! What is promised of a tree is said of its numbers in their order, of how many nodes it has, and of its heights: each node tells
 //! the heights of its sides, and they differ by one at most (Adelson-Velsky and Landis). So a way down is short, and so is the row
-//! of calls that goes down it: a tree is twice as high as its nodes' count has digits in base two, at most (proofs/Levels.antt).
+//! of calls that goes down it: a tree is at most twice as high as its nodes' count has digits in base two, and one more
+//! (proofs/Levels.antt).
 ghost use Rattle.std.specs.Prelude.{◌≡◌, ◌≢◌, max, ◌⊎◌, ◌+◌, ◌<◌, ◌≤◌, ◌++◌, ◌∷◌, [], false, true, IfNone, IfOk, MatchOption, OnOk, length};
 ghost use Rattle.std.specs.Option.{option_or};
 ghost use Rattle.std.specs.Vec.{vec_capacity, vec_len};
