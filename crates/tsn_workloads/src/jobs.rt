@@ -1,9 +1,11 @@
 //! The jobs, each a row of bridges with a setup and a script of their own, through the program's own call.
 
+use crate::audit::Audit;
 use crate::blocked::Blocked;
 use crate::colleagues::Colleagues;
 use crate::looks::Looks;
 use crate::numbers::Random;
+use crate::odd_bridge::{Sizes, odd_setup};
 use crate::plan::Plan;
 use crate::script::{Job, Script};
 use crate::setups::{limits_setup, plan_setup, port_setup};
@@ -11,7 +13,7 @@ use crate::spellings::Spellings;
 use crate::text::Text;
 use crate::traffic::Traffic;
 use std::alloc::Global;
-use tsn_bytes::{ByteOut, MemIn, MemOut};
+use tsn_bytes::{ByteIn, ByteOut, Fault, MemIn, MemOut, put_all};
 use tsn_program::run;
 use tsn_words::{Asked, Listing};
 
@@ -39,6 +41,8 @@ pub enum Name {
     Looks,
     /// Lines that no program of the service wrote.
     Spellings,
+    /// A bridge is audited.
+    Audit,
 }
 
 impl Name {
@@ -51,6 +55,7 @@ impl Name {
             "traffic" => Some(Name::Traffic),
             "looks" => Some(Name::Looks),
             "spellings" => Some(Name::Spellings),
+            "audit" => Some(Name::Audit),
             _ => None,
         }
     }
@@ -135,6 +140,49 @@ fn spellings<W: ByteOut>(alloc: Global, random: &mut Random, size: u64, output: 
     script(alloc, &setup, job, output)
 }
 
+fn audit<W: ByteOut>(alloc: Global, random: &mut Random, size: u64, output: &mut W) -> u8 {
+    let sizes = Sizes::new(random, size);
+    let setup = odd_setup(alloc, random, &sizes);
+    let job = Audit::new(random.other(), sizes);
+    script(alloc, &setup, job, output)
+}
+
+// Hands on the lines of a job.
+fn put_lines<J: Job + Drop, W: ByteOut>(
+    alloc: Global,
+    job: J,
+    output: &mut W,
+) -> Result<(), Fault> {
+    let mut input = Script::new(alloc, job);
+    let mut buffer = [0u8; 4096];
+    for _ in 0..u64::MAX {
+        let Ok(count) = input.pull(&mut buffer) else {
+            return Err(Fault::Read);
+        };
+        if count == 0 {
+            break;
+        }
+        put_all(output, &buffer[..count])?;
+    }
+    Ok(())
+}
+
+/// Hands on what an audit of this seed and size asks of its first bridge: the setup, a line `# lines`, and the lines.
+pub fn put_audit<W: ByteOut>(
+    alloc: Global,
+    seed: u64,
+    size: u64,
+    output: &mut W,
+) -> Result<(), Fault> {
+    let mut random = Random::new(seed);
+    let sizes = Sizes::new(&mut random, size);
+    let setup = odd_setup(alloc, &mut random, &sizes);
+    put_all(output, setup.as_slice())?;
+    put_all(output, b"# lines\n")?;
+    put_lines(alloc, Audit::new(random.other(), sizes), output)?;
+    output.flush().map_err(|_| Fault::Write)
+}
+
 /// Does a job so many times, each time on other numbers, at this size, and gives the worst status of the program.
 pub fn play<W: ByteOut>(
     alloc: Global,
@@ -154,6 +202,7 @@ pub fn play<W: ByteOut>(
             Name::Traffic => traffic(alloc, &mut random, size, output),
             Name::Looks => looks(alloc, &mut random, size, output),
             Name::Spellings => spellings(alloc, &mut random, size, output),
+            Name::Audit => audit(alloc, &mut random, size, output),
         };
         status = of_round.max(status);
     }

@@ -1,15 +1,20 @@
 //! Does a job that a user of the service waits for, on lines made from a seed, and prints a digest of all that was replied.
 //!
 //! Words: JOB SEED ROUNDS SIZE, as `plan 1 30 2000`, or JOB SEED ROUNDS SIZE replies, which prints the replies
-//! themselves. With no words each job is done once, small.
+//! themselves; audit SEED ROUNDS SIZE lines prints the setup and the lines of the first round. With no words each job is
+//! done once, small.
 #![tactic(auto)]
 
+mod audit;
 mod blocked;
 mod colleagues;
 mod digest;
+mod hand;
 mod jobs;
 mod looks;
 mod numbers;
+mod odd_bridge;
+mod odd_records;
 mod plan;
 mod pool;
 mod records;
@@ -20,11 +25,19 @@ mod text;
 mod traffic;
 
 use digest::Digest;
-use jobs::{Name, play};
+use jobs::{Name, play, put_audit};
 use std::alloc::AllocError;
 use std::rt::Env;
 use std::{env, io};
 use tsn_bytes::{Buffered, StdIo};
+
+// What is printed of a job.
+#[derive(Clone, Copy, PartialEq, Eq)]
+enum Shown {
+    Digest,
+    Replies,
+    Lines,
+}
 
 // What a run is asked for.
 #[derive(Clone, Copy)]
@@ -33,22 +46,37 @@ struct Request {
     seed: u64,
     rounds: u64,
     size: u64,
-    is_shown: bool,
+    shown: Shown,
 }
 
 // The small run of each job.
-const SMALL: [(&'static str, u64); 6] = [
+const SMALL: [(&'static str, u64); 7] = [
     ("plan", 70),
     ("colleagues", 3000),
     ("blocked", 20),
     ("traffic", 500),
     ("looks", 500),
     ("spellings", 20),
+    ("audit", 24),
 ];
 
 // The number at this place of the words, if there is one.
 fn number_at(words: &[String], place: usize) -> Option<u64> {
     words.get(place)?.as_str().parse::<u64>().ok()
+}
+
+// What the word behind the numbers, if there is one, asks to print of this job.
+fn shown_by(words: &[String], name: Name) -> Shown {
+    match words.get(5) {
+        None => Shown::Digest,
+        Some(word) => {
+            if word.as_str() == "lines" && name == Name::Audit {
+                Shown::Lines
+            } else {
+                Shown::Replies
+            }
+        }
+    }
 }
 
 // What the words behind the program's name ask for, if it can be told.
@@ -59,7 +87,7 @@ fn request_of(words: &[String]) -> Option<Request> {
         seed: number_at(words, 2)?,
         rounds: number_at(words, 3)?,
         size: number_at(words, 4)?,
-        is_shown: words.len() > 5,
+        shown: shown_by(words, name),
     })
 }
 
@@ -95,6 +123,16 @@ fn print_replies(rt: &(impl Print + AllocGlobal), request: Request) -> io::Resul
     println!(rt; "status {status}")
 }
 
+// Prints the setup and the lines of an audit.
+fn print_lines(rt: &(impl Print + AllocGlobal), request: Request) -> io::Result<()> {
+    let alloc = rt.alloc();
+    let mut output = Buffered::new(alloc, StdIo::new(io::writer(rt)))?;
+    if put_audit(alloc, request.seed, request.size, &mut output).is_err() {
+        println!(rt; "failed")?;
+    }
+    Ok(())
+}
+
 fn print_small(rt: &(impl Print + AllocGlobal)) -> io::Result<()> {
     for (word, size) in SMALL {
         if let Some(name) = Name::of(word) {
@@ -103,7 +141,7 @@ fn print_small(rt: &(impl Print + AllocGlobal)) -> io::Result<()> {
                 seed: 7,
                 rounds: 1,
                 size,
-                is_shown: false,
+                shown: Shown::Digest,
             };
             print_digest(rt, word, request)?;
         }
@@ -124,11 +162,9 @@ fn main(rt: HostRuntime) -> io::Result<()> {
     let Some(request) = request_of(words.as_slice()) else {
         return print_small(&rt);
     };
-    if request.is_shown {
-        return print_replies(&rt, request);
-    }
-    match words.get(1) {
-        Some(word) => print_digest(&rt, word.as_str(), request),
-        None => Ok(()),
+    match (request.shown, words.get(1)) {
+        (Shown::Lines, _) => print_lines(&rt, request),
+        (Shown::Digest, Some(word)) => print_digest(&rt, word.as_str(), request),
+        _ => print_replies(&rt, request),
     }
 }

@@ -31,6 +31,17 @@ impl Random {
         self.next() % end
     }
 
+    /// A number below this one, 0 where this is 0, of few digits as often as of many.
+    pub fn spread(&mut self, end: u64) -> u64
+        ensures { result ≤ end }
+    {
+        if end == 0 {
+            return 0;
+        }
+        let digits = self.below(60) as u32;
+        (self.next() >> digits.min(60)) % end
+    }
+
     /// Another row, of the next number as its seed.
     pub fn other(&mut self) -> Random {
         Random::new(self.next())
