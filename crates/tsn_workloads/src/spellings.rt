@@ -1,5 +1,5 @@
 //! Lines that no program of the service wrote: Python's `json.dumps`, with spaces, members in any order, the record before
-//! its key and escapes; and lines that are refused for each cause.
+//! its key and escapes; and lines that are refused 1 to 8, 12 and 14.
 
 use crate::numbers::Random;
 use crate::script::Job;
@@ -160,7 +160,7 @@ impl Spellings {
         }
     }
 
-    // Refused by the bridge: no such session, absent, present, dangling, referred, nothing to redo, not enabled, past.
+    // Refused by the bridge: no such session, absent, present, dangling, nothing to redo, not enabled.
     fn refused(&mut self, text: &mut Text, number: u64) {
         text.with("{\"do\": \"undo\", \"s\": ", 2 + self.random.below(60_000));
         text.put("}\n");
