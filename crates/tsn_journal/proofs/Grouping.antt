@@ -79,23 +79,23 @@ by-mark_off w s (Some m) = elim (closes w m.entry) as (λ b. is_by s (Some (cond
 
 -- ---- the groups of an entry are all that it may belong to
 
-or_true : (a b : Bool) → a ≡ true → (a || b) ≡ true
+pub or_true : (a b : Bool) → a ≡ true → (a || b) ≡ true
 or_true true b h = refl
 or_true false b h = (cc)
 
-or_else : (a b : Bool) → b ≡ true → (a || b) ≡ true
+pub or_else : (a b : Bool) → b ≡ true → (a || b) ≡ true
 or_else true b h = refl
 or_else false b h = h
 
-either : {G : Type 0} (a b : Bool) → (a || b) ≡ true → (a ≡ true → G) → (b ≡ true → G) → G
+pub either : {G : Type 0} (a b : Bool) → (a || b) ≡ true → (a ≡ true → G) → (b ≡ true → G) → G
 either true b h f g = f refl
 either false b h f g = g h
 
-second_true : (a b : Bool) → (a && b) ≡ true → b ≡ true
+pub second_true : (a b : Bool) → (a && b) ≡ true → b ≡ true
 second_true true b h = h
 second_true false b h = (cc)
 
-none_true : {G : Type 0} (b : Bool) → b ≡ false → b ≡ true → G
+pub none_true : {G : Type 0} (b : Bool) → b ≡ false → b ≡ true → G
 none_true b fails passes = (cc)
 
 same_one : (k y : Key) → same_key k y ≡ true → same_group (RefersTo y) (RefersTo k) ≡ true
@@ -118,13 +118,13 @@ refs_among (r ∷ rs) k h = either (same_key k r) (has rs k) h
     (λ first. or_true _ _ (same_one k r first))
     (λ later. or_else _ _ (refs_among rs k later))
 
-on_among : (ps : List Part) (k : Key) → has (keys_of ps) k ≡ true → is_among (groups_of_parts ps) (On k) ≡ true
+pub on_among : (ps : List Part) (k : Key) → has (keys_of ps) k ≡ true → is_among (groups_of_parts ps) (On k) ≡ true
 on_among [] k h = (cc)
 on_among (p ∷ ps) k h = either (same_key k p.key) (has (keys_of ps) k) h
     (λ same. or_true _ _ (ap (λ (x : Key). same_group (On p.key) (On x)) (one_key k p.key same) ∙ group_itself (On p.key)))
     (λ later. or_else _ _ (among_second (map (λ r. Some (RefersTo r)) (refs_of p.after)) (groups_of_parts ps) (On k) (on_among ps k later)))
 
-refers_among : (ps : List Part) (k : Key) → has (refs_after ps) k ≡ true → is_among (groups_of_parts ps) (RefersTo k) ≡ true
+pub refers_among : (ps : List Part) (k : Key) → has (refs_after ps) k ≡ true → is_among (groups_of_parts ps) (RefersTo k) ≡ true
 refers_among [] k h = (cc)
 refers_among (p ∷ ps) k h =
     let refs = map (λ r. Some (RefersTo r)) (refs_of p.after) in
@@ -155,7 +155,7 @@ module _ (s : ℕ) (redo : Option Group) (m : MarkedEntry) (c : Change) (session
       among_second (groups_of_parts (parts c)) (Some (Of s) ∷ redo ∷ []) (Of q) (or_true _ _ (ap (λ n. n == q) (sym session) ∙ second_true _ _ h))
   covers ends (EndsRedo q) h = among_second (groups_of_parts (parts c)) (Some (Of s) ∷ redo ∷ []) (EndsRedo q) (ends q h)
 
-first_true : (a b : Bool) → (a && b) ≡ true → a ≡ true
+pub first_true : (a b : Bool) → (a && b) ≡ true → a ≡ true
 first_true true b h = refl
 first_true false b h = (cc)
 
@@ -172,7 +172,7 @@ ends_or_not m s c false same adds' made q h = none_true _ (ap (λ b. b || (is_so
     not_undone (Acted act key now) c h = (cc)
     not_undone (Settled upto) c h = (cc)
 
-no_change : (m : MarkedEntry) → adds m.entry.what ≡ None → standing_change m ≡ None
+pub no_change : (m : MarkedEntry) → adds m.entry.what ≡ None → standing_change m ≡ None
 no_change m none = elim m.is_open as (λ b. cond b (adds m.entry.what) None ≡ None) [ true ↦ none | false ↦ refl ]
 
 -- an Undone entry is only among those at which a search for a redo ends

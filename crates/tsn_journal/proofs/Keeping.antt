@@ -6,9 +6,10 @@ use Rattle.tsn_journal.specs.declared.entries.MarkedEntry.{MarkedEntry}
 use Rattle.tsn_journal.specs.declared.groups.Group.{Group}
 use Rattle.tsn_journal.specs.declared.index.Index.{Index}
 use Rattle.tsn_journal.specs.Index.{ArePlaces, HasRoom, IsIndexed, IsIndexedButNewest, IsLast, NewestAdds, TakesNoRoom, TakesRoom, belongs, places_for}
-use Rattle.tsn_journal.specs.Crossed.{IsFreeAbove, NoneCrossed, NoneReferred, is_on_referred}
+use Rattle.tsn_journal.specs.Crossed.{IsFreeAbove, IsNeeded, IsRaised, NoneCrossed, NoneReferred, is_on_referred}
 use Rattle.tsn_journal.specs.Kept.{IsKept}
 use Rattle.tsn_journal.specs.Latest.{latest_of}
+use Rattle.tsn_journal.specs.Newest.{AreNewest, HasNewest, IsIn}
 use Rattle.tsn_journal.specs.Touched.{NewestTold, Tells, TellsSame}
 use Rattle.std.specs.List.{slice_get}
 use Rattle.std.specs.Prelude.{max}
@@ -19,6 +20,8 @@ use Rattle.tsn_journal.proofs.Closing.{off_pushed, settled_push}
 use Rattle.tsn_journal.proofs.Indexing.{indexed_more, indexed_off}
 use Rattle.tsn_journal.proofs.Links.{end_at, some_of}
 use Rattle.tsn_journal.proofs.Marking.{entries_pushed, entries_stay, journal_push, new_entry}
+use Rattle.tsn_journal.proofs.Needed.{needed_pushed}
+use Rattle.tsn_journal.proofs.Newest.{in_none}
 use Rattle.tsn_journal.proofs.Telling.{tells_more, tells_same}
 
 -- the index says the same where it has the same places and the same latest ones
@@ -28,6 +31,12 @@ indexed_same ms a b places latest is = record {
   latest_is = λ g. subst (λ qs. IsLast g (belongs g) ms qs (latest_of b.latest g) (length ms + 1)) (sym places)
       (subst (λ j. IsLast g (belongs g) ms a.places.items j (length ms + 1)) (sym (latest g)) (is.latest_is g));
 }
+
+newest_same : (ms : List MarkedEntry) (a b : Index) → b.places.items ≡ a.places.items → ((g : Group) → latest_of b.latest g ≡ latest_of a.latest g) → (g : Group) → HasNewest ms a g → HasNewest ms b g
+newest_same ms a b places latest g had = subst (λ qs. IsIn g ms qs (latest_of b.latest g)) (sym places) (subst (λ j. IsIn g ms a.places.items j) (sym (latest g)) had)
+
+pub no_newest : (a : Index) → ((g : Group) → latest_of a.latest g ≡ 0) → AreNewest [] a
+no_newest a latest g = in_none g [] a.places.items (latest_of a.latest g) (latest g)
 
 pub no_index : (a : Index) → a.places.items ≡ [] → ((g : Group) → latest_of a.latest g ≡ 0) → IsIndexed [] a
 no_index a places latest = record {
@@ -41,6 +50,7 @@ module _ (ms : List MarkedEntry) (len capacity : ℕ) (a : Index) (room parts up
   kept_reserved len' capacity' room' parts' as_many entries few few_parts places' = record {
     journal = subst IsJournal (sym same) is.journal;
     indexed = subst (λ xs. IsIndexed xs b) (sym same) (indexed_same ms a b places latest is.indexed);
+    newest = subst (λ xs. AreNewest xs b) (sym same) (λ g. newest_same ms a b places latest g (is.newest g));
     tells = subst (λ xs. Tells (entries_of xs) b) (sym same) (tells_same (entries_of ms) a b tells is.tells);
     entries = entries;
     few = few;
@@ -52,6 +62,7 @@ module _ (ms : List MarkedEntry) (len capacity : ℕ) (a : Index) (room parts up
     off = subst (AreOff upto) (sym same) is.off;
     free = subst (IsFreeAbove crossed) (sym same) is.free;
     referred = subst (NoneReferred crossed) (sym same) is.referred;
+    needed = subst (λ xs. IsNeeded crossed (entries_of xs)) (sym same) is.needed;
   }
 
 pub still_room : (n : ℕ) (a b : Index) → TakesNoRoom a b → HasRoom n a → HasRoom n b
@@ -97,11 +108,12 @@ module _ (w : What) (s : ℕ) (ms ns : List MarkedEntry) (pushed : ns ≡ map (m
   off_more upto now is within there now_is off =
       subst (λ n. AreOff n ns) (sym now_is) (subst (AreOff (max upto (settles_to w))) (sym pushed) (off_pushed w upto ms (new_entry ms s w) is.numbered within there off))
 
-  pub kept_pushed : (len capacity len' capacity' room parts k upto now crossed more : ℕ) (a b : Index) → 1 ≤ room → k ≤ parts → k ≤ 16 → IsKept ms len capacity a room parts upto crossed → IsFreeAbove more ns → NoneReferred more ns → settles_to w ≤ length ms → now ≡ max upto (settles_to w) → length ms ≡ len → len' ≡ len + 1 → capacity' ≡ capacity → IsIndexed ns b → Tells (entries_of ns) b
+  pub kept_pushed : (len capacity len' capacity' room parts k upto now crossed more : ℕ) (a b : Index) → 1 ≤ room → k ≤ parts → k ≤ 16 → IsKept ms len capacity a room parts upto crossed → IsFreeAbove more ns → NoneReferred more ns → IsRaised crossed more ms s (adds w) → settles_to w ≤ length ms → now ≡ max upto (settles_to w) → length ms ≡ len → len' ≡ len + 1 → capacity' ≡ capacity → IsIndexed ns b → AreNewest ns b → Tells (entries_of ns) b
       → TakesRoom (places_for 1 k) a b → IsKept ns len' capacity' b (room - 1) (parts - k) now more
-  kept_pushed len capacity len' capacity' room parts k upto now crossed more a b some fewer wide is free referred there now_is count longer same indexed tells takes = record {
+  kept_pushed len capacity len' capacity' room parts k upto now crossed more a b some fewer wide is free referred raised there now_is count longer same indexed newest tells takes = record {
     journal = journal_push ms s w ns is.journal (omega (arith, is.few)) pushed;
     indexed = indexed;
+    newest = newest;
     tells = tells;
     entries = omega (arith, is.entries);
     few = omega (arith, is.few);
@@ -113,6 +125,7 @@ module _ (w : What) (s : ℕ) (ms ns : List MarkedEntry) (pushed : ns ≡ map (m
     off = off_more upto now is.journal (omega (arith, is.settled_there, count)) there now_is is.off;
     free = free;
     referred = referred;
+    needed = subst (IsNeeded more) (sym (ap entries_of pushed ∙ entries_pushed ms s w)) (needed_pushed crossed more s ms w is.needed raised);
   }
 
   pub pushed_free : (crossed more : ℕ) → IsFreeAbove crossed ms → NoneCrossed more (adds w) s ms → crossed ≤ more → IsFreeAbove more ns

@@ -11,6 +11,8 @@ pub mod LastWhere
 pub mod Links
 pub mod Lowering
 pub mod Marking
+pub mod Needed
+pub mod Newest
 pub mod Numbers
 pub mod Off
 pub mod Rows

@@ -13,7 +13,7 @@ use Rattle.tsn_journal.specs.Index.{NoneBetween, belongs, is_on, number_at, refe
 use Rattle.tsn_journal.specs.Marks.{AreOff, is_own}
 use Rattle.tsn_journal.proofs.Walking.{filter_gap}
 
-off_at : (n : ℕ) (ms : List MarkedEntry) → AreOff n ms → (i : ℕ) (m : MarkedEntry) → i < n → slice_get ms i ≡ Some m → m.is_open ≡ false
+pub off_at : (n : ℕ) (ms : List MarkedEntry) → AreOff n ms → (i : ℕ) (m : MarkedEntry) → i < n → slice_get ms i ≡ Some m → m.is_open ≡ false
 off_at zero ms h i m lt at = absurd (omega arith)
 off_at (suc n) [] h i m lt at = (cc)
 off_at (suc n) (x ∷ ms) h zero m lt at = ap (λ (o : Option MarkedEntry). is_open_of o) (sym at) ∙ h.0 where

@@ -117,13 +117,14 @@ pub record IsIndexedButNewest (ms : List MarkedEntry) (a : Index) : Type 0 where
   pub places : ArePlaces ms a.places.items
   pub latest_is : (g : Group) → IsLast g (belongs g) ms a.places.items (latest_of a.latest g) (length ms)
 
--- the newest entry, of the number n, is the session's and made or redid the change; whether it ends a search for a redo
+-- the newest entry, of the number n, is open, is the session's and made or redid the change; whether it ends a search for a redo
 pub record IsNewest (ms : List MarkedEntry) (n s : ℕ) (c : Change) (ends : Bool) : Type 0 where
   pub count : n ≡ length ms
   pub some : 1 ≤ n
   pub by : is_by s (slice_get ms (n - 1)) ≡ true
   pub change : (m : MarkedEntry) → slice_get ms (n - 1) ≡ Some m → adds m.entry.what ≡ Some c
   pub end : (m : MarkedEntry) → slice_get ms (n - 1) ≡ Some m → is_made m.entry.what ≡ ends
+  pub is_open : (m : MarkedEntry) → slice_get ms (n - 1) ≡ Some m → m.is_open ≡ true
 
 -- the newest entry adds so many parts
 abbrev pub NewestAdds : List MarkedEntry → ℕ → Type 0

@@ -5,5 +5,6 @@ pub mod Index
 pub mod Kept
 pub mod Latest
 pub mod Marks
+pub mod Newest
 pub mod Tests
 pub mod Touched

@@ -4,7 +4,7 @@
 //! never falls. An entry on a gate or a meter, to which values may refer, raises it to its own number. What stands above it
 //! need not be looked at where an entry that is blocked is sought.
 ghost use Rattle.std.specs.Prelude.{◌≡◌, ◌≤◌, ◌∷◌, [], Some, false, length};
-ghost use Rattle.tsn_journal.specs.Crossed.{NoneCrossed, NoneOn, NoneReferred, is_on_referred, is_referred};
+ghost use Rattle.tsn_journal.specs.Crossed.{IsFoundOn, IsRaised, NoneCrossed, NoneOn, NoneReferred, is_on_referred, is_referred};
 ghost use Rattle.tsn_journal.specs.Entries.{IsNumbered, adds};
 ghost use Rattle.tsn_journal.specs.Index.{IsIndexed};
 ghost use Rattle.tsn_journal.specs.Marks.{entries_of};
@@ -31,6 +31,7 @@ pub(crate) fn crossed_by(
     ensures free { NoneCrossed result (adds what.now) session marked.now }
     ensures rises { number ≤ result }
     ensures own { result ≤ length marked.now → is_on_referred (adds what.now) ≡ false }
+    ensures raised { IsRaised number result marked.now session (adds what.now) }
 {
     match what.added() {
         Some(change) => crossed_by_parts(index, marked, session, change.parts(), number),
@@ -52,6 +53,7 @@ fn crossed_by_parts(
     ensures free { NoneCrossed result (Some parts.now) session marked.now }
     ensures rises { number ≤ result }
     ensures own { result ≤ length marked.now → is_on_referred (Some parts.now) ≡ false }
+    ensures raised { IsRaised number result marked.now session (Some parts.now) }
 {
     let mut crossed = number;
     for part in parts {
@@ -75,6 +77,7 @@ fn crossed_by_part(
     ensures free { NoneCrossed result (Some (part.now ∷ [])) session marked.now }
     ensures rises { number ≤ result }
     ensures own { result ≤ length marked.now → is_referred part.now.key ≡ false }
+    ensures raised { IsRaised number result marked.now session (Some (part.now ∷ [])) }
 {
     if is_referred(&part.key) {
         number.max(marked.len() as u64 + 1)
@@ -96,6 +99,7 @@ fn newest_on(index: &Index, marked: &[MarkedEntry], session: u32, key: &Key, num
     requires numbered { IsNumbered 1 (entries_of marked.now) }
     ensures none { NoneOn result key.now session marked.now }
     ensures rises { number ≤ result }
+    ensures raised { IsFoundOn number result marked.now session key.now }
 {
     let latest = index.latest.key_places(*key).on;
     match index.last_of_others(marked, &Group::On(*key), latest, session, number) {

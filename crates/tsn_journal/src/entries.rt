@@ -1,8 +1,11 @@
 //! Entries of the journal: which session did what.
-ghost use Rattle.std.specs.Prelude.{◌≡◌, ◌≤◌, ◌==◌, IfOk, is_some, option_map};
+ghost use Rattle.std.specs.Prelude.{◌≡◌, ◌≤◌, ◌==◌, Bool, IfOk, is_some, option_map};
 ghost use Rattle.std.specs.Option.{option_copied};
 ghost use Rattle.tsn_edit.specs.Parts.{most_parts};
 ghost use Rattle.tsn_journal.specs.Entries.{added_parts, adds, applied, applies, closes, is_made, names, settles_to, undoes};
+ghost use Rattle.tsn_journal.specs.declared.entries.MarkedEntry.{MarkedEntry as AnyEntry};
+ghost use Rattle.tsn_journal.specs.Finding.{last_where};
+ghost use Rattle.tsn_journal.specs.Tests.{Tests};
 ghost use Rattle.tsn_journal.specs.Marks.{ends_redo, entries_of, entry_in, is_in_conflict, is_own, stands};
 
 use std::alloc::{AllocError, Global};
@@ -272,4 +275,23 @@ impl MarkedEntry {
             _ => None,
         }
     }
+}
+
+/// The last entry that passes the test.
+pub(crate) fn last<'a, F: Fn(&MarkedEntry) -> bool>(
+    marked: &'a [MarkedEntry],
+    test: &F,
+) -> Option<&'a MarkedEntry>
+    requires { F.IsAlwaysCallable test.now }
+    ensures { (p : AnyEntry → Bool) → Tests F.Fn p test.now → option_copied result ≡ last_where p marked.now }
+{
+    let mut place = marked.len();
+    'back: while 0 < place {
+        place -= 1;
+        let last = &marked[place];
+        if test(last) {
+            return Some(last);
+        }
+    }
+    None
 }

@@ -1,5 +1,5 @@
 //! Looking through the marked entries of a journal, by number and from the back.
-ghost use Rattle.std.specs.Prelude.{◌≡◌, ◌==◌, ◌+◌, ◌<◌, ◌≤◌, ◌⊎◌, ◌&&◌, ◌∷◌, [], Bool, IfOk, IfSome, IsNone, drop, filter, is_some, length, map, option_map};
+ghost use Rattle.std.specs.Prelude.{◌≡◌, ◌==◌, ◌+◌, ◌<◌, ◌≤◌, ◌⊎◌, ◌&&◌, ◌∷◌, ℕ, [], Bool, IfOk, IfSome, IsNone, Some, drop, filter, is_some, length, map, option_map, slice_get};
 ghost use Rattle.std.specs.List.{find};
 ghost use Rattle.std.specs.Option.{option_and_then, option_copied};
 ghost use Rattle.tsn_journal.specs.Crossed.{IsFreeAbove};
@@ -8,36 +8,18 @@ ghost use Rattle.tsn_journal.specs.Finding.{last_where};
 ghost use Rattle.tsn_journal.specs.Latest.{latest_of};
 ghost use Rattle.tsn_journal.specs.Index.{IsIndexed, TakesRoom, above, belongs, is_on_any, is_sought};
 ghost use Rattle.tsn_journal.specs.Marks.{AreOff, conflict_after, conflict_of_others, entries_of, is_in_conflict, is_own, later_of, mark_off, newest_blocked, stands};
+ghost use Rattle.tsn_journal.specs.Newest.{KeepsNewest, MendsNewest, groups_of};
 ghost use Rattle.tsn_journal.specs.Tests.{Tests};
 ghost use Rattle.tsn_journal.specs.Touched.{TellsSame};
 ghost use Rattle.tsn_journal.specs.declared.entries.MarkedEntry.{MarkedEntry as AnyEntry};
 ghost use Rattle.tsn_journal.specs.declared.entries.What.TheVariants.{Settled};
 
-use crate::entries::{Entry, MarkedEntry, What};
+use crate::entries::{Entry, MarkedEntry, What, last};
 use crate::groups::{Group, refs_of};
 use crate::index::Index;
 use std::alloc::{AllocError, Global};
 use tsn_edit::{Change, Part};
 use tsn_types::keys::Key;
-
-/// The last entry that passes the test.
-pub(crate) fn last<'a, F: Fn(&MarkedEntry) -> bool>(
-    marked: &'a [MarkedEntry],
-    test: &F,
-) -> Option<&'a MarkedEntry>
-    requires { F.IsAlwaysCallable test.now }
-    ensures { (p : AnyEntry → Bool) → Tests F.Fn p test.now → option_copied result ≡ last_where p marked.now }
-{
-    let mut place = marked.len();
-    'back: while 0 < place {
-        place -= 1;
-        let last = &marked[place];
-        if test(last) {
-            return Some(last);
-        }
-    }
-    None
-}
 
 /// The number of the last entry that passes the test.
 pub(crate) fn latest<F: Fn(&MarkedEntry) -> bool>(marked: &[MarkedEntry], test: &F) -> Option<u64>
@@ -373,10 +355,30 @@ pub(crate) fn leave(
     requires there { upto ≤ length marked.now }
     requires off { AreOff upto marked.now }
     ensures index { IsIndexed marked.now index.new }
+    ensures newest { KeepsNewest marked.now index.old index.new }
+    ensures named { (n : ℕ) (m : AnyEntry) → taken_back ≡ Some n → find (λ x. x.entry.number == n) marked.now ≡ Some m
+        → MendsNewest marked.now (groups_of m.entry) index.old index.new }
+    ensures settled { (i : ℕ) (m : AnyEntry) → first ≤ i → i < upto → slice_get marked.now i ≡ Some m
+        → MendsNewest marked.now (groups_of m.entry) index.old index.new }
     ensures tells { TellsSame index.old index.new }
     ensures room { TakesRoom 0 index.old index.new }
 {
     leave_one(index, marked, taken_back, upto as u64);
+    leave_settled(index, marked, first, upto);
+}
+
+/// The same for the entries behind the first ones, up to the number.
+fn leave_settled(index: &mut Index, marked: &[MarkedEntry], first: usize, upto: usize)
+    requires index { IsIndexed marked.now index.old }
+    requires there { upto ≤ length marked.now }
+    requires off { AreOff upto marked.now }
+    ensures index { IsIndexed marked.now index.new }
+    ensures newest { KeepsNewest marked.now index.old index.new }
+    ensures settled { (i : ℕ) (m : AnyEntry) → first ≤ i → i < upto → slice_get marked.now i ≡ Some m
+        → MendsNewest marked.now (groups_of m.entry) index.old index.new }
+    ensures tells { TellsSame index.old index.new }
+    ensures room { TakesRoom 0 index.old index.new }
+{
     for place in first..upto {
         index.leave(marked, &marked[place].entry, upto as u64);
     }
@@ -388,6 +390,9 @@ fn leave_one(index: &mut Index, marked: &[MarkedEntry], number: Option<u64>, set
     requires numbered { IsNumbered 1 (entries_of marked.now) }
     requires off { AreOff settled marked.now }
     ensures index { IsIndexed marked.now index.new }
+    ensures newest { KeepsNewest marked.now index.old index.new }
+    ensures named { (n : ℕ) (m : AnyEntry) → number ≡ Some n → find (λ x. x.entry.number == n) marked.now ≡ Some m
+        → MendsNewest marked.now (groups_of m.entry) index.old index.new }
     ensures tells { TellsSame index.old index.new }
     ensures room { TakesRoom 0 index.old index.new }
 {

@@ -7,18 +7,20 @@ ghost use Rattle.std.specs.Prelude.{◌≡◌, ◌&&◌, ◌*◌, ◌+◌, ◌-�
 ghost use Rattle.std.specs.Option.{option_copied};
 ghost use Rattle.tsn_journal.specs.declared.entries.MarkedEntry.{MarkedEntry as AnyEntry};
 ghost use Rattle.tsn_journal.specs.declared.groups.Group.{Group as AnyGroup};
+ghost use Rattle.tsn_types.specs.declared.keys.Key.{Key as AnyKey};
 ghost use Rattle.tsn_journal.specs.Entries.{most_entries};
 ghost use Rattle.tsn_journal.specs.Finding.{last_where};
 ghost use Rattle.tsn_journal.specs.declared.groups.Group.TheVariants.{EndsRedo, Of, On, RefersTo};
-ghost use Rattle.tsn_journal.specs.Index.{Adds, ArePlaces, HasPlaces, HasRoom, IsIndexed, IsIndexedBut, IsIndexedButNewest, IsLast, IsNewest, NewestAdds, NoneBetween, NoneFrom, TakesNoRoom, TakesPlaces, TakesRoom, belongs, belongs_to_others, group_if, is_by, most_places, number_at, other_of, places_for};
+ghost use Rattle.tsn_journal.specs.Index.{Adds, ArePlaces, HasPlaces, HasRoom, IsIndexed, IsIndexedBut, IsIndexedButNewest, IsLast, IsNewest, NewestAdds, NoneBetween, NoneFrom, TakesNoRoom, TakesPlaces, TakesRoom, belongs, belongs_to_others, group_if, groups_of_parts, is_by, most_places, number_at, other_of, places_for};
 ghost use Rattle.tsn_journal.specs.Latest.{latest_of};
 ghost use Rattle.tsn_journal.specs.Marks.{AreOff, added_in, is_own};
+ghost use Rattle.tsn_journal.specs.Newest.{HasNewest, IsIn, KeepsNewest, MendsNewest, groups_of};
 ghost use Rattle.tsn_journal.specs.Tests.{Tests};
 ghost use Rattle.tsn_journal.specs.Touched.{NewestTold, Tells, TellsSame, Told};
 ghost use Rattle.tsn_edit.specs.Changes.{keys_of, refs_after};
 ghost use Rattle.tsn_edit.specs.Parts.{parts};
 
-use crate::entries::{Entry, MarkedEntry, What};
+use crate::entries::{Entry, MarkedEntry, What, last};
 use crate::groups::{Group, refs_of};
 use crate::latest::{KeyPlaces, Latest, SessionPlaces};
 use std::alloc::{AllocError, Global};
@@ -113,7 +115,9 @@ impl Index {
         requires room { HasRoom (places_for 1 parts) self.old }
         requires some { 1 ≤ length marked.now }
         requires few { length marked.now ≤ most_entries }
+        requires is_open { (m : AnyEntry) → slice_get marked.now (length marked.now - 1) ≡ Some m → m.is_open ≡ true }
         ensures index { IsIndexed marked.now self.new }
+        ensures newest { KeepsNewest marked.now self.old self.new }
         ensures told { NewestTold marked.now (length marked.now) self.old self.new }
         ensures room { TakesRoom (places_for 1 parts) self.old self.new }
     {
@@ -147,6 +151,7 @@ impl Index {
         requires newest { IsNewest marked.now number session change.now ends }
         requires room { HasRoom (places_for 1 (length change.now)) self.old }
         ensures index { IsIndexed marked.now self.new }
+        ensures newest { KeepsNewest marked.now self.old self.new }
         ensures told { Told number (keys_of (parts change.now)) (refs_after (parts change.now)) self.old self.new }
         ensures room { TakesRoom (places_for 1 (length change.now)) self.old self.new }
     {
@@ -167,8 +172,10 @@ impl Index {
         requires count { number ≡ length marked.now }
         requires some { 1 ≤ number }
         requires by { is_by session (slice_get marked.now (number - 1)) ≡ true }
+        requires in_group { (m : AnyEntry) → slice_get marked.now (number - 1) ≡ Some m → belongs (On key.now) m ≡ true }
         ensures index { (rest : List (Option AnyGroup)) → IsIndexedBut (Some (On key.now) ∷ rest) marked.now self.old.places.items (latest_of self.old.latest)
             → IsIndexedBut rest marked.now self.new.places.items (latest_of self.new.latest) }
+        ensures newest { KeepsNewest marked.now self.old self.new }
         ensures told { Told number (key.now ∷ []) [] self.old self.new }
         ensures room { TakesRoom 1 self.old self.new }
     {
@@ -190,8 +197,10 @@ impl Index {
         requires count { number ≡ length marked.now }
         requires some { 1 ≤ number }
         requires by { is_by session (slice_get marked.now (number - 1)) ≡ true }
+        requires in_group { (k : AnyKey) (m : AnyEntry) → key.now ≡ Some k → slice_get marked.now (number - 1) ≡ Some m → belongs (RefersTo k) m ≡ true }
         ensures index { (rest : List (Option AnyGroup)) → IsIndexedBut (option_map RefersTo key.now ∷ rest) marked.now self.old.places.items (latest_of self.old.latest)
             → IsIndexedBut rest marked.now self.new.places.items (latest_of self.new.latest) }
+        ensures newest { KeepsNewest marked.now self.old self.new }
         ensures told { Told number [] (option_to_list key.now) self.old self.new }
         ensures room { TakesRoom 1 self.old self.new }
     {
@@ -231,9 +240,12 @@ impl Index {
         requires count { number ≡ length marked.now }
         requires some { 1 ≤ number }
         requires by { is_by session (slice_get marked.now (number - 1)) ≡ true }
+        requires in_standing { (m : AnyEntry) → stands ≡ true → slice_get marked.now (number - 1) ≡ Some m → belongs (Of session) m ≡ true }
+        requires in_ending { (m : AnyEntry) → ends ≡ true → slice_get marked.now (number - 1) ≡ Some m → belongs (EndsRedo session) m ≡ true }
         ensures index { (rest : List (Option AnyGroup))
             → IsIndexedBut (group_if stands (Of session) ∷ group_if ends (EndsRedo session) ∷ rest) marked.now self.old.places.items (latest_of self.old.latest)
             → IsIndexedBut rest marked.now self.new.places.items (latest_of self.new.latest) }
+        ensures newest { KeepsNewest marked.now self.old self.new }
         ensures tells { TellsSame self.old self.new }
         ensures room { TakesRoom 2 self.old self.new }
     {
@@ -311,6 +323,7 @@ impl Index {
         requires index { IsIndexed marked.now self.old }
         requires off { AreOff settled marked.now }
         ensures index { IsIndexed marked.now self.new }
+        ensures newest { MendsNewest marked.now (groups_of taken_back.now) self.old self.new }
         ensures tells { TellsSame self.old self.new }
         ensures room { TakesRoom 0 self.old self.new }
     {
@@ -325,6 +338,7 @@ impl Index {
         requires index { IsIndexed marked.now self.old }
         requires off { AreOff settled marked.now }
         ensures index { IsIndexed marked.now self.new }
+        ensures newest { MendsNewest marked.now (groups_of_parts parts.now) self.old self.new }
         ensures tells { TellsSame self.old self.new }
         ensures room { TakesRoom 0 self.old self.new }
     {
@@ -341,6 +355,7 @@ impl Index {
         requires index { IsIndexed marked.now self.old }
         requires off { AreOff settled marked.now }
         ensures index { IsIndexed marked.now self.new }
+        ensures newest { MendsNewest marked.now (Some (On key.now) ∷ []) self.old self.new }
         ensures tells { TellsSame self.old self.new }
         ensures room { TakesRoom 0 self.old self.new }
     {
@@ -360,6 +375,7 @@ impl Index {
         requires index { IsIndexed marked.now self.old }
         requires off { AreOff settled marked.now }
         ensures index { IsIndexed marked.now self.new }
+        ensures newest { MendsNewest marked.now (option_map RefersTo key.now ∷ []) self.old self.new }
         ensures tells { TellsSame self.old self.new }
         ensures room { TakesRoom 0 self.old self.new }
     {
@@ -382,6 +398,7 @@ impl Index {
         requires index { IsIndexed marked.now self.old }
         requires off { AreOff settled marked.now }
         ensures index { IsIndexed marked.now self.new }
+        ensures newest { MendsNewest marked.now (Some (Of session) ∷ Some (EndsRedo session) ∷ []) self.old self.new }
         ensures tells { TellsSame self.old self.new }
         ensures room { TakesRoom 0 self.old self.new }
     {
@@ -410,7 +427,8 @@ impl Index {
         requires places { ArePlaces marked.now self.now.places.items }
         requires latest { IsLast group.now (belongs group.now) marked.now self.now.places.items latest (length marked.now + 1) }
         requires settled { NoneBetween (belongs group.now) marked.now 0 (settled + 1) }
-        ensures { IsLast group.now (belongs group.now) marked.now self.now.places.items result (length marked.now + 1) }
+        ensures last { IsLast group.now (belongs group.now) marked.now self.now.places.items result (length marked.now + 1) }
+        ensures newest { IsIn group.now marked.now self.now.places.items result }
     {
         let mut place = latest;
         'back: while place != 0 {
@@ -569,7 +587,8 @@ impl Index {
     }
 
     /// The session's last standing entry that passes the test, where none above the number `upto` does. At those it does
-    /// not look; once it passed as many places of theirs as there are entries up to the number, it goes back through these, one by one.
+    /// not look; once it passed as many places of theirs as there are entries up to the number, it goes back through these, one
+    /// by one. That costs at most as much again as what it passed, so a switch is never dearer than twice the better way.
     pub(crate) fn last_own<'a, F: Fn(&MarkedEntry) -> bool>(
         &self,
         marked: &'a [MarkedEntry],
@@ -593,7 +612,10 @@ impl Index {
                 }
             } else {
                 if passed >= upto {
-                    return last_own_of(&marked[..upto as usize], session, test);
+                    return last(
+                        &marked[..upto as usize],
+                        &|entry: &MarkedEntry| { entry.is_own(session) && test(entry) },
+                    );
                 }
                 passed += 1;
             }
@@ -634,26 +656,6 @@ impl Index {
         }
         None
     }
-}
-
-/// The last of the entries that stands, is the session's and passes the test. It goes back through them, one by one.
-fn last_own_of<'a, F: Fn(&MarkedEntry) -> bool>(
-    marked: &'a [MarkedEntry],
-    session: u32,
-    test: &F,
-) -> Option<&'a MarkedEntry>
-    requires { F.IsAlwaysCallable test.now }
-    ensures { (p : AnyEntry → Bool) → Tests F.Fn p test.now → option_copied result ≡ last_where (λ m. is_own session m && p m) marked.now }
-{
-    let mut place = marked.len();
-    'back: while 0 < place {
-        place -= 1;
-        let last = &marked[place];
-        if last.is_own(session) && test(last) {
-            return Some(last);
-        }
-    }
-    None
 }
 
 /// How many of the entries stand and are the session's.

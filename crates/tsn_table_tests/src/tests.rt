@@ -143,6 +143,9 @@ fn great_and_small_numbers_keep_their_rows(rt: HostRuntime) -> Result<(), Fail> 
     same(&rt, &table.get(1).copied(), &None);
     same(&rt, &table.get(300).copied(), &Some(30));
     let _ = table.put(511, 40);
+    table.reserve(5)?;
+    let _ = table.put(512, 41);
+    let _ = table.put(513, 42);
     let _ = table.put(65_535, 50);
     let _ = table.put(65_536, 60);
     let _ = table.put(u64::MAX, 70);
@@ -152,15 +155,18 @@ fn great_and_small_numbers_keep_their_rows(rt: HostRuntime) -> Result<(), Fail> 
     same(&rt, &table.get(65_536).copied(), &Some(60));
     same(&rt, &table.get(u64::MAX).copied(), &Some(70));
     same(&rt, &table.put(511, 44), &Some(40));
+    same(&rt, &table.take(512), &Some(41));
+    same(&rt, &table.get(512).copied(), &None);
+    same(&rt, &table.get(513).copied(), &Some(42));
     same(
         &rt,
         &table.ids(rt.alloc())?.as_slice(),
-        &[2, 300, 511, 65_536, u64::MAX].as_slice(),
+        &[2, 300, 511, 513, 65_536, u64::MAX].as_slice(),
     );
     Ok(())
 }
 
-// As many rows as the largest table of a bridge has.
+// As many rows as the largest table of a bridge has; then a half of them is taken out again.
 #[test]
 fn the_largest_table_is_listed_and_copied(rt: HostRuntime) -> Result<(), Fail> {
     let mut table = Table::new(rt.alloc());
@@ -177,6 +183,17 @@ fn the_largest_table_is_listed_and_copied(rt: HostRuntime) -> Result<(), Fail> {
     }
     same(&rt, &copy.get(0).copied(), &Some(65_535));
     same(&rt, &copy.get(65_535).copied(), &Some(0));
+    for half in 0..32_768 {
+        same(&rt, &table.take(2 * half), &Some(65_535 - 2 * half));
+    }
+    for half in 0..32_768 {
+        same(&rt, &table.get(2 * half).copied(), &None);
+        same(
+            &rt,
+            &table.get(2 * half + 1).copied(),
+            &Some(65_534 - 2 * half),
+        );
+    }
     Ok(())
 }
 

@@ -1,12 +1,13 @@
-use Rattle.std.proofs.Common.{◌≤◌, ◌∷◌, [], Some, arith, refl, ◌∙◌, ap, take}
+use Rattle.std.proofs.Common.{◌≤◌, ◌∷◌, [], Some, arith, inl, refl, subst, sym, ◌∙◌, ap, take}
 use Rattle.tsn_edit.specs.Parts.{Change}
-use Rattle.tsn_journal.specs.Crossed.{crosses, is_on_referred}
+use Rattle.tsn_journal.specs.Crossed.{IsRaised, crosses, is_on_referred}
 use Rattle.tsn_journal.proofs.Bounding.{both_cross, both_referred, none_cross, one_referred}
+use Rattle.tsn_journal.proofs.Needed.{raised_then}
 use Rattle.tsn_journal.proofs.Sought.{take_next}
 use Rattle.tsn_journal.proofs.crossed.crossed_by_parts.Goals as goal
 
 pub loop-part-init : goal.loop-part-init
-loop-part-init c = record { free = λ i e le at. none_cross c.args.session e; rises = omega arith; own = λ le. refl }
+loop-part-init c = record { free = λ i e le at. none_cross c.args.session e; rises = omega arith; own = λ le. refl; raised = inl refl }
 
 pub crossed_by_part-crossed-requires-clause-referred : goal.crossed_by_part-crossed-requires-clause-referred
 crossed_by_part-crossed-requires-clause-referred c = λ i e le at. c.requires.referred i e (omega (arith, c.loop-part.invariant.rises, le)) at
@@ -24,4 +25,6 @@ loop-part-preserved c =
       own = λ le.
           ap (λ (ps : Change). is_on_referred (Some ps)) (take_next c.args.parts.now j p (omega arith) c.part-item.is)
           ∙ both_referred (take j c.args.parts.now) (p ∷ []) (c.loop-part.invariant.own (omega arith)) (one_referred p (c.crossed_by_part-crossed.ensures.own le));
+      raised = subst (λ (ps : Change). IsRaised c.args.number c.crossed_by_part-crossed.result c.args.marked.now c.args.session (Some ps)) (sym (take_next c.args.parts.now j p (omega arith) c.part-item.is))
+          (raised_then c.args.number c.loop-part.crossed c.crossed_by_part-crossed.result c.args.session c.args.marked.now (take j c.args.parts.now) (p ∷ []) c.loop-part.invariant.raised c.crossed_by_part-crossed.ensures.raised);
     }

@@ -1,5 +1,5 @@
 use Rattle.std.proofs.Common.{◌≡◌, ◌≤◌, Some, false, length, take}
-use Rattle.tsn_journal.specs.Crossed.{NoneCrossed, is_on_referred}
+use Rattle.tsn_journal.specs.Crossed.{IsRaised, NoneCrossed, is_on_referred}
 use Rattle.tsn_journal.proofs.crossed.crossed_by_parts.Given as goal
 
 -- the parts so far conflict with nothing above the number so far, and are on no gate or meter where this is not of their own
@@ -8,4 +8,5 @@ invariant-loop-part l = record {
   free : NoneCrossed l.crossed (Some (take l.part-index l.parts)) l.session l.marked;
   rises : l.initial.number ≤ l.crossed;
   own : l.crossed ≤ length l.marked → is_on_referred (Some (take l.part-index l.parts)) ≡ false;
+  raised : IsRaised l.initial.number l.crossed l.marked l.session (Some (take l.part-index l.parts));
 }

@@ -6,6 +6,7 @@ use Rattle.tsn_journal.specs.declared.groups.Group.TheVariants.{On}
 use Rattle.tsn_journal.specs.Index.{belongs_to_others}
 use Rattle.tsn_journal.proofs.Bounding.{after_last}
 use Rattle.tsn_journal.proofs.Links.{none_some, some_of}
+use Rattle.tsn_journal.proofs.Needed.{found_on}
 use Rattle.tsn_journal.proofs.crossed.newest_on.Goals as goal
 
 pub returns-in-Some-clause-none : goal.returns-in-Some-clause-none
@@ -24,3 +25,6 @@ returns-in-None-clause-none c = λ i e le at.
     after_last (belongs_to_others (On c.args.key.now) c.args.session) 0 c.args.number c.args.marked.now 0 c.requires.numbered
     (λ y some. none_some y (sym (ap option_copied c.in-None.is) ∙ c.last_of_others.ensures ∙ some))
     i e le (omega arith) at
+
+pub returns-in-Some-clause-raised : goal.returns-in-Some-clause-raised
+returns-in-Some-clause-raised c = found_on c.args.session c.max.result c.args.number c.args.key.now c.args.marked.now c.in-Some.found.now c.requires.numbered (sym (sym (ap option_copied c.in-Some.is) ∙ c.last_of_others.ensures)) c.max.ensures

@@ -1,4 +1,4 @@
-use Rattle.std.proofs.Common.{◌+◌, ◌∷◌, ◌++◌, List, [], arith, drop, sym, subst}
+use Rattle.std.proofs.Common.{◌+◌, ◌<◌, ◌∷◌, ◌++◌, List, [], arith, drop, sym, subst, ◌∙◌, ap, inl, inr, get_or, length}
 use Rattle.std.specs.Prelude.{option_map}
 use Rattle.tsn_edit.specs.Parts.{Part}
 use Rattle.tsn_journal.specs.declared.groups.Group.TheVariants.{RefersTo}
@@ -6,6 +6,7 @@ use Rattle.tsn_journal.specs.Index.{IsIndexedBut, groups_of_parts}
 use Rattle.tsn_journal.specs.Latest.{latest_of}
 use Rattle.tsn_journal.proofs.Entering.{next_pending, none_pending, of_session, pending_change, takes_none, three_taken}
 use Rattle.tsn_journal.proofs.Indexing.{but_newest}
+use Rattle.tsn_journal.proofs.Newest.{in_ends, in_key, in_own, in_ref}
 use Rattle.tsn_journal.proofs.Telling.{all_told, same_itself', told_last, told_more, told_same}
 use Rattle.tsn_journal.proofs.index.Index.enter_change.Goals as goal
 
@@ -13,6 +14,7 @@ pub loop-part-init : goal.loop-part-init
 loop-part-init c = record {
   pending = subst (λ (ps : List Part). IsIndexedBut (groups_of_parts ps ++ of_session c.args.session c.args.ends) c.args.marked.now c.args.self.now.places.items (latest_of c.args.self.now.latest)) (sym c.parts-parts.ensures.parts)
       (pending_change c.args.marked.now c.args.number c.args.session c.args.change.now c.args.ends c.requires.newest c.args.self.now c.requires.index);
+  newest = λ g had. had;
   told = told_same c.args.number c.args.self.now c.args.self.now (same_itself' c.args.self.now);
   room = takes_none c.args.self.now;
 }
@@ -43,6 +45,7 @@ loop-part-preserved c =
     let first = c.enter_ref.ensures.index (option_map RefersTo refs.second ∷ rest) on in
     record {
       pending = c.enter_ref-in-loop-part.ensures.index rest first;
+      newest = λ g had. c.enter_ref-in-loop-part.ensures.newest g (c.enter_ref.ensures.newest g (c.enter_on.ensures.newest g (c.loop-part.invariant.newest g had)));
       told = told_more c.args.number c.loop-part.part-index c.parts-parts.result.now c.part-item.result refs c.args.self.now c.loop-part.self c.enter_on.new.self c.enter_ref.new.self c.enter_ref-in-loop-part.new.self c.requires.newest.some c.loop-part-test.true c.part-item.is c.refs_of-refs.ensures
           c.loop-part.invariant.told c.enter_on.ensures.told c.enter_ref.ensures.told c.enter_ref-in-loop-part.ensures.told;
       room = three_taken c.loop-part.part-index c.args.self.now c.loop-part.self c.enter_on.new.self c.enter_ref.new.self c.enter_ref-in-loop-part.new.self c.loop-part.invariant.room c.enter_on.ensures.room c.enter_ref.ensures.room c.enter_ref-in-loop-part.ensures.room;
@@ -57,3 +60,30 @@ pub returns-clause-told : goal.returns-clause-told
 returns-clause-told c =
     all_told c.args.number c.loop-part.part-index c.parts-parts.result.now c.args.change.now c.args.self.now c.enter_session.new.self (omega arith) c.parts-parts.ensures.parts
     (told_last c.args.number _ _ c.args.self.now c.loop-part.self c.enter_session.new.self c.loop-part.invariant.told c.enter_session.ensures.tells)
+
+pub enter_on-requires-clause-in_group : goal.enter_on-requires-clause-in_group
+enter_on-requires-clause-in_group c = λ m at.
+    let same = c.parts-parts.ensures.parts in
+    in_key c.args.marked.now c.args.number c.args.session c.args.change.now c.args.ends c.requires.newest m at c.loop-part.part-index c.part-item.result
+    (subst (λ ps. c.loop-part.part-index < length ps) same (omega (arith, c.loop-part-test.true))) (c.part-item.is ∙ ap (λ ps. get_or ps c.loop-part.part-index c.part-item.result) same)
+
+pub enter_ref-requires-clause-in_group : goal.enter_ref-requires-clause-in_group
+enter_ref-requires-clause-in_group c = λ k m some at.
+    let same = c.parts-parts.ensures.parts in
+    in_ref c.args.marked.now c.args.number c.args.session c.args.change.now c.args.ends c.requires.newest m at c.loop-part.part-index c.part-item.result c.refs_of-refs.result k
+    (subst (λ ps. c.loop-part.part-index < length ps) same (omega (arith, c.loop-part-test.true))) (c.part-item.is ∙ ap (λ ps. get_or ps c.loop-part.part-index c.part-item.result) same) c.refs_of-refs.ensures (inl some)
+
+pub enter_ref-requires-in-loop-part-clause-in_group : goal.enter_ref-requires-in-loop-part-clause-in_group
+enter_ref-requires-in-loop-part-clause-in_group c = λ k m some at.
+    let same = c.parts-parts.ensures.parts in
+    in_ref c.args.marked.now c.args.number c.args.session c.args.change.now c.args.ends c.requires.newest m at c.loop-part.part-index c.part-item.result c.refs_of-refs.result k
+    (subst (λ ps. c.loop-part.part-index < length ps) same (omega (arith, c.loop-part-test.true))) (c.part-item.is ∙ ap (λ ps. get_or ps c.loop-part.part-index c.part-item.result) same) c.refs_of-refs.ensures (inr some)
+
+pub enter_session-requires-clause-in_standing : goal.enter_session-requires-clause-in_standing
+enter_session-requires-clause-in_standing c = λ m yes at. in_own c.args.marked.now c.args.number c.args.session c.args.change.now c.args.ends c.requires.newest m at
+
+pub enter_session-requires-clause-in_ending : goal.enter_session-requires-clause-in_ending
+enter_session-requires-clause-in_ending c = λ m yes at. in_ends c.args.marked.now c.args.number c.args.session c.args.change.now c.args.ends c.requires.newest m at yes
+
+pub returns-clause-newest : goal.returns-clause-newest
+returns-clause-newest c = λ g had. c.enter_session.ensures.newest g (c.loop-part.invariant.newest g had)

@@ -6,6 +6,7 @@ use Rattle.tsn_journal.specs.declared.latest.Latest.{Latest}
 use Rattle.tsn_journal.specs.Index.{set_at}
 use Rattle.tsn_journal.specs.Latest.{key_row, latest_of, referred_of, refers_of, touched_of}
 use Rattle.tsn_journal.proofs.Indexing.{indexed_if, reindexed}
+use Rattle.tsn_journal.proofs.Newest.{added_kept}
 use Rattle.tsn_journal.proofs.Rows.{referred_stay, set_on, set_touched}
 use Rattle.tsn_journal.proofs.Telling.{told_key}
 use Rattle.tsn_journal.proofs.index.Index.enter_on.Goals as goal
@@ -36,3 +37,14 @@ returns-clause-told c =
     ∙ ap (λ (r : KeyPlaces). cond (same_key key q) r.touched (touched_of (key_row l q))) c.touched_by.ensures
     ∙ ap (λ (x : Latest). cond (same_key key q) c.args.number (touched_of (key_row x q))) same)
     (λ q. referred_stay l k key row c.set_key.ensures.rows c.set_key.ensures.sessions (ap (λ (r : KeyPlaces). r.referred) c.touched_by.ensures ∙ c.key_places-row.ensures.referred ∙ ap (λ (x : Latest). referred_of (key_row x key)) (sym same)) q ∙ ap (λ (x : Latest). referred_of (key_row x q)) same)
+
+pub returns-clause-newest : goal.returns-clause-newest
+returns-clause-newest c =
+    let key = c.args.key.now in
+    let j = c.add-on.result in
+    let same = c.add-on.ensures.latest in
+    added_kept c.args.marked.now true (On key) c.args.number c.args.session c.key_places-row.result.on c.args.self.now.places.items c.add-on.new.self.places.items j c.requires.count c.requires.some c.requires.index.places c.add-on.ensures.added (λ yes m at. c.requires.in_group m at)
+    (latest_of c.args.self.now.latest) (latest_of c.set_key.new.self) c.key_places-row.ensures.on (λ q. (c.requires.index.latest_is q).within)
+    (λ q. set_on c.add-on.new.self.latest c.set_key.new.self key (record c.touched_by.result { on = j }) c.set_key.ensures.rows c.set_key.ensures.sessions
+    (ap (λ (r : KeyPlaces). r.refers) c.touched_by.ensures ∙ c.key_places-row.ensures.refers ∙ ap (λ (x : Latest). refers_of (key_row x key)) (sym same)) q
+    ∙ ap (λ (x : Latest). set_at (On key) j (latest_of x) q) same)

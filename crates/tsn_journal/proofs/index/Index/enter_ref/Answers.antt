@@ -9,6 +9,7 @@ use Rattle.tsn_journal.specs.Index.{IsIndexedBut, set_at}
 use Rattle.tsn_journal.specs.Touched.{Told}
 use Rattle.tsn_journal.specs.Latest.{key_row, latest_of, on_of, referred_of, touched_of}
 use Rattle.tsn_journal.proofs.Indexing.{indexed_if, indexed_skip, reindexed}
+use Rattle.tsn_journal.proofs.Newest.{added_kept}
 use Rattle.tsn_journal.proofs.Rows.{set_referred, set_refers, touched_stay}
 use Rattle.tsn_journal.proofs.Telling.{same_itself', told_ref, told_same}
 use Rattle.tsn_journal.proofs.index.Index.enter_ref.Goals as goal
@@ -51,3 +52,14 @@ returns-clause-told c =
     (λ q. set_referred l k key row c.set_key.ensures.rows c.set_key.ensures.sessions q
     ∙ ap (λ (r : KeyPlaces). cond (same_key key q) r.referred (referred_of (key_row l q))) c.referred_by.ensures
     ∙ ap (λ (x : Latest). cond (same_key key q) c.args.number (referred_of (key_row x q))) same))
+
+pub returns-clause-newest : goal.returns-clause-newest
+returns-clause-newest c =
+    let key = c.in-Some.key in
+    let j = c.add-refers.result in
+    let same = c.add-refers.ensures.latest in
+    added_kept c.args.marked.now true (RefersTo key) c.args.number c.args.session c.key_places-row.result.refers c.args.self.now.places.items c.add-refers.new.self.places.items j c.requires.count c.requires.some c.requires.index.places c.add-refers.ensures.added (λ yes m at. c.requires.in_group key m c.in-Some.is at)
+    (latest_of c.args.self.now.latest) (latest_of c.set_key.new.self) c.key_places-row.ensures.refers (λ q. (c.requires.index.latest_is q).within)
+    (λ q. set_refers c.add-refers.new.self.latest c.set_key.new.self key (record c.referred_by.result { refers = j }) c.set_key.ensures.rows c.set_key.ensures.sessions
+    (ap (λ (r : KeyPlaces). r.on) c.referred_by.ensures ∙ c.key_places-row.ensures.on ∙ ap (λ (x : Latest). on_of (key_row x key)) (sym same)) q
+    ∙ ap (λ (x : Latest). set_at (RefersTo key) j (latest_of x) q) same)

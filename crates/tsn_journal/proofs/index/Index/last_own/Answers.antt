@@ -1,4 +1,4 @@
-use Rattle.std.proofs.Common.{◌+◌, ◌≤◌, ◌&&◌, Bool, sym, ◌∙◌, subst, arith, length}
+use Rattle.std.proofs.Common.{◌+◌, ◌≤◌, ◌&&◌, Bool, sym, ◌∙◌, subst, arith, length, rules}
 use Rattle.std.proofs.lemmas.List.{length-take-le}
 use Rattle.tsn_journal.specs.declared.entries.MarkedEntry.{MarkedEntry}
 use Rattle.tsn_journal.specs.declared.groups.Group.TheVariants.{Of}
@@ -67,12 +67,12 @@ returns g c = λ p answers above.
     let t : MarkedEntry → Bool = λ m. is_own c.args.session m && p m in
     sym (none_from t c.args.marked.now 0 (λ i m low is. c.back.invariant.none_later p answers above i m (subst (λ j. number_at c.args.self.now.places.items j ≤ i) (sym c.back-test.false) (omega arith)) (in_list c.args.marked.now i m is) is))
 
-pub slice_bounds-last_own_of-end : goal.slice_bounds-last_own_of-end
-slice_bounds-last_own_of-end g c =
+pub slice_bounds-last-end : goal.slice_bounds-last-end
+slice_bounds-last-end g c =
     let at = the_place c.args.marked.now c.args.self.now.places.items (Of c.args.session) c.back.place c.index-found.result.now c.back.invariant.group (place_there c.args.self.now.places.items c.back.place c.index-found.result.now c.back-test.true c.back.invariant.within c.index-found.ensures) c.requires.index.places in
     let number = c.from.ensures in
     let within : c.args.upto ≤ length c.args.marked.now = omega (arith, c.if-from-upto.false, at.within, number) in
     omega (arith, within, length-take-le c.args.upto c.args.marked.now within)
 
 pub returns-then-passed-upto : goal.returns-then-passed-upto
-returns-then-passed-upto g c = λ p answers above. c.last_own_of.ensures p answers ∙ last_upto (λ m. is_own c.args.session m && p m) c.args.marked.now c.args.upto above
+returns-then-passed-upto g c = λ p answers above. c.last.ensures (λ m. is_own c.args.session m && p m) (λ x b h. search (rules, answers)) ∙ last_upto (λ m. is_own c.args.session m && p m) c.args.marked.now c.args.upto above

@@ -27,7 +27,7 @@ returns-clause-index c =
     let row : KeyPlaces = record { on = j; refers = c.key_places-latest.result.refers; touched = c.key_places-latest.result.touched; referred = c.key_places-latest.result.referred } in
     reindexed ms _ ps (set_at (On key) j l) (latest_of c.set_key.new.self)
     (set_on c.args.self.now.latest c.set_key.new.self key row c.set_key.ensures.rows c.set_key.ensures.sessions c.key_places-latest.ensures.refers)
-    (index_lowered ms ps l (On key) j c.requires.index c.first_from-on.ensures)
+    (index_lowered ms ps l (On key) j c.requires.index c.first_from-on.ensures.last)
 
 pub returns-clause-tells : goal.returns-clause-tells
 returns-clause-tells c =

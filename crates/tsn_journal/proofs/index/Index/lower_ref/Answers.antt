@@ -27,7 +27,7 @@ returns-clause-index c =
     let row : KeyPlaces = record { on = c.key_places-latest.result.on; refers = j; touched = c.key_places-latest.result.touched; referred = c.key_places-latest.result.referred } in
     reindexed ms _ ps (set_at (RefersTo key) j l) (latest_of c.set_key.new.self)
     (set_refers c.args.self.now.latest c.set_key.new.self key row c.set_key.ensures.rows c.set_key.ensures.sessions c.key_places-latest.ensures.on)
-    (index_lowered ms ps l (RefersTo key) j c.requires.index c.first_from-refers.ensures)
+    (index_lowered ms ps l (RefersTo key) j c.requires.index c.first_from-refers.ensures.last)
 
 pub returns-clause-tells : goal.returns-clause-tells
 returns-clause-tells c =

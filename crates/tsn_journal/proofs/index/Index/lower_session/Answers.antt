@@ -1,9 +1,10 @@
-use Rattle.std.proofs.Common.{◌+◌, sym, subst, length}
+use Rattle.std.proofs.Common.{◌+◌, refl, sym, subst, length}
 use Rattle.tsn_journal.specs.declared.groups.Group.TheVariants.{Of, EndsRedo}
 use Rattle.tsn_journal.specs.Index.{IsLast, belongs, set_at}
 use Rattle.tsn_journal.specs.Latest.{latest_of}
 use Rattle.tsn_journal.proofs.Indexing.{reindexed}
 use Rattle.tsn_journal.proofs.Lowering.{index_lowered}
+use Rattle.tsn_journal.proofs.Newest.{mends_two}
 use Rattle.tsn_journal.proofs.Off.{none_own}
 use Rattle.tsn_journal.proofs.Rows.{set_both}
 use Rattle.tsn_journal.proofs.index.Index.lower_session.Goals as goal
@@ -28,7 +29,13 @@ returns-clause-index c =
     let k = c.first_from-ends_redo.result in
     reindexed ms _ ps (set_at (EndsRedo s) k (set_at (Of s) j l)) (latest_of c.set_session.new.self)
     (set_both c.args.self.now.latest c.set_session.new.self s (record { standing = j; ends_redo = k }) c.set_session.ensures.sessions c.set_session.ensures.keys)
-    (index_lowered ms ps (set_at (Of s) j l) (EndsRedo s) k (index_lowered ms ps l (Of s) j c.requires.index c.first_from-standing.ensures) c.first_from-ends_redo.ensures)
+    (index_lowered ms ps (set_at (Of s) j l) (EndsRedo s) k (index_lowered ms ps l (Of s) j c.requires.index c.first_from-standing.ensures.last) c.first_from-ends_redo.ensures.last)
 
 pub first_from-standing-requires-clause-settled : goal.first_from-standing-requires-clause-settled
 first_from-standing-requires-clause-settled c = none_own c.args.session c.args.settled c.args.marked.now c.requires.off
+
+pub returns-clause-newest : goal.returns-clause-newest
+returns-clause-newest c =
+    mends_two c.args.marked.now c.args.session c.first_from-standing.result c.first_from-ends_redo.result c.args.self.now _ refl
+    (set_both c.args.self.now.latest c.set_session.new.self c.args.session (record { standing = c.first_from-standing.result; ends_redo = c.first_from-ends_redo.result }) c.set_session.ensures.sessions c.set_session.ensures.keys)
+    c.first_from-standing.ensures.newest c.first_from-ends_redo.ensures.newest

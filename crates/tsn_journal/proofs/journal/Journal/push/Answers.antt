@@ -1,12 +1,17 @@
 use Rattle.std.proofs.Common.{◌≤◌, refl, sym, ◌∙◌, ap, subst, drop, length, map, add-zero, arith, max}
-use Rattle.tsn_journal.specs.Crossed.{NoneCrossed, NoneReferred}
+use Rattle.tsn_journal.specs.Crossed.{IsRaised, NoneCrossed, NoneReferred}
 use Rattle.tsn_journal.specs.Entries.{IsNumbered, added_parts, adds, with_entry}
 use Rattle.tsn_journal.specs.Index.{IsIndexed, IsIndexedButNewest, NewestAdds, TakesRoom, places_for}
 use Rattle.tsn_journal.specs.Marks.{AreOff, Log, entries_of, mark_off}
+use Rattle.std.specs.Prelude.{◌==◌}
+use Rattle.std.specs.List.{find, slice_get}
 use Rattle.std.specs.Vec.{vec_capacity, vec_len}
+use Rattle.tsn_journal.specs.declared.entries.MarkedEntry.{MarkedEntry}
+use Rattle.tsn_journal.specs.Newest.{KeepsNewest, MendsNewest, groups_of}
 use Rattle.tsn_journal.proofs.Indexing.{takes_more}
 use Rattle.tsn_journal.proofs.Keeping.{kept_pushed, off_more, pushed_few, pushed_adds, pushed_free, pushed_index, pushed_numbered, pushed_referred, pushed_some, pushed_tells, room_for_one, settles_there}
-use Rattle.tsn_journal.proofs.Marking.{entries_pushed, pushed_items}
+use Rattle.tsn_journal.proofs.Marking.{entries_pushed, new_entry, pushed_items}
+use Rattle.tsn_journal.proofs.Newest.{newest_again}
 use Rattle.tsn_journal.proofs.Telling.{tells_same}
 use Rattle.tsn_journal.specs.Touched.{NewestTold}
 use Rattle.tsn_journal.proofs.journal.Journal.push.Goals as goal
@@ -110,8 +115,21 @@ invariant_of-self c =
     (c.put_off.ensures ∙ ap (map (mark_off c.args.what)) c.deref_mut.ensures.value) c.push_reserved.ensures.items)
     c.self.inside.crossed c.crossed_by-crossed.result c.self.invariant.referred c.crossed_by-crossed.ensures.rises
     (λ le. c.crossed_by-crossed.ensures.own (subst (λ xs. c.crossed_by-crossed.result ≤ length xs) (sym c.deref.ensures.value) le)))
+    (subst (λ xs. IsRaised c.self.inside.crossed c.crossed_by-crossed.result xs c.args.session (adds c.args.what)) c.deref.ensures.value c.crossed_by-crossed.ensures.raised)
     (settles_there c.args.what ms _ _ c.self.view_is refl c.requires.settles) (c.max-settled.ensures ∙ ap (max c.self.inside.settled) c.settles_to.ensures) same c.push_reserved.ensures.len c.push_reserved.ensures.capacity
     (subst (λ xs. IsIndexed xs c.leave.new.index) c.deref-3.ensures.value c.leave.ensures.index)
+    (newest_again c.args.what ms (new_entry ms c.args.session c.args.what) c.self.inside.index c.self.invariant.indexed c.self.invariant.journal.numbered c.self.inside.settled c.max-settled.result c.enter.new.self c.leave.new.index c.push_reserved.new.self.items
+    (pushed_items c.args.what c.args.session c.self.inside.marked.len c.len.result ms (drop (length c.put_off.new.marked) ms) c.put_off.new.marked c.push_reserved.new.self.items same c.len.ensures
+    (c.put_off.ensures ∙ ap (map (mark_off c.args.what)) c.deref_mut.ensures.value) c.push_reserved.ensures.items)
+    c.self.invariant.off (c.max-settled.ensures ∙ ap (max c.self.inside.settled) c.settles_to.ensures) c.self.invariant.newest
+    (subst (λ xs. KeepsNewest xs c.self.inside.index c.enter.new.self) c.deref-2.ensures.value c.enter.ensures.newest)
+    (subst (λ xs. KeepsNewest xs c.enter.new.self c.leave.new.index) c.deref-3.ensures.value c.leave.ensures.newest)
+    (λ n m is there. subst (λ xs. MendsNewest xs (groups_of m.entry) c.enter.new.self c.leave.new.index) c.deref-3.ensures.value (c.leave.ensures.named n m (c.names-taken_back.ensures ∙ is) (ap (find (λ (y : MarkedEntry). y.entry.number == n)) c.deref-3.ensures.value ∙ there)))
+    (λ i m low high there. subst (λ xs. MendsNewest xs (groups_of m.entry) c.enter.new.self c.leave.new.index) c.deref-3.ensures.value (c.leave.ensures.settled i m low high (ap (λ xs. slice_get xs i) c.deref-3.ensures.value ∙ there)))
+    (pushed_numbered c.args.what c.args.session ms c.push_reserved.new.self.items
+    (pushed_items c.args.what c.args.session c.self.inside.marked.len c.len.result ms (drop (length c.put_off.new.marked) ms) c.put_off.new.marked c.push_reserved.new.self.items same c.len.ensures
+    (c.put_off.ensures ∙ ap (map (mark_off c.args.what)) c.deref_mut.ensures.value) c.push_reserved.ensures.items)
+    c.self.invariant.journal (omega (arith, c.self.invariant.few, same, (let room : 1 ≤ c.self.inside.room = subst (λ (l : Log). 1 ≤ l.spare) (sym c.self.view_is) c.requires.room in room)))))
     (tells_same (entries_of c.push_reserved.new.self.items) c.enter.new.self c.leave.new.index c.leave.ensures.tells
     (pushed_tells c.args.what c.args.session ms c.push_reserved.new.self.items
     (pushed_items c.args.what c.args.session c.self.inside.marked.len c.len.result ms (drop (length c.put_off.new.marked) ms) c.put_off.new.marked c.push_reserved.new.self.items same c.len.ensures

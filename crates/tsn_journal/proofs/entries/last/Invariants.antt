@@ -2,7 +2,7 @@ use Rattle.std.proofs.Common.{◌≡◌, ◌≤◌, Bool, None, length, drop}
 use Rattle.tsn_journal.specs.Finding.{last_where}
 use Rattle.tsn_journal.specs.Tests.{Tests}
 use Rattle.tsn_journal.specs.declared.entries.MarkedEntry.{MarkedEntry}
-use Rattle.tsn_journal.proofs.finding.last.Given as goal
+use Rattle.tsn_journal.proofs.entries.last.Given as goal
 
 abbrev pub invariant-back : goal.invariant-back
 invariant-back g l =

@@ -1,7 +1,7 @@
 use Rattle.std.proofs.Common.{◌≡◌, ◌+◌, ◌-◌, ◌<◌, length, sym, ◌∙◌, ap, arith, drop}
 use Rattle.tsn_journal.specs.Finding.{last_where}
 use Rattle.tsn_journal.proofs.LastWhere.{found_here}
-use Rattle.tsn_journal.proofs.finding.last.Goals as goal
+use Rattle.tsn_journal.proofs.entries.last.Goals as goal
 
 pub returns-then-test : goal.returns-then-test
 returns-then-test g c = λ p answers.

@@ -1,0 +1,345 @@
+-- The newest places of groups: with a place more, set back, and with marks off.
+use Rattle.std.proofs.Common.{◌≡◌, ℕ, zero, suc, ◌+◌, ◌-◌, ◌<◌, ◌≤◌, ◌⊎◌, inl, inr, Bool, true, false, cond, ◌||◌, ◌&&◌, List, [], ◌∷◌, ◌++◌, refl, sym, ◌∙◌, ap, subst, Option, Some, None, arith, get_or, length, map, max, take}
+use Rattle.std.specs.Prelude.{◌==◌, is_some, nat_le, option_map}
+use Rattle.std.specs.List.{find, slice_get}
+use Rattle.std.proofs.lemmas.Grind.{flat_map-append}
+use Rattle.std.proofs.lemmas.Bool.Decides.{nat_tests}
+use Rattle.std.proofs.lemmas.List.{length-append, length-map}
+use Rattle.std.proofs.lemmas.Option.{get_or_from_slice_get, slice_get-map, slice_get_within}
+use Rattle.tsn_types.specs.declared.keys.Key.{Key}
+use Rattle.tsn_types.specs.declared.records.Refs.{Refs}
+use Rattle.tsn_types.specs.Keys.{has, keys_of_refs, refs_of, same_key}
+use Rattle.tsn_edit.specs.Changes.{keys_of, refs_after}
+use Rattle.tsn_edit.specs.Parts.{Change, Part, parts}
+use Rattle.tsn_edit.proofs.KeyFacts.{by_bool, by_option, has-append, same_itself}
+use Rattle.tsn_journal.specs.declared.entries.MarkedEntry.{MarkedEntry}
+use Rattle.tsn_journal.specs.declared.entries.Entry.{Entry}
+use Rattle.tsn_journal.specs.declared.entries.What.{What}
+use Rattle.tsn_journal.specs.declared.entries.What.TheVariants.{Made, Undone, Redone, Acted, Settled}
+use Rattle.tsn_journal.specs.declared.groups.Group.{Group}
+use Rattle.tsn_journal.specs.declared.groups.Group.TheVariants.{On, RefersTo, Of, EndsRedo}
+use Rattle.tsn_journal.specs.declared.index.Index.{Index}
+use Rattle.tsn_journal.specs.declared.index.Place.{Place}
+use Rattle.tsn_journal.specs.Entries.{Applied, IsNumbered, adds, closes, is_made, names, settles_to, undoes}
+use Rattle.tsn_journal.specs.Index.{Adds, ArePlaces, IsIndexed, IsNewest, belongs, groups_of_parts, is_among, is_by, is_on, number_at, other_of, part_groups, place_at, refers, set_at, standing_change}
+use Rattle.tsn_journal.specs.Latest.{latest_of, same_group}
+use Rattle.tsn_journal.specs.Marks.{AreOff, ends_redo, entries_of, mark_off}
+use Rattle.tsn_journal.specs.Newest.{AreNewest, HasNewest, IsIn, KeepsNewest, MendsNewest, groups_added, groups_of}
+use Rattle.tsn_journal.proofs.Grouping.{covers, either, first_true, is_among-append, no_change, none_true, not_standing, one_group, or_else, or_true, same_number}
+use Rattle.tsn_journal.proofs.Links.{front_at, none_some, place_end, place_front, place_of, some_of, where_at}
+use Rattle.tsn_journal.proofs.Marking.{entry_stays, found_number}
+use Rattle.tsn_journal.proofs.Off.{off_at}
+use Rattle.tsn_journal.proofs.Sought.{take_next}
+
+-- ---- numbers
+
+differ : (b : Bool) → b ≡ false → b ≡ true → ⊥
+differ b fails passes = (cc)
+
+le_at : (n k : ℕ) → nat_le n k ≡ true → n ≤ k
+le_at n k h = grind (arith, nat_tests)
+
+max_above : (n k : ℕ) → k ≤ max n k
+max_above n k = omega arith
+
+pub number_at' : (n : ℕ) (ms : List MarkedEntry) (i : ℕ) (m : MarkedEntry) → IsNumbered n (entries_of ms) → slice_get ms i ≡ Some m → m.entry.number ≡ i + n
+number_at' n [] i m h at = none_some m at
+number_at' n (y ∷ ms) zero m h at = ap (λ (z : MarkedEntry). z.entry.number) (sym (some_of y m at)) ∙ h.0 ∙ (let e : n ≡ zero + n = omega arith in e)
+number_at' n (y ∷ ms) (suc i) m h at = number_at' (n + 1) ms i m h.1 at ∙ (let e : i + (n + 1) ≡ suc i + n = omega arith in e)
+
+found_at : (ms : List MarkedEntry) (i : ℕ) (m : MarkedEntry) (k : ℕ) → IsNumbered 1 (entries_of ms) → slice_get ms i ≡ Some m → k ≡ i + 1 → find (λ (y : MarkedEntry). y.entry.number == k) ms ≡ Some m
+found_at ms i m k h at is = found_number 1 i k ms m h (omega (arith, is)) (slice_get_within ms i m at) (sym (get_or_from_slice_get ms i m m at))
+
+-- ---- places
+
+pub in_none : (g : Group) (ms : List MarkedEntry) (ps : List Place) (j : ℕ) → j ≡ 0 → IsIn g ms ps j
+in_none g ms ps j none = record { belongs = λ p m there at. none_some p (sym (ap (place_at ps) none) ∙ there) }
+
+pub in_place : (g : Group) (ms : List MarkedEntry) (ps : List Place) (j : ℕ) (p : Place) (m : MarkedEntry) → place_at ps j ≡ Some p → slice_get ms (p.number - 1) ≡ Some m → belongs g m ≡ true → IsIn g ms ps j
+in_place g ms ps j p m there at is = record {
+  belongs = λ q x there' at'.
+      let same : p ≡ q = some_of p q (sym there ∙ there') in
+      let one : m ≡ x = some_of m x (sym at ∙ ap (λ (r : Place). slice_get ms (r.number - 1)) same ∙ at') in
+      ap (belongs g) (sym one) ∙ is;
+}
+
+in_longer : (g : Group) (ms : List MarkedEntry) (ps qs : List Place) (j : ℕ) → j ≤ length ps → IsIn g ms ps j → IsIn g ms (ps ++ qs) j
+in_longer g ms ps qs j within is = record { belongs = λ p m there at. is.belongs p m (sym (place_front ps qs j within) ∙ there) at }
+
+-- ---- a place more
+
+module _ (ms : List MarkedEntry) (wanted : Bool) (g : Group) (n s before : ℕ) (ps qs : List Place) (j : ℕ) (count : n ≡ length ms) (some : 1 ≤ n) (are : ArePlaces ms ps) (adds' : Adds ms wanted g n s before ps qs j) (in' : wanted ≡ true → (m : MarkedEntry) → slice_get ms (n - 1) ≡ Some m → belongs g m ≡ true) where
+  -- the place that the group has then is of the newest entry, or the one that it had
+  pub added_in : before ≤ length ps → IsIn g ms ps before → IsIn g ms qs j
+  added_in within old = by_bool wanted
+      (λ yes. elim (where_at n (number_at ps before)) [
+        | inl less ↦ record {
+          belongs = λ p m there at.
+              let new : Place = record { group = g; number = n; before = before; other = other_of ms ps s before } in
+              let same : new ≡ p = some_of new p (sym (place_end ps new) ∙ (λ i. place_at (sym (adds'.places yes less) i) (sym (adds'.place yes less) i)) ∙ there) in
+              in' yes m (ap (λ (q : Place). slice_get ms (q.number - 1)) same ∙ at);
+        }
+        | inr least ↦ stays (omega (arith, least_of least))
+      ])
+      (λ no. subst (λ xs. IsIn g ms xs j) (sym (adds'.unwanted no)) (subst (λ k. IsIn g ms ps k) (sym (adds'.unwanted_place no)) old))
+    where
+      least_of : ((number_at ps before ≡ n) ⊎ (n < number_at ps before)) → n ≤ number_at ps before
+      least_of (inl same) = omega arith
+      least_of (inr more) = omega arith
+
+      stays : n ≤ number_at ps before → IsIn g ms qs j
+      stays least = subst (λ xs. IsIn g ms xs j) (sym (adds'.there least)) (subst (λ k. IsIn g ms ps k) (sym (adds'.there_place least)) old)
+
+  pub added_other : (q : Group) (k : ℕ) → k ≤ length ps → IsIn q ms ps k → IsIn q ms qs k
+  added_other q k within old = by_bool wanted
+      (λ yes. elim (where_at n (number_at ps before)) [
+        | inl less ↦ subst (λ xs. IsIn q ms xs k) (sym (adds'.places yes less)) (in_longer q ms ps _ k within old)
+        | inr least ↦ elim least [ inl same ↦ subst (λ xs. IsIn q ms xs k) (sym (adds'.there (omega arith))) old | inr more ↦ subst (λ xs. IsIn q ms xs k) (sym (adds'.there (omega arith))) old ]
+      ])
+      (λ no. subst (λ xs. IsIn q ms xs k) (sym (adds'.unwanted no)) old)
+
+  -- with the group's newest place set there, all others have theirs
+  pub added_kept : (l k : Group → ℕ) → before ≡ l g → ((q : Group) → l q ≤ length ps) → ((q : Group) → k q ≡ set_at g j l q) → (q : Group) → IsIn q ms ps (l q) → IsIn q ms qs (k q)
+  added_kept l k here within is q old = subst (λ i. IsIn q ms qs i) (sym (is q))
+      (by_bool (same_group g q)
+      (λ same. subst (λ b. IsIn q ms qs (cond b j (l q))) (sym same)
+      (let one : g ≡ q = one_group g q same in
+      subst (λ r. IsIn r ms qs j) one (added_in (subst (λ i. i ≤ length ps) (sym here) (within g)) (subst (λ i. IsIn g ms ps i) (sym here) (subst (λ r. IsIn r ms ps (l r)) (sym one) old)))))
+      (λ other. subst (λ b. IsIn q ms qs (cond b j (l q))) (sym other) (added_other q (l q) (within q) old)))
+
+  pub added_within : (l : Group → ℕ) → before ≡ l g → ((q : Group) → l q ≤ length ps) → (q : Group) → set_at g j l q ≤ length qs
+  added_within l here within q = by_bool (same_group g q)
+      (λ same. subst (λ b. cond b j (l q) ≤ length qs) (sym same) set)
+      (λ other. subst (λ b. cond b j (l q) ≤ length qs) (sym other) (stays (l q) (within q)))
+    where
+      stays : (k : ℕ) → k ≤ length ps → k ≤ length qs
+      stays k le = by_bool wanted
+          (λ yes. elim (where_at n (number_at ps before)) [
+            | inl less ↦ omega (arith, ap length (adds'.places yes less), length-append ps (record { group = g; number = n; before = before; other = other_of ms ps s before } ∷ []), le)
+            | inr least ↦ elim least [ inl same ↦ omega (arith, ap length (adds'.there (omega arith)), le) | inr more ↦ omega (arith, ap length (adds'.there (omega arith)), le) ]
+          ])
+          (λ no. omega (arith, ap length (adds'.unwanted no), le))
+
+      first : before ≤ length ps
+      first = subst (λ i. i ≤ length ps) (sym here) (within g)
+
+      set : j ≤ length qs
+      set = by_bool wanted
+          (λ yes. elim (where_at n (number_at ps before)) [
+            | inl less ↦ omega (arith, ap length (adds'.places yes less), adds'.place yes less, length-append ps (record { group = g; number = n; before = before; other = other_of ms ps s before } ∷ []))
+            | inr least ↦ elim least [ inl same ↦ subst (λ i. i ≤ length qs) (sym (adds'.there_place (omega arith))) (stays before first) | inr more ↦ subst (λ i. i ≤ length qs) (sym (adds'.there_place (omega arith))) (stays before first) ]
+          ])
+          (λ no. subst (λ i. i ≤ length qs) (sym (adds'.unwanted_place no)) (stays before first))
+
+-- ---- a newest place set back
+
+pub set_back : (ms : List MarkedEntry) (ps : List Place) (g : Group) (j : ℕ) (l k : Group → ℕ) → ((q : Group) → k q ≡ set_at g j l q) → IsIn g ms ps j → (q : Group) → ((same_group g q ≡ true) ⊎ IsIn q ms ps (l q)) → IsIn q ms ps (k q)
+set_back ms ps g j l k is new q old = subst (λ i. IsIn q ms ps i) (sym (is q))
+    (by_bool (same_group g q)
+    (λ same. subst (λ b. IsIn q ms ps (cond b j (l q))) (sym same) (subst (λ r. IsIn r ms ps j) (one_group g q same) new))
+    (λ other. subst (λ b. IsIn q ms ps (cond b j (l q))) (sym other) (elim old [ inl same ↦ absurd (differ _ other same) | inr had ↦ had ])))
+
+-- one group is mended
+pub mends_one : (ms : List MarkedEntry) (g : Group) (a b : Index) → ((q : Group) → ((same_group g q ≡ true) ⊎ HasNewest ms a q) → HasNewest ms b q) → MendsNewest ms (Some g ∷ []) a b
+mends_one ms g a b is = record {
+  kept = λ q had. is q (inr had);
+  mended = λ q among. is q (inl (or_none _ among));
+} where
+  or_none : (b : Bool) → (b || false) ≡ true → b ≡ true
+  or_none true h = refl
+  or_none false h = h
+
+-- both groups of a session
+pub mends_two : (ms : List MarkedEntry) (s j k : ℕ) (a b : Index) → b.places.items ≡ a.places.items → ((q : Group) → latest_of b.latest q ≡ set_at (EndsRedo s) k (set_at (Of s) j (latest_of a.latest)) q)
+    → IsIn (Of s) ms a.places.items j → IsIn (EndsRedo s) ms a.places.items k → MendsNewest ms (Some (Of s) ∷ Some (EndsRedo s) ∷ []) a b
+mends_two ms s j k a b places is of ends = record {
+  kept = λ q had. last q (inr (first q (inr had)));
+  mended = λ q among. either (same_group (Of s) q) (same_group (EndsRedo s) q || false) among (λ h. last q (inr (first q (inl h)))) (λ h. last q (inl (or_none _ h)));
+} where
+  or_none : (b : Bool) → (b || false) ≡ true → b ≡ true
+  or_none true h = refl
+  or_none false h = h
+
+  first : (q : Group) → ((same_group (Of s) q ≡ true) ⊎ HasNewest ms a q) → IsIn q ms a.places.items (set_at (Of s) j (latest_of a.latest) q)
+  first q h = set_back ms a.places.items (Of s) j (latest_of a.latest) (set_at (Of s) j (latest_of a.latest)) (λ r. refl) of q h
+
+  last : (q : Group) → ((same_group (EndsRedo s) q ≡ true) ⊎ IsIn q ms a.places.items (set_at (Of s) j (latest_of a.latest) q)) → HasNewest ms b q
+  last q h = subst (λ xs. IsIn q ms xs (latest_of b.latest q)) (sym places) (set_back ms a.places.items (EndsRedo s) k (set_at (Of s) j (latest_of a.latest)) (latest_of b.latest) is ends q h)
+
+pub mends_then : (ms : List MarkedEntry) (gs hs : List (Option Group)) (a b d : Index) → MendsNewest ms gs a b → MendsNewest ms hs b d → MendsNewest ms (gs ++ hs) a d
+mends_then ms gs hs a b d first second = record {
+  kept = λ q had. second.kept q (first.kept q had);
+  mended = λ q among. either (is_among gs q) (is_among hs q) (sym (is_among-append gs hs q) ∙ among) (λ h. second.kept q (first.mended q h)) (λ h. second.mended q h);
+}
+
+pub mends_after : (ms : List MarkedEntry) (gs : List (Option Group)) (a b d : Index) → MendsNewest ms gs a b → KeepsNewest ms b d → MendsNewest ms gs a d
+mends_after ms gs a b d first then = record { kept = λ q had. then q (first.kept q had); mended = λ q among. then q (first.mended q among) }
+
+pub mends_before : (ms : List MarkedEntry) (gs : List (Option Group)) (a b d : Index) → KeepsNewest ms a b → MendsNewest ms gs b d → MendsNewest ms gs a d
+mends_before ms gs a b d first then = record { kept = λ q had. then.kept q (first q had); mended = λ q among. then.mended q among }
+
+pub mends_none : (ms : List MarkedEntry) (a : Index) → MendsNewest ms [] a a
+mends_none ms a = record { kept = λ q had. had; mended = λ q among. absurd (no_bool among) } where
+  no_bool : false ≡ true → ⊥
+  no_bool h = (cc)
+
+-- ---- the groups of an entry are all to which it may belong
+
+-- one that adds nothing belongs to none but those of its session
+of_none : (m : MarkedEntry) (g : Group) → adds m.entry.what ≡ None → belongs g m ≡ true → is_among (Some (Of m.entry.session) ∷ Some (EndsRedo m.entry.session) ∷ []) g ≡ true
+of_none m (On k) none h = none_true _ (ap (is_on k) (no_change m none)) h
+of_none m (RefersTo k) none h = none_true _ (ap (refers k) (no_change m none)) h
+of_none m (Of q) none h = none_true _ (not_standing m none q) h
+of_none m (EndsRedo q) none h = or_true (m.entry.session == q) false (first_true (m.entry.session == q) (ends_redo m) h)
+
+pub may_belong : (m : MarkedEntry) (g : Group) → belongs g m ≡ true → is_among (groups_of m.entry) g ≡ true
+may_belong m g h = by_option (adds m.entry.what)
+    (λ none. subst (λ o. is_among (groups_added o ++ Some (Of m.entry.session) ∷ Some (EndsRedo m.entry.session) ∷ []) g ≡ true) (sym none) (of_none m g none h))
+    (λ c some. subst (λ o. is_among (groups_added o ++ Some (Of m.entry.session) ∷ Some (EndsRedo m.entry.session) ∷ []) g ≡ true) (sym some) (covers m.entry.session (Some (EndsRedo m.entry.session)) m c refl some (λ q end. or_true (m.entry.session == q) false (first_true (m.entry.session == q) (ends_redo m) end)) g h))
+
+-- ---- the newest entry belongs to the groups in which it gets a place
+
+has_key : (ps : List Part) (i : ℕ) (p : Part) → i < length ps → p ≡ get_or ps i p → has (keys_of ps) p.key ≡ true
+has_key [] i p short is = absurd (omega arith)
+has_key (x ∷ ps) zero p short is = or_true (same_key p.key x.key) (has (keys_of ps) p.key) (ap (λ (y : Part). same_key p.key y.key) (sym is) ∙ same_itself p.key)
+has_key (x ∷ ps) (suc i) p short is = or_else (same_key p.key x.key) (has (keys_of ps) p.key) (has_key ps i p (omega arith) is)
+
+has_ref : (ps : List Part) (i : ℕ) (p : Part) (k : Key) → i < length ps → p ≡ get_or ps i p → has (refs_of p.after) k ≡ true → has (refs_after ps) k ≡ true
+has_ref [] i p k short is h = absurd (omega arith)
+has_ref (x ∷ ps) zero p k short is h = has-append (refs_of x.after) (refs_after ps) k ∙ or_true (has (refs_of x.after) k) (has (refs_after ps) k) (ap (λ (y : Part). has (refs_of y.after) k) (sym is) ∙ h)
+has_ref (x ∷ ps) (suc i) p k short is h = has-append (refs_of x.after) (refs_after ps) k ∙ or_else (has (refs_of x.after) k) (has (refs_after ps) k) (has_ref ps i p k (omega arith) is h)
+
+first_of : (a b : Option Key) (k : Key) → a ≡ Some k → has (keys_of_refs (record { first = a; second = b })) k ≡ true
+first_of None b k h = none_some k h
+first_of (Some x) None k h = or_true (same_key k x) false (ap (same_key k) (some_of x k h) ∙ same_itself k)
+first_of (Some x) (Some y) k h = or_true (same_key k x) (same_key k y || false) (ap (same_key k) (some_of x k h) ∙ same_itself k)
+
+second_of : (a b : Option Key) (k : Key) → b ≡ Some k → has (keys_of_refs (record { first = a; second = b })) k ≡ true
+second_of a None k h = none_some k h
+second_of None (Some x) k h = or_true (same_key k x) false (ap (same_key k) (some_of x k h) ∙ same_itself k)
+second_of (Some y) (Some x) k h = or_else (same_key k y) (same_key k x || false) (or_true (same_key k x) false (ap (same_key k) (some_of x k h) ∙ same_itself k))
+
+module _ (ms : List MarkedEntry) (n s : ℕ) (c : Change) (ends : Bool) (newest : IsNewest ms n s c ends) (m : MarkedEntry) (at : slice_get ms (n - 1) ≡ Some m) where
+  stands' : standing_change m ≡ Some c
+  stands' = ap (λ b. cond b (adds m.entry.what) None) (newest.is_open m at) ∙ newest.change m at
+
+  by_session : (m.entry.session == s) ≡ true
+  by_session = ap (is_by s) (sym at) ∙ newest.by
+
+  pub in_key : (i : ℕ) (p : Part) → i < length (parts c) → p ≡ get_or (parts c) i p → belongs (On p.key) m ≡ true
+  in_key i p short is = ap (is_on p.key) stands' ∙ has_key (parts c) i p short is
+
+  pub in_ref : (i : ℕ) (p : Part) (refs : Refs) (k : Key) → i < length (parts c) → p ≡ get_or (parts c) i p → keys_of_refs refs ≡ refs_of p.after → ((refs.first ≡ Some k) ⊎ (refs.second ≡ Some k)) → belongs (RefersTo k) m ≡ true
+  in_ref i p refs k short is same which = ap (refers k) stands' ∙ has_ref (parts c) i p k short is (ap (λ ks. has ks k) (sym same) ∙ elim which [ inl one ↦ first_of refs.first refs.second k one | inr two ↦ second_of refs.first refs.second k two ])
+
+  pub in_own : belongs (Of s) m ≡ true
+  in_own = (λ i. is_some {T = Applied} (cond (newest.is_open m at i) (option_map (λ d. record { number = m.entry.number; session = m.entry.session; change = d }) (newest.change m at i)) None) && by_session i)
+
+  pub in_ends : ends ≡ true → belongs (EndsRedo s) m ≡ true
+  in_ends wanted = (λ i. by_session i && ((newest.end m at ∙ wanted) i || (is_some (undoes m.entry.what) && m.is_open)))
+
+-- an Undone entry that is open is one at which a search for a redo ends
+pub in_ends_undone : (m : MarkedEntry) (s of : ℕ) (c : Change) → (m.entry.session == s) ≡ true → m.entry.what ≡ Undone of c → m.is_open ≡ true → belongs (EndsRedo s) m ≡ true
+in_ends_undone m s of c by is on = (λ i. by i && (is_made (is i) || (is_some (undoes (is i)) && on i)))
+
+-- ---- the groups of parts, one after another
+
+pub mends_part : (ms : List MarkedEntry) (ps : List Part) (i : ℕ) (p : Part) (refs : Refs) (a b d e f : Index) → i < length ps → p ≡ get_or ps i p → keys_of_refs refs ≡ refs_of p.after
+    → MendsNewest ms (groups_of_parts (take i ps)) a b → MendsNewest ms (Some (On p.key) ∷ []) b d → MendsNewest ms (option_map RefersTo refs.first ∷ []) d e → MendsNewest ms (option_map RefersTo refs.second ∷ []) e f
+    → MendsNewest ms (groups_of_parts (take (i + 1) ps)) a f
+mends_part ms ps i p refs a b d e f short is same before on first second =
+    let all = mends_then ms _ _ a b f before (mends_then ms _ _ b d f on (mends_then ms _ _ d e f first second)) in
+    record {
+      kept = all.kept;
+      mended = λ q among. all.mended q (is_among-append (groups_of_parts (take i ps)) _ q ∙ more q (sym (is_among-append (groups_of_parts (take i ps)) (part_groups p) q) ∙ sym (ap (λ gs. is_among gs q) (ap groups_of_parts (take_next ps i p short is) ∙ flat_map-append part_groups (take i ps) (p ∷ []) ∙ ap (λ gs. groups_of_parts (take i ps) ++ gs) (nothing_after (part_groups p)))) ∙ among));
+    }
+  where
+    nothing_after : {A : Type 0} (xs : List A) → xs ++ [] ≡ xs
+    nothing_after [] = refl
+    nothing_after (x ∷ xs) = ap (λ ys. x ∷ ys) (nothing_after xs)
+
+    two : (k : Key) (x y : Option Key) (q : Group) → is_among (Some (On k) ∷ map (λ r. Some (RefersTo r)) (keys_of_refs (record { first = x; second = y }))) q ≡ is_among (Some (On k) ∷ option_map RefersTo x ∷ option_map RefersTo y ∷ []) q
+    two k None None q = refl
+    two k None (Some y) q = refl
+    two k (Some x) None q = refl
+    two k (Some x) (Some y) q = refl
+
+    more : (q : Group) → (is_among (groups_of_parts (take i ps)) q || is_among (part_groups p) q) ≡ true → (is_among (groups_of_parts (take i ps)) q || is_among (Some (On p.key) ∷ option_map RefersTo refs.first ∷ option_map RefersTo refs.second ∷ []) q) ≡ true
+    more q h = ap (λ o. is_among (groups_of_parts (take i ps)) q || o) (sym (ap (λ ks. is_among (Some (On p.key) ∷ map (λ r. Some (RefersTo r)) ks) q) (sym same) ∙ two p.key refs.first refs.second q)) ∙ h
+
+-- ---- an entry more, and the marks that it puts off
+
+module _ (w : What) (ms : List MarkedEntry) (x : MarkedEntry) (a : Index) (is : IsIndexed ms a) (numbered : IsNumbered 1 (entries_of ms)) where
+  abbrev pub then' : List MarkedEntry
+  then' = map (mark_off w) ms ++ x ∷ []
+
+  -- what a group may have lost: an entry that stood open, that w closes, and that may belong to it
+  pub record IsLost (g : Group) : Type 0 where
+    pub place : ℕ
+    pub entry : MarkedEntry
+    pub at : slice_get ms place ≡ Some entry
+    pub on : entry.is_open ≡ true
+    pub closed : closes w entry.entry ≡ true
+    pub among : is_among (groups_of entry.entry) g ≡ true
+
+  pub newest_or_lost : (g : Group) → HasNewest ms a g → HasNewest then' a g ⊎ IsLost g
+  newest_or_lost g had = by_option (place_at a.places.items (latest_of a.latest g))
+      (λ none. inl (record { belongs = λ p m there at. none_some p (sym none ∙ there) }))
+      (λ p there.
+      let place = place_of ms a.places.items (latest_of a.latest g) p there is.places in
+      let low : 1 ≤ p.number = place.some in
+      let high : p.number ≤ length ms = place.within in
+      by_option (slice_get ms (p.number - 1))
+      (λ none. absurd (omega (arith, past_none ms (p.number - 1) none)))
+      (λ m at.
+      let now : slice_get then' (p.number - 1) ≡ Some (mark_off w m) = front_at (map (mark_off w) ms) (x ∷ []) (p.number - 1) (omega (arith, length-map ms (mark_off w))) ∙ slice_get-map (mark_off w) ms (p.number - 1) ∙ ap (option_map (mark_off w)) at in
+      let in' : belongs g m ≡ true = had.belongs p m there at in
+      by_bool (closes w m.entry)
+      (λ closed. by_bool m.is_open
+      (λ on. inr (record { place = p.number - 1; entry = m; at = at; on = on; closed = closed; among = may_belong m g in' }))
+      (λ off. inl (in_place g then' a.places.items (latest_of a.latest g) p (mark_off w m) there now (ap (belongs g) (ap (λ b. cond b (record { entry = m.entry; is_open = false }) m) closed ∙ ap (λ b. record { entry = m.entry; is_open = b }) (sym off)) ∙ in'))))
+      (λ stays. inl (in_place g then' a.places.items (latest_of a.latest g) p (mark_off w m) there now (ap (belongs g) (ap (λ b. cond b (record { entry = m.entry; is_open = false }) m) stays) ∙ in')))))
+    where
+      past_none : {A : Type 0} (xs : List A) (i : ℕ) → slice_get xs i ≡ None → length xs ≤ i
+      past_none [] i h = omega arith
+      past_none (y ∷ xs) zero h = none_some y (sym h)
+      past_none (y ∷ xs) (suc i) h = let rest = past_none xs i h in omega arith
+
+  -- it is the one that w names, or one of those that w settles
+  pub lost_named : (g : Group) (lost : IsLost g) (old now : ℕ) → AreOff old ms → now ≡ max old (settles_to w)
+      → (names w ≡ Some lost.entry.entry.number) ⊎ ((old ≤ lost.place) × (lost.place < now))
+  lost_named g lost old now off is-now = by w lost.closed refl
+    where
+      number : lost.entry.entry.number ≡ lost.place + 1
+      number = number_at' 1 ms lost.place lost.entry numbered lost.at
+
+      above : old ≤ lost.place
+      above = elim (where_at old lost.place) [
+        | inl less ↦ absurd (differ _ (off_at old ms off lost.place lost.entry less lost.at) lost.on)
+        | inr rest ↦ elim rest [ inl same ↦ omega arith | inr more ↦ omega arith ]
+      ]
+
+      by : (v : What) → closes v lost.entry.entry ≡ true → v ≡ w → (names w ≡ Some lost.entry.entry.number) ⊎ ((old ≤ lost.place) × (lost.place < now))
+      by (Made c) h same = absurd (differ _ refl h)
+      by (Undone n c) h same = inl (ap names (sym same) ∙ ap Some (same_number n lost.entry.entry.number (first_true (n == lost.entry.entry.number) _ h)))
+      by (Redone n c) h same = inl (ap names (sym same) ∙ ap Some (same_number n lost.entry.entry.number (first_true (n == lost.entry.entry.number) _ h)))
+      by (Acted act key at) h same = absurd (differ _ refl h)
+      by (Settled upto) h same = inr (above, omega (arith, number, is-now, ap settles_to (sym same), le_at lost.entry.entry.number upto h, max_above old upto))
+
+  -- the groups that were right are right again, once what w names and what it settles has left
+  pub newest_again : (old now : ℕ) (b d : Index) (ns : List MarkedEntry) → ns ≡ then' → AreOff old ms → now ≡ max old (settles_to w) → AreNewest ms a → KeepsNewest ns a b → KeepsNewest ns b d
+      → ((n : ℕ) (m : MarkedEntry) → names w ≡ Some n → find (λ y. y.entry.number == n) ns ≡ Some m → MendsNewest ns (groups_of m.entry) b d)
+      → ((i : ℕ) (m : MarkedEntry) → old ≤ i → i < now → slice_get ns i ≡ Some m → MendsNewest ns (groups_of m.entry) b d)
+      → IsNumbered 1 (entries_of ns) → AreNewest ns d
+  newest_again old now b d ns pushed off is-now are entered left named settled numbers g = elim (newest_or_lost g (are g)) [
+    | inl had ↦ left g (entered g (subst (λ xs. HasNewest xs a g) (sym pushed) had))
+    | inr lost ↦
+        let m = mark_off w lost.entry in
+        let within : lost.place < length ms = slice_get_within ms lost.place lost.entry lost.at in
+        let there : slice_get ns lost.place ≡ Some m = ap (λ xs. slice_get xs lost.place) pushed ∙ front_at (map (mark_off w) ms) (x ∷ []) lost.place (omega (arith, length-map ms (mark_off w), within)) ∙ slice_get-map (mark_off w) ms lost.place ∙ ap (option_map (mark_off w)) lost.at in
+        let among : is_among (groups_of m.entry) g ≡ true = ap (λ (f : Entry). is_among (groups_of f) g) (entry_stays w lost.entry) ∙ lost.among in
+        elim (lost_named g lost old now off is-now) [
+          | inl named' ↦ (named lost.entry.entry.number m named' (found_at ns lost.place m lost.entry.entry.number numbers there (number_at' 1 ms lost.place lost.entry numbered lost.at))).mended g among
+          | inr range ↦ (settled lost.place m range.0 range.1 there).mended g among
+        ]
+  ]
