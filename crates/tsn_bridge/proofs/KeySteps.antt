@@ -128,6 +128,12 @@ module _ (s : State) (n : ℕ) (k : Key) (why : Refusal) where
   pub act_stopped : (act : Asked) (now : ℕ) → first_cause (list_causes s n k []) ≡ Some why → Allows (act_rule s n act k now) s (replies.Refused why) s
   act_stopped act now e = stop_list s n k (added s act k) (added_ordered s act k) (act_rule s n act k now) why (sym (ap (list_causes s n k) (added_are s act k))) e
 
+  pub act_cause : (act : Asked) (now : ℕ) → first_cause (list_causes s n k []) ≡ Some why → least (act_rule s n act k now).causes ≡ Some why
+  act_cause act now e =
+      ap (λ os. least (list_causes s n k os)) (sym (added_are s act k))
+      ∙ least_list s n k (added s act k) (added_ordered s act k)
+      ∙ ap (λ o. option_or o (first_cause (causes_of (added s act k)))) e
+
   pub states_stopped : (t : ℕ) → first_cause (list_causes s n k []) ≡ Some why → Allows (states_rule s n k t) s (replies.Refused why) s
   unfolding early
   states_stopped t e = stop_list s n k (early s k t) (early_ordered s k t) (states_rule s n k t) why refl e
@@ -158,7 +164,7 @@ module _ (p : PairState) (k : ℕ) (n : ℕ) (key : Key) (now : State) (view : �
 
 module _ (p p' : PairState) (k : ℕ) (n : ℕ) (act : Asked) (key : Key) (now : ℕ) (s : State) (view : ◌≡◌ {A = State} (seen p k) s) (none : first_cause (list_causes s n key []) ≡ None) where
   -- its key refuses nothing, so the causes are what it adds
-  least_act : least (act_rule s n act key now).causes ≡ first_cause (act_causes p.ledger act key ++ no_room p.ledger.entries 1 ∷ [])
+  pub least_act : least (act_rule s n act key now).causes ≡ first_cause (act_causes p.ledger act key ++ no_room p.ledger.entries 1 ∷ [])
   least_act =
       ap (λ os. least (list_causes s n key os)) (sym (added_are s act key))
       ∙ least_list s n key (added s act key) (added_ordered s act key)

@@ -14,6 +14,7 @@ pub mod Objects
 pub mod Pair
 pub mod Quiet
 pub mod Reads
+pub mod Refusing
 pub mod Rule
 pub mod Sessions
 pub mod Settling

@@ -4,7 +4,7 @@
 //! the machine's state. The book and the runtime are one pair, whose type says that they are tied.
 //! A refused command changes nothing; of several causes the one of the least number is answered, and want of memory
 //! only where no other cause holds.
-ghost use Rattle.std.specs.Prelude.{◌≡◌, ◌⊎◌, ◌∷◌, [], Err, IfOk, IfErr, OnErr, OnOk, Some, None, true};
+ghost use Rattle.std.specs.Prelude.{◌≡◌, ◌≢◌, ◌⊎◌, ◌++◌, ◌∷◌, [], Err, IfOk, IfErr, OnErr, OnOk, Some, None, true};
 ghost use Rattle.tsn_types.specs.declared.refusals.Refusal.{Refusal as AnyRefusal};
 ghost use Rattle.tsn_types.specs.declared.refusals.Refusal.TheVariants.{Memory, NoSession};
 ghost use Rattle.tsn_types.specs.Lent.{lent_record};
@@ -12,13 +12,13 @@ ghost use Rattle.tsn_types.specs.Refusals.{least};
 ghost use Rattle.tsn_edit.specs.Configuration.{IsWellKept};
 ghost use Rattle.tsn_edit.specs.Runs.{run, IsGood};
 ghost use Rattle.tsn_config.specs.Opening.{limits_cause, opening_refusal};
-ghost use Rattle.tsn_journal.specs.Entries.{changes, standing};
+ghost use Rattle.tsn_journal.specs.Entries.{changes, no_room, standing};
 ghost use Rattle.tsn_journal.specs.Marks.{entries_of};
 ghost use Rattle.tsn_undo.specs.Ledger.{base_of, present};
 ghost use Rattle.tsn_undo.specs.Soundness.{IsSound};
 ghost use Rattle.tsn_types.specs.Limits.{first_cause};
 ghost use Rattle.tsn_bridge.specs.declared.reply.Reply.TheVariants.{Entries, Refused, Shown};
-ghost use Rattle.tsn_bridge.specs.Acts.{act_rule, key_causes, list_causes};
+ghost use Rattle.tsn_bridge.specs.Acts.{act_causes, act_rule, instant, key_causes, list_causes};
 ghost use Rattle.tsn_bridge.specs.Beginning.{IsOpened, Opens, begun, standard_limits};
 ghost use Rattle.tsn_bridge.specs.Edits.{AllowsRedo, edit_rule, undo_all_rule, undo_rule};
 ghost use Rattle.tsn_bridge.specs.Frames.{frame_rule};
@@ -26,7 +26,8 @@ ghost use Rattle.tsn_bridge.specs.Later.{IsWhole};
 ghost use Rattle.tsn_bridge.specs.Looking.{counters_rule, states_rule};
 ghost use Rattle.tsn_bridge.specs.Machine.{Step};
 ghost use Rattle.tsn_bridge.specs.Reads.{list_rule, record_has_list, show_rule, since_rule};
-ghost use Rattle.tsn_bridge.specs.Rule.{Allows, is_given};
+ghost use Rattle.tsn_bridge.specs.Refusing.{IsCause};
+ghost use Rattle.tsn_bridge.specs.Rule.{Allows, is_given, no_session};
 ghost use Rattle.tsn_bridge.specs.Sessions.{hello_rule};
 ghost use Rattle.tsn_bridge.specs.Settling.{settle_rule};
 
@@ -153,6 +154,36 @@ impl Bridge {
         }
     }
 
+    /// Why a command that changes what the bridge keeps would be refused, but for want of memory. That of a look and of a
+    /// frame is not told: none. It takes no memory.
+    pub fn cause(&self, session: u32, command: Command) -> Option<Refusal>
+        ensures { IsCause self.now session command result }
+    {
+        match command {
+            Command::Hello => self.cause_of_hello(),
+            Command::Create { key, value } => self.cause_of_edit(session, Edit::Create(key, value)),
+            Command::Replace { key, value } => self.cause_of_edit(
+                session,
+                Edit::Replace(key, value),
+            ),
+            Command::Remove { key } => self.cause_of_edit(session, Edit::Remove(key)),
+            Command::Batch { batch } => self.cause_of_batch(session, &batch),
+            Command::Undo => self.cause_with(session, self.pair.book().refuse_undo(session)),
+            Command::UndoAll => self.cause_with(session, self.pair.book().refuse_undo_all(session)),
+            Command::Redo => self.cause_with(session, self.pair.book().refuse_redo(session)),
+            Command::Settle { upto } => self.cause_of_settle(session, upto),
+            Command::Enable { key, .. } => self.cause_of_act(session, Act::Enable, &key),
+            Command::Disable { key, .. } => self.cause_of_act(session, Act::Disable, &key),
+            Command::Apply { key, .. } => self.cause_of_act(session, Act::Apply, &key),
+            Command::Frame { .. }
+            | Command::States { .. }
+            | Command::Counters { .. }
+            | Command::Show { .. }
+            | Command::List { .. }
+            | Command::Since { .. } => None,
+        }
+    }
+
     /// The present configuration. It is the run of the standing entries from the base, and that run is good. There
     /// is data for just its keys.
     pub fn config(&self) -> &Config
@@ -171,6 +202,7 @@ impl Bridge {
     pub fn lent_record(&self, session: u32, key: &Key) -> Result<RecordRef<'_>, Refusal>
         ensures ok { IfOk result (λ found. Allows (show_rule self.now session key.now) self.now (Shown key.now (lent_record found)) self.now) }
         ensures refused { IfErr result (λ why. Allows (show_rule self.now session key.now) self.now (Refused why) self.now) }
+        ensures memory { IfErr result (λ why. why ≢ Memory) }
     {
         if !self.config().limits().holds(*key) {
             return Err(Refusal::Range(Field::Key));
@@ -189,11 +221,20 @@ impl Bridge {
     pub fn kept_since(&self, session: u32, after: u32) -> Result<&[MarkedEntry], Refusal>
         ensures ok { IfOk result (λ kept. Allows (since_rule self.now session after) self.now (Entries (entries_of kept.now)) self.now) }
         ensures refused { IfErr result (λ why. Allows (since_rule self.now session after) self.now (Refused why) self.now) }
+        ensures memory { IfErr result (λ why. why ≢ Memory) }
     {
         if !self.is_given(session) {
             return Err(Refusal::NoSession);
         }
         Ok(self.journal().kept_since(u64::from(after)))
+    }
+
+    /// The instant that counts for an act that is asked for at `now`: an earlier one counts as the bridge time.
+    pub fn counted(&self, now: Instant) -> Instant
+        ensures { result ≡ instant self.now now }
+    {
+        let time = self.pair.time();
+        if time.get() < now.get() { now } else { time }
     }
 
     /// The journal of what the sessions did.
@@ -208,8 +249,8 @@ impl Bridge {
     fn hello(&mut self) -> Reply
         ensures { Allows (hello_rule self.old) self.old result self.new }
     {
-        if self.sessions >= MOST_SESSIONS {
-            return Reply::Refused(Refusal::Range(Field::Session));
+        if let Some(why) = self.cause_of_hello() {
+            return Reply::Refused(why);
         }
         self.sessions += 1;
         Reply::Session {
@@ -222,6 +263,57 @@ impl Bridge {
         ensures { result ≡ is_given self.now session }
     {
         0 < session && session <= self.sessions
+    }
+
+    // Why a hello is refused: no session number is left.
+    fn cause_of_hello(&self) -> Option<Refusal>
+        ensures { result ≡ least (hello_rule self.now).causes }
+    {
+        if self.sessions >= MOST_SESSIONS {
+            return Some(Refusal::Range(Field::Session));
+        }
+        None
+    }
+
+    // Why a command of the session is refused, where the book would refuse it for this, if for anything.
+    fn cause_with(&self, session: u32, why: Option<Refusal>) -> Option<Refusal>
+        ensures { result ≡ least (no_session self.now session ∷ why ∷ []) }
+    {
+        if self.is_given(session) {
+            return why;
+        }
+        Some(stranger(&why))
+    }
+
+    // Why a batch of edits is refused, but for want of memory.
+    fn cause_of_batch(&self, session: u32, batch: &Batch) -> Option<Refusal>
+        ensures { result ≡ least (edit_rule self.now session batch.now).causes }
+    {
+        self.cause_with(session, self.pair.book().refuse_edit(batch))
+    }
+
+    // Why one edit is refused, but for want of memory.
+    fn cause_of_edit(&self, session: u32, edit: Edit) -> Option<Refusal>
+        ensures { result ≡ least (edit_rule self.now session (edit ∷ [])).causes }
+    {
+        self.cause_of_batch(session, &Batch::one(edit))
+    }
+
+    // Why a settle is refused, but for want of memory.
+    fn cause_of_settle(&self, session: u32, upto: u32) -> Option<Refusal>
+        ensures { result ≡ least (settle_rule self.now session upto).causes }
+    {
+        self.cause_with(session, self.pair.book().refuse_settle(u64::from(upto)))
+    }
+
+    // Why an act is refused, but for want of memory.
+    fn cause_of_act(&self, session: u32, act: Act, key: &Key) -> Option<Refusal>
+        ensures { result ≡ least (list_causes self.now session key.now (act_causes self.now.book act key.now ++ no_room self.now.book.entries 1 ∷ [])) }
+    {
+        if let Some(why) = self.refuse_list(session, key) {
+            return Some(why);
+        }
+        self.pair.cause_of_act(act, key)
     }
 
     fn edit(&mut self, session: u32, batch: Batch) -> Reply

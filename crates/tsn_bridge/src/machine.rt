@@ -9,7 +9,7 @@ use tsn_desk::machine::Machine;
 
 impl Command {
     /// Tells a proof that the numbers of the command's records are in their ranges. It does nothing else.
-    fn tell_ranges(&self)
+    pub fn tell_ranges(&self)
         ensures { CommandInRange self.now }
     {
         match self {

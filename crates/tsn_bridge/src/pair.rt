@@ -35,7 +35,7 @@ use tsn_config::Config;
 use tsn_edit::MOST_PARTS;
 use tsn_edit::batches::Batch;
 use tsn_journal::entries::Act;
-use tsn_journal::journal::Journal;
+use tsn_journal::journal::{Journal, MOST_ENTRIES};
 use tsn_schedule::runner::Past;
 use tsn_types::keys::Key;
 use tsn_types::numbers::Instant;
@@ -201,6 +201,24 @@ impl Pair {
         Ok(Done { change, entry, now })
     }
 
+    /// Why an act on the list of a port or a stream gate that is there is refused, but for want of memory.
+    pub fn cause_of_act(&self, act: Act, key: &Key) -> Option<Refusal>
+        requires { IsSome (map.get (present self.now.ledger) key.now) }
+        ensures { result ≡ first_cause (act_causes self.now.ledger act key.now ++ no_room self.now.ledger.entries 1 ∷ []) }
+    {
+        match self.refuse_act(act, key) {
+            Some(why) => Some(why),
+            None => self.refuse_entry(),
+        }
+    }
+
+    /// The bridge time.
+    pub fn time(&self) -> Instant
+        ensures { result ≡ self.now.time }
+    {
+        self.runtime.now()
+    }
+
     /// Hands a frame to the filter chain, which moves the bridge time. It takes no memory.
     pub fn frame(&mut self, frame: Frame, now: Instant) -> Verdict
         ensures ledger { self.new.ledger ≡ self.old.ledger }
@@ -225,6 +243,16 @@ impl Pair {
         ensures { counted_at self.now.ledger self.now.frames self.now.time key.now ≡ Some result }
     {
         self.runtime.counters(*key)
+    }
+
+    // Why an entry more is refused: the journal is full.
+    fn refuse_entry(&self) -> Option<Refusal>
+        ensures { result ≡ no_room self.now.ledger.entries 1 }
+    {
+        if self.book.journal().len() < MOST_ENTRIES {
+            return None;
+        }
+        Some(Refusal::JournalFull)
     }
 
     // Why an act on a key is refused but for the journal: an enable and a disable never are. It takes no memory.

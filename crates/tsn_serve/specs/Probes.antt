@@ -7,8 +7,12 @@ use Rattle.tsn_bridge.specs.State.{State}
 use Rattle.tsn_bridge.specs.declared.command.Ask.{Ask}
 use Rattle.tsn_bridge.specs.declared.reply.Reply.{Reply}
 use Rattle.tsn_port.specs.declared.worker.PortWorker.{PortWorker}
+use Rattle.tsn_port.specs.declared.worker.RoundFault.{RoundFault}
+use Rattle.tsn_port.specs.declared.worker.RoundFault.TheVariants.{Past, Memory, Exhausted, Refused}
 use Rattle.tsn_port.specs.Workers.{BridgeSeat, GoesOn, IsWorkerOf, last_seen, port_of}
 use Rattle.tsn_serve.specs.declared.probing.Probe.{Probe}
+use Rattle.tsn_serve.specs.declared.probing.ServeFault.{ServeFault}
+use Rattle.tsn_serve.specs.declared.probing.ServeFault.TheVariants.{Memory as NoMemory, Exhausted as NoTicket, Refused as NotStarted}
 
 -- The worker is one of this desk, at the probe's port. Its seat goes on as the probe's, and has seen the history that ends
 -- with the worker's last turn.
@@ -17,3 +21,10 @@ pub record IsProbed (desk : Desk State Ask Reply) (probe : Probe) (probed : Brid
   pub worker : IsWorkerOf desk probed.1
   pub last : Begins (last_seen probed.1) (seen probed.0)
   pub port : port_of probed.1 ≡ probe.port
+
+-- what ends serving where a worker could not start: want of memory, of a ticket, or the bridge's refusal. A start is never past.
+abbrev pub serve_fault : RoundFault → ServeFault
+serve_fault Past = NoMemory
+serve_fault Memory = NoMemory
+serve_fault Exhausted = NoTicket
+serve_fault (Refused why) = NotStarted why

@@ -3,7 +3,7 @@
 ghost use Rattle.std.specs.Prelude.{◌≡◌, ℕ, Some, Ok, IfOk, vec_len, length, slice_get, All};
 ghost use Rattle.tsn_desk.specs.Desks.{IsSeatOf, first_of};
 ghost use Rattle.tsn_bridge.specs.Beginning.{IsOpened};
-ghost use Rattle.tsn_serve.specs.Probes.{IsProbed};
+ghost use Rattle.tsn_serve.specs.Probes.{IsProbed, serve_fault};
 
 use std::alloc::{AllocError, Global};
 use std::sync::Wait;
@@ -62,7 +62,9 @@ fn probe_seat<R: Wait>(rt: &R, desk: &Desk<Bridge>, probe: Probe) -> Result<Prob
 }
 
 // Only a round is past.
-fn fault_of(fault: RoundFault) -> ServeFault {
+fn fault_of(fault: RoundFault) -> ServeFault
+    ensures { result ≡ serve_fault fault }
+{
     match fault {
         RoundFault::Memory | RoundFault::Past => ServeFault::Memory,
         RoundFault::Exhausted => ServeFault::Exhausted,

@@ -163,8 +163,9 @@ fn feed_front<A: Responder, W: ByteOut>(
     }
 }
 
-// Goes on by a piece of the input.
-fn feed<A: Responder, W: ByteOut>(
+/// Goes on by a piece of the input: answers each line that ends in it, and keeps what stands behind the last one. On a
+/// fault the lines that ended before the one that broke off were answered.
+pub fn feed<A: Responder, W: ByteOut>(
     alloc: Global,
     responder: &mut A,
     line: &mut LineBuffer,
@@ -191,8 +192,8 @@ fn feed<A: Responder, W: ByteOut>(
     Ok(())
 }
 
-// Ends the line that is kept, at the end of the input.
-fn finish<A: Responder, W: ByteOut>(
+/// Ends the line that is kept, at the end of the input: it is answered where it has any byte.
+pub fn finish<A: Responder, W: ByteOut>(
     alloc: Global,
     responder: &mut A,
     line: &LineBuffer,

@@ -23,8 +23,8 @@ use tsn_wire::command_of;
 // The most reads of one run over lines.
 pub(crate) const READS: u64 = 4_294_967_296;
 
-// What a line is read as, none being one that is too long. It tests nothing of what the reader answers.
-pub(crate) fn read_line(alloc: Global, line: Option<&[u8]>) -> Result<Ask, Refusal>
+/// What a line is read as, none being one that is too long. It tests nothing of what the reader answers.
+pub fn read_line(alloc: Global, line: Option<&[u8]>) -> Result<Ask, Refusal>
     ensures { MayRead (option_map (λ s. s.now) line.entry) result }
 {
     line.map_or(Err(Refusal::TooLong), |line| command_of(alloc, line))
