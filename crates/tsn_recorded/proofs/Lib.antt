@@ -1,0 +1,9 @@
+pub mod Splitting
+pub mod Digests
+pub mod Readings
+pub mod Lines
+pub mod Finding
+pub mod Seeking
+pub mod Lengths
+pub mod Giving
+pub mod Collisions
