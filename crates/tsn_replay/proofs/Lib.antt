@@ -1,0 +1,9 @@
+pub mod Carrying
+pub mod Families
+pub mod Recorded
+pub mod Refused
+pub mod Exact
+pub mod LeadingBack
+pub mod Forms
+pub mod Running
+pub mod Lost
