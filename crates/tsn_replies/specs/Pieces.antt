@@ -1,5 +1,5 @@
 -- The text of a shown record in pieces: what stands before its list and behind it, and what a writer took of a text
--- whose end is still held. All of it is for private clauses.
+-- whose end is still held. All of it is for clauses of pieces.
 use Rattle.std.specs.Prelude.{◌≡◌, ◌++◌, ℕ, List, [], ◌∷◌, map, false, Option, codes, decimal}
 use Rattle.std.specs.Io.KnownBytes.{Appends}
 use Rattle.serde_json.specs.Data.{Data, array, boolean, string}

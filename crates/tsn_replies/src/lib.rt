@@ -1,6 +1,7 @@
 //! The text of a reply: one line of compact JSON, its members in ascending order of their names.
 //!
-//! A reply is written to a writer of bytes piece by piece. None of it takes memory.
+//! A reply is written to a writer of bytes piece by piece. None of it takes memory. The pieces of which keys and
+//! records are made serve the crate that spells command lines, too.
 #![tactic(auto)]
 
 mod digits;
@@ -12,6 +13,9 @@ mod text;
 mod told;
 
 pub use reply::{write_kept, write_lent, write_refusal, write_reply};
-pub use shown::write_ids;
+pub use shown::{
+    LONGEST_ITEM, LONGEST_KEY, ShownItem, push_filter, push_flag, push_gate_front, push_meter,
+    push_number, push_port_front, write_ids,
+};
 pub use text::{CAPACITY, MOST_DIGITS, ShortText};
-pub use told::write_entries;
+pub use told::{push_key_text, write_entries};

@@ -143,7 +143,8 @@ fn plain_octets(number: Option<Octets>) -> Option<u64>
 
 // ---- records
 
-fn push_filter(text: &mut ShortText, filter: &StreamFilter)
+/// Puts the value of a filter at the end. There must be room for 170 bytes.
+pub fn push_filter(text: &mut ShortText, filter: &StreamFilter)
     requires { length text.old + 170 ≤ CAPACITY }
     ensures text { text.new ≡ text.old ++ compact_text (filter_data filter.now) }
     ensures len { length text.new ≤ length text.old + 170 }
@@ -157,7 +158,8 @@ fn push_filter(text: &mut ShortText, filter: &StreamFilter)
     text.push("}");
 }
 
-fn push_meter(text: &mut ShortText, meter: &FlowMeter)
+/// Puts the value of a meter at the end. There must be room for 170 bytes.
+pub fn push_meter(text: &mut ShortText, meter: &FlowMeter)
     requires { length text.old + 170 ≤ CAPACITY }
     ensures text { text.new ≡ text.old ++ compact_text (meter_data meter.now) }
     ensures len { length text.new ≤ length text.old + 170 }
@@ -173,7 +175,8 @@ fn push_meter(text: &mut ShortText, meter: &FlowMeter)
     text.push("}");
 }
 
-fn push_port_front(text: &mut ShortText, port: &PortGates)
+/// Puts what a port's value has before its list, and the opening bracket, at the end. There must be room for 150 bytes.
+pub fn push_port_front(text: &mut ShortText, port: &PortGates)
     requires { length text.old + 150 ≤ CAPACITY }
     ensures text { text.new ≡ text.old ++ port_front port.now }
     ensures len { length text.new ≤ length text.old + 150 }
@@ -185,7 +188,8 @@ fn push_port_front(text: &mut ShortText, port: &PortGates)
     text.push(",\"list\":[");
 }
 
-fn push_gate_front(text: &mut ShortText, gate: &StreamGate)
+/// Puts what a gate's value has before its list, and the opening bracket, at the end. There must be room for 150 bytes.
+pub fn push_gate_front(text: &mut ShortText, gate: &StreamGate)
     requires { length text.old + 150 ≤ CAPACITY }
     ensures text { text.new ≡ text.old ++ gate_front gate.now }
     ensures len { length text.new ≤ length text.old + 150 }

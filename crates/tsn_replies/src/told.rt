@@ -29,8 +29,9 @@ fn push_quoted(text: &mut ShortText, key: Key)
     text.push("\"");
 }
 
+/// Puts the name and behind it the key in quotes at the end.
 #[inline(always)]
-fn push_key_text(text: &mut ShortText, name: &str, key: Key)
+pub fn push_key_text(text: &mut ShortText, name: &str, key: Key)
     requires { length text.old + length name.now + 29 ≤ CAPACITY }
     ensures text { text.new ≡ text.old ++ (name.now ++ compact_text (key_data key)) }
     ensures len { length text.new ≤ length text.old + length name.now + LONGEST_KEY + 2 }

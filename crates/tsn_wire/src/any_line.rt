@@ -34,8 +34,10 @@ pub struct LineMembers {
     pub yellow: Option<bool>,
 }
 
-// The kind of the record that comes next: that of the key, where one was read before, or else guessed from the first member's name. A
-// wrong guess costs another way to read the line, and nothing else.
+// The kind of the record that comes next: that of the key, where one was read before, or else guessed from the first two letters
+// of the first member's name. Missed is a port whose members begin with `gates`, which is taken for a filter, and a gate whose members
+// begin with `base`, `cycle`, `extension` or `list`, which is taken for a port. A wrong guess costs another way to read the line, and
+// nothing else.
 fn kind_ahead(key: Option<KeyDraft>, text: &mut Cursor<'_>) -> Kind
     ensures { lexed text.new ≡ lexed text.old }
 {

@@ -1,0 +1,10 @@
+pub mod Asked
+pub mod Backs
+pub mod Changes
+pub mod Growing
+pub mod Holding
+pub mod Records
+pub mod Shapes
+pub mod Shortest
+pub mod Visible
+pub mod Weighing

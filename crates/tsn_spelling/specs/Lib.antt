@@ -1,0 +1,4 @@
+pub mod Examples
+pub mod Growing
+pub mod Laws
+pub mod Line
