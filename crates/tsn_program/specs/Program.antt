@@ -13,7 +13,7 @@ use Rattle.tsn_program.specs.Failures.{failure_line}
 use Rattle.tsn_program.specs.Listing.{Enables, EnablesNot, EndsEarly, lines, listing_refusal}
 use Rattle.tsn_program.specs.Opening.{opened}
 use Rattle.tsn_words.specs.declared.arguments.Asked.{Asked}
-use Rattle.tsn_words.specs.declared.arguments.Asked.TheVariants.{Script, States, Serve, Check, Shown, Refused}
+use Rattle.tsn_words.specs.declared.arguments.Asked.TheVariants.{Script, States, Serve, Check, Journal, Shown, Refused}
 use Rattle.tsn_words.specs.declared.arguments.Listing.{Listing}
 use Rattle.tsn_program.specs.declared.failures.Failure.{Failure}
 use Rattle.tsn_program.specs.declared.failures.Failure.TheVariants as failures
@@ -162,19 +162,22 @@ RefusesWords text status errors = (status ≡ 2) × Tells errors text
 abbrev pub ReadsNothing : Moment State → Moment State → Type 0
 ReadsNothing old new = (new.left ≡ old.left) × (new.calls ≡ old.calls)
 
--- What is asked for needs no connection.
+-- What is asked for needs no connection, and no journal's file.
 abbrev pub IsAlone : Asked → Type 0
-IsAlone (Script file) = Unit {0}
+IsAlone (Script file None) = Unit {0}
+IsAlone (Script file (Some journal)) = ⊥
 IsAlone (States file listing) = Unit {0}
 IsAlone (Serve file listen serving) = ⊥
 IsAlone (Check file) = Unit {0}
+IsAlone (Journal file look) = ⊥
 IsAlone (Shown text) = Unit {0}
 IsAlone (Refused text) = Unit {0}
 
 -- What was asked for was done: a script is answered, states are printed, or it is told what there is, from the setup's bridge;
 -- a text is shown; or words are refused. No input is read but that of a script, and nothing is written where words are refused.
 abbrev pub Serves : Asked → List ℕ → (State → Moment State) → (State → Moment State) → ℕ → Output → Type 0
-Serves (Script file) setup old new status errors = ServesScript setup old new status errors
+Serves (Script file None) setup old new status errors = ServesScript setup old new status errors
+Serves (Script file (Some journal)) setup old new status errors = ⊥
 Serves (States file listing) setup old new status errors =
     ReadsNothing (old standard) (new standard)
     × ServesStates listing setup (output_of (old standard) (new standard)) status errors
@@ -182,6 +185,7 @@ Serves (Serve file listen serving) setup old new status errors = ⊥
 Serves (Check file) setup old new status errors =
     ReadsNothing (old standard) (new standard)
     × ServesCheck setup (output_of (old standard) (new standard)) status errors
+Serves (Journal file look) setup old new status errors = ⊥
 Serves (Shown text) setup old new status errors =
     ReadsNothing (old standard) (new standard)
     × ServesText (string_bytes text) (output_of (old standard) (new standard)) status errors

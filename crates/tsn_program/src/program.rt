@@ -169,7 +169,7 @@ fn refuse_words<E: ByteOut>(text: &[u8], errors: &mut E) -> u8
 
 /// Does what is asked for, with the setup of this text, and gives the status: 0; 1 after one line that says what
 /// failed; 2 after a text that says why the words are refused. Connections are served by `serve`, which takes a source of
-/// them.
+/// them. What asks for a journal is not done here.
 pub fn run<R: ByteIn, O: ByteOut, E: ByteOut>(
     alloc: Global,
     asked: &Asked,
@@ -186,10 +186,15 @@ pub fn run<R: ByteIn, O: ByteOut, E: ByteOut>(
         (record { old = E.taken errors.old; new = E.taken errors.new; held_back = E.pending errors.new; failed = E.has_failed errors.new }) }
 {
     match asked {
-        Asked::Script { .. } => serve_script(alloc, setup, input, output, errors),
+        Asked::Script { journal: None, .. } => serve_script(alloc, setup, input, output, errors),
+        Asked::Script {
+            journal: Some(_),
+            ..
+        } => unreachable!(),
         Asked::States { listing, .. } => serve_states(alloc, setup, listing, output, errors),
         Asked::Serve { .. } => unreachable!(),
         Asked::Check { .. } => check_setup(alloc, setup, output, errors),
+        Asked::Journal { .. } => unreachable!(),
         Asked::Shown(text) => serve_text(text.as_bytes(), output, errors),
         Asked::Refused(text) => refuse_words(text.as_bytes(), errors),
     }

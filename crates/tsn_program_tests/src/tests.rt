@@ -13,7 +13,7 @@ use tsn_program::{Failure, fail, read_setup, run};
 use tsn_types::keys::Key;
 use tsn_types::numbers::GateId;
 use tsn_types::refusals::{Field, Refusal};
-use tsn_words::{Asked, read_words};
+use tsn_words::{Asked, Look, read_words};
 
 const SCRIPT: &'static [u8] = b"{\"do\":\"hello\"}\n{\"do\":\"undo\",\"s\":1}\n";
 
@@ -73,15 +73,27 @@ impl Given {
     }
 }
 
-/// What the words ask for, which is no connections.
+/// What the words ask for.
+fn read(alloc: Global, words: &[&str]) -> Result<Asked, Fail> {
+    let words = with_name(alloc, words)?;
+    match read_words(alloc, Some(words.as_slice())) {
+        Ok(asked) => Ok(asked),
+        Err(_) => Err(Fail::from("out of memory")),
+    }
+}
+
+/// What the words ask for, which is no connections and no journal.
 fn asked(alloc: Global, words: &[&str]) -> Result<Asked, Fail>
     ensures { IfOk result IsAlone }
 {
-    let words = with_name(alloc, words)?;
-    match read_words(alloc, Some(words.as_slice())) {
-        Ok(Asked::Serve { .. }) => Err(Fail::from("connections are asked for")),
-        Ok(asked) => Ok(asked),
-        Err(_) => Err(Fail::from("out of memory")),
+    match read(alloc, words)? {
+        Asked::Serve { .. } => Err(Fail::from("connections are asked for")),
+        Asked::Journal { .. }
+        | Asked::Script {
+            journal: Some(_),
+            ..
+        } => { Err(Fail::from("a journal is asked for")) }
+        asked => Ok(asked),
     }
 }
 
@@ -301,5 +313,84 @@ fn a_setup_is_read_to_its_end(rt: HostRuntime) -> Result<(), Fail> {
     same(&rt, &count_read(rt.alloc(), 1_048_576)?, &1_048_576);
     let more = count_read(rt.alloc(), 2_000_000)?;
     assert!(rt; 1_048_576 < more && more < 1_060_000);
+    Ok(())
+}
+
+/// A script's journal is not its setup, and either may be named alone.
+#[test]
+fn a_script_may_keep_a_journal(rt: HostRuntime) -> Result<(), Fail> {
+    let both: &[&str] = &["script", "--journal", "cell.journal", "cell.toml"];
+    let alone: &[&str] = &["script", "--journal=cell.journal"];
+    for (words, setup) in [(both, Some("cell.toml")), (alone, None)] {
+        let Asked::Script { file, journal } = read(rt.alloc(), words)? else {
+            return Err(Fail::from("no script is asked for"));
+        };
+        same(&rt, &file.as_ref().map(String::as_str), &setup);
+        same(
+            &rt,
+            &journal.as_ref().map(String::as_str),
+            &Some("cell.journal"),
+        );
+    }
+    Ok(())
+}
+
+/// A look at a journal names no setup.
+#[test]
+fn a_journal_is_looked_at(rt: HostRuntime) -> Result<(), Fail> {
+    let cases: [(&'static [&'static str], Look); 6] = [
+        (&["journal", "cell.journal"], Look::Whole),
+        (&["journal", "cell.journal", "--since", "0"], Look::Since(0)),
+        (
+            &["journal", "--since=4294967295", "cell.journal"],
+            Look::Since(4_294_967_295),
+        ),
+        (&["journal", "cell.journal", "--diff", "1"], Look::Diff(1)),
+        (
+            &["journal", "cell.journal", "--diff", "4294967295"],
+            Look::Diff(4_294_967_295),
+        ),
+        (&["journal", "--mend", "cell.journal"], Look::Mend),
+    ];
+    for (words, wanted) in cases {
+        let asked = read(rt.alloc(), words)?;
+        same(&rt, &asked.file(), &None);
+        let Asked::Journal { file, look } = asked else {
+            return Err(Fail::from("no look at a journal is asked for"));
+        };
+        same(&rt, &file.as_str(), &"cell.journal");
+        same(&rt, &look, &wanted);
+    }
+    Ok(())
+}
+
+const TWO_LOOKS: &'static str =
+    "error: at most one of --since, --diff and --mend may be given\n\nUsage: tsnd <COMMAND>\n\nFor more information, try '--help'.\n";
+
+const NO_ENTRY: &'static str =
+    "error: invalid value '0' for '--diff <diff>': 0 is not in 1..=4294967295\n\nFor more information, try '--help'.\n";
+
+const LATE_ENTRY: &'static str =
+    "error: invalid value '4294967296' for '--since <since>': 4294967296 is not in 0..=4294967295\n\nFor more information, try '--help'.\n";
+
+/// Two looks at once are refused, and a number that no entry has.
+#[test]
+fn a_look_that_is_none_is_refused(rt: HostRuntime) -> Result<(), Fail> {
+    let cases: [(&'static [&'static str], &'static str); 6] = [
+        (&["--since", "1", "--diff", "1"], TWO_LOOKS),
+        (&["--since", "1", "--mend"], TWO_LOOKS),
+        (&["--mend", "--diff", "1"], TWO_LOOKS),
+        (&["--since", "1", "--diff", "1", "--mend"], TWO_LOOKS),
+        (&["--diff", "0"], NO_ENTRY),
+        (&["--since", "4294967296"], LATE_ENTRY),
+    ];
+    for (options, reason) in cases {
+        let mut words = vec![in rt.alloc(); "journal", "cell.journal"]?;
+        words.extend_from_slice(options)?;
+        let Asked::Refused(text) = read(rt.alloc(), words.as_slice())? else {
+            return Err(Fail::from("the words are not refused"));
+        };
+        same(&rt, &text.as_str(), &reason);
+    }
     Ok(())
 }

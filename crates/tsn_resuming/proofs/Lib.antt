@@ -1,0 +1,5 @@
+pub mod Firsts
+pub mod Going
+pub mod Joining
+pub mod Starting
+pub mod Finding

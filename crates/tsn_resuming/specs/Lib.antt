@@ -1,0 +1,5 @@
+pub mod First
+pub mod Joining
+pub mod Opening
+pub mod Resuming
+pub mod Standing

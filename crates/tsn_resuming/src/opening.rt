@@ -1,0 +1,24 @@
+//! The bridge that a setup's text opens.
+ghost use Rattle.std.specs.Prelude.{IfOk};
+ghost use Rattle.tsn_bridge.specs.Beginning.{IsOpened};
+ghost use Rattle.tsn_records.specs.Answers.{IsOrMemory};
+ghost use Rattle.tsn_resuming.specs.Opening.{opened};
+
+use std::alloc::Global;
+use tsn_bridge::bridge::Bridge;
+use tsn_setup::setup_of;
+use tsn_types::refusals::Refusal;
+
+/// A bridge that begins with the setup of the text; of the empty text, with the standard setup. Refused is what the text
+/// or the opening is refused, and want of memory (18) in place of any answer.
+#[tactic(auto, unfolding(crate::specs::Opening::opened))]
+pub fn bridge_of(alloc: Global, text: &[u8]) -> Result<Bridge, Refusal>
+    ensures opened { IsOrMemory result (opened text.now) }
+    ensures sound { IfOk result IsOpened }
+{
+    let setup = match setup_of(alloc, text) {
+        Ok(setup) => setup,
+        Err(why) => return Err(why),
+    };
+    Bridge::new(alloc, setup)
+}
