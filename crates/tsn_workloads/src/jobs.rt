@@ -65,7 +65,10 @@ impl Name {
 fn script<J: Job + Drop, W: ByteOut>(alloc: Global, setup: &Text, job: J, output: &mut W) -> u8 {
     let mut input = Script::new(alloc, job);
     let mut errors = MemOut::new(Vec::new(alloc), PIECE, None);
-    let asked = Asked::Script { file: None };
+    let asked = Asked::Script {
+        file: None,
+        journal: None,
+    };
     let text = setup.as_slice();
     run(alloc, &asked, text, &mut input, output, &mut errors)
 }
