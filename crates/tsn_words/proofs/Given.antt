@@ -1,4 +1,4 @@
--- What words without a fault give: a subcommand of the program, and to `states` and `serve` all that they want.
+-- What words without a fault give: a subcommand of the program, and to each all that it wants.
 use Rattle.std.proofs.Common.{◌≡◌, ◌∙◌, ◌&&◌, ◌||◌, inl, inr, ℕ, ◌-◌, ◌^◌, Bool, cond, true, false, not, refl, sym, ap, subst, codes, List, [], ◌∷◌, Option, Some, None, is_some}
 use Rattle.std.specs.Prelude.{⊤, option_map}
 use Rattle.std.specs.Option.{option_map_or}
@@ -18,8 +18,8 @@ use Rattle.clap.specs.declared.builder.action.ArgAction.TheVariants.{Set}
 use Rattle.clap.specs.declared.builder.range.ValueRange.{ValueRange}
 use Rattle.clap.specs.declared.error.kind.ErrorKind.TheVariants.{DisplayHelp, InvalidSubcommand}
 use Rattle.clap.proofs.ValueTestLemmas.{accepts-Accepts}
-use Rattle.tsn_words.specs.Asking.{HasCheck, HasNumber, HasServe, HasStates, HasText, IsComplete, last_probe, longest_step, most_connections, most_instants, most_workers, program}
-use Rattle.tsn_words.proofs.OneValue.{RowsFit, RuleFits, RulesFit, after_fit, given_value, no_kind}
+use Rattle.tsn_words.specs.Asking.{HasCheck, HasJournal, HasNumber, HasServe, HasStates, HasText, IsComplete, MayHaveNumber, last_entry, last_probe, longest_step, most_connections, most_instants, most_workers, program}
+use Rattle.tsn_words.proofs.OneValue.{DefaultsFit, RowsFit, RuleFits, RulesFit, after_fit, given_value, no_kind, value_fits}
 
 -- ---- no fault comes where `help` is no subcommand
 
@@ -149,7 +149,7 @@ all_given true true true true true h = (refl, refl, refl, refl, refl)
 module _ (accepted : Text → Text → Bool) where
   one : (a : Rule) → a.defaults ≡ [] → action_of a ≡ Set → ◌≡◌ {A = ValueRange} (unwrap_or_range a.range) (record { start_inclusive = 1; end_inclusive = 1 })
       → ((v : Text) → accepts a.ignore_case (parser_of_value a.parser) v ≡ true → accepted a.id v ≡ true) → RuleFits accepted a
-  one a none action range passes = (none, inr (record { action = action; range = range; passes = passes }))
+  one a none action range passes = (subst (DefaultsFit accepted a.id) (sym none) tt, inr (inl (record { action = action; range = range; passes = passes })))
 
   text_given : (sub name : Text) (rows : List Row) → RowsFit accepted rows → is_given name rows ≡ true → HasText (Some (sub, rows)) name
   text_given sub name rows fit given =
@@ -161,6 +161,10 @@ module _ (accepted : Text → Text → Bool) where
   number_given sub name least most rows passes fit given =
       let found = given_value accepted name rows fit given in
       (found.0, found.1, accepts-Accepts false (Unsigned least most) found.0 (passes found.0 found.2))
+
+  number_fits : (sub name : Text) (least most : ℕ) (rows : List Row) → ((v : Text) → accepted name v ≡ true → is_unsigned_in least most v ≡ true) → RowsFit accepted rows
+      → MayHaveNumber (Some (sub, rows)) name least most
+  number_fits sub name least most rows passes fit v is = accepts-Accepts false (Unsigned least most) v (passes v (value_fits accepted name rows fit v is))
 
 -- ---- the commands as they are built
 
@@ -184,6 +188,10 @@ fifth : List Shape → Shape
 fifth (a ∷ (b ∷ (c ∷ (d ∷ (e ∷ rest))))) = e
 fifth shapes = new_shape []
 
+sixth : List Shape → Shape
+sixth (a ∷ (b ∷ (c ∷ (d ∷ (e ∷ (f ∷ rest)))))) = f
+sixth shapes = new_shape []
+
 -- ---- `states`
 
 accepted : Text → Text → Bool
@@ -198,7 +206,7 @@ states_built = second (built program).subs
 
 states_fit : RulesFit accepted states_built.rules
 unfolding accepted second states_built
-states_fit = (one accepted _ refl refl refl (λ v e. refl), (one accepted _ refl refl refl (λ v e. e), (one accepted _ refl refl refl (λ v e. e), (one accepted _ refl refl refl (λ v e. e), (one accepted _ refl refl refl (λ v e. e), ((refl, inl refl), tt))))))
+states_fit = (one accepted _ refl refl refl (λ v e. refl), (one accepted _ refl refl refl (λ v e. e), (one accepted _ refl refl refl (λ v e. e), (one accepted _ refl refl refl (λ v e. e), (one accepted _ refl refl refl (λ v e. e), ((tt, inl refl), tt))))))
 
 states_given : (words : List Text) → level_fault states_built [] nothing_held words false [] ≡ [] → HasStates (Some (rows_at states_built words))
 unfolding accepted second states_built
@@ -230,7 +238,7 @@ serve_built = third (built program).subs
 
 serve_fit : RulesFit served serve_built.rules
 unfolding served third serve_built
-serve_fit = (one served _ refl refl refl (λ v e. refl), (one served _ refl refl refl (λ v e. refl), (one served _ refl refl refl (λ v e. e), (one served _ refl refl refl (λ v e. e), (one served _ refl refl refl (λ v e. e), ((refl, inl refl), tt))))))
+serve_fit = (one served _ refl refl refl (λ v e. refl), (one served _ refl refl refl (λ v e. refl), (one served _ refl refl refl (λ v e. e), (one served _ refl refl refl (λ v e. e), (one served _ refl refl refl (λ v e. e), ((tt, inl refl), tt))))))
 
 serve_given : (words : List Text) → level_fault serve_built [] nothing_held words false [] ≡ [] → HasServe (Some (rows_at serve_built words))
 unfolding served third serve_built
@@ -260,7 +268,7 @@ check_built = fourth (built program).subs
 
 check_fit : RulesFit looked check_built.rules
 unfolding looked fourth check_built
-check_fit = (one looked _ refl refl refl (λ v e. refl), ((refl, inl refl), tt))
+check_fit = (one looked _ refl refl refl (λ v e. refl), ((tt, inl refl), tt))
 
 -- what one test does not miss is given
 one_given : (a : Bool) → ((true && not a) || false) ≡ false → a ≡ true
@@ -276,12 +284,49 @@ check_given words none =
     let wanted = (checks check_built rows false parts.checks).1 in
     record { named = refl; file = text_given looked (codes "check") (codes "FILE") rows fit (one_given (is_given (codes "FILE") rows) wanted) }
 
+-- ---- `journal`
+
+kept : Text → Text → Bool
+kept id v = cond (bytes_eq id (codes "since")) (is_unsigned_in 0 last_entry v)
+    (cond (bytes_eq id (codes "diff")) (is_unsigned_in 1 last_entry v) true)
+
+journal_built : Shape
+unfolding fifth
+journal_built = fifth (built program).subs
+
+journal_fit : RulesFit kept journal_built.rules
+unfolding kept fifth journal_built
+journal_fit = (
+  one kept _ refl refl refl (λ v e. refl),
+  (
+    one kept _ refl refl refl (λ v e. e),
+    (
+      one kept _ refl refl refl (λ v e. e),
+      (((refl, refl), inr (inr (record { action = refl; range = refl; missing = refl; passes = refl }))), ((tt, inl refl), tt)),
+    ),
+  ),
+)
+
+journal_given : (words : List Text) → level_fault journal_built [] nothing_held words false [] ≡ [] → HasJournal (Some (rows_at journal_built words))
+unfolding kept fifth journal_built
+journal_given words none =
+    let parts = level journal_built [] words false [] none in
+    let rows = rows_after journal_built.rules [] words in
+    let fit = after_fit kept journal_built [] refl journal_fit words parts.walks parts.settles in
+    let wanted = (checks journal_built rows false parts.checks).1 in
+    record {
+      named = refl;
+      file = text_given kept (codes "journal") (codes "JOURNAL") rows fit (one_given (is_given (codes "JOURNAL") rows) wanted);
+      since = number_fits kept (codes "journal") (codes "since") 0 last_entry rows (λ v e. e) fit;
+      diff = number_fits kept (codes "journal") (codes "diff") 1 last_entry rows (λ v e. e) fit;
+    }
+
 -- ---- the program
 
 by_stop : (stop : Option (Text × List Text)) → StopsWell stop → entered_fault (built program) stop ≡ [] → is_some (entered (built program) stop) ≡ true → IsComplete (entered (built program) stop)
-unfolding StopsWell IsNoHelp first second third fourth fifth states_built serve_built check_built
+unfolding StopsWell IsNoHelp first second third fourth fifth sixth states_built serve_built check_built journal_built
 by_stop None well none some = (cc)
-by_stop (Some p) well none some = go (bytes_eq (codes "script") p.0) (bytes_eq (codes "states") p.0) (bytes_eq (codes "serve") p.0) (bytes_eq (codes "check") p.0) (bytes_eq (codes "help") p.0) refl none some
+by_stop (Some p) well none some = go (bytes_eq (codes "script") p.0) (bytes_eq (codes "states") p.0) (bytes_eq (codes "serve") p.0) (bytes_eq (codes "check") p.0) (bytes_eq (codes "journal") p.0) (bytes_eq (codes "help") p.0) refl none some
   where
     no_help : bytes_eq (codes "help") p.0 ≡ true → ⊥
     no_help is =
@@ -289,19 +334,20 @@ by_stop (Some p) well none some = go (bytes_eq (codes "script") p.0) (bytes_eq (
         let never : bytes_eq (codes "help") (codes "help") ≡ false = subst (λ t. bytes_eq t (codes "help") ≡ false) (sym same) well in
         (cc)
 
-    shape : Bool → Bool → Bool → Bool → Bool → Option Shape
-    shape a b c d e = cond (a || false) (Some (first (built program).subs)) (cond (b || false) (Some states_built) (cond (c || false) (Some serve_built)
-        (cond (d || false) (Some check_built) (cond (e || false) (Some (fifth (built program).subs)) None))))
+    shape : Bool → Bool → Bool → Bool → Bool → Bool → Option Shape
+    shape a b c d e f = cond (a || false) (Some (first (built program).subs)) (cond (b || false) (Some states_built) (cond (c || false) (Some serve_built)
+        (cond (d || false) (Some check_built) (cond (e || false) (Some journal_built) (cond (f || false) (Some (sixth (built program).subs)) None)))))
 
-    go : (a b c d e : Bool) → bytes_eq (codes "help") p.0 ≡ e
-        → option_map_or (λ (s : Shape). level_fault s [] nothing_held p.1 false []) (shape a b c d e) [] ≡ []
-        → is_some (option_map (λ (s : Shape). rows_at s p.1) (shape a b c d e)) ≡ true → IsComplete (option_map (λ (s : Shape). rows_at s p.1) (shape a b c d e))
-    go true b c d e is none some = inl refl
-    go false true c d e is none some = inr (inl (states_given p.1 none))
-    go false false true d e is none some = inr (inr (inl (serve_given p.1 none)))
-    go false false false true e is none some = inr (inr (inr (check_given p.1 none)))
-    go false false false false true is none some = absurd (no_help is)
-    go false false false false false is none some = (cc)
+    go : (a b c d e f : Bool) → bytes_eq (codes "help") p.0 ≡ f
+        → option_map_or (λ (s : Shape). level_fault s [] nothing_held p.1 false []) (shape a b c d e f) [] ≡ []
+        → is_some (option_map (λ (s : Shape). rows_at s p.1) (shape a b c d e f)) ≡ true → IsComplete (option_map (λ (s : Shape). rows_at s p.1) (shape a b c d e f))
+    go true b c d e f is none some = inl refl
+    go false true c d e f is none some = inr (inl (states_given p.1 none))
+    go false false true d e f is none some = inr (inr (inl (serve_given p.1 none)))
+    go false false false true e f is none some = inr (inr (inr (inl (check_given p.1 none))))
+    go false false false false true f is none some = inr (inr (inr (inr (journal_given p.1 none))))
+    go false false false false false true is none some = absurd (no_help is)
+    go false false false false false false is none some = (cc)
 
 pub complete : (words : List Text) → fault_of program words ≡ [] → IsComplete (subcommand_of program words)
 unfolding StopsWell

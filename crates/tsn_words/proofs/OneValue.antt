@@ -1,5 +1,5 @@
--- In words that have no fault, an argument that takes one value has a value that its parser takes.
-use Rattle.std.proofs.Common.{◌≡◌, ◌⊎◌, ◌∙◌, ◌&&◌, ◌||◌, ◌==◌, inl, inr, ℕ, Bool, cond, true, false, not, zero, suc, refl, sym, ap, subst, arith, List, [], ◌∷◌, ◌++◌, length, drop, Option, Some, None, is_some, eqb-true}
+-- In words that have no fault, an argument that takes one value has a value that its parser takes, and a flag has its own.
+use Rattle.std.proofs.Common.{◌≡◌, ◌⊎◌, ◌∙◌, ◌&&◌, ◌||◌, ◌==◌, inl, inr, ℕ, Bool, cond, true, false, not, zero, suc, refl, sym, ap, subst, arith, codes, List, [], ◌∷◌, ◌++◌, length, drop, Option, Some, None, is_some, unwrap_or, eqb-true}
 use Rattle.std.specs.Prelude.{⊤, encode_utf8, option_and_then, slice_get}
 use Rattle.std.specs.List.{find, fold}
 use Rattle.std.specs.Option.{option_map_or}
@@ -19,7 +19,8 @@ use Rattle.clap.specs.declared.builder.action.ArgAction.{ArgAction}
 use Rattle.clap.specs.declared.builder.action.ArgAction.TheVariants.{Set, Append, SetTrue, SetFalse, Count, Help, HelpShort, HelpLong, Version}
 use Rattle.clap.specs.declared.builder.value_parser.Reading.{Reading}
 use Rattle.clap.specs.declared.builder.range.ValueRange.{ValueRange}
-use Rattle.clap.specs.declared.parser.matches.ValueSource.TheVariants.{CommandLine}
+use Rattle.clap.specs.declared.parser.matches.ValueSource.{ValueSource}
+use Rattle.clap.specs.declared.parser.matches.ValueSource.TheVariants.{CommandLine, DefaultValue}
 
 -- ---- lists of kinds
 
@@ -38,9 +39,21 @@ module _ (accepted : Text → Text → Bool) where
     pub range : ◌≡◌ {A = ValueRange} (unwrap_or_range a.range) (record { start_inclusive = 1; end_inclusive = 1 })
     pub passes : (v : Text) → accepts a.ignore_case (parser_of_value a.parser) v ≡ true → accepted a.id v ≡ true
 
-  -- it does so, or ends the parse, and it has no default
+  -- the argument takes no value, and then has `true`
+  pub record IsFlag (a : Rule) : Type 0 where
+    pub action : action_of a ≡ SetTrue
+    pub range : ◌≡◌ {A = ValueRange} (unwrap_or_range a.range) (record { start_inclusive = 0; end_inclusive = 0 })
+    pub missing : a.missing ≡ codes "true" ∷ []
+    pub passes : accepted a.id (codes "true") ≡ true
+
+  -- there is no default, or one value that would do
+  abbrev pub DefaultsFit : Text → List Text → Type 0
+  DefaultsFit id [] = ⊤
+  DefaultsFit id (v ∷ vs) = (vs ≡ []) × (accepted id v ≡ true)
+
+  -- it is one of these, or ends the parse
   abbrev pub RuleFits : Rule → Type 0
-  RuleFits a = (a.defaults ≡ []) × ((is_request (action_of a) ≡ true) ⊎ IsOne a)
+  RuleFits a = DefaultsFit a.id a.defaults × ((is_request (action_of a) ≡ true) ⊎ (IsOne a ⊎ IsFlag a))
 
   abbrev pub RulesFit : List Rule → Type 0
   RulesFit [] = ⊤
@@ -84,13 +97,15 @@ module _ (accepted : Text → Text → Bool) where
   nil_right (r ∷ rs) = ap (λ xs. r ∷ xs) (nil_right rs)
 
   -- one value, of an argument that had none
+  new_fits : (id v : Text) (how : Reading) (from : ValueSource) (rows : List Row) → has_row id rows ≡ false → accepted id v ≡ true → RowsFit rows → RowsFit (with_values id how from (v ∷ []) rows)
+  new_fits id v how from rows none takes h =
+      let row : Row = record { id = id; values = v ∷ []; count = None; source = Some from; reading = how } in
+      subst RowsFit (sym (no_row id (more_values from (v ∷ [])) (row ∷ []) rows none)) (rows_fit rows row h (v, refl, takes))
+
   put_fits : (id v : Text) (how : Reading) (rows : List Row) → has_row id rows ≡ false → accepted id v ≡ true → RowsFit rows → RowsFit (with_values id how CommandLine (v ∷ []) (without id rows))
   put_fits id v how rows none takes h =
       let kept : without id rows ≡ rows = no_row id (λ r. []) [] rows none ∙ nil_right rows in
-      let row : Row = record { id = id; values = v ∷ []; count = None; source = Some CommandLine; reading = how } in
-      let same : with_values id how CommandLine (v ∷ []) (without id rows) ≡ rows ++ row ∷ [] =
-      ap (with_values id how CommandLine (v ∷ [])) kept ∙ no_row id (more_values CommandLine (v ∷ [])) (row ∷ []) rows none in
-      subst RowsFit (sym same) (rows_fit rows row h (v, refl, takes))
+      subst (λ now. RowsFit (with_values id how CommandLine (v ∷ []) now)) (sym kept) (new_fits id v how CommandLine rows none takes h)
 
   -- ---- one use
 
@@ -117,6 +132,17 @@ module _ (accepted : Text → Text → Bool) where
   one_value [] e = absurd (omega (arith, e))
   one_value (v ∷ []) e = (v, refl)
   one_value (v ∷ (w ∷ vs)) e = absurd (omega (arith, e))
+
+  none_of : (n : ℕ) → range_kinds 0 0 n ≡ [] → 0 ≡ n
+  none_of n e = go (0 == n) refl e
+    where
+      go : (b : Bool) → (0 == n) ≡ b → cond b [] (WrongNumberOfValues ∷ []) ≡ [] → 0 ≡ n
+      go true is none = eqb-true 0 n is
+      go false is never = (cc)
+
+  no_value : (vs : List Text) → 0 ≡ length vs → vs ≡ []
+  no_value [] e = refl
+  no_value (v ∷ vs) e = absurd (omega (arith, e))
 
   taken : (a : Rule) (v : Text) → values_fault a (v ∷ []) ≡ [] → accepts a.ignore_case (parser_of_value a.parser) v ≡ true
   taken a v e = go (accepts a.ignore_case (parser_of_value a.parser) v) (no_kind (value_kinds a.ignore_case (parser_of_value a.parser) v) [] e).0
@@ -145,10 +171,23 @@ module _ (accepted : Text → Text → Bool) where
       ap (λ vs. used a vs rows) single.1 ∙ ap (λ x. used_as x a.id (reading_by a) (v ∷ []) rows) one.action in
       subst RowsFit (sym same) (put_fits a.id v (reading_by a) rows (first_time a.id rows sets.0) takes h)
 
+  flag_sets : (a : Rule) (values : List Text) (rows : List Row) → IsFlag a → use_fault false a values rows ≡ [] → RowsFit rows → RowsFit (used a values rows)
+  flag_sets a values rows flag none h =
+      let steps = no_kind (range_kinds (unwrap_or_range a.range).start_inclusive (most_values a) (length values)) _ none in
+      let range = ap (λ (r : ValueRange). range_kinds r.start_inclusive r.end_inclusive (length values)) (sym flag.range) ∙ steps.0 in
+      let empty = no_value values (none_of (length values) range) in
+      let acts = ap (λ x. action_fault x false a (values_or_missing a values) rows) (sym flag.action) ∙ steps.1 in
+      let sets = no_kind (repeat_fault false a.id rows) (values_fault a (values_or_missing a values)) acts in
+      let same : used a values rows ≡ with_values a.id (reading_by a) CommandLine (codes "true" ∷ []) (without a.id rows) =
+      ap (λ vs. used a vs rows) empty ∙ ap (λ x. used_as x a.id (reading_by a) a.missing rows) flag.action
+      ∙ ap (λ vs. with_values a.id (reading_by a) CommandLine vs (without a.id rows)) flag.missing in
+      subst RowsFit (sym same) (put_fits a.id (codes "true") (reading_by a) rows (first_time a.id rows sets.0) flag.passes h)
+
   used_fits : (a : Rule) (values : List Text) (rows : List Row) → RuleFits a → use_fault false a values rows ≡ [] → RowsFit rows → RowsFit (used a values rows)
   used_fits a values rows fits none h = elim fits.1 [
     | inl request ↦ absurd (no_request (action_of a) false a (values_or_missing a values) rows request (no_kind (range_kinds (unwrap_or_range a.range).start_inclusive (most_values a) (length values)) _ none).1)
-    | inr one ↦ set_fits a values rows one none h
+    | inr (inl one) ↦ set_fits a values rows one none h
+    | inr (inr flag) ↦ flag_sets a values rows flag none h
   ]
 
   -- ---- what is held
@@ -295,21 +334,21 @@ module _ (accepted : Text → Text → Bool) where
         let steps = no_kind (turn_fault s names w word) (walk_fault s names (walked s.rules names w word) rest) none in
         walk_fits rest (walked s.rules names w word) steps.1 (turn_fits w word steps.0 rows)
 
-    -- no argument has a default
-    undefaulted : (c : List Rule) (rows : List Row) → RulesFit c → fold with_default rows c ≡ rows
-    undefaulted [] rows h = refl
-    undefaulted (a ∷ c) rows h = ap (λ now. fold with_default now c) (same a.defaults h.0.0 (has_row a.id rows)) ∙ undefaulted c rows h.1
+    -- what was not used has its default, if it has one
+    defaulted : (c : List Rule) (rows : List Row) → RulesFit c → RowsFit rows → RowsFit (fold with_default rows c)
+    defaulted [] rows all h = h
+    defaulted (a ∷ c) rows all h = defaulted c (with_default rows a) all.1 (go (has_row a.id rows) refl a.defaults all.0.0)
       where
-        same : (ds : List Text) → ds ≡ [] → (b : Bool) → cond b rows (default_rows a.id (reading_by a) ds rows) ≡ rows
-        same [] none true = refl
-        same [] none false = refl
-        same (d ∷ ds) never b = (cc)
+        go : (b : Bool) → has_row a.id rows ≡ b → (ds : List Text) → DefaultsFit a.id ds → RowsFit (cond b rows (default_rows a.id (reading_by a) ds rows))
+        go true is ds fits = h
+        go false is [] fits = h
+        go false is (v ∷ vs) fits = subst (λ rest. RowsFit (with_values a.id (reading_by a) DefaultValue (v ∷ rest) rows)) (sym fits.0) (new_fits a.id v (reading_by a) DefaultValue rows is fits.1 h)
 
     pub after_fit : (words : List Text) → walk_fault s names (walk_from nothing_held) words ≡ [] → settle_fault s.rules s.args_override_self (walk s.rules names nothing_held words).held ≡ []
         → RowsFit (rows_after s.rules names words)
     after_fit words none last =
         let end = (walk s.rules names nothing_held words).held in
-        subst RowsFit (sym (undefaulted s.rules (settled s.rules end).rows all))
+        defaulted s.rules (settled s.rules end).rows all
         (settled_fits s.rules all end (ap (λ again. settle_fault s.rules again end) (sym once) ∙ last) (walk_fits words (walk_from nothing_held) none tt))
 
   -- ---- what is given
@@ -323,3 +362,17 @@ module _ (accepted : Text → Text → Bool) where
           → (v : Text) × (option_and_then (λ (x : Row). slice_get x.values 0) (cond b (Some r) (find (λ x. bytes_eq x.id id) rs)) ≡ Some v) × (accepted id v ≡ true)
       go true rest is given = (h.0.0, ap (λ vs. slice_get vs 0) h.0.1, subst (λ t. accepted t h.0.0 ≡ true) ((bytes_eq-Decides r.id id).0 is) h.0.2)
       go false rest is given = rest given
+
+  -- what is there for an argument is a value that it takes
+  pub value_fits : (id : Text) (rows : List Row) → RowsFit rows → (v : Text) → first_of id rows ≡ Some v → accepted id v ≡ true
+  value_fits id [] h v is = (cc)
+  value_fits id (r ∷ rs) h v is = go (bytes_eq r.id id) (value_fits id rs h.1 v) refl is
+    where
+      value : (w : Text) → Some w ≡ Some v → w ≡ v
+      value w e = ap (λ x. unwrap_or x w) e
+
+      go : (b : Bool) → (first_of id rs ≡ Some v → accepted id v ≡ true) → bytes_eq r.id id ≡ b → option_and_then (λ (x : Row). slice_get x.values 0) (cond b (Some r) (find (λ x. bytes_eq x.id id) rs)) ≡ Some v → accepted id v ≡ true
+      go true rest is has =
+          let same : h.0.0 ≡ v = value h.0.0 (ap (λ vs. slice_get vs 0) (sym h.0.1) ∙ has) in
+          subst (λ t. accepted id t ≡ true) same (subst (λ t. accepted t h.0.0 ≡ true) ((bytes_eq-Decides r.id id).0 is) h.0.2)
+      go false rest is has = rest has

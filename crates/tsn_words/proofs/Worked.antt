@@ -1,5 +1,5 @@
 -- The words of worked command lines.
-use Rattle.std.proofs.Common.{Bool, true, false, not, ◌&&◌, sym, ◌≡◌, ℕ, List, [], ◌∷◌, codes, refl, ap, ap₂, subst, ◌∙◌, inl, inr, Option, Some, None, Result, Ok, Err, IfErr, map, option_map, unwrap_or}
+use Rattle.std.proofs.Common.{◌↔◌, Bool, true, false, not, ◌&&◌, sym, ◌≡◌, ℕ, List, [], ◌∷◌, codes, refl, ap, ap₂, subst, ◌∙◌, inl, inr, Option, Some, None, Result, Ok, Err, IfErr, IfOk, MatchResult, is_ok, map, option_map, unwrap_or}
 use Rattle.std.specs.Prelude.{IsOk, IsSome}
 use Rattle.std.specs.Borrow.{Bor}
 use Rattle.std.specs.Result.{result_unwrap_or}
@@ -12,15 +12,27 @@ use Rattle.clap.specs.declared.builder.command.Command.TheViews.{out-Command}
 use Rattle.clap.specs.Kinds.{FailsBy, IsAmong}
 use Rattle.clap.specs.Values.{kind_of}
 use Rattle.std.specs.Str.{bytes_eq}
+use Rattle.std.proofs.lemmas.Slice.Eq.{bytes_eq-Decides}
 use Rattle.clap.specs.Faults.{fault_of, is_simple_and_free}
 use Rattle.clap.specs.Walk.{Row}
+use Rattle.clap.specs.Words.{first_value, rows_of}
+use Rattle.clap.specs.declared.parser.matches.Found.{Found}
+use Rattle.clap.proofs.WalkLemmas.{first_value-rows}
 use Rattle.clap.proofs.OnLiterals.{clap_on_literals}
-use Rattle.tsn_words.specs.Asking.{HasCheck, HasServe, HasStates, IsComplete, IsNumber, number_of, program, text_given}
+use Rattle.tsn_words.specs.Asking.{AsksFor, Given, GivesScript, HasCheck, HasJournal, HasServe, HasStates, IsComplete, IsNumber, IsWork, number_of, program, text_given}
+use Rattle.tsn_words.specs.declared.arguments.Asked.{Asked}
+use Rattle.tsn_words.specs.declared.arguments.Asked.TheVariants.{Script, States, Serve, Check, Journal, Shown, Refused}
 
 -- what a parse finds wrong is computed for this program
 pub simple : is_simple_and_free program ≡ true
 unfolding clap_on_literals
 simple = refl
+
+-- what two tests pass, each passes
+pub both_are : (a b : Bool) → (a && b) ≡ true → (a ≡ true) × (b ≡ true)
+both_are true true e = (refl, refl)
+both_are true false e = (cc)
+both_are false b e = (cc)
 
 -- whatever the program's name, `script` alone has no fault
 pub script : (name : List ℕ) → fault_of program (name ∷ codes "script" ∷ []) ≡ []
@@ -84,6 +96,47 @@ checked_faultless : (name : List ℕ) → fault_of program (name ∷ codes "chec
 unfolding clap_on_literals
 checked_faultless name = refl
 
+-- a script with a journal, whose setup's file is left out
+kept : (name : List ℕ) → map (text_given (subcommand_of program (name ∷ codes "script" ∷ codes "--journal" ∷ codes "j" ∷ []))) (codes "FILE" ∷ codes "journal" ∷ [])
+    ≡ None ∷ Some (codes "j") ∷ []
+unfolding clap_on_literals
+kept name = refl
+
+-- a look at a journal, by each of the options and by none
+abbrev looked_at : List ℕ → List (List ℕ) → List (Option (List ℕ))
+looked_at name options = map (text_given (subcommand_of program (name ∷ codes "journal" ∷ codes "j" ∷ options)))
+    (codes "JOURNAL" ∷ codes "since" ∷ codes "diff" ∷ codes "mend" ∷ [])
+
+whole : (name : List ℕ) → looked_at name [] ≡ Some (codes "j") ∷ None ∷ None ∷ Some (codes "false") ∷ []
+unfolding clap_on_literals
+whole name = refl
+
+since : (name : List ℕ) → looked_at name (codes "--since=0" ∷ []) ≡ Some (codes "j") ∷ Some (codes "0") ∷ None ∷ Some (codes "false") ∷ []
+unfolding clap_on_literals
+since name = refl
+
+diff : (name : List ℕ) → looked_at name (codes "--diff" ∷ codes "4294967295" ∷ []) ≡ Some (codes "j") ∷ None ∷ Some (codes "4294967295") ∷ Some (codes "false") ∷ []
+unfolding clap_on_literals
+diff name = refl
+
+mended : (name : List ℕ) → looked_at name (codes "--mend" ∷ []) ≡ Some (codes "j") ∷ None ∷ None ∷ Some (codes "true") ∷ []
+unfolding clap_on_literals
+mended name = refl
+
+-- entries are counted from 1, to 2^32 - 1
+no_entry : (name : List ℕ) → fault_of program (name ∷ codes "journal" ∷ codes "j" ∷ codes "--diff" ∷ codes "0" ∷ []) ≡ ValueValidation ∷ []
+unfolding clap_on_literals
+no_entry name = refl
+
+late_entry : (name : List ℕ) → fault_of program (name ∷ codes "journal" ∷ codes "j" ∷ codes "--since" ∷ codes "4294967296" ∷ []) ≡ ValueValidation ∷ []
+unfolding clap_on_literals
+late_entry name = refl
+
+-- `script` alone names `script`
+script_named : (name : List ℕ) → subcommand_of program (name ∷ codes "script" ∷ []) ≡ Some (codes "script", [])
+unfolding clap_on_literals
+script_named name = refl
+
 -- a command whose shape is plain has no global argument
 third_is_false : (a b g rest : Bool) → (a && (b && (not g && rest))) ≡ true → g ≡ false
 third_is_false true true false rest e = refl
@@ -107,6 +160,13 @@ pub same_text : (o : Option (Bor (List ℕ))) (s : Bor (List ℕ)) (text : List 
 same_text o s text is e =
     let both : Some s.now ≡ Some text = sym (ap (option_map (λ (x : Bor (List ℕ)). x.now)) is) ∙ e in
     ap (λ x. unwrap_or x text) both
+
+-- whether the text that is there is `true`
+pub flag_read : (text : List ℕ) (b : Bool) {got : Option (List ℕ)} → got ≡ Some text → b ≡ bytes_eq text (codes "true") → (b ≡ true) ↔ (got ≡ Some (codes "true"))
+flag_read text b has is = (
+  λ yes. has ∙ ap Some ((bytes_eq-Decides text (codes "true")).0 (sym is ∙ yes)),
+  λ e. is ∙ (bytes_eq-Decides text (codes "true")).1 (ap (λ x. unwrap_or x text) (sym has ∙ e)),
+)
 
 -- a text that is there is one of something
 pub never_none : {X : Type 0} (f : X → List ℕ) (o : Option X) {got : Option (List ℕ)} (text : List ℕ) → got ≡ option_map f o → got ≡ Some text → o ≡ None → ⊥
@@ -144,7 +204,8 @@ states_given rows complete = elim complete [
   | inl named ↦ absurd (never_named (codes "states") (codes "script") refl refl named)
   | inr (inl has) ↦ has
   | inr (inr (inl has)) ↦ absurd (never_named (codes "states") (codes "serve") refl refl has.named)
-  | inr (inr (inr has)) ↦ absurd (never_named (codes "states") (codes "check") refl refl has.named)
+  | inr (inr (inr (inl has))) ↦ absurd (never_named (codes "states") (codes "check") refl refl has.named)
+  | inr (inr (inr (inr has))) ↦ absurd (never_named (codes "states") (codes "journal") refl refl has.named)
 ]
 
 -- and what `serve` wants
@@ -153,7 +214,8 @@ serve_given rows complete = elim complete [
   | inl named ↦ absurd (never_named (codes "serve") (codes "script") refl refl named)
   | inr (inl has) ↦ absurd (never_named (codes "serve") (codes "states") refl refl has.named)
   | inr (inr (inl has)) ↦ has
-  | inr (inr (inr has)) ↦ absurd (never_named (codes "serve") (codes "check") refl refl has.named)
+  | inr (inr (inr (inl has))) ↦ absurd (never_named (codes "serve") (codes "check") refl refl has.named)
+  | inr (inr (inr (inr has))) ↦ absurd (never_named (codes "serve") (codes "journal") refl refl has.named)
 ]
 
 -- and what `check` wants
@@ -162,5 +224,46 @@ check_given rows complete = elim complete [
   | inl named ↦ absurd (never_named (codes "check") (codes "script") refl refl named)
   | inr (inl has) ↦ absurd (never_named (codes "check") (codes "states") refl refl has.named)
   | inr (inr (inl has)) ↦ absurd (never_named (codes "check") (codes "serve") refl refl has.named)
-  | inr (inr (inr has)) ↦ has
+  | inr (inr (inr (inl has))) ↦ has
+  | inr (inr (inr (inr has))) ↦ absurd (never_named (codes "check") (codes "journal") refl refl has.named)
 ]
+
+-- and what `journal` wants
+pub journal_given : (rows : List Row) → IsComplete (Some (codes "journal", rows)) → HasJournal (Some (codes "journal", rows))
+journal_given rows complete = elim complete [
+  | inl named ↦ absurd (never_named (codes "journal") (codes "script") refl refl named)
+  | inr (inl has) ↦ absurd (never_named (codes "journal") (codes "states") refl refl has.named)
+  | inr (inr (inl has)) ↦ absurd (never_named (codes "journal") (codes "serve") refl refl has.named)
+  | inr (inr (inr (inl has))) ↦ absurd (never_named (codes "journal") (codes "check") refl refl has.named)
+  | inr (inr (inr (inr has))) ↦ has
+]
+
+-- `script` alone asks for no look at a journal, so what it asks for is done
+pub script_works : (name : List ℕ) (words : List (List ℕ)) (given : Given) (asked : Asked) → given ≡ subcommand_of program words → words ≡ name ∷ codes "script" ∷ [] → AsksFor given asked → IsWork asked
+script_works name words given (Script file kept) is same asks = tt
+script_works name words given (States file listing) is same asks = tt
+script_works name words given (Serve file listen serving) is same asks = tt
+script_works name words given (Check file) is same asks = tt
+script_works name words given (Journal file look) is same asks = tt
+script_works name words given (Shown text) is same asks = asks
+script_works name words given (Refused text) is same asks =
+    let named : given ≡ Some (codes "script", []) = is ∙ ap (subcommand_of program) same ∙ script_named name in
+    absurd (never_named (codes "script") (codes "journal") refl refl (sym (ap (option_map (λ (p : List ℕ × List Row). p.0)) named) ∙ asks.named))
+
+-- what is said of the words that are there
+pub some_same : {X Y : Type 0} (f : X → Y) (o : Option X) (x : X) (y : Y) → o ≡ Some x → option_map f o ≡ Some y → f x ≡ y
+some_same f o x y is e = ap (λ z. unwrap_or z (f x)) (sym (ap (option_map f) is) ∙ e)
+
+-- an `Err` that is told otherwise leaves the `Ok` as it was
+pub mapped : {X E D : Type 0} (r : Result X E) (m : Result X D) (P : X → Type 0) (Q : E → Type 0) → MatchResult r (λ x. m ≡ Ok x) Q → is_ok m ≡ is_ok r → IfOk r P → IfOk m P
+mapped (Ok x) m P Q cases same p = subst (λ s. IfOk s P) (sym cases) p
+mapped (Err e) (Ok y) P Q cases same p = (cc)
+mapped (Err e) (Err d) P Q cases same p = tt
+
+-- the texts that are read are those of the rows
+pub script_gives : (found : Found) (file kept : Option (List ℕ)) → first_value found (codes "FILE") ≡ file → first_value found (codes "journal") ≡ kept → GivesScript (Some (codes "script", rows_of found)) file kept
+script_gives found file kept setup journal = record {
+  named = refl;
+  setup = sym (first_value-rows found (codes "FILE")) ∙ setup;
+  journal = sym (first_value-rows found (codes "journal")) ∙ journal;
+}

@@ -6,12 +6,15 @@ use Rattle.clap.specs.Values.{IsUnsignedIn}
 use Rattle.clap.specs.Walk.{Row, Rule, first_of}
 use Rattle.clap.specs.Kinds.{IsAmong}
 use Rattle.clap.specs.Faults.{fault_of}
+use Rattle.clap.specs.declared.builder.action.ArgAction.TheVariants.{SetTrue}
 use Rattle.clap.specs.declared.builder.value_parser.ValueParser.TheVariants.{Unsigned}
 use Rattle.clap.specs.declared.error.kind.ErrorKind.{ErrorKind}
 use Rattle.clap.specs.declared.error.kind.ErrorKind.TheVariants.{DisplayHelp, DisplayVersion}
 use Rattle.tsn_words.specs.declared.arguments.Asked.{Asked}
-use Rattle.tsn_words.specs.declared.arguments.Asked.TheVariants.{Script, States, Serve, Check, Shown, Refused}
+use Rattle.tsn_words.specs.declared.arguments.Asked.TheVariants.{Script, States, Serve, Check, Journal, Shown, Refused}
 use Rattle.tsn_words.specs.declared.arguments.Listing.{Listing}
+use Rattle.tsn_words.specs.declared.look.Look.{Look}
+use Rattle.tsn_words.specs.declared.look.Look.TheVariants.{Whole, Since, Diff, Mend}
 use Rattle.tsn_words.specs.declared.serving.Serving.{Serving}
 
 -- The longest time from one instant of `states` to the next, and the most instants.
@@ -31,13 +34,25 @@ most_connections = 65535
 abbrev pub last_probe : ℕ
 last_probe = 2 ^ 62
 
+-- The greatest number of an entry that `journal` takes.
+abbrev pub last_entry : ℕ
+last_entry = 2 ^ 32 - 1
+
 -- The file of a setup, which may be wanted.
 abbrev pub setup_file : Bool → Rule
 setup_file is_wanted = record (new_rule (codes "FILE")) { required = is_wanted }
 
--- `script`, which may be given a setup's file.
+-- An option of this name, which wants a text, whatever it is.
+abbrev pub any_text : List ℕ → Rule
+any_text name = record (new_rule name) { long = Some name; required = true }
+
+-- An argument that may be left out.
+abbrev pub optional : Rule → Rule
+optional argument = record argument { required = false }
+
+-- `script`, which may be given a setup's file and a journal's.
 abbrev pub script : App
-script = with_rule (new_app (codes "script")) (setup_file false)
+script = with_rule (with_rule (new_app (codes "script")) (setup_file false)) (optional (any_text (codes "journal")))
 
 -- An option of this name, which wants a number in its range.
 abbrev pub number : List ℕ → ℕ → ℕ → Rule
@@ -52,10 +67,6 @@ states =
     (number (codes "from") 0 (2 ^ 64 - 1)))
     (number (codes "step") 0 longest_step))
     (number (codes "count") 1 most_instants)
-
--- An option of this name, which wants a text, whatever it is.
-abbrev pub any_text : List ℕ → Rule
-any_text name = record (new_rule name) { long = Some name; required = true }
 
 -- `serve`, which wants a setup's file, where to listen, how many connections at a time and in all, and the instant that it
 -- tells of at the end.
@@ -72,13 +83,36 @@ serve =
 abbrev pub check : App
 check = with_rule (new_app (codes "check")) (setup_file true)
 
+-- The file of a journal, which is wanted.
+abbrev pub journal_file : Rule
+journal_file = record (new_rule (codes "JOURNAL")) { required = true }
+
+-- An option of this name, which takes no value.
+abbrev pub flag : List ℕ → Rule
+flag name = record (new_rule name) { long = Some name; action = Some SetTrue }
+
+-- `journal`, which wants a journal's file, and may be given what of it is asked for.
+abbrev pub journal : App
+journal =
+    with_rule (with_rule (with_rule (with_rule (new_app (codes "journal"))
+    journal_file)
+    (optional (number (codes "since") 0 last_entry)))
+    (optional (number (codes "diff") 1 last_entry)))
+    (flag (codes "mend"))
+
 -- `tsnd`, which has a version and wants a subcommand.
 abbrev pub bare : App
 bare = on_top (λ s. record s { subcommand_required = true; has_version = true }) (new_app (codes "tsnd"))
 
--- It has these four.
+-- It has these five.
 abbrev pub program : App
-program = with_subcommand (with_subcommand (with_subcommand (with_subcommand bare script.top) states.top) serve.top) check.top
+program =
+    with_subcommand (with_subcommand (with_subcommand (with_subcommand (with_subcommand bare
+    script.top)
+    states.top)
+    serve.top)
+    check.top)
+    journal.top
 
 -- Help or the version was asked for, which is no mistake.
 abbrev pub IsShown : ErrorKind → Type 0
@@ -86,28 +120,31 @@ IsShown kind = (kind ≡ DisplayHelp) ⊎ (kind ≡ DisplayVersion)
 
 -- Something is to be done, and not only a text to be told.
 abbrev pub IsWork : Asked → Type 0
-IsWork (Script file) = ⊤
+IsWork (Script file kept) = ⊤
 IsWork (States file listing) = ⊤
 IsWork (Serve file listen serving) = ⊤
 IsWork (Check file) = ⊤
+IsWork (Journal file look) = ⊤
 IsWork (Shown text) = ⊥
 IsWork (Refused text) = ⊥
 
 -- A text to show, or to refuse by, is not empty.
 abbrev pub TellsSomething : Asked → Type 0
-TellsSomething (Script file) = ⊤
+TellsSomething (Script file kept) = ⊤
 TellsSomething (States file listing) = ⊤
 TellsSomething (Serve file listen serving) = ⊤
 TellsSomething (Check file) = ⊤
+TellsSomething (Journal file look) = ⊤
 TellsSomething (Shown text) = string_bytes text ≢ []
 TellsSomething (Refused text) = string_bytes text ≢ []
 
 -- The file of the setup that is asked for, if one is.
 abbrev pub file_of : Asked → Option (List ℕ)
-file_of (Script file) = option_map string_bytes file
+file_of (Script file kept) = option_map string_bytes file
 file_of (States file listing) = Some (string_bytes file)
 file_of (Serve file listen serving) = Some (string_bytes file)
 file_of (Check file) = Some (string_bytes file)
+file_of (Journal file look) = None
 file_of (Shown text) = None
 file_of (Refused text) = None
 
@@ -139,6 +176,10 @@ HasText given name = (text : List ℕ) × (text_given given name ≡ Some text)
 abbrev pub HasNumber : Given → List ℕ → ℕ → ℕ → Type 0
 HasNumber given name least most = (text : List ℕ) × (text_given given name ≡ Some text) × IsUnsignedIn least most text
 
+-- Where a text is given for a name, it is a number from the least to the most.
+abbrev pub MayHaveNumber : Given → List ℕ → ℕ → ℕ → Type 0
+MayHaveNumber given name least most = (text : List ℕ) → text_given given name ≡ Some text → IsUnsignedIn least most text
+
 -- It is this number.
 abbrev pub GivesNumber : Given → List ℕ → ℕ → ℕ → ℕ → Type 0
 GivesNumber given name least most n = (text : List ℕ) × (text_given given name ≡ Some text) × IsUnsignedIn least most text × (n ≡ number_of text)
@@ -166,14 +207,22 @@ pub record HasCheck (given : Given) : Type 0 where
   pub named : Names given (codes "check")
   pub file : HasText given (codes "FILE")
 
+-- `journal` is named, the file that it wants is given, and the entries that may be asked for are in range.
+pub record HasJournal (given : Given) : Type 0 where
+  pub named : Names given (codes "journal")
+  pub file : HasText given (codes "JOURNAL")
+  pub since : MayHaveNumber given (codes "since") 0 last_entry
+  pub diff : MayHaveNumber given (codes "diff") 1 last_entry
+
 -- A subcommand of the program is named, and what it wants is given.
 abbrev pub IsComplete : Given → Type 0
-IsComplete given = Names given (codes "script") ⊎ (HasStates given ⊎ (HasServe given ⊎ HasCheck given))
+IsComplete given = Names given (codes "script") ⊎ (HasStates given ⊎ (HasServe given ⊎ (HasCheck given ⊎ HasJournal given)))
 
--- `script` is named, and this file is given to it, or none.
-pub record GivesScript (given : Given) (file : Option (List ℕ)) : Type 0 where
+-- `script` is named, and this setup's file is given to it, or none, and this journal's, or none.
+pub record GivesScript (given : Given) (file kept : Option (List ℕ)) : Type 0 where
   pub named : Names given (codes "script")
   pub setup : text_given given (codes "FILE") ≡ file
+  pub journal : text_given given (codes "journal") ≡ kept
 
 -- These numbers are given.
 pub record GivesListing (given : Given) (x : Listing) : Type 0 where
@@ -206,27 +255,77 @@ pub record GivesCheck (given : Given) (file : List ℕ) : Type 0 where
   pub named : Names given (codes "check")
   pub setup : text_given given (codes "FILE") ≡ Some file
 
--- what is given is what is asked for
+-- The option of this name is given, which takes no value.
+abbrev pub IsFlagged : Given → List ℕ → Type 0
+IsFlagged given name = text_given given name ≡ Some (codes "true")
+
+-- This look at a journal is given: `--since` with this number, `--diff` with this number, `--mend`, or none of the three.
+abbrev pub GivesLook : Given → Look → Type 0
+GivesLook given Whole =
+    (text_given given (codes "since") ≡ None) × (text_given given (codes "diff") ≡ None) × (¬ IsFlagged given (codes "mend"))
+GivesLook given (Since n) =
+    GivesNumber given (codes "since") 0 last_entry n
+    × (text_given given (codes "diff") ≡ None) × (¬ IsFlagged given (codes "mend"))
+GivesLook given (Diff n) =
+    GivesNumber given (codes "diff") 1 last_entry n
+    × (text_given given (codes "since") ≡ None) × (¬ IsFlagged given (codes "mend"))
+GivesLook given Mend =
+    (text_given given (codes "since") ≡ None) × (text_given given (codes "diff") ≡ None) × IsFlagged given (codes "mend")
+
+-- More than one of the three is given.
+abbrev pub GivesLooks : Given → Type 0
+GivesLooks given =
+    (HasText given (codes "since") × HasText given (codes "diff"))
+    ⊎ ((HasText given (codes "since") × IsFlagged given (codes "mend"))
+    ⊎ (HasText given (codes "diff") × IsFlagged given (codes "mend")))
+
+-- `journal` is named, and this file and this look at it are given.
+pub record GivesJournal (given : Given) (file : List ℕ) (x : Look) : Type 0 where
+  pub named : Names given (codes "journal")
+  pub journal : text_given given (codes "JOURNAL") ≡ Some file
+  pub look : GivesLook given x
+
+-- `journal` is named, and more than one look at its file is given.
+pub record GivesTooMuch (given : Given) : Type 0 where
+  pub named : Names given (codes "journal")
+  pub looks : GivesLooks given
+
+-- What is given is what is asked for, or more than may be.
 abbrev pub AsksFor : Given → Asked → Type 0
-AsksFor given (Script file) = GivesScript given (option_map string_bytes file)
+AsksFor given (Script file kept) = GivesScript given (option_map string_bytes file) (option_map string_bytes kept)
 AsksFor given (States file x) = GivesStates given (string_bytes file) x
 AsksFor given (Serve file listen x) = GivesServe given (string_bytes file) (string_bytes listen) x
 AsksFor given (Check file) = GivesCheck given (string_bytes file)
+AsksFor given (Journal file look) = GivesJournal given (string_bytes file) look
 AsksFor given (Shown text) = ⊥
-AsksFor given (Refused text) = ⊥
+AsksFor given (Refused text) = GivesTooMuch given
 
--- Where the words have no fault, a script, a port's states, a server or a look at a setup are asked for as the words say. Else there is a text
--- to show, or to refuse the words by, as the fault is. Words that are no text are refused.
+-- The words have a fault that is no mistake, or one that is.
+abbrev pub AreShown : List (List ℕ) → Type 0
+AreShown words = (kind : ErrorKind) × IsAmong kind (fault_of program words) × IsShown kind
+
+abbrev pub AreMistaken : List (List ℕ) → Type 0
+AreMistaken words = (kind : ErrorKind) × IsAmong kind (fault_of program words) × (¬ IsShown kind)
+
+-- The words have no fault, and ask for this.
+abbrev pub AskRightly : List (List ℕ) → Asked → Type 0
+AskRightly words asked = (fault_of program words ≡ []) × AsksFor (subcommand_of program words) asked
+
+-- Where the words have no fault, a script, a port's states, a server, a look at a setup or at a journal are asked for as the
+-- words say; more than one look at a journal is refused. Else there is a text to show, or to refuse the words by, as the fault
+-- is. Words that are no text are refused.
 abbrev pub Asks : Option (List (List ℕ)) → Asked → Type 0
-Asks (Some words) (Script file) = (fault_of program words ≡ []) × GivesScript (subcommand_of program words) (option_map string_bytes file)
-Asks (Some words) (States file x) = (fault_of program words ≡ []) × GivesStates (subcommand_of program words) (string_bytes file) x
-Asks (Some words) (Serve file listen x) = (fault_of program words ≡ []) × GivesServe (subcommand_of program words) (string_bytes file) (string_bytes listen) x
-Asks (Some words) (Check file) = (fault_of program words ≡ []) × GivesCheck (subcommand_of program words) (string_bytes file)
-Asks (Some words) (Shown text) = (kind : ErrorKind) × IsAmong kind (fault_of program words) × IsShown kind
-Asks (Some words) (Refused text) = (kind : ErrorKind) × IsAmong kind (fault_of program words) × (¬ IsShown kind)
-Asks None (Script file) = ⊥
+Asks (Some words) (Script file kept) = AskRightly words (Script file kept)
+Asks (Some words) (States file x) = AskRightly words (States file x)
+Asks (Some words) (Serve file listen x) = AskRightly words (Serve file listen x)
+Asks (Some words) (Check file) = AskRightly words (Check file)
+Asks (Some words) (Journal file look) = AskRightly words (Journal file look)
+Asks (Some words) (Shown text) = AreShown words
+Asks (Some words) (Refused text) = AreMistaken words ⊎ AskRightly words (Refused text)
+Asks None (Script file kept) = ⊥
 Asks None (States file x) = ⊥
 Asks None (Serve file listen x) = ⊥
 Asks None (Check file) = ⊥
+Asks None (Journal file look) = ⊥
 Asks None (Shown text) = ⊥
 Asks None (Refused text) = ⊤

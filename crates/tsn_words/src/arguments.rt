@@ -4,13 +4,14 @@ ghost use Rattle.clap.specs.Words.{app_of, found_of, kind_of, rows_of, rule_of, 
 ghost use Rattle.clap.specs.Kinds.{FailsBy};
 ghost use Rattle.clap.specs.Faults.{fault_of};
 ghost use Rattle.tsn_bytes.specs.declared.bytes.Fault.TheVariants.{Memory};
-ghost use Rattle.tsn_words.specs.Asking.{any_text, bare, check, number, program, script, serve, setup_file, states, Asks, AsksFor, GivesListing, HasCheck, HasServe, HasStates, IsComplete, IsWork, TellsSomething};
+ghost use Rattle.tsn_words.specs.Asking.{any_text, bare, check, flag, journal, journal_file, number, optional, program, script, serve, setup_file, states, Asks, AsksFor, GivesListing, HasCheck, HasJournal, HasServe, HasStates, IsComplete, IsWork, TellsSomething};
 
+use crate::look::{Look, look_of};
 use crate::serving::Serving;
-use crate::values::{file_of, number_of, text_of};
+use crate::values::{number_of, text_if_given, text_of};
 use clap::builder::ValueParser;
 use clap::error::ErrorKind;
-use clap::{Arg, ArgMatches, Command, Error};
+use clap::{Arg, ArgAction, ArgMatches, Command, Error};
 use std::alloc::{AllocError, Global};
 use tsn_bytes::Fault;
 
@@ -29,9 +30,13 @@ const MOST_CONNECTIONS: u64 = 65_535;
 /// The last instant of a server's end.
 const LAST_PROBE: u64 = 1 << 62;
 
+/// The greatest number of an entry that `journal` takes.
+const LAST_ENTRY: u64 = (1 << 32) - 1;
+
 /// Ends the help on `script`.
 const SCRIPT_EXAMPLE: &str = "Example:
-  tsnd script bridge.toml < commands.jsonl";
+  tsnd script bridge.toml < commands.jsonl
+  tsnd script bridge.toml --journal bridge.journal < commands.jsonl";
 
 /// Ends the help on `states`.
 const STATES_EXAMPLE: &str = "Example:
@@ -45,6 +50,16 @@ const SERVE_EXAMPLE: &str = "Example, and a client in another terminal:
 /// Ends the help on `check`.
 const CHECK_EXAMPLE: &str = "Example:
   tsnd check bridge.toml";
+
+/// Ends the help on `journal`.
+const JOURNAL_EXAMPLE: &str = "Example:
+  tsnd journal bridge.journal --since 40";
+
+/// Why words that are no UTF-8 are refused.
+const NO_TEXT: &str = "invalid UTF-8 was detected in one or more arguments";
+
+/// Why more than one look at a journal is refused.
+const ONE_LOOK: &str = "at most one of --since, --diff and --mend may be given";
 
 /// How the program is called.
 const USAGE: &str = "Usage: tsnd <COMMAND>\n";
@@ -65,9 +80,11 @@ pub struct Listing {
 /// What a command line asks for.
 #[derive(Drop)]
 pub enum Asked {
-    /// Answer the script on standard input, from the setup of this file or from the standard one.
+    /// Answer the script on standard input, from the setup of this file or from the standard one, and keep what the sessions
+    /// do in this journal, if one is named.
     Script {
         file: Option<String>,
+        journal: Option<String>,
     },
     /// Print the states of a port, from the setup of this file.
     States {
@@ -84,6 +101,11 @@ pub enum Asked {
     Check {
         file: String,
     },
+    /// Look at the journal of this file.
+    Journal {
+        file: String,
+        look: Look,
+    },
     /// Show this text, help or the version.
     Shown(String),
     /// Say by this text why the command line is refused.
@@ -98,11 +120,11 @@ impl Asked {
         ensures { option_map (λ name. name.now) result ≡ file_of self.now }
     {
         match self {
-            Asked::Script { file } => file.as_ref().map(String::as_str),
+            Asked::Script { file, .. } => file.as_ref().map(String::as_str),
             Asked::States { file, .. } => Some(file.as_str()),
             Asked::Serve { file, .. } => Some(file.as_str()),
             Asked::Check { file } => Some(file.as_str()),
-            Asked::Shown(_) | Asked::Refused(_) => None,
+            Asked::Journal { .. } | Asked::Shown(_) | Asked::Refused(_) => None,
         }
     }
 }
@@ -117,13 +139,29 @@ fn setup_file<'a>(alloc: Global, is_wanted: bool) -> Arg<'a>
         .help("The setup of the bridge, a TOML document")
 }
 
+// An option that wants a text, whatever it is.
+fn any_text<'a>(alloc: Global, name: &'a str, help: &'a str) -> Arg<'a>
+    ensures rule { rule_of result ≡ any_text name.entry.now }
+    ensures local { result.global ≡ false }
+{
+    Arg::new(alloc, name).long(name).required(true).help(help)
+}
+
 fn script<'a>(alloc: Global) -> Result<Command<'a>, AllocError>
     ensures { IfOk result (λ c. app_of c ≡ script) }
 {
+    let file = setup_file(alloc, false);
+    let journal = any_text(
+        alloc,
+        "journal",
+        "The journal file that keeps what the sessions do; made where it is not there",
+    )
+    .required(false);
     Command::new(alloc, "script")
         .about("Answers the command lines on standard input, one reply line each")
         .after_help(SCRIPT_EXAMPLE)
-        .arg(setup_file(alloc, false))
+        .arg(file)?
+        .arg(journal)
 }
 
 // An option that wants a number in its range.
@@ -154,14 +192,6 @@ fn states<'a>(alloc: Global) -> Result<Command<'a>, AllocError>
         .arg(from)?
         .arg(step)?
         .arg(count)
-}
-
-// An option that wants a text, whatever it is.
-fn any_text<'a>(alloc: Global, name: &'a str, help: &'a str) -> Arg<'a>
-    ensures rule { rule_of result ≡ any_text name.entry.now }
-    ensures local { result.global ≡ false }
-{
-    Arg::new(alloc, name).long(name).required(true).help(help)
 }
 
 fn serve<'a>(alloc: Global) -> Result<Command<'a>, AllocError>
@@ -215,6 +245,61 @@ fn check<'a>(alloc: Global) -> Result<Command<'a>, AllocError>
         .arg(setup_file(alloc, true))
 }
 
+// The file of a journal.
+fn journal_file<'a>(alloc: Global) -> Arg<'a>
+    ensures rule { rule_of result ≡ journal_file }
+    ensures local { result.global ≡ false }
+{
+    Arg::new(alloc, "JOURNAL")
+        .required(true)
+        .help("The journal file")
+}
+
+// An option that takes no value.
+fn flag<'a>(alloc: Global, name: &'a str, help: &'a str) -> Arg<'a>
+    ensures rule { rule_of result ≡ flag name.entry.now }
+    ensures local { result.global ≡ false }
+{
+    Arg::new(alloc, name)
+        .long(name)
+        .action(ArgAction::SetTrue)
+        .help(help)
+}
+
+fn journal<'a>(alloc: Global) -> Result<Command<'a>, AllocError>
+    ensures { IfOk result (λ c. app_of c ≡ journal) }
+{
+    let file = journal_file(alloc);
+    let since = number(
+        alloc,
+        "since",
+        "Tells the entries behind this number, a line each",
+        0,
+        LAST_ENTRY,
+    )
+    .required(false);
+    let diff = number(
+        alloc,
+        "diff",
+        "Tells what this entry changed",
+        1,
+        LAST_ENTRY,
+    )
+    .required(false);
+    let mend = flag(
+        alloc,
+        "mend",
+        "Moves what is behind the last good line to JOURNAL.cut",
+    );
+    Command::new(alloc, "journal")
+        .about("Says what is in a journal file")
+        .after_help(JOURNAL_EXAMPLE)
+        .arg(file)?
+        .arg(since)?
+        .arg(diff)?
+        .arg(mend)
+}
+
 // The program, but for its subcommands.
 fn bare<'a>(alloc: Global) -> Command<'a>
     ensures { app_of result ≡ bare }
@@ -233,7 +318,8 @@ fn command<'a>(alloc: Global) -> Result<Command<'a>, AllocError>
         .subcommand(script(alloc)?)?
         .subcommand(states(alloc)?)?
         .subcommand(serve(alloc)?)?
-        .subcommand(check(alloc)?)
+        .subcommand(check(alloc)?)?
+        .subcommand(journal(alloc)?)
 }
 
 // What the words give, or what is wrong with them.
@@ -267,7 +353,8 @@ fn listing_of(given: &ArgMatches<'_>) -> Listing
 // The states of a port, from the setup and with the numbers that are given.
 fn states_of(alloc: Global, given: &ArgMatches<'_>) -> Result<Asked, AllocError>
     requires { HasStates (Some (codes "states", rows_of (found_of given.now))) }
-    ensures { IfOk result (AsksFor (Some (codes "states", rows_of (found_of given.now)))) }
+    ensures asked { IfOk result (AsksFor (Some (codes "states", rows_of (found_of given.now)))) }
+    ensures told { IfOk result TellsSomething }
 {
     let file = text_of(alloc, given, "FILE")?;
     let listing = listing_of(given);
@@ -277,7 +364,8 @@ fn states_of(alloc: Global, given: &ArgMatches<'_>) -> Result<Asked, AllocError>
 // A server, from the setup, at the place and with the numbers that are given.
 fn serve_of(alloc: Global, given: &ArgMatches<'_>) -> Result<Asked, AllocError>
     requires { HasServe (Some (codes "serve", rows_of (found_of given.now))) }
-    ensures { IfOk result (AsksFor (Some (codes "serve", rows_of (found_of given.now)))) }
+    ensures asked { IfOk result (AsksFor (Some (codes "serve", rows_of (found_of given.now)))) }
+    ensures told { IfOk result TellsSomething }
 {
     let file = text_of(alloc, given, "FILE")?;
     let listen = text_of(alloc, given, "listen")?;
@@ -292,24 +380,43 @@ fn serve_of(alloc: Global, given: &ArgMatches<'_>) -> Result<Asked, AllocError>
 // A look at the setup that is given.
 fn check_of(alloc: Global, given: &ArgMatches<'_>) -> Result<Asked, AllocError>
     requires { HasCheck (Some (codes "check", rows_of (found_of given.now))) }
-    ensures { IfOk result (AsksFor (Some (codes "check", rows_of (found_of given.now)))) }
+    ensures asked { IfOk result (AsksFor (Some (codes "check", rows_of (found_of given.now)))) }
+    ensures told { IfOk result TellsSomething }
 {
     let file = text_of(alloc, given, "FILE")?;
     Ok(Asked::Check { file })
 }
 
-// A script, from the setup that is given.
+// A script, from the setup and with the journal that are given.
+#[tactic(auto, using(crate::proofs::Worked::script_gives))]
 fn script_of(alloc: Global, given: &ArgMatches<'_>) -> Result<Asked, AllocError>
-    ensures { IfOk result (AsksFor (Some (codes "script", rows_of (found_of given.now)))) }
+    ensures asked { IfOk result (AsksFor (Some (codes "script", rows_of (found_of given.now)))) }
+    ensures told { IfOk result TellsSomething }
 {
-    let file = file_of(alloc, given)?;
-    Ok(Asked::Script { file })
+    let file = text_if_given(alloc, given, "FILE")?;
+    let journal = text_if_given(alloc, given, "journal")?;
+    Ok(Asked::Script { file, journal })
+}
+
+// The look at the journal that is given. More than one is refused.
+fn journal_of(alloc: Global, given: &ArgMatches<'_>) -> Result<Asked, AllocError>
+    requires { HasJournal (Some (codes "journal", rows_of (found_of given.now))) }
+    ensures asked { IfOk result (AsksFor (Some (codes "journal", rows_of (found_of given.now)))) }
+    ensures told { IfOk result TellsSomething }
+{
+    let Some(look) = look_of(given) else {
+        let text = reason_of(alloc, ErrorKind::ArgumentConflict, ONE_LOOK)?;
+        return Ok(Asked::Refused(text));
+    };
+    let file = text_of(alloc, given, "JOURNAL")?;
+    Ok(Asked::Journal { file, look })
 }
 
 // What the words ask for, by their subcommand and what they give to it.
 fn asked_of(alloc: Global, matches: &ArgMatches<'_>) -> Result<Asked, AllocError>
     requires { IsComplete (subcommand_rows_of matches.now) }
-    ensures { IfOk result (AsksFor (subcommand_rows_of matches.now)) }
+    ensures asked { IfOk result (AsksFor (subcommand_rows_of matches.now)) }
+    ensures told { IfOk result TellsSomething }
 {
     let Some((name, given)) = matches.subcommand() else {
         unreachable!();
@@ -320,19 +427,11 @@ fn asked_of(alloc: Global, matches: &ArgMatches<'_>) -> Result<Asked, AllocError
         serve_of(alloc, given)
     } else if name == "check" {
         check_of(alloc, given)
+    } else if name == "journal" {
+        journal_of(alloc, given)
     } else {
         script_of(alloc, given)
     }
-}
-
-// Why words that are no UTF-8 are refused.
-fn no_text(alloc: Global) -> Result<Error, AllocError>
-    ensures { IfOk result (λ e. kind_of e ≡ ErrorKind.InvalidValue) }
-{
-    command(alloc)?.error(
-        ErrorKind::InvalidValue,
-        "invalid UTF-8 was detected in one or more arguments",
-    )
 }
 
 // What an error says. Where `clap` gave it no text, which its contracts don't rule out, it says how the program is called.
@@ -347,15 +446,20 @@ fn saying_of(alloc: Global, error: &Error) -> Result<String, AllocError>
     }
 }
 
+// Why words are refused that `clap` itself does not refuse.
+fn reason_of(alloc: Global, kind: ErrorKind, reason: &str) -> Result<String, AllocError>
+    ensures { IfOk result (λ text. string_bytes text ≢ []) }
+{
+    let error = command(alloc)?.error(kind, reason)?;
+    saying_of(alloc, &error)
+}
+
 fn refused_as_no_text(alloc: Global) -> Result<Asked, Fault>
     ensures ok { IfOk result (Asks None) }
     ensures told { IfOk result TellsSomething }
     ensures memory { IfErr result (λ e. e ≡ Memory) }
 {
-    let Ok(error) = no_text(alloc) else {
-        return Err(Fault::Memory);
-    };
-    let Ok(reason) = saying_of(alloc, &error) else {
+    let Ok(reason) = reason_of(alloc, ErrorKind::InvalidValue, NO_TEXT) else {
         return Err(Fault::Memory);
     };
     Ok(Asked::Refused(reason))

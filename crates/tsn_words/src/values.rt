@@ -1,5 +1,5 @@
 //! The values that words give to a subcommand, by the names of its arguments.
-ghost use Rattle.std.specs.Prelude.{◌≡◌, ℕ, List, Some, IfOk, codes, option_map, string_bytes};
+ghost use Rattle.std.specs.Prelude.{◌≡◌, ◌↔◌, IsTrue, ℕ, List, None, Some, IfNone, IfOk, IfSome, codes, option_map, string_bytes};
 ghost use Rattle.clap.specs.Words.{first_of, first_value, found_of, rows_of};
 ghost use Rattle.tsn_words.specs.Asking.{number_of, IsNumber};
 
@@ -15,6 +15,29 @@ pub(crate) fn number_of(given: &ArgMatches<'_>, name: &str) -> u64
     text.parse::<u64>().unwrap()
 }
 
+// The number that is given, if one is.
+pub(crate) fn number_if_given(given: &ArgMatches<'_>, name: &str) -> Option<u64>
+    requires { (text : List ℕ) → first_of name.now (rows_of (found_of given.now)) ≡ Some text → IsNumber text }
+    ensures some { IfSome result (λ n. (text : List ℕ)
+        × (first_of name.now (rows_of (found_of given.now)) ≡ Some text) × (n ≡ number_of text)) }
+    ensures none { IfNone result (first_of name.now (rows_of (found_of given.now)) ≡ None) }
+{
+    match given.get_str(name) {
+        Some(_) => Some(number_of(given, name)),
+        None => None,
+    }
+}
+
+// The option is given, which takes no value.
+pub(crate) fn is_flagged(given: &ArgMatches<'_>, name: &str) -> bool
+    ensures { IsTrue result ↔ (first_of name.now (rows_of (found_of given.now)) ≡ Some (codes "true")) }
+{
+    match given.get_str(name) {
+        Some(text) => text == "true",
+        None => false,
+    }
+}
+
 // A text that is given.
 pub(crate) fn text_of(
     alloc: Global,
@@ -28,15 +51,18 @@ pub(crate) fn text_of(
     String::from_str(alloc, text)
 }
 
-// The file that is given, if one is.
-pub(crate) fn file_of(alloc: Global, given: &ArgMatches<'_>) -> Result<Option<String>, AllocError>
-    ensures { IfOk result (λ file. first_value (found_of given.now) (codes "FILE")
-        ≡ option_map string_bytes file) }
+// The text that is given, if one is.
+pub(crate) fn text_if_given(
+    alloc: Global,
+    given: &ArgMatches<'_>,
+    name: &str,
+) -> Result<Option<String>, AllocError>
+    ensures { IfOk result (λ text. first_value (found_of given.now) name.now ≡ option_map string_bytes text) }
 {
-    match given.get_str("FILE") {
-        Some(name) => {
-            let file = String::from_str(alloc, name)?;
-            Ok(Some(file))
+    match given.get_str(name) {
+        Some(text) => {
+            let text = String::from_str(alloc, text)?;
+            Ok(Some(text))
         }
         None => Ok(None),
     }

@@ -1,17 +1,22 @@
 //! `tsnd`: the configuration service of one time-aware bridge.
 //!
 //! `tsnd script` answers a script of command lines on standard input with one reply line each on standard output, from a
-//! setup in a file or from the standard one. `tsnd serve` answers the lines of many connections over TCP, on one bridge, and
+//! setup in a file or from the standard one; with a journal file, what its sessions do outlasts it, and `tsnd journal` says
+//! what is in one. `tsnd serve` answers the lines of many connections over TCP, on one bridge, and
 //! then tells the gates of each port. `tsnd states` prints the gate states of a port at even steps. `tsnd check` says what is in
 //! a setup, or where it is at fault. The status is 0, or 1 after a line on standard error that says why, or 2 for a command line
 //! that is refused.
 #![tactic(auto)]
 
 mod connections;
+mod journal;
+mod looking;
 #[cfg(test)]
 mod tests;
 
 use connections::serve_at;
+use journal::script_over;
+use looking::look_at;
 use std::io::ErrorKind;
 use std::process::ExitCode;
 use std::rt::{Env, Files};
@@ -56,8 +61,8 @@ fn setup_text<R: Files + AllocGlobal>(rt: &R, asked: &Asked) -> Result<Vec<u8>, 
     read_setup(rt.alloc(), &mut StdIo::new(file))
 }
 
-/// Hands the process to `run`, or to `serve_at` where its words ask for connections: what they ask for, the text of the setup
-/// that they name, its standard input, its standard output behind a buffer, and its standard error.
+/// Hands the process to what its words ask for, with the text of the setup that they name, its standard input, its standard
+/// output behind a buffer, and its standard error.
 fn main(rt: HostRuntime) -> ExitCode {
     let mut errors = StdIo::new(rt.stderr());
     let asked = match asked_for(&rt) {
@@ -71,30 +76,37 @@ fn main(rt: HostRuntime) -> ExitCode {
     let Ok(mut output) = Buffered::new(rt.alloc(), StdIo::new(io::writer(&rt))) else {
         return ExitCode::from(fail(&mut errors, Failure::Fault(Fault::Memory)));
     };
+    let mut input = StdIo::new(rt.reader());
     let alloc = rt.alloc();
-    if let Asked::Serve {
-        listen,
-        serving,
-        ..
-    } = &asked
-    {
-        return ExitCode::from(serve_at(
+    let text = setup.as_slice();
+    ExitCode::from(match &asked {
+        Asked::Serve {
+            listen,
+            serving,
+            ..
+        } => serve_at(
             &rt,
             alloc,
-            setup.as_slice(),
+            text,
             listen.as_str(),
             *serving,
             &mut output,
             &mut errors,
-        ));
-    }
-    let mut input = StdIo::new(rt.reader());
-    ExitCode::from(run(
-        alloc,
-        &asked,
-        setup.as_slice(),
-        &mut input,
-        &mut output,
-        &mut errors,
-    ))
+        ),
+        Asked::Script {
+            file: named,
+            journal: Some(path),
+        } => {
+            let own = named.is_some().then_some(text);
+            script_over(&rt, own, path.as_str(), &mut input, output, &mut errors)
+        }
+        Asked::Journal { file, look } => look_at(
+            &rt,
+            file.as_str(),
+            *look,
+            &mut output,
+            &mut errors,
+        ),
+        _ => run(alloc, &asked, text, &mut input, &mut output, &mut errors),
+    })
 }

@@ -1,0 +1,308 @@
+//! A journal file and what a process has beside it: files, the wall time, and standard error.
+//!
+//! What a start does with each end of a file stands here: it goes on from a whole one, moves an unfinished line out of the
+//! way, and leaves a damaged file alone. What is read, kept and told is for the crates below.
+use jiff::Timestamp;
+use std::alloc::Global;
+use std::fs::File;
+use std::io::ErrorKind;
+use std::rt::Files;
+use std::{fs, io, time};
+use tsn_bytes::{ByteIn, ByteOut, Fault, StdIo, put_all};
+use tsn_device::{FileDevice, OpenFault, make, move_end, open};
+use tsn_keeping::Keeper;
+use tsn_lasting::{Clock, Lasting, LastingFault, Stamp, run_lasting};
+use tsn_program::{Failure, fail};
+use tsn_recorded::{Chain, End};
+use tsn_resuming::{Resumed, StartFault, Unwatched, Watcher, bridge_of, first_command, resume};
+use tsn_types::refusals::Refusal;
+
+/// What ends a run over a journal with status 1, as its line says.
+#[derive(Drop)]
+pub(crate) enum JournalFault {
+    Failed(Failure),
+    Start(StartFault),
+    InUse,
+    Damaged(u64),
+    NoEntry(u64),
+    Open(io::Error),
+    Write,
+    // It was told already.
+    Told,
+}
+
+impl From<OpenFault> for JournalFault {
+    fn from(fault: OpenFault) -> JournalFault {
+        match fault {
+            OpenFault::InUse => JournalFault::InUse,
+            OpenFault::Io(error) => JournalFault::from(error),
+        }
+    }
+}
+
+impl From<io::Error> for JournalFault {
+    fn from(error: io::Error) -> JournalFault {
+        if error.kind() == ErrorKind::OutOfMemory {
+            return JournalFault::Failed(Failure::Fault(Fault::Memory));
+        }
+        JournalFault::Open(error)
+    }
+}
+
+// Says a line on standard error, where there is memory for it and it takes one; else nothing is left to do.
+fn say<E: ByteOut>(errors: &mut E, line: Result<String, std::alloc::AllocError>) {
+    if let Ok(line) = line {
+        let _ = put_all(errors, line.as_bytes());
+    }
+}
+
+/// Tells of a fault, and gives its status, 1.
+pub(crate) fn fail_over<E: ByteOut>(
+    alloc: Global,
+    errors: &mut E,
+    path: &str,
+    fault: &JournalFault,
+) -> u8 {
+    match fault {
+        JournalFault::Failed(failure) => return fail(errors, *failure),
+        JournalFault::Start(StartFault::Read) => {
+            say(errors, format!(in alloc; "tsnd: cannot read the journal\n"))
+        }
+        JournalFault::Start(StartFault::Memory) => {
+            return fail(errors, Failure::Fault(Fault::Memory));
+        }
+        JournalFault::Start(StartFault::NoJournal) => {
+            say(errors, format!(in alloc; "tsnd: {path} is no journal\n"))
+        }
+        JournalFault::Start(StartFault::OtherVersion) => {
+            say(
+                errors,
+                format!(in alloc; "tsnd: the journal is of another version\n"),
+            )
+        }
+        JournalFault::Start(StartFault::OtherSetup) => {
+            say(
+                errors,
+                format!(in alloc; "tsnd: the journal has another setup\n"),
+            )
+        }
+        JournalFault::Start(StartFault::Setup(why)) => return fail(errors, Failure::Refused(*why)),
+        JournalFault::Start(StartFault::Refused { line, why }) => {
+            let number = why.number();
+            say(
+                errors,
+                format!(in alloc; "tsnd: the journal: line {line} is refused {number}\n"),
+            )
+        }
+        JournalFault::InUse => say(errors, format!(in alloc; "tsnd: the journal is in use\n")),
+        JournalFault::Damaged(line) => {
+            say(
+                errors,
+                format!(in alloc; "tsnd: the journal is damaged at line {line}\n"),
+            )
+        }
+        JournalFault::NoEntry(number) => {
+            say(
+                errors,
+                format!(in alloc; "tsnd: the journal has no entry {number}\n"),
+            )
+        }
+        JournalFault::Open(error) => {
+            say(
+                errors,
+                format!(in alloc; "tsnd: cannot open the journal: {error}\n"),
+            )
+        }
+        JournalFault::Told => {}
+        JournalFault::Write => say(
+            errors,
+            format!(in alloc; "tsnd: cannot write the journal\n"),
+        ),
+    }
+    1
+}
+
+// The stamp of a second, and that of an unknown time where it has none.
+fn stamp_of(alloc: Global, second: i64) -> Stamp {
+    let Ok(at) = Timestamp::from_second(second) else {
+        return Stamp::of(&[]);
+    };
+    match format!(in alloc; "{at}") {
+        Ok(text) => Stamp::of(text.as_bytes()),
+        Err(_) => Stamp::of(&[]),
+    }
+}
+
+// The second of now, and the first there is where the time is not known.
+fn second_of_now<R: time::Clock>(rt: &R) -> i64 {
+    match Timestamp::now(rt) {
+        Ok(now) => now.as_second(),
+        Err(_) => 0,
+    }
+}
+
+/// The wall time. Its text is made anew where the second is another.
+#[derive(Drop)]
+struct WallClock<'a, R: time::Clock> {
+    rt: &'a R,
+    alloc: Global,
+    second: i64,
+    stamp: Stamp,
+}
+
+impl<'a, R: time::Clock> WallClock<'a, R> {
+    fn new(rt: &'a R, alloc: Global) -> WallClock<'a, R> {
+        let second = second_of_now(rt);
+        WallClock {
+            rt,
+            alloc,
+            second,
+            stamp: stamp_of(alloc, second),
+        }
+    }
+}
+
+impl<R: time::Clock> Clock for WallClock<'_, R> {
+    fn stamp(&mut self) -> Stamp {
+        let second = second_of_now(self.rt);
+        if second != self.second {
+            self.second = second;
+            self.stamp = stamp_of(self.alloc, second);
+        }
+        self.stamp.again()
+    }
+}
+
+// The first line of a journal whose bridge begins with the setup. Refused is what the setup is refused.
+fn first_line<R: time::Clock>(
+    rt: &R,
+    alloc: Global,
+    setup: &[u8],
+) -> Result<Vec<u8>, JournalFault> {
+    if let Err(why) = bridge_of(alloc, setup) {
+        return Err(JournalFault::Failed(Failure::Refused(why)));
+    }
+    let command = match first_command(alloc, setup) {
+        Ok(command) => command,
+        Err(why) => return Err(JournalFault::Failed(Failure::Refused(why))),
+    };
+    let stamp = stamp_of(alloc, second_of_now(rt));
+    let mut line = Vec::new(alloc);
+    match Chain::new().append(&mut line, stamp.bytes(), &command) {
+        Ok(()) => Ok(line),
+        Err(_) => Err(JournalFault::Failed(Failure::Fault(Fault::Memory))),
+    }
+}
+
+// The file of a journal, locked. Where it is not there it is made, with the setup or with the standard one.
+fn open_or_make<R: Files<File = File> + AllocGlobal + time::Clock>(
+    rt: &R,
+    setup: Option<&[u8]>,
+    path: &str,
+) -> Result<File, JournalFault> {
+    match open(rt, path) {
+        Ok(file) => return Ok(file),
+        Err(OpenFault::Io(error)) if error.kind() == ErrorKind::NotFound => {}
+        Err(fault) => return Err(JournalFault::from(fault)),
+    }
+    let line = first_line(rt, rt.alloc(), setup.unwrap_or(&[]))?;
+    match make(rt, path, &line) {
+        Ok(file) => Ok(file),
+        Err(OpenFault::Io(error)) if error.kind() == ErrorKind::AlreadyExists => {
+            Ok(open(rt, path)?)
+        }
+        Err(fault) => Err(JournalFault::from(fault)),
+    }
+}
+
+// The bridge that goes on from the file, of which each line is told to the watcher.
+pub(crate) fn resume_from<R: Files<File = File> + AllocGlobal, W: Watcher>(
+    rt: &R,
+    setup: Option<&[u8]>,
+    path: &str,
+    watcher: &mut W,
+) -> Result<Resumed, JournalFault> {
+    let reading = fs::open(rt, path)?;
+    match resume(rt.alloc(), &mut StdIo::new(reading), setup, watcher) {
+        Ok(resumed) => Ok(resumed),
+        Err(fault) => Err(JournalFault::Start(fault)),
+    }
+}
+
+// Opens a journal and goes on from it. An unfinished line is moved out of its way, and that is told.
+fn start<R: Files<File = File> + AllocGlobal + time::Clock, E: ByteOut>(
+    rt: &R,
+    setup: Option<&[u8]>,
+    path: &str,
+    errors: &mut E,
+) -> Result<(File, Resumed), JournalFault> {
+    let mut file = open_or_make(rt, setup, path)?;
+    let resumed = resume_from(rt, setup, path, &mut Unwatched)?;
+    match resumed.end {
+        End::Whole => {}
+        End::Unfinished { bytes } => {
+            move_end(rt, &mut file, path, resumed.good)?;
+            say(
+                errors,
+                format!(in rt.alloc();
+                    "tsnd: the journal: {bytes} bytes of an unfinished record moved to {path}.cut\n"
+                ),
+            );
+        }
+        End::Damaged { line } => return Err(JournalFault::Damaged(line)),
+    }
+    Ok((file, resumed))
+}
+
+// Answers the script on the reader, over the bridge that goes on and the file that keeps it.
+fn answer<R: time::Clock, I: ByteIn, O: ByteOut + Drop, E: ByteOut>(
+    rt: &R,
+    alloc: Global,
+    started: (File, Resumed),
+    input: &mut I,
+    output: O,
+    errors: &mut E,
+) -> Result<(), JournalFault> {
+    let (file, resumed) = started;
+    let Ok(keeper) = Keeper::new(alloc, FileDevice::over(file), resumed.chain) else {
+        return Err(JournalFault::Failed(Failure::Fault(Fault::Memory)));
+    };
+    let clock = WallClock::new(rt, alloc);
+    let Ok(mut lasting) = Lasting::new(alloc, resumed.bridge, keeper, clock, output) else {
+        return Err(JournalFault::Failed(Failure::Fault(Fault::Memory)));
+    };
+    match run_lasting(alloc, &mut lasting, input) {
+        Ok(()) => Ok(()),
+        Err(LastingFault::Read) => Err(JournalFault::Failed(Failure::Fault(Fault::Read))),
+        Err(LastingFault::Write) => Err(JournalFault::Failed(Failure::Fault(Fault::Write))),
+        Err(LastingFault::Memory) => Err(JournalFault::Failed(Failure::Fault(Fault::Memory))),
+        Err(LastingFault::Journal) => {
+            if let Some(error) = lasting.keeper().device().fault() {
+                say(
+                    errors,
+                    format!(in alloc; "tsnd: cannot write the journal: {error}\n"),
+                );
+                return Err(JournalFault::Told);
+            }
+            Err(JournalFault::Write)
+        }
+    }
+}
+
+/// Answers the script on the reader over the journal at the path, which is made where it is not there, and gives the status.
+/// With a setup the journal must have just that one.
+pub(crate) fn script_over<
+    R: Files<File = File> + AllocGlobal + time::Clock,
+    I: ByteIn,
+    O: ByteOut + Drop,
+    E: ByteOut,
+>(rt: &R, setup: Option<&[u8]>, path: &str, input: &mut I, output: O, errors: &mut E) -> u8 {
+    let outcome = match start(rt, setup, path, errors) {
+        Ok(started) => answer(rt, rt.alloc(), started, input, output, errors),
+        Err(fault) => Err(fault),
+    };
+    match outcome {
+        Ok(()) => 0,
+        Err(fault) => fail_over(rt.alloc(), errors, path, &fault),
+    }
+}
