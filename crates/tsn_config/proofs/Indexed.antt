@@ -1,6 +1,6 @@
 -- An index after a filter is set, and the least filter that an index tells.
 use Rattle.std.proofs.Common.{◌≡◌, ◌⊎◌, inl, inr, ℕ, ◌+◌, ◌*◌, ◌/◌, ◌%◌, ◌<◌, ◌≤◌, nat_eq, Bool, true, false, cond, List, [], ◌∷◌, refl, sym, ◌∙◌, ap, subst, Option, Some, None, arith, IsSome}
-use Rattle.std.specs.Prelude.{is_some, IfSome, MatchOption, ◌&&◌}
+use Rattle.std.specs.Prelude.{◌≢◌, is_some, IfSome, MatchOption, ◌&&◌}
 use Rattle.std.specs.Option.{option_eq}
 use lib.Dec.{eqb}
 use Rattle.std.specs.Ordering.{nat_cmp, eq_by_cmp}
@@ -159,6 +159,11 @@ module _ (about : StreamFilter → Option ℕ) (fs : FinMap nat_cmp StreamFilter
       let passes : is_the q (about_at about (get fs (c % 65536))) ≡ true = ap (λ k. is_the k (about_at about (get fs (c % 65536)))) (sym about_q) ∙ sym (indexes c) ∙ there in
       first_is p (entries fs) (of_T _ (entries_sorted fs)) (Some (c % 65536))
       (passing (c % 65536) (get fs (c % 65536)) refl passes, λ k lt. misses k (λ row. let le = told (q * 65536 + k) (omega arith) row in absurd (omega arith)))
+
+  -- the same by what is told of the filter of that row
+  pub least_own : (c : ℕ) → q * 65536 ≤ c → IsSome (get index c) → Told index q (Some c) → (o : Option ℕ) → MatchOption o (c / 65536 ≢ q) (λ n. (c / 65536 ≡ q) × (n ≡ c % 65536)) → o ≡ first_id p (entries fs)
+  least_own c from there told None other = least_other c from other told
+  least_own c from there told (Some n) own = ap Some own.1 ∙ least_some c from there own.0 told
 
 -- equal options of numbers are one
 pub same_options : (o r : Option ℕ) → option_eq eqb o r ≡ true → o ≡ r

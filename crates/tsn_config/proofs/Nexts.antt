@@ -1,6 +1,6 @@
 -- The next filter that refers to a key is the one of the next row of an index.
-use Rattle.std.proofs.Common.{◌≡◌, ℕ, ◌+◌, ◌*◌, ◌/◌, ◌%◌, ◌<◌, ◌≤◌, false, refl, sym, ◌∙◌, ap, Option, Some, None, arith}
-use Rattle.std.specs.Prelude.{IfSome, IsSome, IsTrue, MatchOption, is_some, option_map}
+use Rattle.std.proofs.Common.{◌≡◌, ℕ, ◌+◌, ◌*◌, ◌/◌, ◌%◌, ◌<◌, ◌≤◌, false, refl, sym, ◌∙◌, ap, subst, Option, Some, None, arith}
+use Rattle.std.specs.Prelude.{◌≢◌, IfSome, IsSome, IsTrue, MatchOption, is_some, option_map}
 use Rattle.std.specs.Ordering.{nat_cmp}
 use Rattle.std.specs.FinMap.{FinMap, get}
 use Rattle.tsn_types.specs.declared.keys.Key.{Key}
@@ -71,3 +71,16 @@ module _ (index : FinMap nat_cmp (Unit {0})) (q from : ℕ) where
 
   pub next_least : (c : ℕ) → c / 65536 ≡ q → ToldFrom (Some c) → (n : ℕ) → from ≤ n → n < 65536 → IsSome (get index (q * 65536 + n)) → c % 65536 ≤ n
   next_least c is told n le l there = let first = told (q * 65536 + n) (omega arith) there in omega arith
+
+  -- the same by what is told of the filter of that row
+  pub own_there : (c : ℕ) → q * 65536 + from ≤ c → IsSome (get index c) → (o : Option ℕ) → MatchOption o (c / 65536 ≢ q) (λ n. (c / 65536 ≡ q) × (n ≡ c % 65536))
+      → IfSome o (λ n. (from ≤ n) × IsSome (get index (q * 65536 + n)))
+  own_there c after there None other = tt
+  own_there c after there (Some n) own =
+      let at_row = next_there c after there own.0 in
+      subst (λ n. (from ≤ n) × IsSome (get index (q * 65536 + n))) (sym own.1) at_row
+
+  pub own_least : (c : ℕ) → q * 65536 + from ≤ c → ToldFrom (Some c) → (o : Option ℕ) → MatchOption o (c / 65536 ≢ q) (λ n. (c / 65536 ≡ q) × (n ≡ c % 65536))
+      → (n : ℕ) → from ≤ n → n < 65536 → IsSome (get index (q * 65536 + n)) → MatchOption o ⊥ (λ least. least ≤ n)
+  own_least c after told None other = next_other c after other told
+  own_least c after told (Some k) own = λ n le l there. subst (λ k. k ≤ n) (sym own.1) (next_least c own.0 told n le l there)

@@ -4,7 +4,7 @@
 //! What is sought in an index is its least filter, by one way down a tree: who refers to a gate or a meter, and which filter
 //! has two specifications. The type says that each index has just the filters that the table has. Setting a filter takes
 //! no memory; room is made ahead.
-ghost use Rattle.std.specs.Prelude.{◌≡◌, ℕ, ◌+◌, ◌*◌, ◌^◌, ◌<◌, ◌≤◌, Bool, Option, None, Some, IfOk, IfSome, IsOk, IsSome, IsTrue, MatchOption, OnOk, option_map};
+ghost use Rattle.std.specs.Prelude.{◌≡◌, ◌≢◌, ◌/◌, ◌%◌, ℕ, ◌+◌, ◌*◌, ◌^◌, ◌<◌, ◌≤◌, Bool, Option, None, Some, IfOk, IfSome, IsOk, IsSome, IsTrue, MatchOption, OnOk, option_map};
 ghost use Rattle.std.specs.FinMap as map;
 ghost use Rattle.std.specs.FinMap.{FinMap};
 ghost use Rattle.std.specs.Option.{option_copied};
@@ -22,7 +22,7 @@ ghost use Rattle.tsn_config.specs.Views.{set_row};
 use crate::rows::{into_filter, set_row_of};
 use std::alloc::{AllocError, Global};
 use std::marker::Model;
-use tsn_table::{Numbers, Table};
+use tsn_table::{Numbers, Table, lesser};
 use tsn_types::keys::Key;
 use tsn_types::numbers::{FilterId, Handle, Priority};
 use tsn_types::records::{Record, StreamFilter};
@@ -181,6 +181,18 @@ fn move_in(index: &mut Numbers, id: u64, before: Option<u64>, after: Option<u64>
     enter(index, id, after);
 }
 
+// The filter of a number of an index, where it is about this.
+fn own_filter(number: u64, about: u64) -> Option<u64>
+    ensures own { MatchOption result (number / 65536 ≢ about) (λ n. (number / 65536 ≡ about) × (n ≡ number % 65536)) }
+    ensures small { IfSome result (λ n. n < 65536) }
+{
+    if number / 65_536 == about {
+        Some(number % 65_536)
+    } else {
+        None
+    }
+}
+
 // The least filter that is about the number, where this is the first number of an index that is about it or what is greater.
 fn filter_about(first: Option<u64>, about: u64) -> Option<u64>
     requires { about < 2 ^ 40 }
@@ -191,11 +203,7 @@ fn filter_about(first: Option<u64>, about: u64) -> Option<u64>
         result ≡ first_id p (map.entries fs) }
 {
     let found = first?;
-    if found / 65_536 == about {
-        Some(found % 65_536)
-    } else {
-        None
-    }
+    own_filter(found, about)
 }
 
 // The first number of an index from this one on.
@@ -246,17 +254,6 @@ fn least_of_two(index: &Numbers, about: u64, less: u64) -> Option<u64>
     lesser(filter_about(own, about), filter_about(first, less))
 }
 
-// The lesser of two numbers, where there are two.
-fn lesser(left: Option<u64>, right: Option<u64>) -> Option<u64>
-    ensures { result ≡ lesser left right }
-{
-    match (left, right) {
-        (Some(one), Some(other)) => Some(one.min(other)),
-        (Some(one), None) => Some(one),
-        (None, other) => other,
-    }
-}
-
 // The least filter from this one on that is about the number.
 fn next_about(index: &Numbers, about: u64, from: u64) -> Option<u64>
     requires about { about < 2 ^ 40 }
@@ -266,11 +263,7 @@ fn next_about(index: &Numbers, about: u64, from: u64) -> Option<u64>
     ensures least { (n : ℕ) → from ≤ n → n < 65536 → IsSome (map.get index.now.map (about * 65536 + n)) → MatchOption result ⊥ (λ least. least ≤ n) }
 {
     let found = index.first_from(about * 65_536 + from)?;
-    if found / 65_536 == about {
-        Some(found % 65_536)
-    } else {
-        None
-    }
+    own_filter(found, about)
 }
 
 impl Filters {

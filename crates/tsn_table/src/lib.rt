@@ -266,19 +266,20 @@ fn least_of<R, F: Fn(&R) -> bool>(rows: &IndexMap<u64, R>, test: &F) -> Option<u
     let mut least: Option<u64> = None;
     for (id, row) in rows.iter() {
         if test(row) {
-            least = lesser_of(least, *id);
+            least = lesser(least, Some(*id));
         }
     }
     least
 }
 
-// The lesser of two numbers, where there are two.
-fn lesser_of(least: Option<u64>, id: u64) -> Option<u64>
-    ensures { result ≡ lesser least (Some id) }
+/// The lesser of two numbers, where there are two.
+pub fn lesser(left: Option<u64>, right: Option<u64>) -> Option<u64>
+    ensures { result ≡ lesser left right }
 {
-    match least {
-        Some(least) if least < id => Some(least),
-        _ => Some(id),
+    match (left, right) {
+        (Some(one), Some(other)) => Some(one.min(other)),
+        (Some(one), None) => Some(one),
+        (None, other) => other,
     }
 }
 
