@@ -130,6 +130,15 @@ class Edits(unittest.TestCase):
             planner.settle(6)
         self.assertEqual(planner.since(3)[0], tsnd.Entry(4, colleague.number, (), "settled", settled=2))
 
+    def test_sixteen_edits_in_one_batch(self) -> None:
+        session = self.session()
+        self.assertEqual(session.batch(*(tsnd.Create(f"meter {number}", METER) for number in range(16))), 1)
+        self.assertEqual(session.list("meter"), tuple(range(16)))
+        self.assertEqual(session.batch(*(tsnd.Remove(f"meter {number}") for number in range(16))), 2)
+        self.assertEqual(session.list("meter"), ())
+        self.assertEqual(session.undo(), tsnd.Undone(3, 2))
+        self.assertEqual(session.list("meter"), tuple(range(16)))
+
     def test_batches_are_refused_whole(self) -> None:
         session = self.session()
         session.batch(tsnd.Create("gate 0", OPEN_GATE), tsnd.Create("filter 0", tsnd.StreamFilter(gate=0)))

@@ -4,6 +4,8 @@
 //! a proof goes once over a bridge's end, and not at each place where want of memory ends a step.
 ghost use Rattle.std.specs.Prelude.{◌≤◌};
 
+mod looks;
+
 use crate::comparing::same;
 use std::alloc::Global;
 use std::process::Abort;

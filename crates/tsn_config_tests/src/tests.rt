@@ -2,6 +2,7 @@
 //! fits, copies, and the largest tables. What it opens with and what an edit is refused for is seen through the program
 //! (`examples/tables`).
 
+mod choosing;
 mod literals;
 
 use crate::comparing::same;

@@ -54,12 +54,12 @@ pub(crate) fn first_among(numbers: &[u64], from: u64, above: Option<u64>) -> Opt
 }
 
 // Puts these numbers in the place of others.
-fn fill(more: &mut ArrayVec<u64, MORE>, numbers: &[u64])
+fn fill(row: &mut ArrayVec<u64, MORE>, numbers: &[u64])
     requires fits { length numbers.now ≤ most_more }
-    ensures { more.new.items ≡ numbers.now }
+    ensures { row.new.items ≡ numbers.now }
 {
-    more.clear();
-    let _ = more.try_extend_from_slice(numbers);
+    row.clear();
+    let _ = row.try_extend_from_slice(numbers);
 }
 
 impl Block {

@@ -6,7 +6,7 @@
 //! search tree that its users see as a set.
 #![tactic(auto)]
 
-ghost use Rattle.std.specs.Prelude.{◌≡◌, ℕ, Bool, ◌+◌, ◌<◌, ◌≤◌, ◌⊎◌, IsOk, IsSome, IfOk, OnOk, OnErr, Some, None, MatchOption, cond, length, nat_eq};
+ghost use Rattle.std.specs.Prelude.{◌≡◌, ℕ, Bool, ◌+◌, ◌<◌, ◌≤◌, ◌⊎◌, IsOk, IsSome, IsTrue, IfOk, OnOk, OnErr, Some, None, MatchOption, cond, length, nat_eq};
 ghost use Rattle.std.specs.Ordering.{nat_cmp};
 ghost use Rattle.std.specs.Option.{option_copied};
 ghost use Rattle.std.specs.FinMap as map;
@@ -94,6 +94,17 @@ impl<R: Drop> Table<R> {
             }
         }
         self.rows.get(&id)
+    }
+
+    /// Whether the number's row lies where it is guessed to, so that it is found with no hash.
+    #[tactic(auto, using(crate::proofs::Rows::found))]
+    pub fn is_guessed(&self, id: u64) -> bool
+        ensures { IsTrue result → IsSome (map.get self.now.map id) }
+    {
+        match self.rows.get_index(self.hints.guess(id)) {
+            Some((number, _)) => *number == id,
+            None => false,
+        }
     }
 
     /// The least number whose row passes the test, none where no row passes it. It looks at all rows.

@@ -87,7 +87,7 @@ fn nodes_for(room: usize, count: usize) -> Option<usize>
 
 // How many nodes a copy has of a set whose tree has so many, and that has so many numbers: no more than these want.
 fn nodes_of_copy(nodes: usize, count: usize) -> usize
-    ensures more { nodes ≤ result }
+    ensures no_fewer { nodes ≤ result }
     ensures enough { HasRoom 0 count result }
 {
     if count == 0 {

@@ -626,12 +626,12 @@ pub(crate) fn fill_pool(
     ensures ok { OnOk result (wanted + vec_len pool.old ≤ nodes + vec_len pool.new) }
 {
     let alloc = *pool.allocator();
-    let more = wanted.saturating_sub(nodes);
-    if more > FEW {
+    let missing = wanted.saturating_sub(nodes);
+    if missing > FEW {
         let _all: Vec<u64> = Vec::with_capacity(alloc, room)?;
     }
-    pool.reserve(nodes - pool.len() + more)?;
-    for _made in 0..more {
+    pool.reserve(nodes - pool.len() + missing)?;
+    for _made in 0..missing {
         let node = Node {
             left_height: 0,
             right_height: 0,

@@ -161,6 +161,23 @@ fn much_room_at_once(rt: HostRuntime) -> Result<(), Fail> {
     Ok(())
 }
 
+// For how many filters an undo of all asks that takes back 131,072 entries of 16 parts.
+const GREATEST: usize = 131_072 * 16;
+
+#[test]
+fn the_greatest_reserve_is_granted(rt: HostRuntime) -> Result<(), Fail> {
+    let mut numbers = three_numbers(rt.alloc())?;
+    same(&rt, &numbers.reserve(GREATEST), &Ok(()));
+    numbers.put(5);
+    same(&rt, &numbers.reserve(GREATEST), &Ok(()));
+    same(
+        &rt,
+        &listed(&numbers, rt.alloc(), 9)?.as_slice(),
+        &[1, 4, 5, 6].as_slice(),
+    );
+    Ok(())
+}
+
 // How many numbers more than the address space has room for.
 const ABSURD: usize = 1 << 44;
 

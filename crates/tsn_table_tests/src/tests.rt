@@ -129,6 +129,21 @@ fn a_reserve_of_10000_rows_keeps_the_rows(rt: HostRuntime) -> Result<(), Fail> {
     Ok(())
 }
 
+// For how many places an undo of all asks that takes back 131,072 entries of 16 parts: two of a session for each entry, and three
+// for each part.
+const GREATEST: usize = 131_072 * (2 + 3 * 16);
+
+#[test]
+fn the_greatest_reserve_is_granted(rt: HostRuntime) -> Result<(), Fail> {
+    let mut table = three_rows(rt.alloc())?;
+    same(&rt, &table.reserve(GREATEST), &Ok(()));
+    same(&rt, &table.put(9, 90), &None);
+    same(&rt, &table.reserve(GREATEST), &Ok(()));
+    same(&rt, &table.get(6).copied(), &Some(60));
+    same(&rt, &table.get(9).copied(), &Some(90));
+    Ok(())
+}
+
 // Numbers that have a guess, with one of a row that is moved when another is taken, and then numbers that have none.
 #[test]
 fn great_and_small_numbers_keep_their_rows(rt: HostRuntime) -> Result<(), Fail> {
@@ -166,7 +181,8 @@ fn great_and_small_numbers_keep_their_rows(rt: HostRuntime) -> Result<(), Fail> 
     Ok(())
 }
 
-// As many rows as the largest table of a bridge has; then a half of them is taken out again.
+// As many rows as the largest table of a bridge has, each where it is guessed to; then a half of them is taken out again, and
+// each of the others is still there.
 #[test]
 fn the_largest_table_is_listed_and_copied(rt: HostRuntime) -> Result<(), Fail> {
     let mut table = Table::new(rt.alloc());
@@ -183,11 +199,17 @@ fn the_largest_table_is_listed_and_copied(rt: HostRuntime) -> Result<(), Fail> {
     }
     same(&rt, &copy.get(0).copied(), &Some(65_535));
     same(&rt, &copy.get(65_535).copied(), &Some(0));
+    table.reserve(1)?;
+    for id in 0..65_536 {
+        same(&rt, &table.is_guessed(id), &true);
+    }
     for half in 0..32_768 {
         same(&rt, &table.take(2 * half), &Some(65_535 - 2 * half));
     }
     for half in 0..32_768 {
         same(&rt, &table.get(2 * half).copied(), &None);
+        same(&rt, &table.is_guessed(2 * half), &false);
+        same(&rt, &table.is_guessed(2 * half + 1), &true);
         same(
             &rt,
             &table.get(2 * half + 1).copied(),

@@ -1,6 +1,7 @@
 //! What no script shows of a book: a refusal that is told beforehand, room that is made by itself, an act in a full
 //! journal, and a settle. `examples/tables/undo-*.txt` have what commands answer.
 
+mod blocked;
 mod literals;
 
 use crate::comparing::same;

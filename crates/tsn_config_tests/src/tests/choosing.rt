@@ -1,0 +1,120 @@
+//! The least filter with a stream handle and a priority or the wildcard, beside the least with each of the two, over filters
+//! that are made, replaced and removed.
+ghost use Rattle.std.specs.Prelude.{◌<◌, ◌≤◌};
+
+use super::literals::{create_gate, filter, filter_key, gate, make, on_a_config};
+use crate::comparing::same;
+use std::alloc::{AllocError, Global};
+use std::process::Abort;
+use std::test::Fail;
+use tsn_config::Config;
+use tsn_config::records::Records;
+use tsn_edit::Edit;
+use tsn_types::limits::Limits;
+use tsn_types::numbers::{FilterId, Handle, Priority};
+use tsn_types::records::{Record, StreamFilter};
+
+/// How often a filter is made, replaced or removed.
+const STEPS: u32 = 300;
+
+// The next state of a generator, and a number below `bound` from it.
+fn drawn(seed: u64, bound: u64) -> (u64, u64)
+    requires { 0 < bound }
+    ensures { result.1 < bound }
+{
+    let seed = seed
+        .wrapping_mul(6_364_136_223_846_793_005)
+        .wrapping_add(1_442_695_040_888_963_407);
+    (seed, (seed >> 33) % bound)
+}
+
+// The wildcard for 0, and else a stream handle.
+fn handle_of(number: u64) -> Option<Handle>
+    requires { number ≤ 4 }
+{
+    if number == 0 {
+        return None;
+    }
+    Some(Handle::new(number - 1).unwrap())
+}
+
+fn priority_of(number: u64) -> Priority
+    requires { number < 8 }
+{
+    Priority::new(number).unwrap()
+}
+
+// A filter with specifications that are drawn.
+fn made(seed: u64) -> (u64, StreamFilter) {
+    let (seed, handle) = drawn(seed, 5);
+    let (seed, is_any) = drawn(seed, 3);
+    let (seed, priority) = drawn(seed, 8);
+    let mut filter = filter(0, None);
+    filter.handle = handle_of(handle);
+    if is_any > 0 {
+        filter.priority = Some(priority_of(priority));
+    }
+    (seed, filter)
+}
+
+// One step: a filter whose number is drawn is made where there is none, and else replaced or removed.
+fn change(rt: &impl Abort, config: &mut Config, seed: u64) -> Result<u64, AllocError> {
+    let (seed, number) = drawn(seed, 40);
+    let (seed, filter) = made(seed);
+    let (seed, is_removed) = drawn(seed, 3);
+    let key = filter_key(number);
+    let record = Record::Filter(filter);
+    let edit = if config.get(key).is_none() {
+        Edit::Create(key, record)
+    } else if is_removed == 0 {
+        Edit::Remove(key)
+    } else {
+        Edit::Replace(key, record)
+    };
+    make(rt, config, edit)?;
+    Ok(seed)
+}
+
+// The filter of the lesser number, or the one that there is.
+fn lesser(left: Option<FilterId>, right: Option<FilterId>) -> Option<FilterId> {
+    match (left, right) {
+        (Some(one), Some(other)) if other.get() < one.get() => right,
+        (None, _) => right,
+        _ => left,
+    }
+}
+
+// The two ways for a stream handle, with each priority.
+fn compare(rt: &impl Abort, config: &Config, handle: Option<Handle>) {
+    for number in 0..8 {
+        let priority = priority_of(number);
+        let own = config.first_with(handle, Some(priority));
+        let any = config.first_with(handle, None);
+        same(
+            rt,
+            &config.first_with_either(handle, priority),
+            &lesser(own, any),
+        );
+    }
+}
+
+fn compare_all(rt: &impl Abort, alloc: Global, config: &mut Config) -> Result<(), Fail> {
+    make(rt, config, create_gate(0, gate(alloc)))?;
+    let mut seed = 2511;
+    for _ in 0..STEPS {
+        seed = change(rt, config, seed)?;
+        for handle in 0..5 {
+            compare(rt, config, handle_of(handle));
+        }
+    }
+    Ok(())
+}
+
+#[test]
+fn one_way_finds_what_two_find(rt: HostRuntime) -> Result<(), Fail> {
+    let alloc = rt.alloc();
+    let limits = Limits::new(2, 64, 16, 16, 16).unwrap();
+    on_a_config(alloc, limits, Records::new(alloc), |config| {
+        compare_all(&rt, alloc, config)
+    })
+}
