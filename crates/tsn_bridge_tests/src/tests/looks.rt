@@ -107,12 +107,7 @@ fn give(bridge: &mut Bridge, alloc: Global, seed: u64, at: u64) -> Result<u64, F
 }
 
 // A show, and the record that is lent.
-fn same_record(
-    rt: &impl Abort,
-    bridge: &mut Bridge,
-    session: u32,
-    key: Key,
-) -> Result<(), Fail> {
+fn same_record(rt: &impl Abort, bridge: &mut Bridge, session: u32, key: Key) -> Result<(), Fail> {
     let shown = step(bridge, session, Command::Show { key })?;
     match (shown, bridge.lent_record(session, &key)) {
         (Reply::Shown { key: at, value }, Ok(found)) => {

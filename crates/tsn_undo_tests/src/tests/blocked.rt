@@ -29,10 +29,7 @@ fn give(book: &mut Book, session: u32, what: u64, meter: u64)
 {
     let _ = match what {
         0..=3 => book.edit(session, create(meter)),
-        4..=6 => book.edit(
-            session,
-            replace_at(meter_key(meter), meter_of(1000 + what)),
-        ),
+        4..=6 => book.edit(session, replace_at(meter_key(meter), meter_of(1000 + what))),
         7 => book.edit(session, remove(meter)),
         8 => book.undo(session).map(|(entry, _)| entry),
         _ => book.redo(session).map(|(entry, _)| entry),
