@@ -2,7 +2,7 @@
 //! that are made, replaced and removed.
 ghost use Rattle.std.specs.Prelude.{◌<◌, ◌≤◌};
 
-use super::literals::{create_gate, filter, filter_key, gate, make, on_a_config};
+use super::literals::{create_filter, create_gate, filter, filter_key, gate, make, on_a_config};
 use crate::comparing::same;
 use std::alloc::{AllocError, Global};
 use std::process::Abort;
@@ -57,20 +57,26 @@ fn made(seed: u64) -> (u64, StreamFilter) {
     (seed, filter)
 }
 
-// One step: a filter whose number is drawn is made where there is none, and else replaced or removed.
+// The edit of a step: the filter is made where there is none, and else removed or replaced.
+fn edit_of(number: u64, filter: StreamFilter, is_there: bool, is_removed: bool) -> Edit
+    requires { number ≤ 65535 }
+{
+    if !is_there {
+        return create_filter(number, filter);
+    }
+    if is_removed {
+        return Edit::Remove(filter_key(number));
+    }
+    Edit::Replace(filter_key(number), Record::Filter(filter))
+}
+
+// One step, at a filter whose number is drawn.
 fn change(rt: &impl Abort, config: &mut Config, seed: u64) -> Result<u64, AllocError> {
     let (seed, number) = drawn(seed, 40);
     let (seed, filter) = made(seed);
-    let (seed, is_removed) = drawn(seed, 3);
-    let key = filter_key(number);
-    let record = Record::Filter(filter);
-    let edit = if config.get(key).is_none() {
-        Edit::Create(key, record)
-    } else if is_removed == 0 {
-        Edit::Remove(key)
-    } else {
-        Edit::Replace(key, record)
-    };
+    let (seed, removal) = drawn(seed, 3);
+    let is_there = config.get(filter_key(number)).is_some();
+    let edit = edit_of(number, filter, is_there, removal == 0);
     make(rt, config, edit)?;
     Ok(seed)
 }
@@ -84,17 +90,23 @@ fn lesser(left: Option<FilterId>, right: Option<FilterId>) -> Option<FilterId> {
     }
 }
 
-// The two ways for a stream handle, with each priority.
-fn compare(rt: &impl Abort, config: &Config, handle: Option<Handle>) {
-    for number in 0..8 {
-        let priority = priority_of(number);
-        let own = config.first_with(handle, Some(priority));
-        let any = config.first_with(handle, None);
-        same(
-            rt,
-            &config.first_with_either(handle, priority),
-            &lesser(own, any),
-        );
+// The two ways for a stream handle and a priority.
+fn compare(rt: &impl Abort, config: &Config, handle: u64, priority: u64)
+    requires handle { handle ≤ 4 }
+    requires priority { priority < 8 }
+{
+    let own = config.first_with(handle_of(handle), Some(priority_of(priority)));
+    let any = config.first_with(handle_of(handle), None);
+    let found = config.first_with_either(handle_of(handle), priority_of(priority));
+    same(rt, &found, &lesser(own, any));
+}
+
+// The two ways for each of these stream handles and priorities.
+fn compare_each(rt: &impl Abort, config: &Config) {
+    for handle in 0..5 {
+        for priority in 0..8 {
+            compare(rt, config, handle, priority);
+        }
     }
 }
 
@@ -103,9 +115,7 @@ fn compare_all(rt: &impl Abort, alloc: Global, config: &mut Config) -> Result<()
     let mut seed = 2511;
     for _ in 0..STEPS {
         seed = change(rt, config, seed)?;
-        for handle in 0..5 {
-            compare(rt, config, handle_of(handle));
-        }
+        compare_each(rt, config);
     }
     Ok(())
 }
