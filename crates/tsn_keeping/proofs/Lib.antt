@@ -1,2 +1,3 @@
 mod Empty
-mod Entering
+pub mod Entering
+pub mod Stamped

@@ -2,17 +2,16 @@
 use Rattle.std.specs.Prelude.{◌==◌, false, true}
 use Rattle.std.proofs.Common.{◌≡◌, ◌≢◌, ℕ, ◌-◌, ◌≤◌, List, [], ◌∷◌, ◌++◌, Option, Some, None, refl, sym, ◌∙◌, ap, subst, arith, length, take, map}
 use Rattle.std.proofs.lemmas.List.{append-nil, length-append, take-append-le, take_all}
-use Rattle.std.proofs.lemmas.List.Elements.{All-cons, All-nil, All-weaker}
 use Rattle.tsn_bridge.specs.Histories.{Answered}
 use Rattle.tsn_keeping.specs.Keeping.{Keeping, with_entered}
-use Rattle.tsn_recorded.specs.Text.{AreRecordedAfter, IsRecorded, IsRecordedAfter, IsShort, Recorded, body_of, digest_after, text_after, text_of as text_of_line}
-use Rattle.tsn_recorded.proofs.Lengths.{are_recorded_after}
+use Rattle.tsn_recorded.specs.Text.{AreRecordedAfter, IsRecordedAfter, Recorded, body_of, digest_after, text_after, text_of as text_of_line}
+use Rattle.tsn_keeping.proofs.Stamped.{stamped_fits}
 use Rattle.tsn_replay.specs.Recorder.{HasLine, line_feed, text_of}
 use Rattle.tsn_serve.specs.Lines.{longest_line}
 use Rattle.tsn_spelling.specs.Line.{line_text}
 use Rattle.tsn_lasting.specs.Exchanges.{command_of}
 use Rattle.tsn_lasting.specs.Parts.{Puts}
-use Rattle.tsn_lasting.specs.Stamps.{IsStamp}
+use Rattle.tsn_keeping.specs.Stamps.{IsStamp}
 
 abbrev one_of : List ℕ → List ℕ → Recorded
 one_of stamp text = record { stamp = stamp; command = take (length text - 1) text }
@@ -28,15 +27,8 @@ command_is text t is =
 
 well : (last stamp text : List ℕ) (t : Answered) → text ≡ text_of line_text (Some t) → IsStamp stamp → HasLine line_text longest_line (Some t) → AreRecordedAfter last (one_of stamp text ∷ [])
 well last stamp text t is word line =
-    let r : Recorded = record { stamp = stamp; command = line_text t.ask } in
     subst (λ c. AreRecordedAfter last (record { stamp = stamp; command = c } ∷ [])) (sym (command_is text t is))
-    (are_recorded_after last (r ∷ [])
-    (All-cons IsRecorded r [] (record {
-      stamp_line = All-weaker (λ b. (b ≢ 32) × (b ≢ 10)) (λ b. b ≢ 10) (λ b h. h.1) stamp word.word;
-      stamp_word = All-weaker (λ b. (b ≢ 32) × (b ≢ 10)) (λ b. b ≢ 32) (λ b h. h.0) stamp word.word;
-      command_line = line.0;
-    }) (All-nil IsRecorded))
-    (All-cons IsShort r [] (record { stamp = omega (arith, word.count); command = line.1 }) (All-nil IsShort)))
+    (stamped_fits last stamp (line_text t.ask) word line.0 line.1, tt)
 
 pub enter_well : (last stamp text : List ℕ) (t : Option Answered) → (length text ≡ 0 → ⊥) → text ≡ text_of line_text t → IsStamp stamp → HasLine line_text longest_line t → IsRecordedAfter last (one_of stamp text)
 enter_well last stamp text None some is word line = absurd (some (ap length is))

@@ -9,7 +9,6 @@ ghost use Rattle.tsn_serve.specs.Lines.{longest_line};
 ghost use Rattle.tsn_spelling.specs.Line.{line_text};
 ghost use Rattle.tsn_lasting.specs.Parts.{Answers, AnswersBreak, AnswersLine, BreaksLine, BreaksOff, HandsOn, IsCutOff, Puts, StepsRead, StepsRecorder, Tells, standing};
 
-use crate::clock::{Clock, Stamp};
 use crate::gathered::Gathered;
 use std::alloc::{AllocError, Global};
 use std::marker::Model;
@@ -19,7 +18,7 @@ use tsn_bridge::reply::Reply;
 use tsn_bytes::{ByteOut, Fault, put_all};
 use tsn_desk::machine::Machine;
 use tsn_device::{Device, Failed};
-use tsn_keeping::Keeper;
+use tsn_keeping::{Clock, Keeper, Stamp};
 use tsn_replay::recorder::{Recorder, Spell};
 use tsn_replies::write_reply;
 use tsn_serve::{MAX_LINE, Responder, read_line};

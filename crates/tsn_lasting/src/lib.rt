@@ -8,11 +8,10 @@
 //! `tsn_spelling` for the text of a command, and on `tsn_keeping` for the file.
 #![tactic(auto)]
 
-mod clock;
 mod gathered;
 mod lasting;
 mod running;
 
-pub use clock::{Clock, Stamp};
 pub use lasting::{CommandLine, Lasting, LastingFault};
 pub use running::run_lasting;
+pub use tsn_keeping::{Clock, Stamp};

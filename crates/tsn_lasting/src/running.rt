@@ -4,12 +4,12 @@ ghost use Rattle.tsn_lasting.specs.Parts.{standing};
 ghost use Rattle.tsn_lasting.specs.Running.{Breaks, Ends, Goes, IsBroken, IsWhole};
 ghost use Rattle.tsn_lasting.specs.Standing.{IsAtRest, Standing};
 
-use crate::clock::Clock;
 use crate::gathered::Nowhere;
 use crate::lasting::{Lasting, LastingFault};
 use std::alloc::Global;
 use tsn_bytes::{ByteIn, ByteOut};
 use tsn_device::Device;
+use tsn_keeping::Clock;
 use tsn_serve::{LineBuffer, feed, finish};
 
 /// The most bytes of one read.

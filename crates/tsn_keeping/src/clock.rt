@@ -1,7 +1,7 @@
 //! The wall time that a line of a journal file tells. Nothing is decided by it.
 ghost use Rattle.std.specs.Prelude.{◌≡◌, ◌≢◌, All};
 ghost use Rattle.std.specs.Bool.{OnTrue};
-ghost use Rattle.tsn_lasting.specs.Stamps.{IsStamp};
+ghost use Rattle.tsn_keeping.specs.Stamps.{IsStamp};
 
 use memchr::memchr2;
 use std::marker::Model;
@@ -20,7 +20,7 @@ pub struct Stamp {
 
 impl Model for Stamp {
     ghost use Rattle.std.specs.Prelude.{ℕ, List};
-    ghost use Rattle.tsn_lasting.specs.Stamps.{IsStamp};
+    ghost use Rattle.tsn_keeping.specs.Stamps.{IsStamp};
 
     ghost Value = { List ℕ };
 
