@@ -1,0 +1,166 @@
+//! Commits at work over a device in memory.
+ghost use Rattle.std.specs.Prelude.{◌≡◌};
+ghost use Rattle.std.specs.Bool.{OnTrue};
+ghost use Rattle.tsn_commit.specs.Lines.{IsLine};
+ghost use Rattle.tsn_commit.specs.Resting.{Begins};
+
+use memchr::memchr;
+use std::alloc::{AllocError, Global};
+use std::sync::Wait;
+use std::thread;
+use std::thread::Threads;
+use tsn_commit::{Ahead, Commit, keep};
+use tsn_device::MemoryDevice;
+use tsn_history::{Naming, Opened};
+use tsn_keeping::{Clock, Keeper, Stamp};
+use tsn_recorded::LONGEST_COMMAND;
+
+/// A clock that stands still.
+#[derive(Drop)]
+pub struct Still;
+
+impl Clock for Still {
+    fn stamp(&mut self) -> Stamp {
+        Stamp::of(b"2026-11-27T12:31:00Z")
+    }
+}
+
+// Whether these bytes may be a command line.
+fn is_line(line: &[u8]) -> bool
+    ensures { OnTrue result (IsLine line.now) }
+{
+    if line.len() > LONGEST_COMMAND {
+        return false;
+    }
+    memchr(b'\n', line).is_none()
+}
+
+/// Records the line and settles it, twice, and once more settles the first. Says how often that was told to be kept.
+pub fn settle_thrice<R: Naming, K: Naming + Ahead, W: Wait>(
+    rt: &W,
+    alloc: Global,
+    keeper: Keeper<MemoryDevice>,
+    records: Opened,
+    keeps: Opened,
+    line: &[u8],
+) -> Result<(bool, bool, bool), AllocError>
+    requires keeper { Begins K.had K.digest keeper }
+    requires names { (records.seen.book ≡ R.book) × (keeps.seen.book ≡ K.book) }
+{
+    let commit = Commit::new(
+        alloc,
+        keeper,
+        Still,
+        records.named::<R>(),
+        keeps.named::<K>(),
+    )?;
+    if !is_line(line) {
+        return Err(AllocError);
+    }
+    let none = commit.recorded(rt);
+    let Ok(first) = commit.record(rt, &none, line) else {
+        return Ok((false, false, false));
+    };
+    let one = commit.settle(rt, &first).is_ok();
+    let other = match commit.record(rt, &first, line) {
+        Ok(second) => commit.settle(rt, &second).is_ok(),
+        Err(_) => false,
+    };
+    Ok((one, other, commit.settle(rt, &first).is_ok()))
+}
+
+/// Records the line so often, one behind the other, and settles the last one. What is kept then, if that is told.
+pub fn record_many<R: Naming, K: Naming + Ahead, W: Wait>(
+    rt: &W,
+    alloc: Global,
+    keeper: Keeper<MemoryDevice>,
+    records: Opened,
+    keeps: Opened,
+    line: &[u8],
+    count: u64,
+) -> Result<Option<Keeper<MemoryDevice>>, AllocError>
+    requires keeper { Begins K.had K.digest keeper }
+    requires names { (records.seen.book ≡ R.book) × (keeps.seen.book ≡ K.book) }
+{
+    let commit = Commit::new(
+        alloc,
+        keeper,
+        Still,
+        records.named::<R>(),
+        keeps.named::<K>(),
+    )?;
+    if !is_line(line) {
+        return Ok(None);
+    }
+    let mut last = commit.recorded(rt);
+    for _ in 0..count {
+        let Ok(mine) = commit.record(rt, &last, line) else {
+            return Ok(None);
+        };
+        last = mine;
+    }
+    if commit.settle(rt, &last).is_err() {
+        return Ok(None);
+    }
+    match commit.into_keeper() {
+        Some((keeper, _)) => Ok(Some(keeper)),
+        None => Ok(None),
+    }
+}
+
+// Records the line and waits until it is kept, so often. False where that failed.
+fn keep_often<R: Naming, K: Naming + Ahead, W: Wait>(
+    rt: &W,
+    commit: &Commit<Still, MemoryDevice, R, K>,
+    line: &[u8],
+    count: u64,
+) -> bool {
+    if !is_line(line) {
+        return false;
+    }
+    for _ in 0..count {
+        if keep(rt, commit, line).is_none() {
+            return false;
+        }
+    }
+    true
+}
+
+/// Two threads record a line each, so often, and each time wait until it is kept. What is kept then, if that is told.
+pub fn keep_in_two<
+    R: Naming + Send + Sync,
+    K: Naming + Ahead + Send + Sync,
+    W: Threads + Wait + Sync,
+>(
+    rt: &W,
+    alloc: Global,
+    keeper: Keeper<MemoryDevice>,
+    records: Opened,
+    keeps: Opened,
+    lines: (&[u8], &[u8]),
+    count: u64,
+) -> Result<Option<Keeper<MemoryDevice>>, AllocError>
+    requires keeper { Begins K.had K.digest keeper }
+    requires names { (records.seen.book ≡ R.book) × (keeps.seen.book ≡ K.book) }
+{
+    let commit = Commit::new(
+        alloc,
+        keeper,
+        Still,
+        records.named::<R>(),
+        keeps.named::<K>(),
+    )?;
+    let shared = &commit;
+    let (one, other) = thread::join(
+        rt,
+        || keep_often(rt, shared, lines.0, count),
+        || keep_often(rt, shared, lines.1, count),
+    );
+    if !one || !other {
+        return Ok(None);
+    }
+    match commit.into_keeper() {
+        Some((keeper, _)) => Ok(Some(keeper)),
+        None => Ok(None),
+    }
+}
