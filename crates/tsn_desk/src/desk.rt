@@ -4,7 +4,7 @@ ghost use Rattle.tsn_desk.specs.declared.board.Stage.TheVariants.{Idle};
 ghost use Rattle.tsn_desk.specs.History.{Begins, calls_by};
 
 use crate::board::{Opening, SERVING, TICKETS, Turns, View};
-use crate::machine::Machine;
+use crate::machine::{Machine, Nobody, Witness};
 use crate::plays::{Draw, SeeFront, SeeTickets};
 use crate::waiting::Waiting;
 use atomic_table::{Refused, Table};
@@ -129,6 +129,33 @@ impl<M: Machine> Desk<M> {
         ensures exhausted { OnErr result.1 ((2 ^ 63 ≤ tickets result.0) × (seen result.0 ≡ seen seat) × (made result.0 ≡ made seat)) }
         ensures always_then { 2 ^ 63 ≤ tickets seat → IsErr result.1 }
     {
+        let (seat, turned) = self.attended_turn(rt, seat, request, &mut Nobody);
+        match turned {
+            Ok((turn, ())) => (seat, Ok(turn)),
+            Err(back) => (seat, Err(back)),
+        }
+    }
+
+    /// Steps the machine once as `turn` does, and a witness attends.
+    pub fn attended_turn<R: Wait, W: Witness<M>>(
+        &self,
+        rt: &R,
+        seat: Seat<M>,
+        request: M::Request,
+        witness: &mut W,
+    ) -> (
+        Seat<M>,
+        Result<(Turn<M::Reply>, W::Mark), Exhausted<M::Request>>,
+    )
+        requires { IsSeatOf self.now seat }
+        ensures own { IsSeatOf self.now result.0 × (number result.0 ≡ number seat) }
+        ensures turn { IfOk result.1 (λ t. HasTurned M.steps self.now seat request t.0.place t.0.reply result.0) }
+        ensures mark { IfOk result.1 (λ t. W.marks request t.0.reply t.1) }
+        ensures request { IfErr result.1 (λ back. back.request ≡ request) }
+        ensures exhausted { OnErr result.1 ((2 ^ 63 ≤ tickets result.0) × (seen result.0 ≡ seen seat) × (made result.0 ≡ made seat)) }
+        ensures always_then { 2 ^ 63 ≤ tickets seat → IsErr result.1 }
+    {
+        witness.hear(&request);
         self.come_in(rt);
         let mut seat = seat.into_inner();
         if self.table.shared.load::<SeeTickets>(&mut seat, TICKETS) >= LAST_TICKET {
@@ -143,11 +170,12 @@ impl<M: Machine> Desk<M> {
             unreachable!()
         };
         let reply = machine.step(request);
+        let mark = witness.attend(&reply);
         let nothing = self.table.shared.exchange(&mut seat, 0, Some(machine));
         let None = nothing else { unreachable!() };
         self.finish_said(&mut seat, &asked, &reply);
         self.wake();
-        (Seat { inner: seat }, Ok(Turn { place, reply }))
+        (Seat { inner: seat }, Ok((Turn { place, reply }, mark)))
     }
 
     /// How many turns have ended. The seat has then seen the history of just these. It neither waits nor takes memory.
