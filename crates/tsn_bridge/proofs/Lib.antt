@@ -21,3 +21,4 @@ pub mod Blocking
 pub mod WhyNotAll
 pub mod Examples
 pub mod Turning
+pub mod Reaching

@@ -13,6 +13,7 @@ pub mod Machine
 pub mod Objects
 pub mod Pair
 pub mod Quiet
+pub mod Reached
 pub mod Reads
 pub mod Refusing
 pub mod Rule

@@ -5,6 +5,7 @@ use Rattle.std.proofs.Math.Seq.{take-add}
 use Rattle.std.specs.List.{fold}
 use Rattle.std.specs.FinMap.{get}
 use Rattle.tsn_types.specs.declared.keys.Key.TheVariants.{Port}
+use Rattle.tsn_types.specs.declared.limits.Limits.{Limits}
 use Rattle.tsn_types.specs.declared.records.PortEntry.{PortEntry}
 use Rattle.tsn_types.specs.declared.records.PortGates.{PortGates}
 use Rattle.tsn_types.specs.declared.records.Record.TheVariants as records
@@ -20,9 +21,9 @@ use Rattle.tsn_bridge.specs.declared.command.Ask.{Ask}
 use Rattle.tsn_bridge.specs.declared.command.Command.TheVariants as commands
 use Rattle.tsn_bridge.specs.declared.reply.Reply.{Reply}
 use Rattle.tsn_bridge.specs.declared.reply.Reply.TheVariants as replies
-use Rattle.tsn_bridge.specs.Beginning.{IsOpened, begun}
 use Rattle.tsn_bridge.specs.Histories.{AreInRange, Leads}
 use Rattle.tsn_bridge.specs.Later.{IsLater}
+use Rattle.tsn_bridge.specs.Reached.{IsReached}
 use Rattle.tsn_bridge.specs.Later as later
 use Rattle.tsn_bridge.specs.Machine.{Step}
 use Rattle.tsn_bridge.specs.Objects.{Object}
@@ -32,7 +33,8 @@ use Rattle.tsn_bridge.specs.Turns.{Turns, answered}
 use Rattle.tsn_bridge.proofs.AtOnce.{done_of}
 use Rattle.tsn_bridge.proofs.Later.{all_go_on}
 use Rattle.tsn_bridge.proofs.Stepping.{accepted}
-use Rattle.tsn_bridge.proofs.Turning.{leads, whole_now}
+use Rattle.tsn_bridge.proofs.Reaching.{limits_reached, whole_reached, whole_there}
+use Rattle.tsn_bridge.proofs.Turning.{leads}
 use Rattle.tsn_port.specs.Mirrors.{AreOfPort, MirrorState, Mirrors, mirrored}
 use Rattle.tsn_port.specs.Histories.{IsWhole, Tells}
 use Rattle.tsn_port.proofs.Ports.{entries_of_ports}
@@ -81,13 +83,13 @@ of_port_drop n o (suc k) (e ∷ es) h = of_port_drop n (after n o e) k es h.1
 pub take_begins : (n : ℕ) (xs more : List Entry) → n ≤ length xs → take n (xs ++ more) ≡ take n xs
 take_begins n xs more low = take-append-le n xs more low
 
-module _ (first : State) (opened : IsOpened first) where
+module _ (first : State) (reached : IsReached first) where
   -- a run from a state is one of the bridge, and leads to a later one
-  pub asked : (history : List (Call Ask Reply)) (z : State) → Runs Turns first history z → AreInRange (answered history) × Leads (begun opened.limits opened.given) (answered history) z
-  asked history z run = leads history (begun opened.limits opened.given) z (subst (λ x. Runs Turns x history z) opened.is run)
+  pub asked : (history : List (Call Ask Reply)) (z : State) → Runs Turns first history z → IsReached z
+  asked history z run = whole_there first reached history z run
 
   pub whole_at : (history : List (Call Ask Reply)) (z : State) → Runs Turns first history z → later.IsWhole z
-  whole_at history z run = whole_now opened.limits opened.given history z opened.opens (subst (λ x. Runs Turns x history z) opened.is run)
+  whole_at history z run = whole_reached z (asked history z run)
 
   pub grows : (x z : State) (history : List (Call Ask Reply)) → later.IsWhole x → Runs Turns x history z → IsLater x z
   grows x z history whole run = let is = leads history x z run in (all_go_on (answered history) x z whole is.0 is.1).1
@@ -126,8 +128,8 @@ module _ (first : State) (opened : IsOpened first) where
           let k = known z run in
           let at' : get z.book.opening (Port m.port) ≡ Some (records.Port opening) = ap (λ n. get z.book.opening (Port n)) (sym same) ∙ at in
           let is = asked now z run in
-          let fits : m.port ≤ opened.limits.ports = subst (λ (x : State). m.port ≤ x.book.limits.ports) opened.is high in
-          let of_all = entries_of_ports opened.limits opened.given (answered now) z m.port opening opened.opens is.0 is.1 low fits at' in
+          let fits : m.port ≤ is.limits.ports = subst (λ (l : Limits). m.port ≤ l.ports) (sym (grows first z now (whole_at [] first refl) run).limits ∙ limits_reached z is) high in
+          let of_all = entries_of_ports is.limits is.given is.asks z m.port opening is.opens is.ranges is.led low fits at' in
           let of_rest = of_port_drop m.port (mirrored m.port opening []) m.front z.book.entries of_all in
           let of_port : AreOfPort m.port (mirrored m.port opening (take m.front z.book.entries)) entries = subst (λ es. AreOfPort m.port (mirrored m.port opening (take m.front z.book.entries)) es) (sym k.entries_are) of_rest in
           let n : m.front + (m'.front - m.front) ≡ m'.front = omega arith in

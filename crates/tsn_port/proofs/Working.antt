@@ -22,10 +22,11 @@ use Rattle.tsn_desk.proofs.Begin.{begins_self, begins_trans}
 use Rattle.tsn_bridge.specs.declared.command.Ask.{Ask}
 use Rattle.tsn_bridge.specs.declared.reply.Reply.{Reply}
 use Rattle.tsn_bridge.specs.declared.reply.Reply.TheVariants as replies
-use Rattle.tsn_bridge.specs.Beginning.{IsOpened}
+use Rattle.tsn_bridge.specs.Reached.{IsReached}
 use Rattle.tsn_bridge.specs.Rule.{is_given}
 use Rattle.tsn_bridge.specs.State.{State}
 use Rattle.tsn_bridge.specs.Turns.{Turns, answered}
+use Rattle.tsn_bridge.proofs.Reaching.{limits_reached}
 use Rattle.tsn_port.specs.declared.worker.PortWorker.{PortWorker}
 use Rattle.tsn_port.specs.Histories.{IsWhole, Tells, TookSome}
 use Rattle.tsn_port.specs.Mirrors.{AreOfPort, MirrorState, Mirrors, ShowsGates, first_record, mirrored}
@@ -117,11 +118,11 @@ module _ (desk : Desk State Ask Reply) (old new : BridgeSeat) (ask : Ask) (place
 
 -- ---- the session stays given out
 
-module _ (first : State) (opened : IsOpened first) where
+module _ (first : State) (reached : IsReached first) where
   pub given_on : (h h' : List (Call Ask Reply)) (n : ℕ) → Begins h h' → IsGivenIn first h n → IsGivenIn first h' n
   given_on h h' n begins given z run =
       let (u, old, onto) = runs_split first z h begins.0 (subst (λ l. Runs Turns first l z) (sym begins.1) run) in
-      let later = grows first opened u z begins.0 (whole_at first opened h u old) onto in
+      let later = grows first reached u z begins.0 (whole_at first reached h u old) onto in
       given_later n u.sessions z.sessions (given u old) later.sessions
 
 -- ---- what each call tells
@@ -137,13 +138,13 @@ module _ (desk : Desk State Ask Reply) (old new : BridgeSeat) (place : ℕ) (rep
     given = λ z run. let last = at_last desk old new hello place reply t z run in given_by_hello last.0 0 n z (subst (λ r. Turns last.0 hello r z) is last.2).1;
   }
 
-  module _ (opened : IsOpened (first_of desk)) (session : ℕ) (given : IsGivenIn (first_of desk) (seen old) session) where
+  module _ (reached : IsReached (first_of desk)) (session : ℕ) (given : IsGivenIn (first_of desk) (seen old) session) where
     -- the session is given out before the call too
     given_before : (ask : Ask) (t : HasTurned Turns desk old ask place reply new) (y : State) → Runs Turns (first_of desk) t.before y → is_given y session ≡ true
-    given_before ask t y run = given_on (first_of desk) opened (seen old) t.before session t.begins given y run
+    given_before ask t y run = given_on (first_of desk) reached (seen old) t.before session t.begins given y run
 
     given_after : (ask : Ask) → HasTurned Turns desk old ask place reply new → IsGivenIn (first_of desk) (seen new) session
-    given_after ask t = given_on (first_of desk) opened (seen old) (seen new) session (begins_trans (seen old) t.before (seen new) t.begins (call (number old) ask reply ∷ [], sym t.whole)) given
+    given_after ask t = given_on (first_of desk) reached (seen old) (seen new) session (begins_trans (seen old) t.before (seen new) t.begins (call (number old) ask reply ∷ [], sym t.whole)) given
 
     pub since_answered : (from : ℕ) → HasTurned Turns desk old (since session from) place reply new → AnswersSince reply
     since_answered from t = of_reply desk old new (since session from) place reply t (AnswersSince reply) (λ y z upto _ turn. answers_since y session from reply z (given_before (since session from) t y upto) turn.1)
@@ -156,14 +157,14 @@ module _ (desk : Desk State Ask Reply) (old new : BridgeSeat) (place : ℕ) (rep
 
     module _ (n : ℕ) (low : 1 ≤ n) where
       looked_at : (t : HasTurned Turns desk old (look_at session n) place reply new) (y z : State) → Runs Turns (first_of desk) t.before y → Turns y (look_at session n) reply z → Shows y n reply z
-      looked_at t y z upto turn = shows y session n reply z (whole_at (first_of desk) opened t.before y upto) low (given_before (look_at session n) t y upto) turn.1
+      looked_at t y z upto turn = shows y session n reply z (whole_at (first_of desk) reached t.before y upto) low (given_before (look_at session n) t y upto) turn.1
 
       pub look_answered : HasTurned Turns desk old (look_at session n) place reply new → AnswersLook n reply
       look_answered t = of_reply desk old new (look_at session n) place reply t (AnswersLook n reply) (λ y z upto _ turn. (looked_at t y z upto turn).answers)
 
       -- limits stay
       limits_at : (h : List (Call Ask Reply)) (y : State) → Runs Turns (first_of desk) h y → y.book.limits.ports ≡ (first_of desk).book.limits.ports
-      limits_at h y run = ap (λ (l : Limits). l.ports) (grows (first_of desk) opened (first_of desk) y h (whole_at (first_of desk) opened [] (first_of desk) refl) run).limits
+      limits_at h y run = ap (λ (l : Limits). l.ports) (grows (first_of desk) reached (first_of desk) y h (whole_at (first_of desk) reached [] (first_of desk) refl) run).limits
 
       pub over_the_limits : reply ≡ replies.Refused (refusals.Range fields.Key) → HasTurned Turns desk old (look_at session n) place reply new → (first_of desk).book.limits.ports < n
       over_the_limits is t = of_reply desk old new (look_at session n) place reply t ((first_of desk).book.limits.ports < n)
@@ -184,16 +185,16 @@ module _ (desk : Desk State Ask Reply) (old new : BridgeSeat) (place : ℕ) (rep
 
 -- ---- a start
 
-module _ (first : State) (opened : IsOpened first) (n : ℕ) (low : 1 ≤ n) (high : n ≤ first.book.limits.ports) where
+module _ (first : State) (reached : IsReached first) (n : ℕ) (low : 1 ≤ n) (high : n ≤ first.book.limits.ports) where
   -- what the journal began with for the port
   pub began : (h : List (Call Ask Reply)) (z : State) → Runs Turns first h z → (p : PortGates) × (get z.book.opening (Port n) ≡ Some (records.Port p))
   began h z run =
-      let whole = whole_at first opened h z run in
-      let limits = (grows first opened first z h (whole_at first opened [] first refl) run).limits in
+      let whole = whole_at first reached h z run in
+      let limits = (grows first reached first z h (whole_at first reached [] first refl) run).limits in
       record_of z.book.limits z.book.opening n whole.journal.kept low (subst (λ (l : Limits). n ≤ l.ports) (sym limits) high)
 
   within_at : (h : List (Call Ask Reply)) (z : State) → Runs Turns first h z → n ≤ z.book.limits.ports
-  within_at h z run = subst (λ (l : Limits). n ≤ l.ports) (sym (grows first opened first z h (whole_at first opened [] first refl) run).limits) high
+  within_at h z run = subst (λ (l : Limits). n ≤ l.ports) (sym (grows first reached first z h (whole_at first reached [] first refl) run).limits) high
 
   module _ (h before now : List (Call Ask Reply)) (number session : ℕ) (shown : PortGates) (entries : List Entry) (m : MirrorState)
       (stands : (z : State) → Runs Turns first h z → get (present z.book) (Port n) ≡ Some (records.Port shown))
@@ -205,7 +206,7 @@ module _ (first : State) (opened : IsOpened first) (n : ℕ) (low : 1 ≤ n) (hi
     all_entries z run =
         let last = last_turn first z before (call number (since session 0) (replies.Entries entries)) (subst (λ l. Runs Turns first l z) whole run) in
         let gives = since_gives last.0 session 0 entries z last.2.1 in
-        gives.0 ∙ since_is last.0.book.entries 0 (whole_at first opened before last.0 last.1).journal.numbered ∙ ap (λ (s : State). s.book.entries) (sym gives.1)
+        gives.0 ∙ since_is last.0.book.entries 0 (whole_at first reached before last.0 last.1).journal.numbered ∙ ap (λ (s : State). s.book.entries) (sym gives.1)
 
     -- and the record before them is the one with which the journal began
     began_with : (z : State) → Runs Turns first now z → get z.book.opening (Port n) ≡ Some (records.Port (first_record n entries shown))
@@ -213,8 +214,8 @@ module _ (first : State) (opened : IsOpened first) (n : ℕ) (low : 1 ≤ n) (hi
         let last = last_turn first z before (call number (since session 0) (replies.Entries entries)) (subst (λ l. Runs Turns first l z) whole run) in
         let gives = since_gives last.0 session 0 entries z last.2.1 in
         let (u, old, onto) = runs_split first last.0 h begins.0 (subst (λ l. Runs Turns first l last.0) (sym begins.1) last.1) in
-        let later = grows first opened u last.0 begins.0 (whole_at first opened h u old) onto in
-        let sound = (whole_at first opened now z run).journal in
+        let later = grows first reached u last.0 begins.0 (whole_at first reached h u old) onto in
+        let sound = (whole_at first reached now z run).journal in
         let is : z.book.entries ≡ u.book.entries ++ later.more = ap (λ (s : State). s.book.entries) gives.1 ∙ later.entries in
         let opening : z.book.opening ≡ u.book.opening = ap (λ (s : State). s.book.opening) gives.1 ∙ later.opening in
         let at : get (present u.book) (Port n) ≡ Some (records.Port shown) = stands u old in
@@ -225,12 +226,12 @@ module _ (first : State) (opened : IsOpened first) (n : ℕ) (low : 1 ≤ n) (hi
     pub starts_telling : Tells first now m
     starts_telling = record {
       stands = λ z opening run at.
-          let is = asked first opened now z run in
+          let is = asked first reached now z run in
           let same : records.Port opening ≡ records.Port (first_record n entries shown) =
           let both : Some (records.Port opening) ≡ Some (records.Port (first_record n entries shown)) = sym (ap (λ k. get z.book.opening (Port k)) (sym port) ∙ at) ∙ began_with z run in (cc) in
           let first_is : opening ≡ first_record n entries shown = (cc) in
-          let fits : n ≤ opened.limits.ports = subst (λ (x : State). n ≤ x.book.limits.ports) opened.is high in
-          let of_port = entries_of_ports opened.limits opened.given (answered now) z n (first_record n entries shown) opened.opens is.0 is.1 low fits (began_with z run) in
+          let fits : n ≤ is.limits.ports = subst (λ (l : Limits). n ≤ l.ports) (limits_reached z is) (within_at now z run) in
+          let of_port = entries_of_ports is.limits is.given is.asks z n (first_record n entries shown) is.opens is.ranges is.led low fits (began_with z run) in
           let told = mirrors (subst (λ es. AreOfPort n (mirrored n (first_record n entries shown) []) es) (sym (all_entries z run)) of_port) in
           let all : take m.front z.book.entries ≡ entries = ap (take m.front) (sym (all_entries z run)) ∙ take_all m.front entries (omega (arith, front)) in
           subst (λ es. Mirrors m opening es) (sym all) (subst (λ p. Mirrors m p entries) (sym first_is) told);
@@ -240,24 +241,24 @@ module _ (first : State) (opened : IsOpened first) (n : ℕ) (low : 1 ≤ n) (hi
     pub starts_whole : IsWhole first now m
     starts_whole z run = front ∙ ap (λ es. length es) (all_entries z run)
 
-pub starts : (desk : Desk State Ask Reply) → IsOpened (first_of desk) → (s1 s2 s3 : BridgeSeat) (n session : ℕ) (shown : PortGates) (entries : List Entry) (place : ℕ) → 1 ≤ n
+pub starts : (desk : Desk State Ask Reply) → IsReached (first_of desk) → (s1 s2 s3 : BridgeSeat) (n session : ℕ) (shown : PortGates) (entries : List Entry) (place : ℕ) → 1 ≤ n
     → Looked desk s1 session n shown s2 → HasRead desk s2 session 0 entries place s3
     → (w : PortWorker) → port_of w ≡ n → w.session ≡ session → w.place ≡ place → last_seen w ≡ seen s3 → w.mirror.front ≡ length entries
     → (AreOfPort n (mirrored n (first_record n entries shown) []) entries → Mirrors w.mirror (first_record n entries shown) entries)
     → IsWorkerOf desk w
-starts desk opened s1 s2 s3 n session shown entries place low looked read w port same_session same_place last front mirrors =
+starts desk reached s1 s2 s3 n session shown entries place low looked read w port same_session same_place last front mirrors =
     let t = read.turned in
     let first = first_of desk in
     let whole : last_seen w ≡ t.before ++ call (number s2) (since session 0) (replies.Entries entries) ∷ [] = last ∙ t.whole in
     record {
-      opened = opened;
+      reached = reached;
       low = subst (λ k. 1 ≤ k) (sym port) low;
       high = subst (λ k. k ≤ first.book.limits.ports) (sym port) looked.within;
       legal = subst (λ h. IsLegal Turns first h) (sym last) t.legal;
       turned = ap (λ l. length l) whole ∙ (length-append t.before _ ∙ (ap (λ k. k + 1) t.at_place ∙ ap (λ k. k + 1) (sym same_place)));
       given = λ z run. subst (λ k. is_given z k ≡ true) (sym same_session) (read.given z (subst (λ h. Runs Turns first h z) last run));
-      tells = starts_telling first opened n low looked.within (seen s2) t.before (last_seen w) (number s2) session shown entries w.mirror looked.stands t.begins whole port front mirrors;
-      whole = λ _. starts_whole first opened n low looked.within (seen s2) t.before (last_seen w) (number s2) session shown entries w.mirror looked.stands t.begins whole port front mirrors;
+      tells = starts_telling first reached n low looked.within (seen s2) t.before (last_seen w) (number s2) session shown entries w.mirror looked.stands t.begins whole port front mirrors;
+      whole = λ _. starts_whole first reached n low looked.within (seen s2) t.before (last_seen w) (number s2) session shown entries w.mirror looked.stands t.begins whole port front mirrors;
     }
 
 -- ---- a turn that follows
@@ -272,14 +273,14 @@ follows desk w w' is old new begins entries place read took same_session same_pl
     let whole : last_seen w' ≡ t.before ++ call (number old) (since w.session w.mirror.front) (replies.Entries entries) ∷ [] = last ∙ t.whole in
     let before = begins_trans (last_seen w) (seen old) t.before begins t.begins in
     record {
-      opened = is.opened;
+      reached = is.reached;
       low = subst (λ k. 1 ≤ k) (sym took.port) is.low;
       high = subst (λ k. k ≤ first.book.limits.ports) (sym took.port) is.high;
       legal = subst (λ h. IsLegal Turns first h) (sym last) t.legal;
       turned = ap (λ l. length l) whole ∙ (length-append t.before _ ∙ (ap (λ k. k + 1) t.at_place ∙ ap (λ k. k + 1) (sym same_place)));
       given = λ z run. subst (λ k. is_given z k ≡ true) (sym same_session) (read.given z (subst (λ h. Runs Turns first h z) last run));
-      tells = tells_on first is.opened (last_seen w) t.before (last_seen w') (number old) w.session w.mirror w'.mirror entries is.low is.high took.port is.tells before whole took.more took.most took.taken;
-      whole = λ long. whole_on first is.opened (last_seen w) t.before (last_seen w') (number old) w.session w.mirror w'.mirror entries is.low is.high took.port is.tells before whole took.more took.most took.taken (all long);
+      tells = tells_on first is.reached (last_seen w) t.before (last_seen w') (number old) w.session w.mirror w'.mirror entries is.low is.high took.port is.tells before whole took.more took.most took.taken;
+      whole = λ long. whole_on first is.reached (last_seen w) t.before (last_seen w') (number old) w.session w.mirror w'.mirror entries is.low is.high took.port is.tells before whole took.more took.most took.taken (all long);
     }
 
 -- ---- a round
@@ -288,7 +289,7 @@ module _ (desk : Desk State Ask Reply) (w : PortWorker) (is : IsWorkerOf desk w)
   -- the mirror is the port's after all entries of any state to which the history leads
   all_in : (z : State) → Runs Turns (first_of desk) (last_seen w) z → (p : PortGates) × (get z.book.opening (Port (port_of w)) ≡ Some (records.Port p)) × Mirrors w.mirror p z.book.entries
   all_in z run =
-      let p = began (first_of desk) is.opened (port_of w) is.low is.high (last_seen w) z run in
+      let p = began (first_of desk) is.reached (port_of w) is.low is.high (last_seen w) z run in
       let front = is.whole long z run in
       (p.0, p.1, subst (λ es. Mirrors w.mirror p.0 es) (take_all w.mirror.front z.book.entries (omega (arith, front))) (is.tells.stands z p.0 run p.1))
 

@@ -19,7 +19,7 @@ use Rattle.tsn_bridge.specs.declared.command.Ask.{Ask}
 use Rattle.tsn_bridge.specs.declared.command.Command.TheVariants as commands
 use Rattle.tsn_bridge.specs.declared.reply.Reply.{Reply}
 use Rattle.tsn_bridge.specs.declared.reply.Reply.TheVariants as replies
-use Rattle.tsn_bridge.specs.Beginning.{IsOpened}
+use Rattle.tsn_bridge.specs.Reached.{IsReached}
 use Rattle.tsn_bridge.specs.Looking.{last_at, shown_at}
 use Rattle.tsn_bridge.specs.Rule.{is_given}
 use Rattle.tsn_bridge.specs.State.{State}
@@ -44,7 +44,7 @@ last_seen w = seen w.last.value
 -- The worker began at this desk: in each state to which the history of its last turn leads its session was given out, and its
 -- mirror is the port's after the first entries; after all of them, where memory was not wanting in that turn.
 pub record IsWorkerOf (desk : Desk State Ask Reply) (w : PortWorker) : Type 0 where
-  pub opened : IsOpened (first_of desk)
+  pub reached : IsReached (first_of desk)
   pub low : 1 ≤ port_of w
   pub high : port_of w ≤ (first_of desk).book.limits.ports
   pub turned : length (last_seen w) ≡ w.place + 1

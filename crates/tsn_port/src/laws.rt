@@ -16,7 +16,8 @@ ghost use Rattle.tsn_schedule.specs.Acts.{last_instant};
 ghost use Rattle.tsn_desk.specs.declared.history.Entry.{Entry as Call};
 ghost use Rattle.tsn_bridge.specs.declared.command.Ask.{Ask as AnyAsk};
 ghost use Rattle.tsn_bridge.specs.declared.reply.Reply.{Reply as AnyReply};
-ghost use Rattle.tsn_bridge.specs.Beginning.{IsOpened, Opens, begun};
+ghost use Rattle.tsn_bridge.specs.Beginning.{Opens, begun};
+ghost use Rattle.tsn_bridge.specs.Reached.{IsReached};
 ghost use Rattle.tsn_bridge.specs.Histories.{Answered, AreInRange, Leads};
 ghost use Rattle.tsn_bridge.specs.Looking.{last_at, shown_at};
 ghost use Rattle.tsn_bridge.specs.State.{State};
@@ -53,16 +54,16 @@ pub fn first_records_are_found()
         map.get opening (Port n) ≡ Some (records.Port (first_record n (front ++ more) shown)) }
 {}
 
-/// A mirror follows a bridge that threads share, by turns alone. Take a desk whose bridge began with limits and records that
-/// open one, and a mirror of a port within them that tells the port in a history: in each state to which the history leads
+/// A mirror follows a bridge that threads share, by turns alone. Take a desk that began with a bridge to which sessions had brought it
+/// from an opening, and a mirror of a port within them that tells the port in a history: in each state to which the history leads
 /// it is the port's after its first entries. A later turn asks for the entries behind the mirror's front and is told them,
 /// and the mirror takes them. Then it tells the port in the history that ends with that turn; and where it took all, it is
 /// the port's after all entries there.
 pub fn mirrors_follow_turns()
     ensures tells { (first : State) (history now : List (Call AnyAsk AnyReply)) (old new : MirrorState) (entries : List Entry) →
-        IsOpened first → 1 ≤ old.port → old.port ≤ first.book.limits.ports → Tells first history old →
+        IsReached first → 1 ≤ old.port → old.port ≤ first.book.limits.ports → Tells first history old →
         AsksBehind history old entries now → TookSome old entries new → Tells first now new }
     ensures whole { (first : State) (history now : List (Call AnyAsk AnyReply)) (old new : MirrorState) (entries : List Entry) →
-        IsOpened first → 1 ≤ old.port → old.port ≤ first.book.limits.ports → Tells first history old →
+        IsReached first → 1 ≤ old.port → old.port ≤ first.book.limits.ports → Tells first history old →
         AsksBehind history old entries now → TookSome old entries new → new.front ≡ old.front + length entries → IsWhole first now new }
 {}

@@ -10,7 +10,7 @@ ghost use Rattle.tsn_journal.specs.declared.entries.Entry.{Entry as AnyEntry};
 ghost use Rattle.tsn_desk.specs.Desks.{HasTurned, IsSeatOf, first_of, made, seen, tickets};
 ghost use Rattle.tsn_desk.specs.History.{Begins};
 ghost use Rattle.tsn_bridge.specs.declared.reply.Reply.TheVariants.{Session, Shown, Refused, Entries as EntriesOf};
-ghost use Rattle.tsn_bridge.specs.Beginning.{IsOpened};
+ghost use Rattle.tsn_bridge.specs.Reached.{IsReached};
 ghost use Rattle.tsn_bridge.specs.Turns.{Turns};
 ghost use Rattle.tsn_port.specs.Mirrors.{Mirrors, ShowsGates, mirrored};
 ghost use Rattle.tsn_port.specs.Starting.{AnswersHello, AnswersLook, AnswersSince, HasRead, IsGivenIn, Looked, SaidHello, since};
@@ -23,6 +23,7 @@ use tsn_bridge::bridge::Bridge;
 use tsn_bridge::command::{Ask, Command};
 use tsn_bridge::reply::Reply;
 use tsn_desk::desk::{Desk, Seat, Turn};
+use tsn_desk::machine::{Nobody, Witness};
 use tsn_journal::entries::Entries;
 use tsn_types::keys::Key;
 use tsn_types::numbers::{Instant, PortId};
@@ -58,23 +59,24 @@ pub struct PortWorker {
 type Told<T> = (Seat<Bridge>, Result<T, RoundFault>);
 
 impl PortWorker {
-    /// A worker of the port, by three turns of the seat: a hello, a look at the port, and all entries of the journal. It waits
-    /// for the turns of others. Refused, the seat comes back with the fault: the port is over the limits, no session is left,
+    /// A worker of the port, by three turns of the seat: a hello, which the witness attends, a look at the port, and all
+    /// entries of the journal. It waits for the turns of others. Refused, the seat comes back with the fault: the port is over the limits, no session is left,
     /// no ticket is left, or memory was wanting. A session that was given out stays given out.
-    pub fn start<R: Wait>(
+    pub fn start<R: Wait, W: Witness<Bridge>>(
         rt: &R,
         desk: &Desk<Bridge>,
         seat: Seat<Bridge>,
         port: PortId,
+        witness: &mut W,
     ) -> Result<(Seat<Bridge>, PortWorker), (Seat<Bridge>, RoundFault)>
-        requires { IsSeatOf desk.now seat × IsOpened (first_of desk.now) }
+        requires { IsSeatOf desk.now seat × IsReached (first_of desk.now) }
         ensures goes { MatchResult result (λ r. GoesOn desk.now seat r.0) (λ e. GoesOn desk.now seat e.0) }
         ensures worker { IfOk result (λ r. IsWorkerOf desk.now r.1 × (port_of r.1 ≡ port) × (r.1.is_short ≡ false)) }
         ensures last { IfOk result (λ r. (last_seen r.1 ≡ seen r.0) × IsStart seat r.0 r.1) }
         ensures fault { IfErr result (λ e. IsStartFault desk.now port e.1 e.0) }
     {
         let _ = port.get();
-        let (seat, said) = say_hello(rt, desk, seat);
+        let (seat, said) = say_hello(rt, desk, seat, witness);
         let session = match said {
             Ok(session) => session,
             Err(fault) => return Err((seat, fault)),
@@ -200,13 +202,14 @@ impl PortWorker {
     }
 }
 
-/// One call of the seat, or none where no ticket is left.
-fn ask<R: Wait>(
+/// One call of the seat, or none where no ticket is left. The witness attends.
+fn ask<R: Wait, W: Witness<Bridge>>(
     rt: &R,
     desk: &Desk<Bridge>,
     seat: Seat<Bridge>,
     session: u32,
     command: Command,
+    witness: &mut W,
 ) -> Told<Turn<Reply>>
     requires { IsSeatOf desk.now seat }
     ensures goes { GoesOn desk.now seat result.0 }
@@ -214,21 +217,26 @@ fn ask<R: Wait>(
     ensures fault { IfErr result.1 (λ e. (e ≡ RoundFault.Exhausted) × (2 ^ 63 ≤ tickets result.0)) }
     ensures none { OnErr result.1 (made result.0 ≡ made seat) }
 {
-    let (seat, turned) = desk.turn(rt, seat, Ask { session, command });
+    let (seat, turned) = desk.attended_turn(rt, seat, Ask { session, command }, witness);
     match turned {
-        Ok(turn) => (seat, Ok(turn)),
+        Ok((turn, _)) => (seat, Ok(turn)),
         Err(_) => (seat, Err(RoundFault::Exhausted)),
     }
 }
 
-/// A session of the worker's own.
-fn say_hello<R: Wait>(rt: &R, desk: &Desk<Bridge>, seat: Seat<Bridge>) -> Told<u32>
+/// A session of the worker's own. The witness attends.
+fn say_hello<R: Wait, W: Witness<Bridge>>(
+    rt: &R,
+    desk: &Desk<Bridge>,
+    seat: Seat<Bridge>,
+    witness: &mut W,
+) -> Told<u32>
     requires { IsSeatOf desk.now seat }
     ensures goes { GoesOn desk.now seat result.0 }
     ensures said { IfOk result.1 (λ session. SaidHello desk.now seat session result.0) }
     ensures fault { IfErr result.1 (λ e. (n : ℕ) → IsStartFault desk.now n e result.0) }
 {
-    let (seat, turned) = ask(rt, desk, seat, 0, Command::Hello);
+    let (seat, turned) = ask(rt, desk, seat, 0, Command::Hello, witness);
     let turn = match turned {
         Ok(turn) => turn,
         Err(fault) => return (seat, Err(fault)),
@@ -260,13 +268,13 @@ fn look<R: Wait>(
     session: u32,
     port: PortId,
 ) -> Told<PortGates>
-    requires { IsSeatOf desk.now seat × IsOpened (first_of desk.now) × IsGivenIn (first_of desk.now) (seen seat) session × (1 ≤ port) }
+    requires { IsSeatOf desk.now seat × IsReached (first_of desk.now) × IsGivenIn (first_of desk.now) (seen seat) session × (1 ≤ port) }
     ensures goes { GoesOn desk.now seat result.0 }
     ensures looked { IfOk result.1 (λ value. Looked desk.now seat session port value result.0) }
     ensures fault { IfErr result.1 (λ e. IsStartFault desk.now port e result.0) }
 {
     let key = Key::Port(port);
-    let (seat, turned) = ask(rt, desk, seat, session, Command::Show { key });
+    let (seat, turned) = ask(rt, desk, seat, session, Command::Show { key }, &mut Nobody);
     let turn = match turned {
         Ok(turn) => turn,
         Err(fault) => return (seat, Err(fault)),
@@ -303,13 +311,20 @@ fn read_behind<R: Wait>(
     session: u32,
     after: u32,
 ) -> Told<(Entries, u64)>
-    requires { IsSeatOf desk.now seat × IsOpened (first_of desk.now) × IsGivenIn (first_of desk.now) (seen seat) session }
+    requires { IsSeatOf desk.now seat × IsReached (first_of desk.now) × IsGivenIn (first_of desk.now) (seen seat) session }
     ensures goes { GoesOn desk.now seat result.0 }
     ensures read { IfOk result.1 (λ r. HasRead desk.now seat session after r.0 r.1 result.0) }
     ensures fault { IfErr result.1 (λ e. (e ≡ RoundFault.Memory) ⊎ ((e ≡ RoundFault.Exhausted) × (2 ^ 63 ≤ tickets result.0))) }
     ensures once { (made result.0 ≡ made seat) ⊎ CallsOnce (since session after) seat result.0 }
 {
-    let (seat, turned) = ask(rt, desk, seat, session, Command::Since { after });
+    let (seat, turned) = ask(
+        rt,
+        desk,
+        seat,
+        session,
+        Command::Since { after },
+        &mut Nobody,
+    );
     let turn = match turned {
         Ok(turn) => turn,
         Err(fault) => return (seat, Err(fault)),

@@ -16,6 +16,7 @@ use tsn_bridge::bridge::{Bridge, Setup};
 use tsn_bridge::command::{Ask, Command};
 use tsn_bridge::reply::Reply;
 use tsn_desk::desk::{Desk, Seat};
+use tsn_desk::machine::Nobody;
 use tsn_journal::entries::Entries;
 use tsn_port::mirror::Mirror;
 use tsn_port::worker::{PortWorker, RoundFault};
@@ -133,7 +134,13 @@ fn refuse<R: Wait + Abort>(rt: &R, desk: &Desk<Bridge>, seat: Seat<Bridge>) -> S
     requires { IsSeatOf desk.now seat × IsOpened (first_of desk.now) }
     ensures { IsSeatOf desk.now result }
 {
-    let (seat, fault) = match PortWorker::start(rt, desk, seat, PortId::new(3).unwrap()) {
+    let (seat, fault) = match PortWorker::start(
+        rt,
+        desk,
+        seat,
+        PortId::new(3).unwrap(),
+        &mut Nobody,
+    ) {
         Ok((seat, _worker)) => (seat, None),
         Err((seat, fault)) => (seat, Some(fault)),
     };
@@ -183,7 +190,7 @@ fn start<R: Wait>(
     requires { IsSeatOf desk.now seat × IsOpened (first_of desk.now) }
     ensures { IfOk result (λ r. IsSeatOf desk.now r.0 × IsWorkerOf desk.now r.1 × Begins (last_seen r.1) (seen r.0)) }
 {
-    match PortWorker::start(rt, desk, seat, port()) {
+    match PortWorker::start(rt, desk, seat, port(), &mut Nobody) {
         Ok(started) => Ok(started),
         Err((_seat, fault)) => Err(Fail::from(fault)),
     }

@@ -9,12 +9,13 @@ use std::sync::Wait;
 use std::thread::Threads;
 use tsn_bridge::bridge::Bridge;
 use tsn_bytes::ByteOut;
-use tsn_serve::Source;
+use tsn_serve::{Free, Gated, Source};
 use tsn_server::{ServerFault, serve_bridge};
 use tsn_types::numbers::Instant;
 use tsn_words::Serving;
 
 // Serves the connections, and tells of the last rounds.
+#[tactic(auto, using(tsn_bridge::proofs::Reaching::opened_is_reached))]
 fn serve_all_of<R: Wait + Threads + Sync, S: Source + Sync, O: ByteOut>(
     rt: &R,
     alloc: Global,
@@ -35,6 +36,7 @@ fn serve_all_of<R: Wait + Threads + Sync, S: Source + Sync, O: ByteOut>(
         bridge,
         serving.workers as usize,
         source,
+        &Gated { gate: &Free },
         at,
         output,
     ) {

@@ -124,7 +124,7 @@ module _ (line : Ask → List ℕ) (most : ℕ) (ask : Ask) (reply : Reply) (ran
   refused_none refused = ap (recorded_by (kept ask.session ask.command (instant_told reply))) refused
 
   -- one of which nothing is kept
-  passing_none : (s : State) (after : State) → kept_of s ask ≡ None → Step s ask.session ask.command reply after → (b : Bool) → is_accepted reply ≡ b → of_ask ≡ None
+  pub passing_none : (s : State) (after : State) → kept_of s ask ≡ None → Step s ask.session ask.command reply after → (b : Bool) → is_accepted reply ≡ b → of_ask ≡ None
   passing_none s after none step false refused = refused_none refused
   passing_none s after none step true accepted =
       ap (recorded_by (kept ask.session ask.command (instant_told reply))) accepted

@@ -286,7 +286,7 @@ comes_of (t ∷ ts) s now (between, step, on) = (between, step, comes_of ts betw
 
 -- ---- over many starts
 
-joined : (front more : List Answered) (s between now : State) → Leads s front between → Leads between more now → Leads s (front ++ more) now
+pub joined : (front more : List Answered) (s between now : State) → Leads s front between → Leads between more now → Leads s (front ++ more) now
 joined [] more s between now same on = subst (λ (x : State). Leads x more now) same on
 joined (t ∷ front) more s between now (next, step, rest) on = (next, step, joined front more next between now rest on)
 

@@ -41,7 +41,7 @@ pub trait Spell {
 /// What is asked of a bridge, as it is kept where it is of a kind that is recorded: a hello of no session, an act at the
 /// instant that counts.
 #[derive(Drop)]
-enum Form {
+pub enum Form {
     Kept(Ask),
     Passing(Ask),
 }
@@ -179,7 +179,7 @@ fn refuse_unwritten(bridge: &Bridge, ask: Ask, why: Refusal) -> Refusal
 }
 
 /// In which form what is asked is recorded, if it is accepted.
-fn form_of(bridge: &Bridge, ask: Ask) -> Form
+pub fn form_of(bridge: &Bridge, ask: Ask) -> Form
     ensures { FormOf bridge.now ask result }
 {
     let Ask { session, command } = ask;

@@ -3,6 +3,7 @@ ghost use Rattle.std.specs.Prelude.{◌≡◌, ◌≢◌, ◌⊎◌, ◌↔◌, 
 ghost use Rattle.std.specs.Bool.{OnTrue, OnFalse};
 ghost use Rattle.std.specs.Io.KnownBytes.{IsAtEnd};
 ghost use Rattle.tsn_types.specs.declared.refusals.Refusal.TheVariants as refusals;
+ghost use Rattle.tsn_bridge.specs.Reached.{IsReached};
 ghost use Rattle.tsn_recorded.specs.Text.{Recorded};
 ghost use Rattle.tsn_resuming.specs.First.{Finds, setup_in};
 ghost use Rattle.tsn_resuming.specs.Resuming.{Begins, Fails, GoesOn, HasBegun, HasNoLine, OpensNone, StopsAt, StopsReading};
@@ -95,6 +96,7 @@ fn fault_of_line(line: u64, why: Refusal) -> StartFault
 }
 
 // The bridge that the first command's setup opens, where this is the one that is given, if one is.
+#[tactic(auto, using(tsn_bridge::proofs::Reaching::opened_is_reached))]
 fn begin<W: Watcher>(
     alloc: Global,
     first: &[u8],
@@ -103,6 +105,7 @@ fn begin<W: Watcher>(
     watcher: &mut W,
 ) -> Result<Bridge, StartFault>
     ensures begun { IfOk result (λ bridge. Begins (option_map (λ own. own.now) given.entry) first.now bridge) }
+    ensures reached { IfOk result IsReached }
     ensures fault { IfErr result (λ why. OpensNone (option_map (λ own. own.now) given.entry) first.now why) }
 {
     let setup = match setup_in(alloc, first) {
@@ -126,6 +129,7 @@ fn begin<W: Watcher>(
 #[tactic(auto, unfolding(crate::specs::Standing::asked))]
 fn step(alloc: Global, bridge: &mut Bridge, command: &[u8]) -> Result<(), Refusal>
     ensures stepped { OnOk result (IsStepped bridge.old command.now bridge.new) }
+    ensures reached { IsReached bridge.old → OnOk result (IsReached bridge.new) }
     ensures refused { IfErr result (λ why. (why ≡ refusals.Memory) ⊎ IsRefused bridge.old command.now why) }
 {
     match command_of(alloc, command) {
@@ -143,6 +147,7 @@ fn step_lines<W: Watcher>(
 ) -> Result<(), StartFault>
     ensures through { (before now : Option (List ℕ)) (setup : List ℕ) →
         IsUnderWay before now setup reader.old bridge.old → OnOk result (IsThrough before now setup reader.new bridge.new) }
+    ensures reached { IsReached bridge.old → OnOk result (IsReached bridge.new) }
     ensures fault { (before now : Option (List ℕ)) (setup : List ℕ) →
         IsUnderWay before now setup reader.old bridge.old → IfErr result (StopsAt before now) }
 {
@@ -224,6 +229,7 @@ fn step_all<R: ByteIn, W: Watcher>(
     ensures through { (before : Option (List ℕ)) (setup : List ℕ) →
         IsUnderWay before (R.remaining file.old) setup reader.old bridge.old →
         OnOk result (IsThrough before (R.remaining file.new) setup reader.new bridge.new × IsAtEnd (R.remaining file.new)) }
+    ensures reached { IsReached bridge.old → OnOk result (IsReached bridge.new) }
     ensures worked { OnOk result (R.has_failed file.new ≡ R.has_failed file.old) }
     ensures fault { (before : Option (List ℕ)) (setup : List ℕ) →
         IsUnderWay before (R.remaining file.old) setup reader.old bridge.old →
@@ -254,6 +260,7 @@ fn begin_reading<R: ByteIn, W: Watcher>(
     requires { 0 < length piece.old }
     ensures begun { (before : Option (List ℕ)) → IsFed before (R.remaining file.old) [] reader.old →
         IfOk result (HasBegun before (R.remaining file.new) (option_map (λ own. own.now) given.entry) reader.new) }
+    ensures reached { IfOk result IsReached }
     ensures worked { OnOk result (R.has_failed file.new ≡ R.has_failed file.old) }
     ensures fault { (before : Option (List ℕ)) → IsFed before (R.remaining file.old) [] reader.old →
         IfErr result (Fails before (R.remaining file.new) (R.has_failed file.new) (option_map (λ own. own.now) given.entry)) }
@@ -276,6 +283,7 @@ pub fn resume<R: ByteIn, W: Watcher>(
     watcher: &mut W,
 ) -> Result<Resumed, StartFault>
     ensures goes_on { IfOk result (GoesOn (R.remaining file.old) (R.remaining file.new) (option_map (λ own. own.now) setup.entry)) }
+    ensures reached { IfOk result (λ resumed. IsReached resumed.bridge) }
     ensures worked { OnOk result (R.has_failed file.new ≡ R.has_failed file.old) }
     ensures fault { IfErr result (Fails (R.remaining file.old) (R.remaining file.new) (R.has_failed file.new) (option_map (λ own. own.now) setup.entry)) }
 {

@@ -78,13 +78,13 @@ replies_go : (old : Caller) (what : Result Ask Refusal) (reply : Reply) (new : C
 replies_go old (Ok ask) reply new h = elim h [ inl p ↦ calls_goes old ask reply new p.1 | inr r ↦ same_goes old new r.2 ]
 replies_go old (Err refusal) reply new h = same_goes old new h.1
 
-says_goes : (old : Caller) (line : Option (List ℕ)) (reply : Reply) (new : Caller) → Says Asks old line reply new → Goes old new
+pub says_goes : (old : Caller) (line : Option (List ℕ)) (reply : Reply) (new : Caller) → Says Asks old line reply new → Goes old new
 says_goes old line reply new h = replies_go old h.0 reply new h.2
 
 talk_goes : (old : Caller) (line : Option (List ℕ)) (text : List ℕ) (new : Caller) → Talks old line text new → Goes old new
 talk_goes old line text new h = says_goes old line h.0 new h.1
 
-tires_goes : (old : Caller) (read : Result Ask Refusal) (new : Caller) → Tires old read new → Goes old new
+pub tires_goes : (old : Caller) (read : Result Ask Refusal) (new : Caller) → Tires old read new → Goes old new
 tires_goes old read new t = subst (λ c. Goes old c) (sym t.same) (record { desk = refl; first = refl; number = refl; seen = begins_self old.seen; made = begins_self old.made; legal = λ l. l; own = λ o. o })
 
 breaks_goes : (old : Caller) (line : Option (List ℕ)) (fault : Fault) (part : List ℕ) (new : Caller) → BreaksTalk old line fault part new → Goes old new

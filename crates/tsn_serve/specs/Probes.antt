@@ -1,5 +1,5 @@
 -- What a port worker leaves after its rounds.
-use Rattle.std.specs.Prelude.{◌≡◌}
+use Rattle.std.specs.Prelude.{◌≡◌, ℕ}
 use Rattle.tsn_desk.specs.declared.desk.Desk.{Desk}
 use Rattle.tsn_desk.specs.Desks.{seen}
 use Rattle.tsn_desk.specs.History.{Begins}
@@ -21,6 +21,13 @@ pub record IsProbed (desk : Desk State Ask Reply) (probe : Probe) (probed : Brid
   pub worker : IsWorkerOf desk probed.1
   pub last : Begins (last_seen probed.1) (seen probed.0)
   pub port : port_of probed.1 ≡ probe.port
+
+-- A worker of a port has started at this desk, and its seat goes on and has seen just what its last turn ended with.
+pub record HasStarted (desk : Desk State Ask Reply) (old : BridgeSeat) (port : ℕ) (new : BridgeSeat) (worker : PortWorker) : Type 0 where
+  pub goes : GoesOn desk old new
+  pub is_worker : IsWorkerOf desk worker
+  pub port_is : port_of worker ≡ port
+  pub last : last_seen worker ≡ seen new
 
 -- what ends serving where a worker could not start: want of memory, of a ticket, or the bridge's refusal. A start is never past.
 abbrev pub serve_fault : RoundFault → ServeFault

@@ -1,5 +1,5 @@
 -- What a connection does with its lines: each is answered by a call of its seat, or refused with no call.
-use Rattle.std.specs.Prelude.{◌≡◌, ◌⊎◌, ℕ, ◌≤◌, ◌^◌, List, [], ◌∷◌, ◌++◌, Option, Some, Result, Ok}
+use Rattle.std.specs.Prelude.{◌≡◌, ◌⊎◌, ℕ, ◌≤◌, ◌^◌, List, [], ◌∷◌, ◌++◌, Option, Some, None, IfNone, Result, Ok, Err}
 use Rattle.tsn_desk.specs.declared.history.Entry.{Entry}
 use Rattle.tsn_desk.specs.declared.desk.Seat.{Seat}
 use Rattle.tsn_desk.specs.declared.desk.Desk.{Desk}
@@ -15,7 +15,7 @@ use Rattle.tsn_bridge.specs.declared.command.Command.TheVariants as commands
 use Rattle.tsn_bridge.specs.declared.reply.Reply.{Reply}
 use Rattle.tsn_bridge.specs.declared.reply.Reply.TheVariants as replies
 use Rattle.tsn_serve.specs.Script.{Answering, Breaking}
-use Rattle.tsn_serve.specs.Answers.{MayRead, SaysText, CutsText}
+use Rattle.tsn_serve.specs.Answers.{MayRead, Replies, SaysText, CutsText}
 
 -- One end of a connection: the desk and the machine that it began with; the seat's number, what it has seen of the
 -- history, the calls that it has made and how many tickets it has seen drawn; and the session of the connection's
@@ -68,6 +68,17 @@ abbrev pub Asks : Caller → Ask → Reply → Caller → Type 0
 Asks old ask reply new =
     (MayAsk old.latest ask × Calls old ask reply new)
     ⊎ ((MayAsk old.latest ask → ⊥) × (reply ≡ replies.Refused refusals.NoSession) × (new ≡ old))
+
+-- What the witness says, if there was a call, it says of what the line was read as and of the reply to it.
+abbrev pub IsMarked : {K : Type 0} → (Ask → Reply → K → Type 0) → Result Ask Refusal → Reply → Option K → Type 0
+IsMarked marks read reply None = Unit {0}
+IsMarked marks (Ok ask) reply (Some mark) = marks ask reply mark
+IsMarked marks (Err why) reply (Some mark) = ⊥
+
+-- A line has this reply, and the witness says this of the call for it; nothing only where there was no call.
+abbrev pub Told : {K : Type 0} → (Ask → Reply → K → Type 0) → Caller → Option (List ℕ) → Reply → Option K → Caller → Type 0
+Told marks old line reply mark new =
+    (read : Result Ask Refusal) × MayRead line read × Replies Asks old read reply new × IsMarked marks read reply mark × IfNone mark (new ≡ old)
 
 -- What may be written for a line of the connection.
 abbrev pub Talks : Answering Caller

@@ -1,10 +1,12 @@
 //! One connection over a bridge that threads share: its lines are calls of one seat.
 //! It relies on the loop over lines, on the turns of a desk, on the reading of a line and on the text of a reply.
-ghost use Rattle.std.specs.Prelude.{◌≡◌, ◌^◌, ◌≤◌, ◌↔◌, ℕ, Option, None, IsTrue, IfOk, IfErr, OnErr, IsErrOf, option_map};
+ghost use Rattle.std.specs.Prelude.{◌≡◌, ◌^◌, ◌≤◌, ◌↔◌, ℕ, Option, None, Result, IsTrue, IfOk, IfErr, IfNone, OnErr, IsErrOf, option_map};
+ghost use Rattle.tsn_types.specs.declared.refusals.Refusal.{Refusal as AnyRefusal};
+ghost use Rattle.tsn_bridge.specs.declared.command.Ask.{Ask as AnyAsk};
 ghost use Rattle.tsn_bytes.specs.declared.bytes.Fault.TheVariants.{Memory, Exhausted};
 ghost use Rattle.tsn_desk.specs.Desks.{IsSeatOf, id_of, first_of};
-ghost use Rattle.tsn_serve.specs.Answers.{Replies};
-ghost use Rattle.tsn_serve.specs.Talk.{MayAsk, Calls, Asks, Tires, Talks, BreaksTalk, Goes, caller_of, latest_after};
+ghost use Rattle.tsn_serve.specs.Answers.{MayRead, Replies};
+ghost use Rattle.tsn_serve.specs.Talk.{MayAsk, Calls, Asks, Tires, Talks, BreaksTalk, Goes, IsMarked, Told, caller_of, latest_after};
 ghost use Rattle.tsn_serve.specs.Outcomes.{Outcome, moment, most_reads};
 
 use crate::gate::Gate;
@@ -18,6 +20,7 @@ use tsn_bridge::command::{Ask, Command};
 use tsn_bridge::reply::Reply;
 use tsn_bytes::{ByteIn, ByteOut, Fault};
 use tsn_desk::desk::{Desk, Seat};
+use tsn_desk::machine::{Nobody, Witness};
 use tsn_replies::write_reply;
 use tsn_types::refusals::Refusal;
 
@@ -31,11 +34,13 @@ fn latest_after(latest: Option<u32>, reply: &Reply) -> Option<u32>
     }
 }
 
-// One end of a connection, which answers lines by turns of its seat. A contract sees what a caller can tell of it.
-struct Connection<'a, R: Wait, G: Gate> {
+/// One end of a connection, which answers lines by turns of its seat, each attended by the witness. A contract sees what a caller
+/// can tell of it.
+pub struct Connection<'a, R: Wait, G: Gate, W: Witness<Bridge>> {
     rt: &'a R,
     desk: &'a Desk<Bridge>,
     gate: &'a G,
+    witness: W,
     number: u32,
     // None only while it has its turn.
     seat: Option<Seat<Bridge>>,
@@ -43,7 +48,7 @@ struct Connection<'a, R: Wait, G: Gate> {
     latest: Option<u32>,
 }
 
-impl<'a, R: Wait, G: Gate> Model for Connection<'a, R, G> {
+impl<'a, R: Wait, G: Gate, W: Witness<Bridge>> Model for Connection<'a, R, G, W> {
     ghost use Rattle.tsn_serve.specs.Talk.{Caller};
     ghost use Rattle.tsn_serve.specs.Held.{shown, IsHeld, caller_code};
 
@@ -56,14 +61,16 @@ impl<'a, R: Wait, G: Gate> Model for Connection<'a, R, G> {
     ghost invariant = { λ c. IsHeld c.desk.now c.seat };
 }
 
-impl<'a, R: Wait, G: Gate> Connection<'a, R, G> {
-    fn new(
+impl<'a, R: Wait, G: Gate, W: Witness<Bridge> + Drop> Connection<'a, R, G, W> {
+    /// With this seat, and no session yet.
+    pub fn new(
         rt: &'a R,
         desk: &'a Desk<Bridge>,
         seat: Seat<Bridge>,
         number: u32,
         gate: &'a G,
-    ) -> Connection<'a, R, G>
+        witness: W,
+    ) -> Connection<'a, R, G, W>
         requires { IsSeatOf desk.now seat }
         ensures { result ≡ caller_of desk.now seat None }
     {
@@ -71,14 +78,15 @@ impl<'a, R: Wait, G: Gate> Connection<'a, R, G> {
             rt,
             desk,
             gate,
+            witness,
             number,
             seat: Some(seat),
             latest: None,
         }
     }
 
-    // The seat, at the end.
-    fn into_seat(self, desk: &Desk<Bridge>) -> Seat<Bridge>
+    /// The seat, at the end.
+    pub fn into_seat(self, desk: &Desk<Bridge>) -> Seat<Bridge>
         requires { (self.desk ≡ id_of desk.now) × (self.first ≡ first_of desk.now) }
         ensures own { IsSeatOf desk.now result }
         ensures same { self.entry ≡ caller_of desk.now result self.entry.latest }
@@ -87,6 +95,7 @@ impl<'a, R: Wait, G: Gate> Connection<'a, R, G> {
             rt: _,
             desk: _,
             gate: _,
+            witness: _,
             number: _,
             seat,
             latest: _,
@@ -102,9 +111,10 @@ impl<'a, R: Wait, G: Gate> Connection<'a, R, G> {
         matches!(ask.command, Command::Hello) || self.latest == Some(ask.session)
     }
 
-    // Makes a call. It is refused where no ticket is left.
-    fn call(&mut self, ask: Ask) -> Result<Reply, Fault>
-        ensures ok { IfOk result (λ reply. Calls self.old ask reply self.new) }
+    // Makes a call, and gives what the witness says of it. It is refused where no ticket is left.
+    fn call(&mut self, ask: Ask) -> Result<(Reply, W::Mark), Fault>
+        ensures ok { IfOk result (λ r. Calls self.old ask r.0 self.new) }
+        ensures mark { IfOk result (λ r. W.marks ask r.0 r.1) }
         ensures fault { IfErr result (λ e. e ≡ Exhausted) }
         ensures tired { OnErr result ((2 ^ 63 ≤ self.new.tickets) × (self.new ≡ record self.old { tickets = self.new.tickets })) }
     {
@@ -112,47 +122,65 @@ impl<'a, R: Wait, G: Gate> Connection<'a, R, G> {
         let Some(seat) = self.seat.take() else {
             unreachable!()
         };
-        let (seat, turned) = self.desk.turn(self.rt, seat, ask);
+        let (seat, turned) = self
+            .desk
+            .attended_turn(self.rt, seat, ask, &mut self.witness);
         self.seat = Some(seat);
-        let Ok(turn) = turned else {
+        let Ok((turn, mark)) = turned else {
             return Err(Fault::Exhausted);
         };
         let reply = turn.reply;
         self.latest = latest_after(self.latest, &reply);
-        Ok(reply)
+        Ok((reply, mark))
     }
 
-    // The reply to what a line was read as.
-    fn reply_to(&mut self, read: Result<Ask, Refusal>) -> Result<Reply, Fault>
-        ensures ok { IfOk result (λ reply. Replies Asks self.old read reply self.new) }
+    // The reply to what a line was read as, and what the witness says of the call for it: none where it is refused with no call.
+    fn reply_to(&mut self, read: Result<Ask, Refusal>) -> Result<(Reply, Option<W::Mark>), Fault>
+        ensures ok { IfOk result (λ r. Replies Asks self.old read r.0 self.new) }
+        ensures mark { IfOk result (λ r. IsMarked W.marks read r.0 r.1) }
+        ensures no_mark { IfOk result (λ r. IfNone r.1 (self.new ≡ self.old)) }
         ensures fault { IfErr result (λ e. e ≡ Exhausted) }
         ensures tired { OnErr result (Tires self.old read self.new) }
     {
         let ask = match read {
             Ok(ask) => ask,
-            Err(refusal) => return Ok(Reply::Refused(refusal)),
+            Err(refusal) => return Ok((Reply::Refused(refusal), None)),
         };
         if !self.may_ask(&ask) {
-            return Ok(Reply::Refused(Refusal::NoSession));
+            return Ok((Reply::Refused(Refusal::NoSession), None));
         }
-        self.call(ask)
+        let (reply, mark) = self.call(ask)?;
+        Ok((reply, Some(mark)))
+    }
+
+    /// The reply to a line, none being one that is too long, and what the witness says of the call for it: none where it is
+    /// refused with no call.
+    pub fn reply(
+        &mut self,
+        alloc: Global,
+        line: Option<&[u8]>,
+    ) -> Result<(Reply, Option<W::Mark>), Fault>
+        ensures ok { IfOk result (λ r. Told W.marks self.old (option_map (λ s. s.now) line.entry) r.0 r.1 self.new) }
+        ensures fault { IfErr result (λ e. e ≡ Exhausted) }
+        ensures tired { OnErr result ((read : Result AnyAsk AnyRefusal) × MayRead (option_map (λ s. s.now) line.entry) read × Tires self.old read self.new) }
+    {
+        self.reply_to(read_line(alloc, line))
     }
 }
 
-impl<'a, R: Wait, G: Gate> Responder for Connection<'a, R, G> {
+impl<'a, R: Wait, G: Gate, W: Witness<Bridge> + Drop> Responder for Connection<'a, R, G, W> {
     ghost answers = { Talks };
 
     ghost breaks = { BreaksTalk };
 
-    fn answer<W: ByteOut>(
+    fn answer<O: ByteOut>(
         &mut self,
         alloc: Global,
         line: Option<&[u8]>,
-        writer: &mut W,
+        writer: &mut O,
     ) -> Result<(), Fault> {
-        let read = read_line(alloc, line);
-        let reply = match self.reply_to(read) {
-            Ok(reply) => reply,
+        let (reply, _) = match self.reply(alloc, line) {
+            Ok(replied) => replied,
             Err(fault) => return Err(fault),
         };
         let written = write_reply(writer, &reply);
@@ -191,7 +219,7 @@ pub fn session<R: Wait, I: ByteIn, O: ByteOut, G: Gate>(
     ensures untouched { IsErrOf result.1 Memory
         → (reader.new ≡ reader.old) × (writer.new ≡ writer.old) }
 {
-    let mut end = Connection::new(rt, desk, seat, connection, gate);
+    let mut end = Connection::new(rt, desk, seat, connection, gate, Nobody);
     let ended = answer_lines(alloc, &mut end, reader, writer, READS);
     (end.into_seat(desk), ended)
 }

@@ -6,6 +6,7 @@
 
 mod connection;
 mod gate;
+mod host;
 mod laws;
 mod line_buffer;
 mod probing;
@@ -13,8 +14,9 @@ mod responder;
 mod script;
 mod serving;
 
-pub use connection::session;
+pub use connection::{Connection, session};
 pub use gate::{Free, Gate};
+pub use host::{Gated, Host, start_with};
 pub use laws::{example_cuts, one_cut, served};
 pub use line_buffer::{LineBuffer, MAX_LINE};
 pub use probing::{Probe, Probed, ServeFault};

@@ -2,9 +2,10 @@
 //! It relies on `tsn_port` for what a worker's rounds tell.
 ghost use Rattle.std.specs.Prelude.{◌≡◌, ℕ, Some, Ok, IfOk, vec_len, length, slice_get, All};
 ghost use Rattle.tsn_desk.specs.Desks.{IsSeatOf, first_of};
-ghost use Rattle.tsn_bridge.specs.Beginning.{IsOpened};
+ghost use Rattle.tsn_bridge.specs.Reached.{IsReached};
 ghost use Rattle.tsn_serve.specs.Probes.{IsProbed, serve_fault};
 
+use crate::host::Host;
 use std::alloc::{AllocError, Global};
 use std::sync::Wait;
 use std::thread;
@@ -43,15 +44,18 @@ pub type Probed = (Seat<Bridge>, PortWorker);
 
 // Starts the worker, and makes its rounds. What a round answers is passed over.
 #[tactic(auto, using(crate::proofs::Rounds::started))]
-fn probe_seat<R: Wait>(rt: &R, desk: &Desk<Bridge>, probe: Probe) -> Result<Probed, RoundFault>
-    requires { IsSeatOf desk.now probe.seat × IsOpened (first_of desk.now) }
+fn probe_seat<R: Wait, H: Host>(
+    rt: &R,
+    alloc: Global,
+    desk: &Desk<Bridge>,
+    probe: Probe,
+    host: &H,
+) -> Result<Probed, RoundFault>
+    requires { IsSeatOf desk.now probe.seat × IsReached (first_of desk.now) }
     ensures { IfOk result (λ p. IsProbed desk.now probe p) }
 {
     let Probe { seat, port, at } = probe;
-    let (seat, worker) = match PortWorker::start(rt, desk, seat, port) {
-        Ok(started) => started,
-        Err((_seat, fault)) => return Err(fault),
-    };
+    let (seat, worker) = host.start(rt, alloc, desk, seat, port)?;
     let mut seat = seat;
     let mut worker = worker;
     'rounds: for _ in 0..ROUNDS {
@@ -95,36 +99,39 @@ fn all_probed(
 }
 
 // What became of each probe, in a thread for each.
-fn probe_each<R: Wait + Threads + Sync>(
-    rt: &R,
-    desk: &Desk<Bridge>,
-    probes: Vec<Probe>,
-) -> Result<Vec<Result<Probed, RoundFault>>, AllocError>
-    requires own { All (λ p. IsSeatOf desk.now p.seat) probes.items }
-    requires opened { IsOpened (first_of desk.now) }
-    ensures len { IfOk result (λ v. length v.items ≡ length probes.items) }
-    ensures each { IfOk result (λ v. (k : ℕ) (p r : _) → slice_get probes.items k ≡ Some p → slice_get v.items k ≡ Some r → IfOk r (λ q. IsProbed desk.now p q)) }
-{
-    let ask = |probe: Probe| -> Result<Probed, RoundFault>
-        requires { IsSeatOf desk.now probe.seat × IsOpened (first_of desk.now) }
-        ensures { IfOk result (λ p. IsProbed desk.entry.now probe p) }
-    { probe_seat(rt, desk, probe) };
-    thread::map_vec(rt, probes, &ask)
-}
-
-// Probes with each of these seats, in a thread for each.
-pub(crate) fn probe_seats<R: Wait + Threads + Sync>(
+fn probe_each<R: Wait + Threads + Sync, H: Host + Sync>(
     rt: &R,
     alloc: Global,
     desk: &Desk<Bridge>,
     probes: Vec<Probe>,
+    host: &H,
+) -> Result<Vec<Result<Probed, RoundFault>>, AllocError>
+    requires own { All (λ p. IsSeatOf desk.now p.seat) probes.items }
+    requires opened { IsReached (first_of desk.now) }
+    ensures len { IfOk result (λ v. length v.items ≡ length probes.items) }
+    ensures each { IfOk result (λ v. (k : ℕ) (p r : _) → slice_get probes.items k ≡ Some p → slice_get v.items k ≡ Some r → IfOk r (λ q. IsProbed desk.now p q)) }
+{
+    let ask = |probe: Probe| -> Result<Probed, RoundFault>
+        requires { IsSeatOf desk.now probe.seat × IsReached (first_of desk.now) }
+        ensures { IfOk result (λ p. IsProbed desk.entry.now probe p) }
+    { probe_seat(rt, alloc, desk, probe, host) };
+    thread::map_vec(rt, probes, &ask)
+}
+
+// Probes with each of these seats, in a thread for each.
+pub(crate) fn probe_seats<R: Wait + Threads + Sync, H: Host + Sync>(
+    rt: &R,
+    alloc: Global,
+    desk: &Desk<Bridge>,
+    probes: Vec<Probe>,
+    host: &H,
 ) -> Result<Vec<Probed>, ServeFault>
     requires own { All (λ p. IsSeatOf desk.now p.seat) probes.items }
-    requires opened { IsOpened (first_of desk.now) }
+    requires opened { IsReached (first_of desk.now) }
     ensures len { IfOk result (λ v. length v.items ≡ length probes.items) }
     ensures each { IfOk result (λ v. (k : ℕ) (p q : _) → slice_get probes.items k ≡ Some p → slice_get v.items k ≡ Some q → IsProbed desk.now p q) }
 {
-    let Ok(results) = probe_each(rt, desk, probes) else {
+    let Ok(results) = probe_each(rt, alloc, desk, probes, host) else {
         return Err(ServeFault::Memory);
     };
     all_probed(alloc, results)

@@ -1,21 +1,20 @@
 //! Many connections at once over one bridge, each served by the seat of one of several threads, and port workers beside them.
-//! It relies on `session` for a connection, on a source for where they come from, and on probes for the workers.
+//! It relies on a host for a connection, on a source for where they come from, and on probes for the workers.
 ghost use Rattle.std.specs.Prelude.{◌≡◌, ◌<◌, ◌++◌, ℕ, Some, IfOk, length, map, All, slice_get, vec_len};
 ghost use Rattle.tsn_desk.specs.Desks.{IsSeatOf, first_of};
-ghost use Rattle.tsn_bridge.specs.Beginning.{IsOpened};
+ghost use Rattle.tsn_bridge.specs.Reached.{IsReached};
 ghost use Rattle.tsn_port.specs.Workers.{GoesOn};
 ghost use Rattle.tsn_serve.specs.Probes.{IsProbed};
 ghost use Rattle.tsn_serve.specs.Serving.{Matched, HasProbed, HasServed};
 
-use crate::connection::session;
-use crate::gate::Gate;
+use crate::host::Host;
 use crate::probing::{Probe, Probed, ServeFault, probe_seats};
 use std::alloc::{AllocError, Global};
 use std::sync::Wait;
 use std::thread;
 use std::thread::{Threads, join};
 use tsn_bridge::bridge::Bridge;
-use tsn_bytes::{Buffered, ByteIn, ByteOut};
+use tsn_bytes::{ByteIn, ByteOut};
 use tsn_desk::desk::{Desk, Seat};
 use tsn_port::worker::PortWorker;
 use tsn_types::numbers::{Instant, PortId};
@@ -30,45 +29,15 @@ pub trait Source {
     fn next(&self) -> Option<(u32, Self::Reader, Self::Writer)>;
 }
 
-// Serves one connection. Its replies are gathered, in memory of its own; where there is none, it ends at once.
-#[tactic(auto, using(crate::proofs::Going::sat_still, crate::proofs::Going::sat))]
-fn serve_one<R: Wait, I: ByteIn + Drop, O: ByteOut + Drop, G: Gate>(
-    rt: &R,
-    alloc: Global,
-    desk: &Desk<Bridge>,
-    seat: Seat<Bridge>,
-    connection: (u32, I, O),
-    gate: &G,
-) -> Seat<Bridge>
-    requires { IsSeatOf desk.now seat }
-    ensures { GoesOn desk.now seat result }
-{
-    let (number, mut reader, writer) = connection;
-    let Ok(mut writer) = Buffered::new(alloc, writer) else {
-        return seat;
-    };
-    let (seat, _) = session(
-        rt,
-        alloc,
-        desk,
-        seat,
-        number,
-        &mut reader,
-        &mut writer,
-        gate,
-    );
-    seat
-}
-
 // Serves connections with one seat until none is left.
 #[tactic(auto, using(crate::proofs::Going::sat_still))]
-fn serve_seat<R: Wait, S: Source, G: Gate>(
+fn serve_seat<R: Wait, S: Source, H: Host>(
     rt: &R,
     alloc: Global,
     desk: &Desk<Bridge>,
     seat: Seat<Bridge>,
     source: &S,
-    gate: &G,
+    host: &H,
 ) -> Seat<Bridge>
     requires { IsSeatOf desk.now seat }
     ensures { GoesOn desk.now seat result }
@@ -78,20 +47,20 @@ fn serve_seat<R: Wait, S: Source, G: Gate>(
         let Some(connection) = source.next() else {
             return seat;
         };
-        seat = serve_one(rt, alloc, desk, seat, connection, gate);
+        seat = host.serve(rt, alloc, desk, seat, connection);
     }
     unreachable!()
 }
 
 /// Serves connections, in a thread for each seat, until none is left. A connection's fault ends that connection alone.
 /// Each seat is back in its place.
-pub fn serve_seats<R: Wait + Threads + Sync, S: Source + Sync, G: Gate + Sync>(
+pub fn serve_seats<R: Wait + Threads + Sync, S: Source + Sync, H: Host + Sync>(
     rt: &R,
     alloc: Global,
     desk: &Desk<Bridge>,
     seats: Vec<Seat<Bridge>>,
     source: &S,
-    gate: &G,
+    host: &H,
 ) -> Result<Vec<Seat<Bridge>>, AllocError>
     requires { All (λ s. IsSeatOf desk.now s) seats.items }
     ensures len { IfOk result (λ v. length v.items ≡ length seats.items) }
@@ -100,7 +69,7 @@ pub fn serve_seats<R: Wait + Threads + Sync, S: Source + Sync, G: Gate + Sync>(
     let serve = |seat: Seat<Bridge>| -> Seat<Bridge>
         requires { IsSeatOf desk.now seat }
         ensures { GoesOn desk.entry.now seat result }
-    { serve_seat(rt, alloc, desk, seat, source, gate) };
+    { serve_seat(rt, alloc, desk, seat, source, host) };
     thread::map_vec(rt, seats, &serve)
 }
 
@@ -182,18 +151,18 @@ fn all_served(
 /// connection's fault ends that connection alone, and what a round answers is passed over. The first seats are back, and
 /// each of the others beside its worker. After a fault the seats are gone, so the desk can only be dropped: memory was
 /// wanting, or a worker did not start.
-pub fn serve_beside<R: Wait + Threads + Sync, S: Source + Sync, G: Gate + Sync>(
+pub fn serve_beside<R: Wait + Threads + Sync, S: Source + Sync, H: Host + Sync>(
     rt: &R,
     alloc: Global,
     desk: &Desk<Bridge>,
     seats: Vec<Seat<Bridge>>,
     source: &S,
-    gate: &G,
+    host: &H,
     probes: &[(PortId, Instant)],
 ) -> Result<(Vec<Seat<Bridge>>, Vec<Probed>), ServeFault>
     requires own { All (λ s. IsSeatOf desk.now s) seats.items }
     requires more { length probes.now < vec_len seats }
-    requires opened { IsOpened (first_of desk.now) }
+    requires opened { IsReached (first_of desk.now) }
     ensures { IfOk result (λ r. HasProbed desk.now seats.items probes.now r.0.items r.1.items) }
 {
     let (seats, probes) = parted(alloc, desk, seats, probes)?;
@@ -202,11 +171,11 @@ pub fn serve_beside<R: Wait + Threads + Sync, S: Source + Sync, G: Gate + Sync>(
         || -> Result<Vec<Seat<Bridge>>, AllocError>
             requires { All (λ s. IsSeatOf desk.now s) seats.items }
             ensures { IfOk result (λ v. Matched (λ old new. GoesOn desk.entry.now old new) seats.items v.items) }
-        { serve_seats(rt, alloc, desk, seats, source, gate) },
+        { serve_seats(rt, alloc, desk, seats, source, host) },
         || -> Result<Vec<Probed>, ServeFault>
-            requires { All (λ p. IsSeatOf desk.now p.seat) probes.items × IsOpened (first_of desk.now) }
+            requires { All (λ p. IsSeatOf desk.now p.seat) probes.items × IsReached (first_of desk.now) }
             ensures { IfOk result (λ v. Matched (λ probe pair. IsProbed desk.entry.now probe pair) probes.items v.items) }
-        { probe_seats(rt, alloc, desk, probes) },
+        { probe_seats(rt, alloc, desk, probes, host) },
     );
     let Ok(served) = served else {
         return Err(ServeFault::Memory);
@@ -216,20 +185,20 @@ pub fn serve_beside<R: Wait + Threads + Sync, S: Source + Sync, G: Gate + Sync>(
 }
 
 /// Serves as `serve_beside` does, and gives all seats in their first order and the workers in the order of the probes.
-pub fn serve_all<R: Wait + Threads + Sync, S: Source + Sync, G: Gate + Sync>(
+pub fn serve_all<R: Wait + Threads + Sync, S: Source + Sync, H: Host + Sync>(
     rt: &R,
     alloc: Global,
     desk: &Desk<Bridge>,
     seats: Vec<Seat<Bridge>>,
     source: &S,
-    gate: &G,
+    host: &H,
     probes: &[(PortId, Instant)],
 ) -> Result<Served, ServeFault>
     requires own { All (λ s. IsSeatOf desk.now s) seats.items }
     requires more { length probes.now < vec_len seats }
-    requires opened { IsOpened (first_of desk.now) }
+    requires opened { IsReached (first_of desk.now) }
     ensures { IfOk result (λ s. HasServed desk.now seats.items probes.now s.seats.items s.workers.items) }
 {
-    let (served, probed) = serve_beside(rt, alloc, desk, seats, source, gate, probes)?;
+    let (served, probed) = serve_beside(rt, alloc, desk, seats, source, host, probes)?;
     all_served(alloc, served, probed)
 }

@@ -3,7 +3,7 @@ ghost use Rattle.std.specs.Prelude.{◌≡◌, ◌≢◌, ◌<◌, ◌≤◌, �
 ghost use Rattle.std.specs.Io.KnownBytes.{Appends};
 ghost use Rattle.tsn_bytes.specs.declared.bytes.Fault.TheVariants.{Memory, Read, Write};
 ghost use Rattle.tsn_desk.specs.Desks.{IsSeatOf, first_of};
-ghost use Rattle.tsn_bridge.specs.Beginning.{IsOpened};
+ghost use Rattle.tsn_bridge.specs.Reached.{IsReached};
 ghost use Rattle.tsn_port.specs.Workers.{port_of};
 ghost use Rattle.tsn_server.specs.Reporting.{IsRested};
 ghost use Rattle.tsn_server.specs.Serving.{ReportsPorts, ports_to};
@@ -19,11 +19,15 @@ use tsn_bridge::bridge::Bridge;
 use tsn_bytes::{ByteOut, Fault};
 use tsn_desk::desk::{Desk, Seat};
 use tsn_port::worker::PortWorker;
-use tsn_serve::{Free, Source, serve_beside};
+use tsn_serve::{Host, Source, serve_beside};
 use tsn_types::numbers::{Instant, PortId};
 
 // Each of so many ports at the instant, from port 1.
-fn probes_of(alloc: Global, ports: u64, at: Instant) -> Result<Vec<(PortId, Instant)>, ServerFault>
+pub(crate) fn probes_of(
+    alloc: Global,
+    ports: u64,
+    at: Instant,
+) -> Result<Vec<(PortId, Instant)>, ServerFault>
     requires { ports ≤ 64 }
     ensures ports { IfOk result (λ v. map (λ p. p.0) v.items ≡ ports_to ports) }
     ensures many { IfOk result (λ v. vec_len v ≡ ports) }
@@ -40,49 +44,51 @@ fn probes_of(alloc: Global, ports: u64, at: Instant) -> Result<Vec<(PortId, Inst
 }
 
 // Serves connections, and gives the worker of each probe beside its seat, in the order of the probes.
-fn served<R: Wait + Threads + Sync, S: Source + Sync>(
+pub(crate) fn served<R: Wait + Threads + Sync, S: Source + Sync, H: Host + Sync>(
     rt: &R,
     alloc: Global,
     desk: &Desk<Bridge>,
     seats: Vec<Seat<Bridge>>,
     source: &S,
+    host: &H,
     probes: &[(PortId, Instant)],
 ) -> Result<Vec<(Seat<Bridge>, PortWorker)>, ServerFault>
     requires own { All (λ s. IsSeatOf desk.now s) seats.items }
     requires more { length probes.now < vec_len seats }
-    requires opened { IsOpened (first_of desk.now) }
+    requires opened { IsReached (first_of desk.now) }
     ensures rested { IfOk result (λ v. All (λ p. IsRested desk.now p) v.items) }
     ensures ports { IfOk result (λ v. map (λ p. port_of p.1) v.items ≡ map (λ p. p.0) probes.now) }
     ensures write { IfErr result (λ e. e ≢ FaultOf Write) }
     ensures read { IfErr result (λ e. e ≢ FaultOf Read) }
 {
-    match serve_beside(rt, alloc, desk, seats, source, &Free, probes) {
+    match serve_beside(rt, alloc, desk, seats, source, host, probes) {
         Ok((_seats, workers)) => Ok(workers),
         Err(fault) => Err(serving_failed(fault)),
     }
 }
 
 // Serves connections at a desk, and tells of the last rounds.
-fn serve_desk<R: Wait + Threads + Sync, S: Source + Sync, W: ByteOut>(
+fn serve_desk<R: Wait + Threads + Sync, S: Source + Sync, H: Host + Sync, W: ByteOut>(
     rt: &R,
     alloc: Global,
     desk: &Desk<Bridge>,
     seats: Vec<Seat<Bridge>>,
     source: &S,
+    host: &H,
     probes: &[(PortId, Instant)],
     at: Instant,
     writer: &mut W,
 ) -> Result<(), ServerFault>
     requires own { All (λ s. IsSeatOf desk.now s) seats.items }
     requires more { length probes.now < vec_len seats }
-    requires opened { IsOpened (first_of desk.now) }
+    requires opened { IsReached (first_of desk.now) }
     ensures lines { OnOk result ((text : List ℕ) × ReportsPorts (first_of desk.now) at (map (λ p. p.0) probes.now) text × Appends (W.taken writer.old) (W.taken writer.new) text) }
     ensures handed_on { OnOk result (W.pending writer.new ≡ []) }
     ensures failed { IsErrOf result (FaultOf Write) → W.has_failed writer.new ≡ true }
     ensures read { IfErr result (λ e. e ≢ FaultOf Read) }
     ensures refused { (why : Refusal) → IsErrOf result (Refused why) → writer.new ≡ writer.old }
 {
-    let workers = match served(rt, alloc, desk, seats, source, probes) {
+    let workers = match served(rt, alloc, desk, seats, source, host, probes) {
         Ok(workers) => workers,
         Err(fault) => return Err(fault),
     };
@@ -98,16 +104,17 @@ fn serve_desk<R: Wait + Threads + Sync, S: Source + Sync, W: ByteOut>(
 /// instant comes before the last act on the port. Each line tells where one legal history of the bridge ends. The lines
 /// are handed on. A connection's fault ends that connection alone. Serving itself ends where memory was wanting, no ticket
 /// was left or the writer failed; or by the refusal of a worker's start, and then nothing was written.
-pub fn serve_bridge<R: Wait + Threads + Sync, S: Source + Sync, W: ByteOut>(
+pub fn serve_bridge<R: Wait + Threads + Sync, S: Source + Sync, H: Host + Sync, W: ByteOut>(
     rt: &R,
     alloc: Global,
     bridge: Bridge,
     workers: usize,
     source: &S,
+    host: &H,
     at: Instant,
     writer: &mut W,
 ) -> Result<(), ServerFault>
-    requires opened { IsOpened bridge }
+    requires opened { IsReached bridge }
     requires some { (0 < workers) × (workers ≤ 64) }
     ensures lines { OnOk result ((text : List ℕ) × ReportsPorts bridge at (ports_to bridge.book.limits.ports) text × Appends (W.taken writer.old) (W.taken writer.new) text) }
     ensures handed_on { OnOk result (W.pending writer.new ≡ []) }
@@ -123,6 +130,7 @@ pub fn serve_bridge<R: Wait + Threads + Sync, S: Source + Sync, W: ByteOut>(
             &desk,
             seats,
             source,
+            host,
             probes.as_slice(),
             at,
             writer,

@@ -65,6 +65,31 @@ impl TcpSource {
         }
         Err(io::Error::from(ErrorKind::Interrupted))
     }
+
+    /// The next connection, with its number. A peer that is gone before its connection is taken costs that connection alone.
+    /// Where none can be taken for another reason, no descriptor left say, none is left for the thread that asks.
+    pub(crate) fn next_stream(&self) -> Option<(u32, TcpStream)> {
+        'numbers: for _ in 0..TRIES {
+            let number = self.next_number()?;
+            match self.take() {
+                Ok(stream) => return Some((number, stream)),
+                Err(error) if error.kind() == ErrorKind::ConnectionAborted => {}
+                Err(_) => return None,
+            }
+        }
+        None
+    }
+}
+
+/// Both ends of a connection, for its reader and its writer.
+pub(crate) fn ends_of(
+    number: u32,
+    stream: TcpStream,
+) -> Option<(u32, StdIo<TcpStream>, StdIo<TcpStream>)> {
+    let writer = stream.try_clone().ok()?;
+    // Without it replies may come later, and are the same.
+    let _ = writer.set_nodelay(true);
+    Some((number, StdIo::new(stream), StdIo::new(writer)))
 }
 
 impl Source for TcpSource {
@@ -72,21 +97,8 @@ impl Source for TcpSource {
 
     type Writer = StdIo<TcpStream>;
 
-    /// A peer that is gone before its connection is taken costs that connection alone. Where none can be taken for another
-    /// reason, no descriptor left say, none is left for the thread that asks.
     fn next(&self) -> Option<(u32, StdIo<TcpStream>, StdIo<TcpStream>)> {
-        'numbers: for _ in 0..TRIES {
-            let number = self.next_number()?;
-            let reader = match self.take() {
-                Ok(stream) => stream,
-                Err(error) if error.kind() == ErrorKind::ConnectionAborted => continue 'numbers,
-                Err(_) => return None,
-            };
-            let writer = reader.try_clone().ok()?;
-            // Without it replies may come later, and are the same.
-            let _ = writer.set_nodelay(true);
-            return Some((number, StdIo::new(reader), StdIo::new(writer)));
-        }
-        None
+        let (number, stream) = self.next_stream()?;
+        ends_of(number, stream)
     }
 }

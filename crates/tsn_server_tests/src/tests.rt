@@ -13,6 +13,7 @@ use std::test::Fail;
 use std::thread::{Threads, join};
 use tsn_bridge::bridge::Bridge;
 use tsn_bytes::{Fault, MemOut};
+use tsn_serve::{Free, Gated};
 use tsn_server::{ServerFault, TcpSource, listen_on, serve_bridge};
 use tsn_setup::setup_of;
 use tsn_types::numbers::Instant;
@@ -44,7 +45,16 @@ fn serve<R: Wait + Threads + Sync>(
 ) -> Result<MemOut, ServerFault> {
     let bridge = new_bridge(alloc)?;
     let mut output = MemOut::new(Vec::new(alloc), 100, None);
-    serve_bridge(rt, alloc, bridge, 1, source, at, &mut output)?;
+    serve_bridge(
+        rt,
+        alloc,
+        bridge,
+        1,
+        source,
+        &Gated { gate: &Free },
+        at,
+        &mut output,
+    )?;
     Ok(output)
 }
 

@@ -15,7 +15,7 @@ use std::time::{Clock, Duration};
 use tsn_bridge::bridge::{Bridge, Setup};
 use tsn_bytes::{Fault, MemIn, MemOut};
 use tsn_desk::desk::{Desk, Seat};
-use tsn_serve::{Free, Gate, Source, serve_all, session};
+use tsn_serve::{Free, Gate, Gated, Source, serve_all, session};
 use tsn_types::numbers::{Instant, PortId};
 
 /// A new bridge.
@@ -158,7 +158,15 @@ fn serve_two<R: Wait + Threads + Clock + Abort + Sync>(
         gave_up: &gave_up,
     };
     let probes = [(PortId::new(1).unwrap(), Instant::new(9).unwrap())];
-    let served = serve_all(rt, alloc, &desk, seats, &source, &gate, &probes);
+    let served = serve_all(
+        rt,
+        alloc,
+        &desk,
+        seats,
+        &source,
+        &Gated { gate: &gate },
+        &probes,
+    );
     same(rt, &served.is_ok(), &true);
     Ok((
         answered.load(Ordering::SeqCst),

@@ -18,4 +18,5 @@ pub loop-made-preserved : goal.loop-made-preserved
 loop-made-preserved g c = (
   λ before setup way. way_on before _ _ setup _ _ _ (c.in-Ok-true.ensures.fed before) (c.in_default.ensures.through before _ setup (c.loop-made.invariant.0 before setup way)),
   c.in-Ok-true.ensures.worked ∙ c.loop-made.invariant.1,
+  λ reached. c.in_default.ensures.reached (c.loop-made.invariant.2 reached),
 )

@@ -10,7 +10,7 @@ use Rattle.tsn_port.proofs.worker.PortWorker.follow.Goals as goal
 pub read_behind-seat-requires : goal.read_behind-seat-requires
 read_behind-seat-requires g c =
     let w = c.requires.1 in
-    (c.requires.0, w.opened, given_on (first_of c.args.desk.now) w.opened (last_seen c.args.self.now) (seen c.args.seat) c.args.self.now.session c.requires.2 w.given)
+    (c.requires.0, w.reached, given_on (first_of c.args.desk.now) w.reached (last_seen c.args.self.now) (seen c.args.seat) c.args.self.now.session c.requires.2 w.given)
 
 pub returns-in-Ok-taken-clause-worker : goal.returns-in-Ok-taken-clause-worker
 returns-in-Ok-taken-clause-worker g c =
