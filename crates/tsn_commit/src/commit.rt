@@ -83,6 +83,12 @@ impl<C: Clock + Drop, D: Device + Drop, R: Naming, K: Naming + Ahead> Commit<C, 
         unreachable!()
     }
 
+    /// Ends the commit, as a failed call of the device does: nothing is recorded or kept any more.
+    pub fn stop<W: Wait>(&self, rt: &W) {
+        self.state.lock(rt).stop();
+        self.changed.notify_all();
+    }
+
     // Has all that waits be kept, with no lock held meanwhile; or, where somebody is at it, waits until that is done.
     fn turn<'a, W: Wait>(
         &'a self,

@@ -153,6 +153,13 @@ impl<C: Clock + Drop, D: Device + Drop, R: Naming, K: Naming + Ahead> State<C, D
         None
     }
 
+    /// Ends the commit.
+    pub(crate) fn stop(&mut self)
+        ensures { self.new ≡ self.old }
+    {
+        self.stopped = true;
+    }
+
     /// Hands out the scribe with all that waits, unless somebody is at it.
     pub(crate) fn hand_out(&mut self) -> Option<Job<C, D, R, K>>
         ensures { self.new ≡ self.old }

@@ -4,8 +4,8 @@
 //! answered, and the device is seen by its notes. That each method here makes the call that it notes, and that the
 //! system does what it answers, is for whoever reads this file: a body that notes a sync and makes none would be proved
 //! as well.
-ghost use Rattle.std.specs.Prelude.{◌≡◌, ◌<◌, ◌≤◌, ◌↔◌, ◌++◌, length, take, true, false, IfOk, IsNone, OnErr};
-ghost use Rattle.tsn_device.specs.Noted.{no_bytes, taken};
+ghost use Rattle.std.specs.Prelude.{◌≡◌, ◌<◌, ◌≤◌, ◌↔◌, ◌++◌, [], length, take, true, false, IfOk, IsNone, OnErr};
+ghost use Rattle.tsn_device.specs.Noted.{taken};
 
 use crate::device::{Device, Failed};
 use crate::note::Note;
@@ -19,6 +19,19 @@ const TAKEN: u64 = 0;
 
 // A note of a sync that came back.
 const SYNCED: u64 = 1;
+
+/// A device over a file of the system, which is written at its end.
+pub trait DeviceOverFile: Device {
+    /// A device over an open file that is written at its end. What stands in it from before is no part of what the device
+    /// is seen to keep.
+    fn over(file: File) -> Self
+        ensures none { (Self.kept result ≡ []) × (Self.loose result ≡ []) }
+        ensures works { Self.works result ≡ true };
+
+    /// Why a call failed, where one has.
+    fn fault(&self) -> Option<&io::Error>
+        ensures { IsNone result ↔ (Self.works self.now ≡ true) };
+}
 
 /// A file that is written at its end. A contract sees what was written since it is a device, how much of that is kept,
 /// and whether no call has failed. A write that a signal interrupts is made again; a sync that fails never is.
@@ -39,25 +52,6 @@ impl Model for FileDevice {
 }
 
 impl FileDevice {
-    /// A device over an open file that is written at its end. What stands in it from before is no part of what the device
-    /// is seen to keep.
-    pub fn over(file: File) -> FileDevice
-        ensures { result ≡ record { log = no_bytes; works = true } }
-    {
-        FileDevice {
-            file,
-            note: Note::new(),
-            fault: None,
-        }
-    }
-
-    /// Why a call failed, where one has.
-    pub fn fault(&self) -> Option<&io::Error>
-        ensures { IsNone result ↔ (self.now.works ≡ true) }
-    {
-        self.fault.as_ref()
-    }
-
     // Takes note of why a call failed.
     fn failed(&mut self, error: io::Error) -> Failed
         ensures { self.new ≡ record { log = self.old.log; works = false } }
@@ -80,6 +74,20 @@ impl FileDevice {
             }
             Err(error) => Err(self.failed(error)),
         }
+    }
+}
+
+impl DeviceOverFile for FileDevice {
+    fn over(file: File) -> FileDevice {
+        FileDevice {
+            file,
+            note: Note::new(),
+            fault: None,
+        }
+    }
+
+    fn fault(&self) -> Option<&io::Error> {
+        self.fault.as_ref()
     }
 }
 
@@ -109,5 +117,41 @@ impl Device for FileDevice {
             }
             Err(error) => Err(self.failed(error)),
         }
+    }
+}
+
+/// A file that is written at its end, and of which no sync is made. It is seen to keep what a sync would have it keep: that
+/// outlasts the process, and perhaps not a loss of power.
+#[derive(Drop)]
+pub struct UnsyncedDevice {
+    device: FileDevice,
+}
+
+impl DeviceOverFile for UnsyncedDevice {
+    fn over(file: File) -> UnsyncedDevice {
+        UnsyncedDevice {
+            device: FileDevice::over(file),
+        }
+    }
+
+    fn fault(&self) -> Option<&io::Error> {
+        self.device.fault()
+    }
+}
+
+impl Device for UnsyncedDevice {
+    ghost kept = { λ d. d.device.log.kept };
+
+    ghost loose = { λ d. d.device.log.loose };
+
+    ghost works = { λ d. d.device.works };
+
+    fn append(&mut self, bytes: &[u8]) -> Result<(), Failed> {
+        self.device.append(bytes)
+    }
+
+    fn sync(&mut self) -> Result<(), Failed> {
+        self.device.note.note(&[SYNCED], &[]);
+        Ok(())
     }
 }
