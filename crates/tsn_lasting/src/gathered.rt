@@ -10,7 +10,7 @@ const CAPACITY: usize = 65_536;
 
 /// Bytes in room for so many; a put that finds none left fails. A contract sees the bytes, and whether a put has failed.
 #[derive(Drop)]
-pub(crate) struct Gathered {
+pub struct Gathered {
     bytes: Vec<u8>,
     has_failed: bool,
 }
@@ -28,7 +28,7 @@ impl Model for Gathered {
 
 impl Gathered {
     /// No bytes, and the memory for all that may wait.
-    pub(crate) fn new(alloc: Global) -> Result<Gathered, AllocError>
+    pub fn new(alloc: Global) -> Result<Gathered, AllocError>
         ensures { IfOk result (λ g. g ≡ record { bytes = []; has_failed = false }) }
     {
         let bytes = Vec::with_capacity(alloc, CAPACITY)?;
@@ -39,21 +39,21 @@ impl Gathered {
     }
 
     /// How many there are.
-    pub(crate) fn len(&self) -> usize
+    pub fn len(&self) -> usize
         ensures { result ≡ length self.now.bytes }
     {
         self.bytes.len()
     }
 
     /// All of them.
-    pub(crate) fn bytes(&self) -> &[u8]
+    pub fn bytes(&self) -> &[u8]
         ensures { result.now ≡ self.now.bytes }
     {
         self.bytes.as_slice()
     }
 
     /// Leaves the first ones alone, as many as that.
-    pub(crate) fn cut(&mut self, len: usize)
+    pub fn cut(&mut self, len: usize)
         ensures { self.new ≡ record { bytes = take len self.old.bytes; has_failed = false } }
     {
         self.bytes.truncate(len);
@@ -95,7 +95,7 @@ impl ByteOut for Gathered {
 
 /// A writer that takes nothing.
 #[derive(Drop)]
-pub(crate) struct Nowhere;
+pub struct Nowhere;
 
 impl ByteOut for Nowhere {
     ghost taken = { λ n. Some [] };

@@ -12,6 +12,7 @@ mod gathered;
 mod lasting;
 mod running;
 
+pub use gathered::{Gathered, Nowhere};
 pub use lasting::{CommandLine, Lasting, LastingFault};
 pub use running::run_lasting;
 pub use tsn_keeping::{Clock, Stamp};

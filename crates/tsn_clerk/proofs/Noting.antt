@@ -1,0 +1,99 @@
+-- What a clerk hears is what is kept, and what it records is the record.
+use Rattle.std.proofs.Common.{◌≡◌, ℕ, Bool, true, false, cond, List, [], ◌∷◌, ◌++◌, Option, Some, None, refl, sym, ◌∙◌, ap, subst, arith}
+use Rattle.std.specs.Prelude.{option_map, IfSome}
+use Rattle.std.proofs.lemmas.List.Elements.{All-nil}
+use Rattle.tsn_types.specs.declared.keys.Key.{Key}
+use Rattle.tsn_bridge.specs.declared.command.Ask.{Ask}
+use Rattle.tsn_bridge.specs.declared.command.Command.{Command}
+use Rattle.tsn_bridge.specs.declared.command.Command.TheVariants as commands
+use Rattle.tsn_bridge.specs.declared.reply.Reply.{Reply}
+use Rattle.tsn_commit.specs.Lines.{IsLine}
+use Rattle.tsn_replay.specs.Recording.{instant_told, is_accepted, kept, recorded, with_reply}
+use Rattle.tsn_spelling.specs.Line.{line_text}
+use Rattle.tsn_clerk.specs.declared.clerk.Deed.{Deed}
+use Rattle.tsn_clerk.specs.declared.clerk.Heard.{Heard}
+use Rattle.tsn_clerk.specs.declared.clerk.Heard.TheVariants as heard
+use Rattle.tsn_clerk.specs.declared.clerk.Kind.{Kind}
+use Rattle.tsn_clerk.specs.declared.clerk.Kind.TheVariants.{Act, Hello, Itself, Passing}
+use Rattle.tsn_clerk.specs.Noting.{EndsWith, HasLast, IsHeard, IsRecorded, act_of, kind_of}
+
+-- what is kept of a command of this kind
+abbrev kept_by : ℕ → Command → ℕ → Kind → Option Ask
+kept_by n command at Itself = Some (record { session = n; command = command })
+kept_by n command at Hello = Some (record { session = 0; command = commands.Hello })
+kept_by n command at (Act deed key) = Some (record { session = n; command = act_of deed key at })
+kept_by n command at Passing = None
+
+kept_is : (n : ℕ) (command : Command) (at : ℕ) → kept n command at ≡ kept_by n command at (kind_of command)
+kept_is n commands.Hello at = refl
+kept_is n (commands.Create k r) at = refl
+kept_is n (commands.Replace k r) at = refl
+kept_is n (commands.Remove k) at = refl
+kept_is n (commands.Batch batch) at = refl
+kept_is n commands.Undo at = refl
+kept_is n commands.UndoAll at = refl
+kept_is n commands.Redo at = refl
+kept_is n (commands.Settle upto) at = refl
+kept_is n (commands.Enable k now) at = refl
+kept_is n (commands.Disable k now) at = refl
+kept_is n (commands.Apply k now) at = refl
+kept_is n (commands.Frame frame now) at = refl
+kept_is n (commands.States k t) at = refl
+kept_is n (commands.Counters k) at = refl
+kept_is n (commands.Show k) at = refl
+kept_is n (commands.List kind) at = refl
+kept_is n (commands.Since after) at = refl
+
+pub empty_line : IsLine []
+empty_line = record { free = All-nil _; short = omega arith }
+
+module _ (ask : Ask) (line : List ℕ) where
+  of_kind : (kind : Kind) → kind_of ask.command ≡ kind → (at : ℕ) → kept ask.session ask.command at ≡ kept_by ask.session ask.command at kind
+  of_kind kind is at = kept_is ask.session ask.command at ∙ ap (kept_by ask.session ask.command at) is
+
+  pub hears_passing : kind_of ask.command ≡ Passing → IsHeard heard.Passing line ask
+  hears_passing is at = of_kind Passing is at
+
+  pub hears_act : (deed : Deed) (key : Key) → kind_of ask.command ≡ Act deed key → IsHeard (heard.Act deed key ask.session) line ask
+  hears_act deed key is at = of_kind (Act deed key) is at
+
+  pub hears_itself : kind_of ask.command ≡ Itself → line ≡ line_text ask → IsHeard heard.Line line ask
+  hears_itself is spelled at = (ask, of_kind Itself is at, spelled)
+
+  pub hears_hello : kind_of ask.command ≡ Hello → line ≡ line_text (record { session = 0; command = commands.Hello }) → IsHeard heard.Line line ask
+  hears_hello is spelled at = (record { session = 0; command = commands.Hello }, of_kind Hello is at, spelled)
+
+-- ---- what is recorded
+
+module _ (ask : Ask) (reply : Reply) (lines : List (List ℕ)) where
+  by_kept : (b : Bool) (o : Option Ask) → ((a : Ask) → o ≡ Some a → EndsWith lines (line_text a)) → HasLast (cond b (option_map (with_reply reply) o) None) lines
+  by_kept false o ends = tt
+  by_kept true None ends = tt
+  by_kept true (Some a) ends = ends a refl
+
+  pub has_last : (o : Option Ask) → kept ask.session ask.command (instant_told reply) ≡ o → ((a : Ask) → o ≡ Some a → EndsWith lines (line_text a)) → HasLast (recorded (record { ask = ask; reply = reply })) lines
+  has_last o is ends = subst (λ (x : Option Ask). HasLast (cond (is_accepted reply) (option_map (with_reply reply) x) None) lines) (sym is) (by_kept (is_accepted reply) o ends)
+
+  same_ends : (a b : Ask) → Some a ≡ Some b → EndsWith lines (line_text a) → EndsWith lines (line_text b)
+  same_ends a b is ends = subst (λ (o : Option Ask). IfSome o (λ x. EndsWith lines (line_text x))) is ends
+
+  pub one_kept : (a : Ask) → kept ask.session ask.command (instant_told reply) ≡ Some a → EndsWith lines (line_text a) → HasLast (recorded (record { ask = ask; reply = reply })) lines
+  one_kept a is ends = has_last (Some a) is (λ b same. same_ends a b same ends)
+
+  pub none_kept : kept ask.session ask.command (instant_told reply) ≡ None → HasLast (recorded (record { ask = ask; reply = reply })) lines
+  none_kept is = has_last None is (λ b never. cc)
+
+-- what is noted of what was heard
+pub noted_line : (ask : Ask) (reply : Reply) (line : List ℕ) (mark : Option (List (List ℕ))) → IsHeard heard.Line line ask → IfSome mark (λ lines. EndsWith lines line) → IsRecorded ask reply mark
+noted_line ask reply line None h ends = tt
+noted_line ask reply line (Some lines) h ends =
+    let k = h (instant_told reply) in
+    one_kept ask reply lines k.0 k.1 (subst (λ l. EndsWith lines l) k.2 ends)
+
+pub noted_act : (ask : Ask) (reply : Reply) (line : List ℕ) (deed : Deed) (key : Key) (session : ℕ) (mark : Option (List (List ℕ))) → IsHeard (heard.Act deed key session) line ask
+    → IfSome mark (λ lines. EndsWith lines (line_text (record { session = session; command = act_of deed key (instant_told reply) }))) → IsRecorded ask reply mark
+noted_act ask reply line deed key session None h ends = tt
+noted_act ask reply line deed key session (Some lines) h ends = one_kept ask reply lines (record { session = session; command = act_of deed key (instant_told reply) }) (h (instant_told reply)) ends
+
+pub noted_none : (ask : Ask) (reply : Reply) (line : List ℕ) (lines : List (List ℕ)) → IsHeard heard.Passing line ask → IsRecorded ask reply (Some lines)
+noted_none ask reply line lines h = none_kept ask reply lines (h (instant_told reply))

@@ -1,0 +1,66 @@
+-- What a clerk hears, and what it says of a turn.
+use Rattle.std.specs.Prelude.{◌≡◌, ◌≢◌, ℕ, List, [], ◌∷◌, ◌++◌, Bool, true, false, Option, Some, None}
+use Rattle.tsn_types.specs.declared.keys.Key.{Key}
+use Rattle.tsn_bridge.specs.declared.command.Ask.{Ask}
+use Rattle.tsn_bridge.specs.declared.command.Command.{Command}
+use Rattle.tsn_bridge.specs.declared.command.Command.TheVariants as commands
+use Rattle.tsn_bridge.specs.declared.reply.Reply.{Reply}
+use Rattle.tsn_bridge.specs.Histories.{Answered}
+use Rattle.tsn_replay.specs.Recording.{kept, recorded}
+use Rattle.tsn_spelling.specs.Line.{line_text}
+use Rattle.tsn_clerk.specs.declared.clerk.Deed.{Deed}
+use Rattle.tsn_clerk.specs.declared.clerk.Deed.TheVariants.{Enable, Disable, Apply}
+use Rattle.tsn_clerk.specs.declared.clerk.Heard.{Heard}
+use Rattle.tsn_clerk.specs.declared.clerk.Heard.TheVariants as heard
+use Rattle.tsn_clerk.specs.declared.clerk.Kind.{Kind}
+use Rattle.tsn_clerk.specs.declared.clerk.Kind.TheVariants.{Act, Hello, Itself, Passing}
+
+-- an act on a key at an instant
+abbrev pub act_of : Deed → Key → ℕ → Command
+act_of Enable key now = commands.Enable key now
+act_of Disable key now = commands.Disable key now
+act_of Apply key now = commands.Apply key now
+
+-- how a command is kept, if it is accepted
+abbrev pub kind_of : Command → Kind
+kind_of commands.Hello = Hello
+kind_of (commands.Create k r) = Itself
+kind_of (commands.Replace k r) = Itself
+kind_of (commands.Remove k) = Itself
+kind_of (commands.Batch batch) = Itself
+kind_of commands.Undo = Itself
+kind_of commands.UndoAll = Itself
+kind_of commands.Redo = Itself
+kind_of (commands.Settle upto) = Itself
+kind_of (commands.Enable k now) = Act Enable k
+kind_of (commands.Disable k now) = Act Disable k
+kind_of (commands.Apply k now) = Act Apply k
+kind_of (commands.Frame frame now) = Passing
+kind_of (commands.States k t) = Passing
+kind_of (commands.Counters k) = Passing
+kind_of (commands.Show k) = Passing
+kind_of (commands.List kind) = Passing
+kind_of (commands.Since after) = Passing
+
+-- What was heard is of this ask. Of one that passes nothing is ever kept; of one with a line, whatever the reply tells, this line
+-- is; of an act it is one at the instant that the reply tells.
+abbrev pub IsHeard : Heard → List ℕ → Ask → Type 0
+IsHeard heard.Passing line ask = (at : ℕ) → kept ask.session ask.command at ≡ None
+IsHeard heard.Line line ask = (at : ℕ) → (to_keep : Ask) × (kept ask.session ask.command at ≡ Some to_keep) × (line ≡ line_text to_keep)
+IsHeard (heard.Act deed key session) line ask = (at : ℕ) → kept ask.session ask.command at ≡ Some (record { session = session; command = act_of deed key at })
+IsHeard heard.Lost line ask = Unit {0}
+
+-- The lines end with this one.
+abbrev pub EndsWith : List (List ℕ) → List ℕ → Type 0
+EndsWith lines line = (before : List (List ℕ)) × (lines ≡ before ++ line ∷ [])
+
+-- The lines end with that of the recorded command, if there is one.
+abbrev pub HasLast : Option Answered → List (List ℕ) → Type 0
+HasLast None lines = Unit {0}
+HasLast (Some t) lines = EndsWith lines (line_text t.ask)
+
+-- What is recorded by the end of a turn: the last of it is the record of this turn's command, where it lasts and was accepted. Or
+-- nothing is said, since something could not be recorded.
+abbrev pub IsRecorded : Ask → Reply → Option (List (List ℕ)) → Type 0
+IsRecorded ask reply None = Unit {0}
+IsRecorded ask reply (Some lines) = HasLast (recorded (record { ask = ask; reply = reply })) lines

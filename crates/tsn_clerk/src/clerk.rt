@@ -1,0 +1,217 @@
+//! Who attends the turns of a desk whose work lasts: it records each command in its turn, if that lasts and was accepted.
+ghost use Rattle.std.specs.Prelude.{◌≡◌, ◌⊎◌, IfSome, true};
+ghost use Rattle.tsn_bridge.specs.declared.command.Ask.{Ask as AnyAsk};
+ghost use Rattle.tsn_replay.specs.Recording.{instant_told, is_accepted};
+ghost use Rattle.tsn_spelling.specs.Line.{line_text};
+ghost use Rattle.tsn_clerk.specs.Noting.{EndsWith, IsHeard, IsRecorded, act_of, kind_of};
+
+use crate::line::Line;
+use std::alloc::{AllocError, Global};
+use std::sync::Wait;
+use tsn_bridge::bridge::Bridge;
+use tsn_bridge::command::{Ask, Command};
+use tsn_bridge::reply::Reply;
+use tsn_commit::{Ahead, Commit};
+use tsn_desk::machine::Witness;
+use tsn_device::Device;
+use tsn_history::{Front, Naming};
+use tsn_keeping::Clock;
+use tsn_types::keys::Key;
+use tsn_types::numbers::Instant;
+
+/// What an act does to the gate list of its key.
+#[derive(Clone, Copy, Debug, PartialEq, Eq)]
+pub enum Deed {
+    Enable,
+    Disable,
+    Apply,
+}
+
+/// How a command is kept, if it is accepted.
+#[derive(Clone, Copy, Debug, PartialEq, Eq)]
+pub enum Kind {
+    /// As it is.
+    Itself,
+    /// As a hello of no session.
+    Hello,
+    /// As an act on this key at the instant that counts.
+    Act(Deed, Key),
+    /// Not at all.
+    Passing,
+}
+
+/// What was heard of a turn, ahead of it.
+#[derive(Clone, Copy, Debug, PartialEq, Eq)]
+pub enum Heard {
+    /// Nothing that is ever recorded.
+    Passing,
+    /// A command whose line was spelled.
+    Line,
+    /// An act of this session, whose line waits for the instant that counts.
+    Act(Deed, Key, u32),
+    /// A command whose line could not be spelled. The room for it is taken once, so there is none such.
+    Lost,
+}
+
+/// Who records commands in a text that threads share. It takes all memory that it ever needs when it is made, that of the
+/// longest line.
+#[derive(Drop)]
+pub struct Clerk<'a, W: Wait, C: Clock, D: Device, R: Naming, K: Naming + Ahead> {
+    rt: &'a W,
+    commit: &'a Commit<C, D, R, K>,
+    heard: Heard,
+    line: Line,
+}
+
+fn kind_of(command: &Command) -> Kind
+    ensures { result ≡ kind_of command.now }
+{
+    match command {
+        Command::Hello => Kind::Hello,
+        Command::Enable { key, .. } => Kind::Act(Deed::Enable, *key),
+        Command::Disable { key, .. } => Kind::Act(Deed::Disable, *key),
+        Command::Apply { key, .. } => Kind::Act(Deed::Apply, *key),
+        Command::Frame { .. }
+        | Command::States { .. }
+        | Command::Counters { .. }
+        | Command::Show { .. }
+        | Command::List { .. }
+        | Command::Since { .. } => Kind::Passing,
+        _ => Kind::Itself,
+    }
+}
+
+fn act_of(deed: Deed, key: Key, now: Instant) -> Command
+    ensures { result ≡ act_of deed key now }
+{
+    match deed {
+        Deed::Enable => Command::Enable { key, now },
+        Deed::Disable => Command::Disable { key, now },
+        Deed::Apply => Command::Apply { key, now },
+    }
+}
+
+// The instant that counted for an act, where it was accepted.
+fn instant_in(reply: &Reply) -> Option<Instant>
+    ensures { IfSome result (λ now. now ≡ instant_told reply.now) }
+{
+    match reply {
+        Reply::Acted { now, .. } => Some(*now),
+        _ => None,
+    }
+}
+
+impl<'a, W: Wait, C: Clock + Drop, D: Device + Drop, R: Naming, K: Naming + Ahead> Clerk<
+    'a,
+    W,
+    C,
+    D,
+    R,
+    K,
+> {
+    pub fn new(
+        alloc: Global,
+        rt: &'a W,
+        commit: &'a Commit<C, D, R, K>,
+    ) -> Result<Clerk<'a, W, C, D, R, K>, AllocError> {
+        let line = Line::new(alloc)?;
+        Ok(Clerk {
+            rt,
+            commit,
+            heard: Heard::Lost,
+            line,
+        })
+    }
+
+    // What is heard of a command that is kept so.
+    fn heard_as(&mut self, to_keep: &Ask) -> Heard
+        ensures line { result ≡ Heard.Line → self.new.line ≡ line_text to_keep.now }
+        ensures either { (result ≡ Heard.Line) ⊎ (result ≡ Heard.Lost) }
+    {
+        if self.line.spell(to_keep) {
+            Heard::Line
+        } else {
+            Heard::Lost
+        }
+    }
+
+    // Records the line that was spelled behind all others, of a command that was accepted. In a turn nobody else records.
+    fn record(&self, _reply: &Reply) -> Option<Front<R>>
+        requires { is_accepted _reply.now ≡ true }
+        ensures { IfSome result (λ lines. EndsWith lines self.now.line) }
+    {
+        let last = self.commit.recorded(self.rt);
+        match self.commit.record(self.rt, &last, self.line.bytes()) {
+            Ok(lines) => Some(lines),
+            Err(_) => None,
+        }
+    }
+
+    // Records an act at the instant that the reply tells.
+    fn record_act(&mut self, deed: Deed, key: Key, session: u32, reply: &Reply) -> Option<Front<R>>
+        requires { is_accepted reply.now ≡ true }
+        ensures { IfSome result (λ lines. EndsWith lines (line_text (record { session = session; command = act_of deed key (instant_told reply.now) }))) }
+    {
+        let now = instant_in(reply)?;
+        let ask = Ask {
+            session,
+            command: act_of(deed, key, now),
+        };
+        if !self.line.spell(&ask) {
+            return None;
+        }
+        self.record(reply)
+    }
+
+    // Records what was heard, and was accepted with this reply.
+    #[tactic(auto, using(crate::proofs::Noting::noted_line, crate::proofs::Noting::noted_act, crate::proofs::Noting::noted_none))]
+    fn note(&mut self, reply: &Reply) -> Option<Front<R>>
+        requires { is_accepted reply.now ≡ true }
+        ensures { (ask : AnyAsk) → IsHeard self.old.heard self.old.line ask → IsRecorded ask reply.now result }
+    {
+        match self.heard {
+            Heard::Passing => Some(self.commit.recorded(self.rt)),
+            Heard::Line => self.record(reply),
+            Heard::Act(deed, key, session) => self.record_act(deed, key, session, reply),
+            Heard::Lost => None,
+        }
+    }
+}
+
+impl<'a, W: Wait, C: Clock + Drop, D: Device + Drop, R: Naming, K: Naming + Ahead> Witness<Bridge>
+    for Clerk<'a, W, C, D, R, K> {
+    ghost use Rattle.tsn_clerk.specs.Noting.{IsHeard, IsRecorded};
+
+    /// All that is recorded by the end of the turn, none where this turn's command could not be: then nothing is recorded
+    /// any more.
+    type Mark = Option<Front<R>>;
+
+    ghost hears = { λ c ask. IsHeard c.heard c.line ask };
+
+    ghost marks = { λ ask reply mark. IsRecorded ask reply mark };
+
+    #[tactic(auto, using(crate::proofs::Noting::hears_passing, crate::proofs::Noting::hears_act, crate::proofs::Noting::hears_itself, crate::proofs::Noting::hears_hello))]
+    fn hear(&mut self, ask: &Ask) {
+        self.heard = match kind_of(&ask.command) {
+            Kind::Passing => Heard::Passing,
+            Kind::Act(deed, key) => Heard::Act(deed, key, ask.session),
+            Kind::Hello => self.heard_as(&Ask {
+                session: 0,
+                command: Command::Hello,
+            }),
+            Kind::Itself => self.heard_as(ask),
+        };
+    }
+
+    #[tactic(auto, using(tsn_replay::proofs::Forms::no_refusal))]
+    fn attend(&mut self, reply: &Reply) -> Option<Front<R>> {
+        if let Reply::Refused(_) = reply {
+            return Some(self.commit.recorded(self.rt));
+        }
+        let mark = self.note(reply);
+        if mark.is_none() {
+            self.commit.stop(self.rt);
+        }
+        mark
+    }
+}

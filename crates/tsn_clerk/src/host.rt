@@ -1,0 +1,84 @@
+//! Who serves the connections of a desk whose work lasts.
+ghost use Rattle.tsn_desk.specs.Desks.{IsSeatOf};
+ghost use Rattle.tsn_port.specs.Workers.{GoesOn};
+
+use crate::clerk::Clerk;
+use crate::talk::{Talk, TalkFault};
+use crate::windows::talk_on;
+use std::alloc::Global;
+use std::sync::Wait;
+use tsn_bridge::bridge::Bridge;
+use tsn_bytes::{ByteIn, ByteOut};
+use tsn_commit::{Ahead, Commit};
+use tsn_desk::desk::{Desk, Seat};
+use tsn_device::Device;
+use tsn_history::Naming;
+use tsn_keeping::Clock;
+use tsn_lasting::Gathered;
+use tsn_port::worker::{PortWorker, RoundFault};
+use tsn_serve::{Connection, Free, Host, LineBuffer, start_with};
+use tsn_types::numbers::PortId;
+
+/// A service that may be stopped.
+pub trait Stop {
+    /// No further connection is taken, and those that are open are shut down.
+    fn stop(&self);
+
+    /// This connection is no longer open.
+    fn ended(&self, connection: u32);
+}
+
+/// Who serves each connection by a talk over one text of records, and ends the service where the journal fails.
+#[derive(Drop)]
+pub struct LastingHost<'a, W: Wait, C: Clock, D: Device, R: Naming, K: Naming + Ahead, S: Stop> {
+    pub rt: &'a W,
+    pub commit: &'a Commit<C, D, R, K>,
+    pub service: &'a S,
+}
+
+impl<'a, W: Wait, C: Clock + Drop, D: Device + Drop, R: Naming, K: Naming + Ahead, S: Stop> Host
+    for LastingHost<'a, W, C, D, R, K, S> {
+    fn start<Q: Wait>(
+        &self,
+        rt: &Q,
+        alloc: Global,
+        desk: &Desk<Bridge>,
+        seat: Seat<Bridge>,
+        port: PortId,
+    ) -> Result<(Seat<Bridge>, PortWorker), RoundFault> {
+        let Ok(mut clerk) = Clerk::new(alloc, self.rt, self.commit) else {
+            return Err(RoundFault::Memory);
+        };
+        start_with(rt, desk, seat, port, &mut clerk)
+    }
+
+    /// Its replies wait in memory of its own; where there is none, it ends at once.
+    #[tactic(auto, using(tsn_serve::proofs::Going::sat_still, crate::proofs::Going::served, crate::proofs::Going::none_held))]
+    fn serve<Q: Wait, I: ByteIn + Drop, O: ByteOut + Drop>(
+        &self,
+        _rt: &Q,
+        alloc: Global,
+        desk: &Desk<Bridge>,
+        seat: Seat<Bridge>,
+        connection: (u32, I, O),
+    ) -> Seat<Bridge> {
+        let (number, mut reader, writer) = connection;
+        let Ok(replies) = Gathered::new(alloc) else {
+            return seat;
+        };
+        let Ok(mut line) = LineBuffer::new(alloc) else {
+            return seat;
+        };
+        let Ok(clerk) = Clerk::new(alloc, self.rt, self.commit) else {
+            return seat;
+        };
+        let end = Connection::new(self.rt, desk, seat, number, &Free, clerk);
+        let mut talk = Talk::new(end, self.rt, self.commit, replies, writer);
+        let ended = talk_on(alloc, &mut talk, &mut line, &mut reader);
+        if let Err(TalkFault::Journal) = ended {
+            self.service.stop();
+        }
+        self.service.ended(number);
+        talk.into_end().into_seat(desk)
+    }
+}

@@ -1,0 +1,13 @@
+//! A server whose sessions' work lasts: a clerk records each turn at the desk, and replies wait until what they tell of is kept.
+#![tactic(auto)]
+
+mod clerk;
+mod host;
+mod line;
+mod talk;
+mod windows;
+
+pub use clerk::{Clerk, Deed, Heard, Kind};
+pub use host::{LastingHost, Stop};
+pub use talk::{Talk, TalkFault};
+pub use windows::talk_on;
