@@ -167,7 +167,7 @@ abbrev pub IsAlone : Asked → Type 0
 IsAlone (Script file None) = Unit {0}
 IsAlone (Script file (Some journal)) = ⊥
 IsAlone (States file listing) = Unit {0}
-IsAlone (Serve file listen serving) = ⊥
+IsAlone (Serve file listen serving kept) = ⊥
 IsAlone (Check file) = Unit {0}
 IsAlone (Journal file look) = ⊥
 IsAlone (Shown text) = Unit {0}
@@ -181,7 +181,7 @@ Serves (Script file (Some journal)) setup old new status errors = ⊥
 Serves (States file listing) setup old new status errors =
     ReadsNothing (old standard) (new standard)
     × ServesStates listing setup (output_of (old standard) (new standard)) status errors
-Serves (Serve file listen serving) setup old new status errors = ⊥
+Serves (Serve file listen serving kept) setup old new status errors = ⊥
 Serves (Check file) setup old new status errors =
     ReadsNothing (old standard) (new standard)
     × ServesCheck setup (output_of (old standard) (new standard)) status errors

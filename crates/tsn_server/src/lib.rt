@@ -4,11 +4,15 @@
 #![tactic(auto)]
 
 mod faults;
+mod lasting;
 mod reporting;
 mod serving;
+mod stopping;
 mod tcp;
 
 pub use faults::ServerFault;
+pub use lasting::{LastingServerFault, serve_lasting};
 pub use reporting::report;
 pub use serving::serve_bridge;
+pub use stopping::StoppableSource;
 pub use tcp::{TcpSource, listen_on};

@@ -144,6 +144,14 @@ all_given true true true false e h = (cc)
 all_given true true true true false h = (cc)
 all_given true true true true true h = (refl, refl, refl, refl, refl)
 
+-- and of those behind one that may be left out, ahead of another such one
+four_given : (a b c d : Bool) → ((true && not a) || ((true && not b) || ((true && not c) || ((true && not d) || false)))) ≡ false → (a ≡ true) × (b ≡ true) × (c ≡ true) × (d ≡ true)
+four_given false b c d h = (cc)
+four_given true false c d h = (cc)
+four_given true true false d h = (cc)
+four_given true true true false h = (cc)
+four_given true true true true h = (refl, refl, refl, refl)
+
 -- ---- an argument that is wanted
 
 module _ (accepted : Text → Text → Bool) where
@@ -238,7 +246,7 @@ serve_built = third (built program).subs
 
 serve_fit : RulesFit served serve_built.rules
 unfolding served third serve_built
-serve_fit = (one served _ refl refl refl (λ v e. refl), (one served _ refl refl refl (λ v e. refl), (one served _ refl refl refl (λ v e. e), (one served _ refl refl refl (λ v e. e), (one served _ refl refl refl (λ v e. e), ((tt, inl refl), tt))))))
+serve_fit = (one served _ refl refl refl (λ v e. refl), (one served _ refl refl refl (λ v e. refl), (one served _ refl refl refl (λ v e. e), (one served _ refl refl refl (λ v e. e), (one served _ refl refl refl (λ v e. e), (one served _ refl refl refl (λ v e. refl), (one served _ refl refl refl (λ v e. refl), ((tt, inl refl), tt))))))))
 
 serve_given : (words : List Text) → level_fault serve_built [] nothing_held words false [] ≡ [] → HasServe (Some (rows_at serve_built words))
 unfolding served third serve_built
@@ -247,14 +255,13 @@ serve_given words none =
     let rows = rows_after serve_built.rules [] words in
     let fit = after_fit served serve_built [] refl serve_fit words parts.walks parts.settles in
     let wanted = (checks serve_built rows false parts.checks).1 in
-    let each = all_given (is_given (codes "FILE") rows) (is_given (codes "listen") rows) (is_given (codes "workers") rows) (is_given (codes "connections") rows) (is_given (codes "probe") rows) wanted in
+    let each = four_given (is_given (codes "listen") rows) (is_given (codes "workers") rows) (is_given (codes "connections") rows) (is_given (codes "probe") rows) wanted in
     record {
       named = refl;
-      file = text_given served (codes "serve") (codes "FILE") rows fit each.0;
-      listen = text_given served (codes "serve") (codes "listen") rows fit each.1;
-      workers = number_given served (codes "serve") (codes "workers") 1 most_workers rows (λ v e. e) fit each.2;
-      connections = number_given served (codes "serve") (codes "connections") 1 most_connections rows (λ v e. e) fit each.3;
-      probe = number_given served (codes "serve") (codes "probe") 0 last_probe rows (λ v e. e) fit each.4;
+      listen = text_given served (codes "serve") (codes "listen") rows fit each.0;
+      workers = number_given served (codes "serve") (codes "workers") 1 most_workers rows (λ v e. e) fit each.1;
+      connections = number_given served (codes "serve") (codes "connections") 1 most_connections rows (λ v e. e) fit each.2;
+      probe = number_given served (codes "serve") (codes "probe") 0 last_probe rows (λ v e. e) fit each.3;
     }
 
 -- ---- `check`

@@ -1,5 +1,5 @@
 -- The words of worked command lines.
-use Rattle.std.proofs.Common.{◌↔◌, Bool, true, false, not, ◌&&◌, sym, ◌≡◌, ℕ, List, [], ◌∷◌, codes, refl, ap, ap₂, subst, ◌∙◌, inl, inr, Option, Some, None, Result, Ok, Err, IfErr, IfOk, MatchResult, is_ok, map, option_map, unwrap_or}
+use Rattle.std.proofs.Common.{◌⊎◌, ◌↔◌, Bool, true, false, not, ◌&&◌, sym, ◌≡◌, ℕ, List, [], ◌∷◌, codes, refl, ap, ap₂, subst, ◌∙◌, inl, inr, Option, Some, None, Result, Ok, Err, IfErr, IfOk, MatchResult, is_ok, map, option_map, unwrap_or}
 use Rattle.std.specs.Prelude.{IsOk, IsSome}
 use Rattle.std.specs.Borrow.{Bor}
 use Rattle.std.specs.Result.{result_unwrap_or}
@@ -19,7 +19,8 @@ use Rattle.clap.specs.Words.{first_value, rows_of}
 use Rattle.clap.specs.declared.parser.matches.Found.{Found}
 use Rattle.clap.proofs.WalkLemmas.{first_value-rows}
 use Rattle.clap.proofs.OnLiterals.{clap_on_literals}
-use Rattle.tsn_words.specs.Asking.{AsksFor, Given, GivesScript, HasCheck, HasJournal, HasServe, HasStates, IsComplete, IsNumber, IsWork, number_of, program, text_given}
+use Rattle.tsn_words.specs.Asking.{AsksFor, Given, GivesKept, GivesTooMuch, GivesWrongSyncs, HasCheck, HasJournal, HasServe, HasStates, IsComplete, IsNumber, IsRefusal, IsWork, Misgives, number_of, program, text_given}
+use Rattle.tsn_words.specs.declared.kept.Kept.{Kept}
 use Rattle.tsn_words.specs.declared.arguments.Asked.{Asked}
 use Rattle.tsn_words.specs.declared.arguments.Asked.TheVariants.{Script, States, Serve, Check, Journal, Shown, Refused}
 
@@ -86,6 +87,12 @@ served_given : (name : List ℕ) → map (text_given (subcommand_of program (ser
 unfolding clap_on_literals
 served_given name = refl
 
+-- a server with a journal that is not synced, whose setup's file is left out
+served_kept : (name : List ℕ) → map (text_given (subcommand_of program (name ∷ codes "serve" ∷ codes "--listen" ∷ codes "l" ∷ codes "--workers" ∷ codes "1" ∷ codes "--connections" ∷ codes "2" ∷ codes "--probe" ∷ codes "0" ∷ codes "--journal=j" ∷ codes "--sync=none" ∷ []))) (codes "FILE" ∷ codes "journal" ∷ codes "sync" ∷ [])
+    ≡ None ∷ Some (codes "j") ∷ Some (codes "none") ∷ []
+unfolding clap_on_literals
+served_kept name = refl
+
 -- one worker more than there may be is no number of them
 crowded : (name : List ℕ) → fault_of program (name ∷ codes "serve" ∷ codes "cell.toml" ∷ codes "--listen" ∷ codes "anywhere" ∷ codes "--workers" ∷ codes "65" ∷ codes "--connections" ∷ codes "1" ∷ codes "--probe" ∷ codes "0" ∷ []) ≡ ValueValidation ∷ []
 unfolding clap_on_literals
@@ -97,8 +104,8 @@ unfolding clap_on_literals
 checked_faultless name = refl
 
 -- a script with a journal, whose setup's file is left out
-kept : (name : List ℕ) → map (text_given (subcommand_of program (name ∷ codes "script" ∷ codes "--journal" ∷ codes "j" ∷ []))) (codes "FILE" ∷ codes "journal" ∷ [])
-    ≡ None ∷ Some (codes "j") ∷ []
+kept : (name : List ℕ) → map (text_given (subcommand_of program (name ∷ codes "script" ∷ codes "--journal" ∷ codes "j" ∷ []))) (codes "FILE" ∷ codes "journal" ∷ codes "sync" ∷ [])
+    ≡ None ∷ Some (codes "j") ∷ None ∷ []
 unfolding clap_on_literals
 kept name = refl
 
@@ -238,17 +245,29 @@ journal_given rows complete = elim complete [
   | inr (inr (inr (inr has))) ↦ has
 ]
 
--- `script` alone asks for no look at a journal, so what it asks for is done
+-- where no word on syncs is given, none is wrong
+no_syncs : (journal syncs : Option (List ℕ)) → syncs ≡ None → Misgives journal syncs → ⊥
+no_syncs journal syncs none (inl other) =
+    let bad : Some other.0 ≡ None = sym other.1 ∙ none in
+    (cc)
+no_syncs journal syncs none (inr alone) =
+    let bad : Some (codes "none") ≡ None = sym alone.1 ∙ none in
+    (cc)
+
+-- `script` alone asks for no look at a journal and says no word on syncs, so what it asks for is done
 pub script_works : (name : List ℕ) (words : List (List ℕ)) (given : Given) (asked : Asked) → given ≡ subcommand_of program words → words ≡ name ∷ codes "script" ∷ [] → AsksFor given asked → IsWork asked
 script_works name words given (Script file kept) is same asks = tt
 script_works name words given (States file listing) is same asks = tt
-script_works name words given (Serve file listen serving) is same asks = tt
+script_works name words given (Serve file listen serving kept) is same asks = tt
 script_works name words given (Check file) is same asks = tt
 script_works name words given (Journal file look) is same asks = tt
 script_works name words given (Shown text) is same asks = asks
 script_works name words given (Refused text) is same asks =
     let named : given ≡ Some (codes "script", []) = is ∙ ap (subcommand_of program) same ∙ script_named name in
-    absurd (never_named (codes "script") (codes "journal") refl refl (sym (ap (option_map (λ (p : List ℕ × List Row). p.0)) named) ∙ asks.named))
+    elim asks [
+      | inl much ↦ absurd (never_named (codes "script") (codes "journal") refl refl (sym (ap (option_map (λ (p : List ℕ × List Row). p.0)) named) ∙ much.named))
+      | inr wrong ↦ absurd (no_syncs (text_given given (codes "journal")) (text_given given (codes "sync")) (ap (λ (g : Given). text_given g (codes "sync")) named) wrong.wrong)
+    ]
 
 -- what is said of the words that are there
 pub some_same : {X Y : Type 0} (f : X → Y) (o : Option X) (x : X) (y : Y) → o ≡ Some x → option_map f o ≡ Some y → f x ≡ y
@@ -260,10 +279,31 @@ mapped (Ok x) m P Q cases same p = subst (λ s. IfOk s P) (sym cases) p
 mapped (Err e) (Ok y) P Q cases same p = (cc)
 mapped (Err e) (Err d) P Q cases same p = tt
 
--- the texts that are read are those of the rows
-pub script_gives : (found : Found) (file kept : Option (List ℕ)) → first_value found (codes "FILE") ≡ file → first_value found (codes "journal") ≡ kept → GivesScript (Some (codes "script", rows_of found)) file kept
-script_gives found file kept setup journal = record {
-  named = refl;
-  setup = sym (first_value-rows found (codes "FILE")) ∙ setup;
-  journal = sym (first_value-rows found (codes "journal")) ∙ journal;
-}
+-- the text that is read is that of the rows
+pub given_in_rows : (name : List ℕ) (found : Found) (key : List ℕ) (text : Option (List ℕ)) → first_value found key ≡ text → text_given (Some (name, rows_of found)) key ≡ text
+given_in_rows name found key text is = sym (first_value-rows found key) ∙ is
+
+-- what is read of a journal is what the rows have
+module _ (name : List ℕ) (found : Found) where
+  abbrev given : Given
+  given = Some (name, rows_of found)
+
+  pub kept_in_rows : (kept : Option Kept) → GivesKept (first_value found (codes "journal")) (first_value found (codes "sync")) kept → GivesKept (text_given given (codes "journal")) (text_given given (codes "sync")) kept
+  kept_in_rows kept gives =
+      subst (λ j. GivesKept j (text_given given (codes "sync")) kept) (first_value-rows found (codes "journal"))
+      (subst (λ s. GivesKept (first_value found (codes "journal")) s kept) (first_value-rows found (codes "sync")) gives)
+
+  pub misgiven_in_rows : Misgives (first_value found (codes "journal")) (first_value found (codes "sync")) → Misgives (text_given given (codes "journal")) (text_given given (codes "sync"))
+  misgiven_in_rows wrong =
+      subst (λ j. Misgives j (text_given given (codes "sync"))) (first_value-rows found (codes "journal"))
+      (subst (λ s. Misgives (first_value found (codes "journal")) s) (first_value-rows found (codes "sync")) wrong)
+
+-- what a refusal asks for, where it is right
+pub refused_asks : (given : Given) (asked : Asked) → IsRefusal asked → GivesTooMuch given ⊎ GivesWrongSyncs given → AsksFor given asked
+refused_asks given (Script file kept) is wrong = absurd is
+refused_asks given (States file listing) is wrong = absurd is
+refused_asks given (Serve file listen serving kept) is wrong = absurd is
+refused_asks given (Check file) is wrong = absurd is
+refused_asks given (Journal file look) is wrong = absurd is
+refused_asks given (Shown text) is wrong = absurd is
+refused_asks given (Refused text) is wrong = wrong

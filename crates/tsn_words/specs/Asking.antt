@@ -1,5 +1,5 @@
 -- What the words of a command line ask for.
-use Rattle.std.specs.Prelude.{◌≡◌, ◌≢◌, ◌⊎◌, ℕ, ◌^◌, ◌-◌, ◌<◌, List, [], Bool, Option, Some, None, codes, true, false, option_and_then, option_map, string_bytes, ⊤}
+use Rattle.std.specs.Prelude.{◌≡◌, ◌≢◌, ◌⊎◌, ℕ, ◌^◌, ◌-◌, ◌<◌, List, [], Bool, Option, Some, None, Result, Ok, Err, codes, true, false, option_and_then, option_map, string_bytes, ⊤}
 use Rattle.std.specs.Str.Parse.{IsNumeral, digits_value, without_leading_plus}
 use Rattle.clap.specs.Simple.{App, new_app, new_rule, on_top, subcommand_of, with_rule, with_subcommand}
 use Rattle.clap.specs.Values.{IsUnsignedIn}
@@ -13,6 +13,11 @@ use Rattle.clap.specs.declared.error.kind.ErrorKind.TheVariants.{DisplayHelp, Di
 use Rattle.tsn_words.specs.declared.arguments.Asked.{Asked}
 use Rattle.tsn_words.specs.declared.arguments.Asked.TheVariants.{Script, States, Serve, Check, Journal, Shown, Refused}
 use Rattle.tsn_words.specs.declared.arguments.Listing.{Listing}
+use Rattle.tsn_words.specs.declared.kept.Kept.{Kept}
+use Rattle.tsn_words.specs.declared.kept.Keeping.{Keeping}
+use Rattle.tsn_words.specs.declared.kept.Keeping.TheVariants.{Given as IsGiven, OtherSyncs, NoJournal}
+use Rattle.tsn_words.specs.declared.kept.Syncs.{Syncs}
+use Rattle.tsn_words.specs.declared.kept.Syncs.TheVariants.{Each, None as NoSyncs}
 use Rattle.tsn_words.specs.declared.look.Look.{Look}
 use Rattle.tsn_words.specs.declared.look.Look.TheVariants.{Whole, Since, Diff, Mend}
 use Rattle.tsn_words.specs.declared.serving.Serving.{Serving}
@@ -50,9 +55,9 @@ any_text name = record (new_rule name) { long = Some name; required = true }
 abbrev pub optional : Rule → Rule
 optional argument = record argument { required = false }
 
--- `script`, which may be given a setup's file and a journal's.
+-- `script`, which may be given a setup's file, a journal's, and which syncs of that are made.
 abbrev pub script : App
-script = with_rule (with_rule (new_app (codes "script")) (setup_file false)) (optional (any_text (codes "journal")))
+script = with_rule (with_rule (with_rule (new_app (codes "script")) (setup_file false)) (optional (any_text (codes "journal")))) (optional (any_text (codes "sync")))
 
 -- An option of this name, which wants a number in its range.
 abbrev pub number : List ℕ → ℕ → ℕ → Rule
@@ -68,16 +73,18 @@ states =
     (number (codes "step") 0 longest_step))
     (number (codes "count") 1 most_instants)
 
--- `serve`, which wants a setup's file, where to listen, how many connections at a time and in all, and the instant that it
--- tells of at the end.
+-- `serve`, which wants to be told where to listen, how many connections at a time and in all, and the instant that it tells of
+-- at the end, and may be given a setup's file, a journal's, and which syncs of that are made.
 abbrev pub serve : App
 serve =
-    with_rule (with_rule (with_rule (with_rule (with_rule (new_app (codes "serve"))
-    (setup_file true))
+    with_rule (with_rule (with_rule (with_rule (with_rule (with_rule (with_rule (new_app (codes "serve"))
+    (setup_file false))
     (any_text (codes "listen")))
     (number (codes "workers") 1 most_workers))
     (number (codes "connections") 1 most_connections))
-    (number (codes "probe") 0 last_probe)
+    (number (codes "probe") 0 last_probe))
+    (optional (any_text (codes "journal"))))
+    (optional (any_text (codes "sync")))
 
 -- `check`, which wants a setup's file.
 abbrev pub check : App
@@ -122,17 +129,27 @@ IsShown kind = (kind ≡ DisplayHelp) ⊎ (kind ≡ DisplayVersion)
 abbrev pub IsWork : Asked → Type 0
 IsWork (Script file kept) = ⊤
 IsWork (States file listing) = ⊤
-IsWork (Serve file listen serving) = ⊤
+IsWork (Serve file listen serving kept) = ⊤
 IsWork (Check file) = ⊤
 IsWork (Journal file look) = ⊤
 IsWork (Shown text) = ⊥
 IsWork (Refused text) = ⊥
 
+-- The words are refused by a text.
+abbrev pub IsRefusal : Asked → Type 0
+IsRefusal (Script file kept) = ⊥
+IsRefusal (States file listing) = ⊥
+IsRefusal (Serve file listen serving kept) = ⊥
+IsRefusal (Check file) = ⊥
+IsRefusal (Journal file look) = ⊥
+IsRefusal (Shown text) = ⊥
+IsRefusal (Refused text) = ⊤
+
 -- A text to show, or to refuse by, is not empty.
 abbrev pub TellsSomething : Asked → Type 0
 TellsSomething (Script file kept) = ⊤
 TellsSomething (States file listing) = ⊤
-TellsSomething (Serve file listen serving) = ⊤
+TellsSomething (Serve file listen serving kept) = ⊤
 TellsSomething (Check file) = ⊤
 TellsSomething (Journal file look) = ⊤
 TellsSomething (Shown text) = string_bytes text ≢ []
@@ -142,7 +159,7 @@ TellsSomething (Refused text) = string_bytes text ≢ []
 abbrev pub file_of : Asked → Option (List ℕ)
 file_of (Script file kept) = option_map string_bytes file
 file_of (States file listing) = Some (string_bytes file)
-file_of (Serve file listen serving) = Some (string_bytes file)
+file_of (Serve file listen serving kept) = option_map string_bytes file
 file_of (Check file) = Some (string_bytes file)
 file_of (Journal file look) = None
 file_of (Shown text) = None
@@ -196,7 +213,6 @@ pub record HasStates (given : Given) : Type 0 where
 -- `serve` is named, and all that it wants is given.
 pub record HasServe (given : Given) : Type 0 where
   pub named : Names given (codes "serve")
-  pub file : HasText given (codes "FILE")
   pub listen : HasText given (codes "listen")
   pub workers : HasNumber given (codes "workers") 1 most_workers
   pub connections : HasNumber given (codes "connections") 1 most_connections
@@ -218,11 +234,40 @@ pub record HasJournal (given : Given) : Type 0 where
 abbrev pub IsComplete : Given → Type 0
 IsComplete given = Names given (codes "script") ⊎ (HasStates given ⊎ (HasServe given ⊎ (HasCheck given ⊎ HasJournal given)))
 
--- `script` is named, and this setup's file is given to it, or none, and this journal's, or none.
-pub record GivesScript (given : Given) (file kept : Option (List ℕ)) : Type 0 where
+-- No word on syncs is given, and each is made; or `none`.
+abbrev pub GivesSyncs : Option (List ℕ) → Syncs → Type 0
+GivesSyncs text Each = text ≡ None
+GivesSyncs text NoSyncs = text ≡ Some (codes "none")
+
+-- Another word than that is given.
+abbrev pub IsOther : Option (List ℕ) → Type 0
+IsOther text = (word : List ℕ) × (text ≡ Some word) × (word ≢ codes "none")
+
+-- This journal is given, with these syncs; or no journal, and no word on syncs.
+abbrev pub GivesKept : Option (List ℕ) → Option (List ℕ) → Option Kept → Type 0
+GivesKept journal syncs None = (journal ≡ None) × (syncs ≡ None)
+GivesKept journal syncs (Some kept) = (journal ≡ Some (string_bytes kept.file)) × GivesSyncs syncs kept.syncs
+
+-- A word on syncs is given that is another than `none`, or goes with no journal.
+abbrev pub Misgives : Option (List ℕ) → Option (List ℕ) → Type 0
+Misgives journal syncs = IsOther syncs ⊎ ((journal ≡ None) × (syncs ≡ Some (codes "none")))
+
+-- What is given of a journal is right, or wrong in one of two ways.
+abbrev pub GivesKeeping : Option (List ℕ) → Option (List ℕ) → Keeping → Type 0
+GivesKeeping journal syncs (IsGiven kept) = GivesKept journal syncs kept
+GivesKeeping journal syncs OtherSyncs = IsOther syncs
+GivesKeeping journal syncs NoJournal = (journal ≡ None) × (syncs ≡ Some (codes "none"))
+
+-- What is given of a journal is right, or is wrong, and the words are refused.
+abbrev pub KeepsOrRefuses : Option (List ℕ) → Option (List ℕ) → Result (Option Kept) Asked → Type 0
+KeepsOrRefuses journal syncs (Ok kept) = GivesKept journal syncs kept
+KeepsOrRefuses journal syncs (Err asked) = Misgives journal syncs × IsRefusal asked × TellsSomething asked
+
+-- `script` is named, and this setup's file is given to it, or none, and this journal, or none.
+pub record GivesScript (given : Given) (file : Option (List ℕ)) (kept : Option Kept) : Type 0 where
   pub named : Names given (codes "script")
   pub setup : text_given given (codes "FILE") ≡ file
-  pub journal : text_given given (codes "journal") ≡ kept
+  pub journal : GivesKept (text_given given (codes "journal")) (text_given given (codes "sync")) kept
 
 -- These numbers are given.
 pub record GivesListing (given : Given) (x : Listing) : Type 0 where
@@ -243,12 +288,13 @@ pub record GivesServing (given : Given) (x : Serving) : Type 0 where
   pub connections : GivesNumber given (codes "connections") 1 most_connections x.connections
   pub probe : GivesNumber given (codes "probe") 0 last_probe x.probe
 
--- `serve` is named, and this file, where to listen and these numbers are given to it.
-pub record GivesServe (given : Given) (file listen : List ℕ) (x : Serving) : Type 0 where
+-- `serve` is named, and this setup's file is given to it, or none, where to listen, these numbers, and this journal, or none.
+pub record GivesServe (given : Given) (file : Option (List ℕ)) (listen : List ℕ) (x : Serving) (kept : Option Kept) : Type 0 where
   pub named : Names given (codes "serve")
-  pub setup : text_given given (codes "FILE") ≡ Some file
+  pub setup : text_given given (codes "FILE") ≡ file
   pub place : text_given given (codes "listen") ≡ Some listen
   pub serving : GivesServing given x
+  pub journal : GivesKept (text_given given (codes "journal")) (text_given given (codes "sync")) kept
 
 -- `check` is named, and this file is given to it.
 pub record GivesCheck (given : Given) (file : List ℕ) : Type 0 where
@@ -290,15 +336,20 @@ pub record GivesTooMuch (given : Given) : Type 0 where
   pub named : Names given (codes "journal")
   pub looks : GivesLooks given
 
--- What is given is what is asked for, or more than may be.
+-- `script` or `serve` is named, and what is given of a journal is wrong.
+pub record GivesWrongSyncs (given : Given) : Type 0 where
+  pub named : Names given (codes "script") ⊎ Names given (codes "serve")
+  pub wrong : Misgives (text_given given (codes "journal")) (text_given given (codes "sync"))
+
+-- What is given is what is asked for, or may not be given so.
 abbrev pub AsksFor : Given → Asked → Type 0
-AsksFor given (Script file kept) = GivesScript given (option_map string_bytes file) (option_map string_bytes kept)
+AsksFor given (Script file kept) = GivesScript given (option_map string_bytes file) kept
 AsksFor given (States file x) = GivesStates given (string_bytes file) x
-AsksFor given (Serve file listen x) = GivesServe given (string_bytes file) (string_bytes listen) x
+AsksFor given (Serve file listen x kept) = GivesServe given (option_map string_bytes file) (string_bytes listen) x kept
 AsksFor given (Check file) = GivesCheck given (string_bytes file)
 AsksFor given (Journal file look) = GivesJournal given (string_bytes file) look
 AsksFor given (Shown text) = ⊥
-AsksFor given (Refused text) = GivesTooMuch given
+AsksFor given (Refused text) = GivesTooMuch given ⊎ GivesWrongSyncs given
 
 -- The words have a fault that is no mistake, or one that is.
 abbrev pub AreShown : List (List ℕ) → Type 0
@@ -312,19 +363,19 @@ abbrev pub AskRightly : List (List ℕ) → Asked → Type 0
 AskRightly words asked = (fault_of program words ≡ []) × AsksFor (subcommand_of program words) asked
 
 -- Where the words have no fault, a script, a port's states, a server, a look at a setup or at a journal are asked for as the
--- words say; more than one look at a journal is refused. Else there is a text to show, or to refuse the words by, as the fault
+-- words say; more than one look at a journal is refused, and so are syncs that there are none of. Else there is a text to show, or to refuse the words by, as the fault
 -- is. Words that are no text are refused.
 abbrev pub Asks : Option (List (List ℕ)) → Asked → Type 0
 Asks (Some words) (Script file kept) = AskRightly words (Script file kept)
 Asks (Some words) (States file x) = AskRightly words (States file x)
-Asks (Some words) (Serve file listen x) = AskRightly words (Serve file listen x)
+Asks (Some words) (Serve file listen x kept) = AskRightly words (Serve file listen x kept)
 Asks (Some words) (Check file) = AskRightly words (Check file)
 Asks (Some words) (Journal file look) = AskRightly words (Journal file look)
 Asks (Some words) (Shown text) = AreShown words
 Asks (Some words) (Refused text) = AreMistaken words ⊎ AskRightly words (Refused text)
 Asks None (Script file kept) = ⊥
 Asks None (States file x) = ⊥
-Asks None (Serve file listen x) = ⊥
+Asks None (Serve file listen x kept) = ⊥
 Asks None (Check file) = ⊥
 Asks None (Journal file look) = ⊥
 Asks None (Shown text) = ⊥

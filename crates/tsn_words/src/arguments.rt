@@ -1,11 +1,12 @@
 //! The command line.
 ghost use Rattle.std.specs.Prelude.{◌≡◌, ◌≢◌, ℕ, List, [], ◌∷◌, Some, None, false, IfOk, IfErr, codes, map, option_map, string_bytes};
-ghost use Rattle.clap.specs.Words.{app_of, found_of, kind_of, rows_of, rule_of, subcommand_of, subcommand_rows_of};
+ghost use Rattle.clap.specs.Words.{app_of, first_value, found_of, kind_of, rows_of, rule_of, subcommand_of, subcommand_rows_of};
 ghost use Rattle.clap.specs.Kinds.{FailsBy};
 ghost use Rattle.clap.specs.Faults.{fault_of};
 ghost use Rattle.tsn_bytes.specs.declared.bytes.Fault.TheVariants.{Memory};
-ghost use Rattle.tsn_words.specs.Asking.{any_text, bare, check, flag, journal, journal_file, number, optional, program, script, serve, setup_file, states, Asks, AsksFor, GivesListing, HasCheck, HasJournal, HasServe, HasStates, IsComplete, IsWork, TellsSomething};
+ghost use Rattle.tsn_words.specs.Asking.{any_text, bare, check, flag, journal, journal_file, number, optional, program, script, serve, setup_file, states, Asks, AsksFor, GivesListing, HasCheck, HasJournal, HasServe, HasStates, IsComplete, IsRefusal, IsWork, KeepsOrRefuses, TellsSomething};
 
+use crate::kept::{Keeping, Kept, keeping_of};
 use crate::look::{Look, look_of};
 use crate::serving::Serving;
 use crate::values::{number_of, text_if_given, text_of};
@@ -44,7 +45,7 @@ const STATES_EXAMPLE: &str = "Example:
 
 /// Ends the help on `serve`.
 const SERVE_EXAMPLE: &str = "Example, and a client in another terminal:
-  tsnd serve bridge.toml --listen 127.0.0.1:7000 --workers 4 --connections 100 --probe 0
+  tsnd serve bridge.toml --listen 127.0.0.1:7000 --workers 4 --connections 100 --probe 0 --journal bridge.journal
   echo '{\"do\":\"hello\"}' | nc -N 127.0.0.1 7000";
 
 /// Ends the help on `check`.
@@ -60,6 +61,12 @@ const NO_TEXT: &str = "invalid UTF-8 was detected in one or more arguments";
 
 /// Why more than one look at a journal is refused.
 const ONE_LOOK: &str = "at most one of --since, --diff and --mend may be given";
+
+/// Why syncs of another kind than there is are refused.
+const OTHER_SYNCS: &str = "--sync may be none alone";
+
+/// Why syncs with no journal are refused.
+const NO_JOURNAL: &str = "--sync goes with --journal";
 
 /// How the program is called.
 const USAGE: &str = "Usage: tsnd <COMMAND>\n";
@@ -84,18 +91,20 @@ pub enum Asked {
     /// do in this journal, if one is named.
     Script {
         file: Option<String>,
-        journal: Option<String>,
+        kept: Option<Kept>,
     },
     /// Print the states of a port, from the setup of this file.
     States {
         file: String,
         listing: Listing,
     },
-    /// Serve connections where this says, an IP address and port that is read later, from the setup of this file.
+    /// Serve connections where this says, an IP address and port that is read later, from the setup of this file or from the
+    /// standard one, and keep what the sessions do in this journal, if one is named.
     Serve {
-        file: String,
+        file: Option<String>,
         listen: String,
         serving: Serving,
+        kept: Option<Kept>,
     },
     /// Say whether the setup of this file opens a bridge, and what there is in it.
     Check {
@@ -122,7 +131,7 @@ impl Asked {
         match self {
             Asked::Script { file, .. } => file.as_ref().map(String::as_str),
             Asked::States { file, .. } => Some(file.as_str()),
-            Asked::Serve { file, .. } => Some(file.as_str()),
+            Asked::Serve { file, .. } => file.as_ref().map(String::as_str),
             Asked::Check { file } => Some(file.as_str()),
             Asked::Journal { .. } | Asked::Shown(_) | Asked::Refused(_) => None,
         }
@@ -147,21 +156,42 @@ fn any_text<'a>(alloc: Global, name: &'a str, help: &'a str) -> Arg<'a>
     Arg::new(alloc, name).long(name).required(true).help(help)
 }
 
-fn script<'a>(alloc: Global) -> Result<Command<'a>, AllocError>
-    ensures { IfOk result (λ c. app_of c ≡ script) }
+// The journal that may be named.
+fn kept<'a>(alloc: Global) -> Arg<'a>
+    ensures rule { rule_of result ≡ optional (any_text (codes "journal")) }
+    ensures local { result.global ≡ false }
 {
-    let file = setup_file(alloc, false);
-    let journal = any_text(
+    any_text(
         alloc,
         "journal",
         "The journal file that keeps what the sessions do; made where it is not there",
     )
-    .required(false);
+    .required(false)
+}
+
+// The syncs that may be named.
+fn syncs<'a>(alloc: Global) -> Arg<'a>
+    ensures rule { rule_of result ≡ optional (any_text (codes "sync")) }
+    ensures local { result.global ≡ false }
+{
+    any_text(
+        alloc,
+        "sync",
+        "none: replies don't wait for the disk, and a loss of power may lose what they told",
+    )
+    .required(false)
+}
+
+fn script<'a>(alloc: Global) -> Result<Command<'a>, AllocError>
+    ensures { IfOk result (λ c. app_of c ≡ script) }
+{
+    let file = setup_file(alloc, false);
     Command::new(alloc, "script")
         .about("Answers the command lines on standard input, one reply line each")
         .after_help(SCRIPT_EXAMPLE)
         .arg(file)?
-        .arg(journal)
+        .arg(kept(alloc))?
+        .arg(syncs(alloc))
 }
 
 // An option that wants a number in its range.
@@ -197,7 +227,7 @@ fn states<'a>(alloc: Global) -> Result<Command<'a>, AllocError>
 fn serve<'a>(alloc: Global) -> Result<Command<'a>, AllocError>
     ensures { IfOk result (λ c. app_of c ≡ serve) }
 {
-    let file = setup_file(alloc, true);
+    let file = setup_file(alloc, false);
     let listen = any_text(
         alloc,
         "listen",
@@ -233,7 +263,9 @@ fn serve<'a>(alloc: Global) -> Result<Command<'a>, AllocError>
         .arg(listen)?
         .arg(workers)?
         .arg(connections)?
-        .arg(probe)
+        .arg(probe)?
+        .arg(kept(alloc))?
+        .arg(syncs(alloc))
 }
 
 fn check<'a>(alloc: Global) -> Result<Command<'a>, AllocError>
@@ -361,20 +393,35 @@ fn states_of(alloc: Global, given: &ArgMatches<'_>) -> Result<Asked, AllocError>
     Ok(Asked::States { file, listing })
 }
 
-// A server, from the setup, at the place and with the numbers that are given.
+// The journal that is given, if one is; or the words are refused.
+fn kept_of(alloc: Global, given: &ArgMatches<'_>) -> Result<Result<Option<Kept>, Asked>, AllocError>
+    ensures { IfOk result (KeepsOrRefuses (first_value (found_of given.now) (codes "journal")) (first_value (found_of given.now) (codes "sync"))) }
+{
+    match keeping_of(alloc, given)? {
+        Keeping::Given(kept) => Ok(Ok(kept)),
+        Keeping::OtherSyncs => Ok(Err(refused_for(alloc, OTHER_SYNCS)?)),
+        Keeping::NoJournal => Ok(Err(refused_for(alloc, NO_JOURNAL)?)),
+    }
+}
+
+// A server, from the setup, at the place, with the numbers and with the journal that are given.
 fn serve_of(alloc: Global, given: &ArgMatches<'_>) -> Result<Asked, AllocError>
     requires { HasServe (Some (codes "serve", rows_of (found_of given.now))) }
     ensures asked { IfOk result (AsksFor (Some (codes "serve", rows_of (found_of given.now)))) }
     ensures told { IfOk result TellsSomething }
 {
-    let file = text_of(alloc, given, "FILE")?;
+    let file = text_if_given(alloc, given, "FILE")?;
     let listen = text_of(alloc, given, "listen")?;
     let serving = Serving::given_in(given);
-    Ok(Asked::Serve {
-        file,
-        listen,
-        serving,
-    })
+    match kept_of(alloc, given)? {
+        Ok(kept) => Ok(Asked::Serve {
+            file,
+            listen,
+            serving,
+            kept,
+        }),
+        Err(refused) => Ok(refused),
+    }
 }
 
 // A look at the setup that is given.
@@ -388,14 +435,15 @@ fn check_of(alloc: Global, given: &ArgMatches<'_>) -> Result<Asked, AllocError>
 }
 
 // A script, from the setup and with the journal that are given.
-#[tactic(auto, using(crate::proofs::Worked::script_gives))]
 fn script_of(alloc: Global, given: &ArgMatches<'_>) -> Result<Asked, AllocError>
     ensures asked { IfOk result (AsksFor (Some (codes "script", rows_of (found_of given.now)))) }
     ensures told { IfOk result TellsSomething }
 {
-    let file = text_if_given(alloc, given, "FILE")?;
-    let journal = text_if_given(alloc, given, "journal")?;
-    Ok(Asked::Script { file, journal })
+    let setup = text_if_given(alloc, given, "FILE")?;
+    match kept_of(alloc, given)? {
+        Ok(kept) => Ok(Asked::Script { file: setup, kept }),
+        Err(refused) => Ok(refused),
+    }
 }
 
 // The look at the journal that is given. More than one is refused.
@@ -405,8 +453,7 @@ fn journal_of(alloc: Global, given: &ArgMatches<'_>) -> Result<Asked, AllocError
     ensures told { IfOk result TellsSomething }
 {
     let Some(look) = look_of(given) else {
-        let text = reason_of(alloc, ErrorKind::ArgumentConflict, ONE_LOOK)?;
-        return Ok(Asked::Refused(text));
+        return refused_for(alloc, ONE_LOOK);
     };
     let file = text_of(alloc, given, "JOURNAL")?;
     Ok(Asked::Journal { file, look })
@@ -452,6 +499,14 @@ fn reason_of(alloc: Global, kind: ErrorKind, reason: &str) -> Result<String, All
 {
     let error = command(alloc)?.error(kind, reason)?;
     saying_of(alloc, &error)
+}
+
+// Words that `clap` takes are refused by this reason.
+fn refused_for(alloc: Global, reason: &str) -> Result<Asked, AllocError>
+    ensures { IfOk result (λ asked. IsRefusal asked × TellsSomething asked) }
+{
+    let text = reason_of(alloc, ErrorKind::ArgumentConflict, reason)?;
+    Ok(Asked::Refused(text))
 }
 
 fn refused_as_no_text(alloc: Global) -> Result<Asked, Fault>

@@ -3,10 +3,12 @@
 #![tactic(auto)]
 
 mod arguments;
+mod kept;
 mod look;
 mod serving;
 mod values;
 
 pub use arguments::{Asked, Listing, read_words};
+pub use kept::{Kept, Syncs};
 pub use look::Look;
 pub use serving::Serving;

@@ -10,7 +10,7 @@ use tsn_words::Serving;
 
 // Says where connections are taken, in one line. Refused where there is no memory for that line; where standard error takes
 // none, nothing is left to do.
-fn say_where<E: ByteOut>(
+pub(crate) fn say_where<E: ByteOut>(
     alloc: Global,
     errors: &mut E,
     address: SocketAddr,

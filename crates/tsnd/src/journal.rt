@@ -2,6 +2,10 @@
 //!
 //! What a start does with each end of a file stands here: it goes on from a whole one, moves an unfinished line out of the
 //! way, and leaves a damaged file alone. What is read, kept and told is for the crates below.
+ghost use Rattle.std.specs.Prelude.{IfOk};
+ghost use Rattle.tsn_bridge.specs.Reached.{IsReached};
+
+use crate::progress::Progress;
 use jiff::Timestamp;
 use std::alloc::Global;
 use std::fs::File;
@@ -9,13 +13,14 @@ use std::io::ErrorKind;
 use std::rt::Files;
 use std::{fs, io, time};
 use tsn_bytes::{ByteIn, ByteOut, Fault, StdIo, put_all};
-use tsn_device::{FileDevice, OpenFault, make, move_end, open};
+use tsn_device::{DeviceOverFile, FileDevice, OpenFault, UnsyncedDevice, make, move_end, open};
 use tsn_keeping::Keeper;
 use tsn_lasting::{Clock, Lasting, LastingFault, Stamp, run_lasting};
 use tsn_program::{Failure, fail};
 use tsn_recorded::{Chain, End};
 use tsn_resuming::{Resumed, StartFault, Unwatched, Watcher, bridge_of, first_command, resume};
 use tsn_types::refusals::Refusal;
+use tsn_words::{Kept, Syncs};
 
 /// What ends a run over a journal with status 1, as its line says.
 #[derive(Drop)]
@@ -26,9 +31,9 @@ pub(crate) enum JournalFault {
     Damaged(u64),
     NoEntry(u64),
     Open(io::Error),
-    Write,
-    // It was told already.
-    Told,
+    // Why is not always known.
+    Write(Option<io::Error>),
+    NoSession,
 }
 
 impl From<OpenFault> for JournalFault {
@@ -46,6 +51,14 @@ impl From<io::Error> for JournalFault {
             return JournalFault::Failed(Failure::Fault(Fault::Memory));
         }
         JournalFault::Open(error)
+    }
+}
+
+/// The system's error of this number, if it is one.
+pub(crate) fn error_of(number: i32) -> Option<io::Error> {
+    match number {
+        0 => None,
+        _ => Some(io::Error::from_raw_os_error(number)),
     }
 }
 
@@ -113,11 +126,17 @@ pub(crate) fn fail_over<E: ByteOut>(
                 format!(in alloc; "tsnd: cannot open the journal: {error}\n"),
             )
         }
-        JournalFault::Told => {}
-        JournalFault::Write => say(
+        JournalFault::Write(Some(error)) => {
+            say(
+                errors,
+                format!(in alloc; "tsnd: cannot write the journal: {error}\n"),
+            )
+        }
+        JournalFault::Write(None) => say(
             errors,
             format!(in alloc; "tsnd: cannot write the journal\n"),
         ),
+        JournalFault::NoSession => { say(errors, format!(in alloc; "tsnd: no session is left\n")) }
     }
     1
 }
@@ -143,7 +162,7 @@ fn second_of_now<R: time::Clock>(rt: &R) -> i64 {
 
 /// The wall time. Its text is made anew where the second is another.
 #[derive(Drop)]
-struct WallClock<'a, R: time::Clock> {
+pub(crate) struct WallClock<'a, R: time::Clock> {
     rt: &'a R,
     alloc: Global,
     second: i64,
@@ -151,7 +170,7 @@ struct WallClock<'a, R: time::Clock> {
 }
 
 impl<'a, R: time::Clock> WallClock<'a, R> {
-    fn new(rt: &'a R, alloc: Global) -> WallClock<'a, R> {
+    pub(crate) fn new(rt: &'a R, alloc: Global) -> WallClock<'a, R> {
         let second = second_of_now(rt);
         WallClock {
             rt,
@@ -215,29 +234,56 @@ fn open_or_make<R: Files<File = File> + AllocGlobal + time::Clock>(
     }
 }
 
-// The bridge that goes on from the file, of which each line is told to the watcher.
-pub(crate) fn resume_from<R: Files<File = File> + AllocGlobal, W: Watcher>(
-    rt: &R,
+// The bridge that goes on from what the reader gives, of which each line is told to the watcher.
+fn resume_with<I: ByteIn, W: Watcher>(
+    alloc: Global,
     setup: Option<&[u8]>,
-    path: &str,
+    file: &mut I,
     watcher: &mut W,
-) -> Result<Resumed, JournalFault> {
-    let reading = fs::open(rt, path)?;
-    match resume(rt.alloc(), &mut StdIo::new(reading), setup, watcher) {
+) -> Result<Resumed, JournalFault>
+    ensures { IfOk result (λ resumed. IsReached resumed.bridge) }
+{
+    match resume(alloc, file, setup, watcher) {
         Ok(resumed) => Ok(resumed),
         Err(fault) => Err(JournalFault::Start(fault)),
     }
 }
 
-// Opens a journal and goes on from it. An unfinished line is moved out of its way, and that is told.
-fn start<R: Files<File = File> + AllocGlobal + time::Clock, E: ByteOut>(
+/// The bridge that goes on from the file, of which each line is told to the watcher.
+pub(crate) fn resume_from<R: Files<File = File> + AllocGlobal, W: Watcher>(
+    rt: &R,
+    path: &str,
+    watcher: &mut W,
+) -> Result<Resumed, JournalFault> {
+    let reading = fs::open(rt, path)?;
+    resume_with(rt.alloc(), None, &mut StdIo::new(reading), watcher)
+}
+
+// The bridge that goes on from the file at a start, which says how far it is where it takes long.
+fn resume_at_start<R: Files<File = File> + AllocGlobal + time::Clock, E: ByteOut>(
     rt: &R,
     setup: Option<&[u8]>,
     path: &str,
     errors: &mut E,
-) -> Result<(File, Resumed), JournalFault> {
+) -> Result<Resumed, JournalFault>
+    ensures { IfOk result (λ resumed. IsReached resumed.bridge) }
+{
+    let reading = fs::open(rt, path)?;
+    let mut file = Progress::new(rt, rt.alloc(), StdIo::new(reading), errors);
+    resume_with(rt.alloc(), setup, &mut file, &mut Unwatched)
+}
+
+// Opens a journal and goes on from it. An unfinished line is moved out of its way, and that is told.
+pub(crate) fn start<R: Files<File = File> + AllocGlobal + time::Clock, E: ByteOut>(
+    rt: &R,
+    setup: Option<&[u8]>,
+    path: &str,
+    errors: &mut E,
+) -> Result<(File, Resumed), JournalFault>
+    ensures { IfOk result (λ started. IsReached started.1.bridge) }
+{
     let mut file = open_or_make(rt, setup, path)?;
-    let resumed = resume_from(rt, setup, path, &mut Unwatched)?;
+    let resumed = resume_at_start(rt, setup, path, errors)?;
     match resumed.end {
         End::Whole => {}
         End::Unfinished { bytes } => {
@@ -255,7 +301,7 @@ fn start<R: Files<File = File> + AllocGlobal + time::Clock, E: ByteOut>(
 }
 
 // Answers the script on the reader, over the bridge that goes on and the file that keeps it.
-fn answer<R: time::Clock, I: ByteIn, O: ByteOut + Drop, E: ByteOut>(
+fn answer<D: DeviceOverFile + Drop, R: time::Clock, I: ByteIn, O: ByteOut + Drop, E: ByteOut>(
     rt: &R,
     alloc: Global,
     started: (File, Resumed),
@@ -264,7 +310,7 @@ fn answer<R: time::Clock, I: ByteIn, O: ByteOut + Drop, E: ByteOut>(
     errors: &mut E,
 ) -> Result<(), JournalFault> {
     let (file, resumed) = started;
-    let Ok(keeper) = Keeper::new(alloc, FileDevice::over(file), resumed.chain) else {
+    let Ok(keeper) = Keeper::new(alloc, D::over(file), resumed.chain) else {
         return Err(JournalFault::Failed(Failure::Fault(Fault::Memory)));
     };
     let clock = WallClock::new(rt, alloc);
@@ -277,32 +323,34 @@ fn answer<R: time::Clock, I: ByteIn, O: ByteOut + Drop, E: ByteOut>(
         Err(LastingFault::Write) => Err(JournalFault::Failed(Failure::Fault(Fault::Write))),
         Err(LastingFault::Memory) => Err(JournalFault::Failed(Failure::Fault(Fault::Memory))),
         Err(LastingFault::Journal) => {
-            if let Some(error) = lasting.keeper().device().fault() {
-                say(
-                    errors,
-                    format!(in alloc; "tsnd: cannot write the journal: {error}\n"),
-                );
-                return Err(JournalFault::Told);
-            }
-            Err(JournalFault::Write)
+            let why = lasting.keeper().device().fault();
+            let number = why.and_then(io::Error::raw_os_error).unwrap_or(0);
+            Err(JournalFault::Write(error_of(number)))
         }
     }
 }
 
-/// Answers the script on the reader over the journal at the path, which is made where it is not there, and gives the status.
-/// With a setup the journal must have just that one.
+/// Answers the script on the reader over the journal, whose file is made where it is not there, and gives the status. With a
+/// setup the journal must have just that one.
 pub(crate) fn script_over<
     R: Files<File = File> + AllocGlobal + time::Clock,
     I: ByteIn,
     O: ByteOut + Drop,
     E: ByteOut,
->(rt: &R, setup: Option<&[u8]>, path: &str, input: &mut I, output: O, errors: &mut E) -> u8 {
-    let outcome = match start(rt, setup, path, errors) {
-        Ok(started) => answer(rt, rt.alloc(), started, input, output, errors),
-        Err(fault) => Err(fault),
+>(rt: &R, setup: Option<&[u8]>, kept: &Kept, input: &mut I, output: O, errors: &mut E) -> u8 {
+    let path = kept.file.as_str();
+    let alloc = rt.alloc();
+    let outcome = match (start(rt, setup, path, errors), kept.syncs) {
+        (Ok(started), Syncs::Each) => {
+            answer::<FileDevice, _, _, _, _>(rt, alloc, started, input, output, errors)
+        }
+        (Ok(started), Syncs::None) => {
+            answer::<UnsyncedDevice, _, _, _, _>(rt, alloc, started, input, output, errors)
+        }
+        (Err(fault), _) => Err(fault),
     };
     match outcome {
         Ok(()) => 0,
-        Err(fault) => fail_over(rt.alloc(), errors, path, &fault),
+        Err(fault) => fail_over(alloc, errors, path, &fault),
     }
 }

@@ -115,7 +115,7 @@ fn look_at_all<R: Files<File = File> + AllocGlobal, W: ByteOut>(
     writer: &mut W,
 ) -> Result<(), JournalFault> {
     let mut sessions = Sessions { count: 0 };
-    let resumed = resume_from(rt, None, path, &mut sessions)?;
+    let resumed = resume_from(rt, path, &mut sessions)?;
     let Ok(text) = summary(rt.alloc(), &resumed, sessions.count) else {
         return Err(JournalFault::Failed(Failure::Fault(Fault::Memory)));
     };
@@ -134,7 +134,7 @@ fn look_at_entries<R: Files<File = File> + AllocGlobal, W: ByteOut>(
         told: after,
         has_failed: false,
     };
-    let resumed = resume_from(rt, None, path, &mut entries)?;
+    let resumed = resume_from(rt, path, &mut entries)?;
     if entries.has_failed || entries.writer.flush().is_err() {
         return Err(JournalFault::Failed(Failure::Fault(Fault::Write)));
     }
@@ -172,7 +172,7 @@ fn look_at_entry<R: Files<File = File> + AllocGlobal, W: ByteOut>(
     number: u64,
     writer: &mut W,
 ) -> Result<(), JournalFault> {
-    let resumed = resume_from(rt, None, path, &mut Unwatched)?;
+    let resumed = resume_from(rt, path, &mut Unwatched)?;
     let Some(entry) = resumed.bridge.journal().entry(number) else {
         return Err(JournalFault::NoEntry(number));
     };
@@ -192,7 +192,7 @@ fn mend<R: Files<File = File> + AllocGlobal, W: ByteOut>(
     writer: &mut W,
 ) -> Result<(), JournalFault> {
     let mut file = open(rt, path)?;
-    let resumed = resume_from(rt, None, path, &mut Unwatched)?;
+    let resumed = resume_from(rt, path, &mut Unwatched)?;
     if let End::Whole = resumed.end {
         return Ok(());
     }

@@ -1,9 +1,9 @@
 //! `tsnd`: the configuration service of one time-aware bridge.
 //!
 //! `tsnd script` answers a script of command lines on standard input with one reply line each on standard output, from a
-//! setup in a file or from the standard one; with a journal file, what its sessions do outlasts it, and `tsnd journal` says
-//! what is in one. `tsnd serve` answers the lines of many connections over TCP, on one bridge, and
-//! then tells the gates of each port. `tsnd states` prints the gate states of a port at even steps. `tsnd check` says what is in
+//! setup in a file or from the standard one. `tsnd serve` answers the lines of many connections over TCP, on one bridge, and then
+//! tells the gates of each port. With a journal file, what the sessions of either do outlasts it, and `tsnd journal` says what is
+//! in one. `tsnd states` prints the gate states of a port at even steps. `tsnd check` says what is in
 //! a setup, or where it is at fault. The status is 0, or 1 after a line on standard error that says why, or 2 for a command line
 //! that is refused.
 #![tactic(auto)]
@@ -11,12 +11,15 @@
 mod connections;
 mod journal;
 mod looking;
+mod progress;
+mod serving;
 #[cfg(test)]
 mod tests;
 
 use connections::serve_at;
 use journal::script_over;
 use looking::look_at;
+use serving::serve_over;
 use std::io::ErrorKind;
 use std::process::ExitCode;
 use std::rt::{Env, Files};
@@ -79,7 +82,22 @@ fn main(rt: HostRuntime) -> ExitCode {
     let mut input = StdIo::new(rt.reader());
     let alloc = rt.alloc();
     let text = setup.as_slice();
+    let own = asked.file().is_some().then_some(text);
     ExitCode::from(match &asked {
+        Asked::Serve {
+            listen,
+            serving,
+            kept: Some(kept),
+            ..
+        } => serve_over(
+            &rt,
+            own,
+            kept,
+            listen.as_str(),
+            *serving,
+            &mut output,
+            &mut errors,
+        ),
         Asked::Serve {
             listen,
             serving,
@@ -94,19 +112,12 @@ fn main(rt: HostRuntime) -> ExitCode {
             &mut errors,
         ),
         Asked::Script {
-            file: named,
-            journal: Some(path),
-        } => {
-            let own = named.is_some().then_some(text);
-            script_over(&rt, own, path.as_str(), &mut input, output, &mut errors)
+            kept: Some(kept),
+            ..
+        } => script_over(&rt, own, kept, &mut input, output, &mut errors),
+        Asked::Journal { file, look } => {
+            look_at(&rt, file.as_str(), *look, &mut output, &mut errors)
         }
-        Asked::Journal { file, look } => look_at(
-            &rt,
-            file.as_str(),
-            *look,
-            &mut output,
-            &mut errors,
-        ),
         _ => run(alloc, &asked, text, &mut input, &mut output, &mut errors),
     })
 }

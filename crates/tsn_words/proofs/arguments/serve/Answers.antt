@@ -10,4 +10,6 @@ returns c =
     let second = c.in_ok-arg-2.ensures.shape c.any_text-listen.ensures.local ∙ ap₂ with_rule first c.any_text-listen.ensures.rule in
     let third = c.in_ok-arg-3.ensures.shape c.number-workers.ensures.local ∙ ap₂ with_rule second c.number-workers.ensures.rule in
     let fourth = c.in_ok-arg-4.ensures.shape c.number-connections.ensures.local ∙ ap₂ with_rule third c.number-connections.ensures.rule in
-    IfOk-weaker c.arg-5.result _ _ (λ r h. h.shape c.number-probe.ensures.local ∙ ap₂ with_rule fourth c.number-probe.ensures.rule) c.arg-5.ensures
+    let fifth = c.in_ok-arg-5.ensures.shape c.number-probe.ensures.local ∙ ap₂ with_rule fourth c.number-probe.ensures.rule in
+    let sixth = c.in_ok-arg-6.ensures.shape c.kept.ensures.local ∙ ap₂ with_rule fifth c.kept.ensures.rule in
+    IfOk-weaker c.arg-7.result _ _ (λ r h. h.shape c.syncs.ensures.local ∙ ap₂ with_rule sixth c.syncs.ensures.rule) c.arg-7.ensures

@@ -1,5 +1,23 @@
-use Rattle.std.proofs.Common.{refl}
+use Rattle.std.proofs.Common.{inr, refl, subst}
+use Rattle.std.specs.Prelude.{codes}
+use Rattle.clap.specs.Words.{found_of}
+use Rattle.tsn_words.specs.Asking.{KeepsOrRefuses}
+use Rattle.tsn_words.proofs.Worked.{given_in_rows, kept_in_rows, misgiven_in_rows, refused_asks}
 use Rattle.tsn_words.proofs.arguments.serve_of.Goals as goal
 
-pub returns-clause-asked : goal.returns-clause-asked
-returns-clause-asked c = record { named = refl; setup = c.in_ok-file.ensures; place = c.in_ok-listen.ensures; serving = c.given_in-serving.ensures }
+pub returns-in-Ok-clause-asked : goal.returns-in-Ok-clause-asked
+returns-in-Ok-clause-asked c = record {
+  named = refl;
+  setup = given_in_rows (codes "serve") (found_of c.args.given.now) (codes "FILE") _ c.in_ok-file.ensures;
+  place = c.in_ok-listen.ensures;
+  serving = c.given_in-serving.ensures;
+  journal = kept_in_rows (codes "serve") (found_of c.args.given.now) c.in-Ok.kept (subst (KeepsOrRefuses _ _) c.in-Ok.is c.in_ok-kept.ensures);
+}
+
+pub returns-in-Err-clause-asked : goal.returns-in-Err-clause-asked
+returns-in-Err-clause-asked c =
+    let wrong = subst (KeepsOrRefuses _ _) c.in-Err.is c.in_ok-kept.ensures in
+    refused_asks _ c.in-Err.refused wrong.1 (inr (record {
+      named = inr refl;
+      wrong = misgiven_in_rows (codes "serve") (found_of c.args.given.now) wrong.0;
+    }))
