@@ -36,6 +36,48 @@ pub struct LastingHost<'a, W: Wait, C: Clock, D: Device, R: Naming, K: Naming + 
     pub service: &'a S,
 }
 
+impl<
+    'a,
+    W: Wait,
+    C: Clock + Drop,
+    D: Device + Drop,
+    R: Naming,
+    K: Naming + Ahead,
+    S: Stop,
+> LastingHost<'a, W, C, D, R, K, S> {
+    // Serves one connection by a talk.
+    #[tactic(auto, using(tsn_serve::proofs::Going::sat_still, crate::proofs::Going::served, crate::proofs::Going::none_held))]
+    fn talk<I: ByteIn, O: ByteOut + Drop>(
+        &self,
+        alloc: Global,
+        desk: &Desk<Bridge>,
+        seat: Seat<Bridge>,
+        number: u32,
+        reader: &mut I,
+        writer: O,
+    ) -> Seat<Bridge>
+        requires { IsSeatOf desk.now seat }
+        ensures { GoesOn desk.now seat result }
+    {
+        let Ok(replies) = Gathered::new(alloc) else {
+            return seat;
+        };
+        let Ok(mut line) = LineBuffer::new(alloc) else {
+            return seat;
+        };
+        let Ok(clerk) = Clerk::new(alloc, self.rt, self.commit) else {
+            return seat;
+        };
+        let end = Connection::new(self.rt, desk, seat, number, &Free, clerk);
+        let mut talk = Talk::new(end, self.rt, self.commit, replies, writer);
+        let ended = talk_on(alloc, &mut talk, &mut line, reader);
+        if let Err(TalkFault::Journal) = ended {
+            self.service.stop();
+        }
+        talk.into_end().into_seat(desk)
+    }
+}
+
 impl<'a, W: Wait, C: Clock + Drop, D: Device + Drop, R: Naming, K: Naming + Ahead, S: Stop> Host
     for LastingHost<'a, W, C, D, R, K, S> {
     fn start<Q: Wait>(
@@ -53,7 +95,6 @@ impl<'a, W: Wait, C: Clock + Drop, D: Device + Drop, R: Naming, K: Naming + Ahea
     }
 
     /// Its replies wait in memory of its own; where there is none, it ends at once.
-    #[tactic(auto, using(tsn_serve::proofs::Going::sat_still, crate::proofs::Going::served, crate::proofs::Going::none_held))]
     fn serve<Q: Wait, I: ByteIn + Drop, O: ByteOut + Drop>(
         &self,
         _rt: &Q,
@@ -63,22 +104,8 @@ impl<'a, W: Wait, C: Clock + Drop, D: Device + Drop, R: Naming, K: Naming + Ahea
         connection: (u32, I, O),
     ) -> Seat<Bridge> {
         let (number, mut reader, writer) = connection;
-        let Ok(replies) = Gathered::new(alloc) else {
-            return seat;
-        };
-        let Ok(mut line) = LineBuffer::new(alloc) else {
-            return seat;
-        };
-        let Ok(clerk) = Clerk::new(alloc, self.rt, self.commit) else {
-            return seat;
-        };
-        let end = Connection::new(self.rt, desk, seat, number, &Free, clerk);
-        let mut talk = Talk::new(end, self.rt, self.commit, replies, writer);
-        let ended = talk_on(alloc, &mut talk, &mut line, &mut reader);
-        if let Err(TalkFault::Journal) = ended {
-            self.service.stop();
-        }
+        let seat = self.talk(alloc, desk, seat, number, &mut reader, writer);
         self.service.ended(number);
-        talk.into_end().into_seat(desk)
+        seat
     }
 }

@@ -2,7 +2,7 @@ use Rattle.std.proofs.Common.{◌≡◌, None, ap, subst, sym, ◌∙◌}
 use Rattle.tsn_serve.specs.Talk.{Caller, Goes, caller_of}
 use Rattle.tsn_clerk.specs.Talking.{Parts}
 use Rattle.tsn_clerk.proofs.Going.{served}
-use Rattle.tsn_clerk.proofs.host.LastingHostHost.serve.Goals as goal
+use Rattle.tsn_clerk.proofs.host.LastingHost.talk.Goals as goal
 
 pub returns : goal.returns
 returns g c =
