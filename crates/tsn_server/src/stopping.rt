@@ -59,17 +59,19 @@ impl<'a, R: Wait + Net<Listener = TcpListener, Stream = TcpStream>> StoppableSou
         !open.is_stopped && open.handles.push((number, handle)).is_ok()
     }
 
-    // Shuts down each connection that is open, and takes no further one.
-    fn close(&self) {
+    // Shuts down each connection that is open, and takes no further one; says whether that was so before.
+    fn close(&self) -> bool {
         let mut open = self.open.lock(self.rt);
+        let was_stopped = open.is_stopped;
         open.is_stopped = true;
         for (_, handle) in open.handles.iter() {
             // One that is down already is no fault.
             let _ = handle.shutdown(Shutdown::Both);
         }
+        was_stopped
     }
 
-    // Wakes each thread that waits for a connection, by one that is given up at once.
+    // Wakes each thread that waits for a connection, or will, by one that is given up at once.
     fn wake(&self) {
         let longest = Duration::from_millis(LONGEST_CALL);
         for _ in 0..self.threads {
@@ -82,8 +84,9 @@ impl<'a, R: Wait + Net<Listener = TcpListener, Stream = TcpStream>> StoppableSou
 
 impl<R: Wait + Net<Listener = TcpListener, Stream = TcpStream>> Stop for StoppableSource<'_, R> {
     fn stop(&self) {
-        self.close();
-        self.wake();
+        if !self.close() {
+            self.wake();
+        }
     }
 
     fn ended(&self, connection: u32) {
@@ -108,6 +111,10 @@ impl<R: Wait + Net<Listener = TcpListener, Stream = TcpStream>> Source for Stopp
         if !self.enter(number, &stream) {
             return None;
         }
-        ends_of(number, stream)
+        let ends = ends_of(number, stream);
+        if ends.is_none() {
+            self.ended(number);
+        }
+        ends
     }
 }
