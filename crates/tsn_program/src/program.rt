@@ -186,11 +186,8 @@ pub fn run<R: ByteIn, O: ByteOut, E: ByteOut>(
         (record { old = E.taken errors.old; new = E.taken errors.new; held_back = E.pending errors.new; failed = E.has_failed errors.new }) }
 {
     match asked {
-        Asked::Script { journal: None, .. } => serve_script(alloc, setup, input, output, errors),
-        Asked::Script {
-            journal: Some(_),
-            ..
-        } => unreachable!(),
+        Asked::Script { kept: None, .. } => serve_script(alloc, setup, input, output, errors),
+        Asked::Script { kept: Some(_), .. } => unreachable!(),
         Asked::States { listing, .. } => serve_states(alloc, setup, listing, output, errors),
         Asked::Serve { .. } => unreachable!(),
         Asked::Check { .. } => check_setup(alloc, setup, output, errors),

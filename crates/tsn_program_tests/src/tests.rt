@@ -13,7 +13,7 @@ use tsn_program::{Failure, fail, read_setup, run};
 use tsn_types::keys::Key;
 use tsn_types::numbers::GateId;
 use tsn_types::refusals::{Field, Refusal};
-use tsn_words::{Asked, Look, read_words};
+use tsn_words::{Asked, Look, Syncs, read_words};
 
 const SCRIPT: &'static [u8] = b"{\"do\":\"hello\"}\n{\"do\":\"undo\",\"s\":1}\n";
 
@@ -88,11 +88,9 @@ fn asked(alloc: Global, words: &[&str]) -> Result<Asked, Fail>
 {
     match read(alloc, words)? {
         Asked::Serve { .. } => Err(Fail::from("connections are asked for")),
-        Asked::Journal { .. }
-        | Asked::Script {
-            journal: Some(_),
-            ..
-        } => { Err(Fail::from("a journal is asked for")) }
+        Asked::Journal { .. } | Asked::Script { kept: Some(_), .. } => {
+            Err(Fail::from("a journal is asked for"))
+        }
         asked => Ok(asked),
     }
 }
@@ -316,21 +314,45 @@ fn a_setup_is_read_to_its_end(rt: HostRuntime) -> Result<(), Fail> {
     Ok(())
 }
 
-/// A script's journal is not its setup, and either may be named alone.
+/// Whether this setup is named, and the journal that is kept with these syncs.
+fn keeps(asked: &Asked, setup: Option<&str>, syncs: Syncs) -> bool {
+    let kept = match asked {
+        Asked::Script { kept, .. } | Asked::Serve { kept, .. } => kept.as_ref(),
+        _ => None,
+    };
+    match kept {
+        Some(kept) => {
+            asked.file() == setup && kept.file.as_str() == "cell.journal" && kept.syncs == syncs
+        }
+        None => false,
+    }
+}
+
+/// A journal is not the setup, and either may be named alone, to a script and to a server. Each sync is made, unless it is said
+/// that none is.
 #[test]
-fn a_script_may_keep_a_journal(rt: HostRuntime) -> Result<(), Fail> {
+fn a_journal_may_be_kept(rt: HostRuntime) -> Result<(), Fail> {
     let both: &[&str] = &["script", "--journal", "cell.journal", "cell.toml"];
     let alone: &[&str] = &["script", "--journal=cell.journal"];
-    for (words, setup) in [(both, Some("cell.toml")), (alone, None)] {
-        let Asked::Script { file, journal } = read(rt.alloc(), words)? else {
-            return Err(Fail::from("no script is asked for"));
-        };
-        same(&rt, &file.as_ref().map(String::as_str), &setup);
-        same(
-            &rt,
-            &journal.as_ref().map(String::as_str),
-            &Some("cell.journal"),
-        );
+    let unsynced: &[&str] = &["script", "--sync", "none", "--journal=cell.journal"];
+    let served: &[&str] = &[
+        "serve",
+        "--listen=127.0.0.1:0",
+        "--workers=1",
+        "--connections=1",
+        "--probe=0",
+        "--sync=none",
+        "--journal=cell.journal",
+    ];
+    let cases: [(&[&str], Option<&str>, Syncs); 4] = [
+        (both, Some("cell.toml"), Syncs::Each),
+        (alone, None, Syncs::Each),
+        (unsynced, None, Syncs::None),
+        (served, None, Syncs::None),
+    ];
+    for (words, setup, syncs) in cases {
+        let asked = read(rt.alloc(), words)?;
+        assert!(rt; keeps(&asked, setup, syncs));
     }
     Ok(())
 }

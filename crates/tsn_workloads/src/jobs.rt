@@ -67,7 +67,7 @@ fn script<J: Job + Drop, W: ByteOut>(alloc: Global, setup: &Text, job: J, output
     let mut errors = MemOut::new(Vec::new(alloc), PIECE, None);
     let asked = Asked::Script {
         file: None,
-        journal: None,
+        kept: None,
     };
     let text = setup.as_slice();
     run(alloc, &asked, text, &mut input, output, &mut errors)

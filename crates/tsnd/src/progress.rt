@@ -1,4 +1,6 @@
 //! The file of a journal as a start reads it: where that takes long, it says how far it is.
+ghost use Rattle.std.specs.Prelude.{◌≡◌};
+
 use std::alloc::Global;
 use std::time;
 use std::time::Instant;
