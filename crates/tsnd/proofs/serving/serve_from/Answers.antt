@@ -9,9 +9,7 @@ unsynced_send : IsSend UnsyncedDevice.the_row
 unsynced_send = search (file_send, crosses, sendable) depth 60 fits 20000
 
 pub serve_on-requires-send-D : goal.serve_on-requires-send-D
-serve_on-requires-send-D g c κs within =
-    first_of (param_send 0 _ (record { owned = file_send.owned; leaving = file_send.leaving }), param_send 0 _ file_send, search (file_send, crosses, sendable) depth 60 fits 20000)
+serve_on-requires-send-D g c κs within = search (file_send, param_send, crosses, sendable) depth 60 fits 20000
 
 pub serve_on-requires-in-None-send-D : goal.serve_on-requires-in-None-send-D
-serve_on-requires-in-None-send-D g c κs within =
-    first_of (param_send 0 _ (record { owned = unsynced_send.owned; leaving = unsynced_send.leaving }), param_send 0 _ unsynced_send, search (unsynced_send, crosses, sendable) depth 60 fits 20000)
+serve_on-requires-in-None-send-D g c κs within = search (unsynced_send, param_send, crosses, sendable) depth 60 fits 20000
