@@ -80,6 +80,7 @@ impl<
 
 impl<'a, W: Wait, C: Clock + Drop, D: Device + Drop, R: Naming, K: Naming + Ahead, S: Stop> Host
     for LastingHost<'a, W, C, D, R, K, S> {
+    /// Where no session is left for a worker, the service is stopped.
     fn start<Q: Wait>(
         &self,
         rt: &Q,
@@ -91,7 +92,11 @@ impl<'a, W: Wait, C: Clock + Drop, D: Device + Drop, R: Naming, K: Naming + Ahea
         let Ok(mut clerk) = Clerk::new(alloc, self.rt, self.commit) else {
             return Err(RoundFault::Memory);
         };
-        start_with(rt, desk, seat, port, &mut clerk)
+        let started = start_with(rt, desk, seat, port, &mut clerk);
+        if let Err(RoundFault::Refused(_)) = &started {
+            self.service.stop();
+        }
+        started
     }
 
     /// Its replies wait in memory of its own; where there is none, it ends at once.
