@@ -6,14 +6,13 @@ ghost use Rattle.std.specs.Prelude.{◌≡◌, ◌<◌, ℕ, IsSome, Bool, List,
 ghost use Rattle.std.specs.FinMap as map;
 ghost use Rattle.std.specs.FinMap.{FinMap};
 ghost use Rattle.std.specs.Ordering.{nat_cmp};
-ghost use Rattle.tsn_table.specs.Firsts.{lesser};
 ghost use Rattle.tsn_types.specs.declared.records.StreamFilter.{StreamFilter as AnyFilter};
 ghost use Rattle.tsn_config.specs.Filters.{AreFilters};
 ghost use Rattle.tsn_types.specs.Numbers.{IsInstanceId};
 ghost use Rattle.tsn_chain.specs.Chosen.{chosen, is_matching, IsLeast};
 
 use tsn_config::Config;
-use tsn_table::Table;
+use tsn_table::{Table, lesser};
 use tsn_types::numbers::{FilterId, Handle, Priority};
 use tsn_types::records::StreamFilter;
 
@@ -48,23 +47,6 @@ pub fn choose(filters: &Table<StreamFilter>, handle: Handle, priority: Priority)
             Ok(id) => Some(id),
             Err(_) => unreachable!(),
         },
-    }
-}
-
-// The lesser of two numbers, where there are two.
-fn lesser(left: Option<FilterId>, right: Option<FilterId>) -> Option<FilterId>
-    ensures { result ≡ lesser left right }
-{
-    match (left, right) {
-        (Some(one), Some(other)) => {
-            if one.get() <= other.get() {
-                Some(one)
-            } else {
-                Some(other)
-            }
-        }
-        (Some(one), None) => Some(one),
-        (None, other) => other,
     }
 }
 

@@ -245,11 +245,7 @@ fn is_blocked(index: &Index, marked: &[MarkedEntry], own: &MarkedEntry) -> bool
 pub(crate) fn later_of(first: Option<u64>, second: Option<u64>) -> Option<u64>
     ensures { result ≡ later_of first second }
 {
-    match (first, second) {
-        (Some(n), Some(k)) => Some(if n < k { k } else { n }),
-        (Some(n), None) => Some(n),
-        (None, k) => k,
-    }
+    first.max(second)
 }
 
 /// The number of the session's newest standing entry that a later standing entry of another session is in conflict

@@ -1,11 +1,12 @@
 -- The first row that passes a test is the one of the least number, and nothing else is.
 use Rattle.std.proofs.Common.{◌≡◌, ℕ, ◌<◌, ◌≤◌, Bool, true, false, cond, List, [], ◌∷◌, refl, sym, ◌∙◌, ap, Option, Some, None, arith, inl, inr}
 use Rattle.std.specs.Prelude.{unwrap_or, ◌||◌}
-use Rattle.std.specs.Ordering.{nat_cmp, eq_by_cmp, is_lt}
+use Rattle.std.specs.Ordering.{nat_cmp, eq_by_cmp, is_lt, ord_min}
 use Rattle.std.specs.FinMap.{find, is_sorted}
 use Rattle.std.specs.FinMap.Entries.{below_all}
 use Rattle.std.proofs.lemmas.Bool.{cases_lt, and_parts, lt-ltb}
-use Rattle.tsn_table.specs.Firsts.{first_id, lesser}
+use Rattle.std.proofs.lemmas.Bool.Decides.{nat_tests}
+use Rattle.tsn_table.specs.Firsts.{first_id, lesser, lesser_by}
 use Rattle.tsn_table.proofs.Orders.{less_is, is_less, is_greater, is_equal}
 
 pub not_some : {A : Type 0} (o : Option A) (x : A) → o ≡ None → o ≡ Some x → ⊥
@@ -115,3 +116,9 @@ first_either p q (e ∷ es) s =
         | false ↦ rest
       ]
     ]
+
+-- the lesser of two numbers by their order
+pub lesser_by-nat_cmp : (o r : Option ℕ) → lesser_by (ord_min nat_cmp) o r ≡ lesser o r
+lesser_by-nat_cmp None r = refl
+lesser_by-nat_cmp (Some n) None = refl
+lesser_by-nat_cmp (Some n) (Some k) = ap Some (grind (arith, nat_tests))

@@ -7,13 +7,13 @@
 #![tactic(auto)]
 
 ghost use Rattle.std.specs.Prelude.{◌≡◌, ℕ, Bool, ◌+◌, ◌<◌, ◌≤◌, ◌⊎◌, IsOk, IsSome, IsTrue, IfOk, OnOk, OnErr, Some, None, MatchOption, cond, length, nat_eq};
-ghost use Rattle.std.specs.Ordering.{nat_cmp};
+ghost use Rattle.std.specs.Ordering.{nat_cmp, ord_min};
 ghost use Rattle.std.specs.Option.{option_copied};
 ghost use Rattle.std.specs.FinMap as map;
 ghost use Rattle.std.specs.HashMap as hash;
 ghost use Rattle.std.specs.List.Sorted.{IsPermutation, IsSorted};
 ghost use Rattle.tsn_table.specs.Places.{LiesAt};
-ghost use Rattle.tsn_table.specs.Firsts.{AnswersAs, first_id, least_id, lesser};
+ghost use Rattle.tsn_table.specs.Firsts.{AnswersAs, first_id, least_id, lesser_by};
 ghost use Rattle.tsn_table.specs.Copies.{Copies};
 
 use crate::hints::Hints;
@@ -283,9 +283,9 @@ fn least_of<R, F: Fn(&R) -> bool>(rows: &IndexMap<u64, R>, test: &F) -> Option<u
     least
 }
 
-/// The lesser of two numbers, where there are two.
-pub fn lesser(left: Option<u64>, right: Option<u64>) -> Option<u64>
-    ensures { result ≡ lesser left right }
+/// The lesser of two, where there are two.
+pub fn lesser<T: Ord + Copy>(left: Option<T>, right: Option<T>) -> Option<T>
+    ensures { result ≡ lesser_by (ord_min T.cmp) left right }
 {
     match (left, right) {
         (Some(one), Some(other)) => Some(one.min(other)),

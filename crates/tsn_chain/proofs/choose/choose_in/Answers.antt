@@ -5,6 +5,7 @@ use Rattle.tsn_types.specs.declared.records.StreamFilter.{StreamFilter}
 use Rattle.tsn_table.specs.Firsts.{first_id, lesser}
 use Rattle.tsn_config.specs.Filters.{AreFilters, specifies}
 use Rattle.tsn_chain.specs.Chosen.{chosen, IsLeast}
+use Rattle.tsn_table.proofs.Firsts.{lesser_by-nat_cmp}
 use Rattle.tsn_chain.proofs.Least.{chosen_of_four, least}
 use Rattle.tsn_chain.proofs.choose.choose_in.Goals as goal
 
@@ -14,6 +15,7 @@ told c fs are =
     let handle = c.args.handle in
     let priority = Some c.args.priority in
     c.lesser.ensures
+    ∙ lesser_by-nat_cmp c.first_with_either-own.result c.first_with_either-any.result
     ∙ ap (λ o. lesser o c.first_with_either-any.result) (c.first_with_either-own.ensures fs are)
     ∙ ap (lesser (lesser (first_id (specifies (Some handle) priority) (entries fs)) (first_id (specifies (Some handle) None) (entries fs)))) (c.first_with_either-any.ensures fs are)
     ∙ sym (chosen_of_four c.args.handle c.args.priority fs)
