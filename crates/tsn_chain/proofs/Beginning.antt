@@ -1,6 +1,6 @@
 -- A configuration that is opened with one port, and a runtime that followed that port.
 use Rattle.std.proofs.Common.{◌≡◌, ℕ, cond, [], ◌∷◌, refl, sym, ◌∙◌, ap, subst, Option, Some, None}
-use Rattle.std.specs.Prelude.{Err, IsSome, Ok, OnErr, OnOk, Result, is_some}
+use Rattle.std.specs.Prelude.{Err, Ok, OnErr, OnOk, Result, is_some}
 use Rattle.std.specs.FinMap.{FinMap, empty, get, find, get-empty, get-from_entries}
 use Rattle.std.specs.List.{IsDistinct}
 use Rattle.std.specs.Ordering.{nat_cmp}
@@ -18,7 +18,7 @@ use Rattle.tsn_edit.specs.Configuration.{Configuration, put}
 use Rattle.tsn_edit.specs.Parts.{Change}
 use Rattle.tsn_edit.proofs.KeyFacts.{by_bool, get-put, keys_total}
 use Rattle.tsn_chain.specs.Following.{frames_after, runners_after}
-use Rattle.tsn_chain.specs.Instances.{FrameData, Runners, HasKeys, SameKeys, HasData}
+use Rattle.tsn_chain.specs.Instances.{FrameData, Runners, HasKeys, SameKeys}
 use Rattle.tsn_chain.specs.Acts.{KeyApplies}
 use Rattle.tsn_chain.proofs.Keys.{keys_apply, keys_begin, keys_fit, keys_follow}
 
@@ -61,13 +61,6 @@ begun p l c r f now one is runners frames =
       };
     } in
     subst (λ (s : Runners). HasKeys s f c) (sym runners) (subst (λ (s : FrameData). HasKeys (runners_after (record { ports = empty; gates = empty }) (first_port p)) s c) (sym frames) moved_all)
-
--- a key that is there has its data
-pub has_data : (r : Runners) (f : FrameData) (c : Configuration) (key : Key) → HasKeys r f c → IsSome (get c key) → HasData r f key
-has_data r f c (Port n) h there = h.ports n ∙ there
-has_data r f c (Filter n) h there = h.frames.filters n ∙ there
-has_data r f c (Gate n) h there = (h.gates n ∙ there, h.frames.gates n ∙ there)
-has_data r f c (Meter n) h there = h.frames.meters n ∙ there
 
 -- an apply that is accepted, or refused
 pub applied_keys : (r : Result ℕ Refusal) (old new : Runners) (f f' : FrameData) (c : Configuration) (key : Key) (v : Option Record) (a : ℕ) → HasKeys old f c → f' ≡ f → OnOk r (KeyApplies old key v a new) → OnErr r (new ≡ old) → HasKeys new f' c

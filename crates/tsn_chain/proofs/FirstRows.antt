@@ -5,6 +5,8 @@ use Rattle.std.specs.Cmp.{nat_cmp_total}
 use Rattle.std.specs.FinMap.{FinMap, get, empty, keys, contains_key-keys, get-empty, get-insert, get-remove}
 use Rattle.std.specs.List.{AllByRecursion, list_any}
 use Rattle.std.specs.Ordering.{nat_cmp, eq_by_cmp}
+use Rattle.std.proofs.lemmas.Bool.{or_right}
+use Rattle.std.proofs.Math.Bool.{or-false}
 use Rattle.tsn_types.specs.declared.keys.Key.{Key}
 use Rattle.tsn_types.specs.declared.keys.Key.TheVariants.{Port, Filter, Gate, Meter}
 use Rattle.tsn_types.specs.declared.keys.Kind.{Kind}
@@ -57,10 +59,6 @@ picked kind n (k ∷ ks) = one_more kind n k ks (picked kind n ks)
 in_ids : (kind : Kind) (c : Configuration) (n : ℕ) → list_any (eq_by_cmp nat_cmp n) (ids_of kind c) ≡ is_some (get c (key_by kind n))
 in_ids kind c n = picked kind n (keys c) ∙ sym (contains_key-keys c (key_by kind n))
 
-or_right : (a b : Bool) → b ≡ true → (a || b) ≡ true
-or_right true b h = refl
-or_right false b h = h
-
 each_in : (P : ℕ → Type 0) (ns : List ℕ) → ((n : ℕ) → list_any (eq_by_cmp nat_cmp n) ns ≡ true → P n) → AllByRecursion P ns
 each_in P [] h = tt
 each_in P (n ∷ ns) h = (h n (ap (λ b. b || list_any (eq_by_cmp nat_cmp n) ns) (same_itself (Filter n))), each_in P ns (λ m e. h m (or_right (eq_by_cmp nat_cmp m n) _ e)))
@@ -96,17 +94,13 @@ created_meter : (o : Option FlowMeter) (t : FinMap nat_cmp MeterData) (m n : ℕ
 created_meter None t m n there = (cc)
 created_meter (Some r) t m n there = ap is_some (get-insert nat_cmp_total t m (new_meter 0 r) n) ∙ either (eq_by_cmp nat_cmp n m) (new_meter 0 r) (get t n)
 
-or_none : (b : Bool) → (b || false) ≡ b
-or_none true = refl
-or_none false = refl
-
 -- from none, just the rows of a configuration's keys
 rows_of : {A : Type 0} (kind : Kind) (c : Configuration) (step : FinMap nat_cmp A → ℕ → FinMap nat_cmp A) (P : ℕ → Type 0) → ((t : FinMap nat_cmp A) (m n : ℕ) → P m → is_some (get (step t m) n) ≡ (eq_by_cmp nat_cmp n m || is_some (get t n)))
     → AllByRecursion P (ids_of kind c) → (n : ℕ) → is_some (get (fold step empty (ids_of kind c)) n) ≡ is_some (get c (key_by kind n))
 rows_of {A = A} kind c step P one each n =
     rows_there step P one (ids_of kind c) empty n each
     ∙ ap (λ (o : Option A). list_any (eq_by_cmp nat_cmp n) (ids_of kind c) || is_some o) (get-empty {X = A} nat_cmp n)
-    ∙ or_none (list_any (eq_by_cmp nat_cmp n) (ids_of kind c))
+    ∙ or-false (list_any (eq_by_cmp nat_cmp n) (ids_of kind c))
     ∙ in_ids kind c n
 
 -- ---- one table of all: it moves with the keys of its kind, and stays with the others

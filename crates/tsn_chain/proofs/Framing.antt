@@ -1,5 +1,5 @@
 -- From what a frame meets to what is said of it.
-use Rattle.std.proofs.Common.{◌≡◌, ◌≤◌, ◌<◌, ℕ, arith, refl, sym, ◌∙◌, ap, subst, true, ◌∷◌, Option, Some, None}
+use Rattle.std.proofs.Common.{◌≡◌, ℕ, refl, sym, ◌∙◌, ap, subst, true, ◌∷◌, Option, Some, None}
 use Rattle.std.specs.Prelude.{IsSome, is_some}
 use Rattle.std.specs.Option.{option_map}
 use Rattle.std.specs.FinMap.{FinMap, get}
@@ -13,13 +13,11 @@ use Rattle.tsn_types.specs.declared.records.StreamFilter.{StreamFilter}
 use Rattle.tsn_types.specs.declared.records.StreamGate.{StreamGate}
 use Rattle.tsn_types.specs.declared.records.FlowMeter.{FlowMeter}
 use Rattle.tsn_types.specs.Keys.{has, meter_ref, refs, same_key}
-use Rattle.tsn_types.specs.Bounds.{most_instances}
 use Rattle.tsn_types.specs.Limits.{HoldsRecord}
-use Rattle.tsn_types.specs.Numbers.{IsInstanceId}
 use Rattle.tsn_types.specs.declared.records.GateEntry.{GateEntry}
 use Rattle.tsn_config.specs.Kinds.{filter_of, gate_of}
 use Rattle.tsn_edit.specs.Configuration.{Configuration, IsWellKept}
-use Rattle.tsn_edit.proofs.KeyFacts.{by_option, same_itself}
+use Rattle.tsn_edit.proofs.KeyFacts.{same_itself}
 use Rattle.tsn_schedule.specs.Kept.{Kept}
 use Rattle.tsn_chain.specs.declared.data.GateState.{GateState}
 use Rattle.tsn_chain.specs.declared.data.Met.{Met}
@@ -29,18 +27,6 @@ use Rattle.tsn_chain.specs.Chain.{Case, through}
 use Rattle.tsn_chain.specs.Frames.{GateActs, StandFor, case_at, framed, framed_at, framed_by, met_at, meter_at, state_at, with_met}
 use Rattle.tsn_chain.specs.Instances.{FrameData, HasFrameKeys, SameKeys}
 use Rattle.tsn_chain.specs.Rows.{IsReady}
-
--- what is kept of a filter and its gate is there
-pub met_there : (f : FrameData) (n : ℕ) (q : StreamFilter) (by : Option FlowMeter) → IsSome (get f.filters n) → IsSome (get f.gates q.gate) → IsSome (met_at f n q by)
-met_there f n q by filter gate =
-    elim (get f.filters n) as (λ o. IsSome o → get f.filters n ≡ o → IsSome (met_at f n q by)) [
-      | None ↦ λ no is. absurd (cc)
-      | Some d ↦ λ yes is.
-          elim (get f.gates q.gate) as (λ o. IsSome o → get f.gates q.gate ≡ o → IsSome (met_at f n q by)) [
-            | None ↦ λ no at. absurd (cc)
-            | Some e ↦ λ also at. rw (is, at) refl
-          ] gate refl
-    ] filter refl
 
 -- the parts of a frame's way, put together
 pub put_together : (c : Configuration) (f : FrameData) (acts : GateActs) (frame : Frame) (time n : ℕ) (q : StreamFilter) (g : StreamGate) (by : Option FlowMeter) (state : GateState) (met left : Met) (verdict : Verdict) (new : FrameData)
@@ -57,10 +43,6 @@ put_together c f acts frame time n q g by state met left verdict new filter gate
     ap (λ (p : Verdict × Met). (p.0, with_met f n q p.1)) (sym passed) ∙ ap (λ m. (verdict, m)) (sym back) in
     ap (option_map {U = Verdict × FrameData} (framed_by f)) case_with ∙ ap (λ p. Some p) done
 
-no_row : {A : Type 0} (o : Option A) → o ≡ None → IsSome o → ⊥
-no_row None none there = absurd (cc)
-no_row (Some x) none there = absurd (cc)
-
 gate_there : (l : Limits) (n : ℕ) (v : Option Record) → IsSome v → ((r : Record) → v ≡ Some r → HoldsRecord l (Gate n) r) → (g : StreamGate) × (gate_of v ≡ Some g)
 gate_there l n None there held = absurd (cc)
 gate_there l n (Some (records.Port r)) there held = absurd (held (records.Port r) refl)
@@ -75,16 +57,6 @@ refers_to_meter : (q : StreamFilter) (m : ℕ) → q.meter ≡ Some m → has (r
 refers_to_meter q m is = ap (λ o. has (Gate q.gate ∷ meter_ref o) (Meter m)) is ∙ or_right (same_key (Meter m) (Gate q.gate)) _ (or_left (same_key (Meter m) (Meter m)) _ (same_itself (Meter m)))
 
 module _ (l : Limits) (c : Configuration) (t : FinMap nat_cmp StreamFilter) (same : (n : ℕ) → option_map records.Filter (get t n) ≡ get c (Filter n)) (kept : IsWellKept l c) where
-  -- the numbers of the filters are in their range
-  pub in_range : (n : ℕ) → IsSome (get t n) → IsInstanceId n
-  in_range n there =
-      by_option (get t n)
-      (λ none. absurd (no_row (get t n) none there))
-      (λ q is.
-      let held : n < l.filters = (kept.within (Filter n) (records.Filter q) (sym (same n) ∙ ap (option_map records.Filter) is)).0 in
-      let most : l.filters ≤ most_instances = kept.limits.1.0.1 in
-      omega arith)
-
   -- Where the instance data has the keys of the configuration, a filter finds what it refers to.
   pub ready : (runners : FinMap nat_cmp (Kept GateEntry)) (f : FrameData) (n : ℕ) (q : StreamFilter) → get t n ≡ Some q
       → SameKeys runners (λ m. Gate m) c → HasFrameKeys f c → IsReady c runners f n

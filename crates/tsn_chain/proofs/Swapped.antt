@@ -1,6 +1,6 @@
 -- A row that is taken out, with a placeholder in its place, and put in again.
 use Rattle.std.proofs.Common.{◌≡◌, ◌≤◌, ℕ, Bool, true, false, cond, refl, sym, ◌∙◌, ap, subst, Some, List, arith}
-use Rattle.std.specs.Prelude.{is_some, IsSome, OnOk, OnErr, Result, Ok, Err}
+use Rattle.std.specs.Prelude.{is_some, IsSome}
 use Rattle.std.proofs.lemmas.Bool.Decides.{nat_tests}
 use Rattle.std.proofs.lemmas.Cmp.{tied_itself}
 use Rattle.tsn_schedule.specs.Acts.{Act, with_act}
@@ -54,11 +54,3 @@ module _ {E : Type 0} (t middle last : FinMap nat_cmp (Kept E)) (n : ℕ) (place
 
   pub still_by : (now : ℕ) → AreBy now t → is.last ≤ now → AreBy now last
   still_by now h le = subst (λ (m : FinMap nat_cmp (Kept E)). AreBy now m) (sym set) (by_insert now n t is h le)
-
-pub on_ok : {A B P Q : Type 0} (r : Result A B) → (P → Q) → OnOk r P → OnOk r Q
-on_ok (Ok x) f h = f h
-on_ok (Err e) f h = tt
-
-pub on_err : {A B P Q : Type 0} (r : Result A B) → (P → Q) → OnErr r P → OnErr r Q
-on_err (Ok x) f h = tt
-on_err (Err e) f h = f h

@@ -37,6 +37,3 @@ pub by_row : {E : Type 0} (now n : ℕ) (before after : Option Record) (t : FinM
 by_row now n before None t h = by_remove now n t h
 by_row now n None (Some r) t h = by_insert now n t fresh h (omega arith)
 by_row now n (Some q) (Some r) t h = h
-
-pub by_later : {E : Type 0} (a b : ℕ) (t : FinMap nat_cmp (Kept E)) → a ≤ b → AreBy a t → AreBy b t
-by_later a b t le h n kept is = let then : kept.last ≤ a = h n kept is in omega arith

@@ -5,6 +5,7 @@ use Rattle.std.specs.List.{AllByRecursion, IsDistinct, list_all}
 use Rattle.std.specs.FinMap.{get, entries, entries_sorted, get-entries, find as find_entry}
 use Rattle.std.specs.Bool.{Decides}
 use Rattle.std.proofs.lemmas.Bool.{and_from, and_parts}
+use Rattle.tsn_table.proofs.Orders.{of_T}
 use Rattle.tsn_types.specs.declared.keys.Key.{Key}
 use Rattle.tsn_types.specs.declared.keys.Key.TheVariants.{Port, Filter, Gate, Meter}
 use Rattle.tsn_types.specs.declared.refusals.Refusal.TheVariants.{Dangling, Referred}
@@ -25,7 +26,6 @@ use Rattle.tsn_config.specs.Kinds.{AreOfKinds}
 use Rattle.tsn_config.specs.Ways.{AreInRange}
 use Rattle.tsn_config.proofs.Deciding.{found, no_cause, no_limits, none_of, of_kind, test_holds}
 use Rattle.tsn_config.proofs.Edits.{HoldsKey-from_test, HoldsRecord-from_test, map_none, none_dangling}
-use Rattle.tsn_config.proofs.Listed.{of_T}
 use Rattle.tsn_config.proofs.SetRows.{IsOfKind}
 
 -- a key with no part is none of theirs

@@ -5,7 +5,8 @@ use Rattle.std.specs.FinMap.{get, entries, entries_sorted, get-entries, find as 
 use Rattle.std.specs.FinMap.Entries.{below_all}
 use Rattle.std.specs.Ordering.{is_lt}
 use Rattle.std.proofs.lemmas.Bool.{and_from, and_parts, cases_lt}
-use Rattle.tsn_table.proofs.Orders.{less_is}
+use Rattle.std.proofs.Math.Bool.{and-false}
+use Rattle.tsn_table.proofs.Orders.{less_is, of_T}
 use Rattle.tsn_types.specs.declared.keys.Key.{Key}
 use Rattle.tsn_types.specs.declared.keys.Key.TheVariants.{Port, Filter, Gate, Meter}
 use Rattle.tsn_types.specs.declared.refusals.Refusal.TheVariants.{Referred}
@@ -18,7 +19,6 @@ use Rattle.tsn_edit.specs.Configuration.{Configuration, IsWellKept}
 use Rattle.tsn_edit.proofs.KeyFacts.{by_bool, by_option, one_key, same_itself}
 use Rattle.tsn_config.specs.Keeping.{referrer_beside, refers}
 use Rattle.tsn_config.proofs.Deciding.{find_above, found}
-use Rattle.tsn_config.proofs.Listed.{of_T}
 
 -- a key in a sorted list is above those before it
 above : (x k : Key) (r : Record) (es : List (Key × Record)) → below_all key_cmp x es ≡ true → find_entry key_cmp k es ≡ Some r → is_lt (key_cmp x k) ≡ true
@@ -50,10 +50,6 @@ least_found t (x ∷ es) h k r is passes least = by_bool (same_key k x.0)
         (λ same. let never : None ≡ Some s = sym (ap (λ k. find_entry key_cmp k es) (one_key q x.0 same) ∙ find_above x.0 es below) ∙ at in (cc))
         (λ no. no)
 
-and_false : (b : Bool) → (b && false) ≡ false
-and_false true = refl
-and_false false = refl
-
 -- only a filter refers to anything
 owner : (l : Limits) (k q : Key) (r : Record) → HoldsRecord l q r → has (refs r) k ≡ true → (n : ℕ) × (q ≡ Filter n)
 owner l k (Filter n) r h is = (n, refl)
@@ -71,7 +67,7 @@ module _ (l : Limits) (c : Configuration) (kept : IsWellKept l c) (ks : List Key
       (λ yes.
       let filter = owner l k q r (kept.within q r is).1 yes in
       let here : refers (get c (Filter filter.0)) k ≡ true = ap (λ q. refers (get c q) k) (sym filter.1) ∙ ap (λ v. refers v k) is ∙ yes in
-      ap (λ b. has (refs r) k && not b) (ap (has ks) filter.1 ∙ on filter.0 filter.1 here) ∙ and_false (has (refs r) k))
+      ap (λ b. has (refs r) k && not b) (ap (has ks) filter.1 ∙ on filter.0 filter.1 here) ∙ and-false (has (refs r) k))
       (λ no. ap (λ b. b && not (has ks q)) no)
 
   -- every filter that refers to the key is one of these

@@ -8,6 +8,7 @@ use Rattle.std.specs.FinMap.Entries.{below_all}
 use Rattle.std.proofs.lemmas.Bool.{and_parts}
 use Rattle.std.proofs.lemmas.Bool.Decides.{nat_tests}
 use Rattle.std.proofs.lemmas.List.{append-nil}
+use Rattle.tsn_table.proofs.Orders.{of_T}
 use Rattle.tsn_types.specs.declared.keys.Key.{Key}
 use Rattle.tsn_types.specs.declared.keys.Key.TheVariants.{Port, Filter, Gate, Meter}
 use Rattle.tsn_types.specs.declared.refusals.Refusal.{Refusal}
@@ -24,7 +25,7 @@ use Rattle.tsn_edit.specs.Edits.{dangling}
 use Rattle.tsn_edit.proofs.KeyFacts.{by_bool}
 use Rattle.tsn_config.specs.Opening.{dangling_cause}
 use Rattle.tsn_config.specs.Views.{keyed_rows, map_of_tables}
-use Rattle.tsn_config.proofs.Listed.{entries-map_of_tables, of_T}
+use Rattle.tsn_config.proofs.Listed.{entries-map_of_tables}
 
 -- whether a reference of the filter is absent
 abbrev pub dangles : Configuration → StreamFilter → Bool

@@ -1,6 +1,6 @@
 -- The tests of `fits` answer true just where the change fits.
-use Rattle.std.proofs.Common.{◌≡◌, ℕ, ◌≤◌, Bool, true, false, cond, not, List, [], ◌∷◌, refl, sym, ◌∙◌, ap, subst, Option, Some, None, map, arith, length}
-use Rattle.std.specs.Prelude.{find, IfSome, IsSome, is_some, is_none, nat_le, option_map}
+use Rattle.std.proofs.Common.{◌≡◌, ℕ, Bool, true, false, cond, not, List, [], ◌∷◌, refl, sym, ◌∙◌, ap, subst, Option, Some, None, map, arith, length}
+use Rattle.std.specs.Prelude.{find, IfSome, IsSome, is_some, is_none, option_map}
 use Rattle.std.specs.List.{IsDistinct}
 use Rattle.std.specs.FinMap.{get, entries, entries_sorted, get-entries, find as find_entry, is_sorted}
 use Rattle.std.specs.FinMap.Entries.{below_all}
@@ -8,8 +8,9 @@ use Rattle.std.specs.Ordering.{is_lt, is_eq}
 use Rattle.std.specs.Bool.{Decides}
 use Rattle.std.specs.declared.cmp.Ordering.{Ordering}
 use Rattle.std.specs.declared.cmp.Ordering.TheVariants.{Less, Equal, Greater}
-use Rattle.std.proofs.lemmas.Bool.{and_from, and_parts, or_left, or_right}
+use Rattle.std.proofs.lemmas.Bool.{and_from, and_parts, or_left, or_right, le-leb}
 use Rattle.std.proofs.lemmas.Bool.Decides.{nat_tests}
+use Rattle.tsn_table.proofs.Orders.{of_T}
 use Rattle.tsn_types.specs.declared.keys.Key.{Key}
 use Rattle.tsn_types.specs.declared.keys.Key.TheVariants.{Port, Filter, Gate, Meter}
 use Rattle.tsn_types.specs.declared.refusals.Refusal.{Refusal}
@@ -28,7 +29,6 @@ use Rattle.tsn_edit.proofs.KeyFacts.{by_bool, by_option, get-put, one_key, same_
 use Rattle.tsn_edit.specs.Edits.{is_of_kind, is_port, referrer, limit_causes}
 use Rattle.tsn_types.proofs.Causes.{each_none, unless-None, unless-true}
 use Rattle.tsn_config.specs.Keeping.{keeps}
-use Rattle.tsn_config.proofs.Listed.{of_T}
 use Rattle.tsn_config.proofs.Edits.{fits_put, remove_kept, none_refers, map_none}
 
 -- what stands at a key of a well kept map is within the limits
@@ -50,9 +50,6 @@ test_holds l (Port n) h = let a = h.0 in let b = h.1 in grind (arith, nat_tests)
 test_holds l (Filter n) h = grind (arith, nat_tests)
 test_holds l (Gate n) h = grind (arith, nat_tests)
 test_holds l (Meter n) h = grind (arith, nat_tests)
-
-list_test : (n m : ℕ) → n ≤ m → nat_le n m ≡ true
-list_test n m h = grind (arith, nat_tests)
 
 pub of_kind : (l : Limits) (k : Key) (r : Record) → HoldsRecord l k r → is_of_kind k r ≡ true
 of_kind l (Port n) (PortRecord r) h = refl
@@ -135,9 +132,9 @@ module _ (l : Limits) (c : Configuration) (kept : IsWellKept l c) where
   within_limits q some = by_option (get c q) (λ none. let h : is_some (get c q) ≡ false = ap is_some none in (cc)) (λ s is. test_holds l q (kept.within q s is).0)
 
   pub no_limits : (k : Key) (r : Record) → HoldsRecord l k r → ((q : Key) → has (refs r) q ≡ true → IsSome (get c q)) → out_of_limits l r ≡ None
-  no_limits (Port n) (PortRecord r) h there = unless-true _ _ (list_test (length r.admin.list) l.list h)
+  no_limits (Port n) (PortRecord r) h there = unless-true _ _ (le-leb (length r.admin.list) l.list h)
   no_limits (Filter n) (FilterRecord r) h there = no_cause (holds_key l) field_of (refs (FilterRecord r)) (λ q is. within_limits q (there q is))
-  no_limits (Gate n) (GateRecord r) h there = unless-true _ _ (list_test (length r.admin.list) l.list h)
+  no_limits (Gate n) (GateRecord r) h there = unless-true _ _ (le-leb (length r.admin.list) l.list h)
   no_limits (Meter n) (MeterRecord r) h there = refl
   no_limits k r h there = absurd h
 

@@ -1,38 +1,27 @@
 -- An index after a filter is set, and the least filter that an index tells.
-use Rattle.std.proofs.Common.{◌≡◌, ◌⊎◌, inl, inr, ℕ, ◌+◌, ◌*◌, ◌/◌, ◌%◌, ◌<◌, ◌≤◌, nat_eq, Bool, true, false, cond, List, [], ◌∷◌, refl, sym, ◌∙◌, ap, subst, Option, Some, None, arith, IsSome}
+use Rattle.std.proofs.Common.{◌≡◌, inl, inr, ℕ, ◌+◌, ◌*◌, ◌/◌, ◌%◌, ◌<◌, ◌≤◌, nat_eq, Bool, true, false, cond, List, [], ◌∷◌, refl, sym, ◌∙◌, ap, subst, Option, Some, None, arith, IsSome}
 use Rattle.std.specs.Prelude.{◌≢◌, is_some, IfSome, MatchOption, ◌&&◌}
 use Rattle.std.specs.Option.{option_eq}
 use lib.Dec.{eqb}
 use Rattle.std.specs.Ordering.{nat_cmp, eq_by_cmp}
 use Rattle.std.specs.Cmp.{nat_cmp_total}
 use Rattle.std.specs.FinMap.{FinMap, empty, get, get-empty, insert, remove, entries, entries_sorted, get-entries, get-insert, get-remove, find}
-use Rattle.std.proofs.lemmas.Bool.{cases_lt}
+use Rattle.std.proofs.lemmas.Bool.{cases_eq}
 use Rattle.std.proofs.lemmas.Bool.Decides.{nat_tests}
+use Rattle.std.proofs.lemmas.Option.{same_Some}
+use Rattle.tsn_table.proofs.Orders.{of_T}
+use Rattle.tsn_table.proofs.Rows.{itself}
 use Rattle.tsn_types.specs.declared.keys.Key.{Key}
 use Rattle.tsn_types.specs.declared.keys.Key.TheVariants.{Port, Filter, Gate, Meter}
 use Rattle.tsn_types.specs.declared.records.Record.TheVariants.{Filter as FilterRecord}
 use Rattle.tsn_types.specs.declared.records.StreamFilter.{StreamFilter}
 use Rattle.tsn_types.specs.Keys.{has, meter_ref, refs}
 use Rattle.tsn_table.specs.Firsts.{first_id}
-use Rattle.tsn_table.proofs.Firsts.{MissesIn, first_is, some_of}
+use Rattle.tsn_table.proofs.Firsts.{MissesIn, first_is}
 use Rattle.tsn_edit.proofs.KeyFacts.{by_bool}
 use Rattle.tsn_config.specs.Indexes.{about_at, is_the, Indexes, IsIndexed, left, entered, AreSmall, AreNarrow, gate_about, meter_about, match_about, specified, specification}
 use Rattle.tsn_config.specs.Filters.{is_just, specifies}
 use Rattle.tsn_config.specs.Views.{set_row}
-use Rattle.tsn_config.proofs.Listed.{of_T}
-
-same_or_not : (a b : ℕ) → (a ≡ b) ⊎ (a ≡ b → ⊥)
-same_or_not a b =
-    elim (cases_lt a b) [
-      | inl lt ↦ inr (λ e. omega arith)
-      | inr le ↦ elim (cases_lt b a) [
-        | inl lt ↦ inr (λ e. omega arith)
-        | inr le' ↦ inl (omega arith)
-      ]
-    ]
-
-itself : (k : ℕ) → eq_by_cmp nat_cmp k k ≡ true
-itself k = grind (arith, nat_tests)
 
 another : (q k : ℕ) → (q ≡ k → ⊥) → eq_by_cmp nat_cmp q k ≡ false
 another q k no_same = grind (arith, nat_tests)
@@ -80,7 +69,7 @@ beside_entered index n c (Some q) l no_same = beside_inserted index c (q * 65536
 left_at : (index : FinMap nat_cmp (Unit {0})) (n c : ℕ) (about : Option ℕ) → n < 65536 → c % 65536 ≡ n → is_some (get index c) ≡ is_the (c / 65536) about → is_some (get (left index n about) c) ≡ false
 left_at index n c None l same h = h
 left_at index n c (Some q) l same h =
-    elim (same_or_not c (q * 65536 + n)) [
+    elim (cases_eq c (q * 65536 + n)) [
       | inl e ↦ ap (λ k. is_some (get (remove index (q * 65536 + n)) k)) e ∙ ap is_some (removed index (q * 65536 + n))
       | inr no_same ↦ ap is_some (beside_removed index c (q * 65536 + n) no_same) ∙ h ∙ unequal_is q (c / 65536) (λ e. no_same (omega arith))
     ]
@@ -88,7 +77,7 @@ left_at index n c (Some q) l same h =
 entered_at : (index : FinMap nat_cmp (Unit {0})) (n c : ℕ) (about : Option ℕ) → n < 65536 → c % 65536 ≡ n → is_some (get index c) ≡ false → is_some (get (entered index n about) c) ≡ is_the (c / 65536) about
 entered_at index n c None l same h = h
 entered_at index n c (Some q) l same h =
-    elim (same_or_not c (q * 65536 + n)) [
+    elim (cases_eq c (q * 65536 + n)) [
       | inl e ↦ ap (λ k. is_some (get (insert index (q * 65536 + n) tt) k)) e ∙ ap is_some (inserted index (q * 65536 + n) tt) ∙ sym (equal_is q (c / 65536) (omega arith))
       | inr no_same ↦ ap is_some (beside_inserted index c (q * 65536 + n) tt no_same) ∙ h ∙ sym (unequal_is q (c / 65536) (λ e. no_same (omega arith)))
     ]
@@ -107,14 +96,14 @@ module _ (about : StreamFilter → Option ℕ) (fs : FinMap nat_cmp StreamFilter
 
   pub moved : (index : FinMap nat_cmp (Unit {0})) → n < 65536 → Indexes about fs index → Indexes about (set_row fs n value) (entered (left index n before) n after)
   moved index l h c =
-      elim (same_or_not (c % 65536) n) [
+      elim (cases_eq (c % 65536) n) [
         | inl same ↦ entered_at (left index n before) n c after l same (left_at index n c before l same (h c ∙ was c same)) ∙ here c same
         | inr no_same ↦ ap is_some (beside_entered (left index n before) n c after l no_same ∙ beside_left index n c before l no_same) ∙ h c ∙ elsewhere c no_same
       ]
 
   pub unmoved : (index : FinMap nat_cmp (Unit {0})) → before ≡ after → Indexes about fs index → Indexes about (set_row fs n value) index
   unmoved index alike h c =
-      elim (same_or_not (c % 65536) n) [
+      elim (cases_eq (c % 65536) n) [
         | inl same ↦ h c ∙ was c same ∙ ap (is_the (c / 65536)) alike ∙ here c same
         | inr no_same ↦ h c ∙ elsewhere c no_same
       ]
@@ -194,18 +183,18 @@ none_indexed fs gates meters matches none g m s = record {
 module _ (fs : FinMap nat_cmp StreamFilter) (n : ℕ) (value : Option StreamFilter) where
   pub still_small : n < 65536 → AreSmall fs → AreSmall (set_row fs n value)
   still_small l small k there =
-      elim (same_or_not k n) [
+      elim (cases_eq k n) [
         | inl same ↦ omega arith
         | inr no_same ↦ small k (ap is_some (sym (beside_set fs k n value no_same)) ∙ there)
       ]
 
   narrow_value : (o : Option StreamFilter) (r : StreamFilter) → IfSome o (λ q. specified q.priority < 16) → o ≡ Some r → specified r.priority < 16
   narrow_value None r h is = absurd (cc)
-  narrow_value (Some q) r h is = subst (λ (q : StreamFilter). specified q.priority < 16) (some_of q r is) h
+  narrow_value (Some q) r h is = subst (λ (q : StreamFilter). specified q.priority < 16) (same_Some q r is) h
 
   pub still_narrow : IfSome value (λ r. specified r.priority < 16) → AreNarrow fs → AreNarrow (set_row fs n value)
   still_narrow h narrow k r is =
-      elim (same_or_not k n) [
+      elim (cases_eq k n) [
         | inl same ↦ narrow_value value r h (sym (set_there fs n value) ∙ ap (get (set_row fs n value)) (sym same) ∙ is)
         | inr no_same ↦ narrow k r (sym (beside_set fs k n value no_same) ∙ is)
       ]
@@ -252,8 +241,8 @@ just_alike (Some n) (Some m) = grind (arith, nat_tests)
 
 both_alike : (a b c d : ℕ) → b < 16 → d < 16 → (nat_eq a c && nat_eq b d) ≡ nat_eq (a * 16 + b) (c * 16 + d)
 both_alike a b c d l m =
-    elim (same_or_not a c) [
-      | inl same ↦ elim (same_or_not b d) [
+    elim (cases_eq a c) [
+      | inl same ↦ elim (cases_eq b d) [
         | inl same' ↦ rw (equal_is a c same, equal_is b d same') (sym (equal_is (a * 16 + b) (c * 16 + d) (omega arith)))
         | inr other ↦ rw (equal_is a c same, unequal_is b d other) (sym (unequal_is (a * 16 + b) (c * 16 + d) (λ e. other (omega arith))))
       ]

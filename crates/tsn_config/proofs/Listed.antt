@@ -1,12 +1,14 @@
 -- The entries of the map of four tables are those of the tables, one table after another.
 use Rattle.std.proofs.Common.{◌≡◌, ℕ, Bool, true, false, cond, List, [], ◌∷◌, ◌++◌, refl, sym, ◌∙◌, ap, Some, None}
-use Rattle.std.specs.Prelude.{T, find, option_map}
+use Rattle.std.specs.Prelude.{find, option_map}
 use Rattle.std.proofs.lemmas.Bool.{and_from, and_parts}
 use Rattle.std.proofs.lemmas.List.{append-nil}
 use Rattle.std.specs.Ordering.{nat_cmp, is_lt}
 use Rattle.std.specs.declared.cmp.Ordering.TheVariants.{Less}
 use Rattle.std.specs.FinMap.{FinMap, entries, entries_sorted, from_entries, from_sorted, get-from_entries, get-from_sorted, entries-from_sorted, same_map, is_sorted}
 use Rattle.std.specs.FinMap.Entries.{below_all}
+use Rattle.std.proofs.lemmas.Float.{T_from_true}
+use Rattle.tsn_table.proofs.Orders.{of_T}
 use Rattle.tsn_types.specs.declared.keys.Key.{Key}
 use Rattle.tsn_types.specs.declared.keys.Key.TheVariants.{Port, Filter, Gate, Meter}
 use Rattle.tsn_types.specs.declared.refusals.Refusal.TheVariants.{Referred}
@@ -21,14 +23,6 @@ use Rattle.tsn_edit.proofs.KeyFacts.{keys_total, exact_keys}
 use Rattle.tsn_table.specs.Firsts.{first_id}
 use Rattle.tsn_config.specs.Views.{keyed_rows, map_of_tables}
 use Rattle.tsn_edit.specs.Edits.{referrer}
-
-pub of_T : (b : Bool) → T b → b ≡ true
-of_T true h = refl
-of_T false h = absurd h
-
-pub T_of : (b : Bool) → b ≡ true → T b
-T_of true h = tt
-T_of false h = absurd (cc)
 
 below_append : (k : Key) (xs ys : List (Key × Record)) → below_all key_cmp k xs ≡ true → below_all key_cmp k ys ≡ true → below_all key_cmp k (xs ++ ys) ≡ true
 below_append k [] ys h g = g
@@ -67,7 +61,7 @@ module _ {A : Type 0} (key : ℕ → Key) (record' : A → Record) where
 
 pub from_sorted_list : (es : List (Key × Record)) → is_sorted key_cmp es ≡ true → entries (from_entries {R = key_cmp} es) ≡ es
 from_sorted_list es h =
-    ap entries (same_map keys_total exact_keys (from_entries es) (from_sorted es) (λ q. get-from_entries keys_total es q ∙ sym (get-from_sorted key_cmp es q (T_of _ h)))) ∙ entries-from_sorted key_cmp es (T_of _ h)
+    ap entries (same_map keys_total exact_keys (from_entries es) (from_sorted es) (λ q. get-from_entries keys_total es q ∙ sym (get-from_sorted key_cmp es q (T_from_true _ h)))) ∙ entries-from_sorted key_cmp es (T_from_true _ h)
 
 module _ (ps : FinMap nat_cmp PortGates) (fs : FinMap nat_cmp StreamFilter) (gs : FinMap nat_cmp StreamGate) (ms : FinMap nat_cmp FlowMeter) where
   sorted_all : is_sorted key_cmp (keyed_rows Port PortRecord (entries ps) ++ (keyed_rows Filter FilterRecord (entries fs) ++ (keyed_rows Gate GateRecord (entries gs) ++ keyed_rows Meter MeterRecord (entries ms)))) ≡ true

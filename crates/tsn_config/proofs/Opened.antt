@@ -2,7 +2,6 @@
 use Rattle.std.proofs.Common.{◌≡◌, ℕ, suc, ◌+◌, true, false, cond, ◌||◌, not, List, [], ◌∷◌, ◌++◌, refl, sym, ◌∙◌, ap, Some, None, append_assoc, add-one}
 use Rattle.std.specs.Prelude.{IsSome, is_some}
 use Rattle.std.specs.Option.{option_or}
-use Rattle.std.proofs.lemmas.List.{append-nil}
 use Rattle.std.specs.FinMap.{get, empty, insert, from_entries, find, get-empty, get-insert, get-from_entries, from_entries_push}
 use Rattle.tsn_types.specs.declared.keys.Key.{Key}
 use Rattle.tsn_types.specs.declared.keys.Key.TheVariants.{Port}
@@ -82,13 +81,3 @@ fill_more items c d k r rest f none is =
   where
     both : (q : Key) → (same_key q k || has f.seen q) ≡ is_some (cond (same_key q k) (Some r) (get c q))
     both q = elim (same_key q k) as (λ b. (b || has f.seen q) ≡ is_some (cond b (Some r) (get c q))) [ true ↦ refl | false ↦ f.seen_is q ]
-
--- a key that is there is the first that stands earlier
-pub fill_refused : (items : List (Key × Record)) (c : Configuration) (k : Key) (r : Record) (rest : List (Key × Record)) → IsFilled items c ((k, r) ∷ rest) → IsSome (get c k) → repeated_key [] items ≡ Some (Exists k)
-fill_refused items c k r rest f some = f.no_repeat ∙ ap (λ b. option_or (unless (not b) (Exists k)) (repeated_key (k ∷ f.seen) rest)) (f.seen_is k ∙ some)
-
-pub fill_end_map : (items : List (Key × Record)) (c : Configuration) → IsFilled items c [] → c ≡ from_entries items
-fill_end_map items c f = f.map_is ∙ ap from_entries (sym (append-nil f.done) ∙ sym f.split)
-
-pub fill_end : (items : List (Key × Record)) (c : Configuration) → IsFilled items c [] → repeated_key [] items ≡ None
-fill_end items c f = f.no_repeat

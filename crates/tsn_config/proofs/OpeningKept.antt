@@ -1,10 +1,11 @@
 -- An opening in which no cause is found is well kept.
-use Rattle.std.proofs.Common.{◌≡◌, ℕ, zero, suc, ◌≤◌, true, false, cond, List, [], ◌∷◌, ◌++◌, refl, sym, ◌∙◌, ap, subst, Option, Some, None, map, arith}
+use Rattle.std.proofs.Common.{◌≡◌, ℕ, zero, suc, ◌≤◌, false, cond, List, [], ◌∷◌, ◌++◌, refl, sym, ◌∙◌, ap, subst, Option, Some, None, map, arith}
 use Rattle.std.specs.Prelude.{IsSome, is_some, nat_le}
 use Rattle.std.specs.Option.{option_or}
 use Rattle.std.specs.List.{AllByRecursion}
 use Rattle.std.specs.FinMap.{get, entries, from_entries, find, get-from_entries, get-entries}
 use Rattle.std.proofs.lemmas.Bool.Decides.{nat_tests}
+use Rattle.std.proofs.lemmas.Bool.{leb-true}
 use Rattle.tsn_types.specs.declared.keys.Key.{Key}
 use Rattle.tsn_types.specs.declared.keys.Key.TheVariants.{Port}
 use Rattle.tsn_types.specs.declared.records.Record.{Record}
@@ -75,16 +76,13 @@ some_right (Some x) p h = refl
 above : (n m : ℕ) → n ≤ suc m → nat_le n m ≡ false → n ≡ suc m
 above n m le h = grind (arith, nat_tests)
 
-at_most : (n m : ℕ) → nat_le n m ≡ true → n ≤ m
-at_most n m h = grind (arith, nat_tests)
-
 port_there : (n m : ℕ) → 1 ≤ n → n ≤ m → IsSome (find key_cmp (Port n) (default_ports m))
 port_there n zero low high = absurd (omega arith)
 port_there n (suc m) low high =
     let last : List (Key × Record) = (Port (suc m), default_port) ∷ [] in
     ap is_some (find_append (Port n) (default_ports m) last)
     ∙ by_bool (nat_le n m)
-    (λ yes. some_left _ (find key_cmp (Port n) last) (port_there n m low (at_most n m yes)))
+    (λ yes. some_left _ (find key_cmp (Port n) last) (port_there n m low (leb-true n m yes)))
     (λ no. some_right (find key_cmp (Port n) (default_ports m)) _
     (ap (λ x. is_some (find key_cmp (Port x) last)) (above n m high no) ∙ ap (λ b. is_some (cond b (Some default_port) None)) (same_itself (Port (suc m)))))
 

@@ -1,8 +1,9 @@
 -- Parts that are tested one by one: what holds of those that are left holds of all.
-use Rattle.std.proofs.Common.{None, not, ◌≡◌, ℕ, zero, suc, ◌||◌, ◌+◌, ◌<◌, Bool, true, false, cond, ◌&&◌, List, [], ◌∷◌, length, drop, get_or, refl, sym, ◌∙◌, ap, subst, Option, drop-cons, add-one}
+use Rattle.std.proofs.Common.{None, not, ◌≡◌, ℕ, zero, suc, ◌||◌, ◌+◌, ◌<◌, true, false, cond, ◌&&◌, List, [], ◌∷◌, length, drop, get_or, refl, sym, ◌∙◌, ap, subst, Option, drop-cons, add-one}
 use Rattle.std.specs.Prelude.{IfSome, is_none}
-use Rattle.std.specs.List.{AllByRecursion, IsDistinct, list_all}
+use Rattle.std.specs.List.{AllByRecursion, IsDistinct}
 use Rattle.std.specs.FinMap.{get}
+use Rattle.tsn_edit.proofs.Batched.{none_alike}
 use Rattle.tsn_types.specs.declared.keys.Key.{Key}
 use Rattle.tsn_types.specs.declared.records.Record.{Record}
 use Rattle.tsn_types.specs.declared.limits.Limits.{Limits}
@@ -12,7 +13,7 @@ use Rattle.tsn_edit.specs.Changes.{Stands, keys_of, put_all}
 use Rattle.tsn_edit.specs.Configuration.{Configuration}
 use Rattle.tsn_edit.specs.Edits.{is_port}
 use Rattle.tsn_edit.specs.Parts.{Part}
-use Rattle.tsn_edit.proofs.KeyFacts.{by_bool, get-put}
+use Rattle.tsn_edit.proofs.KeyFacts.{get-put}
 use Rattle.tsn_config.specs.declared.fitting.Way.{Way}
 use Rattle.tsn_config.specs.declared.fitting.Way.TheVariants.{Forth, Back}
 use Rattle.tsn_config.specs.Keeping.{keeps_part, keeps_value, referrer_beside}
@@ -28,13 +29,6 @@ distinct_left zero ps h = h
 distinct_left (suc i) [] h = tt
 distinct_left (suc i) (p ∷ ps) h = distinct_left i ps h.1
 
--- a key that none of the keys is
-pub apart_from : (k : Key) (ks : List Key) → has ks k ≡ false → AllByRecursion (λ q. same_key k q ≡ false) ks
-apart_from k [] h = tt
-apart_from k (q ∷ ks) h = by_bool (same_key k q)
-    (λ yes. let never : true ≡ false = sym (ap (λ b. b || has ks k) yes) ∙ h in (cc))
-    (λ no. (no, apart_from k ks (sym (ap (λ b. b || has ks k) no) ∙ h)))
-
 pub not_apart : (k : Key) (ks : List Key) → AllByRecursion (λ q. same_key k q ≡ false) ks → has ks k ≡ false
 not_apart k [] h = refl
 not_apart k (q ∷ ks) h = ap (λ b. b || has ks k) h.0 ∙ not_apart k ks h.1
@@ -43,7 +37,7 @@ not_apart k (q ∷ ks) h = ap (λ b. b || has ks k) h.0 ∙ not_apart k ks h.1
 module _ (ps qs : List Part) (p : Part) (is : ps ≡ p ∷ qs) where
   pub distinct_next : has (keys_of qs) p.key ≡ false → IsDistinct same_key (keys_of qs) → IsDistinct same_key (keys_of ps)
   unfolding IsDistinct
-  distinct_next off h = subst (λ ps. IsDistinct same_key (keys_of ps)) (sym is) (apart_from p.key (keys_of qs) off, h)
+  distinct_next off h = subst (λ ps. IsDistinct same_key (keys_of ps)) (sym is) (none_alike p.key (keys_of qs) off, h)
 
   pub not_distinct : has (keys_of qs) p.key ≡ true → IsDistinct same_key (keys_of ps) → ⊥
   unfolding IsDistinct
@@ -84,12 +78,6 @@ module _ (way : Way) (ps qs : List Part) (p : Part) (is : ps ≡ p ∷ qs) where
       sym (ap (λ ps. get (put_all c (turned way ps)) k) is
       ∙ get-put (put_all c (turned way qs)) (turned_part way p).key (turned_part way p).after k
       ∙ ap (λ b. cond b (turned_part way p).after (get (put_all c (turned way qs)) k)) (ap (same_key k) (key_turned way p) ∙ other))
-
-  pub all_next : (t : Part → Bool) → t (turned_part way p) ≡ true → list_all t (turned way qs) ≡ list_all t (turned way ps)
-  all_next t here = sym (ap (λ ps. list_all t (turned way ps)) is ∙ ap (λ b. b && list_all t (turned way qs)) here)
-
-  pub all_fail : (t : Part → Bool) → t (turned_part way p) ≡ false → list_all t (turned way ps) ≡ false
-  all_fail t here = ap (λ ps. list_all t (turned way ps)) is ∙ ap (λ b. b && list_all t (turned way qs)) here
 
 -- the keys stay as they are
 pub keys_turned : (way : Way) (ps : List Part) → keys_of (turned way ps) ≡ keys_of ps

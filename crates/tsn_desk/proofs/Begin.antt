@@ -26,13 +26,6 @@ module _ {E : Type 0} where
       let heads : x ≡ y = cc (p.1, q.1) in
       let rest = begins_shorter xs ys zs (p.0, cc (p.1)) (q.0, cc (q.1)) (omega arith) in (rest.0, cc (heads, rest.1))
 
-  -- a beginning as long as the whole is the whole
-  pub begins_whole : (xs ys : List E) → Begins xs ys → length ys ≤ length xs → xs ≡ ys
-  begins_whole [] [] p le = refl
-  begins_whole [] (y ∷ ys) p le = absurd (omega arith)
-  begins_whole (x ∷ xs) [] p le = absurd (cc (p.1))
-  begins_whole (x ∷ xs) (y ∷ ys) p le = let rest = begins_whole xs ys (p.0, cc (p.1)) (omega arith) in cc (p.1, rest)
-
   -- of two beginnings of one list, one begins the other
   pub begins_either : (xs ys zs : List E) → Begins xs zs → Begins ys zs → Begins xs ys ⊎ Begins ys xs
   begins_either xs ys zs p q = dite (dec_le (length xs) (length ys))

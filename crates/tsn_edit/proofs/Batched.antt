@@ -1,8 +1,8 @@
 -- Facts about the edits of a batch.
-use Rattle.std.proofs.Common.{◌≡◌, ◌≤◌, Bool, true, false, ◌||◌, ◌&&◌, List, [], ◌∷◌, length, refl, ap, arith}
+use Rattle.std.proofs.Common.{◌≡◌, ◌≤◌, true, false, ◌||◌, List, [], ◌∷◌, length, refl, ap, arith}
 use Rattle.std.specs.Prelude.{not}
 use Rattle.std.specs.List.{AllByRecursion, IsDistinct, list_any}
-use Rattle.std.proofs.lemmas.Bool.{or_parts}
+use Rattle.std.proofs.lemmas.Bool.{or_parts, and_parts, not-true}
 use Rattle.tsn_types.specs.declared.keys.Key.{Key}
 use Rattle.tsn_types.specs.Keys.{has, same_key}
 use Rattle.tsn_edit.specs.declared.Edit.{Edit}
@@ -17,24 +17,16 @@ pub batch_of_one : (e : Edit) → IsBatch (e ∷ [])
 unfolding IsDistinct
 batch_of_one e = record { some = omega arith; few = omega arith; distinct = (tt, tt) }
 
-none_alike : (k : Key) (ks : List Key) → has ks k ≡ false → AllByRecursion (λ q. same_key k q ≡ false) ks
+pub none_alike : (k : Key) (ks : List Key) → has ks k ≡ false → AllByRecursion (λ q. same_key k q ≡ false) ks
 none_alike k [] h = tt
 none_alike k (q ∷ ks) h = let parts = or_parts (same_key k q) (has ks k) h in (parts.0, none_alike k ks parts.1)
-
-both : (b c : Bool) → (b && c) ≡ true → (b ≡ true) × (c ≡ true)
-both true c h = (refl, h)
-both false c h = (cc)
-
-is_false : (b : Bool) → not b ≡ true → b ≡ false
-is_false true h = (cc)
-is_false false h = refl
 
 pub are_distinct-is : (ks : List Key) → are_distinct ks ≡ true → IsDistinct same_key ks
 unfolding IsDistinct
 are_distinct-is [] h = tt
 are_distinct-is (k ∷ ks) h =
-    let parts = both (not (has ks k)) (are_distinct ks) h in
-    (none_alike k ks (is_false (has ks k) parts.0), are_distinct-is ks parts.1)
+    let parts = and_parts (not (has ks k)) (are_distinct ks) h in
+    (none_alike k ks (not-true (has ks k) parts.0), are_distinct-is ks parts.1)
 
 -- what the tests of a batch come to
 pub batch_of : (b : List Edit) → 1 ≤ length b → length b ≤ most_parts → are_distinct (edited_keys b) ≡ true → IsBatch b

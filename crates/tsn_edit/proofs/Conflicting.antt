@@ -22,7 +22,7 @@ any_alike : {A : Type 0} (s t : A → Bool) → ((x : A) → s x ≡ t x) → (x
 any_alike s t h [] = refl
 any_alike s t h (x ∷ xs) = ap (λ b. b || list_any s xs) (h x) ∙ ap (λ b. t x || b) (any_alike s t h xs)
 
-mixed : (a b c d : Bool) → ((a || b) || (c || d)) ≡ ((a || c) || (b || d))
+pub mixed : (a b c d : Bool) → ((a || b) || (c || d)) ≡ ((a || c) || (b || d))
 mixed true b c d = refl
 mixed false true true d = refl
 mixed false true false d = refl
@@ -33,10 +33,10 @@ any_either : {A : Type 0} (s t : A → Bool) (xs : List A) → list_any (λ x. s
 any_either s t [] = refl
 any_either s t (x ∷ xs) = ap (λ b. (s x || t x) || b) (any_either s t xs) ∙ mixed (s x) (t x) (list_any s xs) (list_any t xs)
 
-same_key_swap : (a b : Key) → same_key a b ≡ same_key b a
+pub same_key_swap : (a b : Key) → same_key a b ≡ same_key b a
 same_key_swap a b = (eq_by_cmp_equiv keys_total).symm a b
 
-meets_none : (ks : List Key) → meets ks [] ≡ false
+pub meets_none : (ks : List Key) → meets ks [] ≡ false
 meets_none [] = refl
 meets_none (k ∷ ks) = meets_none ks
 

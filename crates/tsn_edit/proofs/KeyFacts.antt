@@ -49,7 +49,7 @@ exact_keys a b h =
     ∙ ap (λ (p : ℕ × ℕ). key_at p.0 p.1) (exact_pairs nat_cmp nat_cmp exact_unsigned exact_unsigned (kind_of a, number_of a) (kind_of b, number_of b) h)
     ∙ key_at-key b
 
-is_equal : (o : Ordering) → is_eq o ≡ true → o ≡ Equal
+pub is_equal : (o : Ordering) → is_eq o ≡ true → o ≡ Equal
 is_equal Less h = (cc)
 is_equal Equal h = refl
 is_equal Greater h = (cc)

@@ -1,14 +1,13 @@
 -- What blocks a redo, sought in the rows of keys.
-use Rattle.std.proofs.Common.{◌≡◌, ℕ, zero, suc, ◌+◌, ◌<◌, ◌≤◌, Bool, true, false, cond, ◌||◌, ◌&&◌, List, [], ◌∷◌, refl, sym, ◌∙◌, ap, Option, Some, None, arith, get_or, length, take}
+use Rattle.std.proofs.Common.{◌≡◌, ℕ, ◌+◌, ◌<◌, ◌≤◌, Bool, true, false, cond, ◌||◌, ◌&&◌, List, [], ◌∷◌, refl, sym, ◌∙◌, ap, Option, Some, None, arith, get_or, length, take}
 use Rattle.std.specs.Prelude.{nat_lt, option_map}
 use Rattle.std.specs.Option.{option_or}
-use Rattle.std.proofs.lemmas.Bool.Decides.{nat_tests}
+use Rattle.std.proofs.lemmas.Bool.{ltb-true, ltb-false, lt-ltb, le-ltb}
+use Rattle.tsn_journal.proofs.Newest.{has_key}
 use Rattle.tsn_types.specs.declared.keys.Key.{Key}
 use Rattle.tsn_types.specs.declared.records.Refs.{Refs}
-use Rattle.tsn_types.specs.Keys.{has, keys_of_refs, refs_of, same_key}
-use Rattle.tsn_edit.specs.Changes.{keys_of}
+use Rattle.tsn_types.specs.Keys.{keys_of_refs, refs_of}
 use Rattle.tsn_edit.specs.Parts.{Change, Part}
-use Rattle.tsn_edit.proofs.KeyFacts.{by_bool, same_itself}
 use Rattle.tsn_journal.specs.declared.entries.Entry.{Entry}
 use Rattle.tsn_journal.specs.declared.entries.MarkedEntry.{MarkedEntry}
 use Rattle.tsn_journal.specs.declared.index.Index.{Index}
@@ -24,18 +23,6 @@ abbrev at : Option MarkedEntry → Option ℕ
 at o = option_map (λ m. m.entry.number) o
 
 -- ---- numbers above a number
-
-below : (n k : ℕ) → nat_lt n k ≡ true → n < k
-below n k h = by_bool (nat_lt n k) (λ yes. grind (arith, nat_tests)) (λ no. grind (arith, nat_tests))
-
-not_below : (n k : ℕ) → nat_lt n k ≡ false → k ≤ n
-not_below n k h = grind (arith, nat_tests)
-
-is_below : (n k : ℕ) → n < k → nat_lt n k ≡ true
-is_below n k h = grind (arith, nat_tests)
-
-is_not_below : (n k : ℕ) → k ≤ n → nat_lt n k ≡ false
-is_not_below n k h = grind (arith, nat_tests)
 
 -- the later of two numbers, each where it is above n
 later_cases : (a b : ℕ) (p u v : Bool) → nat_lt a b ≡ p → (p ≡ true → u ≡ true → v ≡ true) → (p ≡ false → v ≡ true → u ≡ true)
@@ -64,15 +51,15 @@ above_later n (Some a) (Some b) =
     let p = nat_lt a b in
     ap (λ c. cond c (Some (cond p b a)) None) (above_either n a b p)
     ∙ later_cases a b p (nat_lt n a) (nat_lt n b) refl
-    (λ less early. is_below n b (let l : a < b = below a b less in let m : n < a = below n a early in omega arith))
-    (λ more early. is_below n a (let l : b ≤ a = not_below a b more in let m : n < b = below n b early in omega arith))
+    (λ less early. lt-ltb n b (let l : a < b = ltb-true a b less in let m : n < a = ltb-true n a early in omega arith))
+    (λ more early. lt-ltb n a (let l : b ≤ a = ltb-false a b more in let m : n < b = ltb-true n b early in omega arith))
 
 pub both_later : (n : ℕ) (x y x' y' : Option ℕ) → above n x ≡ above n x' → above n y ≡ above n y' → above n (later_of x y) ≡ above n (later_of x' y')
 both_later n x y x' y' first second = above_later n x y ∙ (λ i. later_of (first i) (second i)) ∙ sym (above_later n x' y')
 
 above_some : (s n m : ℕ) (c : Bool) → s ≤ n → nat_lt s m ≡ c → above n (cond c (Some m) None) ≡ above n (Some m)
 above_some s n m true le is = refl
-above_some s n m false le is = ap (λ b. cond b (Some m) None) (sym (is_not_below n m (let l : m ≤ s = not_below s m is in omega arith)))
+above_some s n m false le is = ap (λ b. cond b (Some m) None) (sym (le-ltb n m (let l : m ≤ s = ltb-false s m is in omega arith)))
 
 above_above : (s n : ℕ) (o : Option ℕ) → s ≤ n → above n (above s o) ≡ above n o
 above_above s n None le = refl
@@ -160,14 +147,5 @@ module _ (ms : List MarkedEntry) (a : Index) (e : Entry) (can : CanTell ms a e) 
 
 -- ---- a change is on the keys of its parts
 
-or_true : (a b : Bool) → b ≡ true → (a || b) ≡ true
-or_true true b h = refl
-or_true false b h = h
-
-has_part : (ps : List Part) (i : ℕ) (p : Part) → i < length ps → p ≡ get_or ps i p → has (keys_of ps) p.key ≡ true
-has_part [] i p short is = absurd (omega arith)
-has_part (x ∷ ps) zero p short is = ap (λ b. b || has (keys_of ps) p.key) (ap (λ (y : Part). same_key p.key y.key) (sym is) ∙ same_itself p.key)
-has_part (x ∷ ps) (suc i) p short is = or_true _ _ (has_part ps i p (omega arith) is)
-
 pub on_part : (ps : List Part) (i : ℕ) (p : Part) (e : Entry) → applies e.what ≡ Some ps → i < length ps → p ≡ get_or ps i p → touches p.key e ≡ true
-on_part ps i p e is short at' = ap (is_on p.key) is ∙ has_part ps i p short at'
+on_part ps i p e is short at' = ap (is_on p.key) is ∙ has_key ps i p short at'

@@ -1,11 +1,16 @@
 -- Up to which number a later entry of another session may be in conflict with those that stand.
-use Rattle.std.proofs.Common.{◌≡◌, ℕ, zero, suc, ◌+◌, ◌≤◌, Bool, true, false, cond, ◌||◌, ◌&&◌, not, List, [], ◌∷◌, ◌++◌, refl, sym, ◌∙◌, ap, Option, Some, None, arith, drop, length, map, append_assoc, inl, inr}
+use Rattle.std.proofs.Common.{◌≡◌, ℕ, zero, suc, ◌+◌, ◌≤◌, Bool, true, false, cond, ◌||◌, ◌&&◌, not, List, [], ◌∷◌, ◌++◌, refl, sym, ◌∙◌, ap, Option, Some, None, arith, drop, length, map, inl, inr}
 use Rattle.std.specs.Prelude.{◌==◌, is_some, option_map}
 use Rattle.std.specs.List.{list_any, slice_get}
 use Rattle.std.specs.Option.{option_and_then, option_or}
 use Rattle.std.proofs.lemmas.Cmp.{nat_eq_equiv}
 use Rattle.std.proofs.lemmas.List.{length-append, length-map}
-use Rattle.std.proofs.lemmas.Option.{slice_get-map, slice_get_within}
+use Rattle.std.proofs.lemmas.Option.{slice_get-map, slice_get_within, same_Some}
+use Rattle.std.proofs.lemmas.Bool.{or_from, and_right}
+use Rattle.std.proofs.Math.Bool.{and-true}
+use Rattle.tsn_edit.proofs.Conflicting.{mixed}
+use Rattle.tsn_journal.proofs.Telling.{refs_after-append}
+use Rattle.tsn_journal.proofs.Settling.{or_first, or_second}
 use Rattle.tsn_types.specs.declared.keys.Key.{Key}
 use Rattle.tsn_types.specs.declared.keys.Key.TheVariants.{Port, Filter, Gate, Meter}
 use Rattle.tsn_journal.specs.declared.groups.Group.TheVariants.{On}
@@ -23,10 +28,9 @@ use Rattle.tsn_journal.specs.Entries.{Applied, IsNumbered, adds, applied, applie
 use Rattle.tsn_journal.specs.Finding.{last_where}
 use Rattle.tsn_journal.specs.Index.{NoneFrom, belongs_to_others, is_on, standing_change}
 use Rattle.tsn_journal.specs.Marks.{conflict_of_others, entries_of, is_in_conflict, is_others, is_own, mark_off, stands}
-use Rattle.tsn_journal.proofs.Links.{end_at, front_at, none_some, some_of, where_at}
-use Rattle.tsn_journal.proofs.Sought.{swap_or}
+use Rattle.tsn_journal.proofs.Links.{end_at, front_at, none_some, where_at}
 use Rattle.tsn_journal.proofs.Under.{no_lower}
-use Rattle.tsn_journal.proofs.Walking.{and_false, and_true, none_from}
+use Rattle.tsn_journal.proofs.Walking.{none_from}
 
 -- ---- what comes after the last one that passes does not pass
 
@@ -38,7 +42,7 @@ after_last t k zero (x ∷ ms) b h low zero m le bi at =
     by_option (last_where t ms)
     (λ none. by_bool (t x)
     (λ yes. let l : x.entry.number ≤ b = low x (ap (λ o. option_or o (cond (t x) (Some x) None)) none ∙ ap (λ c. cond c (Some x) None) yes) in absurd (omega arith))
-    (λ no. ap t (sym (some_of x m at)) ∙ no))
+    (λ no. ap t (sym (same_Some x m at)) ∙ no))
     (λ y some.
     let l : y.entry.number ≤ b = low y (ap (λ o. option_or o (cond (t x) (Some x) None)) some) in
     let above : (k + 1) + 1 ≤ y.entry.number = no_lower t ((k + 1) + 1) ms y h.1 some in
@@ -51,7 +55,7 @@ after_last t k (suc n) (x ∷ ms) b h low (suc i) m le bi at = after_last t (k +
 -- ---- a change of one part
 
 out_of_and : (a own : Bool) → own ≡ true → (a && own) ≡ false → a ≡ false
-out_of_and a own is h = sym (and_true a) ∙ ap (λ b. a && b) (sym is) ∙ h
+out_of_and a own is h = sym (and-true a) ∙ ap (λ b. a && b) (sym is) ∙ h
 
 meter_apart : (k : Key) → is_referred k ≡ false → (o : Option ℕ) → has (meter_ref o) k ≡ false
 meter_apart k h None = refl
@@ -66,28 +70,17 @@ gate_apart (Filter n) h g = refl
 gate_apart (Gate n) h g = (cc)
 gate_apart (Meter n) h g = (cc)
 
-or_both : (a b : Bool) → a ≡ false → b ≡ false → (a || b) ≡ false
-or_both a b h k = λ i. h i || k i
-
 value_apart : (k : Key) → is_referred k ≡ false → (v : Option Record) → has (refs_of v) k ≡ false
 value_apart k h None = refl
 value_apart k h (Some (PortRecord r)) = refl
-value_apart k h (Some (FilterRecord r)) = has-append (Gate r.gate ∷ []) (meter_ref r.meter) k ∙ or_both _ _ (gate_apart k h r.gate) (meter_apart k h r.meter)
+value_apart k h (Some (FilterRecord r)) = has-append (Gate r.gate ∷ []) (meter_ref r.meter) k ∙ or_from _ _ (gate_apart k h r.gate) (meter_apart k h r.meter)
 value_apart k h (Some (GateRecord r)) = refl
 value_apart k h (Some (MeterRecord r)) = refl
 
 -- no value refers to a key of such a kind
 before_apart : (k : Key) → is_referred k ≡ false → (ps : List Part) → has (refs_before ps) k ≡ false
 before_apart k h [] = refl
-before_apart k h (p ∷ ps) = has-append (refs_of p.before) (refs_before ps) k ∙ or_both _ _ (value_apart k h p.before) (before_apart k h ps)
-
-first_false : (a b : Bool) → (a || b) ≡ false → a ≡ false
-first_false true b h = h
-first_false false b h = refl
-
-second_false : (a b : Bool) → (a || b) ≡ false → b ≡ false
-second_false true b h = (cc)
-second_false false b h = h
+before_apart k h (p ∷ ps) = has-append (refs_of p.before) (refs_before ps) k ∙ or_from _ _ (value_apart k h p.before) (before_apart k h ps)
 
 two_keys : (r k : Key) → is_referred r ≡ true → is_referred k ≡ false → same_key r k ≡ false
 two_keys (Gate n) (Port m) h f = refl
@@ -99,24 +92,24 @@ two_keys r k h f = (cc)
 -- a change on no key of such a kind is on nothing that a value refers to
 key_apart : (r : Key) → is_referred r ≡ true → (ks : List Key) → list_any is_referred ks ≡ false → has ks r ≡ false
 key_apart r h [] f = refl
-key_apart r h (k ∷ ks) f = or_both _ _ (two_keys r k h (first_false _ _ f)) (key_apart r h ks (second_false _ _ f))
+key_apart r h (k ∷ ks) f = or_from _ _ (two_keys r k h (or_first _ _ f)) (key_apart r h ks (or_second _ _ f))
 
 meter_meets : (o : Option ℕ) (ks : List Key) → list_any is_referred ks ≡ false → meets (meter_ref o ++ []) ks ≡ false
 meter_meets None ks f = refl
-meter_meets (Some m) ks f = or_both _ _ (key_apart (Meter m) refl ks f) refl
+meter_meets (Some m) ks f = or_from _ _ (key_apart (Meter m) refl ks f) refl
 
 value_meets : (v : Option Record) (ks : List Key) → list_any is_referred ks ≡ false → meets (refs_of v ++ []) ks ≡ false
 value_meets None ks f = refl
 value_meets (Some (PortRecord r)) ks f = refl
-value_meets (Some (FilterRecord r)) ks f = or_both _ _ (key_apart (Gate r.gate) refl ks f) (meter_meets r.meter ks f)
+value_meets (Some (FilterRecord r)) ks f = or_from _ _ (key_apart (Gate r.gate) refl ks f) (meter_meets r.meter ks f)
 value_meets (Some (GateRecord r)) ks f = refl
 value_meets (Some (MeterRecord r)) ks f = refl
 
 module _ (p : Part) (kind : is_referred p.key ≡ false) (e : MarkedEntry) (none : is_on_referred (standing_change e) ≡ false) where
   apart : (c : Change) → standing_change e ≡ Some c → has (keys_of (parts c)) p.key ≡ false → conflicts (p ∷ []) c ≡ false
   apart c some key =
-      or_both _ _ (or_both _ _ key refl)
-      (or_both _ _ (value_meets p.after (keys_of (parts c)) (ap is_on_referred (sym some) ∙ none)) (or_both _ _ (before_apart p.key kind (parts c)) refl))
+      or_from _ _ (or_from _ _ key refl)
+      (or_from _ _ (value_meets p.after (keys_of (parts c)) (ap is_on_referred (sym some) ∙ none)) (or_from _ _ (before_apart p.key kind (parts c)) refl))
 
   pub part_crosses : (s : ℕ) → belongs_to_others (On p.key) s e ≡ false → crosses (Some (p ∷ [])) s e ≡ false
   part_crosses s key =
@@ -126,7 +119,7 @@ module _ (p : Part) (kind : is_referred p.key ≡ false) (e : MarkedEntry) (none
       (by_option (standing_change e)
       (λ none'. ap (is_hit (p ∷ [])) none')
       (λ c some. ap (is_hit (p ∷ [])) some ∙ apart c some (ap (is_on p.key) (sym some) ∙ out_of_and (is_on p.key (standing_change e)) own yes key))))
-      (λ no. and_false (hits (Some (p ∷ [])) (standing_change e)) own no)
+      (λ no. and_right (hits (Some (p ∷ [])) (standing_change e)) own no)
 
 -- ---- a change of several parts
 
@@ -138,18 +131,14 @@ meets_front : (xs ys ls : List Key) → meets (xs ++ ys) ls ≡ (meets xs ls || 
 meets_front [] ys ls = refl
 meets_front (x ∷ xs) ys ls = ap (λ b. has ls x || b) (meets_front xs ys ls) ∙ or_three (has ls x) (meets xs ls) (meets ys ls)
 
-after_both : (es fs : List Part) → refs_after (es ++ fs) ≡ refs_after es ++ refs_after fs
-after_both [] fs = refl
-after_both (e ∷ es) fs = ap (λ rs. refs_of e.after ++ rs) (after_both es fs) ∙ sym (append_assoc (refs_of e.after) (refs_after es) (refs_after fs))
-
 both_conflict : (es fs c : Change) → conflicts (es ++ fs) c ≡ (conflicts es c || conflicts fs c)
 both_conflict es fs c =
     let ks = keys_of (parts c) in
     let rs = refs_before (parts c) in
     (λ i. (ap (λ xs. meets xs ks) (keys_of-append es fs) ∙ meets_front (keys_of es) (keys_of fs) ks) i
-    || ((ap (λ xs. meets xs ks) (after_both es fs) ∙ meets_front (refs_after es) (refs_after fs) ks) i || (ap (λ xs. meets xs rs) (keys_of-append es fs) ∙ meets_front (keys_of es) (keys_of fs) rs) i))
-    ∙ ap (λ b. (meets (keys_of es) ks || meets (keys_of fs) ks) || b) (swap_or (meets (refs_after es) ks) (meets (refs_after fs) ks) (meets (keys_of es) rs) (meets (keys_of fs) rs))
-    ∙ swap_or (meets (keys_of es) ks) (meets (keys_of fs) ks) (meets (refs_after es) ks || meets (keys_of es) rs) (meets (refs_after fs) ks || meets (keys_of fs) rs)
+    || ((ap (λ xs. meets xs ks) (refs_after-append es fs) ∙ meets_front (refs_after es) (refs_after fs) ks) i || (ap (λ xs. meets xs rs) (keys_of-append es fs) ∙ meets_front (keys_of es) (keys_of fs) rs) i))
+    ∙ ap (λ b. (meets (keys_of es) ks || meets (keys_of fs) ks) || b) (mixed (meets (refs_after es) ks) (meets (refs_after fs) ks) (meets (keys_of es) rs) (meets (keys_of fs) rs))
+    ∙ mixed (meets (keys_of es) ks) (meets (keys_of fs) ks) (meets (refs_after es) ks || meets (keys_of es) rs) (meets (refs_after fs) ks || meets (keys_of fs) rs)
 
 pub none_cross : (s : ℕ) (e : MarkedEntry) → crosses (Some []) s e ≡ false
 none_cross s e = ap (λ b. b && not (e.entry.session == s)) (by_option (standing_change e) (λ none. ap (is_hit []) none) (λ c some. ap (is_hit []) some))
@@ -164,15 +153,15 @@ both_cross es fs s e h k =
     (λ c some.
     ap (is_hit (es ++ fs)) some
     ∙ both_conflict es fs c
-    ∙ or_both _ _ (ap (is_hit es) (sym some) ∙ out_of_and (is_hit es (standing_change e)) own yes h) (ap (is_hit fs) (sym some) ∙ out_of_and (is_hit fs (standing_change e)) own yes k))))
-    (λ no. and_false (hits (Some (es ++ fs)) (standing_change e)) own no)
+    ∙ or_from _ _ (ap (is_hit es) (sym some) ∙ out_of_and (is_hit es (standing_change e)) own yes h) (ap (is_hit fs) (sym some) ∙ out_of_and (is_hit fs (standing_change e)) own yes k))))
+    (λ no. and_right (hits (Some (es ++ fs)) (standing_change e)) own no)
 
 pub both_referred : (es fs : Change) → is_on_referred (Some es) ≡ false → is_on_referred (Some fs) ≡ false → is_on_referred (Some (es ++ fs)) ≡ false
 both_referred [] fs h k = k
-both_referred (p ∷ es) fs h k = or_both _ _ (first_false _ _ h) (both_referred es fs (second_false _ _ h) k)
+both_referred (p ∷ es) fs h k = or_from _ _ (or_first _ _ h) (both_referred es fs (or_second _ _ h) k)
 
 pub one_referred : (p : Part) → is_referred p.key ≡ false → is_on_referred (Some (p ∷ [])) ≡ false
-one_referred p h = or_both _ _ h refl
+one_referred p h = or_from _ _ h refl
 
 -- ---- what is free stays so
 
@@ -200,7 +189,7 @@ module _ (w : What) (ms : List MarkedEntry) where
       let mapped : option_map (mark_off w) (slice_get ms i) ≡ Some m = sym (slice_get-map (mark_off w) ms i) ∙ at in
       by_option (slice_get ms i)
       (λ no. none_some m (sym (ap (option_map (mark_off w)) no) ∙ mapped))
-      (λ x some. then x some (some_of _ _ (sym (ap (option_map (mark_off w)) some) ∙ mapped)))
+      (λ x some. then x some (same_Some _ _ (sym (ap (option_map (mark_off w)) some) ∙ mapped)))
 
   free_off : (n : ℕ) → IsFreeAbove n ms → IsFreeAbove n (map (mark_off w) ms)
   free_off n is i j e m le lt ei mj =
@@ -214,7 +203,7 @@ free_pushed w s ms x change by n b is none up = λ i j e m le lt ei mj.
       | inl before ↦ free_off w ms n is i j e m (omega arith) lt (sym (front_at xs (x ∷ []) i (omega arith)) ∙ ei) (sym (front_at xs (x ∷ []) j before) ∙ mj)
       | inr rest ↦ elim rest [
         | inl here ↦
-            (λ k. let y : MarkedEntry = some_of m x (sym mj ∙ end_at xs x j here) k in crosses (standing_change y) y.entry.session e)
+            (λ k. let y : MarkedEntry = same_Some m x (sym mj ∙ end_at xs x j here) k in crosses (standing_change y) y.entry.session e)
             ∙ (λ k. crosses (change k) (by k) e)
             ∙ source w ms i e (sym (front_at xs (x ∷ []) i (omega arith)) ∙ ei) (λ y yi ye. (λ k. crosses (adds w) s (sym ye k)) ∙ under_falls w (adds w) s y (none i y le yi))
         | inr after ↦ absurd (omega (arith, slice_get_within (xs ++ x ∷ []) j m mj, length-append xs (x ∷ [])))
@@ -232,7 +221,7 @@ referred_pushed w ms x change n b is up own = λ i e le ei.
     elim (where_at (length xs) i) [
       | inl before ↦ source w ms i e (sym (front_at xs (x ∷ []) i before) ∙ ei) (λ y yi ye. (λ k. is_on_referred (standing_change (sym ye k))) ∙ referred_falls w y (is i y (omega arith) yi))
       | inr rest ↦ elim rest [
-        | inl here ↦ (λ k. is_on_referred (standing_change (some_of e x (sym ei ∙ end_at xs x i here) k))) ∙ ap is_on_referred change ∙ own (omega arith)
+        | inl here ↦ (λ k. is_on_referred (standing_change (same_Some e x (sym ei ∙ end_at xs x i here) k))) ∙ ap is_on_referred change ∙ own (omega arith)
         | inr after ↦ absurd (omega (arith, slice_get_within (xs ++ x ∷ []) i e ei, length-append xs (x ∷ [])))
       ]
     ]
@@ -241,7 +230,7 @@ referred_pushed w ms x change n b is up own = λ i e le ei.
 
 number_is : (k : ℕ) (ms : List MarkedEntry) → IsNumbered k (entries_of ms) → (i : ℕ) (m : MarkedEntry) → slice_get ms i ≡ Some m → m.entry.number ≡ k + i
 number_is k [] h i m at = none_some m at
-number_is k (x ∷ ms) h zero m at = ap (λ (y : MarkedEntry). y.entry.number) (sym (some_of x m at)) ∙ h.0 ∙ (let e : k ≡ k + 0 = omega arith in e)
+number_is k (x ∷ ms) h zero m at = ap (λ (y : MarkedEntry). y.entry.number) (sym (same_Some x m at)) ∙ h.0 ∙ (let e : k ≡ k + 0 = omega arith in e)
 number_is k (x ∷ ms) h (suc i) m at = number_is (k + 1) ms h.1 i m at ∙ (let e : (k + 1) + i ≡ k + suc i = omega arith in e)
 
 some_standing : (m : MarkedEntry) → is_some (standing_change m) ≡ is_some (stands m)
@@ -260,7 +249,7 @@ applied_so true (Settled upto) d h = none_some d h
 applied_so false w d h = none_some d h
 
 turned : (a o p k : Bool) → o ≡ p → (k && p) ≡ false → ((a && o) && k) ≡ false
-turned a o p false same h = and_false (a && o) false refl
+turned a o p false same h = and_right (a && o) false refl
 turned true o p true same h = ap (λ b. b && true) (same ∙ h)
 turned false o p true same h = refl
 
@@ -289,6 +278,6 @@ module _ (ms : List MarkedEntry) (n : ℕ) (numbered : IsNumbered 1 (entries_of 
       by_option (standing_change m)
       (λ none. first_out _ _ _ (sym (some_standing m) ∙ not_some _ none))
       (λ d some.
-      and_false (is_own s m) _
+      and_right (is_own s m) _
       (ap (λ o. is_some (option_and_then (λ c. last_where (λ f. is_others m.entry.session f && is_in_conflict (applies f.entry.what) c) (drop m.entry.number ms)) o)) (applied_so m.is_open m.entry.what d some)
       ∙ ap is_some (none_from (λ f. is_others m.entry.session f && is_in_conflict (applies f.entry.what) d) ms m.entry.number (none_blocks i m d d le at some refl))))

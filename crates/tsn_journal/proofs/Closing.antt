@@ -3,6 +3,7 @@ use Rattle.std.proofs.Common.{◌≡◌, ℕ, zero, suc, ◌+◌, ◌<◌, ◌�
 use Rattle.std.specs.Prelude.{max, nat_le}
 use Rattle.std.proofs.lemmas.Bool.Decides.{nat_tests}
 use Rattle.std.proofs.lemmas.List.{length-map}
+use Rattle.std.proofs.lemmas.Bool.{le-leb, lt-leb}
 use Rattle.tsn_journal.specs.declared.entries.What.{What}
 use Rattle.tsn_journal.specs.declared.entries.What.TheVariants.{Made, Undone, Redone, Acted, Settled}
 use Rattle.tsn_journal.specs.declared.entries.Entry.{Entry}
@@ -13,12 +14,6 @@ use Rattle.tsn_journal.specs.Marks.{AreOff, entries_of, mark_off}
 abbrev off : MarkedEntry → MarkedEntry
 off m = record { entry = m.entry; is_open = false }
 
-up_to : (n k : ℕ) → n ≤ k → nat_le n k ≡ true
-up_to n k h = grind (arith, nat_tests)
-
-over : (n k : ℕ) → k < n → nat_le n k ≡ false
-over n k h = grind (arith, nat_tests)
-
 -- ---- one mark more
 
 -- a mark that is put off early is put off all the same
@@ -27,7 +22,7 @@ off_early n i upto [] m h le at = refl
 off_early n zero upto (x ∷ ms) m h le at =
     let here : x.entry.number ≡ n = h.0 in
     let is : m ≡ x = at in
-    let closed = up_to x.entry.number upto (omega arith) in
+    let closed = le-leb x.entry.number upto (omega arith) in
     let head : mark_off (Settled upto) (off m) ≡ mark_off (Settled upto) x =
     ap (λ y. mark_off (Settled upto) (off y)) is ∙ ap (λ b. cond b (off x) (off x)) closed ∙ sym (ap (λ b. cond b (off x) x) closed) in
     ap (λ y. y ∷ map (mark_off (Settled upto)) ms) head
@@ -63,7 +58,7 @@ pub all_off : (n k upto : ℕ) (ms : List MarkedEntry) → IsNumbered n (entries
 all_off n k upto [] h o lt = refl
 all_off n zero upto (m ∷ ms) h o lt =
     let here : m.entry.number ≡ n = h.0 in
-    ap (λ b. cond b (off m) m ∷ map (mark_off (Settled upto)) ms) (over m.entry.number upto (omega arith)) ∙ ap (λ xs. m ∷ xs) (all_off (n + 1) zero upto ms h.1 tt (omega arith))
+    ap (λ b. cond b (off m) m ∷ map (mark_off (Settled upto)) ms) (lt-leb m.entry.number upto (omega arith)) ∙ ap (λ xs. m ∷ xs) (all_off (n + 1) zero upto ms h.1 tt (omega arith))
 all_off n (suc k) upto (m ∷ ms) h o lt =
     (λ i. stays (nat_le m.entry.number upto) m o.0 i ∷ all_off (n + 1) k upto ms h.1 o.1 (omega arith) i)
 
@@ -88,7 +83,7 @@ settled_off n zero upto ms h le = tt
 settled_off n (suc k) upto [] h le = tt
 settled_off n (suc k) upto (m ∷ ms) h le =
     let here : m.entry.number ≡ n = h.0 in
-    (ap (λ b. (cond b (off m) m).is_open) (up_to m.entry.number upto (omega arith)), settled_off (n + 1) k upto ms h.1 (omega arith))
+    (ap (λ b. (cond b (off m) m).is_open) (le-leb m.entry.number upto (omega arith)), settled_off (n + 1) k upto ms h.1 (omega arith))
 
 by_more : (k upto : ℕ) (P : ℕ → Type 0) → P k → P upto → P (max k upto)
 by_more k upto P low high = elim (nat_le k upto) as (λ b. nat_le k upto ≡ b → P (max k upto)) [

@@ -1,10 +1,12 @@
 -- The standing entries, and those of one kind, among marked entries: each by its own mark.
-use Rattle.std.proofs.Common.{◌≡◌, ℕ, zero, suc, ◌+◌, ◌<◌, ◌≤◌, inl, Bool, true, false, cond, not, List, [], ◌∷◌, refl, sym, ◌∙◌, ap, Option, Some, None, arith, drop, filter, map}
-use Rattle.std.specs.Prelude.{◌==◌, option_map, nat_lt}
+use Rattle.std.proofs.Common.{◌≡◌, ℕ, zero, suc, ◌+◌, ◌<◌, inl, Bool, true, false, cond, not, List, [], ◌∷◌, refl, sym, ◌∙◌, ap, Option, Some, None, arith, drop, filter, map}
+use Rattle.std.specs.Prelude.{◌==◌, option_map}
 use Rattle.std.specs.List.{find, filter_map, cons_option}
 use Rattle.std.specs.Option.{option_and_then, option_map_or, option_or}
 use Rattle.std.proofs.lemmas.Bool.Decides.{nat_tests}
 use Rattle.std.proofs.lemmas.List.{drop-map}
+use Rattle.std.proofs.lemmas.Bool.{lt-ltb, le-ltb}
+use Rattle.tsn_types.proofs.Causes.{option_or-None}
 use Rattle.tsn_edit.specs.Changes.{room_of}
 use Rattle.tsn_edit.specs.Parts.{Change}
 use Rattle.tsn_edit.proofs.KeyFacts.{by_bool, by_option}
@@ -14,7 +16,6 @@ use Rattle.tsn_journal.specs.declared.entries.MarkedEntry.{MarkedEntry}
 use Rattle.tsn_journal.specs.Entries.{Applied, IsNumbered, added_parts, adds, applied, collect, is_closed, standing}
 use Rattle.tsn_journal.specs.Finding.{last_where, later_than, parts_of_all, since}
 use Rattle.tsn_journal.specs.Marks.{AreMarked, added_in, entries_of, stands}
-use Rattle.tsn_journal.proofs.LastWhere.{or_none}
 use Rattle.tsn_journal.proofs.Marking.{no_number}
 
 -- what is picked of a marked entry has the entry's number
@@ -79,7 +80,7 @@ last_marked pick t p (m ∷ ms) own agree = by_option (pick m)
     (λ none.
     ap (λ o. num (last_where t (cons_option o (filter_map pick ms)))) none
     ∙ last_marked pick t p ms own agree
-    ∙ ap at (sym (or_none (last_where p ms)))
+    ∙ ap at (sym (option_or-None (last_where p ms)))
     ∙ ap (λ b. at (option_or (last_where p ms) (cond b (Some m) None))) (sym (agree m ∙ ap (passes t) none)))
     (λ x some.
     ap (λ o. num (last_where t (cons_option o (filter_map pick ms)))) some
@@ -166,12 +167,6 @@ find_marked pick n k (m ∷ ms) own h = by_bool (m.entry.number == k)
 
 -- ---- those of greater numbers
 
-above : (k n : ℕ) → k < n → nat_lt k n ≡ true
-above k n h = grind (arith, nat_tests)
-
-not_above : (k n : ℕ) → n ≤ k → nat_lt k n ≡ false
-not_above k n h = grind (arith, nat_tests)
-
 all_later : (pick : MarkedEntry → Option Applied) (k n : ℕ) (ms : List MarkedEntry) → IsOwn pick → k < n → IsNumbered n (entries_of ms) → later_than k (filter_map pick ms) ≡ filter_map pick ms
 all_later pick k n [] own l h = refl
 all_later pick k n (m ∷ ms) own l h = by_option (pick m)
@@ -180,7 +175,7 @@ all_later pick k n (m ∷ ms) own l h = by_option (pick m)
     (λ x some.
     let here : x.number ≡ n = own m x some ∙ h.0 in
     ap (λ o. later_than k (cons_option o (filter_map pick ms))) some
-    ∙ ap (λ b. cond b (x ∷ later_than k (filter_map pick ms)) (later_than k (filter_map pick ms))) (above k x.number (omega arith))
+    ∙ ap (λ b. cond b (x ∷ later_than k (filter_map pick ms)) (later_than k (filter_map pick ms))) (lt-ltb k x.number (omega arith))
     ∙ ap (λ xs. x ∷ xs) (all_later pick k (n + 1) ms own (omega arith) h.1)
     ∙ ap (λ o. cons_option o (filter_map pick ms)) (sym some))
 
@@ -195,7 +190,7 @@ later_from pick k (suc n) (m ∷ ms) own h =
     (λ x some.
     let here : x.number ≡ k + 1 = own m x some ∙ h.0 in
     ap (λ o. later_than (k + suc n) (cons_option o (filter_map pick ms))) some
-    ∙ ap (λ b. cond b (x ∷ later_than (k + suc n) (filter_map pick ms)) (later_than (k + suc n) (filter_map pick ms))) (not_above (k + suc n) x.number (omega arith))
+    ∙ ap (λ b. cond b (x ∷ later_than (k + suc n) (filter_map pick ms)) (later_than (k + suc n) (filter_map pick ms))) (le-ltb (k + suc n) x.number (omega arith))
     ∙ rest)
 
 pub later_marked : (pick : MarkedEntry → Option Applied) (n : ℕ) (ms : List MarkedEntry) → IsOwn pick → IsNumbered 1 (entries_of ms) → later_than n (filter_map pick ms) ≡ filter_map pick (drop n ms)
@@ -207,14 +202,14 @@ since_every : (k n : ℕ) (es : List Entry) → k < n → IsNumbered n es → si
 since_every k n [] l h = refl
 since_every k n (e ∷ es) l h =
     let here : e.number ≡ n = h.0 in
-    ap (λ b. cond b (e ∷ since es k) (since es k)) (above k e.number (omega arith)) ∙ ap (λ xs. e ∷ xs) (since_every k (n + 1) es (omega arith) h.1)
+    ap (λ b. cond b (e ∷ since es k) (since es k)) (lt-ltb k e.number (omega arith)) ∙ ap (λ xs. e ∷ xs) (since_every k (n + 1) es (omega arith) h.1)
 
 since_from : (k n : ℕ) (es : List Entry) → IsNumbered (k + 1) es → since es (k + n) ≡ drop n es
 since_from k zero es h = ap (since es) (let e : k + 0 ≡ k = omega arith in e) ∙ since_every k (k + 1) es (omega arith) h
 since_from k (suc n) [] h = refl
 since_from k (suc n) (e ∷ es) h =
     let here : e.number ≡ k + 1 = h.0 in
-    ap (λ b. cond b (e ∷ since es (k + suc n)) (since es (k + suc n))) (not_above (k + suc n) e.number (omega arith))
+    ap (λ b. cond b (e ∷ since es (k + suc n)) (since es (k + suc n))) (le-ltb (k + suc n) e.number (omega arith))
     ∙ ap (since es) (let f : k + suc n ≡ (k + 1) + n = omega arith in f)
     ∙ since_from (k + 1) n es h.1
 

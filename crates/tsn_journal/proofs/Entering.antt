@@ -4,6 +4,7 @@ use Rattle.std.specs.Prelude.{map, option_map}
 use Rattle.std.specs.List.{slice_get}
 use Rattle.std.proofs.Math.Seq.{drop-cons}
 use Rattle.std.proofs.lemmas.List.{drop_all}
+use Rattle.std.proofs.lemmas.Bool.{eqb-true}
 use Rattle.tsn_types.specs.declared.keys.Key.{Key}
 use Rattle.tsn_types.specs.declared.records.Refs.{Refs}
 use Rattle.tsn_types.specs.Keys.{keys_of_refs, refs_of}
@@ -15,7 +16,7 @@ use Rattle.tsn_journal.specs.declared.index.Index.{Index}
 use Rattle.tsn_journal.specs.declared.index.Place.{Place}
 use Rattle.tsn_journal.specs.Index.{IsIndexedBut, IsIndexedButNewest, IsNewest, TakesRoom, group_if, groups_of_parts, is_by, part_groups}
 use Rattle.tsn_journal.specs.Latest.{latest_of}
-use Rattle.tsn_journal.proofs.Grouping.{covers, ends_or_not, same_number}
+use Rattle.tsn_journal.proofs.Grouping.{covers, ends_or_not}
 use Rattle.tsn_journal.proofs.Indexing.{pending_newest, takes_more}
 
 abbrev pub of_session : ℕ → Bool → List (Option Group)
@@ -28,7 +29,7 @@ pending_change ms n s c ends newest a is =
     pending_newest ms (groups_of_parts (parts c) ++ of_session s ends) a
     (λ m at g belong.
     let there : slice_get ms (n - 1) ≡ Some m = ap (λ k. slice_get ms (k - 1)) newest.count ∙ at in
-    let same : m.entry.session ≡ s = same_number m.entry.session s (ap (is_by s) (sym there) ∙ newest.by) in
+    let same : m.entry.session ≡ s = eqb-true m.entry.session s (ap (is_by s) (sym there) ∙ newest.by) in
     covers s (group_if ends (EndsRedo s)) m c same (newest.change m there) (ends_or_not m s c ends same (newest.change m there) (newest.end m there)) g belong)
     is
 

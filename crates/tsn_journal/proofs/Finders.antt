@@ -1,10 +1,10 @@
 -- What each finder looks for, among marked entries.
-use Rattle.std.proofs.Common.{◌≡◌, ℕ, Bool, true, false, cond, ◌||◌, ◌&&◌, not, List, [], ◌∷◌, refl, sym, ◌∙◌, ap, Option, Some, None, arith, drop, filter, length, map}
-use Rattle.std.proofs.lemmas.Bool.Decides.{nat_tests}
+use Rattle.std.proofs.Common.{◌≡◌, ℕ, Bool, true, false, cond, ◌||◌, ◌&&◌, not, List, [], ◌∷◌, refl, sym, ◌∙◌, ap, Option, Some, None, drop, filter, length, map}
 use Rattle.std.proofs.lemmas.List.{length-map}
 use Rattle.std.specs.Prelude.{◌==◌, is_some, option_map}
 use Rattle.std.specs.List.{filter_map, find, list_any}
 use Rattle.std.specs.Option.{option_and_then, option_or}
+use Rattle.std.proofs.lemmas.Bool.{or_left, or_right, or_from, eqb-true}
 use Rattle.tsn_edit.specs.Parts.{Change}
 use Rattle.tsn_edit.specs.Changes.{conflicts}
 use Rattle.tsn_edit.proofs.KeyFacts.{by_bool, by_option}
@@ -13,9 +13,9 @@ use Rattle.tsn_journal.specs.declared.entries.What.TheVariants.{Made, Undone, Re
 use Rattle.tsn_journal.specs.declared.entries.Entry.{Entry}
 use Rattle.tsn_journal.specs.declared.entries.MarkedEntry.{MarkedEntry}
 use Rattle.tsn_journal.specs.Entries.{Applied, adds, applied, applies, is_made, is_closed, standing, undoes}
-use Rattle.tsn_journal.specs.Finding.{find_conflict_of_others, find_own_in_conflict, last_where, later_than, may_redo, own_standing, parts_of_all, redo_of, standing_entry, undone_entry}
+use Rattle.tsn_journal.specs.Finding.{find_conflict_of_others, find_own_in_conflict, last_where, later_than, may_redo, own_standing, parts_of_all, redo_of, standing_entry}
 use Rattle.tsn_journal.specs.Marks.{AreMarked, IsJournal, added_in, conflict_of_others, ends_redo, entries_of, is_in_conflict, is_others, is_own, newest_blocked, stands}
-use Rattle.tsn_journal.proofs.Collecting.{IsOwn, applied-own, collect-marked, filter_marked, filter_parts, find_marked, last_marked, later_marked, passes, standing-marked, stands-own}
+use Rattle.tsn_journal.proofs.Collecting.{IsOwn, filter_marked, filter_parts, find_marked, last_marked, later_marked, passes, standing-marked, stands-own}
 
 abbrev num : Option Applied → Option ℕ
 num o = option_map (λ x. x.number) o
@@ -41,9 +41,6 @@ module _ (ms : List MarkedEntry) (is : IsJournal ms) where
 
   pub standing_at : (n : ℕ) → standing_entry (entries_of ms) n ≡ option_and_then stands (find (λ m. m.entry.number == n) ms)
   standing_at n = ap (find (λ x. x.number == n)) (standing-marked ms is.marked) ∙ find_marked stands 1 n ms stands-own is.numbered
-
-  pub undone_at : (n : ℕ) → undone_entry (entries_of ms) n ≡ option_and_then (λ m. applied undoes m.entry) (find (λ m. m.entry.number == n) ms)
-  undone_at n = ap (find (λ x. x.number == n)) (collect-marked undoes ms) ∙ find_marked (λ m. applied undoes m.entry) 1 n ms (applied-own undoes) is.numbered
 
 -- ---- the tests
 
@@ -159,14 +156,6 @@ made_ends true b o (Acted act key now) n s h none = h
 made_ends true b o (Settled upto) n s h none = h
 made_ends false b o w n s h none = h
 
-or_left : (a b : Bool) → a ≡ true → (a || b) ≡ true
-or_left true b h = refl
-or_left false b h = (cc)
-
-or_right : (a b : Bool) → b ≡ true → (a || b) ≡ true
-or_right true b h = refl
-or_right false b h = h
-
 pub last_of_two : (o : Option MarkedEntry) (b : Bool) (m x : MarkedEntry) (G : Type 0) → option_or o (cond b (Some m) None) ≡ Some x → ((b ≡ true) → m ≡ x → G) → (o ≡ Some x → G) → G
 last_of_two None true m x G h f g = f refl (cc)
 last_of_two None false m x G h f g = (cc)
@@ -192,15 +181,11 @@ no_edit_here true o (Acted act key now) h = refl
 no_edit_here true o (Settled upto) h = refl
 no_edit_here false o w h = refl
 
-or_false : (a b : Bool) → a ≡ false → b ≡ false → (a || b) ≡ false
-or_false true b h k = h
-or_false false b h k = k
-
 no_edit : (s : ℕ) (ms : List MarkedEntry) → last_where (ends s) ms ≡ None → list_any (edit_of s) (entries_of ms) ≡ false
 no_edit s [] h = refl
 no_edit s (m ∷ ms) h =
     let both = neither (last_where (ends s) ms) (ends s m) m h in
-    or_false (edit_of s m.entry) _ (no_edit_here (m.entry.session == s) m.is_open m.entry.what both.1) (no_edit s ms both.0)
+    or_from (edit_of s m.entry) _ (no_edit_here (m.entry.session == s) m.is_open m.entry.what both.1) (no_edit s ms both.0)
 
 -- an entry after which nothing ends the search
 ended_here : (a o t : Bool) (w : What) (n s : ℕ) (m : MarkedEntry) → o ≡ not t → redone_at m ≡ option_map (mk n s) (undoes w)
@@ -250,9 +235,6 @@ find_passes p (x ∷ ms) m h = by_bool (p x)
     (λ here. let is : Some x ≡ Some m = sym (ap (λ b. cond b (Some x) (find p ms)) here) ∙ h in let same : x ≡ m = (cc) in ap p (sym same) ∙ here)
     (λ off. find_passes p ms m (sym (ap (λ b. cond b (Some x) (find p ms)) off) ∙ h))
 
-pub eq_number : (a b : ℕ) → (a == b) ≡ true → a ≡ b
-eq_number a b h = grind (arith, nat_tests)
-
 -- what the entry of a number is, as the one that was picked
 pub record IsPicked (m : MarkedEntry) (n : ℕ) (e : Applied) : Type 0 where
   pub place : m.entry.number ≡ n
@@ -277,7 +259,7 @@ undone_parts n s (Settled upto) e h = (cc)
 
 module _ (ms : List MarkedEntry) (n : ℕ) (e : Applied) (m : MarkedEntry) (found : find (λ m. m.entry.number == n) ms ≡ Some m) where
   at_number : m.entry.number ≡ n
-  at_number = eq_number m.entry.number n (find_passes (λ m. m.entry.number == n) ms m found)
+  at_number = eqb-true m.entry.number n (find_passes (λ m. m.entry.number == n) ms m found)
 
   pub standing_picked_of : stands m ≡ Some e → IsPicked m n e
   standing_picked_of is =

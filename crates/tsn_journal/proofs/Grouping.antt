@@ -3,13 +3,13 @@ use Rattle.std.proofs.Common.{◌≡◌, ℕ, Bool, true, false, cond, ◌||◌,
 use Rattle.std.specs.Prelude.{◌==◌, is_some, not, option_map}
 use Rattle.std.proofs.Math.Bool.{or_assoc}
 use Rattle.std.proofs.lemmas.Bool.Decides.{nat_tests}
+use Rattle.std.proofs.lemmas.Bool.{eqb-true, or_left, or_right, and_left}
 use Rattle.tsn_types.specs.declared.keys.Key.{Key}
 use Rattle.tsn_types.specs.Keys.{has, refs_of, same_key}
 use Rattle.tsn_edit.specs.Changes.{keys_of, refs_after}
 use Rattle.tsn_edit.specs.Parts.{Change, Part, parts}
 use Rattle.tsn_edit.proofs.KeyFacts.{by_bool, has-append, one_key, same_itself}
 use Rattle.tsn_journal.specs.declared.entries.What.{What}
-use Rattle.tsn_journal.specs.declared.entries.Act.{Act}
 use Rattle.tsn_journal.specs.declared.entries.What.TheVariants.{Made, Undone, Redone, Acted, Settled}
 use Rattle.tsn_journal.specs.declared.entries.MarkedEntry.{MarkedEntry}
 use Rattle.tsn_journal.specs.declared.groups.Group.{Group}
@@ -19,17 +19,14 @@ use Rattle.tsn_journal.specs.Index.{belongs, belongs_to_others, group_if, groups
 use Rattle.tsn_journal.specs.Latest.{same_group}
 use Rattle.tsn_journal.specs.Marks.{mark_off, stands}
 
-pub same_number : (n k : ℕ) → (n == k) ≡ true → n ≡ k
-same_number n k h = grind (arith, nat_tests)
-
 pub number_itself : (n : ℕ) → (n == n) ≡ true
 number_itself n = grind (arith, nat_tests)
 
 pub one_group : (a b : Group) → same_group a b ≡ true → a ≡ b
 one_group (On a) (On b) h = ap On (one_key a b h)
 one_group (RefersTo a) (RefersTo b) h = ap RefersTo (one_key a b h)
-one_group (Of s) (Of t) h = ap Of (same_number s t h)
-one_group (EndsRedo s) (EndsRedo t) h = ap EndsRedo (same_number s t h)
+one_group (Of s) (Of t) h = ap Of (eqb-true s t h)
+one_group (EndsRedo s) (EndsRedo t) h = ap EndsRedo (eqb-true s t h)
 one_group a b h = (cc)
 
 pub group_itself : (a : Group) → same_group a a ≡ true
@@ -79,14 +76,6 @@ by-mark_off w s (Some m) = elim (closes w m.entry) as (λ b. is_by s (Some (cond
 
 -- ---- the groups of an entry are all that it may belong to
 
-pub or_true : (a b : Bool) → a ≡ true → (a || b) ≡ true
-or_true true b h = refl
-or_true false b h = (cc)
-
-pub or_else : (a b : Bool) → b ≡ true → (a || b) ≡ true
-or_else true b h = refl
-or_else false b h = h
-
 pub either : {G : Type 0} (a b : Bool) → (a || b) ≡ true → (a ≡ true → G) → (b ≡ true → G) → G
 either true b h f g = f refl
 either false b h f g = g h
@@ -107,22 +96,22 @@ is_among-append (None ∷ gs) hs g = is_among-append gs hs g
 is_among-append (Some x ∷ gs) hs g = ap (λ b. same_group x g || b) (is_among-append gs hs g) ∙ sym (or_assoc (same_group x g) (is_among gs g) (is_among hs g))
 
 among_first : (gs hs : List (Option Group)) (g : Group) → is_among gs g ≡ true → is_among (gs ++ hs) g ≡ true
-among_first gs hs g h = is_among-append gs hs g ∙ or_true _ _ h
+among_first gs hs g h = is_among-append gs hs g ∙ or_left _ _ h
 
 pub among_second : (gs hs : List (Option Group)) (g : Group) → is_among hs g ≡ true → is_among (gs ++ hs) g ≡ true
-among_second gs hs g h = is_among-append gs hs g ∙ or_else _ _ h
+among_second gs hs g h = is_among-append gs hs g ∙ or_right _ _ h
 
 refs_among : (rs : List Key) (k : Key) → has rs k ≡ true → is_among (map (λ r. Some (RefersTo r)) rs) (RefersTo k) ≡ true
 refs_among [] k h = (cc)
 refs_among (r ∷ rs) k h = either (same_key k r) (has rs k) h
-    (λ first. or_true _ _ (same_one k r first))
-    (λ later. or_else _ _ (refs_among rs k later))
+    (λ first. or_left _ _ (same_one k r first))
+    (λ later. or_right _ _ (refs_among rs k later))
 
 pub on_among : (ps : List Part) (k : Key) → has (keys_of ps) k ≡ true → is_among (groups_of_parts ps) (On k) ≡ true
 on_among [] k h = (cc)
 on_among (p ∷ ps) k h = either (same_key k p.key) (has (keys_of ps) k) h
-    (λ same. or_true _ _ (ap (λ (x : Key). same_group (On p.key) (On x)) (one_key k p.key same) ∙ group_itself (On p.key)))
-    (λ later. or_else _ _ (among_second (map (λ r. Some (RefersTo r)) (refs_of p.after)) (groups_of_parts ps) (On k) (on_among ps k later)))
+    (λ same. or_left _ _ (ap (λ (x : Key). same_group (On p.key) (On x)) (one_key k p.key same) ∙ group_itself (On p.key)))
+    (λ later. or_right _ _ (among_second (map (λ r. Some (RefersTo r)) (refs_of p.after)) (groups_of_parts ps) (On k) (on_among ps k later)))
 
 pub refers_among : (ps : List Part) (k : Key) → has (refs_after ps) k ≡ true → is_among (groups_of_parts ps) (RefersTo k) ≡ true
 refers_among [] k h = (cc)
@@ -132,11 +121,8 @@ refers_among (p ∷ ps) k h =
     (λ first. among_first refs (groups_of_parts ps) (RefersTo k) (refs_among (refs_of p.after) k first))
     (λ later. among_second refs (groups_of_parts ps) (RefersTo k) (refers_among ps k later))
 
-no_and : (a b : Bool) → a ≡ false → (a && b) ≡ false
-no_and a b h = (cc)
-
 pub not_standing : (m : MarkedEntry) → adds m.entry.what ≡ None → (q : ℕ) → belongs (Of q) m ≡ false
-not_standing m none q = no_and (is_some (stands m)) (m.entry.session == q)
+not_standing m none q = and_left (is_some (stands m)) (m.entry.session == q)
     (elim m.is_open as (λ b. is_some (cond b (applied adds m.entry) None) ≡ false) [ true ↦ ap (λ o. is_some {T = Applied} (option_map (λ d. record { number = m.entry.number; session = m.entry.session; change = d }) o)) none | false ↦ refl ])
 
 module _ (s : ℕ) (redo : Option Group) (m : MarkedEntry) (c : Change) (session : m.entry.session ≡ s) (adds' : adds m.entry.what ≡ Some c) where
@@ -152,7 +138,7 @@ module _ (s : ℕ) (redo : Option Group) (m : MarkedEntry) (c : Change) (session
   covers ends (On k) h = among_first (groups_of_parts (parts c)) (Some (Of s) ∷ redo ∷ []) (On k) (on_among (parts c) k (while_open (is_on k) refl h))
   covers ends (RefersTo k) h = among_first (groups_of_parts (parts c)) (Some (Of s) ∷ redo ∷ []) (RefersTo k) (refers_among (parts c) k (while_open (refers k) refl h))
   covers ends (Of q) h =
-      among_second (groups_of_parts (parts c)) (Some (Of s) ∷ redo ∷ []) (Of q) (or_true _ _ (ap (λ n. n == q) (sym session) ∙ second_true _ _ h))
+      among_second (groups_of_parts (parts c)) (Some (Of s) ∷ redo ∷ []) (Of q) (or_left _ _ (ap (λ n. n == q) (sym session) ∙ second_true _ _ h))
   covers ends (EndsRedo q) h = among_second (groups_of_parts (parts c)) (Some (Of s) ∷ redo ∷ []) (EndsRedo q) (ends q h)
 
 pub first_true : (a b : Bool) → (a && b) ≡ true → a ≡ true
@@ -162,7 +148,7 @@ first_true false b h = (cc)
 -- a made or redone entry ends a search for a redo where it was made
 pub ends_or_not : (m : MarkedEntry) (s : ℕ) (c : Change) (ends : Bool) → m.entry.session ≡ s → adds m.entry.what ≡ Some c → is_made m.entry.what ≡ ends
     → (q : ℕ) → belongs (EndsRedo q) m ≡ true → is_among (group_if ends (EndsRedo s) ∷ []) (EndsRedo q) ≡ true
-ends_or_not m s c true same adds' made q h = or_true _ _ (ap (λ n. n == q) (sym same) ∙ first_true _ _ h)
+ends_or_not m s c true same adds' made q h = or_left _ _ (ap (λ n. n == q) (sym same) ∙ first_true _ _ h)
 ends_or_not m s c false same adds' made q h = none_true _ (ap (λ b. b || (is_some (undoes m.entry.what) && m.is_open)) made ∙ ap (λ b. b && m.is_open) (not_undone m.entry.what c adds')) (second_true (m.entry.session == q) _ h)
   where
     not_undone : (w : What) (c : Change) → adds w ≡ Some c → is_some (undoes w) ≡ false
@@ -180,10 +166,4 @@ pub covers_undone : (m : MarkedEntry) (s of : ℕ) (c : Change) → m.entry.sess
 covers_undone m s of c same is (On k) h = none_true _ (ap (is_on k) (no_change m (ap adds is))) h
 covers_undone m s of c same is (RefersTo k) h = none_true _ (ap (refers k) (no_change m (ap adds is))) h
 covers_undone m s of c same is (Of q) h = none_true _ (not_standing m (ap adds is) q) h
-covers_undone m s of c same is (EndsRedo q) h = or_true _ _ (ap (λ n. n == q) (sym same) ∙ first_true _ _ h)
-
-pub covers_acted : (m : MarkedEntry) (act : Act) (key : Key) (now : ℕ) → m.entry.what ≡ Acted act key now → (g : Group) → belongs g m ≡ true → is_among [] g ≡ true
-covers_acted m act key now is (On k) h = none_true _ (ap (is_on k) (no_change m (ap adds is))) h
-covers_acted m act key now is (RefersTo k) h = none_true _ (ap (refers k) (no_change m (ap adds is))) h
-covers_acted m act key now is (Of q) h = none_true _ (not_standing m (ap adds is) q) h
-covers_acted m act key now is (EndsRedo q) h = none_true _ (ap (λ (w : What). is_made w || (is_some (undoes w) && m.is_open)) is) (second_true (m.entry.session == q) _ h)
+covers_undone m s of c same is (EndsRedo q) h = or_left _ _ (ap (λ n. n == q) (sym same) ∙ first_true _ _ h)

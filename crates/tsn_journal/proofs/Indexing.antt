@@ -3,19 +3,19 @@ use Rattle.std.proofs.Common.{◌≡◌, ℕ, zero, suc, ◌+◌, ◌-◌, ◌<�
 use Rattle.std.specs.Prelude.{option_map}
 use Rattle.std.specs.List.{slice_get}
 use Rattle.std.proofs.lemmas.List.{length-map, length-append}
-use Rattle.std.proofs.lemmas.Option.{slice_get-map, slice_get_past, slice_get_within}
+use Rattle.std.proofs.lemmas.Option.{slice_get-map, slice_get_past, slice_get_within, same_Some}
+use Rattle.std.proofs.lemmas.Bool.{eqb-true}
 use Rattle.tsn_edit.proofs.KeyFacts.{by_bool, by_option}
 use Rattle.tsn_journal.specs.declared.entries.What.{What}
 use Rattle.tsn_journal.specs.declared.entries.MarkedEntry.{MarkedEntry}
 use Rattle.tsn_journal.specs.declared.groups.Group.{Group}
 use Rattle.tsn_journal.specs.declared.index.Index.{Index}
 use Rattle.tsn_journal.specs.declared.index.Place.{Place}
-use Rattle.tsn_journal.specs.declared.latest.Latest.{Latest}
 use Rattle.tsn_journal.specs.Index.{Adds, ArePlaces, IsIndexed, IsIndexedBut, IsIndexedButNewest, IsLast, IsPlace, NoneBetween, TakesRoom, belongs, belongs_to_others, group_if, is_among, is_by, is_of, number_at, number_of, other_from, other_of, place_at, set_at}
 use Rattle.tsn_journal.specs.Latest.{TakesRows, latest_of, same_group}
 use Rattle.tsn_journal.specs.Marks.{mark_off}
-use Rattle.tsn_journal.proofs.Grouping.{belongs-mark_off, by-mark_off, group_itself, one_group, others-mark_off, same_number}
-use Rattle.tsn_journal.proofs.Links.{end_at, front_at, hop, none_some, not_of_others, place_end, place_front, some_of, where_at}
+use Rattle.tsn_journal.proofs.Grouping.{belongs-mark_off, by-mark_off, group_itself, one_group, others-mark_off}
+use Rattle.tsn_journal.proofs.Links.{end_at, front_at, hop, none_some, not_of_others, place_end, place_front, where_at}
 
 -- ---- a mark off
 
@@ -26,7 +26,7 @@ module _ (w : What) (ms : List MarkedEntry) where
       by_option (slice_get ms i)
       (λ no. none_some m (sym (ap (option_map (mark_off w)) no) ∙ mapped))
       (λ x some.
-      let same : mark_off w x ≡ m = some_of _ _ (sym (ap (option_map (mark_off w)) some) ∙ mapped) in
+      let same : mark_off w x ≡ m = same_Some _ _ (sym (ap (option_map (mark_off w)) some) ∙ mapped) in
       ap t (sym same) ∙ falls x (none i x low high some))
 
   last_off : (g : Group) (t : MarkedEntry → Bool) → ((m : MarkedEntry) → t m ≡ false → t (mark_off w m) ≡ false) → (ps : List Place) (j limit : ℕ) → IsLast g t ms ps j limit → IsLast g t (map (mark_off w) ms) ps j limit
@@ -176,7 +176,7 @@ module _ (ms : List MarkedEntry) where
 
   by_one : (s q : ℕ) (o : Option MarkedEntry) → is_by s o ≡ true → is_by q o ≡ true → s ≡ q
   by_one s q None h k = (cc)
-  by_one s q (Some m) h k = sym (same_number m.entry.session s h) ∙ same_number m.entry.session q k
+  by_one s q (Some m) h k = sym (eqb-true m.entry.session s h) ∙ eqb-true m.entry.session q k
 
   module _ (g : Group) (n s before : ℕ) (ps : List Place) (newest : n ≡ length ms) (some : 1 ≤ n) (by : is_by s (slice_get ms (n - 1)) ≡ true) (are : ArePlaces ms ps) (here : IsLast g (belongs g) ms ps before (length ms)) where
     abbrev pub new_place : Place
@@ -207,31 +207,11 @@ module _ (ms : List MarkedEntry) where
         elim (where_at (length ps) i) [
           | inl front ↦ place_more ps new_place i p (omega arith) (are i p (sym (front_at ps (new_place ∷ []) i front) ∙ at))
           | inr more ↦ elim more [
-            | inl at_end ↦ subst (λ r. IsPlace ms (ps ++ new_place ∷ []) i r) (some_of new_place p (sym (end_at ps new_place i at_end) ∙ at))
+            | inl at_end ↦ subst (λ r. IsPlace ms (ps ++ new_place ∷ []) i r) (same_Some new_place p (sym (end_at ps new_place i at_end) ∙ at))
                 (place_more ps new_place i new_place (omega arith) (subst (λ k. IsPlace ms ps k new_place) (sym at_end) (the_place less)))
             | inr after ↦ none_some p (sym (slice_get_past (ps ++ new_place ∷ []) i (omega (arith, length-append ps (new_place ∷ [])))) ∙ at)
           ]
         ]
-
-    -- whether the place is added or not, all that is known of an index but for its newest entry stays
-    pub newest_kept : (wanted : Bool) (a b : Index) (j : ℕ) → a.places.items ≡ ps → IsIndexedButNewest ms a → Adds ms wanted g n s before ps b.places.items j → b.latest ≡ a.latest → IsIndexedButNewest ms b
-    newest_kept wanted a b j old is adds latest =
-        by_bool wanted
-        (λ yes. elim (where_at n (number_at ps before)) [
-          | inl less ↦ record {
-            places = subst (ArePlaces ms) (sym (adds.places yes less)) (places_with less);
-            latest_is = λ q. subst (λ xs. IsLast q (belongs q) ms xs (latest_of b.latest q) (length ms)) (sym (adds.places yes less))
-                (last_front q (belongs q) ps new_place _ _ (stays q));
-          }
-          | inr least ↦ same (adds.there (elim least [ inl e ↦ omega arith | inr m ↦ omega arith ]))
-        ])
-        (λ no. same (adds.unwanted no))
-      where
-        stays : (q : Group) → IsLast q (belongs q) ms ps (latest_of b.latest q) (length ms)
-        stays q = subst (λ xs. IsLast q (belongs q) ms xs (latest_of b.latest q) (length ms)) old (subst (λ (x : Latest). IsLast q (belongs q) ms a.places.items (latest_of x q) (length ms)) (sym latest) (is.latest_is q))
-
-        same : b.places.items ≡ ps → IsIndexedButNewest ms b
-        same e = record { places = subst (ArePlaces ms) (sym e) are; latest_is = λ q. subst (λ xs. IsLast q (belongs q) ms xs (latest_of b.latest q) (length ms)) (sym e) (stays q) }
 
   module _ (g : Group) (rest : List (Option Group)) (n s : ℕ) (ps : List Place) (l : Group → ℕ) (newest : n ≡ length ms) (some : 1 ≤ n) (by : is_by s (slice_get ms (n - 1)) ≡ true) (is : IsIndexedBut (Some g ∷ rest) ms ps l) where
     here' : IsLast g (belongs g) ms ps (l g) (length ms)

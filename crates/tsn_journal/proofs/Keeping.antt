@@ -13,15 +13,15 @@ use Rattle.tsn_journal.specs.Newest.{AreNewest, HasNewest, IsIn}
 use Rattle.tsn_journal.specs.Touched.{NewestTold, Tells, TellsSame}
 use Rattle.std.specs.List.{slice_get}
 use Rattle.std.specs.Prelude.{max}
+use Rattle.std.proofs.lemmas.Option.{same_Some}
 use Rattle.tsn_journal.specs.Entries.{IsNumbered, added_parts, adds, settled, settles_to}
 use Rattle.tsn_journal.specs.Marks.{AreOff, IsJournal, Log, entries_of, mark_off}
 use Rattle.tsn_journal.proofs.Bounding.{free_pushed, referred_pushed}
 use Rattle.tsn_journal.proofs.Closing.{off_pushed, settled_push}
 use Rattle.tsn_journal.proofs.Indexing.{indexed_more, indexed_off}
-use Rattle.tsn_journal.proofs.Links.{end_at, some_of}
+use Rattle.tsn_journal.proofs.Links.{end_at}
 use Rattle.tsn_journal.proofs.Marking.{entries_pushed, entries_stay, journal_push, new_entry}
 use Rattle.tsn_journal.proofs.Needed.{needed_pushed}
-use Rattle.tsn_journal.proofs.Newest.{in_none}
 use Rattle.tsn_journal.proofs.Telling.{tells_more, tells_same}
 
 -- the index says the same where it has the same places and the same latest ones
@@ -34,16 +34,6 @@ indexed_same ms a b places latest is = record {
 
 newest_same : (ms : List MarkedEntry) (a b : Index) → b.places.items ≡ a.places.items → ((g : Group) → latest_of b.latest g ≡ latest_of a.latest g) → (g : Group) → HasNewest ms a g → HasNewest ms b g
 newest_same ms a b places latest g had = subst (λ qs. IsIn g ms qs (latest_of b.latest g)) (sym places) (subst (λ j. IsIn g ms a.places.items j) (sym (latest g)) had)
-
-pub no_newest : (a : Index) → ((g : Group) → latest_of a.latest g ≡ 0) → AreNewest [] a
-no_newest a latest g = in_none g [] a.places.items (latest_of a.latest g) (latest g)
-
-pub no_index : (a : Index) → a.places.items ≡ [] → ((g : Group) → latest_of a.latest g ≡ 0) → IsIndexed [] a
-no_index a places latest = record {
-  places = subst (ArePlaces []) (sym places) (λ i p at. (cc));
-  latest_is = λ g. subst (λ qs. IsLast g (belongs g) [] qs (latest_of a.latest g) 1) (sym places)
-      (subst (λ j. IsLast g (belongs g) [] [] j 1) (sym (latest g)) (record { within = omega arith; group = refl; none_later = λ i m low high at. (cc) }));
-}
 
 module _ (ms : List MarkedEntry) (len capacity : ℕ) (a : Index) (room parts upto crossed : ℕ) (is : IsKept ms len capacity a room parts upto crossed) (ns : List MarkedEntry) (b : Index) (same : ns ≡ ms) (places : b.places.items ≡ a.places.items) (latest : (g : Group) → latest_of b.latest g ≡ latest_of a.latest g) (tells : TellsSame a b) where
   pub kept_reserved : (len' capacity' room' parts' : ℕ) → len' ≡ len → len' + room' ≤ capacity' → len' + room' ≤ 262144 → parts' ≤ 4194304 → HasRoom (places_for room' parts') b → IsKept ns len' capacity' b room' parts' upto crossed
@@ -153,7 +143,7 @@ module _ (w : What) (s : ℕ) (ms ns : List MarkedEntry) (pushed : ns ≡ map (m
   pushed_adds m at =
       let count : length ns ≡ length (map (mark_off w) ms) + 1 = ap length pushed ∙ length-append (map (mark_off w) ms) (new_entry ms s w ∷ []) in
       let last : slice_get ns (length ns - 1) ≡ Some (new_entry ms s w) = ap (λ xs. slice_get xs (length ns - 1)) pushed ∙ end_at (map (mark_off w) ms) (new_entry ms s w) (length ns - 1) (omega (arith, count)) in
-      ap (λ (x : MarkedEntry). added_parts x.entry.what) (some_of _ _ (sym at ∙ last))
+      ap (λ (x : MarkedEntry). added_parts x.entry.what) (same_Some _ _ (sym at ∙ last))
 
 -- the number that an entry settles to is there, as the view says it
 pub settles_there : (w : What) (ms : List MarkedEntry) (l k : Log) → k ≡ l → entries_of ms ≡ k.entries → settles_to w ≤ length l.entries → settles_to w ≤ length ms

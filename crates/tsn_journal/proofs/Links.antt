@@ -2,7 +2,8 @@
 use Rattle.std.proofs.Common.{◌≡◌, ℕ, zero, suc, ◌+◌, ◌-◌, ◌<◌, ◌≤◌, ◌⊎◌, inl, inr, Bool, true, false, ◌&&◌, List, [], ◌∷◌, ◌++◌, refl, sym, ◌∙◌, ap, subst, Some, None, arith, length, get_or, add-one}
 use Rattle.std.specs.Prelude.{◌==◌, not}
 use Rattle.std.specs.List.{slice_get}
-use Rattle.std.proofs.lemmas.Option.{slice_get_read}
+use Rattle.std.proofs.lemmas.Option.{slice_get_read, same_Some}
+use Rattle.std.proofs.lemmas.Bool.{and_left}
 use Rattle.tsn_journal.specs.declared.entries.MarkedEntry.{MarkedEntry}
 use Rattle.tsn_journal.specs.declared.groups.Group.{Group}
 use Rattle.tsn_journal.specs.declared.index.Place.{Place}
@@ -10,9 +11,6 @@ use Rattle.tsn_journal.specs.Index.{ArePlaces, IsLast, IsPlace, NoneBetween, Non
 use Rattle.tsn_journal.proofs.Grouping.{one_group}
 
 -- ---- lists with one element more
-
-pub some_of : {A : Type 0} (a b : A) → Some a ≡ Some b → a ≡ b
-some_of a b h = (cc)
 
 pub none_some : {A G : Type 0} (a : A) → None ≡ Some a → G
 none_some a h = (cc)
@@ -56,16 +54,13 @@ pub place_of : (ms : List MarkedEntry) (ps : List Place) (j : ℕ) (p : Place) �
 place_of ms ps zero p there are = none_some p there
 place_of ms ps (suc i) p there are = let e : i ≡ suc i - 1 = omega arith in subst (λ k. IsPlace ms ps k p) e (are i p there)
 
-out_of_both : (a b : Bool) → a ≡ false → (a && b) ≡ false
-out_of_both a b h = (cc)
-
 out_of_own : (a b : Bool) → b ≡ true → (a && not b) ≡ false
 out_of_own true b h = (cc)
 out_of_own false b h = refl
 
 -- what does not belong to a group is not of another session in it
 pub not_of_others : (g : Group) (s : ℕ) (m : MarkedEntry) → belongs g m ≡ false → belongs_to_others g s m ≡ false
-not_of_others g s m h = out_of_both (belongs g m) _ h
+not_of_others g s m h = and_left (belongs g m) _ h
 
 module _ (ms : List MarkedEntry) (ps : List Place) (g : Group) (j : ℕ) (p : Place) (group : is_of g (place_at ps j) ≡ true) (there : place_at ps j ≡ Some p) (are : ArePlaces ms ps) where
   pub one : p.group ≡ g
@@ -86,7 +81,7 @@ module _ (ms : List MarkedEntry) (ps : List Place) (g : Group) (j : ℕ) (p : Pl
       elim (where_at (p.number - 1) i) [
         | inl before ↦ out x (subst (λ h. belongs h x ≡ false) one (the_place.last.none_later i x low (omega arith) at'))
         | inr rest ↦ elim rest [
-          | inl same ↦ ap t (some_of x m (sym at' ∙ ap (slice_get ms) same ∙ here)) ∙ fails
+          | inl same ↦ ap t (same_Some x m (sym at' ∙ ap (slice_get ms) same ∙ here)) ∙ fails
           | inr after ↦ none i x (omega arith) high at'
         ]
       ]

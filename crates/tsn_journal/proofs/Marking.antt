@@ -1,10 +1,13 @@
 -- The marks of entries: which one a new entry puts off, and what the others say.
-use Rattle.std.proofs.Common.{◌≡◌, ℕ, zero, suc, ◌+◌, ◌<◌, ◌≤◌, ◌⊎◌, inl, inr, Bool, true, false, cond, ◌||◌, ◌&&◌, not, List, [], ◌∷◌, ◌++◌, refl, sym, ◌∙◌, ap, Some, None, arith, length, set, get_or, map, take, min, ◌-◌}
+use Rattle.std.proofs.Common.{◌≡◌, ℕ, zero, suc, ◌+◌, ◌<◌, ◌≤◌, ◌⊎◌, inl, inr, Bool, true, false, cond, ◌||◌, not, List, [], ◌∷◌, ◌++◌, refl, sym, ◌∙◌, ap, Some, None, arith, length, set, get_or, map, take, ◌-◌}
 use Rattle.std.specs.Prelude.{◌==◌, option_map}
 use Rattle.std.specs.List.{find}
 use Rattle.std.proofs.lemmas.Bool.Decides.{nat_tests}
 use Rattle.std.proofs.lemmas.List.{map-append, length-map, length-append, take-append-le, take_all}
 use Rattle.std.proofs.lemmas.List.Folds.{list_any-append}
+use Rattle.std.proofs.lemmas.Bool.{eq-eqb, and_left}
+use Rattle.std.proofs.lemmas.Option.{same_Some}
+use Rattle.std.proofs.Math.Bool.{or-false}
 use Rattle.tsn_journal.specs.declared.entries.What.{What}
 use Rattle.tsn_journal.specs.declared.entries.What.TheVariants.{Made, Undone, Redone, Acted, Settled}
 use Rattle.tsn_journal.specs.declared.entries.Entry.{Entry}
@@ -14,10 +17,7 @@ use Rattle.tsn_journal.specs.Marks.{AreMarked, IsJournal, entries_of, mark_off}
 
 -- ---- looking a number up
 
-same_number : (n k : ℕ) → n ≡ k → (n == k) ≡ true
-same_number n k h = grind (arith, nat_tests)
-
-less_number : (n k : ℕ) → n < k → (n == k) ≡ false
+pub less_number : (n k : ℕ) → n < k → (n == k) ≡ false
 less_number n k h = grind (arith, nat_tests)
 
 more_number : (n k : ℕ) → k < n → (n == k) ≡ false
@@ -25,7 +25,7 @@ more_number n k h = grind (arith, nat_tests)
 
 pub found_number : (n i k : ℕ) (ms : List MarkedEntry) (m : MarkedEntry) → IsNumbered n (entries_of ms) → n + i ≡ k → i < length ms → m ≡ get_or ms i m → find (λ x. x.entry.number == k) ms ≡ Some m
 found_number n i k [] m h e l at = absurd (omega arith)
-found_number n zero k (x ∷ ms) m h e l at = ap (λ b. cond b (Some x) (find (λ y. y.entry.number == k) ms)) (same_number x.entry.number k (h.0 ∙ (let f : n ≡ k = omega arith in f))) ∙ ap Some (sym at)
+found_number n zero k (x ∷ ms) m h e l at = ap (λ b. cond b (Some x) (find (λ y. y.entry.number == k) ms)) (eq-eqb x.entry.number k (h.0 ∙ (let f : n ≡ k = omega arith in f))) ∙ ap Some (sym at)
 found_number n (suc i) k (x ∷ ms) m h e l at =
     let here : n ≡ x.entry.number = sym h.0 in
     ap (λ b. cond b (Some x) (find (λ y. y.entry.number == k) ms)) (less_number x.entry.number k (omega arith))
@@ -53,17 +53,10 @@ find_entry k (m ∷ ms) =
 abbrev off : Bool → MarkedEntry → MarkedEntry
 off b m = cond b (record { entry = m.entry; is_open = false }) m
 
-and_off : (a b : Bool) → a ≡ false → (a && b) ≡ false
-and_off true b h = (cc)
-and_off false b h = refl
-
-some_of : {A : Type 0} (a b : A) → Some a ≡ Some b → a ≡ b
-some_of a b h = (cc)
-
 other_entry : (w : What) (k : ℕ) (e : Entry) → names w ≡ Some k → (k == e.number) ≡ false → closes w e ≡ false
 other_entry (Made c) k e is other = refl
-other_entry (Undone n c) k e is other = and_off (n == e.number) _ (ap (λ m. m == e.number) (some_of n k is) ∙ other)
-other_entry (Redone n c) k e is other = and_off (n == e.number) _ (ap (λ m. m == e.number) (some_of n k is) ∙ other)
+other_entry (Undone n c) k e is other = and_left (n == e.number) _ (ap (λ m. m == e.number) (same_Some n k is) ∙ other)
+other_entry (Redone n c) k e is other = and_left (n == e.number) _ (ap (λ m. m == e.number) (same_Some n k is) ∙ other)
 other_entry (Acted act key now) k e is other = refl
 other_entry (Settled upto) k e is other = (cc)
 
@@ -127,10 +120,6 @@ numbered_push n (x ∷ es) e h is = (h.0, numbered_push (n + 1) es e h.1 (is ∙
 pub IsNumbered-with_entry : (es : List Entry) (s : ℕ) (w : What) → IsNumbered 1 es → IsNumbered 1 (with_entry es s w)
 IsNumbered-with_entry es s w h = numbered_push 1 es (record { number = length es + 1; session = s; what = w }) h (omega arith)
 
-or_false : (a : Bool) → (a || false) ≡ a
-or_false true = refl
-or_false false = refl
-
 not_or : (o a b : Bool) → o ≡ not a → cond b false o ≡ not (a || b)
 not_or o true true h = refl
 not_or o true false h = h
@@ -138,7 +127,7 @@ not_or o false true h = refl
 not_or o false false h = h
 
 pub is_closed-push : (e : Entry) (es : List Entry) (w : Entry) → is_closed e (es ++ w ∷ []) ≡ (is_closed e es || closes w.what e)
-is_closed-push e es w = list_any-append (λ x. closes x.what e) es (w ∷ []) ∙ ap (λ b. is_closed e es || b) (or_false (closes w.what e))
+is_closed-push e es w = list_any-append (λ x. closes x.what e) es (w ∷ []) ∙ ap (λ b. is_closed e es || b) (or-false (closes w.what e))
 
 mark_now : (w : What) (m : MarkedEntry) → (mark_off w m).is_open ≡ cond (closes w m.entry) false m.is_open
 mark_now w m = elim (closes w m.entry) as (λ b. (off b m).is_open ≡ cond b false m.is_open) [ true ↦ refl | false ↦ refl ]
@@ -171,6 +160,3 @@ pushed_items w s len n ms rest off' now same count is pushed =
     pushed
     ∙ ap (λ xs. xs ++ record { entry = record { number = n + 1; session = s; what = w }; is_open = true } ∷ []) (take-append-le len off' rest (omega arith) ∙ take_all len off' (omega arith) ∙ is)
     ∙ ap (λ k. map (mark_off w) ms ++ record { entry = record { number = k + 1; session = s; what = w }; is_open = true } ∷ []) (count ∙ sym same)
-
-pub room_for_one : (capacity len : ℕ) → 1 ≤ min capacity 262144 - len → len < 262144
-room_for_one capacity len h = omega arith

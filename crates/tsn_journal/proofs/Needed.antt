@@ -1,26 +1,27 @@
 -- The number up to which an entry may be blocked is no greater than it has to be.
-use Rattle.std.proofs.Common.{◌≡◌, ℕ, zero, suc, ◌+◌, ◌-◌, ◌<◌, ◌≤◌, ◌⊎◌, inl, inr, Bool, true, false, cond, ◌||◌, ◌&&◌, not, List, [], ◌∷◌, ◌++◌, drop, refl, sym, ◌∙◌, ap, subst, Option, Some, None, arith, length, map, max}
+use Rattle.std.proofs.Common.{◌≡◌, ℕ, zero, suc, ◌+◌, ◌-◌, ◌<◌, ◌≤◌, ◌⊎◌, inl, inr, Bool, true, false, cond, ◌||◌, List, [], ◌∷◌, ◌++◌, drop, refl, sym, ◌∙◌, ap, subst, Some, None, arith, length, max}
 use Rattle.std.specs.Prelude.{◌==◌, option_map}
 use Rattle.std.specs.List.{slice_get}
 use Rattle.std.specs.Option.{option_or}
-use Rattle.std.proofs.lemmas.List.{length-append, length-map}
-use Rattle.std.proofs.lemmas.Option.{slice_get-map, slice_get_within}
+use Rattle.std.proofs.lemmas.List.{length-map}
+use Rattle.std.proofs.lemmas.Option.{slice_get-map, slice_get_within, same_Some}
+use Rattle.std.proofs.lemmas.Bool.{or_left, or_right, not-true}
 use Rattle.tsn_types.specs.declared.keys.Key.{Key}
 use Rattle.tsn_types.specs.Keys.{has, same_key}
 use Rattle.tsn_edit.specs.Changes.{keys_of}
-use Rattle.tsn_edit.specs.Parts.{Change, Part}
-use Rattle.tsn_edit.proofs.KeyFacts.{by_bool, by_option, has-append, same_itself}
+use Rattle.tsn_edit.specs.Parts.{Part}
+use Rattle.tsn_edit.proofs.KeyFacts.{by_bool, by_option, has-append, same_itself, keys_of-append}
 use Rattle.tsn_journal.specs.declared.entries.Entry.{Entry}
 use Rattle.tsn_journal.specs.declared.entries.What.{What}
 use Rattle.tsn_journal.specs.declared.entries.MarkedEntry.{MarkedEntry}
 use Rattle.tsn_journal.specs.declared.groups.Group.TheVariants.{On}
-use Rattle.tsn_journal.specs.Crossed.{IsFound, IsFoundOn, IsMet, IsNeeded, IsOther, IsRaised, IsWanted, is_on_referred, is_referred}
+use Rattle.tsn_journal.specs.Crossed.{IsFoundOn, IsMet, IsNeeded, IsRaised, is_on_referred, is_referred}
 use Rattle.tsn_journal.specs.Entries.{IsNumbered, adds, with_entry}
 use Rattle.tsn_journal.specs.Finding.{last_where}
 use Rattle.tsn_journal.specs.Index.{belongs, belongs_to_others, is_on, standing_change}
 use Rattle.tsn_journal.specs.Marks.{entries_of}
-use Rattle.tsn_journal.proofs.Grouping.{first_true, none_true, or_else, or_true, second_true}
-use Rattle.tsn_journal.proofs.Links.{end_at, front_at, none_some, some_of, where_at}
+use Rattle.tsn_journal.proofs.Grouping.{first_true, none_true, second_true}
+use Rattle.tsn_journal.proofs.Links.{end_at, front_at, none_some, where_at}
 use Rattle.tsn_journal.proofs.Newest.{number_at'}
 
 max_of : (a b : ℕ) → (max a b ≡ a) ⊎ (max a b ≡ b)
@@ -38,11 +39,11 @@ there_in t [] y h = none_some y h
 there_in t (x ∷ ms) y h = by_option (last_where t ms)
     (λ none. by_bool (t x)
     (λ passes.
-    let same : x ≡ y = some_of x y (sym (ap (λ o. option_or o (cond (t x) (Some x) None)) none ∙ ap (λ c. cond c (Some x) None) passes) ∙ h) in
+    let same : x ≡ y = same_Some x y (sym (ap (λ o. option_or o (cond (t x) (Some x) None)) none ∙ ap (λ c. cond c (Some x) None) passes) ∙ h) in
     record { place = 0; at = ap Some same; passes = ap t (sym same) ∙ passes })
     (λ fails. none_some y (sym (ap (λ o. option_or o (cond (t x) (Some x) None)) none ∙ ap (λ c. cond c (Some x) None) fails) ∙ h)))
     (λ z some.
-    let same : z ≡ y = some_of z y (sym (ap (λ o. option_or o (cond (t x) (Some x) None)) some) ∙ h) in
+    let same : z ≡ y = same_Some z y (sym (ap (λ o. option_or o (cond (t x) (Some x) None)) some) ∙ h) in
     let rest = there_in t ms y (some ∙ ap Some same) in
     record { place = suc rest.place; at = rest.at; passes = rest.passes })
 
@@ -69,20 +70,16 @@ open_on k m h = by_bool m.is_open
     (λ on. ap (λ b. is_on k (cond b (adds m.entry.what) None)) (sym on) ∙ h)
     (λ off. none_true false refl (ap (λ b. is_on k (cond b (adds m.entry.what) None)) (sym off) ∙ h))
 
-not_true : (b : Bool) → not b ≡ true → b ≡ false
-not_true true h = (cc)
-not_true false h = refl
-
 pub other_of_found : (before n s : ℕ) (ms : List MarkedEntry) (p : Part) → IsFoundOn before n ms s p.key → IsRaised before n ms s (Some (p ∷ []))
 other_of_found before n s ms p (inl same) = inl same
 other_of_found before n s ms p (inr found) = inr (inr (record {
   some = found.some;
   entry = found.entry;
   at = found.at;
-  other = not_true (found.entry.entry.session == s) (second_true (belongs (On p.key) found.entry) _ found.passes);
+  other = not-true (found.entry.entry.session == s) (second_true (belongs (On p.key) found.entry) _ found.passes);
   key = p.key;
   on = open_on p.key found.entry (first_true (belongs (On p.key) found.entry) _ found.passes);
-  later_on = or_true (same_key p.key p.key) false (same_itself p.key);
+  later_on = or_left (same_key p.key p.key) false (same_itself p.key);
 }))
 
 pub own_of_referred : (before n s : ℕ) (ms : List MarkedEntry) (p : Part) → is_referred p.key ≡ true → n ≡ max before (length ms + 1) → IsRaised before n ms s (Some (p ∷ []))
@@ -90,29 +87,25 @@ own_of_referred before n s ms p on is = greater (max_of before (length ms + 1))
   where
     greater : ((max before (length ms + 1) ≡ before) ⊎ (max before (length ms + 1) ≡ length ms + 1)) → IsRaised before n ms s (Some (p ∷ []))
     greater (inl old) = inl (is ∙ old)
-    greater (inr own) = inr (inl (is ∙ own, or_true (is_referred p.key) false on))
+    greater (inr own) = inr (inl (is ∙ own, or_left (is_referred p.key) false on))
 
 -- ---- part after part
 
-keys_both : (es fs : List Part) → keys_of (es ++ fs) ≡ keys_of es ++ keys_of fs
-keys_both [] fs = refl
-keys_both (p ∷ es) fs = ap (λ ks. p.key ∷ ks) (keys_both es fs)
-
 on_front : (k : Key) (es fs : List Part) → is_on k (Some es) ≡ true → is_on k (Some (es ++ fs)) ≡ true
-on_front k es fs h = ap (λ ks. has ks k) (keys_both es fs) ∙ has-append (keys_of es) (keys_of fs) k ∙ or_true (has (keys_of es) k) (has (keys_of fs) k) h
+on_front k es fs h = ap (λ ks. has ks k) (keys_of-append es fs) ∙ has-append (keys_of es) (keys_of fs) k ∙ or_left (has (keys_of es) k) (has (keys_of fs) k) h
 
 on_back : (k : Key) (es fs : List Part) → is_on k (Some fs) ≡ true → is_on k (Some (es ++ fs)) ≡ true
-on_back k es fs h = ap (λ ks. has ks k) (keys_both es fs) ∙ has-append (keys_of es) (keys_of fs) k ∙ or_else (has (keys_of es) k) (has (keys_of fs) k) h
+on_back k es fs h = ap (λ ks. has ks k) (keys_of-append es fs) ∙ has-append (keys_of es) (keys_of fs) k ∙ or_right (has (keys_of es) k) (has (keys_of fs) k) h
 
 referred_front : (es fs : List Part) → is_on_referred (Some es) ≡ true → is_on_referred (Some (es ++ fs)) ≡ true
 referred_front [] fs h = none_true false refl h
 referred_front (p ∷ es) fs h = by_bool (is_referred p.key)
-    (λ here. or_true (is_referred p.key) _ here)
-    (λ later. or_else (is_referred p.key) _ (referred_front es fs (ap (λ b. b || is_on_referred (Some es)) (sym later) ∙ h)))
+    (λ here. or_left (is_referred p.key) _ here)
+    (λ later. or_right (is_referred p.key) _ (referred_front es fs (ap (λ b. b || is_on_referred (Some es)) (sym later) ∙ h)))
 
 referred_back : (es fs : List Part) → is_on_referred (Some fs) ≡ true → is_on_referred (Some (es ++ fs)) ≡ true
 referred_back [] fs h = h
-referred_back (p ∷ es) fs h = or_else (is_referred p.key) _ (referred_back es fs h)
+referred_back (p ∷ es) fs h = or_right (is_referred p.key) _ (referred_back es fs h)
 
 wider : (before n s : ℕ) (ms : List MarkedEntry) (es fs : List Part) → IsRaised before n ms s (Some es) → IsRaised before n ms s (Some (es ++ fs))
 wider before n s ms es fs (inl same) = inl same

@@ -1,11 +1,11 @@
 -- The newest places of groups: with a place more, set back, and with marks off.
 use Rattle.std.proofs.Common.{◌≡◌, ℕ, zero, suc, ◌+◌, ◌-◌, ◌<◌, ◌≤◌, ◌⊎◌, inl, inr, Bool, true, false, cond, ◌||◌, ◌&&◌, List, [], ◌∷◌, ◌++◌, refl, sym, ◌∙◌, ap, subst, Option, Some, None, arith, get_or, length, map, max, take}
-use Rattle.std.specs.Prelude.{◌==◌, is_some, nat_le, option_map}
+use Rattle.std.specs.Prelude.{◌==◌, is_some, option_map}
 use Rattle.std.specs.List.{find, slice_get}
 use Rattle.std.proofs.lemmas.Grind.{flat_map-append}
-use Rattle.std.proofs.lemmas.Bool.Decides.{nat_tests}
 use Rattle.std.proofs.lemmas.List.{length-append, length-map}
-use Rattle.std.proofs.lemmas.Option.{get_or_from_slice_get, slice_get-map, slice_get_within}
+use Rattle.std.proofs.lemmas.Option.{get_or_from_slice_get, slice_get-map, slice_get_within, same_Some}
+use Rattle.std.proofs.lemmas.Bool.{eqb-true, or_left, or_right, both_ways, leb-true}
 use Rattle.tsn_types.specs.declared.keys.Key.{Key}
 use Rattle.tsn_types.specs.declared.records.Refs.{Refs}
 use Rattle.tsn_types.specs.Keys.{has, keys_of_refs, refs_of, same_key}
@@ -20,31 +20,25 @@ use Rattle.tsn_journal.specs.declared.groups.Group.{Group}
 use Rattle.tsn_journal.specs.declared.groups.Group.TheVariants.{On, RefersTo, Of, EndsRedo}
 use Rattle.tsn_journal.specs.declared.index.Index.{Index}
 use Rattle.tsn_journal.specs.declared.index.Place.{Place}
-use Rattle.tsn_journal.specs.Entries.{Applied, IsNumbered, adds, closes, is_made, names, settles_to, undoes}
+use Rattle.tsn_journal.specs.Entries.{Applied, IsNumbered, adds, closes, names, settles_to, undoes}
 use Rattle.tsn_journal.specs.Index.{Adds, ArePlaces, IsIndexed, IsNewest, belongs, groups_of_parts, is_among, is_by, is_on, number_at, other_of, part_groups, place_at, refers, set_at, standing_change}
 use Rattle.tsn_journal.specs.Latest.{latest_of, same_group}
 use Rattle.tsn_journal.specs.Marks.{AreOff, ends_redo, entries_of, mark_off}
 use Rattle.tsn_journal.specs.Newest.{AreNewest, HasNewest, IsIn, KeepsNewest, MendsNewest, groups_added, groups_of}
-use Rattle.tsn_journal.proofs.Grouping.{covers, either, first_true, is_among-append, no_change, none_true, not_standing, one_group, or_else, or_true, same_number}
-use Rattle.tsn_journal.proofs.Links.{front_at, none_some, place_end, place_front, place_of, some_of, where_at}
+use Rattle.tsn_journal.proofs.Grouping.{covers, either, first_true, is_among-append, no_change, none_true, not_standing, one_group}
+use Rattle.tsn_journal.proofs.Links.{front_at, none_some, place_end, place_front, place_of, where_at}
 use Rattle.tsn_journal.proofs.Marking.{entry_stays, found_number}
 use Rattle.tsn_journal.proofs.Off.{off_at}
 use Rattle.tsn_journal.proofs.Sought.{take_next}
 
 -- ---- numbers
 
-differ : (b : Bool) → b ≡ false → b ≡ true → ⊥
-differ b fails passes = (cc)
-
-le_at : (n k : ℕ) → nat_le n k ≡ true → n ≤ k
-le_at n k h = grind (arith, nat_tests)
-
 max_above : (n k : ℕ) → k ≤ max n k
 max_above n k = omega arith
 
 pub number_at' : (n : ℕ) (ms : List MarkedEntry) (i : ℕ) (m : MarkedEntry) → IsNumbered n (entries_of ms) → slice_get ms i ≡ Some m → m.entry.number ≡ i + n
 number_at' n [] i m h at = none_some m at
-number_at' n (y ∷ ms) zero m h at = ap (λ (z : MarkedEntry). z.entry.number) (sym (some_of y m at)) ∙ h.0 ∙ (let e : n ≡ zero + n = omega arith in e)
+number_at' n (y ∷ ms) zero m h at = ap (λ (z : MarkedEntry). z.entry.number) (sym (same_Some y m at)) ∙ h.0 ∙ (let e : n ≡ zero + n = omega arith in e)
 number_at' n (y ∷ ms) (suc i) m h at = number_at' (n + 1) ms i m h.1 at ∙ (let e : i + (n + 1) ≡ suc i + n = omega arith in e)
 
 found_at : (ms : List MarkedEntry) (i : ℕ) (m : MarkedEntry) (k : ℕ) → IsNumbered 1 (entries_of ms) → slice_get ms i ≡ Some m → k ≡ i + 1 → find (λ (y : MarkedEntry). y.entry.number == k) ms ≡ Some m
@@ -52,14 +46,11 @@ found_at ms i m k h at is = found_number 1 i k ms m h (omega (arith, is)) (slice
 
 -- ---- places
 
-pub in_none : (g : Group) (ms : List MarkedEntry) (ps : List Place) (j : ℕ) → j ≡ 0 → IsIn g ms ps j
-in_none g ms ps j none = record { belongs = λ p m there at. none_some p (sym (ap (place_at ps) none) ∙ there) }
-
 pub in_place : (g : Group) (ms : List MarkedEntry) (ps : List Place) (j : ℕ) (p : Place) (m : MarkedEntry) → place_at ps j ≡ Some p → slice_get ms (p.number - 1) ≡ Some m → belongs g m ≡ true → IsIn g ms ps j
 in_place g ms ps j p m there at is = record {
   belongs = λ q x there' at'.
-      let same : p ≡ q = some_of p q (sym there ∙ there') in
-      let one : m ≡ x = some_of m x (sym at ∙ ap (λ (r : Place). slice_get ms (r.number - 1)) same ∙ at') in
+      let same : p ≡ q = same_Some p q (sym there ∙ there') in
+      let one : m ≡ x = same_Some m x (sym at ∙ ap (λ (r : Place). slice_get ms (r.number - 1)) same ∙ at') in
       ap (belongs g) (sym one) ∙ is;
 }
 
@@ -76,7 +67,7 @@ module _ (ms : List MarkedEntry) (wanted : Bool) (g : Group) (n s before : ℕ) 
         | inl less ↦ record {
           belongs = λ p m there at.
               let new : Place = record { group = g; number = n; before = before; other = other_of ms ps s before } in
-              let same : new ≡ p = some_of new p (sym (place_end ps new) ∙ (λ i. place_at (sym (adds'.places yes less) i) (sym (adds'.place yes less) i)) ∙ there) in
+              let same : new ≡ p = same_Some new p (sym (place_end ps new) ∙ (λ i. place_at (sym (adds'.places yes less) i) (sym (adds'.place yes less) i)) ∙ there) in
               in' yes m (ap (λ (q : Place). slice_get ms (q.number - 1)) same ∙ at);
         }
         | inr least ↦ stays (omega (arith, least_of least))
@@ -137,17 +128,7 @@ pub set_back : (ms : List MarkedEntry) (ps : List Place) (g : Group) (j : ℕ) (
 set_back ms ps g j l k is new q old = subst (λ i. IsIn q ms ps i) (sym (is q))
     (by_bool (same_group g q)
     (λ same. subst (λ b. IsIn q ms ps (cond b j (l q))) (sym same) (subst (λ r. IsIn r ms ps j) (one_group g q same) new))
-    (λ other. subst (λ b. IsIn q ms ps (cond b j (l q))) (sym other) (elim old [ inl same ↦ absurd (differ _ other same) | inr had ↦ had ])))
-
--- one group is mended
-pub mends_one : (ms : List MarkedEntry) (g : Group) (a b : Index) → ((q : Group) → ((same_group g q ≡ true) ⊎ HasNewest ms a q) → HasNewest ms b q) → MendsNewest ms (Some g ∷ []) a b
-mends_one ms g a b is = record {
-  kept = λ q had. is q (inr had);
-  mended = λ q among. is q (inl (or_none _ among));
-} where
-  or_none : (b : Bool) → (b || false) ≡ true → b ≡ true
-  or_none true h = refl
-  or_none false h = h
+    (λ other. subst (λ b. IsIn q ms ps (cond b j (l q))) (sym other) (elim old [ inl same ↦ absurd (both_ways _ other same) | inr had ↦ had ])))
 
 -- both groups of a session
 pub mends_two : (ms : List MarkedEntry) (s j k : ℕ) (a b : Index) → b.places.items ≡ a.places.items → ((q : Group) → latest_of b.latest q ≡ set_at (EndsRedo s) k (set_at (Of s) j (latest_of a.latest)) q)
@@ -178,11 +159,6 @@ mends_after ms gs a b d first then = record { kept = λ q had. then q (first.kep
 pub mends_before : (ms : List MarkedEntry) (gs : List (Option Group)) (a b d : Index) → KeepsNewest ms a b → MendsNewest ms gs b d → MendsNewest ms gs a d
 mends_before ms gs a b d first then = record { kept = λ q had. then.kept q (first q had); mended = λ q among. then.mended q among }
 
-pub mends_none : (ms : List MarkedEntry) (a : Index) → MendsNewest ms [] a a
-mends_none ms a = record { kept = λ q had. had; mended = λ q among. absurd (no_bool among) } where
-  no_bool : false ≡ true → ⊥
-  no_bool h = (cc)
-
 -- ---- the groups of an entry are all to which it may belong
 
 -- one that adds nothing belongs to none but those of its session
@@ -190,34 +166,34 @@ of_none : (m : MarkedEntry) (g : Group) → adds m.entry.what ≡ None → belon
 of_none m (On k) none h = none_true _ (ap (is_on k) (no_change m none)) h
 of_none m (RefersTo k) none h = none_true _ (ap (refers k) (no_change m none)) h
 of_none m (Of q) none h = none_true _ (not_standing m none q) h
-of_none m (EndsRedo q) none h = or_true (m.entry.session == q) false (first_true (m.entry.session == q) (ends_redo m) h)
+of_none m (EndsRedo q) none h = or_left (m.entry.session == q) false (first_true (m.entry.session == q) (ends_redo m) h)
 
 pub may_belong : (m : MarkedEntry) (g : Group) → belongs g m ≡ true → is_among (groups_of m.entry) g ≡ true
 may_belong m g h = by_option (adds m.entry.what)
     (λ none. subst (λ o. is_among (groups_added o ++ Some (Of m.entry.session) ∷ Some (EndsRedo m.entry.session) ∷ []) g ≡ true) (sym none) (of_none m g none h))
-    (λ c some. subst (λ o. is_among (groups_added o ++ Some (Of m.entry.session) ∷ Some (EndsRedo m.entry.session) ∷ []) g ≡ true) (sym some) (covers m.entry.session (Some (EndsRedo m.entry.session)) m c refl some (λ q end. or_true (m.entry.session == q) false (first_true (m.entry.session == q) (ends_redo m) end)) g h))
+    (λ c some. subst (λ o. is_among (groups_added o ++ Some (Of m.entry.session) ∷ Some (EndsRedo m.entry.session) ∷ []) g ≡ true) (sym some) (covers m.entry.session (Some (EndsRedo m.entry.session)) m c refl some (λ q end. or_left (m.entry.session == q) false (first_true (m.entry.session == q) (ends_redo m) end)) g h))
 
 -- ---- the newest entry belongs to the groups in which it gets a place
 
-has_key : (ps : List Part) (i : ℕ) (p : Part) → i < length ps → p ≡ get_or ps i p → has (keys_of ps) p.key ≡ true
+pub has_key : (ps : List Part) (i : ℕ) (p : Part) → i < length ps → p ≡ get_or ps i p → has (keys_of ps) p.key ≡ true
 has_key [] i p short is = absurd (omega arith)
-has_key (x ∷ ps) zero p short is = or_true (same_key p.key x.key) (has (keys_of ps) p.key) (ap (λ (y : Part). same_key p.key y.key) (sym is) ∙ same_itself p.key)
-has_key (x ∷ ps) (suc i) p short is = or_else (same_key p.key x.key) (has (keys_of ps) p.key) (has_key ps i p (omega arith) is)
+has_key (x ∷ ps) zero p short is = or_left (same_key p.key x.key) (has (keys_of ps) p.key) (ap (λ (y : Part). same_key p.key y.key) (sym is) ∙ same_itself p.key)
+has_key (x ∷ ps) (suc i) p short is = or_right (same_key p.key x.key) (has (keys_of ps) p.key) (has_key ps i p (omega arith) is)
 
 has_ref : (ps : List Part) (i : ℕ) (p : Part) (k : Key) → i < length ps → p ≡ get_or ps i p → has (refs_of p.after) k ≡ true → has (refs_after ps) k ≡ true
 has_ref [] i p k short is h = absurd (omega arith)
-has_ref (x ∷ ps) zero p k short is h = has-append (refs_of x.after) (refs_after ps) k ∙ or_true (has (refs_of x.after) k) (has (refs_after ps) k) (ap (λ (y : Part). has (refs_of y.after) k) (sym is) ∙ h)
-has_ref (x ∷ ps) (suc i) p k short is h = has-append (refs_of x.after) (refs_after ps) k ∙ or_else (has (refs_of x.after) k) (has (refs_after ps) k) (has_ref ps i p k (omega arith) is h)
+has_ref (x ∷ ps) zero p k short is h = has-append (refs_of x.after) (refs_after ps) k ∙ or_left (has (refs_of x.after) k) (has (refs_after ps) k) (ap (λ (y : Part). has (refs_of y.after) k) (sym is) ∙ h)
+has_ref (x ∷ ps) (suc i) p k short is h = has-append (refs_of x.after) (refs_after ps) k ∙ or_right (has (refs_of x.after) k) (has (refs_after ps) k) (has_ref ps i p k (omega arith) is h)
 
 first_of : (a b : Option Key) (k : Key) → a ≡ Some k → has (keys_of_refs (record { first = a; second = b })) k ≡ true
 first_of None b k h = none_some k h
-first_of (Some x) None k h = or_true (same_key k x) false (ap (same_key k) (some_of x k h) ∙ same_itself k)
-first_of (Some x) (Some y) k h = or_true (same_key k x) (same_key k y || false) (ap (same_key k) (some_of x k h) ∙ same_itself k)
+first_of (Some x) None k h = or_left (same_key k x) false (ap (same_key k) (same_Some x k h) ∙ same_itself k)
+first_of (Some x) (Some y) k h = or_left (same_key k x) (same_key k y || false) (ap (same_key k) (same_Some x k h) ∙ same_itself k)
 
 second_of : (a b : Option Key) (k : Key) → b ≡ Some k → has (keys_of_refs (record { first = a; second = b })) k ≡ true
 second_of a None k h = none_some k h
-second_of None (Some x) k h = or_true (same_key k x) false (ap (same_key k) (some_of x k h) ∙ same_itself k)
-second_of (Some y) (Some x) k h = or_else (same_key k y) (same_key k x || false) (or_true (same_key k x) false (ap (same_key k) (some_of x k h) ∙ same_itself k))
+second_of None (Some x) k h = or_left (same_key k x) false (ap (same_key k) (same_Some x k h) ∙ same_itself k)
+second_of (Some y) (Some x) k h = or_right (same_key k y) (same_key k x || false) (or_left (same_key k x) false (ap (same_key k) (same_Some x k h) ∙ same_itself k))
 
 module _ (ms : List MarkedEntry) (n s : ℕ) (c : Change) (ends : Bool) (newest : IsNewest ms n s c ends) (m : MarkedEntry) (at : slice_get ms (n - 1) ≡ Some m) where
   stands' : standing_change m ≡ Some c
@@ -237,10 +213,6 @@ module _ (ms : List MarkedEntry) (n s : ℕ) (c : Change) (ends : Bool) (newest 
 
   pub in_ends : ends ≡ true → belongs (EndsRedo s) m ≡ true
   in_ends wanted = (λ i. by_session i && ((newest.end m at ∙ wanted) i || (is_some (undoes m.entry.what) && m.is_open)))
-
--- an Undone entry that is open is one at which a search for a redo ends
-pub in_ends_undone : (m : MarkedEntry) (s of : ℕ) (c : Change) → (m.entry.session == s) ≡ true → m.entry.what ≡ Undone of c → m.is_open ≡ true → belongs (EndsRedo s) m ≡ true
-in_ends_undone m s of c by is on = (λ i. by i && (is_made (is i) || (is_some (undoes (is i)) && on i)))
 
 -- ---- the groups of parts, one after another
 
@@ -315,16 +287,16 @@ module _ (w : What) (ms : List MarkedEntry) (x : MarkedEntry) (a : Index) (is : 
 
       above : old ≤ lost.place
       above = elim (where_at old lost.place) [
-        | inl less ↦ absurd (differ _ (off_at old ms off lost.place lost.entry less lost.at) lost.on)
+        | inl less ↦ absurd (both_ways _ (off_at old ms off lost.place lost.entry less lost.at) lost.on)
         | inr rest ↦ elim rest [ inl same ↦ omega arith | inr more ↦ omega arith ]
       ]
 
       by : (v : What) → closes v lost.entry.entry ≡ true → v ≡ w → (names w ≡ Some lost.entry.entry.number) ⊎ ((old ≤ lost.place) × (lost.place < now))
-      by (Made c) h same = absurd (differ _ refl h)
-      by (Undone n c) h same = inl (ap names (sym same) ∙ ap Some (same_number n lost.entry.entry.number (first_true (n == lost.entry.entry.number) _ h)))
-      by (Redone n c) h same = inl (ap names (sym same) ∙ ap Some (same_number n lost.entry.entry.number (first_true (n == lost.entry.entry.number) _ h)))
-      by (Acted act key at) h same = absurd (differ _ refl h)
-      by (Settled upto) h same = inr (above, omega (arith, number, is-now, ap settles_to (sym same), le_at lost.entry.entry.number upto h, max_above old upto))
+      by (Made c) h same = absurd (both_ways _ refl h)
+      by (Undone n c) h same = inl (ap names (sym same) ∙ ap Some (eqb-true n lost.entry.entry.number (first_true (n == lost.entry.entry.number) _ h)))
+      by (Redone n c) h same = inl (ap names (sym same) ∙ ap Some (eqb-true n lost.entry.entry.number (first_true (n == lost.entry.entry.number) _ h)))
+      by (Acted act key at) h same = absurd (both_ways _ refl h)
+      by (Settled upto) h same = inr (above, omega (arith, number, is-now, ap settles_to (sym same), leb-true lost.entry.entry.number upto h, max_above old upto))
 
   -- the groups that were right are right again, once what w names and what it settles has left
   pub newest_again : (old now : ℕ) (b d : Index) (ns : List MarkedEntry) → ns ≡ then' → AreOff old ms → now ≡ max old (settles_to w) → AreNewest ms a → KeepsNewest ns a b → KeepsNewest ns b d

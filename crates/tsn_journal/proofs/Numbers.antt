@@ -12,6 +12,8 @@ use Rattle.tsn_journal.specs.Entries.{Applied, IsNumbered, adds, applied, change
 use Rattle.tsn_journal.specs.Finding.{last_where, later_than}
 use Rattle.tsn_journal.proofs.Marking.{is_closed-push}
 use Rattle.std.proofs.lemmas.List.Elements.{filter_map-append, filter-append}
+use Rattle.std.proofs.Math.Bool.{and-true, and-false}
+use Rattle.std.proofs.lemmas.Bool.{le-ltb}
 use Rattle.tsn_edit.proofs.KeyFacts.{by_bool, by_option}
 
 pub append_nil : {A : Type 0} (xs : List A) → xs ++ [] ≡ xs
@@ -35,20 +37,12 @@ undoes_number (Redone n c) k = false
 undoes_number (Acted act key now) k = false
 undoes_number (Settled upto) k = nat_le k upto
 
-and_true : (a : Bool) → (a && true) ≡ a
-and_true true = refl
-and_true false = refl
-
-and_false : (a : Bool) → (a && false) ≡ false
-and_false true = refl
-and_false false = refl
-
 undone_by : (w v : What) (n s : ℕ) (c : Change) → adds v ≡ Some c → closes w (record { number = n; session = s; what = v }) ≡ undoes_number w n
 undone_by (Made d) v n s c some = refl
-undone_by (Undone k d) v n s c some = ap (λ o. (k == n) && is_some o) some ∙ and_true (k == n)
-undone_by (Redone k d) (Made e) n s c some = and_false (k == n)
+undone_by (Undone k d) v n s c some = ap (λ o. (k == n) && is_some o) some ∙ and-true (k == n)
+undone_by (Redone k d) (Made e) n s c some = and-false (k == n)
 undone_by (Redone k d) (Undone i e) n s c some = (cc)
-undone_by (Redone k d) (Redone i e) n s c some = and_false (k == n)
+undone_by (Redone k d) (Redone i e) n s c some = and-false (k == n)
 undone_by (Redone k d) (Acted act key now) n s c some = (cc)
 undone_by (Redone k d) (Settled upto) n s c some = (cc)
 undone_by (Acted act key now) v n s c some = refl
@@ -90,10 +84,6 @@ standing_push (x ∷ es) e =
     ap (λ o. cons_option (cond (is_closed x es || closes e.what x) None (mk o)) kept) some
     ∙ one_left (is_closed x es) (closes e.what x) p y (standing es) (ap not (sym (undone_by e.what x.what x.number x.session c some)))
     ∙ ap (λ o. filter p (cons_option (cond (is_closed x es) None (mk o)) (standing es))) (sym some)))
-
-pub filter_every : (xs : List Applied) → filter (λ x. not false) xs ≡ xs
-filter_every [] = refl
-filter_every (x ∷ xs) = ap (λ ys. x ∷ ys) (filter_every xs)
 
 -- strictly rising numbers, from n on
 abbrev pub Rises : ℕ → List Applied → Type 0
@@ -139,9 +129,6 @@ pub record IsLast (test : Applied → Bool) (xs : List Applied) (x : Applied) : 
   pub is : xs ≡ front ++ x ∷ rest
   pub passes : test x ≡ true
   pub none_later : AllByRecursion (λ y. test y ≡ false) rest
-
-last_some : (o : Option Applied) (y x : Applied) → option_or (Some y) o ≡ Some x → y ≡ x
-last_some o y x h = (cc)
 
 pub last_where_none : (test : Applied → Bool) (xs : List Applied) → last_where test xs ≡ None → AllByRecursion (λ y. test y ≡ false) xs
 last_where_none test [] h = tt
@@ -192,9 +179,6 @@ each_weaker P Q f (x ∷ xs) h = (f x h.0, each_weaker P Q f xs h.1)
 above_lt : (n m : ℕ) → n + 1 ≤ m → nat_lt n m ≡ true
 above_lt n m h = grind (arith, nat_tests)
 
-not_above : (n m : ℕ) → m ≤ n → nat_lt n m ≡ false
-not_above n m h = grind (arith, nat_tests)
-
 other_number : (n m : ℕ) → m < n → not (n == m) ≡ true
 other_number n m h = grind (arith, nat_tests)
 
@@ -210,8 +194,8 @@ later_than_rest n front x rest r =
     let parts = rises_rest n front x rest r in
     let p : Applied → Bool = λ y. nat_lt x.number y.number in
     filter-append p front (x ∷ rest)
-    ∙ ap (λ zs. zs ++ filter p (x ∷ rest)) (filter_none p front (each_weaker (λ y. y.number < x.number) (λ y. p y ≡ false) (λ y h. not_above x.number y.number (omega arith)) front parts.2))
-    ∙ ap (λ b. cond b (x ∷ filter p rest) (filter p rest)) (not_above x.number x.number (omega arith))
+    ∙ ap (λ zs. zs ++ filter p (x ∷ rest)) (filter_none p front (each_weaker (λ y. y.number < x.number) (λ y. p y ≡ false) (λ y h. le-ltb x.number y.number (omega arith)) front parts.2))
+    ∙ ap (λ b. cond b (x ∷ filter p rest) (filter p rest)) (le-ltb x.number x.number (omega arith))
     ∙ filter_all p rest (each_weaker (λ y. x.number + 1 ≤ y.number) (λ y. p y ≡ true) (λ y h. above_lt x.number y.number h) rest (rises_above (x.number + 1) rest parts.1))
 
 -- without the number the list is the front and the rest

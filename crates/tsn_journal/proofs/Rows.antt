@@ -1,43 +1,31 @@
 -- The newest places of groups when one row of a key or a session is set.
-use Rattle.std.proofs.Common.{◌≡◌, ℕ, ◌≤◌, Bool, true, false, cond, refl, sym, ◌∙◌, ap, Option, Some, None, arith}
-use Rattle.std.specs.Prelude.{◌==◌, IsSome}
+use Rattle.std.proofs.Common.{◌≡◌, ℕ, Bool, true, false, cond, refl, sym, ◌∙◌, ap, Option, Some, None}
+use Rattle.std.specs.Prelude.{◌==◌}
 use Rattle.std.specs.Ordering.{nat_cmp, is_eq, eq_by_cmp}
 use Rattle.std.specs.FinMap.{FinMap, empty, get, get-empty, get-insert, insert}
-use Rattle.std.specs.declared.cmp.Ordering.{Ordering}
-use Rattle.std.specs.declared.cmp.Ordering.TheVariants.{Less, Equal, Greater}
-use Rattle.std.proofs.lemmas.Cmp.{eq_by_cmp_equiv, nat_cmp_total, tied_itself}
+use Rattle.std.proofs.lemmas.Cmp.{nat_cmp_total, tied_itself}
 use Rattle.std.proofs.lemmas.Map.Lookups.{exact_unsigned}
+use Rattle.std.proofs.lemmas.Bool.{eqb-true, false_from_ne_true}
+use Rattle.tsn_edit.proofs.Conflicting.{same_key_swap}
 use Rattle.tsn_types.specs.declared.keys.Key.{Key}
 use Rattle.tsn_types.specs.declared.keys.Key.TheVariants.{Port, Filter, Gate, Meter}
 use Rattle.tsn_types.specs.Keys.{same_key}
-use Rattle.tsn_edit.proofs.KeyFacts.{by_bool, keys_total, one_key}
+use Rattle.tsn_edit.proofs.KeyFacts.{by_bool, one_key, is_equal}
 use Rattle.tsn_journal.specs.declared.groups.Group.{Group}
 use Rattle.tsn_journal.specs.declared.groups.Group.TheVariants.{On, RefersTo, Of, EndsRedo}
 use Rattle.tsn_journal.specs.declared.latest.Latest.{Latest}
 use Rattle.tsn_journal.specs.declared.latest.KeyPlaces.{KeyPlaces}
 use Rattle.tsn_journal.specs.declared.latest.SessionPlaces.{SessionPlaces}
 use Rattle.tsn_journal.specs.Latest.{ends_of, key_row, latest_of, on_of, referred_of, refers_of, same_group, session_row, standing_of, touched_of}
-use Rattle.tsn_journal.proofs.Grouping.{number_itself, same_number}
-
-is_equal : (o : Ordering) → is_eq o ≡ true → o ≡ Equal
-is_equal Less h = (cc)
-is_equal Equal h = refl
-is_equal Greater h = (cc)
-
-not_false : (b : Bool) → (b ≡ true → ⊥) → b ≡ false
-not_false true h = absurd (h refl)
-not_false false h = refl
+use Rattle.tsn_journal.proofs.Grouping.{number_itself}
 
 -- numbers are told apart by their order
 same_by_order : (n q : ℕ) → eq_by_cmp nat_cmp q n ≡ (n == q)
 same_by_order n q = by_bool (n == q)
-    (λ yes. ap (λ k. eq_by_cmp nat_cmp k n) (sym (same_number n q yes)) ∙ ap is_eq (tied_itself nat_cmp_total n) ∙ sym yes)
-    (λ no. not_false (eq_by_cmp nat_cmp q n)
+    (λ yes. ap (λ k. eq_by_cmp nat_cmp k n) (sym (eqb-true n q yes)) ∙ ap is_eq (tied_itself nat_cmp_total n) ∙ sym yes)
+    (λ no. false_from_ne_true (eq_by_cmp nat_cmp q n)
     (λ yes. let same : q ≡ n = exact_unsigned q n (is_equal (nat_cmp q n) yes) in let itself : (n == q) ≡ true = ap (λ k. n == k) same ∙ number_itself n in (cc))
     ∙ sym no)
-
-swapped : (a b : Key) → same_key a b ≡ same_key b a
-swapped a b = (eq_by_cmp_equiv keys_total).symm a b
 
 kept : {A : Type 0} (f : Option A → ℕ) (b : Bool) (x o : Option A) → f (cond b x o) ≡ cond b (f x) (f o)
 kept f true x o = refl
@@ -47,22 +35,18 @@ same_either : {A : Type 0} (b : Bool) (x : A) (y : A) → (b ≡ true → x ≡ 
 same_either true x y h = h refl
 same_either false x y h = refl
 
-pub has_row : {A : Type 0} (f : Option A → ℕ) → f None ≡ 0 → (o : Option A) → 1 ≤ f o → IsSome o
-has_row f none None h = absurd (omega (arith, none, h))
-has_row f none (Some x) h = refl
-
 module _ (l k : Latest) (key : Key) (row : KeyPlaces) (rows : (q : Key) → key_row k q ≡ cond (same_key q key) (Some row) (key_row l q)) (sessions : k.sessions ≡ l.sessions) where
   set_on' : (q : Key) → on_of (key_row k q) ≡ cond (same_key key q) row.on (on_of (key_row l q))
-  set_on' q = ap on_of (rows q) ∙ kept on_of (same_key q key) (Some row) (key_row l q) ∙ ap (λ b. cond b row.on (on_of (key_row l q))) (swapped q key)
+  set_on' q = ap on_of (rows q) ∙ kept on_of (same_key q key) (Some row) (key_row l q) ∙ ap (λ b. cond b row.on (on_of (key_row l q))) (same_key_swap q key)
 
   set_refers' : (q : Key) → refers_of (key_row k q) ≡ cond (same_key key q) row.refers (refers_of (key_row l q))
-  set_refers' q = ap refers_of (rows q) ∙ kept refers_of (same_key q key) (Some row) (key_row l q) ∙ ap (λ b. cond b row.refers (refers_of (key_row l q))) (swapped q key)
+  set_refers' q = ap refers_of (rows q) ∙ kept refers_of (same_key q key) (Some row) (key_row l q) ∙ ap (λ b. cond b row.refers (refers_of (key_row l q))) (same_key_swap q key)
 
   pub set_touched : (q : Key) → touched_of (key_row k q) ≡ cond (same_key key q) row.touched (touched_of (key_row l q))
-  set_touched q = ap touched_of (rows q) ∙ kept touched_of (same_key q key) (Some row) (key_row l q) ∙ ap (λ b. cond b row.touched (touched_of (key_row l q))) (swapped q key)
+  set_touched q = ap touched_of (rows q) ∙ kept touched_of (same_key q key) (Some row) (key_row l q) ∙ ap (λ b. cond b row.touched (touched_of (key_row l q))) (same_key_swap q key)
 
   pub set_referred : (q : Key) → referred_of (key_row k q) ≡ cond (same_key key q) row.referred (referred_of (key_row l q))
-  set_referred q = ap referred_of (rows q) ∙ kept referred_of (same_key q key) (Some row) (key_row l q) ∙ ap (λ b. cond b row.referred (referred_of (key_row l q))) (swapped q key)
+  set_referred q = ap referred_of (rows q) ∙ kept referred_of (same_key q key) (Some row) (key_row l q) ∙ ap (λ b. cond b row.referred (referred_of (key_row l q))) (same_key_swap q key)
 
   -- a number that is set as it was stays for all keys
   pub touched_stay : row.touched ≡ touched_of (key_row l key) → (q : Key) → touched_of (key_row k q) ≡ touched_of (key_row l q)
@@ -73,19 +57,6 @@ module _ (l k : Latest) (key : Key) (row : KeyPlaces) (rows : (q : Key) → key_
 
   session_same : (s : ℕ) → session_row k s ≡ session_row l s
   session_same s = (λ i. get (sessions i).map s)
-
-  -- and so do the newest places of groups
-  pub groups_stay : row.on ≡ on_of (key_row l key) → row.refers ≡ refers_of (key_row l key) → (q : Group) → latest_of k q ≡ latest_of l q
-  groups_stay on refers (On q) = set_on' q ∙ same_either (same_key key q) row.on (on_of (key_row l q)) (λ one. on ∙ ap (λ x. on_of (key_row l x)) (one_key key q one))
-  groups_stay on refers (RefersTo q) = set_refers' q ∙ same_either (same_key key q) row.refers (refers_of (key_row l q)) (λ one. refers ∙ ap (λ x. refers_of (key_row l x)) (one_key key q one))
-  groups_stay on refers (Of s) = ap standing_of (session_same s)
-  groups_stay on refers (EndsRedo s) = ap ends_of (session_same s)
-
-  pub set_key_both : (q : Group) → latest_of k q ≡ cond (same_group (RefersTo key) q) row.refers (cond (same_group (On key) q) row.on (latest_of l q))
-  set_key_both (On q) = set_on' q
-  set_key_both (RefersTo q) = set_refers' q
-  set_key_both (Of s) = ap standing_of (session_same s)
-  set_key_both (EndsRedo s) = ap ends_of (session_same s)
 
   pub set_on : row.refers ≡ refers_of (key_row l key) → (q : Group) → latest_of k q ≡ cond (same_group (On key) q) row.on (latest_of l q)
   set_on same (On q) = set_on' q

@@ -3,6 +3,7 @@ use Rattle.std.proofs.Common.{◌≡◌, ℕ, ◌+◌, ◌<◌, ◌≤◌, Bool,
 use Rattle.std.specs.Prelude.{filter, nat_le, option_map}
 use Rattle.std.specs.List.{cons_option}
 use Rattle.std.proofs.lemmas.Bool.Decides.{nat_tests}
+use Rattle.std.proofs.lemmas.Bool.{leb-false, lt-leb}
 use Rattle.tsn_edit.specs.Parts.{Change}
 use Rattle.tsn_edit.proofs.KeyFacts.{by_bool}
 use Rattle.tsn_journal.specs.declared.entries.What.{What}
@@ -28,9 +29,6 @@ is_settled-push : (x : Entry) (es : List Entry) (e : Entry) → IsNoSettle e.wha
 is_settled-push x [] e plain = one_more e.what x plain
 is_settled-push x (w ∷ es) e plain = ap (λ b. cond (closes w.what x) (not (takes_back w.what x)) b) (is_settled-push x es e plain)
 
-alone : (o : Option Applied) → cons_option (cond false o None) [] ≡ []
-alone o = refl
-
 pub settled_kept : (es : List Entry) (e : Entry) → IsNoSettle e.what → settled_edits (es ++ e ∷ []) ≡ settled_edits es
 settled_kept [] e plain = refl
 settled_kept (x ∷ es) e plain = (λ i. cons_option (cond (is_settled-push x es e plain i) (applied adds x) None) (settled_kept es e plain i))
@@ -40,11 +38,11 @@ settled_kept (x ∷ es) e plain = (λ i. cons_option (cond (is_settled-push x es
 below : (n k m : ℕ) → n ≤ k → nat_le n m ≡ false → nat_le k m ≡ false
 below n k m le h = grind (arith, nat_tests)
 
-or_first : (a b : Bool) → (a || b) ≡ false → a ≡ false
+pub or_first : (a b : Bool) → (a || b) ≡ false → a ≡ false
 or_first true b h = (cc)
 or_first false b h = refl
 
-or_second : (a b : Bool) → (a || b) ≡ false → b ≡ false
+pub or_second : (a b : Bool) → (a || b) ≡ false → b ≡ false
 or_second true b h = (cc)
 or_second false b h = h
 
@@ -71,9 +69,6 @@ none_settled n x (e ∷ es) lt h open' =
     let at : e.number ≡ n = h.0 in
     let rest = or_second (closes e.what x) (is_closed x es) open' in
     (λ i. cons_option (cond (behind_open x e es (omega arith) rest i) (applied adds e) None) (none_settled (n + 1) x es (omega arith) h.1 rest i))
-
-own_settled : (x : Entry) → is_settled x [] ≡ false
-own_settled x = refl
 
 -- an entry that is closed already stays as it is
 closed_stays : (x : Entry) (es : List Entry) (e : Entry) → is_closed x es ≡ true → is_settled x (es ++ e ∷ []) ≡ is_settled x es
@@ -131,21 +126,12 @@ settled_more n (x ∷ es) e upto is h =
 
 -- ---- rising numbers up to one, and above it
 
-up_to : (n k : ℕ) → n ≤ k → nat_le n k ≡ true
-up_to n k h = grind (arith, nat_tests)
-
-le_of : (n k : ℕ) → nat_le n k ≡ false → k < n
-le_of n k h = grind (arith, nat_tests)
-
-not_to : (n k : ℕ) → k < n → nat_le n k ≡ false
-not_to n k h = grind (arith, nat_tests)
-
 all_above : (n k : ℕ) (xs : List Applied) → k < n → Rises n xs → (filter (λ (x : Applied). nat_le x.number k) xs ≡ []) × (filter (λ (x : Applied). not (nat_le x.number k)) xs ≡ xs)
 all_above n k [] lt h = (refl, refl)
 all_above n k (x ∷ xs) lt h =
     let low : n ≤ x.number = h.0 in
     let rest = all_above (x.number + 1) k xs (omega arith) h.1 in
-    let no_one = not_to x.number k (omega arith) in (
+    let no_one = lt-leb x.number k (omega arith) in (
       ap (λ b. cond b (x ∷ filter (λ (x : Applied). nat_le x.number k) xs) (filter (λ (x : Applied). nat_le x.number k) xs)) no_one ∙ rest.0,
       ap (λ b. cond (not b) (x ∷ filter (λ (x : Applied). not (nat_le x.number k)) xs) (filter (λ (x : Applied). not (nat_le x.number k)) xs)) no_one ∙ ap (λ ys. x ∷ ys) rest.1,
     )
@@ -160,7 +146,7 @@ split_at n k (x ∷ xs) h =
     ap (λ ys. x ∷ ys) (split_at (x.number + 1) k xs h.1)
     ∙ (λ i. cond (sym here i) (x ∷ filter le xs) (filter le xs) ++ cond (not (sym here i)) (x ∷ filter gt xs) (filter gt xs)))
     (λ over.
-    let rest = all_above (x.number + 1) k xs (let lt = le_of x.number k over in omega arith) h.1 in
+    let rest = all_above (x.number + 1) k xs (let lt = leb-false x.number k over in omega arith) h.1 in
     ap (λ ys. x ∷ ys) (sym rest.1)
     ∙ (λ i. sym rest.0 i ++ x ∷ filter gt xs)
     ∙ (λ i. cond (sym over i) (x ∷ filter le xs) (filter le xs) ++ cond (not (sym over i)) (x ∷ filter gt xs) (filter gt xs)))

@@ -1,16 +1,17 @@
 -- A conflict with a change, sought in the groups of its key and of what it refers to.
 use Rattle.std.proofs.Common.{◌≡◌, ℕ, zero, suc, ◌+◌, ◌<◌, ◌≤◌, Bool, true, false, cond, ◌||◌, ◌&&◌, List, [], ◌∷◌, ◌++◌, refl, sym, ◌∙◌, ap, subst, Option, Some, None, arith, drop, take, get_or, length, append_assoc}
-use Rattle.std.specs.Prelude.{is_some, nat_lt, option_map, option_to_list}
+use Rattle.std.specs.Prelude.{is_some, option_map, option_to_list}
 use Rattle.std.specs.Option.{option_or}
-use Rattle.std.proofs.lemmas.Bool.Decides.{nat_tests}
 use Rattle.std.proofs.lemmas.List.{take_more}
 use Rattle.tsn_types.specs.declared.keys.Key.{Key}
 use Rattle.tsn_types.specs.declared.records.Refs.{Refs}
 use Rattle.tsn_types.specs.Keys.{has, keys_of_refs, meets, refs_of, same_key}
-use Rattle.std.proofs.lemmas.Cmp.{eq_by_cmp_equiv}
+use Rattle.std.proofs.Math.Bool.{and-false, or-false, and-true}
+use Rattle.std.proofs.lemmas.Bool.{lt-ltb, le-ltb}
+use Rattle.tsn_edit.proofs.Conflicting.{meets_none, mixed, same_key_swap}
 use Rattle.tsn_edit.specs.Changes.{conflicts, keys_of, refs_after, refs_before}
 use Rattle.tsn_edit.specs.Parts.{Change, Part, parts}
-use Rattle.tsn_edit.proofs.KeyFacts.{by_option, has-append, keys_of-append, keys_total}
+use Rattle.tsn_edit.proofs.KeyFacts.{by_option, has-append, keys_of-append}
 use Rattle.tsn_journal.specs.declared.entries.What.{What}
 use Rattle.tsn_journal.specs.declared.entries.What.TheVariants.{Made, Undone, Redone, Acted, Settled}
 use Rattle.tsn_journal.specs.declared.entries.MarkedEntry.{MarkedEntry}
@@ -20,48 +21,25 @@ use Rattle.tsn_journal.specs.Finding.{last_where}
 use Rattle.tsn_journal.specs.Index.{above, belongs, is_on, is_on_any, refers, standing_change}
 use Rattle.tsn_journal.specs.Marks.{entries_of, is_in_conflict, later_of, stands}
 use Rattle.tsn_journal.proofs.Under.{last_either, no_lower}
-use Rattle.tsn_journal.proofs.Walking.{and_true}
 
 abbrev at : Option MarkedEntry → Option ℕ
 at o = option_map (λ m. m.entry.number) o
 
-no_and : (a : Bool) → (a && false) ≡ false
-no_and true = refl
-no_and false = refl
-
 four : (a b c d p : Bool) → (((a && p) || (b && p)) || ((c && p) || (d && p))) ≡ (p && ((a || b) || (c || d)))
-four a b c d true = λ i. ((and_true a i || and_true b i) || (and_true c i || and_true d i))
-four a b c d false = λ i. ((no_and a i || no_and b i) || (no_and c i || no_and d i))
+four a b c d true = λ i. ((and-true a i || and-true b i) || (and-true c i || and-true d i))
+four a b c d false = λ i. ((and-false a i || and-false b i) || (and-false c i || and-false d i))
 
 -- ---- a list that meets a longer one
-
-none_met : (ks : List Key) → meets ks [] ≡ false
-none_met [] = refl
-none_met (x ∷ ks) = none_met ks
-
-pub swap_or : (a b c d : Bool) → ((a || b) || (c || d)) ≡ ((a || c) || (b || d))
-swap_or true b c d = refl
-swap_or false true true d = refl
-swap_or false true false d = refl
-swap_or false false true d = refl
-swap_or false false false d = refl
-
-pub swap_keys : (a b : Key) → same_key a b ≡ same_key b a
-swap_keys a b = (eq_by_cmp_equiv keys_total).symm a b
 
 meets_more : (ks ls : List Key) (k : Key) → meets ks (k ∷ ls) ≡ (has ks k || meets ks ls)
 meets_more [] ls k = refl
 meets_more (x ∷ ks) ls k =
     ap (λ b. (same_key x k || has ls x) || b) (meets_more ks ls k)
-    ∙ swap_or (same_key x k) (has ls x) (has ks k) (meets ks ls)
-    ∙ ap (λ b. (b || has ks k) || (has ls x || meets ks ls)) (swap_keys x k)
-
-or_none : (a : Bool) → (a || false) ≡ a
-or_none true = refl
-or_none false = refl
+    ∙ mixed (same_key x k) (has ls x) (has ks k) (meets ks ls)
+    ∙ ap (λ b. (b || has ks k) || (has ls x || meets ks ls)) (same_key_swap x k)
 
 meets_one : (ks : List Key) (k : Key) → meets ks (k ∷ []) ≡ has ks k
-meets_one ks k = meets_more ks [] k ∙ ap (λ b. has ks k || b) (none_met ks) ∙ or_none (has ks k)
+meets_one ks k = meets_more ks [] k ∙ ap (λ b. has ks k || b) (meets_none ks) ∙ or-false (has ks k)
 
 -- whether a change is on the key, if there is one
 abbrev pub on_any : Option Key → Change → Bool
@@ -69,9 +47,9 @@ on_any None d = false
 on_any (Some k) d = has (keys_of (parts d)) k
 
 on_refs : (a b : Option Key) (d : Change) → (on_any a d || on_any b d) ≡ meets (keys_of (parts d)) (option_to_list a ++ option_to_list b)
-on_refs None None d = sym (none_met (keys_of (parts d)))
+on_refs None None d = sym (meets_none (keys_of (parts d)))
 on_refs None (Some y) d = sym (meets_one (keys_of (parts d)) y)
-on_refs (Some x) None d = or_none (has (keys_of (parts d)) x) ∙ sym (meets_one (keys_of (parts d)) x)
+on_refs (Some x) None d = or-false (has (keys_of (parts d)) x) ∙ sym (meets_one (keys_of (parts d)) x)
 on_refs (Some x) (Some y) d = sym (meets_more (keys_of (parts d)) (y ∷ []) x ∙ ap (λ b. has (keys_of (parts d)) x || b) (meets_one (keys_of (parts d)) y))
 
 pub nothing_after : (xs : List Key) → xs ++ [] ≡ xs
@@ -147,17 +125,11 @@ numbered_after k zero (m ∷ ms) h = subst (λ j. IsNumbered j (entries_of (m �
 numbered_after k (suc n) [] h = h
 numbered_after k (suc n) (m ∷ ms) h = subst (λ j. IsNumbered j (entries_of (drop n ms))) (let e : (k + 1) + n ≡ k + suc n = omega arith in e) (numbered_after (k + 1) n ms h.1)
 
-above_is : (n k : ℕ) → n < k → nat_lt n k ≡ true
-above_is n k h = grind (arith, nat_tests)
-
-not_above : (n k : ℕ) → k ≤ n → nat_lt n k ≡ false
-not_above n k h = grind (arith, nat_tests)
-
 if_above : (n : ℕ) (m : MarkedEntry) → n < m.entry.number → above n (at (Some m)) ≡ at (Some m)
-if_above n m h = ap (λ b. cond b (Some m.entry.number) None) (above_is n m.entry.number h)
+if_above n m h = ap (λ b. cond b (Some m.entry.number) None) (lt-ltb n m.entry.number h)
 
 if_below : (n : ℕ) (b : Bool) (m : MarkedEntry) → m.entry.number ≤ n → above n (at (cond b (Some m) None)) ≡ None
-if_below n true m h = ap (λ b. cond b (Some m.entry.number) None) (not_above n m.entry.number h)
+if_below n true m h = ap (λ b. cond b (Some m.entry.number) None) (le-ltb n m.entry.number h)
 if_below n false m h = refl
 
 later_from : (t : MarkedEntry → Bool) (k n : ℕ) (ms : List MarkedEntry) → IsNumbered (k + 1) (entries_of ms) → at (last_where t (drop n ms)) ≡ above (k + n) (at (last_where t ms))
@@ -184,7 +156,7 @@ never (m ∷ ms) = ap (λ o. option_or o None) (never ms)
 -- ---- a change of several parts, part by part
 
 none_before : (d : Change) → conflicts d [] ≡ false
-none_before d = (λ i. none_met (keys_of (parts d)) i || (none_met (refs_after (parts d)) i || none_met (keys_of (parts d)) i))
+none_before d = (λ i. meets_none (keys_of (parts d)) i || (meets_none (refs_after (parts d)) i || meets_none (keys_of (parts d)) i))
 
 pub no_parts : (o : Option Change) → is_in_conflict o [] ≡ false
 no_parts None = refl
@@ -192,10 +164,7 @@ no_parts (Some d) = none_before d
 
 meets_both : (ks ls ls' : List Key) → meets ks (ls ++ ls') ≡ (meets ks ls || meets ks ls')
 meets_both [] ls ls' = refl
-meets_both (k ∷ ks) ls ls' = (λ i. has-append ls ls' k i || meets_both ks ls ls' i) ∙ swap_or (has ls k) (has ls' k) (meets ks ls) (meets ks ls')
-
-keys_both : (es fs : List Part) → keys_of (es ++ fs) ≡ keys_of es ++ keys_of fs
-keys_both es fs = keys_of-append es fs
+meets_both (k ∷ ks) ls ls' = (λ i. has-append ls ls' k i || meets_both ks ls ls' i) ∙ mixed (has ls k) (has ls' k) (meets ks ls) (meets ks ls')
 
 pub refs_both : (es fs : List Part) → refs_before (es ++ fs) ≡ refs_before es ++ refs_before fs
 refs_both [] fs = refl
@@ -205,10 +174,10 @@ conflicts_both : (d es fs : Change) → conflicts d (es ++ fs) ≡ (conflicts d 
 conflicts_both d es fs =
     let ks = keys_of (parts d) in
     let rs = refs_after (parts d) in
-    (λ i. (ap (meets ks) (keys_both es fs) ∙ meets_both ks (keys_of es) (keys_of fs)) i
-    || ((ap (meets rs) (keys_both es fs) ∙ meets_both rs (keys_of es) (keys_of fs)) i || (ap (meets ks) (refs_both es fs) ∙ meets_both ks (refs_before es) (refs_before fs)) i))
-    ∙ ap (λ b. (meets ks (keys_of es) || meets ks (keys_of fs)) || b) (swap_or (meets rs (keys_of es)) (meets rs (keys_of fs)) (meets ks (refs_before es)) (meets ks (refs_before fs)))
-    ∙ swap_or (meets ks (keys_of es)) (meets ks (keys_of fs)) (meets rs (keys_of es) || meets ks (refs_before es)) (meets rs (keys_of fs) || meets ks (refs_before fs))
+    (λ i. (ap (meets ks) (keys_of-append es fs) ∙ meets_both ks (keys_of es) (keys_of fs)) i
+    || ((ap (meets rs) (keys_of-append es fs) ∙ meets_both rs (keys_of es) (keys_of fs)) i || (ap (meets ks) (refs_both es fs) ∙ meets_both ks (refs_before es) (refs_before fs)) i))
+    ∙ ap (λ b. (meets ks (keys_of es) || meets ks (keys_of fs)) || b) (mixed (meets rs (keys_of es)) (meets rs (keys_of fs)) (meets ks (refs_before es)) (meets ks (refs_before fs)))
+    ∙ mixed (meets ks (keys_of es)) (meets ks (keys_of fs)) (meets rs (keys_of es) || meets ks (refs_before es)) (meets rs (keys_of fs) || meets ks (refs_before fs))
 
 in_conflict_both : (o : Option Change) (es fs : Change) → is_in_conflict o (es ++ fs) ≡ (is_in_conflict o es || is_in_conflict o fs)
 in_conflict_both None es fs = refl
@@ -230,7 +199,7 @@ sought_more q n ms es fs numbered =
 -- and with no part
 pub sought_none : (q : MarkedEntry → Bool) (ms : List MarkedEntry) → at (last_where (λ m. q m && is_in_conflict (applies m.entry.what) []) ms) ≡ None
 sought_none q ms =
-    ap (λ (t : MarkedEntry → Bool). at (last_where t ms)) (λ i m. (ap (λ b. q m && b) (no_parts (applies m.entry.what)) ∙ no_and (q m)) i)
+    ap (λ (t : MarkedEntry → Bool). at (last_where t ms)) (λ i m. (ap (λ b. q m && b) (no_parts (applies m.entry.what)) ∙ and-false (q m)) i)
     ∙ ap at (never ms)
 
 pub take_next : (ps : List Part) (i : ℕ) (p : Part) → i < length ps → p ≡ get_or ps i p → take (i + 1) ps ≡ take i ps ++ p ∷ []

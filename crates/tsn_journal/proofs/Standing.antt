@@ -1,5 +1,5 @@
 -- The standing entry of a number, and the entry itself.
-use Rattle.std.proofs.Common.{◌≡◌, ℕ, ◌+◌, ◌<◌, ◌≤◌, Bool, true, false, cond, not, List, [], ◌∷◌, ◌++◌, refl, sym, ◌∙◌, ap, subst, Option, Some, None, arith}
+use Rattle.std.proofs.Common.{◌≡◌, ℕ, ◌+◌, ◌<◌, ◌≤◌, Bool, true, cond, not, List, [], ◌∷◌, ◌++◌, refl, sym, ◌∙◌, ap, subst, Option, Some, None, arith}
 use Rattle.std.specs.Prelude.{◌==◌, IfSome, IsSome, is_some, option_map}
 use Rattle.std.specs.List.{AllByRecursion, cons_option, find}
 use Rattle.std.specs.Option.{option_and_then, option_or}
@@ -13,7 +13,7 @@ use Rattle.tsn_journal.specs.Finding.{change_at, entry, last_where, may_redo, re
 use Rattle.tsn_journal.specs.Marks.{AreMarked, entries_of, stands}
 use Rattle.tsn_journal.proofs.Collecting.{applied-own, collect-marked, find_marked, standing-marked, stands-own}
 use Rattle.tsn_journal.proofs.Finders.{IsPicked, redone_at, standing_picked_of, undone_picked_of}
-use Rattle.tsn_journal.proofs.Marking.{find_entry}
+use Rattle.tsn_journal.proofs.Marking.{find_entry, less_number}
 use Rattle.tsn_journal.proofs.Numbers.{Rises, last_where_some, rises_rest, rises_standing}
 
 -- ---- what a finder of standing entries gives is the one of its number
@@ -21,13 +21,10 @@ use Rattle.tsn_journal.proofs.Numbers.{Rises, last_where_some, rises_rest, rises
 same_number : (n : ℕ) → (n == n) ≡ true
 same_number n = grind (arith, nat_tests)
 
-other_number : (n k : ℕ) → n < k → (n == k) ≡ false
-other_number n k h = grind (arith, nat_tests)
-
 behind : (front : List Applied) (x : Applied) (rest : List Applied) → AllByRecursion (λ y. y.number < x.number) front → find (λ y. y.number == x.number) (front ++ x ∷ rest) ≡ Some x
 behind [] x rest h = ap (λ b. cond b (Some x) (find (λ y. y.number == x.number) rest)) (same_number x.number)
 behind (y ∷ front) x rest h =
-    ap (λ b. cond b (Some y) (find (λ z. z.number == x.number) (front ++ x ∷ rest))) (other_number y.number x.number h.0) ∙ behind front x rest h.1
+    ap (λ b. cond b (Some y) (find (λ z. z.number == x.number) (front ++ x ∷ rest))) (less_number y.number x.number h.0) ∙ behind front x rest h.1
 
 -- a standing entry that stands at a place is the one of its number
 pub standing_placed : (es : List Entry) (front : List Applied) (x : Applied) (rest : List Applied) → IsNumbered 1 es → standing es ≡ front ++ x ∷ rest → standing_entry es x.number ≡ Some x
@@ -150,7 +147,7 @@ redo_found n s (e ∷ es) u h is =
           (λ y found.
           let number : y.number ≡ e.number = one_of e (undoes e.what) y found in
           let first : e.number ≡ n = h.0 in
-          ap (λ o. find test (cons_option o rest)) found ∙ ap (λ b. cond b (Some y) (find test rest)) (other_number y.number u.number (omega arith)) ∙ later.1),
+          ap (λ o. find test (cons_option o rest)) found ∙ ap (λ b. cond b (Some y) (find test rest)) (less_number y.number u.number (omega arith)) ∙ later.1),
     ))
 
 pub redo_is_undone : (es : List Entry) (s : ℕ) (r : Option ℕ) → IsNumbered 1 es → r ≡ option_map (λ (x : Applied). x.number) (redo_of es s) → IfSome r (λ n. IsSome (undone_entry es n))

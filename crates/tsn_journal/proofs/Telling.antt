@@ -1,11 +1,14 @@
 -- What the rows of keys tell of the newest entries, once one entry more is told.
 use Rattle.std.proofs.Common.{◌≡◌, ℕ, zero, suc, ◌+◌, ◌<◌, ◌≤◌, ◌⊎◌, inl, inr, Bool, true, false, cond, ◌||◌, List, [], ◌∷◌, ◌++◌, refl, sym, ◌∙◌, ap, subst, Option, Some, None, arith, append_assoc, get_or, length, take}
-use Rattle.std.specs.Prelude.{◌==◌, nat_lt, option_map, option_to_list}
+use Rattle.std.specs.Prelude.{◌==◌, option_map, option_to_list}
 use Rattle.std.specs.List.{find}
 use Rattle.std.specs.Option.{option_or}
-use Rattle.std.proofs.lemmas.Bool.Decides.{nat_tests}
 use Rattle.std.proofs.lemmas.List.{length-append, take_all}
 use Rattle.std.proofs.lemmas.List.Folds.{find-append}
+use Rattle.std.proofs.lemmas.Bool.{eqb-true, or_left, or_right, le-ltb, lt-ltb}
+use Rattle.std.proofs.lemmas.Option.{same_Some}
+use Rattle.tsn_journal.proofs.Grouping.{either}
+use Rattle.tsn_edit.proofs.Conflicting.{same_key_swap}
 use Rattle.tsn_types.specs.declared.keys.Key.{Key}
 use Rattle.tsn_types.specs.declared.records.Refs.{Refs}
 use Rattle.tsn_types.specs.Keys.{has, keys_of_refs, refs_of, same_key}
@@ -18,11 +21,10 @@ use Rattle.tsn_journal.specs.Entries.{IsNumbered, applies}
 use Rattle.tsn_journal.specs.Finding.{entry, last_where}
 use Rattle.tsn_journal.specs.Index.{above, is_on, refers}
 use Rattle.tsn_journal.specs.Touched.{KeepsPlaces, Tells, TellsSame, Told, keys_in, mentions, newest, referred, refs_in, some_number, touched, touches}
-use Rattle.tsn_journal.proofs.Finders.{eq_number}
 use Rattle.tsn_journal.proofs.Indexing.{rows_then}
 use Rattle.tsn_journal.proofs.LastWhere.{last_where-append}
-use Rattle.tsn_journal.proofs.Links.{none_some, some_of}
-use Rattle.tsn_journal.proofs.Sought.{nothing_after, swap_keys, take_next}
+use Rattle.tsn_journal.proofs.Links.{none_some}
+use Rattle.tsn_journal.proofs.Sought.{nothing_after, take_next}
 
 -- ---- one key told, or one reference
 
@@ -38,7 +40,7 @@ one_has k q h = by_bool (same_key q k)
     no_true b f t = (cc)
 
 has_one : (k q : Key) → same_key k q ≡ true → has (k ∷ []) q ≡ true
-has_one k q h = ap (λ b. b || false) (swap_keys q k ∙ h)
+has_one k q h = ap (λ b. b || false) (same_key_swap q k ∙ h)
 
 pub told_same : (n : ℕ) (a b : Index) → TellsSame a b → Told n [] [] a b
 told_same n a b same = record {
@@ -48,9 +50,6 @@ told_same n a b same = record {
   to = λ k h. no_key k h;
   to_or_same = λ k. inl (same.to k);
 }
-
-pub same_then : (a b c : Index) → TellsSame a b → TellsSame b c → TellsSame a c
-same_then a b c h k = record { stray = k.stray ∙ h.stray; on = λ q. k.on q ∙ h.on q; to = λ q. k.to q ∙ h.to q }
 
 pub same_itself' : (a : Index) → TellsSame a a
 same_itself' a = record { stray = refl; on = λ q. refl; to = λ q. refl }
@@ -72,15 +71,6 @@ told_key n key a b stray set same = record {
   to_or_same = λ q. inl (same q);
 }
 
-pub told_stray : (n : ℕ) (key : Key) (a b : Index) → b.stray ≡ n → ((q : Key) → touched b q ≡ touched a q) → ((q : Key) → referred b q ≡ referred a q) → Told n (key ∷ []) [] a b
-told_stray n key a b stray on to = record {
-  stray = inr stray;
-  on = λ q h. inr stray;
-  on_or_same = λ q. inl (on q);
-  to = λ q h. no_key q h;
-  to_or_same = λ q. inl (to q);
-}
-
 pub told_ref : (n : ℕ) (key : Key) (a b : Index) → b.stray ≡ a.stray → ((q : Key) → touched b q ≡ touched a q) → ((q : Key) → referred b q ≡ cond (same_key key q) n (referred a q)) → Told n [] (key ∷ []) a b
 told_ref n key a b stray same set = record {
   stray = inl stray;
@@ -90,29 +80,7 @@ told_ref n key a b stray same set = record {
   to_or_same = λ q. set_or_same key q n (referred a q) (referred b q) (set q);
 }
 
--- a reference to a key that no entry was on
-pub told_no_ref : (n : ℕ) (key : Key) (a : Index) → touched a key ≡ 0 → Told n [] (key ∷ []) a a
-told_no_ref n key a none = record {
-  stray = inl refl;
-  on = λ q h. no_key q h;
-  on_or_same = λ q. inl refl;
-  to = λ q h. inr (ap (touched a) (sym (one_has key q h)) ∙ none);
-  to_or_same = λ q. inl refl;
-}
-
 -- ---- one after the other
-
-either_true : {G : Type 0} (a b : Bool) → (a || b) ≡ true → (a ≡ true → G) → (b ≡ true → G) → G
-either_true true b h f g = f refl
-either_true false b h f g = g h
-
-or_first : (a b : Bool) → a ≡ true → (a || b) ≡ true
-or_first true b h = refl
-or_first false b h = (cc)
-
-or_second : (a b : Bool) → b ≡ true → (a || b) ≡ true
-or_second true b h = refl
-or_second false b h = h
 
 module _ (n : ℕ) (keys refs keys' refs' : List Key) (a b c : Index) (some : 1 ≤ n) (first : Told n keys refs a b) (second : Told n keys' refs' b c) where
   still_stray : b.stray ≡ n → c.stray ≡ n
@@ -125,10 +93,10 @@ module _ (n : ℕ) (keys refs keys' refs' : List Key) (a b c : Index) (some : 1 
   still_to k is = elim (second.to_or_same k) [ inl same ↦ same ∙ is | inr now ↦ now.1 ]
 
   in_first : (ks ls : List Key) (k : Key) → has ks k ≡ true → has (ks ++ ls) k ≡ true
-  in_first ks ls k h = has-append ks ls k ∙ or_first (has ks k) (has ls k) h
+  in_first ks ls k h = has-append ks ls k ∙ or_left (has ks k) (has ls k) h
 
   in_second : (ks ls : List Key) (k : Key) → has ls k ≡ true → has (ks ++ ls) k ≡ true
-  in_second ks ls k h = has-append ks ls k ∙ or_second (has ks k) (has ls k) h
+  in_second ks ls k h = has-append ks ls k ∙ or_right (has ks k) (has ls k) h
 
   never_on : (k : Key) → touched b k ≡ 0 → touched a k ≡ 0
   never_on k none = elim (first.on_or_same k) [ inl same ↦ sym same ∙ none | inr now ↦ absurd (omega (arith, some, now.1, none)) ]
@@ -136,14 +104,14 @@ module _ (n : ℕ) (keys refs keys' refs' : List Key) (a b c : Index) (some : 1 
   pub told_then : Told n (keys ++ keys') (refs ++ refs') a c
   told_then = record {
     stray = elim second.stray [ inl same ↦ elim first.stray [ inl as_before ↦ inl (same ∙ as_before) | inr now ↦ inr (same ∙ now) ] | inr now ↦ inr now ];
-    on = λ k h. either_true (has keys k) (has keys' k) (sym (has-append keys keys' k) ∙ h)
+    on = λ k h. either (has keys k) (has keys' k) (sym (has-append keys keys' k) ∙ h)
         (λ here. elim (first.on k here) [ inl told ↦ inl (still_on k told) | inr stray ↦ inr (still_stray stray) ])
         (λ here. second.on k here);
     on_or_same = λ k. elim (second.on_or_same k) [
       | inl same ↦ elim (first.on_or_same k) [ inl as_before ↦ inl (same ∙ as_before) | inr now ↦ inr (in_first keys keys' k now.0, same ∙ now.1) ]
       | inr now ↦ inr (in_second keys keys' k now.0, now.1)
     ];
-    to = λ k h. either_true (has refs k) (has refs' k) (sym (has-append refs refs' k) ∙ h)
+    to = λ k h. either (has refs k) (has refs' k) (sym (has-append refs refs' k) ∙ h)
         (λ here. elim (first.to k here) [ inl told ↦ inl (still_to k told) | inr none ↦ inr none ])
         (λ here. elim (second.to k here) [ inl told ↦ inl told | inr none ↦ inr (never_on k none) ]);
     to_or_same = λ k. elim (second.to_or_same k) [
@@ -162,16 +130,7 @@ told_last n keys refs a b c told same = record {
   to_or_same = λ k. elim (told.to_or_same k) [ inl as_before ↦ inl (same.to k ∙ as_before) | inr now ↦ inr (now.0, same.to k ∙ now.1) ];
 }
 
-pub told_first : (n : ℕ) (keys refs : List Key) (a b c : Index) → TellsSame a b → Told n keys refs b c → Told n keys refs a c
-told_first n keys refs a b c same told = record {
-  stray = elim told.stray [ inl as_before ↦ inl (as_before ∙ same.stray) | inr now ↦ inr now ];
-  on = told.on;
-  on_or_same = λ k. elim (told.on_or_same k) [ inl as_before ↦ inl (as_before ∙ same.on k) | inr now ↦ inr now ];
-  to = λ k h. elim (told.to k h) [ inl here ↦ inl here | inr none ↦ inr (sym (same.on k) ∙ none) ];
-  to_or_same = λ k. elim (told.to_or_same k) [ inl as_before ↦ inl (as_before ∙ same.to k) | inr now ↦ inr now ];
-}
-
-refs_after-append : (es fs : List Part) → refs_after (es ++ fs) ≡ refs_after es ++ refs_after fs
+pub refs_after-append : (es fs : List Part) → refs_after (es ++ fs) ≡ refs_after es ++ refs_after fs
 refs_after-append [] fs = refl
 refs_after-append (e ∷ es) fs = ap (λ rs. refs_of e.after ++ rs) (refs_after-append es fs) ∙ sym (append_assoc (refs_of e.after) (refs_after es) (refs_after fs))
 
@@ -208,15 +167,9 @@ abbrev Within : ℕ → Option ℕ → Type 0
 Within n None = Unit {0}
 Within n (Some m) = m ≤ n
 
-not_above : (n k : ℕ) → k ≤ n → nat_lt n k ≡ false
-not_above n k h = grind (arith, nat_tests)
-
-is_above : (n k : ℕ) → n < k → nat_lt n k ≡ true
-is_above n k h = grind (arith, nat_tests)
-
 none_above : (n : ℕ) (o : Option ℕ) → Within n o → above n o ≡ None
 none_above n None h = refl
-none_above n (Some m) h = ap (λ b. cond b (Some m) None) (not_above n m h)
+none_above n (Some m) h = ap (λ b. cond b (Some m) None) (le-ltb n m h)
 
 within_more : (n m : ℕ) (o : Option ℕ) → n ≤ m → Within n o → Within m o
 within_more n m None le h = tt
@@ -247,12 +200,12 @@ lowest t k (e ∷ es) y h is =
     by_option (last_where t es)
     (λ none. here (t e) (sym (ap (λ o. option_or o (cond (t e) (Some e) None)) none) ∙ is))
     (λ x some.
-    let same : x ≡ y = some_of x y (sym (ap (λ o. option_or o (cond (t e) (Some e) None)) some) ∙ is) in
+    let same : x ≡ y = same_Some x y (sym (ap (λ o. option_or o (cond (t e) (Some e) None)) some) ∙ is) in
     let more : k + 1 ≤ y.number = lowest t (k + 1) es y h.1 (some ∙ ap Some same) in
     omega arith)
   where
     here : (b : Bool) → cond b (Some e) None ≡ Some y → k ≤ y.number
-    here true is' = let same : e.number ≡ y.number = ap (λ (x : Entry). x.number) (some_of e y is') in let first : e.number ≡ k = h.0 in omega arith
+    here true is' = let same : e.number ≡ y.number = ap (λ (x : Entry). x.number) (same_Some e y is') in let first : e.number ≡ k = h.0 in omega arith
     here false is' = none_some y is'
 
 -- an entry that passes, and the newest one, which is no earlier
@@ -268,8 +221,8 @@ newer t k (x ∷ es) n e h there pass =
     let rest : Option Entry = find (λ y. y.number == n) es in
     by_bool (x.number == n)
     (λ yes.
-    let one : x ≡ e = some_of x e (sym (ap (λ b. cond b (Some x) rest) yes) ∙ there) in
-    let number : x.number ≡ n = eq_number x.number n yes in
+    let one : x ≡ e = same_Some x e (sym (ap (λ b. cond b (Some x) rest) yes) ∙ there) in
+    let number : x.number ≡ n = eqb-true x.number n yes in
     by_option (last_where t es)
     (λ none. record {
       number = x.number;
@@ -290,11 +243,11 @@ newer t k (x ∷ es) n e h there pass =
     (λ y some. record {
       number = y.number;
       is = ap (λ o. option_map (λ (z : Entry). z.number) (option_or o (cond (t x) (Some x) None))) some;
-      late = let same : y.number ≡ later.number = some_of y.number later.number (sym (ap (option_map (λ (z : Entry). z.number)) some) ∙ later.is) in omega (arith, later.late);
+      late = let same : y.number ≡ later.number = same_Some y.number later.number (sym (ap (option_map (λ (z : Entry). z.number)) some) ∙ later.is) in omega (arith, later.late);
     }))
 
 some_above : (n m : ℕ) → n < m → above n (Some m) ≡ Some m
-some_above n m h = ap (λ b. cond b (Some m) None) (is_above n m h)
+some_above n m h = ap (λ b. cond b (Some m) None) (lt-ltb n m h)
 
 pub number_itself : (n : ℕ) → 1 ≤ n → some_number n ≡ Some n
 number_itself zero h = absurd (omega arith)
@@ -377,7 +330,7 @@ module _ (es : List Entry) (x : Entry) (n : ℕ) (a b : Index) (numbered : IsNum
 
   -- it is one of the entries before, or the newest
   late_entry : (j : ℕ) (c : Bool) (e : Entry) → (x.number == j) ≡ c → cond c (Some x) None ≡ Some e → n ≤ j
-  late_entry j true e same is' = let at : x.number ≡ j = eq_number x.number j same in omega arith
+  late_entry j true e same is' = let at : x.number ≡ j = eqb-true x.number j same in omega arith
   late_entry j false e same is' = none_some e is'
 
   to_same : b.stray ≡ a.stray → (k : Key) (e : Entry) → entry more e.number ≡ Some e → touches k e ≡ true → b.stray < e.number → above e.number (some_number (referred b k)) ≡ above e.number (newest (mentions k) more)
@@ -385,7 +338,7 @@ module _ (es : List Entry) (x : Entry) (n : ℕ) (a b : Index) (numbered : IsNum
       (λ none. both_none e.number (referred b k) (mentions k)
       (late_entry e.number (x.number == e.number) e refl (sym (find_more e.number ∙ ap (λ o. option_or o (cond (x.number == e.number) (Some x) None)) none) ∙ there)) (to_within' k))
       (λ y some.
-      let one : y ≡ e = some_of y e (sym (find_more e.number ∙ ap (λ o. option_or o (cond (x.number == e.number) (Some x) None)) some) ∙ there) in
+      let one : y ≡ e = same_Some y e (sym (find_more e.number ∙ ap (λ o. option_or o (cond (x.number == e.number) (Some x) None)) some) ∙ there) in
       to_old same k e (some ∙ ap Some one) on late)
 
   pub tells_more : Tells more b
@@ -402,7 +355,7 @@ found_number [] n e there = none_some e there
 found_number (x ∷ es) n e there =
     let rest : Option Entry = find (λ y. y.number == n) es in
     by_bool (x.number == n)
-    (λ yes. let one : x ≡ e = some_of x e (sym (ap (λ b. cond b (Some x) rest) yes) ∙ there) in ap (λ (y : Entry). y.number) (sym one) ∙ eq_number x.number n yes)
+    (λ yes. let one : x ≡ e = same_Some x e (sym (ap (λ b. cond b (Some x) rest) yes) ∙ there) in ap (λ (y : Entry). y.number) (sym one) ∙ eqb-true x.number n yes)
     (λ no. found_number es n e (sym (ap (λ b. cond b (Some x) rest) no) ∙ there))
 
 -- an entry that was found is the one of its number
@@ -417,16 +370,6 @@ tells_same es a b same is = record {
   stray_within = omega (arith, same.stray, is.stray_within);
   on_within = λ k. omega (arith, same.on k, is.on_within k);
   to_within = λ k. omega (arith, same.to k, is.to_within k);
-}
-
--- with no entry nothing is told
-pub tells_none : (a : Index) → a.stray ≡ 0 → ((k : Key) → touched a k ≡ 0) → ((k : Key) → referred a k ≡ 0) → Tells [] a
-tells_none a stray on to = record {
-  on = λ k. ap (λ j. above a.stray (some_number j)) (on k);
-  to = λ k e there on' late. none_some e there;
-  stray_within = omega (arith, stray);
-  on_within = λ k. omega (arith, on k);
-  to_within = λ k. omega (arith, to k);
 }
 
 -- ---- the places stay

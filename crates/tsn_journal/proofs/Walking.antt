@@ -52,18 +52,6 @@ none_after g t ms ps j is i m low at = is.none_later i m low (in_list ms i m at)
 pub and_out : {A : Type 0} (p q : A → Bool) (m : A) → q m ≡ false → (q m && p m) ≡ false
 and_out p q m h = (cc)
 
-pub both_true : (a b : Bool) → a ≡ true → b ≡ true → (a && b) ≡ true
-both_true true b h k = k
-both_true false b h k = (cc)
-
-pub and_false : (a b : Bool) → b ≡ false → (a && b) ≡ false
-and_false true b h = h
-and_false false b h = refl
-
-pub and_true : (a : Bool) → (a && true) ≡ a
-and_true true = refl
-and_true false = refl
-
 -- ---- those that pass, from the back
 
 pub filter_gap : {A : Type 0} (t : A → Bool) (xs : List A) (n k : ℕ) → n ≤ k → ((i : ℕ) (x : A) → n ≤ i → i < k → slice_get xs i ≡ Some x → t x ≡ false) → filter t (drop n xs) ≡ filter t (drop k xs)

@@ -78,15 +78,6 @@ is_others s m = is_some (stands m) && not (m.entry.session == s)
 abbrev pub conflict_of_others : List MarkedEntry → Entry → Option MarkedEntry
 conflict_of_others ms e = conflict_after (is_others e.session) ms e
 
--- whether the change, if there is one, is of an entry of the number n before m and in conflict with m's
-abbrev pub is_change_under : ℕ → MarkedEntry → Option Change → Bool
-is_change_under n m None = false
-is_change_under n m (Some c) = nat_lt n m.entry.number && is_in_conflict (applies m.entry.what) c
-
--- whether m is later than e and applied a change in conflict with e's
-abbrev pub is_under : Entry → MarkedEntry → Bool
-is_under e m = is_change_under e.number m (applies e.what)
-
 -- the number of the newest own standing entry with a later standing entry of another session among `others` in conflict
 abbrev pub newest_blocked : ℕ → List MarkedEntry → List MarkedEntry → Option ℕ
 newest_blocked s others ms = option_map (λ m. m.entry.number) (last_where (λ m. is_own s m && is_some (conflict_of_others others m.entry)) ms)

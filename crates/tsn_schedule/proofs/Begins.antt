@@ -1,12 +1,11 @@
 -- The entry at an offset, found by where the entries begin.
-use Rattle.std.proofs.Common.{◌≡◌, ◌<◌, ◌≤◌, ◌-◌, ◌^◌, ℕ, zero, suc, refl, ap, subst, arith, inl, inr, length, take, get_or, List, [], ◌∷◌}
+use Rattle.std.proofs.Common.{◌≡◌, ◌<◌, ◌≤◌, ◌-◌, ◌^◌, ℕ, zero, suc, refl, ap, arith, inl, inr, length, take, get_or, List, [], ◌∷◌}
 use Rattle.std.specs.Prelude.{slice_get}
 use Rattle.std.specs.List.{sum_by}
 use Rattle.std.specs.List.Sorted.{IsNonDecreasing}
 use Rattle.std.proofs.lemmas.List.Sums.{sum_by-cons}
 use Rattle.std.proofs.lemmas.List.Sorted.{IsNonDecreasingBy-from_default}
 use Rattle.std.proofs.lemmas.Bool.{cases_lt, le-ltb, lt-ltb}
-use Rattle.std.proofs.lemmas.List.{nil_from_length}
 use Rattle.tsn_schedule.specs.Begins.{AreBegins}
 use Rattle.tsn_schedule.specs.Entries.{entry_at, earlier_at}
 
@@ -75,10 +74,3 @@ module _ {E : Type 0} (interval : E → ℕ) (list : List E) (begins : List ℕ)
           | inr le ↦ let last : suc (begun - 1) ≡ length begins = omega arith in rw last (omega (arith, are.left_out (omega arith)))
         ];
       }
-
-  -- where no entry begins there is none
-  pub none_begins : length begins ≡ 0 → list ≡ []
-  none_begins none = elim (cases_lt 0 (length list)) [
-    | inl lt ↦ let much : 2 ^ 64 ≤ sum_by interval (take 0 list) = subst (λ n. 2 ^ 64 ≤ sum_by interval (take n list)) none (are.left_out (omega arith)) in absurd (omega arith)
-    | inr le ↦ nil_from_length list (omega arith)
-  ]

@@ -145,9 +145,6 @@ runs-apply schedule acts a t h =
       | inr le ↦ rw (le-leb (change_of schedule.base schedule.cycle a) t le, cycle_start-plain schedule a t le) refl
     ]
 
-pub change-apply : {E : Type 0} (schedule : Schedule E) (acts : List (Act E)) (a : ℕ) → change_in (Apply schedule a ∷ acts) ≡ Some (change_of schedule.base schedule.cycle a)
-change-apply schedule acts a = refl
-
 pub change-disable : {E : Type 0} (acts : List (Act E)) (a : ℕ) → change_in (Disable a ∷ acts) ≡ None
 change-disable acts a = rw (ended_none a (λ start. not (is_void start)) (starts acts)) refl
 

@@ -1,14 +1,11 @@
 -- A schedule whose base is past gives its own states by the offset from its base.
-use Rattle.std.proofs.Common.{◌≡◌, ◌<◌, ◌≤◌, ◌+◌, ◌-◌, ◌*◌, ◌/◌, ◌%◌, ℕ, refl, arith, List, ◌∷◌, Option, Some, None, sym, ◌∙◌}
+use Rattle.std.proofs.Common.{◌≡◌, ◌<◌, ◌≤◌, ◌+◌, ◌-◌, ◌*◌, ◌/◌, ◌%◌, ℕ, refl, arith, List, ◌∷◌, Option, Some, None, ◌∙◌}
 use Rattle.std.specs.Option.{option_map, option_and_then}
 use Rattle.std.proofs.lemmas.Bool.{le-leb}
 use Rattle.std.proofs.Math.Nat.{add-mul-mod_self_left, mod-le}
 use Rattle.tsn_types.specs.declared.records.Schedule.{Schedule}
 use Rattle.tsn_schedule.specs.Acts.{Act, Apply}
 use Rattle.tsn_schedule.specs.Entries.{entry_at}
-use Rattle.tsn_schedule.specs.Kept.{Kept}
-use Rattle.tsn_schedule.specs.Running.{runs_by}
-use Rattle.tsn_schedule.specs.Stands.{StandsFor}
 use Rattle.tsn_schedule.specs.Starts.{Start, in_force}
 use Rattle.tsn_schedule.specs.States.{state_in, entry_of, run_of}
 use Rattle.tsn_schedule.specs.Times.{change_of}
@@ -31,8 +28,3 @@ restored interval schedule acts a t some past h =
     let same : (t - schedule.base) % schedule.cycle ≡ (t - change_of schedule.base schedule.cycle a) % schedule.cycle = rw split (add-mul-mod_self_left (t - change_of schedule.base schedule.cycle a) schedule.cycle ((a - schedule.base + (schedule.cycle - 1)) / schedule.cycle)) in
     state_of interval t (in_force (Apply schedule a ∷ acts) t)
     ∙ rw (runs-apply schedule acts a t (omega arith), le-leb (change_of schedule.base schedule.cycle a) t h, back, same) refl
-
--- The state, from what a runner keeps.
-pub kept_state : {E : Type 0} (interval : E → ℕ) (kept : Kept E) (acts : List (Act E)) (t : ℕ) → StandsFor kept acts → kept.last ≤ t
-    → option_and_then (λ p. entry_at interval p.0.list (t - p.1)) (runs_by kept t) ≡ state_in interval acts t
-kept_state interval kept acts t s h = rw (s.runs t h) (sym (state_of interval t (in_force acts t)))

@@ -8,12 +8,12 @@ use Rattle.std.proofs.lemmas.Bool.{lt-ltb, le-ltb, ltb-false}
 use Rattle.std.specs.Option.{is_none}
 use Rattle.std.proofs.lemmas.Bool.Decides.{nat_tests}
 use Rattle.std.proofs.lemmas.List.Sorted.{IsNonDecreasingBy-from_default}
+use Rattle.std.proofs.lemmas.Option.{same_Some}
 use Rattle.tsn_table.specs.Rising.{AllNumbers, IsRising, put_number, without_number, first_from}
 use Rattle.tsn_table.specs.Blocks.{Places, Puts, most_more, numbers_in}
 use Rattle.tsn_table.specs.declared.block.Block.{Block}
 use Rattle.tsn_table.specs.declared.block.Put.{Put}
 use Rattle.tsn_table.specs.declared.block.Put.TheVariants.{There, Came, Full}
-use Rattle.tsn_table.proofs.Firsts.{some_of}
 use Rattle.tsn_table.proofs.Rising.{all_weaker, put_later, put_middle, without_middle, without_later, without_above}
 
 -- numbers that rise, by their places
@@ -93,7 +93,7 @@ module _ (x : ℕ) where
 -- a number that stands among others has what all of them have
 some_has : (P : ℕ → Type 0) (xs : List ℕ) (at y : ℕ) → AllNumbers P xs → slice_get xs at ≡ Some y → P y
 some_has P [] at y a e = absurd (cc)
-some_has P (z ∷ zs) zero y a e = subst P (some_of z y e) a.0
+some_has P (z ∷ zs) zero y a e = subst P (same_Some z y e) a.0
 some_has P (z ∷ zs) (suc at) y a e = some_has P zs at y a.1 e
 
 -- where the last number is below x, none is x or more
@@ -105,7 +105,7 @@ pub ends : (x y : ℕ) (ys : List ℕ) (at last : ℕ) → IsRising (y ∷ ys) �
 ends x y [] at last s le e = absurd (cc)
 ends x y (z ∷ []) (suc at) last s le e = absurd (cc)
 ends x y (z ∷ []) zero last s le e =
-    let is : z ≡ last = some_of z last e in
+    let is : z ≡ last = same_Some z last e in
     ends_by (ltb y x) x y last (first_from x (z ∷ [])) refl (subst (λ n. y < n) is s.0.0) (rw (sym is) (alone (ltb z x) z))
   where
     alone : (b : Bool) (z : ℕ) → b ≡ is_none (cond b None (Some z))

@@ -31,7 +31,3 @@ module _ {X A : Type 0} (shows : A → ℕ × X) where
       by_bool (nat_eq (shows y).0 q)
       (λ e. a ∙ ap (λ t. cond t (Some v) before) e ∙ sym (is (equal_is q (shows y).0 e)) ∙ sym (ap (λ t. cond t found None) (more ∙ ap (λ t. cond t true (is_some (lookup (nat_eq q) (map shows xs)))) (sym (flipped q (shows y).0) ∙ e))))
       (λ e. a ∙ ap (λ t. cond t (Some v) before) e ∙ b ∙ sym (ap (λ t. cond t found None) (more ∙ ap (λ t. cond t true (is_some (lookup (nat_eq q) (map shows xs)))) (sym (flipped q (shows y).0) ∙ e))))
-
--- all rows are among themselves
-pub among_all : {X : Type 0} (es : List (ℕ × X)) (q : ℕ) → among es q (lookup (nat_eq q) es) ≡ lookup (nat_eq q) es
-among_all es q = elim (lookup (nat_eq q) es) as (λ o. cond (is_some o) o None ≡ o) [ None ↦ refl | Some x ↦ refl ]

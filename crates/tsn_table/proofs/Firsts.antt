@@ -1,20 +1,18 @@
 -- The first row that passes a test is the one of the least number, and nothing else is.
 use Rattle.std.proofs.Common.{◌≡◌, ℕ, ◌<◌, ◌≤◌, Bool, true, false, cond, List, [], ◌∷◌, refl, sym, ◌∙◌, ap, Option, Some, None, arith, inl, inr}
-use Rattle.std.specs.Prelude.{unwrap_or, ◌||◌}
+use Rattle.std.specs.Prelude.{◌||◌}
 use Rattle.std.specs.Ordering.{nat_cmp, eq_by_cmp, is_lt, ord_min}
 use Rattle.std.specs.FinMap.{find, is_sorted}
 use Rattle.std.specs.FinMap.Entries.{below_all}
 use Rattle.std.proofs.lemmas.Bool.{cases_lt, and_parts, lt-ltb}
 use Rattle.std.proofs.lemmas.Bool.Decides.{nat_tests}
+use Rattle.std.proofs.lemmas.Option.{same_Some}
 use Rattle.tsn_table.specs.Firsts.{first_id, lesser, lesser_by}
 use Rattle.tsn_table.proofs.Orders.{less_is, is_less, is_greater, is_equal}
 
 pub not_some : {A : Type 0} (o : Option A) (x : A) → o ≡ None → o ≡ Some x → ⊥
 not_some None x n s = absurd (cc)
 not_some (Some y) x n s = absurd (cc)
-
-pub some_of : {A : Type 0} (x y : A) → Some x ≡ Some y → x ≡ y
-some_of x y e = ap (λ o. unwrap_or o x) e
 
 module _ {X : Type 0} (p : X → Bool) where
   -- the row of the number does not pass, or is not there
@@ -34,7 +32,7 @@ module _ {X : Type 0} (p : X → Bool) where
       rw (is_less k e.0 here) (find_below k x es le ((and_parts (is_lt (nat_cmp x e.0)) _ h).1))
 
   pub missed : (b : Bool) (e : ℕ × X) (o : Option X) → p e.1 ≡ false → ((q : X) → o ≡ Some q → p q ≡ false) → (q : X) → cond b (Some e.1) o ≡ Some q → p q ≡ false
-  missed true e o f rest q is = ap p (sym (some_of e.1 q is)) ∙ f
+  missed true e o f rest q is = ap p (sym (same_Some e.1 q is)) ∙ f
   missed false e o f rest q is = rest q is
 
   later : (e : ℕ × X) (es : List (ℕ × X)) → p e.1 ≡ false → below_all nat_cmp e.0 es ≡ true → (o : Option ℕ) → LeastIn es o → LeastIn (e ∷ es) o

@@ -21,13 +21,6 @@ is_less k x h = grind (arith, nat_tests)
 pub is_equal : (k x : ℕ) → x ≡ k → nat_cmp k x ≡ Equal
 is_equal k x h = grind (arith, nat_tests)
 
-below_or_more : (k x : ℕ) → nat_lt x k ≡ false → (x ≡ k → ⊥) → k < x
-below_or_more k x h n = grind (arith, nat_tests)
-
-pub T_of : (b : Bool) → b ≡ true → T b
-T_of true h = tt
-T_of false h = absurd (cc)
-
 pub of_T : (b : Bool) → T b → b ≡ true
 of_T true h = refl
 of_T false h = absurd h

@@ -14,7 +14,7 @@ equal_by k x = grind (arith, nat_tests)
 pub equal_by_turned : (k x : ℕ) → nat_eq k x ≡ eq_by_cmp nat_cmp x k
 equal_by_turned k x = grind (arith, nat_tests)
 
-itself : (k : ℕ) → eq_by_cmp nat_cmp k k ≡ true
+pub itself : (k : ℕ) → eq_by_cmp nat_cmp k k ≡ true
 itself k = grind (arith, nat_tests)
 
 module _ {X : Type 0} where

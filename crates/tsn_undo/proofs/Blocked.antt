@@ -1,7 +1,8 @@
 -- An undo of all that a conflict blocks is refused for it.
-use Rattle.std.proofs.Common.{◌≡◌, ℕ, Bool, true, false, ◌&&◌, cond, filter, List, [], ◌∷◌, Option, Some, None, refl, sym, ◌∙◌, ap, subst, arith, length, ◌+◌}
+use Rattle.std.proofs.Common.{◌≡◌, ℕ, Bool, ◌&&◌, cond, filter, List, [], ◌∷◌, Option, Some, None, refl, sym, ◌∙◌, ap, subst, arith, length, ◌+◌}
 use Rattle.std.specs.Prelude.{◌==◌, IfSome, is_some, nat_le, option_map}
 use Rattle.std.specs.Option.{option_or}
+use Rattle.tsn_edit.proofs.KeyFacts.{by_bool}
 use Rattle.tsn_types.specs.declared.refusals.Refusal.{Refusal}
 use Rattle.tsn_types.specs.declared.refusals.Refusal.TheVariants.{Conflict, JournalFull}
 use Rattle.tsn_types.proofs.Ordered.{AtMost, least-before}
@@ -11,15 +12,11 @@ use Rattle.tsn_journal.specs.Finding.{find_conflict_of_others, find_own_in_confl
 use Rattle.tsn_undo.specs.Ledger.{Ledger}
 use Rattle.tsn_undo.specs.UndoAll.{conflict_with_others, undo_all_cause, undo_all_refusal}
 
-by_test : {G : Type 0} (b : Bool) → (b ≡ true → G) → (b ≡ false → G) → G
-by_test true f g = f refl
-by_test false f g = g refl
-
 -- where none passes the one test, none passes both
 none_of_both : (q p : Applied → Bool) (xs : List Applied) → filter q xs ≡ [] → last_where (λ x. q x && p x) xs ≡ None
 none_of_both q p [] none = refl
 none_of_both q p (x ∷ xs) none =
-    by_test (q x)
+    by_bool (q x)
     (λ t. let some : x ∷ filter q xs ≡ [] = sym (ap (λ b. cond b (x ∷ filter q xs) (filter q xs)) t) ∙ none in absurd (cc))
     (λ f.
     let rest : filter q xs ≡ [] = sym (ap (λ b. cond b (x ∷ filter q xs) (filter q xs)) f) ∙ none in

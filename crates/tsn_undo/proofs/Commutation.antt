@@ -3,6 +3,7 @@ use Rattle.std.proofs.Common.{◌≡◌, Bool, true, false, cond, not, List, [],
 use Rattle.std.specs.Prelude.{flat_map, IsTrue}
 use Rattle.std.specs.FinMap.{get}
 use Rattle.std.specs.List.{AllByRecursion}
+use Rattle.tsn_config.proofs.Among.{each_both}
 use Rattle.tsn_types.specs.declared.keys.Key.{Key}
 use Rattle.tsn_types.specs.declared.records.Record.{Record}
 use Rattle.tsn_types.specs.declared.limits.Limits.{Limits}
@@ -15,10 +16,6 @@ use Rattle.tsn_edit.proofs.Apart.{Agrees, Apart, Apart-append, Apart-from_test, 
 use Rattle.tsn_journal.specs.Entries.{Applied, changes}
 use Rattle.tsn_journal.proofs.Numbers.{append_nil}
 use Rattle.tsn_undo.specs.Commuting.{Commutes, IsClosed, first_on, in_set, left, value_before}
-
-pub each_both : {A : Type 0} (P Q R : A → Type 0) → ((x : A) → P x → Q x → R x) → (xs : List A) → AllByRecursion P xs → AllByRecursion Q xs → AllByRecursion R xs
-each_both P Q R f [] p q = tt
-each_both P Q R f (x ∷ xs) p q = (f x p.0 q.0, each_both P Q R f xs p.1 q.1)
 
 apart_from_closed : (out : Applied → Bool) (x y : Applied) → (IsTrue (conflicts y.change x.change) → IsTrue (out y)) → out y ≡ false → Apart (parts y.change) (parts x.change)
 apart_from_closed out x y closed outside =

@@ -3,6 +3,8 @@ use Rattle.std.proofs.Common.{◌≡◌, ℕ, ◌+◌, ◌<◌, Bool, true, fals
 use Rattle.std.specs.Prelude.{◌==◌, ◌&&◌, filter, is_some, nat_lt, nat_le, option_map}
 use Rattle.std.specs.Option.{option_or}
 use Rattle.std.proofs.lemmas.Bool.Decides.{nat_tests}
+use Rattle.std.proofs.lemmas.Bool.{not-true, ltb-true}
+use Rattle.tsn_journal.proofs.Grouping.{first_true}
 use Rattle.tsn_types.specs.declared.refusals.Refusal.TheVariants.{Conflict, JournalFull}
 use Rattle.tsn_types.specs.Limits.{unless}
 use Rattle.tsn_edit.specs.Changes.{after_change, conflicts}
@@ -23,17 +25,6 @@ use Rattle.tsn_undo.proofs.Making.{SoundLedger, kept_now}
 use Rattle.tsn_undo.proofs.UndoAll.{in_filter, on_right, same_number, undo_all_refusal-first}
 
 -- ---- a conflict that is named
-
-on_left : (a b : Bool) → (a && b) ≡ true → a ≡ true
-on_left true b h = refl
-on_left false b h = (cc)
-
-off_of : (a : Bool) → not a ≡ true → a ≡ false
-off_of true h = (cc)
-off_of false h = refl
-
-is_less : (a b : ℕ) → nat_lt a b ≡ true → a < b
-is_less a b h = grind (arith, nat_tests)
 
 -- an element of a filtered list passes
 passes_filter : (p : Applied → Bool) (xs front : List Applied) (x : Applied) (rest : List Applied) → filter p xs ≡ front ++ x ∷ rest → p x ≡ true
@@ -85,15 +76,15 @@ names_conflict b s own other sound h =
     let mine = last_where_some own_test (standing es) e named.mine_is in
     let theirs = last_where_some other_test (later_than e.number (standing es)) f named.theirs_is in
     let split = in_filter (λ x. nat_lt e.number x.number) (standing es) theirs.front f theirs.rest theirs.is in
-    let later : e.number < f.number = is_less e.number f.number (passes_filter (λ x. nat_lt e.number x.number) (standing es) theirs.front f theirs.rest theirs.is) in
-    let session : e.session ≡ s = same_number e.session s (on_left (e.session == s) _ mine.passes) in
+    let later : e.number < f.number = ltb-true e.number f.number (passes_filter (λ x. nat_lt e.number x.number) (standing es) theirs.front f theirs.rest theirs.is) in
+    let session : e.session ≡ s = same_number e.session s (first_true (e.session == s) _ mine.passes) in
     record {
       mine = e;
       theirs = f;
       mine_is = ap (standing_entry es) (sym named.own_is) ∙ standing_found es own_test e sound.numbered named.mine_is;
       theirs_is = ap (standing_entry es) (sym named.other_is) ∙ standing_placed es split.front f split.rest sound.numbered split.is;
       is_own = session;
-      is_other = ap (λ n. f.session == n) (sym session) ∙ off_of (f.session == e.session) (on_left (not (f.session == e.session)) _ theirs.passes);
+      is_other = ap (λ n. f.session == n) (sym session) ∙ not-true (f.session == e.session) (first_true (not (f.session == e.session)) _ theirs.passes);
       later = omega (arith, later, named.own_is, named.other_is);
       conflict = on_right (not (f.session == e.session)) _ theirs.passes;
     }

@@ -1,12 +1,12 @@
 -- The room that taking back several entries takes.
-use Rattle.std.proofs.Common.{◌≡◌, ℕ, ◌+◌, ◌++◌, ◌<◌, ◌≤◌, Bool, true, false, cond, List, [], ◌∷◌, ◌∙◌, Option, Some, None, ap, refl, sym, add_assoc, arith, get_or, length, take}
-use Rattle.std.specs.Prelude.{nat_le, nat_lt}
-use Rattle.std.proofs.lemmas.Bool.Decides.{nat_tests}
+use Rattle.std.proofs.Common.{◌≡◌, ℕ, ◌+◌, ◌++◌, ◌<◌, ◌≤◌, true, false, cond, List, [], ◌∷◌, ◌∙◌, Option, Some, None, ap, refl, sym, add_assoc, arith, get_or, length, take}
+use Rattle.std.specs.Prelude.{nat_lt}
 use Rattle.std.proofs.lemmas.List.{take_more}
+use Rattle.std.proofs.lemmas.Bool.{leb-true}
+use Rattle.tsn_types.proofs.Causes.{unless-None}
 use Rattle.tsn_edit.specs.Changes.{room_of}
 use Rattle.tsn_types.specs.declared.refusals.Refusal.{Refusal}
 use Rattle.tsn_types.specs.declared.refusals.Refusal.TheVariants.{JournalFull}
-use Rattle.tsn_types.specs.Limits.{unless}
 use Rattle.tsn_types.specs.Refusals.{least, rank_of}
 use Rattle.tsn_journal.specs.Entries.{most_entries, no_room}
 use Rattle.tsn_journal.specs.Finding.{own_standing}
@@ -33,13 +33,6 @@ least_none o None h = refl
 least_none None (Some b) h = h
 least_none (Some a) (Some b) h = elim (nat_lt (rank_of b) (rank_of a)) as (λ t. cond t (Some b) (Some a) ≡ None → Some b ≡ None) [ true ↦ λ none. none | false ↦ λ none. (cc) ] h
 
-unless_none : (b : Bool) (why : Refusal) → unless b why ≡ None → b ≡ true
-unless_none true why h = refl
-unless_none false why h = (cc)
-
-fits_in : (n k : ℕ) → nat_le n k ≡ true → n ≤ k
-fits_in n k h = grind (arith, nat_tests)
-
 pub few_own : (b : Ledger) (s : ℕ) → undo_all_refusal b s ≡ None → length b.entries + length (own_standing b.entries s) ≤ most_entries
 few_own b s free =
-    fits_in _ _ (unless_none _ JournalFull (least_none (undo_all_cause b.entries s (own_standing b.entries s)) (no_room b.entries (length (own_standing b.entries s))) free))
+    leb-true _ _ (unless-None _ JournalFull (least_none (undo_all_cause b.entries s (own_standing b.entries s)) (no_room b.entries (length (own_standing b.entries s))) free))

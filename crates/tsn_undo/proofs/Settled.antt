@@ -1,7 +1,8 @@
 -- What a settle leaves of a sound ledger, and why it is refused.
-use Rattle.std.proofs.Common.{◌≡◌, ℕ, ◌+◌, ◌<◌, ◌≤◌, true, cond, not, List, [], ◌∷◌, refl, sym, ◌∙◌, ap, None, arith, length}
+use Rattle.std.proofs.Common.{◌≡◌, ℕ, ◌+◌, ◌<◌, cond, not, List, [], ◌∷◌, refl, sym, ◌∙◌, ap, None, arith, length}
 use Rattle.std.specs.Prelude.{filter, max, nat_le, nat_lt}
 use Rattle.std.proofs.lemmas.Bool.Decides.{nat_tests}
+use Rattle.std.proofs.lemmas.Bool.{ltb-true}
 use Rattle.tsn_types.specs.declared.refusals.Field.TheVariants.{Upto}
 use Rattle.tsn_types.specs.declared.refusals.Refusal.TheVariants.{Range, Settled as SettledAlready}
 use Rattle.tsn_types.specs.Limits.{first_cause, unless}
@@ -29,12 +30,6 @@ settle_refusal-first b upto =
 
 -- ---- what it leaves
 
-of_le : (n k : ℕ) → nat_le n k ≡ true → n ≤ k
-of_le n k h = grind (arith, nat_tests)
-
-of_lt : (n k : ℕ) → nat_lt n k ≡ true → n < k
-of_lt n k h = grind (arith, nat_tests)
-
 over : (n k : ℕ) → not (nat_le n k) ≡ nat_lt k n
 over n k = grind (arith, nat_tests)
 
@@ -44,11 +39,8 @@ left_later n [] = refl
 left_later n (x ∷ xs) = (λ i. cond (over x.number n i) (x ∷ left_later n xs i) (left_later n xs i))
 
 module _ (b : Ledger) (s upto : ℕ) (sound : SoundLedger b) (free : settle_refusal b upto ≡ None) where
-  pub entry_there : upto ≤ length b.entries
-  entry_there = of_le _ _ (unless-None _ _ (each_none (settle_causes b upto) (sym (settle_refusal-first b upto) ∙ free)).0)
-
   above_settled : settled b.entries < upto
-  above_settled = of_lt _ _ (unless-None _ _ (each_none (settle_causes b upto) (sym (settle_refusal-first b upto) ∙ free)).1.0)
+  above_settled = ltb-true _ _ (unless-None _ _ (each_none (settle_causes b upto) (sym (settle_refusal-first b upto) ∙ free)).1.0)
 
   pub makes_settle : (number : ℕ) (new : Ledger) → number ≡ length b.entries + 1 → new ≡ enter b s (Settled upto) → Settles b s upto number new
   makes_settle number new number_is after = record {

@@ -5,7 +5,8 @@ use Rattle.std.specs.List.{AllByRecursion}
 use Rattle.std.specs.Option.{option_or}
 use Rattle.std.proofs.lemmas.Bool.Decides.{nat_tests}
 use Rattle.std.proofs.lemmas.List.Elements.{filter-append}
-use Rattle.std.proofs.lemmas.List.{take-append-drop}
+use Rattle.std.proofs.lemmas.List.{take-append-drop, same_from_push}
+use Rattle.tsn_config.proofs.Among.{each_both}
 use Rattle.tsn_types.specs.declared.limits.Limits.{Limits}
 use Rattle.tsn_types.specs.declared.refusals.Refusal.TheVariants.{Conflict, JournalFull}
 use Rattle.tsn_types.proofs.Ordered.{AtMost, least-before}
@@ -27,7 +28,6 @@ use Rattle.tsn_undo.specs.Ledger.{Ledger, enter, present}
 use Rattle.tsn_undo.specs.Soundness.{IsSound, base}
 use Rattle.tsn_undo.specs.UndoAll.{TakesAllBack, all_undone, conflict_with_others, taking_back, undo_all_cause, undo_all_refusal, with_undone}
 use Rattle.tsn_undo.proofs.Adding.{base_kept}
-use Rattle.tsn_undo.proofs.Commutation.{each_both}
 use Rattle.tsn_undo.proofs.Free.{or_none}
 use Rattle.tsn_undo.proofs.Making.{SoundLedger}
 use Rattle.tsn_undo.proofs.Redone.{IsSplit}
@@ -137,20 +137,6 @@ next_undo es s x numbered closed last =
           ∙ sym (ap (λ zs. filter (own s) zs ++ x ∷ []) gone ∙ ap (λ zs. zs ++ x ∷ []) (filter-append (own s) front rest ∙ ap (λ zs. filter (own s) front ++ zs) rest_none ∙ append_nil (filter (own s) front)));
     }
 
--- ---- a list ends in one way
-
-last_is : {A : Type 0} (xs ys : List A) (x y : A) → xs ++ x ∷ [] ≡ ys ++ y ∷ [] → (xs ≡ ys) × (x ≡ y)
-last_is [] [] x y h = let same : x ≡ y = (cc) in (refl, same)
-last_is [] (b ∷ []) x y h = (cc)
-last_is [] (b ∷ c ∷ ys) x y h = (cc)
-last_is (a ∷ []) [] x y h = (cc)
-last_is (a ∷ c ∷ xs) [] x y h = (cc)
-last_is (a ∷ xs) (b ∷ ys) x y h =
-    let head : a ≡ b = (cc) in
-    let rest : xs ++ x ∷ [] ≡ ys ++ y ∷ [] = (cc) in
-    let both = last_is xs ys x y rest in
-    ((λ i. head i ∷ both.0 i), both.1)
-
 -- ---- the entries after some were taken back, the last ones first
 
 base_taken : (opening : Configuration) (es : List Entry) (s : ℕ) (ys : List Applied) → base opening (with_undone es s ys) ≡ base opening es
@@ -170,7 +156,7 @@ pub record IsNextTaken (l : Limits) (opening : Configuration) (es : List Entry) 
   pub taken : IsTaken l opening es s xs (x ∷ ys)
 
 newest_own : (es : List Entry) (s : ℕ) (xs : List Applied) (x : Applied) → own_standing es s ≡ xs ++ x ∷ [] → (y : Applied) → IsNext es s y → (xs ≡ filter (own s) (without y (standing es))) × (x ≡ y)
-newest_own es s xs x is y next = last_is xs (filter (own s) (without y (standing es))) x y (sym is ∙ next.mine)
+newest_own es s xs x is y next = same_from_push xs (filter (own s) (without y (standing es))) x y (sym is ∙ next.mine)
 
 no_end : {A : Type 0} (xs : List A) (x : A) → xs ++ x ∷ [] ≡ [] → ⊥
 no_end [] x h = (cc)

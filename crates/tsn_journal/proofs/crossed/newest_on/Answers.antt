@@ -1,11 +1,12 @@
 use Rattle.std.proofs.Common.{◌≡◌, ◌≤◌, max, sym, ◌∙◌, ap, subst, arith}
 use Rattle.std.specs.Option.{option_copied}
 use Rattle.std.proofs.Math.Nat.{le-max_left, le-max_right}
+use Rattle.std.proofs.lemmas.Option.{same_Some}
 use Rattle.tsn_journal.specs.declared.entries.MarkedEntry.{MarkedEntry}
 use Rattle.tsn_journal.specs.declared.groups.Group.TheVariants.{On}
 use Rattle.tsn_journal.specs.Index.{belongs_to_others}
 use Rattle.tsn_journal.proofs.Bounding.{after_last}
-use Rattle.tsn_journal.proofs.Links.{none_some, some_of}
+use Rattle.tsn_journal.proofs.Links.{none_some}
 use Rattle.tsn_journal.proofs.Needed.{found_on}
 use Rattle.tsn_journal.proofs.crossed.newest_on.Goals as goal
 
@@ -17,7 +18,7 @@ returns-in-Some-clause-none c = λ i e le at.
     let left : m.entry.number ≤ max m.entry.number n = le-max_left m.entry.number n in
     let right : n ≤ max m.entry.number n = le-max_right m.entry.number n in
     after_last (belongs_to_others (On c.args.key.now) c.args.session) 0 n c.args.marked.now m.entry.number c.requires.numbered
-    (λ y some. let same : m ≡ y = some_of m y (sym (ap option_copied c.in-Some.is) ∙ c.last_of_others.ensures ∙ some) in let number : m.entry.number ≡ y.entry.number = ap (λ (z : MarkedEntry). z.entry.number) same in omega arith)
+    (λ y some. let same : m ≡ y = same_Some m y (sym (ap option_copied c.in-Some.is) ∙ c.last_of_others.ensures ∙ some) in let number : m.entry.number ≡ y.entry.number = ap (λ (z : MarkedEntry). z.entry.number) same in omega arith)
     i e (omega arith) (omega arith) at
 
 pub returns-in-None-clause-none : goal.returns-in-None-clause-none

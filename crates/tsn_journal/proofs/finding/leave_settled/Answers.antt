@@ -1,10 +1,10 @@
-use Rattle.std.proofs.Common.{◌≡◌, ◌<◌, ◌≤◌, ◌+◌, inl, inr, arith, refl, sym, subst, ◌∙◌, ap, get_or, length, Some}
+use Rattle.std.proofs.Common.{◌≡◌, inl, inr, arith, refl, sym, subst, ◌∙◌, ap, get_or, length, Some}
 use Rattle.std.specs.List.{slice_get}
-use Rattle.std.proofs.lemmas.Option.{slice_get_read, slice_get_within}
+use Rattle.std.proofs.lemmas.Option.{slice_get_read, same_Some}
 use Rattle.tsn_journal.specs.declared.entries.MarkedEntry.{MarkedEntry}
 use Rattle.tsn_journal.specs.Newest.{MendsNewest, groups_of}
 use Rattle.tsn_journal.proofs.Indexing.{takes_more}
-use Rattle.tsn_journal.proofs.Links.{some_of, where_at}
+use Rattle.tsn_journal.proofs.Links.{where_at}
 use Rattle.tsn_journal.proofs.Newest.{mends_after, mends_before}
 use Rattle.tsn_journal.proofs.finding.leave_settled.Goals as goal
 
@@ -23,7 +23,7 @@ loop-place-preserved c =
         | inr rest ↦ elim rest [
           | inl here ↦
               let read : slice_get ms c.loop-place.place ≡ Some x = slice_get_read ms (length ms) c.loop-place.place x refl (omega (arith, c.loop-place-test.true, c.requires.there)) c.index-marked-place.is in
-              let one : get_or ms c.loop-place.place x ≡ m = sym c.index-marked-place.is ∙ some_of x m (sym read ∙ ap (slice_get ms) (sym here) ∙ at) in
+              let one : get_or ms c.loop-place.place x ≡ m = sym c.index-marked-place.is ∙ same_Some x m (sym read ∙ ap (slice_get ms) (sym here) ∙ at) in
               subst (λ (y : MarkedEntry). MendsNewest ms (groups_of y.entry) old new) one (mends_before ms (groups_of (get_or ms c.loop-place.place x).entry) old mid new c.loop-place.invariant.newest c.leave.ensures.newest)
           | inr more ↦ absurd (omega (arith, high))
         ]

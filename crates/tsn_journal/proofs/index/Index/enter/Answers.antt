@@ -1,4 +1,5 @@
 use Rattle.std.proofs.Common.{◌≡◌, ◌∷◌, [], true, false, sym, subst, ◌∙◌, ap, length}
+use Rattle.std.proofs.lemmas.Option.{same_Some}
 use Rattle.tsn_journal.specs.declared.entries.MarkedEntry.{MarkedEntry}
 use Rattle.tsn_journal.specs.declared.groups.Group.TheVariants.{Of, EndsRedo}
 use Rattle.tsn_journal.specs.Entries.{added_parts}
@@ -6,7 +7,6 @@ use Rattle.tsn_journal.specs.Index.{HasRoom, TakesRoom, group_if, places_for}
 use Rattle.tsn_journal.proofs.Grouping.{covers_undone}
 use Rattle.tsn_journal.proofs.Indexing.{pending_newest}
 use Rattle.tsn_journal.proofs.Keeping.{indexed_same}
-use Rattle.tsn_journal.proofs.Links.{some_of}
 use Rattle.tsn_journal.proofs.index.Index.enter.Goals as goal
 
 pub returns-in-Undone-clause-index : goal.returns-in-Undone-clause-index
@@ -15,7 +15,7 @@ returns-in-Undone-clause-index c =
     (c.enter_session.ensures.index []
     (pending_newest c.args.marked.now (group_if false (Of c.numbered.result.now.entry.session) ∷ group_if true (EndsRedo c.numbered.result.now.entry.session) ∷ []) c.args.self.now
     (λ m at g belong.
-    let one : c.numbered.result.now ≡ m = some_of _ _ (sym c.numbered.ensures ∙ at) in
+    let one : c.numbered.result.now ≡ m = same_Some _ _ (sym c.numbered.ensures ∙ at) in
     covers_undone m c.numbered.result.now.entry.session _ _ (ap (λ (x : MarkedEntry). x.entry.session) (sym one)) (ap (λ (x : MarkedEntry). x.entry.what) (sym one) ∙ c.in-Undone.is) g belong)
     c.requires.index))
 

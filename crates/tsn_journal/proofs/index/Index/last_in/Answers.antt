@@ -1,8 +1,9 @@
 use Rattle.std.proofs.Common.{◌+◌, ◌≤◌, ◌&&◌, Bool, sym, ◌∙◌, subst, arith, length}
+use Rattle.std.proofs.lemmas.Bool.{and_from, and_right}
 use Rattle.tsn_journal.specs.declared.entries.MarkedEntry.{MarkedEntry}
 use Rattle.tsn_journal.specs.Index.{IsLast, belongs, number_at, number_of}
 use Rattle.tsn_journal.proofs.Links.{next_group, place_there, step_none, the_place}
-use Rattle.tsn_journal.proofs.Walking.{and_false, and_out, both_true, found_from, in_list, none_from}
+use Rattle.tsn_journal.proofs.Walking.{and_out, found_from, in_list, none_from}
 use Rattle.tsn_journal.proofs.index.Index.last_in.Goals as goal
 use Rattle.tsn_journal.proofs.index.Index.last_in.Goals.{else-is_in-via-then-is_in+else-test, else-is_in-via-else-is_in}
 
@@ -35,7 +36,7 @@ returns-then-test g c = λ p answers.
     let here = (place_there c.args.self.now.places.items c.back.place c.index-found.result.now c.back-test.true c.back.invariant.within c.index-found.ensures) in
     sym (found_from (λ m. belongs c.args.group.now m && p m) c.args.marked.now c.index-found.result.now.number c.numbered-entry.result.now at.some at.within c.numbered-entry.ensures
     (λ i m low is. c.back.invariant.none_later p answers i m (subst (λ o. number_of o ≤ i) (sym here) low) (in_list c.args.marked.now i m is) is)
-    (both_true _ _ (sym c.is_in.ensures ∙ c.if-is_in.true) (sym (answers _ _ c.test.ensures) ∙ c.if-test.true)))
+    (and_from _ _ (sym c.is_in.ensures ∙ c.if-is_in.true) (sym (answers _ _ c.test.ensures) ∙ c.if-test.true)))
 
 pub back-preserved : goal.back-preserved
 back-preserved g c =
@@ -48,7 +49,7 @@ back-preserved g c =
           step_none c.args.marked.now c.args.self.now.places.items c.args.group.now c.back.place c.index-found.result.now c.back.invariant.group (place_there c.args.self.now.places.items c.back.place c.index-found.result.now c.back-test.true c.back.invariant.within c.index-found.ensures) c.requires.index.places
           t (length c.args.marked.now + 1) (and_out p (belongs c.args.group.now)) (c.back.invariant.none_later p answers) c.numbered-entry.result.now c.numbered-entry.ensures
           (elim c.else-is_in.branch [
-            | else-is_in-via-then-is_in+else-test w ↦ and_false _ _ (sym (answers _ _ w.test.ensures) ∙ w.if-test.false)
+            | else-is_in-via-then-is_in+else-test w ↦ and_right _ _ (sym (answers _ _ w.test.ensures) ∙ w.if-test.false)
             | else-is_in-via-else-is_in w ↦ and_out p (belongs c.args.group.now) _ (sym c.is_in.ensures ∙ w.if-is_in.false)
           ]);
     }

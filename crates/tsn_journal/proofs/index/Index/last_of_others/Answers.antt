@@ -1,8 +1,9 @@
 use Rattle.std.proofs.Common.{◌+◌, ◌≤◌, sym, ◌∙◌, ap, subst, arith, length}
 use Rattle.std.specs.Prelude.{not}
+use Rattle.std.proofs.lemmas.Bool.{and_from}
 use Rattle.tsn_journal.specs.Index.{IsLast, belongs, belongs_to_others, is_by, number_at, number_of}
 use Rattle.tsn_journal.proofs.Links.{hop, not_of_others, place_there, step, the_place}
-use Rattle.tsn_journal.proofs.Walking.{both_true, found_after, none_after, none_from}
+use Rattle.tsn_journal.proofs.Walking.{found_after, none_after, none_from}
 use Rattle.tsn_journal.proofs.index.Index.last_of_others.Goals as goal
 
 pub back-init : goal.back-init
@@ -33,7 +34,7 @@ returns-then-is_in c =
     let at = the_place c.args.marked.now c.args.self.now.places.items c.args.group.now c.back.place c.index-found.result.now c.back.invariant.group (place_there c.args.self.now.places.items c.back.place c.index-found.result.now c.back-test.true c.back.invariant.within c.index-found.ensures) c.requires.index.places in
     sym (found_after (belongs_to_others c.args.group.now c.args.session) c.args.marked.now c.args.after c.index-found.result.now.number c.numbered-entry.result.now (omega (arith, c.if-from-after.false, c.from.ensures)) at.within c.numbered-entry.ensures
     (λ i m low is. none_after c.args.group.now (belongs_to_others c.args.group.now c.args.session) c.args.marked.now c.args.self.now.places.items c.back.place c.back.invariant i m (subst (λ o. number_of o ≤ i) (sym (place_there c.args.self.now.places.items c.back.place c.index-found.result.now c.back-test.true c.back.invariant.within c.index-found.ensures)) low) is)
-    (both_true _ _ (sym c.is_in.ensures ∙ c.if-is_in.true) (ap not (sym c.is_of.ensures ∙ c.if-is_of.false))))
+    (and_from _ _ (sym c.is_in.ensures ∙ c.if-is_in.true) (ap not (sym c.is_of.ensures ∙ c.if-is_of.false))))
 
 pub back-smaller : goal.back-smaller
 back-smaller c =

@@ -1,11 +1,12 @@
 use Rattle.std.proofs.Common.{◌+◌, ◌≤◌, ◌&&◌, Bool, sym, ◌∙◌, subst, arith, length, rules}
 use Rattle.std.proofs.lemmas.List.{length-take-le}
+use Rattle.std.proofs.lemmas.Bool.{and_from, and_right}
 use Rattle.tsn_journal.specs.declared.entries.MarkedEntry.{MarkedEntry}
 use Rattle.tsn_journal.specs.declared.groups.Group.TheVariants.{Of}
 use Rattle.tsn_journal.specs.Index.{IsLast, belongs, number_at, number_of}
 use Rattle.tsn_journal.specs.Marks.{is_own}
 use Rattle.tsn_journal.proofs.Links.{next_group, place_there, step_beyond, step_none, the_place}
-use Rattle.tsn_journal.proofs.Walking.{and_false, and_out, both_true, found_from, in_list, last_upto, none_from}
+use Rattle.tsn_journal.proofs.Walking.{and_out, found_from, in_list, last_upto, none_from}
 use Rattle.tsn_journal.proofs.index.Index.last_own.Goals as goal
 use Rattle.tsn_journal.proofs.index.Index.last_own.Goals.{then-from-upto+else-is_own, else-is_own-via-then-is_own+else-test, else-is_own-via-else-is_own, else-from-upto+else-passed-upto}
 
@@ -38,7 +39,7 @@ returns-then-test g c = λ p answers above.
     let here = (place_there c.args.self.now.places.items c.back.place c.index-found.result.now c.back-test.true c.back.invariant.within c.index-found.ensures) in
     sym (found_from (λ m. is_own c.args.session m && p m) c.args.marked.now c.index-found.result.now.number c.numbered-entry.result.now at.some at.within c.numbered-entry.ensures
     (λ i m low is. c.back.invariant.none_later p answers above i m (subst (λ o. number_of o ≤ i) (sym here) low) (in_list c.args.marked.now i m is) is)
-    (both_true _ _ (sym c.is_own.ensures ∙ c.if-is_own.true) (sym (answers _ _ c.test.ensures) ∙ c.if-test.true)))
+    (and_from _ _ (sym c.is_own.ensures ∙ c.if-is_own.true) (sym (answers _ _ c.test.ensures) ∙ c.if-test.true)))
 
 pub back-preserved : goal.back-preserved
 back-preserved g c =
@@ -53,7 +54,7 @@ back-preserved g c =
                 step_none c.args.marked.now c.args.self.now.places.items (Of c.args.session) c.back.place c.index-found.result.now c.back.invariant.group (place_there c.args.self.now.places.items c.back.place c.index-found.result.now c.back-test.true c.back.invariant.within c.index-found.ensures) c.requires.index.places
                 t (length c.args.marked.now + 1) (and_out p (belongs (Of c.args.session))) (c.back.invariant.none_later p answers above) w.numbered-entry.result.now w.numbered-entry.ensures
                 (elim w.else-is_own.branch [
-                  | else-is_own-via-then-is_own+else-test v ↦ and_false _ _ (sym (answers _ _ v.test.ensures) ∙ v.if-test.false)
+                  | else-is_own-via-then-is_own+else-test v ↦ and_right _ _ (sym (answers _ _ v.test.ensures) ∙ v.if-test.false)
                   | else-is_own-via-else-is_own v ↦ and_out p (belongs (Of c.args.session)) w.numbered-entry.result.now (sym w.is_own.ensures ∙ v.if-is_own.false)
                 ])
             | else-from-upto+else-passed-upto w ↦

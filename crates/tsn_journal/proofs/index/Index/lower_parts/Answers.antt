@@ -1,9 +1,9 @@
-use Rattle.std.proofs.Common.{◌≤◌, refl, arith, subst, ◌∙◌, take, length}
+use Rattle.std.proofs.Common.{◌≤◌, arith, subst, ◌∙◌, length}
 use Rattle.std.proofs.lemmas.List.{take_all}
 use Rattle.tsn_journal.specs.Index.{groups_of_parts}
 use Rattle.tsn_journal.specs.Newest.{MendsNewest}
 use Rattle.tsn_journal.proofs.Indexing.{takes_more}
-use Rattle.tsn_journal.proofs.Newest.{mends_none, mends_part}
+use Rattle.tsn_journal.proofs.Newest.{mends_part}
 use Rattle.tsn_journal.proofs.index.Index.lower_parts.Goals as goal
 
 pub returns-clause-newest : goal.returns-clause-newest
