@@ -1,8 +1,8 @@
 -- Walking back from the latest place of a group, a link at a time.
-use Rattle.std.proofs.Common.{◌≡◌, ℕ, zero, suc, ◌+◌, ◌-◌, ◌<◌, ◌≤◌, Bool, true, false, cond, ◌&&◌, List, [], ◌∷◌, refl, sym, ◌∙◌, ap, subst, Some, None, arith, length, drop, take, filter, map, ◌++◌, add-one}
+use Rattle.std.proofs.Common.{◌≡◌, ℕ, zero, suc, ◌+◌, ◌-◌, ◌<◌, ◌≤◌, Bool, true, false, cond, ◌&&◌, List, [], ◌∷◌, refl, sym, ◌∙◌, ap, subst, Some, None, arith, length, get_or, drop, take, filter, map, ◌++◌, add-one}
 use Rattle.std.specs.List.{slice_get}
 use Rattle.std.specs.Prelude.{reverse}
-use Rattle.std.proofs.lemmas.List.{reverse-append, take-append-drop}
+use Rattle.std.proofs.lemmas.List.{length-append, reverse-append, take-append-drop, take_more}
 use Rattle.std.proofs.lemmas.List.Elements.{filter-append}
 use Rattle.std.specs.Option.{option_or}
 use Rattle.std.proofs.lemmas.Option.{get_or_from_slice_get, slice_get_within}
@@ -12,7 +12,7 @@ use Rattle.tsn_journal.specs.declared.groups.Group.{Group}
 use Rattle.tsn_journal.specs.declared.index.Place.{Place}
 use Rattle.tsn_journal.specs.Finding.{last_where}
 use Rattle.tsn_journal.specs.Entries.{added_parts}
-use Rattle.tsn_journal.specs.Marks.{added_in}
+use Rattle.tsn_journal.specs.Marks.{IsTally, added_in}
 use Rattle.tsn_journal.specs.Index.{ArePlaces, IsLast, NoneFrom, belongs, is_of, number_at, number_of, place_at}
 use Rattle.tsn_journal.proofs.Links.{one, the_place}
 use Rattle.tsn_journal.proofs.LastWhere.{found_here, last_where-append}
@@ -89,28 +89,24 @@ module _ (ms : List MarkedEntry) (ps : List Place) (g : Group) (j : ℕ) (found 
       ∙ ap (filter (belongs g)) (drop_at ms (found.number - 1) m here)
       ∙ ap (λ k. cond (belongs g m) (m ∷ filter (belongs g) (drop k ms)) (filter (belongs g) (drop k ms))) ((let e : (found.number - 1) + 1 ≡ found.number = omega arith in e) ∙ number)
 
-pub one_counted : (n : ℕ) (F : List MarkedEntry) (b : Bool) (m : MarkedEntry) → n ≡ length F → b ≡ true → n + 1 ≡ length (cond b (m ∷ F) F)
-one_counted n F true m same holds = omega arith
-one_counted n F false m same holds = (cc)
-
-pub none_counted : (n : ℕ) (F : List MarkedEntry) (b : Bool) (m : MarkedEntry) → n ≡ length F → b ≡ false → n ≡ length (cond b (m ∷ F) F)
-none_counted n F true m same fails = (cc)
-none_counted n F false m same fails = same
-
 pub added_both : (xs ys : List MarkedEntry) → added_in (xs ++ ys) ≡ added_in xs + added_in ys
 added_both [] ys = omega arith
 added_both (x ∷ xs) ys = let rest = added_both xs ys in omega (arith, rest)
 
-pub added_more : (t : MarkedEntry → Bool) (xs : List MarkedEntry) (x : MarkedEntry) → added_in (filter t (xs ++ x ∷ [])) ≡ added_in (filter t xs) + added_in (cond (t x) (x ∷ []) [])
-added_more t xs x = ap added_in (filter-append t xs (x ∷ [])) ∙ added_both (filter t xs) (cond (t x) (x ∷ []) [])
+-- one entry more, at the front or at the end, where it passes
+pub one_told : (n k : ℕ) (F : List MarkedEntry) (b : Bool) (m : MarkedEntry) (x : ℕ) → IsTally n k F → b ≡ true → x ≡ added_parts m.entry.what → IsTally (n + 1) (k + x) (cond b (m ∷ F) F)
+one_told n k F true m x told holds parts = record { count = omega (arith, told.count); added = omega (arith, told.added, parts) }
+one_told n k F false m x told holds parts = absurd (cc)
 
-pub one_added : (n : ℕ) (F : List MarkedEntry) (b : Bool) (m : MarkedEntry) (k : ℕ) → n ≡ added_in F → b ≡ true → k ≡ added_parts m.entry.what → n + k ≡ added_in (cond b (m ∷ F) F)
-one_added n F true m k same holds parts = omega (arith, same, parts)
-one_added n F false m k same holds parts = (cc)
+pub none_told : (n k : ℕ) (F : List MarkedEntry) (b : Bool) (m : MarkedEntry) → IsTally n k F → b ≡ false → IsTally n k (cond b (m ∷ F) F)
+none_told n k F true m told fails = absurd (cc)
+none_told n k F false m told fails = told
 
-pub none_added : (n : ℕ) (F : List MarkedEntry) (b : Bool) (m : MarkedEntry) → n ≡ added_in F → b ≡ false → n ≡ added_in (cond b (m ∷ F) F)
-none_added n F true m same fails = (cc)
-none_added n F false m same fails = same
+pub both_told : (n k i j : ℕ) (xs ys : List MarkedEntry) → IsTally n k xs → IsTally i j ys → IsTally (i + n) (j + k) (xs ++ ys)
+both_told n k i j xs ys first second = record { count = omega (arith, first.count, second.count, length-append xs ys); added = omega (arith, first.added, second.added, added_both xs ys) }
+
+pub taken_more : (t : MarkedEntry → Bool) (xs : List MarkedEntry) (i : ℕ) (x : MarkedEntry) → i < length xs → x ≡ get_or xs i x → filter t (take (i + 1) xs) ≡ filter t (take i xs) ++ cond (t x) (x ∷ []) []
+taken_more t xs i x short is = ap (filter t) (take_more xs i x short ∙ ap (λ y. take i xs ++ y ∷ []) (sym is)) ∙ filter-append t (take i xs) (x ∷ [])
 
 pub one_numbered : (ns : List ℕ) (F : List MarkedEntry) (b : Bool) (m : MarkedEntry) → reverse ns ≡ map (λ (k : MarkedEntry). k.entry.number) F → b ≡ true → reverse (ns ++ m.entry.number ∷ []) ≡ map (λ (k : MarkedEntry). k.entry.number) (cond b (m ∷ F) F)
 one_numbered ns F true m same holds = reverse-append ns (m.entry.number ∷ []) ∙ ap (λ xs. m.entry.number ∷ xs) same

@@ -33,6 +33,11 @@ abbrev pub added_in : List MarkedEntry → ℕ
 added_in [] = 0
 added_in (m ∷ ms) = added_parts m.entry.what + added_in ms
 
+-- so many entries there are, whose changes add so many parts
+pub record IsTally (entries parts : ℕ) (ms : List MarkedEntry) : Type 0 where
+  pub count : entries ≡ length ms
+  pub added : parts ≡ added_in ms
+
 -- each mark is on unless a later entry takes its entry back, or settles it
 abbrev pub AreMarked : List MarkedEntry → Type 0
 AreMarked [] = Unit {0}

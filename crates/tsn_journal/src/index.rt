@@ -13,7 +13,7 @@ ghost use Rattle.tsn_journal.specs.Finding.{last_where};
 ghost use Rattle.tsn_journal.specs.declared.groups.Group.TheVariants.{EndsRedo, Of, On, RefersTo};
 ghost use Rattle.tsn_journal.specs.Index.{Adds, ArePlaces, HasPlaces, HasRoom, IsIndexed, IsIndexedBut, IsIndexedButNewest, IsLast, IsNewest, NewestAdds, NoneBetween, NoneFrom, TakesNoRoom, TakesPlaces, TakesRoom, belongs, belongs_to_others, group_if, groups_of_parts, is_by, most_places, number_at, other_of, places_for};
 ghost use Rattle.tsn_journal.specs.Latest.{latest_of};
-ghost use Rattle.tsn_journal.specs.Marks.{AreOff, added_in, is_own};
+ghost use Rattle.tsn_journal.specs.Marks.{AreOff, IsTally, is_own};
 ghost use Rattle.tsn_journal.specs.Newest.{HasNewest, IsIn, KeepsNewest, MendsNewest, groups_of};
 ghost use Rattle.tsn_journal.specs.Tests.{Tests};
 ghost use Rattle.tsn_journal.specs.Touched.{NewestTold, Tells, TellsSame, Told};
@@ -40,6 +40,13 @@ pub(crate) struct Place {
     pub(crate) before: u32,
     /// The last place before it in the group whose entry is of another session.
     pub(crate) other: u32,
+}
+
+/// A number of entries, and of the parts of their changes.
+#[derive(Clone, Copy, Debug)]
+pub(crate) struct Tally {
+    pub(crate) entries: usize,
+    pub(crate) parts: usize,
 }
 
 /// Of each entry a place in each group that it belongs to, and the newest place of each group.
@@ -444,40 +451,15 @@ impl Index {
         place
     }
 
-    /// How many standing entries the session has. Those up to the number `settled` are off. Once it found a quarter of what is
-    /// left, it goes through the rest in order, whosever that is.
-    pub(crate) fn count_of(&self, marked: &[MarkedEntry], session: u32, settled: u64) -> usize
+    /// How many standing entries the session has, and how many parts their changes have. Those up to the number `settled`
+    /// are off. Once it passed a quarter of what is left, it goes through the rest in order, whosever that is.
+    pub(crate) fn tally_of(&self, marked: &[MarkedEntry], session: u32, settled: u64) -> Tally
         requires index { IsIndexed marked.now self.now }
         requires off { AreOff settled marked.now }
-        ensures { result ≡ length (filter (belongs (Of session)) marked.now) }
+        ensures { IsTally result.entries result.parts (filter (belongs (Of session)) marked.now) }
     {
-        let mut found = 0;
-        let mut place = self.latest.session_places(session).standing;
-        'back: while place != 0 {
-            let at = &self.places[place as usize - 1];
-            if u64::from(at.number) <= settled {
-                break;
-            }
-            if (u64::from(at.number) - settled) / IN_ORDER <= found as u64 {
-                let left = &marked[settled as usize..at.number as usize];
-                return found + count_own(left, session);
-            }
-            if numbered(marked, at.number).is_own(session) {
-                found += 1;
-            }
-            place = at.before;
-        }
-        found
-    }
-
-    /// How many parts the changes of the session's standing entries have. Those up to the number `settled` are off. It goes
-    /// through the rest in order, too, once so many places were passed.
-    pub(crate) fn parts_of(&self, marked: &[MarkedEntry], session: u32, settled: u64) -> usize
-        requires index { IsIndexed marked.now self.now }
-        requires off { AreOff settled marked.now }
-        ensures { result ≡ added_in (filter (belongs (Of session)) marked.now) }
-    {
-        let mut found = 0;
+        let mut entries = 0;
+        let mut parts = 0;
         let mut passed = 0;
         let mut place = self.latest.session_places(session).standing;
         'back: while place != 0 {
@@ -487,16 +469,21 @@ impl Index {
             }
             if (u64::from(at.number) - settled) / IN_ORDER <= passed {
                 let left = &marked[settled as usize..at.number as usize];
-                return found + parts_of_own(left, session);
+                let first = tally_own(left, session);
+                return Tally {
+                    entries: entries + first.entries,
+                    parts: parts + first.parts,
+                };
             }
             passed += 1;
             let entry = numbered(marked, at.number);
             if entry.is_own(session) {
-                found += entry.entry.what.added_parts();
+                entries += 1;
+                parts += entry.entry.what.added_parts();
             }
             place = at.before;
         }
-        found
+        Tally { entries, parts }
     }
 
     /// The numbers of the session's standing entries, rising. Those up to the number `settled` are off. Refused only for
@@ -658,32 +645,21 @@ impl Index {
     }
 }
 
-/// How many of the entries stand and are the session's.
-fn count_own(marked: &[MarkedEntry], session: u32) -> usize
-    ensures count { result ≡ length (filter (belongs (Of session)) marked.now) }
-    ensures few { result ≤ length marked.now }
+/// How many of the entries stand and are the session's, and how many parts their changes have.
+fn tally_own(marked: &[MarkedEntry], session: u32) -> Tally
+    ensures tally { IsTally result.entries result.parts (filter (belongs (Of session)) marked.now) }
+    ensures few { result.entries ≤ length marked.now }
+    ensures few_parts { result.parts ≤ 16 * length marked.now }
 {
-    let mut found = 0;
+    let mut entries = 0;
+    let mut parts = 0;
     for entry in marked {
         if entry.is_own(session) {
-            found += 1;
+            entries += 1;
+            parts += entry.entry.what.added_parts();
         }
     }
-    found
-}
-
-/// How many parts the changes of those of the entries have that stand and are the session's.
-fn parts_of_own(marked: &[MarkedEntry], session: u32) -> usize
-    ensures parts { result ≡ added_in (filter (belongs (Of session)) marked.now) }
-    ensures few { result ≤ 16 * length marked.now }
-{
-    let mut found = 0;
-    for entry in marked {
-        if entry.is_own(session) {
-            found += entry.entry.what.added_parts();
-        }
-    }
-    found
+    Tally { entries, parts }
 }
 
 /// The entry of the number, which is there.

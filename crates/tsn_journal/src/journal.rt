@@ -212,14 +212,18 @@ impl Journal {
         ensures count { result ≡ length (own_standing self.now.entries session) }
         ensures few { result ≤ length self.now.entries }
     {
-        self.index.count_of(&self.marked, session, self.settled)
+        self.index
+            .tally_of(&self.marked, session, self.settled)
+            .entries
     }
 
     /// How many parts the changes of the session's standing entries have in all. It takes no memory.
     pub fn parts_of(&self, session: u32) -> usize
         ensures { result ≡ parts_of_all (own_standing self.now.entries session) }
     {
-        self.index.parts_of(&self.marked, session, self.settled)
+        self.index
+            .tally_of(&self.marked, session, self.settled)
+            .parts
     }
 
     /// The numbers of the session's standing entries, rising. Refused only for want of memory.

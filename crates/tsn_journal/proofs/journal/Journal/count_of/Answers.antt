@@ -11,7 +11,7 @@ use Rattle.tsn_journal.proofs.journal.Journal.count_of.Goals as goal
 pub returns-clause-count : goal.returns-clause-count
 returns-clause-count c =
     let s = c.args.session in
-    c.count_of.ensures
+    c.tally_of.ensures.count
     ∙ ap (λ ms. length (filter (is_own s) ms)) c.deref.ensures.value
     ∙ own_count c.self.inside.marked.items c.self.invariant.journal s
     ∙ ap (λ (l : Log). length (own_standing l.entries s)) c.self.view_is
@@ -19,12 +19,12 @@ returns-clause-count c =
 pub returns-clause-few : goal.returns-clause-few
 returns-clause-few c =
     let ms = c.self.inside.marked.items in
-    let counted = c.count_of.ensures ∙ ap (λ xs. length (filter (is_own c.args.session) xs)) c.deref.ensures.value in
+    let counted = c.tally_of.ensures.count ∙ ap (λ xs. length (filter (is_own c.args.session) xs)) c.deref.ensures.value in
     let all : length (entries_of ms) ≡ length c.args.self.now.entries = ap (λ (l : Log). length l.entries) c.self.view_is in
     omega (arith, counted, few_pass (is_own c.args.session) ms, length-map ms (λ (m : MarkedEntry). m.entry), all)
 
-pub count_of-requires-clause-index : goal.count_of-requires-clause-index
-count_of-requires-clause-index c = subst (λ xs. IsIndexed xs c.self.inside.index) (sym c.deref.ensures.value) c.self.invariant.indexed
+pub tally_of-requires-clause-index : goal.tally_of-requires-clause-index
+tally_of-requires-clause-index c = subst (λ xs. IsIndexed xs c.self.inside.index) (sym c.deref.ensures.value) c.self.invariant.indexed
 
-pub count_of-requires-clause-off : goal.count_of-requires-clause-off
-count_of-requires-clause-off c = subst (AreOff c.self.inside.settled) (sym c.deref.ensures.value) c.self.invariant.off
+pub tally_of-requires-clause-off : goal.tally_of-requires-clause-off
+tally_of-requires-clause-off c = subst (AreOff c.self.inside.settled) (sym c.deref.ensures.value) c.self.invariant.off

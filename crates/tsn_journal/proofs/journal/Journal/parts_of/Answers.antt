@@ -8,13 +8,13 @@ use Rattle.tsn_journal.proofs.journal.Journal.parts_of.Goals as goal
 pub returns : goal.returns
 returns c =
     let s = c.args.session in
-    c.parts_of.ensures
+    c.tally_of.ensures.added
     ∙ ap (λ ms. added_in (filter (is_own s) ms)) c.deref.ensures.value
     ∙ own_parts c.self.inside.marked.items c.self.invariant.journal s
     ∙ ap (λ (l : Log). parts_of_all (own_standing l.entries s)) c.self.view_is
 
-pub parts_of-requires-clause-index : goal.parts_of-requires-clause-index
-parts_of-requires-clause-index c = subst (λ xs. IsIndexed xs c.self.inside.index) (sym c.deref.ensures.value) c.self.invariant.indexed
+pub tally_of-requires-clause-index : goal.tally_of-requires-clause-index
+tally_of-requires-clause-index c = subst (λ xs. IsIndexed xs c.self.inside.index) (sym c.deref.ensures.value) c.self.invariant.indexed
 
-pub parts_of-requires-clause-off : goal.parts_of-requires-clause-off
-parts_of-requires-clause-off c = subst (AreOff c.self.inside.settled) (sym c.deref.ensures.value) c.self.invariant.off
+pub tally_of-requires-clause-off : goal.tally_of-requires-clause-off
+tally_of-requires-clause-off c = subst (AreOff c.self.inside.settled) (sym c.deref.ensures.value) c.self.invariant.off
