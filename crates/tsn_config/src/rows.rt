@@ -82,22 +82,10 @@ impl Rows {
         ensures { option_map lent_record result ≡ map.get self.now.map key }
     {
         match key {
-            Key::Port(id) => match self.ports.get(id.get()) {
-                Some(row) => Some(RecordRef::Port(row)),
-                None => None,
-            },
-            Key::Filter(id) => match self.filters.get(id.get()) {
-                Some(row) => Some(RecordRef::Filter(row)),
-                None => None,
-            },
-            Key::Gate(id) => match self.gates.get(id.get()) {
-                Some(row) => Some(RecordRef::Gate(row)),
-                None => None,
-            },
-            Key::Meter(id) => match self.meters.get(id.get()) {
-                Some(row) => Some(RecordRef::Meter(row)),
-                None => None,
-            },
+            Key::Port(id) => Some(RecordRef::Port(self.ports.get(id.get())?)),
+            Key::Filter(id) => Some(RecordRef::Filter(self.filters.get(id.get())?)),
+            Key::Gate(id) => Some(RecordRef::Gate(self.gates.get(id.get())?)),
+            Key::Meter(id) => Some(RecordRef::Meter(self.meters.get(id.get())?)),
         }
     }
 
@@ -253,8 +241,18 @@ impl Rows {
         ensures spare { self.old.spare ≤ self.new.spare + length parts.items }
     {
         while let Some(part) = parts.pop() {
-            let _ = self.set(part.key, part.after);
+            self.set_part(part);
         }
+    }
+
+    // Sets the value after of the part at its key.
+    fn set_part(&mut self, part: Part)
+        requires kind { IfSome part.after (λ r. IsTrue (is_of_kind part.key r)) }
+        requires room { 1 ≤ self.old.spare }
+        ensures map { self.new.map ≡ put self.old.map part.key part.after }
+        ensures spare { self.old.spare ≤ self.new.spare + 1 }
+    {
+        drop(self.set(part.key, part.after));
     }
 }
 
