@@ -16,7 +16,6 @@ use tsn_edit::Edit;
 use tsn_edit::batches::{Batch, is_edited};
 use tsn_types::keys::Key;
 use tsn_types::limits::Limits;
-use tsn_types::numbers::FilterId;
 use tsn_types::records::Record;
 use tsn_types::refusals::{Field, Refusal};
 
@@ -125,15 +124,7 @@ impl Config {
     fn unedited_referrer(&self, edits: &[Edit], key: &Key) -> Option<Refusal>
         ensures { result ≡ referrer_beside self.now.map edits.now key.now }
     {
-        let mut from = 0;
-        while let Some(number) = self.rows.next_referrer(key, from) {
-            let filter = Key::Filter(FilterId::new(number).unwrap());
-            if !is_edited(edits, &filter) {
-                return Some(Refusal::Referred(filter));
-            }
-            from = number + 1;
-        }
-        None
+        self.referrer_but(key, &|filter: &Key| { is_edited(edits, filter) })
     }
 }
 

@@ -3,11 +3,13 @@
 //! The test looks at the values that stand at the keys, at each record's limits and at its references; that this is
 //! enough rests on the configuration being well kept, by its type. A change of several parts is seen as a whole: what a
 //! record refers to may come with it, and what refers to a removed key may go with it. Nothing here takes memory.
-ghost use Rattle.std.specs.Prelude.{◌≡◌, ◌↔◌, ◌∷◌, [], IfSome, IsTrue, is_none, is_some};
+ghost use Rattle.std.specs.Prelude.{◌≡◌, ◌↔◌, ◌∷◌, [], IfSome, IsTrue, List, is_none, is_some};
 ghost use Rattle.std.specs.FinMap as map;
 ghost use Rattle.std.specs.List.{IsDistinct};
 ghost use Rattle.tsn_types.specs.InRange.{RecordInRange};
-ghost use Rattle.tsn_types.specs.Keys.{same_key};
+ghost use Rattle.tsn_types.specs.Keys.{has, same_key};
+ghost use Rattle.tsn_types.specs.declared.keys.Key.{Key as AnyKey};
+ghost use Rattle.tsn_table.specs.Firsts.{AnswersAs};
 ghost use Rattle.tsn_edit.specs.Changes.{Fits, Stands, keys_of, put_all};
 ghost use Rattle.tsn_edit.specs.Edits.{dangling, referrer};
 ghost use Rattle.tsn_edit.specs.Parts.{inverse};
@@ -180,10 +182,22 @@ impl Config {
     fn referrer_beside(&self, parts: &[Part], key: &Key) -> Option<Refusal>
         ensures { result ≡ referrer_beside (keys_of parts.now) self.now.map key.now }
     {
+        self.referrer_but(key, &|filter: &Key| { is_on(parts, filter) })
+    }
+
+    /// The refusal for the least filter that refers to the key, without those whose keys pass the test.
+    pub(crate) fn referrer_but<F: Fn(&Key) -> bool>(
+        &self,
+        key: &Key,
+        is_left_out: &F,
+    ) -> Option<Refusal>
+        requires { F.IsAlwaysCallable is_left_out.now }
+        ensures { (ks : List AnyKey) → AnswersAs F.Fn (has ks) is_left_out.now → result ≡ referrer_beside ks self.now.map key.now }
+    {
         let mut from = 0;
         while let Some(number) = self.rows.next_referrer(key, from) {
             let filter = Key::Filter(FilterId::new(number).unwrap());
-            if !is_on(parts, &filter) {
+            if !is_left_out(&filter) {
                 return Some(Refusal::Referred(filter));
             }
             from = number + 1;
