@@ -9,7 +9,6 @@ pub mod Examples
 pub mod Indexed
 pub mod Joined
 pub mod Listed
-pub mod Nexts
 pub mod Numbered
 pub mod Opened
 pub mod OpeningKept

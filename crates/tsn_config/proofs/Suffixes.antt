@@ -1,13 +1,12 @@
 -- Parts that are tested one by one: what holds of those that are left holds of all.
 use Rattle.std.proofs.Common.{None, not, ◌≡◌, ℕ, zero, suc, ◌||◌, ◌+◌, ◌<◌, true, false, cond, ◌&&◌, List, [], ◌∷◌, length, drop, get_or, refl, sym, ◌∙◌, ap, subst, Option, drop-cons, add-one}
-use Rattle.std.specs.Prelude.{IfSome, is_none}
+use Rattle.std.specs.Prelude.{is_none}
 use Rattle.std.specs.List.{AllByRecursion, IsDistinct}
 use Rattle.std.specs.FinMap.{get}
 use Rattle.tsn_edit.proofs.Batched.{none_alike}
 use Rattle.tsn_types.specs.declared.keys.Key.{Key}
 use Rattle.tsn_types.specs.declared.records.Record.{Record}
 use Rattle.tsn_types.specs.declared.limits.Limits.{Limits}
-use Rattle.tsn_types.specs.InRange.{RecordInRange}
 use Rattle.tsn_types.specs.Keys.{has, same_key}
 use Rattle.tsn_edit.specs.Changes.{Stands, keys_of, put_all}
 use Rattle.tsn_edit.specs.Configuration.{Configuration}
@@ -17,7 +16,7 @@ use Rattle.tsn_edit.proofs.KeyFacts.{get-put}
 use Rattle.tsn_config.specs.declared.fitting.Way.{Way}
 use Rattle.tsn_config.specs.declared.fitting.Way.TheVariants.{Forth, Back}
 use Rattle.tsn_config.specs.Keeping.{keeps_part, keeps_value, referrer_beside}
-use Rattle.tsn_config.specs.Ways.{AreInRange, turned, turned_part}
+use Rattle.tsn_config.specs.Ways.{turned, turned_part}
 
 -- one part is left less
 pub next_left : {A : Type 0} (ps : List A) (i : ℕ) (p : A) → i < length ps → p ≡ get_or ps i p → drop i ps ≡ p ∷ drop (i + 1) ps
@@ -56,16 +55,10 @@ stand_left way c (suc i) [] h = tt
 stand_left way c (suc i) (p ∷ ps) h = stand_left way c i ps h.1
 
 module _ (way : Way) (ps qs : List Part) (p : Part) (is : ps ≡ p ∷ qs) where
-  pub stand_next : (c : Configuration) → get c p.key ≡ (turned_part way p).before → Stands c (turned way qs) → Stands c (turned way ps)
-  stand_next c here h = subst (λ ps. Stands c (turned way ps)) (sym is) (ap (get c) (key_turned way p) ∙ here, h)
-
   pub not_standing : (c : Configuration) → (get c p.key ≡ (turned_part way p).before → ⊥) → Stands c (turned way ps) → ⊥
   not_standing c other h =
       let all = subst (λ ps. Stands c (turned way ps)) is h in
       other (ap (get c) (sym (key_turned way p)) ∙ all.0)
-
-  pub ranges_next : IfSome (turned_part way p).after RecordInRange → AreInRange (turned way qs) → AreInRange (turned way ps)
-  ranges_next here h = subst (λ ps. AreInRange (turned way ps)) (sym is) (here, h)
 
   pub put_at : (c : Configuration) (k : Key) → same_key k p.key ≡ true → get (put_all c (turned way ps)) k ≡ (turned_part way p).after
   put_at c k same =

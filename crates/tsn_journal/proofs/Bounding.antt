@@ -140,9 +140,6 @@ both_conflict es fs c =
     ∙ ap (λ b. (meets (keys_of es) ks || meets (keys_of fs) ks) || b) (mixed (meets (refs_after es) ks) (meets (refs_after fs) ks) (meets (keys_of es) rs) (meets (keys_of fs) rs))
     ∙ mixed (meets (keys_of es) ks) (meets (keys_of fs) ks) (meets (refs_after es) ks || meets (keys_of es) rs) (meets (refs_after fs) ks || meets (keys_of fs) rs)
 
-pub none_cross : (s : ℕ) (e : MarkedEntry) → crosses (Some []) s e ≡ false
-none_cross s e = ap (λ b. b && not (e.entry.session == s)) (by_option (standing_change e) (λ none. ap (is_hit []) none) (λ c some. ap (is_hit []) some))
-
 pub both_cross : (es fs : Change) (s : ℕ) (e : MarkedEntry) → crosses (Some es) s e ≡ false → crosses (Some fs) s e ≡ false → crosses (Some (es ++ fs)) s e ≡ false
 both_cross es fs s e h k =
     let own : Bool = not (e.entry.session == s) in

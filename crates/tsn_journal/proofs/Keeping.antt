@@ -87,12 +87,6 @@ module _ (w : What) (s : ℕ) (ms ns : List MarkedEntry) (pushed : ns ≡ map (m
   pub pushed_numbered : IsJournal ms → length ms + 1 ≤ 262144 → IsNumbered 1 (entries_of ns)
   pushed_numbered is few = (journal_push ms s w ns is (omega arith) pushed).numbered
 
-  pub pushed_some : 1 ≤ length ns
-  pushed_some = omega (arith, ap length pushed, length-append (map (mark_off w) ms) (new_entry ms s w ∷ []))
-
-  pub pushed_few : length ms + 1 ≤ 262144 → length ns ≤ 262144
-  pushed_few h = omega (arith, ap length pushed, length-append (map (mark_off w) ms) (new_entry ms s w ∷ []), length-map ms (mark_off w), h)
-
   -- the marks up to what is settled then are off
   pub off_more : (upto now : ℕ) → IsJournal ms → upto ≤ length ms → settles_to w ≤ length ms → now ≡ max upto (settles_to w) → AreOff upto ms → AreOff now ns
   off_more upto now is within there now_is off =
@@ -148,9 +142,3 @@ module _ (w : What) (s : ℕ) (ms ns : List MarkedEntry) (pushed : ns ≡ map (m
 -- the number that an entry settles to is there, as the view says it
 pub settles_there : (w : What) (ms : List MarkedEntry) (l k : Log) → k ≡ l → entries_of ms ≡ k.entries → settles_to w ≤ length l.entries → settles_to w ≤ length ms
 settles_there w ms l k view is h = omega (arith, h, ap (λ (x : Log). length x.entries) view, ap length is, length-map ms (λ (m : MarkedEntry). m.entry))
-
-pub room_for_one : (n p k : ℕ) (a : Index) → 1 ≤ n → k ≤ p → HasRoom (places_for n p) a → HasRoom (places_for 1 k) a
-room_for_one n p k a some fewer h = record {
-  places = record { capacity = omega (arith, h.places.capacity); few = omega (arith, h.places.few) };
-  rows = record { ports = omega (arith, h.rows.ports); filters = omega (arith, h.rows.filters); gates = omega (arith, h.rows.gates); meters = omega (arith, h.rows.meters); sessions = omega (arith, h.rows.sessions) };
-}

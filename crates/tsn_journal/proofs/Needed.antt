@@ -1,16 +1,16 @@
 -- The number up to which an entry may be blocked is no greater than it has to be.
 use Rattle.std.proofs.Common.{◌≡◌, ℕ, zero, suc, ◌+◌, ◌-◌, ◌<◌, ◌≤◌, ◌⊎◌, inl, inr, Bool, true, false, cond, ◌||◌, List, [], ◌∷◌, ◌++◌, drop, refl, sym, ◌∙◌, ap, subst, Some, None, arith, length, max}
-use Rattle.std.specs.Prelude.{◌==◌, option_map}
+use Rattle.std.specs.Prelude.{option_map}
 use Rattle.std.specs.List.{slice_get}
 use Rattle.std.specs.Option.{option_or}
 use Rattle.std.proofs.lemmas.List.{length-map}
 use Rattle.std.proofs.lemmas.Option.{slice_get-map, slice_get_within, same_Some}
-use Rattle.std.proofs.lemmas.Bool.{or_left, or_right, not-true}
+use Rattle.std.proofs.lemmas.Bool.{or_left, or_right}
 use Rattle.tsn_types.specs.declared.keys.Key.{Key}
-use Rattle.tsn_types.specs.Keys.{has, same_key}
+use Rattle.tsn_types.specs.Keys.{has}
 use Rattle.tsn_edit.specs.Changes.{keys_of}
 use Rattle.tsn_edit.specs.Parts.{Part}
-use Rattle.tsn_edit.proofs.KeyFacts.{by_bool, by_option, has-append, same_itself, keys_of-append}
+use Rattle.tsn_edit.proofs.KeyFacts.{by_bool, by_option, has-append, keys_of-append}
 use Rattle.tsn_journal.specs.declared.entries.Entry.{Entry}
 use Rattle.tsn_journal.specs.declared.entries.What.{What}
 use Rattle.tsn_journal.specs.declared.entries.MarkedEntry.{MarkedEntry}
@@ -18,9 +18,9 @@ use Rattle.tsn_journal.specs.declared.groups.Group.TheVariants.{On}
 use Rattle.tsn_journal.specs.Crossed.{IsFoundOn, IsMet, IsNeeded, IsRaised, is_on_referred, is_referred}
 use Rattle.tsn_journal.specs.Entries.{IsNumbered, adds, with_entry}
 use Rattle.tsn_journal.specs.Finding.{last_where}
-use Rattle.tsn_journal.specs.Index.{belongs, belongs_to_others, is_on, standing_change}
+use Rattle.tsn_journal.specs.Index.{belongs_to_others, is_on}
 use Rattle.tsn_journal.specs.Marks.{entries_of}
-use Rattle.tsn_journal.proofs.Grouping.{first_true, none_true, second_true}
+use Rattle.tsn_journal.proofs.Grouping.{none_true}
 use Rattle.tsn_journal.proofs.Links.{end_at, front_at, none_some, where_at}
 use Rattle.tsn_journal.proofs.Newest.{number_at'}
 
@@ -64,30 +64,6 @@ found_on s n before k ms y numbered found is = greater (max_of y.entry.number be
     greater (inr old) = inl (is ∙ old)
 
 -- ---- from a key to a change
-
-open_on : (k : Key) (m : MarkedEntry) → is_on k (standing_change m) ≡ true → is_on k (adds m.entry.what) ≡ true
-open_on k m h = by_bool m.is_open
-    (λ on. ap (λ b. is_on k (cond b (adds m.entry.what) None)) (sym on) ∙ h)
-    (λ off. none_true false refl (ap (λ b. is_on k (cond b (adds m.entry.what) None)) (sym off) ∙ h))
-
-pub other_of_found : (before n s : ℕ) (ms : List MarkedEntry) (p : Part) → IsFoundOn before n ms s p.key → IsRaised before n ms s (Some (p ∷ []))
-other_of_found before n s ms p (inl same) = inl same
-other_of_found before n s ms p (inr found) = inr (inr (record {
-  some = found.some;
-  entry = found.entry;
-  at = found.at;
-  other = not-true (found.entry.entry.session == s) (second_true (belongs (On p.key) found.entry) _ found.passes);
-  key = p.key;
-  on = open_on p.key found.entry (first_true (belongs (On p.key) found.entry) _ found.passes);
-  later_on = or_left (same_key p.key p.key) false (same_itself p.key);
-}))
-
-pub own_of_referred : (before n s : ℕ) (ms : List MarkedEntry) (p : Part) → is_referred p.key ≡ true → n ≡ max before (length ms + 1) → IsRaised before n ms s (Some (p ∷ []))
-own_of_referred before n s ms p on is = greater (max_of before (length ms + 1))
-  where
-    greater : ((max before (length ms + 1) ≡ before) ⊎ (max before (length ms + 1) ≡ length ms + 1)) → IsRaised before n ms s (Some (p ∷ []))
-    greater (inl old) = inl (is ∙ old)
-    greater (inr own) = inr (inl (is ∙ own, or_left (is_referred p.key) false on))
 
 -- ---- part after part
 

@@ -1,6 +1,6 @@
 -- The newest places of groups: with a place more, set back, and with marks off.
-use Rattle.std.proofs.Common.{◌≡◌, ℕ, zero, suc, ◌+◌, ◌-◌, ◌<◌, ◌≤◌, ◌⊎◌, inl, inr, Bool, true, false, cond, ◌||◌, ◌&&◌, List, [], ◌∷◌, ◌++◌, refl, sym, ◌∙◌, ap, subst, Option, Some, None, arith, get_or, length, map, max, take}
-use Rattle.std.specs.Prelude.{◌==◌, is_some, option_map}
+use Rattle.std.proofs.Common.{◌≡◌, ℕ, zero, suc, ◌+◌, ◌-◌, ◌<◌, ◌≤◌, ◌⊎◌, inl, inr, Bool, true, false, cond, ◌||◌, List, [], ◌∷◌, ◌++◌, refl, sym, ◌∙◌, ap, subst, Option, Some, None, arith, get_or, length, map, max, take}
+use Rattle.std.specs.Prelude.{◌==◌, option_map}
 use Rattle.std.specs.List.{find, slice_get}
 use Rattle.std.proofs.lemmas.Grind.{flat_map-append}
 use Rattle.std.proofs.lemmas.List.{length-append, length-map}
@@ -20,8 +20,8 @@ use Rattle.tsn_journal.specs.declared.groups.Group.{Group}
 use Rattle.tsn_journal.specs.declared.groups.Group.TheVariants.{On, RefersTo, Of, EndsRedo}
 use Rattle.tsn_journal.specs.declared.index.Index.{Index}
 use Rattle.tsn_journal.specs.declared.index.Place.{Place}
-use Rattle.tsn_journal.specs.Entries.{Applied, IsNumbered, adds, closes, names, settles_to, undoes}
-use Rattle.tsn_journal.specs.Index.{Adds, ArePlaces, IsIndexed, IsNewest, belongs, groups_of_parts, is_among, is_by, is_on, number_at, other_of, part_groups, place_at, refers, set_at, standing_change}
+use Rattle.tsn_journal.specs.Entries.{IsNumbered, adds, closes, names, settles_to}
+use Rattle.tsn_journal.specs.Index.{Adds, ArePlaces, IsIndexed, IsNewest, belongs, groups_of_parts, is_among, is_on, number_at, other_of, part_groups, place_at, refers, set_at, standing_change}
 use Rattle.tsn_journal.specs.Latest.{latest_of, same_group}
 use Rattle.tsn_journal.specs.Marks.{AreOff, ends_redo, entries_of, mark_off}
 use Rattle.tsn_journal.specs.Newest.{AreNewest, HasNewest, IsIn, KeepsNewest, MendsNewest, groups_added, groups_of}
@@ -199,20 +199,11 @@ module _ (ms : List MarkedEntry) (n s : ℕ) (c : Change) (ends : Bool) (newest 
   stands' : standing_change m ≡ Some c
   stands' = ap (λ b. cond b (adds m.entry.what) None) (newest.is_open m at) ∙ newest.change m at
 
-  by_session : (m.entry.session == s) ≡ true
-  by_session = ap (is_by s) (sym at) ∙ newest.by
-
   pub in_key : (i : ℕ) (p : Part) → i < length (parts c) → p ≡ get_or (parts c) i p → belongs (On p.key) m ≡ true
   in_key i p short is = ap (is_on p.key) stands' ∙ has_key (parts c) i p short is
 
   pub in_ref : (i : ℕ) (p : Part) (refs : Refs) (k : Key) → i < length (parts c) → p ≡ get_or (parts c) i p → keys_of_refs refs ≡ refs_of p.after → ((refs.first ≡ Some k) ⊎ (refs.second ≡ Some k)) → belongs (RefersTo k) m ≡ true
   in_ref i p refs k short is same which = ap (refers k) stands' ∙ has_ref (parts c) i p k short is (ap (λ ks. has ks k) (sym same) ∙ elim which [ inl one ↦ first_of refs.first refs.second k one | inr two ↦ second_of refs.first refs.second k two ])
-
-  pub in_own : belongs (Of s) m ≡ true
-  in_own = (λ i. is_some {T = Applied} (cond (newest.is_open m at i) (option_map (λ d. record { number = m.entry.number; session = m.entry.session; change = d }) (newest.change m at i)) None) && by_session i)
-
-  pub in_ends : ends ≡ true → belongs (EndsRedo s) m ≡ true
-  in_ends wanted = (λ i. by_session i && ((newest.end m at ∙ wanted) i || (is_some (undoes m.entry.what) && m.is_open)))
 
 -- ---- the groups of parts, one after another
 

@@ -42,19 +42,6 @@ module _ (l k : Latest) (key : Key) (row : KeyPlaces) (rows : (q : Key) → key_
   set_refers' : (q : Key) → refers_of (key_row k q) ≡ cond (same_key key q) row.refers (refers_of (key_row l q))
   set_refers' q = ap refers_of (rows q) ∙ kept refers_of (same_key q key) (Some row) (key_row l q) ∙ ap (λ b. cond b row.refers (refers_of (key_row l q))) (same_key_swap q key)
 
-  pub set_touched : (q : Key) → touched_of (key_row k q) ≡ cond (same_key key q) row.touched (touched_of (key_row l q))
-  set_touched q = ap touched_of (rows q) ∙ kept touched_of (same_key q key) (Some row) (key_row l q) ∙ ap (λ b. cond b row.touched (touched_of (key_row l q))) (same_key_swap q key)
-
-  pub set_referred : (q : Key) → referred_of (key_row k q) ≡ cond (same_key key q) row.referred (referred_of (key_row l q))
-  set_referred q = ap referred_of (rows q) ∙ kept referred_of (same_key q key) (Some row) (key_row l q) ∙ ap (λ b. cond b row.referred (referred_of (key_row l q))) (same_key_swap q key)
-
-  -- a number that is set as it was stays for all keys
-  pub touched_stay : row.touched ≡ touched_of (key_row l key) → (q : Key) → touched_of (key_row k q) ≡ touched_of (key_row l q)
-  touched_stay same q = set_touched q ∙ same_either (same_key key q) row.touched (touched_of (key_row l q)) (λ one. same ∙ ap (λ x. touched_of (key_row l x)) (one_key key q one))
-
-  pub referred_stay : row.referred ≡ referred_of (key_row l key) → (q : Key) → referred_of (key_row k q) ≡ referred_of (key_row l q)
-  referred_stay same q = set_referred q ∙ same_either (same_key key q) row.referred (referred_of (key_row l q)) (λ one. same ∙ ap (λ x. referred_of (key_row l x)) (one_key key q one))
-
   session_same : (s : ℕ) → session_row k s ≡ session_row l s
   session_same s = (λ i. get (sessions i).map s)
 

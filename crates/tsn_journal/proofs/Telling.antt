@@ -1,20 +1,19 @@
 -- What the rows of keys tell of the newest entries, once one entry more is told.
-use Rattle.std.proofs.Common.{◌≡◌, ℕ, zero, suc, ◌+◌, ◌<◌, ◌≤◌, ◌⊎◌, inl, inr, Bool, true, false, cond, ◌||◌, List, [], ◌∷◌, ◌++◌, refl, sym, ◌∙◌, ap, subst, Option, Some, None, arith, append_assoc, get_or, length, take}
+use Rattle.std.proofs.Common.{◌≡◌, ℕ, zero, suc, ◌+◌, ◌<◌, ◌≤◌, inl, inr, Bool, true, false, cond, List, [], ◌∷◌, ◌++◌, refl, sym, ◌∙◌, ap, subst, Option, Some, None, arith, append_assoc, get_or, length, take}
 use Rattle.std.specs.Prelude.{◌==◌, option_map, option_to_list}
 use Rattle.std.specs.List.{find}
 use Rattle.std.specs.Option.{option_or}
-use Rattle.std.proofs.lemmas.List.{length-append, take_all}
+use Rattle.std.proofs.lemmas.List.{length-append}
 use Rattle.std.proofs.lemmas.List.Folds.{find-append}
 use Rattle.std.proofs.lemmas.Bool.{eqb-true, or_left, or_right, le-ltb, lt-ltb}
 use Rattle.std.proofs.lemmas.Option.{same_Some}
 use Rattle.tsn_journal.proofs.Grouping.{either}
-use Rattle.tsn_edit.proofs.Conflicting.{same_key_swap}
 use Rattle.tsn_types.specs.declared.keys.Key.{Key}
 use Rattle.tsn_types.specs.declared.records.Refs.{Refs}
-use Rattle.tsn_types.specs.Keys.{has, keys_of_refs, refs_of, same_key}
+use Rattle.tsn_types.specs.Keys.{has, keys_of_refs, refs_of}
 use Rattle.tsn_edit.specs.Changes.{keys_of, refs_after}
 use Rattle.tsn_edit.specs.Parts.{Change, Part}
-use Rattle.tsn_edit.proofs.KeyFacts.{by_bool, by_option, has-append, keys_of-append, one_key, same_itself}
+use Rattle.tsn_edit.proofs.KeyFacts.{by_bool, by_option, has-append, keys_of-append}
 use Rattle.tsn_journal.specs.declared.entries.Entry.{Entry}
 use Rattle.tsn_journal.specs.declared.index.Index.{Index}
 use Rattle.tsn_journal.specs.Entries.{IsNumbered, applies}
@@ -31,17 +30,6 @@ use Rattle.tsn_journal.proofs.Sought.{nothing_after, take_next}
 no_key : {G : Type 0} (k : Key) → has [] k ≡ true → G
 no_key k h = (cc)
 
-one_has : (k q : Key) → has (k ∷ []) q ≡ true → k ≡ q
-one_has k q h = by_bool (same_key q k)
-    (λ yes. sym (one_key q k yes))
-    (λ no. absurd (no_true (has (k ∷ []) q) (ap (λ b. b || false) no) h))
-  where
-    no_true : (b : Bool) → b ≡ false → b ≡ true → ⊥
-    no_true b f t = (cc)
-
-has_one : (k q : Key) → same_key k q ≡ true → has (k ∷ []) q ≡ true
-has_one k q h = ap (λ b. b || false) (same_key_swap q k ∙ h)
-
 pub told_same : (n : ℕ) (a b : Index) → TellsSame a b → Told n [] [] a b
 told_same n a b same = record {
   stray = inl same.stray;
@@ -53,32 +41,6 @@ told_same n a b same = record {
 
 pub same_itself' : (a : Index) → TellsSame a a
 same_itself' a = record { stray = refl; on = λ q. refl; to = λ q. refl }
-
-set_or_same : (key q : Key) (x y z : ℕ) → z ≡ cond (same_key key q) x y → (z ≡ y) ⊎ ((has (key ∷ []) q ≡ true) × (z ≡ x))
-set_or_same key q x y z is = by_bool (same_key key q)
-    (λ yes. inr (has_one key q yes, is ∙ ap (λ b. cond b x y) yes))
-    (λ no. inl (is ∙ ap (λ b. cond b x y) no))
-
-set_here : (key q : Key) (x y z : ℕ) → z ≡ cond (same_key key q) x y → has (key ∷ []) q ≡ true → z ≡ x
-set_here key q x y z is h = is ∙ ap (λ b. cond b x y) (ap (λ k. same_key key k) (sym (one_has key q h)) ∙ same_itself key)
-
-pub told_key : (n : ℕ) (key : Key) (a b : Index) → b.stray ≡ a.stray → ((q : Key) → touched b q ≡ cond (same_key key q) n (touched a q)) → ((q : Key) → referred b q ≡ referred a q) → Told n (key ∷ []) [] a b
-told_key n key a b stray set same = record {
-  stray = inl stray;
-  on = λ q h. inl (set_here key q n (touched a q) (touched b q) (set q) h);
-  on_or_same = λ q. set_or_same key q n (touched a q) (touched b q) (set q);
-  to = λ q h. no_key q h;
-  to_or_same = λ q. inl (same q);
-}
-
-pub told_ref : (n : ℕ) (key : Key) (a b : Index) → b.stray ≡ a.stray → ((q : Key) → touched b q ≡ touched a q) → ((q : Key) → referred b q ≡ cond (same_key key q) n (referred a q)) → Told n [] (key ∷ []) a b
-told_ref n key a b stray same set = record {
-  stray = inl stray;
-  on = λ q h. no_key q h;
-  on_or_same = λ q. inl (same q);
-  to = λ q h. inl (set_here key q n (referred a q) (referred b q) (set q) h);
-  to_or_same = λ q. set_or_same key q n (referred a q) (referred b q) (set q);
-}
 
 -- ---- one after the other
 
@@ -120,16 +82,6 @@ module _ (n : ℕ) (keys refs keys' refs' : List Key) (a b c : Index) (some : 1 
     ];
   }
 
--- with what tells the same before or after
-pub told_last : (n : ℕ) (keys refs : List Key) (a b c : Index) → Told n keys refs a b → TellsSame b c → Told n keys refs a c
-told_last n keys refs a b c told same = record {
-  stray = elim told.stray [ inl as_before ↦ inl (same.stray ∙ as_before) | inr now ↦ inr (same.stray ∙ now) ];
-  on = λ k h. elim (told.on k h) [ inl here ↦ inl (same.on k ∙ here) | inr stray ↦ inr (same.stray ∙ stray) ];
-  on_or_same = λ k. elim (told.on_or_same k) [ inl as_before ↦ inl (same.on k ∙ as_before) | inr now ↦ inr (now.0, same.on k ∙ now.1) ];
-  to = λ k h. elim (told.to k h) [ inl here ↦ inl (same.to k ∙ here) | inr none ↦ inr none ];
-  to_or_same = λ k. elim (told.to_or_same k) [ inl as_before ↦ inl (same.to k ∙ as_before) | inr now ↦ inr (now.0, same.to k ∙ now.1) ];
-}
-
 pub refs_after-append : (es fs : List Part) → refs_after (es ++ fs) ≡ refs_after es ++ refs_after fs
 refs_after-append [] fs = refl
 refs_after-append (e ∷ es) fs = ap (λ rs. refs_of e.after ++ rs) (refs_after-append es fs) ∙ sym (append_assoc (refs_of e.after) (refs_after es) (refs_after fs))
@@ -147,10 +99,6 @@ told_more n i ps p refs a b c d e some short is same before on first second =
     let part = told_then n (p.key ∷ []) [] [] (keys_of_refs refs) b c e some on both in
     let all = told_then n (keys_of (take i ps)) (refs_after (take i ps)) (p.key ∷ []) (keys_of_refs refs) a b e some before part in
     subst (λ ks. Told n ks (refs_after (take (i + 1) ps)) a e) (sym keys) (subst (λ rs. Told n (keys_of (take i ps) ++ p.key ∷ []) rs a e) (sym after) all)
-
--- and all of them
-pub all_told : (n i : ℕ) (ps qs : List Part) (a b : Index) → length ps ≤ i → ps ≡ qs → Told n (keys_of (take i ps)) (refs_after (take i ps)) a b → Told n (keys_of qs) (refs_after qs) a b
-all_told n i ps qs a b past same told = subst (λ (rs : List Part). Told n (keys_of rs) (refs_after rs) a b) (take_all i ps past ∙ same) told
 
 -- ---- an entry more
 
@@ -373,9 +321,6 @@ tells_same es a b same is = record {
 }
 
 -- ---- the places stay
-
-pub keeps_itself : (a : Index) → KeepsPlaces a a
-keeps_itself a = record { places = refl; latest = λ g. refl; rows = record { ports = omega arith; filters = omega arith; gates = omega arith; meters = omega arith; sessions = omega arith } }
 
 pub keeps_then : (a b c : Index) → KeepsPlaces a b → KeepsPlaces b c → KeepsPlaces a c
 keeps_then a b c h k = record { places = k.places ∙ h.places; latest = λ g. k.latest g ∙ h.latest g; rows = rows_then 0 0 a b c h.rows k.rows }

@@ -1,7 +1,5 @@
-use Rattle.std.proofs.Common.{◌+◌, refl, sym, ◌∙◌, subst, drop}
-use Rattle.std.specs.Prelude.{IfSome}
-use Rattle.tsn_types.specs.InRange.{RecordInRange}
-use Rattle.tsn_config.proofs.Suffixes.{next_left, not_standing, ranges_next, stand_left, stand_next}
+use Rattle.std.proofs.Common.{◌+◌, sym, ◌∙◌, drop}
+use Rattle.tsn_config.proofs.Suffixes.{next_left, not_standing, stand_left}
 use Rattle.tsn_config.proofs.Config.stand.Goals as goal
 
 pub returns-then-not-stands-clause-stand : goal.returns-then-not-stands-clause-stand
@@ -15,14 +13,3 @@ returns-then-not-stands-clause-stand c =
       λ all. absurd (not_standing c.args.way (drop i ps) (drop (i + 1) ps) p left m
           (λ is. let no = c.if-not-stands.ensures.1 (is ∙ sym c.before_of.ensures) in (cc)) (stand_left c.args.way m i ps all)),
     )
-
-pub loop-part-preserved : goal.loop-part-preserved
-loop-part-preserved c =
-    let ps = c.args.parts.now in
-    let i = c.loop-part.part-index in
-    let p = c.part-item.result in
-    let left = next_left ps i p c.loop-part-test.true c.part-item.is in
-    record {
-      stand = λ h. c.loop-part.invariant.stand (stand_next c.args.way (drop i ps) (drop (i + 1) ps) p left c.args.self.now.map (c.if-not-stands.ensures.0 refl ∙ c.before_of.ensures) h);
-      ranges = λ h. c.loop-part.invariant.ranges (ranges_next c.args.way (drop i ps) (drop (i + 1) ps) p left (subst (λ v. IfSome v RecordInRange) c.after_of.ensures c.tell_ranges.ensures) h);
-    }

@@ -1,16 +1,10 @@
-use Rattle.std.proofs.Common.{◌≤◌, ◌∷◌, [], Some, arith, inl, refl, subst, sym, ◌∙◌, ap, take}
+use Rattle.std.proofs.Common.{◌≤◌, ◌∷◌, [], Some, arith, subst, sym, ◌∙◌, ap, take}
 use Rattle.tsn_edit.specs.Parts.{Change}
 use Rattle.tsn_journal.specs.Crossed.{IsRaised, crosses, is_on_referred}
-use Rattle.tsn_journal.proofs.Bounding.{both_cross, both_referred, none_cross, one_referred}
+use Rattle.tsn_journal.proofs.Bounding.{both_cross, both_referred, one_referred}
 use Rattle.tsn_journal.proofs.Needed.{raised_then}
 use Rattle.tsn_journal.proofs.Sought.{take_next}
 use Rattle.tsn_journal.proofs.crossed.crossed_by_parts.Goals as goal
-
-pub loop-part-init : goal.loop-part-init
-loop-part-init c = record { free = λ i e le at. none_cross c.args.session e; rises = omega arith; own = λ le. refl; raised = inl refl }
-
-pub crossed_by_part-crossed-requires-clause-referred : goal.crossed_by_part-crossed-requires-clause-referred
-crossed_by_part-crossed-requires-clause-referred c = λ i e le at. c.requires.referred i e (omega (arith, c.loop-part.invariant.rises, le)) at
 
 pub loop-part-preserved : goal.loop-part-preserved
 loop-part-preserved c =

@@ -6,8 +6,8 @@ use Rattle.tsn_journal.specs.Index.{IsIndexedBut, groups_of_parts}
 use Rattle.tsn_journal.specs.Latest.{latest_of}
 use Rattle.tsn_journal.proofs.Entering.{next_pending, none_pending, of_session, pending_change, takes_none, three_taken}
 use Rattle.tsn_journal.proofs.Indexing.{but_newest}
-use Rattle.tsn_journal.proofs.Newest.{in_ends, in_key, in_own, in_ref}
-use Rattle.tsn_journal.proofs.Telling.{all_told, same_itself', told_last, told_more, told_same}
+use Rattle.tsn_journal.proofs.Newest.{in_key, in_ref}
+use Rattle.tsn_journal.proofs.Telling.{same_itself', told_more, told_same}
 use Rattle.tsn_journal.proofs.index.Index.enter_change.Goals as goal
 
 pub loop-part-init : goal.loop-part-init
@@ -56,11 +56,6 @@ returns-clause-index c =
     c.enter_session.ensures.index []
     (none_pending c.args.marked.now c.loop-part.self c.parts-parts.result.now c.loop-part.part-index c.args.session c.args.ends (omega arith) c.loop-part.invariant.pending)
 
-pub returns-clause-told : goal.returns-clause-told
-returns-clause-told c =
-    all_told c.args.number c.loop-part.part-index c.parts-parts.result.now c.args.change.now c.args.self.now c.enter_session.new.self (omega arith) c.parts-parts.ensures.parts
-    (told_last c.args.number _ _ c.args.self.now c.loop-part.self c.enter_session.new.self c.loop-part.invariant.told c.enter_session.ensures.tells)
-
 pub enter_on-requires-clause-in_group : goal.enter_on-requires-clause-in_group
 enter_on-requires-clause-in_group c = λ m at.
     let same = c.parts-parts.ensures.parts in
@@ -78,12 +73,3 @@ enter_ref-requires-in-loop-part-clause-in_group c = λ k m some at.
     let same = c.parts-parts.ensures.parts in
     in_ref c.args.marked.now c.args.number c.args.session c.args.change.now c.args.ends c.requires.newest m at c.loop-part.part-index c.part-item.result c.refs_of-refs.result k
     (subst (λ ps. c.loop-part.part-index < length ps) same (omega (arith, c.loop-part-test.true))) (c.part-item.is ∙ ap (λ ps. get_or ps c.loop-part.part-index c.part-item.result) same) c.refs_of-refs.ensures (inr some)
-
-pub enter_session-requires-clause-in_standing : goal.enter_session-requires-clause-in_standing
-enter_session-requires-clause-in_standing c = λ m yes at. in_own c.args.marked.now c.args.number c.args.session c.args.change.now c.args.ends c.requires.newest m at
-
-pub enter_session-requires-clause-in_ending : goal.enter_session-requires-clause-in_ending
-enter_session-requires-clause-in_ending c = λ m yes at. in_ends c.args.marked.now c.args.number c.args.session c.args.change.now c.args.ends c.requires.newest m at yes
-
-pub returns-clause-newest : goal.returns-clause-newest
-returns-clause-newest c = λ g had. c.enter_session.ensures.newest g (c.loop-part.invariant.newest g had)

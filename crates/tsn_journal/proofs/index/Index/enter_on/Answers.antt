@@ -1,14 +1,12 @@
-use Rattle.std.proofs.Common.{cond, true, sym, ◌∙◌, ap}
-use Rattle.tsn_types.specs.Keys.{same_key}
+use Rattle.std.proofs.Common.{true, sym, ◌∙◌, ap}
 use Rattle.tsn_journal.specs.declared.latest.KeyPlaces.{KeyPlaces}
 use Rattle.tsn_journal.specs.declared.groups.Group.TheVariants.{On}
 use Rattle.tsn_journal.specs.declared.latest.Latest.{Latest}
 use Rattle.tsn_journal.specs.Index.{set_at}
-use Rattle.tsn_journal.specs.Latest.{key_row, latest_of, referred_of, refers_of, touched_of}
+use Rattle.tsn_journal.specs.Latest.{key_row, latest_of, refers_of}
 use Rattle.tsn_journal.proofs.Indexing.{indexed_if, reindexed}
 use Rattle.tsn_journal.proofs.Newest.{added_kept}
-use Rattle.tsn_journal.proofs.Rows.{referred_stay, set_on, set_touched}
-use Rattle.tsn_journal.proofs.Telling.{told_key}
+use Rattle.tsn_journal.proofs.Rows.{set_on}
 use Rattle.tsn_journal.proofs.index.Index.enter_on.Goals as goal
 
 pub returns-clause-index : goal.returns-clause-index
@@ -24,19 +22,6 @@ returns-clause-index c = λ rest is.
     (ap (λ (r : KeyPlaces). r.refers) c.touched_by.ensures ∙ c.key_places-row.ensures.refers ∙ ap (λ (x : Latest). refers_of (key_row x key)) (sym same)) q
     ∙ ap (λ (x : Latest). set_at (On key) j (latest_of x) q) same)
     (indexed_if ms true (On key) rest c.args.number c.args.session c.key_places-row.result.on ps l c.requires.count c.requires.some c.requires.by c.key_places-row.ensures.on c.add-on.new.self.places.items j c.add-on.ensures.added is)
-
-pub returns-clause-told : goal.returns-clause-told
-returns-clause-told c =
-    let key = c.args.key.now in
-    let row : KeyPlaces = record c.touched_by.result { on = c.add-on.result } in
-    let l = c.add-on.new.self.latest in
-    let k = c.set_key.new.self in
-    let same = c.add-on.ensures.latest in
-    told_key c.args.number key c.args.self.now (record c.add-on.new.self { latest = k }) c.add-on.ensures.stray
-    (λ q. set_touched l k key row c.set_key.ensures.rows c.set_key.ensures.sessions q
-    ∙ ap (λ (r : KeyPlaces). cond (same_key key q) r.touched (touched_of (key_row l q))) c.touched_by.ensures
-    ∙ ap (λ (x : Latest). cond (same_key key q) c.args.number (touched_of (key_row x q))) same)
-    (λ q. referred_stay l k key row c.set_key.ensures.rows c.set_key.ensures.sessions (ap (λ (r : KeyPlaces). r.referred) c.touched_by.ensures ∙ c.key_places-row.ensures.referred ∙ ap (λ (x : Latest). referred_of (key_row x key)) (sym same)) q ∙ ap (λ (x : Latest). referred_of (key_row x q)) same)
 
 pub returns-clause-newest : goal.returns-clause-newest
 returns-clause-newest c =

@@ -21,9 +21,6 @@ back-init c =
       so_far = ap reverse c.new-found.ensures.items ∙ ap (map (λ (m : MarkedEntry). m.entry.number)) (sym (filter_none (belongs g) c.args.marked.now (number_at ps c.session_places-place.result.standing) none));
     }
 
-pub numbered-entry-requires-clause-some : goal.numbered-entry-requires-clause-some
-numbered-entry-requires-clause-some c = (the_place c.args.marked.now c.args.self.now.places.items (Of c.args.session) c.back.place c.index-at.result.now c.back.invariant.group (place_there c.args.self.now.places.items c.back.place c.index-at.result.now c.back-test.true c.back.invariant.within c.index-at.ensures) c.requires.index.places).some
-
 pub numbered-entry-requires-clause-within : goal.numbered-entry-requires-clause-within
 numbered-entry-requires-clause-within c = (the_place c.args.marked.now c.args.self.now.places.items (Of c.args.session) c.back.place c.index-at.result.now c.back.invariant.group (place_there c.args.self.now.places.items c.back.place c.index-at.result.now c.back-test.true c.back.invariant.within c.index-at.ensures) c.requires.index.places).within
 

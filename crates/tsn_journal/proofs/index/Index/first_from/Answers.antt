@@ -3,9 +3,6 @@ use Rattle.tsn_journal.specs.Index.{belongs}
 use Rattle.tsn_journal.proofs.Links.{place_there, step, the_place}
 use Rattle.tsn_journal.proofs.index.Index.first_from.Goals as goal
 
-pub numbered-requires-clause-some : goal.numbered-requires-clause-some
-numbered-requires-clause-some c = (the_place c.args.marked.now c.args.self.now.places.items c.args.group.now c.back.place c.index-at.result.now c.back.invariant.group (place_there c.args.self.now.places.items c.back.place c.index-at.result.now c.back-test.true c.back.invariant.within c.index-at.ensures) c.requires.places).some
-
 pub numbered-requires-clause-within : goal.numbered-requires-clause-within
 numbered-requires-clause-within c = (the_place c.args.marked.now c.args.self.now.places.items c.args.group.now c.back.place c.index-at.result.now c.back.invariant.group (place_there c.args.self.now.places.items c.back.place c.index-at.result.now c.back-test.true c.back.invariant.within c.index-at.ensures) c.requires.places).within
 

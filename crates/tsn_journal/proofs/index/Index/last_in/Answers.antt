@@ -1,23 +1,11 @@
 use Rattle.std.proofs.Common.{◌+◌, ◌≤◌, ◌&&◌, Bool, sym, ◌∙◌, subst, arith, length}
 use Rattle.std.proofs.lemmas.Bool.{and_from, and_right}
 use Rattle.tsn_journal.specs.declared.entries.MarkedEntry.{MarkedEntry}
-use Rattle.tsn_journal.specs.Index.{IsLast, belongs, number_at, number_of}
+use Rattle.tsn_journal.specs.Index.{belongs, number_at, number_of}
 use Rattle.tsn_journal.proofs.Links.{next_group, place_there, step_none, the_place}
 use Rattle.tsn_journal.proofs.Walking.{and_out, found_from, in_list, none_from}
 use Rattle.tsn_journal.proofs.index.Index.last_in.Goals as goal
 use Rattle.tsn_journal.proofs.index.Index.last_in.Goals.{else-is_in-via-then-is_in+else-test, else-is_in-via-else-is_in}
-
-pub back-init : goal.back-init
-back-init g c =
-    let ps = c.args.self.now.places.items in
-    let h = c.args.group.now in
-    let at : IsLast h (belongs h) c.args.marked.now ps c.args.latest (length c.args.marked.now + 1) =
-    subst (λ j. IsLast h (belongs h) c.args.marked.now ps j (length c.args.marked.now + 1)) (sym c.requires.latest) (c.requires.index.latest_is h) in
-    record {
-      within = at.within;
-      group = at.group;
-      none_later = λ p answers i m low high is. and_out p (belongs h) m (at.none_later i m low high is);
-    }
 
 pub numbered-entry-requires-clause-some : goal.numbered-entry-requires-clause-some
 numbered-entry-requires-clause-some g c = (the_place c.args.marked.now c.args.self.now.places.items c.args.group.now c.back.place c.index-found.result.now c.back.invariant.group (place_there c.args.self.now.places.items c.back.place c.index-found.result.now c.back-test.true c.back.invariant.within c.index-found.ensures) c.requires.index.places).some

@@ -1,20 +1,10 @@
 use Rattle.std.proofs.Common.{◌+◌, ◌≤◌, sym, ◌∙◌, ap, subst, arith, length}
 use Rattle.std.specs.Prelude.{not}
 use Rattle.std.proofs.lemmas.Bool.{and_from}
-use Rattle.tsn_journal.specs.Index.{IsLast, belongs, belongs_to_others, is_by, number_at, number_of}
+use Rattle.tsn_journal.specs.Index.{belongs_to_others, is_by, number_at, number_of}
 use Rattle.tsn_journal.proofs.Links.{hop, not_of_others, place_there, step, the_place}
 use Rattle.tsn_journal.proofs.Walking.{found_after, none_after, none_from}
 use Rattle.tsn_journal.proofs.index.Index.last_of_others.Goals as goal
-
-pub back-init : goal.back-init
-back-init c =
-    let h = c.args.group.now in
-    let at : IsLast h (belongs h) c.args.marked.now c.args.self.now.places.items c.args.latest (length c.args.marked.now + 1) =
-    subst (λ j. IsLast h (belongs h) c.args.marked.now c.args.self.now.places.items j (length c.args.marked.now + 1)) (sym c.requires.latest) (c.requires.index.latest_is h) in
-    record { within = at.within; group = at.group; none_later = λ i m low high is. not_of_others h c.args.session m (at.none_later i m low high is) }
-
-pub numbered-entry-requires-clause-some : goal.numbered-entry-requires-clause-some
-numbered-entry-requires-clause-some c = (the_place c.args.marked.now c.args.self.now.places.items c.args.group.now c.back.place c.index-found.result.now c.back.invariant.group (place_there c.args.self.now.places.items c.back.place c.index-found.result.now c.back-test.true c.back.invariant.within c.index-found.ensures) c.requires.index.places).some
 
 pub numbered-entry-requires-clause-within : goal.numbered-entry-requires-clause-within
 numbered-entry-requires-clause-within c = (the_place c.args.marked.now c.args.self.now.places.items c.args.group.now c.back.place c.index-found.result.now c.back.invariant.group (place_there c.args.self.now.places.items c.back.place c.index-found.result.now c.back-test.true c.back.invariant.within c.index-found.ensures) c.requires.index.places).within

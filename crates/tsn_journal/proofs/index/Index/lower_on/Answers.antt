@@ -1,4 +1,4 @@
-use Rattle.std.proofs.Common.{◌+◌, refl, sym, subst, length}
+use Rattle.std.proofs.Common.{◌+◌, sym, subst, length}
 use Rattle.tsn_journal.specs.declared.latest.KeyPlaces.{KeyPlaces}
 use Rattle.tsn_journal.specs.declared.groups.Group.TheVariants.{On}
 use Rattle.tsn_journal.specs.Index.{IsLast, belongs, set_at}
@@ -6,7 +6,7 @@ use Rattle.tsn_journal.specs.Latest.{latest_of}
 use Rattle.tsn_journal.proofs.Indexing.{reindexed}
 use Rattle.tsn_journal.proofs.Lowering.{index_lowered}
 use Rattle.tsn_journal.proofs.Off.{none_on}
-use Rattle.tsn_journal.proofs.Rows.{referred_stay, set_on, touched_stay}
+use Rattle.tsn_journal.proofs.Rows.{set_on}
 use Rattle.tsn_journal.proofs.index.Index.lower_on.Goals as goal
 
 pub first_from-on-requires-clause-latest : goal.first_from-on-requires-clause-latest
@@ -28,14 +28,3 @@ returns-clause-index c =
     reindexed ms _ ps (set_at (On key) j l) (latest_of c.set_key.new.self)
     (set_on c.args.self.now.latest c.set_key.new.self key row c.set_key.ensures.rows c.set_key.ensures.sessions c.key_places-latest.ensures.refers)
     (index_lowered ms ps l (On key) j c.requires.index c.first_from-on.ensures.last)
-
-pub returns-clause-tells : goal.returns-clause-tells
-returns-clause-tells c =
-    let row : KeyPlaces = record { on = c.first_from-on.result; refers = c.key_places-latest.result.refers; touched = c.key_places-latest.result.touched; referred = c.key_places-latest.result.referred } in
-    let l = c.args.self.now.latest in
-    let k = c.set_key.new.self in
-    record {
-      stray = refl;
-      on = touched_stay l k c.args.key.now row c.set_key.ensures.rows c.set_key.ensures.sessions c.key_places-latest.ensures.touched;
-      to = referred_stay l k c.args.key.now row c.set_key.ensures.rows c.set_key.ensures.sessions c.key_places-latest.ensures.referred;
-    }

@@ -1,15 +1,7 @@
-use Rattle.std.proofs.Common.{◌≤◌, arith, subst, ◌∙◌, length}
-use Rattle.std.proofs.lemmas.List.{take_all}
-use Rattle.tsn_journal.specs.Index.{groups_of_parts}
-use Rattle.tsn_journal.specs.Newest.{MendsNewest}
+use Rattle.std.proofs.Common.{arith, ◌∙◌}
 use Rattle.tsn_journal.proofs.Indexing.{takes_more}
 use Rattle.tsn_journal.proofs.Newest.{mends_part}
 use Rattle.tsn_journal.proofs.index.Index.lower_parts.Goals as goal
-
-pub returns-clause-newest : goal.returns-clause-newest
-returns-clause-newest c =
-    let past : length c.args.parts.now ≤ c.loop-part.part-index = omega (arith, c.loop-part-test.false) in
-    subst (λ ps. MendsNewest c.args.marked.now (groups_of_parts ps) c.args.self.now c.loop-part.self) (take_all c.loop-part.part-index c.args.parts.now past) c.loop-part.invariant.newest
 
 pub loop-part-preserved : goal.loop-part-preserved
 loop-part-preserved c = record {

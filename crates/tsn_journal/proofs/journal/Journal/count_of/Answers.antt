@@ -1,6 +1,6 @@
 use Rattle.std.proofs.Common.{◌≡◌, ◌∙◌, ap, arith, filter, length, sym, subst}
 use Rattle.tsn_journal.specs.Finding.{own_standing}
-use Rattle.tsn_journal.specs.Marks.{AreOff, Log, entries_of, is_own}
+use Rattle.tsn_journal.specs.Marks.{Log, entries_of, is_own}
 use Rattle.tsn_journal.specs.declared.entries.MarkedEntry.{MarkedEntry}
 use Rattle.std.proofs.lemmas.List.{length-map}
 use Rattle.tsn_journal.proofs.Walking.{few_pass}
@@ -25,6 +25,3 @@ returns-clause-few c =
 
 pub tally_of-requires-clause-index : goal.tally_of-requires-clause-index
 tally_of-requires-clause-index c = subst (λ xs. IsIndexed xs c.self.inside.index) (sym c.deref.ensures.value) c.self.invariant.indexed
-
-pub tally_of-requires-clause-off : goal.tally_of-requires-clause-off
-tally_of-requires-clause-off c = subst (AreOff c.self.inside.settled) (sym c.deref.ensures.value) c.self.invariant.off

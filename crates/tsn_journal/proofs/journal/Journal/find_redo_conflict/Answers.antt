@@ -4,7 +4,6 @@ use Rattle.std.specs.Option.{option_and_then}
 use Rattle.tsn_journal.specs.declared.entries.MarkedEntry.{MarkedEntry}
 use Rattle.tsn_journal.specs.Finding.{entry}
 use Rattle.tsn_journal.specs.Marks.{Log, conflict_after, entries_of}
-use Rattle.tsn_journal.specs.Touched.{Tells}
 use Rattle.tsn_journal.proofs.Conflicts.{redo_conflict}
 use Rattle.tsn_journal.proofs.Telling.{at_its_number}
 use Rattle.tsn_journal.proofs.journal.Journal.find_redo_conflict.Goals as goal
@@ -15,9 +14,6 @@ returns c = λ e is.
     c.redo_conflict.ensures
     ∙ (λ i. option_map (λ (m : MarkedEntry). m.entry.number) (option_and_then (conflict_after p (c.deref.ensures.value i)) (c.entry.ensures i)))
     ∙ redo_conflict c.self.inside.marked.items c.self.invariant.journal _ (ap (λ (l : Log). l.entries) c.self.view_is) c.args.number e is
-
-pub redo_conflict-requires-clause-tells : goal.redo_conflict-requires-clause-tells
-redo_conflict-requires-clause-tells c = subst (λ xs. Tells (entries_of xs) c.self.inside.index) (sym c.deref.ensures.value) c.self.invariant.tells
 
 pub redo_conflict-requires-clause-there : goal.redo_conflict-requires-clause-there
 redo_conflict-requires-clause-there c = λ e is.

@@ -1,7 +1,7 @@
 use Rattle.std.proofs.Common.{◌∙◌, ap, filter, sym, subst}
 use Rattle.tsn_journal.specs.Finding.{own_standing, parts_of_all}
 use Rattle.tsn_journal.specs.Index.{IsIndexed}
-use Rattle.tsn_journal.specs.Marks.{AreOff, Log, added_in, is_own}
+use Rattle.tsn_journal.specs.Marks.{Log, added_in, is_own}
 use Rattle.tsn_journal.proofs.Finders.{own_parts}
 use Rattle.tsn_journal.proofs.journal.Journal.parts_of.Goals as goal
 
@@ -15,6 +15,3 @@ returns c =
 
 pub tally_of-requires-clause-index : goal.tally_of-requires-clause-index
 tally_of-requires-clause-index c = subst (λ xs. IsIndexed xs c.self.inside.index) (sym c.deref.ensures.value) c.self.invariant.indexed
-
-pub tally_of-requires-clause-off : goal.tally_of-requires-clause-off
-tally_of-requires-clause-off c = subst (AreOff c.self.inside.settled) (sym c.deref.ensures.value) c.self.invariant.off

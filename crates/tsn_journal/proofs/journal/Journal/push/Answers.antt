@@ -1,5 +1,5 @@
 use Rattle.std.proofs.Common.{◌≤◌, refl, sym, ◌∙◌, ap, subst, drop, length, map, add-zero, arith, max}
-use Rattle.tsn_journal.specs.Crossed.{IsRaised, NoneCrossed, NoneReferred}
+use Rattle.tsn_journal.specs.Crossed.{IsRaised, NoneCrossed}
 use Rattle.tsn_journal.specs.Entries.{IsNumbered, added_parts, adds, with_entry}
 use Rattle.tsn_journal.specs.Index.{IsIndexed, IsIndexedButNewest, NewestAdds, TakesRoom, places_for}
 use Rattle.tsn_journal.specs.Marks.{AreOff, Log, entries_of, mark_off}
@@ -9,7 +9,7 @@ use Rattle.std.specs.Vec.{vec_capacity, vec_len}
 use Rattle.tsn_journal.specs.declared.entries.MarkedEntry.{MarkedEntry}
 use Rattle.tsn_journal.specs.Newest.{KeepsNewest, MendsNewest, groups_of}
 use Rattle.tsn_journal.proofs.Indexing.{takes_more}
-use Rattle.tsn_journal.proofs.Keeping.{kept_pushed, off_more, pushed_few, pushed_adds, pushed_free, pushed_index, pushed_numbered, pushed_referred, pushed_some, pushed_tells, room_for_one, settles_there}
+use Rattle.tsn_journal.proofs.Keeping.{kept_pushed, off_more, pushed_adds, pushed_free, pushed_index, pushed_numbered, pushed_referred, pushed_tells, settles_there}
 use Rattle.tsn_journal.proofs.Marking.{entries_pushed, new_entry, pushed_items}
 use Rattle.tsn_journal.proofs.Newest.{newest_again}
 use Rattle.tsn_journal.proofs.Telling.{tells_same}
@@ -18,12 +18,6 @@ use Rattle.tsn_journal.proofs.journal.Journal.push.Goals as goal
 
 pub crossed_by-crossed-requires-clause-index : goal.crossed_by-crossed-requires-clause-index
 crossed_by-crossed-requires-clause-index c = subst (λ xs. IsIndexed xs c.self.inside.index) (sym c.deref.ensures.value) c.self.invariant.indexed
-
-pub crossed_by-crossed-requires-clause-numbered : goal.crossed_by-crossed-requires-clause-numbered
-crossed_by-crossed-requires-clause-numbered c = subst (λ xs. IsNumbered 1 (entries_of xs)) (sym c.deref.ensures.value) c.self.invariant.journal.numbered
-
-pub crossed_by-crossed-requires-clause-referred : goal.crossed_by-crossed-requires-clause-referred
-crossed_by-crossed-requires-clause-referred c = subst (NoneReferred c.self.inside.crossed) (sym c.deref.ensures.value) c.self.invariant.referred
 
 pub enter-requires-clause-index : goal.enter-requires-clause-index
 enter-requires-clause-index c =
@@ -35,11 +29,6 @@ enter-requires-clause-index c =
     (c.put_off.ensures ∙ ap (map (mark_off c.args.what)) c.deref_mut.ensures.value) c.push_reserved.ensures.items)
     c.self.inside.index c.self.invariant.indexed)
 
-pub enter-requires-clause-room : goal.enter-requires-clause-room
-enter-requires-clause-room c =
-    room_for_one c.self.inside.room c.self.inside.parts c.added_parts-parts.result c.self.inside.index (subst (λ (l : Log). 1 ≤ l.spare) (sym c.self.view_is) c.requires.room)
-    (subst (λ (l : Log). c.added_parts-parts.result ≤ l.parts) (sym c.self.view_is) (omega (arith, c.added_parts-parts.ensures.parts, c.requires.parts))) c.self.invariant.places
-
 pub enter-requires-clause-parts : goal.enter-requires-clause-parts
 enter-requires-clause-parts c =
     let ms = c.self.inside.marked.items in
@@ -49,26 +38,6 @@ enter-requires-clause-parts c =
     (pushed_adds c.args.what c.args.session ms c.push_reserved.new.self.items
     (pushed_items c.args.what c.args.session c.self.inside.marked.len c.len.result ms (drop (length c.put_off.new.marked) ms) c.put_off.new.marked c.push_reserved.new.self.items same c.len.ensures
     (c.put_off.ensures ∙ ap (map (mark_off c.args.what)) c.deref_mut.ensures.value) c.push_reserved.ensures.items)))
-
-pub enter-requires-clause-some : goal.enter-requires-clause-some
-enter-requires-clause-some c =
-    let ms = c.self.inside.marked.items in
-    let same = sym (ap length c.deref_mut.ensures.value) ∙ c.deref_mut.ensures.len in
-    subst (λ xs. 1 ≤ length xs) (sym c.deref-2.ensures.value)
-    (pushed_some c.args.what c.args.session ms c.push_reserved.new.self.items
-    (pushed_items c.args.what c.args.session c.self.inside.marked.len c.len.result ms (drop (length c.put_off.new.marked) ms) c.put_off.new.marked c.push_reserved.new.self.items same c.len.ensures
-    (c.put_off.ensures ∙ ap (map (mark_off c.args.what)) c.deref_mut.ensures.value) c.push_reserved.ensures.items))
-
-pub enter-requires-clause-few : goal.enter-requires-clause-few
-enter-requires-clause-few c =
-    let ms = c.self.inside.marked.items in
-    let same = sym (ap length c.deref_mut.ensures.value) ∙ c.deref_mut.ensures.len in
-    let room : 1 ≤ c.self.inside.room = subst (λ (l : Log). 1 ≤ l.spare) (sym c.self.view_is) c.requires.room in
-    subst (λ xs. length xs ≤ 262144) (sym c.deref-2.ensures.value)
-    (pushed_few c.args.what c.args.session ms c.push_reserved.new.self.items
-    (pushed_items c.args.what c.args.session c.self.inside.marked.len c.len.result ms (drop (length c.put_off.new.marked) ms) c.put_off.new.marked c.push_reserved.new.self.items same c.len.ensures
-    (c.put_off.ensures ∙ ap (map (mark_off c.args.what)) c.deref_mut.ensures.value) c.push_reserved.ensures.items)
-    (omega (arith, c.self.invariant.few, same, room)))
 
 pub leave-requires-clause-index : goal.leave-requires-clause-index
 leave-requires-clause-index c = subst (λ xs. IsIndexed xs c.enter.new.self) (c.deref-2.ensures.value ∙ sym c.deref-3.ensures.value) c.enter.ensures.index

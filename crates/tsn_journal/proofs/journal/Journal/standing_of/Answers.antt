@@ -3,7 +3,7 @@ use Rattle.std.specs.Prelude.{IfOk}
 use Rattle.tsn_journal.specs.declared.entries.MarkedEntry.{MarkedEntry}
 use Rattle.tsn_journal.specs.Entries.{Applied}
 use Rattle.tsn_journal.specs.Finding.{own_standing}
-use Rattle.tsn_journal.specs.Marks.{AreOff, Log, is_own}
+use Rattle.tsn_journal.specs.Marks.{Log, is_own}
 use Rattle.tsn_journal.proofs.Finders.{own_numbers}
 use Rattle.tsn_journal.specs.Index.{IsIndexed}
 use Rattle.tsn_journal.proofs.journal.Journal.standing_of.Goals as goal
@@ -19,6 +19,3 @@ returns c =
 
 pub numbers_of-requires-clause-index : goal.numbers_of-requires-clause-index
 numbers_of-requires-clause-index c = subst (λ xs. IsIndexed xs c.self.inside.index) (sym c.deref.ensures.value) c.self.invariant.indexed
-
-pub numbers_of-requires-clause-off : goal.numbers_of-requires-clause-off
-numbers_of-requires-clause-off c = subst (AreOff c.self.inside.settled) (sym c.deref.ensures.value) c.self.invariant.off
