@@ -13,11 +13,9 @@ use Rattle.tsn_types.specs.declared.records.StreamGate.{StreamGate}
 use Rattle.tsn_types.specs.declared.refusals.Refusal.{Refusal}
 use Rattle.tsn_types.specs.declared.refusals.Refusal.TheVariants.{JournalFull, Memory}
 use Rattle.tsn_edit.specs.declared.Edit.{Edit}
-use Rattle.tsn_edit.specs.declared.Edit.TheVariants as edits
 use Rattle.tsn_edit.specs.Batches.{EditsInRange, IsBatch}
 use Rattle.tsn_edit.specs.Changes.{restored}
 use Rattle.tsn_edit.specs.Configuration.{Configuration}
-use Rattle.tsn_edit.proofs.Batched.{batch_of_one}
 use Rattle.tsn_edit.proofs.Inverses.{get-inverse}
 use Rattle.tsn_edit.proofs.KeyFacts.{before_or, part_on}
 use Rattle.tsn_schedule.specs.Entries.{entry_at}
@@ -40,12 +38,14 @@ use Rattle.tsn_bridge.specs.declared.reply.Reply.TheVariants.{Acted, Entry, Entr
 use Rattle.tsn_bridge.specs.Acts.{apply_change, apply_rule, has_entry, instant}
 use Rattle.tsn_bridge.specs.Edits.{edit_rule, next, undo_rule}
 use Rattle.tsn_bridge.specs.Headline.{AtOnceUndone, EditsLast, GateRestored, GateRuns, OthersAlone, OthersLeft, PortRestored, PortRuns, PutsAllBack, PutsBack, RestoredList}
-use Rattle.tsn_bridge.specs.Histories.{CommandInRange, StateIsSound, edits_of}
+use Rattle.tsn_bridge.specs.Families.{Editing, Family, family}
+use Rattle.tsn_bridge.specs.Histories.{CommandInRange, StateIsSound, edits_of, batch_of}
 use Rattle.tsn_bridge.specs.Machine.{Step}
 use Rattle.tsn_bridge.specs.Quiet.{SinceQuiet}
 use Rattle.tsn_bridge.specs.Rule.{Allows}
 use Rattle.tsn_bridge.specs.State.{State}
 use Rattle.tsn_bridge.proofs.AtOnce.{done_of, free, full, taken, taken_map, undone as undone_at_once, with_room}
+use Rattle.tsn_bridge.proofs.Families.{FamilyInRange, in_range}
 use Rattle.tsn_bridge.proofs.Interleaving.{all_taken_back, follow, follows, made_by, same_edits}
 use Rattle.tsn_bridge.proofs.KeySteps.{applied_finds}
 use Rattle.tsn_bridge.proofs.Restored.{GoesOn, restored_gate, restored_port}
@@ -55,12 +55,12 @@ use Rattle.tsn_bridge.proofs.WhyNotAll.{not_all, surely_blocked}
 -- ---- an edit at once undone
 
 -- the edits of a command in its ranges are a batch in its ranges
+batch_in_range : (f : Family) (batch : List Edit) → batch_of f ≡ Some batch → FamilyInRange f → IsBatch batch × EditsInRange batch
+batch_in_range (Editing edits) batch is h = subst (λ b. IsBatch b × EditsInRange b) (same_edits is) h
+batch_in_range f batch is h = (cc)
+
 edits_in_range : (command : Command) (batch : List Edit) → edits_of command ≡ Some batch → CommandInRange command → IsBatch batch × EditsInRange batch
-edits_in_range (commands.Create k r) batch is h = subst (λ b. IsBatch b × EditsInRange b) (same_edits is) (batch_of_one (edits.Create k r), (h, tt))
-edits_in_range (commands.Replace k r) batch is h = subst (λ b. IsBatch b × EditsInRange b) (same_edits is) (batch_of_one (edits.Replace k r), (h, tt))
-edits_in_range (commands.Remove k) batch is h = subst (λ b. IsBatch b × EditsInRange b) (same_edits is) (batch_of_one (edits.Remove k), (tt, tt))
-edits_in_range (commands.Batch edits) batch is h = subst (λ b. IsBatch b × EditsInRange b) (same_edits is) h
-edits_in_range command batch is h = (cc)
+edits_in_range command batch is h = batch_in_range (family command) batch is (in_range command h)
 
 module _ (before between : State) (session : ℕ) (command : Command) (entry : ℕ) (sound : StateIsSound before) (last : EditsLast before between session command entry) where
   sound_edited : StateIsSound last.edited
@@ -69,7 +69,7 @@ module _ (before between : State) (session : ℕ) (command : Command) (entry : �
   -- nothing came into the book since
   same_book : between.book ≡ last.edited.book
   same_book =
-      let on = follow last.asks last.edited between sound_edited last.in_range last.leads in
+      let on = (follow last.asks last.edited between sound_edited last.in_range last.leads).later in
       λ i. record { limits = on.limits i; opening = on.opening i; entries = last.none_since i }
 
   undone_edit : (after : State) (number of : ℕ) → Allows (undo_rule between session) between (EntryOf number of) after → (of ≡ entry) × (present after.book ≡ present before.book)
@@ -80,7 +80,7 @@ module _ (before between : State) (session : ℕ) (command : Command) (entry : �
   -- what is said of the batch of the edit and the undo after it
   module _ (after : State) where
     sessions_on : last.edited.sessions ≤ between.sessions
-    sessions_on = (follow last.asks last.edited between sound_edited last.in_range last.leads).sessions
+    sessions_on = (follow last.asks last.edited between sound_edited last.in_range last.leads).later.sessions
 
     made : Allows (edit_rule before session last.batch) before (Entry entry) last.edited
     made = made_by before last.edited session command last.batch entry last.asks_for last.step
@@ -161,7 +161,7 @@ goes_on : (s applied later : State) (n : ℕ) (k : Key) (now : ℕ) (reply : Rep
 goes_on s applied later n k now reply sound step quiet =
     let first = follows s n (commands.Apply k now) reply applied sound tt step in
     let on = follow quiet.asks applied later first.sound quiet.in_range quiet.leads in
-    record { limits = on.limits; opening = on.opening; more = quiet.more; entries = quiet.entries; quiet = quiet.quiet; kept = kept_now later.book on.sound }
+    record { limits = on.later.limits; opening = on.later.opening; more = quiet.more; entries = quiet.entries; quiet = quiet.quiet; kept = kept_now later.book on.sound }
 
 pub port_runs : (s : State) (m : ℕ) (p : PortGates) → StateIsSound s → get (present s.book) (Port m) ≡ Some (records.Port p) → PortRuns s m p
 port_runs s m p sound is applied session now entry at change step past =

@@ -147,12 +147,16 @@ module _ (p : PairState) (k : ℕ) (n : ℕ) (key : Key) (now : State) (view : �
   pub counters_step : (told : Counters) → first_cause (key_causes now n key []) ≡ None → counted_at p.ledger p.frames p.time key ≡ Some told → Allows (counters_rule now n key) now (replies.Counters told) now
   counters_step told none is =
       is_done (counters_rule now n key) now (replies.Counters told) now (least_key now n key [] tt ∙ ap (λ o. option_or o None) none)
-      (sym (ap (λ (x : State). (counters_rule x n key).done) view) ∙ ap (option_map {T = Counters} {U = Reply × State} (λ x. (replies.Counters x, seen p k))) is ∙ ap (λ (x : State). Some (replies.Counters told, x)) view)
+      (sym (ap (λ (x : State). (counters_rule x n key).done) view)
+      ∙ ap (λ o. option_map {T = Reply} {U = Reply × State} (λ x. (x, seen p k)) (option_map (λ x. replies.Counters x) o)) is
+      ∙ ap (λ (x : State). Some (replies.Counters told, x)) view)
 
   pub states_step : (at : ℕ) (x : Shown) → first_cause (list_causes now n key []) ≡ None → last_at p.ledger key ≤ at → shown_at p.ledger key (get (present p.ledger) key) at ≡ Some x → Allows (states_rule now n key at) now (replies.States x) now
   states_step at x none late is =
       is_done (states_rule now n key at) now (replies.States x) now (states_free now n key at none (subst (λ (y : State). last_at y.book key ≤ at) view late))
-      (sym (ap (λ (y : State). (states_rule y n key at).done) view) ∙ ap (option_map {T = Shown} {U = Reply × State} (λ y. (replies.States y, seen p k))) is ∙ ap (λ (y : State). Some (replies.States x, y)) view)
+      (sym (ap (λ (y : State). (states_rule y n key at).done) view)
+      ∙ ap (λ o. option_map {T = Reply} {U = Reply × State} (λ y. (y, seen p k)) (option_map (λ y. replies.States y) o)) is
+      ∙ ap (λ (y : State). Some (replies.States x, y)) view)
 
   pub states_past : (at : ℕ) → first_cause (list_causes now n key []) ≡ None → at < last_at p.ledger key → Allows (states_rule now n key at) now (replies.Refused Past) now
   unfolding early

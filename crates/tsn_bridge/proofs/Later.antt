@@ -1,5 +1,5 @@
 -- Every step leaves a whole state whole, and leads to a later one.
-use Rattle.std.proofs.Common.{◌≡◌, ℕ, true, ◌+◌, ◌≤◌, List, [], ◌∷◌, ◌++◌, refl, sym, ◌∙◌, ap, subst, Option, Some, None, inl, inr, arith, length, append_assoc}
+use Rattle.std.proofs.Common.{◌≡◌, ℕ, true, ◌+◌, ◌≤◌, List, [], ◌∷◌, ◌++◌, refl, sym, ◌∙◌, ap, subst, Option, Some, None, arith, length, append_assoc}
 use Rattle.std.specs.Prelude.{is_some, option_map}
 use Rattle.std.specs.List.{AllByRecursion}
 use Rattle.std.specs.FinMap.{get}
@@ -12,38 +12,26 @@ use Rattle.tsn_types.specs.declared.records.Record.TheVariants as records
 use Rattle.tsn_types.specs.declared.records.StreamFilter.{StreamFilter}
 use Rattle.tsn_types.specs.declared.records.StreamGate.{StreamGate}
 use Rattle.tsn_types.specs.Keys.{has, meter_ref, refs, same_key}
-use Rattle.tsn_types.specs.Refusals.{least}
 use Rattle.std.proofs.lemmas.Bool.{or_left, or_right}
-use Rattle.tsn_edit.specs.declared.Edit.{Edit}
-use Rattle.tsn_edit.specs.declared.Edit.TheVariants as edits
-use Rattle.tsn_edit.specs.Batches.{EditsInRange, IsBatch, change_of}
 use Rattle.tsn_edit.specs.Changes.{Fits, after_change}
 use Rattle.tsn_edit.specs.Configuration.{Configuration, IsWellKept}
 use Rattle.tsn_edit.specs.Parts.{Change, inverse}
 use Rattle.tsn_edit.specs.Runs.{run}
-use Rattle.tsn_edit.proofs.Batched.{batch_of_one}
-use Rattle.tsn_edit.proofs.KeyFacts.{by_option, same_itself}
-use Rattle.tsn_config.specs.Ids.{ids_of}
+use Rattle.tsn_edit.proofs.KeyFacts.{same_itself}
 use Rattle.tsn_config.specs.Kinds.{filter_of, gate_of}
 use Rattle.tsn_config.specs.Opening.{dangling_cause, limits_cause, opening, repeated_key}
-use Rattle.tsn_config.proofs.Batches.{batch_fits}
 use Rattle.tsn_config.proofs.OpeningKept.{opening_kept}
-use Rattle.tsn_journal.specs.declared.entries.Act.{Act as Asked}
-use Rattle.tsn_journal.specs.declared.entries.Act.TheVariants as asked
 use Rattle.tsn_journal.specs.declared.entries.Entry.{Entry}
 use Rattle.tsn_journal.specs.declared.entries.What.{What}
 use Rattle.tsn_journal.specs.declared.entries.What.TheVariants.{Made, Undone, Redone, Acted, Settled}
-use Rattle.tsn_journal.specs.Entries.{Applied, applies, no_room, redone, undone}
-use Rattle.tsn_journal.specs.Finding.{last_of, own_standing, redo_of, since}
-use Rattle.tsn_journal.proofs.Numbers.{append_nil, each_weaker}
-use Rattle.tsn_undo.specs.Ledger.{present}
-use Rattle.tsn_undo.specs.Redo.{TellsFit, redo_cause}
-use Rattle.tsn_undo.specs.Steps.{IsFree, edit_refusal, undo_refusal}
-use Rattle.tsn_undo.specs.UndoAll.{undo_all_refusal, with_undone}
+use Rattle.tsn_journal.specs.Entries.{Applied, applies, undone}
+use Rattle.tsn_journal.specs.Finding.{own_standing}
+use Rattle.tsn_journal.proofs.Numbers.{each_weaker}
+use Rattle.tsn_undo.specs.Ledger.{enter, present}
+use Rattle.tsn_undo.specs.UndoAll.{with_undone}
 use Rattle.tsn_undo.proofs.Adding.{configuration_push, nothing_push}
-use Rattle.tsn_undo.proofs.Free.{edit_admitted, or_none}
-use Rattle.tsn_undo.proofs.Making.{kept_now, undo_step_now}
-use Rattle.tsn_undo.proofs.Redone.{redo_refusal-first}
+use Rattle.tsn_undo.proofs.Free.{or_none}
+use Rattle.tsn_undo.proofs.Making.{kept_now}
 use Rattle.tsn_undo.proofs.UndoAll.{IsTaken, begin_taken, free_of_all, next_taken, taken_to}
 use Rattle.tsn_chain.specs.declared.frame.Frame.{Frame}
 use Rattle.tsn_chain.specs.declared.frame.Verdict.{Verdict}
@@ -51,63 +39,28 @@ use Rattle.tsn_chain.specs.Begun.{begun_runners}
 use Rattle.tsn_chain.specs.Chain.{Case, through}
 use Rattle.tsn_chain.specs.Following.{frames_after}
 use Rattle.tsn_chain.specs.Chosen.{chosen, filters_of}
-use Rattle.tsn_chain.specs.Frames.{GateActs, framed, framed_at, framed_by, met_at, meter_at, state_at, with_met}
+use Rattle.tsn_chain.specs.Frames.{GateActs, framed_at, framed_by, met_at, meter_at, state_at, with_met}
 use Rattle.tsn_chain.specs.Instances.{FrameData, HasFrameKeys}
 use Rattle.tsn_chain.proofs.FirstRows.{begun_keys}
 use Rattle.tsn_chain.proofs.Keys.{keys_fit, met_keys}
 use Rattle.tsn_bridge.specs.declared.command.Command.{Command}
-use Rattle.tsn_bridge.specs.declared.command.Command.TheVariants as commands
 use Rattle.tsn_bridge.specs.declared.reply.Reply.{Reply}
-use Rattle.tsn_bridge.specs.declared.reply.Reply.TheVariants.{Counters, Framed, States, Entries, EntryOf, Ids, Session, Shown}
-use Rattle.tsn_bridge.specs.Acts.{acted_state, apply_rule, disable_rule, enable_rule, instant}
+use Rattle.tsn_bridge.specs.Acts.{instant}
 use Rattle.tsn_bridge.specs.Beginning.{Opens, begun}
-use Rattle.tsn_bridge.specs.Edits.{AllowsRedo, changed_state, edit_rule, next, redo_rule, undo_all_rule, undo_rule}
-use Rattle.tsn_bridge.specs.Settling.{settle_rule, settled_state}
-use Rattle.tsn_bridge.specs.Frames.{acts_of_gates, frame_rule, framed_state}
+use Rattle.tsn_bridge.specs.Families.{Family, family}
+use Rattle.tsn_bridge.specs.Frames.{acts_of_gates}
 use Rattle.tsn_bridge.specs.Histories.{AreInRange, CommandInRange, Leads, Answered}
 use Rattle.tsn_bridge.specs.Later.{ActsAreBy, IsBy, IsLater, IsWhole}
-use Rattle.tsn_bridge.specs.Looking.{counted_at, counters_rule, shown_at, states_rule}
 use Rattle.tsn_bridge.specs.Machine.{Step}
-use Rattle.tsn_bridge.specs.Reads.{list_rule, show_rule, since_rule}
-use Rattle.tsn_bridge.specs.Rule.{Allows, Rule, is_given}
-use Rattle.tsn_bridge.specs.Sessions.{hello_rule}
 use Rattle.tsn_bridge.specs.State.{State}
 use Rattle.tsn_bridge.specs.Together.{undone_by}
 use Rattle.tsn_bridge.proofs.AtOnce.{done_of}
-use Rattle.tsn_bridge.proofs.Interleaving.{follows, outcome, redo_fits, state_of}
-use Rattle.tsn_bridge.proofs.Stepping.{was_given}
-
--- what a step keeps besides a sound journal
-record Keeps (s new : State) : Type 0 where
-  frames : HasFrameKeys new.frames (present new.book)
-  acts : ActsAreBy s → ActsAreBy new
-  later : IsLater s new
+use Rattle.tsn_bridge.proofs.Families.{ActDone, AllUndone, Changed, FamilyInRange, FrameTaken, Greeted, Left, Same, SettledTo, in_range, leaves}
+use Rattle.tsn_bridge.proofs.Interleaving.{after_both, follows, itself}
 
 both : {A : Type 0} (P : A → Type 0) (xs ys : List A) → AllByRecursion P xs → AllByRecursion P ys → AllByRecursion P (xs ++ ys)
 both P [] ys h g = g
 both P (x ∷ xs) ys h g = (h.0, both P xs ys h.1 g)
-
-pub itself : (s : State) → IsLater s s
-itself s = record { limits = refl; opening = refl; more = []; entries = sym (append_nil s.book.entries); sessions = omega arith; time = omega arith }
-
-pub after_both : (s between new : State) → IsLater s between → IsLater between new → IsLater s new
-after_both s between new one two = record {
-  limits = two.limits ∙ one.limits;
-  opening = two.opening ∙ one.opening;
-  more = one.more ++ two.more;
-  entries = two.entries ∙ ap (λ es. es ++ two.more) one.entries ∙ append_assoc s.book.entries one.more two.more;
-  sessions = omega (arith, one.sessions, two.sessions);
-  time = omega (arith, one.time, two.time);
-}
-
-stays : (s new : State) → IsWhole s → new ≡ s → Keeps s new
-stays s new h same = subst (Keeps s) (sym same) (record { frames = h.frames; acts = λ a. a; later = itself s })
-
-by_done : (rule : Rule) (s : State) (reply : Reply) (new : State) → IsWhole s → Allows rule s reply new → (least rule.causes ≡ None → ◌≡◌ {A = Option (Reply × State)} rule.done (Some (reply, new)) → Keeps s new) → Keeps s new
-by_done rule s reply new h step f = elim (outcome rule s reply new step) as (λ _. Keeps s new) [
-  | inl same ↦ stays s new h same
-  | inr done ↦ f done.0 done.1
-]
 
 -- ---- an entry that applied a change that fits
 
@@ -124,82 +77,28 @@ by_applied time (Redone n f) e is = tt
 by_applied time (Acted act key a) e is = absurd (cc)
 by_applied time (Settled upto) e is = absurd (cc)
 
-changed_keeps : (s : State) (n : ℕ) (w : What) (e : Change) → IsWhole s → applies w ≡ Some e → Fits s.book.limits (present s.book) e → Keeps s (changed_state s n w e)
-changed_keeps s n w e h apply fits = record {
-  frames = subst (λ c. HasFrameKeys (frames_after s.time s.frames e) c) (sym (configuration_push s.book.opening s.book.entries n w e apply))
-      (frames_fit s.book.limits (present s.book) s.frames s.time e (kept_now s.book h.journal) h.frames fits);
-  acts = λ a. both (λ (x : Entry). IsBy s.time x.what) s.book.entries (record { number = length s.book.entries + 1; session = n; what = w } ∷ []) a (by_applied s.time w e apply, tt);
-  later = record { limits = refl; opening = refl; more = record { number = length s.book.entries + 1; session = n; what = w } ∷ []; entries = refl; sessions = omega arith; time = omega arith };
-}
-
-edit_keeps : (s : State) (n : ℕ) (batch : List Edit) (reply : Reply) (new : State) → IsWhole s → IsBatch batch → EditsInRange batch → Allows (edit_rule s n batch) s reply new → Keeps s new
-edit_keeps s n batch reply new h is ranges step = by_done (edit_rule s n batch) s reply new h step (λ none done.
-    let admitted = (was_given (is_given s n) (edit_refusal s.book batch) none).1 in
-    let fits : Fits s.book.limits (present s.book) (change_of (present s.book) batch) =
-    batch_fits s.book.limits (present s.book) (kept_now s.book h.journal) batch is ranges (edit_admitted s.book batch admitted).0 in
-    subst (Keeps s) (state_of _ reply _ new done) (changed_keeps s n (Made (change_of (present s.book) batch)) (change_of (present s.book) batch) h refl fits))
-
-undo_keeps : (s : State) (n : ℕ) (reply : Reply) (new : State) → IsWhole s → Allows (undo_rule s n) s reply new → Keeps s new
-undo_keeps s n reply new h step = by_done (undo_rule s n) s reply new h step (λ none done.
-    let admitted = (was_given (is_given s n) (undo_refusal s.book n) none).1 in
-    let each : Option Applied → Option (Reply × State) = λ o. option_map (λ (x : Applied). (EntryOf (next s) x.number, changed_state s n (undone x) (inverse x.change))) o in
-    by_option (last_of s.book.entries n)
-    (λ empty. let never : ◌≡◌ {A = Option (Reply × State)} None (Some (reply, new)) = sym (ap each empty) ∙ done in (cc))
-    (λ x some.
-    let found : IsFree s.book n x.number = record { newest = x; newest_is = some; free = admitted; of_is = refl } in
-    subst (Keeps s) (state_of _ reply _ new (sym (ap each some) ∙ done)) (changed_keeps s n (undone x) (inverse x.change) h refl (undo_step_now s.book n x.number h.journal found).fits)))
-
-redo_keeps : (s : State) (n : ℕ) (reply : Reply) (new : State) → IsWhole s → AllowsRedo s n reply new → Keeps s new
-redo_keeps s n reply new h step =
-    let cause = least (redo_cause s.book.entries (redo_of s.book.entries n) step.fits ∷ no_room s.book.entries 1 ∷ []) in
-    by_done (redo_rule s n cause) s reply new h step.holds (λ none done.
-    let parts = or_none _ _ (sym (redo_refusal-first s.book.entries (redo_of s.book.entries n) step.fits) ∙ (was_given (is_given s n) cause none).1) in
-    let each : Option Applied → Option (Reply × State) = λ o. option_map (λ (u : Applied). (EntryOf (next s) u.number, changed_state s n (redone u) (inverse u.change))) o in
-    by_option (redo_of s.book.entries n)
-    (λ empty. let never : ◌≡◌ {A = Option (Reply × State)} None (Some (reply, new)) = sym (ap each empty) ∙ done in (cc))
-    (λ u some.
-    let fits = redo_fits s n u step.fits h.journal some (subst (λ o. TellsFit s.book o step.fits) some step.tells) (sym (ap (λ o. redo_cause s.book.entries o step.fits) some) ∙ parts.0) in
-    subst (Keeps s) (state_of _ reply _ new (sym (ap each some) ∙ done)) (changed_keeps s n (redone u) (inverse u.change) h refl fits)))
-
 -- ---- an undo of all
 
 module _ (s : State) (n : ℕ) (h : IsWhole s) where
-  abbrev left : List Applied → List Entry
-  left ys = with_undone s.book.entries n ys
+  abbrev undone_to : List Applied → List Entry
+  undone_to ys = with_undone s.book.entries n ys
 
-  frames_left : (xs ys : List Applied) → IsTaken s.book.limits s.book.opening s.book.entries n (xs ++ ys) [] → HasFrameKeys (undone_by (frames_after s.time) s.frames ys) (present (record s.book { entries = left ys }))
+  frames_left : (xs ys : List Applied) → IsTaken s.book.limits s.book.opening s.book.entries n (xs ++ ys) [] → HasFrameKeys (undone_by (frames_after s.time) s.frames ys) (present (record s.book { entries = undone_to ys }))
   frames_left xs [] t = h.frames
   frames_left xs (y ∷ ys) t =
       let more : IsTaken s.book.limits s.book.opening s.book.entries n ((xs ++ y ∷ []) ++ ys) [] = subst (λ zs. IsTaken s.book.limits s.book.opening s.book.entries n zs []) (sym (append_assoc xs (y ∷ []) ys)) t in
       let so_far = taken_to s.book.limits s.book.opening s.book.entries n (xs ++ y ∷ []) ys more in
       let step = (next_taken s.book.limits s.book.opening s.book.entries n xs y ys so_far).step in
       subst (λ c. HasFrameKeys (frames_after s.time (undone_by (frames_after s.time) s.frames ys) (inverse y.change)) c)
-      (sym (configuration_push s.book.opening (left ys) n (undone y) (inverse y.change) refl))
-      (frames_fit s.book.limits (present (record s.book { entries = left ys })) (undone_by (frames_after s.time) s.frames ys) s.time (inverse y.change)
-      (kept_now (record s.book { entries = left ys }) so_far.sound) (frames_left (xs ++ y ∷ []) ys more) step.fits)
+      (sym (configuration_push s.book.opening (undone_to ys) n (undone y) (inverse y.change) refl))
+      (frames_fit s.book.limits (present (record s.book { entries = undone_to ys })) (undone_by (frames_after s.time) s.frames ys) s.time (inverse y.change)
+      (kept_now (record s.book { entries = undone_to ys }) so_far.sound) (frames_left (xs ++ y ∷ []) ys more) step.fits)
 
-  acts_left : ActsAreBy s → (ys : List Applied) → AllByRecursion (λ e. IsBy s.time e.what) (left ys)
-  acts_left a [] = a
-  acts_left a (y ∷ ys) = both (λ (x : Entry). IsBy s.time x.what) (left ys) (record { number = length (left ys) + 1; session = n; what = undone y } ∷ []) (acts_left a ys) (tt, tt)
-
-  later_left : (ys : List Applied) → (more : List Entry) × (left ys ≡ s.book.entries ++ more)
-  later_left [] = ([], sym (append_nil s.book.entries))
-  later_left (y ∷ ys) =
-      let rest = later_left ys in
-      let last : List Entry = record { number = length (left ys) + 1; session = n; what = undone y } ∷ [] in
-      (rest.0 ++ last, ap (λ es. es ++ last) rest.1 ∙ append_assoc s.book.entries rest.0 last)
-
-  all_keeps : (reply : Reply) (new : State) → Allows (undo_all_rule s n) s reply new → Keeps s new
-  all_keeps reply new step = by_done (undo_all_rule s n) s reply new h step (λ none done.
-      let admitted = (was_given (is_given s n) (undo_all_refusal s.book n) none).1 in
-      let own = own_standing s.book.entries n in
-      let begun = begin_taken s.book.limits s.book.opening s.book.entries n h.journal (free_of_all s.book n admitted).none in
-      let more = later_left own in
-      subst (Keeps s) (state_of _ reply _ new done) (record {
-        frames = frames_left [] own begun;
-        acts = λ a. acts_left a own;
-        later = record { limits = refl; opening = refl; more = more.0; entries = more.1; sessions = omega arith; time = omega arith };
-      }))
+acts_left : (s : State) (n : ℕ) → ActsAreBy s → (ys : List Applied) → AllByRecursion (λ e. IsBy s.time e.what) (with_undone s.book.entries n ys)
+acts_left s n a [] = a
+acts_left s n a (y ∷ ys) =
+    let so_far = with_undone s.book.entries n ys in
+    both (λ (x : Entry). IsBy s.time x.what) so_far (record { number = length so_far + 1; session = n; what = undone y } ∷ []) (acts_left s n a ys) (tt, tt)
 
 -- ---- an act, and a frame
 
@@ -213,24 +112,6 @@ by_later early late es le h = each_weaker (λ (x : Entry). IsBy early x.what) (�
     longer (Redone m e) by = tt
     longer (Acted act key a) by = omega (arith, by, le)
     longer (Settled upto) by = tt
-
-acted_keeps : (s : State) (n : ℕ) (act : Asked) (k : Key) (now : ℕ) → IsWhole s → Keeps s (acted_state s n act k now)
-acted_keeps s n act k now h =
-    let one : List Entry = record { number = length s.book.entries + 1; session = n; what = Acted act k (instant s now) } ∷ [] in
-    record {
-      frames = subst (λ c. HasFrameKeys s.frames c) (sym (ap (run s.book.opening) (nothing_push s.book.entries n (Acted act k (instant s now)) refl))) h.frames;
-      acts = λ a. both (λ (x : Entry). IsBy (instant s now) x.what) s.book.entries one (by_later s.time (instant s now) s.book.entries (omega arith) a) (omega arith, tt);
-      later = record { limits = refl; opening = refl; more = one; entries = refl; sessions = omega arith; time = omega arith };
-    }
-
-settled_keeps : (s : State) (n upto : ℕ) → IsWhole s → Keeps s (settled_state s n upto)
-settled_keeps s n upto h =
-    let one : List Entry = record { number = length s.book.entries + 1; session = n; what = Settled upto } ∷ [] in
-    record {
-      frames = subst (λ c. HasFrameKeys s.frames c) (sym (ap (run s.book.opening) (nothing_push s.book.entries n (Settled upto) refl))) h.frames;
-      acts = λ a. both (λ (x : Entry). IsBy s.time x.what) s.book.entries one a (tt, tt);
-      later = record { limits = refl; opening = refl; more = one; entries = refl; sessions = omega arith; time = omega arith };
-    }
 
 is_filter : (v : Option Record) (q : StreamFilter) → filter_of v ≡ Some q → v ≡ Some (records.Filter q)
 is_filter None q e = (cc)
@@ -278,51 +159,47 @@ module _ (l : Limits) (c : Configuration) (f : FrameData) (acts : GateActs) (fra
       (met_keys f n q (through back.2.0).1 c (h.filters n ∙ ap is_some at) (h.gates q.gate ∙ kept.referred (Filter n) (records.Filter q) (Gate q.gate) at (refers_to_gate q))
       (λ m is. h.meters m ∙ kept.referred (Filter n) (records.Filter q) (Meter m) at (refers_to_meter q m is)) h)
 
-framed_keeps : (s : State) (frame : Frame) (now : ℕ) (reply : Reply) (new : State) → IsWhole s → (o : Option (Verdict × FrameData)) → framed (present s.book) s.frames (acts_of_gates s.book) frame (instant s now) ≡ o
-    → ◌≡◌ {A = Option (Reply × State)} (option_map {T = Verdict × FrameData} {U = Reply × State} (λ x. (Framed x.0, framed_state s now x.1)) o) (Some (reply, new)) → Keeps s new
-framed_keeps s frame now reply new h None is done = (cc)
-framed_keeps s frame now reply new h (Some x) is done = subst (Keeps s) (state_of (Framed x.0) reply (framed_state s now x.1) new done) (record {
-  frames = framed_keys s.book.limits (present s.book) s.frames (acts_of_gates s.book) frame (instant s now) (kept_now s.book h.journal) h.frames (chosen frame.handle frame.priority (filters_of (present s.book))) x.0 x.1 is;
-  acts = λ a. by_later s.time (instant s now) s.book.entries (omega arith) a;
-  later = record { limits = refl; opening = refl; more = []; entries = sym (append_nil s.book.entries); sessions = omega arith; time = omega arith };
-})
+-- what no entry applied stays, and so do the keys
+quiet_keeps : (s : State) (n : ℕ) (w : What) → applies w ≡ None → HasFrameKeys s.frames (present s.book) → HasFrameKeys s.frames (present (enter s.book n w))
+quiet_keeps s n w none h = subst (λ c. HasFrameKeys s.frames c) (sym (ap (run s.book.opening) (nothing_push s.book.entries n w none))) h
+
+-- ---- each way in which a step leaves the state
+
+frames_kept : (s : State) (n : ℕ) (f : Family) (new : State) → IsWhole s → FamilyInRange f → Left s n f new → HasFrameKeys new.frames (present new.book)
+frames_kept s n f new h ranges Same = h.frames
+frames_kept s n f new h ranges Greeted = h.frames
+frames_kept s n f new h ranges (Changed w e apply good) =
+    subst (λ c. HasFrameKeys (frames_after s.time s.frames e) c) (sym (configuration_push s.book.opening s.book.entries n w e apply))
+    (frames_fit s.book.limits (present s.book) s.frames s.time e (kept_now s.book h.journal) h.frames (good h.journal ranges).0)
+frames_kept s n f new h ranges (AllUndone free) =
+    frames_left s n h [] (own_standing s.book.entries n) (begin_taken s.book.limits s.book.opening s.book.entries n h.journal (free_of_all s.book n free).none)
+frames_kept s n f new h ranges (SettledTo upto) = quiet_keeps s n (Settled upto) refl h.frames
+frames_kept s n f new h ranges (ActDone act k now none) = quiet_keeps s n (Acted act k (instant s now)) refl h.frames
+frames_kept s n f new h ranges (FrameTaken frame now x of is) =
+    framed_keys s.book.limits (present s.book) s.frames (acts_of_gates s.book) frame (instant s now) (kept_now s.book h.journal) h.frames (chosen frame.handle frame.priority (filters_of (present s.book))) x.0 x.1 is
+
+-- one entry more, and every act was done by the time
+by_entry : (s : State) (n : ℕ) (w : What) (time : ℕ) → s.time ≤ time → IsBy time w → ActsAreBy s → AllByRecursion (λ e. IsBy time e.what) (enter s.book n w).entries
+by_entry s n w time late by a =
+    both (λ (x : Entry). IsBy time x.what) s.book.entries (record { number = length s.book.entries + 1; session = n; what = w } ∷ []) (by_later s.time time s.book.entries late a) (by, tt)
+
+acts_kept : (s : State) (n : ℕ) (f : Family) (new : State) → Left s n f new → ActsAreBy s → ActsAreBy new
+acts_kept s n f new Same a = a
+acts_kept s n f new Greeted a = a
+acts_kept s n f new (Changed w e apply good) a = by_entry s n w s.time (omega arith) (by_applied s.time w e apply) a
+acts_kept s n f new (AllUndone free) a = acts_left s n a (own_standing s.book.entries n)
+acts_kept s n f new (SettledTo upto) a = by_entry s n (Settled upto) s.time (omega arith) tt a
+acts_kept s n f new (ActDone act k now none) a = by_entry s n (Acted act k (instant s now)) (instant s now) (omega arith) (omega arith) a
+acts_kept s n f new (FrameTaken frame now x of is) a = by_later s.time (instant s now) s.book.entries (omega arith) a
 
 -- ---- each step, and each list of them
 
--- what only looks
-looks : {A : Type 0} (f : A → Reply) (s : State) (reply : Reply) (new : State) → IsWhole s → (o : Option A) → ◌≡◌ {A = Option (Reply × State)} (option_map (λ x. (f x, s)) o) (Some (reply, new)) → Keeps s new
-looks f s reply new h None done = (cc)
-looks f s reply new h (Some x) done = stays s new h (sym (state_of (f x) reply s new done))
-
-keeps : (s : State) (n : ℕ) (command : Command) (reply : Reply) (new : State) → IsWhole s → CommandInRange command → Step s n command reply new → Keeps s new
-keeps s n commands.Hello reply new h ranges step = by_done (hello_rule s) s reply new h step (λ none done.
-    subst (Keeps s) (state_of (Session (s.sessions + 1)) reply (record s { sessions = s.sessions + 1 }) new done) (record {
-      frames = h.frames;
-      acts = λ a. a;
-      later = record { limits = refl; opening = refl; more = []; entries = sym (append_nil s.book.entries); sessions = omega arith; time = omega arith };
-    }))
-keeps s n (commands.Create k r) reply new h ranges step = edit_keeps s n (edits.Create k r ∷ []) reply new h (batch_of_one (edits.Create k r)) (ranges, tt) step
-keeps s n (commands.Replace k r) reply new h ranges step = edit_keeps s n (edits.Replace k r ∷ []) reply new h (batch_of_one (edits.Replace k r)) (ranges, tt) step
-keeps s n (commands.Remove k) reply new h ranges step = edit_keeps s n (edits.Remove k ∷ []) reply new h (batch_of_one (edits.Remove k)) (tt, tt) step
-keeps s n (commands.Batch batch) reply new h ranges step = edit_keeps s n batch reply new h ranges.0 ranges.1 step
-keeps s n commands.Undo reply new h ranges step = undo_keeps s n reply new h step
-keeps s n commands.UndoAll reply new h ranges step = all_keeps s n h reply new step
-keeps s n commands.Redo reply new h ranges step = redo_keeps s n reply new h step
-keeps s n (commands.Settle upto) reply new h ranges step = by_done (settle_rule s n upto) s reply new h step (λ none done. subst (Keeps s) (state_of _ reply _ new done) (settled_keeps s n upto h))
-keeps s n (commands.Enable k now) reply new h ranges step = by_done (enable_rule s n k now) s reply new h step (λ none done. subst (Keeps s) (state_of _ reply _ new done) (acted_keeps s n asked.Enable k now h))
-keeps s n (commands.Disable k now) reply new h ranges step = by_done (disable_rule s n k now) s reply new h step (λ none done. subst (Keeps s) (state_of _ reply _ new done) (acted_keeps s n asked.Disable k now h))
-keeps s n (commands.Apply k now) reply new h ranges step = by_done (apply_rule s n k now) s reply new h step (λ none done. subst (Keeps s) (state_of _ reply _ new done) (acted_keeps s n asked.Apply k now h))
-keeps s n (commands.Frame frame now) reply new h ranges step = by_done (frame_rule s n frame now) s reply new h step (λ none done. framed_keeps s frame now reply new h (framed (present s.book) s.frames (acts_of_gates s.book) frame (instant s now)) refl done)
-keeps s n (commands.States k at) reply new h ranges step = by_done (states_rule s n k at) s reply new h step (λ none done. looks (λ x. States x) s reply new h (shown_at s.book k (get (present s.book) k) at) done)
-keeps s n (commands.Counters k) reply new h ranges step = by_done (counters_rule s n k) s reply new h step (λ none done. looks (λ x. Counters x) s reply new h (counted_at s.book s.frames s.time k) done)
-keeps s n (commands.Show k) reply new h ranges step = by_done (show_rule s n k) s reply new h step (λ none done. looks (λ r. Shown k r) s reply new h (get (present s.book) k) done)
-keeps s n (commands.List kind) reply new h ranges step = by_done (list_rule s n kind) s reply new h step (λ none done. stays s new h (sym (state_of (Ids (ids_of kind (present s.book))) reply s new done)))
-keeps s n (commands.Since after) reply new h ranges step = by_done (since_rule s n after) s reply new h step (λ none done. stays s new h (sym (state_of (Entries (since s.book.entries after)) reply s new done)))
-
 pub goes_on : (s : State) (n : ℕ) (command : Command) (reply : Reply) (new : State) → IsWhole s → CommandInRange command → Step s n command reply new → IsWhole new × IsLater s new × (ActsAreBy s → ActsAreBy new)
 goes_on s n command reply new h ranges step =
-    let kept = keeps s n command reply new h ranges step in
-    (record { journal = (follows s n command reply new h.journal ranges step).sound; frames = kept.frames }, kept.later, kept.acts)
+    let f = family command in
+    let l = (leaves s n f reply new step).how in
+    let kept = follows s n command reply new h.journal ranges step in
+    (record { journal = kept.sound; frames = frames_kept s n f new h (in_range command ranges) l }, kept.later, acts_kept s n f new l)
 
 pub all_go_on : (ts : List Answered) (s new : State) → IsWhole s → AreInRange ts → Leads s ts new → IsWhole new × IsLater s new × (ActsAreBy s → ActsAreBy new)
 all_go_on [] s new h ranges same = subst (λ t. IsWhole t × IsLater s t × (ActsAreBy s → ActsAreBy t)) (sym same) (h, itself s, λ a. a)

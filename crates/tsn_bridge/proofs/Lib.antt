@@ -1,6 +1,7 @@
 pub mod Accepted
 pub mod Stepping
 pub mod AtOnce
+pub mod Families
 pub mod Interleaving
 pub mod Following
 pub mod Room

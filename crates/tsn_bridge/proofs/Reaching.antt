@@ -1,8 +1,7 @@
 -- What is asked of a bridge that was reached leads on from where it began.
-use Rattle.std.proofs.Common.{◌≡◌, List, [], ◌∷◌, ◌++◌, refl, sym, subst}
+use Rattle.std.proofs.Common.{◌≡◌, List, [], ◌∷◌, ◌++◌, refl, subst}
 use Rattle.tsn_desk.specs.declared.history.Entry.{Entry}
 use Rattle.tsn_desk.specs.History.{Runs}
-use Rattle.tsn_types.specs.declared.limits.Limits.{Limits}
 use Rattle.tsn_bridge.specs.declared.command.Ask.{Ask}
 use Rattle.tsn_bridge.specs.declared.reply.Reply.{Reply}
 use Rattle.tsn_bridge.specs.Beginning.{IsOpened, begun}

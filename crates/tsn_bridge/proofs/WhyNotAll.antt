@@ -25,7 +25,7 @@ use Rattle.tsn_bridge.specs.Rule.{is_given}
 use Rattle.tsn_bridge.specs.State.{State}
 use Rattle.tsn_bridge.proofs.AtOnce.{done_of}
 use Rattle.tsn_bridge.proofs.Blocking.{finds_pair, named_first}
-use Rattle.tsn_bridge.proofs.Interleaving.{outcome}
+use Rattle.tsn_bridge.proofs.Families.{outcome}
 use Rattle.tsn_bridge.proofs.Stepping.{AllowsAt, given, refused}
 
 -- where none passes a test, all pass its opposite
@@ -79,7 +79,7 @@ module _ (s : State) (n : ℕ) (sound : StateIsSound s) where
 -- a refused undo of all changed nothing, and its cause is one of these
 pub not_all : (s : State) (n : ℕ) (why : Refusal) (new : State) → StateIsSound s → Step s n commands.UndoAll (Refused why) new → (new ≡ s) × WhyNotAll s n why
 not_all s n why new sound step = (
-  elim (outcome (undo_all_rule s n) s (Refused why) new step) as (λ _. new ≡ s) [ inl same ↦ same | inr done ↦ absurd (never done.1) ],
+  elim (outcome (undo_all_rule s n) s (Refused why) new step) as (λ _. new ≡ s) [ inl still ↦ still.same | inr did ↦ absurd (never did.done) ],
   elim (refused (undo_all_rule s n) s new why never step) as (λ _. WhyNotAll s n why) [
     | inl cause ↦ least_cause s n sound (is_given s n) (undo_all_refusal s.book n) why refl refl cause
     | inr memory ↦ subst (WhyNotAll s n) (sym memory) tt

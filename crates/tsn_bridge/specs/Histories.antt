@@ -3,13 +3,13 @@ use Rattle.std.specs.Prelude.{◌≡◌, List, [], ◌∷◌, ⊤, Option, Some,
 use Rattle.std.specs.List.{AllByRecursion}
 use Rattle.tsn_types.specs.InRange.{RecordInRange}
 use Rattle.tsn_edit.specs.declared.Edit.{Edit}
-use Rattle.tsn_edit.specs.declared.Edit.TheVariants as edits
 use Rattle.tsn_edit.specs.Batches.{EditsInRange, IsBatch}
 use Rattle.tsn_undo.specs.Soundness.{IsSound}
 use Rattle.tsn_bridge.specs.declared.command.Ask.{Ask}
 use Rattle.tsn_bridge.specs.declared.command.Command.{Command}
 use Rattle.tsn_bridge.specs.declared.command.Command.TheVariants as commands
 use Rattle.tsn_bridge.specs.declared.reply.Reply.{Reply}
+use Rattle.tsn_bridge.specs.Families.{Editing, Family, family}
 use Rattle.tsn_bridge.specs.Machine.{Step}
 use Rattle.tsn_bridge.specs.State.{State}
 
@@ -29,32 +29,18 @@ Leads s (t ∷ ts) new = (between : State) × Answers s t.ask t.reply between ×
 
 -- the numbers of a command's records are in their ranges, and a batch is 1 to 16 edits, on distinct keys
 abbrev pub CommandInRange : Command → Type 0
-CommandInRange commands.Hello = ⊤
 CommandInRange (commands.Create k r) = RecordInRange r
 CommandInRange (commands.Replace k r) = RecordInRange r
-CommandInRange (commands.Remove k) = ⊤
 CommandInRange (commands.Batch batch) = IsBatch batch × EditsInRange batch
-CommandInRange commands.Undo = ⊤
-CommandInRange commands.UndoAll = ⊤
-CommandInRange commands.Redo = ⊤
-CommandInRange (commands.Settle upto) = ⊤
-CommandInRange (commands.Enable k now) = ⊤
-CommandInRange (commands.Disable k now) = ⊤
-CommandInRange (commands.Apply k now) = ⊤
-CommandInRange (commands.Frame frame now) = ⊤
-CommandInRange (commands.States k at) = ⊤
-CommandInRange (commands.Counters k) = ⊤
-CommandInRange (commands.Show k) = ⊤
-CommandInRange (commands.List kind) = ⊤
-CommandInRange (commands.Since after) = ⊤
+CommandInRange command = ⊤
 
 -- the edits that a command asks for: one, or those of a batch; none where it asks for something else
+abbrev pub batch_of : Family → Option (List Edit)
+batch_of (Editing batch) = Some batch
+batch_of f = None
+
 abbrev pub edits_of : Command → Option (List Edit)
-edits_of (commands.Create k r) = Some (edits.Create k r ∷ [])
-edits_of (commands.Replace k r) = Some (edits.Replace k r ∷ [])
-edits_of (commands.Remove k) = Some (edits.Remove k ∷ [])
-edits_of (commands.Batch batch) = Some batch
-edits_of command = None
+edits_of command = batch_of (family command)
 
 abbrev pub AreInRange : List Answered → Type 0
 AreInRange ts = AllByRecursion (λ t. CommandInRange t.ask.command) ts

@@ -2,6 +2,7 @@ pub mod Acts
 pub mod Beginning
 pub mod Edits
 pub mod Examples
+pub mod Families
 pub mod Frames
 pub mod Headline
 pub mod Histories

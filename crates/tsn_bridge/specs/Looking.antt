@@ -19,7 +19,7 @@ use Rattle.tsn_undo.specs.Ledger.{Ledger, present}
 use Rattle.tsn_bridge.specs.declared.reply.Reply.TheVariants as replies
 use Rattle.tsn_bridge.specs.Acts.{key_causes, list_causes}
 use Rattle.tsn_bridge.specs.Objects.{gate_at, port_at}
-use Rattle.tsn_bridge.specs.Rule.{Rule}
+use Rattle.tsn_bridge.specs.Rule.{Look, Rule, look_rule}
 use Rattle.tsn_bridge.specs.State.{State}
 
 -- the instant of the last act on a key
@@ -36,12 +36,15 @@ shown_at b (Gate m) (Some (records.Gate r)) t = Some (gate_state r (state_in (λ
 shown_at b k v t = None
 
 -- the state of a port's or a gate's list, or of its record; refused 16 before the last act on it
-abbrev pub states_rule : State → ℕ → Key → ℕ → Rule
-states_rule s n k t = record {
+abbrev pub states_look : State → ℕ → Key → ℕ → Look
+states_look s n k t = record {
   causes = list_causes s n k (unless (nat_le (last_at s.book k) t) Past ∷ []);
-  done = option_map (λ x. (replies.States x, s)) (shown_at s.book k (get (present s.book) k) t);
+  answer = option_map (λ x. replies.States x) (shown_at s.book k (get (present s.book) k) t);
   takes_memory = false;
 }
+
+abbrev pub states_rule : State → ℕ → Key → ℕ → Rule
+states_rule s n k t = look_rule s (states_look s n k t)
 
 -- the counters of a key at the bridge time, by its acts and what the filter chain keeps
 abbrev pub counted_at : Ledger → FrameData → ℕ → Key → Option Counters
@@ -50,9 +53,12 @@ counted_at b f now (Filter m) = option_map (λ d. counters.Filter d) (get f.filt
 counted_at b f now (Gate m) = option_map (λ d. gate_counters now d (gate_at b m).acts) (get f.gates m)
 counted_at b f now (Meter m) = option_map (λ d. counters.Meter d.red) (get f.meters m)
 
-abbrev pub counters_rule : State → ℕ → Key → Rule
-counters_rule s n k = record {
+abbrev pub counters_look : State → ℕ → Key → Look
+counters_look s n k = record {
   causes = key_causes s n k [];
-  done = option_map (λ x. (replies.Counters x, s)) (counted_at s.book s.frames s.time k);
+  answer = option_map (λ x. replies.Counters x) (counted_at s.book s.frames s.time k);
   takes_memory = false;
 }
+
+abbrev pub counters_rule : State → ℕ → Key → Rule
+counters_rule s n k = look_rule s (counters_look s n k)

@@ -1,20 +1,17 @@
 -- The rules of what reads and changes nothing.
-use Rattle.std.specs.Prelude.{ℕ, Bool, true, false, [], ◌∷◌, Some, is_some, length, nat_lt, option_map}
+use Rattle.std.specs.Prelude.{ℕ, Bool, true, false, [], ◌∷◌, Some, length, nat_lt, option_map}
 use Rattle.std.specs.FinMap.{get}
 use Rattle.tsn_types.specs.declared.keys.Key.{Key}
 use Rattle.tsn_types.specs.declared.keys.Kind.{Kind}
 use Rattle.tsn_types.specs.declared.records.Record.{Record}
 use Rattle.tsn_types.specs.declared.records.Record.TheVariants as records
-use Rattle.tsn_types.specs.declared.refusals.Field.TheVariants as fields
-use Rattle.tsn_types.specs.declared.refusals.Refusal.TheVariants.{Range, Missing}
-use Rattle.tsn_types.specs.Limits.{unless, holds_key}
 use Rattle.tsn_config.specs.Ids.{ids_of}
 use Rattle.tsn_journal.specs.Finding.{since}
 use Rattle.tsn_undo.specs.Ledger.{present}
 use Rattle.tsn_bridge.specs.declared.reply.Reply.TheVariants.{Entries, Ids, Shown}
-use Rattle.tsn_bridge.specs.Acts.{has_list}
+use Rattle.tsn_bridge.specs.Acts.{has_list, key_causes}
 use Rattle.tsn_bridge.specs.State.{State}
-use Rattle.tsn_bridge.specs.Rule.{Rule, no_session}
+use Rattle.tsn_bridge.specs.Rule.{Look, Rule, look_rule, no_session}
 
 -- a record that has a list, which a copy takes memory for
 abbrev pub record_has_list : Record → Bool
@@ -24,21 +21,30 @@ record_has_list (records.Gate r) = true
 record_has_list (records.Meter r) = false
 
 -- a show answers the record at the key; only that of a port or a stream gate, which have lists, takes memory
-abbrev pub show_rule : State → ℕ → Key → Rule
-show_rule s n k = record {
-  causes = unless (holds_key s.book.limits k) (Range fields.Key) ∷ no_session s n ∷ unless (is_some (get (present s.book) k)) (Missing k) ∷ [];
-  done = option_map (λ r. (Shown k r, s)) (get (present s.book) k);
+abbrev pub show_look : State → ℕ → Key → Look
+show_look s n k = record {
+  causes = key_causes s n k [];
+  answer = option_map (λ r. Shown k r) (get (present s.book) k);
   takes_memory = has_list k;
 }
 
+abbrev pub show_rule : State → ℕ → Key → Rule
+show_rule s n k = look_rule s (show_look s n k)
+
 -- a list answers the numbers of all instances of the kind; where there is none, it takes no memory
-abbrev pub list_rule : State → ℕ → Kind → Rule
-list_rule s n kind = record {
+abbrev pub list_look : State → ℕ → Kind → Look
+list_look s n kind = record {
   causes = no_session s n ∷ [];
-  done = Some (Ids (ids_of kind (present s.book)), s);
+  answer = Some (Ids (ids_of kind (present s.book)));
   takes_memory = nat_lt 0 (length (ids_of kind (present s.book)));
 }
 
+abbrev pub list_rule : State → ℕ → Kind → Rule
+list_rule s n kind = look_rule s (list_look s n kind)
+
 -- a since answers the journal's entries of a greater number
+abbrev pub since_look : State → ℕ → ℕ → Look
+since_look s n after = record { causes = no_session s n ∷ []; answer = Some (Entries (since s.book.entries after)); takes_memory = true }
+
 abbrev pub since_rule : State → ℕ → ℕ → Rule
-since_rule s n after = record { causes = no_session s n ∷ []; done = Some (Entries (since s.book.entries after), s); takes_memory = true }
+since_rule s n after = look_rule s (since_look s n after)

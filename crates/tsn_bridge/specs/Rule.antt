@@ -1,5 +1,5 @@
 -- The rule of a command: why it is refused, what it answers and leaves where it is not, and whether it takes memory.
-use Rattle.std.specs.Prelude.{◌≡◌, ◌⊎◌, ℕ, Bool, ◌&&◌, nat_lt, nat_le, List, Option, Some, MatchOption, IsTrue}
+use Rattle.std.specs.Prelude.{◌≡◌, ◌⊎◌, ℕ, Bool, ◌&&◌, nat_lt, nat_le, List, Option, Some, MatchOption, IsTrue, option_map}
 use Rattle.tsn_types.specs.declared.refusals.Refusal.{Refusal}
 use Rattle.tsn_types.specs.declared.refusals.Refusal.TheVariants.{NoSession, Memory}
 use Rattle.tsn_types.specs.Limits.{unless}
@@ -22,6 +22,16 @@ Allows rule s reply new =
     MatchOption (least rule.causes)
     ((rule.done ≡ Some (reply, new)) ⊎ (IsTrue rule.takes_memory × (reply ≡ Refused Memory) × (new ≡ s)))
     (λ why. (reply ≡ Refused why) × (new ≡ s))
+
+-- A look changes nothing: why it is refused, what it answers where no cause holds, and whether it takes memory.
+pub record Look : Type 0 where
+  pub causes : List (Option Refusal)
+  pub answer : Option Reply
+  pub takes_memory : Bool
+
+-- its rule
+abbrev pub look_rule : State → Look → Rule
+look_rule s l = record { causes = l.causes; done = option_map {T = Reply} {U = Reply × State} (λ x. (x, s)) l.answer; takes_memory = l.takes_memory }
 
 -- whether the session number was given out
 abbrev pub is_given : State → ℕ → Bool

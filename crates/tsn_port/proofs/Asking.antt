@@ -20,7 +20,7 @@ use Rattle.tsn_bridge.specs.declared.reply.Reply.TheVariants.{Refused, Session, 
 use Rattle.tsn_bridge.specs.Later.{IsWhole}
 use Rattle.tsn_bridge.specs.Machine.{Step}
 use Rattle.tsn_bridge.specs.Reads.{show_rule, since_rule}
-use Rattle.tsn_bridge.specs.Rule.{Allows, is_given}
+use Rattle.tsn_bridge.specs.Rule.{Allows, is_given, look_rule}
 use Rattle.tsn_bridge.specs.Sessions.{hello_rule, most_sessions}
 use Rattle.tsn_bridge.specs.State.{State}
 use Rattle.tsn_bridge.proofs.AtOnce.{done_of}
@@ -76,7 +76,7 @@ pub record Shows (s : State) (n : ℕ) (r : Reply) (new : State) : Type 0 where
 abbrev LooksAt : Bool → Bool → Option Record → State → ℕ → ℕ → Reply → State → Type 0
 LooksAt b g o s m n r new =
     AllowsAt (least (unless b (refusals.Range fields.Key) ∷ unless g refusals.NoSession ∷ unless (is_some o) (refusals.Missing (Port n)) ∷ []))
-    (record { causes = []; done = option_map (λ v. (Shown (Port n) v, s)) o; takes_memory = true }) s r new
+    (look_rule s (record { causes = []; answer = option_map (λ v. Shown (Port n) v) o; takes_memory = true })) s r new
 
 over_limits : (l n : ℕ) → 1 ≤ n → (nat_lt 0 n && nat_le n l) ≡ false → l < n
 over_limits l n low not = grind (arith, nat_tests, not)

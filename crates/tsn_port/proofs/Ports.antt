@@ -1,6 +1,5 @@
 -- In a bridge the entries are such as a mirror of any of its ports follows.
-use Rattle.std.proofs.Common.{◌≡◌, ◌∙◌, ◌≤◌, ℕ, true, List, [], ◌∷◌, Option, Some, None, ap, arith, inl, inr, refl, subst, sym}
-use Rattle.std.specs.Prelude.{option_map}
+use Rattle.std.proofs.Common.{◌≡◌, ◌∙◌, ◌≤◌, ℕ, true, List, [], ◌∷◌, Option, Some, None, ap, arith, refl, subst, sym}
 use Rattle.std.specs.List.{fold}
 use Rattle.std.specs.FinMap.{get}
 use Rattle.tsn_types.specs.declared.keys.Key.{Key}
@@ -13,10 +12,7 @@ use Rattle.tsn_types.specs.declared.records.Record.TheVariants as records
 use Rattle.tsn_types.specs.Keys.{same_key}
 use Rattle.tsn_types.specs.Limits.{HoldsRecord}
 use Rattle.tsn_types.specs.Refusals.{least}
-use Rattle.tsn_edit.specs.declared.Edit.{Edit}
-use Rattle.tsn_edit.specs.declared.Edit.TheVariants as edits
 use Rattle.tsn_edit.specs.Configuration.{Configuration, IsWellKept}
-use Rattle.tsn_edit.specs.Batches.{change_of}
 use Rattle.tsn_edit.specs.Parts.{Change, inverse}
 use Rattle.tsn_edit.specs.Runs.{IsGood}
 use Rattle.tsn_edit.proofs.KeyFacts.{one_key}
@@ -27,37 +23,23 @@ use Rattle.tsn_journal.specs.declared.entries.Act.TheVariants as asked
 use Rattle.tsn_journal.specs.declared.entries.Entry.{Entry}
 use Rattle.tsn_journal.specs.declared.entries.What.{What}
 use Rattle.tsn_journal.specs.declared.entries.What.TheVariants.{Made, Undone, Redone, Acted, Settled}
-use Rattle.tsn_journal.specs.Entries.{Applied, applies, changes, collect, no_room, redone, undone, with_entry}
-use Rattle.tsn_journal.specs.Finding.{last_of, own_standing, redo_of}
+use Rattle.tsn_journal.specs.Entries.{Applied, applies, changes, collect, undone, with_entry}
+use Rattle.tsn_journal.specs.Finding.{own_standing}
 use Rattle.tsn_undo.specs.Ledger.{Ledger, present}
-use Rattle.tsn_undo.specs.Redo.{redo_cause}
 use Rattle.tsn_undo.specs.UndoAll.{with_undone}
 use Rattle.tsn_undo.proofs.Making.{kept_now}
-use Rattle.tsn_chain.specs.declared.frame.Verdict.{Verdict}
 use Rattle.tsn_chain.specs.declared.state.State.TheVariants as states
-use Rattle.tsn_chain.specs.Frames.{framed}
 use Rattle.tsn_chain.specs.State.{port_state}
-use Rattle.tsn_chain.specs.Instances.{FrameData}
-use Rattle.tsn_bridge.specs.declared.command.Command.{Command}
-use Rattle.tsn_bridge.specs.declared.command.Command.TheVariants as commands
-use Rattle.tsn_bridge.specs.declared.reply.Reply.{Reply}
-use Rattle.tsn_bridge.specs.declared.reply.Reply.TheVariants.{Counters, EntryOf, Framed, Shown, States}
-use Rattle.tsn_bridge.specs.Acts.{act_rule, enabled_at, has_entry, instant}
+use Rattle.tsn_bridge.specs.Acts.{act_rule, acted_state, enabled_at, has_entry, instant}
 use Rattle.tsn_bridge.specs.Beginning.{Opens, begun}
-use Rattle.tsn_bridge.specs.Edits.{changed_state, edit_rule, next, redo_rule, undo_all_rule, undo_rule}
-use Rattle.tsn_bridge.specs.Settling.{settle_rule}
-use Rattle.tsn_bridge.specs.Frames.{acts_of_gates, frame_rule, framed_state}
+use Rattle.tsn_bridge.specs.Edits.{next}
 use Rattle.tsn_bridge.specs.Histories.{Answered, AreInRange, Leads}
 use Rattle.tsn_bridge.specs.Later.{ActsAreBy, IsWhole}
-use Rattle.tsn_bridge.specs.Looking.{counted_at, counters_rule, last_at, shown_at, states_rule}
-use Rattle.tsn_bridge.specs.Machine.{Step}
+use Rattle.tsn_bridge.specs.Looking.{last_at, shown_at}
 use Rattle.tsn_bridge.specs.Objects.{Object, port_at, port_schedule}
-use Rattle.tsn_bridge.specs.Reads.{list_rule, show_rule, since_rule}
-use Rattle.tsn_bridge.specs.Rule.{Allows, Rule}
-use Rattle.tsn_bridge.specs.Sessions.{hello_rule}
 use Rattle.tsn_bridge.specs.State.{State}
-use Rattle.tsn_bridge.proofs.AtOnce.{done_of}
-use Rattle.tsn_bridge.proofs.Interleaving.{outcome}
+use Rattle.tsn_bridge.specs.Families.{Family, family}
+use Rattle.tsn_bridge.proofs.Families.{ActDone, AllUndone, Changed, FrameTaken, Greeted, Left, Same, SettledTo, leaves}
 use Rattle.tsn_bridge.proofs.KeySteps.{applied_finds}
 use Rattle.tsn_bridge.proofs.LastActs.{all_last}
 use Rattle.tsn_bridge.proofs.Later.{goes_on, whole_begun}
@@ -120,29 +102,10 @@ all_undone : (n m : ℕ) (b : Ledger) (es : List Entry) (xs : List Applied) → 
 all_undone n m b es [] h = h
 all_undone n m b es (x ∷ xs) h = changed n m b (with_undone es m xs) (undone x) (inverse x.change) refl (all_undone n m b es xs h)
 
-module _ (n : ℕ) (s : State) (new : State) (h : ActsOf n s.book) where
-  -- what an option has, done to the state
-  mapped : {A : Type 0} (f : A → Reply × State) (o : Option A) (reply : Reply) → ((x : A) → o ≡ Some x → ActsOf n (f x).1.book) → ◌≡◌ {A = Option (Reply × State)} (option_map f o) (Some (reply, new)) → ActsOf n new.book
-  mapped f None reply each done = (cc)
-  mapped f (Some x) reply each done = subst (λ (t : State). ActsOf n t.book) (ap (λ (p : Reply × State). p.1) (done_of _ _ done)) (each x refl)
-
-  by_done : (rule : Rule) (reply : Reply) → Allows rule s reply new → (least rule.causes ≡ None → ◌≡◌ {A = Option (Reply × State)} rule.done (Some (reply, new)) → ActsOf n new.book) → ActsOf n new.book
-  by_done rule reply step f = elim (outcome rule s reply new step) as (λ _. ActsOf n new.book) [
-    | inl same ↦ subst (λ (t : State). ActsOf n t.book) (sym same) h
-    | inr done ↦ f done.0 done.1
-  ]
-
-  -- where what is done is there at once
-  at_once : (rule : Rule) (reply : Reply) (t : Reply × State) → ◌≡◌ {A = Option (Reply × State)} rule.done (Some t) → ActsOf n t.1.book → Allows rule s reply new → ActsOf n new.book
-  at_once rule reply t is good step = by_done rule reply step (λ none done. subst (λ (u : State). ActsOf n u.book) (ap (λ (p : Reply × State). p.1) (done_of _ _ (sym is ∙ done))) good)
-
-  -- where it is what an option has
-  by_map : {A : Type 0} (rule : Rule) (reply : Reply) (f : A → Reply × State) (o : Option A) → ◌≡◌ {A = Option (Reply × State)} rule.done (option_map f o) → ((x : A) → o ≡ Some x → ActsOf n (f x).1.book) → Allows rule s reply new → ActsOf n new.book
-  by_map rule reply f o is each step = by_done rule reply step (λ none done. mapped f o reply each (sym is ∙ done))
-
+module _ (n : ℕ) (s : State) (m : ℕ) (low : 1 ≤ n) (high : n ≤ s.book.limits.ports) (whole : IsWhole s) (by : ActsAreBy s) (h : ActsOf n s.book) where
   -- an act on any key
-  acted : (m : ℕ) (act : Asked) (key : Key) (now : ℕ) (reply : Reply) → 1 ≤ n → n ≤ s.book.limits.ports → IsWhole s → ActsAreBy s → Allows (act_rule s m act key now) s reply new → ActsOf n new.book
-  acted m act key now reply low high whole by step = by_done (act_rule s m act key now) reply step (λ none done.
+  acted : (act : Asked) (key : Key) (now : ℕ) → least (act_rule s m act key now).causes ≡ None → ActsOf n (acted_state s m act key now).book
+  acted act key now none =
       let o = port_at s.book n in
       let p = port_of s.book.limits (present s.book) n (kept_now s.book whole.journal) low high in
       let at : o.value ≡ get (present s.book) (Port n) = value_is port_schedule (Port n) s.book in
@@ -158,37 +121,16 @@ module _ (n : ℕ) (s : State) (new : State) (h : ActsOf n s.book) where
         some = sym (ap has_entry (ap (get (present s.book)) (sym k) ∙ p.1)) ∙ free.some;
         cycle = ((kept_now s.book whole.journal).in_range (Port n) (records.Port p.0) p.1).admin.cycle.0;
       } in
-      subst (λ (t : State). ActsOf n t.book) (ap (λ (q : Reply × State). q.1) (done_of _ _ done))
-      (acts_push n (first n s.book) s.book.entries _ h (acted_history n o act key (instant s now) finds (now_history n s.book h) last)))
+      acts_push n (first n s.book) s.book.entries _ h (acted_history n o act key (instant s now) finds (now_history n s.book h) last)
 
-  -- a batch of edits makes no act
-  edited_acts : (m : ℕ) (batch : List Edit) (reply : Reply) → Allows (edit_rule s m batch) s reply new → ActsOf n new.book
-  edited_acts m batch reply step = at_once (edit_rule s m batch) reply _ refl (changed n m s.book s.book.entries (Made (change_of (present s.book) batch)) (change_of (present s.book) batch) refl h) step
-
-  keeps_acts : (m : ℕ) (command : Command) (reply : Reply) → 1 ≤ n → n ≤ s.book.limits.ports → IsWhole s → ActsAreBy s → Step s m command reply new → ActsOf n new.book
-  keeps_acts m commands.Hello reply low high whole by step = at_once (hello_rule s) reply _ refl h step
-  keeps_acts m (commands.Create k r) reply low high whole by step = edited_acts m (edits.Create k r ∷ []) reply step
-  keeps_acts m (commands.Replace k r) reply low high whole by step = edited_acts m (edits.Replace k r ∷ []) reply step
-  keeps_acts m (commands.Remove k) reply low high whole by step = edited_acts m (edits.Remove k ∷ []) reply step
-  keeps_acts m (commands.Batch batch) reply low high whole by step = edited_acts m batch reply step
-  keeps_acts m (commands.Settle upto) reply low high whole by step = at_once (settle_rule s m upto) reply _ refl (acts_push n (first n s.book) s.book.entries _ h (now_history n s.book h)) step
-  keeps_acts m commands.Undo reply low high whole by step =
-      by_map (undo_rule s m) reply (λ (x : Applied). (EntryOf (next s) x.number, changed_state s m (undone x) (inverse x.change))) (last_of s.book.entries m) refl
-      (λ x _. changed n m s.book s.book.entries (undone x) (inverse x.change) refl h) step
-  keeps_acts m commands.UndoAll reply low high whole by step = at_once (undo_all_rule s m) reply _ refl (all_undone n m s.book s.book.entries (own_standing s.book.entries m) h) step
-  keeps_acts m commands.Redo reply low high whole by step =
-      by_map (redo_rule s m (least (redo_cause s.book.entries (redo_of s.book.entries m) step.fits ∷ no_room s.book.entries 1 ∷ []))) reply (λ (u : Applied). (EntryOf (next s) u.number, changed_state s m (redone u) (inverse u.change))) (redo_of s.book.entries m) refl
-      (λ u _. changed n m s.book s.book.entries (redone u) (inverse u.change) refl h) step.holds
-  keeps_acts m (commands.Enable k now) reply low high whole by step = acted m asked.Enable k now reply low high whole by step
-  keeps_acts m (commands.Disable k now) reply low high whole by step = acted m asked.Disable k now reply low high whole by step
-  keeps_acts m (commands.Apply k now) reply low high whole by step = acted m asked.Apply k now reply low high whole by step
-  keeps_acts m (commands.Frame frame now) reply low high whole by step =
-      by_map {A = Verdict × FrameData} (frame_rule s m frame now) reply (λ x. (Framed x.0, framed_state s now x.1)) (framed (present s.book) s.frames (acts_of_gates s.book) frame (instant s now)) refl (λ x _. h) step
-  keeps_acts m (commands.States k at) reply low high whole by step = by_map (states_rule s m k at) reply (λ x. (States x, s)) (shown_at s.book k (get (present s.book) k) at) refl (λ x _. h) step
-  keeps_acts m (commands.Counters k) reply low high whole by step = by_map (counters_rule s m k) reply (λ x. (Counters x, s)) (counted_at s.book s.frames s.time k) refl (λ x _. h) step
-  keeps_acts m (commands.Show k) reply low high whole by step = by_map (show_rule s m k) reply (λ r. (Shown k r, s)) (get (present s.book) k) refl (λ x _. h) step
-  keeps_acts m (commands.List kind) reply low high whole by step = at_once (list_rule s m kind) reply _ refl h step
-  keeps_acts m (commands.Since from) reply low high whole by step = at_once (since_rule s m from) reply _ refl h step
+  acts_kept : (f : Family) (new : State) → Left s m f new → ActsOf n new.book
+  acts_kept f new Same = h
+  acts_kept f new Greeted = h
+  acts_kept f new (Changed w e apply good) = changed n m s.book s.book.entries w e apply h
+  acts_kept f new (AllUndone free) = all_undone n m s.book s.book.entries (own_standing s.book.entries m) h
+  acts_kept f new (SettledTo upto) = acts_push n (first n s.book) s.book.entries _ h (now_history n s.book h)
+  acts_kept f new (ActDone act key now none) = acted act key now none
+  acts_kept f new (FrameTaken frame now x of is) = h
 
 -- ---- over all that sessions ask
 
@@ -197,7 +139,8 @@ all_keep_acts n [] s now low high whole by h ranges same = subst (λ (t : State)
 all_keep_acts n (t ∷ ts) s now low high whole by h ranges (between, step, rest) =
     let one = goes_on s t.ask.session t.ask.command t.reply between whole ranges.0 step in
     let fits : n ≤ between.book.limits.ports = subst (λ (l : Limits). n ≤ l.ports) (sym one.1.limits) high in
-    let acts = keeps_acts n s between h t.ask.session t.ask.command t.reply low high whole by step in
+    let f = family t.ask.command in
+    let acts = acts_kept n s t.ask.session low high whole by h f between (leaves s t.ask.session f t.reply between step).how in
     let more = all_keep_acts n ts between now low fits one.0 (one.2 by) acts ranges.1 rest in
     (more.0, more.1, more.2 ∙ one.1.limits)
 

@@ -30,7 +30,7 @@ use Rattle.tsn_bridge.specs.declared.command.Command.TheVariants as commands
 use Rattle.tsn_bridge.specs.declared.reply.Reply.{Reply}
 use Rattle.tsn_bridge.proofs.LastActs.{asked_last}
 use Rattle.tsn_bridge.proofs.Following.{object_push}
-use Rattle.tsn_bridge.proofs.Interleaving.{state_of}
+use Rattle.tsn_bridge.proofs.Families.{state_of}
 use Rattle.tsn_bridge.proofs.Stepping.{accepted}
 use Rattle.tsn_program.specs.Listing.{Applies, IsNew, IsSeenFrom, Takes, refusal_told}
 

@@ -1,11 +1,7 @@
 -- A turn at what is kept of a command is one at the command, and what is recorded of it is what is kept.
 use Rattle.std.proofs.Common.{◌≡◌, ◌≤◌, ℕ, Bool, true, false, cond, refl, sym, ◌∙◌, ap, subst, List, [], ◌∷◌, ◌++◌, append_assoc, Option, Some, None, inl, inr, length}
-use Rattle.std.specs.Prelude.{option_map}
-use Rattle.tsn_types.specs.declared.keys.Key.{Key}
 use Rattle.tsn_types.specs.declared.refusals.Refusal.{Refusal}
 use Rattle.tsn_types.specs.declared.refusals.Refusal.TheVariants.{TooLong}
-use Rattle.tsn_journal.specs.declared.entries.Act.{Act as Asked}
-use Rattle.tsn_journal.specs.declared.entries.Act.TheVariants as asked
 use Rattle.tsn_journal.proofs.Numbers.{append_nil}
 use Rattle.tsn_bridge.specs.declared.command.Ask.{Ask}
 use Rattle.tsn_bridge.specs.declared.command.Command.{Command}
@@ -14,100 +10,49 @@ use Rattle.tsn_bridge.specs.declared.reply.Reply.{Reply}
 use Rattle.tsn_bridge.specs.declared.reply.Reply.TheVariants.{Refused}
 use Rattle.tsn_bridge.specs.Acts.{act_rule, instant}
 use Rattle.tsn_bridge.specs.Histories.{Answered, Answers, CommandInRange}
-use Rattle.tsn_bridge.specs.Machine.{Step}
+use Rattle.tsn_bridge.specs.Families.{Acting, Family, Greeting, family}
+use Rattle.tsn_bridge.specs.Machine.{Goes, Step}
 use Rattle.tsn_bridge.specs.Rule.{Allows, Rule}
 use Rattle.tsn_bridge.specs.State.{State}
-use Rattle.tsn_bridge.proofs.AtOnce.{done_of}
 use Rattle.tsn_replay.specs.Forms.{IsWithoutMemory, Keeps}
 use Rattle.tsn_replay.specs.Handling.{Handles}
 use Rattle.tsn_replay.specs.Recorder.{HasLine, IsOneLine, Recording, Records, line_feed, text_of}
-use Rattle.tsn_replay.specs.Recording.{counted, instant_told, is_accepted, kept, kept_of, recorded, with_reply}
+use Rattle.tsn_replay.specs.Recording.{counted, instant_told, is_accepted, kept, kept_of, recorded, with_reply, counted_in, kept_in}
 use Rattle.tsn_replay.specs.Replaying.{Replays}
-use Rattle.tsn_replay.proofs.Recorded.{again, reply_of, still_or_done}
+use Rattle.tsn_replay.proofs.Recorded.{AHello, AnAct, Itself, KeptAs, act_family, again, kept_as, recorded_by, told_at}
+
+-- a step at what is kept of a command at the instant that counts is one at the command
+step_as : (s : State) (n : ℕ) (reply : Reply) (after : State) (at : ℕ) (command : Command) (a : Ask) → KeptAs n at command a → at ≡ counted s command → Answers s a reply after → Step s n command reply after
+step_as s n reply after at command a (Itself c from is) then step = step
+step_as s n reply after at command a AHello then step = step
+step_as s n reply after at command a (AnAct act k now) then step =
+    let instant_is : at ≡ instant s now = then ∙ ap (counted_in s) (act_family act k now) in
+    let did : Allows (act_rule s n act k at) s reply after = subst (λ f. Goes s n f reply after) (act_family act k at) step in
+    subst (λ f. Goes s n f reply after) (sym (act_family act k now)) (subst (λ (rule : Rule). Allows rule s reply after) (ap (act_rule s n act k) instant_is ∙ again s n act k now) did)
 
 module _ (s : State) (n : ℕ) (reply : Reply) (after : State) where
-  -- at the ask that is kept
-  at_kept : (a b : Ask) → Some a ≡ Some b → Answers s b reply after → Answers s a reply after
-  at_kept a b is step = subst (λ (x : Ask). Answers s x reply after) (sym (done_of a b is)) step
+  same_step : (command : Command) (a : Ask) → kept n command (counted s command) ≡ Some a → Answers s a reply after → Step s n command reply after
+  same_step command a is step = step_as s n reply after (counted s command) command a (kept_as n command (counted s command) a is) refl step
 
-  -- an act at the instant that counts is the act
-  at_asked : (act : Asked) (k : Key) (now : ℕ) → Allows (act_rule s n act k (instant s now)) s reply after → Allows (act_rule s n act k now) s reply after
-  at_asked act k now step = subst (λ (rule : Rule). Allows rule s reply after) (again s n reply after act k now) step
+  told_in : (command : Command) (f : Family) → is_accepted reply ≡ true → Goes s n f reply after → kept_in n command (instant_told reply) f ≡ kept_in n command (counted_in s f) f
+  told_in command (Acting act k now) accepted step = ap (λ at. kept_in n command at (Acting act k now)) (told_at s n act k now reply after accepted step)
+  told_in command f accepted step = refl
 
-  pub same_step : (command : Command) (a : Ask) → kept n command (counted s command) ≡ Some a → Answers s a reply after → Step s n command reply after
-  same_step commands.Hello a is step = at_kept (record { session = 0; command = commands.Hello }) a is step
-  same_step (commands.Create k r) a is step = at_kept (record { session = n; command = commands.Create k r }) a is step
-  same_step (commands.Replace k r) a is step = at_kept (record { session = n; command = commands.Replace k r }) a is step
-  same_step (commands.Remove k) a is step = at_kept (record { session = n; command = commands.Remove k }) a is step
-  same_step (commands.Batch batch) a is step = at_kept (record { session = n; command = commands.Batch batch }) a is step
-  same_step commands.Undo a is step = at_kept (record { session = n; command = commands.Undo }) a is step
-  same_step commands.UndoAll a is step = at_kept (record { session = n; command = commands.UndoAll }) a is step
-  same_step commands.Redo a is step = at_kept (record { session = n; command = commands.Redo }) a is step
-  same_step (commands.Settle upto) a is step = at_kept (record { session = n; command = commands.Settle upto }) a is step
-  same_step (commands.Enable k now) a is step = at_asked asked.Enable k now (at_kept (record { session = n; command = commands.Enable k (instant s now) }) a is step)
-  same_step (commands.Disable k now) a is step = at_asked asked.Disable k now (at_kept (record { session = n; command = commands.Disable k (instant s now) }) a is step)
-  same_step (commands.Apply k now) a is step = at_asked asked.Apply k now (at_kept (record { session = n; command = commands.Apply k (instant s now) }) a is step)
-  same_step (commands.Frame frame now) a is step = absurd (cc)
-  same_step (commands.States k at) a is step = absurd (cc)
-  same_step (commands.Counters k) a is step = absurd (cc)
-  same_step (commands.Show k) a is step = absurd (cc)
-  same_step (commands.List kind) a is step = absurd (cc)
-  same_step (commands.Since number) a is step = absurd (cc)
-
-  -- the reply to an act that was accepted tells the instant that counted
-  pub told_at : (act : Asked) (k : Key) (now : ℕ) → is_accepted reply ≡ true → Allows (act_rule s n act k now) s reply after → instant_told reply ≡ instant s now
-  told_at act k now accepted step = elim (still_or_done (act_rule s n act k now) s reply after step) as (λ _. instant_told reply ≡ instant s now) [
-    | inl still ↦ (let never : true ≡ false = sym accepted ∙ still.refused in absurd (cc))
-    | inr done ↦ ap instant_told (sym (reply_of _ reply _ after done))
-  ]
-
-  pub kept_told : (command : Command) → is_accepted reply ≡ true → Step s n command reply after → kept n command (instant_told reply) ≡ kept n command (counted s command)
-  kept_told commands.Hello accepted step = refl
-  kept_told (commands.Create k r) accepted step = refl
-  kept_told (commands.Replace k r) accepted step = refl
-  kept_told (commands.Remove k) accepted step = refl
-  kept_told (commands.Batch batch) accepted step = refl
-  kept_told commands.Undo accepted step = refl
-  kept_told commands.UndoAll accepted step = refl
-  kept_told commands.Redo accepted step = refl
-  kept_told (commands.Settle upto) accepted step = refl
-  kept_told (commands.Enable k now) accepted step = ap (λ at. kept n (commands.Enable k now) at) (told_at asked.Enable k now accepted step)
-  kept_told (commands.Disable k now) accepted step = ap (λ at. kept n (commands.Disable k now) at) (told_at asked.Disable k now accepted step)
-  kept_told (commands.Apply k now) accepted step = ap (λ at. kept n (commands.Apply k now) at) (told_at asked.Apply k now accepted step)
-  kept_told (commands.Frame frame now) accepted step = refl
-  kept_told (commands.States k at) accepted step = refl
-  kept_told (commands.Counters k) accepted step = refl
-  kept_told (commands.Show k) accepted step = refl
-  kept_told (commands.List kind) accepted step = refl
-  kept_told (commands.Since number) accepted step = refl
+  kept_told : (command : Command) → is_accepted reply ≡ true → Step s n command reply after → kept n command (instant_told reply) ≡ kept n command (counted s command)
+  kept_told command accepted step = told_in command (family command) accepted step
 
 -- only of a hello is a hello kept
-pub hello_of : (n : ℕ) (command : Command) (at : ℕ) (a : Ask) → kept n command at ≡ Some a → a.command ≡ commands.Hello → command ≡ commands.Hello
-hello_of n commands.Hello at a is hello = refl
-hello_of n (commands.Create k r) at a is hello = (let never : commands.Create k r ≡ commands.Hello = ap (λ (x : Ask). x.command) (done_of _ _ is) ∙ hello in absurd (cc))
-hello_of n (commands.Replace k r) at a is hello = (let never : commands.Replace k r ≡ commands.Hello = ap (λ (x : Ask). x.command) (done_of _ _ is) ∙ hello in absurd (cc))
-hello_of n (commands.Remove k) at a is hello = (let never : commands.Remove k ≡ commands.Hello = ap (λ (x : Ask). x.command) (done_of _ _ is) ∙ hello in absurd (cc))
-hello_of n (commands.Batch batch) at a is hello = (let never : commands.Batch batch ≡ commands.Hello = ap (λ (x : Ask). x.command) (done_of _ _ is) ∙ hello in absurd (cc))
-hello_of n commands.Undo at a is hello = (let never : commands.Undo ≡ commands.Hello = ap (λ (x : Ask). x.command) (done_of _ _ is) ∙ hello in absurd (cc))
-hello_of n commands.UndoAll at a is hello = (let never : commands.UndoAll ≡ commands.Hello = ap (λ (x : Ask). x.command) (done_of _ _ is) ∙ hello in absurd (cc))
-hello_of n commands.Redo at a is hello = (let never : commands.Redo ≡ commands.Hello = ap (λ (x : Ask). x.command) (done_of _ _ is) ∙ hello in absurd (cc))
-hello_of n (commands.Settle upto) at a is hello = (let never : commands.Settle upto ≡ commands.Hello = ap (λ (x : Ask). x.command) (done_of _ _ is) ∙ hello in absurd (cc))
-hello_of n (commands.Enable k now) at a is hello = (let never : commands.Enable k at ≡ commands.Hello = ap (λ (x : Ask). x.command) (done_of _ _ is) ∙ hello in absurd (cc))
-hello_of n (commands.Disable k now) at a is hello = (let never : commands.Disable k at ≡ commands.Hello = ap (λ (x : Ask). x.command) (done_of _ _ is) ∙ hello in absurd (cc))
-hello_of n (commands.Apply k now) at a is hello = (let never : commands.Apply k at ≡ commands.Hello = ap (λ (x : Ask). x.command) (done_of _ _ is) ∙ hello in absurd (cc))
-hello_of n (commands.Frame frame now) at a is hello = absurd (cc)
-hello_of n (commands.States k t) at a is hello = absurd (cc)
-hello_of n (commands.Counters k) at a is hello = absurd (cc)
-hello_of n (commands.Show k) at a is hello = absurd (cc)
-hello_of n (commands.List kind) at a is hello = absurd (cc)
-hello_of n (commands.Since number) at a is hello = absurd (cc)
+hello_as : (n at : ℕ) (command : Command) (a : Ask) → KeptAs n at command a → a.command ≡ commands.Hello → command ≡ commands.Hello
+hello_as n at command a (Itself c from is) hello = hello
+hello_as n at command a AHello hello = refl
+hello_as n at command a (AnAct act k now) hello = (let never : Acting act k at ≡ Greeting = sym (act_family act k at) ∙ ap family hello in absurd (cc))
+
+hello_of : (n : ℕ) (command : Command) (at : ℕ) (a : Ask) → kept n command at ≡ Some a → a.command ≡ commands.Hello → command ≡ commands.Hello
+hello_of n command at a is hello = hello_as n at command a (kept_as n command at a is) hello
 
 -- ---- a turn at what is kept is one at what was asked
 
 module _ (line : Ask → List ℕ) (most : ℕ) (ask : Ask) (reply : Reply) (ranges : CommandInRange ask.command) where
-  abbrev recorded_by : Option Ask → Bool → Option Answered
-  recorded_by o b = cond b (option_map (with_reply reply) o) None
-
   abbrev of_ask : Option Answered
   of_ask = recorded (record { ask = ask; reply = reply })
 
@@ -121,14 +66,14 @@ module _ (line : Ask → List ℕ) (most : ℕ) (ask : Ask) (reply : Reply) (ran
   }
 
   refused_none : is_accepted reply ≡ false → of_ask ≡ None
-  refused_none refused = ap (recorded_by (kept ask.session ask.command (instant_told reply))) refused
+  refused_none refused = ap (λ b. recorded_by reply b (kept ask.session ask.command (instant_told reply))) refused
 
   -- one of which nothing is kept
-  pub passing_none : (s : State) (after : State) → kept_of s ask ≡ None → Step s ask.session ask.command reply after → (b : Bool) → is_accepted reply ≡ b → of_ask ≡ None
+  passing_none : (s : State) (after : State) → kept_of s ask ≡ None → Step s ask.session ask.command reply after → (b : Bool) → is_accepted reply ≡ b → of_ask ≡ None
   passing_none s after none step false refused = refused_none refused
   passing_none s after none step true accepted =
-      ap (recorded_by (kept ask.session ask.command (instant_told reply))) accepted
-      ∙ ap (option_map (with_reply reply)) (kept_told s ask.session reply after ask.command accepted step ∙ none)
+      ap (λ b. recorded_by reply b (kept ask.session ask.command (instant_told reply))) accepted
+      ∙ ap (recorded_by reply true) (kept_told s ask.session reply after ask.command accepted step ∙ none)
 
   pub passing_records : (old new : Recording) → kept_of old.bridge ask ≡ None → Answers old.bridge ask reply new.bridge → new.text ≡ old.text → Records line most old ask reply new
   passing_records old new none step same = unrecorded old new (inl step) same (passing_none old.bridge new.bridge none step (is_accepted reply) refl)
@@ -139,8 +84,8 @@ module _ (line : Ask → List ℕ) (most : ℕ) (ask : Ask) (reply : Reply) (ran
     by_kept true accepted step text one within =
         let there = same_step old.bridge ask.session reply new.bridge ask.command a is step in
         let some : of_ask ≡ Some (with_reply reply a) =
-        ap (recorded_by (kept ask.session ask.command (instant_told reply))) accepted
-        ∙ ap (option_map (with_reply reply)) (kept_told old.bridge ask.session reply new.bridge ask.command accepted there ∙ is) in
+        ap (λ b. recorded_by reply b (kept ask.session ask.command (instant_told reply))) accepted
+        ∙ ap (recorded_by reply true) (kept_told old.bridge ask.session reply new.bridge ask.command accepted there ∙ is) in
         record {
           ranges = ranges;
           handles = inl there;

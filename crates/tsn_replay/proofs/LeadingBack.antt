@@ -1,43 +1,31 @@
 -- The replay of what was recorded leads back, by induction over what was asked.
-use Rattle.std.proofs.Common.{◌≡◌, ℕ, Bool, true, false, ◌≤◌, refl, sym, ◌∙◌, ap, subst, arith, List, [], ◌∷◌, ◌++◌, Option, Some, None, inl, inr}
+use Rattle.std.proofs.Common.{◌≡◌, ℕ, true, false, ◌≤◌, refl, sym, ◌∙◌, ap, subst, arith, List, [], ◌∷◌, ◌++◌, Option, Some, None, inl, inr}
 use Rattle.std.specs.Prelude.{◌⊎◌}
 use Rattle.std.specs.List.{cons_option}
 use Rattle.tsn_types.specs.declared.refusals.Refusal.{Refusal}
 use Rattle.tsn_types.specs.declared.refusals.Refusal.TheVariants.{Memory}
 use Rattle.tsn_types.specs.Refusals.{least}
-use Rattle.tsn_edit.specs.declared.Edit.TheVariants as edits
 use Rattle.tsn_edit.proofs.KeyFacts.{by_option}
-use Rattle.tsn_journal.specs.declared.entries.Act.TheVariants as asked
-use Rattle.tsn_journal.specs.Entries.{Applied, no_room}
-use Rattle.tsn_journal.specs.Finding.{redo_of}
-use Rattle.tsn_undo.specs.Ledger.{Ledger}
-use Rattle.tsn_undo.specs.Redo.{TellsFit, redo_cause}
 use Rattle.tsn_bridge.specs.declared.command.Ask.{Ask}
 use Rattle.tsn_bridge.specs.declared.command.Command.{Command}
-use Rattle.tsn_bridge.specs.declared.command.Command.TheVariants as commands
 use Rattle.tsn_bridge.specs.declared.reply.Reply.{Reply}
 use Rattle.tsn_bridge.specs.declared.reply.Reply.TheVariants.{Refused}
-use Rattle.tsn_bridge.specs.Acts.{act_rule}
-use Rattle.tsn_bridge.specs.Edits.{AllowsRedo, edit_rule, redo_rule, undo_all_rule, undo_rule}
-use Rattle.tsn_bridge.specs.Frames.{frame_rule}
 use Rattle.tsn_bridge.specs.Histories.{Answered, Answers, Leads}
-use Rattle.tsn_bridge.specs.Looking.{counters_rule, states_rule}
+use Rattle.tsn_bridge.specs.Families.{Acting, Counting, Family, Framing, family}
 use Rattle.tsn_bridge.specs.Machine.{Step}
-use Rattle.tsn_bridge.specs.Reads.{list_rule, show_rule, since_rule}
 use Rattle.tsn_bridge.specs.Rule.{Allows, Rule}
-use Rattle.tsn_bridge.specs.Sessions.{hello_rule}
-use Rattle.tsn_bridge.specs.Settling.{settle_rule}
 use Rattle.tsn_bridge.specs.State.{State}
 use Rattle.tsn_bridge.proofs.AtOnce.{done_of}
+use Rattle.tsn_bridge.proofs.Families.{IsStill, one_rule}
 use Rattle.tsn_bridge.proofs.Stepping.{AllowsAt}
-use Rattle.tsn_replay.specs.Answering.{AnswerAlike, IsFromLasting}
+use Rattle.tsn_replay.specs.Answering.{AnswerAlike, IsFromLasting, IsFromLastingIn}
 use Rattle.tsn_replay.specs.Lasting.{Resumes, lasting}
 use Rattle.tsn_replay.specs.Recording.{AreRecorded, all_recorded, asks_of, is_accepted, recorded, with_reply}
 use Rattle.tsn_replay.specs.Replaying.{Comes, IsReplayed, LeadsBack, Life, Lives, Replays, Turn}
 use Rattle.tsn_replay.proofs.Carrying.{beside}
-use Rattle.tsn_replay.proofs.Families.{each_alike}
+use Rattle.tsn_replay.proofs.Alike.{each_alike}
 use Rattle.tsn_replay.proofs.Exact.{IsExact, keeps_exact}
-use Rattle.tsn_replay.proofs.Recorded.{IsStill, IsTold, each_told, still_passes}
+use Rattle.tsn_replay.proofs.Recorded.{IsTold, each_told, still_passes}
 
 -- ---- one step alone: where a command may be accepted, it may else only be refused for want of memory
 
@@ -55,67 +43,19 @@ one_at None rule s reply after other left accepted (inl done) (inr memory) = inr
 one_at None rule s reply after other left accepted (inr memory) also = absurd (never_both reply Memory accepted memory.1)
 one_at (Some why) rule s reply after other left accepted cause also = absurd (never_both reply why accepted cause.0)
 
--- what would be redone fits or not, and so the cause is one
-same_cause : (b : Ledger) (o : Option Applied) (f g : Bool) → TellsFit b o f → TellsFit b o g → redo_cause b.entries o f ≡ redo_cause b.entries o g
-same_cause b None f g h k = refl
-same_cause b (Some u) true true h k = refl
-same_cause b (Some u) false false h k = refl
-same_cause b (Some u) true false h k = let never : false ≡ true = k.1 (h.0 refl) in (cc)
-same_cause b (Some u) false true h k = let never : false ≡ true = h.1 (k.0 refl) in (cc)
-
-module _ (s : State) (n : ℕ) (reply : Reply) (after : State) (other : Reply) (left : State) (accepted : is_accepted reply ≡ true) where
-  by_rule : (rule : Rule) → Allows rule s reply after → Allows rule s other left → IsOneWay s reply after other left
-  by_rule rule step also = one_at (least rule.causes) rule s reply after other left accepted step also
-
-  by_redo : AllowsRedo s n reply after → AllowsRedo s n other left → IsOneWay s reply after other left
-  by_redo step also =
-      let cause_of : Bool → Option Refusal = λ fits. least (redo_cause s.book.entries (redo_of s.book.entries n) fits ∷ no_room s.book.entries 1 ∷ []) in
-      let same : cause_of also.fits ≡ cause_of step.fits =
-      ap (λ (c : Option Refusal). least (c ∷ no_room s.book.entries 1 ∷ [])) (same_cause s.book (redo_of s.book.entries n) also.fits step.fits also.tells step.tells) in
-      by_rule (redo_rule s n (cause_of step.fits)) step.holds (subst (λ (c : Option Refusal). Allows (redo_rule s n c) s other left) same also.holds)
-
-  one_way : (command : Command) → Step s n command reply after → Step s n command other left → IsOneWay s reply after other left
-  one_way commands.Hello step also = by_rule (hello_rule s) step also
-  one_way (commands.Create k r) step also = by_rule (edit_rule s n (edits.Create k r ∷ [])) step also
-  one_way (commands.Replace k r) step also = by_rule (edit_rule s n (edits.Replace k r ∷ [])) step also
-  one_way (commands.Remove k) step also = by_rule (edit_rule s n (edits.Remove k ∷ [])) step also
-  one_way (commands.Batch batch) step also = by_rule (edit_rule s n batch) step also
-  one_way commands.Undo step also = by_rule (undo_rule s n) step also
-  one_way commands.UndoAll step also = by_rule (undo_all_rule s n) step also
-  one_way commands.Redo step also = by_redo step also
-  one_way (commands.Settle upto) step also = by_rule (settle_rule s n upto) step also
-  one_way (commands.Enable k now) step also = by_rule (act_rule s n asked.Enable k now) step also
-  one_way (commands.Disable k now) step also = by_rule (act_rule s n asked.Disable k now) step also
-  one_way (commands.Apply k now) step also = by_rule (act_rule s n asked.Apply k now) step also
-  one_way (commands.Frame frame now) step also = by_rule (frame_rule s n frame now) step also
-  one_way (commands.States k at) step also = by_rule (states_rule s n k at) step also
-  one_way (commands.Counters k) step also = by_rule (counters_rule s n k) step also
-  one_way (commands.Show k) step also = by_rule (show_rule s n k) step also
-  one_way (commands.List kind) step also = by_rule (list_rule s n kind) step also
-  one_way (commands.Since number) step also = by_rule (since_rule s n number) step also
+one_way : (s : State) (n : ℕ) (reply : Reply) (after : State) (other : Reply) (left : State) → is_accepted reply ≡ true → (command : Command) → Step s n command reply after → Step s n command other left → IsOneWay s reply after other left
+one_way s n reply after other left accepted command step also =
+    let r = one_rule s n (family command) (λ rule. Allows rule s reply after) (λ rule. Allows rule s other left) step also in
+    one_at (least r.0.causes) r.0 s reply after other left accepted r.1 r.2
 
 -- ---- two states with the same ledger and sessions
 
 -- what follows from what lasts at a time, does at an earlier one
-earlier : (early late : ℕ) (command : Command) → early ≤ late → IsFromLasting late command → IsFromLasting early command
-earlier early late commands.Hello le h = tt
-earlier early late (commands.Create k r) le h = tt
-earlier early late (commands.Replace k r) le h = tt
-earlier early late (commands.Remove k) le h = tt
-earlier early late (commands.Batch batch) le h = tt
-earlier early late commands.Undo le h = tt
-earlier early late commands.UndoAll le h = tt
-earlier early late commands.Redo le h = tt
-earlier early late (commands.Settle upto) le h = tt
-earlier early late (commands.Enable k now) le h = omega (arith, le, h)
-earlier early late (commands.Disable k now) le h = omega (arith, le, h)
-earlier early late (commands.Apply k now) le h = omega (arith, le, h)
-earlier early late (commands.Frame frame now) le h = absurd h
-earlier early late (commands.States k at) le h = tt
-earlier early late (commands.Counters k) le h = absurd h
-earlier early late (commands.Show k) le h = tt
-earlier early late (commands.List kind) le h = tt
-earlier early late (commands.Since number) le h = tt
+earlier : (early late : ℕ) (f : Family) → early ≤ late → IsFromLastingIn late f → IsFromLastingIn early f
+earlier early late (Acting act k now) le h = omega (arith, le, h)
+earlier early late (Framing frame now) le h = h
+earlier early late (Counting look) le h = h
+earlier early late f le h = tt
 
 is_beside : (s t : State) → lasting t ≡ lasting s → t ≡ beside s t.time t.frames
 is_beside s t same i = record { book = (same i).ledger; sessions = (same i).sessions; time = t.time; frames = t.frames }
@@ -131,12 +71,12 @@ module _ (s again : State) (h : Resumes s again) where
 
   pub forth : (n : ℕ) (command : Command) (reply : Reply) (after : State) → IsFromLasting s.time command → Step s n command reply after → (there : State) × Step again n command reply there × Resumes after there
   forth n command reply after from step =
-      let c = each_alike s again.time again.frames n command reply after from (earlier again.time s.time command h.time from) step in
+      let c = each_alike s again.time again.frames n command reply after from (earlier again.time s.time (family command) h.time from) step in
       (c.0, subst (λ (x : State). Step x n command reply c.0) (sym (is_beside s again h.same)) c.1, record { same = c.2.same; time = in_time after c.0 c.2.times })
 
   back : (n : ℕ) (command : Command) (reply : Reply) (there : State) → IsFromLasting s.time command → Step again n command reply there → (after : State) × Step s n command reply after × Resumes after there
   back n command reply there from step =
-      let c = each_alike again s.time s.frames n command reply there (earlier again.time s.time command h.time from) from step in
+      let c = each_alike again s.time s.frames n command reply there (earlier again.time s.time (family command) h.time from) from step in
       (c.0, subst (λ (x : State). Step x n command reply c.0) (sym (is_beside again s (sym h.same))) c.1, record { same = sym c.2.same; time = out_of_time c.0 there c.2.times })
 
   pub alike : AnswerAlike s again
@@ -162,7 +102,7 @@ AreWithin turn = (s : State) (a : Ask) (reply : Reply) (new : State) → turn s 
 
 told_within : (s : State) (t : Answered) (between : State) → IsWithin s t.ask t.reply between → IsTold s t between
 told_within s t between (inl step) = each_told s t.ask.session t.reply between t.ask.command step
-told_within s t between (inr still) = still_passes s t.ask.session t.ask.command t.reply between still
+told_within s t between (inr still) = still_passes s t.ask.session t.reply between t.ask.command still
 
 module _ (turn : Turn) (within : AreWithin turn) where
   each_turned : (s : State) (t : Answered) (between : State) → turn s t.ask t.reply between → IsTold s t between

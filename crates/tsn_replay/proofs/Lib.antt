@@ -1,7 +1,6 @@
 pub mod Carrying
-pub mod Families
+pub mod Alike
 pub mod Recorded
-pub mod Refused
 pub mod Exact
 pub mod LeadingBack
 pub mod Forms

@@ -11,12 +11,12 @@ use Rattle.tsn_types.specs.declared.limits.Limits.{Limits}
 use Rattle.tsn_types.specs.declared.records.Record.{Record}
 use Rattle.tsn_schedule.specs.Counters.{change_in, is_pending}
 use Rattle.tsn_journal.specs.declared.entries.Act.{Act as Asked}
+use Rattle.tsn_journal.specs.declared.entries.Act.TheVariants as asked
 use Rattle.tsn_chain.specs.declared.state.Counters.TheVariants as counters
 use Rattle.tsn_chain.specs.Counters.{list_counters}
 use Rattle.tsn_undo.specs.Ledger.{Ledger}
 use Rattle.tsn_bridge.specs.declared.command.Ask.{Ask}
 use Rattle.tsn_bridge.specs.declared.command.Command.{Command}
-use Rattle.tsn_bridge.specs.declared.command.Command.TheVariants as commands
 use Rattle.tsn_bridge.specs.declared.reply.Reply.TheVariants.{Acted}
 use Rattle.tsn_bridge.specs.Acts.{act_rule}
 use Rattle.tsn_bridge.specs.Beginning.{Opens, begun}
@@ -26,12 +26,11 @@ use Rattle.tsn_bridge.specs.Looking.{counted_at}
 use Rattle.tsn_bridge.specs.Objects.{port_at}
 use Rattle.tsn_bridge.specs.Rule.{Allows}
 use Rattle.tsn_bridge.specs.State.{State}
-use Rattle.tsn_bridge.proofs.AtOnce.{done_of}
 use Rattle.tsn_bridge.proofs.Later.{all_go_on, whole_begun}
 use Rattle.tsn_replay.specs.Lasting.{Lasting, Resumes}
-use Rattle.tsn_replay.specs.Recording.{AreRecorded, all_recorded, instant_told, is_accepted, kept, with_reply}
+use Rattle.tsn_replay.specs.Recording.{AreRecorded, all_recorded, instant_told, is_accepted, kept, with_reply, act_command}
 use Rattle.tsn_replay.specs.Replaying.{Comes, LeadsBack, Turn}
-use Rattle.tsn_replay.proofs.Forms.{told_at}
+use Rattle.tsn_replay.proofs.Recorded.{AHello, AnAct, Itself, KeptAs, kept_as, told_at}
 use Rattle.tsn_replay.proofs.LeadingBack.{AreWithin, itself, reaches}
 
 -- ---- acts before a time that frames had moved
@@ -40,8 +39,8 @@ pub earlier_act : (moment again after there : State) (n m : ℕ) (act : Asked) (
     → Resumes moment again → again.time < moment.time → now < moment.time
     → Allows (act_rule moment n act k now) moment (Acted change entry at) after → Allows (act_rule again m act k now) again (Acted other number counted) there → counted < at
 earlier_act moment again after there n m act k now change other entry number at counted resumes moved before step also =
-    let one : at ≡ max moment.time now = told_at moment n (Acted change entry at) after act k now refl step in
-    let two : counted ≡ max again.time now = told_at again m (Acted other number counted) there act k now refl also in
+    let one : at ≡ max moment.time now = told_at moment n act k now (Acted change entry at) after refl step in
+    let two : counted ≡ max again.time now = told_at again m act k now (Acted other number counted) there refl also in
     omega (arith, one, two, moved, before)
 
 -- ---- counters
@@ -69,28 +68,14 @@ pub recorded_again : (turn : Turn) → AreWithin turn → (start : State) (asks 
 recorded_again turn within start asks now comes = fixed (all_recorded asks) (reaches turn within asks start start now (itself start) comes).are
 
 -- what is kept of a command in range is in range
-one_in_range : (a b : Ask) → Some a ≡ Some b → CommandInRange a.command → CommandInRange b.command
-one_in_range a b is h = subst (λ (x : Ask). CommandInRange x.command) (done_of a b is) h
+act_in_range : (act : Asked) (k : Key) (now : ℕ) → CommandInRange (act_command act k now)
+act_in_range asked.Enable k now = tt
+act_in_range act k now = tt
 
-kept_in_range : (n : ℕ) (command : Command) (at : ℕ) (a : Ask) → kept n command at ≡ Some a → CommandInRange command → CommandInRange a.command
-kept_in_range n commands.Hello at a is h = one_in_range (record { session = 0; command = commands.Hello }) a is h
-kept_in_range n (commands.Create k r) at a is h = one_in_range (record { session = n; command = commands.Create k r }) a is h
-kept_in_range n (commands.Replace k r) at a is h = one_in_range (record { session = n; command = commands.Replace k r }) a is h
-kept_in_range n (commands.Remove k) at a is h = one_in_range (record { session = n; command = commands.Remove k }) a is h
-kept_in_range n (commands.Batch batch) at a is h = one_in_range (record { session = n; command = commands.Batch batch }) a is h
-kept_in_range n commands.Undo at a is h = one_in_range (record { session = n; command = commands.Undo }) a is h
-kept_in_range n commands.UndoAll at a is h = one_in_range (record { session = n; command = commands.UndoAll }) a is h
-kept_in_range n commands.Redo at a is h = one_in_range (record { session = n; command = commands.Redo }) a is h
-kept_in_range n (commands.Settle upto) at a is h = one_in_range (record { session = n; command = commands.Settle upto }) a is h
-kept_in_range n (commands.Enable k now) at a is h = one_in_range (record { session = n; command = commands.Enable k at }) a is h
-kept_in_range n (commands.Disable k now) at a is h = one_in_range (record { session = n; command = commands.Disable k at }) a is h
-kept_in_range n (commands.Apply k now) at a is h = one_in_range (record { session = n; command = commands.Apply k at }) a is h
-kept_in_range n (commands.Frame frame now) at a is h = absurd (cc)
-kept_in_range n (commands.States k t) at a is h = absurd (cc)
-kept_in_range n (commands.Counters k) at a is h = absurd (cc)
-kept_in_range n (commands.Show k) at a is h = absurd (cc)
-kept_in_range n (commands.List kind) at a is h = absurd (cc)
-kept_in_range n (commands.Since number) at a is h = absurd (cc)
+kept_in_range : (n at : ℕ) (command : Command) (a : Ask) → KeptAs n at command a → CommandInRange command → CommandInRange a.command
+kept_in_range n at command a (Itself c from is) h = h
+kept_in_range n at command a AHello h = tt
+kept_in_range n at command a (AnAct act k now) h = act_in_range act k at
 
 pub records_in_range : (asks : List Answered) → AreInRange asks → AreInRange (all_recorded asks)
 records_in_range [] h = tt
@@ -98,7 +83,7 @@ records_in_range (t ∷ ts) h = elim (is_accepted t.reply) as (λ b. AreInRange 
   | true ↦ by_option (kept t.ask.session t.ask.command (instant_told t.reply))
       (λ none. subst (λ (o : Option Ask). AreInRange (cons_option (option_map (with_reply t.reply) o) (all_recorded ts))) (sym none) (records_in_range ts h.1))
       (λ a some. subst (λ (o : Option Ask). AreInRange (cons_option (option_map (with_reply t.reply) o) (all_recorded ts))) (sym some)
-      (kept_in_range t.ask.session t.ask.command (instant_told t.reply) a some h.0, records_in_range ts h.1))
+      (kept_in_range t.ask.session (instant_told t.reply) t.ask.command a (kept_as t.ask.session t.ask.command (instant_told t.reply) a some) h.0, records_in_range ts h.1))
   | false ↦ records_in_range ts h.1
 ]
 

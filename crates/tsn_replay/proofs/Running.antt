@@ -2,13 +2,14 @@
 use Rattle.std.proofs.Common.{◌≡◌, ℕ, refl, ◌∙◌, ap, subst, List, [], ◌∷◌, ◌++◌, Option, Some, None, inl, inr}
 use Rattle.std.specs.List.{cons_option}
 use Rattle.std.proofs.lemmas.List.{append_cancel_left}
+use Rattle.tsn_types.specs.declared.refusals.Refusal.TheVariants.{Memory, TooLong}
 use Rattle.tsn_bridge.specs.declared.command.Ask.{Ask}
 use Rattle.tsn_bridge.specs.declared.reply.Reply.{Reply}
 use Rattle.tsn_bridge.specs.Histories.{AreInRange, Answered, Answers, Leads}
 use Rattle.tsn_bridge.specs.State.{State}
 use Rattle.tsn_replay.specs.Handling.{Handles}
 use Rattle.tsn_replay.specs.Recorder.{IsTurn, Runs, text_of, text_of_all}
-use Rattle.tsn_replay.specs.Recording.{all_recorded, is_accepted, recorded}
+use Rattle.tsn_replay.specs.Recording.{all_recorded, recorded}
 use Rattle.tsn_replay.specs.Replaying.{Comes, IsReplayed}
 use Rattle.tsn_replay.proofs.LeadingBack.{AreWithin, IsWithin, replayed}
 
@@ -16,8 +17,8 @@ module _ (line : Ask → List ℕ) (most : ℕ) where
   -- what a bridge with a recorder does beside a step is a refusal that changes nothing
   within_of : (s : State) (a : Ask) (reply : Reply) (new : State) → Handles line most s a reply new → IsWithin s a reply new
   within_of s a reply new (inl step) = inl step
-  within_of s a reply new (inr (inl hello)) = inr (record { refused = ap is_accepted hello.refused; still = hello.same })
-  within_of s a reply new (inr (inr long)) = inr (record { refused = ap is_accepted long.refused; still = long.same })
+  within_of s a reply new (inr (inl hello)) = inr (record { why = Memory; refused = hello.refused; same = hello.same })
+  within_of s a reply new (inr (inr long)) = inr (record { why = TooLong; refused = long.refused; same = long.same })
 
   pub handles_within : AreWithin (Handles line most)
   handles_within = within_of
@@ -27,7 +28,7 @@ module _ (line : Ask → List ℕ) (most : ℕ) where
   steps_alone [] s now ranges same = ([], tt, same)
   steps_alone (t ∷ ts) s now ranges (between, turn, on) = elim (within_of s t.ask t.reply between turn) as (λ _. (others : List Answered) × AreInRange others × Leads s others now) [
     | inl step ↦ (let more = steps_alone ts between now ranges.1 on in (t ∷ more.0, (ranges.0, more.1), (between, step, more.2)))
-    | inr still ↦ steps_alone ts s now ranges.1 (subst (λ (x : State). Comes (Handles line most) x ts now) still.still on)
+    | inr still ↦ steps_alone ts s now ranges.1 (subst (λ (x : State). Comes (Handles line most) x ts now) still.same on)
   ]
 
   one_more : (o : Option Answered) (ts : List Answered) → text_of line o ++ text_of_all line ts ≡ text_of_all line (cons_option o ts)

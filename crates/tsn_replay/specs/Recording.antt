@@ -1,12 +1,16 @@
 -- What is recorded of what sessions asked and were answered: each accepted command that changes what lasts.
 use Rattle.std.specs.Prelude.{◌≡◌, ℕ, Bool, true, false, List, Option, Some, None, map, option_map, if◌then◌else◌}
 use Rattle.std.specs.List.{AllByRecursion, filter_map}
+use Rattle.tsn_types.specs.declared.keys.Key.{Key}
+use Rattle.tsn_journal.specs.declared.entries.Act.{Act as Asked}
+use Rattle.tsn_journal.specs.declared.entries.Act.TheVariants as asked
 use Rattle.tsn_bridge.specs.declared.command.Ask.{Ask}
 use Rattle.tsn_bridge.specs.declared.command.Command.{Command}
 use Rattle.tsn_bridge.specs.declared.command.Command.TheVariants as commands
 use Rattle.tsn_bridge.specs.declared.reply.Reply.{Reply}
 use Rattle.tsn_bridge.specs.declared.reply.Reply.TheVariants.{Acted, Refused}
 use Rattle.tsn_bridge.specs.Acts.{instant}
+use Rattle.tsn_bridge.specs.Families.{Acting, Counting, Family, Framing, Greeting, Looking, family}
 use Rattle.tsn_bridge.specs.Histories.{Answered}
 use Rattle.tsn_bridge.specs.State.{State}
 
@@ -21,47 +25,31 @@ instant_told (Acted change entry now) = now
 instant_told reply = 0
 
 -- the instant that counts for a command in a state, if it is an act
+abbrev pub counted_in : State → Family → ℕ
+counted_in s (Acting act k now) = instant s now
+counted_in s f = 0
+
 abbrev pub counted : State → Command → ℕ
-counted s commands.Hello = 0
-counted s (commands.Create k r) = 0
-counted s (commands.Replace k r) = 0
-counted s (commands.Remove k) = 0
-counted s (commands.Batch batch) = 0
-counted s commands.Undo = 0
-counted s commands.UndoAll = 0
-counted s commands.Redo = 0
-counted s (commands.Settle upto) = 0
-counted s (commands.Enable k now) = instant s now
-counted s (commands.Disable k now) = instant s now
-counted s (commands.Apply k now) = instant s now
-counted s (commands.Frame frame now) = 0
-counted s (commands.States k at) = 0
-counted s (commands.Counters k) = 0
-counted s (commands.Show k) = 0
-counted s (commands.List kind) = 0
-counted s (commands.Since after) = 0
+counted s command = counted_in s (family command)
+
+-- an act on a key at an instant, as a command
+abbrev pub act_command : Asked → Key → ℕ → Command
+act_command asked.Enable k now = commands.Enable k now
+act_command asked.Disable k now = commands.Disable k now
+act_command asked.Apply k now = commands.Apply k now
 
 -- What is kept of a session's command, once it was accepted: a hello of no session, an act at the instant that counted, any other
 -- command that changes what lasts as it is; of a look and of a frame nothing.
+abbrev pub kept_in : ℕ → Command → ℕ → Family → Option Ask
+kept_in n command at Greeting = Some (record { session = 0; command = commands.Hello })
+kept_in n command at (Acting act k now) = Some (record { session = n; command = act_command act k at })
+kept_in n command at (Framing frame now) = None
+kept_in n command at (Looking look) = None
+kept_in n command at (Counting look) = None
+kept_in n command at f = Some (record { session = n; command = command })
+
 abbrev pub kept : ℕ → Command → ℕ → Option Ask
-kept n commands.Hello at = Some (record { session = 0; command = commands.Hello })
-kept n (commands.Create k r) at = Some (record { session = n; command = commands.Create k r })
-kept n (commands.Replace k r) at = Some (record { session = n; command = commands.Replace k r })
-kept n (commands.Remove k) at = Some (record { session = n; command = commands.Remove k })
-kept n (commands.Batch batch) at = Some (record { session = n; command = commands.Batch batch })
-kept n commands.Undo at = Some (record { session = n; command = commands.Undo })
-kept n commands.UndoAll at = Some (record { session = n; command = commands.UndoAll })
-kept n commands.Redo at = Some (record { session = n; command = commands.Redo })
-kept n (commands.Settle upto) at = Some (record { session = n; command = commands.Settle upto })
-kept n (commands.Enable k now) at = Some (record { session = n; command = commands.Enable k at })
-kept n (commands.Disable k now) at = Some (record { session = n; command = commands.Disable k at })
-kept n (commands.Apply k now) at = Some (record { session = n; command = commands.Apply k at })
-kept n (commands.Frame frame now) at = None
-kept n (commands.States k t) at = None
-kept n (commands.Counters k) at = None
-kept n (commands.Show k) at = None
-kept n (commands.List kind) at = None
-kept n (commands.Since after) at = None
+kept n command at = kept_in n command at (family command)
 
 -- what is kept of an ask that a bridge in this state accepts
 abbrev pub kept_of : State → Ask → Option Ask

@@ -12,7 +12,7 @@ use tsn_types::refusals::Refusal;
 
 /// Steps the bridge by a recorded command, which goes on with a replay. Refused is what the bridge refuses, and changes
 /// nothing. Of what a recorder wrote only want of memory (18) refuses any: the law `only_memory_refuses`.
-#[tactic(auto, using(crate::proofs::Forms::one_replayed, crate::proofs::Forms::no_refusal, crate::proofs::Refused::refused_stays, tsn_bridge::proofs::Reaching::reached_by))]
+#[tactic(auto, using(crate::proofs::Forms::one_replayed, crate::proofs::Forms::no_refusal, tsn_bridge::proofs::Families::refused_stays, tsn_bridge::proofs::Reaching::reached_by))]
 pub fn replay(bridge: &mut Bridge, ask: Ask) -> Result<(), Refusal>
     ensures accepted { OnOk result (Replays bridge.old (ask ∷ []) bridge.new) }
     ensures refused { IfErr result (λ why. Answers bridge.old ask (Refused why) bridge.new) }
