@@ -48,7 +48,8 @@ use Rattle.tsn_bridge.proofs.Stepping.{AllowsAt, was_given}
 -- ---- one rule
 
 -- what would be redone fits or not, and so the cause is one
-same_cause : (b : Ledger) (o : Option Applied) (f g : Bool) → TellsFit b o f → TellsFit b o g → redo_cause b.entries o f ≡ redo_cause b.entries o g
+same_cause : (b : Ledger) (o : Option Applied) (f g : Bool) → TellsFit b o f → TellsFit b o g
+    → redo_cause b.entries o f ≡ redo_cause b.entries o g
 same_cause b None f g h k = refl
 same_cause b (Some u) true true h k = refl
 same_cause b (Some u) false false h k = refl
@@ -78,12 +79,14 @@ pub record IsDone (rule : Rule) (reply : Reply) (new : State) : Type 0 where
   pub none : least rule.causes ≡ None
   pub done : ◌≡◌ {A = Option (Reply × State)} rule.done (Some (reply, new))
 
-outcome_at : (o : Option Refusal) (rule : Rule) (s : State) (reply : Reply) (new : State) → least rule.causes ≡ o → AllowsAt o rule s reply new → IsStill s reply new ⊎ IsDone rule reply new
+outcome_at : (o : Option Refusal) (rule : Rule) (s : State) (reply : Reply) (new : State) → least rule.causes ≡ o
+    → AllowsAt o rule s reply new → IsStill s reply new ⊎ IsDone rule reply new
 outcome_at None rule s reply new none (inl done) = inr (record { none = none; done = done })
 outcome_at None rule s reply new none (inr memory) = inl (record { why = Memory; refused = memory.1; same = memory.2 })
 outcome_at (Some why) rule s reply new some cause = inl (record { why = why; refused = cause.0; same = cause.1 })
 
-pub outcome : (rule : Rule) (s : State) (reply : Reply) (new : State) → Allows rule s reply new → IsStill s reply new ⊎ IsDone rule reply new
+pub outcome : (rule : Rule) (s : State) (reply : Reply) (new : State) → Allows rule s reply new
+    → IsStill s reply new ⊎ IsDone rule reply new
 outcome rule s reply new step = outcome_at (least rule.causes) rule s reply new refl step
 
 -- the reply, and the state that is done
@@ -95,10 +98,12 @@ state_of r reply t new h = ap (λ (p : Reply × State). p.1) (done_of _ _ h)
 
 -- What holds of the reply and the state of each that an option may have, holds of those that are done.
 pub done_each : {A : Type 0} (P : Reply → State → Type 0) (f : A → Reply) (g : A → State) (o : Option A) (reply : Reply) (new : State)
-    → ((x : A) → o ≡ Some x → P (f x) (g x)) → ◌≡◌ {A = Option (Reply × State)} (option_map (λ x. (f x, g x)) o) (Some (reply, new)) → P reply new
+    → ((x : A) → o ≡ Some x → P (f x) (g x)) → ◌≡◌ {A = Option (Reply × State)} (option_map (λ x. (f x, g x)) o) (Some (reply, new))
+    → P reply new
 done_each P f g None reply new each done = absurd (cc)
 done_each P f g (Some x) reply new each done =
-    subst (λ (t : State). P reply t) (state_of (f x) reply (g x) new done) (subst (λ (r : Reply). P r (g x)) (reply_of (f x) reply (g x) new done) (each x refl))
+    subst (λ (t : State). P reply t) (state_of (f x) reply (g x) new done)
+    (subst (λ (r : Reply). P r (g x)) (reply_of (f x) reply (g x) new done) (each x refl))
 
 -- ---- what a step leaves
 
@@ -119,7 +124,9 @@ in_range command ranges = tt
 pub data Left (s : State) (n : ℕ) (f : Family) : State → Type 0 where
   Same : Left s n f s
   Greeted : Left s n f (record s { sessions = s.sessions + 1 })
-  Changed : (w : What) (e : Change) → applies w ≡ Some e → (StateIsSound s → FamilyInRange f → Fits s.book.limits (present s.book) e × StateIsSound (changed_state s n w e)) → Left s n f (changed_state s n w e)
+  Changed : (w : What) (e : Change) → applies w ≡ Some e
+      → (StateIsSound s → FamilyInRange f → Fits s.book.limits (present s.book) e × StateIsSound (changed_state s n w e))
+      → Left s n f (changed_state s n w e)
   AllUndone : undo_all_refusal s.book n ≡ None → Left s n f (undone_state s n (own_standing s.book.entries n))
   SettledTo : (upto : ℕ) → Left s n f (settled_state s n upto)
   ActDone : (act : Asked) (k : Key) (now : ℕ) → least (act_rule s n act k now).causes ≡ None → Left s n f (acted_state s n act k now)
@@ -127,13 +134,18 @@ pub data Left (s : State) (n : ℕ) (f : Family) : State → Type 0 where
       → framed (present s.book) s.frames (acts_of_gates s.book) frame (instant s now) ≡ Some x → Left s n f (framed_state s now x.1)
 
 -- what nothing refuses to redo fits
-redo_fits : (s : State) (n : ℕ) (u : Applied) (fits : Bool) → StateIsSound s → redo_of s.book.entries n ≡ Some u → TellsFit s.book (Some u) fits → redo_cause s.book.entries (Some u) fits ≡ None → Fits s.book.limits (present s.book) (inverse u.change)
+redo_fits : (s : State) (n : ℕ) (u : Applied) (fits : Bool) → StateIsSound s → redo_of s.book.entries n ≡ Some u
+    → TellsFit s.book (Some u) fits → redo_cause s.book.entries (Some u) fits ≡ None
+    → Fits s.book.limits (present s.book) (inverse u.change)
 redo_fits s n u true sound some tells none = tells.0 refl
 redo_fits s n u false sound some tells none = by_option (find_redo_conflict s.book.entries u)
-    (λ free. inverse_fits s.book.limits s.book.opening s.book.entries u sound (undone_split s.book.limits s.book.opening s.book.entries n u sound some) free)
-    (λ f found. let never : Some _ ≡ None = sym (ap (option_map (λ (x : Applied). Conflict 0 x.number)) found) ∙ named (find_redo_conflict s.book.entries u) none in (cc))
+    (λ free. inverse_fits s.book.limits s.book.opening s.book.entries u sound
+    (undone_split s.book.limits s.book.opening s.book.entries n u sound some) free)
+    (λ f found. let never : Some _ ≡ None = sym (ap (option_map (λ (x : Applied). Conflict 0 x.number)) found)
+    ∙ named (find_redo_conflict s.book.entries u) none in (cc))
   where
-    named : (o : Option Applied) → option_map (λ (x : Applied). RedoConflict x.number) o ≡ None → option_map (λ (x : Applied). Conflict 0 x.number) o ≡ None
+    named : (o : Option Applied) → option_map (λ (x : Applied). RedoConflict x.number) o ≡ None
+        → option_map (λ (x : Applied). Conflict 0 x.number) o ≡ None
     named None h = refl
     named (Some x) h = (cc)
 
@@ -154,15 +166,19 @@ module _ (s : State) (n : ℕ) (f : Family) (reply : Reply) (new : State) where
   unchanged same = record { how = subst (Left s n f) (sym same) Same; refused = λ why is. same }
 
   -- where it is what an option has, and no refusal
-  by_each : {A : Type 0} (rule : Rule) (r : A → Reply) (t : A → State) (o : Option A) → ◌≡◌ {A = Option (Reply × State)} rule.done (option_map (λ x. (r x, t x)) o)
-      → ((x : A) (why : Refusal) → r x ≡ replies.Refused why → ⊥) → (least rule.causes ≡ None → (x : A) → o ≡ Some x → Left s n f (t x)) → Allows rule s reply new → Leaves s n f reply new
+  by_each : {A : Type 0} (rule : Rule) (r : A → Reply) (t : A → State) (o : Option A)
+      → ◌≡◌ {A = Option (Reply × State)} rule.done (option_map (λ x. (r x, t x)) o)
+      → ((x : A) (why : Refusal) → r x ≡ replies.Refused why → ⊥) → (least rule.causes ≡ None → (x : A) → o ≡ Some x → Left s n f (t x))
+      → Allows rule s reply new → Leaves s n f reply new
   by_each rule r t o is never how step = elim (outcome rule s reply new step) as (λ _. Leaves s n f reply new) [
     | inl still ↦ unchanged still.same
-    | inr did ↦ done_each (Leaves s n f) r t o reply new (λ x some. record { how = how did.none x some; refused = λ why told. absurd (never x why told) }) (sym is ∙ did.done)
+    | inr did ↦ done_each (Leaves s n f) r t o reply new
+        (λ x some. record { how = how did.none x some; refused = λ why told. absurd (never x why told) }) (sym is ∙ did.done)
   ]
 
   -- where it is there at once
-  at_once : (rule : Rule) (r : Reply) (t : State) → ◌≡◌ {A = Option (Reply × State)} rule.done (Some (r, t)) → ((why : Refusal) → r ≡ replies.Refused why → ⊥) → (least rule.causes ≡ None → Left s n f t)
+  at_once : (rule : Rule) (r : Reply) (t : State) → ◌≡◌ {A = Option (Reply × State)} rule.done (Some (r, t))
+      → ((why : Refusal) → r ≡ replies.Refused why → ⊥) → (least rule.causes ≡ None → Left s n f t)
       → Allows rule s reply new → Leaves s n f reply new
   at_once rule r t is never how = by_each {A = ⊤} rule (λ _. r) (λ _. t) (Some tt) is (λ _. never) (λ none _ _. how none)
 
@@ -174,33 +190,45 @@ leaves s n (Editing batch) reply new step =
     (λ none. Changed (Made e) e refl
     (λ sound ranges.
     let admitted = (was_given (is_given s n) (edit_refusal s.book batch) none).1 in
-    let fits = batch_fits s.book.limits (present s.book) (kept_now s.book sound) batch ranges.0 ranges.1 (edit_admitted s.book batch admitted).0 in
+    let fits = batch_fits s.book.limits (present s.book) (kept_now s.book sound) batch ranges.0 ranges.1
+    (edit_admitted s.book batch admitted).0 in
     (fits, edit_sound s.book n batch sound fits))) step
 leaves s n Undoing reply new step =
-    by_each s n Undoing reply new (undo_rule s n) (λ (x : Applied). replies.EntryOf (next s) x.number) (λ x. changed_state s n (undone x) (inverse x.change)) (last_of s.book.entries n) refl (λ x why h. (cc))
+    by_each s n Undoing reply new (undo_rule s n) (λ (x : Applied). replies.EntryOf (next s) x.number)
+    (λ x. changed_state s n (undone x) (inverse x.change)) (last_of s.book.entries n) refl (λ x why h. (cc))
     (λ none x some. Changed (undone x) (inverse x.change) refl
     (λ sound ranges.
-    let made = undo_step_now s.book n x.number sound (record { newest = x; newest_is = some; free = (was_given (is_given s n) (undo_refusal s.book n) none).1; of_is = refl }) in
+    let made = undo_step_now s.book n x.number sound
+    (record { newest = x; newest_is = some; free = (was_given (is_given s n) (undo_refusal s.book n) none).1; of_is = refl }) in
     (made.fits, made.sound))) step
 leaves s n UndoingAll reply new step =
-    at_once s n UndoingAll reply new (undo_all_rule s n) _ _ refl (λ why h. (cc)) (λ none. AllUndone (was_given (is_given s n) (undo_all_refusal s.book n) none).1) step
+    at_once s n UndoingAll reply new (undo_all_rule s n) _ _ refl (λ why h. (cc))
+    (λ none. AllUndone (was_given (is_given s n) (undo_all_refusal s.book n) none).1) step
 leaves s n Redoing reply new step =
     let cause = least (redo_cause s.book.entries (redo_of s.book.entries n) step.fits ∷ no_room s.book.entries 1 ∷ []) in
-    by_each s n Redoing reply new (redo_rule s n cause) (λ (u : Applied). replies.EntryOf (next s) u.number) (λ u. changed_state s n (redone u) (inverse u.change)) (redo_of s.book.entries n) refl (λ x why h. (cc))
+    by_each s n Redoing reply new (redo_rule s n cause) (λ (u : Applied). replies.EntryOf (next s) u.number)
+    (λ u. changed_state s n (redone u) (inverse u.change)) (redo_of s.book.entries n) refl (λ x why h. (cc))
     (λ none u some. Changed (redone u) (inverse u.change) refl
     (λ sound ranges.
-    let both = or_none _ _ (sym (redo_refusal-first s.book.entries (redo_of s.book.entries n) step.fits) ∙ (was_given (is_given s n) cause none).1) in
-    let fits = redo_fits s n u step.fits sound some (subst (λ o. TellsFit s.book o step.fits) some step.tells) (sym (ap (λ o. redo_cause s.book.entries o step.fits) some) ∙ both.0) in
+    let both = or_none _ _ (sym (redo_refusal-first s.book.entries (redo_of s.book.entries n) step.fits)
+    ∙ (was_given (is_given s n) cause none).1) in
+    let fits = redo_fits s n u step.fits sound some (subst (λ o. TellsFit s.book o step.fits) some step.tells)
+    (sym (ap (λ o. redo_cause s.book.entries o step.fits) some) ∙ both.0) in
     let is : IsRedoable s.book n u.number = record { undone = u; undone_is = some; fits = fits; room = both.1; of_is = refl } in
     (fits, redo_sound s.book n u.number sound is))) step.holds
-leaves s n (Settling upto) reply new step = at_once s n (Settling upto) reply new (settle_rule s n upto) _ _ refl (λ why h. (cc)) (λ none. SettledTo upto) step
-leaves s n (Acting act k now) reply new step = at_once s n (Acting act k now) reply new (act_rule s n act k now) _ _ refl (λ why h. (cc)) (λ none. ActDone act k now none) step
+leaves s n (Settling upto) reply new step =
+    at_once s n (Settling upto) reply new (settle_rule s n upto) _ _ refl (λ why h. (cc)) (λ none. SettledTo upto) step
+leaves s n (Acting act k now) reply new step =
+    at_once s n (Acting act k now) reply new (act_rule s n act k now) _ _ refl (λ why h. (cc)) (λ none. ActDone act k now none) step
 leaves s n (Framing frame now) reply new step =
-    by_each s n (Framing frame now) reply new {A = Verdict × FrameData} (frame_rule s n frame now) (λ x. replies.Framed x.0) (λ x. framed_state s now x.1)
-    (framed (present s.book) s.frames (acts_of_gates s.book) frame (instant s now)) refl (λ x why h. (cc)) (λ none x is. FrameTaken frame now x refl is) step
+    by_each s n (Framing frame now) reply new {A = Verdict × FrameData} (frame_rule s n frame now) (λ x. replies.Framed x.0)
+    (λ x. framed_state s now x.1)
+    (framed (present s.book) s.frames (acts_of_gates s.book) frame (instant s now)) refl (λ x why h. (cc))
+    (λ none x is. FrameTaken frame now x refl is) step
 leaves s n (Looking look) reply new step = unchanged s n (Looking look) reply new (looked (look (seen_by_looks s) n) s reply new step)
 leaves s n (Counting look) reply new step = unchanged s n (Counting look) reply new (looked (look s n) s reply new step)
 
 -- a refused step changes nothing
-pub refused_stays : (s : State) (n : ℕ) (why : Refusal) (new : State) (command : Command) → Step s n command (replies.Refused why) new → new ≡ s
+pub refused_stays : (s : State) (n : ℕ) (why : Refusal) (new : State) (command : Command) → Step s n command (replies.Refused why) new
+    → new ≡ s
 refused_stays s n why new command step = (leaves s n (family command) (replies.Refused why) new step).refused why refl

@@ -161,7 +161,14 @@ goes_on : (s applied later : State) (n : ℕ) (k : Key) (now : ℕ) (reply : Rep
 goes_on s applied later n k now reply sound step quiet =
     let first = follows s n (commands.Apply k now) reply applied sound tt step in
     let on = follow quiet.asks applied later first.sound quiet.in_range quiet.leads in
-    record { limits = on.later.limits; opening = on.later.opening; more = quiet.more; entries = quiet.entries; quiet = quiet.quiet; kept = kept_now later.book on.sound }
+    record {
+      limits = on.later.limits;
+      opening = on.later.opening;
+      more = quiet.more;
+      entries = quiet.entries;
+      quiet = quiet.quiet;
+      kept = kept_now later.book on.sound;
+    }
 
 pub port_runs : (s : State) (m : ℕ) (p : PortGates) → StateIsSound s → get (present s.book) (Port m) ≡ Some (records.Port p) → PortRuns s m p
 port_runs s m p sound is applied session now entry at change step past =

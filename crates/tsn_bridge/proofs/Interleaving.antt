@@ -32,8 +32,10 @@ use Rattle.tsn_bridge.proofs.Stepping.{accepted, was_given}
 -- ---- a later state
 
 -- no entry more
-no_entry : (s : State) (sessions time : ℕ) (frames : FrameData) → s.sessions ≤ sessions → s.time ≤ time → IsLater s (record { book = s.book; sessions = sessions; time = time; frames = frames })
-no_entry s sessions time frames more late = record { limits = refl; opening = refl; more = []; entries = sym (append_nil s.book.entries); sessions = more; time = late }
+no_entry : (s : State) (sessions time : ℕ) (frames : FrameData) → s.sessions ≤ sessions → s.time ≤ time
+    → IsLater s (record { book = s.book; sessions = sessions; time = time; frames = frames })
+no_entry s sessions time frames more late =
+    record { limits = refl; opening = refl; more = []; entries = sym (append_nil s.book.entries); sessions = more; time = late }
 
 pub itself : (s : State) → IsLater s s
 itself s = no_entry s s.sessions s.time s.frames (omega arith) (omega arith)
@@ -49,8 +51,17 @@ after_both s between new one two = record {
 }
 
 -- one entry more, at a time that is no less
-entered : (s : State) (n : ℕ) (w : What) (time : ℕ) (frames : FrameData) → s.time ≤ time → IsLater s (record s { book = enter s.book n w; time = time; frames = frames })
-entered s n w time frames late = record { limits = refl; opening = refl; more = record { number = length s.book.entries + 1; session = n; what = w } ∷ []; entries = refl; sessions = omega arith; time = late }
+entered : (s : State) (n : ℕ) (w : What) (time : ℕ) (frames : FrameData) → s.time ≤ time
+    → IsLater s (record s { book = enter s.book n w; time = time; frames = frames })
+entered s n w time frames late =
+    record {
+      limits = refl;
+      opening = refl;
+      more = record { number = length s.book.entries + 1; session = n; what = w } ∷ [];
+      entries = refl;
+      sessions = omega arith;
+      time = late;
+    }
 
 -- and one for each that was taken back
 all_entered : (es : List Entry) (n : ℕ) (xs : List Applied) → (more : List Entry) × (with_undone es n xs ≡ es ++ more)
@@ -78,9 +89,11 @@ sound_left s n f new sound ranges Same = sound
 sound_left s n f new sound ranges Greeted = sound
 sound_left s n f new sound ranges (Changed w e apply good) = (good sound ranges).1
 sound_left s n f new sound ranges (AllUndone free) =
-    (taken_to s.book.limits s.book.opening s.book.entries n [] (own_standing s.book.entries n) (begin_taken s.book.limits s.book.opening s.book.entries n sound (free_of_all s.book n free).none)).sound
+    (taken_to s.book.limits s.book.opening s.book.entries n [] (own_standing s.book.entries n)
+    (begin_taken s.book.limits s.book.opening s.book.entries n sound (free_of_all s.book n free).none)).sound
 sound_left s n f new sound ranges (SettledTo upto) = sound_settled s.book.limits s.book.opening s.book.entries n upto sound
-sound_left s n f new sound ranges (ActDone act k now none) = sound_quiet s.book.limits s.book.opening s.book.entries n (Acted act k (instant s now)) sound tt (λ m. refl) refl refl
+sound_left s n f new sound ranges (ActDone act k now none) =
+    sound_quiet s.book.limits s.book.opening s.book.entries n (Acted act k (instant s now)) sound tt (λ m. refl) refl refl
 sound_left s n f new sound ranges (FrameTaken frame now x of is) = sound
 
 -- ---- each step, and each list of them
@@ -117,7 +130,8 @@ same_edits {a} {b} h = done_of a b h
 
 made_in : (f : Family) (before edited : State) (session : ℕ) (batch : List Edit) (entry : ℕ) → batch_of f ≡ Some batch
     → Goes before session f (EntryReply entry) edited → Allows (edit_rule before session batch) before (EntryReply entry) edited
-made_in (Editing edits) before edited session batch entry is step = subst (λ b. Allows (edit_rule before session b) before (EntryReply entry) edited) (same_edits is) step
+made_in (Editing edits) before edited session batch entry is step =
+    subst (λ b. Allows (edit_rule before session b) before (EntryReply entry) edited) (same_edits is) step
 made_in f before edited session batch entry is step = (cc)
 
 pub made_by : (before edited : State) (session : ℕ) (command : Command) (batch : List Edit) (entry : ℕ) → edits_of command ≡ Some batch

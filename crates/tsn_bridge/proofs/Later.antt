@@ -83,7 +83,8 @@ module _ (s : State) (n : ℕ) (h : IsWhole s) where
   abbrev undone_to : List Applied → List Entry
   undone_to ys = with_undone s.book.entries n ys
 
-  frames_left : (xs ys : List Applied) → IsTaken s.book.limits s.book.opening s.book.entries n (xs ++ ys) [] → HasFrameKeys (undone_by (frames_after s.time) s.frames ys) (present (record s.book { entries = undone_to ys }))
+  frames_left : (xs ys : List Applied) → IsTaken s.book.limits s.book.opening s.book.entries n (xs ++ ys) []
+      → HasFrameKeys (undone_by (frames_after s.time) s.frames ys) (present (record s.book { entries = undone_to ys }))
   frames_left xs [] t = h.frames
   frames_left xs (y ∷ ys) t =
       let more : IsTaken s.book.limits s.book.opening s.book.entries n ((xs ++ y ∷ []) ++ ys) [] = subst (λ zs. IsTaken s.book.limits s.book.opening s.book.entries n zs []) (sym (append_assoc xs (y ∷ []) ys)) t in
@@ -91,14 +92,17 @@ module _ (s : State) (n : ℕ) (h : IsWhole s) where
       let step = (next_taken s.book.limits s.book.opening s.book.entries n xs y ys so_far).step in
       subst (λ c. HasFrameKeys (frames_after s.time (undone_by (frames_after s.time) s.frames ys) (inverse y.change)) c)
       (sym (configuration_push s.book.opening (undone_to ys) n (undone y) (inverse y.change) refl))
-      (frames_fit s.book.limits (present (record s.book { entries = undone_to ys })) (undone_by (frames_after s.time) s.frames ys) s.time (inverse y.change)
+      (frames_fit s.book.limits (present (record s.book { entries = undone_to ys })) (undone_by (frames_after s.time) s.frames ys) s.time
+      (inverse y.change)
       (kept_now (record s.book { entries = undone_to ys }) so_far.sound) (frames_left (xs ++ y ∷ []) ys more) step.fits)
 
-acts_left : (s : State) (n : ℕ) → ActsAreBy s → (ys : List Applied) → AllByRecursion (λ e. IsBy s.time e.what) (with_undone s.book.entries n ys)
+acts_left : (s : State) (n : ℕ) → ActsAreBy s → (ys : List Applied)
+    → AllByRecursion (λ e. IsBy s.time e.what) (with_undone s.book.entries n ys)
 acts_left s n a [] = a
 acts_left s n a (y ∷ ys) =
     let so_far = with_undone s.book.entries n ys in
-    both (λ (x : Entry). IsBy s.time x.what) so_far (record { number = length so_far + 1; session = n; what = undone y } ∷ []) (acts_left s n a ys) (tt, tt)
+    both (λ (x : Entry). IsBy s.time x.what) so_far (record { number = length so_far + 1; session = n; what = undone y } ∷ [])
+    (acts_left s n a ys) (tt, tt)
 
 -- ---- an act, and a frame
 
@@ -160,28 +164,34 @@ module _ (l : Limits) (c : Configuration) (f : FrameData) (acts : GateActs) (fra
       (λ m is. h.meters m ∙ kept.referred (Filter n) (records.Filter q) (Meter m) at (refers_to_meter q m is)) h)
 
 -- what no entry applied stays, and so do the keys
-quiet_keeps : (s : State) (n : ℕ) (w : What) → applies w ≡ None → HasFrameKeys s.frames (present s.book) → HasFrameKeys s.frames (present (enter s.book n w))
+quiet_keeps : (s : State) (n : ℕ) (w : What) → applies w ≡ None → HasFrameKeys s.frames (present s.book)
+    → HasFrameKeys s.frames (present (enter s.book n w))
 quiet_keeps s n w none h = subst (λ c. HasFrameKeys s.frames c) (sym (ap (run s.book.opening) (nothing_push s.book.entries n w none))) h
 
 -- ---- each way in which a step leaves the state
 
-frames_kept : (s : State) (n : ℕ) (f : Family) (new : State) → IsWhole s → FamilyInRange f → Left s n f new → HasFrameKeys new.frames (present new.book)
+frames_kept : (s : State) (n : ℕ) (f : Family) (new : State) → IsWhole s → FamilyInRange f → Left s n f new
+    → HasFrameKeys new.frames (present new.book)
 frames_kept s n f new h ranges Same = h.frames
 frames_kept s n f new h ranges Greeted = h.frames
 frames_kept s n f new h ranges (Changed w e apply good) =
     subst (λ c. HasFrameKeys (frames_after s.time s.frames e) c) (sym (configuration_push s.book.opening s.book.entries n w e apply))
     (frames_fit s.book.limits (present s.book) s.frames s.time e (kept_now s.book h.journal) h.frames (good h.journal ranges).0)
 frames_kept s n f new h ranges (AllUndone free) =
-    frames_left s n h [] (own_standing s.book.entries n) (begin_taken s.book.limits s.book.opening s.book.entries n h.journal (free_of_all s.book n free).none)
+    frames_left s n h [] (own_standing s.book.entries n)
+    (begin_taken s.book.limits s.book.opening s.book.entries n h.journal (free_of_all s.book n free).none)
 frames_kept s n f new h ranges (SettledTo upto) = quiet_keeps s n (Settled upto) refl h.frames
 frames_kept s n f new h ranges (ActDone act k now none) = quiet_keeps s n (Acted act k (instant s now)) refl h.frames
 frames_kept s n f new h ranges (FrameTaken frame now x of is) =
-    framed_keys s.book.limits (present s.book) s.frames (acts_of_gates s.book) frame (instant s now) (kept_now s.book h.journal) h.frames (chosen frame.handle frame.priority (filters_of (present s.book))) x.0 x.1 is
+    framed_keys s.book.limits (present s.book) s.frames (acts_of_gates s.book) frame (instant s now) (kept_now s.book h.journal) h.frames
+    (chosen frame.handle frame.priority (filters_of (present s.book))) x.0 x.1 is
 
 -- one entry more, and every act was done by the time
-by_entry : (s : State) (n : ℕ) (w : What) (time : ℕ) → s.time ≤ time → IsBy time w → ActsAreBy s → AllByRecursion (λ e. IsBy time e.what) (enter s.book n w).entries
+by_entry : (s : State) (n : ℕ) (w : What) (time : ℕ) → s.time ≤ time → IsBy time w → ActsAreBy s
+    → AllByRecursion (λ e. IsBy time e.what) (enter s.book n w).entries
 by_entry s n w time late by a =
-    both (λ (x : Entry). IsBy time x.what) s.book.entries (record { number = length s.book.entries + 1; session = n; what = w } ∷ []) (by_later s.time time s.book.entries late a) (by, tt)
+    both (λ (x : Entry). IsBy time x.what) s.book.entries (record { number = length s.book.entries + 1; session = n; what = w } ∷ [])
+    (by_later s.time time s.book.entries late a) (by, tt)
 
 acts_kept : (s : State) (n : ℕ) (f : Family) (new : State) → Left s n f new → ActsAreBy s → ActsAreBy new
 acts_kept s n f new Same a = a

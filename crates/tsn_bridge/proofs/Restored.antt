@@ -140,7 +140,8 @@ applied_state s applied n k now at entry change step =
 -- a look that nothing refuses is told what there is
 abbrev Tells : State → Reply → Option Shown → Type 0
 Tells s reply o =
-    (◌≡◌ {A = Option (Reply × State)} (option_map {T = Reply} {U = Reply × State} (λ x. (x, s)) (option_map (λ x. replies.States x) o)) (Some (reply, s)))
+    (◌≡◌ {A = Option (Reply × State)} (option_map {T = Reply} {U = Reply × State} (λ x. (x, s)) (option_map (λ x. replies.States x) o))
+    (Some (reply, s)))
     ⊎ (IsTrue false × (reply ≡ replies.Refused Memory) × (s ≡ s))
 
 told_at : (s : State) (x : Shown) (reply : Reply) → Tells s reply (Some x) → reply ≡ replies.States x

@@ -79,7 +79,8 @@ module _ (s : State) (n : ℕ) (sound : StateIsSound s) where
 -- a refused undo of all changed nothing, and its cause is one of these
 pub not_all : (s : State) (n : ℕ) (why : Refusal) (new : State) → StateIsSound s → Step s n commands.UndoAll (Refused why) new → (new ≡ s) × WhyNotAll s n why
 not_all s n why new sound step = (
-  elim (outcome (undo_all_rule s n) s (Refused why) new step) as (λ _. new ≡ s) [ inl still ↦ still.same | inr did ↦ absurd (never did.done) ],
+  elim (outcome (undo_all_rule s n) s (Refused why) new step) as (λ _. new ≡ s)
+      [ inl still ↦ still.same | inr did ↦ absurd (never did.done) ],
   elim (refused (undo_all_rule s n) s new why never step) as (λ _. WhyNotAll s n why) [
     | inl cause ↦ least_cause s n sound (is_given s n) (undo_all_refusal s.book n) why refl refl cause
     | inr memory ↦ subst (WhyNotAll s n) (sym memory) tt

@@ -31,7 +31,8 @@ pub record Look : Type 0 where
 
 -- its rule
 abbrev pub look_rule : State → Look → Rule
-look_rule s l = record { causes = l.causes; done = option_map {T = Reply} {U = Reply × State} (λ x. (x, s)) l.answer; takes_memory = l.takes_memory }
+look_rule s l =
+    record { causes = l.causes; done = option_map {T = Reply} {U = Reply × State} (λ x. (x, s)) l.answer; takes_memory = l.takes_memory }
 
 -- whether the session number was given out
 abbrev pub is_given : State → ℕ → Bool

@@ -102,7 +102,8 @@ all_undone : (n m : ℕ) (b : Ledger) (es : List Entry) (xs : List Applied) → 
 all_undone n m b es [] h = h
 all_undone n m b es (x ∷ xs) h = changed n m b (with_undone es m xs) (undone x) (inverse x.change) refl (all_undone n m b es xs h)
 
-module _ (n : ℕ) (s : State) (m : ℕ) (low : 1 ≤ n) (high : n ≤ s.book.limits.ports) (whole : IsWhole s) (by : ActsAreBy s) (h : ActsOf n s.book) where
+module _ (n : ℕ) (s : State) (m : ℕ) (low : 1 ≤ n) (high : n ≤ s.book.limits.ports) (whole : IsWhole s) (by : ActsAreBy s)
+    (h : ActsOf n s.book) where
   -- an act on any key
   acted : (act : Asked) (key : Key) (now : ℕ) → least (act_rule s m act key now).causes ≡ None → ActsOf n (acted_state s m act key now).book
   acted act key now none =

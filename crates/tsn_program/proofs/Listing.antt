@@ -61,7 +61,8 @@ abbrev pub TellsPort : Option Shown → Reply → Type 0
 TellsPort o reply = (g : ℕ) × (reply ≡ replies.States (shown.Port g)) × (o ≡ Some (shown.Port g))
 
 told_by : (s new : State) (reply : Reply) (o : Option Shown) → IsPorts o
-    → (option_map {T = Reply} {U = Reply × State} (λ x. (x, s)) (option_map (λ x. replies.States x) o) ≡ Some (reply, new)) ⊎ (IsTrue false × (reply ≡ replies.Refused Memory) × (new ≡ s))
+    → (option_map {T = Reply} {U = Reply × State} (λ x. (x, s)) (option_map (λ x. replies.States x) o) ≡ Some (reply, new))
+    ⊎ (IsTrue false × (reply ≡ replies.Refused Memory) × (new ≡ s))
     → (new ≡ s) × TellsPort o reply
 unfolding IsPorts IsGate
 told_by s new reply None ports (inl e) =

@@ -22,32 +22,40 @@ use Rattle.tsn_replay.specs.Replaying.{Replays}
 use Rattle.tsn_replay.proofs.Recorded.{AHello, AnAct, Itself, KeptAs, act_family, again, kept_as, recorded_by, told_at}
 
 -- a step at what is kept of a command at the instant that counts is one at the command
-step_as : (s : State) (n : ℕ) (reply : Reply) (after : State) (at : ℕ) (command : Command) (a : Ask) → KeptAs n at command a → at ≡ counted s command → Answers s a reply after → Step s n command reply after
+step_as : (s : State) (n : ℕ) (reply : Reply) (after : State) (at : ℕ) (command : Command) (a : Ask) → KeptAs n at command a
+    → at ≡ counted s command → Answers s a reply after → Step s n command reply after
 step_as s n reply after at command a (Itself c from is) then step = step
 step_as s n reply after at command a AHello then step = step
 step_as s n reply after at command a (AnAct act k now) then step =
     let instant_is : at ≡ instant s now = then ∙ ap (counted_in s) (act_family act k now) in
     let did : Allows (act_rule s n act k at) s reply after = subst (λ f. Goes s n f reply after) (act_family act k at) step in
-    subst (λ f. Goes s n f reply after) (sym (act_family act k now)) (subst (λ (rule : Rule). Allows rule s reply after) (ap (act_rule s n act k) instant_is ∙ again s n act k now) did)
+    subst (λ f. Goes s n f reply after) (sym (act_family act k now))
+    (subst (λ (rule : Rule). Allows rule s reply after) (ap (act_rule s n act k) instant_is ∙ again s n act k now) did)
 
 module _ (s : State) (n : ℕ) (reply : Reply) (after : State) where
-  same_step : (command : Command) (a : Ask) → kept n command (counted s command) ≡ Some a → Answers s a reply after → Step s n command reply after
+  same_step : (command : Command) (a : Ask) → kept n command (counted s command) ≡ Some a → Answers s a reply after
+      → Step s n command reply after
   same_step command a is step = step_as s n reply after (counted s command) command a (kept_as n command (counted s command) a is) refl step
 
-  told_in : (command : Command) (f : Family) → is_accepted reply ≡ true → Goes s n f reply after → kept_in n command (instant_told reply) f ≡ kept_in n command (counted_in s f) f
-  told_in command (Acting act k now) accepted step = ap (λ at. kept_in n command at (Acting act k now)) (told_at s n act k now reply after accepted step)
+  told_in : (command : Command) (f : Family) → is_accepted reply ≡ true → Goes s n f reply after
+      → kept_in n command (instant_told reply) f ≡ kept_in n command (counted_in s f) f
+  told_in command (Acting act k now) accepted step =
+      ap (λ at. kept_in n command at (Acting act k now)) (told_at s n act k now reply after accepted step)
   told_in command f accepted step = refl
 
-  kept_told : (command : Command) → is_accepted reply ≡ true → Step s n command reply after → kept n command (instant_told reply) ≡ kept n command (counted s command)
+  kept_told : (command : Command) → is_accepted reply ≡ true → Step s n command reply after
+      → kept n command (instant_told reply) ≡ kept n command (counted s command)
   kept_told command accepted step = told_in command (family command) accepted step
 
 -- only of a hello is a hello kept
 hello_as : (n at : ℕ) (command : Command) (a : Ask) → KeptAs n at command a → a.command ≡ commands.Hello → command ≡ commands.Hello
 hello_as n at command a (Itself c from is) hello = hello
 hello_as n at command a AHello hello = refl
-hello_as n at command a (AnAct act k now) hello = (let never : Acting act k at ≡ Greeting = sym (act_family act k at) ∙ ap family hello in absurd (cc))
+hello_as n at command a (AnAct act k now) hello =
+    (let never : Acting act k at ≡ Greeting = sym (act_family act k at) ∙ ap family hello in absurd (cc))
 
-hello_of : (n : ℕ) (command : Command) (at : ℕ) (a : Ask) → kept n command at ≡ Some a → a.command ≡ commands.Hello → command ≡ commands.Hello
+hello_of : (n : ℕ) (command : Command) (at : ℕ) (a : Ask) → kept n command at ≡ Some a → a.command ≡ commands.Hello
+    → command ≡ commands.Hello
 hello_of n command at a is hello = hello_as n at command a (kept_as n command at a is) hello
 
 -- ---- a turn at what is kept is one at what was asked
@@ -69,7 +77,8 @@ module _ (line : Ask → List ℕ) (most : ℕ) (ask : Ask) (reply : Reply) (ran
   refused_none refused = ap (λ b. recorded_by reply b (kept ask.session ask.command (instant_told reply))) refused
 
   -- one of which nothing is kept
-  passing_none : (s : State) (after : State) → kept_of s ask ≡ None → Step s ask.session ask.command reply after → (b : Bool) → is_accepted reply ≡ b → of_ask ≡ None
+  passing_none : (s : State) (after : State) → kept_of s ask ≡ None → Step s ask.session ask.command reply after → (b : Bool)
+      → is_accepted reply ≡ b → of_ask ≡ None
   passing_none s after none step false refused = refused_none refused
   passing_none s after none step true accepted =
       ap (λ b. recorded_by reply b (kept ask.session ask.command (instant_told reply))) accepted

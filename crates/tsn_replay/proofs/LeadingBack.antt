@@ -43,7 +43,8 @@ one_at None rule s reply after other left accepted (inl done) (inr memory) = inr
 one_at None rule s reply after other left accepted (inr memory) also = absurd (never_both reply Memory accepted memory.1)
 one_at (Some why) rule s reply after other left accepted cause also = absurd (never_both reply why accepted cause.0)
 
-one_way : (s : State) (n : ℕ) (reply : Reply) (after : State) (other : Reply) (left : State) → is_accepted reply ≡ true → (command : Command) → Step s n command reply after → Step s n command other left → IsOneWay s reply after other left
+one_way : (s : State) (n : ℕ) (reply : Reply) (after : State) (other : Reply) (left : State) → is_accepted reply ≡ true
+    → (command : Command) → Step s n command reply after → Step s n command other left → IsOneWay s reply after other left
 one_way s n reply after other left accepted command step also =
     let r = one_rule s n (family command) (λ rule. Allows rule s reply after) (λ rule. Allows rule s other left) step also in
     one_at (least r.0.causes) r.0 s reply after other left accepted r.1 r.2
@@ -71,7 +72,8 @@ module _ (s again : State) (h : Resumes s again) where
 
   pub forth : (n : ℕ) (command : Command) (reply : Reply) (after : State) → IsFromLasting s.time command → Step s n command reply after → (there : State) × Step again n command reply there × Resumes after there
   forth n command reply after from step =
-      let c = each_alike s again.time again.frames n command reply after from (earlier again.time s.time (family command) h.time from) step in
+      let c = each_alike s again.time again.frames n command reply after from (earlier again.time s.time (family command) h.time from)
+      step in
       (c.0, subst (λ (x : State). Step x n command reply c.0) (sym (is_beside s again h.same)) c.1, record { same = c.2.same; time = in_time after c.0 c.2.times })
 
   back : (n : ℕ) (command : Command) (reply : Reply) (there : State) → IsFromLasting s.time command → Step again n command reply there → (after : State) × Step s n command reply after × Resumes after there

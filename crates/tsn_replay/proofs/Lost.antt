@@ -82,8 +82,11 @@ records_in_range [] h = tt
 records_in_range (t ∷ ts) h = elim (is_accepted t.reply) as (λ b. AreInRange (cons_option (cond b (option_map (with_reply t.reply) (kept t.ask.session t.ask.command (instant_told t.reply))) None) (all_recorded ts))) [
   | true ↦ by_option (kept t.ask.session t.ask.command (instant_told t.reply))
       (λ none. subst (λ (o : Option Ask). AreInRange (cons_option (option_map (with_reply t.reply) o) (all_recorded ts))) (sym none) (records_in_range ts h.1))
-      (λ a some. subst (λ (o : Option Ask). AreInRange (cons_option (option_map (with_reply t.reply) o) (all_recorded ts))) (sym some)
-      (kept_in_range t.ask.session (instant_told t.reply) t.ask.command a (kept_as t.ask.session t.ask.command (instant_told t.reply) a some) h.0, records_in_range ts h.1))
+      (λ a some. subst (λ (o : Option Ask). AreInRange (cons_option (option_map (with_reply t.reply) o) (all_recorded ts))) (sym some) (
+        kept_in_range t.ask.session (instant_told t.reply) t.ask.command a
+            (kept_as t.ask.session t.ask.command (instant_told t.reply) a some) h.0,
+        records_in_range ts h.1,
+      ))
   | false ↦ records_in_range ts h.1
 ]
 

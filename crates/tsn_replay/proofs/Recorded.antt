@@ -41,7 +41,8 @@ a_hello commands.Hello is = refl
 a_hello command is = absurd (cc)
 
 same_act : (a b : Asked) (k q : Key) (t u : ℕ) → Acting a k t ≡ Acting b q u → act_command a k t ≡ act_command b q u
-same_act a b k q t u is = let act : a ≡ b = (cc) in let key : k ≡ q = (cc) in let at : t ≡ u = (cc) in λ i. act_command (act i) (key i) (at i)
+same_act a b k q t u is =
+    let act : a ≡ b = (cc) in let key : k ≡ q = (cc) in let at : t ≡ u = (cc) in λ i. act_command (act i) (key i) (at i)
 
 an_act : (command : Command) (act : Asked) (k : Key) (now : ℕ) → family command ≡ Acting act k now → command ≡ act_command act k now
 an_act (commands.Enable key t) act k now is = same_act asked.Enable act key k t now is
@@ -51,20 +52,25 @@ an_act command act k now is = absurd (cc)
 
 -- Kept is the ask itself, whose answer follows from what lasts; or of a hello, one of no session; or of an act, one at the instant.
 pub data KeptAs (n at : ℕ) : Command → Ask → Type 0 where
-  Itself : (command : Command) → ((time : ℕ) → IsFromLasting time command) → ((time : ℕ) → kept n command time ≡ Some (record { session = n; command = command }))
+  Itself : (command : Command) → ((time : ℕ) → IsFromLasting time command)
+      → ((time : ℕ) → kept n command time ≡ Some (record { session = n; command = command }))
       → KeptAs n at command (record { session = n; command = command })
   AHello : KeptAs n at commands.Hello (record { session = 0; command = commands.Hello })
   AnAct : (act : Asked) (k : Key) (now : ℕ) → KeptAs n at (act_command act k now) (record { session = n; command = act_command act k at })
 
-kept_as_in : (n : ℕ) (command : Command) (at : ℕ) (a : Ask) (f : Family) → family command ≡ f → kept_in n command at f ≡ Some a → KeptAs n at command a
-kept_as_in n command at a Greeting of is = subst (λ c. KeptAs n at c a) (sym (a_hello command of)) (subst (KeptAs n at commands.Hello) (done_of _ _ is) AHello)
+kept_as_in : (n : ℕ) (command : Command) (at : ℕ) (a : Ask) (f : Family) → family command ≡ f → kept_in n command at f ≡ Some a
+    → KeptAs n at command a
+kept_as_in n command at a Greeting of is =
+    subst (λ c. KeptAs n at c a) (sym (a_hello command of)) (subst (KeptAs n at commands.Hello) (done_of _ _ is) AHello)
 kept_as_in n command at a (Acting act k now) of is =
-    subst (λ c. KeptAs n at c a) (sym (an_act command act k now of)) (subst (KeptAs n at (act_command act k now)) (done_of _ _ is) (AnAct act k now))
+    subst (λ c. KeptAs n at c a) (sym (an_act command act k now of))
+    (subst (KeptAs n at (act_command act k now)) (done_of _ _ is) (AnAct act k now))
 kept_as_in n command at a (Framing frame now) of is = absurd (cc)
 kept_as_in n command at a (Looking look) of is = absurd (cc)
 kept_as_in n command at a (Counting look) of is = absurd (cc)
 kept_as_in n command at a f of is =
-    subst (KeptAs n at command) (done_of _ _ is) (Itself command (λ time. subst (IsFromLastingIn time) (sym of) tt) (λ time. ap (kept_in n command time) of))
+    subst (KeptAs n at command) (done_of _ _ is)
+    (Itself command (λ time. subst (IsFromLastingIn time) (sym of) tt) (λ time. ap (kept_in n command time) of))
 
 pub kept_as : (n : ℕ) (command : Command) (at : ℕ) (a : Ask) → kept n command at ≡ Some a → KeptAs n at command a
 kept_as n command at a is = kept_as_in n command at a (family command) refl is
@@ -78,17 +84,23 @@ module _ (s : State) (n : ℕ) (act : Asked) (k : Key) (now : ℕ) where
       let at : instant s (instant s now) ≡ instant s now = omega arith in
       let rule_at : ℕ → Rule = λ a. record {
         causes = list_causes s n k (act_causes s.book act k ++ no_room s.book.entries 1 ∷ []);
-        done = Some (replies.Acted (act_change s.book act k a) (length s.book.entries + 1) a, record s { book = enter s.book n (Acted act k a); time = a });
+        done = Some (
+          replies.Acted (act_change s.book act k a) (length s.book.entries + 1) a,
+          record s
+              { book = enter s.book n (Acted act k a); time = a },
+        );
         takes_memory = true;
       } in
       ap rule_at at
 
   -- which the reply tells, where it is accepted
-  pub told_at : (reply : Reply) (after : State) → is_accepted reply ≡ true → Allows (act_rule s n act k now) s reply after → instant_told reply ≡ instant s now
-  told_at reply after accepted step = elim (outcome (act_rule s n act k now) s reply after step) as (λ _. instant_told reply ≡ instant s now) [
-    | inl still ↦ (let never : true ≡ false = sym accepted ∙ ap is_accepted still.refused in absurd (cc))
-    | inr did ↦ ap instant_told (sym (reply_of _ reply _ after did.done))
-  ]
+  pub told_at : (reply : Reply) (after : State) → is_accepted reply ≡ true → Allows (act_rule s n act k now) s reply after
+      → instant_told reply ≡ instant s now
+  told_at reply after accepted step =
+      elim (outcome (act_rule s n act k now) s reply after step) as (λ _. instant_told reply ≡ instant s now) [
+        | inl still ↦ (let never : true ≡ false = sym accepted ∙ ap is_accepted still.refused in absurd (cc))
+        | inr did ↦ ap instant_told (sym (reply_of _ reply _ after did.done))
+      ]
 
 -- ---- what a record says of a step
 
@@ -125,27 +137,31 @@ Stays s after = (lasting after ≡ lasting s) × (s.time ≤ after.time)
 at_rest : (s after : State) → after ≡ s → Stays s after
 at_rest s after same = subst (Stays s) (sym same) (refl, omega arith)
 
-passing : (s : State) (n : ℕ) (command : Command) (at : ℕ) (reply : Reply) (after : State) (f : Family) → kept_in n command at f ≡ None → Goes s n f reply after → Stays s after
-passing s n command at reply after (Framing frame now) none step = elim (outcome (frame_rule s n frame now) s reply after step) as (λ _. Stays s after) [
-  | inl still ↦ at_rest s after still.same
-  | inr did ↦
-      done_each {A = Verdict × FrameData} (λ _. Stays s) (λ x. replies.Framed x.0) (λ x. framed_state s now x.1)
-      (framed (present s.book) s.frames (acts_of_gates s.book) frame (instant s now)) reply after (λ x is. (refl, omega arith)) did.done
-]
+passing : (s : State) (n : ℕ) (command : Command) (at : ℕ) (reply : Reply) (after : State) (f : Family) → kept_in n command at f ≡ None
+    → Goes s n f reply after → Stays s after
+passing s n command at reply after (Framing frame now) none step =
+    elim (outcome (frame_rule s n frame now) s reply after step) as (λ _. Stays s after) [
+      | inl still ↦ at_rest s after still.same
+      | inr did ↦
+          done_each {A = Verdict × FrameData} (λ _. Stays s) (λ x. replies.Framed x.0) (λ x. framed_state s now x.1)
+          (framed (present s.book) s.frames (acts_of_gates s.book) frame (instant s now)) reply after (λ x is. (refl, omega arith)) did.done
+    ]
 passing s n command at reply after (Looking look) none step = at_rest s after (looked (look (seen_by_looks s) n) s reply after step)
 passing s n command at reply after (Counting look) none step = at_rest s after (looked (look s n) s reply after step)
 passing s n command at reply after f none step = absurd (cc)
 
 -- ---- what is kept
 
-kept_step : (s : State) (n : ℕ) (reply : Reply) (after : State) (at : ℕ) (command : Command) (a : Ask) → KeptAs n at command a → at ≡ instant_told reply → is_accepted reply ≡ true
+kept_step : (s : State) (n : ℕ) (reply : Reply) (after : State) (at : ℕ) (command : Command) (a : Ask) → KeptAs n at command a
+    → at ≡ instant_told reply → is_accepted reply ≡ true
     → Step s n command reply after → (kept a.session a.command at ≡ Some a) × Answers s a reply after × IsFromLasting s.time a.command
 kept_step s n reply after at command a (Itself c from is) told accepted step = (is at, step, from s.time)
 kept_step s n reply after at command a AHello told accepted step = (refl, step, tt)
 kept_step s n reply after at command a (AnAct act k now) told accepted step =
     let did : Allows (act_rule s n act k now) s reply after = subst (λ f. Goes s n f reply after) (act_family act k now) step in
     let then : at ≡ instant s now = told ∙ told_at s n act k now reply after accepted did in
-    let same : Allows (act_rule s n act k at) s reply after = subst (λ (rule : Rule). Allows rule s reply after) (sym (ap (act_rule s n act k) then ∙ again s n act k now)) did in
+    let same : Allows (act_rule s n act k at) s reply after = subst (λ (rule : Rule). Allows rule s reply after)
+    (sym (ap (act_rule s n act k) then ∙ again s n act k now)) did in
     let family_is = sym (act_family act k at) in (
       ap (kept_in n (act_command act k at) at) (act_family act k at),
       subst (λ f. Goes s n f reply after) family_is same,
@@ -163,16 +179,27 @@ module _ (s : State) (n : ℕ) (reply : Reply) (after : State) (command : Comman
   pub still_passes : IsStill s reply after → IsTold s (answered_by n command reply) after
   still_passes h =
       let left = at_rest s after h.same in
-      inl (record { nothing = ap (λ b. recorded_by reply b (kept n command (instant_told reply))) (ap is_accepted h.refused); same = left.0; time = left.1 })
+      inl (record {
+        nothing = ap (λ b. recorded_by reply b (kept n command (instant_told reply))) (ap is_accepted h.refused);
+        same = left.0;
+        time = left.1;
+      })
 
   told : (b : Bool) → is_accepted reply ≡ b → Step s n command reply after → IsTold s (answered_by n command reply) after
-  told false refused step = let r = refuses reply refused in still_passes (record { why = r.0; refused = r.1; same = (leaves s n (family command) reply after step).refused r.0 r.1 })
+  told false refused step =
+      let r = refuses reply refused in still_passes
+      (record { why = r.0; refused = r.1; same = (leaves s n (family command) reply after step).refused r.0 r.1 })
   told true accepted step =
       let at = instant_told reply in
       by_option (kept n command at)
       (λ none.
       let left = passing s n command at reply after (family command) none step in
-      inl (record { nothing = ap (λ b. recorded_by reply b (kept n command at)) accepted ∙ ap (recorded_by reply true) none; same = left.0; time = left.1 }))
+      inl (record {
+        nothing = ap (λ b. recorded_by reply b (kept n command at)) accepted
+            ∙ ap (recorded_by reply true) none;
+        same = left.0;
+        time = left.1;
+      }))
       (λ a some.
       let k = kept_step s n reply after at command a (kept_as n command at a some) refl accepted step in
       inr (record {

@@ -3,7 +3,8 @@ use Rattle.tsn_bridge.proofs.Interleaving.{follow}
 use Rattle.tsn_bridge.proofs.laws.over_every_interleaving.Goals as goal
 
 pub returns-clause-sound : goal.returns-clause-sound
-returns-clause-sound c start now turns sound ranges leads = let f = follow turns start now sound ranges leads in (f.sound, f.later.limits, f.later.opening)
+returns-clause-sound c start now turns sound ranges leads =
+    let f = follow turns start now sound ranges leads in (f.sound, f.later.limits, f.later.opening)
 
 pub returns-clause-at_once_undone : goal.returns-clause-at_once_undone
 returns-clause-at_once_undone c start now turns sound ranges leads = at_once_undone now (follow turns start now sound ranges leads).sound
