@@ -101,9 +101,7 @@ impl Pair {
             return Err(self.book.refuse_edit(&batch).unwrap_or(Refusal::Memory));
         }
         let number = self.book.edit(session, batch)?;
-        let journal = self.book.journal();
-        tell_few(journal, number);
-        follow(journal, &mut self.runtime, number);
+        follow(self.book.journal(), &mut self.runtime, number);
         Ok(number)
     }
 
@@ -117,9 +115,7 @@ impl Pair {
             return Err(self.book.refuse_undo(session).unwrap_or(Refusal::Memory));
         }
         let (number, of) = self.book.undo(session)?;
-        let journal = self.book.journal();
-        tell_few(journal, number);
-        follow(journal, &mut self.runtime, number);
+        follow(self.book.journal(), &mut self.runtime, number);
         Ok((number, of))
     }
 
@@ -133,9 +129,7 @@ impl Pair {
             return Err(self.book.refuse_redo(session).unwrap_or(Refusal::Memory));
         }
         let (number, of) = self.book.redo(session)?;
-        let journal = self.book.journal();
-        tell_few(journal, number);
-        follow(journal, &mut self.runtime, number);
+        follow(self.book.journal(), &mut self.runtime, number);
         Ok((number, of))
     }
 
@@ -282,20 +276,9 @@ impl Pair {
     }
 }
 
-// The change of the entry of the number has at most 16 parts, by its type. It does nothing as the program runs.
-fn tell_few(journal: &Journal, number: u64)
-    ensures { room_at journal.now.entries number ≤ MOST_PARTS }
-{
-    if let Some(found) = journal.entry(number) {
-        if let Some(change) = found.what.change() {
-            let _few = change.parts();
-        }
-    }
-}
-
-// Lets the runtime follow the change of the entry of the number, if it applied one.
+// Lets the runtime follow the change of the entry of the number, if it applied one. By its type that has at most 16 parts.
 fn follow(journal: &Journal, runtime: &mut Runtime, number: u64)
-    requires room { room_at journal.now.entries number ≤ runtime.old.spare }
+    requires room { room_at journal.now.entries number ≤ MOST_PARTS → room_at journal.now.entries number ≤ runtime.old.spare }
     ensures runners { runtime.new.runners ≡ followed_by runners_after runtime.old.runners (change_at journal.now.entries number) }
     ensures frames { runtime.new.frames ≡ followed_by (frames_after runtime.old.time) runtime.old.frames (change_at journal.now.entries number) }
     ensures time { runtime.new.time ≡ runtime.old.time }
@@ -303,6 +286,7 @@ fn follow(journal: &Journal, runtime: &mut Runtime, number: u64)
 {
     if let Some(entry) = journal.entry(number) {
         if let Some(change) = entry.what.change() {
+            let _few = change.parts();
             runtime.follow(change);
         }
     }

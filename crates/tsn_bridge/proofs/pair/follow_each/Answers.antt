@@ -6,4 +6,4 @@ pub follow-requires : goal.follow-requires
 follow-requires c =
     let es = c.args.journal.now.entries in
     let more = behind_to es c.args.first (suc c.loop-place.place) c.args.count (omega (arith, c.loop-place-test.true)) in
-    record { room = omega (arith, more, c.requires.room, c.loop-place.invariant.3) }
+    record { room = λ few. omega (arith, more, c.requires.room, c.loop-place.invariant.3) }
