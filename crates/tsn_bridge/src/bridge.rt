@@ -171,16 +171,14 @@ impl Bridge {
             Command::Undo => self.cause_with(session, self.pair.book().refuse_undo(session)),
             Command::UndoAll => self.cause_with(session, self.pair.book().refuse_undo_all(session)),
             Command::Redo => self.cause_with(session, self.pair.book().refuse_redo(session)),
-            Command::Settle { upto } => self.cause_of_settle(session, upto),
+            Command::Settle { upto } => self.cause_with(
+                session,
+                self.pair.book().refuse_settle(u64::from(upto)),
+            ),
             Command::Enable { key, .. } => self.cause_of_act(session, Act::Enable, &key),
             Command::Disable { key, .. } => self.cause_of_act(session, Act::Disable, &key),
             Command::Apply { key, .. } => self.cause_of_act(session, Act::Apply, &key),
-            Command::Frame { .. }
-            | Command::States { .. }
-            | Command::Counters { .. }
-            | Command::Show { .. }
-            | Command::List { .. }
-            | Command::Since { .. } => None,
+            _ => None,
         }
     }
 
@@ -297,13 +295,6 @@ impl Bridge {
         ensures { result ≡ least (edit_rule self.now session (edit ∷ [])).causes }
     {
         self.cause_of_batch(session, &Batch::one(edit))
-    }
-
-    // Why a settle is refused, but for want of memory.
-    fn cause_of_settle(&self, session: u32, upto: u32) -> Option<Refusal>
-        ensures { result ≡ least (settle_rule self.now session upto).causes }
-    {
-        self.cause_with(session, self.pair.book().refuse_settle(u64::from(upto)))
     }
 
     // Why an act is refused, but for want of memory.

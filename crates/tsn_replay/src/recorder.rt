@@ -209,13 +209,15 @@ pub fn form_of(bridge: &Bridge, ask: Ask) -> Form
                 now: recorded_instant(bridge, now),
             },
         }),
-        Command::Frame { .. }
-        | Command::States { .. }
-        | Command::Counters { .. }
-        | Command::Show { .. }
-        | Command::List { .. }
-        | Command::Since { .. } => Form::Passing(Ask { session, command }),
-        _ => Form::Kept(Ask { session, command }),
+        Command::Create { .. }
+        | Command::Replace { .. }
+        | Command::Remove { .. }
+        | Command::Batch { .. }
+        | Command::UndoAll
+        | Command::Redo
+        | Command::Settle { .. }
+        | Command::Undo => Form::Kept(Ask { session, command }),
+        _ => Form::Passing(Ask { session, command }),
     }
 }
 
