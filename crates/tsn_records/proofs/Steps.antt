@@ -1,6 +1,6 @@
 -- Answers in steps, each of which may have none.
-use Rattle.std.proofs.Common.{◌≡◌, Option, Some, None, Result, Ok, Err, refl, ap, ◌∙◌}
-use Rattle.tsn_records.specs.Answers.{◌>>=◌, or_syntax, refused}
+use Rattle.std.proofs.Common.{◌≡◌, Option, Some, None, option_map, Result, Ok, Err, refl, ap, ◌∙◌}
+use Rattle.tsn_records.specs.Answers.{◌>>=◌, or_shape, or_syntax, refused}
 use Rattle.tsn_records.specs.declared.unread.Unread.{Unread}
 
 -- one step, and the next
@@ -23,3 +23,8 @@ syntax_there (Some b) a h = ap Some (only (Ok b) b a refl h)
 pub not_refused : {A : Type 0} (x : Result A Unread) (a : A) → refused x ≡ Ok a → x ≡ Ok a
 not_refused (Ok b) a h = cc
 not_refused (Err e) a h = cc
+
+-- what is there was seen so
+pub mapped_there : {A B : Type 0} (f : A → B) (o : Option A) (b : B) → or_shape (option_map f o) ≡ Ok b → (a : A) × (o ≡ Some a) × (f a ≡ b)
+mapped_there f None b h = cc
+mapped_there f (Some a) b h = (a, refl, only (Ok (f a)) (f a) b refl h)

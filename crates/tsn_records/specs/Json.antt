@@ -1,10 +1,12 @@
 -- What a JSON value holds, as commands and records are made of it.
-use Rattle.std.specs.Prelude.{ℕ, suc, ◌==◌, List, [], ◌∷◌, Bool, if◌then◌else◌, is_some, Option, Some, None, option_map, option_and_then, Result, Ok, Err}
+use Rattle.std.specs.Prelude.{ℕ, suc, ◌-◌, ◌==◌, List, [], ◌∷◌, length, Bool, if◌then◌else◌, is_some, Option, Some, None, option_map, option_and_then, Result, Ok, Err}
 use Rattle.serde_json.specs.Data.{Data, null, boolean, number, string, array, object, Items, no_items, item, Members, no_members, member}
 use Rattle.serde_json.specs.Find.{get, at, as_null, as_bool, as_number, as_str, as_array, as_u64}
 use Rattle.tsn_records.specs.declared.unread.Unread.{Unread}
 use Rattle.tsn_records.specs.declared.unread.Unread.TheVariants.{Shape}
 use Rattle.tsn_records.specs.Answers.{or_shape}
+use Rattle.tsn_records.specs.Looks.{Look}
+use Rattle.tsn_records.specs.Members.{names_of, entry_names_of}
 
 abbrev pub members_len : Members → ℕ
 members_len no_members = 0
@@ -53,9 +55,6 @@ has_members n d = if member_count d == n then Ok tt else Err Shape
 abbrev pub number_at : List ℕ → Data → Result ℕ Unread
 number_at name d = or_shape (option_and_then whole (get name d))
 
-abbrev pub number_or_null_at : List ℕ → Data → Result (Option ℕ) Unread
-number_or_null_at name d = or_shape (option_and_then whole_or_null (get name d))
-
 abbrev pub flag_at : List ℕ → Data → Result Bool Unread
 flag_at name d = or_shape (option_and_then as_bool (get name d))
 
@@ -68,16 +67,19 @@ value_at name d = or_shape (get name d)
 abbrev pub items_at : List ℕ → Data → Result Items Unread
 items_at name d = or_shape (option_and_then as_array (get name d))
 
--- The item at an index, of the kind that is wanted; a fault of shape where there is none.
-abbrev pub number_item : ℕ → Data → Result ℕ Unread
-number_item i d = or_shape (option_and_then whole (at i d))
-
-abbrev pub number_or_null_item : ℕ → Data → Result (Option ℕ) Unread
-number_or_null_item i d = or_shape (option_and_then whole_or_null (at i d))
-
-abbrev pub flag_item : ℕ → Data → Result Bool Unread
-flag_item i d = or_shape (option_and_then as_bool (at i d))
-
 -- an array of that many items
 abbrev pub has_items : ℕ → Data → Result (Unit {0}) Unread
 has_items n d = if item_count d == n then Ok tt else Err Shape
+
+-- A JSON value as one looks into it: null stands for none, and an entry of a list is an array. An identifier stands in the key.
+abbrev pub as_json : Look Data
+as_json = record {
+  only = λ kind d. has_members (length (names_of kind) - 1) d;
+  only_entry = λ kind d. has_items (length (entry_names_of kind)) d;
+  at = get;
+  part = λ i name d. at i d;
+  number = λ found. or_shape (option_and_then whole found);
+  number_or_none = λ found. or_shape (option_and_then whole_or_null found);
+  flag = λ found. or_shape (option_and_then as_bool found);
+  items = λ found. or_shape (option_map items_list (option_and_then as_array found));
+}

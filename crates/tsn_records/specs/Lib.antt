@@ -2,6 +2,8 @@ pub mod Answers
 pub mod Examples
 pub mod Json
 pub mod Keys
+pub mod Looks
+pub mod Members
 pub mod Ranges
 pub mod Records
 pub mod Shown

@@ -16,7 +16,8 @@ use Rattle.tsn_records.specs.Answers.{each, or_syntax, refused}
 use Rattle.tsn_records.specs.Keys.{kind_text}
 use Rattle.tsn_setup.specs.Ranges.{keyed_record, limits}
 use Rattle.tsn_setup.specs.Setups.{document_of, setup_shape, setup_of_draft, reading, setup_of, longest_setup}
-use Rattle.tsn_setup.specs.Tables.{limits_shape, setup_names, tables_of_kind, tables_shape}
+use Rattle.tsn_records.specs.Members.{setup_names}
+use Rattle.tsn_setup.specs.Tables.{limits_shape, tables_of_kind, tables_shape}
 use Rattle.tsn_setup.specs.Toml.{has_only}
 use Rattle.tsn_setup.specs.Values.{of_kind, given_or, tables_of, keyed_rows, IsDocumentOf, MayBeGiven, AcceptsValues}
 use Rattle.tsn_setup.specs.declared.drafts.LimitsDraft.{LimitsDraft}

@@ -9,8 +9,8 @@ use Rattle.toml.specs.Tables.{Node, value, Nodes, no_nodes, node, get_node, inse
 use Rattle.toml.proofs.NodeLaws.{get_node-insert, get_node-replace}
 use Rattle.tsn_records.specs.Answers.{each, or_shape, ◌>>=◌}
 use Rattle.tsn_records.specs.declared.unread.Unread.{Unread}
-use Rattle.tsn_setup.specs.Tables.{port_entry_shape, gate_entry_shape}
-use Rattle.tsn_setup.specs.Toml.{are_among, items_list}
+use Rattle.tsn_records.specs.Records.{port_entry_shape, gate_entry_shape}
+use Rattle.tsn_setup.specs.Toml.{are_among, items_list, as_toml}
 use Rattle.tsn_setup.specs.Plain.{Slot, number, flag, port_list, gate_list, tables, Stands, IsOpen, Slots, slot_at, put_slot, AreOpen, Tells, names, TellsAll}
 use Rattle.tsn_setup.proofs.Ordered.{order}
 use Rattle.tsn_setup.proofs.Rows.{is_among, same_name, same_text, same_bytes, known_at, all_among}
@@ -143,8 +143,8 @@ pub not_there : (s : Slot) (o : Option Data) → IsOpen s → Stands s o → o �
 not_there s None unread stands = refl
 not_there (number n) (Some d) unread stands = absurd (unfilled _ (stands ∙ ap Ok unread))
 not_there (flag b) (Some d) unread stands = absurd (unfilled _ (stands ∙ ap Ok unread))
-not_there (port_list es) (Some d) unread stands = absurd (unlisted (as_array d) (λ items. each port_entry_shape (items_list items)) (stands ∙ ap Ok unread))
-not_there (gate_list es) (Some d) unread stands = absurd (unlisted (as_array d) (λ items. each gate_entry_shape (items_list items)) (stands ∙ ap Ok unread))
+not_there (port_list es) (Some d) unread stands = absurd (unlisted (as_array d) (λ items. each (port_entry_shape as_toml) (items_list items)) (stands ∙ ap Ok unread))
+not_there (gate_list es) (Some d) unread stands = absurd (unlisted (as_array d) (λ items. each (gate_entry_shape as_toml) (items_list items)) (stands ∙ ap Ok unread))
 not_there (tables kind ts) (Some d) unread stands = absurd unread
 
 told_slot_at : (b : Bool) (k l : List ℕ) (s t : Slot) (slots : Slots) (ms : Members) → bytes_eq k l ≡ b → (if b then Some t else slot_at k slots) ≡ Some s → Stands t (get_member l ms) → (slot_at k slots ≡ Some s → Stands s (get_member k ms))

@@ -19,8 +19,9 @@ use Rattle.tsn_records.specs.declared.drafts.RecordDraft.{RecordDraft}
 use Rattle.tsn_records.specs.declared.drafts.RecordDraft.TheVariants as drafts
 use Rattle.tsn_records.specs.declared.unread.Unread.{Unread}
 use Rattle.tsn_setup.specs.Ranges.{kind_of_draft, or_id, key, keyed_record}
-use Rattle.tsn_setup.specs.Tables.{port_shape, filter_shape, gate_shape, meter_shape, record_shape, table_shape}
-use Rattle.tsn_setup.specs.Toml.{items_list, number_at}
+use Rattle.tsn_records.specs.Records.{port_shape, filter_shape, gate_shape, meter_shape, record_shape}
+use Rattle.tsn_setup.specs.Tables.{table_shape}
+use Rattle.tsn_setup.specs.Toml.{items_list, number_at, as_toml}
 use Rattle.tsn_setup.specs.Values.{table_with, tables_of, port_rows, filter_rows, gate_rows, meter_rows, keyed_rows}
 use Rattle.tsn_setup.specs.declared.drafts.TableDraft.{TableDraft}
 use Rattle.tsn_setup.proofs.Ordered.{IsOrdered, EachOrdered}
@@ -43,10 +44,10 @@ not_id (Err e) k h = cc
 one_pair : {A B : Type 0} (a c : A) (b d : B) → a ≡ c → b ≡ d → ◌≡◌ {A = A × B} (a, b) (c, d)
 one_pair {A} {B} a c b d p q = ap₂ (λ (x : A) (y : B). let both : A × B = (x, y) in both) p q
 
-record_read : (q : Kind) (d : Data) (id : ℕ) (value : RecordDraft) (k : Key) (r : Record) → IsOrdered d → number_at (codes "id") d ≡ Ok id → record_shape q d ≡ Ok value
+record_read : (q : Kind) (d : Data) (id : ℕ) (value : RecordDraft) (k : Key) (r : Record) → IsOrdered d → number_at (codes "id") d ≡ Ok id → record_shape as_toml q d ≡ Ok value
     → or_id (key_of_kind (kind_of_draft value) id) ≡ Ok k → record_of value ≡ Ok r → IsRead q d (k, r)
 record_read kinds.Port d id value k r ordered id_is shape key_is range =
-    steps (port_shape d) _ value shape (λ x x_is x_next.
+    steps (port_shape as_toml d) _ value shape (λ x x_is x_next.
     let same = only (Ok (drafts.Port x)) (drafts.Port x) value refl x_next in
     steps (port x) _ r (ap record_of same ∙ range) (λ found found_is found_next.
     steps (within fields.Key 1 most_ports id) _ k (not_id _ k (ap (λ v. or_id (key_of_kind (kind_of_draft v) id)) same ∙ key_is)) (λ number number_is number_next.
@@ -59,7 +60,7 @@ record_read kinds.Port d id value k r ordered id_is shape key_is range =
     } in
     subst (IsRead kinds.Port d) (one_pair (keys.Port number) k (records.Port found) r (only (Ok (keys.Port number)) (keys.Port number) k refl number_next) (only (Ok (records.Port found)) (records.Port found) r refl found_next)) read)))
 record_read kinds.Filter d id value k r ordered id_is shape key_is range =
-    steps (filter_shape d) _ value shape (λ x x_is x_next.
+    steps (filter_shape as_toml d) _ value shape (λ x x_is x_next.
     let same = only (Ok (drafts.Filter x)) (drafts.Filter x) value refl x_next in
     steps (filter x) _ r (ap record_of same ∙ range) (λ found found_is found_next.
     steps (within fields.Key 0 greatest_instance id) _ k (not_id _ k (ap (λ v. or_id (key_of_kind (kind_of_draft v) id)) same ∙ key_is)) (λ number number_is number_next.
@@ -72,7 +73,7 @@ record_read kinds.Filter d id value k r ordered id_is shape key_is range =
     } in
     subst (IsRead kinds.Filter d) (one_pair (keys.Filter number) k (records.Filter found) r (only (Ok (keys.Filter number)) (keys.Filter number) k refl number_next) (only (Ok (records.Filter found)) (records.Filter found) r refl found_next)) read)))
 record_read kinds.Gate d id value k r ordered id_is shape key_is range =
-    steps (gate_shape d) _ value shape (λ x x_is x_next.
+    steps (gate_shape as_toml d) _ value shape (λ x x_is x_next.
     let same = only (Ok (drafts.Gate x)) (drafts.Gate x) value refl x_next in
     steps (gate x) _ r (ap record_of same ∙ range) (λ found found_is found_next.
     steps (within fields.Key 0 greatest_instance id) _ k (not_id _ k (ap (λ v. or_id (key_of_kind (kind_of_draft v) id)) same ∙ key_is)) (λ number number_is number_next.
@@ -85,7 +86,7 @@ record_read kinds.Gate d id value k r ordered id_is shape key_is range =
     } in
     subst (IsRead kinds.Gate d) (one_pair (keys.Gate number) k (records.Gate found) r (only (Ok (keys.Gate number)) (keys.Gate number) k refl number_next) (only (Ok (records.Gate found)) (records.Gate found) r refl found_next)) read)))
 record_read kinds.Meter d id value k r ordered id_is shape key_is range =
-    steps (meter_shape d) _ value shape (λ x x_is x_next.
+    steps (meter_shape as_toml d) _ value shape (λ x x_is x_next.
     let same = only (Ok (drafts.Meter x)) (drafts.Meter x) value refl x_next in
     steps (meter x) _ r (ap record_of same ∙ range) (λ found found_is found_next.
     steps (within fields.Key 0 greatest_instance id) _ k (not_id _ k (ap (λ v. or_id (key_of_kind (kind_of_draft v) id)) same ∙ key_is)) (λ number number_is number_next.
@@ -98,13 +99,13 @@ record_read kinds.Meter d id value k r ordered id_is shape key_is range =
     } in
     subst (IsRead kinds.Meter d) (one_pair (keys.Meter number) k (records.Meter found) r (only (Ok (keys.Meter number)) (keys.Meter number) k refl number_next) (only (Ok (records.Meter found)) (records.Meter found) r refl found_next)) read)))
 
-table_parts : (q : Kind) (d : Data) (t : TableDraft) → table_shape q d ≡ Ok t → (number_at (codes "id") d ≡ Ok t.id) × (record_shape q d ≡ Ok t.value)
+table_parts : (q : Kind) (d : Data) (t : TableDraft) → table_shape q d ≡ Ok t → (number_at (codes "id") d ≡ Ok t.id) × (record_shape as_toml q d ≡ Ok t.value)
 unfolding table_shape
 table_parts q d t h =
     steps (number_at (codes "id") d) _ t h (λ id id_is id_next.
-    steps (record_shape q d) _ t id_next (λ value value_is value_next.
+    steps (record_shape as_toml q d) _ t id_next (λ value value_is value_next.
     let draft : TableDraft = record { id = id; value = value } in
-    subst (λ (x : TableDraft). (number_at (codes "id") d ≡ Ok x.id) × (record_shape q d ≡ Ok x.value)) (only (Ok draft) draft t refl value_next) (id_is, value_is)))
+    subst (λ (x : TableDraft). (number_at (codes "id") d ≡ Ok x.id) × (record_shape as_toml q d ≡ Ok x.value)) (only (Ok draft) draft t refl value_next) (id_is, value_is)))
 
 keyed_parts : (t : TableDraft) (e : Key × Record) → keyed_record t ≡ Ok e → (key t ≡ Ok e.0) × (record_of t.value ≡ Ok e.1)
 unfolding keyed_record
@@ -155,7 +156,7 @@ record_draft (records.Meter r) = drafts.Meter (meter_draft r)
 abbrev pub keyed_draft : Key × Record → TableDraft
 keyed_draft e = record { id = number_of e.0; value = record_draft e.1 }
 
-id_read : (q : Kind) (d : Data) (id : ℕ) (value : RecordDraft) → number_at (codes "id") d ≡ Ok id → record_shape q d ≡ Ok value → table_shape q d ≡ Ok (record { id = id; value = value })
+id_read : (q : Kind) (d : Data) (id : ℕ) (value : RecordDraft) → number_at (codes "id") d ≡ Ok id → record_shape as_toml q d ≡ Ok value → table_shape q d ≡ Ok (record { id = id; value = value })
 unfolding table_shape
 id_read q d id value id_is value_is = rw (id_is, value_is)
 

@@ -5,7 +5,7 @@ pub mod Documents
 pub mod Filling
 pub mod Keyed
 pub mod LimitsGiven
-pub mod Naming
+pub mod Items
 pub mod OfKind
 pub mod OnLiterals
 pub mod Ordered

@@ -1,6 +1,6 @@
 -- What the slots of a table tell is its shape.
 use Rattle.std.proofs.Common.{◌≡◌, ℕ, List, Bool, true, Option, Some, None, Result, Ok, Err, codes, refl, ap, ◌∙◌}
-use Rattle.std.specs.Prelude.{option_and_then}
+use Rattle.std.specs.Prelude.{option_and_then, option_map}
 use Rattle.toml.specs.Data.{Data, Items, Members, table, get_member, as_bool, as_array}
 use Rattle.toml.specs.Tables.{close}
 use Rattle.tsn_records.specs.Answers.{◌>>=◌, each, or_shape}
@@ -9,8 +9,9 @@ use Rattle.tsn_records.specs.declared.drafts.RecordDraft.TheVariants as records
 use Rattle.tsn_records.specs.declared.drafts.PortEntryDraft.{PortEntryDraft}
 use Rattle.tsn_records.specs.declared.drafts.GateEntryDraft.{GateEntryDraft}
 use Rattle.tsn_records.specs.declared.unread.Unread.{Unread}
-use Rattle.tsn_setup.specs.Tables.{port_entry_shape, gate_entry_shape, list_shape, schedule_shape, port_shape, gate_shape, filter_shape, meter_shape, table_shape}
-use Rattle.tsn_setup.specs.Toml.{are_among, has_only, if_given, items_list, whole}
+use Rattle.tsn_records.specs.Records.{port_entry_shape, gate_entry_shape, list_shape, schedule_shape, port_shape, gate_shape, filter_shape, meter_shape}
+use Rattle.tsn_setup.specs.Tables.{table_shape}
+use Rattle.tsn_setup.specs.Toml.{are_among, has_only, if_given, items_list, as_toml, whole}
 use Rattle.tsn_setup.specs.Plain.{list_given, names, ReadsTable, ReadsEntry, ReadsLines, ReadsTableOf}
 use Rattle.tsn_setup.specs.PlainSlots.{port_entry_slots, gate_entry_slots, port_slots, gate_slots, filter_slots, meter_slots}
 use Rattle.tsn_setup.specs.declared.plain_entries.PortEntryMembers.{PortEntryMembers}
@@ -34,7 +35,7 @@ pub only : (names : List (List ℕ)) (ms : Members) → are_among names ms ≡ t
 only names ms h = rw h refl
 
 pub port_entry_told : (text rest : List ℕ) (m : PortEntryMembers) (gates interval : ℕ) → ReadsTable text (port_entry_slots m) rest → m.gates ≡ Some gates → m.interval ≡ Some interval
-    → ReadsEntry port_entry_shape text (record { gates = gates; interval = interval }) rest
+    → ReadsEntry (port_entry_shape as_toml) text (record { gates = gates; interval = interval }) rest
 unfolding port_entry_shape
 port_entry_told text rest m gates interval read g i = record {
   found = read.found;
@@ -49,7 +50,7 @@ port_entry_told text rest m gates interval read g i = record {
 }
 
 pub gate_entry_told : (text rest : List ℕ) (m : GateEntryMembers) (is_open : Bool) (interval : ℕ) → ReadsTable text (gate_entry_slots m) rest → m.open ≡ Some is_open → m.interval ≡ Some interval
-    → ReadsEntry gate_entry_shape text (record { is_open = is_open; ipv = m.ipv; interval = interval; octets = m.octets }) rest
+    → ReadsEntry (gate_entry_shape as_toml) text (record { is_open = is_open; ipv = m.ipv; interval = interval; octets = m.octets }) rest
 unfolding gate_entry_shape
 gate_entry_told text rest m is_open interval read o i = record {
   found = read.found;
@@ -81,12 +82,12 @@ list_in (Ok xs) es h = (let e : Ok (Some xs) ≡ Ok (Some es) = h in let f : xs 
 list_in (Err e) es h = cc
 
 list_at : {E : Type 0} (entry : Data → Result E Unread) (o : Option Items) (es : List E) → or_shape o >>= (λ items. each entry (items_list items) >>= λ xs. Ok (Some xs)) ≡ Ok (Some es)
-    → or_shape o >>= (λ items. each entry (items_list items)) ≡ Ok es
+    → or_shape (option_map items_list o) >>= each entry ≡ Ok es
 list_at entry None es h = cc
 list_at entry (Some items) es h = list_in (each entry (items_list items)) es h
 
 list_told : {E : Type 0} (entry : Data → Result E Unread) (found : Option Data) (o : Option (List E)) (es : List E) → list_given entry found ≡ Ok o → o ≡ Some es
-    → or_shape (option_and_then as_array found) >>= (λ items. each entry (items_list items)) ≡ Ok es
+    → or_shape (option_map items_list (option_and_then as_array found)) >>= each entry ≡ Ok es
 list_told entry None o es told is = let none : Ok None ≡ Ok (Some es) = told ∙ ap Ok is in cc
 list_told entry (Some d) o es told is = list_at entry (as_array d) es (told ∙ ap Ok is)
 
@@ -104,7 +105,7 @@ port_told text rest m id gates list cycle extension base read i g l c e b = reco
         number (codes "id") ms m.id id told.0 i,
         only (names (port_slots m)) ms read.tells.only,
         number (codes "gates") ms m.gates gates told.1.0 g,
-        list_told port_entry_shape (get_member (codes "list") ms) m.list list told.1.1.0 l,
+        list_told (port_entry_shape as_toml) (get_member (codes "list") ms) m.list list told.1.1.0 l,
         number (codes "cycle") ms m.cycle cycle told.1.1.1.0 c,
         number (codes "extension") ms m.extension extension told.1.1.1.1.0 e,
         number (codes "base") ms m.base base told.1.1.1.1.1.0 b,
@@ -150,7 +151,7 @@ gate_told text rest m id is_open list cycle extension base invalid_rx octets_exc
         only (names (gate_slots m)) ms read.tells.only,
         flag (codes "open") ms m.open is_open told.1.0 o,
         told.1.1.0,
-        list_told gate_entry_shape (get_member (codes "list") ms) m.list list told.1.1.1.0 l,
+        list_told (gate_entry_shape as_toml) (get_member (codes "list") ms) m.list list told.1.1.1.0 l,
         number (codes "cycle") ms m.cycle cycle told.1.1.1.1.0 c,
         number (codes "extension") ms m.extension extension told.1.1.1.1.1.0 e,
         number (codes "base") ms m.base base told.1.1.1.1.1.1.0 b,

@@ -7,8 +7,8 @@ use Rattle.toml.proofs.Turns.{val_open_array, keyval_ok}
 use Rattle.tsn_records.specs.Answers.{◌>>=◌, or_shape}
 use Rattle.tsn_records.specs.declared.drafts.PortEntryDraft.{PortEntryDraft}
 use Rattle.tsn_records.specs.declared.drafts.GateEntryDraft.{GateEntryDraft}
-use Rattle.tsn_setup.specs.Tables.{port_entry_shape, gate_entry_shape}
-use Rattle.tsn_setup.specs.Toml.{natural}
+use Rattle.tsn_records.specs.Records.{port_entry_shape, gate_entry_shape}
+use Rattle.tsn_setup.specs.Toml.{natural, as_toml}
 use Rattle.tsn_setup.specs.Plain.{Slot, number, flag, port_list, gate_list, Slots, slot_at, put_slot, IsOpen, ReadsValue, Fills, ReadsMember, ReadsEntries}
 
 pub number_read : (n : ℕ) (z : ℤ) (text rest : List ℕ) → ((m : ℕ) → val m text ≡ Some (integer z, rest)) → natural z ≡ Some n → ReadsValue 0 text (number (Some n)) rest
@@ -31,14 +31,14 @@ array_read text rest found opens shorter reads m low =
     let less : m - 1 ≡ suc (m - 2) = omega arith in
     val_open_array m text (omega arith) opens ∙ rw less (ap (read_map array) (reads (m - 2) (length text) shorter))
 
-pub port_list_read : (list : List PortEntryDraft) (text rest : List ℕ) → (first text == 91) ≡ true → length (drop 1 text) < length text → ReadsEntries port_entry_shape (drop 1 text) list rest → ReadsValue 2 text (port_list (Some list)) rest
+pub port_list_read : (list : List PortEntryDraft) (text rest : List ℕ) → (first text == 91) ≡ true → length (drop 1 text) < length text → ReadsEntries (port_entry_shape as_toml) (drop 1 text) list rest → ReadsValue 2 text (port_list (Some list)) rest
 port_list_read list text rest opens shorter read = record {
   value = array read.found;
   reads = array_read text rest read.found opens shorter read.reads;
   stands = ap (λ r. r >>= (λ es. Ok (Some es))) read.shaped;
 }
 
-pub gate_list_read : (list : List GateEntryDraft) (text rest : List ℕ) → (first text == 91) ≡ true → length (drop 1 text) < length text → ReadsEntries gate_entry_shape (drop 1 text) list rest → ReadsValue 2 text (gate_list (Some list)) rest
+pub gate_list_read : (list : List GateEntryDraft) (text rest : List ℕ) → (first text == 91) ≡ true → length (drop 1 text) < length text → ReadsEntries (gate_entry_shape as_toml) (drop 1 text) list rest → ReadsValue 2 text (gate_list (Some list)) rest
 gate_list_read list text rest opens shorter read = record {
   value = array read.found;
   reads = array_read text rest read.found opens shorter read.reads;

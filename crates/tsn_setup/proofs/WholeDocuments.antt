@@ -12,7 +12,8 @@ use Rattle.tsn_types.specs.declared.keys.Kind.{Kind}
 use Rattle.tsn_types.specs.declared.keys.Kind.TheVariants as kinds
 use Rattle.tsn_records.specs.Answers.{each}
 use Rattle.tsn_records.specs.Keys.{kind_text}
-use Rattle.tsn_setup.specs.Tables.{table_shape, limits_shape, tables_of_kind, tables_shape, setup_names}
+use Rattle.tsn_records.specs.Members.{setup_names}
+use Rattle.tsn_setup.specs.Tables.{table_shape, limits_shape, tables_of_kind, tables_shape}
 use Rattle.tsn_setup.specs.Toml.{are_among, items_list}
 use Rattle.tsn_setup.specs.Setups.{document_of, setup_shape}
 use Rattle.tsn_setup.specs.Plain.{tables, tables_given, Slots, slot_at, put_slot, names, Frames, ReadsLines, IsArray, ReadsDocument, ReadsTableOf, ReadsWhole}

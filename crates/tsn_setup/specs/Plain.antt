@@ -12,8 +12,9 @@ use Rattle.tsn_records.specs.Keys.{kind_text}
 use Rattle.tsn_records.specs.declared.drafts.PortEntryDraft.{PortEntryDraft}
 use Rattle.tsn_records.specs.declared.drafts.GateEntryDraft.{GateEntryDraft}
 use Rattle.tsn_records.specs.declared.unread.Unread.{Unread}
-use Rattle.tsn_setup.specs.Tables.{port_entry_shape, gate_entry_shape, table_shape, items_given}
-use Rattle.tsn_setup.specs.Toml.{are_among, if_given, items_list, whole}
+use Rattle.tsn_records.specs.Records.{port_entry_shape, gate_entry_shape}
+use Rattle.tsn_setup.specs.Tables.{table_shape, items_given}
+use Rattle.tsn_setup.specs.Toml.{are_among, if_given, items_list, as_toml, whole}
 use Rattle.tsn_setup.specs.declared.drafts.TableDraft.{TableDraft}
 
 -- A member that a table may have, with its value where that was read.
@@ -37,8 +38,8 @@ tables_given kind found = if_given as_array found >>= λ items. each (table_shap
 abbrev pub Stands : Slot → Option Data → Type 0
 Stands (number n) found = if_given whole found ≡ Ok n
 Stands (flag b) found = if_given as_bool found ≡ Ok b
-Stands (port_list es) found = list_given port_entry_shape found ≡ Ok es
-Stands (gate_list es) found = list_given gate_entry_shape found ≡ Ok es
+Stands (port_list es) found = list_given (port_entry_shape as_toml) found ≡ Ok es
+Stands (gate_list es) found = list_given (gate_entry_shape as_toml) found ≡ Ok es
 Stands (tables kind ts) found = tables_given kind found ≡ Ok ts
 
 -- nothing was read there yet

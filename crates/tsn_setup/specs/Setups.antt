@@ -7,9 +7,10 @@ use Rattle.tsn_types.specs.declared.refusals.Refusal.{Refusal}
 use Rattle.tsn_types.specs.declared.refusals.Refusal.TheVariants.{TooLong}
 use Rattle.tsn_bridge.specs.declared.bridge.Setup.{Setup}
 use Rattle.tsn_records.specs.Answers.{◌>>=◌, each, or_syntax, refused}
+use Rattle.tsn_records.specs.Members.{setup_names}
 use Rattle.tsn_records.specs.declared.unread.Unread.{Unread}
 use Rattle.tsn_setup.specs.Ranges.{keyed_record, limits}
-use Rattle.tsn_setup.specs.Tables.{limits_shape, setup_names, tables_shape}
+use Rattle.tsn_setup.specs.Tables.{limits_shape, tables_shape}
 use Rattle.tsn_setup.specs.Toml.{has_only}
 use Rattle.tsn_setup.specs.declared.drafts.LimitsDraft.{LimitsDraft}
 use Rattle.tsn_setup.specs.declared.drafts.TableDraft.{TableDraft}

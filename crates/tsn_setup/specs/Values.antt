@@ -22,8 +22,8 @@ use Rattle.tsn_config.specs.Ids.{is_of}
 use Rattle.tsn_bridge.specs.Beginning.{standard_limits}
 use Rattle.tsn_bridge.specs.declared.bridge.Setup.{Setup}
 use Rattle.tsn_records.specs.Keys.{kind_text}
+use Rattle.tsn_records.specs.Members.{setup_names}
 use Rattle.tsn_setup.specs.Setups.{document_of, longest_setup, setup_of}
-use Rattle.tsn_setup.specs.Tables.{setup_names}
 
 -- What a member is: a number, a number that may be none, true or false.
 abbrev pub number : ℕ → Option Data

@@ -8,9 +8,9 @@ ghost use Rattle.toml.specs.Tables.{array_table};
 ghost use Rattle.tsn_records.specs.Keys.{kind_text};
 ghost use Rattle.tsn_setup.specs.Plain.{is_name};
 
-use crate::tables::name_of;
 use toml_parser::bytes::is_bare;
 use toml_parser::text::{byte_at, first, skip, skip_blank, skip_ws};
+use tsn_records::allowed::name_of;
 use tsn_types::keys::Kind;
 
 // What follows the bare name and white space, where the text begins with that name and no dot joins another to it.

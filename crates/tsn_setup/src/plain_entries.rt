@@ -4,7 +4,8 @@ ghost use Rattle.toml.specs.Data.{Data};
 ghost use Rattle.tsn_records.specs.declared.unread.Unread.{Unread};
 ghost use Rattle.tsn_setup.specs.Plain.{port_list, gate_list, ReadsEntries, ReadsEntry};
 ghost use Rattle.tsn_setup.specs.PlainSlots.{port_entry_slots, gate_entry_slots};
-ghost use Rattle.tsn_setup.specs.Tables.{port_entry_shape, gate_entry_shape};
+ghost use Rattle.tsn_records.specs.Records.{port_entry_shape, gate_entry_shape};
+ghost use Rattle.tsn_setup.specs.Toml.{as_toml};
 
 use crate::gathered::{Gathered, inline_table, slot};
 use crate::given::Given;
@@ -90,7 +91,7 @@ impl Gathered for GateEntryMembers {
 }
 
 impl PlainEntry for PortEntryDraft {
-    ghost shape = { port_entry_shape };
+    ghost shape = { port_entry_shape as_toml };
 
     #[tactic(auto, using(crate::proofs::Told::port_entry_told))]
     fn entry(alloc: Global, text: &str) -> Option<(PortEntryDraft, &str)> {
@@ -102,7 +103,7 @@ impl PlainEntry for PortEntryDraft {
 }
 
 impl PlainEntry for GateEntryDraft {
-    ghost shape = { gate_entry_shape };
+    ghost shape = { gate_entry_shape as_toml };
 
     #[tactic(auto, using(crate::proofs::Told::gate_entry_told))]
     fn entry(alloc: Global, text: &str) -> Option<(GateEntryDraft, &str)> {

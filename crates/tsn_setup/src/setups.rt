@@ -15,6 +15,7 @@ use crate::tables::{limits_shape, tables_shape};
 use std::alloc::Global;
 use toml::Value;
 use tsn_bridge::bridge::Setup;
+use tsn_records::allowed::DOCUMENT;
 use tsn_records::unread::Unread;
 use tsn_types::refusals::Refusal;
 
@@ -35,20 +36,7 @@ fn document_of(alloc: Global, text: &[u8]) -> Result<Value, Unread>
 fn setup_shape(alloc: Global, document: &Value) -> Result<(LimitsDraft, Vec<TableDraft>), Unread>
     ensures { Reads (seen (λ draft. (draft.0, draft.1.items)) result) (setup_shape (view document.now)) }
 {
-    has_only(
-        &[
-            "ports",
-            "max_filters",
-            "max_gates",
-            "max_meters",
-            "list_max",
-            "port",
-            "filter",
-            "gate",
-            "meter",
-        ],
-        document,
-    )?;
+    has_only(DOCUMENT, document)?;
     let given = limits_shape(document)?;
     let tables = tables_shape(alloc, document)?;
     Ok((given, tables))

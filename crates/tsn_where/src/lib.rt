@@ -7,6 +7,5 @@
 
 mod faults;
 mod lines;
-mod members;
 
 pub use lines::fault_line;

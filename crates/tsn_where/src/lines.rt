@@ -3,9 +3,9 @@ use crate::faults::{
     Fault, Place, Sought, Wrong, fault_of_kind, fault_of_tables, referring, table_of, whole,
     wrong_table,
 };
-use crate::members::{Allowed, DOCUMENT, KINDS, Member, name_of};
 use std::alloc::{AllocError, Global};
 use toml::Value;
+use tsn_records::allowed::{Allowed, DOCUMENT, KINDS, Member, name_of};
 use tsn_types::keys::{Key, Kind};
 use tsn_types::refusals::Refusal;
 

@@ -17,7 +17,7 @@ use Rattle.tsn_types.specs.Keys.{kind, number_of}
 use Rattle.tsn_types.specs.Numbers.{IsHandle, IsPriority, greatest_handle, greatest_instant, greatest_priority}
 use Rattle.tsn_records.specs.Answers.{or_shape, or_syntax}
 use Rattle.tsn_wire.specs.Commands.{key_at, listed, listed_at, keyed_record, create_shape, replace_shape, removed_key, remove_shape, batch_shape, bare_shape, enable_shape, disable_shape, apply_shape, frame_members, frame_shape, states_shape, counters_shape, show_shape, list_shape, since_shape, settle_shape, command_shape, line_shape}
-use Rattle.tsn_records.specs.Json.{flag_at, has_members, number_at, text_at, value_at}
+use Rattle.tsn_records.specs.Json.{flag_at, has_members, as_json, number_at, text_at, value_at}
 use Rattle.tsn_records.specs.Keys.{kind_of, key_text, kind_text}
 use Rattle.tsn_records.specs.Ranges.{within, record_of, key}
 use Rattle.tsn_wire.specs.Ranges.{greatest_after, longest_frame, frame_of_draft, command_of_draft}
@@ -69,11 +69,11 @@ edit_known word s d p k r of shape range ranges =
     steps (has_members 4 d) _ p shape (λ u count_is count_next.
     steps (key_at d) _ p count_next (λ q q_is q_next.
     steps (value_at (codes "record") d) _ p q_next (λ e e_is e_next.
-    steps (record_shape q.kind e) _ p e_next (λ v v_is v_next.
+    steps (record_shape as_json q.kind e) _ p e_next (λ v v_is v_next.
     let both = only (Ok (q, v)) (q, v) p refl v_next in
     let named = key_there d q k q_is (ap (λ x. key x.0) both ∙ range) in
     let held = value_there (get (codes "record") d) e e_is in
-    let known = record_known k e v r (inner_ordered (codes "record") d e of.ordered held) named.2 (ap (λ x. record_shape x e) (sym named.1) ∙ v_is) (ap (λ x. record_of x.1) both ∙ ranges) in
+    let known = record_known k e v r (inner_ordered (codes "record") d e of.ordered held) named.2 (ap (λ x. record_shape as_json x e) (sym named.1) ∙ v_is) (ap (λ x. record_of x.1) both ∙ ranges) in
     (known.1, whole_object 3 d (inside (edit_data word s (key_text k) (record_data r))) u of.ordered count_is refl (refl, (refl, (refl, tt))) (of.word_there, (named.0, (held ∙ ap Some known.0, (of.session_there, tt)))))))))
 
 create_known : (s : ℕ) (d : Data) (draft : CommandDraft) (c : Command) → IsOf (codes "create") s d → create_shape d ≡ Ok draft → command_of_draft draft ≡ Ok c → IsValue s d c

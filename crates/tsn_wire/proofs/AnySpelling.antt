@@ -11,6 +11,7 @@ use Rattle.serde_json.specs.Read.{read, max_depth}
 use Rattle.tsn_types.specs.declared.keys.Kind.{Kind}
 use Rattle.tsn_types.specs.declared.keys.Kind.TheVariants as kinds
 use Rattle.tsn_types.specs.Numbers.{IsInstanceId}
+use Rattle.tsn_records.specs.Json.{as_json}
 use Rattle.tsn_records.specs.Records.{record_shape}
 use Rattle.tsn_records.specs.declared.drafts.RecordDraft.{RecordDraft}
 use Rattle.tsn_records.specs.declared.drafts.RecordDraft.TheVariants as records
@@ -99,7 +100,7 @@ nothing_left rest now passed none = sym passed ∙ ap lexed none
 
 -- ---- shapes
 
-record_kept : (k : Kind) (r : RecordDraft) → IsOf k r → record_shape k (record_value r) ≡ Ok r
+record_kept : (k : Kind) (r : RecordDraft) → IsOf k r → record_shape as_json k (record_value r) ≡ Ok r
 record_kept kinds.Port (records.Port r) of = rw (port_shaped r)
 record_kept kinds.Port (records.Filter r) of = absurd of
 record_kept kinds.Port (records.Gate r) of = absurd of

@@ -13,7 +13,7 @@ use Rattle.tsn_types.specs.declared.keys.Key.{Key}
 use Rattle.tsn_types.specs.declared.records.Record.{Record}
 use Rattle.tsn_types.specs.InRange.{KeyedInRange}
 use Rattle.tsn_records.specs.Answers.{each}
-use Rattle.tsn_records.specs.Json.{has_members, items_at, items_list, text_at, value_at}
+use Rattle.tsn_records.specs.Json.{has_members, items_at, items_list, as_json, text_at, value_at}
 use Rattle.tsn_records.specs.Keys.{key_text}
 use Rattle.tsn_records.specs.Ranges.{key, record_of}
 use Rattle.tsn_records.specs.Records.{record_shape}
@@ -50,11 +50,11 @@ put_known word d p k r ordered there shape range ranges =
     steps (has_members 3 d) _ p shape (λ u count_is count_next.
     steps (key_at d) _ p count_next (λ q q_is q_next.
     steps (value_at (codes "record") d) _ p q_next (λ e e_is e_next.
-    steps (record_shape q.kind e) _ p e_next (λ v v_is v_next.
+    steps (record_shape as_json q.kind e) _ p e_next (λ v v_is v_next.
     let both = only (Ok (q, v)) (q, v) p refl v_next in
     let named = key_there d q k q_is (ap (λ x. key x.0) both ∙ range) in
     let held = value_there (get (codes "record") d) e e_is in
-    let known = record_known k e v r (inner_ordered (codes "record") d e ordered held) named.2 (ap (λ x. record_shape x e) (sym named.1) ∙ v_is) (ap (λ x. record_of x.1) both ∙ ranges) in
+    let known = record_known k e v r (inner_ordered (codes "record") d e ordered held) named.2 (ap (λ x. record_shape as_json x e) (sym named.1) ∙ v_is) (ap (λ x. record_of x.1) both ∙ ranges) in
     (whole_object 2 d (inside (put_data word (key_text k) (record_data r))) u ordered count_is refl (refl, (refl, tt)) (there, (named.0, (held ∙ ap Some known.0, tt))), known.1)))))
 
 create_known : (d : Data) (p : KeyDraft × RecordDraft) (x : Edit) → IsOrdered d → get (codes "do") d ≡ Some (string (codes "create")) → keyed_record 3 d ≡ Ok p → edit_of_draft (drafts.Create p.0 p.1) ≡ Ok x → IsEdit d x

@@ -7,7 +7,7 @@ use Rattle.tsn_types.specs.declared.keys.Kind.{Kind}
 use Rattle.tsn_types.specs.declared.keys.Kind.TheVariants as kinds
 use Rattle.tsn_types.specs.Numbers.{IsInstanceId}
 use Rattle.tsn_records.specs.Answers.{each}
-use Rattle.tsn_records.specs.Json.{items_list}
+use Rattle.tsn_records.specs.Json.{items_list, as_json}
 use Rattle.tsn_records.specs.Keys.{spelled_key}
 use Rattle.tsn_records.specs.Records.{record_shape}
 use Rattle.tsn_records.specs.declared.drafts.RecordDraft.{RecordDraft}
@@ -23,11 +23,11 @@ use Rattle.tsn_wire.proofs.ReadingBack.{decimal_back}
 
 -- an edit on a key that some table may have, whose record is of the key's kind
 abbrev pub IsKept : EditDraft → Type 0
-IsKept (drafts.Create key v) = IsKey key × (record_shape key.kind (record_value v) ≡ Ok v)
-IsKept (drafts.Replace key v) = IsKey key × (record_shape key.kind (record_value v) ≡ Ok v)
+IsKept (drafts.Create key v) = IsKey key × (record_shape as_json key.kind (record_value v) ≡ Ok v)
+IsKept (drafts.Replace key v) = IsKey key × (record_shape as_json key.kind (record_value v) ≡ Ok v)
 IsKept (drafts.Remove key) = IsKey key × IsNoPort key.kind
 
-put_kept : (word : List ℕ) (k : Kind) (n : ℕ) (v : RecordDraft) → IsInstanceId n → record_shape k (record_value v) ≡ Ok v
+put_kept : (word : List ℕ) (k : Kind) (n : ℕ) (v : RecordDraft) → IsInstanceId n → record_shape as_json k (record_value v) ≡ Ok v
     → keyed_record 3 (object (member (codes "do") (string word) (member (codes "key") (string (spelled_key k n)) (member (codes "record") (record_value v) no_members)))) ≡ Ok (record { kind = k; number = n }, v)
 unfolding keyed_record
 put_kept word kinds.Port n v small e = rw (decimal_back n small, e) refl

@@ -1,11 +1,11 @@
 -- A value of an accepted shape is the value of its draft.
-use Rattle.std.proofs.Common.{◌≡◌, ℕ, suc, List, [], ◌∷◌, map, Bool, Option, Some, None, option_and_then, Result, Ok, codes, refl, sym, ap, ap₂, subst, ◌∙◌, arith}
+use Rattle.std.proofs.Common.{◌≡◌, ℕ, suc, List, [], ◌∷◌, map, Bool, Option, Some, None, option_and_then, option_map, Result, Ok, codes, refl, sym, ap, ap₂, subst, ◌∙◌, arith}
 use Rattle.serde_json.specs.Data.{Data, null, boolean, number, unsigned, negative, float, string, array, object, Items, no_items, item}
 use Rattle.serde_json.specs.Find.{at, get, get_item, as_bool, as_str, as_array}
 use Rattle.serde_json.specs.View.{items_of}
 use Rattle.tsn_records.specs.Answers.{or_shape, each}
-use Rattle.tsn_records.specs.Json.{items_list, items_len, whole, whole_or_null, has_members, has_items, number_at, number_or_null_at, flag_at, items_at, number_item, number_or_null_item, flag_item}
-use Rattle.tsn_records.specs.Records.{port_entry_shape, gate_entry_shape, list_shape, schedule_shape, port_shape, gate_shape, filter_shape, meter_shape}
+use Rattle.tsn_records.specs.Json.{items_list, items_len, whole, whole_or_null, has_items, as_json}
+use Rattle.tsn_records.specs.Records.{port_entry_shape, gate_entry_shape, schedule_shape, port_shape, gate_shape, filter_shape, meter_shape}
 use Rattle.tsn_records.specs.Shown.{whole_data, or_null, list_array}
 use Rattle.tsn_wire.specs.Spelled.{port_entry_value, gate_entry_value, port_value, filter_value, gate_value, meter_value}
 use Rattle.tsn_records.specs.declared.drafts.PortEntryDraft.{PortEntryDraft}
@@ -16,7 +16,8 @@ use Rattle.tsn_records.specs.declared.drafts.GateDraft.{GateDraft}
 use Rattle.tsn_records.specs.declared.drafts.FilterDraft.{FilterDraft}
 use Rattle.tsn_records.specs.declared.drafts.MeterDraft.{MeterDraft}
 use Rattle.tsn_records.specs.declared.unread.Unread.{Unread}
-use Rattle.tsn_records.proofs.Steps.{only, steps}
+use Rattle.tsn_records.proofs.Shapes.{port_entry_has, gate_entry_has, schedule_has, port_has, gate_has, filter_has, meter_has}
+use Rattle.tsn_records.proofs.Steps.{mapped_there, only, steps}
 use Rattle.tsn_wire.proofs.Objects.{IsOrdered, counted, inside, whole_object}
 
 -- ---- members and items of one kind
@@ -85,6 +86,9 @@ text_there = there as_str string text_is
 pub items_there : (o : Option Data) (ds : Items) → or_shape (option_and_then as_array o) ≡ Ok ds → o ≡ Some (array ds)
 items_there = there as_array array array_is
 
+list_there : (o : Option Data) (ds : List Data) → or_shape (option_map items_list (option_and_then as_array o)) ≡ Ok ds → (items : Items) × (o ≡ Some (array items)) × (items_list items ≡ ds)
+list_there o ds h = let found = mapped_there items_list (option_and_then as_array o) ds h in (found.0, items_there o found.0 (ap or_shape found.1), found.2)
+
 pub value_there : {A : Type 0} (o : Option A) (a : A) → or_shape o ≡ Ok a → o ≡ Some a
 value_there None a h = cc
 value_there (Some b) a h = ap Some (only (Ok b) b a refl h)
@@ -114,33 +118,23 @@ four (item x (item y (item z no_items))) a b c d len e0 e1 e2 e3 = absurd (omega
 four (item x (item y (item z (item w no_items)))) a b c d len e0 e1 e2 e3 = cc
 four (item x (item y (item z (item w (item v ds))))) a b c d len e0 e1 e2 e3 = absurd (omega arith)
 
-port_entry_known : (d : Data) (e : PortEntryDraft) → port_entry_shape d ≡ Ok e → d ≡ port_entry_value e
-unfolding port_entry_shape
+port_entry_known : (d : Data) (e : PortEntryDraft) → port_entry_shape as_json d ≡ Ok e → d ≡ port_entry_value e
 port_entry_known d e h =
-    steps (has_items 2 d) _ e h (λ count count_is count_next.
-    steps (number_item 0 d) _ e count_next (λ gates gates_is gates_next.
-    steps (number_item 1 d) _ e gates_next (λ interval interval_is interval_next.
-    let draft : PortEntryDraft = record { gates = gates; interval = interval } in
-    let items = array_of 1 d count count_is in
-    let first : get_item 0 items.0 ≡ Some (whole_data gates) = ap (at 0) (sym items.1) ∙ number_there _ gates gates_is in
-    let second : get_item 1 items.0 ≡ Some (whole_data interval) = ap (at 1) (sym items.1) ∙ number_there _ interval interval_is in
-    items.1 ∙ ap array (two items.0 _ _ items.2 first second) ∙ ap port_entry_value (only (Ok draft) draft e refl interval_next))))
+    let has = port_entry_has as_json d e h in
+    let items = array_of 1 d tt has.only in
+    let first : get_item 0 items.0 ≡ Some (whole_data e.gates) = ap (at 0) (sym items.1) ∙ number_there _ _ has.gates in
+    let second : get_item 1 items.0 ≡ Some (whole_data e.interval) = ap (at 1) (sym items.1) ∙ number_there _ _ has.interval in
+    items.1 ∙ ap array (two items.0 _ _ items.2 first second)
 
-gate_entry_known : (d : Data) (e : GateEntryDraft) → gate_entry_shape d ≡ Ok e → d ≡ gate_entry_value e
-unfolding gate_entry_shape
+gate_entry_known : (d : Data) (e : GateEntryDraft) → gate_entry_shape as_json d ≡ Ok e → d ≡ gate_entry_value e
 gate_entry_known d e h =
-    steps (has_items 4 d) _ e h (λ count count_is count_next.
-    steps (flag_item 0 d) _ e count_next (λ is_open is_open_is is_open_next.
-    steps (number_or_null_item 1 d) _ e is_open_next (λ ipv ipv_is ipv_next.
-    steps (number_item 2 d) _ e ipv_next (λ interval interval_is interval_next.
-    steps (number_or_null_item 3 d) _ e interval_next (λ octets octets_is octets_next.
-    let draft : GateEntryDraft = record { is_open = is_open; ipv = ipv; interval = interval; octets = octets } in
-    let items = array_of 3 d count count_is in
-    let first : get_item 0 items.0 ≡ Some (boolean is_open) = ap (at 0) (sym items.1) ∙ flag_there _ is_open is_open_is in
-    let second : get_item 1 items.0 ≡ Some (or_null ipv) = ap (at 1) (sym items.1) ∙ or_null_there _ ipv ipv_is in
-    let third : get_item 2 items.0 ≡ Some (whole_data interval) = ap (at 2) (sym items.1) ∙ number_there _ interval interval_is in
-    let fourth : get_item 3 items.0 ≡ Some (or_null octets) = ap (at 3) (sym items.1) ∙ or_null_there _ octets octets_is in
-    items.1 ∙ ap array (four items.0 _ _ _ _ items.2 first second third fourth) ∙ ap gate_entry_value (only (Ok draft) draft e refl octets_next))))))
+    let has = gate_entry_has as_json d e h in
+    let items = array_of 3 d tt has.only in
+    let first : get_item 0 items.0 ≡ Some (boolean e.is_open) = ap (at 0) (sym items.1) ∙ flag_there _ _ has.is_open in
+    let second : get_item 1 items.0 ≡ Some (or_null e.ipv) = ap (at 1) (sym items.1) ∙ or_null_there _ _ has.ipv in
+    let third : get_item 2 items.0 ≡ Some (whole_data e.interval) = ap (at 2) (sym items.1) ∙ number_there _ _ has.interval in
+    let fourth : get_item 3 items.0 ≡ Some (or_null e.octets) = ap (at 3) (sym items.1) ∙ or_null_there _ _ has.octets in
+    items.1 ∙ ap array (four items.0 _ _ _ _ items.2 first second third fourth)
 
 each_known : {E : Type 0} (shape : Data → Result E Unread) (value : E → Data) → ((d : Data) (e : E) → shape d ≡ Ok e → d ≡ value e) → (ds : Items) (es : List E) → each shape (items_list ds) ≡ Ok es → ds ≡ items_of (map value es)
 each_known shape value one no_items es h = ap (λ l. items_of (map value l)) (only (Ok []) [] es refl h)
@@ -158,79 +152,82 @@ record ScheduleThere {E : Type 0} (value : E → Data) (d : Data) (s : ScheduleD
   extension : get (codes "extension") d ≡ Some (whole_data s.extension)
   base : get (codes "base") d ≡ Some (whole_data s.base)
 
-schedule_known : {E : Type 0} (shape : Data → Result E Unread) (value : E → Data) → ((d : Data) (e : E) → shape d ≡ Ok e → d ≡ value e) → (d : Data) (s : ScheduleDraft E) → schedule_shape shape d ≡ Ok s → ScheduleThere value d s
-unfolding schedule_shape list_shape
-schedule_known {E} shape value one d s h =
-    steps (list_shape shape d) _ s h (λ list list_is list_next.
-    steps (number_at (codes "cycle") d) _ s list_next (λ cycle cycle_is cycle_next.
-    steps (number_at (codes "extension") d) _ s cycle_next (λ extension extension_is extension_next.
-    steps (number_at (codes "base") d) _ s extension_next (λ base base_is base_next.
-    let draft : ScheduleDraft E = record { list = list; cycle = cycle; extension = extension; base = base } in
-    steps (items_at (codes "list") d) _ list list_is (λ items items_is items_next.
-    let known : ScheduleThere value d draft = record {
-      list = items_there _ items items_is ∙ ap (λ ds. Some (array ds)) (each_known shape value one items list items_next);
-      cycle = number_there _ cycle cycle_is;
-      extension = number_there _ extension extension_is;
-      base = number_there _ base base_is;
-    } in
-    subst (ScheduleThere value d) (only (Ok draft) draft s refl base_next) known)))))
+schedule_known : {E : Type 0} (shape : Data → Result E Unread) (value : E → Data) → ((d : Data) (e : E) → shape d ≡ Ok e → d ≡ value e) → (d : Data) (s : ScheduleDraft E) → schedule_shape as_json shape d ≡ Ok s → ScheduleThere value d s
+schedule_known shape value one d s h =
+    let has = schedule_has as_json shape d s h in
+    let here = list_there _ has.entries has.items in
+    let listed : each shape (items_list here.0) ≡ Ok s.list = ap (each shape) here.2 ∙ has.list in
+    record {
+      list = here.1 ∙ ap (λ ds. Some (array ds)) (each_known shape value one here.0 s.list listed);
+      cycle = number_there _ _ has.cycle;
+      extension = number_there _ _ has.extension;
+      base = number_there _ _ has.base;
+    }
 
-pub port_known : (d : Data) (r : PortDraft) → IsOrdered d → port_shape d ≡ Ok r → d ≡ port_value r
-unfolding port_shape
+pub port_known : (d : Data) (r : PortDraft) → IsOrdered d → port_shape as_json d ≡ Ok r → d ≡ port_value r
 port_known d r ordered h =
-    steps (has_members 5 d) _ r h (λ count count_is count_next.
-    steps (number_at (codes "gates") d) _ r count_next (λ gates gates_is gates_next.
-    steps (schedule_shape port_entry_shape d) _ r gates_next (λ admin admin_is admin_next.
-    let draft : PortDraft = record { gates = gates; admin = admin } in
-    let times = schedule_known port_entry_shape port_entry_value port_entry_known d admin admin_is in
-    whole_object 4 d (inside (port_value draft)) count ordered count_is refl (refl, (refl, (refl, (refl, tt))))
-    (times.base, (times.cycle, (times.extension, (number_there _ gates gates_is, (times.list, tt)))))
-    ∙ ap port_value (only (Ok draft) draft r refl admin_next))))
+    let has = port_has as_json d r h in
+    let times = schedule_known (port_entry_shape as_json) port_entry_value port_entry_known d r.admin has.admin in
+    whole_object 4 d (inside (port_value r)) tt ordered has.only refl (refl, (refl, (refl, (refl, tt))))
+    (times.base, (times.cycle, (times.extension, (number_there _ _ has.gates, (times.list, tt)))))
 
-pub gate_known : (d : Data) (r : GateDraft) → IsOrdered d → gate_shape d ≡ Ok r → d ≡ gate_value r
-unfolding gate_shape
+pub gate_known : (d : Data) (r : GateDraft) → IsOrdered d → gate_shape as_json d ≡ Ok r → d ≡ gate_value r
 gate_known d r ordered h =
-    steps (has_members 8 d) _ r h (λ count count_is count_next.
-    steps (flag_at (codes "open") d) _ r count_next (λ is_open is_open_is is_open_next.
-    steps (number_or_null_at (codes "ipv") d) _ r is_open_next (λ ipv ipv_is ipv_next.
-    steps (schedule_shape gate_entry_shape d) _ r ipv_next (λ admin admin_is admin_next.
-    steps (flag_at (codes "invalid_rx") d) _ r admin_next (λ invalid_rx invalid_rx_is invalid_rx_next.
-    steps (flag_at (codes "octets_exceeded") d) _ r invalid_rx_next (λ octets_exceeded octets_exceeded_is octets_exceeded_next.
-    let draft : GateDraft = record { is_open = is_open; ipv = ipv; admin = admin; invalid_rx = invalid_rx; octets_exceeded = octets_exceeded } in
-    let times = schedule_known gate_entry_shape gate_entry_value gate_entry_known d admin admin_is in
-    whole_object 7 d (inside (gate_value draft)) count ordered count_is refl (refl, (refl, (refl, (refl, (refl, (refl, (refl, tt)))))))
-    (times.base, (times.cycle, (times.extension, (flag_there _ invalid_rx invalid_rx_is, (or_null_there _ ipv ipv_is, (times.list, (flag_there _ octets_exceeded octets_exceeded_is, (flag_there _ is_open is_open_is, tt))))))))
-    ∙ ap gate_value (only (Ok draft) draft r refl octets_exceeded_next)))))))
+    let has = gate_has as_json d r h in
+    let times = schedule_known (gate_entry_shape as_json) gate_entry_value gate_entry_known d r.admin has.admin in
+    whole_object 7 d (inside (gate_value r)) tt ordered has.only refl (refl, (refl, (refl, (refl, (refl, (refl, (refl, tt))))))) (
+      times.base,
+      (
+        times.cycle,
+        (
+          times.extension,
+          (
+            flag_there _ _ has.invalid_rx,
+            (
+              or_null_there _ _ has.ipv,
+              (
+                times.list,
+                (flag_there _ _ has.octets_exceeded, (flag_there _ _ has.is_open, tt)),
+              ),
+            ),
+          ),
+        ),
+      ),
+    )
 
-pub filter_known : (d : Data) (r : FilterDraft) → IsOrdered d → filter_shape d ≡ Ok r → d ≡ filter_value r
-unfolding filter_shape
+pub filter_known : (d : Data) (r : FilterDraft) → IsOrdered d → filter_shape as_json d ≡ Ok r → d ≡ filter_value r
 filter_known d r ordered h =
-    steps (has_members 6 d) _ r h (λ count count_is count_next.
-    steps (number_or_null_at (codes "handle") d) _ r count_next (λ handle handle_is handle_next.
-    steps (number_or_null_at (codes "priority") d) _ r handle_next (λ priority priority_is priority_next.
-    steps (number_at (codes "gate") d) _ r priority_next (λ gate gate_is gate_next.
-    steps (number_or_null_at (codes "max_sdu") d) _ r gate_next (λ max_sdu max_sdu_is max_sdu_next.
-    steps (number_or_null_at (codes "meter") d) _ r max_sdu_next (λ meter meter_is meter_next.
-    steps (flag_at (codes "oversize") d) _ r meter_next (λ oversize oversize_is oversize_next.
-    let draft : FilterDraft = record { handle = handle; priority = priority; gate = gate; max_sdu = max_sdu; meter = meter; oversize = oversize } in
-    whole_object 5 d (inside (filter_value draft)) count ordered count_is refl (refl, (refl, (refl, (refl, (refl, tt)))))
-    (number_there _ gate gate_is, (or_null_there _ handle handle_is, (or_null_there _ max_sdu max_sdu_is, (or_null_there _ meter meter_is, (flag_there _ oversize oversize_is, (or_null_there _ priority priority_is, tt))))))
-    ∙ ap filter_value (only (Ok draft) draft r refl oversize_next))))))))
+    let has = filter_has as_json d r h in
+    whole_object 5 d (inside (filter_value r)) tt ordered has.only refl (refl, (refl, (refl, (refl, (refl, tt))))) (
+      number_there _ _ has.gate,
+      (
+        or_null_there _ _ has.handle,
+        (
+          or_null_there _ _ has.max_sdu,
+          (
+            or_null_there _ _ has.meter,
+            (flag_there _ _ has.oversize, (or_null_there _ _ has.priority, tt)),
+          ),
+        ),
+      ),
+    )
 
-pub meter_known : (d : Data) (r : MeterDraft) → IsOrdered d → meter_shape d ≡ Ok r → d ≡ meter_value r
-unfolding meter_shape
+pub meter_known : (d : Data) (r : MeterDraft) → IsOrdered d → meter_shape as_json d ≡ Ok r → d ≡ meter_value r
 meter_known d r ordered h =
-    steps (has_members 8 d) _ r h (λ count count_is count_next.
-    steps (number_at (codes "cir") d) _ r count_next (λ cir cir_is cir_next.
-    steps (number_at (codes "cbs") d) _ r cir_next (λ cbs cbs_is cbs_next.
-    steps (number_at (codes "eir") d) _ r cbs_next (λ eir eir_is eir_next.
-    steps (number_at (codes "ebs") d) _ r eir_next (λ ebs ebs_is ebs_next.
-    steps (flag_at (codes "cf") d) _ r ebs_next (λ cf cf_is cf_next.
-    steps (flag_at (codes "aware") d) _ r cf_next (λ aware aware_is aware_next.
-    steps (flag_at (codes "drop_yellow") d) _ r aware_next (λ drop_yellow drop_yellow_is drop_yellow_next.
-    steps (flag_at (codes "all_red") d) _ r drop_yellow_next (λ all_red all_red_is all_red_next.
-    let draft : MeterDraft = record { cir = cir; cbs = cbs; eir = eir; ebs = ebs; cf = cf; aware = aware; drop_yellow = drop_yellow; all_red = all_red } in
-    whole_object 7 d (inside (meter_value draft)) count ordered count_is refl (refl, (refl, (refl, (refl, (refl, (refl, (refl, tt)))))))
-    (flag_there _ all_red all_red_is, (flag_there _ aware aware_is, (number_there _ cbs cbs_is, (flag_there _ cf cf_is, (number_there _ cir cir_is, (flag_there _ drop_yellow drop_yellow_is, (number_there _ ebs ebs_is, (number_there _ eir eir_is, tt))))))))
-    ∙ ap meter_value (only (Ok draft) draft r refl all_red_next)
-    )))))))))
+    let has = meter_has as_json d r h in
+    whole_object 7 d (inside (meter_value r)) tt ordered has.only refl (refl, (refl, (refl, (refl, (refl, (refl, (refl, tt))))))) (
+      flag_there _ _ has.all_red,
+      (
+        flag_there _ _ has.aware,
+        (
+          number_there _ _ has.cbs,
+          (
+            flag_there _ _ has.cf,
+            (
+              number_there _ _ has.cir,
+              (flag_there _ _ has.drop_yellow, (number_there _ _ has.ebs, (number_there _ _ has.eir, tt))),
+            ),
+          ),
+        ),
+      ),
+    )

@@ -21,7 +21,7 @@ use Rattle.tsn_types.specs.InRange.{KeyedInRange}
 use Rattle.tsn_types.specs.Keys.{kind, number_of}
 use Rattle.tsn_types.specs.Numbers.{IsInstanceId, greatest_instance, most_ports}
 use Rattle.tsn_wire.specs.Commands.{key_at, removable}
-use Rattle.tsn_records.specs.Json.{text_at}
+use Rattle.tsn_records.specs.Json.{as_json, text_at}
 use Rattle.tsn_records.specs.Keys.{is_decimal, decimal_of, numbered, key_of, kind_of, key_text, kind_text, spelled_key}
 use Rattle.tsn_records.specs.Ranges.{within, port, filter, gate, meter, record_of, key, key_of_kind}
 use Rattle.tsn_records.specs.Records.{port_shape, filter_shape, gate_shape, meter_shape, record_shape}
@@ -160,27 +160,27 @@ record_same (records.Gate r) = gate_same r
 record_same (records.Meter r) = refl
 
 -- a value that is read as a record of the key's kind is the record's
-pub record_known : (k : Key) (d : Data) (draft : RecordDraft) (r : Record) → IsOrdered d → KeyInRange k → record_shape (kind k) d ≡ Ok draft → record_of draft ≡ Ok r → (d ≡ record_data r) × KeyedInRange k r
+pub record_known : (k : Key) (d : Data) (draft : RecordDraft) (r : Record) → IsOrdered d → KeyInRange k → record_shape as_json (kind k) d ≡ Ok draft → record_of draft ≡ Ok r → (d ≡ record_data r) × KeyedInRange k r
 record_known (keys.Port n) d draft r ordered fits shape range =
-    steps (port_shape d) _ draft shape (λ shaped shaped_is shaped_next.
+    steps (port_shape as_json d) _ draft shape (λ shaped shaped_is shaped_next.
     steps (port shaped) _ r (ap record_of (only (Ok (drafts.Port shaped)) (drafts.Port shaped) draft refl shaped_next) ∙ range) (λ found found_is found_next.
     let known = port_passed shaped found found_is in
     subst (λ x. (d ≡ record_data x) × KeyedInRange (keys.Port n) x) (only (Ok (records.Port found)) (records.Port found) r refl found_next)
     (port_known d shaped ordered shaped_is ∙ ap port_value known.0 ∙ port_same found, (fits, known.1))))
 record_known (keys.Filter n) d draft r ordered fits shape range =
-    steps (filter_shape d) _ draft shape (λ shaped shaped_is shaped_next.
+    steps (filter_shape as_json d) _ draft shape (λ shaped shaped_is shaped_next.
     steps (filter shaped) _ r (ap record_of (only (Ok (drafts.Filter shaped)) (drafts.Filter shaped) draft refl shaped_next) ∙ range) (λ found found_is found_next.
     let known = filter_passed shaped found found_is in
     subst (λ x. (d ≡ record_data x) × KeyedInRange (keys.Filter n) x) (only (Ok (records.Filter found)) (records.Filter found) r refl found_next)
     (filter_known d shaped ordered shaped_is ∙ ap filter_value known.0, (fits, known.1))))
 record_known (keys.Gate n) d draft r ordered fits shape range =
-    steps (gate_shape d) _ draft shape (λ shaped shaped_is shaped_next.
+    steps (gate_shape as_json d) _ draft shape (λ shaped shaped_is shaped_next.
     steps (gate shaped) _ r (ap record_of (only (Ok (drafts.Gate shaped)) (drafts.Gate shaped) draft refl shaped_next) ∙ range) (λ found found_is found_next.
     let known = gate_passed shaped found found_is in
     subst (λ x. (d ≡ record_data x) × KeyedInRange (keys.Gate n) x) (only (Ok (records.Gate found)) (records.Gate found) r refl found_next)
     (gate_known d shaped ordered shaped_is ∙ ap gate_value known.0 ∙ gate_same found, (fits, known.1))))
 record_known (keys.Meter n) d draft r ordered fits shape range =
-    steps (meter_shape d) _ draft shape (λ shaped shaped_is shaped_next.
+    steps (meter_shape as_json d) _ draft shape (λ shaped shaped_is shaped_next.
     steps (meter shaped) _ r (ap record_of (only (Ok (drafts.Meter shaped)) (drafts.Meter shaped) draft refl shaped_next) ∙ range) (λ found found_is found_next.
     let known = meter_passed shaped found found_is in
     subst (λ x. (d ≡ record_data x) × KeyedInRange (keys.Meter n) x) (only (Ok (records.Meter found)) (records.Meter found) r refl found_next)
@@ -207,7 +207,7 @@ instance (keys.Meter n) fits = fits
 -- a key and a record of its kind read back
 pub record IsReadBack (k : Key) (r : Record) : Type 0 where
   pub in_range : KeyInRange k
-  pub shape : record_shape (kind k) (record_value (record_draft r)) ≡ Ok (record_draft r)
+  pub shape : record_shape as_json (kind k) (record_value (record_draft r)) ≡ Ok (record_draft r)
   pub range : record_of (record_draft r) ≡ Ok r
 
 pub read_back : (k : Key) (r : Record) → KeyedInRange k r → IsReadBack k r

@@ -20,7 +20,7 @@ use Rattle.tsn_types.specs.declared.keys.Kind.{Kind}
 use Rattle.tsn_types.specs.declared.keys.Kind.TheVariants as kinds
 use Rattle.tsn_types.specs.Numbers.{IsInstanceId}
 use Rattle.tsn_records.specs.Answers.{each, or_syntax}
-use Rattle.tsn_records.specs.Json.{items_list}
+use Rattle.tsn_records.specs.Json.{items_list, as_json}
 use Rattle.tsn_records.specs.Keys.{kind_text, spelled_key}
 use Rattle.tsn_wire.specs.Commands.{line_shape, command_shape, keyed_record, create_shape, replace_shape, removed_key, remove_shape, bare_shape, show_shape, list_shape, since_shape}
 use Rattle.tsn_records.specs.Records.{port_entry_shape, gate_entry_shape, list_shape as entries_shape, schedule_shape, port_shape, gate_shape, filter_shape, meter_shape, record_shape}
@@ -108,11 +108,11 @@ port_entry_same e small = rw (number_of-decimal e.gates small.gates, number_of-d
 gate_entry_same : (e : GateEntryDraft) → GateEntryIsSmall e → of_json (outline (gate_entry_value e)) ≡ Some (gate_entry_value e)
 gate_entry_same e small = rw (or_null_same e.ipv small.ipv, number_of-decimal e.interval small.interval, or_null_same e.octets small.octets) refl
 
-port_entry_shaped : (e : PortEntryDraft) → port_entry_shape (port_entry_value e) ≡ Ok e
+port_entry_shaped : (e : PortEntryDraft) → port_entry_shape as_json (port_entry_value e) ≡ Ok e
 unfolding port_entry_shape
 port_entry_shaped e = refl
 
-gate_entry_shaped : (e : GateEntryDraft) → gate_entry_shape (gate_entry_value e) ≡ Ok e
+gate_entry_shaped : (e : GateEntryDraft) → gate_entry_shape as_json (gate_entry_value e) ≡ Ok e
 unfolding gate_entry_shape
 gate_entry_shaped e = simp whole_or_null_back
 
@@ -164,23 +164,23 @@ record_plain kinds.Meter (records.Filter r) small = absurd small
 record_plain kinds.Meter (records.Gate r) small = absurd small
 record_plain kinds.Meter (records.Meter r) small = meter_plain r small
 
-pub port_shaped : (r : PortDraft) → port_shape (port_value r) ≡ Ok r
+pub port_shaped : (r : PortDraft) → port_shape as_json (port_value r) ≡ Ok r
 unfolding port_shape schedule_shape entries_shape
-port_shaped r = rw (shaped_items port_entry_shape port_entry_value port_entry_shaped r.admin.list) refl
+port_shaped r = rw (shaped_items (port_entry_shape as_json) port_entry_value port_entry_shaped r.admin.list) refl
 
-pub filter_shaped : (r : FilterDraft) → filter_shape (filter_value r) ≡ Ok r
+pub filter_shaped : (r : FilterDraft) → filter_shape as_json (filter_value r) ≡ Ok r
 unfolding filter_shape
 filter_shaped r = simp whole_or_null_back
 
-pub gate_shaped : (r : GateDraft) → gate_shape (gate_value r) ≡ Ok r
+pub gate_shaped : (r : GateDraft) → gate_shape as_json (gate_value r) ≡ Ok r
 unfolding gate_shape schedule_shape entries_shape
-gate_shaped r = rw (whole_or_null_back r.ipv, shaped_items gate_entry_shape gate_entry_value gate_entry_shaped r.admin.list) refl
+gate_shaped r = rw (whole_or_null_back r.ipv, shaped_items (gate_entry_shape as_json) gate_entry_value gate_entry_shaped r.admin.list) refl
 
-pub meter_shaped : (r : MeterDraft) → meter_shape (meter_value r) ≡ Ok r
+pub meter_shaped : (r : MeterDraft) → meter_shape as_json (meter_value r) ≡ Ok r
 unfolding meter_shape
 meter_shaped r = refl
 
-record_shaped : (k : Kind) (r : RecordDraft) → RecordIsSmall k r → record_shape k (record_value r) ≡ Ok r
+record_shaped : (k : Kind) (r : RecordDraft) → RecordIsSmall k r → record_shape as_json k (record_value r) ≡ Ok r
 record_shaped kinds.Port (records.Port r) small = rw (port_shaped r)
 record_shaped kinds.Port (records.Filter r) small = absurd small
 record_shaped kinds.Port (records.Gate r) small = absurd small
@@ -230,18 +230,18 @@ replace_text : (s : ℕ) (k : Kind) (n : ℕ) (v : RecordDraft) → IsInstanceId
 unfolding escape_byte
 replace_text s k n v small = quoted_key (codes "{\"do\":\"replace\",\"key\":\"") (codes ",\"record\":" ++ (compact_text (record_value v) ++ tail s)) k n small
 
-keyed_record_shaped : (word : List ℕ) (s : ℕ) (k : Kind) (n : ℕ) (v : RecordDraft) → IsInstanceId n → record_shape k (record_value v) ≡ Ok v → keyed_record 4 (recorded word s k n v) ≡ Ok (record { kind = k; number = n }, v)
+keyed_record_shaped : (word : List ℕ) (s : ℕ) (k : Kind) (n : ℕ) (v : RecordDraft) → IsInstanceId n → record_shape as_json k (record_value v) ≡ Ok v → keyed_record 4 (recorded word s k n v) ≡ Ok (record { kind = k; number = n }, v)
 unfolding keyed_record
 keyed_record_shaped word s kinds.Port n v small e = rw (decimal_back n small, e) refl
 keyed_record_shaped word s kinds.Filter n v small e = rw (decimal_back n small, e) refl
 keyed_record_shaped word s kinds.Gate n v small e = rw (decimal_back n small, e) refl
 keyed_record_shaped word s kinds.Meter n v small e = rw (decimal_back n small, e) refl
 
-pub create_shaped : (s : ℕ) (k : Kind) (n : ℕ) (v : RecordDraft) → IsInstanceId n → record_shape k (record_value v) ≡ Ok v → line_shape (recorded (codes "create") s k n v) ≡ Ok (Session s (Create (record { kind = k; number = n }) v))
+pub create_shaped : (s : ℕ) (k : Kind) (n : ℕ) (v : RecordDraft) → IsInstanceId n → record_shape as_json k (record_value v) ≡ Ok v → line_shape (recorded (codes "create") s k n v) ≡ Ok (Session s (Create (record { kind = k; number = n }) v))
 unfolding line_shape command_shape create_shape
 create_shaped s k n v small e = rw (keyed_record_shaped (codes "create") s k n v small e) refl
 
-pub replace_shaped : (s : ℕ) (k : Kind) (n : ℕ) (v : RecordDraft) → IsInstanceId n → record_shape k (record_value v) ≡ Ok v → line_shape (recorded (codes "replace") s k n v) ≡ Ok (Session s (Replace (record { kind = k; number = n }) v))
+pub replace_shaped : (s : ℕ) (k : Kind) (n : ℕ) (v : RecordDraft) → IsInstanceId n → record_shape as_json k (record_value v) ≡ Ok v → line_shape (recorded (codes "replace") s k n v) ≡ Ok (Session s (Replace (record { kind = k; number = n }) v))
 unfolding line_shape command_shape replace_shape
 replace_shaped s k n v small e = rw (keyed_record_shaped (codes "replace") s k n v small e) refl
 

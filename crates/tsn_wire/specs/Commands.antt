@@ -5,7 +5,7 @@ use Rattle.serde_json.specs.Data.{Data}
 use Rattle.tsn_types.specs.declared.keys.Kind.{Kind}
 use Rattle.tsn_types.specs.declared.keys.Kind.TheVariants as kinds
 use Rattle.tsn_records.specs.Answers.{◌>>=◌, each, or_shape}
-use Rattle.tsn_records.specs.Json.{flag_at, has_members, items_at, items_list, number_at, text_at, value_at}
+use Rattle.tsn_records.specs.Json.{flag_at, has_members, items_at, items_list, as_json, number_at, text_at, value_at}
 use Rattle.tsn_records.specs.Keys.{key_of, kind_of}
 use Rattle.tsn_records.specs.Records.{record_shape}
 use Rattle.tsn_records.specs.declared.drafts.KeyDraft.{KeyDraft}
@@ -53,7 +53,7 @@ keyed_record n d = do
   _ ← has_members n d
   key ← key_at d
   value ← value_at (codes "record") d
-  r ← record_shape key.kind value
+  r ← record_shape as_json key.kind value
   Ok (key, r)
 
 unfoldable pub create_shape : Data → Result CommandDraft Unread

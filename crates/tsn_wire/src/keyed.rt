@@ -8,7 +8,7 @@ use serde_json::Value;
 use std::alloc::Global;
 use tsn_records::drafts::{KeyDraft, RecordDraft};
 use tsn_records::keys::key_of;
-use tsn_records::members::{has_members, text_at, value_at};
+use tsn_records::members::{Json, has_members, text_at, value_at};
 use tsn_records::records::record_shape;
 use tsn_records::unread::Unread;
 use tsn_types::keys::Kind;
@@ -41,7 +41,7 @@ pub fn keyed_record(
 {
     has_members(count, value)?;
     let key = key_at(value)?;
-    let record = record_shape(alloc, key.kind, value_at("record", value)?)?;
+    let record = record_shape::<Json>(alloc, key.kind, value_at("record", value)?)?;
     Ok((key, record))
 }
 

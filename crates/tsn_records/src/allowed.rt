@@ -1,4 +1,11 @@
-//! The members of a setup and of its tables, and what each may be.
+//! The members of a setup, of its tables and of records, and what each may be.
+//!
+//! A table of a setup has the members of its record, and its identifier ahead of them. An entry of a list that is an array
+//! has its members in this order.
+ghost use Rattle.std.specs.Prelude.{◌≡◌, map};
+ghost use Rattle.tsn_records.specs.Keys.{kind_text};
+ghost use Rattle.tsn_records.specs.Members.{names_of, entry_names_of, setup_names};
+
 use tsn_types::keys::Kind;
 use tsn_types::limits::{LONGEST_LIST, MOST_INSTANCES};
 use tsn_types::numbers::identifiers::{
@@ -98,8 +105,10 @@ const GATE_ENTRY: &'static [Member] = &[
 /// The kinds of tables, in the order in which they are read.
 pub const KINDS: [Kind; 4] = [Kind::Port, Kind::Filter, Kind::Gate, Kind::Meter];
 
-/// The name of the tables of a kind.
-pub fn name_of(kind: Kind) -> &'static str {
+/// The name of a kind, and of the tables of that kind.
+pub fn name_of(kind: Kind) -> &'static str
+    ensures { result.now ≡ kind_text kind }
+{
     match kind {
         Kind::Port => "port",
         Kind::Filter => "filter",
@@ -109,7 +118,9 @@ pub fn name_of(kind: Kind) -> &'static str {
 }
 
 /// The members of a table of the kind.
-pub fn members_of(kind: Kind) -> &'static [Member] {
+pub fn members_of(kind: Kind) -> &'static [Member]
+    ensures { map (λ member. member.0.now) result.now ≡ names_of kind }
+{
     match kind {
         Kind::Port => PORT,
         Kind::Filter => FILTER,
@@ -119,7 +130,9 @@ pub fn members_of(kind: Kind) -> &'static [Member] {
 }
 
 /// The members of an entry of its list; none where it has no list.
-pub fn entry_members_of(kind: Kind) -> &'static [Member] {
+pub fn entry_members_of(kind: Kind) -> &'static [Member]
+    ensures { map (λ member. member.0.now) result.now ≡ entry_names_of kind }
+{
     match kind {
         Kind::Port => PORT_ENTRY,
         Kind::Gate => GATE_ENTRY,
