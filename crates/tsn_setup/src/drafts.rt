@@ -2,7 +2,7 @@
 use tsn_records::drafts::RecordDraft;
 
 /// The limits that are given.
-#[derive(Clone, Copy, Debug, PartialEq, Eq)]
+#[derive(Clone, Copy, Debug, Default, PartialEq, Eq)]
 pub struct LimitsDraft {
     pub ports: Option<u64>,
     pub max_filters: Option<u64>,

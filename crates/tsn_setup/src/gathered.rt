@@ -8,20 +8,20 @@ use std::alloc::Global;
 use toml_parser::text::{first, skip, skip_blank};
 
 /// The members of a table, as far as they were read.
-pub trait Gathered: Drop {
+pub trait Gathered: Default + Drop {
     ghost slots: { Self → Slots };
 
     // how many brackets a value may have in one another
     ghost nesting: { ℕ };
-
-    fn none() -> Self
-        ensures { AreOpen (slots result) };
 
     /// Reads the next member. None where it is none that may come, came before or is spelled in another way, and where memory
     /// is refused.
     fn member<'a>(&mut self, alloc: Global, text: &'a str) -> Option<&'a str>
         ensures member { IfSome result (λ rest. ReadsMember nesting text.now (slots self.old) (slots self.new) rest.now) }
         ensures shorter { IfSome result (λ rest. length rest.now < length text.now) };
+
+    // nothing was read at first
+    ghost opens: { (found : Self) → Self.is_default found → AreOpen (slots found) };
 }
 
 // How many turns are made for a table: one for each member that it may have, nine at most, and one for its end.
@@ -55,7 +55,7 @@ pub fn inline_table<M: Gathered>(alloc: Global, text: &str) -> Option<(M, &str)>
     ensures table { IfSome result (λ p. ReadsTable text.now (M.slots p.0) p.1.now) }
     ensures shorter { IfSome result (λ p. length p.1.now < length text.now) }
 {
-    let mut found = M::none();
+    let mut found = M::default();
     let mut rest = text;
     'members: for _ in 0..TURNS {
         let start = skip_blank(rest, true);
@@ -74,7 +74,7 @@ pub fn table_lines<M: Gathered>(alloc: Global, text: &str) -> Option<(M, &str)>
     ensures table { IfSome result (λ p. ReadsLines text.now (M.slots p.0) p.1.now) }
     ensures within { IfSome result (λ p. length p.1.now ≤ length text.now) }
 {
-    let mut found = M::none();
+    let mut found = M::default();
     let mut rest = text;
     'lines: for _ in 0..TURNS {
         let start = skip_blank(rest, true);

@@ -1,4 +1,5 @@
 //! Gate control lists in the plain spelling: arrays of inline tables.
+ghost use Rattle.std.proofs.Common.{rules};
 ghost use Rattle.std.specs.Prelude.{◌≡◌, ◌<◌, Result, length, IfSome};
 ghost use Rattle.toml.specs.Data.{Data};
 ghost use Rattle.tsn_records.specs.declared.unread.Unread.{Unread};
@@ -27,7 +28,7 @@ pub trait PlainEntry: Drop {
 }
 
 /// The members of a port's entry, as far as they were read.
-#[derive(Drop)]
+#[derive(Default, Drop)]
 pub struct PortEntryMembers {
     pub gates: Option<u64>,
     pub interval: Option<u64>,
@@ -38,13 +39,6 @@ impl Gathered for PortEntryMembers {
 
     ghost nesting = { 0 };
 
-    fn none() -> PortEntryMembers {
-        PortEntryMembers {
-            gates: None,
-            interval: None,
-        }
-    }
-
     #[tactic(auto, using(crate::proofs::Values::slot_filled))]
     fn member<'a>(&mut self, alloc: Global, text: &'a str) -> Option<&'a str> {
         match first(text) {
@@ -53,10 +47,12 @@ impl Gathered for PortEntryMembers {
             _ => None,
         }
     }
+
+    ghost opens = { λ found h. Prim.search rules };
 }
 
 /// The members of a stream gate's entry, as far as they were read.
-#[derive(Drop)]
+#[derive(Default, Drop)]
 pub struct GateEntryMembers {
     pub open: Option<bool>,
     pub ipv: Option<u64>,
@@ -69,15 +65,6 @@ impl Gathered for GateEntryMembers {
 
     ghost nesting = { 0 };
 
-    fn none() -> GateEntryMembers {
-        GateEntryMembers {
-            open: None,
-            ipv: None,
-            interval: None,
-            octets: None,
-        }
-    }
-
     #[tactic(auto, using(crate::proofs::Values::slot_filled))]
     fn member<'a>(&mut self, alloc: Global, text: &'a str) -> Option<&'a str> {
         match (first(text), byte_at(text, 1)) {
@@ -88,6 +75,8 @@ impl Gathered for GateEntryMembers {
             _ => None,
         }
     }
+
+    ghost opens = { λ found h. Prim.search rules };
 }
 
 impl PlainEntry for PortEntryDraft {

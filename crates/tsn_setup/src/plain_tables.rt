@@ -1,4 +1,5 @@
 //! The tables of a document in the plain spelling: records of each kind, whose members come in any order.
+ghost use Rattle.std.proofs.Common.{rules};
 ghost use Rattle.std.specs.Prelude.{◌≡◌, ◌≤◌, length, IfSome};
 ghost use Rattle.tsn_types.specs.declared.keys.Kind.TheVariants as kinds;
 ghost use Rattle.tsn_setup.specs.Plain.{ReadsTableOf};
@@ -16,7 +17,7 @@ use tsn_types::keys::Kind;
 use tsn_types::lists::ControlList;
 
 /// The members of a port's table, as far as they were read.
-#[derive(Drop)]
+#[derive(Default, Drop)]
 pub struct PortMembers {
     pub id: Option<u64>,
     pub gates: Option<u64>,
@@ -31,17 +32,6 @@ impl Gathered for PortMembers {
 
     ghost nesting = { 2 };
 
-    fn none() -> PortMembers {
-        PortMembers {
-            id: None,
-            gates: None,
-            list: None,
-            cycle: None,
-            extension: None,
-            base: None,
-        }
-    }
-
     #[tactic(auto, using(crate::proofs::Values::slot_filled))]
     fn member<'a>(&mut self, alloc: Global, text: &'a str) -> Option<&'a str> {
         match first(text) {
@@ -54,10 +44,12 @@ impl Gathered for PortMembers {
             _ => None,
         }
     }
+
+    ghost opens = { λ found h. Prim.search rules };
 }
 
 /// The members of a filter's table, as far as they were read.
-#[derive(Drop)]
+#[derive(Default, Drop)]
 pub struct FilterMembers {
     pub id: Option<u64>,
     pub handle: Option<u64>,
@@ -73,18 +65,6 @@ impl Gathered for FilterMembers {
 
     ghost nesting = { 0 };
 
-    fn none() -> FilterMembers {
-        FilterMembers {
-            id: None,
-            handle: None,
-            priority: None,
-            gate: None,
-            max_sdu: None,
-            meter: None,
-            oversize: None,
-        }
-    }
-
     #[tactic(auto, using(crate::proofs::Values::slot_filled))]
     fn member<'a>(&mut self, alloc: Global, text: &'a str) -> Option<&'a str> {
         match (first(text), byte_at(text, 1)) {
@@ -98,10 +78,12 @@ impl Gathered for FilterMembers {
             _ => None,
         }
     }
+
+    ghost opens = { λ found h. Prim.search rules };
 }
 
 /// The members of a stream gate's table, as far as they were read.
-#[derive(Drop)]
+#[derive(Default, Drop)]
 pub struct GateMembers {
     pub id: Option<u64>,
     pub open: Option<bool>,
@@ -119,20 +101,6 @@ impl Gathered for GateMembers {
 
     ghost nesting = { 2 };
 
-    fn none() -> GateMembers {
-        GateMembers {
-            id: None,
-            open: None,
-            ipv: None,
-            list: None,
-            cycle: None,
-            extension: None,
-            base: None,
-            invalid_rx: None,
-            octets_exceeded: None,
-        }
-    }
-
     #[tactic(auto, using(crate::proofs::Values::slot_filled))]
     fn member<'a>(&mut self, alloc: Global, text: &'a str) -> Option<&'a str> {
         match (first(text), byte_at(text, 1)) {
@@ -148,10 +116,12 @@ impl Gathered for GateMembers {
             _ => None,
         }
     }
+
+    ghost opens = { λ found h. Prim.search rules };
 }
 
 /// The members of a meter's table, as far as they were read.
-#[derive(Drop)]
+#[derive(Default, Drop)]
 pub struct MeterMembers {
     pub id: Option<u64>,
     pub cir: Option<u64>,
@@ -169,20 +139,6 @@ impl Gathered for MeterMembers {
 
     ghost nesting = { 0 };
 
-    fn none() -> MeterMembers {
-        MeterMembers {
-            id: None,
-            cir: None,
-            cbs: None,
-            eir: None,
-            ebs: None,
-            cf: None,
-            aware: None,
-            drop_yellow: None,
-            all_red: None,
-        }
-    }
-
     #[tactic(auto, using(crate::proofs::Values::slot_filled))]
     fn member<'a>(&mut self, alloc: Global, text: &'a str) -> Option<&'a str> {
         match (first(text), byte_at(text, 1)) {
@@ -198,22 +154,14 @@ impl Gathered for MeterMembers {
             _ => None,
         }
     }
+
+    ghost opens = { λ found h. Prim.search rules };
 }
 
 impl Gathered for LimitsDraft {
     ghost slots = { limits_slots };
 
     ghost nesting = { 0 };
-
-    fn none() -> LimitsDraft {
-        LimitsDraft {
-            ports: None,
-            max_filters: None,
-            max_gates: None,
-            max_meters: None,
-            list_max: None,
-        }
-    }
 
     #[tactic(auto, using(crate::proofs::Values::slot_filled))]
     fn member<'a>(&mut self, alloc: Global, text: &'a str) -> Option<&'a str> {
@@ -226,6 +174,8 @@ impl Gathered for LimitsDraft {
             _ => None,
         }
     }
+
+    ghost opens = { λ found h. Prim.search rules };
 }
 
 fn port_table(alloc: Global, text: &str) -> Option<(TableDraft, &str)>

@@ -1,4 +1,5 @@
 //! Command lines whose members come in any order, with any white space.
+ghost use Rattle.std.proofs.Common.{rules};
 ghost use Rattle.std.specs.Prelude.{◌≡◌, true, IfSome, IsTrue, Some, codes, option_map};
 ghost use Rattle.tsn_wire.specs.Lexed.{lexed};
 ghost use Rattle.tsn_wire.specs.Lines.{line_rows, IsOf, IsLine};
@@ -18,7 +19,7 @@ use tsn_types::keys::Kind;
 use tsn_types::numbers::identifiers::GREATEST_INSTANCE;
 
 /// The members of a line, as far as they were read.
-#[derive(Drop)]
+#[derive(Default, Drop)]
 pub struct LineMembers {
     pub after: Option<u64>,
     pub at: Option<u64>,
@@ -83,23 +84,6 @@ impl Gathered for LineMembers {
 
     ghost nesting = { 3 };
 
-    fn none() -> LineMembers {
-        LineMembers {
-            after: None,
-            at: None,
-            word: None,
-            handle: None,
-            key: None,
-            kind: None,
-            instant: None,
-            octets: None,
-            priority: None,
-            record: None,
-            session: None,
-            yellow: None,
-        }
-    }
-
     #[tactic(auto, using(crate::proofs::Gathering::row_filled))]
     fn member(&mut self, alloc: Global, text: &mut Cursor<'_>) -> Option<()> {
         match text.letters() {
@@ -118,6 +102,8 @@ impl Gathered for LineMembers {
             _ => None,
         }
     }
+
+    ghost opens = { λ found h. Prim.search rules };
 }
 
 // A key that some table may have.

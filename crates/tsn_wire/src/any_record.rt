@@ -1,4 +1,5 @@
 //! Records whose members come in any order.
+ghost use Rattle.std.proofs.Common.{rules};
 ghost use Rattle.std.specs.Prelude.{◌≡◌, true, IfSome};
 ghost use Rattle.tsn_records.specs.Shown.{list_array};
 ghost use Rattle.tsn_wire.specs.Lexed.{lexed, ReadsValue};
@@ -16,7 +17,7 @@ use tsn_types::keys::Kind;
 use tsn_types::lists::ControlList;
 
 /// The members of a port's record, as far as they were read.
-#[derive(Drop)]
+#[derive(Default, Drop)]
 pub struct PortMembers {
     pub base: Option<u64>,
     pub cycle: Option<u64>,
@@ -30,16 +31,6 @@ impl Gathered for PortMembers {
 
     ghost nesting = { 2 };
 
-    fn none() -> PortMembers {
-        PortMembers {
-            base: None,
-            cycle: None,
-            extension: None,
-            gates: None,
-            list: None,
-        }
-    }
-
     #[tactic(auto, using(crate::proofs::Gathering::row_filled))]
     fn member(&mut self, alloc: Global, text: &mut Cursor<'_>) -> Option<()> {
         match text.letters() {
@@ -51,10 +42,12 @@ impl Gathered for PortMembers {
             _ => None,
         }
     }
+
+    ghost opens = { λ found h. Prim.search rules };
 }
 
 /// The members of a filter's record, as far as they were read.
-#[derive(Drop)]
+#[derive(Default, Drop)]
 pub struct FilterMembers {
     pub gate: Option<u64>,
     pub handle: Option<Option<u64>>,
@@ -69,17 +62,6 @@ impl Gathered for FilterMembers {
 
     ghost nesting = { 2 };
 
-    fn none() -> FilterMembers {
-        FilterMembers {
-            gate: None,
-            handle: None,
-            max_sdu: None,
-            meter: None,
-            oversize: None,
-            priority: None,
-        }
-    }
-
     #[tactic(auto, using(crate::proofs::Gathering::row_filled))]
     fn member(&mut self, alloc: Global, text: &mut Cursor<'_>) -> Option<()> {
         match text.letters() {
@@ -92,10 +74,12 @@ impl Gathered for FilterMembers {
             _ => None,
         }
     }
+
+    ghost opens = { λ found h. Prim.search rules };
 }
 
 /// The members of a gate's record, as far as they were read.
-#[derive(Drop)]
+#[derive(Default, Drop)]
 pub struct GateMembers {
     pub base: Option<u64>,
     pub cycle: Option<u64>,
@@ -112,19 +96,6 @@ impl Gathered for GateMembers {
 
     ghost nesting = { 2 };
 
-    fn none() -> GateMembers {
-        GateMembers {
-            base: None,
-            cycle: None,
-            extension: None,
-            invalid_rx: None,
-            ipv: None,
-            list: None,
-            octets_exceeded: None,
-            open: None,
-        }
-    }
-
     #[tactic(auto, using(crate::proofs::Gathering::row_filled))]
     fn member(&mut self, alloc: Global, text: &mut Cursor<'_>) -> Option<()> {
         match text.letters() {
@@ -139,10 +110,12 @@ impl Gathered for GateMembers {
             _ => None,
         }
     }
+
+    ghost opens = { λ found h. Prim.search rules };
 }
 
 /// The members of a meter's record, as far as they were read.
-#[derive(Drop)]
+#[derive(Default, Drop)]
 pub struct MeterMembers {
     pub all_red: Option<bool>,
     pub aware: Option<bool>,
@@ -159,19 +132,6 @@ impl Gathered for MeterMembers {
 
     ghost nesting = { 2 };
 
-    fn none() -> MeterMembers {
-        MeterMembers {
-            all_red: None,
-            aware: None,
-            cbs: None,
-            cf: None,
-            cir: None,
-            drop_yellow: None,
-            ebs: None,
-            eir: None,
-        }
-    }
-
     #[tactic(auto, using(crate::proofs::Gathering::row_filled))]
     fn member(&mut self, alloc: Global, text: &mut Cursor<'_>) -> Option<()> {
         match text.letters() {
@@ -186,6 +146,8 @@ impl Gathered for MeterMembers {
             _ => None,
         }
     }
+
+    ghost opens = { λ found h. Prim.search rules };
 }
 
 fn port_of(found: PortMembers) -> Option<PortDraft>

@@ -8,19 +8,19 @@ use crate::values::Scanned;
 use std::alloc::Global;
 
 /// The members of an object, as far as they were read.
-pub trait Gathered: Drop {
+pub trait Gathered: Default + Drop {
     ghost rows: { Self → Rows };
 
     // how many brackets a value may have in one another
     ghost nesting: { ℕ };
 
-    fn none() -> Self
-        ensures { AreOpen (rows result) };
-
     /// Reads the next member; None where it is none that may come, or came before.
     fn member(&mut self, alloc: Global, text: &mut Cursor<'_>) -> Option<()>
         ensures { IfSome result (λ _. ReadsMember nesting (lexed text.old) (rows self.old)
             (rows self.new) (lexed text.new)) };
+
+    // nothing was read at first
+    ghost opens: { (found : Self) → Self.is_default found → AreOpen (rows found) };
 }
 
 // No object has more members.
@@ -34,7 +34,7 @@ pub fn members<M: Gathered>(alloc: Global, text: &mut Cursor<'_>) -> Option<(M, 
     if !text.mark(b'{') {
         return None;
     }
-    let mut found = M::none();
+    let mut found = M::default();
     let mut count: u32 = 0;
     'members: while count < MOST {
         text.skip();
