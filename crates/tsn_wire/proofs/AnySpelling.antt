@@ -102,21 +102,10 @@ nothing_left rest now passed none = sym passed ∙ ap lexed none
 
 record_kept : (k : Kind) (r : RecordDraft) → IsOf k r → record_shape as_json k (record_value r) ≡ Ok r
 record_kept kinds.Port (records.Port r) of = rw (port_shaped r)
-record_kept kinds.Port (records.Filter r) of = absurd of
-record_kept kinds.Port (records.Gate r) of = absurd of
-record_kept kinds.Port (records.Meter r) of = absurd of
-record_kept kinds.Filter (records.Port r) of = absurd of
 record_kept kinds.Filter (records.Filter r) of = rw (filter_shaped r)
-record_kept kinds.Filter (records.Gate r) of = absurd of
-record_kept kinds.Filter (records.Meter r) of = absurd of
-record_kept kinds.Gate (records.Port r) of = absurd of
-record_kept kinds.Gate (records.Filter r) of = absurd of
 record_kept kinds.Gate (records.Gate r) of = rw (gate_shaped r)
-record_kept kinds.Gate (records.Meter r) of = absurd of
-record_kept kinds.Meter (records.Port r) of = absurd of
-record_kept kinds.Meter (records.Filter r) of = absurd of
-record_kept kinds.Meter (records.Gate r) of = absurd of
 record_kept kinds.Meter (records.Meter r) of = rw (meter_shaped r)
+record_kept k r of = absurd of
 
 now_shaped : (word : List ℕ) (s : ℕ) (k : Kind) (n now : ℕ) → IsInstanceId n → MayHaveList k → listed_at (codes "now") (object (act_members word s (record { kind = k; number = n }) now)) ≡ Ok (record { kind = k; number = n }, now)
 unfolding listed_at

@@ -148,21 +148,10 @@ meter_plain r small = record {
 
 record_plain : (k : Kind) (r : RecordDraft) → RecordIsSmall k r → IsPlain 3 (record_value r)
 record_plain kinds.Port (records.Port r) small = port_plain r small
-record_plain kinds.Port (records.Filter r) small = absurd small
-record_plain kinds.Port (records.Gate r) small = absurd small
-record_plain kinds.Port (records.Meter r) small = absurd small
-record_plain kinds.Filter (records.Port r) small = absurd small
 record_plain kinds.Filter (records.Filter r) small = filter_plain r small
-record_plain kinds.Filter (records.Gate r) small = absurd small
-record_plain kinds.Filter (records.Meter r) small = absurd small
-record_plain kinds.Gate (records.Port r) small = absurd small
-record_plain kinds.Gate (records.Filter r) small = absurd small
 record_plain kinds.Gate (records.Gate r) small = gate_plain r small
-record_plain kinds.Gate (records.Meter r) small = absurd small
-record_plain kinds.Meter (records.Port r) small = absurd small
-record_plain kinds.Meter (records.Filter r) small = absurd small
-record_plain kinds.Meter (records.Gate r) small = absurd small
 record_plain kinds.Meter (records.Meter r) small = meter_plain r small
+record_plain k r small = absurd small
 
 pub port_shaped : (r : PortDraft) → port_shape as_json (port_value r) ≡ Ok r
 unfolding port_shape schedule_shape entries_shape
@@ -182,21 +171,10 @@ meter_shaped r = refl
 
 record_shaped : (k : Kind) (r : RecordDraft) → RecordIsSmall k r → record_shape as_json k (record_value r) ≡ Ok r
 record_shaped kinds.Port (records.Port r) small = rw (port_shaped r)
-record_shaped kinds.Port (records.Filter r) small = absurd small
-record_shaped kinds.Port (records.Gate r) small = absurd small
-record_shaped kinds.Port (records.Meter r) small = absurd small
-record_shaped kinds.Filter (records.Port r) small = absurd small
 record_shaped kinds.Filter (records.Filter r) small = rw (filter_shaped r)
-record_shaped kinds.Filter (records.Gate r) small = absurd small
-record_shaped kinds.Filter (records.Meter r) small = absurd small
-record_shaped kinds.Gate (records.Port r) small = absurd small
-record_shaped kinds.Gate (records.Filter r) small = absurd small
 record_shaped kinds.Gate (records.Gate r) small = rw (gate_shaped r)
-record_shaped kinds.Gate (records.Meter r) small = absurd small
-record_shaped kinds.Meter (records.Port r) small = absurd small
-record_shaped kinds.Meter (records.Filter r) small = absurd small
-record_shaped kinds.Meter (records.Gate r) small = absurd small
 record_shaped kinds.Meter (records.Meter r) small = rw (meter_shaped r)
+record_shaped k r small = absurd small
 
 -- ---- commands
 

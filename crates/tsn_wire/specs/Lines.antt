@@ -44,10 +44,7 @@ IsOf kinds.Port (records.Port r) = ⊤
 IsOf kinds.Filter (records.Filter r) = ⊤
 IsOf kinds.Gate (records.Gate r) = ⊤
 IsOf kinds.Meter (records.Meter r) = ⊤
-IsOf kinds.Port r = ⊥
-IsOf kinds.Filter r = ⊥
-IsOf kinds.Gate r = ⊥
-IsOf kinds.Meter r = ⊥
+IsOf k r = ⊥
 
 -- The members of each line in ascending order of their names: `{"do":WORD,"s":S}` and with a key, with a record, with an instant.
 abbrev pub bare_members : List ℕ → ℕ → Members

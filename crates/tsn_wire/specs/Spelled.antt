@@ -120,10 +120,7 @@ RecordIsSmall kinds.Port (Port r) = PortIsSmall r
 RecordIsSmall kinds.Filter (Filter r) = FilterIsSmall r
 RecordIsSmall kinds.Gate (Gate r) = GateIsSmall r
 RecordIsSmall kinds.Meter (Meter r) = MeterIsSmall r
-RecordIsSmall kinds.Port r = ⊥
-RecordIsSmall kinds.Filter r = ⊥
-RecordIsSmall kinds.Gate r = ⊥
-RecordIsSmall kinds.Meter r = ⊥
+RecordIsSmall k r = ⊥
 
 -- an edit whose key some table may have, and whose numbers are such
 abbrev pub EditIsSmall : EditDraft → Type 0
