@@ -1,5 +1,5 @@
 -- A value of an accepted shape is the value of its draft.
-use Rattle.std.proofs.Common.{◌≡◌, ℕ, suc, List, [], ◌∷◌, map, Bool, Option, Some, None, option_and_then, option_map, Result, Ok, codes, refl, sym, ap, ap₂, subst, ◌∙◌, arith}
+use Rattle.std.proofs.Common.{◌≡◌, ℕ, suc, List, [], ◌∷◌, map, Bool, Option, Some, None, option_and_then, option_map, Result, Ok, codes, refl, sym, ap, ap₂, ◌∙◌, arith}
 use Rattle.serde_json.specs.Data.{Data, null, boolean, number, unsigned, negative, float, string, array, object, Items, no_items, item}
 use Rattle.serde_json.specs.Find.{at, get, get_item, as_bool, as_str, as_array}
 use Rattle.serde_json.specs.View.{items_of}

@@ -212,33 +212,17 @@ record IsWhole (count : ℕ) (d : Data) : Type 0 where
   rise : Rise (members_of d)
   len : count ≡ members_len (members_of d)
 
-record_read : {R : Type 0} (n : ℕ) (text rest : List Lexeme) (rows : Rows) (count wanted : ℕ) (value : R → Data) (o : Option R) → ((r : R) → IsWhole wanted (value r)) → ReadsMembers n text rows count rest → count ≡ wanted
-    → IfSome o (λ r. AllTold rows (members_of (value r))) → IfSome o (λ r. ReadsValue (n + 1) text (value r) rest)
-record_read n text rest rows count wanted value None whole m len all = tt
-record_read n text rest rows count wanted value (Some r) whole m len all =
-    let w = whole r in
-    subst (λ d. ReadsValue (n + 1) text d rest) w.same (object_read n text rest rows count (members_of (value r)) m all w.rise (len ∙ w.len))
+record_read : (n : ℕ) (text rest : List Lexeme) (rows : Rows) (count : ℕ) (d : Data) → IsWhole count d → ReadsMembers n text rows count rest → AllTold rows (members_of d) → ReadsValue (n + 1) text d rest
+record_read n text rest rows count d w m all = subst (λ e. ReadsValue (n + 1) text e rest) w.same (object_read n text rest rows count (members_of d) m all w.rise w.len)
 
-port_whole : (r : PortDraft) → IsWhole 5 (port_value r)
-port_whole r = record { same = refl; rise = (refl, (refl, (refl, (refl, tt)))); len = refl }
+pub port_read : (text rest : List Lexeme) (rows : Rows) (r : PortDraft) → ReadsMembers 2 text rows 5 rest → AllTold rows (members_of (port_value r)) → ReadsValue 3 text (port_value r) rest
+port_read text rest rows r = record_read 2 text rest rows 5 (port_value r) (record { same = refl; rise = (refl, (refl, (refl, (refl, tt)))); len = refl })
 
-filter_whole : (r : FilterDraft) → IsWhole 6 (filter_value r)
-filter_whole r = record { same = refl; rise = (refl, (refl, (refl, (refl, (refl, tt))))); len = refl }
+pub filter_read : (text rest : List Lexeme) (rows : Rows) (r : FilterDraft) → ReadsMembers 2 text rows 6 rest → AllTold rows (members_of (filter_value r)) → ReadsValue 3 text (filter_value r) rest
+filter_read text rest rows r = record_read 2 text rest rows 6 (filter_value r) (record { same = refl; rise = (refl, (refl, (refl, (refl, (refl, tt))))); len = refl })
 
-gate_whole : (r : GateDraft) → IsWhole 8 (gate_value r)
-gate_whole r = record { same = refl; rise = (refl, (refl, (refl, (refl, (refl, (refl, (refl, tt))))))); len = refl }
+pub gate_read : (text rest : List Lexeme) (rows : Rows) (r : GateDraft) → ReadsMembers 2 text rows 8 rest → AllTold rows (members_of (gate_value r)) → ReadsValue 3 text (gate_value r) rest
+gate_read text rest rows r = record_read 2 text rest rows 8 (gate_value r) (record { same = refl; rise = (refl, (refl, (refl, (refl, (refl, (refl, (refl, tt))))))); len = refl })
 
-meter_whole : (r : MeterDraft) → IsWhole 8 (meter_value r)
-meter_whole r = record { same = refl; rise = (refl, (refl, (refl, (refl, (refl, (refl, (refl, tt))))))); len = refl }
-
-pub port_read : (text rest : List Lexeme) (rows : Rows) (count : ℕ) (o : Option PortDraft) → ReadsMembers 2 text rows count rest → count ≡ 5 → IfSome o (λ r. AllTold rows (members_of (port_value r))) → IfSome o (λ r. ReadsValue 3 text (port_value r) rest)
-port_read text rest rows count o m len all = record_read 2 text rest rows count 5 port_value o port_whole m len all
-
-pub filter_read : (text rest : List Lexeme) (rows : Rows) (count : ℕ) (o : Option FilterDraft) → ReadsMembers 2 text rows count rest → count ≡ 6 → IfSome o (λ r. AllTold rows (members_of (filter_value r))) → IfSome o (λ r. ReadsValue 3 text (filter_value r) rest)
-filter_read text rest rows count o m len all = record_read 2 text rest rows count 6 filter_value o filter_whole m len all
-
-pub gate_read : (text rest : List Lexeme) (rows : Rows) (count : ℕ) (o : Option GateDraft) → ReadsMembers 2 text rows count rest → count ≡ 8 → IfSome o (λ r. AllTold rows (members_of (gate_value r))) → IfSome o (λ r. ReadsValue 3 text (gate_value r) rest)
-gate_read text rest rows count o m len all = record_read 2 text rest rows count 8 gate_value o gate_whole m len all
-
-pub meter_read : (text rest : List Lexeme) (rows : Rows) (count : ℕ) (o : Option MeterDraft) → ReadsMembers 2 text rows count rest → count ≡ 8 → IfSome o (λ r. AllTold rows (members_of (meter_value r))) → IfSome o (λ r. ReadsValue 3 text (meter_value r) rest)
-meter_read text rest rows count o m len all = record_read 2 text rest rows count 8 meter_value o meter_whole m len all
+pub meter_read : (text rest : List Lexeme) (rows : Rows) (r : MeterDraft) → ReadsMembers 2 text rows 8 rest → AllTold rows (members_of (meter_value r)) → ReadsValue 3 text (meter_value r) rest
+meter_read text rest rows r = record_read 2 text rest rows 8 (meter_value r) (record { same = refl; rise = (refl, (refl, (refl, (refl, (refl, (refl, (refl, tt))))))); len = refl })

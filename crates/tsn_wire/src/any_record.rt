@@ -3,6 +3,7 @@ ghost use Rattle.std.proofs.Common.{rules};
 ghost use Rattle.std.specs.Prelude.{◌≡◌, true, IfSome};
 ghost use Rattle.tsn_records.specs.Shown.{list_array};
 ghost use Rattle.tsn_wire.specs.Lexed.{lexed, ReadsValue};
+ghost use Rattle.tsn_wire.specs.Members.{ReadsMembers};
 ghost use Rattle.tsn_wire.specs.Rows.{port_rows, filter_rows, gate_rows, meter_rows, AllTold, members_of};
 ghost use Rattle.tsn_wire.specs.Spelled.{port_value, filter_value, gate_value, meter_value, record_value};
 
@@ -222,54 +223,35 @@ fn meter_of(found: MeterMembers) -> Option<MeterDraft>
     })
 }
 
-fn port(alloc: Global, text: &mut Cursor<'_>) -> Option<PortDraft>
-    ensures { IfSome result (λ r. ReadsValue 3 (lexed text.old) (port_value r) (lexed text.new)) }
+// An object of so many members.
+fn exactly<M: Gathered>(alloc: Global, count: u32, text: &mut Cursor<'_>) -> Option<M>
+    ensures { IfSome result (λ found. ReadsMembers M.nesting (lexed text.old) (M.rows found) count (lexed text.new)) }
 {
-    let (found, count) = members::<PortMembers>(alloc, text)?;
-    if count != 5 {
-        return None;
-    }
-    port_of(found)
-}
-
-fn filter(alloc: Global, text: &mut Cursor<'_>) -> Option<FilterDraft>
-    ensures { IfSome result (λ r. ReadsValue 3 (lexed text.old) (filter_value r) (lexed text.new)) }
-{
-    let (found, count) = members::<FilterMembers>(alloc, text)?;
-    if count != 6 {
-        return None;
-    }
-    filter_of(found)
-}
-
-fn gate(alloc: Global, text: &mut Cursor<'_>) -> Option<GateDraft>
-    ensures { IfSome result (λ r. ReadsValue 3 (lexed text.old) (gate_value r) (lexed text.new)) }
-{
-    let (found, count) = members::<GateMembers>(alloc, text)?;
-    if count != 8 {
-        return None;
-    }
-    gate_of(found)
-}
-
-fn meter(alloc: Global, text: &mut Cursor<'_>) -> Option<MeterDraft>
-    ensures { IfSome result (λ r. ReadsValue 3 (lexed text.old) (meter_value r) (lexed text.new)) }
-{
-    let (found, count) = members::<MeterMembers>(alloc, text)?;
-    if count != 8 {
-        return None;
-    }
-    meter_of(found)
+    let (found, read) = members::<M>(alloc, text)?;
+    if read == count { Some(found) } else { None }
 }
 
 /// A record of that kind.
+#[tactic(auto, using(crate::proofs::Gathering::port_read, crate::proofs::Gathering::filter_read, crate::proofs::Gathering::gate_read, crate::proofs::Gathering::meter_read))]
 pub fn record(alloc: Global, kind: Kind, text: &mut Cursor<'_>) -> Option<RecordDraft>
     ensures { IfSome result (λ r. ReadsValue 3 (lexed text.old) (record_value r) (lexed text.new)) }
 {
     match kind {
-        Kind::Port => Some(RecordDraft::Port(port(alloc, text)?)),
-        Kind::Filter => Some(RecordDraft::Filter(filter(alloc, text)?)),
-        Kind::Gate => Some(RecordDraft::Gate(gate(alloc, text)?)),
-        Kind::Meter => Some(RecordDraft::Meter(meter(alloc, text)?)),
+        Kind::Port => {
+            let found = exactly::<PortMembers>(alloc, 5, text)?;
+            Some(RecordDraft::Port(port_of(found)?))
+        }
+        Kind::Filter => {
+            let found = exactly::<FilterMembers>(alloc, 6, text)?;
+            Some(RecordDraft::Filter(filter_of(found)?))
+        }
+        Kind::Gate => {
+            let found = exactly::<GateMembers>(alloc, 8, text)?;
+            Some(RecordDraft::Gate(gate_of(found)?))
+        }
+        Kind::Meter => {
+            let found = exactly::<MeterMembers>(alloc, 8, text)?;
+            Some(RecordDraft::Meter(meter_of(found)?))
+        }
     }
 }
