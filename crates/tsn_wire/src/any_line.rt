@@ -35,22 +35,41 @@ pub struct LineMembers {
     pub yellow: Option<bool>,
 }
 
-// The kind of the record that comes next: that of the key, where one was read before, or else guessed from the first two letters
-// of the first member's name. Missed is a port whose members begin with `gates`, which is taken for a filter, and a gate whose members
-// begin with `base`, `cycle`, `extension` or `list`, which is taken for a port. A wrong guess costs another way to read the line, and
-// nothing else.
-fn kind_ahead(key: Option<KeyDraft>, text: &mut Cursor<'_>) -> Kind
-    ensures { lexed text.new ≡ lexed text.old }
-{
-    if let Some(key) = key {
-        return key.kind;
+// The kind whose records alone have a member of the name with these letters, the first, the second and the fifth; none for the four
+// names that ports and gates share.
+fn kind_named(letters: (u8, u8, u8)) -> Option<Kind> {
+    match letters {
+        (b'b', _, _) | (b'c', b'y', _) | (b'e', b'x', _) | (b'l', _, _) => None,
+        (b'g', _, b's') => Some(Kind::Port),
+        (b'i', _, _) | (b'o', b'p', _) | (b'o', b'c', _) => Some(Kind::Gate),
+        (b'a', _, _) | (b'c', _, _) | (b'd', _, _) | (b'e', _, _) => Some(Kind::Meter),
+        _ => Some(Kind::Filter),
     }
-    text.skip();
-    match text.letters_inside() {
-        (b'b', _) | (b'c', b'y') | (b'e', b'x') | (b'l', _) => Kind::Port,
-        (b'i', _) | (b'o', b'p') | (b'o', b'c') => Kind::Gate,
-        (b'a', _) | (b'c', _) | (b'd', _) | (b'e', _) => Kind::Meter,
-        _ => Kind::Filter,
+}
+
+// The kind of the record that the text begins with, guessed from the first of its names that one kind alone has. In a record just the
+// names stand in quotes. A wrong guess costs another way to read the line, and nothing else.
+fn guessed(text: &[u8]) -> Kind {
+    let mut is_name = false;
+    for (place, byte) in text.iter().enumerate() {
+        if *byte == b'"' {
+            is_name = !is_name;
+            if is_name && place + 5 < text.len() {
+                let letters = (text[place + 1], text[place + 2], text[place + 5]);
+                if let Some(kind) = kind_named(letters) {
+                    return kind;
+                }
+            }
+        }
+    }
+    Kind::Port
+}
+
+// The kind of the record that comes next: that of the key, where one was read before.
+fn kind_ahead(key: Option<KeyDraft>, text: &Cursor<'_>) -> Kind {
+    match key {
+        Some(key) => key.kind,
+        None => guessed(text.rest()),
     }
 }
 
@@ -417,7 +436,7 @@ fn line_draft(found: LineMembers, count: u32) -> Option<LineDraft>
 
 /// The draft that a line is, whatever the order of its members and the white space between; none, for instance, of a
 /// batch and of a settle, where a member is missing, unknown or given twice, where a text has an escape, where the kind of a record ahead
-/// of its key is not the one that its first member lets guess, where a key's number is over 65,535, or where memory is wanting.
+/// of its key is not the one that its members let guess, where a key's number is over 65,535, or where memory is wanting.
 pub fn any_draft(alloc: Global, line: &[u8]) -> Option<LineDraft>
     ensures { IfSome result (λ draft. reading line.now ≡ line_of_draft draft) }
 {

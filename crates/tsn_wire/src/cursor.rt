@@ -200,16 +200,9 @@ impl<'a> Cursor<'a> {
         (rest[1], rest[2])
     }
 
-    /// The first two letters of the first name in quotes within the next few bytes, for a guess at what an object is; zeros where
-    /// there are none.
-    pub fn letters_inside(&self) -> (u8, u8) {
-        let rest = &self.text[self.at..];
-        for (place, byte) in rest.iter().enumerate().take(8) {
-            if *byte == b'"' && place + 2 < rest.len() {
-                return (rest[place + 1], rest[place + 2]);
-            }
-        }
-        (0, 0)
+    /// What is left, for a guess at what it is.
+    pub fn rest(&self) -> &[u8] {
+        &self.text[self.at..]
     }
 
     /// Whether a number or a word may end here.
