@@ -4,7 +4,7 @@
 //! has its members in this order.
 ghost use Rattle.std.specs.Prelude.{◌≡◌, map};
 ghost use Rattle.tsn_records.specs.Keys.{kind_text};
-ghost use Rattle.tsn_records.specs.Members.{names_of, entry_names_of, setup_names};
+ghost use Rattle.tsn_records.specs.Members.{names_of, entry_names_of};
 
 use tsn_types::keys::Kind;
 use tsn_types::limits::{LONGEST_LIST, MOST_INSTANCES};

@@ -1,5 +1,5 @@
 -- The shapes of the tables of a setup: an identifier and a record, whose members stand in the same table; and the limits.
-use Rattle.std.specs.Prelude.{ℕ, List, [], ◌∷◌, ◌++◌, Option, Some, None, Result, Ok, codes}
+use Rattle.std.specs.Prelude.{List, [], ◌++◌, Option, Some, None, Result, Ok, codes}
 use Rattle.toml.specs.Data.{Data, Items}
 use Rattle.tsn_types.specs.declared.keys.Kind.{Kind}
 use Rattle.tsn_types.specs.declared.keys.Kind.TheVariants as kinds
