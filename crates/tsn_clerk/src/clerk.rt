@@ -140,11 +140,7 @@ impl<'a, W: Wait, C: Clock + Drop, D: Device + Drop, R: Naming, K: Naming + Ahea
         requires { is_accepted _reply.now ≡ true }
         ensures { IfSome result (λ lines. EndsWith lines self.now.line) }
     {
-        let last = self.commit.recorded(self.rt);
-        match self.commit.record(self.rt, &last, self.line.bytes()) {
-            Ok(lines) => Some(lines),
-            Err(_) => None,
-        }
+        self.commit.add(self.rt, self.line.bytes()).ok()
     }
 
     // Records an act at the instant that the reply tells.

@@ -1,13 +1,16 @@
 //! What threads record into, and settle at.
-ghost use Rattle.std.specs.Prelude.{◌≡◌, ◌++◌, [], ◌∷◌, IfOk, IfSome};
+ghost use Rattle.std.specs.Prelude.{◌≡◌, ◌++◌, [], ◌∷◌, ℕ, List, IfOk, IfSome};
 ghost use Rattle.tsn_history.specs.Texts.{BeginsWith};
 ghost use Rattle.tsn_commit.specs.Lines.{IsLine};
 ghost use Rattle.tsn_commit.specs.Resting.{Begins, Rests};
 
+use crate::bed::Bed;
+use crate::job::Done;
 use crate::scribe::Ahead;
 use crate::state::{RecordFault, State, Stopped};
+use crate::told::Told;
 use std::alloc::{AllocError, Global};
-use std::sync::{Condvar, Mutex, MutexGuard, Wait};
+use std::sync::{Mutex, MutexGuard, Wait};
 use tsn_device::Device;
 use tsn_history::{Book, Front, Naming};
 use tsn_keeping::{Clock, Keeper};
@@ -17,7 +20,12 @@ use tsn_keeping::{Clock, Keeper};
 pub struct Commit<C: Clock, D: Device, R: Naming, K: Naming + Ahead> {
     records: Book<R>,
     state: Mutex<State<C, D, R, K>>,
-    changed: Condvar,
+    // What is kept has a lock of its own, so that those who were woken are not in the way of who records.
+    told: Mutex<Told<R, K>>,
+    // Who waits for the lines that are handed out sleeps in one of the two, and who waits for later ones in the other; with each
+    // handing out they change their parts.
+    even: Bed,
+    odd: Bed,
 }
 
 impl<C: Clock + Drop, D: Device + Drop, R: Naming, K: Naming + Ahead> Commit<C, D, R, K> {
@@ -33,11 +41,18 @@ impl<C: Clock + Drop, D: Device + Drop, R: Naming, K: Naming + Ahead> Commit<C, 
         requires keeper { Begins K.had K.digest keeper }
         requires fronts { (records.1 ≡ []) × (keeps.1 ≡ []) }
     {
+        let told = Told {
+            records: records.1.again(),
+            kept: keeps.1.again(),
+            stopped: false,
+        };
         let state = State::new(alloc, keeper, clock, records.1, keeps)?;
         Ok(Commit {
             records: records.0,
             state: Mutex::new(state),
-            changed: Condvar::new(),
+            told: Mutex::new(told),
+            even: Bed::new(),
+            odd: Bed::new(),
         })
     }
 
@@ -53,12 +68,28 @@ impl<C: Clock + Drop, D: Device + Drop, R: Naming, K: Naming + Ahead> Commit<C, 
         requires { IsLine line.now }
         ensures { IfOk result (λ mine. mine ≡ last.now ++ line.now ∷ []) }
     {
-        let mut state = self.state.lock(rt);
         'turns: for _ in rt.forever() {
+            let mut state = self.state.lock(rt);
             if let Some(recorded) = state.record(&self.records, last, line) {
                 return recorded;
             }
-            state = self.turn(rt, state);
+            self.turn(rt, state, last);
+        }
+        unreachable!()
+    }
+
+    /// Records a command line behind all that is recorded. It waits as `record` does.
+    pub fn add<W: Wait>(&self, rt: &W, line: &[u8]) -> Result<Front<R>, RecordFault>
+        requires { IsLine line.now }
+        ensures { IfOk result (λ mine. (before : List (List ℕ)) × (mine ≡ before ++ line.now ∷ [])) }
+    {
+        'turns: for _ in rt.forever() {
+            let mut state = self.state.lock(rt);
+            let last = state.recorded();
+            if let Some(recorded) = state.record(&self.records, &last, line) {
+                return recorded;
+            }
+            self.turn(rt, state, &last);
         }
         unreachable!()
     }
@@ -73,12 +104,11 @@ impl<C: Clock + Drop, D: Device + Drop, R: Naming, K: Naming + Ahead> Commit<C, 
     pub fn settle<W: Wait>(&self, rt: &W, mine: &Front<R>) -> Result<Front<K>, Stopped>
         ensures { IfOk result (λ kept. BeginsWith kept mine.now) }
     {
-        let mut state = self.state.lock(rt);
         'turns: for _ in rt.forever() {
-            if let Some(outcome) = state.outcome(mine) {
+            if let Some(outcome) = self.told.lock(rt).outcome(mine) {
                 return outcome;
             }
-            state = self.turn(rt, state);
+            self.turn(rt, self.state.lock(rt), mine);
         }
         unreachable!()
     }
@@ -86,24 +116,42 @@ impl<C: Clock + Drop, D: Device + Drop, R: Naming, K: Naming + Ahead> Commit<C, 
     /// Ends the commit, as a failed call of the device does: nothing is recorded or kept any more.
     pub fn stop<W: Wait>(&self, rt: &W) {
         self.state.lock(rt).stop();
-        self.changed.notify_all();
+        self.told.lock(rt).stop();
+        self.even.wake_all();
+        self.odd.wake_all();
     }
 
-    // Has all that waits be kept, with no lock held meanwhile; or, where somebody is at it, waits until that is done.
-    fn turn<'a, W: Wait>(
-        &'a self,
-        rt: &W,
-        mut state: MutexGuard<'a, State<C, D, R, K>>,
-    ) -> MutexGuard<'a, State<C, D, R, K>> {
+    // Has all that waits be kept, with no lock held meanwhile; or, where somebody is at it, sleeps until what was handed out is
+    // kept, and, if the front is not among that, until somebody has to go on with the rest.
+    fn turn<W: Wait>(&self, rt: &W, mut state: MutexGuard<'_, State<C, D, R, K>>, mine: &Front<R>) {
         let Some(job) = state.hand_out() else {
-            return self.changed.wait(rt, state);
+            let bed = self.bed(state.is_odd() == state.has_handed(mine));
+            let seen = bed.woken();
+            MutexGuard::unlock(state);
+            return bed.sleep(rt, seen);
         };
+        let is_odd = state.is_odd();
         MutexGuard::unlock(state);
-        let done = job.run();
-        let mut state = self.state.lock(rt);
-        state.back(done);
-        self.changed.notify_all();
-        state
+        match job.run() {
+            Some(done) => self.tell(rt, done, is_odd),
+            None => self.stop(rt),
+        }
+    }
+
+    // Tells that what was handed out is kept, and wakes all that wait for it, and one of the others, to go on.
+    fn tell<W: Wait>(&self, rt: &W, done: Done<C, D, R, K>, is_odd: bool) {
+        let (records, kept) = done.told();
+        self.told.lock(rt).tell(records, kept);
+        if !self.state.lock(rt).back(done) {
+            return self.stop(rt);
+        }
+        self.bed(!is_odd).wake_one();
+        self.bed(is_odd).wake_all();
+    }
+
+    // The bed of those who wait for what this mark is of.
+    fn bed(&self, is_odd: bool) -> &Bed {
+        if is_odd { &self.odd } else { &self.even }
     }
 
     /// The keeper, unless the device has failed, and all that its journal keeps of what was recorded, as a front of the kept
@@ -114,7 +162,9 @@ impl<C: Clock + Drop, D: Device + Drop, R: Naming, K: Naming + Ahead> Commit<C, 
         let Commit {
             records: _,
             state,
-            changed: _,
+            told: _,
+            even: _,
+            odd: _,
         } = self;
         state.into_inner().into_keeper()
     }

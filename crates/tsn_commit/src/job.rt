@@ -81,3 +81,12 @@ impl<C: Clock + Drop, D: Device + Drop, R: Naming, K: Naming + Ahead> Job<C, D, 
         })
     }
 }
+
+impl<C: Clock + Drop, D: Device + Drop, R: Naming, K: Naming + Ahead> Done<C, D, R, K> {
+    /// What is recorded up to here, and what is kept, which is the same.
+    pub(crate) fn told(&self) -> (Front<R>, Front<K>)
+        ensures { result.1 ≡ result.0 }
+    {
+        (self.upto.again(), self.free.scribe.kept.again())
+    }
+}

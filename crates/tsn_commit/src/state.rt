@@ -1,6 +1,5 @@
 //! What lies under the lock.
 ghost use Rattle.std.specs.Prelude.{◌≡◌, ◌++◌, [], ◌∷◌, IfOk, IfSome};
-ghost use Rattle.tsn_history.specs.Texts.{BeginsWith};
 ghost use Rattle.tsn_commit.specs.Lines.{IsLine};
 ghost use Rattle.tsn_commit.specs.Resting.{Begins, Rests};
 
@@ -27,31 +26,15 @@ pub enum RecordFault {
     Behind,
 }
 
-/// A front of what is recorded, and that of the kept text which is the same. A contract sees it.
-#[derive(Drop)]
-pub(crate) struct Told<R: Naming, K: Naming> {
-    records: Front<R>,
-    kept: Front<K>,
-}
-
-impl<R: Naming, K: Naming> Model for Told<R, K> {
-    ghost use Rattle.std.specs.Prelude.{◌≡◌, ℕ, List};
-
-    ghost Value = { List (List ℕ) };
-
-    ghost view = { λ t. t.kept };
-
-    ghost invariant = { λ t. t.kept ≡ t.records };
-}
-
 /// What is recorded, which a contract sees: the part that was handed out to be kept, and the rest, which waits. The scribe,
 /// while nobody is at it, has kept just what was handed out.
 #[derive(Drop)]
 pub(crate) struct State<C: Clock, D: Device, R: Naming, K: Naming + Ahead> {
     records: Front<R>,
     handed: Front<R>,
+    // Changes with each handing out.
+    is_odd: bool,
     waiting: Lines,
-    told: Told<R, K>,
     free: Option<Free<C, D, K>>,
     stopped: bool,
 }
@@ -82,10 +65,6 @@ impl<C: Clock + Drop, D: Device + Drop, R: Naming, K: Naming + Ahead> State<C, D
         let (keeps, kept) = keeps;
         let waiting = Lines::new(alloc)?;
         let spare = Lines::new(alloc)?;
-        let told = Told {
-            records: records.again(),
-            kept: kept.again(),
-        };
         let scribe = Scribe {
             keeper,
             clock,
@@ -96,8 +75,8 @@ impl<C: Clock + Drop, D: Device + Drop, R: Naming, K: Naming + Ahead> State<C, D
         Ok(State {
             records,
             handed,
+            is_odd: false,
             waiting,
-            told,
             free: Some(Free { scribe, spare }),
             stopped: false,
         })
@@ -139,18 +118,14 @@ impl<C: Clock + Drop, D: Device + Drop, R: Naming, K: Naming + Ahead> State<C, D
         self.records.again()
     }
 
-    /// What is kept, where that begins with this front; that it never will, where the device has failed; and none while it is
-    /// still to be kept.
-    pub(crate) fn outcome(&self, mine: &Front<R>) -> Option<Result<Front<K>, Stopped>>
-        ensures { IfSome result (λ r. IfOk r (λ kept. BeginsWith kept mine.now)) }
-    {
-        if self.told.records.covers(mine) {
-            return Some(Ok(self.told.kept.again()));
-        }
-        if self.stopped {
-            return Some(Err(Stopped));
-        }
-        None
+    /// Whether the front is handed out, all of it. Then one that is not is in the other half of what is recorded, which waits.
+    pub(crate) fn has_handed(&self, mine: &Front<R>) -> bool {
+        self.handed.covers(mine)
+    }
+
+    /// A mark of what was handed out last: it changes each time.
+    pub(crate) fn is_odd(&self) -> bool {
+        self.is_odd
     }
 
     /// Ends the commit.
@@ -170,6 +145,7 @@ impl<C: Clock + Drop, D: Device + Drop, R: Naming, K: Naming + Ahead> State<C, D
         let Free { scribe, spare } = free;
         let lines = mem::replace(&mut self.waiting, spare);
         self.handed = self.records.again();
+        self.is_odd = !self.is_odd;
         Some(Job {
             scribe,
             lines,
@@ -177,25 +153,17 @@ impl<C: Clock + Drop, D: Device + Drop, R: Naming, K: Naming + Ahead> State<C, D
         })
     }
 
-    /// Takes the scribe back. Where the device has failed, that ends the commit. (So it does where more was handed out since,
-    /// which is never so, since one has the scribe at a time.)
-    pub(crate) fn back(&mut self, done: Option<Done<C, D, R, K>>)
+    /// Takes the scribe back, and says whether it has kept all that was handed out. (So it always has, since one has the scribe
+    /// at a time; if not, it is let go.)
+    pub(crate) fn back(&mut self, done: Done<C, D, R, K>) -> bool
         ensures { self.new ≡ self.old }
     {
-        let Some(done) = done else {
-            self.stopped = true;
-            return;
-        };
         let Done { free, upto } = done;
         if !self.handed.is(&upto) {
-            self.stopped = true;
-            return;
+            return false;
         }
-        self.told = Told {
-            kept: free.scribe.kept.again(),
-            records: upto,
-        };
         self.free = Some(free);
+        true
     }
 
     /// The keeper, and all that its journal keeps of what was recorded, unless the device has failed.
@@ -205,8 +173,8 @@ impl<C: Clock + Drop, D: Device + Drop, R: Naming, K: Naming + Ahead> State<C, D
         let State {
             records: _,
             handed: _,
+            is_odd: _,
             waiting: _,
-            told: _,
             free,
             stopped: _,
         } = self;
