@@ -60,10 +60,10 @@ TAPRIO = (
     "cycle-time 1000 cycle-time-extension 10 clockid CLOCK_TAI\n"
 )
 GATE = (
-    "tc actions add action gate clockid CLOCK_TAI base-time 0 cycle-time 1000 cycle-time-ext 0 "
+    "tc actions replace action gate clockid CLOCK_TAI base-time 0 cycle-time 1000 cycle-time-ext 0 "
     "sched-entry open 250 5 150 sched-entry close 750 -1 -1 index 5\n"
 )
-POLICE = "tc actions add action police rate 8000000bit burst 1500 conform-exceed drop index 3\n"
+POLICE = "tc actions replace action police rate 8000000bit burst 1500 conform-exceed drop index 3\n"
 
 
 class Commands(unittest.TestCase):
@@ -82,6 +82,32 @@ class Commands(unittest.TestCase):
         status, said, errors = self.run_with(self.setup, "--port", "1", "--dev", "veth0")
         self.assertEqual((status, said), (0, TAPRIO))
         self.assertEqual(errors, "tsnd-tc: not told: the gates while no list is in force (3): taprio leaves all open\n")
+
+    def test_a_port_that_the_card_keeps(self) -> None:
+        status, said, _ = self.run_with(self.setup, "--port", "1", "--dev", "veth0", "--offload")
+        self.assertEqual((status, said), (0, TAPRIO.replace("clockid CLOCK_TAI", "flags 0x2")))
+
+    def test_a_setup_that_can_t_be_read(self) -> None:
+        for old, new, wanted in (
+            ("cycle = 1000\nextension = 10", "cycl = 1000\nextension = 10",
+             "port 1 has no member 'cycl'; it has gates, cycle, extension, base, list"),
+            ("gates = 3\n", "", "port 1 lacks 'gates'"),
+            ("{gates = 1, interval = 300}", "{gates = 1, interva = 300}",
+             "entry 1 of port 1 has no member 'interva'; it has gates, interval"),
+            ("{gates = 1, interval = 300}", "7", "entry 1 of port 1 is no table"),
+            ("[[port]]\nid = 1", "[port]\nid = 1", "the setup is no TOML: "),
+        ):
+            self.assertIn(old, SETUP)
+            Path(self.setup).write_text(SETUP.replace(old, new), encoding="utf-8")
+            status, said, errors = self.run_with(self.setup, "--port", "1", "--dev", "veth0")
+            self.assertEqual((status, said), (1, ""))
+            self.assertTrue(errors.startswith(f"tsnd-tc: {wanted}"), errors)
+
+    def test_what_tc_shows_can_t_be_read(self) -> None:
+        for text in ("{", "{}", "[7]", '[{"kind": "taprio", "options": {"schedule": [{}]}}]'):
+            Path(self.shown).write_text(text, encoding="utf-8")
+            status, said, errors = self.run_with("--from-tc", self.shown)
+            self.assertEqual((status, said, errors.count("\n")), (1, "", 1), text)
 
     def test_a_stream_gate(self) -> None:
         status, said, errors = self.run_with(self.setup, "--gate", "4")
@@ -137,6 +163,13 @@ class RealTc(unittest.TestCase):
     def test_commands_are_taken(self) -> None:
         for command in (TAPRIO, GATE, POLICE):
             self.assertFalse(self.refused_by_tc(command), command)
+
+    def test_a_second_call_replaces_the_first(self) -> None:
+        for command in (GATE, POLICE):
+            run = subprocess.run(["unshare", "-rn", "sh", "-c", command], capture_output=True, text=True, check=False)
+            if run.returncode == 0:
+                twice = subprocess.run(["unshare", "-rn", "sh", "-c", f"{command}{command}"], capture_output=True, text=True, check=False)
+                self.assertEqual((twice.returncode, twice.stderr), (0, ""), command)
 
     def test_a_wrong_command_is_not(self) -> None:
         self.assertTrue(self.refused_by_tc(TAPRIO.replace("sched-entry", "sched-entri")))

@@ -5,25 +5,31 @@
 draws the gates of a port, each traffic class a row, over some cycles from its list's base time on; FILE ends with .png, .svg or
 .pdf. Times at which every gate is closed (guard times), times for which a list's last entry goes on to the end of its cycle, and
 the time by which a cycle may be extended before a new list are marked. With a second setup below it those of the other one, and
-where the two differ. The states are those that the program tells (`tsnd states`): nothing here evaluates a list. It wants
-matplotlib.
+where the two differ: which of them has the gate open. The states are those that the program tells (`tsnd states`): nothing here
+evaluates a list. It wants matplotlib, and the program: the one that TSND names, or `tsnd` on the path, or the one that `./build` made
+in the clone that this file is of.
 """
 from __future__ import annotations
 
 import argparse
 import math
 import os
+import shutil
 import subprocess
 import sys
 from collections.abc import Sequence
+from pathlib import Path
 from typing import Any
 
 from .records import PortGates
-from .setups import Setup
+from .setups import Setup, Unread
 
 CLASSES = 8
 MOST_INSTANTS = 1_000_000
-OPEN, SHUT, DIFFERENT, LAST, GUARD, EXTENSION = "#2a7f62", "#e8e8e8", "#c8553d", "#f2d16b", "#7a7a7a", "#8a5fbf"
+OPEN, SHUT, LAST, GUARD, EXTENSION = "#2a7f62", "#e8e8e8", "#f2d16b", "#7a7a7a", "#8a5fbf"
+ONLY_FIRST, ONLY_SECOND = "#2b6cb0", "#c8553d"
+UNITS = ((1_000_000_000, "s"), (1_000_000, "ms"), (1_000, "us"))
+BUILT = Path(__file__).resolve().parents[3] / "crates/tsnd/out/tsnd"
 
 
 class Undrawn(Exception):
@@ -31,8 +37,16 @@ class Undrawn(Exception):
 
 
 def program() -> str:
-    """The program that tells the states: the variable TSND, or `tsnd` on the path."""
-    return os.environ.get("TSND", "tsnd")
+    """The program that tells the states: the one that TSND names, or `tsnd` on the path, or the one that was built in this clone."""
+    named = os.environ.get("TSND") or shutil.which("tsnd") or (str(BUILT) if BUILT.is_file() else None)
+    if named is None:
+        raise Undrawn("no program 'tsnd' on the path: install it, or let TSND name it, or build it in the clone: ./build")
+    return named
+
+
+def unit_of(length: int) -> tuple[int, str]:
+    """How many ns one of the unit has in which this time is read best, and the unit: of the greatest there are at least 2."""
+    return next(((size, name) for size, name in UNITS if length >= 2 * size), (1, "ns"))
 
 
 def port_of(path: str, number: int) -> PortGates:
@@ -53,7 +67,10 @@ def step_of(ports: Sequence[PortGates]) -> int:
 def states(path: str, number: int, start: int, step: int, count: int) -> list[int]:
     """The gates at even steps, as the program tells them."""
     words = [program(), "states", path, "--port", str(number), "--from", str(start), "--step", str(step), "--count", str(count)]
-    run = subprocess.run(words, capture_output=True, text=True, check=False)
+    try:
+        run = subprocess.run(words, capture_output=True, text=True, check=False)
+    except OSError as why:
+        raise Undrawn(f"the program {words[0]} can't be run: {why.strerror}") from why
     if run.returncode != 0:
         raise Undrawn(run.stderr.strip() or f"{words[0]} ended with status {run.returncode}")
     return [int(line.split()[1], 16) for line in run.stdout.splitlines()]
@@ -112,16 +129,31 @@ def _panel(axes: Any, title: str, gates: Sequence[int], port: PortGates, step: i
     axes.legend(fontsize=7, loc="upper left", bbox_to_anchor=(1.0, 1.0), frameon=False)
 
 
-def _difference(axes: Any, first: Sequence[int], second: Sequence[int], step: int) -> None:
+def _difference(axes: Any, names: Sequence[str], first: Sequence[int], second: Sequence[int], step: int) -> None:
     _rows(axes, "where they differ", len(first) * step)
-    for traffic_class in range(CLASSES):
-        flags = [bool((one ^ other) >> traffic_class & 1) for one, other in zip(first, second)]
-        axes.broken_barh([(at * step, count * step) for at, count in runs(flags)], (traffic_class - 0.4, 0.8), color=DIFFERENT)
+    for name, color, mine, others in ((names[0], ONLY_FIRST, first, second), (names[1], ONLY_SECOND, second, first)):
+        for traffic_class in range(CLASSES):
+            flags = [bool((one & ~other) >> traffic_class & 1) for one, other in zip(mine, others)]
+            spans = [(at * step, count * step) for at, count in runs(flags)]
+            label = f"open in {name} alone" if traffic_class == 0 else None
+            axes.broken_barh(spans, (traffic_class - 0.4, 0.8), color=color, label=label)
+    axes.legend(fontsize=7, loc="upper left", bbox_to_anchor=(1.0, 1.0), frameon=False)
+
+
+def _time(axes: Any, start: int, length: int) -> None:
+    """The times below the pictures, from the first instant on, in the unit that fits."""
+    size, name = unit_of(length)
+    axes.xaxis.set_major_formatter(lambda at, _: f"{at / size:g}")
+    axes.set_xlabel(name if start == 0 else f"{name} after the instant {start} ns")
+    axes.set_xlim(0, length)
 
 
 def draw(paths: Sequence[str], number: int, cycles: int, file: str) -> None:
     """Draws one setup, or two and where they differ."""
-    import matplotlib
+    try:
+        import matplotlib
+    except ImportError as why:
+        raise Undrawn("matplotlib is wanted: apt-get install python3-matplotlib, for /usr/bin/python3; or pip install matplotlib") from why
     matplotlib.use("Agg")
     from matplotlib import pyplot
 
@@ -136,12 +168,13 @@ def draw(paths: Sequence[str], number: int, cycles: int, file: str) -> None:
     figure, rows = pyplot.subplots(panels, 1, sharex=True, squeeze=False, figsize=(10, 2.6 * panels))
     for axes, path, gates, port in zip(rows[:, 0], paths, told, ports):
         count_of_entries = "1 entry" if len(port.list) == 1 else f"{len(port.list)} entries"
-        title = f"{os.path.basename(path)}, port {number}: cycle {port.cycle} ns, {count_of_entries}"
+        size, unit = unit_of(2 * port.cycle)
+        title = f"{os.path.basename(path)}, port {number}: cycle {port.cycle / size:.12g} {unit}, {count_of_entries}"
         _panel(axes, title, gates, port, step, start)
     if len(paths) == 2:
-        _difference(rows[2, 0], told[0], told[1], step)
-    rows[-1, 0].set_xlabel(f"ns after {start}")
-    rows[-1, 0].set_xlim(0, count * step)
+        names = [os.path.basename(path) for path in paths]
+        _difference(rows[2, 0], names if names[0] != names[1] else ["the first", "the second"], told[0], told[1], step)
+    _time(rows[-1, 0], start, count * step)
     figure.tight_layout()
     figure.savefig(file, dpi=110)
     pyplot.close(figure)
@@ -164,7 +197,7 @@ def main(words: Sequence[str] | None = None) -> int:
         if given.cycles < 1:
             raise Undrawn("--cycles is at least 1")
         draw([path for path in (given.setup, given.other) if path], given.port, given.cycles, given.output)
-    except (Undrawn, OSError, ValueError, KeyError, TypeError, ImportError) as why:
+    except (Undrawn, Unread, OSError) as why:
         print(f"tsnd-plot: {why}", file=sys.stderr)
         return 1
     return 0

@@ -2,56 +2,90 @@
 from __future__ import annotations
 
 import tomllib
+from collections.abc import Callable, Sequence
+from dataclasses import fields
 from pathlib import Path
-from typing import Any
+from typing import Any, TypeVar
 
 from .records import FlowMeter, GateEntry, PortEntry, PortGates, StreamGate
+
+Kind = TypeVar("Kind", PortGates, StreamGate, FlowMeter, PortEntry, GateEntry)
+OPTIONAL = {"ipv", "octets"}
+
+
+class Unread(Exception):
+    """What stands in a setup can't be read here; `tsnd check FILE` says more."""
+
+
+def _made(kind: type[Kind], name: str, table: Any) -> Kind:
+    """The record of a table, which has the members of its kind and no others; null ones may be left out."""
+    if not isinstance(table, dict):
+        raise Unread(f"{name} is no table")
+    members = [field.name for field in fields(kind)]
+    unknown = [member for member in table if member not in members]
+    if unknown:
+        raise Unread(f"{name} has no member '{unknown[0]}'; it has {', '.join(members)}")
+    lacking = [member for member in members if member not in table and member not in OPTIONAL]
+    if lacking:
+        raise Unread(f"{name} lacks '{lacking[0]}'")
+    given: dict[str, Any] = {member: table.get(member) for member in members}
+    return kind(**given)
 
 
 class Setup:
     """The tables of a setup by their numbers."""
 
     def __init__(self, text: str) -> None:
-        self._document = tomllib.loads(text)
+        try:
+            self._document = tomllib.loads(text)
+        except tomllib.TOMLDecodeError as why:
+            raise Unread(f"the setup is no TOML: {why}") from why
 
     @classmethod
     def read(cls, path: str | Path) -> Setup:
         """The setup of a file."""
-        return cls(Path(path).read_text(encoding="utf-8"))
+        try:
+            return cls(Path(path).read_text(encoding="utf-8"))
+        except UnicodeDecodeError as why:
+            raise Unread(f"{path} is no text in UTF-8") from why
 
     @property
     def ports(self) -> int:
         """How many ports the bridge has, 1 to 64."""
-        return int(self._document.get("ports", 2))
+        ports = self._document.get("ports", 2)
+        if not isinstance(ports, int):
+            raise Unread("ports is no number")
+        return ports
 
     def _table(self, kind: str, number: int) -> dict[str, Any] | None:
-        for table in self._document.get(kind, []):
-            if table["id"] == number:
+        tables = self._document.get(kind, [])
+        if not isinstance(tables, list):
+            raise Unread(f"{kind} is no list of tables")
+        for table in tables:
+            if isinstance(table, dict) and table.get("id") == number:
                 return {name: value for name, value in table.items() if name != "id"}
         return None
 
-    def port(self, number: int) -> PortGates | None:
-        """A port's gates, none where the setup does not name the port."""
-        table = self._table("port", number)
+    def _record(self, kind: str, number: int, made: type[Kind], row: Callable[[str, Any], Any] | None) -> Kind | None:
+        table = self._table(kind, number)
         if table is None:
             return None
-        rows = tuple(PortEntry(row["gates"], row["interval"]) for row in table["list"])
-        table["list"] = rows
-        return PortGates(**table)
+        name = f"{kind} {number}"
+        if row is not None and isinstance(table.get("list"), Sequence):
+            table["list"] = tuple(row(f"entry {place} of {name}", entry) for place, entry in enumerate(table["list"], start=1))
+        return _made(made, name, table)
+
+    def port(self, number: int) -> PortGates | None:
+        """A port's gates, none where the setup does not name the port."""
+        return self._record("port", number, PortGates, lambda name, entry: _made(PortEntry, name, entry))
 
     def gate(self, number: int) -> StreamGate | None:
         """A stream gate, none where there is none of this number."""
-        table = self._table("gate", number)
-        if table is None:
-            return None
-        rows = tuple(GateEntry(row["open"], row.get("ipv"), row["interval"], row.get("octets")) for row in table["list"])
-        table["list"] = rows
-        return StreamGate(**table)
+        return self._record("gate", number, StreamGate, lambda name, entry: _made(GateEntry, name, entry))
 
     def meter(self, number: int) -> FlowMeter | None:
         """A flow meter, none where there is none of this number."""
-        table = self._table("meter", number)
-        return None if table is None else FlowMeter(**table)
+        return self._record("meter", number, FlowMeter, None)
 
 
 def port_table(number: int, port: PortGates) -> str:

@@ -5,7 +5,8 @@
     python3 -m tsnd.tc SETUP --meter M               the police action of a flow meter
     python3 -m tsnd.tc --from-tc FILE [--port P]     a port's table from the output of `tc -j qdisc show`
 
-A command stands on standard output, and what it can't say on standard error.
+A command stands on standard output, and what it can't say on standard error. Given a second time it replaces what the first one made.
+With --offload the card keeps the port's list by its own clock (`flags 0x2`, and no clock named); without it the kernel does.
 """
 from __future__ import annotations
 
@@ -17,7 +18,7 @@ from collections.abc import Mapping, Sequence
 from typing import Any
 
 from .records import FlowMeter, PortEntry, PortGates, StreamGate
-from .setups import Setup, port_table
+from .setups import Setup, Unread, port_table
 
 CLASSES = 8
 
@@ -26,8 +27,9 @@ class Untold(Exception):
     """What was asked for is not there, or `tc` has no words for it."""
 
 
-def taprio(port: PortGates, device: str) -> tuple[list[str], list[str]]:
-    """The words of the command for a port, and what it can't say. Each traffic class has the queue and the priority of its number."""
+def taprio(port: PortGates, device: str, offload: bool = False) -> tuple[list[str], list[str]]:
+    """The words of the command for a port, and what it can't say. Each traffic class has the queue and the priority of its number.
+    Where the list is offloaded the card keeps it, by its own clock."""
     if not port.list:
         raise Untold("the port has no gate control list, and taprio wants one")
     words = ["tc", "qdisc", "replace", "dev", device, "parent", "root", "handle", "100", "taprio", "num_tc", str(CLASSES), "map"]
@@ -36,7 +38,8 @@ def taprio(port: PortGates, device: str) -> tuple[list[str], list[str]]:
     words += ["base-time", str(port.base)]
     for entry in port.list:
         words += ["sched-entry", "S", f"{entry.gates:02x}", str(entry.interval)]
-    words += ["cycle-time", str(port.cycle), "cycle-time-extension", str(port.extension), "clockid", "CLOCK_TAI"]
+    words += ["cycle-time", str(port.cycle), "cycle-time-extension", str(port.extension)]
+    words += ["flags", "0x2"] if offload else ["clockid", "CLOCK_TAI"]
     untold = [] if port.gates == 255 else [f"the gates while no list is in force ({port.gates}): taprio leaves all open"]
     return words, untold
 
@@ -45,7 +48,7 @@ def gate_action(number: int, gate: StreamGate) -> tuple[list[str], list[str]]:
     """The words of the action of a stream gate, and what it can't say. Linux numbers actions from 1: it has the gate's number and 1."""
     if not gate.list:
         raise Untold("the stream gate has no list, and the gate action wants one")
-    words = ["tc", "actions", "add", "action", "gate", "clockid", "CLOCK_TAI", "base-time", str(gate.base)]
+    words = ["tc", "actions", "replace", "action", "gate", "clockid", "CLOCK_TAI", "base-time", str(gate.base)]
     words += ["cycle-time", str(gate.cycle), "cycle-time-ext", str(gate.extension)]
     for entry in gate.list:
         ipv = "-1" if entry.ipv is None else str(entry.ipv)
@@ -66,7 +69,7 @@ def police_action(number: int, meter: FlowMeter) -> tuple[list[str], list[str]]:
     """The words of the action of a flow meter, and what it can't say: one rate and one burst, and what is above is dropped."""
     if meter.cir == 0 or meter.cbs == 0:
         raise Untold("the flow meter has no committed rate or burst, and the police action wants both")
-    words = ["tc", "actions", "add", "action", "police", "rate", f"{meter.cir}bit", "burst", str(meter.cbs)]
+    words = ["tc", "actions", "replace", "action", "police", "rate", f"{meter.cir}bit", "burst", str(meter.cbs)]
     words += ["conform-exceed", "drop", "index", str(number + 1)]
     untold = []
     if meter.eir or meter.ebs:
@@ -83,9 +86,12 @@ def from_tc(shown: Sequence[Mapping[str, Any]], number: int) -> str:
         options = qdisc.get("options", {})
         if qdisc.get("kind") != "taprio" or "schedule" not in options:
             continue
-        rows = tuple(PortEntry(int(str(row["gatemask"]), 16), int(row["interval"])) for row in options["schedule"])
-        cycle = int(options.get("cycle_time") or sum(row.interval for row in rows))
-        port = PortGates(255, cycle, int(options.get("cycle_time_extension", 0)), int(options.get("base_time", 0)), rows)
+        try:
+            rows = tuple(PortEntry(int(str(row["gatemask"]), 16), int(row["interval"])) for row in options["schedule"])
+            cycle = int(options.get("cycle_time") or sum(row.interval for row in rows))
+            port = PortGates(255, cycle, int(options.get("cycle_time_extension", 0)), int(options.get("base_time", 0)), rows)
+        except (KeyError, TypeError, ValueError) as why:
+            raise Untold(f"the schedule that tc shows can't be read: {why}") from why
         return port_table(number, port)
     raise Untold("no taprio with a schedule is shown")
 
@@ -97,14 +103,25 @@ def _words() -> argparse.ArgumentParser:
     parser.add_argument("--gate", type=int, help="a stream gate in place of a port")
     parser.add_argument("--meter", type=int, help="a flow meter in place of a port")
     parser.add_argument("--dev", help="the device of the port")
+    parser.add_argument("--offload", action="store_true", help="let the card of the device keep the port's list")
     parser.add_argument("--from-tc", metavar="FILE", help="the output of `tc -j qdisc show`; - is standard input")
     return parser
+
+
+def _shown(text: str) -> list[Mapping[str, Any]]:
+    try:
+        shown = json.loads(text)
+    except ValueError as why:
+        raise Untold(f"what tc shows is no JSON: {why}") from why
+    if not isinstance(shown, list) or not all(isinstance(qdisc, dict) for qdisc in shown):
+        raise Untold("what tc shows is no list of qdiscs")
+    return shown
 
 
 def _told(given: argparse.Namespace) -> tuple[str, list[str]]:
     if given.from_tc is not None:
         with (sys.stdin if given.from_tc == "-" else open(given.from_tc, encoding="utf-8")) as file:
-            return from_tc(json.load(file), given.port or 1), []
+            return from_tc(_shown(file.read()), given.port or 1), []
     if given.setup is None:
         raise Untold("a setup is wanted, or --from-tc")
     setup = Setup.read(given.setup)
@@ -124,7 +141,7 @@ def _told(given: argparse.Namespace) -> tuple[str, list[str]]:
         port = setup.port(given.port)
         if port is None:
             raise Untold(f"the setup has no port {given.port}")
-        words, untold = taprio(port, given.dev)
+        words, untold = taprio(port, given.dev, given.offload)
     return shlex.join(words) + "\n", untold
 
 
@@ -133,7 +150,7 @@ def main(words: Sequence[str] | None = None) -> int:
     given = _words().parse_args(words)
     try:
         text, untold = _told(given)
-    except (Untold, OSError, ValueError, KeyError, TypeError) as why:
+    except (Untold, Unread, OSError) as why:
         print(f"tsnd-tc: {why}", file=sys.stderr)
         return 1
     for part in untold:
