@@ -1,9 +1,29 @@
-# Completion of the words of tsnd, for bash.
+# Completion of the words of tsnd, for bash. A word behind '=' is completed as one behind a space is.
+
+# _tsnd_value OPTION WORD: what may stand behind an option; its status is 1 where the word is no option with a value.
+_tsnd_value() {
+    case $1 in
+        --listen) mapfile -t COMPREPLY < <(compgen -W "127.0.0.1:7000 127.0.0.1:0 [::1]:7000" -- "$2") ;;
+        --port) mapfile -t COMPREPLY < <(compgen -W "$(seq -s ' ' 64)" -- "$2") ;;
+        --sync) mapfile -t COMPREPLY < <(compgen -W "none" -- "$2") ;;
+        --journal) mapfile -t COMPREPLY < <(compgen -f -- "$2") ;;
+        --workers | --connections | --probe | --from | --step | --count | --since | --diff) COMPREPLY=() ;;
+        *) return 1 ;;
+    esac
+    # bash parts a word at its colons, and completes the last part.
+    local part=${2%"${2##*:}"}
+    COMPREPLY=("${COMPREPLY[@]#"$part"}")
+}
+
 _tsnd() {
-    local word=${COMP_WORDS[COMP_CWORD]} command=${COMP_WORDS[1]-}
+    local word=${COMP_WORDS[COMP_CWORD]} command=${COMP_WORDS[1]-} line=${COMP_LINE:0:COMP_POINT}
     COMPREPLY=()
     if [ "$COMP_CWORD" -eq 1 ]; then
         mapfile -t COMPREPLY < <(compgen -W "check journal script serve states help --help --version" -- "$word")
+        return
+    fi
+    # The option and its value, as they stand on the line: bash parts them at '=' and ':'.
+    if [[ $line =~ (--[a-z]+)(=|[[:space:]]+)([^[:space:]=]*)$ ]] && _tsnd_value "${BASH_REMATCH[1]}" "${BASH_REMATCH[3]}"; then
         return
     fi
     case $command:$word in
