@@ -1,7 +1,7 @@
 //! What who records and settles is told, and what the device then keeps.
 use crate::comparing::same;
 use crate::reading::count_lines;
-use crate::working::{keep_in_two, record_many, settle_thrice};
+use crate::working::{keep_in_four, record_many, settle_thrice};
 use std::alloc::{AllocError, Global};
 use std::marker::Brand;
 use std::test::*;
@@ -91,24 +91,28 @@ fn a_record_waits_for_room(rt: HostRuntime) -> Result<(), Fail> {
 }
 
 #[test]
-fn lines_of_two_threads_are_kept(rt: HostRuntime) -> Result<(), Fail> {
+fn lines_of_four_threads_are_kept(rt: HostRuntime) -> Result<(), Fail> {
     let device = MemoryDevice::new(Vec::with_capacity(rt.alloc(), ROOM)?, None, 0);
     let keeper = Keeper::new(rt.alloc(), device, Chain::new())?;
-    let kept = keep_in_two::<Brand, Brand, _>(
+    let kept = keep_in_four::<Brand, Brand, _>(
         &rt,
         rt.alloc(),
         keeper,
         Opened::new(),
         Opened::new(),
         (b"one", b"other"),
-        200,
+        1000,
     )?;
     let Some(keeper) = kept else {
         return Ok(same(&rt, &"stopped", &"kept"));
     };
     let text = keeper.device().written();
     same(&rt, &keeper.device().kept(), &text.len());
-    same(&rt, &count_lines(rt.alloc(), text, b"one")?, &(400, 200));
-    same(&rt, &count_lines(rt.alloc(), text, b"other")?, &(400, 200));
+    same(&rt, &count_lines(rt.alloc(), text, b"one")?, &(4000, 2000));
+    same(
+        &rt,
+        &count_lines(rt.alloc(), text, b"other")?,
+        &(4000, 2000),
+    );
     Ok(())
 }

@@ -9,7 +9,7 @@ use std::alloc::{AllocError, Global};
 use std::sync::Wait;
 use std::thread;
 use std::thread::Threads;
-use tsn_commit::{Ahead, Commit, keep};
+use tsn_commit::{Ahead, Commit};
 use tsn_device::MemoryDevice;
 use tsn_history::{Naming, Opened};
 use tsn_keeping::{Clock, Keeper, Stamp};
@@ -119,15 +119,34 @@ fn keep_often<R: Naming, K: Naming + Ahead, W: Wait>(
         return false;
     }
     for _ in 0..count {
-        if keep(rt, commit, line).is_none() {
+        let Ok(mine) = commit.add(rt, line) else {
+            return false;
+        };
+        if commit.settle(rt, &mine).is_err() {
             return false;
         }
     }
     true
 }
 
-/// Two threads record a line each, so often, and each time wait until it is kept. What is kept then, if that is told.
-pub fn keep_in_two<
+// Two threads do so. False where one of them failed.
+fn keep_in_two<R: Naming + Send + Sync, K: Naming + Ahead + Send + Sync, W: Threads + Wait + Sync>(
+    rt: &W,
+    commit: &Commit<Still, MemoryDevice, R, K>,
+    line: &[u8],
+    count: u64,
+) -> bool {
+    let (one, other) = thread::join(
+        rt,
+        || keep_often(rt, commit, line, count),
+        || keep_often(rt, commit, line, count),
+    );
+    one && other
+}
+
+/// Four threads record a line each, two of them the first and two the other, so often, and each time wait until it is kept. What
+/// is kept then, if that is told.
+pub fn keep_in_four<
     R: Naming + Send + Sync,
     K: Naming + Ahead + Send + Sync,
     W: Threads + Wait + Sync,
@@ -153,8 +172,8 @@ pub fn keep_in_two<
     let shared = &commit;
     let (one, other) = thread::join(
         rt,
-        || keep_often(rt, shared, lines.0, count),
-        || keep_often(rt, shared, lines.1, count),
+        || keep_in_two(rt, shared, lines.0, count),
+        || keep_in_two(rt, shared, lines.1, count),
     );
     if !one || !other {
         return Ok(None);
