@@ -26,6 +26,8 @@ pub struct Commit<C: Clock, D: Device, R: Naming, K: Naming + Ahead> {
     // handing out they change their parts.
     even: Bed,
     odd: Bed,
+    // Who waits for room sleeps here.
+    full: Bed,
 }
 
 impl<C: Clock + Drop, D: Device + Drop, R: Naming, K: Naming + Ahead> Commit<C, D, R, K> {
@@ -53,6 +55,7 @@ impl<C: Clock + Drop, D: Device + Drop, R: Naming, K: Naming + Ahead> Commit<C, 
             told: Mutex::new(told),
             even: Bed::new(),
             odd: Bed::new(),
+            full: Bed::new(),
         })
     }
 
@@ -73,7 +76,7 @@ impl<C: Clock + Drop, D: Device + Drop, R: Naming, K: Naming + Ahead> Commit<C, 
             if let Some(recorded) = state.record(&self.records, last, line) {
                 return recorded;
             }
-            self.turn(rt, state, last);
+            self.turn(rt, state, &self.full);
         }
         unreachable!()
     }
@@ -89,7 +92,7 @@ impl<C: Clock + Drop, D: Device + Drop, R: Naming, K: Naming + Ahead> Commit<C, 
             if let Some(recorded) = state.record(&self.records, &last, line) {
                 return recorded;
             }
-            self.turn(rt, state, &last);
+            self.turn(rt, state, &self.full);
         }
         unreachable!()
     }
@@ -108,7 +111,9 @@ impl<C: Clock + Drop, D: Device + Drop, R: Naming, K: Naming + Ahead> Commit<C, 
             if let Some(outcome) = self.told.lock(rt).outcome(mine) {
                 return outcome;
             }
-            self.turn(rt, self.state.lock(rt), mine);
+            let state = self.state.lock(rt);
+            let bed = self.bed(state.is_odd() == state.has_handed(mine));
+            self.turn(rt, state, bed);
         }
         unreachable!()
     }
@@ -119,19 +124,20 @@ impl<C: Clock + Drop, D: Device + Drop, R: Naming, K: Naming + Ahead> Commit<C, 
         self.told.lock(rt).stop();
         self.even.wake_all();
         self.odd.wake_all();
+        self.full.wake_all();
     }
 
-    // Has all that waits be kept, with no lock held meanwhile; or, where somebody is at it, sleeps until what was handed out is
-    // kept, and, if the front is not among that, until somebody has to go on with the rest.
-    fn turn<W: Wait>(&self, rt: &W, mut state: MutexGuard<'_, State<C, D, R, K>>, mine: &Front<R>) {
+    // Has all that waits be kept, with no lock held meanwhile; or, where somebody is at it, sleeps in the bed until that is done,
+    // or until somebody has to go on.
+    fn turn<W: Wait>(&self, rt: &W, mut state: MutexGuard<'_, State<C, D, R, K>>, bed: &Bed) {
         let Some(job) = state.hand_out() else {
-            let bed = self.bed(state.is_odd() == state.has_handed(mine));
             let seen = bed.woken();
             MutexGuard::unlock(state);
             return bed.sleep(rt, seen);
         };
         let is_odd = state.is_odd();
         MutexGuard::unlock(state);
+        self.full.wake_all();
         match job.run() {
             Some(done) => self.tell(rt, done, is_odd),
             None => self.stop(rt),
@@ -147,9 +153,10 @@ impl<C: Clock + Drop, D: Device + Drop, R: Naming, K: Naming + Ahead> Commit<C, 
         }
         self.bed(!is_odd).wake_one();
         self.bed(is_odd).wake_all();
+        self.full.wake_all();
     }
 
-    // The bed of those who wait for what this mark is of.
+    // The bed of those who wait for what is handed out under this mark.
     fn bed(&self, is_odd: bool) -> &Bed {
         if is_odd { &self.odd } else { &self.even }
     }
@@ -165,6 +172,7 @@ impl<C: Clock + Drop, D: Device + Drop, R: Naming, K: Naming + Ahead> Commit<C, 
             told: _,
             even: _,
             odd: _,
+            full: _,
         } = self;
         state.into_inner().into_keeper()
     }
