@@ -1,4 +1,7 @@
 //! Where threads sleep until they are woken. No contract speaks of it.
+//!
+//! Whoever sleeps looks under a lock whether it has to, and reads the word there. Whoever wakes takes that lock behind the change
+//! for which they wait, and wakes behind it. So a sleeper has seen the change, or the wake comes behind its look.
 use std::sync::Wait;
 use std::sync::atomic::{AtomicU64, Ordering};
 

@@ -112,6 +112,10 @@ impl<C: Clock + Drop, D: Device + Drop, R: Naming, K: Naming + Ahead> Commit<C, 
                 return outcome;
             }
             let state = self.state.lock(rt);
+            // It may have been told meanwhile. Who tells it from now on, or stops, takes this lock ahead of the wake.
+            if let Some(outcome) = self.told.lock(rt).outcome(mine) {
+                return outcome;
+            }
             let bed = self.bed(state.is_odd() == state.has_handed(mine));
             self.turn(rt, state, bed);
         }
@@ -120,8 +124,8 @@ impl<C: Clock + Drop, D: Device + Drop, R: Naming, K: Naming + Ahead> Commit<C, 
 
     /// Ends the commit, as a failed call of the device does: nothing is recorded or kept any more.
     pub fn stop<W: Wait>(&self, rt: &W) {
-        self.state.lock(rt).stop();
         self.told.lock(rt).stop();
+        self.state.lock(rt).stop();
         self.even.wake_all();
         self.odd.wake_all();
         self.full.wake_all();

@@ -1,4 +1,4 @@
-//! What lies under the lock.
+//! What lies under the lock of those who record.
 ghost use Rattle.std.specs.Prelude.{◌≡◌, ◌++◌, [], ◌∷◌, IfOk, IfSome};
 ghost use Rattle.tsn_commit.specs.Lines.{IsLine};
 ghost use Rattle.tsn_commit.specs.Resting.{Begins, Rests};

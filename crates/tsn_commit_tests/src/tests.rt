@@ -116,3 +116,22 @@ fn lines_of_four_threads_are_kept(rt: HostRuntime) -> Result<(), Fail> {
     );
     Ok(())
 }
+
+#[test]
+fn all_come_back_where_the_device_fails(rt: HostRuntime) -> Result<(), Fail> {
+    for calls in 0..200u64 {
+        let device = MemoryDevice::new(Vec::with_capacity(rt.alloc(), 100_000)?, Some(calls), 0);
+        let keeper = Keeper::new(rt.alloc(), device, Chain::new())?;
+        let kept = keep_in_four::<Brand, Brand, _>(
+            &rt,
+            rt.alloc(),
+            keeper,
+            Opened::new(),
+            Opened::new(),
+            (b"one", b"other"),
+            1000,
+        )?;
+        same(&rt, &kept.is_none(), &true);
+    }
+    Ok(())
+}
