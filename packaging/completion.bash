@@ -10,9 +10,11 @@ _tsnd_value() {
         --workers | --connections | --probe | --from | --step | --count | --since | --diff) COMPREPLY=() ;;
         *) return 1 ;;
     esac
-    # bash parts a word at its colons, and completes the last part.
-    local part=${2%"${2##*:}"}
-    COMPREPLY=("${COMPREPLY[@]#"$part"}")
+    # Where bash parts a word at its colons, it completes the last part.
+    if [[ ${COMP_WORDBREAKS-:} == *:* ]]; then
+        local part=${2%"${2##*:}"}
+        COMPREPLY=("${COMPREPLY[@]#"$part"}")
+    fi
 }
 
 _tsnd() {

@@ -59,8 +59,8 @@ class Bars(unittest.TestCase):
         self.assertIn("apt-get install python3-matplotlib", errors.getvalue())
 
     def test_what_can_t_be_drawn(self) -> None:
-        for given in (["no such file"], [STATES_PRINT, "--port", "3"], [STATES_PRINT, "--cycles", "0"]):
-            words = [*given, "-o", "x.png"]
+        for given in (["no such file"], [STATES_PRINT, "--port", "3"], [STATES_PRINT, "--cycles", "0"], [STATES_PRINT, "-o", "x.xyz"]):
+            words = ["-o", "x.png", *given]
             with redirect_stderr(io.StringIO()) as errors:
                 self.assertEqual(plot.main(words), 1)
             self.assertEqual(errors.getvalue().count("\n"), 1)

@@ -96,6 +96,9 @@ class Commands(unittest.TestCase):
              "entry 1 of port 1 has no member 'interva'; it has gates, interval"),
             ("{gates = 1, interval = 300}", "7", "entry 1 of port 1 is no table"),
             ("[[port]]\nid = 1", "[port]\nid = 1", "the setup is no TOML: "),
+            ("gates = 3", 'gates = "x"', "port 1: 'gates' can't be 'x'"),
+            ("gates = 3", "gates = true", "port 1: 'gates' can't be True"),
+            ("list = [{gates = 1, interval = 300}, {gates = 128, interval = 700}]", "list = 7", "port 1: 'list' can't be 7"),
         ):
             self.assertIn(old, SETUP)
             Path(self.setup).write_text(SETUP.replace(old, new), encoding="utf-8")
@@ -104,8 +107,9 @@ class Commands(unittest.TestCase):
             self.assertTrue(errors.startswith(f"tsnd-tc: {wanted}"), errors)
 
     def test_what_tc_shows_can_t_be_read(self) -> None:
-        for text in ("{", "{}", "[7]", '[{"kind": "taprio", "options": {"schedule": [{}]}}]'):
-            Path(self.shown).write_text(text, encoding="utf-8")
+        for text in (b"{", b"{}", b"[7]", b"\xff", b'[{"kind": "taprio", "options": null}]',
+                     b'[{"kind": "taprio", "options": {"schedule": [{}]}}]'):
+            Path(self.shown).write_bytes(text)
             status, said, errors = self.run_with("--from-tc", self.shown)
             self.assertEqual((status, said, errors.count("\n")), (1, "", 1), text)
 
@@ -122,7 +126,8 @@ class Commands(unittest.TestCase):
     def test_what_is_not_there(self) -> None:
         device = ("--dev", "veth0")
         for words in ((self.setup, "--port", "2", *device), (self.setup, "--port", "3", *device), (self.setup, "--gate", "0"),
-                      (self.setup, "--meter", "0"), (self.setup,), (self.setup + "x", "--gate", "4"), ()):
+                      (self.setup, "--gate", "4", "--offload"), (self.setup, "--meter", "0"), (self.setup,),
+                      (self.setup + "x", "--gate", "4"), ()):
             status, said, errors = self.run_with(*words)
             self.assertEqual((status, said, errors.count("\n")), (1, "", 1), words)
 

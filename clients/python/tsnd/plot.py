@@ -29,7 +29,8 @@ MOST_INSTANTS = 1_000_000
 OPEN, SHUT, LAST, GUARD, EXTENSION = "#2a7f62", "#e8e8e8", "#f2d16b", "#7a7a7a", "#8a5fbf"
 ONLY_FIRST, ONLY_SECOND = "#2b6cb0", "#c8553d"
 UNITS = ((1_000_000_000, "s"), (1_000_000, "ms"), (1_000, "us"))
-BUILT = Path(__file__).resolve().parents[3] / "crates/tsnd/out/tsnd"
+PICTURES = (".png", ".svg", ".pdf")
+BUILT = Path(*Path(__file__).resolve().parts[:-4]) / "crates/tsnd/out/tsnd"
 
 
 class Undrawn(Exception):
@@ -73,7 +74,13 @@ def states(path: str, number: int, start: int, step: int, count: int) -> list[in
         raise Undrawn(f"the program {words[0]} can't be run: {why.strerror}") from why
     if run.returncode != 0:
         raise Undrawn(run.stderr.strip() or f"{words[0]} ended with status {run.returncode}")
-    return [int(line.split()[1], 16) for line in run.stdout.splitlines()]
+    try:
+        told = [int(line.split()[1], 16) for line in run.stdout.splitlines()]
+    except (IndexError, ValueError) as why:
+        raise Undrawn(f"the program {words[0]} tells no states") from why
+    if len(told) != count:
+        raise Undrawn(f"the program {words[0]} tells {len(told)} states, not {count}")
+    return told
 
 
 def running(path: str, number: int, port: PortGates, start: int, step: int, count: int) -> list[int]:
@@ -158,6 +165,8 @@ def draw(paths: Sequence[str], number: int, cycles: int, file: str) -> None:
     from matplotlib import pyplot
 
     ports = [port_of(path, number) for path in paths]
+    if min(port.cycle for port in ports) < 1:
+        raise Undrawn("a cycle is at least 1 ns")
     start = max(port.base for port in ports)
     step = step_of(ports)
     count = cycles * max(port.cycle for port in ports) // step
@@ -196,6 +205,8 @@ def main(words: Sequence[str] | None = None) -> int:
     try:
         if given.cycles < 1:
             raise Undrawn("--cycles is at least 1")
+        if not given.output.endswith(PICTURES):
+            raise Undrawn(f"{given.output} does not end with {', '.join(PICTURES[:-1])} or {PICTURES[-1]}")
         draw([path for path in (given.setup, given.other) if path], given.port, given.cycles, given.output)
     except (Undrawn, Unread, OSError) as why:
         print(f"tsnd-plot: {why}", file=sys.stderr)

@@ -2,10 +2,10 @@
 from __future__ import annotations
 
 import tomllib
-from collections.abc import Callable, Sequence
+from collections.abc import Callable
 from dataclasses import fields
 from pathlib import Path
-from typing import Any, TypeVar
+from typing import Any, TypeVar, get_args, get_origin, get_type_hints
 
 from .records import FlowMeter, GateEntry, PortEntry, PortGates, StreamGate
 
@@ -15,6 +15,11 @@ OPTIONAL = {"ipv", "octets"}
 
 class Unread(Exception):
     """What stands in a setup can't be read here; `tsnd check FILE` says more."""
+
+
+def _fits(hint: Any, value: Any) -> bool:
+    """Whether a value is of a kind that a member may have; true and false are no numbers."""
+    return isinstance(value, tuple) if get_origin(hint) is tuple else type(value) in (get_args(hint) or (hint,))
 
 
 def _made(kind: type[Kind], name: str, table: Any) -> Kind:
@@ -29,6 +34,10 @@ def _made(kind: type[Kind], name: str, table: Any) -> Kind:
     if lacking:
         raise Unread(f"{name} lacks '{lacking[0]}'")
     given: dict[str, Any] = {member: table.get(member) for member in members}
+    hints = get_type_hints(kind)
+    for member, value in given.items():
+        if not _fits(hints[member], value):
+            raise Unread(f"{name}: '{member}' can't be {value!r}")
     return kind(**given)
 
 
@@ -71,7 +80,7 @@ class Setup:
         if table is None:
             return None
         name = f"{kind} {number}"
-        if row is not None and isinstance(table.get("list"), Sequence):
+        if row is not None and isinstance(table.get("list"), list):
             table["list"] = tuple(row(f"entry {place} of {name}", entry) for place, entry in enumerate(table["list"], start=1))
         return _made(made, name, table)
 

@@ -83,8 +83,8 @@ def police_action(number: int, meter: FlowMeter) -> tuple[list[str], list[str]]:
 def from_tc(shown: Sequence[Mapping[str, Any]], number: int) -> str:
     """The table of a port from what `tc -j qdisc show` tells, of its first taprio."""
     for qdisc in shown:
-        options = qdisc.get("options", {})
-        if qdisc.get("kind") != "taprio" or "schedule" not in options:
+        options = qdisc.get("options")
+        if qdisc.get("kind") != "taprio" or not isinstance(options, dict) or "schedule" not in options:
             continue
         try:
             rows = tuple(PortEntry(int(str(row["gatemask"]), 16), int(row["interval"])) for row in options["schedule"])
@@ -121,9 +121,15 @@ def _shown(text: str) -> list[Mapping[str, Any]]:
 def _told(given: argparse.Namespace) -> tuple[str, list[str]]:
     if given.from_tc is not None:
         with (sys.stdin if given.from_tc == "-" else open(given.from_tc, encoding="utf-8")) as file:
-            return from_tc(_shown(file.read()), given.port or 1), []
+            try:
+                text = file.read()
+            except UnicodeDecodeError as why:
+                raise Untold("what tc shows is no text in UTF-8") from why
+            return from_tc(_shown(text), given.port or 1), []
     if given.setup is None:
         raise Untold("a setup is wanted, or --from-tc")
+    if given.offload and (given.gate is not None or given.meter is not None):
+        raise Untold("--offload is for a port")
     setup = Setup.read(given.setup)
     if given.gate is not None:
         gate = setup.gate(given.gate)
