@@ -1,0 +1,10 @@
+//! The sockets of a server: where it listens, at an IP address and port or at a path of the file system; who may connect there;
+//! and who is told of connections. It relies on `tsn_bytes` for readers. `tsn_server` takes connections from a listener of it.
+#![tactic(auto)]
+
+mod listening;
+mod logging;
+mod path;
+
+pub use listening::{ListenFault, Listener, Place, listen_on};
+pub use logging::{Log, LoggedReader};
