@@ -3,11 +3,11 @@
 # _tsnd_value OPTION WORD: what may stand behind an option; its status is 1 where the word is no option with a value.
 _tsnd_value() {
     case $1 in
-        --listen) mapfile -t COMPREPLY < <(compgen -W "127.0.0.1:7000 127.0.0.1:0 [::1]:7000" -- "$2") ;;
+        --listen) mapfile -t COMPREPLY < <(compgen -W "127.0.0.1:7000 127.0.0.1:0 [::1]:7000 unix:" -- "$2") ;;
         --port) mapfile -t COMPREPLY < <(compgen -W "$(seq -s ' ' 64)" -- "$2") ;;
         --sync) mapfile -t COMPREPLY < <(compgen -W "none" -- "$2") ;;
         --journal) mapfile -t COMPREPLY < <(compgen -f -- "$2") ;;
-        --workers | --connections | --probe | --from | --step | --count | --since | --diff) COMPREPLY=() ;;
+        --workers | --connections | --probe | --idle | --from | --step | --count | --since | --diff) COMPREPLY=() ;;
         *) return 1 ;;
     esac
     # Where bash parts a word at its colons, it completes the last part.
@@ -29,7 +29,7 @@ _tsnd() {
         return
     fi
     case $command:$word in
-        serve:-*) mapfile -t COMPREPLY < <(compgen -W "--listen --workers --connections --probe --journal --sync --help" -- "$word") ;;
+        serve:-*) mapfile -t COMPREPLY < <(compgen -W "--listen --workers --connections --probe --idle --journal --sync --log --help" -- "$word") ;;
         states:-*) mapfile -t COMPREPLY < <(compgen -W "--port --from --step --count --help" -- "$word") ;;
         script:-*) mapfile -t COMPREPLY < <(compgen -W "--journal --sync --help" -- "$word") ;;
         journal:-*) mapfile -t COMPREPLY < <(compgen -W "--since --diff --mend --help" -- "$word") ;;

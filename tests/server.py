@@ -16,6 +16,7 @@ PROGRAM = os.path.abspath(os.environ.get("TSND") or os.path.join(TOP, "crates/ts
 EXAMPLES = os.path.join(TOP, "examples")
 PATIENCE = 20.0
 LISTENS = b"tsnd: listens on 127.0.0.1:"
+LISTENS_AT = b"tsnd: listens on unix:"
 
 
 class Failed(Exception):
@@ -50,12 +51,15 @@ class Server:
     """A server that runs: its process, and the port where it listens."""
 
     def __init__(self, setup, workers, connections, probe=0, listen="127.0.0.1:0", **how):
-        words = ["serve", setup, "--listen", listen, "--workers", str(workers), "--connections", str(connections),
-                 "--probe", str(probe)]
+        self.begin([setup, "--listen", listen, "--workers", str(workers), "--connections", str(connections), "--probe", str(probe)], how)
+
+    def begin(self, words, how):
+        """Starts it with these words."""
         pipes = {"stdin": subprocess.DEVNULL, "stdout": subprocess.PIPE, "stderr": subprocess.PIPE}
-        self.process = subprocess.Popen([PROGRAM, *words], **{**pipes, **how})
+        self.process = subprocess.Popen([PROGRAM, "serve", *words], **{**pipes, **how})
         self.said = b""
         self.port = None
+        self.path = None
 
     def listens(self, patience=PATIENCE):
         """Waits for the line that tells where it listens, and gives the server; fails where it ends before that, or says nothing."""
@@ -69,11 +73,14 @@ class Server:
             if not part:
                 break
             self.said += part
-        if not (self.said.startswith(LISTENS) and b"\n" in self.said):
+        if not (self.said.startswith((LISTENS, LISTENS_AT)) and b"\n" in self.said):
             _, _, self.said = self.end()
             raise Failed(f"it does not listen: {self.said!r}")
         line, _, self.said = self.said.partition(b"\n")
-        self.port = int(line[len(LISTENS):])
+        if line.startswith(LISTENS):
+            self.port = int(line[len(LISTENS):])
+        else:
+            self.path = line[len(LISTENS_AT):].decode()
         return self
 
     def runs(self):
@@ -105,16 +112,31 @@ class Server:
         self.stop()
 
 
+class Open(Server):
+    """A server with no words but these and, but for none, where it listens."""
+
+    def __init__(self, *words, listen="127.0.0.1:0", **how):
+        self.begin([*words, *(["--listen", listen] if listen is not None else [])], how)
+
+    def ends_by(self, number):
+        """A signal ends it, and it says no more."""
+        self.process.send_signal(number)
+        same(self.end(), (-number, b"", b""), "status, output and errors behind a signal")
+
+
 class Client:
     """A connection to a server, and the session of its latest hello."""
 
     def __init__(self, server, patience=PATIENCE, room=None):
-        self.socket = socket.socket(socket.AF_INET, socket.SOCK_STREAM)
+        self.socket = socket.socket(socket.AF_INET if server.path is None else socket.AF_UNIX, socket.SOCK_STREAM)
         if room is not None:
             self.socket.setsockopt(socket.SOL_SOCKET, socket.SO_RCVBUF, room)
         self.socket.settimeout(patience)
-        self.socket.connect(("127.0.0.1", server.port))
-        self.socket.setsockopt(socket.IPPROTO_TCP, socket.TCP_NODELAY, 1)
+        if server.path is None:
+            self.socket.connect(("127.0.0.1", server.port))
+            self.socket.setsockopt(socket.IPPROTO_TCP, socket.TCP_NODELAY, 1)
+        else:
+            self.socket.connect(server.path)
         self.came = b""
         self.session = None
 

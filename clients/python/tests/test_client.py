@@ -9,6 +9,7 @@ import os
 import re
 import subprocess
 import sys
+import tempfile
 import unittest
 from contextlib import redirect_stdout
 from pathlib import Path
@@ -53,6 +54,21 @@ class Server:
         said, _ = self.process.communicate(timeout=20)
         assert self.process.returncode == 0
         return said
+
+
+class Places(unittest.TestCase):
+    def test_a_server_at_a_path(self) -> None:
+        with tempfile.TemporaryDirectory() as folder:
+            place = f"unix:{folder}/tsnd.socket"
+            with self.assertRaises(FileNotFoundError):
+                tsnd.Connection(place)
+            with subprocess.Popen([PROGRAM, "serve", "--listen", place], stderr=subprocess.PIPE, text=True) as process:
+                assert process.stderr is not None
+                self.assertEqual(process.stderr.readline(), f"tsnd: listens on {place}\n")
+                with tsnd.Connection(place, timeout=20) as connection:
+                    session = connection.hello()
+                    self.assertEqual((session.number, session.create("gate 0", OPEN_GATE)), (1, 1))
+                process.terminate()
 
 
 class Edits(unittest.TestCase):

@@ -105,15 +105,31 @@ class Remove:
 Edit = Union[Create, Replace, Remove]
 
 
+def _connected(host: str, port: int, timeout: float | None) -> socket.socket:
+    """A socket that is connected to a server there."""
+    if not host.startswith("unix:"):
+        found = socket.create_connection((host, port), timeout)
+        found.setsockopt(socket.IPPROTO_TCP, socket.TCP_NODELAY, 1)
+        return found
+    found = socket.socket(socket.AF_UNIX, socket.SOCK_STREAM)
+    found.settimeout(timeout)
+    try:
+        found.connect(host.removeprefix("unix:"))
+    except OSError:
+        found.close()
+        raise
+    return found
+
+
 class Connection:
     """A connection to a server. It acts for the session of its latest hello alone.
 
-    `timeout` is in seconds; none waits for ever. A context manager: it is closed at the end of its block.
+    The server listens at a host and port; or at a path, and then `host` is `unix:PATH` as behind its `--listen`, and the port has
+    no meaning. `timeout` is in seconds; none waits for ever. A context manager: it is closed at the end of its block.
     """
 
     def __init__(self, host: str = "127.0.0.1", port: int = 7000, timeout: float | None = None) -> None:
-        self._socket = socket.create_connection((host, port), timeout)
-        self._socket.setsockopt(socket.IPPROTO_TCP, socket.TCP_NODELAY, 1)
+        self._socket = _connected(host, port, timeout)
         self._lines = self._socket.makefile("rb")
 
     def __enter__(self) -> Connection:

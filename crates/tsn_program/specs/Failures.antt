@@ -6,7 +6,7 @@ use Rattle.tsn_types.specs.Refusals.{name_of, number_of}
 use Rattle.tsn_bytes.specs.declared.bytes.Fault.{Fault as AnyFault}
 use Rattle.tsn_bytes.specs.declared.bytes.Fault.TheVariants.{Read, Write, Memory, Exhausted}
 use Rattle.tsn_program.specs.declared.failures.Failure.{Failure}
-use Rattle.tsn_program.specs.declared.failures.Failure.TheVariants.{Fault, Listen, Refused, Setup}
+use Rattle.tsn_program.specs.declared.failures.Failure.TheVariants.{Fault, Refused, Setup}
 
 abbrev pub fault_line : AnyFault → List ℕ
 fault_line Read = codes "tsnd: read failed\n"
@@ -22,6 +22,5 @@ refusal_line why = codes "tsnd: refused " ++ decimal (number_of why) ++ codes " 
 abbrev pub failure_line : Failure → List ℕ
 failure_line (Fault fault) = fault_line fault
 failure_line Setup = codes "tsnd: cannot read the setup\n"
-failure_line Listen = codes "tsnd: cannot listen\n"
 failure_line (Refused refusals.Memory) = fault_line Memory
 failure_line (Refused why) = refusal_line why

@@ -4,3 +4,4 @@ pub mod Listing
 pub mod Opening
 pub mod Program
 pub mod Serving
+pub mod Starting

@@ -60,7 +60,6 @@ AnswersFrom (Ok start) old new (Ok u) = (end : State) × Outcome Answers BreaksI
 AnswersFrom (Ok start) old new (Err (failures.Fault fault)) = (end : State) × Outcome Answers BreaksInWriting most_reads (old start) (new end) (Err fault)
 AnswersFrom (Ok start) old new (Err (failures.Refused why)) = ⊥
 AnswersFrom (Ok start) old new (Err failures.Setup) = ⊥
-AnswersFrom (Ok start) old new (Err failures.Listen) = ⊥
 AnswersFrom (Err why) old new outcome = (outcome ≡ Err (failures.Refused why)) × (new standard ≡ old standard)
 
 abbrev pub AnswersScript : List ℕ → (State → Moment State) → (State → Moment State) → Result (Unit {0}) Failure → Type 0

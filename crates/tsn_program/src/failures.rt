@@ -18,9 +18,6 @@ pub enum Failure {
     /// The file of the setup was not read.
     #[error("cannot read the setup")]
     Setup,
-    /// The address to listen on is no IP address and port, or it can't be bound.
-    #[error("cannot listen")]
-    Listen,
     /// The setup, or what is asked of its bridge, is refused.
     #[error("{}", Told(*.0))]
     Refused(Refusal),
@@ -62,7 +59,6 @@ pub fn failure_line(failure: &Failure) -> ShortText
         Failure::Fault(Fault::Memory) => text.push("tsnd: out of memory\n"),
         Failure::Fault(Fault::Exhausted) => text.push("tsnd: no ticket left\n"),
         Failure::Setup => text.push("tsnd: cannot read the setup\n"),
-        Failure::Listen => text.push("tsnd: cannot listen\n"),
         Failure::Refused(Refusal::Memory) => text.push("tsnd: out of memory\n"),
         Failure::Refused(why) => push_refusal(&mut text, why),
     }

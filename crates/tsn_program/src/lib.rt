@@ -9,10 +9,12 @@ mod opening;
 mod program;
 mod script;
 mod serving;
+mod starting;
 mod states;
 
 pub use failures::Failure;
 pub use files::read_setup;
 pub use opening::bridge_of;
 pub use program::{fail, run};
-pub use serving::serve;
+pub use serving::{last_instant, serve};
+pub use starting::{Undone, fail_start};

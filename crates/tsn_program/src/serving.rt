@@ -1,4 +1,5 @@
 //! Connections served on a bridge, from a source to the last rounds and the status.
+ghost use Rattle.std.specs.Prelude.{◌≡◌};
 ghost use Rattle.tsn_bridge.specs.Beginning.{IsOpened};
 ghost use Rattle.tsn_program.specs.Serving.{EndsServing, ServesConnections};
 
@@ -13,6 +14,16 @@ use tsn_serve::{Free, Gated, Source};
 use tsn_server::{ServerFault, serve_bridge};
 use tsn_types::numbers::Instant;
 use tsn_words::Serving;
+
+/// The instant of the last rounds; none where there are none.
+pub fn last_instant(serving: &Serving) -> Option<Instant>
+    ensures { result ≡ serving.now.probe }
+{
+    match serving.probe {
+        Some(at) => Some(Instant::new(at).unwrap()),
+        None => None,
+    }
+}
 
 // Serves the connections, and tells of the last rounds.
 #[tactic(auto, using(tsn_bridge::proofs::Reaching::opened_is_reached))]
@@ -29,7 +40,7 @@ fn serve_all_of<R: Wait + Threads + Sync, S: Source + Sync, O: ByteOut>(
         (record { old = O.taken output.old; new = O.taken output.new; held_back = O.pending output.new; failed = O.has_failed output.new })
         result }
 {
-    let at = Instant::new(serving.probe).unwrap();
+    let at = last_instant(&serving);
     match serve_bridge(
         rt,
         alloc,
@@ -46,9 +57,9 @@ fn serve_all_of<R: Wait + Threads + Sync, S: Source + Sync, O: ByteOut>(
     }
 }
 
-/// Serves the source's connections on the bridge, as many at once as there are workers, until none is left; then writes a
-/// line for each port, which tells its gates at the instant or that it is past, in the order of the ports. Gives the
-/// status: 0, or 1 after one line that says what failed.
+/// Serves the source's connections on the bridge, as many at once as there are workers, until none is left; then, where an
+/// instant is given, writes a line for each port, which tells its gates at the instant or that it is past, in the order of the
+/// ports. Gives the status: 0, or 1 after one line that says what failed.
 pub fn serve<R: Wait + Threads + Sync, S: Source + Sync, O: ByteOut, E: ByteOut>(
     rt: &R,
     alloc: Global,

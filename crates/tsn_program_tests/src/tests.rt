@@ -254,7 +254,6 @@ fn each_failure_has_its_line(rt: HostRuntime) -> Result<(), Fail> {
         (Failure::Fault(Fault::Memory), "tsnd: out of memory\n"),
         (Failure::Fault(Fault::Exhausted), "tsnd: no ticket left\n"),
         (Failure::Setup, "tsnd: cannot read the setup\n"),
-        (Failure::Listen, "tsnd: cannot listen\n"),
         (
             Failure::Refused(Refusal::TooLong),
             "tsnd: refused 1 too_long\n",
@@ -335,15 +334,7 @@ fn a_journal_may_be_kept(rt: HostRuntime) -> Result<(), Fail> {
     let both: &[&str] = &["script", "--journal", "cell.journal", "cell.toml"];
     let alone: &[&str] = &["script", "--journal=cell.journal"];
     let unsynced: &[&str] = &["script", "--sync", "none", "--journal=cell.journal"];
-    let served: &[&str] = &[
-        "serve",
-        "--listen=127.0.0.1:0",
-        "--workers=1",
-        "--connections=1",
-        "--probe=0",
-        "--sync=none",
-        "--journal=cell.journal",
-    ];
+    let served: &[&str] = &["serve", "--sync=none", "--journal=cell.journal"];
     let cases: [(&[&str], Option<&str>, Syncs); 4] = [
         (both, Some("cell.toml"), Syncs::Each),
         (alone, None, Syncs::Each),

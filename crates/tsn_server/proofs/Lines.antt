@@ -1,6 +1,6 @@
 -- The lines of last rounds, one after another.
 use Rattle.std.proofs.Common.{◌≡◌, ℕ, zero, suc, Option, Some, None, ◌++◌, List, [], ◌∷◌, All, map, length, refl, sym, ap, subst, ◌∙◌, arith, append_assoc, append-nil}
-use Rattle.std.specs.Io.KnownBytes.{Appends}
+use Rattle.std.specs.Io.KnownBytes.{Appends, Keeps}
 use Rattle.tsn_desk.specs.declared.desk.Desk.{Desk}
 use Rattle.tsn_desk.specs.Desks.{first_of, seen}
 use Rattle.tsn_bridge.specs.State.{State}
@@ -12,7 +12,7 @@ use Rattle.tsn_serve.specs.declared.probing.Probe.{Probe}
 use Rattle.tsn_serve.specs.Probes.{IsProbed}
 use Rattle.tsn_serve.specs.Serving.{Matched, HasProbed}
 use Rattle.tsn_server.specs.Reporting.{IsRested, IsToldOf, Reports}
-use Rattle.tsn_server.specs.Serving.{IsSo, ReportsPorts, ports_to}
+use Rattle.tsn_server.specs.Serving.{IsSo, ReportsEnd, ReportsPorts, ports_to}
 
 module _ (desk : Desk State Ask Reply) where
   -- a line behind the others
@@ -60,3 +60,21 @@ appends_both None mid new first second p q = tt
 appends_both (Some a) None new first second p q = absurd p
 appends_both (Some a) (Some b) None first second p q = absurd q
 appends_both (Some a) (Some b) (Some c) first second p q = q ∙ (ap (λ l. l ++ second) p ∙ append_assoc a first second)
+
+-- bytes that stay as they were grew by none
+kept_appends : (old new : Option (List ℕ)) → Keeps old new → Appends old new []
+kept_appends None new kept = tt
+kept_appends (Some xs) None kept = absurd kept
+kept_appends (Some xs) (Some ys) kept = kept ∙ sym (append-nil xs)
+
+module _ (first : State) (old new : Option (List ℕ)) where
+  abbrev TellsEnd : Option ℕ → Type 0
+  TellsEnd at = (text : List ℕ) × ReportsEnd first at text × Appends old new text
+
+  -- what was told where an instant is given
+  pub told_at : (asked : Option ℕ) (at : ℕ) → asked ≡ Some at → (text : List ℕ) × ReportsPorts first at (ports_to first.book.limits.ports) text × Appends old new text → TellsEnd asked
+  told_at asked at is told = subst TellsEnd (sym is) told
+
+  -- and where none is
+  pub told_nothing : (asked : Option ℕ) → asked ≡ None → Keeps old new → TellsEnd asked
+  told_nothing asked is kept = subst TellsEnd (sym is) ([], refl, kept_appends old new kept)

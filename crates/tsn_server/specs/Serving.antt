@@ -1,5 +1,5 @@
 -- What serving a bridge leaves in text.
-use Rattle.std.specs.Prelude.{◌≡◌, ℕ, zero, suc, ◌++◌, List, [], ◌∷◌, Option}
+use Rattle.std.specs.Prelude.{◌≡◌, ℕ, zero, suc, ◌++◌, List, [], ◌∷◌, Option, Some, None}
 use Rattle.tsn_bridge.specs.State.{State}
 use Rattle.tsn_server.specs.Reporting.{Shows, report_line}
 
@@ -17,3 +17,8 @@ abbrev pub ReportsPorts : State → ℕ → List ℕ → List ℕ → Type 0
 ReportsPorts first at [] text = text ≡ []
 ReportsPorts first at (port ∷ ports) text =
     (line : List ℕ) × (more : List ℕ) × IsSo first at port line × ReportsPorts first at ports more × (text ≡ line ++ more)
+
+-- What is told at the end: nothing where no instant is given, else a line for each port of the bridge.
+abbrev pub ReportsEnd : State → Option ℕ → List ℕ → Type 0
+ReportsEnd first None text = text ≡ []
+ReportsEnd first (Some at) text = ReportsPorts first at (ports_to first.book.limits.ports) text

@@ -1,14 +1,14 @@
 //! A bridge behind a desk whose work lasts: as `serve_bridge`, with a clerk for each connection, and replies behind the journal.
 ghost use Rattle.std.specs.Prelude.{◌≡◌, ◌<◌, ◌≤◌, ℕ, List, [], true, All, IfOk, OnOk, length, map, vec_len};
-ghost use Rattle.std.specs.Io.KnownBytes.{Appends};
+ghost use Rattle.std.specs.Io.KnownBytes.{Appends, Keeps};
 ghost use Rattle.tsn_desk.specs.Desks.{IsSeatOf, first_of};
 ghost use Rattle.tsn_bridge.specs.Reached.{IsReached};
 ghost use Rattle.tsn_commit.specs.Resting.{Begins};
-ghost use Rattle.tsn_server.specs.Serving.{ReportsPorts, ports_to};
+ghost use Rattle.tsn_server.specs.Serving.{ReportsEnd, ReportsPorts, ports_to};
 
 use crate::faults::ServerFault;
 use crate::reporting::report;
-use crate::serving::{probes_of, served};
+use crate::serving::{probes_of, seats_for, served};
 use std::alloc::Global;
 use std::sync::Wait;
 use std::thread::Threads;
@@ -72,9 +72,94 @@ fn serve_desk<
     }
 }
 
+// Serves connections with a worker at each port, and tells of the last rounds at the instant.
+fn serve_beside_ports<
+    W: Wait + Threads + Sync,
+    S: Source + Stop + Sync,
+    C: Clock + Drop + Send,
+    D: Device + Drop + Send,
+    R: Naming + Send + Sync,
+    K: Naming + Ahead + Send + Sync,
+    O: ByteOut,
+>(
+    rt: &W,
+    alloc: Global,
+    bridge: Bridge,
+    workers: usize,
+    source: &S,
+    host: &LastingHost<'_, W, C, D, R, K, S>,
+    at: Instant,
+    writer: &mut O,
+) -> Result<(), LastingServerFault>
+    requires reached { IsReached bridge }
+    requires some { 0 < workers }
+    ensures lines { OnOk result ((text : List ℕ) × ReportsPorts bridge at (ports_to bridge.book.limits.ports) text × Appends (O.taken writer.old) (O.taken writer.new) text) }
+    ensures handed_on { OnOk result (O.pending writer.new ≡ []) }
+{
+    let ports = bridge.config().limits().ports();
+    let probes = match probes_of(alloc, ports, at) {
+        Ok(probes) => probes,
+        Err(fault) => return Err(LastingServerFault::Server(fault)),
+    };
+    match Desk::new(alloc, bridge, seats_for(workers, probes.len())) {
+        Ok((desk, seats)) => serve_desk(
+            rt,
+            alloc,
+            &desk,
+            seats,
+            source,
+            host,
+            probes.as_slice(),
+            at,
+            writer,
+        ),
+        Err(_) => Err(NO_MEMORY),
+    }
+}
+
+// Serves connections alone, has all that is recorded kept, and writes nothing.
+fn serve_alone<
+    W: Wait + Threads + Sync,
+    S: Source + Stop + Sync,
+    C: Clock + Drop + Send,
+    D: Device + Drop + Send,
+    R: Naming + Send + Sync,
+    K: Naming + Ahead + Send + Sync,
+    O: ByteOut,
+>(
+    rt: &W,
+    alloc: Global,
+    bridge: Bridge,
+    workers: usize,
+    source: &S,
+    host: &LastingHost<'_, W, C, D, R, K, S>,
+    writer: &mut O,
+) -> Result<(), LastingServerFault>
+    requires reached { IsReached bridge }
+    requires some { (0 < workers) × (workers ≤ 1000) }
+    ensures nothing { OnOk result (Keeps (O.taken writer.old) (O.taken writer.new)) }
+    ensures handed_on { OnOk result (O.pending writer.new ≡ []) }
+{
+    let Ok((desk, seats)) = Desk::new(alloc, bridge, workers) else {
+        return Err(NO_MEMORY);
+    };
+    let served = served(rt, alloc, &desk, seats, source, host, &[]);
+    if host.commit.settle(rt, &host.commit.recorded(rt)).is_err() {
+        return Err(LastingServerFault::Journal);
+    }
+    if let Err(fault) = served {
+        return Err(LastingServerFault::Server(fault));
+    }
+    match writer.flush() {
+        Ok(()) => Ok(()),
+        Err(_) => Err(LastingServerFault::Server(ServerFault::Fault(Fault::Write))),
+    }
+}
+
 /// Serves the source's connections on the bridge as `serve_bridge` does, and has the keeper keep all that is recorded of it:
 /// a reply goes out only once all that was recorded up to it is kept, also that of a look. Where the journal fails, the
 /// service is stopped. The lines of the last rounds are told once all is kept.
+#[tactic(auto, using(crate::proofs::Lines::told_at, crate::proofs::Lines::told_nothing))]
 pub fn serve_lasting<
     W: Wait + Threads + Sync,
     S: Source + Stop + Sync,
@@ -93,21 +178,16 @@ pub fn serve_lasting<
     keeps: Opened,
     workers: usize,
     source: &S,
-    at: Instant,
+    at: Option<Instant>,
     writer: &mut O,
 ) -> Result<(), LastingServerFault>
     requires reached { IsReached bridge }
-    requires some { (0 < workers) × (workers ≤ 64) }
+    requires some { (0 < workers) × (workers ≤ 1000) }
     requires keeper { Begins K.had K.digest keeper }
     requires names { (records.seen.book ≡ R.book) × (keeps.seen.book ≡ K.book) }
-    ensures lines { OnOk result ((text : List ℕ) × ReportsPorts bridge at (ports_to bridge.book.limits.ports) text × Appends (O.taken writer.old) (O.taken writer.new) text) }
+    ensures lines { OnOk result ((text : List ℕ) × ReportsEnd bridge at text × Appends (O.taken writer.old) (O.taken writer.new) text) }
     ensures handed_on { OnOk result (O.pending writer.new ≡ []) }
 {
-    let ports = bridge.config().limits().ports();
-    let probes = match probes_of(alloc, ports, at) {
-        Ok(probes) => probes,
-        Err(fault) => return Err(LastingServerFault::Server(fault)),
-    };
     let Ok(commit) = Commit::new(
         alloc,
         keeper,
@@ -122,19 +202,9 @@ pub fn serve_lasting<
         commit: &commit,
         service: source,
     };
-    match Desk::new(alloc, bridge, workers + probes.len()) {
-        Ok((desk, seats)) => serve_desk(
-            rt,
-            alloc,
-            &desk,
-            seats,
-            source,
-            &host,
-            probes.as_slice(),
-            at,
-            writer,
-        ),
-        Err(_) => Err(NO_MEMORY),
+    match at {
+        Some(at) => serve_beside_ports(rt, alloc, bridge, workers, source, &host, at, writer),
+        None => serve_alone(rt, alloc, bridge, workers, source, &host, writer),
     }
 }
 

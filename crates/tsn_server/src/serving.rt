@@ -1,12 +1,12 @@
 //! A bridge behind a desk, its connections, its port workers, and their last rounds.
-ghost use Rattle.std.specs.Prelude.{◌≡◌, ◌≢◌, ◌<◌, ◌≤◌, ℕ, List, [], ◌∷◌, true, All, IfOk, IfErr, OnOk, IsErrOf, length, map, vec_len};
-ghost use Rattle.std.specs.Io.KnownBytes.{Appends};
+ghost use Rattle.std.specs.Prelude.{◌≡◌, ◌≢◌, ◌+◌, ◌<◌, ◌≤◌, ℕ, List, [], ◌∷◌, true, All, IfOk, IfErr, OnOk, IsErrOf, length, map, vec_len};
+ghost use Rattle.std.specs.Io.KnownBytes.{Appends, Keeps};
 ghost use Rattle.tsn_bytes.specs.declared.bytes.Fault.TheVariants.{Memory, Read, Write};
 ghost use Rattle.tsn_desk.specs.Desks.{IsSeatOf, first_of};
 ghost use Rattle.tsn_bridge.specs.Reached.{IsReached};
 ghost use Rattle.tsn_port.specs.Workers.{port_of};
 ghost use Rattle.tsn_server.specs.Reporting.{IsRested};
-ghost use Rattle.tsn_server.specs.Serving.{ReportsPorts, ports_to};
+ghost use Rattle.tsn_server.specs.Serving.{ReportsEnd, ReportsPorts, ports_to};
 ghost use Rattle.tsn_server.specs.declared.faults.ServerFault.TheVariants.{Fault as FaultOf, Refused};
 ghost use Rattle.tsn_types.specs.declared.refusals.Refusal.{Refusal};
 
@@ -21,6 +21,9 @@ use tsn_desk::desk::{Desk, Seat};
 use tsn_port::worker::PortWorker;
 use tsn_serve::{Host, Source, serve_beside};
 use tsn_types::numbers::{Instant, PortId};
+
+/// The most seats that a desk has.
+const MOST_SEATS: usize = 1024;
 
 // Each of so many ports at the instant, from port 1.
 pub(crate) fn probes_of(
@@ -98,13 +101,19 @@ fn serve_desk<R: Wait + Threads + Sync, S: Source + Sync, H: Host + Sync, W: Byt
     }
 }
 
-/// Serves the source's connections on the bridge, so many at once, 1 to 64, until none is left. Each is a session of one
-/// seat of a desk; a worker follows each port meanwhile. Then each port's worker makes a last round at the instant, and
-/// its line is written, in the order of the ports: `port P gates G`, the gates in decimal, or `port P past` where the
-/// instant comes before the last act on the port. Each line tells where one legal history of the bridge ends. The lines
-/// are handed on. A connection's fault ends that connection alone. Serving itself ends where memory was wanting, no ticket
-/// was left or the writer failed; or by the refusal of a worker's start, and then nothing was written.
-pub fn serve_bridge<R: Wait + Threads + Sync, S: Source + Sync, H: Host + Sync, W: ByteOut>(
+// The seats of so many workers and of the ports: 1,024 at most, so that there may be fewer of the workers.
+pub(crate) fn seats_for(workers: usize, ports: usize) -> usize
+    requires some { 0 < workers }
+    requires few { ports ≤ 64 }
+    ensures some { ports < result }
+    ensures few { result ≤ 1024 }
+    ensures whole { workers + ports ≤ 1024 → result ≡ workers + ports }
+{
+    workers.min(MOST_SEATS - ports) + ports
+}
+
+// Serves connections with a worker at each port, and tells of the last rounds at the instant.
+fn serve_beside_ports<R: Wait + Threads + Sync, S: Source + Sync, H: Host + Sync, W: ByteOut>(
     rt: &R,
     alloc: Global,
     bridge: Bridge,
@@ -115,7 +124,7 @@ pub fn serve_bridge<R: Wait + Threads + Sync, S: Source + Sync, H: Host + Sync, 
     writer: &mut W,
 ) -> Result<(), ServerFault>
     requires opened { IsReached bridge }
-    requires some { (0 < workers) × (workers ≤ 64) }
+    requires some { 0 < workers }
     ensures lines { OnOk result ((text : List ℕ) × ReportsPorts bridge at (ports_to bridge.book.limits.ports) text × Appends (W.taken writer.old) (W.taken writer.new) text) }
     ensures handed_on { OnOk result (W.pending writer.new ≡ []) }
     ensures failed { IsErrOf result (FaultOf Write) → W.has_failed writer.new ≡ true }
@@ -123,7 +132,7 @@ pub fn serve_bridge<R: Wait + Threads + Sync, S: Source + Sync, H: Host + Sync, 
     ensures refused { (why : Refusal) → IsErrOf result (Refused why) → writer.new ≡ writer.old }
 {
     let probes = probes_of(alloc, bridge.config().limits().ports(), at)?;
-    match Desk::new(alloc, bridge, workers + probes.len()) {
+    match Desk::new(alloc, bridge, seats_for(workers, probes.len())) {
         Ok((desk, seats)) => serve_desk(
             rt,
             alloc,
@@ -136,5 +145,68 @@ pub fn serve_bridge<R: Wait + Threads + Sync, S: Source + Sync, H: Host + Sync, 
             writer,
         ),
         Err(_) => Err(ServerFault::Fault(Fault::Memory)),
+    }
+}
+
+// Serves connections alone, and writes nothing.
+fn serve_alone<R: Wait + Threads + Sync, S: Source + Sync, H: Host + Sync, W: ByteOut>(
+    rt: &R,
+    alloc: Global,
+    bridge: Bridge,
+    workers: usize,
+    source: &S,
+    host: &H,
+    writer: &mut W,
+) -> Result<(), ServerFault>
+    requires opened { IsReached bridge }
+    requires some { (0 < workers) × (workers ≤ 1000) }
+    ensures nothing { OnOk result (Keeps (W.taken writer.old) (W.taken writer.new)) }
+    ensures handed_on { OnOk result (W.pending writer.new ≡ []) }
+    ensures failed { IsErrOf result (FaultOf Write) → W.has_failed writer.new ≡ true }
+    ensures read { IfErr result (λ e. e ≢ FaultOf Read) }
+    ensures refused { (why : Refusal) → IsErrOf result (Refused why) → writer.new ≡ writer.old }
+{
+    let Ok((desk, seats)) = Desk::new(alloc, bridge, workers) else {
+        return Err(ServerFault::Fault(Fault::Memory));
+    };
+    if let Err(fault) = served(rt, alloc, &desk, seats, source, host, &[]) {
+        return Err(fault);
+    }
+    match writer.flush() {
+        Ok(()) => Ok(()),
+        Err(_) => Err(ServerFault::Fault(Fault::Write)),
+    }
+}
+
+/// Serves the source's connections on the bridge, so many at once, 1 to 1,000, until none is left. Each is a session of one
+/// seat of a desk. With an instant a worker follows each port meanwhile, and where there would be more than 1,024 of these
+/// and of connections, fewer connections are served at once. Then each port's worker makes a last round at the instant, and
+/// its line is written, in the order of the ports: `port P gates G`, the gates in decimal, or `port P past` where the
+/// instant comes before the last act on the port. Each line tells where one legal history of the bridge ends. The lines
+/// are handed on. With no instant no port is followed, and nothing is written. A connection's fault ends that connection
+/// alone. Serving itself ends where memory was wanting, no ticket was left or the writer failed; or by the refusal of a
+/// worker's start, and then nothing was written.
+#[tactic(auto, using(crate::proofs::Lines::told_at, crate::proofs::Lines::told_nothing))]
+pub fn serve_bridge<R: Wait + Threads + Sync, S: Source + Sync, H: Host + Sync, W: ByteOut>(
+    rt: &R,
+    alloc: Global,
+    bridge: Bridge,
+    workers: usize,
+    source: &S,
+    host: &H,
+    at: Option<Instant>,
+    writer: &mut W,
+) -> Result<(), ServerFault>
+    requires opened { IsReached bridge }
+    requires some { (0 < workers) × (workers ≤ 1000) }
+    ensures lines { OnOk result ((text : List ℕ) × ReportsEnd bridge at text × Appends (W.taken writer.old) (W.taken writer.new) text) }
+    ensures handed_on { OnOk result (W.pending writer.new ≡ []) }
+    ensures failed { IsErrOf result (FaultOf Write) → W.has_failed writer.new ≡ true }
+    ensures read { IfErr result (λ e. e ≢ FaultOf Read) }
+    ensures refused { (why : Refusal) → IsErrOf result (Refused why) → writer.new ≡ writer.old }
+{
+    match at {
+        Some(at) => serve_beside_ports(rt, alloc, bridge, workers, source, host, at, writer),
+        None => serve_alone(rt, alloc, bridge, workers, source, host, writer),
     }
 }

@@ -1,15 +1,27 @@
 //! Connections of a service that may be stopped: a handle is kept of each that is open.
-use crate::tcp::{TcpSource, ends_of};
+use crate::connections::{Ends, SocketSource, TRIES};
 use std::alloc::{AllocError, Global};
-use std::net::{Net, Shutdown, SocketAddr, TcpListener, TcpStream};
+use std::net::{Net, Shutdown, TcpListener, TcpStream};
+use std::os::unix::net::UnixStream;
 use std::sync::{Mutex, Wait};
-use std::time::Duration;
+use std::time::{Clock, Duration};
 use tsn_bytes::StdIo;
 use tsn_clerk::Stop;
 use tsn_serve::Source;
+use tsn_sockets::{Log, LoggedReader, Place};
 
 /// How long a connection of the service's own may take, in milliseconds, with which it wakes a thread that waits for one.
 const LONGEST_CALL: u64 = 100;
+
+/// What became of a handle that was to be kept.
+#[derive(Clone, Copy, Debug, PartialEq, Eq)]
+enum Entered {
+    Kept,
+    /// There is no descriptor or no memory for one more.
+    NoHandle,
+    /// The service is stopped.
+    Stopped,
+}
 
 /// A handle of each connection that is open, by its number, until the service is stopped.
 #[derive(Drop)]
@@ -20,28 +32,36 @@ struct Open {
 
 /// Connections that a listener takes, until the service is stopped.
 #[derive(Drop)]
-pub struct StoppableSource<'a, R: Wait + Net<Listener = TcpListener, Stream = TcpStream>> {
+pub struct StoppableSource<
+    'a,
+    R: Wait + Clock + Net<Listener = TcpListener, Stream = TcpStream>,
+    L: Log,
+> {
     rt: &'a R,
-    source: TcpSource,
-    address: SocketAddr,
+    source: SocketSource<'a, R, L>,
+    place: Place,
     threads: u64,
     open: Mutex<Open>,
 }
 
-impl<'a, R: Wait + Net<Listener = TcpListener, Stream = TcpStream>> StoppableSource<'a, R> {
+impl<'a, R: Wait + Clock + Net<Listener = TcpListener, Stream = TcpStream>, L: Log> StoppableSource<
+    'a,
+    R,
+    L,
+> {
     /// The source's connections, which are taken by so many threads at most, from a listener that listens there.
     pub fn new(
         alloc: Global,
         rt: &'a R,
-        source: TcpSource,
-        address: SocketAddr,
+        source: SocketSource<'a, R, L>,
+        place: Place,
         threads: u64,
-    ) -> Result<StoppableSource<'a, R>, AllocError> {
+    ) -> Result<StoppableSource<'a, R, L>, AllocError> {
         let handles = Vec::with_capacity(alloc, threads as usize)?;
         Ok(StoppableSource {
             rt,
             source,
-            address,
+            place,
             threads,
             open: Mutex::new(Open {
                 handles,
@@ -50,13 +70,19 @@ impl<'a, R: Wait + Net<Listener = TcpListener, Stream = TcpStream>> StoppableSou
         })
     }
 
-    // Keeps a handle of a connection, and says whether it did: not where the service is stopped.
-    fn enter(&self, number: u32, stream: &TcpStream) -> bool {
+    // Keeps a handle of a connection.
+    fn enter(&self, number: u32, stream: &TcpStream) -> Entered {
         let Ok(handle) = stream.try_clone() else {
-            return false;
+            return Entered::NoHandle;
         };
         let mut open = self.open.lock(self.rt);
-        !open.is_stopped && open.handles.push((number, handle)).is_ok()
+        if open.is_stopped {
+            return Entered::Stopped;
+        }
+        match open.handles.push((number, handle)) {
+            Ok(()) => Entered::Kept,
+            Err(_) => Entered::NoHandle,
+        }
     }
 
     // Shuts down each connection that is open, and takes no further one; says whether that was so before.
@@ -71,18 +97,29 @@ impl<'a, R: Wait + Net<Listener = TcpListener, Stream = TcpStream>> StoppableSou
         was_stopped
     }
 
-    // Wakes each thread that waits for a connection, or will, by one that is given up at once.
-    fn wake(&self) {
+    // Makes a connection to the service, which is given up at once, and says whether it could.
+    fn call(&self) -> bool {
         let longest = Duration::from_millis(LONGEST_CALL);
+        match &self.place {
+            Place::Address(address) => {
+                TcpStream::connect_timeout(self.rt, address, longest).is_ok()
+            }
+            Place::Path(path) => UnixStream::connect(self.rt, path.as_str()).is_ok(),
+        }
+    }
+
+    // Wakes each thread that waits for a connection, or will, by one of the service's own.
+    fn wake(&self) {
         for _ in 0..self.threads {
-            if TcpStream::connect_timeout(self.rt, &self.address, longest).is_err() {
+            if !self.call() {
                 return;
             }
         }
     }
 }
 
-impl<R: Wait + Net<Listener = TcpListener, Stream = TcpStream>> Stop for StoppableSource<'_, R> {
+impl<R: Wait + Clock + Net<Listener = TcpListener, Stream = TcpStream>, L: Log> Stop
+    for StoppableSource<'_, R, L> {
     fn stop(&self) {
         if !self.close() {
             self.wake();
@@ -101,20 +138,26 @@ impl<R: Wait + Net<Listener = TcpListener, Stream = TcpStream>> Stop for Stoppab
     }
 }
 
-impl<R: Wait + Net<Listener = TcpListener, Stream = TcpStream>> Source for StoppableSource<'_, R> {
-    type Reader = StdIo<TcpStream>;
+impl<'a, R: Wait + Clock + Net<Listener = TcpListener, Stream = TcpStream>, L: Log + Sync> Source
+    for StoppableSource<'a, R, L> {
+    type Reader = LoggedReader<'a, StdIo<TcpStream>, L>;
 
     type Writer = StdIo<TcpStream>;
 
-    fn next(&self) -> Option<(u32, StdIo<TcpStream>, StdIo<TcpStream>)> {
-        let (number, stream) = self.source.next_stream()?;
-        if !self.enter(number, &stream) {
-            return None;
-        }
-        let ends = ends_of(number, stream);
-        if ends.is_none() {
+    /// A connection for which no descriptor is left is given up.
+    fn next(&self) -> Option<Ends<'a, L>> {
+        'streams: for _ in 0..TRIES {
+            let (number, stream) = self.source.next_stream()?;
+            match self.enter(number, &stream) {
+                Entered::Kept => {}
+                Entered::NoHandle => continue,
+                Entered::Stopped => return None,
+            }
+            if let Some(ends) = self.source.ends_of(number, stream) {
+                return Some(ends);
+            }
             self.ended(number);
         }
-        ends
+        None
     }
 }

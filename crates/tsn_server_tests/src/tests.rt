@@ -8,20 +8,33 @@ use std::alloc::Global;
 use std::io;
 use std::net::{Net, SocketAddr, TcpListener, TcpStream};
 use std::process::Abort;
+use std::rt::Files;
 use std::sync::Wait;
 use std::test::Fail;
 use std::thread::{Threads, join};
+use std::time::Clock;
 use tsn_bridge::bridge::Bridge;
 use tsn_bytes::{Fault, MemOut};
 use tsn_serve::{Free, Gated};
-use tsn_server::{ServerFault, TcpSource, listen_on, serve_bridge};
+use tsn_server::{ServerFault, SocketSource, serve_bridge};
 use tsn_setup::setup_of;
+use tsn_sockets::{Listener, Log, Place, listen_on};
 use tsn_types::numbers::Instant;
 
 /// Port 1 has traffic class 0 alone for 300 ns, and class 7 alone for 700 ns.
 const SETUP: &'static [u8] =
     b"[[port]]\nid = 1\ngates = 255\ncycle = 1000\nextension = 0\nbase = 0\n\
     list = [{gates = 1, interval = 300}, {gates = 128, interval = 700}]\n";
+
+/// A log that nobody reads.
+#[derive(Clone, Copy)]
+struct Unheard;
+
+impl Log for Unheard {
+    fn begins(&self, _number: u32, _peer: Option<SocketAddr>) {}
+
+    fn ends(&self, _number: u32, _lines: u64) {}
+}
 
 /// A new bridge with that setup.
 fn new_bridge(alloc: Global) -> Result<Bridge, ServerFault>
@@ -37,11 +50,11 @@ fn new_bridge(alloc: Global) -> Result<Bridge, ServerFault>
 }
 
 /// Serves a new bridge to the source's connections, one after the other, and gives what was written.
-fn serve<R: Wait + Threads + Sync>(
+fn serve<R: Wait + Threads + Clock + Sync>(
     rt: &R,
     alloc: Global,
-    source: &TcpSource,
-    at: Instant,
+    source: &SocketSource<'_, R, Unheard>,
+    at: Option<Instant>,
 ) -> Result<MemOut, ServerFault> {
     let bridge = new_bridge(alloc)?;
     let mut output = MemOut::new(Vec::new(alloc), 100, None);
@@ -59,14 +72,14 @@ fn serve<R: Wait + Threads + Sync>(
 }
 
 /// Serves a new bridge to one client beside it.
-fn serve_client<R: Net<Stream = TcpStream> + Wait + Threads + Sync>(
+fn serve_client<R: Net<Stream = TcpStream> + Wait + Threads + Clock + Sync>(
     rt: &R,
     alloc: Global,
-    listener: TcpListener,
+    listener: Listener,
     address: SocketAddr,
-    at: Instant,
+    at: Option<Instant>,
 ) -> (Result<MemOut, ServerFault>, io::Result<(Vec<u8>, Vec<u8>)>) {
-    let source = TcpSource::new(listener, 1);
+    let source = SocketSource::new(rt, listener, Some(1), Some(10), Some(&Unheard));
     join(
         rt,
         || serve(rt, alloc, &source, at),
@@ -75,13 +88,16 @@ fn serve_client<R: Net<Stream = TcpStream> + Wait + Threads + Sync>(
 }
 
 /// Serves a new bridge to a client, and compares what is written at the end.
-fn tells<R: Net<Listener = TcpListener, Stream = TcpStream> + Wait + Threads + Abort + Sync>(
-    rt: &R,
-    alloc: Global,
-    at: Instant,
-    wanted: &[u8],
-) -> Result<(), Fail> {
-    let Some((listener, address)) = listen_on(rt, "127.0.0.1:0") else {
+fn tells<
+    R: Files
+        + Net<Listener = TcpListener, Stream = TcpStream>
+        + Wait
+        + Threads
+        + Clock
+        + Abort
+        + Sync,
+>(rt: &R, alloc: Global, at: Option<Instant>, wanted: &[u8]) -> Result<(), Fail> {
+    let Ok((listener, Place::Address(address))) = listen_on(rt, alloc, "127.0.0.1:0") else {
         return Err(Fail::from("no listener"));
     };
     let (served, replied) = serve_client(rt, alloc, listener, address, at);
@@ -106,13 +122,14 @@ fn a_run_over_loopback(rt: HostRuntime) -> Result<(), Fail> {
     tells(
         &rt,
         alloc,
-        Instant::new(3300)?,
+        Some(Instant::new(3300)?),
         b"port 1 gates 128\nport 2 gates 255\n",
     )?;
     tells(
         &rt,
         alloc,
-        Instant::new(2499)?,
+        Some(Instant::new(2499)?),
         b"port 1 past\nport 2 gates 255\n",
-    )
+    )?;
+    tells(&rt, alloc, None, b"")
 }

@@ -18,7 +18,7 @@ use Rattle.clap.specs.declared.builder.action.ArgAction.TheVariants.{Set}
 use Rattle.clap.specs.declared.builder.range.ValueRange.{ValueRange}
 use Rattle.clap.specs.declared.error.kind.ErrorKind.TheVariants.{DisplayHelp, InvalidSubcommand}
 use Rattle.clap.proofs.ValueTestLemmas.{accepts-Accepts}
-use Rattle.tsn_words.specs.Asking.{HasCheck, HasJournal, HasNumber, HasServe, HasStates, HasText, IsComplete, MayHaveNumber, last_entry, last_probe, longest_step, most_connections, most_instants, most_workers, program}
+use Rattle.tsn_words.specs.Asking.{HasCheck, HasJournal, HasNumber, HasServe, HasStates, HasText, IsComplete, MayHaveNumber, last_entry, last_probe, longest_idle, longest_step, most_connections, most_instants, most_workers, program}
 use Rattle.tsn_words.proofs.OneValue.{DefaultsFit, RowsFit, RuleFits, RulesFit, after_fit, given_value, no_kind, value_fits}
 
 -- ---- no fault comes where `help` is no subcommand
@@ -144,14 +144,6 @@ all_given true true true false e h = (cc)
 all_given true true true true false h = (cc)
 all_given true true true true true h = (refl, refl, refl, refl, refl)
 
--- and of those behind one that may be left out, ahead of another such one
-four_given : (a b c d : Bool) → ((true && not a) || ((true && not b) || ((true && not c) || ((true && not d) || false)))) ≡ false → (a ≡ true) × (b ≡ true) × (c ≡ true) × (d ≡ true)
-four_given false b c d h = (cc)
-four_given true false c d h = (cc)
-four_given true true false d h = (cc)
-four_given true true true false h = (cc)
-four_given true true true true h = (refl, refl, refl, refl)
-
 -- ---- an argument that is wanted
 
 module _ (accepted : Text → Text → Bool) where
@@ -238,7 +230,8 @@ states_given words none =
 served : Text → Text → Bool
 served id v = cond (bytes_eq id (codes "workers")) (is_unsigned_in 1 most_workers v)
     (cond (bytes_eq id (codes "connections")) (is_unsigned_in 1 most_connections v)
-    (cond (bytes_eq id (codes "probe")) (is_unsigned_in 0 last_probe v) true))
+    (cond (bytes_eq id (codes "probe")) (is_unsigned_in 0 last_probe v)
+    (cond (bytes_eq id (codes "idle")) (is_unsigned_in 1 longest_idle v) true)))
 
 serve_built : Shape
 unfolding third
@@ -246,7 +239,31 @@ serve_built = third (built program).subs
 
 serve_fit : RulesFit served serve_built.rules
 unfolding served third serve_built
-serve_fit = (one served _ refl refl refl (λ v e. refl), (one served _ refl refl refl (λ v e. refl), (one served _ refl refl refl (λ v e. e), (one served _ refl refl refl (λ v e. e), (one served _ refl refl refl (λ v e. e), (one served _ refl refl refl (λ v e. refl), (one served _ refl refl refl (λ v e. refl), ((tt, inl refl), tt))))))))
+serve_fit = (
+  one served _ refl refl refl (λ v e. refl),
+  (
+    one served _ refl refl refl (λ v e. refl),
+    (
+      one served _ refl refl refl (λ v e. e),
+      (
+        one served _ refl refl refl (λ v e. e),
+        (
+          one served _ refl refl refl (λ v e. e),
+          (
+            one served _ refl refl refl (λ v e. e),
+            (
+              one served _ refl refl refl (λ v e. refl),
+              (
+                one served _ refl refl refl (λ v e. refl),
+                (((refl, refl), inr (inr (record { action = refl; range = refl; missing = refl; passes = refl }))), ((tt, inl refl), tt)),
+              ),
+            ),
+          ),
+        ),
+      ),
+    ),
+  ),
+)
 
 serve_given : (words : List Text) → level_fault serve_built [] nothing_held words false [] ≡ [] → HasServe (Some (rows_at serve_built words))
 unfolding served third serve_built
@@ -254,14 +271,12 @@ serve_given words none =
     let parts = level serve_built [] words false [] none in
     let rows = rows_after serve_built.rules [] words in
     let fit = after_fit served serve_built [] refl serve_fit words parts.walks parts.settles in
-    let wanted = (checks serve_built rows false parts.checks).1 in
-    let each = four_given (is_given (codes "listen") rows) (is_given (codes "workers") rows) (is_given (codes "connections") rows) (is_given (codes "probe") rows) wanted in
     record {
       named = refl;
-      listen = text_given served (codes "serve") (codes "listen") rows fit each.0;
-      workers = number_given served (codes "serve") (codes "workers") 1 most_workers rows (λ v e. e) fit each.1;
-      connections = number_given served (codes "serve") (codes "connections") 1 most_connections rows (λ v e. e) fit each.2;
-      probe = number_given served (codes "serve") (codes "probe") 0 last_probe rows (λ v e. e) fit each.3;
+      workers = number_fits served (codes "serve") (codes "workers") 1 most_workers rows (λ v e. e) fit;
+      connections = number_fits served (codes "serve") (codes "connections") 1 most_connections rows (λ v e. e) fit;
+      probe = number_fits served (codes "serve") (codes "probe") 0 last_probe rows (λ v e. e) fit;
+      idle = number_fits served (codes "serve") (codes "idle") 1 longest_idle rows (λ v e. e) fit;
     }
 
 -- ---- `check`

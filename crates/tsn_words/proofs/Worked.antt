@@ -76,14 +76,14 @@ listed_count = refl
 
 -- a server, with an address that has no meaning yet, and its numbers at the ends of their ranges
 abbrev served : List ℕ → List (List ℕ)
-served name = name ∷ codes "serve" ∷ codes "--probe=4611686018427387904" ∷ codes "--listen" ∷ codes "anywhere" ∷ codes "--workers" ∷ codes "1" ∷ codes "cell.toml" ∷ codes "--connections" ∷ codes "65535" ∷ []
+served name = name ∷ codes "serve" ∷ codes "--probe=4611686018427387904" ∷ codes "--listen" ∷ codes "anywhere" ∷ codes "--workers" ∷ codes "1000" ∷ codes "cell.toml" ∷ codes "--connections" ∷ codes "65535" ∷ []
 
 served_faultless : (name : List ℕ) → fault_of program (served name) ≡ []
 unfolding clap_on_literals
 served_faultless name = refl
 
 served_given : (name : List ℕ) → map (text_given (subcommand_of program (served name))) (codes "FILE" ∷ codes "listen" ∷ codes "workers" ∷ codes "connections" ∷ codes "probe" ∷ [])
-    ≡ Some (codes "cell.toml") ∷ Some (codes "anywhere") ∷ Some (codes "1") ∷ Some (codes "65535") ∷ Some (codes "4611686018427387904") ∷ []
+    ≡ Some (codes "cell.toml") ∷ Some (codes "anywhere") ∷ Some (codes "1000") ∷ Some (codes "65535") ∷ Some (codes "4611686018427387904") ∷ []
 unfolding clap_on_literals
 served_given name = refl
 
@@ -93,8 +93,24 @@ served_kept : (name : List ℕ) → map (text_given (subcommand_of program (name
 unfolding clap_on_literals
 served_kept name = refl
 
+-- a server whose connections may be idle for a day, and are told of
+served_loudly : (name : List ℕ) → map (text_given (subcommand_of program (name ∷ codes "serve" ∷ codes "--log" ∷ codes "--idle" ∷ codes "86400" ∷ []))) (codes "idle" ∷ codes "log" ∷ [])
+    ≡ Some (codes "86400") ∷ Some (codes "true") ∷ []
+unfolding clap_on_literals
+served_loudly name = refl
+
+-- a connection can't be idle for no time
+served_hastily : (name : List ℕ) → fault_of program (name ∷ codes "serve" ∷ codes "--idle=0" ∷ []) ≡ ValueValidation ∷ []
+unfolding clap_on_literals
+served_hastily name = refl
+
+-- a server of which nothing is said
+served_plainly : (name : List ℕ) → fault_of program (name ∷ codes "serve" ∷ []) ≡ []
+unfolding clap_on_literals
+served_plainly name = refl
+
 -- one worker more than there may be is no number of them
-crowded : (name : List ℕ) → fault_of program (name ∷ codes "serve" ∷ codes "cell.toml" ∷ codes "--listen" ∷ codes "anywhere" ∷ codes "--workers" ∷ codes "65" ∷ codes "--connections" ∷ codes "1" ∷ codes "--probe" ∷ codes "0" ∷ []) ≡ ValueValidation ∷ []
+crowded : (name : List ℕ) → fault_of program (name ∷ codes "serve" ∷ codes "cell.toml" ∷ codes "--listen" ∷ codes "anywhere" ∷ codes "--workers" ∷ codes "1001" ∷ codes "--connections" ∷ codes "1" ∷ codes "--probe" ∷ codes "0" ∷ []) ≡ ValueValidation ∷ []
 unfolding clap_on_literals
 crowded name = refl
 

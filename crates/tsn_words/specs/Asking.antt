@@ -1,5 +1,5 @@
 -- What the words of a command line ask for.
-use Rattle.std.specs.Prelude.{◌≡◌, ◌≢◌, ◌⊎◌, ℕ, ◌^◌, ◌-◌, ◌<◌, List, [], Bool, Option, Some, None, Result, Ok, Err, codes, true, false, option_and_then, option_map, string_bytes, ⊤}
+use Rattle.std.specs.Prelude.{◌≡◌, ◌≢◌, ◌⊎◌, ◌↔◌, IsTrue, ℕ, ◌^◌, ◌-◌, ◌<◌, List, [], Bool, Option, Some, None, Result, Ok, Err, codes, true, false, option_and_then, option_map, string_bytes, ⊤}
 use Rattle.std.specs.Str.Parse.{IsNumeral, digits_value, without_leading_plus}
 use Rattle.clap.specs.Simple.{App, new_app, new_rule, on_top, subcommand_of, with_rule, with_subcommand}
 use Rattle.clap.specs.Values.{IsUnsignedIn}
@@ -31,13 +31,24 @@ most_instants = 1000000
 
 -- The most connections that `serve` serves at a time, the most in all, and the last instant.
 abbrev pub most_workers : ℕ
-most_workers = 64
+most_workers = 1000
 
 abbrev pub most_connections : ℕ
 most_connections = 65535
 
 abbrev pub last_probe : ℕ
 last_probe = 2 ^ 62
+
+-- The longest time that a connection may be idle, in seconds: a day.
+abbrev pub longest_idle : ℕ
+longest_idle = 86400
+
+-- Where `serve` listens where no place is given, and how many connections it then serves at a time where no number is.
+abbrev pub standard_place : List ℕ
+standard_place = codes "127.0.0.1:7000"
+
+abbrev pub standard_workers : ℕ
+standard_workers = 64
 
 -- The greatest number of an entry that `journal` takes.
 abbrev pub last_entry : ℕ
@@ -63,6 +74,10 @@ script = with_rule (with_rule (with_rule (new_app (codes "script")) (setup_file 
 abbrev pub number : List ℕ → ℕ → ℕ → Rule
 number name least most = record (new_rule name) { long = Some name; required = true; parser = Some (Unsigned least most) }
 
+-- An option of this name, which takes no value.
+abbrev pub flag : List ℕ → Rule
+flag name = record (new_rule name) { long = Some name; action = Some SetTrue }
+
 -- `states`, which wants a setup's file, a port, the first instant, the time to the next, and how many.
 abbrev pub states : App
 states =
@@ -73,18 +88,21 @@ states =
     (number (codes "step") 0 longest_step))
     (number (codes "count") 1 most_instants)
 
--- `serve`, which wants to be told where to listen, how many connections at a time and in all, and the instant that it tells of
--- at the end, and may be given a setup's file, a journal's, and which syncs of that are made.
+-- `serve`, which may be given a setup's file, where to listen, how many connections at a time and in all, the instant that it
+-- tells of at the end, how long a connection may be idle, a journal's file, which syncs of that are made, and whether it tells of
+-- connections.
 abbrev pub serve : App
 serve =
-    with_rule (with_rule (with_rule (with_rule (with_rule (with_rule (with_rule (new_app (codes "serve"))
+    with_rule (with_rule (with_rule (with_rule (with_rule (with_rule (with_rule (with_rule (with_rule (new_app (codes "serve"))
     (setup_file false))
-    (any_text (codes "listen")))
-    (number (codes "workers") 1 most_workers))
-    (number (codes "connections") 1 most_connections))
-    (number (codes "probe") 0 last_probe))
+    (optional (any_text (codes "listen"))))
+    (optional (number (codes "workers") 1 most_workers)))
+    (optional (number (codes "connections") 1 most_connections)))
+    (optional (number (codes "probe") 0 last_probe)))
+    (optional (number (codes "idle") 1 longest_idle)))
     (optional (any_text (codes "journal"))))
-    (optional (any_text (codes "sync")))
+    (optional (any_text (codes "sync"))))
+    (flag (codes "log"))
 
 -- `check`, which wants a setup's file.
 abbrev pub check : App
@@ -93,10 +111,6 @@ check = with_rule (new_app (codes "check")) (setup_file true)
 -- The file of a journal, which is wanted.
 abbrev pub journal_file : Rule
 journal_file = record (new_rule (codes "JOURNAL")) { required = true }
-
--- An option of this name, which takes no value.
-abbrev pub flag : List ℕ → Rule
-flag name = record (new_rule name) { long = Some name; action = Some SetTrue }
 
 -- `journal`, which wants a journal's file, and may be given what of it is asked for.
 abbrev pub journal : App
@@ -197,9 +211,23 @@ HasNumber given name least most = (text : List ℕ) × (text_given given name �
 abbrev pub MayHaveNumber : Given → List ℕ → ℕ → ℕ → Type 0
 MayHaveNumber given name least most = (text : List ℕ) → text_given given name ≡ Some text → IsUnsignedIn least most text
 
--- It is this number.
+-- This number is given for a name, from the least to the most.
 abbrev pub GivesNumber : Given → List ℕ → ℕ → ℕ → ℕ → Type 0
 GivesNumber given name least most n = (text : List ℕ) × (text_given given name ≡ Some text) × IsUnsignedIn least most text × (n ≡ number_of text)
+
+-- This number is given for a name, or this one stands for it where none is.
+abbrev pub GivesNumberOr : Given → List ℕ → ℕ → ℕ → ℕ → ℕ → Type 0
+GivesNumberOr given name least most standard n =
+    GivesNumber given name least most n ⊎ ((text_given given name ≡ None) × (n ≡ standard))
+
+-- This number is given for a name, or none.
+abbrev pub MayGiveNumber : Given → List ℕ → ℕ → ℕ → Option ℕ → Type 0
+MayGiveNumber given name least most None = text_given given name ≡ None
+MayGiveNumber given name least most (Some n) = GivesNumber given name least most n
+
+-- The option of this name is given, which takes no value.
+abbrev pub IsFlagged : Given → List ℕ → Type 0
+IsFlagged given name = text_given given name ≡ Some (codes "true")
 
 -- `states` is named, and all that it wants is given.
 pub record HasStates (given : Given) : Type 0 where
@@ -210,13 +238,13 @@ pub record HasStates (given : Given) : Type 0 where
   pub step : HasNumber given (codes "step") 0 longest_step
   pub count : HasNumber given (codes "count") 1 most_instants
 
--- `serve` is named, and all that it wants is given.
+-- `serve` is named, and the numbers that may be given to it are in range.
 pub record HasServe (given : Given) : Type 0 where
   pub named : Names given (codes "serve")
-  pub listen : HasText given (codes "listen")
-  pub workers : HasNumber given (codes "workers") 1 most_workers
-  pub connections : HasNumber given (codes "connections") 1 most_connections
-  pub probe : HasNumber given (codes "probe") 0 last_probe
+  pub workers : MayHaveNumber given (codes "workers") 1 most_workers
+  pub connections : MayHaveNumber given (codes "connections") 1 most_connections
+  pub probe : MayHaveNumber given (codes "probe") 0 last_probe
+  pub idle : MayHaveNumber given (codes "idle") 1 longest_idle
 
 -- `check` is named, and the file that it wants is given.
 pub record HasCheck (given : Given) : Type 0 where
@@ -282,17 +310,25 @@ pub record GivesStates (given : Given) (file : List ℕ) (x : Listing) : Type 0 
   pub setup : text_given given (codes "FILE") ≡ Some file
   pub listing : GivesListing given x
 
--- These numbers are given.
+-- So many connections at a time are given, or the standard number stands for them; so many in all, or no end; an instant, or
+-- none; an idle time, or none; and whether connections are told of.
 pub record GivesServing (given : Given) (x : Serving) : Type 0 where
-  pub workers : GivesNumber given (codes "workers") 1 most_workers x.workers
-  pub connections : GivesNumber given (codes "connections") 1 most_connections x.connections
-  pub probe : GivesNumber given (codes "probe") 0 last_probe x.probe
+  pub workers : GivesNumberOr given (codes "workers") 1 most_workers standard_workers x.workers
+  pub connections : MayGiveNumber given (codes "connections") 1 most_connections x.connections
+  pub probe : MayGiveNumber given (codes "probe") 0 last_probe x.probe
+  pub idle : MayGiveNumber given (codes "idle") 1 longest_idle x.idle
+  pub logged : IsTrue x.is_logged ↔ IsFlagged given (codes "log")
 
--- `serve` is named, and this setup's file is given to it, or none, where to listen, these numbers, and this journal, or none.
+-- the place that is given to listen at, or the standard one
+abbrev pub place_of : Option (List ℕ) → List ℕ
+place_of None = standard_place
+place_of (Some place) = place
+
+-- `serve` is named, and this setup's file is given to it, or none, where to listen, what to serve, and this journal, or none.
 pub record GivesServe (given : Given) (file : Option (List ℕ)) (listen : List ℕ) (x : Serving) (kept : Option Kept) : Type 0 where
   pub named : Names given (codes "serve")
   pub setup : text_given given (codes "FILE") ≡ file
-  pub place : text_given given (codes "listen") ≡ Some listen
+  pub place : place_of (text_given given (codes "listen")) ≡ listen
   pub serving : GivesServing given x
   pub journal : GivesKept (text_given given (codes "journal")) (text_given given (codes "sync")) kept
 
@@ -300,10 +336,6 @@ pub record GivesServe (given : Given) (file : Option (List ℕ)) (listen : List 
 pub record GivesCheck (given : Given) (file : List ℕ) : Type 0 where
   pub named : Names given (codes "check")
   pub setup : text_given given (codes "FILE") ≡ Some file
-
--- The option of this name is given, which takes no value.
-abbrev pub IsFlagged : Given → List ℕ → Type 0
-IsFlagged given name = text_given given name ≡ Some (codes "true")
 
 -- This look at a journal is given: `--since` with this number, `--diff` with this number, `--mend`, or none of the three.
 abbrev pub GivesLook : Given → Look → Type 0

@@ -4,7 +4,7 @@ ghost use Rattle.clap.specs.Words.{app_of, first_value, found_of, kind_of, rows_
 ghost use Rattle.clap.specs.Kinds.{FailsBy};
 ghost use Rattle.clap.specs.Faults.{fault_of};
 ghost use Rattle.tsn_bytes.specs.declared.bytes.Fault.TheVariants.{Memory};
-ghost use Rattle.tsn_words.specs.Asking.{any_text, bare, check, flag, journal, journal_file, number, optional, program, script, serve, setup_file, states, Asks, AsksFor, GivesListing, HasCheck, HasJournal, HasServe, HasStates, IsComplete, IsRefusal, IsWork, KeepsOrRefuses, TellsSomething};
+ghost use Rattle.tsn_words.specs.Asking.{any_text, bare, check, flag, journal, journal_file, number, optional, place_of, program, script, serve, setup_file, states, Asks, AsksFor, GivesListing, HasCheck, HasJournal, HasServe, HasStates, IsComplete, IsRefusal, IsWork, KeepsOrRefuses, TellsSomething};
 
 use crate::kept::{Keeping, Kept, keeping_of};
 use crate::look::{Look, look_of};
@@ -22,11 +22,17 @@ const LONGEST_STEP: u64 = 1_000_000_000_000;
 /// The most instants of `states`.
 const MOST_INSTANTS: u64 = 1_000_000;
 
+/// Where a server listens where no place is given.
+const STANDARD_PLACE: &str = "127.0.0.1:7000";
+
 /// The most connections that are served at a time.
-const MOST_WORKERS: u64 = 64;
+const MOST_WORKERS: u64 = 1000;
 
 /// The most connections that are served in all.
 const MOST_CONNECTIONS: u64 = 65_535;
+
+/// The longest time that a connection may be idle, in seconds: a day.
+const LONGEST_IDLE: u64 = 86_400;
 
 /// The last instant of a server's end.
 const LAST_PROBE: u64 = 1 << 62;
@@ -45,7 +51,7 @@ const STATES_EXAMPLE: &str = "Example:
 
 /// Ends the help on `serve`.
 const SERVE_EXAMPLE: &str = "Example, and a client in another terminal:
-  tsnd serve bridge.toml --listen 127.0.0.1:7000 --workers 4 --connections 100 --probe 0 --journal bridge.journal
+  tsnd serve bridge.toml --journal bridge.journal
   echo '{\"do\":\"hello\"}' | nc -N 127.0.0.1 7000";
 
 /// Ends the help on `check`.
@@ -206,6 +212,14 @@ fn number<'a>(alloc: Global, name: &'a str, help: &'a str, least: u64, most: u64
         .help(help)
 }
 
+// An option that may be left out, and else wants a number in its range.
+fn number_or_none<'a>(alloc: Global, name: &'a str, help: &'a str, least: u64, most: u64) -> Arg<'a>
+    ensures rule { rule_of result ≡ optional (number name.entry.now least most) }
+    ensures local { result.global ≡ false }
+{
+    number(alloc, name, help, least, most).required(false)
+}
+
 fn states<'a>(alloc: Global) -> Result<Command<'a>, AllocError>
     ensures { IfOk result (λ c. app_of c ≡ states) }
 {
@@ -224,48 +238,69 @@ fn states<'a>(alloc: Global) -> Result<Command<'a>, AllocError>
         .arg(count)
 }
 
+// The place that may be named.
+fn place<'a>(alloc: Global) -> Arg<'a>
+    ensures rule { rule_of result ≡ optional (any_text (codes "listen")) }
+    ensures local { result.global ≡ false }
+{
+    any_text(
+        alloc,
+        "listen",
+        "Where it listens: an IP address and port, 0 being one that is free, or unix:PATH [127.0.0.1:7000]",
+    )
+    .required(false)
+}
+
 fn serve<'a>(alloc: Global) -> Result<Command<'a>, AllocError>
     ensures { IfOk result (λ c. app_of c ≡ serve) }
 {
     let file = setup_file(alloc, false);
-    let listen = any_text(
-        alloc,
-        "listen",
-        "The IP address and port where it listens; port 0 lets the system choose one",
-    );
-    let workers = number(
+    let listen = place(alloc);
+    let workers = number_or_none(
         alloc,
         "workers",
-        "How many connections at a time, 1 to 64",
+        "How many connections at a time, 1 to 1000 [64]",
         1,
         MOST_WORKERS,
     );
-    let connections = number(
+    let connections = number_or_none(
         alloc,
         "connections",
-        "How many connections in all, 1 to 65535",
+        "How many connections in all, 1 to 65535 [without end]",
         1,
         MOST_CONNECTIONS,
     );
-    let probe = number(
+    let probe = number_or_none(
         alloc,
         "probe",
-        "The instant of the gates that it prints at the end",
+        "The instant of the gates that it prints at the end [prints nothing]",
         0,
         LAST_PROBE,
     );
+    let idle = number_or_none(
+        alloc,
+        "idle",
+        "After how many idle seconds a connection is ended, 1 to 86400 [never]",
+        1,
+        LONGEST_IDLE,
+    );
+    let log = flag(
+        alloc,
+        "log",
+        "Tells on standard error of each connection, as it begins and ends",
+    );
     Command::new(alloc, "serve")
-        .about(
-            "Answers the command lines of connections, and prints the gates of each port at the end",
-        )
+        .about("Answers the command lines of connections")
         .after_help(SERVE_EXAMPLE)
         .arg(file)?
         .arg(listen)?
         .arg(workers)?
         .arg(connections)?
         .arg(probe)?
+        .arg(idle)?
         .arg(kept(alloc))?
-        .arg(syncs(alloc))
+        .arg(syncs(alloc))?
+        .arg(log)
 }
 
 fn check<'a>(alloc: Global) -> Result<Command<'a>, AllocError>
@@ -302,22 +337,20 @@ fn journal<'a>(alloc: Global) -> Result<Command<'a>, AllocError>
     ensures { IfOk result (λ c. app_of c ≡ journal) }
 {
     let file = journal_file(alloc);
-    let since = number(
+    let since = number_or_none(
         alloc,
         "since",
         "Tells the entries behind this number, a line each",
         0,
         LAST_ENTRY,
-    )
-    .required(false);
-    let diff = number(
+    );
+    let diff = number_or_none(
         alloc,
         "diff",
         "Tells what this entry changed",
         1,
         LAST_ENTRY,
-    )
-    .required(false);
+    );
     let mend = flag(
         alloc,
         "mend",
@@ -404,6 +437,16 @@ fn kept_of(alloc: Global, given: &ArgMatches<'_>) -> Result<Result<Option<Kept>,
     }
 }
 
+// The place that is given, or the standard one.
+fn place_of(alloc: Global, given: &ArgMatches<'_>) -> Result<String, AllocError>
+    ensures { IfOk result (λ place. place_of (first_value (found_of given.now) (codes "listen")) ≡ string_bytes place) }
+{
+    match text_if_given(alloc, given, "listen")? {
+        Some(place) => Ok(place),
+        None => String::from_str(alloc, STANDARD_PLACE),
+    }
+}
+
 // A server, from the setup, at the place, with the numbers and with the journal that are given.
 fn serve_of(alloc: Global, given: &ArgMatches<'_>) -> Result<Asked, AllocError>
     requires { HasServe (Some (codes "serve", rows_of (found_of given.now))) }
@@ -411,7 +454,7 @@ fn serve_of(alloc: Global, given: &ArgMatches<'_>) -> Result<Asked, AllocError>
     ensures told { IfOk result TellsSomething }
 {
     let file = text_if_given(alloc, given, "FILE")?;
-    let listen = text_of(alloc, given, "listen")?;
+    let listen = place_of(alloc, given)?;
     let serving = Serving::given_in(given);
     match kept_of(alloc, given)? {
         Ok(kept) => Ok(Asked::Serve {

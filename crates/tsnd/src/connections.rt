@@ -1,11 +1,15 @@
 //! The service of connections, with what a process has: the network and threads.
+use crate::logging::ErrorLog;
 use std::alloc::{AllocError, Global};
-use std::net::{Net, SocketAddr, TcpListener, TcpStream};
+use std::net::{Net, TcpListener, TcpStream};
+use std::rt::Files;
 use std::sync::Wait;
 use std::thread::Threads;
+use std::time::Clock;
 use tsn_bytes::{ByteOut, Fault, put_all};
-use tsn_program::{Failure, bridge_of, fail, serve};
-use tsn_server::{TcpSource, listen_on};
+use tsn_program::{Failure, Undone, bridge_of, fail, fail_start, serve};
+use tsn_server::SocketSource;
+use tsn_sockets::{ListenFault, Place, listen_on};
 use tsn_words::Serving;
 
 // Says where connections are taken, in one line. Refused where there is no memory for that line; where standard error takes
@@ -13,25 +17,39 @@ use tsn_words::Serving;
 pub(crate) fn say_where<E: ByteOut>(
     alloc: Global,
     errors: &mut E,
-    address: SocketAddr,
+    place: &Place,
 ) -> Result<(), AllocError> {
-    let line = format!(in alloc; "tsnd: listens on {address}\n")?;
+    let line = format!(in alloc; "tsnd: listens on {place}\n")?;
     let _ = put_all(errors, line.as_bytes());
     Ok(())
 }
 
-/// Serves connections at the address on the bridge of a setup's text, and gives the status. The setup is read before the
-/// address, and both before anything is served.
+/// Tells why nothing listens at the place, and gives its status, 1.
+pub(crate) fn fail_to_listen<E: ByteOut>(
+    alloc: Global,
+    errors: &mut E,
+    place: &str,
+    fault: &ListenFault,
+) -> u8 {
+    match format!(in alloc; "{fault}") {
+        Ok(reason) => fail_start(alloc, errors, Undone::Listening, place, reason.as_str()),
+        Err(_) => fail(errors, Failure::Fault(Fault::Memory)),
+    }
+}
+
+/// Serves connections at the place on the bridge of a setup's text, and gives the status. The setup is read before the
+/// place, and both before anything is served.
 pub fn serve_at<
-    R: Wait + Threads + Net<Listener = TcpListener, Stream = TcpStream> + Sync,
+    R: Files + Wait + Threads + Clock + Net<Listener = TcpListener, Stream = TcpStream> + Sync,
     O: ByteOut,
     E: ByteOut,
 >(
     rt: &R,
     alloc: Global,
     setup: &[u8],
-    address: &str,
+    place: &str,
     serving: Serving,
+    log: &ErrorLog<'_, R>,
     output: &mut O,
     errors: &mut E,
 ) -> u8 {
@@ -39,12 +57,14 @@ pub fn serve_at<
         Ok(bridge) => bridge,
         Err(why) => return fail(errors, Failure::Refused(why)),
     };
-    let Some((listener, bound)) = listen_on(rt, address) else {
-        return fail(errors, Failure::Listen);
+    let (listener, bound) = match listen_on(rt, alloc, place) {
+        Ok(listening) => listening,
+        Err(fault) => return fail_to_listen(alloc, errors, place, &fault),
     };
-    if say_where(alloc, errors, bound).is_err() {
+    if say_where(alloc, errors, &bound).is_err() {
         return fail(errors, Failure::Fault(Fault::Memory));
     }
-    let source = TcpSource::new(listener, u64::from(serving.connections));
+    let log = serving.is_logged.then_some(log);
+    let source = SocketSource::new(rt, listener, serving.connections, serving.idle, log);
     serve(rt, alloc, bridge, serving, &source, output, errors)
 }

@@ -123,7 +123,7 @@ pub(crate) fn fail_over<E: ByteOut>(
         JournalFault::Open(error) => {
             say(
                 errors,
-                format!(in alloc; "tsnd: cannot open the journal: {error}\n"),
+                format!(in alloc; "tsnd: cannot open the journal {path}: {error}\n"),
             )
         }
         JournalFault::Write(Some(error)) => {

@@ -10,22 +10,26 @@
 
 mod connections;
 mod journal;
+mod logging;
 mod looking;
 mod progress;
 mod serving;
+mod setup;
 #[cfg(test)]
 mod tests;
 
 use connections::serve_at;
 use journal::script_over;
+use logging::ErrorLog;
 use looking::look_at;
 use serving::serve_over;
+use setup::{fail_to_read, setup_text};
 use std::io::ErrorKind;
 use std::process::ExitCode;
-use std::rt::{Env, Files};
-use std::{env, fs, io};
+use std::rt::Env;
+use std::{env, io};
 use tsn_bytes::{Buffered, Fault, StdIo};
-use tsn_program::{Failure, fail, read_setup, run};
+use tsn_program::{Failure, fail, run};
 use tsn_words::{Asked, read_words};
 
 /// The words of the command line, the program's name first; none where a word is no UTF-8.
@@ -53,17 +57,6 @@ fn asked_for<R: Env + AllocGlobal>(rt: &R) -> Result<Asked, Fault> {
     read_words(rt.alloc(), words.as_ref().map(Vec::as_slice))
 }
 
-/// The text of the setup that is named, empty where none is.
-fn setup_text<R: Files + AllocGlobal>(rt: &R, asked: &Asked) -> Result<Vec<u8>, Failure> {
-    let Some(file) = asked.file() else {
-        return Ok(Vec::new(rt.alloc()));
-    };
-    let Ok(file) = fs::open(rt, file) else {
-        return Err(Failure::Setup);
-    };
-    read_setup(rt.alloc(), &mut StdIo::new(file))
-}
-
 /// Hands the process to what its words ask for, with the text of the setup that they name, its standard input, its standard
 /// output behind a buffer, and its standard error.
 fn main(rt: HostRuntime) -> ExitCode {
@@ -74,13 +67,14 @@ fn main(rt: HostRuntime) -> ExitCode {
     };
     let setup = match setup_text(&rt, &asked) {
         Ok(setup) => setup,
-        Err(failure) => return ExitCode::from(fail(&mut errors, failure)),
+        Err(why) => return ExitCode::from(fail_to_read(&rt, &mut errors, &asked, &why)),
     };
     let Ok(mut output) = Buffered::new(rt.alloc(), StdIo::new(io::writer(&rt))) else {
         return ExitCode::from(fail(&mut errors, Failure::Fault(Fault::Memory)));
     };
     let mut input = StdIo::new(rt.reader());
     let alloc = rt.alloc();
+    let log = ErrorLog::new(&rt, alloc, rt.stderr());
     let text = setup.as_slice();
     let own = asked.file().is_some().then_some(text);
     ExitCode::from(match &asked {
@@ -95,6 +89,7 @@ fn main(rt: HostRuntime) -> ExitCode {
             kept,
             listen.as_str(),
             *serving,
+            &log,
             &mut output,
             &mut errors,
         ),
@@ -108,6 +103,7 @@ fn main(rt: HostRuntime) -> ExitCode {
             text,
             listen.as_str(),
             *serving,
+            &log,
             &mut output,
             &mut errors,
         ),

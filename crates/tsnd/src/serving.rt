@@ -1,8 +1,9 @@
 //! The service of connections over a journal.
 ghost use Rattle.tsn_bridge.specs.Reached.{IsReached};
 
-use crate::connections::say_where;
+use crate::connections::{fail_to_listen, say_where};
 use crate::journal::{JournalFault, WallClock, error_of, fail_over, start};
+use crate::logging::ErrorLog;
 use std::alloc::Global;
 use std::fs::File;
 use std::marker::Brand;
@@ -16,14 +17,14 @@ use tsn_bytes::{ByteOut, Fault};
 use tsn_device::{Device, DeviceOverFile, Failed, FileDevice, UnsyncedDevice};
 use tsn_history::Opened;
 use tsn_keeping::Keeper;
-use tsn_program::Failure;
+use tsn_program::{Failure, last_instant};
 use tsn_resuming::Resumed;
-use tsn_server::{
-    LastingServerFault, ServerFault, StoppableSource, TcpSource, listen_on, serve_lasting,
-};
-use tsn_types::numbers::Instant;
+use tsn_server::{LastingServerFault, ServerFault, SocketSource, StoppableSource, serve_lasting};
+use tsn_sockets::{ListenFault, listen_on};
 use tsn_types::refusals::{Field, Refusal};
 use tsn_words::{Kept, Serving, Syncs};
+
+const NO_MEMORY: JournalFault = JournalFault::Failed(Failure::Fault(Fault::Memory));
 
 /// A file device that leaves word of why a call of it failed, for when it is gone: the number of the system's error, and 0
 /// as long as there is none.
@@ -67,6 +68,25 @@ impl<D: DeviceOverFile> Device for TellingDevice<'_, D> {
     }
 }
 
+/// What ends a service over a journal with status 1.
+#[derive(Drop)]
+enum Ended {
+    Journal(JournalFault),
+    Listen(ListenFault),
+}
+
+impl From<JournalFault> for Ended {
+    fn from(fault: JournalFault) -> Ended {
+        Ended::Journal(fault)
+    }
+}
+
+impl From<ListenFault> for Ended {
+    fn from(fault: ListenFault) -> Ended {
+        Ended::Listen(fault)
+    }
+}
+
 // Why a service ended before its end, as its line says.
 fn fault_of(fault: LastingServerFault, why: &AtomicI32) -> JournalFault {
     match fault {
@@ -98,7 +118,7 @@ fn serve_on<
     alloc: Global,
     started: (File, Resumed),
     serving: Serving,
-    source: &StoppableSource<'_, R>,
+    source: &StoppableSource<'_, R, ErrorLog<'_, R>>,
     output: &mut O,
 ) -> Result<(), JournalFault>
     requires { IsReached started.1.bridge }
@@ -110,10 +130,10 @@ fn serve_on<
         why: &why,
     };
     let Ok(keeper) = Keeper::new(alloc, device, resumed.chain) else {
-        return Err(JournalFault::Failed(Failure::Fault(Fault::Memory)));
+        return Err(NO_MEMORY);
     };
     let clock = WallClock::new(rt, alloc);
-    let at = Instant::new(serving.probe).unwrap();
+    let at = last_instant(&serving);
     let ended = serve_lasting::<_, _, _, _, Brand, Brand, _>(
         rt,
         alloc,
@@ -133,7 +153,7 @@ fn serve_on<
     }
 }
 
-// Opens the journal, listens at the address, says where, and serves.
+// Opens the journal, listens at the place, says where, and serves.
 fn serve_from<
     R: Files<File = File>
         + AllocGlobal
@@ -148,36 +168,36 @@ fn serve_from<
     rt: &R,
     setup: Option<&[u8]>,
     kept: &Kept,
-    address: &str,
+    place: &str,
     serving: Serving,
+    log: &ErrorLog<'_, R>,
     output: &mut O,
     errors: &mut E,
-) -> Result<(), JournalFault> {
+) -> Result<(), Ended> {
     let alloc = rt.alloc();
     let started = start(rt, setup, kept.file.as_str(), errors)?;
-    let Some((listener, bound)) = listen_on(rt, address) else {
-        return Err(JournalFault::Failed(Failure::Listen));
-    };
-    if say_where(alloc, errors, bound).is_err() {
-        return Err(JournalFault::Failed(Failure::Fault(Fault::Memory)));
+    let (listener, bound) = listen_on(rt, alloc, place)?;
+    if say_where(alloc, errors, &bound).is_err() {
+        return Err(Ended::Journal(NO_MEMORY));
     }
-    let source = TcpSource::new(listener, u64::from(serving.connections));
-    let Ok(source) = StoppableSource::new(alloc, rt, source, bound, u64::from(serving.workers))
-    else {
-        return Err(JournalFault::Failed(Failure::Fault(Fault::Memory)));
+    let log = serving.is_logged.then_some(log);
+    let source = SocketSource::new(rt, listener, serving.connections, serving.idle, log);
+    let Ok(source) = StoppableSource::new(alloc, rt, source, bound, serving.workers) else {
+        return Err(Ended::Journal(NO_MEMORY));
     };
     match kept.syncs {
         Syncs::Each => {
-            serve_on::<FileDevice, _, _>(rt, alloc, started, serving, &source, output)
+            serve_on::<FileDevice, _, _>(rt, alloc, started, serving, &source, output)?
         }
         Syncs::None => {
-            serve_on::<UnsyncedDevice, _, _>(rt, alloc, started, serving, &source, output)
+            serve_on::<UnsyncedDevice, _, _>(rt, alloc, started, serving, &source, output)?
         }
     }
+    Ok(())
 }
 
-/// Serves connections at the address over the journal, whose file is made where it is not there, and gives the status.
-/// With a setup the journal must have just that one. The journal is opened before the address, and both before anything is
+/// Serves connections at the place over the journal, whose file is made where it is not there, and gives the status.
+/// With a setup the journal must have just that one. The journal is opened before the place, and both before anything is
 /// served.
 pub(crate) fn serve_over<
     R: Files<File = File>
@@ -193,13 +213,15 @@ pub(crate) fn serve_over<
     rt: &R,
     setup: Option<&[u8]>,
     kept: &Kept,
-    address: &str,
+    place: &str,
     serving: Serving,
+    log: &ErrorLog<'_, R>,
     output: &mut O,
     errors: &mut E,
 ) -> u8 {
-    match serve_from(rt, setup, kept, address, serving, output, errors) {
+    match serve_from(rt, setup, kept, place, serving, log, output, errors) {
         Ok(()) => 0,
-        Err(fault) => fail_over(rt.alloc(), errors, kept.file.as_str(), &fault),
+        Err(Ended::Journal(fault)) => fail_over(rt.alloc(), errors, kept.file.as_str(), &fault),
+        Err(Ended::Listen(fault)) => fail_to_listen(rt.alloc(), errors, place, &fault),
     }
 }
