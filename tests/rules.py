@@ -3,6 +3,8 @@
 There is no index and no table: a conflict is looked for along the entries, from the last one on. What it answers is what the
 service must answer, member for member.
 """
+import collections
+
 from crowd import REFUSALS, kind_of, references
 
 KINDS = ("port", "filter", "gate", "meter")
@@ -71,6 +73,8 @@ class Rules:
             return self.edit(command["s"], [command])
         if do == "batch":
             return self.edit(command["s"], command["edits"])
+        if do == "sessions":
+            return self.sessions_told(command)
         return getattr(self, do)(command)
 
     # ---- edits
@@ -214,3 +218,11 @@ class Rules:
 
     def since(self, command):
         return {"entries": [entry.told() for entry in self.entries[command["after"]:]]}
+
+    def resume(self, command):
+        return {"session": command["s"]}
+
+    def sessions_told(self, command):
+        """Each session that was given out, and how many of its entries stand."""
+        standing = collections.Counter(entry.session for entry in self.standing)
+        return {"sessions": [{"session": session, "standing": standing[session]} for session in range(1, self.sessions + 1)]}

@@ -2,6 +2,7 @@
 from __future__ import annotations
 
 import json
+import select
 import socket
 import time
 from collections.abc import Iterator, Mapping
@@ -68,6 +69,14 @@ class Entry:
 
 
 @dataclass(frozen=True)
+class Given:
+    """A session that was given out: its number, and how many of its entries stand."""
+
+    session: int
+    standing: int
+
+
+@dataclass(frozen=True)
 class Create:
     """An edit of a batch: a record for a key that has none."""
 
@@ -122,7 +131,7 @@ def _connected(host: str, port: int, timeout: float | None) -> socket.socket:
 
 
 class Connection:
-    """A connection to a server. It acts for the session of its latest hello alone.
+    """A connection to a server. It acts for the session of its latest hello or resume alone.
 
     The server listens at a host and port; or at a path, and then `host` is `unix:PATH` as behind its `--listen`, and the port has
     no meaning. `timeout` is in seconds; none waits for ever. A context manager: it is closed at the end of its block.
@@ -143,6 +152,13 @@ class Connection:
         self._lines.close()
         self._socket.close()
 
+    def is_ended(self) -> bool:
+        """Whether the server ended the connection: it says so with nothing asked."""
+        try:
+            return bool(select.select([self._socket], [], [], 0)[0]) and self._socket.recv(1, socket.MSG_PEEK) == b""
+        except (OSError, ValueError):
+            return True
+
     def ask(self, command: Mapping[str, Any]) -> dict[str, Any]:
         """The reply to a command, given by its members. A refusal is raised, as the exception of its number."""
         self._socket.sendall(json.dumps(command, separators=(",", ":")).encode() + b"\n")
@@ -160,11 +176,18 @@ class Connection:
         """A new session, for which the connection acts from now on. `OutOfRange` (field `session`) where all 65,535 were given out."""
         return Session(self, int(self.ask({"do": "hello"})["session"]))
 
+    def resume(self, number: int) -> Session:
+        """The session of this number, for which the connection acts from now on: who lost a connection can still undo.
+
+        `NoSession` where it was not given out.
+        """
+        return Session(self, int(self.ask({"do": "resume", "s": number})["session"]))
+
 
 class Session:
     """What one planner did and may take back. A key is a text as `port 1`, `filter 3`, `gate 0` or `meter 2`.
 
-    Every call may raise `NoSession` where the connection has said another hello since, and `OutOfMemory`.
+    Every call may raise `NoSession` where the connection has said another hello or resume since, and `OutOfMemory`.
     """
 
     def __init__(self, connection: Connection, number: int) -> None:
@@ -265,6 +288,10 @@ class Session:
     def since(self, after: int = 0) -> tuple[Entry, ...]:
         """The entries of a greater number, ascending. After 0 to 2^32 - 1."""
         return tuple(Entry.of_members(members) for members in self._ask("since", after=after)["entries"])
+
+    def sessions(self) -> tuple[Given, ...]:
+        """The sessions that were given out, ascending, each with how many of its entries stand."""
+        return tuple(Given(members["session"], members["standing"]) for members in self._ask("sessions")["sessions"])
 
     def follow(self, after: int = 0, pause: float = 0.5) -> Iterator[Entry]:
         """The entries of a greater number, and then each new one as it comes: it asks again after a pause, in seconds."""

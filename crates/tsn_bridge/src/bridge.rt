@@ -28,12 +28,13 @@ ghost use Rattle.tsn_bridge.specs.Machine.{Step};
 ghost use Rattle.tsn_bridge.specs.Reads.{list_rule, record_has_list, show_rule, since_rule};
 ghost use Rattle.tsn_bridge.specs.Refusing.{IsCause};
 ghost use Rattle.tsn_bridge.specs.Rule.{Allows, is_given, no_session};
-ghost use Rattle.tsn_bridge.specs.Sessions.{hello_rule};
+ghost use Rattle.tsn_bridge.specs.Sessions.{hello_rule, resume_rule, sessions_rule};
 ghost use Rattle.tsn_bridge.specs.Settling.{settle_rule};
 
 use crate::command::Command;
 use crate::pair::Pair;
 use crate::reply::Reply;
+use crate::sessions::GivenSessions;
 use std::alloc::{AllocError, Global};
 use std::marker::Model;
 use tsn_chain::frame::Frame;
@@ -151,6 +152,8 @@ impl Bridge {
             Command::Show { key } => self.show(session, &key),
             Command::List { kind } => self.list(session, kind),
             Command::Since { after } => self.since(session, after),
+            Command::Resume => self.resume(session),
+            Command::Sessions => self.given_sessions(session),
         }
     }
 
@@ -484,6 +487,29 @@ impl Bridge {
         }
         match self.journal().since(u64::from(after)) {
             Ok(entries) => Reply::Entries { entries },
+            Err(_) => Reply::Refused(Refusal::Memory),
+        }
+    }
+
+    /// It takes no memory.
+    fn resume(&self, session: u32) -> Reply
+        ensures { Allows (resume_rule self.now session) self.now result self.now }
+    {
+        if self.is_given(session) {
+            Reply::Session { session }
+        } else {
+            Reply::Refused(Refusal::NoSession)
+        }
+    }
+
+    fn given_sessions(&self, session: u32) -> Reply
+        ensures { Allows (sessions_rule self.now session) self.now result self.now }
+    {
+        if !self.is_given(session) {
+            return Reply::Refused(Refusal::NoSession);
+        }
+        match GivenSessions::up_to(self.alloc, self.journal(), self.sessions) {
+            Ok(sessions) => Reply::Sessions { sessions },
             Err(_) => Reply::Refused(Refusal::Memory),
         }
     }

@@ -52,4 +52,8 @@ pub enum Command {
     List { kind: Kind },
     /// Asks for the journal's entries of a greater number than `after`.
     Since { after: u32 },
+    /// Goes on as the session, which changes nothing: who lost a connection still has its undo.
+    Resume,
+    /// Asks for the sessions that were given out, and how many entries of each stand.
+    Sessions,
 }

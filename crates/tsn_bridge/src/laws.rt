@@ -32,7 +32,7 @@ ghost use Rattle.tsn_desk.specs.History.{Runs};
 ghost use Rattle.tsn_bridge.specs.declared.command.Ask.{Ask as AnyAsk};
 ghost use Rattle.tsn_bridge.specs.declared.command.Command.{Command as AnyCommand};
 ghost use Rattle.tsn_bridge.specs.declared.reply.Reply.{Reply as AnyReply};
-ghost use Rattle.tsn_bridge.specs.declared.reply.Reply.TheVariants.{Entry, EntryOf, Framed, Refused, TakenBack};
+ghost use Rattle.tsn_bridge.specs.declared.reply.Reply.TheVariants.{Entry, EntryOf, Framed, Refused, Session, Sessions, TakenBack};
 ghost use Rattle.tsn_bridge.specs.declared.bridge.TheConstants.{MOST_SESSIONS};
 ghost use Rattle.tsn_bridge.specs.Beginning.{Opens, begun, standard};
 ghost use Rattle.tsn_bridge.specs.Edits.{edit_rule, undo_all_rule, undo_rule};
@@ -43,7 +43,7 @@ ghost use Rattle.tsn_bridge.specs.Later.{ActsAreBy, IsLater, IsWhole};
 ghost use Rattle.tsn_bridge.specs.Looking.{counted_at, shown_at};
 ghost use Rattle.tsn_bridge.specs.Machine.{Step};
 ghost use Rattle.tsn_bridge.specs.Rule.{Allows};
-ghost use Rattle.tsn_bridge.specs.Sessions.{most_sessions};
+ghost use Rattle.tsn_bridge.specs.Sessions.{given_to, most_sessions, resume_rule, sessions_rule};
 ghost use Rattle.tsn_bridge.specs.State.{State};
 ghost use Rattle.tsn_bridge.specs.Turns.{Turns};
 
@@ -192,6 +192,10 @@ pub fn examples()
         (with_undone in_turns 1 (own_standing in_turns 1) ≡ one_left) ×
         (numbers (others_standing in_turns 1) ≡ 2 ∷ 4 ∷ []) ×
         (undo_all_cause in_turns 1 (own_standing in_turns 1) ≡ None) }
+    ensures sessions { (option_map (λ (x : AnyReply × State). x.0) (sessions_rule two_sessions 1).done
+        ≡ Some (Sessions (record { session = 1; standing = 2 } ∷ record { session = 2; standing = 2 } ∷ []))) ×
+        (given_to one_left 2 ≡ record { session = 1; standing = 0 } ∷ record { session = 2; standing = 2 } ∷ []) }
+    ensures resume { option_map (λ (x : AnyReply × State). x.0) (resume_rule two_sessions 2).done ≡ Some (Session 2) }
     ensures undo_all_leaves { (present (book_of one_left) ≡ others_alone (book_of in_turns) 1) ×
         (ids_of kinds.Filter (present (book_of one_left)) ≡ 1 ∷ []) × (ids_of kinds.Gate (present (book_of one_left)) ≡ 2 ∷ []) }
     ensures restored_list { (shows put_back (port one_two 0) (9999 ∷ 10000 ∷ 10299 ∷ 10300 ∷ []) ≡

@@ -12,3 +12,4 @@ pub mod laws;
 mod machine;
 mod pair;
 pub mod reply;
+pub mod sessions;

@@ -1,4 +1,5 @@
 //! What the bridge answers, one variant for each form of reply.
+use crate::sessions::GivenSessions;
 use tsn_chain::frame::Verdict;
 use tsn_chain::state::{Counters, State};
 use tsn_config::ids::Ids;
@@ -11,7 +12,7 @@ use tsn_types::refusals::Refusal;
 /// A reply to a command.
 #[derive(Debug, Drop)]
 pub enum Reply {
-    /// The session number that was given out, from 1.
+    /// The session number that was given out, from 1, or as which a resume goes on.
     Session {
         session: u32,
     },
@@ -59,6 +60,10 @@ pub enum Reply {
     /// Entries of the journal, in the order of their numbers.
     Entries {
         entries: Entries,
+    },
+    /// The sessions that were given out, in the order of their numbers.
+    Sessions {
+        sessions: GivenSessions,
     },
     /// Why the command was refused; nothing has changed.
     Refused(Refusal),

@@ -23,7 +23,8 @@ use Rattle.tsn_types.specs.declared.records.Record.{Record}
 use Rattle.tsn_types.specs.declared.records.Record.TheVariants as records
 use Rattle.tsn_records.specs.Keys.{key_text}
 use Rattle.tsn_records.specs.Shown.{or_null, port_entry_data, gate_entry_data, port_data, filter_data, gate_data, meter_data, record_data, whole_data}
-use Rattle.tsn_replies.specs.Told.{shown_data, ids_data}
+use Rattle.tsn_bridge.specs.declared.sessions.GivenSession.{GivenSession}
+use Rattle.tsn_replies.specs.Told.{shown_data, ids_data, session_data, sessions_data}
 use Rattle.tsn_replies.specs.Pieces.{TakesFront, key_front, port_front, gate_front, gate_rest}
 use Rattle.tsn_records.proofs.Escaping.{escape_key}
 
@@ -199,6 +200,16 @@ ids_text_of items = simp append_assoc
 pub ids_line : (ids t rest : List ℕ) → t ≡ codes "{\"ids\":[" → rest ≡ codes "}\n" → t ++ (items_text false (items_of (map whole_data ids)) ++ rest) ≡ compact_text (ids_data ids) ++ codes "\n"
 unfolding escape_byte
 ids_line ids t rest e1 e2 = rw (e1, e2) (ids_text_of (items_text false (items_of (map whole_data ids))))
+
+-- ---- sessions
+
+sessions_text_of : (items : List ℕ) → codes "{\"sessions\":[" ++ (items ++ codes "}\n") ≡ (codes "{\"sessions\":[" ++ (items ++ codes "}")) ++ codes "\n"
+sessions_text_of items = simp append_assoc
+
+pub sessions_line : (all : List GivenSession) (t rest : List ℕ) → t ≡ codes "{\"sessions\":[" → rest ≡ codes "}\n"
+    → t ++ (items_text false (items_of (map session_data all)) ++ rest) ≡ compact_text (sessions_data all) ++ codes "\n"
+unfolding escape_byte
+sessions_line all t rest e1 e2 = rw (e1, e2) (sessions_text_of (items_text false (items_of (map session_data all))))
 
 -- ---- lists
 

@@ -16,7 +16,7 @@ use Rattle.tsn_types.specs.Keys.{number_of}
 use Rattle.tsn_records.specs.Keys.{key_text}
 use Rattle.tsn_records.specs.Shown.{whole_data}
 use Rattle.tsn_replies.specs.Pieces.{keys_piece, taking_back_front, told_line}
-use Rattle.tsn_replies.specs.Told.{act_name, key_data, with_keys, made_data, taking_back_data, acted_data, settled_data, entry_data, entries_data, kept_data}
+use Rattle.tsn_replies.specs.Told.{act_name, key_data, with_keys, made_data, taking_back_data, acted_data, settled_data, session_data, entry_data, entries_data, kept_data}
 use Rattle.tsn_replies.proofs.Pieces.{behind, behind_none, behind_more, behind_closed, text_unescaped}
 
 quoted_of : (key t0 t1 t2 t3 : List ℕ) → t1 ≡ t0 ++ codes "\"" → t2 ≡ t1 ++ key → t3 ≡ t2 ++ codes "\"" → t3 ≡ t0 ++ (codes "\"" ++ (key ++ codes "\""))
@@ -178,6 +178,21 @@ pub settled_pieces : (number session upto : ℕ) (t0 t1 t2 t3 t4 : List ℕ)
     → t4 ≡ t0 ++ compact_text (settled_data number session upto)
 unfolding escape_byte
 settled_pieces number session upto t0 t1 t2 t3 t4 e1 e2 e3 e4 = settled_of (decimal number) (decimal session) (decimal upto) t0 t1 t2 t3 t4 e1 e2 e3 e4
+
+given_of : (session standing t0 t1 t2 t3 : List ℕ)
+    → t1 ≡ t0 ++ (codes "{\"session\":" ++ session)
+    → t2 ≡ t1 ++ (codes ",\"standing\":" ++ standing)
+    → t3 ≡ t2 ++ codes "}"
+    → t3 ≡ t0 ++ (codes "{\"session\":" ++ (session ++ (codes ",\"standing\":" ++ (standing ++ codes "}"))))
+given_of session standing t0 t1 t2 t3 e1 e2 e3 = rw (e3, e2, e1) (simp append_assoc)
+
+pub given_pieces : (session standing : ℕ) (t0 t1 t2 t3 : List ℕ)
+    → t1 ≡ t0 ++ (codes "{\"session\":" ++ decimal session)
+    → t2 ≡ t1 ++ (codes ",\"standing\":" ++ decimal standing)
+    → t3 ≡ t2 ++ codes "}"
+    → t3 ≡ t0 ++ compact_text (session_data (record { session = session; standing = standing }))
+unfolding escape_byte
+given_pieces session standing t0 t1 t2 t3 e1 e2 e3 = given_of (decimal session) (decimal standing) t0 t1 t2 t3 e1 e2 e3
 
 -- ---- the line
 

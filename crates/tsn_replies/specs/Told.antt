@@ -1,7 +1,8 @@
--- What replies tell as JSON values: a record under its key, numbers of instances, entries of the journal.
+-- What replies tell as JSON values: a record under its key, numbers of instances, sessions, entries of the journal.
 use Rattle.std.specs.Prelude.{ℕ, List, [], ◌∷◌, map, codes}
 use Rattle.serde_json.specs.Data.{Data, Members, string, array, object, member, no_members}
 use Rattle.serde_json.specs.View.{items_of}
+use Rattle.tsn_bridge.specs.declared.sessions.GivenSession.{GivenSession}
 use Rattle.tsn_edit.specs.Changes.{keys_of}
 use Rattle.tsn_edit.specs.Parts.{parts}
 use Rattle.tsn_journal.specs.declared.entries.Act.{Act}
@@ -19,6 +20,14 @@ use Rattle.tsn_records.specs.Shown.{whole_data, record_data}
 -- `{"key":K,"record":R}`
 abbrev pub shown_data : Key → Record → Data
 shown_data k r = object (member (codes "key") (string (key_text k)) (member (codes "record") (record_data r) no_members))
+
+-- `{"session":N,"standing":C}`, a session that was given out, and how many of its entries stand
+abbrev pub session_data : GivenSession → Data
+session_data given = object (member (codes "session") (whole_data given.session) (member (codes "standing") (whole_data given.standing) no_members))
+
+-- `{"sessions":[..]}`
+abbrev pub sessions_data : List GivenSession → Data
+sessions_data all = object (member (codes "sessions") (array (items_of (map session_data all))) no_members)
 
 -- `{"ids":[..]}`
 abbrev pub ids_data : List ℕ → Data

@@ -71,7 +71,7 @@ pub fn replies_are_spelled()
         ≡ codes "{\"refused\":18,\"why\":\"memory\"}\n" }
 {}
 
-/// The text of records and of numbers of instances.
+/// The text of records, of numbers of instances and of sessions.
 pub fn records_are_shown()
     ensures port { reply_text (replies.Shown (keys.Port 1) (records.Port a_port))
         ≡ shown_line (codes "port 1") port_text }
@@ -83,6 +83,8 @@ pub fn records_are_shown()
         ≡ shown_line (codes "meter 0") meter_text }
     ensures ids { reply_text (replies.Ids (0 ∷ 1 ∷ 15 ∷ [])) ≡ codes "{\"ids\":[0,1,15]}\n" }
     ensures none { reply_text (replies.Ids []) ≡ codes "{\"ids\":[]}\n" }
+    ensures sessions { reply_text (replies.Sessions (record { session = 1; standing = 0 } ∷ record { session = 2; standing = 13 } ∷ []))
+        ≡ codes "{\"sessions\":[{\"session\":1,\"standing\":0},{\"session\":2,\"standing\":13}]}\n" }
 {}
 
 /// The text of the journal's entries.

@@ -8,6 +8,7 @@ mod digits;
 pub mod laws;
 mod reply;
 mod running;
+mod sessions;
 mod shown;
 mod text;
 mod told;

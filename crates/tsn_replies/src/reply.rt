@@ -13,6 +13,7 @@ ghost use Rattle.tsn_records.specs.Keys.{key_text};
 ghost use Rattle.tsn_bytes.specs.declared.bytes.Fault.TheVariants.{Write};
 
 use crate::running::{push_act, push_counters, push_state, push_verdict};
+use crate::sessions::write_sessions;
 use crate::shown::{push_key, write_ids, write_lent_record, write_shown};
 use crate::text::{CAPACITY, ShortText};
 use crate::told::{write_entries, write_kept_entries};
@@ -247,6 +248,7 @@ pub fn write_reply<W: ByteOut>(writer: &mut W, reply: &Reply) -> Result<(), Faul
         Reply::Shown { key, value } => write_shown(writer, &mut text, *key, value),
         Reply::Ids { ids } => write_ids(writer, &mut text, ids.as_slice()),
         Reply::Entries { entries } => write_entries(writer, &mut text, entries.as_slice()),
+        Reply::Sessions { sessions } => write_sessions(writer, &mut text, sessions.as_slice()),
         Reply::Refused(refusal) => {
             push_refusal(&mut text, refusal);
             put_text(writer, &text)

@@ -1,5 +1,5 @@
 -- What a connection does with its lines: each is answered by a call of its seat, or refused with no call.
-use Rattle.std.specs.Prelude.{◌≡◌, ◌⊎◌, ℕ, ◌≤◌, ◌^◌, List, [], ◌∷◌, ◌++◌, Option, Some, None, IfNone, Result, Ok, Err}
+use Rattle.std.specs.Prelude.{◌≡◌, ◌⊎◌, ℕ, ◌≤◌, ◌^◌, List, [], ◌∷◌, ◌++◌, Option, Some, None, IfNone, Result, Ok, Err, ⊤}
 use Rattle.tsn_desk.specs.declared.history.Entry.{Entry}
 use Rattle.tsn_desk.specs.declared.desk.Seat.{Seat}
 use Rattle.tsn_desk.specs.declared.desk.Desk.{Desk}
@@ -11,6 +11,7 @@ use Rattle.tsn_bytes.specs.declared.bytes.Fault.TheVariants.{Exhausted}
 use Rattle.tsn_bridge.specs.State.{State}
 use Rattle.tsn_bridge.specs.Turns.{Turns}
 use Rattle.tsn_bridge.specs.declared.command.Ask.{Ask}
+use Rattle.tsn_bridge.specs.declared.command.Command.{Command}
 use Rattle.tsn_bridge.specs.declared.command.Command.TheVariants as commands
 use Rattle.tsn_bridge.specs.declared.reply.Reply.{Reply}
 use Rattle.tsn_bridge.specs.declared.reply.Reply.TheVariants as replies
@@ -19,7 +20,7 @@ use Rattle.tsn_serve.specs.Answers.{MayRead, Replies, SaysText, CutsText}
 
 -- One end of a connection: the desk and the machine that it began with; the seat's number, what it has seen of the
 -- history, the calls that it has made and how many tickets it has seen drawn; and the session of the connection's
--- latest hello.
+-- latest hello or resume.
 pub record Caller : Type 0 where
   pub desk : DeskId
   pub first : State
@@ -41,11 +42,17 @@ caller_of desk seat latest = record {
   latest = latest;
 }
 
--- the command is a hello, or of the session of the connection's latest hello
-abbrev pub MayAsk : Option ℕ → Ask → Type 0
-MayAsk latest ask = (ask.command ≡ commands.Hello) ⊎ (latest ≡ Some ask.session)
+-- a hello or a resume: a connection acts as the session of its latest one alone
+abbrev pub TakesUp : Command → Type 0
+TakesUp commands.Hello = ⊤
+TakesUp commands.Resume = ⊤
+TakesUp command = ⊥
 
--- the session of the latest hello: a reply that gives a session is the reply to one
+-- the command is such a one, or of the session of the connection's latest one
+abbrev pub MayAsk : Option ℕ → Ask → Type 0
+MayAsk latest ask = TakesUp ask.command ⊎ (latest ≡ Some ask.session)
+
+-- the session of the latest hello or resume: a reply that gives a session is the reply to one
 abbrev pub latest_after : Option ℕ → Reply → Option ℕ
 latest_after latest (replies.Session n) = Some n
 latest_after latest _ = latest
@@ -62,8 +69,8 @@ pub record Calls (old : Caller) (ask : Ask) (reply : Reply) (new : Caller) : Typ
   pub same : (new.desk ≡ old.desk) × (new.first ≡ old.first) × (new.number ≡ old.number)
   pub latest : new.latest ≡ latest_after old.latest reply
 
--- The reply to a command: that of the seat's call, where it is a hello or of the latest session; else refusal 5, with
--- no call.
+-- The reply to a command: that of the seat's call, where it is a hello or a resume or of the latest session; else
+-- refusal 5, with no call.
 abbrev pub Asks : Caller → Ask → Reply → Caller → Type 0
 Asks old ask reply new =
     (MayAsk old.latest ask × Calls old ask reply new)

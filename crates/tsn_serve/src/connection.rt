@@ -6,7 +6,7 @@ ghost use Rattle.tsn_bridge.specs.declared.command.Ask.{Ask as AnyAsk};
 ghost use Rattle.tsn_bytes.specs.declared.bytes.Fault.TheVariants.{Memory, Exhausted};
 ghost use Rattle.tsn_desk.specs.Desks.{IsSeatOf, id_of, first_of};
 ghost use Rattle.tsn_serve.specs.Answers.{MayRead, Replies};
-ghost use Rattle.tsn_serve.specs.Talk.{MayAsk, Calls, Asks, Tires, Talks, BreaksTalk, Goes, IsMarked, Told, caller_of, latest_after};
+ghost use Rattle.tsn_serve.specs.Talk.{MayAsk, Calls, Asks, TakesUp, Tires, Talks, BreaksTalk, Goes, IsMarked, Told, caller_of, latest_after};
 ghost use Rattle.tsn_serve.specs.Outcomes.{Outcome, moment, most_reads};
 
 use crate::gate::Gate;
@@ -24,7 +24,7 @@ use tsn_desk::machine::{Nobody, Witness};
 use tsn_replies::write_reply;
 use tsn_types::refusals::Refusal;
 
-// The session of the latest hello, once this reply came.
+// The session of the latest hello or resume, once this reply came.
 fn latest_after(latest: Option<u32>, reply: &Reply) -> Option<u32>
     ensures { result ≡ latest_after latest reply.now }
 {
@@ -32,6 +32,13 @@ fn latest_after(latest: Option<u32>, reply: &Reply) -> Option<u32>
         Reply::Session { session } => Some(*session),
         _ => latest,
     }
+}
+
+// Whether a connection acts as the session of this command from its reply on.
+fn takes_up(command: &Command) -> bool
+    ensures { IsTrue result ↔ TakesUp command.now }
+{
+    matches!(command, Command::Hello | Command::Resume)
 }
 
 /// One end of a connection, which answers lines by turns of its seat, each attended by the witness. A contract sees what a caller
@@ -44,7 +51,7 @@ pub struct Connection<'a, R: Wait, G: Gate, W: Witness<Bridge>> {
     number: u32,
     // None only while it has its turn.
     seat: Option<Seat<Bridge>>,
-    // The session of its latest hello.
+    // The session of its latest hello or resume.
     latest: Option<u32>,
 }
 
@@ -104,11 +111,11 @@ impl<'a, R: Wait, G: Gate, W: Witness<Bridge> + Drop> Connection<'a, R, G, W> {
         seat
     }
 
-    // Whether the command is a hello, or of the session of the latest one.
+    // Whether the command is a hello or a resume, or of the session of the latest one.
     fn may_ask(&self, ask: &Ask) -> bool
         ensures { IsTrue result ↔ MayAsk self.now.latest ask.now }
     {
-        matches!(ask.command, Command::Hello) || self.latest == Some(ask.session)
+        takes_up(&ask.command) || self.latest == Some(ask.session)
     }
 
     // Makes a call, and gives what the witness says of it. It is refused where no ticket is left.
@@ -192,8 +199,8 @@ impl<'a, R: Wait, G: Gate, W: Witness<Bridge> + Drop> Responder for Connection<'
 }
 
 /// Answers each line that the reader gives, with at most 2^32 reads: by a call of the seat, which waits for its turn, or
-/// by a refusal in reading with no call. Refusal 5 is answered with no call where the line is no hello and its session is
-/// not that of the connection's latest hello. The seat makes no other call. On `Ok` all bytes were read, and what was
+/// by a refusal in reading with no call. Refusal 5 is answered with no call where the line is no hello and no resume and
+/// its session is not that of the connection's latest one. The seat makes no other call. On `Ok` all bytes were read, and what was
 /// written is the text of the replies to their lines, in order, and nothing else. A fault is as that of a script, or
 /// `Exhausted` where no ticket was left for the call of a line: then the lines before it were answered. The gate is told
 /// of this connection ahead of each turn and after each reply.

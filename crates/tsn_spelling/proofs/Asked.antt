@@ -150,6 +150,8 @@ value_plain s (commands.Counters k) h = (refl, (tt, (tt, (omega (arith, h.0.1), 
 value_plain s (commands.Show k) h = (refl, (tt, (tt, (omega (arith, h.0.1), tt))))
 value_plain s (commands.List k) h = (refl, (tt, (tt, (omega (arith, h.1), tt))))
 value_plain s (commands.Since after) h = (refl, (omega (arith, h.1), (tt, (omega (arith, h.0.1), tt))))
+value_plain s commands.Resume h = (refl, (tt, (omega (arith, h.1), tt)))
+value_plain s commands.Sessions h = (refl, (tt, (omega (arith, h.1), tt)))
 
 -- ---- its texts are plain
 
@@ -210,3 +212,5 @@ value_shown s (commands.Counters k) = (refl, refl, (refl, key_shown k, (refl, tt
 value_shown s (commands.Show k) = (refl, refl, (refl, key_shown k, (refl, tt, tt)))
 value_shown s (commands.List k) = (refl, refl, (refl, kind_shown k, (refl, tt, tt)))
 value_shown s (commands.Since after) = (refl, tt, (refl, refl, (refl, tt, tt)))
+value_shown s commands.Resume = (refl, refl, (refl, tt, tt))
+value_shown s commands.Sessions = (refl, refl, (refl, tt, tt))

@@ -70,4 +70,6 @@ pub fn asks_are_spelled()
     ensures list { line_text (asked (commands.List kinds.Filter))
         ≡ codes "{\"do\":\"list\",\"kind\":\"filter\",\"s\":1}" }
     ensures since { line_text (asked (commands.Since 3)) ≡ codes "{\"after\":3,\"do\":\"since\",\"s\":1}" }
+    ensures resume { line_text (asked commands.Resume) ≡ codes "{\"do\":\"resume\",\"s\":1}" }
+    ensures sessions { line_text (asked commands.Sessions) ≡ codes "{\"do\":\"sessions\",\"s\":1}" }
 {}

@@ -38,6 +38,8 @@ fn put_line(ask: &Ask, line: &mut Vec<u8>, text: &mut ShortText) -> Result<(), A
         Command::Show { key } => put_keyed(line, text, "show", *key, session),
         Command::List { kind } => put_list(line, text, *kind, session),
         Command::Since { after } => put_since(line, text, *after, session),
+        Command::Resume => put_bare(line, text, "resume", session),
+        Command::Sessions => put_bare(line, text, "sessions", session),
     }
 }
 

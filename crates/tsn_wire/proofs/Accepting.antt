@@ -42,7 +42,7 @@ use Rattle.tsn_wire.proofs.Batching.{batch_known, batch_shaped, edit_draft, edit
 use Rattle.tsn_wire.proofs.Known.{by_test, same_text, kind_known, removable_known, key_there, record_same, record_known, record_draft, key_draft, key_back, instance, read_back}
 use Rattle.tsn_wire.proofs.FromShapes.{number_there, flag_there, text_there, value_there}
 use Rattle.tsn_wire.proofs.Objects.{IsOrdered, inside, whole_object, inner_ordered, line_ordered}
-use Rattle.tsn_wire.proofs.OwnSpelling.{create_shaped, replace_shaped, remove_shaped, show_shaped, listed_shaped, undo_shaped, undo_all_shaped, redo_shaped, asked_shaped}
+use Rattle.tsn_wire.proofs.OwnSpelling.{create_shaped, replace_shaped, remove_shaped, show_shaped, listed_shaped, undo_shaped, undo_all_shaped, redo_shaped, resume_shaped, sessions_shaped, asked_shaped}
 use Rattle.tsn_wire.proofs.ReadingBack.{in_steps}
 
 -- ---- what is accepted is a value
@@ -344,7 +344,10 @@ command_known word s d draft c of shape range =
     (λ _ h13. by_test _ _ _ _ h13 (λ e h. counters_known s d draft c (named word _ s d of e) h range)
     (λ _ h14. by_test _ _ _ _ h14 (λ e h. show_known s d draft c (named word _ s d of e) h range)
     (λ _ h15. by_test _ _ _ _ h15 (λ e h. list_known s d draft c (named word _ s d of e) h range)
-    (λ _ h16. by_test _ _ _ _ h16 (λ e h. since_known s d draft c (named word _ s d of e) h range) (λ _ h17. cc)))))))))))))))))
+    (λ _ h16. by_test _ _ _ _ h16 (λ e h. since_known s d draft c (named word _ s d of e) h range)
+    (λ _ h17. by_test _ _ _ _ h17 (λ e h. bare_known _ wanted.Resume commands.Resume s d draft c (named word _ s d of e) h range refl (λ session is. (session, is)))
+    (λ _ h18. by_test _ _ _ _ h18 (λ e h. bare_known _ wanted.Sessions commands.Sessions s d draft c (named word _ s d of e) h range refl (λ session is. (session, is)))
+    (λ _ h19. cc)))))))))))))))))))
 
 -- a value that asks for what a line says
 abbrev SaysAsk : Data → Ask → Type 0
@@ -445,6 +448,9 @@ read_as line s (commands.Counters k) fits read =
 read_as line s (commands.Show k) fits read =
     in_steps line _ (Session s (wanted.Show (key_draft k))) _ read (show_shaped s (kind k) (number_of k) (instance k fits.1)) (rw (within_ok fields.S 1 most_sessions s fits.0, key_back k fits.1))
 read_as line s (commands.List k) fits read = in_steps line _ (Session s (wanted.List k)) _ read (listed_shaped s k) (rw (within_ok fields.S 1 most_sessions s fits))
+read_as line s commands.Resume fits read = in_steps line _ (Session s wanted.Resume) _ read (resume_shaped s) (rw (within_ok fields.S 1 most_sessions s fits))
+read_as line s commands.Sessions fits read =
+    in_steps line _ (Session s wanted.Sessions) _ read (sessions_shaped s) (rw (within_ok fields.S 1 most_sessions s fits))
 read_as line s (commands.Since after) fits read =
     in_steps line _ (Session s (wanted.Since after)) _ read (asked_shaped s after) (rw (within_ok fields.S 1 most_sessions s fits.0, within_ok fields.After 0 greatest_after after (omega arith, fits.1)))
 

@@ -38,6 +38,14 @@ undo_all_line m count s w e len = record { told = (word_row m words.UndoAll w, (
 pub redo_line : (m : LineMembers) (count s : ℕ) → m.word ≡ Some words.Redo → m.session ≡ Some s → count ≡ 2 → IsLine (line_rows m) count (Session s wanted.Redo)
 redo_line m count s w e len = record { told = (word_row m words.Redo w, (session_row m s e, tt)); len = len; sound = tt }
 
+pub resume_line : (m : LineMembers) (count s : ℕ) → m.word ≡ Some words.Resume → m.session ≡ Some s → count ≡ 2
+    → IsLine (line_rows m) count (Session s wanted.Resume)
+resume_line m count s w e len = record { told = (word_row m words.Resume w, (session_row m s e, tt)); len = len; sound = tt }
+
+pub sessions_line : (m : LineMembers) (count s : ℕ) → m.word ≡ Some words.Sessions → m.session ≡ Some s → count ≡ 2
+    → IsLine (line_rows m) count (Session s wanted.Sessions)
+sessions_line m count s w e len = record { told = (word_row m words.Sessions w, (session_row m s e, tt)); len = len; sound = tt }
+
 pub create_line : (m : LineMembers) (count s : ℕ) (key : KeyDraft) (value : RecordDraft) → m.word ≡ Some words.Create → m.session ≡ Some s → IsKey key → IsOf key.kind value → m.key ≡ Some key → m.record ≡ Some value → count ≡ 4 → IsLine (line_rows m) count (Session s (wanted.Create key value))
 create_line m count s key value w e k r x y len = record { told = (word_row m words.Create w, (key_row m key x, (row_is record_value m.record value y, (session_row m s e, tt)))); len = len; sound = (k, r) }
 

@@ -22,14 +22,14 @@ use Rattle.tsn_wire.specs.Members.{Rows, ReadsMembers}
 use Rattle.tsn_wire.specs.Reading.{line_of_draft, reading}
 use Rattle.tsn_wire.specs.Spelled.{record_value}
 use Rattle.tsn_wire.specs.Values.{MayHaveList}
-use Rattle.tsn_wire.specs.declared.drafts.CommandDraft.TheVariants.{Create, Replace, Remove, Batch, Undo, UndoAll, Redo, Settle, Enable, Disable, Apply, Frame, States, Counters, Show, List as ListKind, Since}
+use Rattle.tsn_wire.specs.declared.drafts.CommandDraft.TheVariants.{Create, Replace, Remove, Batch, Undo, UndoAll, Redo, Settle, Enable, Disable, Apply, Frame, States, Counters, Show, List as ListKind, Since, Resume, Sessions}
 use Rattle.tsn_wire.specs.declared.drafts.FrameDraft.{FrameDraft}
 use Rattle.tsn_wire.specs.declared.drafts.LineDraft.{LineDraft}
 use Rattle.tsn_wire.specs.declared.drafts.LineDraft.TheVariants.{Hello, Session}
 use Rattle.tsn_wire.proofs.Answering.{data_of_read}
 use Rattle.tsn_wire.proofs.Gathering.{object_read}
 use Rattle.tsn_wire.proofs.Objects.{Rise}
-use Rattle.tsn_wire.proofs.OwnSpelling.{whole, reading_of, port_shaped, filter_shaped, gate_shaped, meter_shaped, create_shaped, replace_shaped, remove_shaped, show_shaped, listed_shaped, undo_shaped, undo_all_shaped, redo_shaped, asked_shaped}
+use Rattle.tsn_wire.proofs.OwnSpelling.{whole, reading_of, port_shaped, filter_shaped, gate_shaped, meter_shaped, create_shaped, replace_shaped, remove_shaped, show_shaped, listed_shaped, undo_shaped, undo_all_shaped, redo_shaped, resume_shaped, sessions_shaped, asked_shaped}
 use Rattle.tsn_wire.proofs.ReadingBack.{decimal_back}
 
 -- ---- the lexemes of a value are punctuated as its tokens
@@ -171,6 +171,8 @@ shaped (Session s (Counters key)) k = counters_shaped s key.kind key.number k
 shaped (Session s (Show key)) k = show_shaped s key.kind key.number k
 shaped (Session s (ListKind kind)) sound = listed_shaped s kind
 shaped (Session s (Since after)) sound = asked_shaped s after
+shaped (Session s Resume) sound = resume_shaped s
+shaped (Session s Sessions) sound = sessions_shaped s
 
 rises : (draft : LineDraft) → Rise (line_members draft)
 rises Hello = tt
@@ -191,6 +193,8 @@ rises (Session s (Counters key)) = (refl, (refl, tt))
 rises (Session s (Show key)) = (refl, (refl, tt))
 rises (Session s (ListKind kind)) = (refl, (refl, tt))
 rises (Session s (Since after)) = (refl, (refl, tt))
+rises (Session s Resume) = (refl, tt)
+rises (Session s Sessions) = (refl, tt)
 
 -- ---- the line
 

@@ -51,6 +51,8 @@ word_is_bare words.Counters = refl
 word_is_bare words.Show = refl
 word_is_bare words.List = refl
 word_is_bare words.Since = refl
+word_is_bare words.Resume = refl
+word_is_bare words.Sessions = refl
 
 kind_is_bare : (k : Kind) → is_bare (kind_text k) ≡ true
 kind_is_bare kinds.Port = refl

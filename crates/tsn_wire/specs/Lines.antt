@@ -16,7 +16,7 @@ use Rattle.tsn_wire.specs.Values.{MayHaveList}
 use Rattle.tsn_wire.specs.Words.{word_text}
 use Rattle.tsn_wire.specs.declared.any_line.LineMembers.{LineMembers}
 use Rattle.tsn_wire.specs.declared.drafts.CommandDraft.{CommandDraft}
-use Rattle.tsn_wire.specs.declared.drafts.CommandDraft.TheVariants.{Create, Replace, Remove, Batch, Undo, UndoAll, Redo, Settle, Enable, Disable, Apply, Frame, States, Counters, Show, List as ListKind, Since}
+use Rattle.tsn_wire.specs.declared.drafts.CommandDraft.TheVariants.{Create, Replace, Remove, Batch, Undo, UndoAll, Redo, Settle, Enable, Disable, Apply, Frame, States, Counters, Show, List as ListKind, Since, Resume, Sessions}
 use Rattle.tsn_wire.specs.declared.drafts.EditDraft.{EditDraft}
 use Rattle.tsn_wire.specs.declared.drafts.FrameDraft.{FrameDraft}
 use Rattle.tsn_wire.specs.declared.drafts.LineDraft.{LineDraft}
@@ -105,6 +105,8 @@ command_members s (Counters key) = keyed_members (codes "counters") s key
 command_members s (Show key) = keyed_members (codes "show") s key
 command_members s (ListKind kind) = list_members s kind
 command_members s (Since after) = since_members s after
+command_members s Resume = bare_members (codes "resume") s
+command_members s Sessions = bare_members (codes "sessions") s
 
 abbrev pub line_members : LineDraft → Members
 line_members Hello = member (codes "do") (string (codes "hello")) no_members
@@ -129,6 +131,8 @@ IsSound (Counters key) = IsKey key
 IsSound (Show key) = IsKey key
 IsSound (ListKind kind) = ⊤
 IsSound (Since after) = ⊤
+IsSound Resume = ⊤
+IsSound Sessions = ⊤
 
 abbrev pub IsSoundLine : LineDraft → Type 0
 IsSoundLine Hello = ⊤

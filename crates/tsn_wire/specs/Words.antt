@@ -1,7 +1,7 @@
 -- The words of commands.
 use Rattle.std.specs.Prelude.{ℕ, List, codes}
 use Rattle.tsn_wire.specs.declared.values.Word.{Word}
-use Rattle.tsn_wire.specs.declared.values.Word.TheVariants.{Hello, Create, Replace, Remove, Undo, UndoAll, Redo, Enable, Disable, Apply, Frame, States, Counters, Show, List as ListKind, Since}
+use Rattle.tsn_wire.specs.declared.values.Word.TheVariants.{Hello, Create, Replace, Remove, Undo, UndoAll, Redo, Enable, Disable, Apply, Frame, States, Counters, Show, List as ListKind, Since, Resume, Sessions}
 
 abbrev pub word_text : Word → List ℕ
 word_text Hello = codes "hello"
@@ -20,3 +20,5 @@ word_text Counters = codes "counters"
 word_text Show = codes "show"
 word_text ListKind = codes "list"
 word_text Since = codes "since"
+word_text Resume = codes "resume"
+word_text Sessions = codes "sessions"

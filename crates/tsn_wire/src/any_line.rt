@@ -187,7 +187,7 @@ fn keyed_record(
 }
 
 // A command that names nothing.
-#[tactic(auto, using(crate::proofs::AnyLine::undo_line, crate::proofs::AnyLine::undo_all_line, crate::proofs::AnyLine::redo_line))]
+#[tactic(auto, using(crate::proofs::AnyLine::undo_line, crate::proofs::AnyLine::undo_all_line, crate::proofs::AnyLine::redo_line, crate::proofs::AnyLine::resume_line, crate::proofs::AnyLine::sessions_line))]
 fn bare_line(found: &LineMembers, count: u32) -> Option<LineDraft>
     ensures { IfSome result (IsLine (line_rows found.now) count) }
 {
@@ -208,6 +208,14 @@ fn bare_line(found: &LineMembers, count: u32) -> Option<LineDraft>
         Word::Redo => Some(LineDraft::Session {
             session,
             command: CommandDraft::Redo,
+        }),
+        Word::Resume => Some(LineDraft::Session {
+            session,
+            command: CommandDraft::Resume,
+        }),
+        Word::Sessions => Some(LineDraft::Session {
+            session,
+            command: CommandDraft::Sessions,
         }),
         _ => None,
     }
@@ -422,7 +430,9 @@ fn line_draft(found: LineMembers, count: u32) -> Option<LineDraft>
     let word = found.word?;
     match word {
         Word::Create | Word::Replace => edit_line(found, count),
-        Word::Undo | Word::UndoAll | Word::Redo => bare_line(&found, count),
+        Word::Undo | Word::UndoAll | Word::Redo | Word::Resume | Word::Sessions => {
+            bare_line(&found, count)
+        }
         Word::Frame => frame_line(&found, count),
         Word::States => states_line(&found, count),
         Word::Enable | Word::Disable | Word::Apply => act_line(&found, count),

@@ -198,6 +198,8 @@ fn command_shape(alloc: Global, word: &str, value: &Value) -> Result<CommandDraf
         "show" => show_shape(value),
         "list" => list_shape(value),
         "since" => since_shape(value),
+        "resume" => bare_shape(CommandDraft::Resume, value),
+        "sessions" => bare_shape(CommandDraft::Sessions, value),
         _ => Err(Unread::Shape),
     }
 }

@@ -130,6 +130,8 @@ pub enum CommandDraft {
     Show { key: KeyDraft },
     List { kind: Kind },
     Since { after: u64 },
+    Resume,
+    Sessions,
 }
 
 /// A line: a hello, or a command of a session.

@@ -25,6 +25,10 @@ pub fn lines_are_read()
         ≡ Ok (record { session = 1; command = commands.Redo }) }
     ensures since { line_of (codes "{\"after\":3,\"do\":\"since\",\"s\":1}")
         ≡ Ok (record { session = 1; command = commands.Since 3 }) }
+    ensures resume { line_of (codes "{\"do\":\"resume\",\"s\":2}")
+        ≡ Ok (record { session = 2; command = commands.Resume }) }
+    ensures sessions { line_of (codes "{\"do\":\"sessions\",\"s\":1}")
+        ≡ Ok (record { session = 1; command = commands.Sessions }) }
     ensures settle { line_of (codes "{\"do\":\"settle\",\"s\":1,\"upto\":3}")
         ≡ Ok (record { session = 1; command = commands.Settle 3 }) }
     ensures after { line_of (codes "{\"after\":4294967296,\"do\":\"since\",\"s\":1}")

@@ -175,5 +175,7 @@ pub fn command_of_draft(alloc: Global, draft: &CommandDraft) -> Result<Command, 
         CommandDraft::Since { after: number } => Ok(Command::Since {
             after: after(*number)?,
         }),
+        CommandDraft::Resume => Ok(Command::Resume),
+        CommandDraft::Sessions => Ok(Command::Sessions),
     }
 }

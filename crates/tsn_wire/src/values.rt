@@ -36,6 +36,8 @@ pub enum Word {
     Show,
     List,
     Since,
+    Resume,
+    Sessions,
 }
 
 /// A value as a member has it.
@@ -88,7 +90,8 @@ fn command_word(text: &mut Cursor<'_>, letters: (u8, u8)) -> Option<Word>
         (b'f', _) => named(text, "frame", Word::Frame),
         (b's', b't') => named(text, "states", Word::States),
         (b's', b'h') => named(text, "show", Word::Show),
-        (b's', _) => named(text, "since", Word::Since),
+        (b's', b'i') => named(text, "since", Word::Since),
+        (b's', _) => named(text, "sessions", Word::Sessions),
         (b'c', _) => named(text, "counters", Word::Counters),
         (b'e', _) => named(text, "enable", Word::Enable),
         (b'd', _) => named(text, "disable", Word::Disable),
@@ -115,6 +118,9 @@ fn other_word(text: &mut Cursor<'_>) -> Option<Word>
     }
     if text.take("remove") {
         return Some(Word::Remove);
+    }
+    if text.take("resume") {
+        return Some(Word::Resume);
     }
     named(text, "redo", Word::Redo)
 }

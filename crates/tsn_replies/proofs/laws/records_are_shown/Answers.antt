@@ -26,3 +26,7 @@ returns-clause-ids c = refl
 pub returns-clause-none : goal.returns-clause-none
 unfolding serde_json_on_literals digits
 returns-clause-none c = refl
+
+pub returns-clause-sessions : goal.returns-clause-sessions
+unfolding serde_json_on_literals digits
+returns-clause-sessions c = refl

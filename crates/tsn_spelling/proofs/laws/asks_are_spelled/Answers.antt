@@ -74,3 +74,11 @@ returns-clause-list c = refl
 pub returns-clause-since : goal.returns-clause-since
 unfolding serde_json_on_literals digits
 returns-clause-since c = refl
+
+pub returns-clause-resume : goal.returns-clause-resume
+unfolding serde_json_on_literals digits
+returns-clause-resume c = refl
+
+pub returns-clause-sessions : goal.returns-clause-sessions
+unfolding serde_json_on_literals digits
+returns-clause-sessions c = refl

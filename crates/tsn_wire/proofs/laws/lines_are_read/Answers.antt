@@ -120,3 +120,11 @@ returns-clause-far_look c = refl
 pub returns-clause-key_order : goal.returns-clause-key_order
 unfolding serde_json_on_literals is_utf8 chars line_shape command_shape states_shape listed_at
 returns-clause-key_order c = refl
+
+pub returns-clause-resume : goal.returns-clause-resume
+unfolding serde_json_on_literals is_utf8 chars line_shape command_shape bare_shape
+returns-clause-resume c = refl
+
+pub returns-clause-sessions : goal.returns-clause-sessions
+unfolding serde_json_on_literals is_utf8 chars line_shape command_shape bare_shape
+returns-clause-sessions c = refl

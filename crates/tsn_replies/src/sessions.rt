@@ -1,0 +1,50 @@
+//! The line of the sessions that were given out, spelled piece by piece. None of it takes memory.
+ghost use Rattle.std.specs.Prelude.{◌≡◌, ◌+◌, ◌≤◌, ◌++◌, [], length, true, IfErr, OnOk, OnErr, codes};
+ghost use Rattle.std.specs.Io.KnownBytes.{Appends};
+ghost use Rattle.serde_json.specs.Written.{compact_text};
+ghost use Rattle.tsn_bytes.specs.Bytes.{IsCut};
+ghost use Rattle.tsn_bytes.specs.declared.bytes.Fault.TheVariants.{Write};
+ghost use Rattle.tsn_replies.specs.Told.{session_data, sessions_data};
+
+use crate::shown::{LONGEST_ITEM, ShownItem, push_number, write_listed};
+use crate::text::{CAPACITY, ShortText};
+use tsn_bridge::sessions::GivenSession;
+use tsn_bytes::{ByteOut, Fault};
+
+fn push_given(text: &mut ShortText, given: &GivenSession)
+    requires { length text.old + LONGEST_ITEM ≤ CAPACITY }
+    ensures text { text.new ≡ text.old ++ compact_text (session_data given.now) }
+    ensures len { length text.new ≤ length text.old + LONGEST_ITEM }
+{
+    push_number(text, "{\"session\":", u64::from(given.session));
+    push_number(text, ",\"standing\":", given.standing);
+    text.push("}");
+}
+
+impl ShownItem for GivenSession {
+    ghost shown = { session_data };
+
+    fn push(&self, text: &mut ShortText) {
+        push_given(text, self);
+    }
+}
+
+/// Writes the line of the sessions, in their order, by way of an empty text. Its one fault is `Write`; what went out is then
+/// a front of the line.
+pub fn write_sessions<W: ByteOut>(
+    writer: &mut W,
+    text: &mut ShortText,
+    sessions: &[GivenSession],
+) -> Result<(), Fault>
+    requires { text.old ≡ [] }
+    ensures ok { OnOk result (Appends (W.taken writer.old) (W.taken writer.new)
+        (compact_text (sessions_data sessions.now) ++ codes "\n")) }
+    ensures worked { OnOk result (W.has_failed writer.new ≡ W.has_failed writer.old) }
+    ensures fault { IfErr result (λ e. e ≡ Write) }
+    ensures failed { OnErr result (W.has_failed writer.new ≡ true) }
+    ensures cut { OnErr result (IsCut (W.taken writer.old) (W.taken writer.new)
+        (compact_text (sessions_data sessions.now) ++ codes "\n")) }
+{
+    text.push("{\"sessions\":[");
+    write_listed(writer, text, sessions, b"}\n")
+}
