@@ -8,14 +8,16 @@ use Rattle.tsn_bridge.specs.declared.command.Command.{Command}
 use Rattle.tsn_bridge.specs.declared.command.Command.TheVariants as commands
 use Rattle.tsn_bridge.specs.declared.reply.Reply.{Reply}
 use Rattle.tsn_commit.specs.Lines.{IsLine}
-use Rattle.tsn_replay.specs.Recording.{instant_told, is_accepted, kept, recorded, with_reply}
+use Rattle.tsn_bridge.specs.Families.{Acting, Family, family}
+use Rattle.tsn_journal.specs.declared.entries.Act.TheVariants as asked
+use Rattle.tsn_replay.specs.Recording.{instant_told, is_accepted, kept, kept_in, recorded, with_reply}
 use Rattle.tsn_spelling.specs.Line.{line_text}
 use Rattle.tsn_clerk.specs.declared.clerk.Deed.{Deed}
 use Rattle.tsn_clerk.specs.declared.clerk.Heard.{Heard}
 use Rattle.tsn_clerk.specs.declared.clerk.Heard.TheVariants as heard
 use Rattle.tsn_clerk.specs.declared.clerk.Kind.{Kind}
 use Rattle.tsn_clerk.specs.declared.clerk.Kind.TheVariants.{Act, Hello, Itself, Passing}
-use Rattle.tsn_clerk.specs.Noting.{EndsWith, HasLast, IsHeard, IsRecorded, act_of, kind_of}
+use Rattle.tsn_clerk.specs.Noting.{EndsWith, HasLast, IsHeard, IsRecorded, act_of, kind_in, kind_of}
 
 -- what is kept of a command of this kind
 abbrev kept_by : ℕ → Command → ℕ → Kind → Option Ask
@@ -24,32 +26,18 @@ kept_by n command at Hello = Some (record { session = 0; command = commands.Hell
 kept_by n command at (Act deed key) = Some (record { session = n; command = act_of deed key at })
 kept_by n command at Passing = None
 
-kept_is : (n : ℕ) (command : Command) (at : ℕ) → kept n command at ≡ kept_by n command at (kind_of command)
-kept_is n commands.Hello at = refl
-kept_is n (commands.Create k r) at = refl
-kept_is n (commands.Replace k r) at = refl
-kept_is n (commands.Remove k) at = refl
-kept_is n (commands.Batch batch) at = refl
-kept_is n commands.Undo at = refl
-kept_is n commands.UndoAll at = refl
-kept_is n commands.Redo at = refl
-kept_is n (commands.Settle upto) at = refl
-kept_is n (commands.Enable k now) at = refl
-kept_is n (commands.Disable k now) at = refl
-kept_is n (commands.Apply k now) at = refl
-kept_is n (commands.Frame frame now) at = refl
-kept_is n (commands.States k t) at = refl
-kept_is n (commands.Counters k) at = refl
-kept_is n (commands.Show k) at = refl
-kept_is n (commands.List kind) at = refl
-kept_is n (commands.Since after) at = refl
+kept_is : (n : ℕ) (command : Command) (at : ℕ) (f : Family) → kept_in n command at f ≡ kept_by n command at (kind_in f)
+kept_is n command at (Acting asked.Enable k now) = refl
+kept_is n command at (Acting asked.Disable k now) = refl
+kept_is n command at (Acting asked.Apply k now) = refl
+kept_is n command at f = refl
 
 pub empty_line : IsLine []
 empty_line = record { free = All-nil _; short = omega arith }
 
 module _ (ask : Ask) (line : List ℕ) where
   of_kind : (kind : Kind) → kind_of ask.command ≡ kind → (at : ℕ) → kept ask.session ask.command at ≡ kept_by ask.session ask.command at kind
-  of_kind kind is at = kept_is ask.session ask.command at ∙ ap (kept_by ask.session ask.command at) is
+  of_kind kind is at = kept_is ask.session ask.command at (family ask.command) ∙ ap (kept_by ask.session ask.command at) is
 
   pub hears_passing : kind_of ask.command ≡ Passing → IsHeard heard.Passing line ask
   hears_passing is at = of_kind Passing is at

@@ -5,7 +5,9 @@ use Rattle.tsn_bridge.specs.declared.command.Ask.{Ask}
 use Rattle.tsn_bridge.specs.declared.command.Command.{Command}
 use Rattle.tsn_bridge.specs.declared.command.Command.TheVariants as commands
 use Rattle.tsn_bridge.specs.declared.reply.Reply.{Reply}
+use Rattle.tsn_bridge.specs.Families.{Acting, Counting, Family, Framing, Greeting, Looking, family}
 use Rattle.tsn_bridge.specs.Histories.{Answered}
+use Rattle.tsn_journal.specs.declared.entries.Act.TheVariants as asked
 use Rattle.tsn_replay.specs.Recording.{kept, recorded}
 use Rattle.tsn_spelling.specs.Line.{line_text}
 use Rattle.tsn_clerk.specs.declared.clerk.Deed.{Deed}
@@ -21,26 +23,19 @@ act_of Enable key now = commands.Enable key now
 act_of Disable key now = commands.Disable key now
 act_of Apply key now = commands.Apply key now
 
--- how a command is kept, if it is accepted
+-- how a command of a family is kept, if it is accepted
+abbrev pub kind_in : Family → Kind
+kind_in Greeting = Hello
+kind_in (Acting asked.Enable k now) = Act Enable k
+kind_in (Acting asked.Disable k now) = Act Disable k
+kind_in (Acting asked.Apply k now) = Act Apply k
+kind_in (Framing frame now) = Passing
+kind_in (Looking look) = Passing
+kind_in (Counting look) = Passing
+kind_in f = Itself
+
 abbrev pub kind_of : Command → Kind
-kind_of commands.Hello = Hello
-kind_of (commands.Create k r) = Itself
-kind_of (commands.Replace k r) = Itself
-kind_of (commands.Remove k) = Itself
-kind_of (commands.Batch batch) = Itself
-kind_of commands.Undo = Itself
-kind_of commands.UndoAll = Itself
-kind_of commands.Redo = Itself
-kind_of (commands.Settle upto) = Itself
-kind_of (commands.Enable k now) = Act Enable k
-kind_of (commands.Disable k now) = Act Disable k
-kind_of (commands.Apply k now) = Act Apply k
-kind_of (commands.Frame frame now) = Passing
-kind_of (commands.States k t) = Passing
-kind_of (commands.Counters k) = Passing
-kind_of (commands.Show k) = Passing
-kind_of (commands.List kind) = Passing
-kind_of (commands.Since after) = Passing
+kind_of command = kind_in (family command)
 
 -- What was heard is of this ask. Of one that passes nothing is ever kept; of one with a line, whatever the reply tells, this line
 -- is; of an act it is one at the instant that the reply tells.

@@ -71,13 +71,15 @@ fn kind_of(command: &Command) -> Kind
         Command::Enable { key, .. } => Kind::Act(Deed::Enable, *key),
         Command::Disable { key, .. } => Kind::Act(Deed::Disable, *key),
         Command::Apply { key, .. } => Kind::Act(Deed::Apply, *key),
-        Command::Frame { .. }
-        | Command::States { .. }
-        | Command::Counters { .. }
-        | Command::Show { .. }
-        | Command::List { .. }
-        | Command::Since { .. } => Kind::Passing,
-        _ => Kind::Itself,
+        Command::Create { .. }
+        | Command::Replace { .. }
+        | Command::Remove { .. }
+        | Command::Batch { .. }
+        | Command::Undo
+        | Command::UndoAll
+        | Command::Redo
+        | Command::Settle { .. } => Kind::Itself,
+        _ => Kind::Passing,
     }
 }
 
