@@ -40,6 +40,14 @@ const LAST_PROBE: u64 = 1 << 62;
 /// The greatest number of an entry that `journal` takes.
 const LAST_ENTRY: u64 = (1 << 32) - 1;
 
+/// Ends the help on the program.
+const EXAMPLES: &str = "Examples:
+  tsnd check bridge.toml
+  tsnd script bridge.toml < commands.jsonl
+  tsnd serve bridge.toml --journal bridge.journal
+  tsnd journal bridge.journal --since 40
+  tsnd states bridge.toml --port 1 --from 0 --step 250000 --count 4";
+
 /// Ends the help on `script`.
 const SCRIPT_EXAMPLE: &str = "Example:
   tsnd script bridge.toml < commands.jsonl
@@ -371,6 +379,7 @@ fn bare<'a>(alloc: Global) -> Command<'a>
 {
     Command::new(alloc, "tsnd")
         .about("The configuration service of one time-aware bridge")
+        .after_help(EXAMPLES)
         .version("0.1.0")
         .subcommand_required(true)
 }
