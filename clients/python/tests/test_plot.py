@@ -16,7 +16,7 @@ TOP = HERE.parents[3]
 sys.path.insert(0, str(HERE.parents[1]))
 os.environ.setdefault("TSND", str(TOP / "crates/tsnd/out/tsnd"))
 
-from tsnd import plot  # noqa: E402
+from tsnd import plot, programs  # noqa: E402
 from tsnd.records import PortEntry, PortGates  # noqa: E402
 
 STATES_PRINT = str(TOP / "examples/states-print.toml")
@@ -47,7 +47,7 @@ class Bars(unittest.TestCase):
 
     def test_no_program(self) -> None:
         for named, said in (("", "no program 'tsnd' on the path"), ("/nowhere/tsnd", "the program /nowhere/tsnd can't be run")):
-            with mock.patch.dict(os.environ, {"TSND": named, "PATH": "/nowhere"}), mock.patch.object(plot, "BUILT", Path("/nowhere")):
+            with mock.patch.dict(os.environ, {"TSND": named, "PATH": "/nowhere"}), mock.patch.object(programs, "BUILT", Path("/nowhere")):
                 with redirect_stderr(io.StringIO()) as errors:
                     self.assertEqual(plot.main([STATES_PRINT, "-o", "x.png"]), 1)
             if importlib.util.find_spec("matplotlib"):

@@ -14,13 +14,12 @@ from __future__ import annotations
 import argparse
 import math
 import os
-import shutil
 import subprocess
 import sys
 from collections.abc import Sequence
-from pathlib import Path
 from typing import Any
 
+from .programs import NoProgram, program_of
 from .records import PortGates
 from .setups import Setup, Unread
 
@@ -30,19 +29,10 @@ OPEN, SHUT, LAST, GUARD, EXTENSION = "#2a7f62", "#e8e8e8", "#f2d16b", "#7a7a7a",
 ONLY_FIRST, ONLY_SECOND = "#2b6cb0", "#c8553d"
 UNITS = ((1_000_000_000, "s"), (1_000_000, "ms"), (1_000, "us"))
 PICTURES = (".png", ".svg", ".pdf")
-BUILT = Path(*Path(__file__).resolve().parts[:-4]) / "crates/tsnd/out/tsnd"
 
 
 class Undrawn(Exception):
     """What was asked for can't be drawn."""
-
-
-def program() -> str:
-    """The program that tells the states: the one that TSND names, or `tsnd` on the path, or the one that was built in this clone."""
-    named = os.environ.get("TSND") or shutil.which("tsnd") or (str(BUILT) if BUILT.is_file() else None)
-    if named is None:
-        raise Undrawn("no program 'tsnd' on the path: install it, or let TSND name it, or build it in the clone: ./build")
-    return named
 
 
 def unit_of(length: int) -> tuple[int, str]:
@@ -67,7 +57,7 @@ def step_of(ports: Sequence[PortGates]) -> int:
 
 def states(path: str, number: int, start: int, step: int, count: int) -> list[int]:
     """The gates at even steps, as the program tells them."""
-    words = [program(), "states", path, "--port", str(number), "--from", str(start), "--step", str(step), "--count", str(count)]
+    words = [program_of(), "states", path, "--port", str(number), "--from", str(start), "--step", str(step), "--count", str(count)]
     try:
         run = subprocess.run(words, capture_output=True, text=True, check=False)
     except OSError as why:
@@ -208,7 +198,7 @@ def main(words: Sequence[str] | None = None) -> int:
         if not given.output.endswith(PICTURES):
             raise Undrawn(f"{given.output} does not end with {', '.join(PICTURES[:-1])} or {PICTURES[-1]}")
         draw([path for path in (given.setup, given.other) if path], given.port, given.cycles, given.output)
-    except (Undrawn, Unread, OSError) as why:
+    except (NoProgram, Undrawn, Unread, OSError) as why:
         print(f"tsnd-plot: {why}", file=sys.stderr)
         return 1
     return 0
