@@ -1,5 +1,5 @@
 -- A configuration that is opened with one port, and a runtime that followed that port.
-use Rattle.std.proofs.Common.{◌≡◌, ℕ, cond, [], ◌∷◌, refl, sym, ◌∙◌, ap, subst, Option, Some, None}
+use Rattle.std.proofs.Common.{◌≡◌, ℕ, cond, [], ◌∷◌, refl, sym, ◌∙◌, ap, subst, Option, Some, None, arith}
 use Rattle.std.specs.Prelude.{Err, Ok, OnErr, OnOk, Result, is_some}
 use Rattle.std.specs.FinMap.{FinMap, empty, get, find, get-empty, get-from_entries}
 use Rattle.std.specs.List.{IsDistinct}
@@ -16,7 +16,7 @@ use Rattle.tsn_types.specs.declared.refusals.Refusal.{Refusal}
 use Rattle.tsn_edit.specs.Changes.{Fits, after_change}
 use Rattle.tsn_edit.specs.Configuration.{Configuration, put}
 use Rattle.tsn_edit.specs.Parts.{Change}
-use Rattle.tsn_edit.proofs.KeyFacts.{by_bool, get-put, keys_total}
+use Rattle.tsn_edit.proofs.KeyFacts.{get-put, keys_total}
 use Rattle.tsn_chain.specs.Following.{frames_after, runners_after}
 use Rattle.tsn_chain.specs.Instances.{FrameData, Runners, HasKeys, SameKeys}
 use Rattle.tsn_chain.specs.Acts.{KeyApplies}
@@ -30,9 +30,7 @@ nothing_at : (k : Key) → get {X = Record} (empty {R = key_cmp}) k ≡ None
 nothing_at k = get-empty {X = Record} key_cmp k
 
 same_there : (p : PortGates) (d : Record) (k : Key) → is_some (cond (same_key k (Port 1)) (Some (records.Port p)) None) ≡ is_some (cond (same_key k (Port 1)) (Some d) None)
-same_there p d k = by_bool (same_key k (Port 1))
-    (λ yes. ap (λ b. is_some (cond b (Some (records.Port p)) None)) yes ∙ sym (ap (λ b. is_some (cond b (Some d) None)) yes))
-    (λ no. ap (λ b. is_some (cond b (Some (records.Port p)) None)) no ∙ sym (ap (λ b. is_some (cond b (Some d) None)) no))
+same_there p d k = grind arith
 
 one_port : (p : PortGates) (l : Limits) (k : Key) → l.ports ≡ 1 → is_some (get (put empty (Port 1) (Some (records.Port p))) k) ≡ is_some (get (opening l []) k)
 one_port p l k one =

@@ -1,5 +1,6 @@
 -- The instance data of a configuration is there for just its keys, and each runner is one that nothing was done to.
-use Rattle.std.proofs.Common.{◌≡◌, ◌<◌, ℕ, zero, suc, length, slice_index_or, arith, Bool, true, false, cond, List, [], ◌∷◌, map, refl, sym, ◌∙◌, ap, subst, Option, Some, None}
+use Rattle.std.proofs.Common.{◌≡◌, ◌<◌, ℕ, length, slice_index_or, arith, Bool, true, false, cond, List, [], ◌∷◌, map, refl, sym, ◌∙◌, ap, subst, Option, Some, None}
+use Rattle.std.proofs.lemmas.Grind.{common_steps}
 use Rattle.std.specs.Prelude.{◌||◌, IsSome, filter, fold, is_some}
 use Rattle.std.specs.Cmp.{nat_cmp_total}
 use Rattle.std.specs.FinMap.{FinMap, get, empty, keys, contains_key-keys, get-empty, get-insert, get-remove}
@@ -35,22 +36,7 @@ use Rattle.tsn_chain.specs.Instances.{FrameData, HasKeys, Runners}
 
 one_more : (kind : Kind) (n : ℕ) (k : Key) (ks : List Key) → list_any (eq_by_cmp nat_cmp n) (map (λ k. number_of k) (filter (λ k. is_of kind k) ks)) ≡ list_any (eq_by_cmp key_cmp (key_by kind n)) ks
     → list_any (eq_by_cmp nat_cmp n) (map (λ k. number_of k) (filter (λ k. is_of kind k) (k ∷ ks))) ≡ list_any (eq_by_cmp key_cmp (key_by kind n)) (k ∷ ks)
-one_more kinds.Port n (Port m) ks h = ap (λ b. eq_by_cmp nat_cmp n m || b) h
-one_more kinds.Port n (Filter m) ks h = h
-one_more kinds.Port n (Gate m) ks h = h
-one_more kinds.Port n (Meter m) ks h = h
-one_more kinds.Filter n (Port m) ks h = h
-one_more kinds.Filter n (Filter m) ks h = ap (λ b. eq_by_cmp nat_cmp n m || b) h
-one_more kinds.Filter n (Gate m) ks h = h
-one_more kinds.Filter n (Meter m) ks h = h
-one_more kinds.Gate n (Port m) ks h = h
-one_more kinds.Gate n (Filter m) ks h = h
-one_more kinds.Gate n (Gate m) ks h = ap (λ b. eq_by_cmp nat_cmp n m || b) h
-one_more kinds.Gate n (Meter m) ks h = h
-one_more kinds.Meter n (Port m) ks h = h
-one_more kinds.Meter n (Filter m) ks h = h
-one_more kinds.Meter n (Gate m) ks h = h
-one_more kinds.Meter n (Meter m) ks h = ap (λ b. eq_by_cmp nat_cmp n m || b) h
+one_more kind n k ks h = grind arith
 
 picked : (kind : Kind) (n : ℕ) (ks : List Key) → list_any (eq_by_cmp nat_cmp n) (map (λ k. number_of k) (filter (λ k. is_of kind k) ks)) ≡ list_any (eq_by_cmp key_cmp (key_by kind n)) ks
 picked kind n [] = refl
@@ -69,22 +55,13 @@ each_there kind c = each_in (λ n. IsSome (get c (key_by kind n))) (ids_of kind 
 -- ---- rows that are created at some numbers
 
 either : {A : Type 0} (b : Bool) (x : A) (o : Option A) → is_some (cond b (Some x) o) ≡ (b || is_some o)
-either true x o = refl
-either false x o = refl
-
-swapped : (a b c : Bool) → (a || (b || c)) ≡ ((b || a) || c)
-swapped true true c = refl
-swapped true false c = refl
-swapped false true c = refl
-swapped false false c = refl
+either b x o = grind arith
 
 -- where each step makes the row of its number be there and leaves the others, just those of the numbers come
 rows_there : {A : Type 0} (step : FinMap nat_cmp A → ℕ → FinMap nat_cmp A) (P : ℕ → Type 0) → ((t : FinMap nat_cmp A) (m n : ℕ) → P m → is_some (get (step t m) n) ≡ (eq_by_cmp nat_cmp n m || is_some (get t n)))
     → (ns : List ℕ) (t : FinMap nat_cmp A) (n : ℕ) → AllByRecursion P ns → is_some (get (fold step t ns) n) ≡ (list_any (eq_by_cmp nat_cmp n) ns || is_some (get t n))
 rows_there step P one [] t n each = refl
-rows_there step P one (m ∷ ns) t n each =
-    rows_there step P one ns (step t m) n each.1 ∙ ap (λ b. list_any (eq_by_cmp nat_cmp n) ns || b) (one t m n each.0)
-    ∙ swapped (list_any (eq_by_cmp nat_cmp n) ns) (eq_by_cmp nat_cmp n m) (is_some (get t n))
+rows_there step P one (m ∷ ns) t n each = grind (arith, (rows_there step P one ns (step t m) n each.1))
 
 created : {A : Type 0} (new : A) (v : Option Record) (t : FinMap nat_cmp A) (m n : ℕ) → IsSome v → is_some (get (row_after new None v t m) n) ≡ (eq_by_cmp nat_cmp n m || is_some (get t n))
 created new None t m n there = (cc)
@@ -241,16 +218,11 @@ module _ (c : Configuration) where
 -- ---- the numbers of a kind are in its range
 
 each_at : (P : ℕ → Type 0) (ns : List ℕ) (i : ℕ) → i < length ns → AllByRecursion P ns → P (slice_index_or ns i 0)
-each_at P [] i h each = absurd (omega (arith, h))
-each_at P (n ∷ ns) zero h each = each.0
-each_at P (n ∷ ns) (suc i) h each = each_at P ns i (omega (arith, h)) each.1
+each_at P ns i h each = grind (arith, common_steps)
 
 module _ (l : Limits) (c : Configuration) (kept : IsWellKept l c) where
   held : (kind : Kind) (n : ℕ) → HoldsKey l (key_by kind n) → IsNumberOf kind n
-  held kinds.Port n h = (h.0, omega (arith, h.1, kept.limits.0.1))
-  held kinds.Filter n h = omega (arith, h, kept.limits.1.0.1)
-  held kinds.Gate n h = omega (arith, h, kept.limits.1.1.0.1)
-  held kinds.Meter n h = omega (arith, h, kept.limits.1.1.1.0.1)
+  held kind n h = grind arith
 
   there : (kind : Kind) (n : ℕ) → IsSome (get c (key_by kind n)) → IsNumberOf kind n
   there kind n h = by_option (get c (key_by kind n))

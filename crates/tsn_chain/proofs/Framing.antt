@@ -1,5 +1,5 @@
 -- From what a frame meets to what is said of it.
-use Rattle.std.proofs.Common.{◌≡◌, ℕ, refl, sym, ◌∙◌, ap, subst, true, ◌∷◌, Option, Some, None}
+use Rattle.std.proofs.Common.{◌≡◌, ℕ, refl, sym, ◌∙◌, ap, subst, true, ◌∷◌, Option, Some, None, arith}
 use Rattle.std.specs.Prelude.{IsSome, is_some}
 use Rattle.std.specs.Option.{option_map}
 use Rattle.std.specs.FinMap.{FinMap, get}
@@ -23,8 +23,8 @@ use Rattle.tsn_chain.specs.declared.data.GateState.{GateState}
 use Rattle.tsn_chain.specs.declared.data.Met.{Met}
 use Rattle.tsn_chain.specs.declared.frame.Frame.{Frame}
 use Rattle.tsn_chain.specs.declared.frame.Verdict.{Verdict}
-use Rattle.tsn_chain.specs.Chain.{Case, through}
-use Rattle.tsn_chain.specs.Frames.{GateActs, StandFor, case_at, framed, framed_at, framed_by, met_at, meter_at, state_at, with_met}
+use Rattle.tsn_chain.specs.Chain.{through}
+use Rattle.tsn_chain.specs.Frames.{GateActs, StandFor, framed, framed_at, met_at, meter_at, state_at, with_met}
 use Rattle.tsn_chain.specs.Instances.{FrameData, HasFrameKeys, SameKeys}
 use Rattle.tsn_chain.specs.Rows.{IsReady}
 
@@ -34,14 +34,7 @@ pub put_together : (c : Configuration) (f : FrameData) (acts : GateActs) (frame 
     → (verdict, left) ≡ through (record { number = n; filter = q; gate = g; state = state; frame = frame; time = time; met = met })
     → new ≡ with_met f n q left
     → framed_at c f acts frame time (Some n) ≡ Some (verdict, new)
-put_together c f acts frame time n q g by state met left verdict new filter gate meter found shown passed back =
-    let met_is : met_at f n q (meter_at c q.meter) ≡ Some met = ap (met_at f n q) (sym meter) ∙ found in
-    let whole : GateState → Case = λ s. record { number = n; filter = q; gate = g; state = s; frame = frame; time = time; met = met } in
-    let case_is : case_at c f acts frame time n ≡ Some (whole (state_at acts q.gate g time)) = rw (filter, gate, met_is) refl in
-    let case_with : case_at c f acts frame time n ≡ Some (whole state) = case_is ∙ ap (λ s. Some (whole s)) (sym shown) in
-    let done : framed_by f (whole state) ≡ (verdict, new) =
-    ap (λ (p : Verdict × Met). (p.0, with_met f n q p.1)) (sym passed) ∙ ap (λ m. (verdict, m)) (sym back) in
-    ap (option_map {U = Verdict × FrameData} (framed_by f)) case_with ∙ ap (λ p. Some p) done
+put_together c f acts frame time n q g by state met left verdict new filter gate meter found shown passed back = grind arith
 
 gate_there : (l : Limits) (n : ℕ) (v : Option Record) → IsSome v → ((r : Record) → v ≡ Some r → HoldsRecord l (Gate n) r) → (g : StreamGate) × (gate_of v ≡ Some g)
 gate_there l n None there held = absurd (cc)

@@ -1,5 +1,5 @@
 -- Instance data keeps the keys of a configuration as both follow a change.
-use Rattle.std.proofs.Common.{◌≡◌, ℕ, Bool, true, false, cond, List, [], ◌∷◌, map, refl, sym, ◌∙◌, ap, subst, Option, Some, None}
+use Rattle.std.proofs.Common.{◌≡◌, ℕ, Bool, true, cond, List, [], ◌∷◌, map, refl, sym, ◌∙◌, ap, subst, Option, Some, None, arith, rules}
 use Rattle.std.specs.Prelude.{IsSome, is_some}
 use Rattle.std.specs.Cmp.{nat_cmp_total}
 use Rattle.std.specs.List.{IsDistinct}
@@ -23,12 +23,12 @@ use Rattle.tsn_edit.proofs.FirstPart.{put_first, stands_next}
 use Rattle.tsn_edit.proofs.Inverses.{inverse_part_stands}
 use Rattle.tsn_edit.proofs.KeyFacts.{get-put, one_key}
 use Rattle.tsn_schedule.specs.Acts.{Act, Apply}
-use Rattle.tsn_schedule.specs.Kept.{Kept, fresh}
+use Rattle.tsn_schedule.specs.Kept.{Kept}
 use Rattle.tsn_chain.specs.declared.data.Met.{Met}
 use Rattle.tsn_chain.specs.declared.data.Metered.{Metered}
 use Rattle.tsn_chain.specs.declared.data.MeterData.{MeterData}
 use Rattle.tsn_chain.specs.Acts.{KeyActs, KeyApplies, RowActs}
-use Rattle.tsn_chain.specs.Following.{AreOfKind, IsOfKind, clipped_meter, frames_after, frames_at, meter_row_after, new_filter, new_gate, new_meter, row_after, runners_after, runners_at, with_row}
+use Rattle.tsn_chain.specs.Following.{AreOfKind, IsOfKind, clipped_meter, frames_after, frames_at, meter_row_after, new_meter, row_after, runners_after, runners_at, with_row}
 use Rattle.tsn_chain.specs.Frames.{with_met, with_meter}
 use Rattle.tsn_chain.specs.Instances.{FrameData, Runners, HasFrameKeys, HasKeys, SameKeys}
 use Rattle.tsn_chain.specs.Rows.{HasMeter}
@@ -36,16 +36,13 @@ use Rattle.tsn_chain.proofs.Swapped.{one_number}
 
 -- a row that is dropped, that is new or that stays, beside a value that goes, comes or is replaced
 gone : {A B : Type 0} (b : Bool) (x : Option A) (y : Option B) → is_some x ≡ is_some y → is_some (cond b None x) ≡ is_some (cond b None y)
-gone true x y h = refl
-gone false x y h = h
+gone b x y h = grind arith
 
 come : {A B : Type 0} (b : Bool) (x : Option A) (y : Option B) (u : A) (v : B) → is_some x ≡ is_some y → is_some (cond b (Some u) x) ≡ is_some (cond b (Some v) y)
-come true x y u v h = refl
-come false x y u v h = h
+come b x y u v h = grind arith
 
 stays : {A B : Type 0} (b : Bool) (x : Option A) (y : Option B) (q v : B) → is_some x ≡ is_some y → (b ≡ true → y ≡ Some q) → is_some x ≡ is_some (cond b (Some v) y)
-stays true x y q v h same = h ∙ ap is_some (same refl)
-stays false x y q v h same = h
+stays b x y q v h same = grind arith
 
 -- a row of a table is there where the value of its key is, after a change of the key of number m
 row_there : {A : Type 0} (new : A) (t : FinMap nat_cmp A) (m n : ℕ) (before after g : Option Record) → is_some (get t n) ≡ is_some g → (eq_by_cmp nat_cmp n m ≡ true → g ≡ before)
@@ -72,51 +69,25 @@ meter_row_there now t m n before (Some (records.Gate r)) g kind h same = (cc)
 -- the same in each table, after a change of any key
 module _ (before after : Option Record) (n : ℕ) (g : Option Record) where
   port_there : (key : Key) (r : Runners) → is_some (get r.ports n) ≡ is_some g → (same_key (Port n) key ≡ true → g ≡ before) → is_some (get (runners_at r key before after).ports n) ≡ is_some (cond (same_key (Port n) key) after g)
-  port_there (Port m) r h same = row_there fresh r.ports m n before after g h same
-  port_there (Filter m) r h same = h
-  port_there (Gate m) r h same = h
-  port_there (Meter m) r h same = h
+  port_there key r h same = grind (arith, row_there)
 
   runner_there : (key : Key) (r : Runners) → is_some (get r.gates n) ≡ is_some g → (same_key (Gate n) key ≡ true → g ≡ before) → is_some (get (runners_at r key before after).gates n) ≡ is_some (cond (same_key (Gate n) key) after g)
-  runner_there (Port m) r h same = h
-  runner_there (Filter m) r h same = h
-  runner_there (Gate m) r h same = row_there fresh r.gates m n before after g h same
-  runner_there (Meter m) r h same = h
+  runner_there key r h same = grind (arith, row_there)
 
   filter_there : (key : Key) (now : ℕ) (f : FrameData) → is_some (get f.filters n) ≡ is_some g → (same_key (Filter n) key ≡ true → g ≡ before) → is_some (get (frames_at now f key before after).filters n) ≡ is_some (cond (same_key (Filter n) key) after g)
-  filter_there (Port m) now f h same = h
-  filter_there (Filter m) now f h same = row_there new_filter f.filters m n before after g h same
-  filter_there (Gate m) now f h same = h
-  filter_there (Meter m) now f h same = h
+  filter_there key now f h same = grind (arith, row_there)
 
   gate_there : (key : Key) (now : ℕ) (f : FrameData) → is_some (get f.gates n) ≡ is_some g → (same_key (Gate n) key ≡ true → g ≡ before) → is_some (get (frames_at now f key before after).gates n) ≡ is_some (cond (same_key (Gate n) key) after g)
-  gate_there (Port m) now f h same = h
-  gate_there (Filter m) now f h same = h
-  gate_there (Gate m) now f h same = row_there new_gate f.gates m n before after g h same
-  gate_there (Meter m) now f h same = h
+  gate_there key now f h same = grind (arith, row_there)
 
   meter_there : (key : Key) (now : ℕ) (f : FrameData) → IsOfKind key after → is_some (get f.meters n) ≡ is_some g → (same_key (Meter n) key ≡ true → g ≡ before)
       → is_some (get (frames_at now f key before after).meters n) ≡ is_some (cond (same_key (Meter n) key) after g)
-  meter_there (Port m) now f kind h same = h
-  meter_there (Filter m) now f kind h same = h
-  meter_there (Gate m) now f kind h same = h
-  meter_there (Meter m) now f kind h same = meter_row_there now f.meters m n before after g kind h same
+  meter_there key now f kind h same = grind (arith, meter_row_there)
 
 -- a key is created, replaced or removed in both
 keys_part : (c : Configuration) (r : Runners) (f : FrameData) (now : ℕ) (e : Part) → HasKeys r f c → get c e.key ≡ e.before → IsOfKind e.key e.after
     → HasKeys (runners_at r e.key e.before e.after) (frames_at now f e.key e.before e.after) (put c e.key e.after)
-keys_part c r f now e h stands kind =
-    let stood : (k : Key) → same_key k e.key ≡ true → get c k ≡ e.before = λ k is. ap (get c) (one_key k e.key is) ∙ stands in
-    let at : (k : Key) → is_some (cond (same_key k e.key) e.after (get c k)) ≡ is_some (get (put c e.key e.after) k) = λ k. ap is_some (sym (get-put c e.key e.after k)) in
-    record {
-      ports = λ n. port_there e.before e.after n (get c (Port n)) e.key r (h.ports n) (stood (Port n)) ∙ at (Port n);
-      gates = λ n. runner_there e.before e.after n (get c (Gate n)) e.key r (h.gates n) (stood (Gate n)) ∙ at (Gate n);
-      frames = record {
-        filters = λ n. filter_there e.before e.after n (get c (Filter n)) e.key now f (h.frames.filters n) (stood (Filter n)) ∙ at (Filter n);
-        gates = λ n. gate_there e.before e.after n (get c (Gate n)) e.key now f (h.frames.gates n) (stood (Gate n)) ∙ at (Gate n);
-        meters = λ n. meter_there e.before e.after n (get c (Meter n)) e.key now f kind (h.frames.meters n) (stood (Meter n)) ∙ at (Meter n);
-      };
-    }
+keys_part c r f now e h stands kind = grind (arith, one_key, get-put, port_there, runner_there, filter_there, gate_there, meter_there)
 
 -- and so part by part
 pub keys_follow : (c : Configuration) (r : Runners) (f : FrameData) (now : ℕ) (e : Change) → HasKeys r f c → IsDistinct same_key (keys_of (parts e)) → Stands c (parts e) → AreOfKind (parts e)
@@ -144,22 +115,16 @@ kinds_kept l c kept (p ∷ ps) stands =
 
 -- a change that fits
 pub keys_fit : (l : Limits) (c : Configuration) (r : Runners) (f : FrameData) (now : ℕ) (e : Change) → HasKeys r f c → Fits l c e → HasKeys (runners_after r e) (frames_after now f e) (after_change c e)
-keys_fit l c r f now e h fits =
-    keys_follow c r f now e h fits.distinct fits.stands (kinds_kept l (after_change c e) fits.kept (parts e) (inverse_part_stands c (parts e) fits.distinct))
+keys_fit l c r f now e h fits = search (rules, keys_follow, kinds_kept, inverse_part_stands)
 
 nothing_there : (A : Type 0) (n : ℕ) (k : Key) → is_some (get {X = A} (empty {R = nat_cmp}) n) ≡ is_some (get {X = Record} (empty {R = key_cmp}) k)
 nothing_there A n k = ap is_some (get-empty {X = A} nat_cmp n) ∙ sym (ap is_some (get-empty {X = Record} key_cmp k))
 
 pub keys_begin : HasKeys (record { ports = empty; gates = empty }) (record { filters = empty; gates = empty; meters = empty }) empty
-keys_begin = record {
-  ports = λ n. nothing_there _ n (Port n);
-  gates = λ n. nothing_there _ n (Gate n);
-  frames = record { filters = λ n. nothing_there _ n (Filter n); gates = λ n. nothing_there _ n (Gate n); meters = λ n. nothing_there _ n (Meter n) };
-}
+keys_begin = grind (arith, nothing_there)
 
 overwritten : {A : Type 0} (b : Bool) (x : A) (o : Option A) → (b ≡ true → is_some o ≡ true) → is_some (cond b (Some x) o) ≡ is_some o
-overwritten true x o there = sym (there refl)
-overwritten false x o there = refl
+overwritten b x o there = grind arith
 
 -- a row that is there is written over
 pub same_keys : {A : Type 0} (t : FinMap nat_cmp A) (n : ℕ) (x : A) (key : ℕ → Key) (c : Configuration) → IsSome (get t n) → SameKeys t key c → SameKeys (insert t n x) key c
@@ -175,15 +140,10 @@ meter_keys t (Some n) (Some q) c there same = same_keys t n q.kept (λ m. Meter 
 
 -- what a frame meets is put back where it was
 pub met_keys : (f : FrameData) (n : ℕ) (q : StreamFilter) (k : Met) (c : Configuration) → IsSome (get f.filters n) → IsSome (get f.gates q.gate) → HasMeter f q → HasFrameKeys f c → HasFrameKeys (with_met f n q k) c
-met_keys f n q k c filter gate meter h = record {
-  filters = same_keys f.filters n k.filter (λ m. Filter m) c filter h.filters;
-  gates = same_keys f.gates q.gate k.gate (λ m. Gate m) c gate h.gates;
-  meters = meter_keys f.meters q.meter k.meter c meter h.meters;
-}
+met_keys f n q k c filter gate meter h = search (rules, same_keys, meter_keys)
 
 row_keys : {E : Type 0} (old new : FinMap nat_cmp (Kept E)) (n : ℕ) (act : Act E) (key : ℕ → Key) (c : Configuration) → RowActs old n act new → SameKeys old key c → SameKeys new key c
-row_keys {E = E} old new n act key c acts same =
-    subst (λ (t : FinMap nat_cmp (Kept E)). SameKeys t key c) (sym acts.set) (same_keys old n acts.is key c (ap is_some acts.found) same)
+row_keys {E = E} old new n act key c acts same = grind (arith, same_keys)
 
 gates_same : (old new : FinMap nat_cmp (Kept GateEntry)) (c : Configuration) → new ≡ old → SameKeys old (λ n. Gate n) c → SameKeys new (λ n. Gate n) c
 gates_same old new c is same = subst (λ (t : FinMap nat_cmp (Kept GateEntry)). SameKeys t (λ n. Gate n) c) (sym is) same

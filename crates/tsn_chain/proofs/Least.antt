@@ -1,6 +1,6 @@
 -- The first row that passes a test is the one of the least number, and the filters of a configuration are its table's.
-use Rattle.std.proofs.Common.{◌≡◌, ℕ, Bool, true, false, cond, List, [], ◌∷◌, refl, sym, ◌∙◌, ap, subst, Option, Some, None}
-use Rattle.std.specs.Prelude.{nat_eq, ◌&&◌, ◌||◌}
+use Rattle.std.proofs.Common.{◌≡◌, ℕ, Bool, cond, List, [], ◌∷◌, refl, sym, ◌∙◌, ap, Option, Some, None, arith}
+use Rattle.std.specs.Prelude.{◌&&◌, ◌||◌}
 use Rattle.std.specs.Option.{option_map}
 use Rattle.std.specs.Ordering.{nat_cmp, eq_by_cmp}
 use Rattle.std.specs.Cmp.{nat_cmp_total}
@@ -17,7 +17,6 @@ use Rattle.tsn_types.specs.declared.records.StreamFilter.{StreamFilter}
 use Rattle.tsn_types.specs.Keys.{key_cmp}
 use Rattle.tsn_config.specs.Kinds.{filter_of}
 use Rattle.tsn_edit.specs.Configuration.{Configuration}
-use Rattle.tsn_edit.proofs.KeyFacts.{by_bool}
 use Rattle.tsn_chain.specs.Chosen.{chosen, is_met, is_matching, IsLeast, filter_rows, filters_of}
 
 in_map : (h q : ℕ) (m : FinMap nat_cmp StreamFilter) (o : Option ℕ) → LeastIn (is_matching h q) (entries m) o → IsLeast h q m o
@@ -29,23 +28,10 @@ least h q m = in_map h q m (chosen h q m) (least_in (is_matching h q) (entries m
 
 -- a specification is met by a number where it is that number or the wildcard
 met_alike : (o : Option ℕ) (n : ℕ) → is_met o n ≡ (is_just (Some n) o || is_just None o)
-met_alike None n = refl
-met_alike (Some m) n = elim (nat_eq m n) as (λ b. b ≡ (b || false)) [ true ↦ refl | false ↦ refl ]
+met_alike o n = grind arith
 
 four : (a b c d : Bool) → ((a || b) && (c || d)) ≡ (((a && c) || (a && d)) || ((b && c) || (b && d)))
-four true true true true = refl
-four true true true false = refl
-four true true false true = refl
-four true true false false = refl
-four true false true true = refl
-four true false true false = refl
-four true false false true = refl
-four true false false false = refl
-four false true true true = refl
-four false true true false = refl
-four false true false true = refl
-four false true false false = refl
-four false false c d = refl
+four a b c d = grind arith
 
 -- a filter matches where its specifications are one of four pairs
 matching_alike : (h q : ℕ) (r : StreamFilter)
@@ -53,8 +39,7 @@ matching_alike : (h q : ℕ) (r : StreamFilter)
 matching_alike h q r = rw (met_alike r.handle h, met_alike r.priority q) (four (is_just (Some h) r.handle) (is_just None r.handle) (is_just (Some q) r.priority) (is_just None r.priority))
 
 first_alike : (p t : StreamFilter → Bool) → ((r : StreamFilter) → p r ≡ t r) → (es : List (ℕ × StreamFilter)) → first_id p es ≡ first_id t es
-first_alike p t same [] = refl
-first_alike p t same (e ∷ es) = ap (λ b. cond b (Some e.0) (first_id p es)) (same e.1) ∙ ap (cond (t e.1) (Some e.0)) (first_alike p t same es)
+first_alike p t same es = grind arith
 
 -- the chosen filter is the least of the first ones with each of the four pairs
 pub chosen_of_four : (h q : ℕ) (m : FinMap nat_cmp StreamFilter)
@@ -76,16 +61,11 @@ IsFilter (Some r) = ⊥
 
 row_skipped : (n m : ℕ) (r : Record) (es : List (Key × Record)) → (IsFilter (Some r) → ⊥) → (IsFilter (find key_cmp (Filter n) es) → find nat_cmp n (filter_rows es) ≡ filter_of (find key_cmp (Filter n) es))
     → IsFilter (cond (eq_by_cmp nat_cmp n m) (Some r) (find key_cmp (Filter n) es)) → find nat_cmp n (filter_rows es) ≡ filter_of (cond (eq_by_cmp nat_cmp n m) (Some r) (find key_cmp (Filter n) es))
-row_skipped n m r es not_so rest h =
-    by_bool (eq_by_cmp nat_cmp n m)
-    (λ yes. let here : IsFilter (Some r) = subst (λ b. IsFilter (cond b (Some r) (find key_cmp (Filter n) es))) yes h in absurd (not_so here))
-    (λ no. let there : IsFilter (find key_cmp (Filter n) es) = subst (λ b. IsFilter (cond b (Some r) (find key_cmp (Filter n) es))) no h in
-    rest there ∙ ap (λ b. filter_of (cond b (Some r) (find key_cmp (Filter n) es))) (sym no))
+row_skipped n m r es not_so rest h = grind arith
 
 row_of : (q : StreamFilter) (b : Bool) (o : Option StreamFilter) (v : Option Record) → (IsFilter v → o ≡ filter_of v) → IsFilter (cond b (Some (records.Filter q)) v)
     → cond b (Some q) o ≡ filter_of (cond b (Some (records.Filter q)) v)
-row_of q true o v rest h = refl
-row_of q false o v rest h = rest h
+row_of q b o v rest h = grind arith
 
 -- the row of a number among the filters is the record of its key
 row_at : (n : ℕ) (es : List (Key × Record)) → IsFilter (find key_cmp (Filter n) es) → find nat_cmp n (filter_rows es) ≡ filter_of (find key_cmp (Filter n) es)
@@ -99,12 +79,10 @@ row_at n ((Gate m, r) ∷ es) h = row_at n es h
 row_at n ((Meter m, r) ∷ es) h = row_at n es h
 
 is_filter : (o : Option StreamFilter) (v : Option Record) → option_map records.Filter o ≡ v → IsFilter v
-is_filter None v e = subst IsFilter e tt
-is_filter (Some q) v e = subst IsFilter e tt
+is_filter o v e = grind arith
 
 filter_is : (o : Option StreamFilter) (v : Option Record) → option_map records.Filter o ≡ v → filter_of v ≡ o
-filter_is None v e = ap filter_of (sym e)
-filter_is (Some q) v e = ap filter_of (sym e)
+filter_is o v e = grind arith
 
 -- a table of the filters of a configuration
 pub filters_are : (c : Configuration) (t : FinMap nat_cmp StreamFilter) → ((n : ℕ) → option_map records.Filter (get t n) ≡ get c (Filter n)) → t ≡ filters_of c

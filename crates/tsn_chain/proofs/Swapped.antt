@@ -1,5 +1,5 @@
 -- A row that is taken out, with a placeholder in its place, and put in again.
-use Rattle.std.proofs.Common.{◌≡◌, ◌≤◌, ℕ, Bool, true, false, cond, refl, sym, ◌∙◌, ap, subst, Some, List, arith}
+use Rattle.std.proofs.Common.{◌≡◌, ◌≤◌, ℕ, Bool, true, cond, refl, sym, ◌∙◌, ap, subst, Some, List, arith}
 use Rattle.std.specs.Prelude.{is_some, IsSome}
 use Rattle.std.proofs.lemmas.Bool.Decides.{nat_tests}
 use Rattle.std.proofs.lemmas.Cmp.{tied_itself}
@@ -18,8 +18,7 @@ pub one_number : (a b : ℕ) → eq_by_cmp nat_cmp a b ≡ true → a ≡ b
 one_number a b h = grind (arith, nat_tests)
 
 over : {A : Type 0} (b : Bool) (x y z : A) → cond b x (cond b y z) ≡ cond b x z
-over true x y z = refl
-over false x y z = refl
+over b x y z = grind arith
 
 -- the later row counts
 pub insert_twice : {A : Type 0} (t : FinMap nat_cmp A) (n : ℕ) (x y : A) → insert (insert t n x) n y ≡ insert t n y
@@ -28,8 +27,7 @@ insert_twice t n x y =
     (λ q. get-insert nat_cmp_total (insert t n x) n y q ∙ ap (cond (eq_by_cmp nat_cmp q n) (Some y)) (get-insert nat_cmp_total t n x q) ∙ over (eq_by_cmp nat_cmp q n) (Some y) (Some x) (get t q) ∙ sym (get-insert nat_cmp_total t n y q))
 
 same_place : {A : Type 0} (t : FinMap nat_cmp A) (n q : ℕ) (x : A) (b : Bool) → eq_by_cmp nat_cmp q n ≡ b → get t n ≡ Some x → cond b (Some x) (get t q) ≡ get t q
-same_place t n q x true e is = sym is ∙ ap (get t) (sym (one_number q n e))
-same_place t n q x false e is = refl
+same_place t n q x b e is = grind arith
 
 -- a row put over itself
 pub insert_same : {A : Type 0} (t : FinMap nat_cmp A) (n : ℕ) (x : A) → get t n ≡ Some x → insert t n x ≡ t

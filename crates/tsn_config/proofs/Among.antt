@@ -1,5 +1,5 @@
 -- Several parts keep a well kept map well kept just where each of them does, seen with the others.
-use Rattle.std.proofs.Common.{◌≡◌, Bool, true, false, cond, not, List, [], ◌∷◌, ◌&&◌, ◌||◌, refl, sym, ◌∙◌, ap, subst, Option, Some, None}
+use Rattle.std.proofs.Common.{◌≡◌, Bool, true, false, cond, not, List, [], ◌∷◌, ◌&&◌, ◌||◌, refl, sym, ◌∙◌, ap, subst, Option, Some, None, arith}
 use Rattle.std.specs.Prelude.{find, IfSome, IsSome, is_some, is_none, option_map}
 use Rattle.std.specs.List.{AllByRecursion, IsDistinct, list_all}
 use Rattle.std.specs.FinMap.{get, entries, entries_sorted, get-entries, find as find_entry}
@@ -13,11 +13,11 @@ use Rattle.tsn_types.specs.declared.records.Record.{Record}
 use Rattle.tsn_types.specs.declared.limits.Limits.{Limits}
 use Rattle.tsn_types.specs.Keys.{key_cmp, same_key, has, refs}
 use Rattle.tsn_types.specs.InRange.{RecordInRange}
-use Rattle.tsn_types.specs.Limits.{HoldsKey, HoldsRecord, first_cause}
+use Rattle.tsn_types.specs.Limits.{HoldsKey, HoldsRecord}
 use Rattle.tsn_edit.specs.Configuration.{Configuration, IsWellKept}
 use Rattle.tsn_edit.specs.Parts.{Part}
 use Rattle.tsn_edit.specs.Changes.{Fits, Stands, keys_of, put_all}
-use Rattle.tsn_edit.specs.Edits.{is_port, limit_causes}
+use Rattle.tsn_edit.specs.Edits.{is_port}
 use Rattle.tsn_edit.proofs.Inverses.{each_weaker, not_again}
 use Rattle.tsn_edit.proofs.KeyFacts.{after_or, by_bool, by_option, each_part, get-put_all, one_key, part_on, part_on_none, part_on_some, same_itself}
 use Rattle.tsn_types.proofs.Causes.{each_none, unless-None}
@@ -25,7 +25,7 @@ use Rattle.tsn_config.specs.Keeping.{keep_together, keeps_part, keeps_value, ref
 use Rattle.tsn_config.specs.Kinds.{AreOfKinds}
 use Rattle.tsn_config.specs.Ways.{AreInRange}
 use Rattle.tsn_config.proofs.Deciding.{found, no_cause, no_limits, none_of, of_kind, test_holds}
-use Rattle.tsn_config.proofs.Edits.{HoldsKey-from_test, HoldsRecord-from_test, map_none, none_dangling}
+use Rattle.tsn_config.proofs.Edits.{map_none, none_dangling}
 use Rattle.tsn_config.proofs.SetRows.{IsOfKind}
 
 -- a key with no part is none of theirs
@@ -91,15 +91,7 @@ beside_none ks c k h q r off is =
 
 -- the test answers true only for sound values
 pub sound_from : (l : Limits) (ks : List Key) (c d : Configuration) (k : Key) (b v : Option Record) → IfSome v RecordInRange → keeps_value l ks c d k b v ≡ true → IsSound l ks c d k b v
-sound_from l ks c d k b (Some r) ranges h =
-    let limits = each_none (limit_causes l k r) (none_of _ ((and_parts _ _ h).0)) in (
-      ranges,
-      HoldsKey-from_test l k (unless-None _ _ limits.1.0),
-      HoldsRecord-from_test l k r (unless-None _ _ limits.0) limits.1.1.0,
-      none_dangling d (refs r) (none_of _ ((and_parts (is_none (first_cause (limit_causes l k r))) _ h).1)),
-    )
-sound_from l ks c d k None None ranges h = λ some. (cc)
-sound_from l ks c d k (Some s) None ranges h = λ some. ((and_parts _ _ h).0, beside_none ks c k (none_of _ ((and_parts (not (is_port k)) _ h).1)))
+sound_from l ks c d k b v ranges h = grind (arith, each_none, none_of, and_parts, unless-None, none_dangling, beside_none)
 
 module _ (l : Limits) (c : Configuration) (kept : IsWellKept l c) (ps : List Part) where
   at : (q : Key) (p : Part) → part_on q ps ≡ Some p → get (put_all c ps) q ≡ p.after
@@ -197,9 +189,7 @@ module _ (l : Limits) (c : Configuration) (kept : IsWellKept l c) (ps : List Par
   )
 
   pub fits_together : IsDistinct same_key (keys_of ps) → Stands c ps → AreInRange ps → Decides (keep_together l c ps) (Fits l c ps)
-  fits_together distinct stands ranges =
-      let decides = together_decides distinct stands ranges in
-      (λ h. record { distinct = distinct; stands = stands; kept = decides.0 h }, λ f. decides.1 f.kept)
+  fits_together distinct stands ranges = grind (arith, together_decides)
 
   -- the values after of a change that fits are of their keys' kinds
   pub after_kinds : Fits l c ps → AreOfKinds ps

@@ -1,13 +1,12 @@
 -- What no cause refuses has a change that fits, and the causes of several edits, looked at one after another.
-use Rattle.std.proofs.Common.{◌≡◌, true, false, cond, List, [], ◌∷◌, refl, sym, ◌∙◌, ap, subst, Option, Some, None, map}
-use Rattle.std.specs.Prelude.{Bool, nat_lt}
+use Rattle.std.proofs.Common.{◌≡◌, true, false, cond, List, [], ◌∷◌, refl, sym, ◌∙◌, ap, subst, Option, None, map, arith, rules}
 use Rattle.std.specs.FinMap.{get}
 use Rattle.std.specs.List.{AllByRecursion}
 use Rattle.tsn_types.specs.declared.keys.Key.{Key}
 use Rattle.tsn_types.specs.declared.limits.Limits.{Limits}
 use Rattle.tsn_types.specs.declared.refusals.Refusal.{Refusal}
 use Rattle.tsn_types.specs.Keys.{same_key}
-use Rattle.tsn_types.specs.Refusals.{least, lesser, rank_of}
+use Rattle.tsn_types.specs.Refusals.{least, lesser}
 use Rattle.tsn_types.proofs.Causes.{each_none, unless-None}
 use Rattle.tsn_types.proofs.Ordered.{least-append}
 use Rattle.tsn_edit.specs.declared.Edit.{Edit}
@@ -20,21 +19,14 @@ use Rattle.tsn_edit.proofs.InOrder.{distinct_parts, fits_in_order, keys_of-parts
 use Rattle.tsn_edit.proofs.KeyFacts.{get-put}
 use Rattle.tsn_edit.proofs.Ordered.{batch_refusal-first, own_cause}
 use Rattle.tsn_config.proofs.Among.{AreSound, IsSound, beside_none, kept_together}
-use Rattle.tsn_config.proofs.Edits.{HoldsKey-from_test, HoldsRecord-from_test, none_dangling}
+use Rattle.tsn_config.proofs.Edits.{none_dangling}
 
 pub lesser-none : (o : Option Refusal) → lesser o None ≡ o
-lesser-none None = refl
-lesser-none (Some a) = refl
-
-either : (b : Bool) (x y : Refusal) → cond b (Some x) (Some y) ≡ None → ⊥
-either true x y h = absurd (cc)
-either false x y h = absurd (cc)
+lesser-none o = grind arith
 
 -- where the lesser of two is none, both are
 none_lesser : (o p : Option Refusal) → lesser o p ≡ None → (o ≡ None) × (p ≡ None)
-none_lesser None p h = (refl, h)
-none_lesser (Some a) None h = (cc)
-none_lesser (Some a) (Some b) h = absurd (either (nat_lt (rank_of b) (rank_of a)) b a h)
+none_lesser o p h = grind arith
 
 -- one cause more was looked at
 pub one_more : (o p : Option Refusal) (ps : List (Option Refusal)) → lesser (lesser o p) (least ps) ≡ lesser o (least (p ∷ ps))
@@ -42,12 +34,8 @@ one_more o p ps = ap (λ q. lesser (lesser o q) (least ps)) (sym (lesser-none p)
 
 module _ (l : Limits) (c : Configuration) (b : List Edit) where
   sound_put : (e : Edit) → EditInRange e → own_cause l c b e ≡ None → IsSound l (edited_keys b) c (result c b) (key_of e) (get c (key_of e)) (value_of e)
-  sound_put (Create k r) ranges h =
-      let none = each_none (causes l c b (Create k r)) h in
-      (ranges, HoldsKey-from_test l k (unless-None _ _ none.1.0), HoldsRecord-from_test l k r (unless-None _ _ none.0) none.1.1.0, none_dangling (result c b) _ none.1.1.1.1.0)
-  sound_put (Replace k r) ranges h =
-      let none = each_none (causes l c b (Replace k r)) h in
-      (ranges, HoldsKey-from_test l k (unless-None _ _ none.1.0), HoldsRecord-from_test l k r (unless-None _ _ none.0) none.1.1.0, none_dangling (result c b) _ none.1.1.1.1.0)
+  sound_put (Create k r) ranges h = search (rules, each_none, unless-None, none_dangling)
+  sound_put (Replace k r) ranges h = search (rules, each_none, unless-None, none_dangling)
   sound_put (Remove k) ranges h =
       let none = each_none (causes l c b (Remove k)) h in
       λ _. (unless-None _ _ none.0, beside_none (edited_keys b) c k none.1.1.1.0)

@@ -1,17 +1,16 @@
 -- The least filter beside some keys that refers to a key, from what is known of the filters by number.
-use Rattle.std.proofs.Common.{◌≡◌, ℕ, ◌<◌, ◌≤◌, inl, inr, arith, Bool, true, false, cond, not, ◌&&◌, List, [], ◌∷◌, refl, sym, ◌∙◌, ap, Option, Some, None}
+use Rattle.std.proofs.Common.{◌≡◌, ℕ, ◌<◌, ◌≤◌, arith, Bool, true, false, cond, not, ◌&&◌, List, [], ◌∷◌, sym, ◌∙◌, ap, Option, Some, None}
 use Rattle.std.specs.Prelude.{find, option_map}
 use Rattle.std.specs.FinMap.{get, entries, entries_sorted, get-entries, find as find_entry, is_sorted}
 use Rattle.std.specs.FinMap.Entries.{below_all}
 use Rattle.std.specs.Ordering.{is_lt}
-use Rattle.std.proofs.lemmas.Bool.{and_from, and_parts, cases_lt}
+use Rattle.std.proofs.lemmas.Bool.{and_from, and_parts}
 use Rattle.std.proofs.Math.Bool.{and-false}
 use Rattle.tsn_table.proofs.Orders.{less_is, of_T}
 use Rattle.tsn_types.specs.declared.keys.Key.{Key}
-use Rattle.tsn_types.specs.declared.keys.Key.TheVariants.{Port, Filter, Gate, Meter}
+use Rattle.tsn_types.specs.declared.keys.Key.TheVariants.{Filter}
 use Rattle.tsn_types.specs.declared.refusals.Refusal.TheVariants.{Referred}
 use Rattle.tsn_types.specs.declared.records.Record.{Record}
-use Rattle.tsn_types.specs.declared.records.Record.TheVariants.{Port as PortRecord, Gate as GateRecord, Meter as MeterRecord}
 use Rattle.tsn_types.specs.declared.limits.Limits.{Limits}
 use Rattle.tsn_types.specs.Keys.{key_cmp, same_key, has, refs}
 use Rattle.tsn_types.specs.Limits.{HoldsRecord}
@@ -52,11 +51,7 @@ least_found t (x ∷ es) h k r is passes least = by_bool (same_key k x.0)
 
 -- only a filter refers to anything
 owner : (l : Limits) (k q : Key) (r : Record) → HoldsRecord l q r → has (refs r) k ≡ true → (n : ℕ) × (q ≡ Filter n)
-owner l k (Filter n) r h is = (n, refl)
-owner l k (Port n) (PortRecord r) h is = (cc)
-owner l k (Gate n) (GateRecord r) h is = (cc)
-owner l k (Meter n) (MeterRecord r) h is = (cc)
-owner l k q r h is = absurd h
+owner l k q r h is = grind arith
 
 module _ (l : Limits) (c : Configuration) (kept : IsWellKept l c) (ks : List Key) (k : Key) where
   abbrev passes : Key × Record → Bool
@@ -79,8 +74,7 @@ module _ (l : Limits) (c : Configuration) (kept : IsWellKept l c) (ks : List Key
       let never : true ≡ false = sym at_e.0 ∙ fails e.0 e.1 (get-entries c e.0 ∙ at_e.1) (λ n _ h. on n h) in (cc))
 
   refers_by : (v : Option Record) → refers v k ≡ true → (r : Record) × (v ≡ Some r) × (has (refs r) k ≡ true)
-  refers_by None h = (cc)
-  refers_by (Some r) h = (r, refl, h)
+  refers_by v h = grind arith
 
   -- the filter refers to the key and is none of these, and every lesser one that refers to it is
   pub one_beside : (n : ℕ) → refers (get c (Filter n)) k ≡ true → has ks (Filter n) ≡ false → ((m : ℕ) → m < n → refers (get c (Filter m)) k ≡ true → has ks (Filter m) ≡ true) → referrer_beside ks c k ≡ Some (Referred (Filter n))
@@ -96,15 +90,7 @@ module _ (c : Configuration) (ks : List Key) (k : Key) where
   AreOn from = (n : ℕ) → n < from → refers (get c (Filter n)) k ≡ true → has ks (Filter n) ≡ true
 
   pub below_next : (from next : ℕ) → AreOn from → ((n : ℕ) → from ≤ n → refers (get c (Filter n)) k ≡ true → next ≤ n) → AreOn next
-  below_next from next below least n lt h =
-      elim (cases_lt n from) [
-        | inl lt' ↦ below n lt' h
-        | inr le ↦ let no = least n le h in absurd (omega arith)
-      ]
+  below_next from next below least n lt h = grind arith
 
   pub none_left : (from : ℕ) → AreOn from → ((n : ℕ) → from ≤ n → refers (get c (Filter n)) k ≡ true → ⊥) → (n : ℕ) → refers (get c (Filter n)) k ≡ true → has ks (Filter n) ≡ true
-  none_left from below least n h =
-      elim (cases_lt n from) [
-        | inl lt ↦ below n lt h
-        | inr le ↦ absurd (least n le h)
-      ]
+  none_left from below least n h = grind arith

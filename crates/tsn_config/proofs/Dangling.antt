@@ -36,12 +36,10 @@ abbrev causes_of : Configuration → List (Key × Record) → Option Refusal
 causes_of c es = first_cause (map (λ e. dangling c e.1) es)
 
 some_or : {A : Type 0} (o p : Option A) → is_some o ≡ true → option_or o p ≡ o
-some_or None p h = (cc)
-some_or (Some x) p h = refl
+some_or o p h = grind arith
 
 none_or : {A : Type 0} (o p : Option A) → is_some o ≡ false → option_or o p ≡ p
-none_or None p h = refl
-none_or (Some x) p h = (cc)
+none_or o p h = grind arith
 
 equal_itself : (n m : ℕ) → m ≡ n → eq_by_cmp nat_cmp n m ≡ true
 equal_itself n m h = grind (arith, nat_tests)
@@ -49,13 +47,9 @@ equal_itself n m h = grind (arith, nat_tests)
 equal_one : (n m : ℕ) → eq_by_cmp nat_cmp n m ≡ true → m ≡ n
 equal_one n m h = grind (arith, nat_tests)
 
-not_below : (n m : ℕ) → is_lt (nat_cmp n m) ≡ true → eq_by_cmp nat_cmp n m ≡ false
-not_below n m h = grind (arith, nat_tests)
-
 find_above : {A : Type 0} (n : ℕ) (es : List (ℕ × A)) → below_all nat_cmp n es ≡ true → find nat_cmp n es ≡ None
 find_above n [] h = refl
-find_above n (e ∷ es) h =
-    ap (λ b. cond b (Some e.1) (find nat_cmp n es)) (not_below n e.0 ((and_parts _ _ h).0)) ∙ find_above n es ((and_parts (is_lt (nat_cmp n e.0)) _ h).1)
+find_above n (e ∷ es) h = grind (arith, (find_above n es ((and_parts (is_lt (nat_cmp n e.0)) _ h).1)))
 
 -- a row that a test finds is there
 first_some : {A : Type 0} (p : A → Bool) (es : List (ℕ × A)) (n : ℕ) → first_id p es ≡ Some n → is_some (find nat_cmp n es) ≡ true

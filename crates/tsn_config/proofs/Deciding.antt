@@ -4,12 +4,9 @@ use Rattle.std.specs.Prelude.{find, IfSome, IsSome, is_some, is_none, option_map
 use Rattle.std.specs.List.{IsDistinct}
 use Rattle.std.specs.FinMap.{get, entries, entries_sorted, get-entries, find as find_entry, is_sorted}
 use Rattle.std.specs.FinMap.Entries.{below_all}
-use Rattle.std.specs.Ordering.{is_lt, is_eq}
+use Rattle.std.specs.Ordering.{is_lt}
 use Rattle.std.specs.Bool.{Decides}
-use Rattle.std.specs.declared.cmp.Ordering.{Ordering}
-use Rattle.std.specs.declared.cmp.Ordering.TheVariants.{Less, Equal, Greater}
-use Rattle.std.proofs.lemmas.Bool.{and_from, and_parts, or_left, or_right, le-leb}
-use Rattle.std.proofs.lemmas.Bool.Decides.{nat_tests}
+use Rattle.std.proofs.lemmas.Bool.{and_from, and_parts, or_right, le-leb}
 use Rattle.tsn_table.proofs.Orders.{of_T}
 use Rattle.tsn_types.specs.declared.keys.Key.{Key}
 use Rattle.tsn_types.specs.declared.keys.Key.TheVariants.{Port, Filter, Gate, Meter}
@@ -18,7 +15,7 @@ use Rattle.tsn_types.specs.declared.refusals.Refusal.TheVariants.{Dangling, Refe
 use Rattle.tsn_types.specs.declared.records.Record.{Record}
 use Rattle.tsn_types.specs.declared.records.Record.TheVariants.{Port as PortRecord, Filter as FilterRecord, Gate as GateRecord, Meter as MeterRecord}
 use Rattle.tsn_types.specs.declared.limits.Limits.{Limits}
-use Rattle.tsn_types.specs.Keys.{key_cmp, same_key, has, refs, meter_ref}
+use Rattle.tsn_types.specs.Keys.{key_cmp, same_key, has, refs}
 use Rattle.tsn_types.specs.InRange.{RecordInRange}
 use Rattle.tsn_types.specs.Numbers.{IsInstanceId}
 use Rattle.tsn_types.specs.Limits.{HoldsKey, HoldsRecord, unless, first_cause, holds_key, out_of_limits, field_of}
@@ -26,7 +23,7 @@ use Rattle.tsn_edit.specs.Configuration.{Configuration, put, IsWellKept}
 use Rattle.tsn_edit.specs.Parts.{Part}
 use Rattle.tsn_edit.specs.Changes.{Fits}
 use Rattle.tsn_edit.proofs.KeyFacts.{by_bool, by_option, get-put, one_key, same_itself, same_configuration}
-use Rattle.tsn_edit.specs.Edits.{is_of_kind, is_port, referrer, limit_causes}
+use Rattle.tsn_edit.specs.Edits.{is_of_kind, is_port, referrer}
 use Rattle.tsn_types.proofs.Causes.{each_none, unless-None, unless-true}
 use Rattle.tsn_config.specs.Keeping.{keeps}
 use Rattle.tsn_config.proofs.Edits.{fits_put, remove_kept, none_refers, map_none}
@@ -36,52 +33,26 @@ pub limits_hold : (l : Limits) (c : Configuration) (k : Key) (r : Record) → Is
 limits_hold l c k r kept = kept.within k r (get-put c k (Some r) k ∙ ap (λ b. cond b (Some r) (get c k)) (same_itself k))
 
 pub none_of : {A : Type 0} (o : Option A) → is_none o ≡ true → o ≡ None
-none_of None h = refl
-none_of (Some x) h = (cc)
+none_of o h = grind arith
 
 -- no cause where each test holds
 pub no_cause : (test : Key → Bool) (why : Key → Refusal) (ks : List Key) → ((q : Key) → has ks q ≡ true → test q ≡ true) → first_cause (map (λ q. unless (test q) (why q)) ks) ≡ None
 no_cause test why [] h = refl
-no_cause test why (k ∷ ks) h =
-    rw (unless-true (test k) (why k) (h k (or_left (same_key k k) _ (same_itself k)))) (no_cause test why ks (λ q is. h q (or_right (same_key q k) _ is)))
+no_cause test why (k ∷ ks) h = grind (arith, (no_cause test why ks (λ q is. h q (or_right (same_key q k) _ is))))
 
 pub test_holds : (l : Limits) (k : Key) → HoldsKey l k → holds_key l k ≡ true
-test_holds l (Port n) h = let a = h.0 in let b = h.1 in grind (arith, nat_tests)
-test_holds l (Filter n) h = grind (arith, nat_tests)
-test_holds l (Gate n) h = grind (arith, nat_tests)
-test_holds l (Meter n) h = grind (arith, nat_tests)
+test_holds l k h = grind arith
 
 pub of_kind : (l : Limits) (k : Key) (r : Record) → HoldsRecord l k r → is_of_kind k r ≡ true
-of_kind l (Port n) (PortRecord r) h = refl
-of_kind l (Filter n) (FilterRecord r) h = refl
-of_kind l (Gate n) (GateRecord r) h = refl
-of_kind l (Meter n) (MeterRecord r) h = refl
-of_kind l k r h = absurd h
-
-no_filter : (g : ℕ) (m : Option ℕ) (n : ℕ) → has (Gate g ∷ meter_ref m) (Filter n) ≡ true → ⊥
-no_filter g None n h = absurd (cc)
-no_filter g (Some m) n h = absurd (cc)
+of_kind l k r h = grind arith
 
 -- no record refers to a key of its own kind
 refs_other : (l : Limits) (k : Key) (r : Record) → HoldsRecord l k r → (q : Key) → has (refs r) q ≡ true → same_key q k ≡ false
-refs_other l (Port n) (PortRecord r) h q is = (cc)
-refs_other l (Filter n) (FilterRecord r) h (Port m) is = refl
-refs_other l (Filter n) (FilterRecord r) h (Filter m) is = absurd (no_filter r.gate r.meter m is)
-refs_other l (Filter n) (FilterRecord r) h (Gate m) is = refl
-refs_other l (Filter n) (FilterRecord r) h (Meter m) is = refl
-refs_other l (Gate n) (GateRecord r) h q is = (cc)
-refs_other l (Meter n) (MeterRecord r) h q is = (cc)
-refs_other l k r h q is = absurd h
-
-not_equal : (o : Ordering) → is_lt o ≡ true → is_eq o ≡ false
-not_equal Less h = refl
-not_equal Equal h = (cc)
-not_equal Greater h = refl
+refs_other l k r h q is = grind arith
 
 pub find_above : (k : Key) (es : List (Key × Record)) → below_all key_cmp k es ≡ true → find_entry key_cmp k es ≡ None
 find_above k [] h = refl
-find_above k (e ∷ es) h =
-    ap (λ b. cond b (Some e.1) (find_entry key_cmp k es)) (not_equal (key_cmp k e.0) ((and_parts _ _ h).0)) ∙ find_above k es ((and_parts (is_lt (key_cmp k e.0)) _ h).1)
+find_above k (e ∷ es) h = grind (arith, (find_above k es ((and_parts (is_lt (key_cmp k e.0)) _ h).1)))
 
 -- what a test finds in a sorted list passes it, and stands at its key
 pub found : (p : Key × Record → Bool) (es : List (Key × Record)) → is_sorted key_cmp es ≡ true → (e : Key × Record) → find p es ≡ Some e → (p e ≡ true) × (find_entry key_cmp e.0 es ≡ Some e.1)
@@ -145,9 +116,7 @@ module _ (l : Limits) (c : Configuration) (kept : IsWellKept l c) where
       rw (of_kind l k r h.1, test_holds l k h.0, no_limits k r h.1 refs_there, no_cause (λ q. is_some (get c q)) Dangling (refs r) refs_there) refl
 
   put_keeps : (k : Key) (b : Option Record) (r : Record) → RecordInRange r → keeps l c k b (Some r) ≡ true → IsWellKept l (put c k (Some r))
-  put_keeps k b r ranges h =
-      let limits = each_none (limit_causes l k r) (none_of _ ((and_parts _ _ h).0)) in
-      fits_put l c kept k r ranges (unless-None _ _ limits.0) (unless-None _ _ limits.1.0) limits.1.1.0 (none_of _ ((and_parts (is_none (first_cause (limit_causes l k r))) _ h).1))
+  put_keeps k b r ranges h = grind (arith, each_none, none_of, and_parts, fits_put, unless-None)
 
   gone : (k : Key) → get (put c k None) k ≡ None
   gone k = get-put c k None k ∙ ap (λ b. cond b None (get c k)) (same_itself k)

@@ -1,12 +1,10 @@
 -- One key with a value or none: what keeps a well kept map well kept, and what the tests of limits and references come to.
-use Rattle.std.proofs.Common.{◌≡◌, ℕ, ◌≤◌, true, false, cond, ◌||◌, not, List, [], ◌∷◌, refl, sym, ◌∙◌, ap, subst, Option, Some, None, map, arith, length}
-use Rattle.std.specs.Prelude.{find, IsSome, is_some, nat_le, option_map}
+use Rattle.std.proofs.Common.{◌≡◌, ℕ, true, false, cond, ◌||◌, not, List, [], ◌∷◌, refl, sym, ◌∙◌, ap, subst, Option, Some, None, map, arith, rules}
+use Rattle.std.specs.Prelude.{find, IsSome, is_some, option_map}
 use Rattle.std.specs.FinMap.{get, find as find_entry}
-use Rattle.std.proofs.lemmas.Bool.Decides.{nat_tests}
 use Rattle.tsn_types.specs.declared.keys.Key.{Key}
-use Rattle.tsn_types.specs.declared.keys.Key.TheVariants.{Port, Filter, Gate, Meter}
+use Rattle.tsn_types.specs.declared.keys.Key.TheVariants.{Port}
 use Rattle.tsn_types.specs.declared.records.Record.{Record}
-use Rattle.tsn_types.specs.declared.records.Record.TheVariants.{Port as PortRecord, Filter as FilterRecord, Gate as GateRecord, Meter as MeterRecord}
 use Rattle.tsn_types.specs.declared.limits.Limits.{Limits}
 use Rattle.tsn_types.specs.declared.refusals.Refusal.TheVariants.{Dangling}
 use Rattle.tsn_types.specs.InRange.{RecordInRange}
@@ -18,20 +16,10 @@ use Rattle.tsn_edit.proofs.KeyFacts.{by_bool, get-put, one_key}
 use Rattle.tsn_types.proofs.Causes.{option_or_parts, unless-None}
 
 pub HoldsKey-from_test : (l : Limits) (k : Key) → holds_key l k ≡ true → HoldsKey l k
-HoldsKey-from_test l (Port n) h = grind (arith, nat_tests)
-HoldsKey-from_test l (Filter n) h = grind (arith, nat_tests)
-HoldsKey-from_test l (Gate n) h = grind (arith, nat_tests)
-HoldsKey-from_test l (Meter n) h = grind (arith, nat_tests)
-
-list_fits : (l : Limits) (n : ℕ) → nat_le n l.list ≡ true → n ≤ l.list
-list_fits l n h = grind (arith, nat_tests)
+HoldsKey-from_test l k h = grind arith
 
 pub HoldsRecord-from_test : (l : Limits) (k : Key) (r : Record) → is_of_kind k r ≡ true → out_of_limits l r ≡ None → HoldsRecord l k r
-HoldsRecord-from_test l (Port n) (PortRecord r) h o = list_fits l (length r.admin.list) (unless-None _ _ o)
-HoldsRecord-from_test l (Filter n) (FilterRecord r) h o = tt
-HoldsRecord-from_test l (Gate n) (GateRecord r) h o = list_fits l (length r.admin.list) (unless-None _ _ o)
-HoldsRecord-from_test l (Meter n) (MeterRecord r) h o = tt
-HoldsRecord-from_test l k r h o = (cc)
+HoldsRecord-from_test l k r h o = grind arith
 
 pub none_dangling : (c : Configuration) (ks : List Key) → first_cause (map (λ q. unless (is_some (get c q)) (Dangling q)) ks) ≡ None → (q : Key) → has ks q ≡ true → IsSome (get c q)
 none_dangling c [] h q in' = (cc)
@@ -42,8 +30,7 @@ none_dangling c (k ∷ ks) h q in' =
     ] refl in'
 
 pub map_none : {A B : Type 0} (f : A → B) (o : Option A) → option_map f o ≡ None → o ≡ None
-map_none f None h = refl
-map_none f (Some x) h = (cc)
+map_none f o h = grind arith
 
 pub none_refers : (k : Key) (es : List (Key × Record)) → find (λ e. has (refs e.1) k) es ≡ None → (q : Key) (r : Record) → find_entry key_cmp q es ≡ Some r → has (refs r) k ≡ false
 none_refers k [] h q r is = (cc)
@@ -88,10 +75,7 @@ module _ (l : Limits) (c : Configuration) (kept : IsWellKept l c) where
   stays k q other h = ap is_some (get-put c k None q ∙ ap (λ b. cond b None (get c q)) other) ∙ h
 
   not_port : (k : Key) (n : ℕ) → not (is_port k) ≡ true → same_key (Port n) k ≡ false
-  not_port (Port m) n h = (cc)
-  not_port (Filter m) n h = refl
-  not_port (Gate m) n h = refl
-  not_port (Meter m) n h = refl
+  not_port k n h = grind arith
 
   pub remove_kept : (k : Key) → not (is_port k) ≡ true → ((q : Key) (r : Record) → get c q ≡ Some r → has (refs r) k ≡ false) → IsWellKept l (put c k None)
   remove_kept k no_port free = record {
@@ -105,5 +89,4 @@ module _ (l : Limits) (c : Configuration) (kept : IsWellKept l c) where
   }
 
   pub fits_put : (k : Key) (r : Record) → RecordInRange r → is_of_kind k r ≡ true → holds_key l k ≡ true → out_of_limits l r ≡ None → dangling c r ≡ None → IsWellKept l (put c k (Some r))
-  fits_put k r ranges kind in_limits fields there =
-      put_kept k r ranges (HoldsKey-from_test l k in_limits) (HoldsRecord-from_test l k r kind fields) (none_dangling c (refs r) there)
+  fits_put k r ranges kind in_limits fields there = search (rules, put_kept, HoldsKey-from_test, HoldsRecord-from_test, none_dangling)

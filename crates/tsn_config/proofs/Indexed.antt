@@ -1,6 +1,6 @@
 -- An index after a filter is set, and the least filter that an index tells.
-use Rattle.std.proofs.Common.{◌≡◌, inl, inr, ℕ, ◌+◌, ◌*◌, ◌/◌, ◌%◌, ◌<◌, ◌≤◌, nat_eq, Bool, true, false, cond, List, [], ◌∷◌, refl, sym, ◌∙◌, ap, subst, Option, Some, None, arith, IsSome}
-use Rattle.std.specs.Prelude.{◌≢◌, is_some, IfSome, MatchOption, ◌&&◌}
+use Rattle.std.proofs.Common.{◌≡◌, ℕ, ◌+◌, ◌*◌, ◌/◌, ◌%◌, ◌<◌, ◌≤◌, nat_eq, Bool, true, false, cond, List, [], ◌∷◌, refl, sym, ◌∙◌, ap, Option, Some, None, arith, IsSome}
+use Rattle.std.specs.Prelude.{◌≢◌, is_some, IfSome, MatchOption}
 use Rattle.std.specs.Option.{option_eq}
 use lib.Dec.{eqb}
 use Rattle.std.specs.Ordering.{nat_cmp, eq_by_cmp}
@@ -8,11 +8,10 @@ use Rattle.std.specs.Cmp.{nat_cmp_total}
 use Rattle.std.specs.FinMap.{FinMap, empty, get, get-empty, insert, remove, entries, entries_sorted, get-entries, get-insert, get-remove, find}
 use Rattle.std.proofs.lemmas.Bool.{cases_eq}
 use Rattle.std.proofs.lemmas.Bool.Decides.{nat_tests}
-use Rattle.std.proofs.lemmas.Option.{same_Some}
 use Rattle.tsn_table.proofs.Orders.{of_T}
 use Rattle.tsn_table.proofs.Rows.{itself}
 use Rattle.tsn_types.specs.declared.keys.Key.{Key}
-use Rattle.tsn_types.specs.declared.keys.Key.TheVariants.{Port, Filter, Gate, Meter}
+use Rattle.tsn_types.specs.declared.keys.Key.TheVariants.{Gate, Meter}
 use Rattle.tsn_types.specs.declared.records.Record.TheVariants.{Filter as FilterRecord}
 use Rattle.tsn_types.specs.declared.records.StreamFilter.{StreamFilter}
 use Rattle.tsn_types.specs.Keys.{has, meter_ref, refs}
@@ -20,7 +19,7 @@ use Rattle.tsn_table.specs.Firsts.{first_id}
 use Rattle.tsn_table.proofs.Firsts.{MissesIn, first_is}
 use Rattle.tsn_edit.proofs.KeyFacts.{by_bool}
 use Rattle.tsn_config.specs.Indexes.{about_at, is_the, Indexes, IsIndexed, left, entered, AreSmall, AreNarrow, gate_about, meter_about, match_about, specified, specification}
-use Rattle.tsn_config.specs.Filters.{is_just, specifies}
+use Rattle.tsn_config.specs.Filters.{specifies}
 use Rattle.tsn_config.specs.Views.{set_row}
 
 another : (q k : ℕ) → (q ≡ k → ⊥) → eq_by_cmp nat_cmp q k ≡ false
@@ -31,9 +30,6 @@ equal_is a b e = grind (arith, nat_tests)
 
 unequal_is : (a b : ℕ) → (a ≡ b → ⊥) → nat_eq a b ≡ false
 unequal_is a b no_same = grind (arith, nat_tests)
-
-is_equal_to : (a b : ℕ) → nat_eq a b ≡ true → a ≡ b
-is_equal_to a b h = grind (arith, nat_tests)
 
 module _ {X : Type 0} (m : FinMap nat_cmp X) where
   inserted : (k : ℕ) (v : X) → get (insert m k v) k ≡ Some v
@@ -49,38 +45,24 @@ module _ {X : Type 0} (m : FinMap nat_cmp X) where
   beside_removed q k no_same = get-remove nat_cmp_total m k q ∙ ap (λ b. cond b None (get m q)) (another q k no_same)
 
   set_there : (k : ℕ) (v : Option X) → get (set_row m k v) k ≡ v
-  set_there k None = removed k
-  set_there k (Some v) = inserted k v
+  set_there k v = grind (arith, removed, inserted)
 
   beside_set : (q k : ℕ) (v : Option X) → (q ≡ k → ⊥) → get (set_row m k v) q ≡ get m q
-  beside_set q k None no_same = beside_removed q k no_same
-  beside_set q k (Some v) no_same = beside_inserted q k v no_same
+  beside_set q k v no_same = grind (arith, beside_removed, beside_inserted)
 
 -- the rows of other filters stay
 beside_left : (index : FinMap nat_cmp (Unit {0})) (n c : ℕ) (about : Option ℕ) → n < 65536 → (c % 65536 ≡ n → ⊥) → get (left index n about) c ≡ get index c
-beside_left index n c None l no_same = refl
-beside_left index n c (Some q) l no_same = beside_removed index c (q * 65536 + n) (λ e. no_same (omega arith))
+beside_left index n c about l no_same = grind (arith, beside_removed)
 
 beside_entered : (index : FinMap nat_cmp (Unit {0})) (n c : ℕ) (about : Option ℕ) → n < 65536 → (c % 65536 ≡ n → ⊥) → get (entered index n about) c ≡ get index c
-beside_entered index n c None l no_same = refl
-beside_entered index n c (Some q) l no_same = beside_inserted index c (q * 65536 + n) tt (λ e. no_same (omega arith))
+beside_entered index n c about l no_same = grind (arith, beside_inserted)
 
 -- no row of the filter is left
 left_at : (index : FinMap nat_cmp (Unit {0})) (n c : ℕ) (about : Option ℕ) → n < 65536 → c % 65536 ≡ n → is_some (get index c) ≡ is_the (c / 65536) about → is_some (get (left index n about) c) ≡ false
-left_at index n c None l same h = h
-left_at index n c (Some q) l same h =
-    elim (cases_eq c (q * 65536 + n)) [
-      | inl e ↦ ap (λ k. is_some (get (remove index (q * 65536 + n)) k)) e ∙ ap is_some (removed index (q * 65536 + n))
-      | inr no_same ↦ ap is_some (beside_removed index c (q * 65536 + n) no_same) ∙ h ∙ unequal_is q (c / 65536) (λ e. no_same (omega arith))
-    ]
+left_at index n c about l same h = grind (arith, cases_eq, removed, beside_removed, unequal_is)
 
 entered_at : (index : FinMap nat_cmp (Unit {0})) (n c : ℕ) (about : Option ℕ) → n < 65536 → c % 65536 ≡ n → is_some (get index c) ≡ false → is_some (get (entered index n about) c) ≡ is_the (c / 65536) about
-entered_at index n c None l same h = h
-entered_at index n c (Some q) l same h =
-    elim (cases_eq c (q * 65536 + n)) [
-      | inl e ↦ ap (λ k. is_some (get (insert index (q * 65536 + n) tt) k)) e ∙ ap is_some (inserted index (q * 65536 + n) tt) ∙ sym (equal_is q (c / 65536) (omega arith))
-      | inr no_same ↦ ap is_some (beside_inserted index c (q * 65536 + n) tt no_same) ∙ h ∙ sym (unequal_is q (c / 65536) (λ e. no_same (omega arith)))
-    ]
+entered_at index n c about l same h = grind (arith, cases_eq, inserted, equal_is, beside_inserted, unequal_is)
 
 module _ (about : StreamFilter → Option ℕ) (fs : FinMap nat_cmp StreamFilter) (n : ℕ) (before after : Option ℕ) (value : Option StreamFilter)
     (is_before : before ≡ about_at about (get fs n)) (is_after : after ≡ about_at about value) where
@@ -95,18 +77,10 @@ module _ (about : StreamFilter → Option ℕ) (fs : FinMap nat_cmp StreamFilter
   was c same = ap (is_the (c / 65536)) (ap (λ k. about_at about (get fs k)) same ∙ sym is_before)
 
   pub moved : (index : FinMap nat_cmp (Unit {0})) → n < 65536 → Indexes about fs index → Indexes about (set_row fs n value) (entered (left index n before) n after)
-  moved index l h c =
-      elim (cases_eq (c % 65536) n) [
-        | inl same ↦ entered_at (left index n before) n c after l same (left_at index n c before l same (h c ∙ was c same)) ∙ here c same
-        | inr no_same ↦ ap is_some (beside_entered (left index n before) n c after l no_same ∙ beside_left index n c before l no_same) ∙ h c ∙ elsewhere c no_same
-      ]
+  moved index l h c = grind (arith, cases_eq, entered_at, left_at, was, here, beside_entered, beside_left, elsewhere)
 
   pub unmoved : (index : FinMap nat_cmp (Unit {0})) → before ≡ after → Indexes about fs index → Indexes about (set_row fs n value) index
-  unmoved index alike h c =
-      elim (cases_eq (c % 65536) n) [
-        | inl same ↦ h c ∙ was c same ∙ ap (is_the (c / 65536)) alike ∙ here c same
-        | inr no_same ↦ h c ∙ elsewhere c no_same
-      ]
+  unmoved index alike h c = grind (arith, cases_eq, was, here, elsewhere)
 
 -- the first row from those of a number on
 abbrev pub Told : FinMap nat_cmp (Unit {0}) → ℕ → Option ℕ → Type 0
@@ -116,15 +90,7 @@ Told index q o = (c : ℕ) → q * 65536 ≤ c → IsSome (get index c) → Matc
 module _ (about : StreamFilter → Option ℕ) (fs : FinMap nat_cmp StreamFilter) (p : StreamFilter → Bool) (index : FinMap nat_cmp (Unit {0})) (q : ℕ)
     (indexes : Indexes about fs index) (small : AreSmall fs) (tests : (n : ℕ) (r : StreamFilter) → get fs n ≡ Some r → p r ≡ is_the q (about r)) where
   row_there : (n : ℕ) (r : StreamFilter) → get fs n ≡ Some r → p r ≡ true → IsSome (get index (q * 65536 + n))
-  row_there n r is passes =
-      let l : n < 65536 = small n (ap is_some is) in
-      let number : (q * 65536 + n) % 65536 ≡ n = omega arith in
-      let what : (q * 65536 + n) / 65536 ≡ q = omega arith in
-      indexes (q * 65536 + n)
-      ∙ ap (λ k. is_the k (about_at about (get fs ((q * 65536 + n) % 65536)))) what
-      ∙ ap (λ k. is_the q (about_at about (get fs k))) number
-      ∙ ap (λ o. is_the q (about_at about o)) is
-      ∙ sym (tests n r is) ∙ passes
+  row_there n r is passes = grind arith
 
   -- a filter with no row does not pass
   misses : (n : ℕ) → (IsSome (get index (q * 65536 + n)) → ⊥) → MissesIn p n (entries fs)
@@ -151,15 +117,11 @@ module _ (about : StreamFilter → Option ℕ) (fs : FinMap nat_cmp StreamFilter
 
   -- the same by what is told of the filter of that row
   pub least_own : (c : ℕ) → q * 65536 ≤ c → IsSome (get index c) → Told index q (Some c) → (o : Option ℕ) → MatchOption o (c / 65536 ≢ q) (λ n. (c / 65536 ≡ q) × (n ≡ c % 65536)) → o ≡ first_id p (entries fs)
-  least_own c from there told None other = least_other c from other told
-  least_own c from there told (Some n) own = ap Some own.1 ∙ least_some c from there own.0 told
+  least_own c from there told o other = grind (arith, least_other, least_some)
 
 -- equal options of numbers are one
 pub same_options : (o r : Option ℕ) → option_eq eqb o r ≡ true → o ≡ r
-same_options None None h = refl
-same_options None (Some m) h = absurd (cc)
-same_options (Some n) None h = absurd (cc)
-same_options (Some n) (Some m) h = ap Some (is_equal_to n m h)
+same_options o r h = grind arith
 
 -- with no filter there is no row
 indexes_none : (about : StreamFilter → Option ℕ) (fs : FinMap nat_cmp StreamFilter) (index : FinMap nat_cmp (Unit {0})) → fs ≡ empty → index ≡ empty → Indexes about fs index
@@ -171,42 +133,25 @@ no_value : (fs : FinMap nat_cmp StreamFilter) (n : ℕ) → fs ≡ empty → get
 no_value fs n none = ap (λ (m : FinMap nat_cmp StreamFilter). get m n) none ∙ get-empty nat_cmp n
 
 pub none_indexed : (fs : FinMap nat_cmp StreamFilter) (gates meters matches : FinMap nat_cmp (Unit {0})) → fs ≡ empty → gates ≡ empty → meters ≡ empty → matches ≡ empty → IsIndexed fs gates meters matches
-none_indexed fs gates meters matches none g m s = record {
-  small = λ n there. let no = no_value fs n none in absurd (cc);
-  narrow = λ n r is. let no = no_value fs n none in absurd (cc);
-  gates = indexes_none gate_about fs gates none g;
-  meters = indexes_none meter_about fs meters none m;
-  matches = indexes_none match_about fs matches none s;
-}
+none_indexed fs gates meters matches none g m s = grind (arith, no_value, indexes_none)
 
 -- the numbers of filters and of their priorities, once one is set
 module _ (fs : FinMap nat_cmp StreamFilter) (n : ℕ) (value : Option StreamFilter) where
   pub still_small : n < 65536 → AreSmall fs → AreSmall (set_row fs n value)
-  still_small l small k there =
-      elim (cases_eq k n) [
-        | inl same ↦ omega arith
-        | inr no_same ↦ small k (ap is_some (sym (beside_set fs k n value no_same)) ∙ there)
-      ]
+  still_small l small k there = grind (arith, cases_eq, beside_set)
 
   narrow_value : (o : Option StreamFilter) (r : StreamFilter) → IfSome o (λ q. specified q.priority < 16) → o ≡ Some r → specified r.priority < 16
-  narrow_value None r h is = absurd (cc)
-  narrow_value (Some q) r h is = subst (λ (q : StreamFilter). specified q.priority < 16) (same_Some q r is) h
+  narrow_value o r h is = grind arith
 
   pub still_narrow : IfSome value (λ r. specified r.priority < 16) → AreNarrow fs → AreNarrow (set_row fs n value)
-  still_narrow h narrow k r is =
-      elim (cases_eq k n) [
-        | inl same ↦ narrow_value value r h (sym (set_there fs n value) ∙ ap (get (set_row fs n value)) (sym same) ∙ is)
-        | inr no_same ↦ narrow k r (sym (beside_set fs k n value no_same) ∙ is)
-      ]
+  still_narrow h narrow k r is = grind (arith, cases_eq, narrow_value, set_there, beside_set)
 
 -- a filter refers to a gate or a meter where it is about it
 gate_in : (q g : ℕ) (m : Option ℕ) → has (Gate g ∷ meter_ref m) (Gate q) ≡ nat_eq g q
-gate_in q g None = grind (arith, nat_tests)
-gate_in q g (Some m) = grind (arith, nat_tests)
+gate_in q g m = grind arith
 
 meter_in : (q g : ℕ) (m : Option ℕ) → has (Gate g ∷ meter_ref m) (Meter q) ≡ is_the q m
-meter_in q g None = refl
-meter_in q g (Some m) = grind (arith, nat_tests)
+meter_in q g m = grind arith
 
 pub refers_to_gate : (q : ℕ) (r : StreamFilter) → has (refs (FilterRecord r)) (Gate q) ≡ is_the q (gate_about r)
 refers_to_gate q r = gate_in q r.gate r.meter
@@ -214,42 +159,13 @@ refers_to_gate q r = gate_in q r.gate r.meter
 pub refers_to_meter : (q : ℕ) (r : StreamFilter) → has (refs (FilterRecord r)) (Meter q) ≡ is_the q (meter_about r)
 refers_to_meter q r = meter_in q r.gate r.meter
 
-no_port_in : (q g : ℕ) (m : Option ℕ) → has (Gate g ∷ meter_ref m) (Port q) ≡ false
-no_port_in q g None = refl
-no_port_in q g (Some m) = refl
-
-no_filter_in : (q g : ℕ) (m : Option ℕ) → has (Gate g ∷ meter_ref m) (Filter q) ≡ false
-no_filter_in q g None = refl
-no_filter_in q g (Some m) = refl
-
 pub no_first : (p : StreamFilter → Bool) (es : List (ℕ × StreamFilter)) → ((r : StreamFilter) → p r ≡ false) → None ≡ first_id p es
 no_first p [] never = refl
 no_first p (e ∷ es) never = no_first p es never ∙ ap (λ b. cond b (Some e.0) (first_id p es)) (sym (never e.1))
 
 pub never_referred : (k : Key) → ((n : ℕ) → k ≡ Gate n → ⊥) → ((n : ℕ) → k ≡ Meter n → ⊥) → (r : StreamFilter) → has (refs (FilterRecord r)) k ≡ false
-never_referred (Port n) no_gate no_meter r = no_port_in n r.gate r.meter
-never_referred (Filter n) no_gate no_meter r = no_filter_in n r.gate r.meter
-never_referred (Gate n) no_gate no_meter r = absurd (no_gate n refl)
-never_referred (Meter n) no_gate no_meter r = absurd (no_meter n refl)
-
--- specifications are these two where their number is
-just_alike : (o r : Option ℕ) → is_just o r ≡ nat_eq (specified r) (specified o)
-just_alike None None = refl
-just_alike None (Some m) = grind (arith, nat_tests)
-just_alike (Some n) None = grind (arith, nat_tests)
-just_alike (Some n) (Some m) = grind (arith, nat_tests)
-
-both_alike : (a b c d : ℕ) → b < 16 → d < 16 → (nat_eq a c && nat_eq b d) ≡ nat_eq (a * 16 + b) (c * 16 + d)
-both_alike a b c d l m =
-    elim (cases_eq a c) [
-      | inl same ↦ elim (cases_eq b d) [
-        | inl same' ↦ rw (equal_is a c same, equal_is b d same') (sym (equal_is (a * 16 + b) (c * 16 + d) (omega arith)))
-        | inr other ↦ rw (equal_is a c same, unequal_is b d other) (sym (unequal_is (a * 16 + b) (c * 16 + d) (λ e. other (omega arith))))
-      ]
-      | inr other ↦ rw (unequal_is a c other) (sym (unequal_is (a * 16 + b) (c * 16 + d) (λ e. other (omega arith))))
-    ]
+never_referred k no_gate no_meter r = grind arith
 
 pub specifies_alike : (handle priority : Option ℕ) (r : StreamFilter) → specified priority < 16 → specified r.priority < 16
     → specifies handle priority r ≡ is_the (specification handle priority) (match_about r)
-specifies_alike handle priority r l m =
-    rw (just_alike handle r.handle, just_alike priority r.priority) (both_alike (specified r.handle) (specified r.priority) (specified handle) (specified priority) m l)
+specifies_alike handle priority r l m = grind arith

@@ -1,5 +1,6 @@
 -- An opening in which no cause is found is well kept.
-use Rattle.std.proofs.Common.{◌≡◌, ℕ, zero, suc, ◌≤◌, false, cond, List, [], ◌∷◌, ◌++◌, refl, sym, ◌∙◌, ap, subst, Option, Some, None, map, arith}
+use Rattle.std.proofs.Common.{◌≡◌, ℕ, zero, suc, ◌≤◌, false, cond, List, [], ◌∷◌, ◌++◌, sym, ◌∙◌, ap, subst, Option, Some, None, map, arith}
+use Rattle.std.proofs.lemmas.Grind.{common_steps}
 use Rattle.std.specs.Prelude.{IsSome, is_some, nat_le}
 use Rattle.std.specs.Option.{option_or}
 use Rattle.std.specs.List.{AllByRecursion}
@@ -10,18 +11,16 @@ use Rattle.tsn_types.specs.declared.keys.Key.{Key}
 use Rattle.tsn_types.specs.declared.keys.Key.TheVariants.{Port}
 use Rattle.tsn_types.specs.declared.records.Record.{Record}
 use Rattle.tsn_types.specs.declared.limits.Limits.{Limits}
-use Rattle.tsn_types.specs.declared.refusals.Field.TheVariants.{Id as IdField}
-use Rattle.tsn_types.specs.declared.refusals.Refusal.TheVariants.{Range}
 use Rattle.tsn_types.specs.Bounds.{AreInRange}
 use Rattle.tsn_types.specs.InRange.{RecordInRange}
 use Rattle.tsn_types.specs.Keys.{key_cmp, same_key, refs}
-use Rattle.tsn_types.specs.Limits.{HoldsKey, HoldsRecord, first_cause, holds_key, out_of_limits, unless}
+use Rattle.tsn_types.specs.Limits.{HoldsKey, HoldsRecord, first_cause}
 use Rattle.tsn_edit.specs.Configuration.{Configuration, IsWellKept}
 use Rattle.tsn_edit.specs.Edits.{dangling}
 use Rattle.tsn_edit.proofs.KeyFacts.{by_bool, keys_total, one_key, same_itself}
 use Rattle.tsn_config.specs.Opening.{AreOfKind, RecordsInRange, dangling_cause, default_port, default_ports, limit_cause, limits_cause}
-use Rattle.tsn_types.proofs.Causes.{option_or_parts, unless-None}
-use Rattle.tsn_config.proofs.Edits.{HoldsKey-from_test, HoldsRecord-from_test, none_dangling}
+use Rattle.tsn_types.proofs.Causes.{option_or_parts}
+use Rattle.tsn_config.proofs.Edits.{none_dangling}
 use Rattle.tsn_config.proofs.Joined.{find_append}
 
 -- what holds of each entry holds of one that is found
@@ -34,8 +33,7 @@ find_each P (e ∷ es) all k r is = by_bool (same_key k e.0)
     (λ other. find_each P es all.1 k r (sym (ap (λ b. cond b (Some e.1) (find key_cmp k es)) other) ∙ is))
 
 all_append : (Q : Key × Record → Type 0) (xs ys : List (Key × Record)) → AllByRecursion Q xs → AllByRecursion Q ys → AllByRecursion Q (xs ++ ys)
-all_append Q [] ys h g = g
-all_append Q (x ∷ xs) ys h g = (h.0, all_append Q xs ys h.1 g)
+all_append Q xs ys h g = grind (arith, common_steps)
 
 -- the key and the record are within the limits
 abbrev IsWithin : Limits → Key → Record → Type 0
@@ -44,19 +42,11 @@ IsWithin l k r = HoldsKey l k × HoldsRecord l k r
 records_within : (l : Limits) (rs : List (Key × Record)) → AreOfKind rs → limits_cause l rs ≡ None → AllByRecursion (λ e. IsWithin l e.0 e.1) rs
 records_within l [] kinds none = tt
 records_within l (e ∷ es) kinds none =
-    let here = (option_or_parts (limit_cause l e) (limits_cause l es) none).0 in
-    let key = unless-None (holds_key l e.0) (Range IdField) (option_or_parts (unless (holds_key l e.0) (Range IdField)) (out_of_limits l e.1) here).0 in
-    let fields = (option_or_parts (unless (holds_key l e.0) (Range IdField)) (out_of_limits l e.1) here).1 in (
-      (HoldsKey-from_test l e.0 key, HoldsRecord-from_test l e.0 e.1 kinds.0 fields),
-      records_within l es kinds.1 (option_or_parts (limit_cause l e) (limits_cause l es) none).1,
-    )
+    grind (arith, (records_within l es kinds.1 (option_or_parts (limit_cause l e) (limits_cause l es) none).1))
 
 ports_within : (l : Limits) (n : ℕ) → n ≤ l.ports → AllByRecursion (λ e. IsWithin l e.0 e.1) (default_ports n)
 ports_within l zero le = tt
-ports_within l (suc n) le =
-    let low : 1 ≤ suc n = omega arith in
-    let empty_list : 0 ≤ l.list = omega arith in
-    all_append (λ e. IsWithin l e.0 e.1) (default_ports n) ((Port (suc n), default_port) ∷ []) (ports_within l n (omega arith)) (((low, le), empty_list), tt)
+ports_within l (suc n) le = grind (arith, all_append, (ports_within l n (omega arith)))
 
 default_in_range : RecordInRange default_port
 default_in_range = record { gates = omega arith; admin = record { list = tt; cycle = (omega arith, omega arith); extension = omega arith; base = omega arith } }
@@ -66,12 +56,10 @@ ports_in_range zero = tt
 ports_in_range (suc n) = all_append (λ e. RecordInRange e.1) (default_ports n) ((Port (suc n), default_port) ∷ []) (ports_in_range n) (default_in_range, tt)
 
 some_left : {A : Type 0} (o p : Option A) → IsSome o → IsSome (option_or o p)
-some_left None p h = (cc)
-some_left (Some x) p h = refl
+some_left o p h = grind arith
 
 some_right : {A : Type 0} (o p : Option A) → IsSome p → IsSome (option_or o p)
-some_right None p h = h
-some_right (Some x) p h = refl
+some_right o p h = grind arith
 
 above : (n m : ℕ) → n ≤ suc m → nat_le n m ≡ false → n ≡ suc m
 above n m le h = grind (arith, nat_tests)

@@ -1,5 +1,5 @@
 -- A value of its key's kind is the record of its row.
-use Rattle.std.proofs.Common.{◌≡◌, ℕ, refl, Option, Some, None}
+use Rattle.std.proofs.Common.{◌≡◌, ℕ, Option, arith}
 use Rattle.std.specs.Prelude.{IfSome, IsTrue, option_map}
 use Rattle.tsn_types.specs.declared.keys.Key.{Key}
 use Rattle.tsn_types.specs.declared.keys.Key.TheVariants.{Port, Filter, Gate, Meter}
@@ -13,21 +13,13 @@ abbrev pub IsOfKind : Key → Option Record → Type 0
 IsOfKind k v = IfSome v (λ r. IsTrue (is_of_kind k r))
 
 pub whole_port : (n : ℕ) (v : Option Record) → IsOfKind (Port n) v → option_map PortRecord (port_of v) ≡ v
-whole_port n None kind = refl
-whole_port n (Some (PortRecord r)) kind = refl
-whole_port n (Some r) kind = (cc)
+whole_port n v kind = grind arith
 
 pub whole_filter : (n : ℕ) (v : Option Record) → IsOfKind (Filter n) v → option_map FilterRecord (filter_of v) ≡ v
-whole_filter n None kind = refl
-whole_filter n (Some (FilterRecord r)) kind = refl
-whole_filter n (Some r) kind = (cc)
+whole_filter n v kind = grind arith
 
 pub whole_gate : (n : ℕ) (v : Option Record) → IsOfKind (Gate n) v → option_map GateRecord (gate_of v) ≡ v
-whole_gate n None kind = refl
-whole_gate n (Some (GateRecord r)) kind = refl
-whole_gate n (Some r) kind = (cc)
+whole_gate n v kind = grind arith
 
 pub whole_meter : (n : ℕ) (v : Option Record) → IsOfKind (Meter n) v → option_map MeterRecord (meter_of v) ≡ v
-whole_meter n None kind = refl
-whole_meter n (Some (MeterRecord r)) kind = refl
-whole_meter n (Some r) kind = (cc)
+whole_meter n v kind = grind arith

@@ -1,5 +1,5 @@
 -- Parts that are tested one by one: what holds of those that are left holds of all.
-use Rattle.std.proofs.Common.{None, not, ◌≡◌, ℕ, zero, suc, ◌||◌, ◌+◌, ◌<◌, true, false, cond, ◌&&◌, List, [], ◌∷◌, length, drop, get_or, refl, sym, ◌∙◌, ap, subst, Option, drop-cons, add-one}
+use Rattle.std.proofs.Common.{None, ◌≡◌, ℕ, zero, suc, ◌||◌, ◌+◌, ◌<◌, true, false, List, [], ◌∷◌, length, drop, get_or, refl, sym, ◌∙◌, ap, subst, Option, drop-cons, add-one, arith}
 use Rattle.std.specs.Prelude.{is_none}
 use Rattle.std.specs.List.{AllByRecursion, IsDistinct}
 use Rattle.std.specs.FinMap.{get}
@@ -14,7 +14,7 @@ use Rattle.tsn_edit.specs.Edits.{is_port}
 use Rattle.tsn_edit.specs.Parts.{Part}
 use Rattle.tsn_edit.proofs.KeyFacts.{get-put}
 use Rattle.tsn_config.specs.declared.fitting.Way.{Way}
-use Rattle.tsn_config.specs.declared.fitting.Way.TheVariants.{Forth, Back}
+use Rattle.tsn_config.specs.declared.fitting.Way.TheVariants.{Forth}
 use Rattle.tsn_config.specs.Keeping.{keeps_part, keeps_value, referrer_beside}
 use Rattle.tsn_config.specs.Ways.{turned, turned_part}
 
@@ -40,14 +40,10 @@ module _ (ps qs : List Part) (p : Part) (is : ps ≡ p ∷ qs) where
 
   pub not_distinct : has (keys_of qs) p.key ≡ true → IsDistinct same_key (keys_of ps) → ⊥
   unfolding IsDistinct
-  not_distinct on h =
-      let all = subst (λ ps. IsDistinct same_key (keys_of ps)) is h in
-      let off : has (keys_of qs) p.key ≡ false = not_apart p.key (keys_of qs) all.0 in
-      absurd (cc)
+  not_distinct on h = grind (arith, not_apart)
 
 key_turned : (way : Way) (p : Part) → (turned_part way p).key ≡ p.key
-key_turned Forth p = refl
-key_turned Back p = refl
+key_turned way p = grind arith
 
 pub stand_left : (way : Way) (c : Configuration) (i : ℕ) (ps : List Part) → Stands c (turned way ps) → Stands c (turned way (drop i ps))
 stand_left way c zero ps h = h
@@ -56,21 +52,13 @@ stand_left way c (suc i) (p ∷ ps) h = stand_left way c i ps h.1
 
 module _ (way : Way) (ps qs : List Part) (p : Part) (is : ps ≡ p ∷ qs) where
   pub not_standing : (c : Configuration) → (get c p.key ≡ (turned_part way p).before → ⊥) → Stands c (turned way ps) → ⊥
-  not_standing c other h =
-      let all = subst (λ ps. Stands c (turned way ps)) is h in
-      other (ap (get c) (sym (key_turned way p)) ∙ all.0)
+  not_standing c other h = grind arith
 
   pub put_at : (c : Configuration) (k : Key) → same_key k p.key ≡ true → get (put_all c (turned way ps)) k ≡ (turned_part way p).after
-  put_at c k same =
-      ap (λ ps. get (put_all c (turned way ps)) k) is
-      ∙ get-put (put_all c (turned way qs)) (turned_part way p).key (turned_part way p).after k
-      ∙ ap (λ b. cond b (turned_part way p).after (get (put_all c (turned way qs)) k)) (ap (same_key k) (key_turned way p) ∙ same)
+  put_at c k same = grind (arith, get-put, key_turned)
 
   pub put_beside : (c : Configuration) (k : Key) → same_key k p.key ≡ false → get (put_all c (turned way qs)) k ≡ get (put_all c (turned way ps)) k
-  put_beside c k other =
-      sym (ap (λ ps. get (put_all c (turned way ps)) k) is
-      ∙ get-put (put_all c (turned way qs)) (turned_part way p).key (turned_part way p).after k
-      ∙ ap (λ b. cond b (turned_part way p).after (get (put_all c (turned way qs)) k)) (ap (same_key k) (key_turned way p) ∙ other))
+  put_beside c k other = grind (arith, get-put, key_turned)
 
 -- the keys stay as they are
 pub keys_turned : (way : Way) (ps : List Part) → keys_of (turned way ps) ≡ keys_of ps
@@ -83,17 +71,12 @@ turned_forth (p ∷ ps) = ap (λ qs. p ∷ qs) (turned_forth ps)
 
 pub none_distinct : (ps : List Part) → ps ≡ [] → IsDistinct same_key (keys_of ps)
 unfolding IsDistinct
-none_distinct [] h = tt
-none_distinct (p ∷ ps) h = (cc)
+none_distinct ps h = (cc)
 
 removed : (l : Limits) (ks : List Key) (c d : Configuration) (k : Key) (b v : Option Record) → v ≡ None → is_none b ≡ false → is_port k ≡ false → keeps_value l ks c d k b v ≡ is_none (referrer_beside ks c k)
-removed l ks c d k b v gone there no_port =
-    ap (keeps_value l ks c d k b) gone ∙ ap (λ t. t || (not (is_port k) && is_none (referrer_beside ks c k))) there
-    ∙ ap (λ t. not t && is_none (referrer_beside ks c k)) no_port
+removed l ks c d k b v gone there no_port = (cc)
 
 -- a part that takes away what stood there, and no port
 pub keeps_removed : (l : Limits) (c : Configuration) (way : Way) (ps : List Part) (p : Part) → (turned_part way p).after ≡ None → is_none (turned_part way p).before ≡ false → is_port p.key ≡ false
     → keeps_part l c (turned way ps) (turned_part way p) ≡ is_none (referrer_beside (keys_of ps) c p.key)
-keeps_removed l c way ps p gone there no_port =
-    (λ i. keeps_value l (keys_turned way ps i) c (put_all c (turned way ps)) (key_turned way p i) (turned_part way p).before (turned_part way p).after)
-    ∙ removed l (keys_of ps) c (put_all c (turned way ps)) p.key (turned_part way p).before (turned_part way p).after gone there no_port
+keeps_removed l c way ps p gone there no_port = grind (arith, keys_turned, key_turned, removed)

@@ -1,17 +1,17 @@
 -- Changes that do not conflict with a set go the same way where the set was left out.
-use Rattle.std.proofs.Common.{◌≡◌, true, false, ◌||◌, List, [], ◌∷◌, ◌++◌, refl, sym, ◌∙◌, ap, Some, None}
+use Rattle.std.proofs.Common.{◌≡◌, true, false, List, [], ◌∷◌, ◌++◌, refl, sym, ◌∙◌, ap, Some, None, arith}
 use Rattle.std.specs.Prelude.{IsTrue, IsSome, is_some}
 use Rattle.std.specs.FinMap.{get}
-use Rattle.std.proofs.lemmas.Bool.{or_from, or_left, or_parts, or_right}
+use Rattle.std.proofs.lemmas.Bool.{or_from, or_parts, or_right}
 use Rattle.tsn_types.specs.declared.keys.Key.{Key}
 use Rattle.tsn_types.specs.declared.keys.Key.TheVariants.{Port}
 use Rattle.tsn_edit.specs.Parts.{Change, Part, parts}
 use Rattle.tsn_types.specs.declared.records.Record.{Record}
 use Rattle.tsn_types.specs.declared.limits.Limits.{Limits}
-use Rattle.tsn_types.specs.Keys.{same_key, has, meets, refs, refs_of}
+use Rattle.tsn_types.specs.Keys.{same_key, has, refs}
 use Rattle.tsn_edit.specs.Configuration.{Configuration, IsWellKept}
 use Rattle.tsn_edit.specs.Changes.{keys_of, refs_before, refs_after, after_change, Stands, Fits, clashes}
-use Rattle.tsn_edit.proofs.KeyFacts.{same_itself, by_option, part_on, part_on_none, before_or, part_on_some, each_part, part_on-append, part_on-append_found, keys_of-append, refs_before-append, has-append, meets_apart, after_or, get-after_change}
+use Rattle.tsn_edit.proofs.KeyFacts.{by_option, part_on, part_on_none, before_or, part_on_some, each_part, part_on-append, part_on-append_found, keys_of-append, refs_before-append, has-append, meets_apart, after_or, get-after_change}
 
 -- f touches no key of e, refers to none, and nothing that e's values before refer to
 pub record Apart (f e : List Part) : Type 0 where
@@ -20,26 +20,10 @@ pub record Apart (f e : List Part) : Type 0 where
   pub before : (k : Key) → has (keys_of f) k ≡ true → has (refs_before e) k ≡ false
 
 pub Apart-from_test : (f e : List Part) → clashes f e ≡ false → Apart f e
-Apart-from_test f e h =
-    let a = meets (keys_of f) (keys_of e) in
-    let b = meets (refs_after f) (keys_of e) in
-    let c = meets (keys_of f) (refs_before e) in
-    let bc : (b || c) ≡ false = (or_parts a (b || c) h).1 in
-    record {
-      keys = meets_apart (keys_of f) (keys_of e) ((or_parts a (b || c) h).0);
-      after = meets_apart (refs_after f) (keys_of e) ((or_parts b c bc).0);
-      before = meets_apart (keys_of f) (refs_before e) ((or_parts b c bc).1);
-    }
+Apart-from_test f e h = grind (arith, or_parts, meets_apart)
 
 pub Apart-append : (f e g : List Part) → Apart f e → Apart f g → Apart f (e ++ g)
-Apart-append f e g p q =
-    let keys_none : (k : Key) → has (keys_of e) k ≡ false → has (keys_of g) k ≡ false → has (keys_of (e ++ g)) k ≡ false =
-    λ k a b. ap (λ ks. has ks k) (keys_of-append e g) ∙ has-append (keys_of e) (keys_of g) k ∙ or_from _ _ a b in
-    record {
-      keys = λ k h. keys_none k (p.keys k h) (q.keys k h);
-      after = λ k h. keys_none k (p.after k h) (q.after k h);
-      before = λ k h. refs_before-append e g k ∙ or_from _ _ (p.before k h) (q.before k h);
-    }
+Apart-append f e g p q = grind (arith, keys_of-append, has-append, or_from, refs_before-append)
 
 pub begin_agrees : (c : Configuration) (k : Key) → get c k ≡ before_or (part_on k []) (get c k)
 unfolding part_on
@@ -54,29 +38,12 @@ pub record Agrees (l : Limits) (c d : Configuration) (t : List Part) : Type 0 wh
 -- a change of the set goes into c alone
 pub agrees_taken : (l : Limits) (c d : Configuration) (t : List Part) (f : Change) → Agrees l c d t → Fits l c f → Agrees l (after_change c f) d (t ++ parts f)
 agrees_taken l c d t f a fits =
-    record {
-      all_kept = fits.kept;
-      left_kept = a.left_kept;
-      agree = λ k.
-          by_option (part_on k t)
-          (λ none.
-          let here : get d k ≡ get c k = a.agree k ∙ ap (λ o. before_or o (get c k)) none in
-          let later : before_or (part_on k (t ++ parts f)) (get (after_change c f) k) ≡ before_or (part_on k (parts f)) (get (after_change c f) k) = ap (λ o. before_or o (get (after_change c f) k)) (part_on-append k t (parts f) none) in
-          here ∙ by_option (part_on k (parts f))
-          (λ untouched. sym (ap (λ o. after_or o (get c k)) untouched) ∙ sym (get-after_change c f k) ∙ sym (ap (λ o. before_or o (get (after_change c f) k)) untouched))
-          (λ p is. ap (get c) (part_on_some k (parts f) p is).key ∙ each_part (λ p. get c p.key ≡ p.before) k (parts f) p is fits.stands ∙ sym (ap (λ o. before_or o (get (after_change c f) k)) is))
-          ∙ sym later)
-          (λ p is.
-          a.agree k ∙ ap (λ o. before_or o (get c k)) is ∙ sym (ap (λ o. before_or o (get (after_change c f) k)) (part_on-append_found k t (parts f) p is)));
-    }
+    grind (arith, part_on, before_or, part_on-append, after_or, get-after_change, part_on_some, each_part, part_on-append_found)
 
 -- maps that agree on a change's keys both have its values before
 pub stands_alike : (c d : Configuration) (f : List Part) → ((k : Key) → has (keys_of f) k ≡ true → get d k ≡ get c k) → Stands c f → Stands d f
 stands_alike c d [] same h = tt
-stands_alike c d (p ∷ f) same h = (
-  same p.key (or_left (same_key p.key p.key) _ (same_itself p.key)) ∙ h.0,
-  stands_alike c d f (λ k in'. same k (or_right (same_key k p.key) _ in')) h.1,
-)
+stands_alike c d (p ∷ f) same h = grind (arith, (stands_alike c d f (λ k in'. same k (or_right (same_key k p.key) _ in')) h.1))
 
 module _ (l : Limits) (c d : Configuration) (t : List Part) (f : Change) (a : Agrees l c d t) (fits : Fits l c f) (apart : Apart (parts f) t) where
   -- at a key that f leaves alone
@@ -88,33 +55,14 @@ module _ (l : Limits) (c d : Configuration) (t : List Part) (f : Change) (a : Ag
   touched m n k p is = get-after_change m f k ∙ ap (λ o. after_or o (get m k)) is ∙ sym (ap (λ o. after_or o (get n k)) is) ∙ sym (get-after_change n f k)
 
   still_agree : (k : Key) → get (after_change d f) k ≡ before_or (part_on k t) (get (after_change c f) k)
-  still_agree k =
-      by_option (part_on k (parts f))
-      (λ none. untouched d k none ∙ a.agree k ∙ ap (before_or (part_on k t)) (sym (untouched c k none)))
-      (λ p is. touched d c k p is ∙ sym (ap (λ o. before_or o (get (after_change c f) k)) (part_on_none k t (apart.keys k (part_on_some k (parts f) p is).there))))
+  still_agree k = grind (arith, part_on, untouched, before_or, touched, part_on_none, part_on_some)
 
   same_outside : (k : Key) → has (keys_of t) k ≡ false → get (after_change d f) k ≡ get (after_change c f) k
   same_outside k out = still_agree k ∙ ap (λ o. before_or o (get (after_change c f) k)) (part_on_none k t out)
 
   still_referred : (k : Key) (r : Record) (q : Key) → get (after_change d f) k ≡ Some r → IsTrue (has (refs r) q) → IsSome (get (after_change d f) q)
   still_referred k r q is ref =
-      by_option (part_on k (parts f))
-      (λ none.
-      let before : get d k ≡ Some r = sym (untouched d k none) ∙ is in
-      by_option (part_on q (parts f))
-      (λ q_none. ap is_some (untouched d q q_none) ∙ a.left_kept.referred k r q before ref)
-      (λ p q_is. ap is_some (touched d c q p q_is) ∙ by_option (part_on k t)
-      (λ t_none. fits.kept.referred k r q (untouched c k none ∙ sym (a.agree k ∙ ap (λ o. before_or o (get c k)) t_none) ∙ before) ref)
-      (λ e t_is.
-      let old : e.before ≡ Some r = sym (a.agree k ∙ ap (λ o. before_or o (get c k)) t_is) ∙ before in
-      let in_old : has (refs_before t) q ≡ true = (part_on_some k t e t_is).before q (ap (λ v. has (refs_of v) q) old ∙ ref) in
-      let not_in : has (refs_before t) q ≡ false = apart.before q (part_on_some q (parts f) p q_is).there in
-      (cc))))
-      (λ p k_is.
-      let now : get (after_change c f) k ≡ Some r = touched c d k p k_is ∙ is in
-      let new : p.after ≡ Some r = sym (get-after_change c f k ∙ ap (λ o. after_or o (get c k)) k_is) ∙ now in
-      let in_new : has (refs_after (parts f)) q ≡ true = (part_on_some k (parts f) p k_is).after q (ap (λ v. has (refs_of v) q) new ∙ ref) in
-      ap is_some (same_outside q (apart.after q in_new)) ∙ fits.kept.referred k r q now ref)
+      grind (arith, part_on, untouched, touched, before_or, part_on_some, get-after_change, after_or, same_outside)
 
   still_kept : IsWellKept l (after_change d f)
   still_kept = record {
@@ -135,11 +83,7 @@ module _ (l : Limits) (c d : Configuration) (t : List Part) (f : Change) (a : Ag
   }
 
   pub fits_left : Fits l d f
-  fits_left = record {
-    distinct = fits.distinct;
-    stands = stands_alike c d (parts f) (λ k in'. a.agree k ∙ ap (λ o. before_or o (get c k)) (part_on_none k t (apart.keys k in'))) fits.stands;
-    kept = still_kept;
-  }
+  fits_left = grind (arith, stands_alike, before_or, part_on_none, still_kept)
 
   -- a change that is apart from the set goes into both
   pub agrees_left : Agrees l (after_change c f) (after_change d f) t

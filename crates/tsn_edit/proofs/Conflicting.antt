@@ -1,5 +1,5 @@
 -- What the tests of two changes come to, part by part.
-use Rattle.std.proofs.Common.{◌≡◌, Bool, true, false, ◌||◌, List, [], ◌∷◌, refl, sym, ◌∙◌, ap, map}
+use Rattle.std.proofs.Common.{◌≡◌, Bool, false, ◌||◌, List, [], ◌∷◌, refl, sym, ◌∙◌, ap, map, arith}
 use Rattle.std.specs.Prelude.{flat_map}
 use Rattle.std.specs.List.{list_any}
 use Rattle.std.proofs.lemmas.Cmp.{eq_by_cmp_equiv}
@@ -19,15 +19,10 @@ any_flat_map f t [] = refl
 any_flat_map f t (x ∷ xs) = list_any-append t (f x) (flat_map f xs) ∙ ap (λ b. list_any t (f x) || b) (any_flat_map f t xs)
 
 any_alike : {A : Type 0} (s t : A → Bool) → ((x : A) → s x ≡ t x) → (xs : List A) → list_any s xs ≡ list_any t xs
-any_alike s t h [] = refl
-any_alike s t h (x ∷ xs) = ap (λ b. b || list_any s xs) (h x) ∙ ap (λ b. t x || b) (any_alike s t h xs)
+any_alike s t h xs = grind arith
 
 pub mixed : (a b c d : Bool) → ((a || b) || (c || d)) ≡ ((a || c) || (b || d))
-mixed true b c d = refl
-mixed false true true d = refl
-mixed false true false d = refl
-mixed false false true d = refl
-mixed false false false d = refl
+mixed a b c d = grind arith
 
 any_either : {A : Type 0} (s t : A → Bool) (xs : List A) → list_any (λ x. s x || t x) xs ≡ (list_any s xs || list_any t xs)
 any_either s t [] = refl

@@ -1,5 +1,5 @@
 -- Of parts on distinct keys the first one may be applied first as well as last.
-use Rattle.std.proofs.Common.{◌≡◌, true, false, cond, List, ◌∷◌, sym, ◌∙◌, ap}
+use Rattle.std.proofs.Common.{◌≡◌, true, false, cond, List, ◌∷◌, ◌∙◌, ap, arith}
 use Rattle.std.specs.FinMap.{get}
 use Rattle.std.specs.List.{IsDistinct}
 use Rattle.tsn_types.specs.declared.keys.Key.{Key}
@@ -20,15 +20,7 @@ no_other p ps d k same = by_bool (has (keys_of ps) k)
 
 module _ (c : Configuration) (p : Part) (ps : List Part) (d : IsDistinct same_key (keys_of (p ∷ ps))) where
   at : (k : Key) → get (put_all (put c p.key p.after) ps) k ≡ get (put_all c (p ∷ ps)) k
-  at k =
-      get-put_all (put c p.key p.after) ps k
-      ∙ by_bool (same_key k p.key)
-      (λ same. ap (λ o. after_or o (get (put c p.key p.after) k)) (part_on_none k ps (no_other p ps d k same))
-      ∙ get-put c p.key p.after k ∙ ap (λ b. cond b p.after (get c k)) same
-      ∙ sym (ap (λ b. cond b p.after (get (put_all c ps) k)) same))
-      (λ other. ap (after_or (part_on k ps)) (get-put c p.key p.after k ∙ ap (λ b. cond b p.after (get c k)) other)
-      ∙ sym (get-put_all c ps k) ∙ sym (ap (λ b. cond b p.after (get (put_all c ps) k)) other))
-      ∙ sym (get-put (put_all c ps) p.key p.after k)
+  at k = grind (arith, get-put_all, after_or, part_on_none, no_other, get-put, part_on)
 
   pub put_first : put_all (put c p.key p.after) ps ≡ put_all c (p ∷ ps)
   put_first = same_configuration _ _ at

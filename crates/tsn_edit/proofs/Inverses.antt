@@ -1,5 +1,5 @@
 -- The inverse of a change fits as long as nothing after it conflicts, and gives the run without it.
-use Rattle.std.proofs.Common.{◌≡◌, Bool, true, false, cond, ◌||◌, List, [], ◌∷◌, ◌++◌, refl, sym, ◌∙◌, ap, subst, Option, Some, map}
+use Rattle.std.proofs.Common.{◌≡◌, Bool, true, false, cond, ◌||◌, List, [], ◌∷◌, ◌++◌, refl, sym, ◌∙◌, ap, subst, Option, Some, map, arith}
 use Rattle.std.specs.FinMap.{get}
 use Rattle.std.specs.List.{AllByRecursion, IsDistinct}
 use Rattle.tsn_types.specs.declared.keys.Key.{Key}
@@ -42,8 +42,7 @@ without l c d t (e ∷ es) a g apart =
     ((fits_left l c d t e a g.0 apart.0, rest.0), rest.1)
 
 inverse_part_first : (b : Bool) (p : Part) (o q : Option Part) (v : Option Record) → after_or q v ≡ before_or o v → after_or (cond b (Some (inverse_part p)) q) v ≡ before_or (cond b (Some p) o) v
-inverse_part_first true p o q v h = refl
-inverse_part_first false p o q v h = h
+inverse_part_first b p o q v h = grind arith
 
 pub inverse_part_gives : (k : Key) (ps : List Part) (v : Option Record) → after_or (part_on k (map inverse_part ps)) v ≡ before_or (part_on k ps) v
 unfolding part_on
@@ -96,8 +95,7 @@ stands_after c e d = subst (Stands (after_change c e)) (sym (parts-inverse e)) (
 -- a key that no change touches keeps its value
 pub run_elsewhere : (c : Configuration) (es : List Change) (k : Key) → AllByRecursion (λ f. has (keys_of (parts f)) k ≡ false) es → get (run c es) k ≡ get c k
 run_elsewhere c [] k h = refl
-run_elsewhere c (e ∷ es) k h =
-    run_elsewhere (after_change c e) es k h.1 ∙ get-after_change c e k ∙ ap (λ o. after_or o (get c k)) (part_on_none k (parts e) h.0)
+run_elsewhere c (e ∷ es) k h = grind (arith, get-after_change, after_or, part_on_none, (run_elsewhere (after_change c e) es k h.1))
 
 pub each_weaker : {A : Type 0} (P Q : A → Type 0) → ((x : A) → P x → Q x) → (xs : List A) → AllByRecursion P xs → AllByRecursion Q xs
 each_weaker P Q f [] h = tt

@@ -1,17 +1,16 @@
 -- Keys as an order, and what a change does to a map at one key.
-use Rattle.std.proofs.Common.{◌≡◌, ℕ, zero, suc, Bool, true, false, cond, ◌||◌, List, [], ◌∷◌, ◌++◌, refl, sym, ◌∙◌, ap, subst, Option, Some, None}
+use Rattle.std.proofs.Common.{◌≡◌, Bool, true, false, cond, ◌||◌, List, [], ◌∷◌, ◌++◌, refl, ◌∙◌, ap, subst, Option, Some, None, arith}
+use Rattle.std.proofs.lemmas.Grind.{common_steps}
 use Rattle.std.specs.Cmp.{IsTotalOrder}
-use Rattle.std.specs.Ordering.{nat_cmp, is_eq}
+use Rattle.std.specs.Ordering.{is_eq}
 use Rattle.std.specs.FinMap.{get, get-insert, get-remove, IsAntisymmetric, same_map}
 use Rattle.std.specs.List.{AllByRecursion}
 use Rattle.std.specs.declared.cmp.Ordering.{Ordering}
-use Rattle.std.specs.declared.cmp.Ordering.TheVariants.{Less, Equal, Greater}
+use Rattle.std.specs.declared.cmp.Ordering.TheVariants.{Equal}
 use Rattle.std.proofs.Math.Bool.{or_assoc}
 use Rattle.std.proofs.lemmas.Bool.{or_left, or_parts, or_right}
 use Rattle.std.proofs.lemmas.Cmp.{on_total, then_total, nat_cmp_total, tied_itself}
-use Rattle.std.proofs.lemmas.Map.Lookups.{exact_pairs, exact_unsigned}
 use Rattle.tsn_types.specs.declared.keys.Key.{Key}
-use Rattle.tsn_types.specs.declared.keys.Key.TheVariants.{Port, Filter, Gate, Meter}
 use Rattle.tsn_edit.specs.Parts.{Change, Part, parts}
 use Rattle.tsn_types.specs.declared.records.Record.{Record}
 use Rattle.tsn_types.specs.Keys.{kind_of, number_of, key_cmp, same_key, has, meets, refs_of}
@@ -19,40 +18,20 @@ use Rattle.tsn_edit.specs.Configuration.{Configuration, put}
 use Rattle.tsn_edit.specs.Changes.{keys_of, part_of, refs_before, refs_after, put_all, after_change}
 
 pub by_bool : {G : Type 0} (b : Bool) → (b ≡ true → G) → (b ≡ false → G) → G
-by_bool true f g = f refl
-by_bool false f g = g refl
+by_bool b f g = grind arith
 
 pub by_option : {A G : Type 0} (o : Option A) → (o ≡ None → G) → ((x : A) → o ≡ Some x → G) → G
-by_option None f g = f refl
-by_option (Some x) f g = g x refl
+by_option o f g = grind arith
 
 pub keys_total : IsTotalOrder key_cmp
 keys_total = then_total (on_total kind_of nat_cmp_total) (on_total number_of nat_cmp_total)
 
-key_at : ℕ → ℕ → Key
-key_at zero n = Port n
-key_at (suc zero) n = Filter n
-key_at (suc (suc zero)) n = Gate n
-key_at (suc (suc (suc _))) n = Meter n
-
-key_at-key : (k : Key) → key_at (kind_of k) (number_of k) ≡ k
-unfolding key_at
-key_at-key (Port n) = refl
-key_at-key (Filter n) = refl
-key_at-key (Gate n) = refl
-key_at-key (Meter n) = refl
-
 -- only one key compares alike
 pub exact_keys : IsAntisymmetric key_cmp
-exact_keys a b h =
-    sym (key_at-key a)
-    ∙ ap (λ (p : ℕ × ℕ). key_at p.0 p.1) (exact_pairs nat_cmp nat_cmp exact_unsigned exact_unsigned (kind_of a, number_of a) (kind_of b, number_of b) h)
-    ∙ key_at-key b
+exact_keys a b h = grind arith
 
 pub is_equal : (o : Ordering) → is_eq o ≡ true → o ≡ Equal
-is_equal Less h = (cc)
-is_equal Equal h = refl
-is_equal Greater h = (cc)
+is_equal o h = grind arith
 
 pub one_key : (a b : Key) → same_key a b ≡ true → a ≡ b
 one_key a b h = exact_keys a b (is_equal (key_cmp a b) h)
@@ -73,8 +52,7 @@ after_or None v = v
 after_or (Some p) v = p.after
 
 after_or-cond : (b : Bool) (p : Part) (o : Option Part) (v : Option Record) → cond b p.after (after_or o v) ≡ after_or (cond b (Some p) o) v
-after_or-cond true p o v = refl
-after_or-cond false p o v = refl
+after_or-cond b p o v = grind arith
 
 unfoldable pub part_on : Key → List Part → Option Part
 part_on k e = part_of k e
@@ -82,10 +60,7 @@ part_on k e = part_of k e
 pub get-put_all : (c : Configuration) (e : List Part) (q : Key) → get (put_all c e) q ≡ after_or (part_on q e) (get c q)
 unfolding part_on
 get-put_all c [] q = refl
-get-put_all c (p ∷ e) q =
-    get-put (put_all c e) p.key p.after q
-    ∙ ap (cond (same_key q p.key) p.after) (get-put_all c e q)
-    ∙ after_or-cond (same_key q p.key) p (part_on q e) (get c q)
+get-put_all c (p ∷ e) q = grind (arith, get-put, after_or-cond, (get-put_all c e q))
 
 pub get-after_change : (c : Configuration) (e : Change) (q : Key) → get (after_change c e) q ≡ after_or (part_on q (parts e)) (get c q)
 get-after_change c e q = get-put_all c (parts e) q
@@ -101,8 +76,7 @@ part_on_none k (p ∷ e) h =
     ] h
 
 pub has-append : (ks ls : List Key) (k : Key) → has (ks ++ ls) k ≡ (has ks k || has ls k)
-has-append [] ls k = refl
-has-append (x ∷ ks) ls k = elim (same_key k x) as (λ b. (b || has (ks ++ ls) k) ≡ ((b || has ks k) || has ls k)) [ true ↦ refl | false ↦ has-append ks ls k ]
+has-append ks ls k = grind (arith, common_steps)
 
 -- the value before the part, or v where there is none
 abbrev pub before_or : Option Part → Option Record → Option Record
@@ -165,16 +139,10 @@ part_on-append_found k (x ∷ e) f p h =
     ] h
 
 pub keys_of-append : (e f : List Part) → keys_of (e ++ f) ≡ keys_of e ++ keys_of f
-keys_of-append [] f = refl
-keys_of-append (p ∷ e) f = ap (λ ks. p.key ∷ ks) (keys_of-append e f)
+keys_of-append e f = grind (arith, common_steps)
 
 pub refs_before-append : (e f : List Part) (q : Key) → has (refs_before (e ++ f)) q ≡ (has (refs_before e) q || has (refs_before f) q)
-refs_before-append [] f q = refl
-refs_before-append (p ∷ e) f q =
-    has-append (refs_of p.before) (refs_before (e ++ f)) q
-    ∙ ap (λ b. has (refs_of p.before) q || b) (refs_before-append e f q)
-    ∙ sym (or_assoc (has (refs_of p.before) q) (has (refs_before e) q) (has (refs_before f) q))
-    ∙ ap (λ b. b || has (refs_before f) q) (sym (has-append (refs_of p.before) (refs_before e) q))
+refs_before-append e f q = grind (arith, common_steps, has-append, or_assoc)
 
 -- lists that do not meet have no key in common
 pub meets_apart : (ks ls : List Key) → meets ks ls ≡ false → (k : Key) → has ks k ≡ true → has ls k ≡ false

@@ -1,17 +1,15 @@
 -- The causes of an edit stand in the order of their numbers, so its least is its first, and a batch is refused by the least of those.
-use Rattle.std.proofs.Common.{◌≡◌, ℕ, refl, sym, ◌∙◌, ap, subst, arith, List, [], ◌∷◌, Option, Some, None, map}
+use Rattle.std.proofs.Common.{◌≡◌, ℕ, refl, sym, ◌∙◌, ap, subst, arith, List, [], ◌∷◌, Option, map}
 use Rattle.std.specs.Prelude.{Bool, ◌&&◌, not, flat_map, is_none, is_some, find, option_map}
 use Rattle.std.specs.FinMap.{get, entries}
 use Rattle.tsn_types.specs.declared.keys.Key.{Key}
-use Rattle.tsn_types.specs.declared.keys.Key.TheVariants.{Port, Filter, Gate, Meter}
 use Rattle.tsn_types.specs.declared.records.Record.{Record}
-use Rattle.tsn_types.specs.declared.records.Record.TheVariants.{Port as PortRecord, Filter as FilterRecord, Gate as GateRecord, Meter as MeterRecord}
 use Rattle.tsn_types.specs.declared.limits.Limits.{Limits}
-use Rattle.tsn_types.specs.declared.refusals.Field.TheVariants.{Key as KeyField, List as ListField}
+use Rattle.tsn_types.specs.declared.refusals.Field.TheVariants.{Key as KeyField}
 use Rattle.tsn_types.specs.declared.refusals.Refusal.{Refusal}
 use Rattle.tsn_types.specs.declared.refusals.Refusal.TheVariants.{Shape, Range, Missing, Exists, Dangling, Referred}
 use Rattle.tsn_types.specs.Keys.{has, refs}
-use Rattle.tsn_types.specs.Limits.{field_of, first_cause, holds_key, out_of_limits, unless}
+use Rattle.tsn_types.specs.Limits.{first_cause, holds_key, out_of_limits, unless}
 use Rattle.tsn_types.specs.Refusals.{least, lesser}
 use Rattle.tsn_types.proofs.Ordered.{AreAtMost, AtMost, Is, IsOrdered, causes_of, first-most, is_either, is_unless, least-ordered, least-append, lesser-most}
 use Rattle.tsn_edit.specs.declared.Edit.{Edit}
@@ -20,29 +18,15 @@ use Rattle.tsn_edit.specs.Configuration.{Configuration}
 use Rattle.tsn_edit.specs.Batches.{causes, edited_keys, referrer_beside, refusal, result}
 use Rattle.tsn_edit.specs.Edits.{dangling, is_of_kind, is_port}
 
-is_field : (test : Key → Bool) (q : Key) → Is 4 (unless (test q) (field_of q))
-is_field test (Port n) = is_unless (test (Port n)) (field_of (Port n))
-is_field test (Filter n) = is_unless (test (Filter n)) (field_of (Filter n))
-is_field test (Gate n) = is_unless (test (Gate n)) (field_of (Gate n))
-is_field test (Meter n) = is_unless (test (Meter n)) (field_of (Meter n))
-
-fields : (test : Key → Bool) (qs : List Key) → Is 4 (first_cause (map (λ q. unless (test q) (field_of q)) qs))
-fields test [] = tt
-fields test (q ∷ qs) = is_either 4 (unless (test q) (field_of q)) (first_cause (map (λ q. unless (test q) (field_of q)) qs)) (is_field test q) (fields test qs)
-
 limited : (l : Limits) (r : Record) → Is 4 (out_of_limits l r)
-limited l (PortRecord r) = is_unless _ (Range ListField)
-limited l (FilterRecord r) = fields (holds_key l) (refs (FilterRecord r))
-limited l (GateRecord r) = is_unless _ (Range ListField)
-limited l (MeterRecord r) = tt
+limited l r = grind arith
 
 absent : (test : Key → Bool) (qs : List Key) → Is 8 (first_cause (map (λ q. unless (test q) (Dangling q)) qs))
 absent test [] = tt
 absent test (q ∷ qs) = is_either 8 (unless (test q) (Dangling q)) (first_cause (map (λ q. unless (test q) (Dangling q)) qs)) (is_unless (test q) (Dangling q)) (absent test qs)
 
 named : (o : Option (Key × Record)) → Is 9 (option_map (λ e. Referred e.0) o)
-named None = tt
-named (Some e) = refl
+named o = grind arith
 
 named_beside : (test : Key × Record → Bool) (es : List (Key × Record)) → Is 9 (option_map (λ e. Referred e.0) (find test es))
 named_beside test es = named (find test es)
@@ -59,14 +43,10 @@ ordered_of l c b (Replace k r) = (omega arith, is_unless _ Shape, (omega arith, 
 ordered_of l c b (Remove k) = (omega arith, is_unless _ Shape, (omega arith, is_unless _ (Range KeyField), (omega arith, is_unless _ (Missing k), (omega arith, named_beside (λ e. has (refs e.1) k && not (has (edited_keys b) e.0)) (entries c), tt))))
 
 up_to_9_of : (l : Limits) (c : Configuration) (b : List Edit) (edit : Edit) → AreAtMost 9 (numbered_of l c b edit)
-up_to_9_of l c b (Create k r) = (omega arith, (omega arith, (omega arith, (omega arith, (omega arith, tt)))))
-up_to_9_of l c b (Replace k r) = (omega arith, (omega arith, (omega arith, (omega arith, (omega arith, tt)))))
-up_to_9_of l c b (Remove k) = (omega arith, (omega arith, (omega arith, (omega arith, tt))))
+up_to_9_of l c b edit = grind arith
 
 same_causes_of : (l : Limits) (c : Configuration) (b : List Edit) (edit : Edit) → causes_of (numbered_of l c b edit) ≡ causes l c b edit
-same_causes_of l c b (Create k r) = refl
-same_causes_of l c b (Replace k r) = refl
-same_causes_of l c b (Remove k) = refl
+same_causes_of l c b edit = grind arith
 
 -- the least cause of one edit of the batch is its first
 abbrev pub own_cause : Limits → Configuration → List Edit → Edit → Option Refusal

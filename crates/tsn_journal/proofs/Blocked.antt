@@ -1,8 +1,7 @@
 -- What blocks a redo, sought in the rows of keys.
-use Rattle.std.proofs.Common.{◌≡◌, ℕ, ◌+◌, ◌<◌, ◌≤◌, Bool, true, false, cond, ◌||◌, ◌&&◌, List, [], ◌∷◌, refl, sym, ◌∙◌, ap, Option, Some, None, arith, get_or, length, take}
-use Rattle.std.specs.Prelude.{nat_lt, option_map}
+use Rattle.std.proofs.Common.{◌≡◌, ℕ, ◌+◌, ◌<◌, Bool, true, false, cond, ◌||◌, ◌&&◌, List, [], ◌∷◌, refl, sym, ◌∙◌, ap, Option, Some, None, arith, get_or, length, take}
+use Rattle.std.specs.Prelude.{option_map}
 use Rattle.std.specs.Option.{option_or}
-use Rattle.std.proofs.lemmas.Bool.{ltb-true, ltb-false, lt-ltb, le-ltb}
 use Rattle.tsn_journal.proofs.Newest.{has_key}
 use Rattle.tsn_types.specs.declared.keys.Key.{Key}
 use Rattle.tsn_types.specs.declared.records.Refs.{Refs}
@@ -24,59 +23,16 @@ at o = option_map (λ m. m.entry.number) o
 
 -- ---- numbers above a number
 
--- the later of two numbers, each where it is above n
-later_cases : (a b : ℕ) (p u v : Bool) → nat_lt a b ≡ p → (p ≡ true → u ≡ true → v ≡ true) → (p ≡ false → v ≡ true → u ≡ true)
-    → cond (cond p v u) (Some (cond p b a)) None ≡ later_of (cond u (Some a) None) (cond v (Some b) None)
-later_cases a b true true true is h k = ap (λ c. Some (cond c b a)) (sym is)
-later_cases a b true true false is h k = let f : false ≡ true = h refl refl in (cc)
-later_cases a b true false true is h k = refl
-later_cases a b true false false is h k = refl
-later_cases a b false true true is h k = ap (λ c. Some (cond c b a)) (sym is)
-later_cases a b false true false is h k = refl
-later_cases a b false false true is h k = let f : false ≡ true = k refl refl in (cc)
-later_cases a b false false false is h k = refl
-
-above_either : (n a b : ℕ) (p : Bool) → nat_lt n (cond p b a) ≡ cond p (nat_lt n b) (nat_lt n a)
-above_either n a b true = refl
-above_either n a b false = refl
-
-above_none : (n : ℕ) (o : Option ℕ) → above n o ≡ later_of (above n o) None
-above_none n None = refl
-above_none n (Some a) = elim (nat_lt n a) as (λ b. cond b (Some a) None ≡ later_of (cond b (Some a) None) None) [ true ↦ refl | false ↦ refl ]
-
 above_later : (n : ℕ) (x y : Option ℕ) → above n (later_of x y) ≡ later_of (above n x) (above n y)
-above_later n None y = refl
-above_later n (Some a) None = above_none n (Some a)
-above_later n (Some a) (Some b) =
-    let p = nat_lt a b in
-    ap (λ c. cond c (Some (cond p b a)) None) (above_either n a b p)
-    ∙ later_cases a b p (nat_lt n a) (nat_lt n b) refl
-    (λ less early. lt-ltb n b (let l : a < b = ltb-true a b less in let m : n < a = ltb-true n a early in omega arith))
-    (λ more early. lt-ltb n a (let l : b ≤ a = ltb-false a b more in let m : n < b = ltb-true n b early in omega arith))
+above_later n x y = grind arith
 
 pub both_later : (n : ℕ) (x y x' y' : Option ℕ) → above n x ≡ above n x' → above n y ≡ above n y' → above n (later_of x y) ≡ above n (later_of x' y')
 both_later n x y x' y' first second = above_later n x y ∙ (λ i. later_of (first i) (second i)) ∙ sym (above_later n x' y')
 
-above_some : (s n m : ℕ) (c : Bool) → s ≤ n → nat_lt s m ≡ c → above n (cond c (Some m) None) ≡ above n (Some m)
-above_some s n m true le is = refl
-above_some s n m false le is = ap (λ b. cond b (Some m) None) (sym (le-ltb n m (let l : m ≤ s = ltb-false s m is in omega arith)))
-
-above_above : (s n : ℕ) (o : Option ℕ) → s ≤ n → above n (above s o) ≡ above n o
-above_above s n None le = refl
-above_above s n (Some m) le = above_some s n m (nat_lt s m) le refl
-
--- what is the same above a number is so above a greater one
-above_more : (s n : ℕ) (x y : Option ℕ) → s ≤ n → above s x ≡ above s y → above n x ≡ above n y
-above_more s n x y le same = sym (above_above s n x le) ∙ ap (above n) same ∙ above_above s n y le
-
 -- ---- what the rows tell of one part
 
 one_at : (t : Entry → Bool) (m : MarkedEntry) (o : Option MarkedEntry) (q : Option Entry) → at o ≡ option_map (λ (e : Entry). e.number) q → (c : Bool) → at (option_or o (cond c (Some m) None)) ≡ option_map (λ (e : Entry). e.number) (option_or q (cond c (Some m.entry) None))
-one_at t m None None is true = refl
-one_at t m None None is false = refl
-one_at t m None (Some e) is c = (cc)
-one_at t m (Some x) None is c = (cc)
-one_at t m (Some x) (Some e) is c = is
+one_at t m o q is c = grind arith
 
 -- the newest entry, among the marked ones
 newest_marked : (t : Entry → Bool) (ms : List MarkedEntry) → at (last_where (λ m. t m.entry) ms) ≡ newest t (entries_of ms)
@@ -89,25 +45,20 @@ on_one None o = false
 on_one (Some k) o = is_on k o
 
 on_none : (r : Option Key) → on_one r None ≡ false
-on_none None = refl
-on_none (Some k) = refl
+on_none r = grind arith
 
 on_some : (r : Option Key) (d : Change) → on_one r (Some d) ≡ on_any r d
-on_some None d = refl
-on_some (Some k) d = refl
+on_some r d = grind arith
 
 abbrev told_test : Part → Refs → Option Change → Bool
 told_test p refs o = (is_on p.key o || refers p.key o) || (on_one refs.first o || on_one refs.second o)
 
 told_is : (p : Part) (refs : Refs) → keys_of_refs refs ≡ refs_of p.before → (o : Option Change) → told_test p refs o ≡ is_in_conflict o (p ∷ [])
-told_is p refs same None = (λ i. on_none refs.first i || on_none refs.second i)
-told_is p refs same (Some d) = (λ i. (is_on p.key (Some d) || refers p.key (Some d)) || (on_some refs.first d i || on_some refs.second d i)) ∙ in_conflict p d refs same
+told_is p refs same o = grind (arith, on_none, on_some, in_conflict)
 
 module _ (ms : List MarkedEntry) (a : Index) (e : Entry) (can : CanTell ms a e) where
   above_touched : (k : Key) → above e.number (some_number (touched a k)) ≡ above e.number (at (last_where (λ m. is_on k (applies m.entry.what)) ms))
-  above_touched k =
-      above_more a.stray e.number (some_number (touched a k)) (newest (touches k) (entries_of ms)) (omega (arith, can.later)) (can.tells.on k)
-      ∙ ap (above e.number) (sym (newest_marked (touches k) ms))
+  above_touched k = grind (arith, newest_marked (touches k) ms)
 
   above_referred : (k : Key) → touches k e ≡ true → above e.number (some_number (referred a k)) ≡ above e.number (at (last_where (λ m. refers k (applies m.entry.what)) ms))
   above_referred k on = can.tells.to k e can.there on can.later ∙ ap (above e.number) (sym (newest_marked (mentions k) ms))

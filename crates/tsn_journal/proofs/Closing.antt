@@ -1,11 +1,9 @@
 -- The marks that a settle puts off, one after the other, and those that are off already.
-use Rattle.std.proofs.Common.{◌≡◌, ℕ, zero, suc, ◌+◌, ◌<◌, ◌≤◌, Bool, true, false, cond, List, [], ◌∷◌, ◌++◌, refl, sym, ◌∙◌, ap, subst, arith, length, set, get_or, map}
-use Rattle.std.specs.Prelude.{max, nat_le}
-use Rattle.std.proofs.lemmas.Bool.Decides.{nat_tests}
+use Rattle.std.proofs.Common.{◌≡◌, ℕ, zero, suc, ◌+◌, ◌<◌, ◌≤◌, true, false, cond, List, [], ◌∷◌, ◌++◌, refl, sym, ◌∙◌, ap, subst, arith, length, set, get_or, map}
+use Rattle.std.specs.Prelude.{max}
 use Rattle.std.proofs.lemmas.List.{length-map}
-use Rattle.std.proofs.lemmas.Bool.{le-leb, lt-leb}
 use Rattle.tsn_journal.specs.declared.entries.What.{What}
-use Rattle.tsn_journal.specs.declared.entries.What.TheVariants.{Made, Undone, Redone, Acted, Settled}
+use Rattle.tsn_journal.specs.declared.entries.What.TheVariants.{Settled}
 use Rattle.tsn_journal.specs.declared.entries.Entry.{Entry}
 use Rattle.tsn_journal.specs.declared.entries.MarkedEntry.{MarkedEntry}
 use Rattle.tsn_journal.specs.Entries.{IsNumbered, closes, settled, settles_to}
@@ -19,13 +17,7 @@ off m = record { entry = m.entry; is_open = false }
 -- a mark that is put off early is put off all the same
 pub off_early : (n i upto : ℕ) (ms : List MarkedEntry) (m : MarkedEntry) → IsNumbered n (entries_of ms) → n + i ≤ upto → m ≡ get_or ms i m → map (mark_off (Settled upto)) (set ms i (off m)) ≡ map (mark_off (Settled upto)) ms
 off_early n i upto [] m h le at = refl
-off_early n zero upto (x ∷ ms) m h le at =
-    let here : x.entry.number ≡ n = h.0 in
-    let is : m ≡ x = at in
-    let closed = le-leb x.entry.number upto (omega arith) in
-    let head : mark_off (Settled upto) (off m) ≡ mark_off (Settled upto) x =
-    ap (λ y. mark_off (Settled upto) (off y)) is ∙ ap (λ b. cond b (off x) (off x)) closed ∙ sym (ap (λ b. cond b (off x) x) closed) in
-    ap (λ y. y ∷ map (mark_off (Settled upto)) ms) head
+off_early n zero upto (x ∷ ms) m h le at = grind arith
 off_early n (suc i) upto (x ∷ ms) m h le at = ap (λ ys. mark_off (Settled upto) x ∷ ys) (off_early (n + 1) i upto ms m h.1 (omega arith) at)
 
 -- the same of the one that stands there
@@ -49,18 +41,11 @@ one_off (suc i) (x ∷ ms) m h = (h.0, one_off i ms m h.1)
 
 -- ---- all of them
 
-stays : (b : Bool) (m : MarkedEntry) → m.is_open ≡ false → cond b (off m) m ≡ m
-stays true m h = λ i. record { entry = m.entry; is_open = sym h i }
-stays false m h = refl
-
 -- where all that are settled are off, they are as they are to be
 pub all_off : (n k upto : ℕ) (ms : List MarkedEntry) → IsNumbered n (entries_of ms) → AreOff k ms → upto < n + k → map (mark_off (Settled upto)) ms ≡ ms
 all_off n k upto [] h o lt = refl
-all_off n zero upto (m ∷ ms) h o lt =
-    let here : m.entry.number ≡ n = h.0 in
-    ap (λ b. cond b (off m) m ∷ map (mark_off (Settled upto)) ms) (lt-leb m.entry.number upto (omega arith)) ∙ ap (λ xs. m ∷ xs) (all_off (n + 1) zero upto ms h.1 tt (omega arith))
-all_off n (suc k) upto (m ∷ ms) h o lt =
-    (λ i. stays (nat_le m.entry.number upto) m o.0 i ∷ all_off (n + 1) k upto ms h.1 o.1 (omega arith) i)
+all_off n zero upto (m ∷ ms) h o lt = grind (arith, all_off (n + 1) zero upto ms h.1 tt (omega arith))
+all_off n (suc k) upto (m ∷ ms) h o lt = grind (arith, all_off (n + 1) k upto ms h.1 o.1 (omega arith))
 
 -- ---- what is off stays off
 
@@ -81,30 +66,20 @@ off_append (suc k) (m ∷ ms) ns le h = (h.0, off_append k ms ns (omega arith) h
 settled_off : (n k upto : ℕ) (ms : List MarkedEntry) → IsNumbered n (entries_of ms) → n + k ≤ suc upto → AreOff k (map (mark_off (Settled upto)) ms)
 settled_off n zero upto ms h le = tt
 settled_off n (suc k) upto [] h le = tt
-settled_off n (suc k) upto (m ∷ ms) h le =
-    let here : m.entry.number ≡ n = h.0 in
-    (ap (λ b. (cond b (off m) m).is_open) (le-leb m.entry.number upto (omega arith)), settled_off (n + 1) k upto ms h.1 (omega arith))
+settled_off n (suc k) upto (m ∷ ms) h le = grind (arith, settled_off (n + 1) k upto ms h.1 (omega arith))
 
 by_more : (k upto : ℕ) (P : ℕ → Type 0) → P k → P upto → P (max k upto)
-by_more k upto P low high = elim (nat_le k upto) as (λ b. nat_le k upto ≡ b → P (max k upto)) [
-  | true ↦ λ is. subst P (sym (let e : max k upto ≡ upto = grind (arith, nat_tests) in e)) high
-  | false ↦ λ is. subst P (sym (let e : max k upto ≡ k = grind (arith, nat_tests) in e)) low
-] refl
+by_more k upto P low high = grind arith
 
 no_more : (k : ℕ) → k ≡ max k 0
 no_more k = omega arith
 
 more_off : (w : What) (k : ℕ) (ms : List MarkedEntry) → IsNumbered 1 (entries_of ms) → AreOff k ms → AreOff (max k (settles_to w)) (map (mark_off w) ms)
-more_off (Made c) k ms n h = subst (λ j. AreOff j (map (mark_off (Made c)) ms)) (no_more k) (off_map (Made c) k ms h)
-more_off (Undone of c) k ms n h = subst (λ j. AreOff j (map (mark_off (Undone of c)) ms)) (no_more k) (off_map (Undone of c) k ms h)
-more_off (Redone of c) k ms n h = subst (λ j. AreOff j (map (mark_off (Redone of c)) ms)) (no_more k) (off_map (Redone of c) k ms h)
-more_off (Acted act key now) k ms n h = subst (λ j. AreOff j (map (mark_off (Acted act key now)) ms)) (no_more k) (off_map (Acted act key now) k ms h)
-more_off (Settled upto) k ms n h = by_more k upto (λ j. AreOff j (map (mark_off (Settled upto)) ms)) (off_map (Settled upto) k ms h) (settled_off 1 upto upto ms n (omega arith))
+more_off w k ms n h = grind (arith, no_more, off_map, by_more, settled_off)
 
 -- with one entry more, all up to the greatest number that was settled are off
 pub off_pushed : (w : What) (k : ℕ) (ms : List MarkedEntry) (x : MarkedEntry) → IsNumbered 1 (entries_of ms) → k ≤ length ms → settles_to w ≤ length ms → AreOff k ms → AreOff (max k (settles_to w)) (map (mark_off w) ms ++ x ∷ [])
-off_pushed w k ms x numbered there settles h =
-    off_append (max k (settles_to w)) (map (mark_off w) ms) (x ∷ []) (omega (arith, length-map ms (mark_off w), there, settles)) (more_off w k ms numbered h)
+off_pushed w k ms x numbered there settles h = grind (arith, off_append, length-map, more_off)
 
 pub settled_push : (es : List Entry) (e : Entry) → settled (es ++ e ∷ []) ≡ max (settled es) (settles_to e.what)
 settled_push [] e = omega arith

@@ -1,5 +1,5 @@
 -- The conflicts that a finder looks for: among what is picked of the entries, the latest after the entry of a number.
-use Rattle.std.proofs.Common.{◌≡◌, ℕ, Bool, true, ◌&&◌, not, List, sym, ◌∙◌, ap, subst, Option, Some, drop}
+use Rattle.std.proofs.Common.{◌≡◌, ℕ, Bool, true, ◌&&◌, not, List, sym, ◌∙◌, ap, subst, Option, Some, arith}
 use Rattle.std.specs.Prelude.{◌==◌, is_some, option_map}
 use Rattle.std.specs.List.{filter_map}
 use Rattle.std.specs.Option.{option_and_then}
@@ -18,10 +18,7 @@ pub sought : (ms : List MarkedEntry) (is : IsJournal ms) (pick : MarkedEntry →
     → (es : List Entry) (n : ℕ) (x : Applied) → IsEntry es n x
     → (p : ℕ → MarkedEntry → Bool) (t : Applied → Bool) → ((m : MarkedEntry) → (p x.session m && is_in_conflict (applies m.entry.what) x.change) ≡ passes t (pick m))
     → option_map (λ (m : MarkedEntry). m.entry.number) (option_and_then (λ e. conflict_after (p e.session) ms e) (entry es n)) ≡ option_map (λ (y : Applied). y.number) (last_where t (later_than x.number xs))
-sought ms is pick xs own picked es n x at p t agree =
-    ap (λ o. option_map (λ (m : MarkedEntry). m.entry.number) (option_and_then (λ e. conflict_after (p e.session) ms e) o)) at.found_is
-    ∙ (λ i. option_map (λ (m : MarkedEntry). m.entry.number) (option_and_then (λ c. last_where (λ m. p (sym at.session i) m && is_in_conflict (applies m.entry.what) c) (drop ((at.place ∙ sym at.number) i) ms)) (at.change i)))
-    ∙ later_picked ms is pick xs own picked x.number t (λ m. p x.session m && is_in_conflict (applies m.entry.what) x.change) agree
+sought ms is pick xs own picked es n x at p t agree = grind (arith, later_picked)
 
 module _ (ms : List MarkedEntry) (is : IsJournal ms) (es : List Entry) (same : entries_of ms ≡ es) (n : ℕ) (x : Applied) where
   numbered : IsNumbered 1 es

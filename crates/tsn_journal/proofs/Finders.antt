@@ -1,5 +1,5 @@
 -- What each finder looks for, among marked entries.
-use Rattle.std.proofs.Common.{◌≡◌, ℕ, Bool, true, false, cond, ◌||◌, ◌&&◌, not, List, [], ◌∷◌, refl, sym, ◌∙◌, ap, Option, Some, None, drop, filter, length, map}
+use Rattle.std.proofs.Common.{◌≡◌, ℕ, Bool, true, false, cond, ◌||◌, ◌&&◌, not, List, [], ◌∷◌, refl, sym, ◌∙◌, ap, Option, Some, None, drop, filter, length, map, arith, rules}
 use Rattle.std.proofs.lemmas.List.{length-map}
 use Rattle.std.specs.Prelude.{◌==◌, is_some, option_map}
 use Rattle.std.specs.List.{filter_map, find, list_any}
@@ -7,13 +7,12 @@ use Rattle.std.specs.Option.{option_and_then, option_or}
 use Rattle.std.proofs.lemmas.Bool.{or_left, or_right, or_from, eqb-true}
 use Rattle.tsn_edit.specs.Parts.{Change}
 use Rattle.tsn_edit.specs.Changes.{conflicts}
-use Rattle.tsn_edit.proofs.KeyFacts.{by_bool, by_option}
+use Rattle.tsn_edit.proofs.KeyFacts.{by_bool}
 use Rattle.tsn_journal.specs.declared.entries.What.{What}
-use Rattle.tsn_journal.specs.declared.entries.What.TheVariants.{Made, Undone, Redone, Acted, Settled}
 use Rattle.tsn_journal.specs.declared.entries.Entry.{Entry}
 use Rattle.tsn_journal.specs.declared.entries.MarkedEntry.{MarkedEntry}
-use Rattle.tsn_journal.specs.Entries.{Applied, adds, applied, applies, is_made, is_closed, standing, undoes}
-use Rattle.tsn_journal.specs.Finding.{find_conflict_of_others, find_own_in_conflict, last_where, later_than, may_redo, own_standing, parts_of_all, redo_of, standing_entry}
+use Rattle.tsn_journal.specs.Entries.{Applied, adds, applied, applies, is_made, standing, undoes}
+use Rattle.tsn_journal.specs.Finding.{find_conflict_of_others, find_own_in_conflict, last_where, later_than, own_standing, parts_of_all, redo_of, standing_entry}
 use Rattle.tsn_journal.specs.Marks.{AreMarked, IsJournal, added_in, conflict_of_others, ends_redo, entries_of, is_in_conflict, is_others, is_own, newest_blocked, stands}
 use Rattle.tsn_journal.proofs.Collecting.{IsOwn, filter_marked, filter_parts, find_marked, last_marked, later_marked, passes, standing-marked, stands-own}
 
@@ -34,10 +33,7 @@ module _ (ms : List MarkedEntry) (is : IsJournal ms) where
   -- a search for the latest later one among what is picked of the entries
   pub later_picked : (pick : MarkedEntry → Option Applied) (xs : List Applied) → IsOwn pick → xs ≡ filter_map pick ms → (n : ℕ) (t : Applied → Bool) (p : MarkedEntry → Bool) → ((m : MarkedEntry) → p m ≡ passes t (pick m))
       → at (last_where p (drop n ms)) ≡ num (last_where t (later_than n xs))
-  later_picked pick xs own picked n t p agree =
-      sym (ap (λ ys. num (last_where t (later_than n ys))) picked
-      ∙ ap (λ ys. num (last_where t ys)) (later_marked pick n ms own is.numbered)
-      ∙ last_marked pick t p (drop n ms) own agree)
+  later_picked pick xs own picked n t p agree = grind (arith, later_marked, last_marked)
 
   pub standing_at : (n : ℕ) → standing_entry (entries_of ms) n ≡ option_and_then stands (find (λ m. m.entry.number == n) ms)
   standing_at n = ap (find (λ x. x.number == n)) (standing-marked ms is.marked) ∙ find_marked stands 1 n ms stands-own is.numbered
@@ -48,44 +44,25 @@ abbrev mk : ℕ → ℕ → Change → Applied
 mk n s c = record { number = n; session = s; change = c }
 
 own : (b : Bool) (n s k : ℕ) (w : What) → (is_some (cond b (option_map (mk n s) (adds w)) None) && (s == k)) ≡ passes (λ x. x.session == k) (cond b (option_map (mk n s) (adds w)) None)
-own false n s k w = refl
-own true n s k (Made c) = refl
-own true n s k (Undone i c) = refl
-own true n s k (Redone i c) = refl
-own true n s k (Acted act key now) = refl
-own true n s k (Settled upto) = refl
+own b n s k w = grind arith
 
 pub own_agrees : (k : ℕ) → Agrees (λ x. x.session == k) (λ m. is_some (stands m) && (m.entry.session == k))
 own_agrees k m = own m.is_open m.entry.number m.entry.session k m.entry.what
 
 conflict : (b : Bool) (n s : ℕ) (w : What) (e : Change) → (is_some (cond b (option_map (mk n s) (adds w)) None) && is_in_conflict (applies w) e) ≡ passes (λ f. conflicts f.change e) (cond b (option_map (mk n s) (adds w)) None)
-conflict false n s w e = refl
-conflict true n s (Made c) e = refl
-conflict true n s (Undone i c) e = refl
-conflict true n s (Redone i c) e = refl
-conflict true n s (Acted act key now) e = refl
-conflict true n s (Settled upto) e = refl
+conflict b n s w e = grind arith
 
 pub conflict_agrees : (e : Change) → Agrees (λ f. conflicts f.change e) (λ m. is_some (stands m) && is_in_conflict (applies m.entry.what) e)
 conflict_agrees e m = conflict m.is_open m.entry.number m.entry.session m.entry.what e
 
 other : (b : Bool) (n s k : ℕ) (w : What) (e : Change) → ((is_some (cond b (option_map (mk n s) (adds w)) None) && not (s == k)) && is_in_conflict (applies w) e) ≡ passes (λ f. not (f.session == k) && conflicts f.change e) (cond b (option_map (mk n s) (adds w)) None)
-other false n s k w e = refl
-other true n s k (Made c) e = refl
-other true n s k (Undone i c) e = refl
-other true n s k (Redone i c) e = refl
-other true n s k (Acted act key now) e = refl
-other true n s k (Settled upto) e = refl
+other b n s k w e = grind arith
 
 pub other_agrees : (k : ℕ) (e : Change) → Agrees (λ f. not (f.session == k) && conflicts f.change e) (λ m. is_others k m && is_in_conflict (applies m.entry.what) e)
 other_agrees k e m = other m.is_open m.entry.number m.entry.session k m.entry.what e
 
 any : (n s : ℕ) (w : What) (e : Change) → is_in_conflict (applies w) e ≡ passes (λ f. conflicts f.change e) (option_map (mk n s) (applies w))
-any n s (Made c) e = refl
-any n s (Undone i c) e = refl
-any n s (Redone i c) e = refl
-any n s (Acted act key now) e = refl
-any n s (Settled upto) e = refl
+any n s w e = grind arith
 
 pub any_agrees : (e : Change) (m : MarkedEntry) → is_in_conflict (applies m.entry.what) e ≡ passes (λ f. conflicts f.change e) (applied applies m.entry)
 any_agrees e m = any m.entry.number m.entry.session m.entry.what e
@@ -93,32 +70,18 @@ any_agrees e m = any m.entry.number m.entry.session m.entry.what e
 -- ---- an own entry that is blocked, and the own entries
 
 same_some : (o : Option MarkedEntry) (p : Option Applied) → at o ≡ num p → is_some o ≡ is_some p
-same_some None None h = refl
-same_some None (Some x) h = (cc)
-same_some (Some m) None h = (cc)
-same_some (Some m) (Some x) h = refl
+same_some o p h = grind arith
 
 module _ (ms : List MarkedEntry) (is : IsJournal ms) where
   others_is : (n s : ℕ) (w : What) (c : Change) → applies w ≡ Some c → is_some (conflict_of_others ms (record { number = n; session = s; what = w })) ≡ is_some (find_conflict_of_others (entries_of ms) (mk n s c))
-  others_is n s w c change =
-      let t : Applied → Bool = λ f. not (f.session == s) && conflicts f.change c in
-      let p : MarkedEntry → Bool = λ m. is_others s m && is_in_conflict (applies m.entry.what) c in
-      ap (λ o. is_some (option_and_then (λ c. last_where (λ m. is_others s m && is_in_conflict (applies m.entry.what) c) (drop n ms)) o)) change
-      ∙ same_some (last_where p (drop n ms)) (find_conflict_of_others (entries_of ms) (mk n s c)) (later_picked ms is stands (standing (entries_of ms)) stands-own (standing-marked ms is.marked) n t p (other_agrees s c))
+  others_is n s w c change = grind (arith, same_some, later_picked, stands-own, standing-marked, other_agrees)
 
   blocked : (b : Bool) (n s k : ℕ) (w : What) → ((is_some (cond b (option_map (mk n s) (adds w)) None) && (s == k)) && is_some (conflict_of_others ms (record { number = n; session = s; what = w })))
       ≡ passes (λ x. (x.session == k) && is_some (find_conflict_of_others (entries_of ms) x)) (cond b (option_map (mk n s) (adds w)) None)
-  blocked false n s k w = refl
-  blocked true n s k (Made c) = ap (λ t. (s == k) && t) (others_is n s (Made c) c refl)
-  blocked true n s k (Undone i c) = refl
-  blocked true n s k (Redone i c) = ap (λ t. (s == k) && t) (others_is n s (Redone i c) c refl)
-  blocked true n s k (Acted act key now) = refl
-  blocked true n s k (Settled upto) = refl
+  blocked b n s k w = grind (arith, others_is)
 
   pub own_in_conflict_is : (s : ℕ) → at (last_where (λ m. is_own s m && is_some (conflict_of_others ms m.entry)) ms) ≡ num (find_own_in_conflict (entries_of ms) s)
-  own_in_conflict_is s =
-      last_standing ms is (λ x. (x.session == s) && is_some (find_conflict_of_others (entries_of ms) x)) (λ m. is_own s m && is_some (conflict_of_others ms m.entry))
-      (λ m. blocked m.is_open m.entry.number m.entry.session s m.entry.what)
+  own_in_conflict_is s = search (rules, last_standing, blocked)
 
   pub own_numbers : (s : ℕ) → map (λ (m : MarkedEntry). m.entry.number) (filter (is_own s) ms) ≡ map (λ (x : Applied). x.number) (own_standing (entries_of ms) s)
   own_numbers s = sym (ap (λ xs. map (λ (x : Applied). x.number) (filter (λ x. x.session == s) xs)) (standing-marked ms is.marked) ∙ filter_marked stands (λ x. x.session == s) (is_own s) ms stands-own (own_agrees s))
@@ -149,17 +112,10 @@ redone_at m = applied undoes m.entry
 
 -- where the search ends at an edit, there is one
 made_ends : (a b o : Bool) (w : What) (n s : ℕ) → (a && (is_made w || (is_some (undoes w) && o))) ≡ true → option_map (mk n s) (undoes w) ≡ None → (a && is_made w) ≡ true
-made_ends true b o (Made c) n s h none = refl
-made_ends true b o (Undone i c) n s h none = (cc)
-made_ends true b o (Redone i c) n s h none = h
-made_ends true b o (Acted act key now) n s h none = h
-made_ends true b o (Settled upto) n s h none = h
-made_ends false b o w n s h none = h
+made_ends a b o w n s h none = grind arith
 
 pub last_of_two : (o : Option MarkedEntry) (b : Bool) (m x : MarkedEntry) (G : Type 0) → option_or o (cond b (Some m) None) ≡ Some x → ((b ≡ true) → m ≡ x → G) → (o ≡ Some x → G) → G
-last_of_two None true m x G h f g = f refl (cc)
-last_of_two None false m x G h f g = (cc)
-last_of_two (Some y) b m x G h f g = g h
+last_of_two o b m x G h f g = grind arith
 
 edit_there : (s : ℕ) (ms : List MarkedEntry) (x : MarkedEntry) → last_where (ends s) ms ≡ Some x → redone_at x ≡ None → list_any (edit_of s) (entries_of ms) ≡ true
 edit_there s [] x h none = (cc)
@@ -169,17 +125,10 @@ edit_there s (m ∷ ms) x h none =
     (λ later. or_right (edit_of s m.entry) _ (edit_there s ms x later none))
 
 pub neither : {A : Type 0} (o : Option A) (b : Bool) (m : A) → option_or o (cond b (Some m) None) ≡ None → (o ≡ None) × (b ≡ false)
-neither None true m h = (cc)
-neither None false m h = (refl, refl)
-neither (Some y) b m h = (cc)
+neither o b m h = grind arith
 
 no_edit_here : (a o : Bool) (w : What) → (a && (is_made w || (is_some (undoes w) && o))) ≡ false → (a && is_made w) ≡ false
-no_edit_here true o (Made c) h = h
-no_edit_here true o (Undone i c) h = refl
-no_edit_here true o (Redone i c) h = refl
-no_edit_here true o (Acted act key now) h = refl
-no_edit_here true o (Settled upto) h = refl
-no_edit_here false o w h = refl
+no_edit_here a o w h = grind arith
 
 no_edit : (s : ℕ) (ms : List MarkedEntry) → last_where (ends s) ms ≡ None → list_any (edit_of s) (entries_of ms) ≡ false
 no_edit s [] h = refl
@@ -190,42 +139,14 @@ no_edit s (m ∷ ms) h =
 -- an entry after which nothing ends the search
 ended_here : (a o t : Bool) (w : What) (n s : ℕ) (m : MarkedEntry) → o ≡ not t → redone_at m ≡ option_map (mk n s) (undoes w)
     → cond (a && (is_some (undoes w) && (not t && true))) (option_map (mk n s) (undoes w)) None ≡ option_and_then redone_at (cond (a && (is_made w || (is_some (undoes w) && o))) (Some m) None)
-ended_here true o t (Made c) n s m open' same = sym same
-ended_here true o true (Undone i c) n s m open' same = ap (λ b. option_and_then redone_at (cond b (Some m) None)) (sym open')
-ended_here true o false (Undone i c) n s m open' same = sym same ∙ ap (λ b. option_and_then redone_at (cond b (Some m) None)) (sym open')
-ended_here true o t (Redone i c) n s m open' same = refl
-ended_here true o t (Acted act key now) n s m open' same = refl
-ended_here true o t (Settled upto) n s m open' same = refl
-ended_here false o t w n s m open' same = refl
+ended_here a o t w n s m open' same = grind arith
 
 never : (a u t : Bool) (o : Option Applied) → cond (a && (u && (t && false))) o None ≡ None
-never true true true o = refl
-never true true false o = refl
-never true false t o = refl
-never false u t o = refl
+never a u t o = grind arith
 
 pub redo_marked : (s : ℕ) (ms : List MarkedEntry) → AreMarked ms → redo_of (entries_of ms) s ≡ option_and_then redone_at (last_where (ends s) ms)
 redo_marked s [] h = refl
-redo_marked s (m ∷ ms) h =
-    let es = entries_of ms in
-    let rest = redo_marked s ms h.1 in
-    let here : Option Applied = cond (may_redo s m.entry es) (redone_at m) None in
-    by_option (last_where (ends s) ms)
-    (λ none.
-    ap (λ o. option_or o here) (rest ∙ ap (option_and_then redone_at) none)
-    ∙ ap (λ b. cond ((m.entry.session == s) && (is_some (undoes m.entry.what) && (not (is_closed m.entry es) && not b))) (redone_at m) None) (no_edit s ms none)
-    ∙ ended_here (m.entry.session == s) m.is_open (is_closed m.entry es) m.entry.what m.entry.number m.entry.session m h.0 refl
-    ∙ ap (λ o. option_and_then redone_at (option_or o (cond (ends s m) (Some m) None))) (sym none))
-    (λ x some.
-    ap (λ o. option_or o here) (rest ∙ ap (option_and_then redone_at) some)
-    ∙ by_option (redone_at x)
-    (λ nothing.
-    ap (λ o. option_or o here) nothing
-    ∙ ap (λ b. cond ((m.entry.session == s) && (is_some (undoes m.entry.what) && (not (is_closed m.entry es) && not b))) (redone_at m) None) (edit_there s ms x some nothing)
-    ∙ never (m.entry.session == s) (is_some (undoes m.entry.what)) (not (is_closed m.entry es)) (redone_at m)
-    ∙ sym nothing)
-    (λ y found. ap (λ o. option_or o here) found ∙ sym found)
-    ∙ ap (λ o. option_and_then redone_at (option_or o (cond (ends s m) (Some m) None))) (sym some))
+redo_marked s (m ∷ ms) h = grind (arith, no_edit, ended_here, edit_there, never, redo_marked s ms h.1)
 
 -- ---- the entry of a number
 
@@ -243,30 +164,17 @@ pub record IsPicked (m : MarkedEntry) (n : ℕ) (e : Applied) : Type 0 where
   pub change : applies m.entry.what ≡ Some e.change
 
 standing_parts : (b : Bool) (n s : ℕ) (w : What) (e : Applied) → cond b (option_map (mk n s) (adds w)) None ≡ Some e → (e.number ≡ n) × (e.session ≡ s) × (applies w ≡ Some e.change)
-standing_parts false n s w e h = (cc)
-standing_parts true n s (Made c) e h = let same : mk n s c ≡ e = (cc) in (ap (λ (x : Applied). x.number) (sym same), ap (λ (x : Applied). x.session) (sym same), ap (λ (x : Applied). Some x.change) same)
-standing_parts true n s (Undone i c) e h = (cc)
-standing_parts true n s (Redone i c) e h = let same : mk n s c ≡ e = (cc) in (ap (λ (x : Applied). x.number) (sym same), ap (λ (x : Applied). x.session) (sym same), ap (λ (x : Applied). Some x.change) same)
-standing_parts true n s (Acted act key now) e h = (cc)
-standing_parts true n s (Settled upto) e h = (cc)
+standing_parts b n s w e h = grind arith
 
 undone_parts : (n s : ℕ) (w : What) (e : Applied) → option_map (mk n s) (undoes w) ≡ Some e → (e.number ≡ n) × (e.session ≡ s) × (applies w ≡ Some e.change)
-undone_parts n s (Made c) e h = (cc)
-undone_parts n s (Undone i c) e h = let same : mk n s c ≡ e = (cc) in (ap (λ (x : Applied). x.number) (sym same), ap (λ (x : Applied). x.session) (sym same), ap (λ (x : Applied). Some x.change) same)
-undone_parts n s (Redone i c) e h = (cc)
-undone_parts n s (Acted act key now) e h = (cc)
-undone_parts n s (Settled upto) e h = (cc)
+undone_parts n s w e h = grind arith
 
 module _ (ms : List MarkedEntry) (n : ℕ) (e : Applied) (m : MarkedEntry) (found : find (λ m. m.entry.number == n) ms ≡ Some m) where
   at_number : m.entry.number ≡ n
   at_number = eqb-true m.entry.number n (find_passes (λ m. m.entry.number == n) ms m found)
 
   pub standing_picked_of : stands m ≡ Some e → IsPicked m n e
-  standing_picked_of is =
-      let parts = standing_parts m.is_open m.entry.number m.entry.session m.entry.what e is in
-      record { place = at_number; number = parts.0 ∙ at_number; session = parts.1; change = parts.2 }
+  standing_picked_of is = grind (arith, standing_parts, at_number)
 
   pub undone_picked_of : redone_at m ≡ Some e → IsPicked m n e
-  undone_picked_of is =
-      let parts = undone_parts m.entry.number m.entry.session m.entry.what e is in
-      record { place = at_number; number = parts.0 ∙ at_number; session = parts.1; change = parts.2 }
+  undone_picked_of is = grind (arith, undone_parts, at_number)

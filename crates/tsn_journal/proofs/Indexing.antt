@@ -1,10 +1,8 @@
 -- The index of a journal: with a mark off, with an entry more, and with a place more.
 use Rattle.std.proofs.Common.{◌≡◌, ℕ, zero, suc, ◌+◌, ◌-◌, ◌<◌, ◌≤◌, inl, inr, Bool, true, false, cond, ◌||◌, List, [], ◌∷◌, ◌++◌, refl, sym, ◌∙◌, ap, subst, Option, Some, None, arith, length, map}
-use Rattle.std.specs.Prelude.{option_map}
 use Rattle.std.specs.List.{slice_get}
 use Rattle.std.proofs.lemmas.List.{length-map, length-append}
 use Rattle.std.proofs.lemmas.Option.{slice_get-map, slice_get_past, slice_get_within, same_Some}
-use Rattle.std.proofs.lemmas.Bool.{eqb-true}
 use Rattle.tsn_edit.proofs.KeyFacts.{by_bool, by_option}
 use Rattle.tsn_journal.specs.declared.entries.What.{What}
 use Rattle.tsn_journal.specs.declared.entries.MarkedEntry.{MarkedEntry}
@@ -21,13 +19,7 @@ use Rattle.tsn_journal.proofs.Links.{end_at, front_at, hop, none_some, not_of_ot
 
 module _ (w : What) (ms : List MarkedEntry) where
   none_off : (t : MarkedEntry → Bool) → ((m : MarkedEntry) → t m ≡ false → t (mark_off w m) ≡ false) → (n limit : ℕ) → NoneBetween t ms n limit → NoneBetween t (map (mark_off w) ms) n limit
-  none_off t falls n limit none i m low high at =
-      let mapped : option_map (mark_off w) (slice_get ms i) ≡ Some m = sym (slice_get-map (mark_off w) ms i) ∙ at in
-      by_option (slice_get ms i)
-      (λ no. none_some m (sym (ap (option_map (mark_off w)) no) ∙ mapped))
-      (λ x some.
-      let same : mark_off w x ≡ m = same_Some _ _ (sym (ap (option_map (mark_off w)) some) ∙ mapped) in
-      ap t (sym same) ∙ falls x (none i x low high some))
+  none_off t falls n limit none i m low high at = grind (arith, slice_get-map, none_some, same_Some)
 
   last_off : (g : Group) (t : MarkedEntry → Bool) → ((m : MarkedEntry) → t m ≡ false → t (mark_off w m) ≡ false) → (ps : List Place) (j limit : ℕ) → IsLast g t ms ps j limit → IsLast g t (map (mark_off w) ms) ps j limit
   last_off g t falls ps j limit is = record { within = is.within; group = is.group; none_later = none_off t falls (number_at ps j) limit is.none_later }
@@ -72,17 +64,8 @@ module _ (ms : List MarkedEntry) (x : MarkedEntry) where
       let ps = a.places.items in
       record {
         places = λ i p at.
-            let old = is.places i p at in record {
-              some = old.some;
-              within = omega (arith, longer, old.within);
-              earlier = old.earlier;
-              less = old.less;
-              last = last_more p.group (belongs p.group) ps p.before p.number (omega (arith, old.within)) old.last;
-              other_earlier = old.other_earlier;
-              other = λ s by.
-                  last_more p.group (belongs_to_others p.group s) ps p.other p.number (omega (arith, old.within))
-                  (old.other s (ap (is_by s) (sym (front_at ms (x ∷ []) (p.number - 1) (omega (arith, old.some, old.within)))) ∙ by));
-            };
+            let old = is.places i p at in
+            grind (arith, longer, last_more, front_at);
         latest_is = λ g.
             subst (λ k. IsLast g (belongs g) more ps (latest_of a.latest g) k) (sym longer) (last_more g (belongs g) ps (latest_of a.latest g) (length ms + 1) (omega arith) (is.latest_is g));
       }
@@ -95,52 +78,19 @@ module _ (ms : List MarkedEntry) where
 
   -- the newest places may be said otherwise
   pub reindexed : (pending : List (Option Group)) (ps : List Place) (l k : Group → ℕ) → ((g : Group) → k g ≡ l g) → IsIndexedBut pending ms ps l → IsIndexedBut pending ms ps k
-  reindexed pending ps l k same is = record {
-    places = is.places;
-    latest_is = λ g. subst (λ j. IsLast g (belongs g) ms ps j (cond (is_among pending g) (length ms) (length ms + 1))) (sym (same g)) (is.latest_is g);
-  }
-
-  not_true : (b c : Bool) → (b ≡ true → c ≡ true) → c ≡ false → b ≡ false
-  not_true true c f h = let t = f refl in (cc)
-  not_true false c f h = refl
+  reindexed pending ps l k same is = grind arith
 
   -- the newest entry is in no group but the pending ones
   pub pending_newest : (pending : List (Option Group)) (a : Index) → ((m : MarkedEntry) → slice_get ms (length ms - 1) ≡ Some m → (g : Group) → belongs g m ≡ true → is_among pending g ≡ true)
       → IsIndexedButNewest ms a → IsIndexedBut pending ms a.places.items (latest_of a.latest)
-  pending_newest pending a covers is =
-      let ps = a.places.items in
-      let l : Group → ℕ = latest_of a.latest in
-      record {
-        places = is.places;
-        latest_is = λ g.
-            by_bool (is_among pending g)
-            (λ yes. subst (λ b. IsLast g (belongs g) ms ps (l g) (cond b (length ms) (length ms + 1))) (sym yes) (is.latest_is g))
-            (λ no. subst (λ b. IsLast g (belongs g) ms ps (l g) (cond b (length ms) (length ms + 1))) (sym no)
-            (record {
-              within = (is.latest_is g).within;
-              group = (is.latest_is g).group;
-              none_later = λ i m low high at.
-                  elim (where_at (length ms - 1) i) [
-                    | inl before ↦ (is.latest_is g).none_later i m low (omega arith) at
-                    | inr rest ↦ elim rest [
-                      | inl here ↦ not_true _ _ (covers m (ap (slice_get ms) (sym here) ∙ at) g) no
-                      | inr after ↦ absurd (omega (arith, slice_get_within ms i m at))
-                    ]
-                  ];
-            }));
-      }
+  pending_newest pending a covers is = grind arith
 
   -- no entry comes after the newest one
   past_end : (t : MarkedEntry → Bool) (n limit : ℕ) → length ms ≤ n → NoneBetween t ms n limit
   past_end t n limit h i m low high at = let in' : i < length ms = slice_get_within ms i m at in absurd (omega arith)
 
   pub last_front : (g : Group) (t : MarkedEntry → Bool) (ps : List Place) (p : Place) (j limit : ℕ) → IsLast g t ms ps j limit → IsLast g t ms (ps ++ p ∷ []) j limit
-  last_front g t ps p j limit is =
-      let same : place_at ps j ≡ place_at (ps ++ p ∷ []) j = sym (place_front ps (p ∷ []) j is.within) in record {
-        within = omega (arith, is.within, length-append ps (p ∷ []));
-        group = ap (is_of g) (sym same) ∙ is.group;
-        none_later = subst (λ o. NoneBetween t ms (number_of o) limit) same is.none_later;
-      }
+  last_front g t ps p j limit is = grind (arith, place_front, length-append)
 
   place_more : (ps : List Place) (q : Place) (i : ℕ) (p : Place) → i ≤ length ps → IsPlace ms ps i p → IsPlace ms (ps ++ q ∷ []) i p
   place_more ps q i p few is =
@@ -175,8 +125,7 @@ module _ (ms : List MarkedEntry) where
       (elim (is_by s (slice_get ms (p.number - 1))) as (λ b. cond b p.other (suc i) ≤ length ps) [ true ↦ omega (arith, (are i p there).other_earlier) | false ↦ h ]))
 
   by_one : (s q : ℕ) (o : Option MarkedEntry) → is_by s o ≡ true → is_by q o ≡ true → s ≡ q
-  by_one s q None h k = (cc)
-  by_one s q (Some m) h k = sym (eqb-true m.entry.session s h) ∙ eqb-true m.entry.session q k
+  by_one s q o h k = grind arith
 
   module _ (g : Group) (n s before : ℕ) (ps : List Place) (newest : n ≡ length ms) (some : 1 ≤ n) (by : is_by s (slice_get ms (n - 1)) ≡ true) (are : ArePlaces ms ps) (here : IsLast g (belongs g) ms ps before (length ms)) where
     abbrev pub new_place : Place
@@ -261,9 +210,7 @@ module _ (ms : List MarkedEntry) where
         ]
 
   unchanged : (g : Group) (l : Group → ℕ) (q : Group) → set_at g (l g) l q ≡ l q
-  unchanged g l q = by_bool (same_group g q)
-      (λ same. ap (λ b. cond b (l g) (l q)) same ∙ ap l (one_group g q same))
-      (λ other. ap (λ b. cond b (l g) (l q)) other)
+  unchanged g l q = grind arith
 
   -- the same where the place may be unwanted
   pub indexed_if : (wanted : Bool) (g : Group) (rest : List (Option Group)) (n s before : ℕ) (ps : List Place) (l : Group → ℕ) → n ≡ length ms → 1 ≤ n → is_by s (slice_get ms (n - 1)) ≡ true → before ≡ l g
@@ -275,32 +222,12 @@ module _ (ms : List MarkedEntry) where
 
   -- what is known with pending groups is known but for the newest entry
   pub but_newest : (pending : List (Option Group)) (a : Index) → IsIndexedBut pending ms a.places.items (latest_of a.latest) → IsIndexedButNewest ms a
-  but_newest pending a is = record {
-    places = is.places;
-    latest_is = λ g. let at = is.latest_is g in record {
-      within = at.within;
-      group = at.group;
-      none_later = λ i m low high there. at.none_later i m low (elim (is_among pending g) as (λ b. i + 1 < cond b (length ms) (length ms + 1)) [ true ↦ high | false ↦ omega arith ]) there;
-    };
-  }
+  but_newest pending a is = grind arith
 
 -- ---- room
 
 pub rows_then : (n k : ℕ) (a b d : Index) → TakesRows n a.latest b.latest → TakesRows k b.latest d.latest → TakesRows (n + k) a.latest d.latest
-rows_then n k a b d h m = record {
-  ports = omega (arith, h.ports, m.ports);
-  filters = omega (arith, h.filters, m.filters);
-  gates = omega (arith, h.gates, m.gates);
-  meters = omega (arith, h.meters, m.meters);
-  sessions = omega (arith, h.sessions, m.sessions);
-}
+rows_then n k a b d h m = grind arith
 
 pub takes_more : (n k : ℕ) (a b d : Index) → TakesRoom n a b → TakesRoom k b d → TakesRoom (n + k) a d
-takes_more n k a b d h m = record {
-  places = record {
-    len = omega (arith, h.places.len, m.places.len);
-    items = omega (arith, h.places.items, m.places.items);
-    capacity = m.places.capacity ∙ h.places.capacity;
-  };
-  rows = rows_then n k a b d h.rows m.rows;
-}
+takes_more n k a b d h m = grind arith

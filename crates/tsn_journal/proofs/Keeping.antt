@@ -5,7 +5,7 @@ use Rattle.tsn_journal.specs.declared.entries.What.{What}
 use Rattle.tsn_journal.specs.declared.entries.MarkedEntry.{MarkedEntry}
 use Rattle.tsn_journal.specs.declared.groups.Group.{Group}
 use Rattle.tsn_journal.specs.declared.index.Index.{Index}
-use Rattle.tsn_journal.specs.Index.{ArePlaces, HasRoom, IsIndexed, IsIndexedButNewest, IsLast, NewestAdds, TakesNoRoom, TakesRoom, belongs, places_for}
+use Rattle.tsn_journal.specs.Index.{ArePlaces, HasRoom, IsIndexed, IsIndexedButNewest, NewestAdds, TakesNoRoom, TakesRoom, places_for}
 use Rattle.tsn_journal.specs.Crossed.{IsFreeAbove, IsNeeded, IsRaised, NoneCrossed, NoneReferred, is_on_referred}
 use Rattle.tsn_journal.specs.Kept.{IsKept}
 use Rattle.tsn_journal.specs.Latest.{latest_of}
@@ -28,8 +28,7 @@ use Rattle.tsn_journal.proofs.Telling.{tells_more, tells_same}
 pub indexed_same : (ms : List MarkedEntry) (a b : Index) → b.places.items ≡ a.places.items → ((g : Group) → latest_of b.latest g ≡ latest_of a.latest g) → IsIndexed ms a → IsIndexed ms b
 indexed_same ms a b places latest is = record {
   places = subst (ArePlaces ms) (sym places) is.places;
-  latest_is = λ g. subst (λ qs. IsLast g (belongs g) ms qs (latest_of b.latest g) (length ms + 1)) (sym places)
-      (subst (λ j. IsLast g (belongs g) ms a.places.items j (length ms + 1)) (sym (latest g)) (is.latest_is g));
+  latest_is = λ g. grind arith;
 }
 
 newest_same : (ms : List MarkedEntry) (a b : Index) → b.places.items ≡ a.places.items → ((g : Group) → latest_of b.latest g ≡ latest_of a.latest g) → (g : Group) → HasNewest ms a g → HasNewest ms b g
@@ -56,28 +55,10 @@ module _ (ms : List MarkedEntry) (len capacity : ℕ) (a : Index) (room parts up
   }
 
 pub still_room : (n : ℕ) (a b : Index) → TakesNoRoom a b → HasRoom n a → HasRoom n b
-still_room n a b h k = record {
-  places = record { capacity = omega (arith, h.places, h.capacity, k.places.capacity); few = omega (arith, ap length h.items, k.places.few) };
-  rows = record {
-    ports = omega (arith, h.rows.ports, k.rows.ports);
-    filters = omega (arith, h.rows.filters, k.rows.filters);
-    gates = omega (arith, h.rows.gates, k.rows.gates);
-    meters = omega (arith, h.rows.meters, k.rows.meters);
-    sessions = omega (arith, h.rows.sessions, k.rows.sessions);
-  };
-}
+still_room n a b h k = grind arith
 
 pub less_room : (n p k : ℕ) (a b : Index) → 1 ≤ n → k ≤ p → TakesRoom (places_for 1 k) a b → HasRoom (places_for n p) a → HasRoom (places_for (n - 1) (p - k)) b
-less_room n p k a b some fewer h has = record {
-  places = record { capacity = omega (arith, h.places.len, h.places.capacity, has.places.capacity); few = omega (arith, h.places.items, has.places.few) };
-  rows = record {
-    ports = omega (arith, h.rows.ports, has.rows.ports);
-    filters = omega (arith, h.rows.filters, has.rows.filters);
-    gates = omega (arith, h.rows.gates, has.rows.gates);
-    meters = omega (arith, h.rows.meters, has.rows.meters);
-    sessions = omega (arith, h.rows.sessions, has.rows.sessions);
-  };
-}
+less_room n p k a b some fewer h has = grind arith
 
 module _ (w : What) (s : ℕ) (ms ns : List MarkedEntry) (pushed : ns ≡ map (mark_off w) ms ++ new_entry ms s w ∷ []) where
   pub pushed_index : (a : Index) → IsIndexed ms a → IsIndexedButNewest ns a
@@ -89,8 +70,7 @@ module _ (w : What) (s : ℕ) (ms ns : List MarkedEntry) (pushed : ns ≡ map (m
 
   -- the marks up to what is settled then are off
   pub off_more : (upto now : ℕ) → IsJournal ms → upto ≤ length ms → settles_to w ≤ length ms → now ≡ max upto (settles_to w) → AreOff upto ms → AreOff now ns
-  off_more upto now is within there now_is off =
-      subst (λ n. AreOff n ns) (sym now_is) (subst (AreOff (max upto (settles_to w))) (sym pushed) (off_pushed w upto ms (new_entry ms s w) is.numbered within there off))
+  off_more upto now is within there now_is off = grind (arith, off_pushed, new_entry)
 
   pub kept_pushed : (len capacity len' capacity' room parts k upto now crossed more : ℕ) (a b : Index) → 1 ≤ room → k ≤ parts → k ≤ 16 → IsKept ms len capacity a room parts upto crossed → IsFreeAbove more ns → NoneReferred more ns → IsRaised crossed more ms s (adds w) → settles_to w ≤ length ms → now ≡ max upto (settles_to w) → length ms ≡ len → len' ≡ len + 1 → capacity' ≡ capacity → IsIndexed ns b → AreNewest ns b → Tells (entries_of ns) b
       → TakesRoom (places_for 1 k) a b → IsKept ns len' capacity' b (room - 1) (parts - k) now more
@@ -119,9 +99,7 @@ module _ (w : What) (s : ℕ) (ms ns : List MarkedEntry) (pushed : ns ≡ map (m
   pushed_referred crossed more is up own = subst (NoneReferred more) (sym pushed) (referred_pushed w ms (new_entry ms s w) refl crossed more is up own)
 
   newest_is : slice_get ns (length ns - 1) ≡ Some (new_entry ms s w)
-  newest_is =
-      let count : length ns ≡ length (map (mark_off w) ms) + 1 = ap length pushed ∙ length-append (map (mark_off w) ms) (new_entry ms s w ∷ []) in
-      ap (λ xs. slice_get xs (length ns - 1)) pushed ∙ end_at (map (mark_off w) ms) (new_entry ms s w) (length ns - 1) (omega (arith, count))
+  newest_is = grind (arith, length-append, new_entry, end_at)
 
   -- what the rows tell has the entry that was pushed, once it is told
   pub pushed_tells : (a b : Index) → IsNumbered 1 (entries_of ms) → Tells (entries_of ms) a → NewestTold ns (length ns) a b → Tells (entries_of ns) b
@@ -134,10 +112,7 @@ module _ (w : What) (s : ℕ) (ms ns : List MarkedEntry) (pushed : ns ≡ map (m
 
   -- the newest entry is the one that was pushed
   pub pushed_adds : NewestAdds ns (added_parts w)
-  pushed_adds m at =
-      let count : length ns ≡ length (map (mark_off w) ms) + 1 = ap length pushed ∙ length-append (map (mark_off w) ms) (new_entry ms s w ∷ []) in
-      let last : slice_get ns (length ns - 1) ≡ Some (new_entry ms s w) = ap (λ xs. slice_get xs (length ns - 1)) pushed ∙ end_at (map (mark_off w) ms) (new_entry ms s w) (length ns - 1) (omega (arith, count)) in
-      ap (λ (x : MarkedEntry). added_parts x.entry.what) (same_Some _ _ (sym at ∙ last))
+  pushed_adds m at = grind (arith, length-append, new_entry, end_at, same_Some)
 
 -- the number that an entry settles to is there, as the view says it
 pub settles_there : (w : What) (ms : List MarkedEntry) (l k : Log) → k ≡ l → entries_of ms ≡ k.entries → settles_to w ≤ length l.entries → settles_to w ≤ length ms

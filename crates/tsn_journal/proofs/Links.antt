@@ -1,13 +1,12 @@
 -- Places in their list, and what the links back from one say.
-use Rattle.std.proofs.Common.{◌≡◌, ℕ, zero, suc, ◌+◌, ◌-◌, ◌<◌, ◌≤◌, ◌⊎◌, inl, inr, Bool, true, false, ◌&&◌, List, [], ◌∷◌, ◌++◌, refl, sym, ◌∙◌, ap, subst, Some, None, arith, length, get_or, add-one}
-use Rattle.std.specs.Prelude.{◌==◌, not}
+use Rattle.std.proofs.Common.{◌≡◌, ℕ, zero, suc, ◌+◌, ◌-◌, ◌<◌, ◌≤◌, ◌⊎◌, Bool, true, false, List, [], ◌∷◌, ◌++◌, refl, sym, ◌∙◌, ap, subst, Some, None, arith, length, get_or, add-one}
 use Rattle.std.specs.List.{slice_get}
-use Rattle.std.proofs.lemmas.Option.{slice_get_read, same_Some}
+use Rattle.std.proofs.lemmas.Option.{slice_get_read}
 use Rattle.std.proofs.lemmas.Bool.{and_left}
 use Rattle.tsn_journal.specs.declared.entries.MarkedEntry.{MarkedEntry}
 use Rattle.tsn_journal.specs.declared.groups.Group.{Group}
 use Rattle.tsn_journal.specs.declared.index.Place.{Place}
-use Rattle.tsn_journal.specs.Index.{ArePlaces, IsLast, IsPlace, NoneBetween, NoneFrom, belongs, belongs_to_others, is_by, is_of, number_at, number_of, place_at}
+use Rattle.tsn_journal.specs.Index.{ArePlaces, IsLast, IsPlace, NoneBetween, NoneFrom, belongs, belongs_to_others, is_by, is_of, number_at, place_at}
 use Rattle.tsn_journal.proofs.Grouping.{one_group}
 
 -- ---- lists with one element more
@@ -27,36 +26,22 @@ end_at (y ∷ xs) x zero h = absurd (omega arith)
 end_at (y ∷ xs) x (suc i) h = end_at xs x i (omega arith)
 
 pub where_at : (n i : ℕ) → (i < n) ⊎ ((i ≡ n) ⊎ (n < i))
-where_at zero zero = inr (inl refl)
-where_at zero (suc i) = inr (inr (omega arith))
-where_at (suc n) zero = inl (omega arith)
-where_at (suc n) (suc i) = elim (where_at n i) [
-  | inl less ↦ inl (omega arith)
-  | inr rest ↦ elim rest [ inl same ↦ inr (inl (omega arith)) | inr more ↦ inr (inr (omega arith)) ]
-]
+where_at n i = grind arith
 
 -- ---- places
 
 pub place_front : (ps qs : List Place) (j : ℕ) → j ≤ length ps → place_at (ps ++ qs) j ≡ place_at ps j
-place_front ps qs zero h = refl
-place_front ps qs (suc i) h = front_at ps qs i (omega arith)
+place_front ps qs j h = grind (arith, front_at)
 
 pub place_end : (ps : List Place) (p : Place) → place_at (ps ++ p ∷ []) (length ps + 1) ≡ Some p
 place_end ps p = ap (place_at (ps ++ p ∷ [])) (add-one (length ps)) ∙ end_at ps p (length ps) refl
 
 pub place_there : (ps : List Place) (j : ℕ) (p : Place) → (j ≡ 0 → ⊥) → j ≤ length ps → p ≡ get_or ps (j - 1) p → place_at ps j ≡ Some p
-place_there ps zero p some h at = absurd (some refl)
-place_there ps (suc i) p some h at =
-    let e : suc i - 1 ≡ i = omega arith in
-    slice_get_read ps (length ps) i p refl (omega arith) (at ∙ ap (λ k. get_or ps k p) e)
+place_there ps j p some h at = grind (arith, slice_get_read)
 
 pub place_of : (ms : List MarkedEntry) (ps : List Place) (j : ℕ) (p : Place) → place_at ps j ≡ Some p → ArePlaces ms ps → IsPlace ms ps (j - 1) p
 place_of ms ps zero p there are = none_some p there
 place_of ms ps (suc i) p there are = let e : i ≡ suc i - 1 = omega arith in subst (λ k. IsPlace ms ps k p) e (are i p there)
-
-out_of_own : (a b : Bool) → b ≡ true → (a && not b) ≡ false
-out_of_own true b h = (cc)
-out_of_own false b h = refl
 
 -- what does not belong to a group is not of another session in it
 pub not_of_others : (g : Group) (s : ℕ) (m : MarkedEntry) → belongs g m ≡ false → belongs_to_others g s m ≡ false
@@ -75,28 +60,11 @@ module _ (ms : List MarkedEntry) (ps : List Place) (g : Group) (j : ℕ) (p : Pl
   -- a link back to the place before
   pub step_none : (t : MarkedEntry → Bool) (limit : ℕ) → ((m : MarkedEntry) → belongs g m ≡ false → t m ≡ false) → NoneBetween t ms (number_at ps j) limit
       → (m : MarkedEntry) → slice_get ms (p.number - 1) ≡ Some m → t m ≡ false → NoneBetween t ms (number_at ps p.before) limit
-  step_none t limit out none m here fails i x low high at' =
-      let number : number_at ps j ≡ p.number = ap number_of there in
-      let first : 1 ≤ p.number = the_place.some in
-      elim (where_at (p.number - 1) i) [
-        | inl before ↦ out x (subst (λ h. belongs h x ≡ false) one (the_place.last.none_later i x low (omega arith) at'))
-        | inr rest ↦ elim rest [
-          | inl same ↦ ap t (same_Some x m (sym at' ∙ ap (slice_get ms) same ∙ here)) ∙ fails
-          | inr after ↦ none i x (omega arith) high at'
-        ]
-      ]
+  step_none t limit out none m here fails i x low high at' = grind arith
 
   -- the same where nothing from a number below the place's on passes
   pub step_beyond : (t : MarkedEntry → Bool) (limit : ℕ) → ((m : MarkedEntry) → belongs g m ≡ false → t m ≡ false) → (n : ℕ) → n < p.number → NoneFrom t ms n → NoneBetween t ms (number_at ps p.before) limit
-  step_beyond t limit out n below none i x low high at' =
-      let first : 1 ≤ p.number = the_place.some in
-      elim (where_at (p.number - 1) i) [
-        | inl before ↦ out x (subst (λ h. belongs h x ≡ false) one (the_place.last.none_later i x low (omega arith) at'))
-        | inr rest ↦ elim rest [
-          | inl same ↦ none i x (omega arith) at'
-          | inr after ↦ none i x (omega arith) at'
-        ]
-      ]
+  step_beyond t limit out n below none i x low high at' = grind arith
 
   pub step : (t : MarkedEntry → Bool) (limit : ℕ) → ((m : MarkedEntry) → belongs g m ≡ false → t m ≡ false) → IsLast g t ms ps j limit
       → (m : MarkedEntry) → slice_get ms (p.number - 1) ≡ Some m → t m ≡ false → IsLast g t ms ps p.before limit
@@ -106,17 +74,4 @@ module _ (ms : List MarkedEntry) (ps : List Place) (g : Group) (j : ℕ) (p : Pl
   pub hop : (s limit : ℕ) → IsLast g (belongs_to_others g s) ms ps j limit → is_by s (slice_get ms (p.number - 1)) ≡ true → IsLast g (belongs_to_others g s) ms ps p.other limit
   hop s limit at by =
       let other : IsLast g (belongs_to_others g s) ms ps p.other p.number = subst (λ h. IsLast h (belongs_to_others h s) ms ps p.other p.number) one (the_place.other s by) in
-      let number : number_at ps j ≡ p.number = ap number_of there in
-      let first : 1 ≤ p.number = the_place.some in
-      record {
-        within = other.within;
-        group = other.group;
-        none_later = λ i x low high at'.
-            elim (where_at (p.number - 1) i) [
-              | inl before ↦ other.none_later i x low (omega arith) at'
-              | inr rest ↦ elim rest [
-                | inl same ↦ out_of_own (belongs g x) (x.entry.session == s) (ap (is_by s) (sym at' ∙ ap (slice_get ms) same) ∙ by)
-                | inr after ↦ at.none_later i x (omega arith) high at'
-              ]
-            ];
-      }
+      grind arith

@@ -1,15 +1,12 @@
 -- The marks of entries: which one a new entry puts off, and what the others say.
-use Rattle.std.proofs.Common.{◌≡◌, ℕ, zero, suc, ◌+◌, ◌<◌, ◌≤◌, ◌⊎◌, inl, inr, Bool, true, false, cond, ◌||◌, not, List, [], ◌∷◌, ◌++◌, refl, sym, ◌∙◌, ap, Some, None, arith, length, set, get_or, map, take, ◌-◌}
+use Rattle.std.proofs.Common.{◌≡◌, ℕ, zero, suc, ◌+◌, ◌<◌, ◌≤◌, ◌⊎◌, inl, inr, Bool, true, false, cond, ◌||◌, not, List, [], ◌∷◌, ◌++◌, refl, sym, ◌∙◌, ap, Some, None, arith, length, set, get_or, map, take}
 use Rattle.std.specs.Prelude.{◌==◌, option_map}
 use Rattle.std.specs.List.{find}
-use Rattle.std.proofs.lemmas.Bool.Decides.{nat_tests}
 use Rattle.std.proofs.lemmas.List.{map-append, length-map, length-append, take-append-le, take_all}
 use Rattle.std.proofs.lemmas.List.Folds.{list_any-append}
-use Rattle.std.proofs.lemmas.Bool.{eq-eqb, and_left}
-use Rattle.std.proofs.lemmas.Option.{same_Some}
+use Rattle.std.proofs.lemmas.Bool.{eq-eqb}
 use Rattle.std.proofs.Math.Bool.{or-false}
 use Rattle.tsn_journal.specs.declared.entries.What.{What}
-use Rattle.tsn_journal.specs.declared.entries.What.TheVariants.{Made, Undone, Redone, Acted, Settled}
 use Rattle.tsn_journal.specs.declared.entries.Entry.{Entry}
 use Rattle.tsn_journal.specs.declared.entries.MarkedEntry.{MarkedEntry}
 use Rattle.tsn_journal.specs.Entries.{IsNoSettle, IsNumbered, closes, is_closed, names, with_entry}
@@ -17,55 +14,27 @@ use Rattle.tsn_journal.specs.Marks.{AreMarked, IsJournal, entries_of, mark_off}
 
 -- ---- looking a number up
 
-pub less_number : (n k : ℕ) → n < k → (n == k) ≡ false
-less_number n k h = grind (arith, nat_tests)
-
-more_number : (n k : ℕ) → k < n → (n == k) ≡ false
-more_number n k h = grind (arith, nat_tests)
-
 pub found_number : (n i k : ℕ) (ms : List MarkedEntry) (m : MarkedEntry) → IsNumbered n (entries_of ms) → n + i ≡ k → i < length ms → m ≡ get_or ms i m → find (λ x. x.entry.number == k) ms ≡ Some m
 found_number n i k [] m h e l at = absurd (omega arith)
 found_number n zero k (x ∷ ms) m h e l at = ap (λ b. cond b (Some x) (find (λ y. y.entry.number == k) ms)) (eq-eqb x.entry.number k (h.0 ∙ (let f : n ≡ k = omega arith in f))) ∙ ap Some (sym at)
-found_number n (suc i) k (x ∷ ms) m h e l at =
-    let here : n ≡ x.entry.number = sym h.0 in
-    ap (λ b. cond b (Some x) (find (λ y. y.entry.number == k) ms)) (less_number x.entry.number k (omega arith))
-    ∙ found_number (n + 1) i k ms m h.1 (omega arith) (omega arith) at
+found_number n (suc i) k (x ∷ ms) m h e l at = grind (arith, found_number (n + 1) i k ms m h.1 (omega arith) (omega arith) at)
 
 pub no_number : (n k : ℕ) (ms : List MarkedEntry) → IsNumbered n (entries_of ms) → (k < n) ⊎ (n + length ms ≤ k) → find (λ x. x.entry.number == k) ms ≡ None
 no_number n k [] h out = refl
-no_number n k (x ∷ ms) h (inl low) =
-    let here : n ≡ x.entry.number = sym h.0 in
-    ap (λ b. cond b (Some x) (find (λ y. y.entry.number == k) ms)) (more_number x.entry.number k (omega arith)) ∙ no_number (n + 1) k ms h.1 (inl (omega arith))
-no_number n k (x ∷ ms) h (inr high) =
-    let here : n ≡ x.entry.number = sym h.0 in
-    ap (λ b. cond b (Some x) (find (λ y. y.entry.number == k) ms)) (less_number x.entry.number k (omega arith)) ∙ no_number (n + 1) k ms h.1 (inr (omega arith))
+no_number n k (x ∷ ms) h (inl low) = grind (arith, no_number (n + 1) k ms h.1 (inl (omega arith)))
+no_number n k (x ∷ ms) h (inr high) = grind (arith, no_number (n + 1) k ms h.1 (inr (omega arith)))
 
 pub find_entry : (k : ℕ) (ms : List MarkedEntry) → option_map (λ (m : MarkedEntry). m.entry) (find (λ m. m.entry.number == k) ms) ≡ find (λ e. e.number == k) (entries_of ms)
 find_entry k [] = refl
-find_entry k (m ∷ ms) =
-    elim (m.entry.number == k) as (λ b. option_map (λ (m : MarkedEntry). m.entry) (cond b (Some m) (find (λ m. m.entry.number == k) ms)) ≡ cond b (Some m.entry) (find (λ e. e.number == k) (entries_of ms))) [
-      | true ↦ refl
-      | false ↦ find_entry k ms
-    ]
+find_entry k (m ∷ ms) = grind (arith, find_entry k ms)
 
 -- ---- the mark that is put off
 
 abbrev off : Bool → MarkedEntry → MarkedEntry
 off b m = cond b (record { entry = m.entry; is_open = false }) m
 
-other_entry : (w : What) (k : ℕ) (e : Entry) → names w ≡ Some k → (k == e.number) ≡ false → closes w e ≡ false
-other_entry (Made c) k e is other = refl
-other_entry (Undone n c) k e is other = and_left (n == e.number) _ (ap (λ m. m == e.number) (same_Some n k is) ∙ other)
-other_entry (Redone n c) k e is other = and_left (n == e.number) _ (ap (λ m. m == e.number) (same_Some n k is) ∙ other)
-other_entry (Acted act key now) k e is other = refl
-other_entry (Settled upto) k e is other = (cc)
-
 nothing_off : (w : What) (e : Entry) → IsNoSettle w → names w ≡ None → closes w e ≡ false
-nothing_off (Made c) e plain is = refl
-nothing_off (Undone n c) e plain is = (cc)
-nothing_off (Redone n c) e plain is = (cc)
-nothing_off (Acted act key now) e plain is = refl
-nothing_off (Settled upto) e plain is = absurd plain
+nothing_off w e plain is = grind arith
 
 pub all_stay : (w : What) (ms : List MarkedEntry) → IsNoSettle w → names w ≡ None → map (mark_off w) ms ≡ ms
 all_stay w [] plain is = refl
@@ -73,27 +42,18 @@ all_stay w (m ∷ ms) plain is = ap (λ b. off b m ∷ map (mark_off w) ms) (not
 
 pub out_of_reach : (n k : ℕ) (w : What) (ms : List MarkedEntry) → names w ≡ Some k → IsNumbered n (entries_of ms) → (k < n) ⊎ (n + length ms ≤ k) → map (mark_off w) ms ≡ ms
 out_of_reach n k w [] is h out = refl
-out_of_reach n k w (m ∷ ms) is h (inl low) =
-    let here : n ≡ m.entry.number = sym h.0 in
-    ap (λ b. off b m ∷ map (mark_off w) ms) (other_entry w k m.entry is (less_number k m.entry.number (omega arith))) ∙ ap (λ xs. m ∷ xs) (out_of_reach (n + 1) k w ms is h.1 (inl (omega arith)))
-out_of_reach n k w (m ∷ ms) is h (inr high) =
-    let here : n ≡ m.entry.number = sym h.0 in
-    ap (λ b. off b m ∷ map (mark_off w) ms) (other_entry w k m.entry is (more_number k m.entry.number (omega arith))) ∙ ap (λ xs. m ∷ xs) (out_of_reach (n + 1) k w ms is h.1 (inr (omega arith)))
+out_of_reach n k w (m ∷ ms) is h (inl low) = grind (arith, out_of_reach (n + 1) k w ms is h.1 (inl (omega arith)))
+out_of_reach n k w (m ∷ ms) is h (inr high) = grind (arith, out_of_reach (n + 1) k w ms is h.1 (inr (omega arith)))
 
 pub off_at : (n i k : ℕ) (w : What) (ms : List MarkedEntry) (m : MarkedEntry) → names w ≡ Some k → IsNumbered n (entries_of ms) → n + i ≡ k → m ≡ get_or ms i m → map (mark_off w) ms ≡ set ms i (mark_off w m)
 off_at n i k w [] m is h e at = refl
 off_at n zero k w (x ∷ ms) m is h e at = ap (λ y. mark_off w y ∷ map (mark_off w) ms) (sym at) ∙ ap (λ xs. mark_off w m ∷ xs) (out_of_reach (n + 1) k w ms is h.1 (inl (omega arith)))
-off_at n (suc i) k w (x ∷ ms) m is h e at =
-    let here : n ≡ x.entry.number = sym h.0 in
-    ap (λ b. off b x ∷ map (mark_off w) ms) (other_entry w k x.entry is (more_number k x.entry.number (omega arith)))
-    ∙ ap (λ xs. x ∷ xs) (off_at (n + 1) i k w ms m is h.1 (omega arith) at)
+off_at n (suc i) k w (x ∷ ms) m is h e at = grind (arith, off_at (n + 1) i k w ms m is h.1 (omega arith) at)
 
 -- the entries with the mark at the place as it is to be
 pub set_at : (w : What) (ms : List MarkedEntry) (place k : ℕ) (d : MarkedEntry) (b : Bool) → names w ≡ Some k → IsNumbered 1 (entries_of ms) → place + 1 ≡ k → d ≡ get_or ms place d → closes w (get_or ms place d).entry ≡ b
     → set ms place (off b (get_or ms place d)) ≡ map (mark_off w) ms
-set_at w ms place k d b is h next at taken =
-    let m = get_or ms place d in
-    sym (off_at 1 place k w ms m is h (omega arith) (ap (λ x. get_or ms place x) at) ∙ ap (λ c. set ms place (off c m)) taken)
+set_at w ms place k d b is h next at taken = grind (arith, off_at)
 
 -- ---- one entry more
 
@@ -108,10 +68,7 @@ abbrev pub new_entry : List MarkedEntry → ℕ → What → MarkedEntry
 new_entry ms s w = record { entry = record { number = length ms + 1; session = s; what = w }; is_open = true }
 
 pub entries_pushed : (ms : List MarkedEntry) (s : ℕ) (w : What) → entries_of (map (mark_off w) ms ++ new_entry ms s w ∷ []) ≡ with_entry (entries_of ms) s w
-entries_pushed ms s w =
-    map-append (λ (m : MarkedEntry). m.entry) (map (mark_off w) ms) (new_entry ms s w ∷ [])
-    ∙ ap (λ es. es ++ (new_entry ms s w).entry ∷ []) (entries_stay w ms)
-    ∙ ap (λ n. entries_of ms ++ record { number = n + 1; session = s; what = w } ∷ []) (sym (length-map ms (λ (m : MarkedEntry). m.entry)))
+entries_pushed ms s w = grind (arith, map-append, entries_stay, length-map)
 
 numbered_push : (n : ℕ) (es : List Entry) (e : Entry) → IsNumbered n es → e.number ≡ n + length es → IsNumbered n (es ++ e ∷ [])
 numbered_push n [] e h is = (is ∙ (let f : n + 0 ≡ n = omega arith in f), tt)
@@ -121,10 +78,7 @@ pub IsNumbered-with_entry : (es : List Entry) (s : ℕ) (w : What) → IsNumbere
 IsNumbered-with_entry es s w h = numbered_push 1 es (record { number = length es + 1; session = s; what = w }) h (omega arith)
 
 not_or : (o a b : Bool) → o ≡ not a → cond b false o ≡ not (a || b)
-not_or o true true h = refl
-not_or o true false h = h
-not_or o false true h = refl
-not_or o false false h = h
+not_or o a b h = grind arith
 
 pub is_closed-push : (e : Entry) (es : List Entry) (w : Entry) → is_closed e (es ++ w ∷ []) ≡ (is_closed e es || closes w.what e)
 is_closed-push e es w = list_any-append (λ x. closes x.what e) es (w ∷ []) ∙ ap (λ b. is_closed e es || b) (or-false (closes w.what e))
@@ -135,15 +89,7 @@ mark_now w m = elim (closes w m.entry) as (λ b. (off b m).is_open ≡ cond b fa
 marked_push : (ms : List MarkedEntry) (x : MarkedEntry) → x.is_open ≡ true → AreMarked ms → AreMarked (map (mark_off x.entry.what) ms ++ x ∷ [])
 marked_push [] x open' h = (open', tt)
 marked_push (m ∷ ms) x open' h =
-    let w = x.entry.what in
-    let later : entries_of (map (mark_off w) ms ++ x ∷ []) ≡ entries_of ms ++ x.entry ∷ [] =
-    map-append (λ (y : MarkedEntry). y.entry) (map (mark_off w) ms) (x ∷ []) ∙ ap (λ es. es ++ x.entry ∷ []) (entries_stay w ms) in (
-      mark_now w m
-          ∙ not_or m.is_open (is_closed m.entry (entries_of ms)) (closes w m.entry) h.0
-          ∙ ap not (sym (is_closed-push m.entry (entries_of ms) x.entry))
-          ∙ (λ i. not (is_closed (sym (entry_stays w m) i) (sym later i))),
-      marked_push ms x open' h.1,
-    )
+    grind (arith, map-append, entries_stay, mark_now, not_or, is_closed-push, entry_stays, marked_push ms x open' h.1)
 
 pub journal_push : (ms : List MarkedEntry) (s : ℕ) (w : What) (ns : List MarkedEntry) → IsJournal ms → length ms < 262144 → ns ≡ map (mark_off w) ms ++ new_entry ms s w ∷ [] → IsJournal ns
 journal_push ms s w ns is room pushed = rw pushed (record {
@@ -155,8 +101,4 @@ journal_push ms s w ns is room pushed = rw pushed (record {
 -- what a vector holds after a push in its room, once the mark is off
 pub pushed_items : (w : What) (s len n : ℕ) (ms rest off' now : List MarkedEntry) → length ms ≡ len → n ≡ len → off' ≡ map (mark_off w) ms → now ≡ take len (off' ++ rest) ++ record { entry = record { number = n + 1; session = s; what = w }; is_open = true } ∷ []
     → now ≡ map (mark_off w) ms ++ new_entry ms s w ∷ []
-pushed_items w s len n ms rest off' now same count is pushed =
-    let as_long : length off' ≡ len = ap length is ∙ length-map ms (mark_off w) ∙ same in
-    pushed
-    ∙ ap (λ xs. xs ++ record { entry = record { number = n + 1; session = s; what = w }; is_open = true } ∷ []) (take-append-le len off' rest (omega arith) ∙ take_all len off' (omega arith) ∙ is)
-    ∙ ap (λ k. map (mark_off w) ms ++ record { entry = record { number = k + 1; session = s; what = w }; is_open = true } ∷ []) (count ∙ sym same)
+pushed_items w s len n ms rest off' now same count is pushed = grind (arith, length-map, take-append-le, take_all)

@@ -1,5 +1,6 @@
 -- The number up to which an entry may be blocked is no greater than it has to be.
-use Rattle.std.proofs.Common.{◌≡◌, ℕ, zero, suc, ◌+◌, ◌-◌, ◌<◌, ◌≤◌, ◌⊎◌, inl, inr, Bool, true, false, cond, ◌||◌, List, [], ◌∷◌, ◌++◌, drop, refl, sym, ◌∙◌, ap, subst, Some, None, arith, length, max}
+use Rattle.std.proofs.Common.{◌≡◌, ℕ, zero, suc, ◌+◌, ◌-◌, ◌<◌, ◌≤◌, ◌⊎◌, inl, inr, Bool, true, cond, List, [], ◌∷◌, ◌++◌, drop, refl, sym, ◌∙◌, ap, subst, Some, None, arith, length, max}
+use Rattle.std.proofs.lemmas.Grind.{common_steps}
 use Rattle.std.specs.Prelude.{option_map}
 use Rattle.std.specs.List.{slice_get}
 use Rattle.std.specs.Option.{option_or}
@@ -10,12 +11,12 @@ use Rattle.tsn_types.specs.declared.keys.Key.{Key}
 use Rattle.tsn_types.specs.Keys.{has}
 use Rattle.tsn_edit.specs.Changes.{keys_of}
 use Rattle.tsn_edit.specs.Parts.{Part}
-use Rattle.tsn_edit.proofs.KeyFacts.{by_bool, by_option, has-append, keys_of-append}
+use Rattle.tsn_edit.proofs.KeyFacts.{by_option, has-append, keys_of-append}
 use Rattle.tsn_journal.specs.declared.entries.Entry.{Entry}
 use Rattle.tsn_journal.specs.declared.entries.What.{What}
 use Rattle.tsn_journal.specs.declared.entries.MarkedEntry.{MarkedEntry}
 use Rattle.tsn_journal.specs.declared.groups.Group.TheVariants.{On}
-use Rattle.tsn_journal.specs.Crossed.{IsFoundOn, IsMet, IsNeeded, IsRaised, is_on_referred, is_referred}
+use Rattle.tsn_journal.specs.Crossed.{IsFoundOn, IsNeeded, IsRaised, is_on_referred}
 use Rattle.tsn_journal.specs.Entries.{IsNumbered, adds, with_entry}
 use Rattle.tsn_journal.specs.Finding.{last_where}
 use Rattle.tsn_journal.specs.Index.{belongs_to_others, is_on}
@@ -37,11 +38,7 @@ pub record IsThere (t : MarkedEntry → Bool) (ms : List MarkedEntry) (y : Marke
 there_in : (t : MarkedEntry → Bool) (ms : List MarkedEntry) (y : MarkedEntry) → last_where t ms ≡ Some y → IsThere t ms y
 there_in t [] y h = none_some y h
 there_in t (x ∷ ms) y h = by_option (last_where t ms)
-    (λ none. by_bool (t x)
-    (λ passes.
-    let same : x ≡ y = same_Some x y (sym (ap (λ o. option_or o (cond (t x) (Some x) None)) none ∙ ap (λ c. cond c (Some x) None) passes) ∙ h) in
-    record { place = 0; at = ap Some same; passes = ap t (sym same) ∙ passes })
-    (λ fails. none_some y (sym (ap (λ o. option_or o (cond (t x) (Some x) None)) none ∙ ap (λ c. cond c (Some x) None) fails) ∙ h)))
+    (λ none. grind arith)
     (λ z some.
     let same : z ≡ y = same_Some z y (sym (ap (λ o. option_or o (cond (t x) (Some x) None)) some) ∙ h) in
     let rest = there_in t ms y (some ∙ ap Some same) in
@@ -74,24 +71,16 @@ on_back : (k : Key) (es fs : List Part) → is_on k (Some fs) ≡ true → is_on
 on_back k es fs h = ap (λ ks. has ks k) (keys_of-append es fs) ∙ has-append (keys_of es) (keys_of fs) k ∙ or_right (has (keys_of es) k) (has (keys_of fs) k) h
 
 referred_front : (es fs : List Part) → is_on_referred (Some es) ≡ true → is_on_referred (Some (es ++ fs)) ≡ true
-referred_front [] fs h = none_true false refl h
-referred_front (p ∷ es) fs h = by_bool (is_referred p.key)
-    (λ here. or_left (is_referred p.key) _ here)
-    (λ later. or_right (is_referred p.key) _ (referred_front es fs (ap (λ b. b || is_on_referred (Some es)) (sym later) ∙ h)))
+referred_front es fs h = grind (arith, common_steps, none_true, or_left, or_right)
 
 referred_back : (es fs : List Part) → is_on_referred (Some fs) ≡ true → is_on_referred (Some (es ++ fs)) ≡ true
-referred_back [] fs h = h
-referred_back (p ∷ es) fs h = or_right (is_referred p.key) _ (referred_back es fs h)
+referred_back es fs h = grind (arith, common_steps, or_right)
 
 wider : (before n s : ℕ) (ms : List MarkedEntry) (es fs : List Part) → IsRaised before n ms s (Some es) → IsRaised before n ms s (Some (es ++ fs))
-wider before n s ms es fs (inl same) = inl same
-wider before n s ms es fs (inr (inl own)) = inr (inl (own.0, referred_front es fs own.1))
-wider before n s ms es fs (inr (inr o)) = inr (inr (record { some = o.some; entry = o.entry; at = o.at; other = o.other; key = o.key; on = o.on; later_on = on_front o.key es fs o.later_on }))
+wider before n s ms es fs h = grind (arith, referred_front, on_front)
 
 pub raised_then : (before n k s : ℕ) (ms : List MarkedEntry) (es fs : List Part) → IsRaised before n ms s (Some es) → IsRaised n k ms s (Some fs) → IsRaised before k ms s (Some (es ++ fs))
-raised_then before n k s ms es fs first (inl same) = subst (λ i. IsRaised before i ms s (Some (es ++ fs))) (sym same) (wider before n s ms es fs first)
-raised_then before n k s ms es fs first (inr (inl own)) = inr (inl (own.0, referred_back es fs own.1))
-raised_then before n k s ms es fs first (inr (inr o)) = inr (inr (record { some = o.some; entry = o.entry; at = o.at; other = o.other; key = o.key; on = o.on; later_on = on_back o.key es fs o.later_on }))
+raised_then before n k s ms es fs first h = grind (arith, common_steps, wider, referred_back, on_back)
 
 -- ---- an entry more
 
@@ -106,12 +95,7 @@ module _ (es : List Entry) (w : What) (s : ℕ) where
   still_at i e at = front_at es (new ∷ []) i (slice_get_within es i e at) ∙ at
 
   pub still_needed : (n : ℕ) → IsNeeded n es → IsNeeded n (with_entry es s w)
-  still_needed n (inl none) = inl none
-  still_needed n (inr wanted) = inr (record { some = wanted.some; entry = wanted.entry; at = still_at (n - 1) wanted.entry wanted.at; why = reason wanted.why })
-    where
-      reason : ((is_on_referred (adds wanted.entry.what) ≡ true) ⊎ IsMet n wanted.entry es) → (is_on_referred (adds wanted.entry.what) ≡ true) ⊎ IsMet n wanted.entry (with_entry es s w)
-      reason (inl on) = inl on
-      reason (inr met) = inr (record { later = met.later; place = met.place; at = still_at met.place met.later met.at; after = met.after; other = met.other; key = met.key; on = met.on; later_on = met.later_on })
+  still_needed n h = grind (arith, still_at)
 
 pub needed_pushed : (before n s : ℕ) (ms : List MarkedEntry) (w : What) → IsNeeded before (entries_of ms) → IsRaised before n ms s (adds w) → IsNeeded n (with_entry (entries_of ms) s w)
 needed_pushed before n s ms w old (inl same) = subst (λ i. IsNeeded i (with_entry (entries_of ms) s w)) (sym same) (still_needed (entries_of ms) w s before old)

@@ -1,5 +1,6 @@
 -- The newest places of groups: with a place more, set back, and with marks off.
-use Rattle.std.proofs.Common.{◌≡◌, ℕ, zero, suc, ◌+◌, ◌-◌, ◌<◌, ◌≤◌, ◌⊎◌, inl, inr, Bool, true, false, cond, ◌||◌, List, [], ◌∷◌, ◌++◌, refl, sym, ◌∙◌, ap, subst, Option, Some, None, arith, get_or, length, map, max, take}
+use Rattle.std.proofs.Common.{◌≡◌, ℕ, zero, suc, ◌+◌, ◌-◌, ◌<◌, ◌≤◌, ◌⊎◌, inl, inr, Bool, true, cond, ◌||◌, List, [], ◌∷◌, ◌++◌, refl, sym, ◌∙◌, ap, subst, Option, Some, None, arith, get_or, length, map, max, take}
+use Rattle.std.proofs.lemmas.Grind.{common_steps}
 use Rattle.std.specs.Prelude.{◌==◌, option_map}
 use Rattle.std.specs.List.{find, slice_get}
 use Rattle.std.proofs.lemmas.Grind.{flat_map-append}
@@ -11,21 +12,20 @@ use Rattle.tsn_types.specs.declared.records.Refs.{Refs}
 use Rattle.tsn_types.specs.Keys.{has, keys_of_refs, refs_of, same_key}
 use Rattle.tsn_edit.specs.Changes.{keys_of, refs_after}
 use Rattle.tsn_edit.specs.Parts.{Change, Part, parts}
-use Rattle.tsn_edit.proofs.KeyFacts.{by_bool, by_option, has-append, same_itself}
+use Rattle.tsn_edit.proofs.KeyFacts.{by_option, has-append, same_itself}
 use Rattle.tsn_journal.specs.declared.entries.MarkedEntry.{MarkedEntry}
 use Rattle.tsn_journal.specs.declared.entries.Entry.{Entry}
 use Rattle.tsn_journal.specs.declared.entries.What.{What}
-use Rattle.tsn_journal.specs.declared.entries.What.TheVariants.{Made, Undone, Redone, Acted, Settled}
 use Rattle.tsn_journal.specs.declared.groups.Group.{Group}
 use Rattle.tsn_journal.specs.declared.groups.Group.TheVariants.{On, RefersTo, Of, EndsRedo}
 use Rattle.tsn_journal.specs.declared.index.Index.{Index}
 use Rattle.tsn_journal.specs.declared.index.Place.{Place}
 use Rattle.tsn_journal.specs.Entries.{IsNumbered, adds, closes, names, settles_to}
-use Rattle.tsn_journal.specs.Index.{Adds, ArePlaces, IsIndexed, IsNewest, belongs, groups_of_parts, is_among, is_on, number_at, other_of, part_groups, place_at, refers, set_at, standing_change}
-use Rattle.tsn_journal.specs.Latest.{latest_of, same_group}
-use Rattle.tsn_journal.specs.Marks.{AreOff, ends_redo, entries_of, mark_off}
-use Rattle.tsn_journal.specs.Newest.{AreNewest, HasNewest, IsIn, KeepsNewest, MendsNewest, groups_added, groups_of}
-use Rattle.tsn_journal.proofs.Grouping.{covers, either, first_true, is_among-append, no_change, none_true, not_standing, one_group}
+use Rattle.tsn_journal.specs.Index.{Adds, ArePlaces, IsIndexed, IsNewest, belongs, groups_of_parts, is_among, is_on, part_groups, place_at, refers, set_at, standing_change}
+use Rattle.tsn_journal.specs.Latest.{latest_of}
+use Rattle.tsn_journal.specs.Marks.{AreOff, entries_of, mark_off}
+use Rattle.tsn_journal.specs.Newest.{AreNewest, HasNewest, IsIn, KeepsNewest, MendsNewest, groups_of}
+use Rattle.tsn_journal.proofs.Grouping.{covers, first_true, is_among-append, one_group}
 use Rattle.tsn_journal.proofs.Links.{front_at, none_some, place_end, place_front, place_of, where_at}
 use Rattle.tsn_journal.proofs.Marking.{entry_stays, found_number}
 use Rattle.tsn_journal.proofs.Off.{off_at}
@@ -47,12 +47,7 @@ found_at ms i m k h at is = found_number 1 i k ms m h (omega (arith, is)) (slice
 -- ---- places
 
 pub in_place : (g : Group) (ms : List MarkedEntry) (ps : List Place) (j : ℕ) (p : Place) (m : MarkedEntry) → place_at ps j ≡ Some p → slice_get ms (p.number - 1) ≡ Some m → belongs g m ≡ true → IsIn g ms ps j
-in_place g ms ps j p m there at is = record {
-  belongs = λ q x there' at'.
-      let same : p ≡ q = same_Some p q (sym there ∙ there') in
-      let one : m ≡ x = same_Some m x (sym at ∙ ap (λ (r : Place). slice_get ms (r.number - 1)) same ∙ at') in
-      ap (belongs g) (sym one) ∙ is;
-}
+in_place g ms ps j p m there at is = grind arith
 
 in_longer : (g : Group) (ms : List MarkedEntry) (ps qs : List Place) (j : ℕ) → j ≤ length ps → IsIn g ms ps j → IsIn g ms (ps ++ qs) j
 in_longer g ms ps qs j within is = record { belongs = λ p m there at. is.belongs p m (sym (place_front ps qs j within) ∙ there) at }
@@ -62,96 +57,27 @@ in_longer g ms ps qs j within is = record { belongs = λ p m there at. is.belong
 module _ (ms : List MarkedEntry) (wanted : Bool) (g : Group) (n s before : ℕ) (ps qs : List Place) (j : ℕ) (count : n ≡ length ms) (some : 1 ≤ n) (are : ArePlaces ms ps) (adds' : Adds ms wanted g n s before ps qs j) (in' : wanted ≡ true → (m : MarkedEntry) → slice_get ms (n - 1) ≡ Some m → belongs g m ≡ true) where
   -- the place that the group has then is of the newest entry, or the one that it had
   pub added_in : before ≤ length ps → IsIn g ms ps before → IsIn g ms qs j
-  added_in within old = by_bool wanted
-      (λ yes. elim (where_at n (number_at ps before)) [
-        | inl less ↦ record {
-          belongs = λ p m there at.
-              let new : Place = record { group = g; number = n; before = before; other = other_of ms ps s before } in
-              let same : new ≡ p = same_Some new p (sym (place_end ps new) ∙ (λ i. place_at (sym (adds'.places yes less) i) (sym (adds'.place yes less) i)) ∙ there) in
-              in' yes m (ap (λ (q : Place). slice_get ms (q.number - 1)) same ∙ at);
-        }
-        | inr least ↦ stays (omega (arith, least_of least))
-      ])
-      (λ no. subst (λ xs. IsIn g ms xs j) (sym (adds'.unwanted no)) (subst (λ k. IsIn g ms ps k) (sym (adds'.unwanted_place no)) old))
-    where
-      least_of : ((number_at ps before ≡ n) ⊎ (n < number_at ps before)) → n ≤ number_at ps before
-      least_of (inl same) = omega arith
-      least_of (inr more) = omega arith
-
-      stays : n ≤ number_at ps before → IsIn g ms qs j
-      stays least = subst (λ xs. IsIn g ms xs j) (sym (adds'.there least)) (subst (λ k. IsIn g ms ps k) (sym (adds'.there_place least)) old)
+  added_in within old = grind (arith, where_at, same_Some, place_end)
 
   pub added_other : (q : Group) (k : ℕ) → k ≤ length ps → IsIn q ms ps k → IsIn q ms qs k
-  added_other q k within old = by_bool wanted
-      (λ yes. elim (where_at n (number_at ps before)) [
-        | inl less ↦ subst (λ xs. IsIn q ms xs k) (sym (adds'.places yes less)) (in_longer q ms ps _ k within old)
-        | inr least ↦ elim least [ inl same ↦ subst (λ xs. IsIn q ms xs k) (sym (adds'.there (omega arith))) old | inr more ↦ subst (λ xs. IsIn q ms xs k) (sym (adds'.there (omega arith))) old ]
-      ])
-      (λ no. subst (λ xs. IsIn q ms xs k) (sym (adds'.unwanted no)) old)
+  added_other q k within old = grind (arith, where_at, in_longer)
 
   -- with the group's newest place set there, all others have theirs
   pub added_kept : (l k : Group → ℕ) → before ≡ l g → ((q : Group) → l q ≤ length ps) → ((q : Group) → k q ≡ set_at g j l q) → (q : Group) → IsIn q ms ps (l q) → IsIn q ms qs (k q)
-  added_kept l k here within is q old = subst (λ i. IsIn q ms qs i) (sym (is q))
-      (by_bool (same_group g q)
-      (λ same. subst (λ b. IsIn q ms qs (cond b j (l q))) (sym same)
-      (let one : g ≡ q = one_group g q same in
-      subst (λ r. IsIn r ms qs j) one (added_in (subst (λ i. i ≤ length ps) (sym here) (within g)) (subst (λ i. IsIn g ms ps i) (sym here) (subst (λ r. IsIn r ms ps (l r)) (sym one) old)))))
-      (λ other. subst (λ b. IsIn q ms qs (cond b j (l q))) (sym other) (added_other q (l q) (within q) old)))
+  added_kept l k here within is q old = grind (arith, common_steps, one_group, added_in, added_other)
 
   pub added_within : (l : Group → ℕ) → before ≡ l g → ((q : Group) → l q ≤ length ps) → (q : Group) → set_at g j l q ≤ length qs
-  added_within l here within q = by_bool (same_group g q)
-      (λ same. subst (λ b. cond b j (l q) ≤ length qs) (sym same) set)
-      (λ other. subst (λ b. cond b j (l q) ≤ length qs) (sym other) (stays (l q) (within q)))
-    where
-      stays : (k : ℕ) → k ≤ length ps → k ≤ length qs
-      stays k le = by_bool wanted
-          (λ yes. elim (where_at n (number_at ps before)) [
-            | inl less ↦ omega (arith, ap length (adds'.places yes less), length-append ps (record { group = g; number = n; before = before; other = other_of ms ps s before } ∷ []), le)
-            | inr least ↦ elim least [ inl same ↦ omega (arith, ap length (adds'.there (omega arith)), le) | inr more ↦ omega (arith, ap length (adds'.there (omega arith)), le) ]
-          ])
-          (λ no. omega (arith, ap length (adds'.unwanted no), le))
-
-      first : before ≤ length ps
-      first = subst (λ i. i ≤ length ps) (sym here) (within g)
-
-      set : j ≤ length qs
-      set = by_bool wanted
-          (λ yes. elim (where_at n (number_at ps before)) [
-            | inl less ↦ omega (arith, ap length (adds'.places yes less), adds'.place yes less, length-append ps (record { group = g; number = n; before = before; other = other_of ms ps s before } ∷ []))
-            | inr least ↦ elim least [ inl same ↦ subst (λ i. i ≤ length qs) (sym (adds'.there_place (omega arith))) (stays before first) | inr more ↦ subst (λ i. i ≤ length qs) (sym (adds'.there_place (omega arith))) (stays before first) ]
-          ])
-          (λ no. subst (λ i. i ≤ length qs) (sym (adds'.unwanted_place no)) (stays before first))
+  added_within l here within q = grind (arith, where_at, length-append)
 
 -- ---- a newest place set back
-
-pub set_back : (ms : List MarkedEntry) (ps : List Place) (g : Group) (j : ℕ) (l k : Group → ℕ) → ((q : Group) → k q ≡ set_at g j l q) → IsIn g ms ps j → (q : Group) → ((same_group g q ≡ true) ⊎ IsIn q ms ps (l q)) → IsIn q ms ps (k q)
-set_back ms ps g j l k is new q old = subst (λ i. IsIn q ms ps i) (sym (is q))
-    (by_bool (same_group g q)
-    (λ same. subst (λ b. IsIn q ms ps (cond b j (l q))) (sym same) (subst (λ r. IsIn r ms ps j) (one_group g q same) new))
-    (λ other. subst (λ b. IsIn q ms ps (cond b j (l q))) (sym other) (elim old [ inl same ↦ absurd (both_ways _ other same) | inr had ↦ had ])))
 
 -- both groups of a session
 pub mends_two : (ms : List MarkedEntry) (s j k : ℕ) (a b : Index) → b.places.items ≡ a.places.items → ((q : Group) → latest_of b.latest q ≡ set_at (EndsRedo s) k (set_at (Of s) j (latest_of a.latest)) q)
     → IsIn (Of s) ms a.places.items j → IsIn (EndsRedo s) ms a.places.items k → MendsNewest ms (Some (Of s) ∷ Some (EndsRedo s) ∷ []) a b
-mends_two ms s j k a b places is of ends = record {
-  kept = λ q had. last q (inr (first q (inr had)));
-  mended = λ q among. either (same_group (Of s) q) (same_group (EndsRedo s) q || false) among (λ h. last q (inr (first q (inl h)))) (λ h. last q (inl (or_none _ h)));
-} where
-  or_none : (b : Bool) → (b || false) ≡ true → b ≡ true
-  or_none true h = refl
-  or_none false h = h
-
-  first : (q : Group) → ((same_group (Of s) q ≡ true) ⊎ HasNewest ms a q) → IsIn q ms a.places.items (set_at (Of s) j (latest_of a.latest) q)
-  first q h = set_back ms a.places.items (Of s) j (latest_of a.latest) (set_at (Of s) j (latest_of a.latest)) (λ r. refl) of q h
-
-  last : (q : Group) → ((same_group (EndsRedo s) q ≡ true) ⊎ IsIn q ms a.places.items (set_at (Of s) j (latest_of a.latest) q)) → HasNewest ms b q
-  last q h = subst (λ xs. IsIn q ms xs (latest_of b.latest q)) (sym places) (set_back ms a.places.items (EndsRedo s) k (set_at (Of s) j (latest_of a.latest)) (latest_of b.latest) is ends q h)
+mends_two ms s j k a b places is of ends = grind arith
 
 pub mends_then : (ms : List MarkedEntry) (gs hs : List (Option Group)) (a b d : Index) → MendsNewest ms gs a b → MendsNewest ms hs b d → MendsNewest ms (gs ++ hs) a d
-mends_then ms gs hs a b d first second = record {
-  kept = λ q had. second.kept q (first.kept q had);
-  mended = λ q among. either (is_among gs q) (is_among hs q) (sym (is_among-append gs hs q) ∙ among) (λ h. second.kept q (first.mended q h)) (λ h. second.mended q h);
-}
+mends_then ms gs hs a b d first second = grind (arith, is_among-append)
 
 pub mends_after : (ms : List MarkedEntry) (gs : List (Option Group)) (a b d : Index) → MendsNewest ms gs a b → KeepsNewest ms b d → MendsNewest ms gs a d
 mends_after ms gs a b d first then = record { kept = λ q had. then q (first.kept q had); mended = λ q among. then q (first.mended q among) }
@@ -163,15 +89,10 @@ mends_before ms gs a b d first then = record { kept = λ q had. then.kept q (fir
 
 -- one that adds nothing belongs to none but those of its session
 of_none : (m : MarkedEntry) (g : Group) → adds m.entry.what ≡ None → belongs g m ≡ true → is_among (Some (Of m.entry.session) ∷ Some (EndsRedo m.entry.session) ∷ []) g ≡ true
-of_none m (On k) none h = none_true _ (ap (is_on k) (no_change m none)) h
-of_none m (RefersTo k) none h = none_true _ (ap (refers k) (no_change m none)) h
-of_none m (Of q) none h = none_true _ (not_standing m none q) h
-of_none m (EndsRedo q) none h = or_left (m.entry.session == q) false (first_true (m.entry.session == q) (ends_redo m) h)
+of_none m g none h = grind arith
 
 pub may_belong : (m : MarkedEntry) (g : Group) → belongs g m ≡ true → is_among (groups_of m.entry) g ≡ true
-may_belong m g h = by_option (adds m.entry.what)
-    (λ none. subst (λ o. is_among (groups_added o ++ Some (Of m.entry.session) ∷ Some (EndsRedo m.entry.session) ∷ []) g ≡ true) (sym none) (of_none m g none h))
-    (λ c some. subst (λ o. is_among (groups_added o ++ Some (Of m.entry.session) ∷ Some (EndsRedo m.entry.session) ∷ []) g ≡ true) (sym some) (covers m.entry.session (Some (EndsRedo m.entry.session)) m c refl some (λ q end. or_left (m.entry.session == q) false (first_true (m.entry.session == q) (ends_redo m) end)) g h))
+may_belong m g h = grind (arith, of_none, covers, or_left, first_true)
 
 -- ---- the newest entry belongs to the groups in which it gets a place
 
@@ -186,14 +107,10 @@ has_ref (x ∷ ps) zero p k short is h = has-append (refs_of x.after) (refs_afte
 has_ref (x ∷ ps) (suc i) p k short is h = has-append (refs_of x.after) (refs_after ps) k ∙ or_right (has (refs_of x.after) k) (has (refs_after ps) k) (has_ref ps i p k (omega arith) is h)
 
 first_of : (a b : Option Key) (k : Key) → a ≡ Some k → has (keys_of_refs (record { first = a; second = b })) k ≡ true
-first_of None b k h = none_some k h
-first_of (Some x) None k h = or_left (same_key k x) false (ap (same_key k) (same_Some x k h) ∙ same_itself k)
-first_of (Some x) (Some y) k h = or_left (same_key k x) (same_key k y || false) (ap (same_key k) (same_Some x k h) ∙ same_itself k)
+first_of a b k h = grind arith
 
 second_of : (a b : Option Key) (k : Key) → b ≡ Some k → has (keys_of_refs (record { first = a; second = b })) k ≡ true
-second_of a None k h = none_some k h
-second_of None (Some x) k h = or_left (same_key k x) false (ap (same_key k) (same_Some x k h) ∙ same_itself k)
-second_of (Some y) (Some x) k h = or_right (same_key k y) (same_key k x || false) (or_left (same_key k x) false (ap (same_key k) (same_Some x k h) ∙ same_itself k))
+second_of a b k h = grind (arith, none_some, or_left, same_Some, same_itself, or_right)
 
 module _ (ms : List MarkedEntry) (n s : ℕ) (c : Change) (ends : Bool) (newest : IsNewest ms n s c ends) (m : MarkedEntry) (at : slice_get ms (n - 1) ≡ Some m) where
   stands' : standing_change m ≡ Some c
@@ -257,11 +174,7 @@ module _ (w : What) (ms : List MarkedEntry) (x : MarkedEntry) (a : Index) (is : 
       (λ m at.
       let now : slice_get then' (p.number - 1) ≡ Some (mark_off w m) = front_at (map (mark_off w) ms) (x ∷ []) (p.number - 1) (omega (arith, length-map ms (mark_off w))) ∙ slice_get-map (mark_off w) ms (p.number - 1) ∙ ap (option_map (mark_off w)) at in
       let in' : belongs g m ≡ true = had.belongs p m there at in
-      by_bool (closes w m.entry)
-      (λ closed. by_bool m.is_open
-      (λ on. inr (record { place = p.number - 1; entry = m; at = at; on = on; closed = closed; among = may_belong m g in' }))
-      (λ off. inl (in_place g then' a.places.items (latest_of a.latest g) p (mark_off w m) there now (ap (belongs g) (ap (λ b. cond b (record { entry = m.entry; is_open = false }) m) closed ∙ ap (λ b. record { entry = m.entry; is_open = b }) (sym off)) ∙ in'))))
-      (λ stays. inl (in_place g then' a.places.items (latest_of a.latest g) p (mark_off w m) there now (ap (belongs g) (ap (λ b. cond b (record { entry = m.entry; is_open = false }) m) stays) ∙ in')))))
+      grind (arith, may_belong, in_place)))
     where
       past_none : {A : Type 0} (xs : List A) (i : ℕ) → slice_get xs i ≡ None → length xs ≤ i
       past_none [] i h = omega arith
@@ -271,23 +184,7 @@ module _ (w : What) (ms : List MarkedEntry) (x : MarkedEntry) (a : Index) (is : 
   -- it is the one that w names, or one of those that w settles
   pub lost_named : (g : Group) (lost : IsLost g) (old now : ℕ) → AreOff old ms → now ≡ max old (settles_to w)
       → (names w ≡ Some lost.entry.entry.number) ⊎ ((old ≤ lost.place) × (lost.place < now))
-  lost_named g lost old now off is-now = by w lost.closed refl
-    where
-      number : lost.entry.entry.number ≡ lost.place + 1
-      number = number_at' 1 ms lost.place lost.entry numbered lost.at
-
-      above : old ≤ lost.place
-      above = elim (where_at old lost.place) [
-        | inl less ↦ absurd (both_ways _ (off_at old ms off lost.place lost.entry less lost.at) lost.on)
-        | inr rest ↦ elim rest [ inl same ↦ omega arith | inr more ↦ omega arith ]
-      ]
-
-      by : (v : What) → closes v lost.entry.entry ≡ true → v ≡ w → (names w ≡ Some lost.entry.entry.number) ⊎ ((old ≤ lost.place) × (lost.place < now))
-      by (Made c) h same = absurd (both_ways _ refl h)
-      by (Undone n c) h same = inl (ap names (sym same) ∙ ap Some (eqb-true n lost.entry.entry.number (first_true (n == lost.entry.entry.number) _ h)))
-      by (Redone n c) h same = inl (ap names (sym same) ∙ ap Some (eqb-true n lost.entry.entry.number (first_true (n == lost.entry.entry.number) _ h)))
-      by (Acted act key at) h same = absurd (both_ways _ refl h)
-      by (Settled upto) h same = inr (above, omega (arith, number, is-now, ap settles_to (sym same), leb-true lost.entry.entry.number upto h, max_above old upto))
+  lost_named g lost old now off is-now = grind (arith, number_at', where_at, both_ways, off_at, eqb-true, first_true, leb-true, max_above)
 
   -- the groups that were right are right again, once what w names and what it settles has left
   pub newest_again : (old now : ℕ) (b d : Index) (ns : List MarkedEntry) → ns ≡ then' → AreOff old ms → now ≡ max old (settles_to w) → AreNewest ms a → KeepsNewest ns a b → KeepsNewest ns b d

@@ -1,5 +1,6 @@
 -- The first entries, whose marks are off, belong to no group of what stands.
-use Rattle.std.proofs.Common.{◌≡◌, ℕ, zero, suc, ◌+◌, ◌-◌, ◌<◌, ◌≤◌, Bool, false, cond, List, [], ◌∷◌, ◌++◌, take, sym, ◌∙◌, ap, Option, Some, None, arith, drop, filter}
+use Rattle.std.proofs.Common.{◌≡◌, ℕ, zero, suc, ◌+◌, ◌-◌, ◌<◌, ◌≤◌, Bool, false, cond, List, [], ◌∷◌, ◌++◌, take, sym, ◌∙◌, ap, Some, None, arith, drop, filter}
+use Rattle.std.proofs.lemmas.Grind.{common_steps}
 use Rattle.std.specs.List.{slice_get}
 use Rattle.std.proofs.Math.Seq.{drop-nil}
 use Rattle.std.proofs.lemmas.List.{take-append-drop}
@@ -16,10 +17,7 @@ use Rattle.tsn_journal.proofs.Walking.{filter_gap}
 pub off_at : (n : ℕ) (ms : List MarkedEntry) → AreOff n ms → (i : ℕ) (m : MarkedEntry) → i < n → slice_get ms i ≡ Some m → m.is_open ≡ false
 off_at zero ms h i m lt at = absurd (omega arith)
 off_at (suc n) [] h i m lt at = (cc)
-off_at (suc n) (x ∷ ms) h zero m lt at = ap (λ (o : Option MarkedEntry). is_open_of o) (sym at) ∙ h.0 where
-  is_open_of : Option MarkedEntry → Bool
-  is_open_of None = false
-  is_open_of (Some y) = y.is_open
+off_at (suc n) (x ∷ ms) h zero m lt at = (cc)
 off_at (suc n) (x ∷ ms) h (suc i) m lt at = off_at n ms h.1 i m (omega arith) at
 
 pub none_on : (k : Key) (n : ℕ) (ms : List MarkedEntry) → AreOff n ms → NoneBetween (belongs (On k)) ms 0 (n + 1)
@@ -36,9 +34,7 @@ pub none_before : (s n : ℕ) (ms : List MarkedEntry) (ps : List Place) (j : ℕ
 none_before s n ms ps j h le = sym (filter_gap (belongs (Of s)) ms 0 (number_at ps j) (omega arith) (λ i x low lt at. none_own s n ms h i x low (omega arith) at))
 
 drop_twice : {A : Type 0} (k n : ℕ) (xs : List A) → drop k (drop n xs) ≡ drop (n + k) xs
-drop_twice k zero xs = ap (λ j. drop j xs) (let e : k ≡ 0 + k = omega arith in e)
-drop_twice k (suc n) [] = drop-nil k ∙ sym (drop-nil (suc n + k))
-drop_twice k (suc n) (x ∷ xs) = drop_twice k n xs ∙ ap (λ j. drop j (x ∷ xs)) (let e : suc (n + k) ≡ suc n + k = omega arith in e)
+drop_twice k n xs = grind (arith, common_steps, drop-nil)
 
 -- those after the place of a number are those from there on, and those between it and the ones that are off
 pub own_split : (s off n : ℕ) (ms : List MarkedEntry) → AreOff off ms → off ≤ n

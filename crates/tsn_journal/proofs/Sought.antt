@@ -1,22 +1,22 @@
 -- A conflict with a change, sought in the groups of its key and of what it refers to.
-use Rattle.std.proofs.Common.{◌≡◌, ℕ, zero, suc, ◌+◌, ◌<◌, ◌≤◌, Bool, true, false, cond, ◌||◌, ◌&&◌, List, [], ◌∷◌, ◌++◌, refl, sym, ◌∙◌, ap, subst, Option, Some, None, arith, drop, take, get_or, length, append_assoc}
+use Rattle.std.proofs.Common.{◌≡◌, ℕ, zero, suc, ◌+◌, ◌<◌, Bool, false, cond, ◌||◌, ◌&&◌, List, [], ◌∷◌, ◌++◌, refl, sym, ◌∙◌, ap, subst, Option, Some, None, arith, drop, take, get_or, length, append_assoc, rules}
+use Rattle.std.proofs.lemmas.Grind.{common_steps}
 use Rattle.std.specs.Prelude.{is_some, option_map, option_to_list}
 use Rattle.std.specs.Option.{option_or}
 use Rattle.std.proofs.lemmas.List.{take_more}
 use Rattle.tsn_types.specs.declared.keys.Key.{Key}
 use Rattle.tsn_types.specs.declared.records.Refs.{Refs}
-use Rattle.tsn_types.specs.Keys.{has, keys_of_refs, meets, refs_of, same_key}
-use Rattle.std.proofs.Math.Bool.{and-false, or-false, and-true}
-use Rattle.std.proofs.lemmas.Bool.{lt-ltb, le-ltb}
+use Rattle.tsn_types.specs.Keys.{has, keys_of_refs, meets, refs_of}
+use Rattle.std.proofs.Math.Bool.{and-false, or-false}
+use Rattle.std.proofs.lemmas.Bool.{lt-ltb}
 use Rattle.tsn_edit.proofs.Conflicting.{meets_none, mixed, same_key_swap}
 use Rattle.tsn_edit.specs.Changes.{conflicts, keys_of, refs_after, refs_before}
 use Rattle.tsn_edit.specs.Parts.{Change, Part, parts}
-use Rattle.tsn_edit.proofs.KeyFacts.{by_option, has-append, keys_of-append}
+use Rattle.tsn_edit.proofs.KeyFacts.{has-append, keys_of-append}
 use Rattle.tsn_journal.specs.declared.entries.What.{What}
-use Rattle.tsn_journal.specs.declared.entries.What.TheVariants.{Made, Undone, Redone, Acted, Settled}
 use Rattle.tsn_journal.specs.declared.entries.MarkedEntry.{MarkedEntry}
 use Rattle.tsn_journal.specs.declared.groups.Group.TheVariants.{On, RefersTo}
-use Rattle.tsn_journal.specs.Entries.{Applied, IsNumbered, adds, applied, applies}
+use Rattle.tsn_journal.specs.Entries.{IsNumbered, adds, applies}
 use Rattle.tsn_journal.specs.Finding.{last_where}
 use Rattle.tsn_journal.specs.Index.{above, belongs, is_on, is_on_any, refers, standing_change}
 use Rattle.tsn_journal.specs.Marks.{entries_of, is_in_conflict, later_of, stands}
@@ -26,17 +26,13 @@ abbrev at : Option MarkedEntry → Option ℕ
 at o = option_map (λ m. m.entry.number) o
 
 four : (a b c d p : Bool) → (((a && p) || (b && p)) || ((c && p) || (d && p))) ≡ (p && ((a || b) || (c || d)))
-four a b c d true = λ i. ((and-true a i || and-true b i) || (and-true c i || and-true d i))
-four a b c d false = λ i. ((and-false a i || and-false b i) || (and-false c i || and-false d i))
+four a b c d p = grind arith
 
 -- ---- a list that meets a longer one
 
 meets_more : (ks ls : List Key) (k : Key) → meets ks (k ∷ ls) ≡ (has ks k || meets ks ls)
 meets_more [] ls k = refl
-meets_more (x ∷ ks) ls k =
-    ap (λ b. (same_key x k || has ls x) || b) (meets_more ks ls k)
-    ∙ mixed (same_key x k) (has ls x) (has ks k) (meets ks ls)
-    ∙ ap (λ b. (b || has ks k) || (has ls x || meets ks ls)) (same_key_swap x k)
+meets_more (x ∷ ks) ls k = grind (arith, mixed, same_key_swap, meets_more ks ls k)
 
 meets_one : (ks : List Key) (k : Key) → meets ks (k ∷ []) ≡ has ks k
 meets_one ks k = meets_more ks [] k ∙ ap (λ b. has ks k || b) (meets_none ks) ∙ or-false (has ks k)
@@ -47,33 +43,23 @@ on_any None d = false
 on_any (Some k) d = has (keys_of (parts d)) k
 
 on_refs : (a b : Option Key) (d : Change) → (on_any a d || on_any b d) ≡ meets (keys_of (parts d)) (option_to_list a ++ option_to_list b)
-on_refs None None d = sym (meets_none (keys_of (parts d)))
-on_refs None (Some y) d = sym (meets_one (keys_of (parts d)) y)
-on_refs (Some x) None d = or-false (has (keys_of (parts d)) x) ∙ sym (meets_one (keys_of (parts d)) x)
-on_refs (Some x) (Some y) d = sym (meets_more (keys_of (parts d)) (y ∷ []) x ∙ ap (λ b. has (keys_of (parts d)) x || b) (meets_one (keys_of (parts d)) y))
+on_refs a b d = grind (arith, meets_none, meets_one, or-false, meets_more)
 
 pub nothing_after : (xs : List Key) → xs ++ [] ≡ xs
-nothing_after [] = refl
-nothing_after (x ∷ xs) = ap (λ ys. x ∷ ys) (nothing_after xs)
+nothing_after xs = search rules
 
 or_three : (a b c : Bool) → ((a || b) || c) ≡ (a || (b || c))
-or_three true b c = refl
-or_three false b c = refl
+or_three a b c = grind arith
 
 pub in_conflict : (p : Part) (d : Change) (refs : Refs) → keys_of_refs refs ≡ refs_of p.before
     → ((has (keys_of (parts d)) p.key || has (refs_after (parts d)) p.key) || (on_any refs.first d || on_any refs.second d)) ≡ conflicts d (p ∷ [])
-in_conflict p d refs same =
-    ap (λ b. (has (keys_of (parts d)) p.key || has (refs_after (parts d)) p.key) || b) (on_refs refs.first refs.second d ∙ ap (meets (keys_of (parts d))) (same ∙ sym (nothing_after (refs_of p.before))))
-    ∙ or_three (has (keys_of (parts d)) p.key) (has (refs_after (parts d)) p.key) (meets (keys_of (parts d)) (refs_of p.before ++ []))
-    ∙ (λ i. sym (meets_one (keys_of (parts d)) p.key) i || (sym (meets_one (refs_after (parts d)) p.key) i || meets (keys_of (parts d)) (refs_of p.before ++ [])))
+in_conflict p d refs same = grind (arith, on_refs, nothing_after, or_three, meets_one)
 
 any_standing : (m : MarkedEntry) (d : Change) → standing_change m ≡ Some d → (o : Option Key) → is_on_any o m ≡ on_any o d
-any_standing m d is None = refl
-any_standing m d is (Some k) = ap (is_on k) is
+any_standing m d is o = grind arith
 
 none_standing : (m : MarkedEntry) → standing_change m ≡ None → (o : Option Key) → is_on_any o m ≡ false
-none_standing m is None = refl
-none_standing m is (Some k) = ap (is_on k) is
+none_standing m is o = grind arith
 
 -- whether a marked entry is in one of the groups of the change and passes
 abbrev pub in_groups : Part → Refs → (MarkedEntry → Bool) → MarkedEntry → Bool
@@ -90,19 +76,10 @@ module _ (c : Part) (refs : Refs) (same : keys_of_refs refs ≡ refs_of c.before
   with_none m is = (λ i. (is_on c.key (is i) && p m || (refers c.key (is i) && p m)) || ((none_standing m is refs.first i && p m) || (none_standing m is refs.second i && p m)))
 
   each_test : (m : MarkedEntry) (b : Bool) (w : What) → m.is_open ≡ b → m.entry.what ≡ w → in_groups c refs p m ≡ ((is_some (cond b (adds w) None) && p m) && is_in_conflict (applies w) (c ∷ []))
-  each_test m true (Made d) on is = with_change m d (λ i. cond (on i) (adds (is i)) None)
-  each_test m true (Redone n d) on is = with_change m d (λ i. cond (on i) (adds (is i)) None)
-  each_test m true (Undone n d) on is = with_none m (λ i. cond (on i) (adds (is i)) None)
-  each_test m true (Acted act key now) on is = with_none m (λ i. cond (on i) (adds (is i)) None)
-  each_test m true (Settled upto) on is = with_none m (λ i. cond (on i) (adds (is i)) None)
-  each_test m false w on is = with_none m (ap (λ b. cond b (adds m.entry.what) None) on)
+  each_test m b w on is = grind (arith, with_change, with_none)
 
   some_stands : (m : MarkedEntry) → is_some (standing_change m) ≡ is_some (stands m)
-  some_stands m = elim m.is_open as (λ b. is_some (cond b (adds m.entry.what) None) ≡ is_some (cond b (applied adds m.entry) None)) [ true ↦ some_adds (adds m.entry.what) | false ↦ refl ]
-    where
-      some_adds : (o : Option Change) → is_some o ≡ is_some {T = Applied} (option_map (λ d. record { number = m.entry.number; session = m.entry.session; change = d }) o)
-      some_adds None = refl
-      some_adds (Some d) = refl
+  some_stands m = grind arith
 
   pub the_test : (m : MarkedEntry) → in_groups c refs p m ≡ ((is_some (stands m) && p m) && is_in_conflict (applies m.entry.what) (c ∷ []))
   the_test m = each_test m m.is_open m.entry.what refl refl ∙ ap (λ b. (b && p m) && is_in_conflict (applies m.entry.what) (c ∷ [])) (some_stands m)
@@ -128,23 +105,10 @@ numbered_after k (suc n) (m ∷ ms) h = subst (λ j. IsNumbered j (entries_of (d
 if_above : (n : ℕ) (m : MarkedEntry) → n < m.entry.number → above n (at (Some m)) ≡ at (Some m)
 if_above n m h = ap (λ b. cond b (Some m.entry.number) None) (lt-ltb n m.entry.number h)
 
-if_below : (n : ℕ) (b : Bool) (m : MarkedEntry) → m.entry.number ≤ n → above n (at (cond b (Some m) None)) ≡ None
-if_below n true m h = ap (λ b. cond b (Some m.entry.number) None) (le-ltb n m.entry.number h)
-if_below n false m h = refl
-
 later_from : (t : MarkedEntry → Bool) (k n : ℕ) (ms : List MarkedEntry) → IsNumbered (k + 1) (entries_of ms) → at (last_where t (drop n ms)) ≡ above (k + n) (at (last_where t ms))
-later_from t k zero ms h = by_option (last_where t ms)
-    (λ none. ap at none ∙ ap (λ o. above (k + 0) (at o)) (sym none))
-    (λ m some. ap at some ∙ sym (if_above (k + 0) m (let low : k + 1 ≤ m.entry.number = no_lower t (k + 1) ms m h some in omega arith)) ∙ ap (λ o. above (k + 0) (at o)) (sym some))
+later_from t k zero ms h = grind (arith, if_above, no_lower)
 later_from t k (suc n) [] h = refl
-later_from t k (suc n) (m ∷ ms) h =
-    let first : m.entry.number ≡ k + 1 = h.0 in
-    let next : (k + 1) + n ≡ k + suc n = omega arith in
-    later_from t (k + 1) n ms h.1
-    ∙ ap (λ j. above j (at (last_where t ms))) next
-    ∙ by_option (last_where t ms)
-    (λ none. ap (λ o. above (k + suc n) (at o)) none ∙ sym (if_below (k + suc n) (t m) m (omega arith)) ∙ ap (λ o. above (k + suc n) (at (option_or o (cond (t m) (Some m) None)))) (sym none))
-    (λ x some. ap (λ o. above (k + suc n) (at o)) some ∙ ap (λ o. above (k + suc n) (at (option_or o (cond (t m) (Some m) None)))) (sym some))
+later_from t k (suc n) (m ∷ ms) h = grind (arith, later_from t (k + 1) n ms h.1)
 
 pub later_last : (t : MarkedEntry → Bool) (n : ℕ) (ms : List MarkedEntry) → IsNumbered 1 (entries_of ms) → above n (at (last_where t ms)) ≡ at (last_where t (drop n ms))
 later_last t n ms h = sym (later_from t 0 n ms h ∙ ap (λ j. above j (at (last_where t ms))) (let e : 0 + n ≡ n = omega arith in e))
@@ -159,33 +123,24 @@ none_before : (d : Change) → conflicts d [] ≡ false
 none_before d = (λ i. meets_none (keys_of (parts d)) i || (meets_none (refs_after (parts d)) i || meets_none (keys_of (parts d)) i))
 
 pub no_parts : (o : Option Change) → is_in_conflict o [] ≡ false
-no_parts None = refl
-no_parts (Some d) = none_before d
+no_parts o = grind (arith, none_before)
 
 meets_both : (ks ls ls' : List Key) → meets ks (ls ++ ls') ≡ (meets ks ls || meets ks ls')
 meets_both [] ls ls' = refl
 meets_both (k ∷ ks) ls ls' = (λ i. has-append ls ls' k i || meets_both ks ls ls' i) ∙ mixed (has ls k) (has ls' k) (meets ks ls) (meets ks ls')
 
 pub refs_both : (es fs : List Part) → refs_before (es ++ fs) ≡ refs_before es ++ refs_before fs
-refs_both [] fs = refl
-refs_both (e ∷ es) fs = ap (λ rs. refs_of e.before ++ rs) (refs_both es fs) ∙ sym (append_assoc (refs_of e.before) (refs_before es) (refs_before fs))
+refs_both es fs = grind (arith, common_steps, append_assoc)
 
 conflicts_both : (d es fs : Change) → conflicts d (es ++ fs) ≡ (conflicts d es || conflicts d fs)
-conflicts_both d es fs =
-    let ks = keys_of (parts d) in
-    let rs = refs_after (parts d) in
-    (λ i. (ap (meets ks) (keys_of-append es fs) ∙ meets_both ks (keys_of es) (keys_of fs)) i
-    || ((ap (meets rs) (keys_of-append es fs) ∙ meets_both rs (keys_of es) (keys_of fs)) i || (ap (meets ks) (refs_both es fs) ∙ meets_both ks (refs_before es) (refs_before fs)) i))
-    ∙ ap (λ b. (meets ks (keys_of es) || meets ks (keys_of fs)) || b) (mixed (meets rs (keys_of es)) (meets rs (keys_of fs)) (meets ks (refs_before es)) (meets ks (refs_before fs)))
-    ∙ mixed (meets ks (keys_of es)) (meets ks (keys_of fs)) (meets rs (keys_of es) || meets ks (refs_before es)) (meets rs (keys_of fs) || meets ks (refs_before fs))
+conflicts_both d es fs = search (rules, keys_of-append, meets_both, refs_both, mixed)
 
 in_conflict_both : (o : Option Change) (es fs : Change) → is_in_conflict o (es ++ fs) ≡ (is_in_conflict o es || is_in_conflict o fs)
 in_conflict_both None es fs = refl
 in_conflict_both (Some d) es fs = conflicts_both d es fs
 
 and_either : (p a b : Bool) → (p && (a || b)) ≡ ((p && a) || (p && b))
-and_either true a b = refl
-and_either false a b = refl
+and_either p a b = grind arith
 
 -- the latest entry in conflict with one part more
 pub sought_more : (q : MarkedEntry → Bool) (n : ℕ) (ms : List MarkedEntry) (es fs : Change) → IsNumbered n (entries_of ms)
@@ -198,9 +153,7 @@ sought_more q n ms es fs numbered =
 
 -- and with no part
 pub sought_none : (q : MarkedEntry → Bool) (ms : List MarkedEntry) → at (last_where (λ m. q m && is_in_conflict (applies m.entry.what) []) ms) ≡ None
-sought_none q ms =
-    ap (λ (t : MarkedEntry → Bool). at (last_where t ms)) (λ i m. (ap (λ b. q m && b) (no_parts (applies m.entry.what)) ∙ and-false (q m)) i)
-    ∙ ap at (never ms)
+sought_none q ms = search (rules, no_parts, and-false, never)
 
 pub take_next : (ps : List Part) (i : ℕ) (p : Part) → i < length ps → p ≡ get_or ps i p → take (i + 1) ps ≡ take i ps ++ p ∷ []
 take_next ps i p short is = take_more ps i p short ∙ ap (λ x. take i ps ++ x ∷ []) (sym is)

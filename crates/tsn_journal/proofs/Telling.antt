@@ -1,13 +1,13 @@
 -- What the rows of keys tell of the newest entries, once one entry more is told.
-use Rattle.std.proofs.Common.{◌≡◌, ℕ, zero, suc, ◌+◌, ◌<◌, ◌≤◌, inl, inr, Bool, true, false, cond, List, [], ◌∷◌, ◌++◌, refl, sym, ◌∙◌, ap, subst, Option, Some, None, arith, append_assoc, get_or, length, take}
+use Rattle.std.proofs.Common.{◌≡◌, ℕ, ◌+◌, ◌<◌, ◌≤◌, inl, inr, Bool, true, false, cond, List, [], ◌∷◌, ◌++◌, refl, sym, ◌∙◌, ap, subst, Option, Some, None, arith, append_assoc, get_or, length, take}
+use Rattle.std.proofs.lemmas.Grind.{common_steps}
 use Rattle.std.specs.Prelude.{◌==◌, option_map, option_to_list}
 use Rattle.std.specs.List.{find}
 use Rattle.std.specs.Option.{option_or}
 use Rattle.std.proofs.lemmas.List.{length-append}
 use Rattle.std.proofs.lemmas.List.Folds.{find-append}
-use Rattle.std.proofs.lemmas.Bool.{eqb-true, or_left, or_right, le-ltb, lt-ltb}
+use Rattle.std.proofs.lemmas.Bool.{eqb-true, or_left, or_right, lt-ltb}
 use Rattle.std.proofs.lemmas.Option.{same_Some}
-use Rattle.tsn_journal.proofs.Grouping.{either}
 use Rattle.tsn_types.specs.declared.keys.Key.{Key}
 use Rattle.tsn_types.specs.declared.records.Refs.{Refs}
 use Rattle.tsn_types.specs.Keys.{has, keys_of_refs, refs_of}
@@ -27,17 +27,8 @@ use Rattle.tsn_journal.proofs.Sought.{nothing_after, take_next}
 
 -- ---- one key told, or one reference
 
-no_key : {G : Type 0} (k : Key) → has [] k ≡ true → G
-no_key k h = (cc)
-
 pub told_same : (n : ℕ) (a b : Index) → TellsSame a b → Told n [] [] a b
-told_same n a b same = record {
-  stray = inl same.stray;
-  on = λ k h. no_key k h;
-  on_or_same = λ k. inl (same.on k);
-  to = λ k h. no_key k h;
-  to_or_same = λ k. inl (same.to k);
-}
+told_same n a b same = grind arith
 
 pub same_itself' : (a : Index) → TellsSame a a
 same_itself' a = record { stray = refl; on = λ q. refl; to = λ q. refl }
@@ -64,27 +55,10 @@ module _ (n : ℕ) (keys refs keys' refs' : List Key) (a b c : Index) (some : 1 
   never_on k none = elim (first.on_or_same k) [ inl same ↦ sym same ∙ none | inr now ↦ absurd (omega (arith, some, now.1, none)) ]
 
   pub told_then : Told n (keys ++ keys') (refs ++ refs') a c
-  told_then = record {
-    stray = elim second.stray [ inl same ↦ elim first.stray [ inl as_before ↦ inl (same ∙ as_before) | inr now ↦ inr (same ∙ now) ] | inr now ↦ inr now ];
-    on = λ k h. either (has keys k) (has keys' k) (sym (has-append keys keys' k) ∙ h)
-        (λ here. elim (first.on k here) [ inl told ↦ inl (still_on k told) | inr stray ↦ inr (still_stray stray) ])
-        (λ here. second.on k here);
-    on_or_same = λ k. elim (second.on_or_same k) [
-      | inl same ↦ elim (first.on_or_same k) [ inl as_before ↦ inl (same ∙ as_before) | inr now ↦ inr (in_first keys keys' k now.0, same ∙ now.1) ]
-      | inr now ↦ inr (in_second keys keys' k now.0, now.1)
-    ];
-    to = λ k h. either (has refs k) (has refs' k) (sym (has-append refs refs' k) ∙ h)
-        (λ here. elim (first.to k here) [ inl told ↦ inl (still_to k told) | inr none ↦ inr none ])
-        (λ here. elim (second.to k here) [ inl told ↦ inl told | inr none ↦ inr (never_on k none) ]);
-    to_or_same = λ k. elim (second.to_or_same k) [
-      | inl same ↦ elim (first.to_or_same k) [ inl as_before ↦ inl (same ∙ as_before) | inr now ↦ inr (in_first refs refs' k now.0, same ∙ now.1) ]
-      | inr now ↦ inr (in_second refs refs' k now.0, now.1)
-    ];
-  }
+  told_then = grind (arith, has-append, still_on, still_stray, in_first, in_second, still_to, never_on)
 
 pub refs_after-append : (es fs : List Part) → refs_after (es ++ fs) ≡ refs_after es ++ refs_after fs
-refs_after-append [] fs = refl
-refs_after-append (e ∷ es) fs = ap (λ rs. refs_of e.after ++ rs) (refs_after-append es fs) ∙ sym (append_assoc (refs_of e.after) (refs_after es) (refs_after fs))
+refs_after-append es fs = grind (arith, common_steps, append_assoc)
 
 -- a part more
 pub told_more : (n i : ℕ) (ps : List Part) (p : Part) (refs : Refs) (a b c d e : Index) → 1 ≤ n → i < length ps → p ≡ get_or ps i p → keys_of_refs refs ≡ refs_of p.after
@@ -103,12 +77,10 @@ told_more n i ps p refs a b c d e some short is same before on first second =
 -- ---- an entry more
 
 is_on-keys : (k : Key) (o : Option Change) → is_on k o ≡ has (keys_in o) k
-is_on-keys k None = refl
-is_on-keys k (Some c) = refl
+is_on-keys k o = grind arith
 
 refers-refs : (k : Key) (o : Option Change) → refers k o ≡ has (refs_in o) k
-refers-refs k None = refl
-refers-refs k (Some c) = refl
+refers-refs k o = grind arith
 
 -- a number is at most n, if there is one
 abbrev Within : ℕ → Option ℕ → Type 0
@@ -116,30 +88,17 @@ Within n None = Unit {0}
 Within n (Some m) = m ≤ n
 
 none_above : (n : ℕ) (o : Option ℕ) → Within n o → above n o ≡ None
-none_above n None h = refl
-none_above n (Some m) h = ap (λ b. cond b (Some m) None) (le-ltb n m h)
+none_above n o h = grind arith
 
 within_more : (n m : ℕ) (o : Option ℕ) → n ≤ m → Within n o → Within m o
-within_more n m None le h = tt
-within_more n m (Some k) le h = omega (arith, le, h)
+within_more n m o le h = grind arith
 
 within_some : (n m : ℕ) → m ≤ n → Within n (some_number m)
-within_some n zero h = tt
-within_some n (suc m) h = h
-
-within_one : (n : ℕ) (b : Bool) (e : Entry) → e.number ≤ n → Within n (option_map (λ (x : Entry). x.number) (cond b (Some e) None))
-within_one n true e h = h
-within_one n false e h = tt
+within_some n m h = grind arith
 
 newest_within : (t : Entry → Bool) (k : ℕ) (es : List Entry) → IsNumbered (k + 1) es → Within (k + length es) (newest t es)
 newest_within t k [] h = tt
-newest_within t k (e ∷ es) h =
-    let first : e.number ≡ k + 1 = h.0 in
-    let next : (k + 1) + length es ≡ k + length (e ∷ es) = omega arith in
-    by_option (last_where t es)
-    (λ none. subst (λ o. Within (k + length (e ∷ es)) (option_map (λ (x : Entry). x.number) (option_or o (cond (t e) (Some e) None)))) (sym none) (within_one (k + length (e ∷ es)) (t e) e (omega arith)))
-    (λ x some. subst (λ o. Within (k + length (e ∷ es)) (option_map (λ (y : Entry). y.number) (option_or o (cond (t e) (Some e) None)))) (sym some)
-    (subst (λ j. Within j (Some x.number)) next (subst (λ o. Within ((k + 1) + length es) (option_map (λ (y : Entry). y.number) o)) some (newest_within t (k + 1) es h.1))))
+newest_within t k (e ∷ es) h = grind (arith, newest_within t (k + 1) es h.1)
 
 lowest : (t : Entry → Bool) (k : ℕ) (es : List Entry) (y : Entry) → IsNumbered k es → last_where t es ≡ Some y → k ≤ y.number
 lowest t k [] y h is = none_some y is
@@ -149,8 +108,7 @@ lowest t k (e ∷ es) y h is =
     (λ none. here (t e) (sym (ap (λ o. option_or o (cond (t e) (Some e) None)) none) ∙ is))
     (λ x some.
     let same : x ≡ y = same_Some x y (sym (ap (λ o. option_or o (cond (t e) (Some e) None)) some) ∙ is) in
-    let more : k + 1 ≤ y.number = lowest t (k + 1) es y h.1 (some ∙ ap Some same) in
-    omega arith)
+    grind (arith, lowest t (k + 1) es y h.1 (some ∙ ap Some same)))
   where
     here : (b : Bool) → cond b (Some e) None ≡ Some y → k ≤ y.number
     here true is' = let same : e.number ≡ y.number = ap (λ (x : Entry). x.number) (same_Some e y is') in let first : e.number ≡ k = h.0 in omega arith
@@ -184,26 +142,16 @@ newer t k (x ∷ es) n e h there pass =
       is = ap (λ o. option_map (λ (z : Entry). z.number) (option_or o (cond (t x) (Some x) None))) some;
       late = omega arith;
     }))
-    (λ no.
-    let later = newer t (k + 1) es n e h.1 (sym (ap (λ b. cond b (Some x) rest) no) ∙ there) pass in
-    by_option (last_where t es)
-    (λ none. none_some later.number (sym (ap (option_map (λ (y : Entry). y.number)) none) ∙ later.is))
-    (λ y some. record {
-      number = y.number;
-      is = ap (λ o. option_map (λ (z : Entry). z.number) (option_or o (cond (t x) (Some x) None))) some;
-      late = let same : y.number ≡ later.number = same_Some y.number later.number (sym (ap (option_map (λ (z : Entry). z.number)) some) ∙ later.is) in omega (arith, later.late);
-    }))
+    (λ no. grind (arith, newer t (k + 1) es n e h.1 (sym (ap (λ b. cond b (Some x) rest) no) ∙ there) pass))
 
 some_above : (n m : ℕ) → n < m → above n (Some m) ≡ Some m
 some_above n m h = ap (λ b. cond b (Some m) None) (lt-ltb n m h)
 
 pub number_itself : (n : ℕ) → 1 ≤ n → some_number n ≡ Some n
-number_itself zero h = absurd (omega arith)
-number_itself (suc n) h = refl
+number_itself n h = grind arith
 
 one_or : (b : Bool) (x : Entry) (o : Option Entry) → option_or (option_or None (cond b (Some x) None)) o ≡ cond b (Some x) o
-one_or true x o = refl
-one_or false x o = refl
+one_or b x o = grind arith
 
 module _ (es : List Entry) (x : Entry) (n : ℕ) (a b : Index) (numbered : IsNumbered 1 es) (number : x.number ≡ n) (next : n ≡ length es + 1) (is : Tells es a) (told : Told n (keys_in (applies x.what)) (refs_in (applies x.what)) a b) where
   abbrev more : List Entry
@@ -234,9 +182,7 @@ module _ (es : List Entry) (x : Entry) (n : ℕ) (a b : Index) (numbered : IsNum
 
   -- no number is above one that is no less than the newest
   both_none : (m j : ℕ) (t : Entry → Bool) → n ≤ m → j ≤ n → above m (some_number j) ≡ above m (newest t more)
-  both_none m j t late low =
-      none_above m (some_number j) (within_some m j (omega arith))
-      ∙ sym (none_above m (newest t more) (within_more n m (newest t more) late (more_within t)))
+  both_none m j t late low = grind (arith, none_above, within_some, within_more, more_within)
 
   keys_here : (k : Key) → touches k x ≡ true → has (keys_in (applies x.what)) k ≡ true
   keys_here k on = sym (is_on-keys k (applies x.what)) ∙ on
@@ -248,13 +194,7 @@ module _ (es : List Entry) (x : Entry) (n : ℕ) (a b : Index) (numbered : IsNum
   not_both c fail pass = (cc)
 
   on_same : b.stray ≡ a.stray → (k : Key) → above b.stray (some_number (touched b k)) ≡ above b.stray (newest (touches k) more)
-  on_same same k = by_bool (touches k x)
-      (λ yes.
-      let here : touched b k ≡ n = elim (told.on k (keys_here k yes)) [ inl now ↦ now | inr stray ↦ absurd (omega (arith, same, stray, next, is.stray_within)) ] in
-      ap (λ j. above b.stray (some_number j)) here ∙ ap (above b.stray) (number_itself n (omega arith)) ∙ ap (above b.stray) (sym (newest_this (touches k) yes)))
-      (λ no.
-      let here : touched b k ≡ touched a k = elim (told.on_or_same k) [ inl as_before ↦ as_before | inr now ↦ not_both (touches k x) no (is_on-keys k (applies x.what) ∙ now.0) ] in
-      (λ i. above (same i) (some_number (here i))) ∙ is.on k ∙ (λ i. above (sym same i) (sym (newest_old (touches k) no) i)))
+  on_same same k = grind (arith, keys_here, number_itself, newest_this, not_both, is_on-keys, newest_old)
 
   -- an entry that was told before is on the key
   was_on : {G : Type 0} (k : Key) (e : Entry) → entry es e.number ≡ Some e → touches k e ≡ true → a.stray < e.number → touched a k ≡ 0 → G
@@ -270,33 +210,20 @@ module _ (es : List Entry) (x : Entry) (n : ℕ) (a b : Index) (numbered : IsNum
       let here : referred b k ≡ n = elim (told.to k (refs_here k yes)) [ inl now ↦ now | inr none ↦ was_on k e there on late' none ] in
       ap (λ j. above e.number (some_number j)) here ∙ ap (above e.number) (number_itself n (omega arith)) ∙ ap (above e.number) (sym (newest_this (mentions k) yes)))
       (λ no.
-      let here : referred b k ≡ referred a k = elim (told.to_or_same k) [ inl as_before ↦ as_before | inr now ↦ not_both (mentions k x) no (refers-refs k (applies x.what) ∙ now.0) ] in
-      ap (λ j. above e.number (some_number j)) here ∙ is.to k e there on late' ∙ ap (above e.number) (sym (newest_old (mentions k) no)))
+      grind (arith, not_both, refers-refs, newest_old))
 
   find_more : (j : ℕ) → entry more j ≡ option_or (entry es j) (cond (x.number == j) (Some x) None)
   find_more j = find-append (λ (e : Entry). e.number == j) es (x ∷ [])
 
   -- it is one of the entries before, or the newest
   late_entry : (j : ℕ) (c : Bool) (e : Entry) → (x.number == j) ≡ c → cond c (Some x) None ≡ Some e → n ≤ j
-  late_entry j true e same is' = let at : x.number ≡ j = eqb-true x.number j same in omega arith
-  late_entry j false e same is' = none_some e is'
+  late_entry j c e same is' = grind arith
 
   to_same : b.stray ≡ a.stray → (k : Key) (e : Entry) → entry more e.number ≡ Some e → touches k e ≡ true → b.stray < e.number → above e.number (some_number (referred b k)) ≡ above e.number (newest (mentions k) more)
-  to_same same k e there on late = by_option (entry es e.number)
-      (λ none. both_none e.number (referred b k) (mentions k)
-      (late_entry e.number (x.number == e.number) e refl (sym (find_more e.number ∙ ap (λ o. option_or o (cond (x.number == e.number) (Some x) None)) none) ∙ there)) (to_within' k))
-      (λ y some.
-      let one : y ≡ e = same_Some y e (sym (find_more e.number ∙ ap (λ o. option_or o (cond (x.number == e.number) (Some x) None)) some) ∙ there) in
-      to_old same k e (some ∙ ap Some one) on late)
+  to_same same k e there on late = grind (arith, both_none, late_entry, find_more, to_within', same_Some, to_old)
 
   pub tells_more : Tells more b
-  tells_more = record {
-    on = λ k. elim told.stray [ inl same ↦ on_same same k | inr stray ↦ both_none b.stray (touched b k) (touches k) (omega arith) (on_within' k) ];
-    to = λ k e there on late. elim told.stray [ inl same ↦ to_same same k e there on late | inr stray ↦ both_none e.number (referred b k) (mentions k) (omega arith) (to_within' k) ];
-    stray_within = elim told.stray [ inl same ↦ omega (arith, longer, is.stray_within) | inr stray ↦ omega (arith, longer) ];
-    on_within = λ k. omega (arith, longer, on_within' k);
-    to_within = λ k. omega (arith, longer, to_within' k);
-  }
+  tells_more = grind (arith, on_same, both_none, on_within', to_same, to_within', longer)
 
 found_number : (es : List Entry) (n : ℕ) (e : Entry) → entry es n ≡ Some e → e.number ≡ n
 found_number [] n e there = none_some e there
@@ -312,13 +239,7 @@ at_its_number es n e there = ap (entry es) (found_number es n e there) ∙ there
 
 -- the same is told of the same entries
 pub tells_same : (es : List Entry) (a b : Index) → TellsSame a b → Tells es a → Tells es b
-tells_same es a b same is = record {
-  on = λ k. (λ i. above (same.stray i) (some_number (same.on k i))) ∙ is.on k ∙ ap (λ s. above s (newest (touches k) es)) (sym same.stray);
-  to = λ k e there on late. ap (λ j. above e.number (some_number j)) (same.to k) ∙ is.to k e there on (omega (arith, same.stray));
-  stray_within = omega (arith, same.stray, is.stray_within);
-  on_within = λ k. omega (arith, same.on k, is.on_within k);
-  to_within = λ k. omega (arith, same.to k, is.to_within k);
-}
+tells_same es a b same is = grind arith
 
 -- ---- the places stay
 

@@ -20,9 +20,7 @@ use Rattle.tsn_journal.proofs.LastWhere.{found_here, last_where-append}
 pub none_from : {A : Type 0} (t : A → Bool) (xs : List A) (n : ℕ) → NoneFrom t xs n → last_where t (drop n xs) ≡ None
 none_from t [] zero h = refl
 none_from t [] (suc n) h = refl
-none_from t (x ∷ xs) zero h =
-    ap (λ o. option_or o (cond (t x) (Some x) None)) (none_from t xs zero (λ i y low at. h (suc i) y (omega arith) at))
-    ∙ ap (λ b. cond b (Some x) None) (h zero x (omega arith) refl)
+none_from t (x ∷ xs) zero h = grind (arith, none_from t xs zero (λ i y low at. h (suc i) y (omega arith) at))
 none_from t (x ∷ xs) (suc n) h = none_from t xs n (λ i y low at. h (suc i) y (omega arith) at)
 
 -- where none is from n on, the last is among the first n
@@ -95,12 +93,10 @@ added_both (x ∷ xs) ys = let rest = added_both xs ys in omega (arith, rest)
 
 -- one entry more, at the front or at the end, where it passes
 pub one_told : (n k : ℕ) (F : List MarkedEntry) (b : Bool) (m : MarkedEntry) (x : ℕ) → IsTally n k F → b ≡ true → x ≡ added_parts m.entry.what → IsTally (n + 1) (k + x) (cond b (m ∷ F) F)
-one_told n k F true m x told holds parts = record { count = omega (arith, told.count); added = omega (arith, told.added, parts) }
-one_told n k F false m x told holds parts = absurd (cc)
+one_told n k F b m x told holds parts = grind arith
 
 pub none_told : (n k : ℕ) (F : List MarkedEntry) (b : Bool) (m : MarkedEntry) → IsTally n k F → b ≡ false → IsTally n k (cond b (m ∷ F) F)
-none_told n k F true m told fails = absurd (cc)
-none_told n k F false m told fails = told
+none_told n k F b m told fails = grind arith
 
 pub both_told : (n k i j : ℕ) (xs ys : List MarkedEntry) → IsTally n k xs → IsTally i j ys → IsTally (i + n) (j + k) (xs ++ ys)
 both_told n k i j xs ys first second = record { count = omega (arith, first.count, second.count, length-append xs ys); added = omega (arith, first.added, second.added, added_both xs ys) }
@@ -109,12 +105,10 @@ pub taken_more : (t : MarkedEntry → Bool) (xs : List MarkedEntry) (i : ℕ) (x
 taken_more t xs i x short is = ap (filter t) (take_more xs i x short ∙ ap (λ y. take i xs ++ y ∷ []) (sym is)) ∙ filter-append t (take i xs) (x ∷ [])
 
 pub one_numbered : (ns : List ℕ) (F : List MarkedEntry) (b : Bool) (m : MarkedEntry) → reverse ns ≡ map (λ (k : MarkedEntry). k.entry.number) F → b ≡ true → reverse (ns ++ m.entry.number ∷ []) ≡ map (λ (k : MarkedEntry). k.entry.number) (cond b (m ∷ F) F)
-one_numbered ns F true m same holds = reverse-append ns (m.entry.number ∷ []) ∙ ap (λ xs. m.entry.number ∷ xs) same
-one_numbered ns F false m same holds = (cc)
+one_numbered ns F b m same holds = grind (arith, reverse-append)
 
 pub none_numbered : (ns : List ℕ) (F : List MarkedEntry) (b : Bool) (m : MarkedEntry) → reverse ns ≡ map (λ (k : MarkedEntry). k.entry.number) F → b ≡ false → reverse ns ≡ map (λ (k : MarkedEntry). k.entry.number) (cond b (m ∷ F) F)
-none_numbered ns F true m same fails = (cc)
-none_numbered ns F false m same fails = same
+none_numbered ns F b m same fails = (cc)
 
 pub few_pass : {A : Type 0} (t : A → Bool) (xs : List A) → length (filter t xs) ≤ length xs
 few_pass t [] = omega arith

@@ -1,10 +1,9 @@
 -- What a meter lets through over marks by one record whose instants do not fall.
-use Rattle.std.proofs.Common.{◌≡◌, ◌≤◌, ◌+◌, ◌-◌, ◌*◌, ℕ, refl, arith, min, Bool, true, false, cond, List, [], ◌∷◌, ap, inl, inr}
-use Rattle.std.proofs.lemmas.Bool.{le-leb, lt-leb, cases_lt}
+use Rattle.std.proofs.Common.{◌≡◌, ◌≤◌, ◌+◌, ◌-◌, ◌*◌, ℕ, arith, min, Bool, cond, List, [], ◌∷◌, ap}
 use Rattle.tsn_types.specs.declared.records.FlowMeter.{FlowMeter}
 use Rattle.tsn_meter.specs.declared.bucket.Colour.{Colour}
-use Rattle.tsn_meter.specs.declared.bucket.Colour.TheVariants.{Green, Yellow, Red}
-use Rattle.tsn_meter.specs.Bucket.{Tokens, tokens, grown, over, refilled, by_excess, best, told, colour_of, taken, marked, Event, Mark, Clip, after, record_of, IsWithin}
+use Rattle.tsn_meter.specs.declared.bucket.Colour.TheVariants.{Red}
+use Rattle.tsn_meter.specs.Bucket.{Tokens, tokens, grown, over, refilled, best, told, colour_of, taken, marked, Event, Mark, after, record_of, IsWithin}
 use Rattle.tsn_meter.specs.Colours.{is_green, is_yellow, is_passed}
 use Rattle.tsn_meter.specs.Rates.{Arrival, next, mark_on, octets_marked, IsRising, end_of}
 
@@ -18,78 +17,38 @@ pub record Pays (octets : ℕ) (b : Tokens) (mark : Colour) : Type 0 where
   pub yellow : paid (is_yellow mark) octets + (taken (tokens octets) b mark).excess ≡ b.excess
   pub passed : paid (is_passed mark) octets + (taken (tokens octets) b mark).committed + (taken (tokens octets) b mark).excess ≡ b.committed + b.excess
 
-pays_green : (octets : ℕ) (b : Tokens) → tokens octets ≤ b.committed → Pays octets b Green
-pays_green octets b enough = record { green = omega arith; yellow = omega arith; passed = omega arith }
-
-pays_yellow : (octets : ℕ) (b : Tokens) → tokens octets ≤ b.excess → Pays octets b Yellow
-pays_yellow octets b enough = record { green = omega arith; yellow = omega arith; passed = omega arith }
-
-pays_red : (octets : ℕ) (b : Tokens) → Pays octets b Red
-pays_red octets b = record { green = omega arith; yellow = omega arith; passed = omega arith }
-
-excess_pays : (octets : ℕ) (b : Tokens) → Pays octets b (by_excess (tokens octets) b)
-excess_pays octets b =
-    elim (cases_lt b.excess (tokens octets)) [
-      | inl lt ↦ rw (lt-leb (tokens octets) b.excess lt) (pays_red octets b)
-      | inr le ↦ rw (le-leb (tokens octets) b.excess le) (pays_yellow octets b le)
-    ]
-
 -- The tokens that a frame's mark takes are those of its octets.
 best_pays : (octets : ℕ) (b : Tokens) (colour : Colour) → Pays octets b (best (tokens octets) b colour)
-best_pays octets b Green =
-    elim (cases_lt b.committed (tokens octets)) [
-      | inl lt ↦ rw (lt-leb (tokens octets) b.committed lt) (excess_pays octets b)
-      | inr le ↦ rw (le-leb (tokens octets) b.committed le) (pays_green octets b le)
-    ]
-best_pays octets b Yellow = excess_pays octets b
-best_pays octets b Red = pays_red octets b
+best_pays octets b colour = grind arith
 
 mark_pays : (m : FlowMeter) (b : Tokens) (f : Arrival) → Pays f.octets (refilled m f.time b) (mark_on m b f)
 mark_pays m b f = best_pays f.octets (refilled m f.time b) (told m f.colour)
 
 -- The instant of a mark is the last one.
 taken_last : (price : ℕ) (b : Tokens) (mark : Colour) → (taken price b mark).last ≡ b.last
-taken_last price b Green = refl
-taken_last price b Yellow = refl
-taken_last price b Red = refl
+taken_last price b mark = grind arith
 
 next_last : (m : FlowMeter) (b : Tokens) (f : Arrival) → (next m b f).last ≡ f.time
 next_last m b f = taken_last (tokens f.octets) (refilled m f.time b) (mark_on m b f)
 
 -- What flows over is no more than what the committed count loses by its size.
 coupled : (cf : Bool) (g s e t : ℕ) → min g s + min (e + cond cf (g - s) 0) t ≤ g + e
-coupled true g s e t = omega arith
-coupled false g s e t = omega arith
+coupled cf g s e t = grind arith
 
 flows : (cf : Bool) (g s : ℕ) → cond cf (g - s) 0 ≤ g - s
-flows true g s = omega arith
-flows false g s = omega arith
+flows cf g s = grind arith
 
 -- what a rate brings in two spans of time, one after the other
 spans : (k a b c : ℕ) → a ≤ b → b ≤ c → k * (b - a) + k * (c - b) ≡ k * (c - a)
-spans k a b c ab bc =
-    let whole : c - a ≡ (b - a) + (c - b) = omega arith in
-    rw whole (omega arith)
+spans k a b c ab bc = grind arith
 
 end_after : (t : ℕ) (fs : List Arrival) → IsRising t fs → t ≤ end_of t fs
 end_after t [] r = omega arith
-end_after t (f ∷ fs) r =
-    let rest : f.time ≤ end_of f.time fs = end_after f.time fs r.1 in
-    let first : t ≤ f.time = r.0 in
-    omega arith
-
-taken_within : (price : ℕ) (b : Tokens) (mark : Colour) → ((taken price b mark).committed ≤ b.committed) × ((taken price b mark).excess ≤ b.excess)
-taken_within price b Green = (omega arith, omega arith)
-taken_within price b Yellow = (omega arith, omega arith)
-taken_within price b Red = (omega arith, omega arith)
+end_after t (f ∷ fs) r = grind (arith, (end_after f.time fs r.1))
 
 -- No count is above its size after a mark or a clip.
 pub within : (b : Tokens) (e : Event) → IsWithin (record_of e) (after b e)
-within b (Mark m now octets colour) =
-    let less : ((marked m now octets colour b).committed ≤ (refilled m now b).committed) × ((marked m now octets colour b).excess ≤ (refilled m now b).excess) =
-    taken_within (tokens octets) (refilled m now b) (colour_of m now octets colour b) in
-    record { committed = omega (arith, less.0); excess = omega (arith, less.1) }
-within b (Clip m) = record { committed = omega arith; excess = omega arith }
+within b e = grind arith
 
 -- A red frame takes nothing.
 pub red_takes_nothing : (m : FlowMeter) (now octets : ℕ) (colour : Colour) (b : Tokens) → colour_of m now octets colour b ≡ Red → marked m now octets colour b ≡ refilled m now b
@@ -140,25 +99,10 @@ yellow_bound m b t (f ∷ fs) at full r =
 -- With the time counted from the first frame on, that frame's refill bounds what was there by the sizes.
 module _ (m : FlowMeter) (b : Tokens) (f : Arrival) (fs : List Arrival) (r : IsRising f.time fs) where
   pub green_rate : tokens (octets_marked is_green m b (f ∷ fs)) ≤ tokens m.cbs + m.cir * (end_of f.time fs - f.time)
-  green_rate =
-      let rest : tokens (octets_marked is_green m (next m b f) fs) ≤ (next m b f).committed + m.cir * (end_of f.time fs - f.time) = green_bound m (next m b f) f.time fs (next_last m b f) r in
-      let pays : paid (is_green (mark_on m b f)) f.octets + (next m b f).committed ≡ min (grown m f.time b) (tokens m.cbs) = (mark_pays m b f).green in
-      omega arith
+  green_rate = grind (arith, green_bound, next_last, mark_pays)
 
   pub passed_rate : tokens (octets_marked is_passed m b (f ∷ fs)) ≤ tokens m.cbs + tokens m.ebs + (m.cir + m.eir) * (end_of f.time fs - f.time)
-  passed_rate =
-      let rest : tokens (octets_marked is_passed m (next m b f) fs) ≤ (next m b f).committed + (next m b f).excess + (m.cir * (end_of f.time fs - f.time) + m.eir * (end_of f.time fs - f.time)) =
-      passed_bound m (next m b f) f.time fs (next_last m b f) r in
-      let pays : paid (is_passed (mark_on m b f)) f.octets + (next m b f).committed + (next m b f).excess ≡ (refilled m f.time b).committed + (refilled m f.time b).excess = (mark_pays m b f).passed in
-      let filled : (refilled m f.time b).committed ≤ tokens m.cbs = omega arith in
-      let spare : (refilled m f.time b).excess ≤ tokens m.ebs = omega arith in
-      let apart : (m.cir + m.eir) * (end_of f.time fs - f.time) ≡ m.cir * (end_of f.time fs - f.time) + m.eir * (end_of f.time fs - f.time) = omega arith in
-      omega arith
+  passed_rate = grind (arith, passed_bound, next_last, mark_pays)
 
   pub yellow_rate : tokens (octets_marked is_yellow m b (f ∷ fs)) ≤ tokens m.ebs + (m.cir + m.eir) * (end_of f.time fs - f.time)
-  yellow_rate =
-      let rest : tokens (octets_marked is_yellow m (next m b f) fs) ≤ (next m b f).excess + (m.cir * (end_of f.time fs - f.time) + m.eir * (end_of f.time fs - f.time)) =
-      yellow_bound m (next m b f) f.time fs (next_last m b f) (within b (Mark m f.time f.octets f.colour)).committed r in
-      let pays : paid (is_yellow (mark_on m b f)) f.octets + (next m b f).excess ≡ min (b.excess + m.eir * (f.time - b.last) + over m f.time b) (tokens m.ebs) = (mark_pays m b f).yellow in
-      let apart : (m.cir + m.eir) * (end_of f.time fs - f.time) ≡ m.cir * (end_of f.time fs - f.time) + m.eir * (end_of f.time fs - f.time) = omega arith in
-      omega arith
+  yellow_rate = grind (arith, yellow_bound, next_last, within, mark_pays)

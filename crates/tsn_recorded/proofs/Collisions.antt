@@ -1,9 +1,8 @@
 -- The chain of digests: what one digest stands for.
-use Rattle.std.proofs.Common.{◌≡◌, ◌≢◌, ℕ, Bool, true, false, List, [], ◌∷◌, ◌++◌, length, take, refl, sym, ◌∙◌, ap, ◌⊎◌, inl, inr, arith}
+use Rattle.std.proofs.Common.{◌≡◌, ◌≢◌, ℕ, Bool, List, [], ◌∷◌, ◌++◌, length, take, refl, sym, ◌∙◌, ap, ◌⊎◌, inl, inr, arith}
 use Rattle.std.specs.Prelude.{All}
 use Rattle.std.specs.Bool.{Decides}
 use Rattle.std.specs.Str.{bytes_eq}
-use Rattle.std.proofs.lemmas.Bool.{false≢true}
 use Rattle.std.proofs.lemmas.List.{append_cancel_left, append_cancel_right, take_at}
 use Rattle.std.proofs.lemmas.List.Elements.{All-head, All-tail}
 use Rattle.std.proofs.lemmas.Slice.Eq.{bytes_eq-Decides}
@@ -14,8 +13,7 @@ use Rattle.tsn_recorded.proofs.Readings.{same_body, text_of-digest}
 use Rattle.tsn_recorded.proofs.Splitting.{same_fronts}
 
 told : (b : Bool) (xs ys : List ℕ) → Decides b (xs ≡ ys) → (xs ≡ ys) ⊎ (xs ≢ ys)
-told true xs ys d = inl (d.0 refl)
-told false xs ys d = inr (λ e. false≢true (d.1 e))
+told b xs ys d = grind arith
 
 same_or_not : (xs ys : List ℕ) → (xs ≡ ys) ⊎ (xs ≢ ys)
 same_or_not xs ys = told (bytes_eq xs ys) xs ys (bytes_eq-Decides xs ys)
@@ -28,10 +26,7 @@ same_text xs ys e = elim (same_or_not xs ys) [
 ]
 
 pub same_behind : (last other body : List ℕ) → digest_after last body ≡ digest_after other body → (last ≡ other) ⊎ Collision
-same_behind last other body e = elim (same_text (last ++ body) (other ++ body) e) [
-  | inl same ↦ inl (append_cancel_right last other body same)
-  | inr c ↦ inr c
-]
+same_behind last other body e = grind (arith, same_text, append_cancel_right)
 
 -- a line stands behind one digest
 pub stands_once : (last other : List ℕ) (r : Recorded) → text_of last r ≡ text_of other r → (last ≡ other) ⊎ Collision
@@ -39,10 +34,7 @@ stands_once last other r e = same_behind last other (body_of r) (sym (text_of-di
 
 -- a digest behind a digest is that of one recorded command
 pub is_unchanged : (last : List ℕ) (r q : Recorded) → IsRecorded r → IsRecorded q → digest_after last (body_of r) ≡ digest_after last (body_of q) → (r ≡ q) ⊎ Collision
-is_unchanged last r q isr isq e = elim (same_text (last ++ body_of r) (last ++ body_of q) e) [
-  | inl same ↦ inl (same_body r q isr isq (append_cancel_left last (body_of r) (body_of q) same))
-  | inr c ↦ inr c
-]
+is_unchanged last r q isr isq e = grind (arith, same_text, same_body, append_cancel_left)
 
 same_start : (xs ys us vs : List ℕ) → length xs ≡ length us → xs ++ ys ≡ us ++ vs → xs ≡ us
 same_start xs ys us vs size e = sym (take_at xs ys (length xs) refl) ∙ ap (take (length xs)) e ∙ take_at us vs (length xs) (sym size)

@@ -1,12 +1,13 @@
 -- How what was given goes on by a line, and by a piece that is fed.
 use Rattle.std.proofs.Common.{◌≡◌, ◌≢◌, ◌⊎◌, inl, inr, ℕ, ◌+◌, Bool, true, false, List, [], ◌∷◌, ◌++◌, length, take, drop, sym, subst, ◌∙◌, ap, refl, arith}
+use Rattle.std.proofs.lemmas.Grind.{common_steps}
 use Rattle.std.specs.Prelude.{◌↔◌, All, Contains, IsTrue}
 use Rattle.std.specs.Bool.{OnTrue, OnFalse}
 use Rattle.std.proofs.lemmas.Bool.{false≢true}
 use Rattle.std.proofs.lemmas.List.{append-nil, append_assoc, drop_at, get_or_default, length-append, length-take-le}
-use Rattle.std.proofs.lemmas.List.Elements.{All-append, All-contains, All-nil, All-same, Contains-append_cases, Contains-append_left, Contains-append_right}
+use Rattle.std.proofs.lemmas.List.Elements.{All-append, All-nil, All-same, Contains-append_left, Contains-append_right}
 use Rattle.tsn_recorded.specs.declared.end.End.TheVariants.{Unfinished, Damaged}
-use Rattle.tsn_recorded.specs.Text.{Recorded, IsRecordedAfter, body_of, digest_after, digest_length, last_digest, line_feed, line_of, text_after, text_of}
+use Rattle.tsn_recorded.specs.Text.{Recorded, IsRecordedAfter, body_of, digest_after, digest_length, line_feed, line_of, text_after, text_of}
 use Rattle.tsn_recorded.specs.Reading.{BeginsWithLine, BeginsWithNone, IsEnd, Reads}
 use Rattle.tsn_recorded.specs.Reader.{HasGiven, Standing}
 use Rattle.tsn_recorded.proofs.Finding.{text_at}
@@ -25,30 +26,7 @@ pub record GoesOn (s next : Standing) (r : Recorded) : Type 0 where
 
 pub gives_on : (fed : List ℕ) (rs : List Recorded) (s next : Standing) (r : Recorded) → HasGiven fed rs s → GoesOn s next r → HasGiven fed (rs ++ r ∷ []) next
 gives_on fed rs s next r given on =
-    let text = text_of s.last r in
-    let one : text_after [] (rs ++ r ∷ []) ≡ text_after [] rs ++ text =
-    text_after-append [] rs (r ∷ []) ∙ ap (λ t. text_after [] rs ++ t) (append-nil (text_of (last_digest [] rs) r) ∙ ap (λ d. text_of d r) (sym given.last)) in
-    let P : List ℕ → Type 0 = λ d. IsRecordedAfter d r in
-    let Q : Bool → Type 0 = λ b. (IsTrue b → Contains given.counted line_feed) × (Contains given.counted line_feed → IsTrue b) in
-    let behind : s.held ++ given.counted ≡ text ++ (next.held ++ given.counted) = ap (λ t. t ++ given.counted) on.held ∙ append_assoc text next.held given.counted in
-    let count = length-append rs (r ∷ []) in
-    let size = length-append (text_after [] rs) text in
-    let all = ap length one in
-    let lines = given.count in
-    let good = given.good in
-    let next_lines = on.lines in
-    let next_good = on.good in
-    record {
-      counted = given.counted;
-      front = given.front ∙ ap (λ t. text_after [] rs ++ t) behind ∙ sym (append_assoc (text_after [] rs) text (next.held ++ given.counted))
-          ∙ ap (λ t. t ++ (next.held ++ given.counted)) (sym one);
-      recorded = are_recorded-append [] rs (r ∷ []) given.recorded (subst P given.last on.is, tt);
-      last = on.last ∙ ap (λ d. digest_after d (body_of r)) given.last ∙ sym (last_digest-append [] rs (r ∷ []));
-      count = omega (arith, count, lines, next_lines);
-      good = all ∙ size ∙ ap (λ n. n + length text) good ∙ sym next_good;
-      size = given.size ∙ sym on.counted;
-      line_feeds = subst Q (sym on.has_line_feed) given.line_feeds;
-    }
+    grind (arith, text_after-append, append-nil, append_assoc, length-append, are_recorded-append, last_digest-append)
 
 -- what stands behind what was given
 pub rest_of_given : (fed : List ℕ) (rs : List Recorded) (s : Standing) → (given : HasGiven fed rs s) → drop s.good fed ≡ s.held ++ given.counted
@@ -57,38 +35,17 @@ rest_of_given fed rs s given = ap (drop s.good) given.front ∙ drop_at (text_af
 -- where none begins behind it, this is how the bytes read
 pub given_reads : (fed : List ℕ) (rs : List Recorded) (s : Standing) → HasGiven fed rs s
     → ((more : List ℕ) → length more ≡ s.counted → BeginsWithNone s.last (s.held ++ more)) → Reads [] fed rs (drop s.good fed)
-given_reads fed rs s given none =
-    let rest = sym (rest_of_given fed rs s given) in
-    let P : List ℕ → Type 0 = λ d. BeginsWithNone d (s.held ++ given.counted) in
-    let Q : List ℕ → Type 0 = λ t. BeginsWithNone (last_digest [] rs) t in
-    record {
-      front = given.front ∙ ap (λ t. text_after [] rs ++ t) rest;
-      recorded = given.recorded;
-      longest = subst Q rest (subst P given.last (none given.counted given.size));
-    }
+given_reads fed rs s given none = grind (arith, common_steps, rest_of_given)
 
 -- ---- a line further
 
 module _ (s next : Standing) (r : Recorded) (bytes : List ℕ) (count : ℕ) (held : s.held ≡ bytes) (first : BeginsWithLine bytes count) (line : take count bytes ≡ line_of s.last r) where
   text_size : length (text_of s.last r) ≡ count + 1
-  text_size =
-      let inside = first.inside in
-      let front = length-take-le count bytes (omega (arith, inside)) in
-      let same = ap length line in
-      let ended = length-append (line_of s.last r) (line_feed ∷ []) in
-      omega (arith, front, same, ended)
+  text_size = grind (arith, length-take-le, length-append)
 
   pub goes_on : IsRecordedAfter s.last r → next.held ≡ drop (count + 1) bytes → next.last ≡ take digest_length (take count bytes)
       → next.lines ≡ s.lines + 1 → next.good ≡ s.good + (count + 1) → next.counted ≡ s.counted → next.has_line_feed ≡ s.has_line_feed → GoesOn s next r
-  goes_on is rest last lines good counted has = record {
-    is = is;
-    held = held ∙ text_at bytes count first s.last r line ∙ ap (λ t. text_of s.last r ++ t) (sym rest);
-    last = last ∙ ap (take digest_length) line ∙ line_digest s.last r;
-    lines = lines;
-    good = good ∙ ap (λ n. s.good + n) (sym text_size);
-    counted = counted;
-    has_line_feed = has;
-  }
+  goes_on is rest last lines good counted has = grind (arith, text_at, line_digest, text_size)
 
 -- ---- a piece further
 
@@ -99,46 +56,17 @@ pub record KeepsPlace (s next : Standing) : Type 0 where
   pub good : next.good ≡ s.good
 
 nil_of : (xs : List ℕ) → length xs ≡ 0 → xs ≡ []
-nil_of [] none = refl
-nil_of (x ∷ xs) none = absurd (omega (arith, none))
+nil_of xs none = grind (arith, common_steps)
 
 module _ (fed piece : List ℕ) (rs : List Recorded) (s next : Standing) (given : HasGiven fed rs s) (same : KeepsPlace s next) where
   -- it was held
   pub gives_held : next.held ≡ s.held ++ piece → s.counted ≡ 0 → next.counted ≡ s.counted → next.has_line_feed ≡ s.has_line_feed → HasGiven (fed ++ piece) rs next
-  gives_held held none counted has =
-      let text = text_after [] rs in
-      let empty : given.counted ≡ [] = nil_of given.counted (given.size ∙ none) in
-      let before : fed ≡ text ++ s.held = given.front ∙ ap (λ x. text ++ (s.held ++ x)) empty ∙ ap (λ h. text ++ h) (append-nil s.held) in
-      let after : text ++ (s.held ++ piece) ≡ text ++ (next.held ++ given.counted) =
-      sym (ap (λ x. text ++ (next.held ++ x)) empty ∙ ap (λ h. text ++ h) (append-nil next.held ∙ held)) in
-      let Q : Bool → Type 0 = λ b. (IsTrue b → Contains given.counted line_feed) × (Contains given.counted line_feed → IsTrue b) in
-      record {
-        counted = given.counted;
-        front = ap (λ t. t ++ piece) before ∙ append_assoc text s.held piece ∙ after;
-        recorded = given.recorded;
-        last = same.last ∙ given.last;
-        count = given.count ∙ sym same.lines;
-        good = given.good ∙ sym same.good;
-        size = given.size ∙ sym counted;
-        line_feeds = subst Q (sym has) given.line_feeds;
-      }
+  gives_held held none counted has = grind (arith, nil_of, append-nil, append_assoc)
 
   -- it was only counted
   pub gives_counted : next.held ≡ s.held → next.counted ≡ s.counted + length piece
       → (IsTrue next.has_line_feed ↔ Contains (given.counted ++ piece) line_feed) → HasGiven (fed ++ piece) rs next
-  gives_counted held counted found =
-      let text = text_after [] rs in
-      record {
-        counted = given.counted ++ piece;
-        front = ap (λ t. t ++ piece) given.front ∙ append_assoc text (s.held ++ given.counted) piece
-            ∙ ap (λ t. text ++ t) (append_assoc s.held given.counted piece ∙ ap (λ h. h ++ (given.counted ++ piece)) (sym held));
-        recorded = given.recorded;
-        last = same.last ∙ given.last;
-        count = given.count ∙ sym same.lines;
-        good = given.good ∙ sym same.good;
-        size = length-append given.counted piece ∙ ap (λ n. n + length piece) given.size ∙ sym counted;
-        line_feeds = found;
-      }
+  gives_counted held counted found = grind (arith, append_assoc, length-append)
 
 -- what was found in a piece is found with those before it
 pub found_with : (before after : Bool) (counted piece : List ℕ) → (IsTrue before ↔ Contains counted line_feed)
@@ -151,13 +79,7 @@ found_with before true counted piece known some none = (
   ],
   λ there. refl,
 )
-found_with before false counted piece known some none = (
-  λ is. absurd (false≢true is),
-  λ there. elim (Contains-append_cases counted piece line_feed there) [
-    | inl was ↦ absurd (false≢true (sym none.0 ∙ known.1 was))
-    | inr here ↦ absurd (All-contains (λ b. b ≢ line_feed) piece line_feed none.1 here refl)
-  ],
-)
+found_with before false counted piece known some none = grind (arith, common_steps, false≢true)
 
 -- ---- the end
 

@@ -1,36 +1,20 @@
 -- How long lines are.
-use Rattle.std.proofs.Common.{◌≡◌, ℕ, ◌+◌, ◌<◌, ◌≤◌, List, [], ◌∷◌, length, refl, arith}
+use Rattle.std.proofs.Common.{◌≡◌, ℕ, ◌+◌, ◌≤◌, List, [], ◌∷◌, length, arith}
 use Rattle.std.specs.Prelude.{All}
 use Rattle.std.proofs.lemmas.List.{length-append}
 use Rattle.std.proofs.lemmas.List.Elements.{All-cons, All-head, All-nil, All-tail}
-use Rattle.tsn_recorded.specs.Text.{Recorded, IsRecorded, IsRecordedAfter, AreRecordedAfter, IsShort, body_of, digest_after, line_of, longest_after, longest_command, longest_command_after, longest_stamp, space}
+use Rattle.tsn_recorded.specs.Text.{Recorded, IsRecorded, IsRecordedAfter, AreRecordedAfter, IsShort, body_of, digest_after, line_of, longest_command, longest_command_after, longest_stamp}
 use Rattle.tsn_recorded.proofs.Digests.{length-digest_after}
 
--- behind a digest the longest line is that of the longest command
-pub longest_behind : (last : List ℕ) → 0 < length last → longest_after last ≡ 131126
-longest_behind [] some = absurd (omega (arith, some))
-longest_behind (b ∷ last) some = refl
-
-pub longest_first : (last : List ℕ) → length last ≡ 0 → longest_after last ≡ 6291542
-longest_first [] none = refl
-longest_first (b ∷ last) none = absurd (omega (arith, none))
-
 pub length-line_of : (last : List ℕ) (r : Recorded) → length (line_of last r) ≡ 34 + length r.stamp + length r.command
-length-line_of last r =
-    let digest = length-digest_after last (body_of r) in
-    let body = length-append r.stamp (space ∷ r.command) in
-    let all = length-append (digest_after last (body_of r)) (space ∷ body_of r) in
-    omega (arith, digest, body, all)
+length-line_of last r = grind (arith, length-digest_after, length-append)
 
 pub is_recorded_after : (last : List ℕ) (r : Recorded) → IsRecorded r → length r.stamp ≤ longest_stamp
     → length r.command ≤ longest_command_after last → IsRecordedAfter last r
-is_recorded_after last r is stamp command =
-    let line = length-line_of last r in
-    record { recorded = is; within = omega (arith, line, stamp, command) }
+is_recorded_after last r is stamp command = grind (arith, length-line_of)
 
 any_command : (last : List ℕ) → longest_command ≤ longest_command_after last
-any_command [] = omega arith
-any_command (b ∷ last) = omega arith
+any_command last = grind arith
 
 pub are_recorded_after : (last : List ℕ) (rs : List Recorded) → All IsRecorded rs → All IsShort rs → AreRecordedAfter last rs
 are_recorded_after last [] all short = tt

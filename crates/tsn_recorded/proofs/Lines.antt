@@ -1,7 +1,7 @@
 -- What the bytes of a line say: which recorded command it says, or that it says none.
-use Rattle.std.proofs.Common.{◌≡◌, ◌≢◌, ℕ, ◌+◌, ◌<◌, ◌≤◌, List, [], ◌∷◌, ◌++◌, length, take, drop, slice_index, sym, subst, ◌∙◌, ap, arith, Option, Some, None}
+use Rattle.std.proofs.Common.{◌≡◌, ◌≢◌, ℕ, ◌+◌, ◌<◌, ◌≤◌, List, [], ◌∷◌, ◌++◌, length, take, drop, slice_index, sym, ◌∙◌, ap, arith, Option, Some, None}
 use Rattle.std.specs.Prelude.{All}
-use Rattle.std.proofs.lemmas.Bool.{eq-eqb, eqb-true}
+use Rattle.std.proofs.lemmas.Bool.{eq-eqb}
 use Rattle.std.proofs.lemmas.List.{append_assoc, drop_at, drop_more, get_or-take, get_or_at, get_or_default, length-append, length-take, take-append-drop, take_all, take_at}
 use Rattle.std.proofs.lemmas.List.Elements.{All-drop, All-same, All-take}
 use Rattle.memchr.specs.Find.{IsFirstByte, Nowhere, Passes, is_byte}
@@ -12,30 +12,20 @@ use Rattle.tsn_recorded.proofs.Splitting.{has_one}
 
 -- a front in which a byte was sought in vain is free of it
 pub free_front : (b : ℕ) (bytes : List ℕ) (k : ℕ) → Nowhere (Passes (is_byte b) bytes) 0 k → All (λ x. x ≢ b) (take k bytes)
-free_front b bytes k none i d below e =
-    let size = length-take k bytes in
-    let small : i < k = omega (arith, size) in
-    let inside : i < length bytes = omega (arith, size) in
-    let here : slice_index bytes i ≡ b = get_or_default bytes i 0 d inside ∙ sym (get_or-take k bytes i d small) ∙ e in
-    none i (omega arith) small (eq-eqb (slice_index bytes i) b here)
+free_front b bytes k none i d below e = grind (arith, length-take, get_or_default, get_or-take, eq-eqb)
 
 pub free_all : (b : ℕ) (bytes : List ℕ) → Nowhere (Passes (is_byte b) bytes) 0 (length bytes) → All (λ x. x ≢ b) bytes
 free_all b bytes none = All-same (λ x. x ≢ b) bytes (take (length bytes) bytes) (sym (take_all (length bytes) bytes (omega arith))) (free_front b bytes (length bytes) none)
 
 -- a list is what lies ahead of a place, what stands there, and what lies behind
 pub split_at : (b : ℕ) (bytes : List ℕ) (k : ℕ) → k < length bytes → slice_index bytes k ≡ b → bytes ≡ take k bytes ++ b ∷ drop (k + 1) bytes
-split_at b bytes k inside here =
-    let behind = drop_more bytes k 0 inside in
-    sym (take-append-drop k bytes) ∙ ap (λ t. take k bytes ++ t) (behind ∙ ap (λ x. x ∷ drop (k + 1) bytes) here)
+split_at b bytes k inside here = grind (arith, drop_more, take-append-drop)
 
 -- ---- where a line is that of a recorded command
 
 module _ (last : List ℕ) (r : Recorded) where
   pub line_long : digest_length < length (line_of last r)
-  line_long =
-      let digits = length-digest_after last (body_of r) in
-      let all = length-append (digest_after last (body_of r)) (space ∷ body_of r) in
-      omega (arith, digits, all)
+  line_long = grind (arith, length-digest_after, length-append)
 
   pub line_gap : slice_index (line_of last r) digest_length ≡ space
   line_gap = get_or_at (digest_after last (body_of r)) space (body_of r) 0 digest_length (length-digest_after last (body_of r))
@@ -97,14 +87,7 @@ pub record Found (b : ℕ) (bytes : List ℕ) (k : ℕ) : Type 0 where
 
 module _ (b : ℕ) (bytes sought : List ℕ) (same : sought ≡ bytes) (r : Option ℕ) (answer : IsFirstByte (is_byte b) sought r) where
   pub found : (k : ℕ) → r ≡ Some k → Found b bytes k
-  found k is =
-      let P : Option ℕ → Type 0 = λ o. IsFirstByte (is_byte b) sought o in
-      let Q : List ℕ → Type 0 = λ x. IsFirstByte (is_byte b) x (Some k) in
-      let first = subst Q same (subst P is answer) in
-      record { inside = first.0.high; here = eqb-true (slice_index bytes k) b first.1; before = first.0.before }
+  found k is = grind arith
 
   pub missing : r ≡ None → All (λ x. x ≢ b) bytes
-  missing is =
-      let P : Option ℕ → Type 0 = λ o. IsFirstByte (is_byte b) sought o in
-      let Q : List ℕ → Type 0 = λ x. IsFirstByte (is_byte b) x None in
-      free_all b bytes (subst Q same (subst P is answer))
+  missing is = grind (arith, free_all)

@@ -1,20 +1,20 @@
 -- Bytes read in one way, and the text of recorded commands reads back.
-use Rattle.std.proofs.Common.{◌≡◌, ◌≢◌, ℕ, zero, suc, ◌-◌, ◌<◌, ◌≤◌, List, [], ◌∷◌, ◌++◌, length, take, drop, refl, sym, subst, ◌∙◌, ap, arith, inl, inr, Bool, true, false}
-use Rattle.std.specs.Prelude.{All, Contains, if◌then◌else◌, nat_le}
+use Rattle.std.proofs.Common.{◌≡◌, ◌≢◌, ℕ, zero, suc, ◌-◌, ◌<◌, ◌≤◌, List, [], ◌∷◌, ◌++◌, length, take, drop, refl, sym, subst, ◌∙◌, ap, arith, inl, inr, Bool, true, false, rules}
+use Rattle.std.proofs.lemmas.Grind.{common_steps}
+use Rattle.std.specs.Prelude.{All, if◌then◌else◌, nat_le}
 use Rattle.std.proofs.lemmas.Bool.{cases_lt, le-leb, lt-leb}
 use Rattle.std.proofs.lemmas.List.{append_assoc, append_cancel_right, append-nil, length-append, take-append-drop, take-append-le, take_at}
-use Rattle.std.proofs.lemmas.List.Elements.{All-append, All-cons, All-nil, All-same, All-take}
+use Rattle.std.proofs.lemmas.List.Elements.{All-append, All-cons, All-nil, All-same}
 use Rattle.tsn_recorded.specs.Text.{Recorded, IsRecorded, IsRecordedAfter, AreRecordedAfter, body_of, digest_after, digest_length, last_digest, line_feed, line_of, space, text_after, text_of}
 use Rattle.tsn_recorded.specs.Reading.{BeginsWithNone, IsEnd, Reads, recorded_within}
 use Rattle.tsn_recorded.specs.declared.end.End.{End}
-use Rattle.tsn_recorded.specs.declared.end.End.TheVariants.{Whole, Unfinished, Damaged}
+use Rattle.tsn_recorded.specs.declared.end.End.TheVariants.{Damaged}
 use Rattle.tsn_recorded.proofs.Digests.{digest_after-no_line_feed, length-digest_after}
-use Rattle.tsn_recorded.proofs.Splitting.{cons_tail, front_holds, has_one, same_fronts, same_parts}
+use Rattle.tsn_recorded.proofs.Splitting.{cons_tail, has_one, same_fronts, same_parts}
 
 pub text_after-append : (last : List ℕ) (rs more : List Recorded) → text_after last (rs ++ more) ≡ text_after last rs ++ text_after (last_digest last rs) more
 text_after-append last [] more = refl
-text_after-append last (r ∷ rs) more =
-    ap (λ t. text_of last r ++ t) (text_after-append (digest_after last (body_of r)) rs more) ∙ sym (append_assoc (text_of last r) _ _)
+text_after-append last (r ∷ rs) more = grind (arith, append_assoc, (text_after-append (digest_after last (body_of r)) rs more))
 
 pub last_digest-append : (last : List ℕ) (rs more : List Recorded) → last_digest last (rs ++ more) ≡ last_digest (last_digest last rs) more
 last_digest-append last [] more = refl
@@ -42,9 +42,7 @@ line_of-line last r is =
 
 -- the text behind the digest's space is that of one recorded command
 pub same_body : (r q : Recorded) → IsRecorded r → IsRecorded q → body_of r ≡ body_of q → r ≡ q
-same_body r q isr isq e =
-    let halves = same_parts space r.stamp r.command q.stamp q.command isr.stamp_word isq.stamp_word e in
-    same_fields r.stamp q.stamp r.command q.command halves.0 halves.1
+same_body r q isr isq e = grind (arith, same_parts, same_fields)
 
 -- a line is that of one recorded commanded command
 pub same_record : (last : List ℕ) (r q : Recorded) → IsRecorded r → IsRecorded q → line_of last r ≡ line_of last q → r ≡ q
@@ -55,19 +53,12 @@ same_record last r q isr isq e =
 
 -- bytes begin with one line at most
 pub same_first : (last : List ℕ) (r q : Recorded) (more others : List ℕ) → IsRecorded r → IsRecorded q → text_of last r ++ more ≡ text_of last q ++ others → (r ≡ q) × (more ≡ others)
-same_first last r q more others isr isq e =
-    let parts = same_parts line_feed (line_of last r) more (line_of last q) others (line_of-line last r isr) (line_of-line last q isq)
-    (sym (text_of-line last r more) ∙ e ∙ text_of-line last q others) in
-    (same_record last r q isr isq parts.0, parts.1)
+same_first last r q more others isr isq e = grind (arith, same_parts, line_of-line, text_of-line, same_record)
 
 -- a reading behind the first line
 reads_tail : (last bytes : List ℕ) (r : Recorded) (rs : List Recorded) (rest : List ℕ) → Reads last bytes (r ∷ rs) rest
     → Reads (digest_after last (body_of r)) (text_after (digest_after last (body_of r)) rs ++ rest) rs rest
-reads_tail last bytes r rs rest reads = record {
-  front = refl;
-  recorded = reads.recorded.1;
-  longest = reads.longest;
-}
+reads_tail last bytes r rs rest reads = grind arith
 
 -- the bytes of a reading begin with its first line
 reads_first : (last bytes : List ℕ) (r : Recorded) (rs : List Recorded) (rest : List ℕ) → Reads last bytes (r ∷ rs) rest
@@ -76,10 +67,8 @@ reads_first last bytes r rs rest reads = reads.front ∙ append_assoc (text_of l
 
 pub same_reading : (last bytes : List ℕ) (rs others : List Recorded) (rest other : List ℕ) → Reads last bytes rs rest → Reads last bytes others other → (rs ≡ others) × (rest ≡ other)
 same_reading last bytes [] [] rest other one two = (refl, sym one.front ∙ two.front)
-same_reading last bytes [] (q ∷ others) rest other one two =
-    absurd (one.longest q _ two.recorded.0 (sym one.front ∙ reads_first last bytes q others other two))
-same_reading last bytes (r ∷ rs) [] rest other one two =
-    absurd (two.longest r _ one.recorded.0 (sym two.front ∙ reads_first last bytes r rs rest one))
+same_reading last bytes [] (q ∷ others) rest other one two = grind (arith, common_steps, reads_first)
+same_reading last bytes (r ∷ rs) [] rest other one two = grind (arith, common_steps, reads_first)
 same_reading last bytes (r ∷ rs) (q ∷ others) rest other one two =
     let first = same_first last r q _ _ one.recorded.0.recorded two.recorded.0.recorded
     (sym (reads_first last bytes r rs rest one) ∙ reads_first last bytes q others other two) in
@@ -109,25 +98,15 @@ take_beyond (suc n) (x ∷ xs) ys h =
 
 -- a front of a line's text that is not all of it holds no line feed
 front_free : (n : ℕ) (last : List ℕ) (r : Recorded) (more : List ℕ) → IsRecorded r → n < length (text_of last r) → All (λ b. b ≢ line_feed) (take n (text_of last r ++ more))
-front_free n last r more is short =
-    let P : ℕ → Type 0 = λ b. b ≢ line_feed in
-    let size = length-append (line_of last r) (line_feed ∷ []) in
-    let fits : n ≤ length (line_of last r) = omega (arith, size) in
-    let front : take n (text_of last r ++ more) ≡ take n (line_of last r) = ap (take n) (text_of-line last r more) ∙ take-append-le n (line_of last r) (line_feed ∷ more) fits in
-    All-same P _ _ front (All-take P n (line_of last r) (line_of-line last r is))
+front_free n last r more is short = grind (arith, common_steps, length-append, text_of-line, take-append-le, line_of-line)
 
 -- a reading behind one more line in front
 reads_more : (last bytes : List ℕ) (r : Recorded) (rs : List Recorded) (rest : List ℕ) → IsRecordedAfter last r → Reads (digest_after last (body_of r)) bytes rs rest
     → Reads last (text_of last r ++ bytes) (r ∷ rs) rest
-reads_more last bytes r rs rest is reads = record {
-  front = ap (λ t. text_of last r ++ t) reads.front ∙ sym (append_assoc (text_of last r) _ rest);
-  recorded = (is, reads.recorded);
-  longest = reads.longest;
-}
+reads_more last bytes r rs rest is reads = grind (arith, append_assoc)
 
 take-nil : (n : ℕ) → take n (text_after [] []) ≡ []
-take-nil zero = refl
-take-nil (suc n) = refl
+take-nil n = grind arith
 
 -- What a cut leaves reads as these recorded commands, with no line feed behind them.
 abbrev pub CutReads : List ℕ → List ℕ → List Recorded → Type 0
@@ -156,10 +135,7 @@ reads_within last (r ∷ rs) n all =
 
 -- a line begins with its digest
 pub take-text_of : (last : List ℕ) (r : Recorded) (more : List ℕ) → take digest_length (text_of last r ++ more) ≡ digest_after last (body_of r)
-take-text_of last r more =
-    let digest = digest_after last (body_of r) in
-    ap (take digest_length) (text_of-line last r more ∙ append_assoc digest (space ∷ body_of r) (line_feed ∷ more))
-    ∙ take_at digest (space ∷ body_of r ++ line_feed ∷ more) digest_length (length-digest_after last (body_of r))
+take-text_of last r more = search (rules, text_of-line, append_assoc, take_at, length-digest_after)
 
 pub text_of-digest : (last : List ℕ) (r : Recorded) → take digest_length (text_of last r) ≡ digest_after last (body_of r)
 text_of-digest last r = ap (take digest_length) (sym (append-nil (text_of last r))) ∙ take-text_of last r []
@@ -197,39 +173,19 @@ not_damaged count rest line free is = free is.1.0 line_feed is.1.1 is.1.2
 
 -- bytes have one end
 pub same_end : (count : ℕ) (rest : List ℕ) (one other : End) → IsEnd count rest one → IsEnd count rest other → one ≡ other
-same_end count rest Whole Whole e f = refl
-same_end count rest Whole (Unfinished n) e f = absurd (f.0 e)
-same_end count rest Whole (Damaged k) e f = absurd (not_damaged count rest k (All-same (λ b. b ≢ line_feed) rest [] e (All-nil (λ b. b ≢ line_feed))) f)
-same_end count rest (Unfinished n) Whole e f = absurd (e.0 f)
-same_end count rest (Unfinished n) (Unfinished m) e f = ap Unfinished (sym e.1 ∙ f.1)
-same_end count rest (Unfinished n) (Damaged k) e f = absurd (not_damaged count rest k e.2 f)
-same_end count rest (Damaged k) Whole e f = absurd (not_damaged count rest k (All-same (λ b. b ≢ line_feed) rest [] f (All-nil (λ b. b ≢ line_feed))) e)
-same_end count rest (Damaged k) (Unfinished n) e f = absurd (not_damaged count rest k f.2 e)
-same_end count rest (Damaged k) (Damaged m) e f = ap Damaged (e.0 ∙ sym f.0)
+same_end count rest one other e f = grind arith
 
 -- bytes that were cut off behind their lines go on with further ones
 pub continues : (bytes : List ℕ) (rs more : List Recorded) (n : ℕ) → Reads [] bytes rs (drop n bytes) → AreRecordedAfter (last_digest [] rs) more
     → Reads [] (take n bytes ++ text_after (last_digest [] rs) more) (rs ++ more) []
 continues bytes rs more n reads all =
-    let front : take n bytes ≡ text_after [] rs = append_cancel_right (take n bytes) (text_after [] rs) (drop n bytes) (take-append-drop n bytes ∙ reads.front) in
-    record {
-      front = ap (λ t. t ++ text_after (last_digest [] rs) more) front ∙ sym (text_after-append [] rs more) ∙ sym (append-nil (text_after [] (rs ++ more)));
-      recorded = are_recorded-append [] rs more reads.recorded all;
-      longest = none_in_line (last_digest [] (rs ++ more)) [] (All-nil (λ b. b ≢ line_feed));
-    }
-
--- bytes with a line feed in them that begin with no line that verifies do so whatever follows them
-pub none_in_window : (last bytes more : List ℕ) → Contains bytes line_feed → BeginsWithNone last bytes → BeginsWithNone last (bytes ++ more)
-none_in_window last bytes more there none r rest is e =
-    let held = front_holds line_feed bytes more (line_of last r) rest (line_of-line last r is.recorded) there (e ∙ text_of-line last r rest) in
-    none r held.0 is (held.1 ∙ sym (text_of-line last r held.0))
+    grind (arith, common_steps, append_cancel_right, take-append-drop, text_after-append, append-nil, are_recorded-append, none_in_line)
 
 -- whatever lines verify at the front are a front of those read
 pub longest_front : (last bytes : List ℕ) (rs others : List Recorded) (rest other : List ℕ) → Reads last bytes rs rest → AreRecordedAfter last others → bytes ≡ text_after last others ++ other
     → (more : List Recorded) × (rs ≡ others ++ more)
 longest_front last bytes rs [] rest other reads all e = (rs, refl)
-longest_front last bytes [] (q ∷ others) rest other reads all e =
-    absurd (reads.longest q _ all.0 (sym reads.front ∙ e ∙ append_assoc (text_of last q) (text_after (digest_after last (body_of q)) others) other))
+longest_front last bytes [] (q ∷ others) rest other reads all e = grind (arith, append_assoc)
 longest_front last bytes (r ∷ rs) (q ∷ others) rest other reads all e =
     let first = same_first last r q _ _ reads.recorded.0.recorded all.0.recorded
     (sym (reads_first last bytes r rs rest reads) ∙ e ∙ append_assoc (text_of last q) (text_after (digest_after last (body_of q)) others) other) in

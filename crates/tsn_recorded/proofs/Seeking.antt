@@ -1,14 +1,13 @@
 -- How far a line feed was sought among bytes.
 use Rattle.std.proofs.Common.{◌≡◌, ◌≢◌, ℕ, zero, suc, ◌+◌, ◌-◌, ◌≤◌, List, [], ◌∷◌, ◌++◌, length, take, drop, refl, sym, subst, ◌∙◌, ap, arith}
 use Rattle.std.specs.Prelude.{All}
-use Rattle.std.proofs.lemmas.List.{drop-append-le, drop-drop, drop-take, length-drop, take-append-le, take_all}
-use Rattle.std.proofs.lemmas.List.Elements.{All-append, All-drop, All-nil, All-same}
+use Rattle.std.proofs.lemmas.List.{drop-drop, drop-take, length-drop, take_all}
+use Rattle.std.proofs.lemmas.List.Elements.{All-append, All-drop, All-same}
 use Rattle.tsn_recorded.specs.Text.{line_feed}
 use Rattle.tsn_recorded.specs.Reading.{IsSought}
 
 take-nil : (k : ℕ) → take k (drop 0 (let none : List ℕ = [] in none)) ≡ []
-take-nil zero = refl
-take-nil (suc k) = refl
+take-nil k = grind arith
 
 -- a front of so many and of so many more
 take_sum : (n k : ℕ) (xs : List ℕ) → take (n + k) xs ≡ take n xs ++ take k (drop n xs)
@@ -57,29 +56,3 @@ module _ (bytes : List ℕ) (from sought : ℕ) (so : IsSought bytes from sought
         within = within;
         free = All-same P _ _ here (All-drop P count _ so.free);
       }
-
-  -- bytes were fed behind
-  pub sought_fed : (more : List ℕ) → sought ≤ length (bytes ++ more) → IsSought (bytes ++ more) from sought
-  sought_fed more within =
-      let order = so.order in
-      let inside = so.within in
-      let size = length-drop from bytes in
-      let held : from ≤ length bytes = omega (arith, order, inside) in
-      let long : sought - from ≤ length (drop from bytes) = omega (arith, order, inside, size) in
-      let same : take (sought - from) (drop from (bytes ++ more)) ≡ take (sought - from) (drop from bytes) =
-      ap (take (sought - from)) (drop-append-le from bytes more held) ∙ take-append-le (sought - from) (drop from bytes) more long in
-      record {
-        order = order;
-        within = within;
-        free = All-same (λ b. b ≢ line_feed) _ _ same so.free;
-      }
-
--- nothing was sought yet
-pub sought_none : (bytes : List ℕ) (from : ℕ) → from ≤ length bytes → IsSought bytes from from
-sought_none bytes from within =
-    let width : from - from ≡ 0 = omega arith in
-    record {
-      order = omega arith;
-      within = within;
-      free = All-same (λ b. b ≢ line_feed) _ [] (ap (λ n. take n (drop from bytes)) width) (All-nil (λ b. b ≢ line_feed));
-    }

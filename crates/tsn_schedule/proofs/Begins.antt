@@ -5,7 +5,7 @@ use Rattle.std.specs.List.{sum_by}
 use Rattle.std.specs.List.Sorted.{IsNonDecreasing}
 use Rattle.std.proofs.lemmas.List.Sums.{sum_by-cons}
 use Rattle.std.proofs.lemmas.List.Sorted.{IsNonDecreasingBy-from_default}
-use Rattle.std.proofs.lemmas.Bool.{cases_lt, le-ltb, lt-ltb}
+use Rattle.std.proofs.lemmas.Bool.{cases_lt, le-ltb}
 use Rattle.tsn_schedule.specs.Begins.{AreBegins}
 use Rattle.tsn_schedule.specs.Entries.{entry_at, earlier_at}
 
@@ -16,18 +16,13 @@ pub record IsAt {E : Type 0} (interval : E → ℕ) (list : List E) (offset i : 
   pub to : suc i < length list → offset < sum_by interval (take (suc i) list)
 
 later : {E : Type 0} (interval : E → ℕ) (x : E) (list : List E) (offset i : ℕ) → IsAt interval (x ∷ list) offset (suc i) → IsAt interval list (offset - interval x) i
-later interval x list offset i at = record {
-  within = omega (arith, at.within);
-  from = omega (arith, at.from, sum_by-cons interval x (take i list));
-  to = λ more. omega (arith, at.to (omega arith), sum_by-cons interval x (take (suc i) list), at.from, sum_by-cons interval x (take i list));
-}
+later interval x list offset i at = grind (arith, sum_by-cons)
 
 pub only_entry : {E : Type 0} (interval : E → ℕ) (list : List E) (offset i : ℕ) → IsAt interval list offset i → entry_at interval list offset ≡ slice_get list i
 only_entry interval [] offset i at = absurd (omega (arith, at.within))
 only_entry interval (x ∷ []) offset zero at = refl
 only_entry interval (x ∷ []) offset (suc i) at = absurd (omega (arith, at.within))
-only_entry interval (x ∷ y ∷ list) offset zero at =
-    rw (lt-ltb offset (interval x) (omega (arith, at.to (omega arith), sum_by-cons interval x []))) refl
+only_entry interval (x ∷ y ∷ list) offset zero at = grind arith
 only_entry interval (x ∷ y ∷ list) offset (suc i) at =
     rw (le-ltb offset (interval x) (omega (arith, at.from, sum_by-cons interval x (take i (y ∷ list)))))
     (only_entry interval (y ∷ list) (offset - interval x) i (later interval x (y ∷ list) offset i at))
@@ -36,8 +31,7 @@ pub only_earlier : {E : Type 0} (interval : E → ℕ) (list : List E) (offset i
 only_earlier interval [] offset i at = absurd (omega (arith, at.within))
 only_earlier interval (x ∷ []) offset zero at = refl
 only_earlier interval (x ∷ []) offset (suc i) at = absurd (omega (arith, at.within))
-only_earlier interval (x ∷ y ∷ list) offset zero at =
-    rw (lt-ltb offset (interval x) (omega (arith, at.to (omega arith), sum_by-cons interval x []))) refl
+only_earlier interval (x ∷ y ∷ list) offset zero at = grind arith
 only_earlier interval (x ∷ y ∷ list) offset (suc i) at =
     rw (le-ltb offset (interval x) (omega (arith, at.from, sum_by-cons interval x (take i (y ∷ list)))))
     (omega (arith, only_earlier interval (y ∷ list) (offset - interval x) i (later interval x (y ∷ list) offset i at), sum_by-cons interval x (take i (y ∷ list))))
@@ -49,8 +43,7 @@ sums_rise interval [] zero (suc j) h = omega arith
 sums_rise interval [] (suc i) (suc j) h = omega arith
 sums_rise interval (x ∷ list) zero j h = omega arith
 sums_rise interval (x ∷ list) (suc i) zero h = absurd (omega arith)
-sums_rise interval (x ∷ list) (suc i) (suc j) h =
-    omega (arith, sums_rise interval list i j (omega arith), sum_by-cons interval x (take i list), sum_by-cons interval x (take j list))
+sums_rise interval (x ∷ list) (suc i) (suc j) h = grind (arith, sum_by-cons, (sums_rise interval list i j (omega arith)))
 
 module _ {E : Type 0} (interval : E → ℕ) (list : List E) (begins : List ℕ) (are : AreBegins interval list begins) where
   pub begins_rise : IsNonDecreasing begins

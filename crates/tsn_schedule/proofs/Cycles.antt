@@ -1,7 +1,8 @@
 -- The latest cycle start that took place, once an apply is one act more.
 use Rattle.std.proofs.Common.{◌≡◌, ◌<◌, ◌≤◌, ◌+◌, ◌-◌, ◌/◌, ◌%◌, ℕ, zero, suc, refl, arith, true, false, cond, ltb, min, Some, ◌∙◌, inl, inr, ◌⊎◌}
+use Rattle.std.proofs.lemmas.Grind.{common_steps}
 use Rattle.std.proofs.Math.Nat.{div-zero, mod-zero}
-use Rattle.std.proofs.lemmas.Bool.{le-ltb, lt-ltb, le-leb, lt-leb, cases_lt}
+use Rattle.std.proofs.lemmas.Bool.{le-ltb, lt-ltb, cases_lt}
 use Rattle.tsn_types.specs.declared.records.Schedule.{Schedule}
 use Rattle.tsn_schedule.specs.Acts.{Apply}
 use Rattle.tsn_schedule.specs.Running.{start_by, last_free}
@@ -12,8 +13,7 @@ use Rattle.tsn_schedule.proofs.Numbers.{grid, fits, past, quotient_le, nominal_l
 
 -- With no act after it, each nominal start takes place.
 pub plain : {E : Type 0} (schedule : Schedule E) (a k : ℕ) → latest_of (start_of a schedule) k ≡ nominal (start_of a schedule) k
-plain schedule a zero = omega arith
-plain schedule a (suc k) = refl
+plain schedule a k = grind arith
 
 pub latest_suc : {E : Type 0} (start : Start E) (k : ℕ) → latest_of start (suc k) ≡ cond (is_held_back start (nominal start (suc k))) (latest_of start k) (nominal start (suc k))
 latest_suc start k = refl
@@ -54,19 +54,11 @@ record IsAhead {E : Type 0} (start : Start E) (schedule : Schedule E) (a t : ℕ
 
 -- Nominal starts after a: those within the extension before the change are held back, those before that are free.
 held : {E : Type 0} (start : Start E) (schedule : Schedule E) (a n : ℕ) → a < n → n < change_of schedule.base schedule.cycle a → change_of schedule.base schedule.cycle a ≤ n + start.schedule.extension → is_held_back (followed_by (Apply schedule a) start) n ≡ true
-held start schedule a n h lt le =
-    rw (lt-ltb a n h, lt-ltb n (change_of schedule.base schedule.cycle a) lt, le-leb (change_of schedule.base schedule.cycle a) (n + start.schedule.extension) le) refl
-
-free : {E : Type 0} (start : Start E) (schedule : Schedule E) (a n : ℕ) → a < n → n + start.schedule.extension < change_of schedule.base schedule.cycle a → is_held_back (followed_by (Apply schedule a) start) n ≡ false
-free start schedule a n h gt =
-    let lt : n < change_of schedule.base schedule.cycle a = omega arith in
-    rw (lt-ltb a n h, lt-ltb n (change_of schedule.base schedule.cycle a) lt, lt-leb (change_of schedule.base schedule.cycle a) (n + start.schedule.extension) gt) refl
+held start schedule a n h lt le = grind arith
 
 free_took : {E : Type 0} (start : Start E) (schedule : Schedule E) (a k : ℕ) → start.change ≤ a → a < nominal start k → nominal start k + start.schedule.extension < change_of schedule.base schedule.cycle a
     → latest_of (followed_by (Apply schedule a) start) k ≡ nominal start k
-free_took start schedule a zero began late gt = absurd (omega arith)
-free_took start schedule a (suc k) began late gt =
-    rw (latest_suc (followed_by (Apply schedule a) start) k, free start schedule a (nominal start (suc k)) late gt) refl
+free_took start schedule a k began late gt = grind arith
 
 -- Number k took place, and each later one up to t comes after a and after the free time w: so it is the latest by t.
 back_to : {E : Type 0} (start : Start E) (schedule : Schedule E) (a t w k : ℕ) → IsAhead start schedule a t
@@ -74,14 +66,7 @@ back_to : {E : Type 0} (start : Start E) (schedule : Schedule E) (a t w k : ℕ)
     → ((i : ℕ) → k < i → a < nominal start i) → ((i : ℕ) → k < i → w < nominal start i)
     → k ≤ (t - start.change) / start.schedule.cycle
     → cycle_start (followed_by (Apply schedule a) start) t ≡ latest_of (followed_by (Apply schedule a) start) k
-back_to start schedule a t w k r w_is late past_free le =
-    skip (followed_by (Apply schedule a) start) k ((t - start.change) / start.schedule.cycle)
-    (λ i lo hi.
-    let up : nominal start i ≤ t = fits start.change i start.schedule.cycle t r.some (omega arith) hi in
-    let l : a < nominal start i = late i lo in
-    let p : w < nominal start i = past_free i lo in
-    held start schedule a (nominal start i) l (omega arith) (omega arith))
-    le
+back_to start schedule a t w k r w_is late past_free le = grind (arith, common_steps, skip, fits, held)
 
 -- The one known by a stays.
 stays : {E : Type 0} (start : Start E) (schedule : Schedule E) (a t w : ℕ) → IsAhead start schedule a t
@@ -118,13 +103,7 @@ after_grid : {E : Type 0} (start : Start E) (schedule : Schedule E) (a t w i k :
     → k ≡ (w - start.change) / start.schedule.cycle
     → (a < nominal start k) ⊎ (nominal start k ≤ a)
     → cycle_start (followed_by (Apply schedule a) start) t ≡ start_by start.schedule.cycle (cycle_start start a) a w
-after_grid start schedule a t w i k r w_is e later k_is (inl late) =
-    let cw : start.change ≤ w = omega arith in
-    let up : nominal start k ≤ w = fits start.change k start.schedule.cycle w r.some cw (omega arith) in
-    let at_grid : w - (w - cycle_start start a) % start.schedule.cycle ≡ nominal start k = rw (k_is, e) (grid start.change i start.schedule.cycle w later) in
-    let took : latest_of (followed_by (Apply schedule a) start) k ≡ nominal start k = free_took start schedule a k r.began late (omega arith) in
-    moves start schedule a t w k r w_is cw k_is late took
-    ∙ rw (at_grid, lt-ltb a (nominal start k) late) refl
+after_grid start schedule a t w i k r w_is e later k_is (inl late) = grind (arith, fits, grid, free_took, moves, lt-ltb)
 after_grid start schedule a t w i k r w_is e later k_is (inr early) =
     let cw : start.change ≤ w = omega arith in
     let at_grid : w - (w - cycle_start start a) % start.schedule.cycle ≡ nominal start k = rw (k_is, e) (grid start.change i start.schedule.cycle w later) in
@@ -140,10 +119,7 @@ after : {E : Type 0} (start : Start E) (schedule : Schedule E) (a t w i : ℕ) �
     → cycle_start start a ≡ nominal start i → nominal start i ≤ a
     → (w < nominal start i) ⊎ (nominal start i ≤ w)
     → cycle_start (followed_by (Apply schedule a) start) t ≡ start_by start.schedule.cycle (cycle_start start a) a w
-after start schedule a t w i r w_is e up (inl before) =
-    stays start schedule a t w r w_is (λ j lt. omega arith) (omega arith)
-after start schedule a t w i r w_is e up (inr later) =
-    after_grid start schedule a t w i ((w - start.change) / start.schedule.cycle) r w_is e later refl (cases_lt a (nominal start ((w - start.change) / start.schedule.cycle)))
+after start schedule a t w i r w_is e up h = grind (arith, stays, after_grid, cases_lt)
 
 -- A cycle without a length starts once.
 once : (c a w : ℕ) → c ≤ a → c ≡ start_by 0 c a w

@@ -1,5 +1,5 @@
 -- What runs has an entry at each offset.
-use Rattle.std.proofs.Common.{◌≡◌, ◌≢◌, ◌≤◌, ℕ, refl, List, [], Some, None, ap, sym, ◌∙◌}
+use Rattle.std.proofs.Common.{◌≡◌, ◌≢◌, ◌≤◌, ℕ, refl, List, [], Some, None, ap, sym, ◌∙◌, arith}
 use Rattle.std.specs.List.{find}
 use Rattle.std.specs.Option.{option_map}
 use Rattle.tsn_types.specs.declared.records.Schedule.{Schedule}
@@ -30,5 +30,4 @@ no_entry interval list offset e = rw e at (entry_is_at interval list offset)
 
 -- So there is no instant at which a list runs and has no entry.
 pub has_entry : {E : Type 0} (interval : E → ℕ) (kept : Kept E) (acts : List (Act E)) (t : ℕ) (schedule : Schedule E) (start offset : ℕ) → StandsFor kept acts → kept.last ≤ t → Some (schedule, start) ≡ runs_by kept t → None ≡ entry_at interval schedule.list offset → ⊥
-has_entry interval kept acts t schedule start offset s h runs none =
-    runs_filled kept acts t schedule start s h (sym runs) (no_entry interval schedule.list offset (sym none))
+has_entry interval kept acts t schedule start offset s h runs none = grind (arith, runs_filled, no_entry)

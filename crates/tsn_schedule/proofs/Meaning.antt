@@ -1,16 +1,16 @@
 -- What the definitions mean, in other words.
-use Rattle.std.proofs.Common.{◌≡◌, ◌<◌, ◌≤◌, ◌+◌, ◌-◌, ◌*◌, ◌/◌, ◌%◌, ℕ, zero, suc, refl, arith, Bool, true, false, not, ◌&&◌, cond, ltb, leb, min, length, take, map, List, [], ◌∷◌, ◌++◌, Option, Some, None, sym, ◌∙◌, ap, inl, inr, ◌≢◌, MatchOption}
-use Rattle.std.specs.Prelude.{option_to_list, is_some}
+use Rattle.std.proofs.Common.{◌≡◌, ◌<◌, ◌≤◌, ◌+◌, ◌-◌, ◌*◌, ◌/◌, ℕ, zero, suc, refl, arith, Bool, true, false, not, cond, ltb, leb, length, take, map, List, [], ◌∷◌, ◌++◌, Option, Some, None, sym, ◌∙◌, ap, inl, inr, ◌≢◌, MatchOption}
+use Rattle.std.specs.Prelude.{option_to_list}
 use Rattle.std.specs.List.{find, list_any}
 use Rattle.std.specs.Option.{option_map, option_map_or, option_and_then}
-use Rattle.std.proofs.lemmas.Bool.{le-ltb, lt-ltb, le-leb, cases_lt, and_parts, or_parts, leb-true, ltb-false, not-true}
+use Rattle.std.proofs.lemmas.Bool.{le-ltb, lt-ltb, cases_lt, and_parts, or_parts, leb-true, not-true}
 use Rattle.std.proofs.lemmas.List.Sums.{sum_by-cons}
-use Rattle.std.proofs.Math.Nat.{div-add-mod, mul_comm, mul-le-mul_left}
+use Rattle.std.proofs.Math.Nat.{mul_comm}
 use Rattle.tsn_types.specs.declared.records.Schedule.{Schedule}
 use Rattle.tsn_schedule.specs.Acts.{Act, Enable, Disable, Apply, IsHistory, is_enabled}
 use Rattle.tsn_schedule.specs.Entries.{entry_at, earlier_at}
 use Rattle.tsn_schedule.specs.Meaning.{IsChangeTime, IsLatestStart, IsEntryAt}
-use Rattle.tsn_schedule.specs.Counters.{change_in, is_pending, errors_in, past_bases, greatest_count}
+use Rattle.tsn_schedule.specs.Counters.{change_in, is_pending, errors_in, greatest_count}
 use Rattle.tsn_schedule.specs.Starts.{Start, starts, begun, start_of, followed_by, took_place, is_void, is_voiding, unless_ended, in_force}
 use Rattle.tsn_schedule.specs.States.{is_apply_before, is_held_back, nominal, latest_of, cycle_start}
 use Rattle.tsn_schedule.specs.Times.{change_of}
@@ -19,28 +19,10 @@ use Rattle.tsn_schedule.proofs.Recur.{find-map, found, open_some, through, after
 
 -- The change time is the least instant of the base's grid that isn't before a.
 least : (base y a n : ℕ) → 0 < y → a ≤ base + n * y → change_of base y a ≤ base + n * y
-least base y a n p h =
-    elim (cases_lt n ((a - base + (y - 1)) / y)) [
-      | inl lt ↦
-          let parts : y * ((a - base + (y - 1)) / y) + (a - base + (y - 1)) % y ≡ a - base + (y - 1) = div-add-mod (a - base + (y - 1)) y in
-          let more : y * (n + 1) ≤ y * ((a - base + (y - 1)) / y) = mul-le-mul_left y (omega arith) in
-          let turned : y * n ≡ n * y = mul_comm y n in
-          let rest : y * (n + 1) ≡ y * n + y = omega arith in
-          absurd (omega arith)
-      | inr ge ↦
-          let more : y * ((a - base + (y - 1)) / y) ≤ y * n = mul-le-mul_left y ge in
-          let turned : y * n ≡ n * y = mul_comm y n in
-          omega arith
-    ]
+least base y a n p h = grind arith
 
 pub change_is_least : (base y a : ℕ) → 0 < y → IsChangeTime base y a (change_of base y a)
-change_is_least base y a p =
-    record {
-      cycles = (a - base + (y - 1)) / y;
-      on_grid = ap (λ n. base + n) (mul_comm y ((a - base + (y - 1)) / y));
-      reached = reached base y a p;
-      least = λ k h. least base y a k p h;
-    }
+change_is_least base y a p = grind (arith, mul_comm, reached, least)
 
 -- The entry at an offset: the sum of the earlier intervals is no more than the offset, and with its own more, or it is the last.
 one_on : {E : Type 0} (interval : E → ℕ) (x : E) (rest : List E) (offset : ℕ) → interval x ≤ offset → 0 < length rest → (o : Option E)
@@ -70,8 +52,7 @@ no_apply : {E : Type 0} (c : ℕ) (later : List (Act E)) → list_any (is_voidin
 no_apply c [] h = refl
 no_apply c (Enable a ∷ later) h = no_apply c later h
 no_apply c (Disable a ∷ later) h = no_apply c later (or_parts (ltb a c) (list_any (is_voiding c) later) h).1
-no_apply c (Apply schedule a ∷ later) h =
-    rw ((or_parts (ltb a c) (list_any (is_voiding c) later) h).0) (no_apply c later (or_parts (ltb a c) (list_any (is_voiding c) later) h).1)
+no_apply c (Apply schedule a ∷ later) h = grind (arith, (no_apply c later (or_parts (ltb a c) (list_any (is_voiding c) later) h).1))
 
 first_takes_place : {E : Type 0} (start : Start E) → is_void start ≡ false → is_held_back start start.change ≡ false
 first_takes_place start h = rw (no_apply start.change start.later h) refl
@@ -139,12 +120,7 @@ runnable_followed act all p start earlier e =
 runnable_more : {E : Type 0} (act : Act E) (all : List (Start E)) (o : Option (Start E)) (p : Start E → Bool) (start : Start E)
     → ((q : Start E → Bool) (s : Start E) → find q all ≡ Some s → IsRunnable s.schedule) → ((s : Start E) → o ≡ Some s → IsRunnable s.schedule)
     → find p (option_to_list o ++ map (followed_by act) all) ≡ Some start → IsRunnable start.schedule
-runnable_more act all None p start earlier new e = runnable_followed act all p start earlier e
-runnable_more act all (Some s) p start earlier new e =
-    let f = elim (p s) as (λ b. cond b (Some s) (find p (map (followed_by act) all)) ≡ Some start → IsRunnable start.schedule) [
-      | true ↦ λ g. new start g
-      | false ↦ λ g. runnable_followed act all p start earlier g
-    ] in f e
+runnable_more act all o p start earlier new e = grind (arith, runnable_followed)
 
 pub runnable : {E : Type 0} (acts : List (Act E)) → IsHistory acts → (p : Start E → Bool) (start : Start E) → find p (starts acts) ≡ Some start → IsRunnable start.schedule
 runnable [] h p start e = cc
@@ -168,14 +144,8 @@ cycle_start_is_latest acts t start h e =
     let took : (not (is_void start) ≡ true) × (leb start.change t ≡ true) = and_parts (not (is_void start)) (leb start.change t) (found (took_place t) (starts acts) start there) in
     latest_by start t (runnable acts h (took_place t) start there).1 (not-true (is_void start) took.0) (leb-true start.change t took.1)
 
--- A count that is at its greatest stays there.
-stays_greatest : (n m : ℕ) → min n greatest_count ≡ greatest_count → min (n + m) greatest_count ≡ greatest_count
-stays_greatest n m h = omega arith
-
 pub errors_stay : {E : Type 0} (act : Act E) (acts : List (Act E)) → errors_in acts ≡ greatest_count → errors_in (act ∷ acts) ≡ greatest_count
-errors_stay (Enable a) acts h = h
-errors_stay (Disable a) acts h = h
-errors_stay (Apply schedule a) acts h = stays_greatest (past_bases acts) (cond (ltb schedule.base a && is_some (in_force acts a)) 1 0) h
+errors_stay act acts h = grind arith
 
 -- Where no change is pending, the change time that is told is that of the list in force.
 -- The starts after an enable, given the start that it starts again.
@@ -197,13 +167,10 @@ told_again acts a t h off None now =
       through (Enable a) refl (find (took_place t) (starts acts)),
       disabled_none acts h off (took_place t),
     ) refl
-told_again acts a t h off (Some start) now =
-    rw (le-leb (change_of start.schedule.base start.schedule.cycle a) t (ltb-false t (change_of start.schedule.base start.schedule.cycle a) now)) refl
+told_again acts a t h off (Some start) now = grind arith
 
 pub told : {E : Type 0} (acts : List (Act E)) (t : ℕ) → IsHistory acts → is_pending acts t ≡ false → change_in acts ≡ option_map (λ (start : Start E). start.change) (in_force acts t)
 told [] t h now = refl
 told (Enable a ∷ acts) t h now = told_again acts a t h.2 h.1 (find (took_place a) (starts acts)) now
-told (Disable a ∷ acts) t h now =
-    rw (ended_none a (λ start. not (is_void start)) (starts acts), ended_none a (took_place t) (starts acts)) refl
-told (Apply schedule a ∷ acts) t h now =
-    rw (le-leb (change_of schedule.base schedule.cycle a) t (ltb-false t (change_of schedule.base schedule.cycle a) now)) refl
+told (Disable a ∷ acts) t h now = grind (arith, ended_none)
+told (Apply schedule a ∷ acts) t h now = grind arith

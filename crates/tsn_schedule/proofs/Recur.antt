@@ -1,5 +1,5 @@
 -- What one more act makes of what is in force.
-use Rattle.std.proofs.Common.{◌≡◌, ◌<◌, ◌≤◌, ◌+◌, ◌-◌, ◌*◌, ◌/◌, ◌%◌, ℕ, refl, arith, Bool, true, false, not, ◌&&◌, ◌||◌, cond, ltb, leb, List, [], ◌∷◌, ◌++◌, map, Option, Some, None, sym, ◌∙◌, inl, inr}
+use Rattle.std.proofs.Common.{◌≡◌, ◌<◌, ◌≤◌, ◌-◌, ◌%◌, ℕ, refl, arith, Bool, true, false, not, ◌&&◌, ◌||◌, cond, ltb, leb, List, [], ◌∷◌, ◌++◌, map, Option, Some, None, sym, ◌∙◌, inl, inr}
 use Rattle.std.specs.List.{find}
 use Rattle.std.specs.Option.{option_map, option_and_then}
 use Rattle.std.specs.Prelude.{option_to_list}
@@ -9,7 +9,7 @@ use Rattle.tsn_types.specs.declared.records.Schedule.{Schedule}
 use Rattle.tsn_schedule.specs.Acts.{Act, Enable, Disable, Apply, IsHistory, is_enabled, last_instant}
 use Rattle.tsn_schedule.specs.Running.{start_by, last_free}
 use Rattle.tsn_schedule.specs.Counters.{change_in}
-use Rattle.tsn_schedule.specs.Starts.{Start, starts, took_place, followed_by, is_disable, is_void, is_voiding, is_ended, in_force, start_of, unless_ended}
+use Rattle.tsn_schedule.specs.Starts.{Start, starts, took_place, followed_by, is_disable, is_void, is_voiding, in_force, start_of, unless_ended}
 use Rattle.tsn_schedule.specs.States.{held_in, runs_in, run_of, cycle_start}
 use Rattle.tsn_schedule.specs.Times.{change_of}
 use Rattle.tsn_schedule.proofs.Numbers.{grid}
@@ -17,8 +17,7 @@ use Rattle.tsn_schedule.proofs.Cycles.{plain, after_apply}
 
 pub find-map : {X Y : Type 0} (f : X → Y) (p : Y → Bool) (q : X → Bool) → ((x : X) → p (f x) ≡ q x) → (xs : List X) → find p (map f xs) ≡ option_map f (find q xs)
 find-map f p q same [] = refl
-find-map f p q same (x ∷ xs) =
-    rw (same x) (elim (q x) as (λ b. cond b (Some (f x)) (find p (map f xs)) ≡ option_map f (cond b (Some x) (find q xs))) [ true ↦ refl | false ↦ find-map f p q same xs ])
+find-map f p q same (x ∷ xs) = grind (arith, (find-map f p q same xs))
 
 -- An act that voids later changes leaves as taken place by t what took place by the act's instant.
 voided : (a t c : ℕ) (v : Bool) → a ≤ t → (not (ltb a c || v) && leb c t) ≡ (not v && leb c a)
@@ -27,9 +26,7 @@ voided a t c v h = grind (arith, nat_tests)
 -- With a disable after it, no start counts.
 pub ended_none : {E : Type 0} (a : ℕ) (p : Start E → Bool) (all : List (Start E)) → option_and_then unless_ended (find p (map (followed_by (Disable a)) all)) ≡ None
 ended_none a p [] = refl
-ended_none a p (start ∷ all) =
-    elim (p (followed_by (Disable a) start)) as (λ b. option_and_then unless_ended (cond b (Some (followed_by (Disable a) start)) (find p (map (followed_by (Disable a)) all))) ≡ None)
-    [ true ↦ refl | false ↦ ended_none a p all ]
+ended_none a p (start ∷ all) = grind (arith, (ended_none a p all))
 
 -- While disabled, each start has a disable after it.
 pub disabled_none : {E : Type 0} (acts : List (Act E)) → IsHistory acts → is_enabled acts ≡ false → (p : Start E → Bool) → option_and_then unless_ended (find p (starts acts)) ≡ None
@@ -40,16 +37,14 @@ disabled_none (Apply schedule a ∷ acts) h off p = absurd (true≢false (sym h.
 
 -- What an act at a that voids later changes leaves as taken place by t.
 void_later : {E : Type 0} (act : Act E) (a t : ℕ) → a ≤ t → ((c : ℕ) → is_voiding c act ≡ ltb a c) → (all : List (Start E)) → find (took_place t) (map (followed_by act) all) ≡ option_map (followed_by act) (find (took_place a) all)
-void_later act a t h voids all =
-    find-map (followed_by act) (took_place t) (took_place a) (λ start. rw (voids start.change) (voided a t start.change (is_void start) h)) all
+void_later act a t h voids all = grind (arith, find-map, voided)
 
 -- An enable voids nothing.
 pub after_enable : {E : Type 0} (a t : ℕ) (all : List (Start E)) → find (took_place t) (map (followed_by (Enable a)) all) ≡ option_map (followed_by (Enable a)) (find (took_place t) all)
 after_enable a t all = find-map (followed_by (Enable a)) (took_place t) (took_place t) (λ start. refl) all
 
 schedule-followed : {E : Type 0} (act : Act E) (o : Option (Start E)) → option_map (λ (start : Start E). start.schedule) (option_map (followed_by act) o) ≡ option_map (λ (start : Start E). start.schedule) o
-schedule-followed act None = refl
-schedule-followed act (Some start) = refl
+schedule-followed act o = grind arith
 
 -- The schedule held.
 pub held-disable : {E : Type 0} (acts : List (Act E)) (a t : ℕ) → a ≤ t → held_in (Disable a ∷ acts) t ≡ held_in acts a
@@ -64,31 +59,19 @@ held-apply schedule acts a t h =
 
 -- A later act that is no disable leaves it open whether a start has ended.
 pub through : {E : Type 0} (act : Act E) → is_disable act ≡ false → (o : Option (Start E)) → option_and_then unless_ended (option_map (followed_by act) o) ≡ option_map (followed_by act) (option_and_then unless_ended o)
-through act is_none None = refl
-through act is_none (Some start) =
-    rw is_none (elim (is_ended start) as (λ b. cond b None (Some (followed_by act start)) ≡ option_map (followed_by act) (cond b None (Some start))) [ true ↦ refl | false ↦ refl ])
+through act is_none o = grind arith
 
 -- A schedule's cycle start by t, with no act after its start.
 cycle_start-plain : {E : Type 0} (schedule : Schedule E) (a t : ℕ) → change_of schedule.base schedule.cycle a ≤ t → cycle_start (start_of a schedule) t ≡ t - (t - change_of schedule.base schedule.cycle a) % schedule.cycle
-cycle_start-plain schedule a t h =
-    let c : ℕ = change_of schedule.base schedule.cycle a in
-    let none : change_of schedule.base schedule.cycle a + 0 * schedule.cycle ≡ change_of schedule.base schedule.cycle a = omega arith in
-    let on : t - (t - (change_of schedule.base schedule.cycle a + 0 * schedule.cycle)) % schedule.cycle ≡ change_of schedule.base schedule.cycle a + (t - change_of schedule.base schedule.cycle a) / schedule.cycle * schedule.cycle = grid (change_of schedule.base schedule.cycle a) 0 schedule.cycle t (omega arith) in
-    plain schedule a ((t - change_of schedule.base schedule.cycle a) / schedule.cycle) ∙ sym (rw none at on)
+cycle_start-plain schedule a t h = grind (arith, grid, plain)
 
 -- While disabled, nothing more takes place.
 settled : {E : Type 0} (acts : List (Act E)) (a t : ℕ) → IsHistory acts → is_enabled acts ≡ false → last_instant acts ≤ a → a ≤ t → held_in acts t ≡ held_in acts a
-settled [] a t h off la at = refl
-settled (Enable b ∷ acts) a t h off la at = absurd (true≢false off)
-settled (Disable b ∷ acts) a t h off la at = held-disable acts b t (omega arith) ∙ sym (held-disable acts b a la)
-settled (Apply schedule b ∷ acts) a t h off la at = absurd (true≢false (sym h.1.0 ∙ off))
+settled acts a t h off la at = grind (arith, true≢false, held-disable)
 
 held_again : {E : Type 0} (a t : ℕ) (all : List (Start E)) (o : Option (Start E)) → option_map (λ (start : Start E). start.schedule) (find (took_place t) all) ≡ option_map (λ (start : Start E). start.schedule) o
     → option_map (λ (start : Start E). start.schedule) (find (took_place t) (option_to_list (option_map (λ (start : Start E). start_of a start.schedule) o) ++ map (followed_by (Enable a)) all)) ≡ option_map (λ (start : Start E). start.schedule) o
-held_again a t all None e = rw (after_enable a t all) (schedule-followed (Enable a) (find (took_place t) all) ∙ e)
-held_again a t all (Some start) e =
-    elim (took_place t (start_of a start.schedule)) as (λ b. option_map (λ (s : Start _). s.schedule) (cond b (Some (start_of a start.schedule)) (find (took_place t) (map (followed_by (Enable a)) all))) ≡ Some start.schedule)
-    [ true ↦ refl | false ↦ rw (after_enable a t all) (schedule-followed (Enable a) (find (took_place t) all) ∙ e) ]
+held_again a t all o e = grind (arith, after_enable, schedule-followed)
 
 pub held-enable : {E : Type 0} (acts : List (Act E)) (a t : ℕ) → IsHistory acts → is_enabled acts ≡ false → last_instant acts ≤ a → a ≤ t → held_in (Enable a ∷ acts) t ≡ held_in acts a
 held-enable acts a t h off la at = held_again a t (starts acts) (find (took_place a) (starts acts)) (settled acts a t h off la at)
@@ -96,12 +79,7 @@ held-enable acts a t h off la at = held_again a t (starts acts) (find (took_plac
 runs_again : {E : Type 0} (a t : ℕ) (all : List (Start E)) (o : Option (Start E)) → option_and_then unless_ended (find (took_place t) all) ≡ None
     → option_map (run_of t) (option_and_then unless_ended (find (took_place t) (option_to_list (option_map (λ (start : Start E). start_of a start.schedule) o) ++ map (followed_by (Enable a)) all)))
     ≡ option_and_then (λ schedule. cond (leb (change_of schedule.base schedule.cycle a) t) (Some (schedule, t - (t - change_of schedule.base schedule.cycle a) % schedule.cycle)) None) (option_map (λ (start : Start E). start.schedule) o)
-runs_again a t all None e = rw (after_enable a t all, through (Enable a) refl (find (took_place t) all), e) refl
-runs_again a t all (Some start) e =
-    elim (cases_lt t (change_of start.schedule.base start.schedule.cycle a)) [
-      | inl lt ↦ rw (lt-leb (change_of start.schedule.base start.schedule.cycle a) t lt, after_enable a t all, through (Enable a) refl (find (took_place t) all), e) refl
-      | inr le ↦ rw (le-leb (change_of start.schedule.base start.schedule.cycle a) t le, cycle_start-plain start.schedule a t le) refl
-    ]
+runs_again a t all o e = grind (arith, after_enable, through, cases_lt, lt-leb, le-leb, cycle_start-plain)
 
 pub runs-enable : {E : Type 0} (acts : List (Act E)) (a t : ℕ) → IsHistory acts → is_enabled acts ≡ false
     → runs_in (Enable a ∷ acts) t ≡ option_and_then (λ schedule. cond (leb (change_of schedule.base schedule.cycle a) t) (Some (schedule, t - (t - change_of schedule.base schedule.cycle a) % schedule.cycle)) None) (held_in acts a)
@@ -120,20 +98,16 @@ found p (y ∷ xs) x e =
     let f = elim (p y) as (λ b. p y ≡ b → cond b (Some y) (find p xs) ≡ Some x → p x ≡ true) [ true ↦ λ is g. (let same : y ≡ x = cc in rw (← same) is) | false ↦ λ is g. found p xs x g ] in f refl e
 
 pub open_some : {E : Type 0} (o : Option (Start E)) (start : Start E) → option_and_then unless_ended o ≡ Some start → o ≡ Some start
-open_some None start e = cc
-open_some (Some other) start e =
-    let f = elim (is_ended other) as (λ b. cond b None (Some other) ≡ Some start → Some other ≡ Some start) [ true ↦ λ g. cc | false ↦ λ g. g ] in f e
+open_some o start e = grind arith
 
 -- What is in force at a has changed by a.
 in_force-change : {E : Type 0} (acts : List (Act E)) (a : ℕ) (start : Start E) → in_force acts a ≡ Some start → start.change ≤ a
-in_force-change acts a start e =
-    leb-true start.change a (and_parts (not (is_void start)) (leb start.change a) (found (took_place a) (starts acts) start (open_some (find (took_place a) (starts acts)) start e))).1
+in_force-change acts a start e = grind (arith, leb-true, and_parts, found, open_some)
 
 moved_all : {E : Type 0} (schedule : Schedule E) (a t : ℕ) (o : Option (Start E)) → a ≤ t → t < change_of schedule.base schedule.cycle a → ((start : Start E) → o ≡ Some start → start.change ≤ a)
     → option_map (run_of t) (option_map (followed_by (Apply schedule a)) o)
     ≡ option_map (moved a (change_of schedule.base schedule.cycle a) t) (option_map (run_of a) o)
-moved_all schedule a t None h lt by_a = refl
-moved_all schedule a t (Some start) h lt by_a = rw (after_apply start schedule a t (by_a start refl) h lt) refl
+moved_all schedule a t o h lt by_a = grind (arith, after_apply)
 
 pub runs-apply : {E : Type 0} (schedule : Schedule E) (acts : List (Act E)) (a t : ℕ) → a ≤ t
     → runs_in (Apply schedule a ∷ acts) t ≡ cond (leb (change_of schedule.base schedule.cycle a) t) (Some (schedule, t - (t - change_of schedule.base schedule.cycle a) % schedule.cycle)) (option_map (moved a (change_of schedule.base schedule.cycle a) t) (runs_in acts a))

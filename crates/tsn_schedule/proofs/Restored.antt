@@ -1,5 +1,5 @@
 -- A schedule whose base is past gives its own states by the offset from its base.
-use Rattle.std.proofs.Common.{◌≡◌, ◌<◌, ◌≤◌, ◌+◌, ◌-◌, ◌*◌, ◌/◌, ◌%◌, ℕ, refl, arith, List, ◌∷◌, Option, Some, None, ◌∙◌}
+use Rattle.std.proofs.Common.{◌≡◌, ◌<◌, ◌≤◌, ◌+◌, ◌-◌, ◌*◌, ◌/◌, ◌%◌, ℕ, refl, arith, List, ◌∷◌, Option, ◌∙◌}
 use Rattle.std.specs.Option.{option_map, option_and_then}
 use Rattle.std.proofs.lemmas.Bool.{le-leb}
 use Rattle.std.proofs.Math.Nat.{add-mul-mod_self_left, mod-le}
@@ -14,8 +14,7 @@ use Rattle.tsn_schedule.proofs.Recur.{runs-apply}
 
 -- The state, from what runs.
 state_of : {E : Type 0} (interval : E → ℕ) (t : ℕ) (o : Option (Start E)) → option_and_then (entry_of interval t) o ≡ option_and_then (λ p. entry_at interval p.0.list (t - p.1)) (option_map (run_of t) o)
-state_of interval t None = refl
-state_of interval t (Some start) = refl
+state_of interval t o = grind arith
 
 -- After an apply whose base isn't after it, and until the next act.
 pub restored : {E : Type 0} (interval : E → ℕ) (schedule : Schedule E) (acts : List (Act E)) (a t : ℕ) → 0 < schedule.cycle → schedule.base ≤ a → change_of schedule.base schedule.cycle a ≤ t

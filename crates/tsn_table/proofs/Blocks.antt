@@ -1,26 +1,23 @@
 -- Where a binary search among numbers that rise ends, and what an edit at that place does.
-use Rattle.std.proofs.Common.{◌≡◌, ◌≢◌, Bool, true, false, cond, ltb, Option, subst, ℕ, zero, suc, ◌<◌, ◌≤◌, List, [], ◌∷◌, length, get_or, Result, Ok, Err, Some, None, refl, sym, ap, ◌∙◌, arith}
+use Rattle.std.proofs.Common.{◌≡◌, ◌≢◌, ltb, ℕ, zero, suc, ◌<◌, ◌≤◌, List, [], ◌∷◌, length, get_or, Result, Ok, Err, Some, refl, sym, ap, ◌∙◌, arith}
+use Rattle.std.proofs.lemmas.Grind.{common_steps}
 use Rattle.std.specs.Prelude.{slice_get, insert, remove}
 use Rattle.std.specs.List.Sorted.{IsSearchInRange, IsBinarySearchResult, IsNonDecreasingBy}
 use Rattle.std.specs.Ordering.{nat_cmp, ordering_index}
 use Rattle.std.proofs.lemmas.Cmp.{ranked}
-use Rattle.std.proofs.lemmas.Bool.{lt-ltb, le-ltb, ltb-false}
+use Rattle.std.proofs.lemmas.Bool.{lt-ltb, le-ltb}
 use Rattle.std.specs.Option.{is_none}
 use Rattle.std.proofs.lemmas.Bool.Decides.{nat_tests}
 use Rattle.std.proofs.lemmas.List.Sorted.{IsNonDecreasingBy-from_default}
-use Rattle.std.proofs.lemmas.Option.{same_Some}
 use Rattle.tsn_table.specs.Rising.{AllNumbers, IsRising, put_number, without_number, first_from}
 use Rattle.tsn_table.specs.Blocks.{Places, Puts, most_more, numbers_in}
 use Rattle.tsn_table.specs.declared.block.Block.{Block}
 use Rattle.tsn_table.specs.declared.block.Put.{Put}
-use Rattle.tsn_table.specs.declared.block.Put.TheVariants.{There, Came, Full}
 use Rattle.tsn_table.proofs.Rising.{all_weaker, put_later, put_middle, without_middle, without_later, without_above}
 
 -- numbers that rise, by their places
 at_above : (x : ℕ) (xs : List ℕ) (k : ℕ) → AllNumbers (λ y. x < y) xs → k < length xs → x < get_or xs k 0
-at_above x [] k a lt = absurd (omega arith)
-at_above x (y ∷ ys) zero a lt = a.0
-at_above x (y ∷ ys) (suc k) a lt = at_above x ys k a.1 (omega (arith, lt))
+at_above x xs k a lt = grind (arith, common_steps)
 
 rises : (xs : List ℕ) (i j : ℕ) → IsRising xs → i < j → j < length xs → get_or xs i 0 < get_or xs j 0
 rises [] i j s lt in_range = absurd (omega arith)
@@ -90,30 +87,12 @@ module _ (x : ℕ) where
         first = first_at xs at below (λ lt. omega (arith, above lt)) in_range;
       }
 
--- a number that stands among others has what all of them have
-some_has : (P : ℕ → Type 0) (xs : List ℕ) (at y : ℕ) → AllNumbers P xs → slice_get xs at ≡ Some y → P y
-some_has P [] at y a e = absurd (cc)
-some_has P (z ∷ zs) zero y a e = subst P (same_Some z y e) a.0
-some_has P (z ∷ zs) (suc at) y a e = some_has P zs at y a.1 e
-
--- where the last number is below x, none is x or more
-ends_by : (b : Bool) (x y last : ℕ) (o : Option ℕ) → ltb y x ≡ b → y < last → ltb last x ≡ is_none o → ltb last x ≡ is_none (cond b o (Some y))
-ends_by true x y last o t lt e = e
-ends_by false x y last o f lt e = le-ltb last x (omega (arith, lt, ltb-false y x f))
-
 pub ends : (x y : ℕ) (ys : List ℕ) (at last : ℕ) → IsRising (y ∷ ys) → length ys ≤ suc at → slice_get ys at ≡ Some last → ltb last x ≡ is_none (first_from x (y ∷ ys))
 ends x y [] at last s le e = absurd (cc)
 ends x y (z ∷ []) (suc at) last s le e = absurd (cc)
-ends x y (z ∷ []) zero last s le e =
-    let is : z ≡ last = same_Some z last e in
-    ends_by (ltb y x) x y last (first_from x (z ∷ [])) refl (subst (λ n. y < n) is s.0.0) (rw (sym is) (alone (ltb z x) z))
-  where
-    alone : (b : Bool) (z : ℕ) → b ≡ is_none (cond b None (Some z))
-    alone true z = refl
-    alone false z = refl
+ends x y (z ∷ []) zero last s le e = grind arith
 ends x y (z ∷ w ∷ ws) zero last s le e = absurd (omega (arith, le))
-ends x y (z ∷ w ∷ ws) (suc at) last s le e =
-    ends_by (ltb y x) x y last (first_from x (z ∷ w ∷ ws)) refl (some_has (λ n. y < n) (z ∷ w ∷ ws) (suc at) last s.0 e) (ends x z (w ∷ ws) at last s.1 (omega (arith, le)) e)
+ends x y (z ∷ w ∷ ws) (suc at) last s le e = grind (arith, (ends x z (w ∷ ws) at last s.1 (omega (arith, le)) e))
 
 -- the least number of a block goes, and the next one comes in its place
 pub least_goes : (x least next : ℕ) (xs rest : List ℕ) → x ≡ least → IsRising (least ∷ xs) → 0 < length xs → next ≡ get_or xs 0 next → rest ≡ remove xs 0 → next ∷ rest ≡ without_number x (least ∷ xs)
@@ -121,12 +100,8 @@ least_goes x least next [] rest e s lt n r = absurd (omega arith)
 least_goes x least next (y ∷ ys) rest e s lt n r = ap (λ z. z ∷ rest) n ∙ ap (λ z. y ∷ z) r ∙ sym (without_middle x least [] (y ∷ ys) e s)
 
 pub not_there : (x least : ℕ) (xs : List ℕ) → x ≤ least → x ≢ least → IsRising (least ∷ xs) → least ∷ xs ≡ without_number x (least ∷ xs)
-not_there x least xs le other s =
-    let less : x < least = omega (arith, le, other) in
-    sym (without_above x (least ∷ xs) (less, all_weaker (λ z. least < z) (λ z. x < z) (λ z r. omega arith) xs s.0))
+not_there x least xs le other s = grind (arith, without_above, all_weaker)
 
 -- a put into a block with a place leaves what it should
 pub put_fits : (x : ℕ) (old new : Block) (r : Put) → Puts x old new r → length old.more.items < most_more → numbers_in new ≡ put_number x (numbers_in old)
-put_fits x old new There is few = is.0
-put_fits x old new Came is few = is.0
-put_fits x old new Full is few = absurd (omega (arith, is.2, few))
+put_fits x old new r is few = grind arith

@@ -1,5 +1,5 @@
 -- What a copy has at each number while rows are copied one by one.
-use Rattle.std.proofs.Common.{◌≡◌, ℕ, true, cond, List, [], ◌∷◌, ◌++◌, map, refl, sym, ◌∙◌, ap, Option, Some, None, arith}
+use Rattle.std.proofs.Common.{◌≡◌, ℕ, true, cond, List, [], ◌∷◌, ◌++◌, map, refl, Option, Some, None, arith}
 use Rattle.std.specs.Prelude.{nat_eq, is_some}
 use Rattle.std.specs.Map.{lookup}
 use Rattle.std.proofs.lemmas.Bool.Decides.{nat_tests}
@@ -18,16 +18,8 @@ flipped q k = grind (arith, nat_tests)
 module _ {X A : Type 0} (shows : A → ℕ × X) where
   lookup_more : (q : ℕ) (xs : List A) (y : A) → is_some (lookup (nat_eq q) (map shows (xs ++ y ∷ []))) ≡ cond (nat_eq q (shows y).0) true (is_some (lookup (nat_eq q) (map shows xs)))
   lookup_more q [] y = by_bool (nat_eq q (shows y).0) (λ e. rw e refl) (λ e. rw e refl)
-  lookup_more q (x ∷ xs) y =
-      let rest = lookup_more q xs y in
-      by_bool (nat_eq q (shows x).0)
-      (λ e. by_bool (nat_eq q (shows y).0) (λ f. rw (e, f) refl) (λ f. rw (e, f) refl))
-      (λ e. rw e rest)
+  lookup_more q (x ∷ xs) y = grind (arith, (lookup_more q xs y))
 
   pub copied_more : (xs : List A) (y : A) (q : ℕ) (v : X) (before found after : Option X) → before ≡ among (map shows xs) q found →
       ((shows y).0 ≡ q → found ≡ Some v) → after ≡ cond (nat_eq (shows y).0 q) (Some v) before → after ≡ among (map shows (xs ++ y ∷ [])) q found
-  copied_more xs y q v before found after b is a =
-      let more = lookup_more q xs y in
-      by_bool (nat_eq (shows y).0 q)
-      (λ e. a ∙ ap (λ t. cond t (Some v) before) e ∙ sym (is (equal_is q (shows y).0 e)) ∙ sym (ap (λ t. cond t found None) (more ∙ ap (λ t. cond t true (is_some (lookup (nat_eq q) (map shows xs)))) (sym (flipped q (shows y).0) ∙ e))))
-      (λ e. a ∙ ap (λ t. cond t (Some v) before) e ∙ b ∙ sym (ap (λ t. cond t found None) (more ∙ ap (λ t. cond t true (is_some (lookup (nat_eq q) (map shows xs)))) (sym (flipped q (shows y).0) ∙ e))))
+  copied_more xs y q v before found after b is a = grind (arith, lookup_more, equal_is, flipped)

@@ -12,25 +12,15 @@ use Rattle.std.proofs.lemmas.Map.{lookup-none}
 use Rattle.std.proofs.lemmas.Map.Entries.{none_past_head}
 use Rattle.std.proofs.lemmas.Map.Keys.{IsDistinct-tail}
 use Rattle.tsn_table.specs.Firsts.{first_id, least_id, lesser}
-use Rattle.tsn_table.proofs.Firsts.{LeastIn, missed, first_row, first_is, not_some}
-use Rattle.tsn_table.proofs.Orders.{of_T, by_bool}
+use Rattle.tsn_table.proofs.Firsts.{LeastIn, first_row, first_is, not_some}
+use Rattle.tsn_table.proofs.Orders.{of_T}
 use Rattle.tsn_table.proofs.Rows.{lookup_is}
-
-lesser_of_three : (n : ℕ) (o : Option ℕ) (k : ℕ) → lesser (Some n) (lesser o (Some k)) ≡ lesser (lesser (Some n) o) (Some k)
-lesser_of_three n None k = refl
-lesser_of_three n (Some m) k = ap Some (omega arith)
 
 module _ {X A : Type 0} (p : X → Bool) (shows : A → ℕ × X) where
   -- one row more
   least_more : (xs : List A) (y : A) → least_id p (map shows (xs ++ y ∷ [])) ≡ cond (p (shows y).1) (lesser (least_id p (map shows xs)) (Some (shows y).0)) (least_id p (map shows xs))
   least_more [] y = refl
-  least_more (x ∷ xs) y =
-      let rest = least_more xs y in
-      by_bool (p (shows x).1)
-      (λ px. by_bool (p (shows y).1)
-      (λ py. rw (rest, px, py) (lesser_of_three (shows x).0 (least_id p (map shows xs)) (shows y).0))
-      (λ py. rw (rest, px, py) refl))
-      (λ px. by_bool (p (shows y).1) (λ py. rw (rest, px, py) refl) (λ py. rw (rest, px, py) refl))
+  least_more (x ∷ xs) y = grind (arith, (least_more xs y))
 
   pub more_passing : (xs : List A) (y : A) → p (shows y).1 ≡ true → least_id p (map shows (xs ++ y ∷ [])) ≡ lesser (least_id p (map shows xs)) (Some (shows y).0)
   more_passing xs y passes = least_more xs y ∙ ap (λ b. cond b (lesser (least_id p (map shows xs)) (Some (shows y).0)) (least_id p (map shows xs))) passes
@@ -67,9 +57,7 @@ module _ {X : Type 0} (p : X → Bool) where
       ]
 
   failed : (e : ℕ × X) (es : List (ℕ × X)) → find nat_cmp e.0 es ≡ None → p e.1 ≡ false → (o : Option ℕ) → LeastIn p es o → LeastIn p (e ∷ es) o
-  failed e es none f None all = λ n. missed p (eq_by_cmp nat_cmp n e.0) e (find nat_cmp n es) f (all n)
-  failed e es none f (Some n) l =
-      ((l.0.0, beside e es n (other es n e.0 l.0.0 l.0.1 none) ∙ l.0.1, l.0.2), λ k lt. missed p (eq_by_cmp nat_cmp k e.0) e (find nat_cmp k es) f (l.1 k lt))
+  failed e es none f o all = grind arith
 
   least_any : (es : List (ℕ × X)) → IsDistinct nat_eq (keys_of es) → LeastIn p es (least_id p es)
   least_any [] d = λ n q is. absurd (not_some None q refl is)
@@ -82,8 +70,7 @@ module _ {X : Type 0} (p : X → Bool) where
       ] refl
 
   alike : (es fs : List (ℕ × X)) → ((n : ℕ) → find nat_cmp n es ≡ find nat_cmp n fs) → (o : Option ℕ) → LeastIn p es o → LeastIn p fs o
-  alike es fs same None all = λ n q is. all n q (same n ∙ is)
-  alike es fs same (Some n) l = ((l.0.0, sym (same n) ∙ l.0.1, l.0.2), λ k lt q is. l.1 k lt q (same k ∙ is))
+  alike es fs same o all = grind arith
 
   -- it is that of the first row, in the order of the numbers
   pub least_is_first : (es : List (ℕ × X)) (m : FinMap nat_cmp X) → from_entries es ≡ m → IsDistinct nat_eq (keys_of es) → least_id p es ≡ first_id p (entries m)

@@ -1,5 +1,6 @@
 -- How high level trees are.
-use Rattle.std.proofs.Common.{◌≡◌, inl, inr, ℕ, zero, suc, ◌+◌, ◌*◌, ◌^◌, ◌<◌, ◌≤◌, arith, sym, subst, ap}
+use Rattle.std.proofs.Common.{◌≡◌, inl, inr, ℕ, zero, suc, ◌+◌, ◌*◌, ◌^◌, ◌<◌, ◌≤◌, arith}
+use Rattle.std.proofs.lemmas.Grind.{common_steps}
 use Rattle.std.specs.Prelude.{max}
 use Rattle.std.proofs.Math.Nat.{lt_of_not-le, pow-succ'}
 use Rattle.std.proofs.Math.Pow.{pow_mono}
@@ -54,17 +55,7 @@ module _ (l r h k : ℕ) (left : IsHeightFor l h) (right : IsHeightFor r k) wher
       le_of_not_lt never = omega (arith, lt_of_not-le {n = suc (k + 1)} {m = h} (λ le. never (omega (arith, le))))
 
   pub joined : r ≤ l → l ≤ r + 1 → IsHeightFor (l + r + 1) (max h k + 1)
-  joined le near =
-      let down = no_lower le in
-      let is : max h k + 1 ≡ suc h = omega (arith, down) in
-      let twice : 2 ^ suc h ≡ 2 * 2 ^ h = pow-succ' 2 h in
-      subst (IsHeightFor (l + r + 1)) (sym is) (record {
-        above = omega (arith, twice, left.above, le);
-        below = inr (elim left.below [
-          | inl none ↦ let one : 2 ^ suc h ≡ 2 = ap (λ n. 2 ^ suc n) none.1 in omega (arith, one)
-          | inr below ↦ omega (arith, twice, below, near)
-        ]);
-      })
+  joined le near = grind (arith, common_steps, no_lower, pow-succ')
 
 pub low_for : (count height : ℕ) → IsHeightFor count height → count < 2 ^ 64 → height < 240
 low_for count height for few = lt_of_not-le (λ high.

@@ -1,8 +1,8 @@
 -- The numbers of a hash map's rows, sorted, are those of the finite map.
-use Rattle.std.proofs.Common.{◌≡◌, ℕ, Bool, true, false, List, [], ◌∷◌, map, refl, sym, ◌∙◌, ap, Option, Some, None, arith}
+use Rattle.std.proofs.Common.{◌≡◌, ℕ, Bool, List, [], ◌∷◌, map, refl, sym, ◌∙◌, ap, Option, arith}
 use Rattle.std.specs.Prelude.{nat_eq, is_some, T, ◌&&◌}
 use Rattle.std.specs.Ordering.{nat_cmp, eq_by_cmp, is_lt}
-use Rattle.std.specs.declared.cmp.Ordering.TheVariants.{Less, Equal, Greater}
+use Rattle.std.specs.declared.cmp.Ordering.TheVariants.{Less}
 use Rattle.std.specs.FinMap.{FinMap, find, is_sorted, from_entries, keys, entries, entries_sorted, contains_key-keys, nat_cmp-IsAntisymmetric}
 use Rattle.std.specs.FinMap.Entries.{below_all, is_some-find, same_entries}
 use Rattle.std.specs.List.{IsDistinct, AllByRecursion, list_any}
@@ -22,8 +22,7 @@ abbrev row_of : ℕ → ℕ × Unit {0}
 row_of k = (k, tt)
 
 both : (a b : Bool) → T a → T b → T (a && b)
-both true b p q = q
-both false b p q = p
+both a b p q = grind arith
 
 below : (x : ℕ) (ks : List ℕ) → AllByRecursion (λ y. nat_cmp x y ≡ Less) ks → T (below_all nat_cmp x (map row_of ks))
 below x [] h = tt
@@ -34,20 +33,13 @@ rising [] h = tt
 rising (k ∷ ks) h = both _ _ (below k ks (sorted_head nat_cmp k ks h)) (rising ks (sorted_tail nat_cmp k ks h))
 
 first : (a b : Bool) → T (a && b) → T a
-first true b p = tt
-first false b p = p
+first a b p = grind arith
 
 second : (a b : Bool) → T (a && b) → T b
-second true b p = p
-second false b p = absurd p
+second a b p = grind arith
 
 is_less : (x y : ℕ) → T (is_lt (nat_cmp x y)) → nat_cmp x y ≡ Less
-is_less x y h =
-    elim (nat_cmp x y) as (λ o. T (is_lt o) → o ≡ Less) [
-      | Less ↦ λ h. refl
-      | Equal ↦ λ h. absurd h
-      | Greater ↦ λ h. absurd h
-    ] h
+is_less x y h = grind arith
 
 module _ {X : Type 0} where
   all_above : (x : ℕ) (es : List (ℕ × X)) → T (below_all nat_cmp x es) → AllByRecursion (λ y. nat_cmp x y ≡ Less) (map (λ e. e.0) es)
@@ -64,10 +56,7 @@ numbers [] = refl
 numbers (k ∷ ks) = ap (λ r. k ∷ r) (numbers ks)
 
 no_more : (o r : Option (Unit {0})) → is_some o ≡ is_some r → o ≡ r
-no_more None None e = refl
-no_more None (Some x) e = absurd (cc)
-no_more (Some x) None e = absurd (cc)
-no_more (Some x) (Some y) e = refl
+no_more o r e = grind arith
 
 has : (q : ℕ) (ks : List ℕ) → is_some (find nat_cmp q (map row_of ks)) ≡ list_any (eq_by_cmp nat_cmp q) ks
 has q ks = is_some-find nat_cmp q (map row_of ks) ∙ ap (list_any (eq_by_cmp nat_cmp q)) (numbers ks)

@@ -1,13 +1,12 @@
 -- Numbers told apart by their order, and what is said of an option.
-use Rattle.std.proofs.Common.{◌≡◌, ◌⊎◌, inl, inr, IsSome, ℕ, ◌<◌, ◌≤◌, Bool, true, false, refl, Option, Some, None, arith, nat_lt}
+use Rattle.std.proofs.Common.{◌≡◌, ◌⊎◌, IsSome, ℕ, ◌<◌, ◌≤◌, Bool, true, false, Option, None, arith, nat_lt}
 use Rattle.std.specs.Prelude.{T}
 use Rattle.std.specs.Ordering.{nat_cmp, is_lt}
 use Rattle.std.specs.declared.cmp.Ordering.TheVariants.{Less, Equal, Greater}
 use Rattle.std.proofs.lemmas.Bool.Decides.{nat_tests}
 
 pub by_bool : {G : Type 0} (b : Bool) → (b ≡ true → G) → (b ≡ false → G) → G
-by_bool true f g = f refl
-by_bool false f g = g refl
+by_bool b f g = grind arith
 
 pub less_is : (a b : ℕ) → is_lt (nat_cmp a b) ≡ true → a < b
 less_is a b h = grind (arith, nat_tests)
@@ -22,13 +21,7 @@ pub is_equal : (k x : ℕ) → x ≡ k → nat_cmp k x ≡ Equal
 is_equal k x h = grind (arith, nat_tests)
 
 pub of_T : (b : Bool) → T b → b ≡ true
-of_T true h = refl
-of_T false h = absurd h
-
-pub none_some : {A : Type 0} (o : Option A) → IsSome o → o ≡ None → ⊥
-none_some None h n = absurd (cc)
-none_some (Some x) h n = absurd (cc)
+of_T b h = grind arith
 
 pub room : {A : Type 0} (o : Option A) (n : ℕ) → IsSome o ⊎ (1 ≤ n) → o ≡ None → 1 ≤ n
-room o n (inl h) none = absurd (none_some o h none)
-room o n (inr h) none = h
+room o n h none = grind arith

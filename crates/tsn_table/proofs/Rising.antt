@@ -5,7 +5,7 @@ use Rattle.std.specs.Option.{option_or}
 use Rattle.std.specs.Ordering.{nat_cmp, eq_by_cmp}
 use Rattle.std.specs.FinMap.{FinMap, find, get, insert, remove, get-insert, get-remove, get-from_entries, same_map, nat_cmp-IsAntisymmetric}
 use Rattle.std.proofs.lemmas.Cmp.{nat_cmp_total}
-use Rattle.std.proofs.lemmas.Bool.{lt-ltb, le-ltb, ltb-true, ltb-false, eq-eqb, ne_eqb}
+use Rattle.std.proofs.lemmas.Bool.{lt-ltb, le-ltb, ltb-true, eq-eqb, ne_eqb}
 use Rattle.std.proofs.lemmas.Bool.Decides.{nat_tests}
 use Rattle.std.proofs.lemmas.List.{append_assoc}
 use Rattle.tsn_table.specs.Rising.{AllNumbers, IsRising, put_number, without_number, first_from, units, map_of}
@@ -33,27 +33,17 @@ rising_back (x ∷ l) m s = rising_back l m s.1
 -- a number that is put in
 all_put : (P : ℕ → Type 0) (x : ℕ) (ys : List ℕ) → P x → AllNumbers P ys → AllNumbers P (put_number x ys)
 all_put P x [] p a = (p, tt)
-all_put P x (y ∷ ys) p a =
-    elim (ltb x y) as (λ b. AllNumbers P (cond b (x ∷ y ∷ ys) (y ∷ cond (ltb y x) (put_number x ys) ys))) [
-      | true ↦ (p, a)
-      | false ↦ (a.0, elim (ltb y x) as (λ b. AllNumbers P (cond b (put_number x ys) ys)) [ true ↦ all_put P x ys p a.1 | false ↦ a.1 ])
-    ]
+all_put P x (y ∷ ys) p a = grind (arith, (all_put P x ys p a.1))
 
 rising_put_by : (x y : ℕ) (ys : List ℕ) (a b : Bool) → ltb x y ≡ a → ltb y x ≡ b → IsRising (y ∷ ys) → IsRising (put_number x ys) → IsRising (cond a (x ∷ y ∷ ys) (y ∷ cond b (put_number x ys) ys))
-rising_put_by x y ys true b p q s u =
-    let h : x < y = ltb-true x y p in
-    ((h, all_weaker (λ z. y < z) (λ z. x < z) (λ z r. omega arith) ys s.0), s)
-rising_put_by x y ys false true p q s u = (all_put (λ z. y < z) x ys (ltb-true y x q) s.0, u)
-rising_put_by x y ys false false p q s u = s
+rising_put_by x y ys a b p q s u = grind (arith, ltb-true, all_weaker, all_put)
 
 pub rising_put : (x : ℕ) (ys : List ℕ) → IsRising ys → IsRising (put_number x ys)
 rising_put x [] s = (tt, tt)
 rising_put x (y ∷ ys) s = rising_put_by x y ys (ltb x y) (ltb y x) refl refl s (rising_put x ys s.1)
 
 pub put_by : (a b : Bool) (x y : ℕ) (ys us m vs : List ℕ) → vs ≡ us ++ m → cond a (x ∷ y ∷ (ys ++ m)) (y ∷ cond b vs (ys ++ m)) ≡ cond a (x ∷ y ∷ ys) (y ∷ cond b us ys) ++ m
-put_by true b x y ys us m vs e = refl
-put_by false true x y ys us m vs e = ap (λ z. y ∷ z) e
-put_by false false x y ys us m vs e = refl
+put_by a b x y ys us m vs e = grind arith
 
 pub put_left : (x k : ℕ) (l r : List ℕ) → x < k → put_number x (l ++ k ∷ r) ≡ put_number x l ++ k ∷ r
 put_left x k [] r p = rw (lt-ltb x k p)
@@ -71,25 +61,18 @@ put_middle x k (y ∷ ys) r e s =
 -- a number that is taken out
 all_without : (P : ℕ → Type 0) (x : ℕ) (ys : List ℕ) → AllNumbers P ys → AllNumbers P (without_number x ys)
 all_without P x [] a = tt
-all_without P x (y ∷ ys) a = elim (eqb x y) as (λ b. AllNumbers P (cond b (without_number x ys) (y ∷ without_number x ys))) [
-  | true ↦ all_without P x ys a.1
-  | false ↦ (a.0, all_without P x ys a.1)
-]
+all_without P x (y ∷ ys) a = grind (arith, (all_without P x ys a.1))
 
 pub rising_without : (x : ℕ) (ys : List ℕ) → IsRising ys → IsRising (without_number x ys)
 rising_without x [] s = tt
-rising_without x (y ∷ ys) s = elim (eqb x y) as (λ b. IsRising (cond b (without_number x ys) (y ∷ without_number x ys))) [
-  | true ↦ rising_without x ys s.1
-  | false ↦ (all_without (λ z. y < z) x ys s.0, rising_without x ys s.1)
-]
+rising_without x (y ∷ ys) s = grind (arith, all_without, (rising_without x ys s.1))
 
 pub without_above : (x : ℕ) (ys : List ℕ) → AllNumbers (λ z. x < z) ys → without_number x ys ≡ ys
 without_above x [] a = refl
 without_above x (y ∷ ys) a = let p : x < y = a.0 in rw (ne_eqb x y (omega arith)) (ap (λ z. y ∷ z) (without_above x ys a.1))
 
 pub without_by : (b : Bool) (y : ℕ) (us m vs : List ℕ) → vs ≡ us ++ m → cond b vs (y ∷ vs) ≡ cond b us (y ∷ us) ++ m
-without_by true y us m vs e = e
-without_by false y us m vs e = ap (λ z. y ∷ z) e
+without_by b y us m vs e = grind arith
 
 pub without_left : (x k : ℕ) (l r : List ℕ) → x < k → IsRising (l ++ k ∷ r) → without_number x (l ++ k ∷ r) ≡ without_number x l ++ k ∷ r
 without_left x k [] r p s = without_above x (k ∷ r) (p, all_weaker (λ z. k < z) (λ z. x < z) (λ z q. omega arith) r s.0)
@@ -106,20 +89,17 @@ without_middle x k (y ∷ ys) r e s =
 
 -- the first number from one on
 first_by : (b : Bool) (y k : ℕ) (o p : Option ℕ) → p ≡ option_or o (Some k) → cond b p (Some y) ≡ option_or (cond b o (Some y)) (Some k)
-first_by true y k o p e = e
-first_by false y k o p e = refl
+first_by b y k o p e = grind arith
 
 first_left : (x k : ℕ) (l r : List ℕ) → x ≤ k → first_from x (l ++ k ∷ r) ≡ option_or (first_from x l) (Some k)
 first_left x k [] r p = rw (le-ltb k x p)
 first_left x k (y ∷ ys) r p = first_by (ltb y x) y k _ _ (first_left x k ys r p)
 
 or_none : (o : Option ℕ) → option_or o None ≡ o
-or_none None = refl
-or_none (Some n) = refl
+or_none o = grind arith
 
 or_taken : (o : Option ℕ) (k : ℕ) (above : Option ℕ) → option_or o (Some k) ≡ option_or (option_or o (Some k)) above
-or_taken None k above = refl
-or_taken (Some n) k above = refl
+or_taken o k above = grind arith
 
 first_right : (x k : ℕ) (l r : List ℕ) → k < x → IsRising (l ++ k ∷ r) → first_from x (l ++ k ∷ r) ≡ first_from x r
 first_right x k [] r p s = rw (lt-ltb k x p)
@@ -129,43 +109,26 @@ first_right x k (y ∷ ys) r p s =
 
 -- a search that goes on in one side finds what it would find in the whole
 pub finds_right : (x k : ℕ) (all l r : List ℕ) (above found : Option ℕ) → all ≡ l ++ k ∷ r → k < x → IsRising all → option_or (first_from x all) above ≡ found → option_or (first_from x r) above ≡ found
-finds_right x k all l r above found is p s same =
-    ap (λ o. option_or o above) (sym (first_right x k l r p (subst IsRising is s))) ∙ ap (λ ns. option_or (first_from x ns) above) (sym is) ∙ same
+finds_right x k all l r above found is p s same = grind (arith, first_right)
 
 pub finds_left : (x k : ℕ) (all l r : List ℕ) (above found : Option ℕ) → all ≡ l ++ k ∷ r → x ≤ k → option_or (first_from x all) above ≡ found → option_or (first_from x l) (Some k) ≡ found
-finds_left x k all l r above found is p same =
-    or_taken (first_from x l) k above ∙ ap (λ o. option_or o above) (sym (first_left x k l r p)) ∙ ap (λ ns. option_or (first_from x ns) above) (sym is) ∙ same
+finds_left x k all l r above found is p same = grind (arith, or_taken, first_left)
 
 -- what stands before k, where other numbers stand before all
 pub around : (b all l : List ℕ) (k : ℕ) (m r : List ℕ) → all ≡ l ++ ((k ∷ m) ++ r) → b ++ all ≡ (b ++ l) ++ k ∷ (m ++ r)
 around b all l k m r is = ap (λ z. b ++ z) is ∙ sym (append_assoc b l (k ∷ (m ++ r)))
 
--- the next number after one that goes comes in its place
-abbrev number_in : Option ℕ → ℕ
-number_in None = 0
-number_in (Some n) = n
-
 pub no_next : (ys : List ℕ) → option_or (first_from 0 ys) None ≡ None → ys ≡ []
 no_next [] e = refl
-no_next (y ∷ ys) e =
-    let first : option_or (first_from 0 (y ∷ ys)) None ≡ Some y = rw (le-ltb y 0 (omega arith)) refl in
-    let none : Some y ≡ None = sym first ∙ e in
-    absurd (cc)
+no_next (y ∷ ys) e = grind arith
 
 rest_of : (next : ℕ) (ys : List ℕ) → IsRising ys → option_or (first_from 0 ys) None ≡ Some next → ys ≡ next ∷ without_number next ys
 rest_of next [] s e = absurd (cc)
-rest_of next (y ∷ ys) s e =
-    let first : option_or (first_from 0 (y ∷ ys)) None ≡ Some y = rw (le-ltb y 0 (omega arith)) refl in
-    let is : y ≡ next = ap number_in (sym first ∙ e) in
-    rw (eq-eqb next y (sym is)) (ap (λ n. n ∷ ys) is ∙ ap (λ t. next ∷ t) (sym (without_above next ys (subst (λ n. AllNumbers (λ z. n < z) ys) is s.0))))
+rest_of next (y ∷ ys) s e = grind (arith, le-ltb, eq-eqb, without_above)
 
 pub after_only : (x : ℕ) (l b r : List ℕ) (next : Option ℕ) → b ≡ x ∷ [] → IsRising (l ++ (b ++ r)) → next ≡ option_or (first_from 0 r) None
     → MatchOption next (without_number x (l ++ (b ++ r)) ≡ l) (λ n. without_number x (l ++ (b ++ r)) ≡ l ++ n ∷ without_number n r)
-after_only x l b r next only s is = subst (λ c. IsRising (l ++ (c ++ r)) → MatchOption next (without_number x (l ++ (c ++ r)) ≡ l) (λ n. without_number x (l ++ (c ++ r)) ≡ l ++ n ∷ without_number n r)) (sym only) (by next is) s
-  where
-    by : (o : Option ℕ) → o ≡ option_or (first_from 0 r) None → IsRising (l ++ x ∷ r) → MatchOption o (without_number x (l ++ x ∷ r) ≡ l) (λ n. without_number x (l ++ x ∷ r) ≡ l ++ n ∷ without_number n r)
-    by None e s = without_middle x x l r refl s ∙ ap (λ t. l ++ t) (no_next r (sym e)) ∙ append-nil l
-    by (Some n) e s = without_middle x x l r refl s ∙ ap (λ t. l ++ t) (rest_of n r (rising_back l (x ∷ r) s).1 (sym e))
+after_only x l b r next only s is = grind (arith, without_middle, no_next, append-nil, rest_of, rising_back)
 
 -- what the map answers
 abbrev there : ℕ → List ℕ → Option (Unit {0})
@@ -173,38 +136,11 @@ there q xs = find nat_cmp q (units xs)
 
 there_put : (x q : ℕ) (xs : List ℕ) → there q (put_number x xs) ≡ cond (eq_by_cmp nat_cmp q x) (Some tt) (there q xs)
 there_put x q [] = refl
-there_put x q (y ∷ ys) =
-    elim (ltb x y) as (λ a. ltb x y ≡ a → there q (cond a (x ∷ y ∷ ys) (y ∷ cond (ltb y x) (put_number x ys) ys)) ≡ cond (eq_by_cmp nat_cmp q x) (Some tt) (there q (y ∷ ys))) [
-      | true ↦ λ e. refl
-      | false ↦ λ e. elim (ltb y x) as (λ b. ltb y x ≡ b → there q (y ∷ cond b (put_number x ys) ys) ≡ cond (eq_by_cmp nat_cmp q x) (Some tt) (there q (y ∷ ys))) [
-        | true ↦ λ d. there_later x y q (there q ys) _ (ltb-true y x d) (there_put x q ys)
-        | false ↦ λ d. there_same x y q (there q ys) (ltb-false x y e) (ltb-false y x d)
-      ] refl
-    ] refl
-  where
-    there_later : (x y q : ℕ) (o p : Option (Unit {0})) → y < x → p ≡ cond (eq_by_cmp nat_cmp q x) (Some tt) o
-        → cond (eq_by_cmp nat_cmp q y) (Some tt) p ≡ cond (eq_by_cmp nat_cmp q x) (Some tt) (cond (eq_by_cmp nat_cmp q y) (Some tt) o)
-    there_later x y q o p less e = grind (arith, nat_tests)
-
-    there_same : (x y q : ℕ) (o : Option (Unit {0})) → y ≤ x → x ≤ y
-        → cond (eq_by_cmp nat_cmp q y) (Some tt) o ≡ cond (eq_by_cmp nat_cmp q x) (Some tt) (cond (eq_by_cmp nat_cmp q y) (Some tt) o)
-    there_same x y q o le ge = grind (arith, nat_tests)
+there_put x q (y ∷ ys) = grind (arith, (there_put x q ys))
 
 there_without : (x q : ℕ) (xs : List ℕ) → there q (without_number x xs) ≡ cond (eq_by_cmp nat_cmp q x) None (there q xs)
 there_without x q [] = grind (arith, nat_tests)
-there_without x q (y ∷ ys) =
-    elim (eqb x y) as (λ b. eqb x y ≡ b → there q (cond b (without_number x ys) (y ∷ without_number x ys)) ≡ cond (eq_by_cmp nat_cmp q x) None (there q (y ∷ ys))) [
-      | true ↦ λ e. here x y q (there q ys) _ e (there_without x q ys)
-      | false ↦ λ e. later x y q (there q ys) _ e (there_without x q ys)
-    ] refl
-  where
-    here : (x y q : ℕ) (o p : Option (Unit {0})) → eqb x y ≡ true → p ≡ cond (eq_by_cmp nat_cmp q x) None o
-        → p ≡ cond (eq_by_cmp nat_cmp q x) None (cond (eq_by_cmp nat_cmp q y) (Some tt) o)
-    here x y q o p same e = grind (arith, nat_tests)
-
-    later : (x y q : ℕ) (o p : Option (Unit {0})) → eqb x y ≡ false → p ≡ cond (eq_by_cmp nat_cmp q x) None o
-        → cond (eq_by_cmp nat_cmp q y) (Some tt) p ≡ cond (eq_by_cmp nat_cmp q x) None (cond (eq_by_cmp nat_cmp q y) (Some tt) o)
-    later x y q o p other e = grind (arith, nat_tests)
+there_without x q (y ∷ ys) = grind (arith, (there_without x q ys))
 
 get_map : (xs : List ℕ) (q : ℕ) → get (map_of xs) q ≡ there q xs
 get_map xs q = get-from_entries nat_cmp_total (units xs) q
@@ -220,12 +156,10 @@ map_without x xs = same_map nat_cmp_total nat_cmp-IsAntisymmetric _ _ (λ q.
     ∙ ap (cond (eq_by_cmp nat_cmp q x) None) (sym (get_map xs q)) ∙ sym (get-remove nat_cmp_total (map_of xs) x q))
 
 unit_some : (o : Option (Unit {0})) → IsSome o → o ≡ Some tt
-unit_some None h = absurd (cc)
-unit_some (Some u) h = refl
+unit_some o h = grind arith
 
 same_or : (b : Bool) (o : Option (Unit {0})) → (b ≡ true → o ≡ Some tt) → o ≡ cond b (Some tt) o
-same_or true o h = h refl
-same_or false o h = refl
+same_or b o h = grind arith
 
 tied : (q x : ℕ) → eq_by_cmp nat_cmp q x ≡ true → q ≡ x
 tied q x e = grind (arith, nat_tests)
@@ -238,37 +172,15 @@ map_there m x h = same_map nat_cmp_total nat_cmp-IsAntisymmetric _ _ (λ q.
 
 -- where there is no room the number is there, so a put of it changes nothing
 pub put_nothing : (m : FinMap nat_cmp (Unit {0})) (x spare : ℕ) → spare ≡ 0 → IsSome (get m x) ⊎ (1 ≤ spare) → m ≡ insert m x tt
-put_nothing m x spare none h = elim h [
-  | inl is_in ↦ map_there m x is_in
-  | inr room ↦ absurd (omega arith)
-]
+put_nothing m x spare none h = grind (arith, map_there)
 
 some_there : (q y : ℕ) (ys : List ℕ) → IsSome (there q (y ∷ ys)) → (q ≡ y) ⊎ IsSome (there q ys)
-some_there q y ys h = elim (eq_by_cmp nat_cmp q y) as (λ b. eq_by_cmp nat_cmp q y ≡ b → IsSome (cond b (Some tt) (there q ys)) → (q ≡ y) ⊎ IsSome (there q ys)) [
-  | true ↦ λ e _. inl (tied q y e)
-  | false ↦ λ e i. inr i
-] refl h
-
-there_head : (y : ℕ) (ys : List ℕ) → IsSome (there y (y ∷ ys))
-there_head y ys = subst IsSome (sym (by y (there y ys))) refl
-  where
-    by : (y : ℕ) (o : Option (Unit {0})) → cond (eq_by_cmp nat_cmp y y) (Some tt) o ≡ Some tt
-    by y o = grind (arith, nat_tests)
-
-there_tail : (q y : ℕ) (ys : List ℕ) → IsSome (there q ys) → IsSome (there q (y ∷ ys))
-there_tail q y ys h = elim (eq_by_cmp nat_cmp q y) as (λ b. IsSome (cond b (Some tt) (there q ys))) [ true ↦ refl | false ↦ h ]
+some_there q y ys h = grind arith
 
 -- the first number from one on is there
 first_there : (from : ℕ) (xs : List ℕ) → IfSome (first_from from xs) (λ id. (from ≤ id) × IsSome (there id xs))
 first_there from [] = tt
-first_there from (y ∷ ys) = elim (ltb y from) as (λ b. ltb y from ≡ b → IfSome (cond b (first_from from ys) (Some y)) (λ id. (from ≤ id) × IsSome (there id (y ∷ ys)))) [
-  | true ↦ λ e. more (first_from from ys) (first_there from ys)
-  | false ↦ λ e. (ltb-false y from e, there_head y ys)
-] refl
-  where
-    more : (o : Option ℕ) → IfSome o (λ id. (from ≤ id) × IsSome (there id ys)) → IfSome o (λ id. (from ≤ id) × IsSome (there id (y ∷ ys)))
-    more None h = tt
-    more (Some id) h = (h.0, there_tail id y ys h.1)
+first_there from (y ∷ ys) = grind (arith, (first_there from ys))
 
 -- and no lesser one is
 first_least : (from id : ℕ) (xs : List ℕ) → IsRising xs → from ≤ id → IsSome (there id xs) → MatchOption (first_from from xs) ⊥ (λ least. least ≤ id)
@@ -302,9 +214,7 @@ there_in from xs m o is answer = subst (λ p. IfSome p (λ id. (from ≤ id) × 
 
 pub least_in : (from id : ℕ) (xs : List ℕ) (m : FinMap nat_cmp (Unit {0})) (o : Option ℕ) → map_of xs ≡ m → o ≡ option_or (first_from from xs) None
     → IsRising xs → from ≤ id → IsSome (get m id) → MatchOption o ⊥ (λ least. least ≤ id)
-least_in from id xs m o is answer s by h =
-    subst (λ p. MatchOption p ⊥ (λ least. least ≤ id)) (sym (answer ∙ or_none (first_from from xs)))
-    (first_least from id xs s by (subst IsSome (ap (λ (n : FinMap nat_cmp (Unit {0})). get n id) (sym is) ∙ get_map xs id) h))
+least_in from id xs m o is answer s by h = grind (arith, or_none, first_least, get_map)
 
 -- the map that a put or a removal leaves, where the map before is known by an equation
 pub put_is : (x : ℕ) (xs ys : List ℕ) (m : FinMap nat_cmp (Unit {0})) → map_of xs ≡ m → ys ≡ put_number x xs → map_of ys ≡ insert m x tt
@@ -322,10 +232,7 @@ rising_without_is x xs ys is s = subst IsRising (sym is) (rising_without x xs s)
 -- where as many numbers are left, the one that was to go was not there
 without_few : (x : ℕ) (xs : List ℕ) → length (without_number x xs) ≤ length xs
 without_few x [] = omega arith
-without_few x (y ∷ ys) = elim (eqb x y) as (λ b. length (cond b (without_number x ys) (y ∷ without_number x ys)) ≤ length (y ∷ ys)) [
-  | true ↦ omega (arith, without_few x ys)
-  | false ↦ omega (arith, without_few x ys)
-]
+without_few x (y ∷ ys) = grind (arith, (without_few x ys))
 
 without_there : (x : ℕ) (xs : List ℕ) → IsSome (there x xs) → length (without_number x xs) < length xs
 without_there x [] h = absurd (cc)
@@ -338,6 +245,4 @@ without_there x (y ∷ ys) h = elim (eqb x y) as (λ b. eqb x y ≡ b → length
 ] refl
 
 pub was_not_there : (x : ℕ) (xs ys : List ℕ) (m : FinMap nat_cmp (Unit {0})) → map_of xs ≡ m → ys ≡ without_number x xs → length xs ≡ length ys → IsSome (get m x) → ⊥
-was_not_there x xs ys m is left same h =
-    let there_is : IsSome (there x xs) = subst IsSome (ap (λ (n : FinMap nat_cmp (Unit {0})). get n x) (sym is) ∙ get_map xs x) h in
-    omega (arith, without_there x xs there_is, ap length left, same)
+was_not_there x xs ys m is left same h = grind (arith, get_map, without_there)

@@ -1,5 +1,6 @@
 -- A hash map's rows as a finite map from numbers.
 use Rattle.std.proofs.Common.{◌≡◌, ℕ, ◌<◌, true, cond, List, [], ◌∷◌, map, length, refl, sym, ◌∙◌, ap, Some, None, arith}
+use Rattle.std.proofs.lemmas.Grind.{common_steps}
 use Rattle.std.specs.Prelude.{nat_eq}
 use Rattle.std.specs.Ordering.{nat_cmp, eq_by_cmp}
 use Rattle.std.specs.FinMap.{FinMap, find, from_entries, entries, keys, len, len-entries, len-empty, get, get-entries, insert, remove, same_map, get-from_entries, get-insert, get-remove, nat_cmp-IsAntisymmetric}
@@ -41,12 +42,10 @@ module _ {X : Type 0} where
       sym (found fs _ refl q) ∙ takes q ∙ ap (cond (nat_eq k q) None) (found es m is q) ∙ ap (λ b. cond b None (get m q)) (equal_by_turned k q) ∙ sym (get-remove nat_cmp_total m k q))
 
   no_entry : (es : List (ℕ × X)) → length es ≡ 0 → map (λ e. e.0) es ≡ []
-  no_entry [] h = refl
-  no_entry (e ∷ es) h = absurd (omega arith)
+  no_entry es h = grind (arith, common_steps)
 
   one_entry : (es : List (ℕ × X)) (q : ℕ) (v : X) → find nat_cmp q es ≡ Some v → 0 < length (map (λ e. e.0) es)
-  one_entry [] q v is = absurd (cc)
-  one_entry (e ∷ es) q v is = omega arith
+  one_entry es q v is = grind (arith, common_steps)
 
   -- where no row lies the map has no number
   pub no_rows : (es : List (ℕ × X)) (m : FinMap nat_cmp X) → from_entries es ≡ m → length es ≡ 0 → keys m ≡ []

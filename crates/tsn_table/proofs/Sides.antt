@@ -71,30 +71,13 @@ without_before x (y ∷ b) r a = without_by (eqb x y) y (without_number x b) r _
 
 -- where a number belongs
 pub belongs_left : (x : ℕ) (l : List ℕ) (k : ℕ) (m r : List ℕ) → x < k → IsRising (l ++ ((k ∷ m) ++ r)) → BelongsLeft x l (k ∷ m) r
-belongs_left x l k m r less s = record {
-  put = put_left x k l (m ++ r) less;
-  without = without_left x k l (m ++ r) less s;
-  rising = rising_front l (k ∷ (m ++ r)) s;
-  shorter = omega (arith, length-append l (k ∷ (m ++ r)));
-}
+belongs_left x l k m r less s = grind (arith, put_left, without_left, rising_front, length-append)
 
 pub belongs_here : (x : ℕ) (l b r : List ℕ) → AllBelow x l → AllAbove x r → IsRising (l ++ (b ++ r)) → BelongsHere x l b r
-belongs_here x l b r below above s = record {
-  put = put_after x l (b ++ r) below ∙ ap (λ z. l ++ z) (put_before x b r above);
-  without = without_after x l (b ++ r) below ∙ ap (λ z. l ++ z) (without_before x b r above);
-  rising = rising_block l b r s;
-}
+belongs_here x l b r below above s = grind (arith, put_after, put_before, without_after, without_before, rising_block)
 
 pub belongs_right : (x : ℕ) (l : List ℕ) (k : ℕ) (m r : List ℕ) → k ≤ x → is_none (first_from x (k ∷ m)) ≡ true → IsRising (l ++ ((k ∷ m) ++ r)) → BelongsRight x l (k ∷ m) r
-belongs_right x l k m r le n s =
-    let left = left_below x l k (m ++ r) le s in
-    let block = block_below x (k ∷ m) n in
-    record {
-      put = put_after x l ((k ∷ m) ++ r) left ∙ ap (λ z. l ++ z) (put_after x (k ∷ m) r block);
-      without = without_after x l ((k ∷ m) ++ r) left ∙ ap (λ z. l ++ z) (without_after x (k ∷ m) r block);
-      rising = rising_back (k ∷ m) r (rising_back l ((k ∷ m) ++ r) s);
-      shorter = omega (arith, length-append l (k ∷ (m ++ r)), length-append m r);
-    }
+belongs_right x l k m r le n s = grind (arith, left_below, block_below, put_after, without_after, rising_back, length-append)
 
 -- the same of a part that is known by an equation, and of what a put leaves there
 pub in_lower : (x : ℕ) (all l : List ℕ) (u : ℕ) (m new : List ℕ) → all ≡ l ++ u ∷ m → x < u → new ≡ put_number x l → new ++ u ∷ m ≡ put_number x all

@@ -1,5 +1,5 @@
 -- Trees, and the nodes that they have.
-use Rattle.std.proofs.Common.{◌≡◌, ℕ, ◌+◌, arith, List, [], ◌∷◌, ◌++◌, length, length-append, Option, Some, None, refl, sym, ap}
+use Rattle.std.proofs.Common.{◌≡◌, ℕ, ◌+◌, arith, List, [], ◌∷◌, ◌++◌, length, length-append, Option, Some, None, refl, sym}
 use Rattle.std.specs.Prelude.{IfNone}
 use Rattle.std.specs.Option.{option_or}
 use Rattle.tsn_table.proofs.Rising.{no_next}
@@ -29,5 +29,4 @@ empty_height (Fork' place block left_height right_height left right) (Some n) is
 
 -- where none is behind the only number of a block, there is one more with it than before it
 pub one_more : (l b r : List ℕ) (x : ℕ) (first : Option ℕ) → b ≡ x ∷ [] → first ≡ option_or (first_from 0 r) None → IfNone first (length (l ++ (b ++ r)) ≡ length l + 1)
-one_more l b r x None only is = omega (arith, length-append l (b ++ r), length-append b r, ap length only, ap length (no_next r (sym is)))
-one_more l b r x (Some n) only is = tt
+one_more l b r x first only is = grind (arith, length-append, no_next)

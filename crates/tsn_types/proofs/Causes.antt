@@ -1,22 +1,16 @@
 -- The first cause of a list, and the first of two options.
-use Rattle.std.proofs.Common.{◌≡◌, Bool, true, false, List, [], ◌∷◌, ◌++◌, refl, Option, Some, None}
+use Rattle.std.proofs.Common.{◌≡◌, Bool, true, List, [], ◌∷◌, ◌++◌, refl, Option, Some, None, arith}
 use Rattle.std.specs.Option.{option_or}
 use Rattle.std.specs.List.{AllByRecursion}
 use Rattle.tsn_types.specs.declared.refusals.Refusal.{Refusal}
 use Rattle.tsn_types.specs.Limits.{unless, first_cause}
 
 pub option_or-None : {A : Type 0} (o : Option A) → option_or o None ≡ o
-option_or-None None = refl
-option_or-None (Some x) = refl
-
-pub option_or_assoc : {A : Type 0} (o p q : Option A) → option_or o (option_or p q) ≡ option_or (option_or o p) q
-option_or_assoc None p q = refl
-option_or_assoc (Some x) p q = refl
+option_or-None o = grind arith
 
 -- where the first of two is none, both are
 pub option_or_parts : {A : Type 0} (o p : Option A) → option_or o p ≡ None → (o ≡ None) × (p ≡ None)
-option_or_parts None p h = (refl, h)
-option_or_parts (Some x) p h = (cc)
+option_or_parts o p h = grind arith
 
 -- where the first cause is none, each is
 pub each_none : (os : List (Option Refusal)) → first_cause os ≡ None → AllByRecursion (λ o. o ≡ None) os
@@ -30,9 +24,7 @@ first_cause-append (None ∷ os) ps = first_cause-append os ps
 first_cause-append (Some x ∷ os) ps = refl
 
 pub unless-None : (b : Bool) (why : Refusal) → unless b why ≡ None → b ≡ true
-unless-None true why h = refl
-unless-None false why h = (cc)
+unless-None b why h = grind arith
 
 pub unless-true : (b : Bool) (why : Refusal) → b ≡ true → unless b why ≡ None
-unless-true true why h = refl
-unless-true false why h = (cc)
+unless-true b why h = (cc)

@@ -83,6 +83,34 @@ impl Limits {
         self.ports
     }
 
+    /// How many stream filters there may be, which are numbered from 0.
+    pub fn filters(self) -> u64
+        ensures { result ≡ self.filters }
+    {
+        self.filters
+    }
+
+    /// How many stream gates there may be, which are numbered from 0.
+    pub fn gates(self) -> u64
+        ensures { result ≡ self.gates }
+    {
+        self.gates
+    }
+
+    /// How many flow meters there may be, which are numbered from 0.
+    pub fn meters(self) -> u64
+        ensures { result ≡ self.meters }
+    {
+        self.meters
+    }
+
+    /// How many entries a gate control list may have.
+    pub fn list(self) -> u64
+        ensures { result ≡ self.list }
+    {
+        self.list
+    }
+
     /// Whether the key is within the limits: a port from 1 to `ports`, any other number below its table's size.
     pub fn holds(self, key: Key) -> bool
         ensures { result ≡ holds_key self key }

@@ -1,5 +1,5 @@
 -- An entry that applies a change that fits keeps a journal sound, and so do one that applies none and one that settles.
-use Rattle.std.proofs.Common.{◌≡◌, ℕ, ◌+◌, false, cond, refl, not, List, [], ◌∷◌, ◌++◌, sym, ◌∙◌, ap, subst, Option, Some, None, length}
+use Rattle.std.proofs.Common.{◌≡◌, ℕ, ◌+◌, false, cond, refl, not, List, [], ◌∷◌, ◌++◌, sym, ◌∙◌, ap, subst, Option, Some, None, length, arith}
 use Rattle.std.specs.Prelude.{filter, nat_le, option_map}
 use Rattle.std.specs.List.{cons_option}
 use Rattle.tsn_edit.specs.Parts.{Change}
@@ -27,13 +27,10 @@ abbrev one : List Entry → ℕ → Option Change → List Applied
 one es s o = cons_option (option_map (λ c. record { number = length es + 1; session = s; change = c }) o) []
 
 pub applied_push : (es : List Entry) (s : ℕ) (w : What) (e : Change) → applies w ≡ Some e → changes (collect applies (with_entry es s w)) ≡ changes (collect applies es) ++ e ∷ []
-applied_push es s w e apply =
-    ap changes (collect_push applies es (next es s w) ∙ ap (λ o. collect applies es ++ one es s o) apply)
-    ∙ changes-append (collect applies es) (one es s (Some e))
+applied_push es s w e apply = grind (arith, collect_push, changes-append)
 
 pub nothing_push : (es : List Entry) (s : ℕ) (w : What) → applies w ≡ None → changes (collect applies (with_entry es s w)) ≡ changes (collect applies es)
-nothing_push es s w none =
-    ap changes (collect_push applies es (next es s w) ∙ ap (λ o. collect applies es ++ one es s o) none ∙ append_nil (collect applies es))
+nothing_push es s w none = grind (arith, collect_push, append_nil)
 
 pub configuration_push : (opening : Configuration) (es : List Entry) (s : ℕ) (w : What) (e : Change) → applies w ≡ Some e → configuration opening (with_entry es s w) ≡ after_change (configuration opening es) e
 configuration_push opening es s w e apply = ap (run opening) (applied_push es s w e apply) ∙ run-append opening (changes (collect applies es)) (e ∷ [])

@@ -1,10 +1,7 @@
 -- An edit that is at once undone leaves the configuration as it was.
-use Rattle.std.proofs.Common.{◌≡◌, ℕ, ◌+◌, true, cond, List, [], ◌∷◌, ◌++◌, refl, sym, ◌∙◌, ap, subst, Some, None, length}
-use Rattle.std.specs.Prelude.{◌==◌, option_map}
-use Rattle.std.specs.Option.{option_or}
+use Rattle.std.proofs.Common.{◌≡◌, ℕ, ◌+◌, List, [], ◌∷◌, ◌++◌, refl, sym, ◌∙◌, ap, subst, Some, None, length, arith}
 use Rattle.std.proofs.Common.{arith}
 use Rattle.std.proofs.lemmas.Bool.Decides.{nat_tests}
-use Rattle.tsn_types.specs.declared.refusals.Refusal.TheVariants.{Conflict}
 use Rattle.tsn_edit.specs.declared.Edit.{Edit}
 use Rattle.tsn_edit.specs.Configuration.{Configuration}
 use Rattle.tsn_edit.specs.Changes.{after_change, conflicts}
@@ -19,7 +16,7 @@ use Rattle.tsn_journal.proofs.Marking.{IsNumbered-with_entry}
 use Rattle.tsn_journal.proofs.Numbers.{Rises, later_than_rest, rises_standing}
 use Rattle.tsn_undo.specs.Ledger.{Ledger, enter, present}
 use Rattle.tsn_undo.specs.Soundness.{IsSound}
-use Rattle.tsn_undo.specs.Steps.{Edits, TakesBack, undo_cause, undo_refusal}
+use Rattle.tsn_undo.specs.Steps.{Edits, TakesBack, undo_refusal}
 use Rattle.tsn_undo.proofs.Adding.{configuration_push, standing_added}
 use Rattle.tsn_undo.proofs.Free.{undo_refusal-first}
 use Rattle.tsn_undo.proofs.Making.{kept_now}
@@ -37,12 +34,7 @@ module _ (before edited : Ledger) (session : ℕ) (batch : List Edit) (entry : �
 
   -- it is what the session takes back next
   newest_made : last_of edited.entries session ≡ Some (newest_of before session batch)
-  newest_made =
-      let x = newest_of before session batch in
-      let own : (session == session) ≡ true = grind (arith, nat_tests) in
-      ap (last_where (λ x. x.session == session)) stands_last
-      ∙ last_where-append (λ x. x.session == session) (standing before.entries) (x ∷ [])
-      ∙ ap (λ b. option_or (cond b (Some x) None) (last_where (λ x. x.session == session) (standing before.entries))) own
+  newest_made = grind (arith, nat_tests, stands_last, last_where-append)
 
   -- nothing stands after it
   no_conflict : find_conflict edited.entries (newest_of before session batch) ≡ None
@@ -54,10 +46,7 @@ module _ (before edited : Ledger) (session : ℕ) (batch : List Edit) (entry : �
       ∙ ap (last_where (λ f. conflicts f.change x.change)) (later_than_rest 1 (standing before.entries) x [] rises)
 
   pub free_at_once : undo_refusal edited session ≡ no_room edited.entries 1
-  free_at_once =
-      undo_refusal-first edited session
-      ∙ ap (λ o. option_or (undo_cause edited.entries o) (no_room edited.entries 1)) newest_made
-      ∙ ap (λ o. option_or (option_map (λ f. Conflict (newest_of before session batch).number f.number) o) (no_room edited.entries 1)) no_conflict
+  free_at_once = grind (arith, undo_refusal-first, newest_made, no_conflict)
 
 pub undone_at_once : (before edited after : Ledger) (session : ℕ) (batch : List Edit) (entry number of : ℕ) → IsSound before.limits before.opening before.entries → Edits before session batch entry edited → TakesBack edited session number of after
     → (of ≡ entry) × (present after ≡ present before)

@@ -1,10 +1,10 @@
 -- An undo of all that a conflict blocks is refused for it.
 use Rattle.std.proofs.Common.{◌≡◌, ℕ, Bool, ◌&&◌, cond, filter, List, [], ◌∷◌, Option, Some, None, refl, sym, ◌∙◌, ap, subst, arith, length, ◌+◌}
-use Rattle.std.specs.Prelude.{◌==◌, IfSome, is_some, nat_le, option_map}
+use Rattle.std.specs.Prelude.{◌==◌, IfSome, is_some, nat_le}
 use Rattle.std.specs.Option.{option_or}
 use Rattle.tsn_edit.proofs.KeyFacts.{by_bool}
 use Rattle.tsn_types.specs.declared.refusals.Refusal.{Refusal}
-use Rattle.tsn_types.specs.declared.refusals.Refusal.TheVariants.{Conflict, JournalFull}
+use Rattle.tsn_types.specs.declared.refusals.Refusal.TheVariants.{JournalFull}
 use Rattle.tsn_types.proofs.Ordered.{AtMost, least-before}
 use Rattle.tsn_journal.specs.declared.entries.Entry.{Entry}
 use Rattle.tsn_journal.specs.Entries.{Applied, most_entries, no_room, standing}
@@ -23,13 +23,8 @@ none_of_both q p (x ∷ xs) none =
     ap (λ o. option_or o (cond (q x && p x) (Some x) None)) (none_of_both q p xs rest)
     ∙ ap (λ b. cond (b && p x) (Some x) None) f)
 
-conflict_most : (n : ℕ) (o : Option Applied) → AtMost 17 (option_map (λ f. Conflict n f.number) o)
-conflict_most n None = tt
-conflict_most n (Some f) = omega arith
-
 others_most : (es : List Entry) (o : Option Applied) → AtMost 17 (conflict_with_others es o)
-others_most es None = tt
-others_most es (Some e) = conflict_most e.number (find_conflict_of_others es e)
+others_most es o = grind arith
 
 blocked_refusal : (b : Ledger) (s : ℕ) (why : Refusal) → conflict_with_others b.entries (find_own_in_conflict b.entries s) ≡ Some why → undo_all_refusal b s ≡ Some why
 blocked_refusal b s why blocked = by_own (own_standing b.entries s) refl
@@ -47,5 +42,4 @@ blocked_refusal b s why blocked = by_own (own_standing b.entries s) refl
         first ∙ ap (λ o. option_or o (no_room b.entries (length (own_standing b.entries s)))) cause
 
 pub blocked_if : (b : Ledger) (s : ℕ) (o : Option Refusal) → o ≡ conflict_with_others b.entries (find_own_in_conflict b.entries s) → IfSome o (λ why. undo_all_refusal b s ≡ Some why)
-blocked_if b s None is = tt
-blocked_if b s (Some why) is = blocked_refusal b s why (sym is)
+blocked_if b s o is = grind (arith, blocked_refusal)

@@ -1,5 +1,5 @@
 -- Taking a closed set of changes out of a good run.
-use Rattle.std.proofs.Common.{◌≡◌, Bool, true, false, cond, not, List, [], ◌∷◌, ◌++◌, refl, sym, ◌∙◌, ap, Option, Some, None, append_assoc}
+use Rattle.std.proofs.Common.{◌≡◌, Bool, true, false, cond, not, List, [], ◌∷◌, ◌++◌, refl, sym, ◌∙◌, ap, Option, append_assoc}
 use Rattle.std.specs.Prelude.{flat_map, IsTrue}
 use Rattle.std.specs.FinMap.{get}
 use Rattle.std.specs.List.{AllByRecursion}
@@ -52,8 +52,7 @@ nothing_apart out [] = tt
 nothing_apart out (x ∷ xs) = (λ _. record { keys = λ k h. refl; after = λ k h. refl; before = λ k h. refl }, nothing_apart out xs)
 
 same_value : (o : Option Part) (v : Option Record) → before_or o v ≡ value_before o v
-same_value None v = refl
-same_value (Some p) v = refl
+same_value o v = (cc)
 
 -- the law
 pub commutation : (l : Limits) (opening : Configuration) (xs : List Applied) (out : Applied → Bool) → IsWellKept l opening → IsGood l opening (changes xs) → IsClosed out xs → Commutes l opening out xs

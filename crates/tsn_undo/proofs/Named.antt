@@ -1,25 +1,24 @@
 -- What a refused undo of all names, and a redo right after an undo.
-use Rattle.std.proofs.Common.{◌≡◌, ℕ, ◌+◌, ◌<◌, Bool, true, false, cond, not, List, [], ◌∷◌, ◌++◌, refl, sym, ◌∙◌, ap, Option, Some, None, arith, length}
-use Rattle.std.specs.Prelude.{◌==◌, ◌&&◌, filter, is_some, nat_lt, nat_le, option_map}
+use Rattle.std.proofs.Common.{◌≡◌, ℕ, ◌+◌, ◌<◌, Bool, true, cond, not, List, [], ◌∷◌, ◌++◌, sym, ◌∙◌, ap, Some, None, arith, length}
+use Rattle.std.specs.Prelude.{◌==◌, ◌&&◌, filter, is_some, nat_lt}
 use Rattle.std.specs.Option.{option_or}
 use Rattle.std.proofs.lemmas.Bool.Decides.{nat_tests}
 use Rattle.std.proofs.lemmas.Bool.{not-true, ltb-true}
 use Rattle.tsn_journal.proofs.Grouping.{first_true}
-use Rattle.tsn_types.specs.declared.refusals.Refusal.TheVariants.{Conflict, JournalFull}
-use Rattle.tsn_types.specs.Limits.{unless}
+use Rattle.tsn_types.specs.declared.refusals.Refusal.TheVariants.{Conflict}
 use Rattle.tsn_edit.specs.Changes.{after_change, conflicts}
 use Rattle.tsn_edit.specs.Parts.{inverse}
 use Rattle.tsn_edit.proofs.Inverses.{taken_back}
-use Rattle.tsn_edit.proofs.KeyFacts.{by_bool, by_option}
+use Rattle.tsn_edit.proofs.KeyFacts.{by_bool}
 use Rattle.tsn_journal.specs.declared.entries.Entry.{Entry}
-use Rattle.tsn_journal.specs.Entries.{Applied, applied, most_entries, no_room, standing, undoes, undone}
+use Rattle.tsn_journal.specs.Entries.{Applied, applied, no_room, standing, undoes, undone}
 use Rattle.tsn_journal.specs.Finding.{find_conflict_of_others, find_own_in_conflict, later_than, may_redo, own_standing, redo_of, standing_entry}
 use Rattle.tsn_journal.proofs.Numbers.{last_where_some}
 use Rattle.tsn_journal.proofs.Standing.{standing_found, standing_placed}
 use Rattle.tsn_undo.specs.Ledger.{Ledger, present}
 use Rattle.tsn_undo.specs.Redo.{Redoes}
 use Rattle.tsn_undo.specs.Steps.{TakesBack}
-use Rattle.tsn_undo.specs.UndoAll.{BlocksAll, conflict_with_others, undo_all_cause, undo_all_refusal}
+use Rattle.tsn_undo.specs.UndoAll.{BlocksAll, undo_all_cause, undo_all_refusal}
 use Rattle.tsn_undo.proofs.Adding.{next}
 use Rattle.tsn_undo.proofs.Making.{SoundLedger, kept_now}
 use Rattle.tsn_undo.proofs.UndoAll.{in_filter, on_right, same_number, undo_all_refusal-first}
@@ -38,10 +37,6 @@ passes_filter p (y ∷ xs) front x rest h = by_bool (p y)
     first later on [] h = let same : y ≡ x = (cc) in ap p (sym same) ∙ on
     first later on (f ∷ front) h = let more : filter p xs ≡ front ++ x ∷ rest = (cc) in later front more
 
-full_is_none : (b : Bool) (own other : ℕ) → unless b JournalFull ≡ Some (Conflict own other) → ⊥
-full_is_none true own other h = (cc)
-full_is_none false own other h = (cc)
-
 -- the refusal's cause is the finders'
 pub record IsNamed (es : List Entry) (s own other : ℕ) : Type 0 where
   pub mine : Applied
@@ -51,19 +46,8 @@ pub record IsNamed (es : List Entry) (s own other : ℕ) : Type 0 where
   pub own_is : mine.number ≡ own
   pub other_is : theirs.number ≡ other
 
-named_by : (es : List Entry) (s own other n : ℕ) (e : Applied) (f : Option Applied) → find_own_in_conflict es s ≡ Some e → find_conflict_of_others es e ≡ f
-    → option_or (option_map (λ (f : Applied). Conflict e.number f.number) f) (no_room es n) ≡ Some (Conflict own other) → IsNamed es s own other
-named_by es s own other n e None mine theirs h = absurd (full_is_none (nat_le (length es + n) most_entries) own other h)
-named_by es s own other n e (Some f) mine theirs h =
-    let first : e.number ≡ own = (cc) in
-    let second : f.number ≡ other = (cc) in
-    record { mine = e; theirs = f; mine_is = mine; theirs_is = theirs; own_is = first; other_is = second }
-
 named_from : (es : List Entry) (s own other n : ℕ) (xs : List Applied) → option_or (undo_all_cause es s xs) (no_room es n) ≡ Some (Conflict own other) → IsNamed es s own other
-named_from es s own other n [] h = (cc)
-named_from es s own other n (x ∷ xs) h = by_option (find_own_in_conflict es s)
-    (λ none. absurd (full_is_none (nat_le (length es + n) most_entries) own other (sym (ap (λ o. option_or (conflict_with_others es o) (no_room es n)) none) ∙ h)))
-    (λ e some. named_by es s own other n e (find_conflict_of_others es e) some refl (sym (ap (λ o. option_or (conflict_with_others es o) (no_room es n)) some) ∙ h))
+named_from es s own other n xs h = grind arith
 
 pub names_conflict : (b : Ledger) (s own other : ℕ) → SoundLedger b → undo_all_refusal b s ≡ Some (Conflict own other) → BlocksAll b.entries s own other
 names_conflict b s own other sound h =

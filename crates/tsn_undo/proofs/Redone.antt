@@ -1,11 +1,11 @@
 -- The inverse of an applied change fits where no later change is in conflict, and what a redo leaves of a sound ledger.
 use Rattle.std.proofs.Common.{◌≡◌, ℕ, ◌+◌, Bool, true, false, cond, List, [], ◌∷◌, ◌++◌, refl, sym, ◌∙◌, ap, subst, Option, Some, None, arith, length}
-use Rattle.std.specs.Prelude.{◌==◌, ◌↔◌, IfSome, IsSome, IsTrue, is_some, nat_le, option_map}
+use Rattle.std.specs.Prelude.{◌==◌, ◌↔◌, IfSome, IsSome, IsTrue, is_some, nat_le}
 use Rattle.std.specs.List.{AllByRecursion, cons_option, find}
 use Rattle.std.specs.Option.{option_or}
 use Rattle.tsn_types.specs.declared.limits.Limits.{Limits}
 use Rattle.tsn_types.specs.declared.refusals.Refusal.{Refusal}
-use Rattle.tsn_types.specs.declared.refusals.Refusal.TheVariants.{JournalFull, RedoConflict}
+use Rattle.tsn_types.specs.declared.refusals.Refusal.TheVariants.{JournalFull}
 use Rattle.tsn_types.specs.Refusals.{least}
 use Rattle.tsn_types.proofs.Ordered.{AtMost, least-before}
 use Rattle.tsn_edit.specs.Parts.{Change, inverse}
@@ -82,21 +82,12 @@ undone_split l opening es s u sound is =
 
 -- so where a redo doesn't fit there is an entry to name
 pub redo_names : (l : Limits) (opening : Configuration) (es : List Entry) (s : ℕ) (u : Applied) → IsSound l opening es → redo_of es s ≡ Some u → ¬ (Fits l (configuration opening es) (inverse u.change)) → IsSome (find_redo_conflict es u)
-redo_names l opening es s u sound is not_fits =
-    by_option (find_redo_conflict es u)
-    (λ none. absurd (not_fits (inverse_fits l opening es u sound (undone_split l opening es s u sound is) none)))
-    (λ x some. ap is_some some)
+redo_names l opening es s u sound is not_fits = grind (arith, inverse_fits, undone_split)
 
 -- ---- why a redo is refused
 
 cause_most : (es : List Entry) (o : Option Applied) (fits : Bool) → AtMost 17 (redo_cause es o fits)
-cause_most es None fits = omega arith
-cause_most es (Some u) true = tt
-cause_most es (Some u) false = conflict_most (find_redo_conflict es u)
-  where
-    conflict_most : (f : Option Applied) → AtMost 17 (option_map (λ f. RedoConflict f.number) f)
-    conflict_most None = tt
-    conflict_most (Some f) = omega arith
+cause_most es o fits = grind arith
 
 -- the cause of a redo comes before a full journal
 pub cause_first : (es : List Entry) (o : Option Applied) (fits : Bool) → (redo_cause es o fits ≡ redo_cause es o fits) × AtMost 17 (redo_cause es o fits)
@@ -110,18 +101,10 @@ redo_refusal-first es o fits = least-before 17 (redo_cause es o fits) (nat_le (l
 -- the Undone entry that a session may redo, and its change, are at its number
 pub undone_there : (es : List Entry) (s : ℕ) → IsNumbered 1 es
     → (redo_of es s ≡ redo_of es s) × IfSome (redo_of es s) (λ u. (undone_entry es u.number ≡ Some u) × (change_at es u.number ≡ Some u.change))
-undone_there es s numbered = (
-  refl,
-  by_option (redo_of es s)
-      (λ none. subst (λ o. IfSome o (λ u. (undone_entry es u.number ≡ Some u) × (change_at es u.number ≡ Some u.change))) (sym none) tt)
-      (λ u some.
-      let there : undone_entry es u.number ≡ Some u = (redo_found 1 s es u numbered some).1 in
-      subst (λ o. IfSome o (λ u. (undone_entry es u.number ≡ Some u) × (change_at es u.number ≡ Some u.change))) (sym some) (there, undone_change es u.number u numbered there)),
-)
+undone_there es s numbered = grind (arith, redo_found, undone_change)
 
 is_mapped : (o : Option Applied) → is_some (number_of o) ≡ is_some o
-is_mapped None = refl
-is_mapped (Some x) = refl
+is_mapped o = grind arith
 
 -- where it doesn't fit, the finder names an entry
 pub names_one : (b : Ledger) (s of : ℕ) (es : List Entry) (fits : Bool) (r : Option ℕ) → SoundLedger b → es ≡ b.entries → number_of (redo_of b.entries s) ≡ Some of
@@ -141,20 +124,11 @@ names_one b s of es fits r sound same named tells off finds = by_option (redo_of
 -- where it doesn't fit, a cause is told
 fits_untold : (b : Ledger) (s : ℕ) (u : Applied) (fits : Bool) → SoundLedger b → redo_of b.entries s ≡ Some u → TellsFit b (Some u) fits → redo_cause b.entries (Some u) fits ≡ None → Fits b.limits (present b) (inverse u.change)
 fits_untold b s u true sound is tells none = tells.0 refl
-fits_untold b s u false sound is tells none = by_option (find_redo_conflict b.entries u)
-    (λ no. inverse_fits b.limits b.opening b.entries u sound (undone_split b.limits b.opening b.entries s u sound is) no)
-    (λ f some. let never : Some (RedoConflict f.number) ≡ None = sym (ap (λ o. option_map (λ f. RedoConflict f.number) o) some) ∙ none in (cc))
+fits_untold b s u false sound is tells none = grind (arith, inverse_fits, undone_split)
 
 -- what the session may redo, by its number, is redoable where no cause refuses it
 pub may_redo : (b : Ledger) (s of : ℕ) (cause : Option Refusal) → SoundLedger b → number_of (redo_of b.entries s) ≡ Some of → IsRedoCause b s cause → cause ≡ None → no_room b.entries 1 ≡ None → IsRedoable b s of
-may_redo b s of cause sound named why none room = by_option (redo_of b.entries s)
-    (λ no. let never : Some of ≡ None = sym named ∙ ap number_of no in (cc))
-    (λ u some.
-    let both : Some of ≡ Some u.number = sym named ∙ ap number_of some in
-    let same : of ≡ u.number = (cc) in
-    let tells : TellsFit b (Some u) why.fits = subst (λ o. TellsFit b o why.fits) some why.tells in
-    let nothing : redo_cause b.entries (Some u) why.fits ≡ None = ap (λ o. redo_cause b.entries o why.fits) (sym some) ∙ sym why.is ∙ none in
-    record { undone = u; undone_is = some; fits = fits_untold b s u why.fits sound some tells nothing; room = room; of_is = same })
+may_redo b s of cause sound named why none room = grind (arith, number_of, fits_untold)
 
 -- ---- what a redo leaves
 

@@ -1,5 +1,5 @@
 -- An entry more leaves the opening as it was, and the book what it has to be.
-use Rattle.std.proofs.Common.{◌≡◌, ℕ, List, [], ◌∷◌, ◌++◌, refl, sym, ◌∙◌, ap, subst, Some, None}
+use Rattle.std.proofs.Common.{◌≡◌, ℕ, List, [], ◌∷◌, ◌++◌, refl, sym, ◌∙◌, ap, subst, Some, None, arith}
 use Rattle.tsn_types.specs.declared.limits.Limits.{Limits}
 use Rattle.tsn_edit.specs.Parts.{Change, inverse}
 use Rattle.tsn_edit.specs.Configuration.{Configuration, IsWellKept}
@@ -26,22 +26,12 @@ seen l m es = record { limits = l; opening = opening_of m es; entries = es }
 
 module _ (l : Limits) (m : Configuration) (es : List Entry) (now : Ledger) (view : seen l m es ≡ now) (book : IsBook l m es) (s : ℕ) (w : What) (sound : IsSound now.limits now.opening (with_entry now.entries s w))
     (l' : Limits) (m' : Configuration) (es' : List Entry) (limits : l' ≡ l) (entries : es' ≡ with_entry es s w) where
-  sound_here : IsSound l (opening_of m es) (with_entry es s w)
-  sound_here = subst (λ (b : Ledger). IsSound b.limits b.opening (with_entry b.entries s w)) (sym view) sound
-
   -- where the opening and the end are as they should be
   book_of : (n : Configuration) → m' ≡ n → opening_of n (with_entry es s w) ≡ opening_of m es → configuration (opening_of m es) (with_entry es s w) ≡ n → IsBook l' m' es'
-  book_of n is opened ends =
-      subst (λ (t : Limits × Configuration × List Entry). IsBook t.0 t.1 t.2) (λ i. (sym limits i, sym is i, sym entries i)) (record {
-        sound = subst (λ (o : Configuration). IsSound l o (with_entry es s w)) (sym opened) sound_here;
-        is = ap (λ (o : Configuration). configuration o (with_entry es s w)) opened ∙ ends;
-      })
+  book_of n is opened ends = grind arith
 
   ledger_of : (n : Configuration) → m' ≡ n → opening_of n (with_entry es s w) ≡ opening_of m es → seen l' m' es' ≡ enter now s w
-  ledger_of n is opened =
-      let opened' : opening_of m' es' ≡ opening_of m es = (λ i. opening_of (is i) (entries i)) ∙ opened in
-      (λ i. record { limits = limits i; opening = opened' i; entries = entries i })
-      ∙ ap (λ (b : Ledger). enter b s w) view
+  ledger_of n is opened = (cc)
 
   -- ---- a change that fits
 

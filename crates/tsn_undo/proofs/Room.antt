@@ -1,18 +1,12 @@
 -- The room that taking back several entries takes.
-use Rattle.std.proofs.Common.{◌≡◌, ℕ, ◌+◌, ◌++◌, ◌<◌, ◌≤◌, true, false, cond, List, [], ◌∷◌, ◌∙◌, Option, Some, None, ap, refl, sym, add_assoc, arith, get_or, length, take}
-use Rattle.std.specs.Prelude.{nat_lt}
+use Rattle.std.proofs.Common.{◌≡◌, ℕ, ◌+◌, ◌++◌, ◌<◌, ◌≤◌, List, [], ◌∷◌, ◌∙◌, None, ap, refl, sym, add_assoc, arith, get_or, length, take}
 use Rattle.std.proofs.lemmas.List.{take_more}
-use Rattle.std.proofs.lemmas.Bool.{leb-true}
-use Rattle.tsn_types.proofs.Causes.{unless-None}
 use Rattle.tsn_edit.specs.Changes.{room_of}
-use Rattle.tsn_types.specs.declared.refusals.Refusal.{Refusal}
-use Rattle.tsn_types.specs.declared.refusals.Refusal.TheVariants.{JournalFull}
-use Rattle.tsn_types.specs.Refusals.{least, rank_of}
-use Rattle.tsn_journal.specs.Entries.{most_entries, no_room}
+use Rattle.tsn_journal.specs.Entries.{most_entries}
 use Rattle.tsn_journal.specs.Finding.{own_standing}
 use Rattle.tsn_undo.specs.Ledger.{Ledger}
 use Rattle.tsn_undo.specs.declared.book.TakingBack.{TakingBack}
-use Rattle.tsn_undo.specs.UndoAll.{room_left, undo_all_cause, undo_all_refusal}
+use Rattle.tsn_undo.specs.UndoAll.{room_left, undo_all_refusal}
 
 pub room_left-last : (xs : List TakingBack) (x : TakingBack) → room_left (xs ++ x ∷ []) ≡ room_left xs + room_of x.applied
 room_left-last [] x = omega arith
@@ -28,11 +22,5 @@ room_left-more xs i x short is = ap room_left (take_more xs i x short) ∙ room_
 
 -- ---- the room that a journal has where an undo of all is not refused
 
-least_none : (o p : Option Refusal) → least (o ∷ p ∷ []) ≡ None → p ≡ None
-least_none o None h = refl
-least_none None (Some b) h = h
-least_none (Some a) (Some b) h = elim (nat_lt (rank_of b) (rank_of a)) as (λ t. cond t (Some b) (Some a) ≡ None → Some b ≡ None) [ true ↦ λ none. none | false ↦ λ none. (cc) ] h
-
 pub few_own : (b : Ledger) (s : ℕ) → undo_all_refusal b s ≡ None → length b.entries + length (own_standing b.entries s) ≤ most_entries
-few_own b s free =
-    leb-true _ _ (unless-None _ JournalFull (least_none (undo_all_cause b.entries s (own_standing b.entries s)) (no_room b.entries (length (own_standing b.entries s))) free))
+few_own b s free = grind arith

@@ -1,6 +1,7 @@
 -- Taking back a session's standing entries, newest first.
 use Rattle.std.proofs.Common.{◌≡◌, ℕ, ◌+◌, Bool, true, false, cond, not, List, [], ◌∷◌, ◌++◌, refl, sym, ◌∙◌, ap, subst, Option, Some, None, arith, length, append_assoc, length-append, map, take, drop, ◌<◌, zero, suc, slice_index_or}
-use Rattle.std.specs.Prelude.{◌==◌, ◌&&◌, IsTrue, filter, is_some, nat_le, option_map}
+use Rattle.std.proofs.lemmas.Grind.{common_steps}
+use Rattle.std.specs.Prelude.{◌==◌, ◌&&◌, IsTrue, filter, is_some, option_map}
 use Rattle.std.specs.List.{AllByRecursion}
 use Rattle.std.specs.Option.{option_or}
 use Rattle.std.proofs.lemmas.Bool.Decides.{nat_tests}
@@ -8,8 +9,7 @@ use Rattle.std.proofs.lemmas.List.Elements.{filter-append}
 use Rattle.std.proofs.lemmas.List.{take-append-drop, same_from_push}
 use Rattle.tsn_config.proofs.Among.{each_both}
 use Rattle.tsn_types.specs.declared.limits.Limits.{Limits}
-use Rattle.tsn_types.specs.declared.refusals.Refusal.TheVariants.{Conflict, JournalFull}
-use Rattle.tsn_types.proofs.Ordered.{AtMost, least-before}
+use Rattle.tsn_types.specs.declared.refusals.Refusal.TheVariants.{Conflict}
 use Rattle.tsn_edit.specs.Parts.{Change}
 use Rattle.tsn_edit.specs.Configuration.{Configuration}
 use Rattle.tsn_edit.specs.Changes.{Fits, conflicts}
@@ -18,7 +18,7 @@ use Rattle.tsn_edit.proofs.KeyFacts.{by_bool, by_option}
 use Rattle.tsn_journal.specs.declared.entries.Entry.{Entry}
 use Rattle.tsn_journal.specs.declared.entries.What.{What}
 use Rattle.tsn_journal.specs.declared.entries.What.TheVariants.{Undone}
-use Rattle.tsn_journal.specs.Entries.{Applied, IsNumbered, changes, most_entries, no_room, standing, undone, with_entry}
+use Rattle.tsn_journal.specs.Entries.{Applied, IsNumbered, changes, no_room, standing, undone, with_entry}
 use Rattle.tsn_journal.specs.Finding.{change_at, find_conflict, find_conflict_of_others, find_own_in_conflict, last_of, last_where, later_than, others_standing, own_standing}
 use Rattle.tsn_journal.proofs.Numbers.{Rises, append_nil, each_weaker, filter_none, last_where_none, last_where_some, later_than_rest, left_one, rises_standing}
 use Rattle.tsn_journal.proofs.Standing.{standing_change, standing_placed}
@@ -46,19 +46,16 @@ without x xs = filter (λ y. not (x.number == y.number)) xs
 -- ---- where no own entry is in conflict with a later one of another session, the own entries are closed
 
 and_off : (a b : Bool) → a ≡ true → (a && b) ≡ false → b ≡ false
-and_off true b p h = h
-and_off false b p h = (cc)
+and_off a b p h = (cc)
 
 not_both : (a b : Bool) → (not a && b) ≡ false → b ≡ true → a ≡ true
-not_both true b h p = refl
-not_both false b h p = (cc)
+not_both a b h p = grind arith
 
 pub same_number : (a b : ℕ) → (a == b) ≡ true → a ≡ b
 same_number a b h = grind (arith, nat_tests)
 
 none_of : {A : Type 0} (o : Option A) → is_some o ≡ false → o ≡ None
-none_of None h = refl
-none_of (Some x) h = (cc)
+none_of o h = grind arith
 
 closed_from : (es : List Entry) (s : ℕ) (front xs : List Applied) → IsNumbered 1 es → standing es ≡ front ++ xs → AllByRecursion (λ x. (own s x && is_some (find_conflict_of_others es x)) ≡ false) xs → IsClosed (own s) xs
 closed_from es s front [] numbered is h = tt
@@ -87,16 +84,11 @@ closed_at out (y ∷ front) x rest c h = closed_at out front x rest c.1 h
 
 each_filter : (P : Applied → Type 0) (p : Applied → Bool) (xs : List Applied) → AllByRecursion P xs → AllByRecursion P (filter p xs)
 each_filter P p [] h = tt
-each_filter P p (x ∷ xs) h =
-    elim (p x) as (λ b. AllByRecursion P (cond b (x ∷ filter p xs) (filter p xs))) [ true ↦ (h.0, each_filter P p xs h.1) | false ↦ each_filter P p xs h.1 ]
+each_filter P p (x ∷ xs) h = grind (arith, (each_filter P p xs h.1))
 
 closed_filter : (out p : Applied → Bool) (xs : List Applied) → IsClosed out xs → IsClosed out (filter p xs)
 closed_filter out p [] c = tt
-closed_filter out p (x ∷ xs) c =
-    elim (p x) as (λ b. IsClosed out (cond b (x ∷ filter p xs) (filter p xs))) [
-      | true ↦ (λ h. each_filter (λ y. IsTrue (conflicts y.change x.change) → IsTrue (out y)) p xs (c.0 h), closed_filter out p xs c.1)
-      | false ↦ closed_filter out p xs c.1
-    ]
+closed_filter out p (x ∷ xs) c = grind (arith, each_filter, (closed_filter out p xs c.1))
 
 nowhere : (test : Applied → Bool) (xs : List Applied) → AllByRecursion (λ y. test y ≡ false) xs → last_where test xs ≡ None
 nowhere test [] h = refl
@@ -159,8 +151,7 @@ newest_own : (es : List Entry) (s : ℕ) (xs : List Applied) (x : Applied) → o
 newest_own es s xs x is y next = same_from_push xs (filter (own s) (without y (standing es))) x y (sym is ∙ next.mine)
 
 no_end : {A : Type 0} (xs : List A) (x : A) → xs ++ x ∷ [] ≡ [] → ⊥
-no_end [] x h = (cc)
-no_end (y ∷ xs) x h = (cc)
+no_end xs x h = grind (arith, common_steps)
 
 pub next_taken : (l : Limits) (opening : Configuration) (es : List Entry) (s : ℕ) (xs : List Applied) (x : Applied) (ys : List Applied) → IsTaken l opening es s (xs ++ x ∷ []) ys → IsNextTaken l opening es s xs x ys
 next_taken l opening es s xs x ys t =
@@ -193,28 +184,13 @@ taken_to l opening es s xs (y ∷ ys) t =
 -- ---- why an undo of all is refused
 
 pub undo_all_refusal-first : (b : Ledger) (s : ℕ) → undo_all_refusal b s ≡ option_or (undo_all_cause b.entries s (own_standing b.entries s)) (no_room b.entries (length (own_standing b.entries s)))
-undo_all_refusal-first b s =
-    least-before 17 (undo_all_cause b.entries s (own_standing b.entries s)) (nat_le (length b.entries + length (own_standing b.entries s)) most_entries) JournalFull (cause_most (own_standing b.entries s)) (omega arith)
-  where
-    conflict_most : (n : ℕ) (f : Option Applied) → AtMost 17 (option_map (λ f. Conflict n f.number) f)
-    conflict_most n None = tt
-    conflict_most n (Some f) = omega arith
-
-    with_others_most : (o : Option Applied) → AtMost 17 (conflict_with_others b.entries o)
-    with_others_most None = tt
-    with_others_most (Some e) = conflict_most e.number (find_conflict_of_others b.entries e)
-
-    cause_most : (xs : List Applied) → AtMost 17 (undo_all_cause b.entries s xs)
-    cause_most [] = omega arith
-    cause_most (x ∷ xs) = with_others_most (find_own_in_conflict b.entries s)
+undo_all_refusal-first b s = grind arith
 
 -- ---- what an undo of all leaves
 
 pub length-taken : (es : List Entry) (s : ℕ) (xs : List Applied) → length (with_undone es s xs) ≡ length es + length xs
 length-taken es s [] = omega arith
-length-taken es s (x ∷ xs) =
-    let one : Entry = record { number = length (with_undone es s xs) + 1; session = s; what = undone x } in
-    omega (arith, length-taken es s xs, length-append (with_undone es s xs) (one ∷ []))
+length-taken es s (x ∷ xs) = grind (arith, length-append, (length-taken es s xs))
 
 -- what an undo of all needs: no own entry is in conflict with a later one of another session, and there is room for all
 pub record IsFreeOfAll (b : Ledger) (s : ℕ) : Type 0 where
@@ -222,12 +198,10 @@ pub record IsFreeOfAll (b : Ledger) (s : ℕ) : Type 0 where
   pub room : no_room b.entries (length (own_standing b.entries s)) ≡ None
 
 some_named : (n : ℕ) (o : Option Applied) → is_some o ≡ true → option_map (λ (f : Applied). Conflict n f.number) o ≡ None → ⊥
-some_named n None h none = (cc)
-some_named n (Some f) h none = (cc)
+some_named n o h none = grind arith
 
 pub on_right : (a b : Bool) → (a && b) ≡ true → b ≡ true
-on_right true b h = h
-on_right false b h = (cc)
+on_right a b h = grind arith
 
 no_own_conflict : (es : List Entry) (s : ℕ) → conflict_with_others es (find_own_in_conflict es s) ≡ None → find_own_in_conflict es s ≡ None
 no_own_conflict es s free = by_option (find_own_in_conflict es s)
@@ -237,13 +211,10 @@ no_own_conflict es s free = by_option (find_own_in_conflict es s)
     absurd (some_named e.number (find_conflict_of_others es e) (on_right (e.session == s) _ found.passes) (sym (ap (conflict_with_others es) some) ∙ free)))
 
 cause_none : (es : List Entry) (s : ℕ) (xs : List Applied) → undo_all_cause es s xs ≡ None → find_own_in_conflict es s ≡ None
-cause_none es s [] h = (cc)
-cause_none es s (x ∷ xs) h = no_own_conflict es s h
+cause_none es s xs h = grind (arith, no_own_conflict)
 
 pub free_of_all : (b : Ledger) (s : ℕ) → undo_all_refusal b s ≡ None → IsFreeOfAll b s
-free_of_all b s free =
-    let both = or_none _ _ (sym (undo_all_refusal-first b s) ∙ free) in
-    record { none = cause_none b.entries s (own_standing b.entries s) both.0; room = both.1 }
+free_of_all b s free = grind (arith, or_none, undo_all_refusal-first, cause_none)
 
 filter_both : (s : ℕ) (xs : List Applied) → filter (own s) xs ≡ [] → filter (others s) xs ≡ xs
 filter_both s [] h = refl

@@ -1,4 +1,4 @@
-use Rattle.std.proofs.Common.{◌+◌, sym, ◌∙◌, ap, drop, map}
+use Rattle.std.proofs.Common.{sym, ◌∙◌, ap, map, arith}
 use Rattle.std.proofs.Math.ListN.{drop_of_length-le}
 use Rattle.tsn_types.specs.Refusals.{least, lesser}
 use Rattle.tsn_edit.proofs.Ordered.{batch_refusal-first, own_cause}
@@ -7,17 +7,7 @@ use Rattle.tsn_config.proofs.Suffixes.{next_left}
 use Rattle.tsn_config.proofs.Config.check.Goals as goal
 
 pub loop-edit-preserved : goal.loop-edit-preserved
-loop-edit-preserved c =
-    let now = c.args.self.now in
-    let es = c.edits-edits.result.now in
-    let i = c.loop-edit.edit-index in
-    let e = c.edit-item.result in
-    let so_far = c.loop-edit.least in
-    let left = map (λ e. own_cause now.limits now.map es e) (drop (i + 1) es) in
-    ap (λ o. lesser o (least left)) (c.lesser-least.ensures ∙ ap (lesser so_far) c.refuse_edit.ensures)
-    ∙ one_more so_far (own_cause now.limits now.map es e) left
-    ∙ sym (ap (λ xs. lesser so_far (least (map (λ e. own_cause now.limits now.map es e) xs))) (next_left es i e c.loop-edit-test.true c.edit-item.is))
-    ∙ c.loop-edit.invariant
+loop-edit-preserved c = grind (arith, own_cause, one_more, next_left)
 
 pub returns : goal.returns
 returns c =

@@ -1,11 +1,6 @@
-use Rattle.std.proofs.Common.{◌∙◌, subst}
-use Rattle.std.specs.Bool.{Decides}
-use Rattle.tsn_edit.specs.Changes.{Fits}
-use Rattle.tsn_edit.specs.Parts.{Change}
+use Rattle.std.proofs.Common.{arith}
 use Rattle.tsn_config.proofs.Suffixes.{turned_forth}
 use Rattle.tsn_config.proofs.Config.fits.Goals as goal
 
 pub returns-in_default : goal.returns-in_default
-returns-in_default c =
-    let now = c.args.self.now in
-    subst (λ (e : Change). Decides c.fit_together.result (Fits now.limits now.map e)) (turned_forth c.parts.result.now ∙ c.parts.ensures.parts) c.fit_together.ensures
+returns-in_default c = grind (arith, turned_forth)

@@ -1,4 +1,4 @@
-use Rattle.std.proofs.Common.{subst}
+use Rattle.std.proofs.Common.{subst, arith}
 use Rattle.tsn_edit.specs.Batches.{change_of}
 use Rattle.tsn_edit.specs.Configuration.{IsWellKept}
 use Rattle.tsn_config.specs.Views.{ConfigView}
@@ -7,10 +7,7 @@ use Rattle.tsn_config.proofs.Batches.{batch_fits}
 use Rattle.tsn_config.proofs.Config.tell_fits.Goals as goal
 
 pub returns-clause-fits : goal.returns-clause-fits
-returns-clause-fits c =
-    let now = c.args.self.now in
-    let kept : IsWellKept now.limits now.map = subst (λ (s : ConfigView). IsWellKept s.limits s.map) c.self.view_is c.self.invariant in
-    batch_fits now.limits now.map kept c.args.batch.now c.tell_ranges.ensures.batch c.tell_ranges.ensures.ranges c.requires
+returns-clause-fits c = grind (arith, batch_fits)
 
 pub returns-clause-kinds : goal.returns-clause-kinds
 returns-clause-kinds c =

@@ -1,4 +1,4 @@
-use Rattle.std.proofs.Common.{◌+◌, ◌<◌, ◌≤◌, ◌⊎◌, inl, inr, refl, sym, ◌∙◌, true, false, arith, length}
+use Rattle.std.proofs.Common.{sym, ◌∙◌, true, false, arith}
 use Rattle.tsn_journal.proofs.Marking.{all_stay, out_of_reach, set_at}
 use Rattle.tsn_journal.proofs.finding.put_off_one.Goals as goal
 
@@ -6,10 +6,7 @@ pub returns-in_default : goal.returns-in_default
 returns-in_default c = sym (all_stay c.args.what.now c.args.marked.now c.requires.no_settle (sym c.names.ensures ∙ c.in_default.is))
 
 pub returns-in_default-place_of : goal.returns-in_default-place_of
-returns-in_default-place_of c =
-    let out : (c.in-Some.of < 1) ⊎ (1 + length c.args.marked.now ≤ c.in-Some.of) =
-    elim (c.in_default-place_of.ensures.none refl) [ inl zero' ↦ inl (omega arith) | inr above ↦ inr (omega arith) ] in
-    sym (out_of_reach 1 c.in-Some.of c.args.what.now c.args.marked.now (sym c.names.ensures ∙ c.in-Some.is) c.requires.numbered out)
+returns-in_default-place_of c = grind (arith, out_of_reach)
 
 pub returns-then-closes : goal.returns-then-closes
 returns-then-closes c =

@@ -1,8 +1,8 @@
-use Rattle.std.proofs.Common.{◌≡◌, ◌+◌, Bool, ◌∷◌, [], ◌++◌, cond, refl, sym, ◌∙◌, ap, arith, filter, length, take}
+use Rattle.std.proofs.Common.{◌≡◌, ◌+◌, Bool, ◌∷◌, [], ◌++◌, cond, refl, sym, ◌∙◌, arith, filter, take}
 use Rattle.tsn_journal.specs.declared.entries.MarkedEntry.{MarkedEntry}
 use Rattle.tsn_journal.specs.declared.groups.Group.TheVariants.{Of}
 use Rattle.tsn_journal.specs.Index.{belongs}
-use Rattle.tsn_journal.specs.Marks.{IsTally, added_in}
+use Rattle.tsn_journal.specs.Marks.{IsTally}
 use Rattle.tsn_journal.proofs.Walking.{both_told, one_told, none_told, taken_more}
 use Rattle.tsn_journal.proofs.index.tally_own.Goals as goal
 use Rattle.tsn_journal.proofs.index.tally_own.Goals.{then-is_own, else-is_own}
@@ -19,16 +19,8 @@ loop-entry-preserved c =
       | then-is_own w ↦
           let here = both_told c.loop-entry.entries c.loop-entry.parts _ _ (filter t (take i xs)) _ c.loop-entry.invariant.tally
           (one_told 0 0 [] (t x) x w.added_parts-parts.result none (sym c.is_own.ensures ∙ w.if-is_own.true) w.added_parts-parts.ensures.parts) in
-          record {
-            tally = record { count = omega (arith, w.entries-is, here.count, ap length more); added = omega (arith, w.parts-is, here.added, ap added_in more) };
-            few = omega (arith, w.entries-is, c.loop-entry.invariant.few);
-            few_parts = omega (arith, w.parts-is, c.loop-entry.invariant.few_parts, w.added_parts-parts.ensures.few);
-          }
+          grind arith
       | else-is_own w ↦
           let here = both_told c.loop-entry.entries c.loop-entry.parts _ _ (filter t (take i xs)) _ c.loop-entry.invariant.tally (none_told 0 0 [] (t x) x none (sym c.is_own.ensures ∙ w.if-is_own.false)) in
-          record {
-            tally = record { count = omega (arith, w.entries-is, here.count, ap length more); added = omega (arith, w.parts-is, here.added, ap added_in more) };
-            few = omega (arith, w.entries-is, c.loop-entry.invariant.few);
-            few_parts = omega (arith, w.parts-is, c.loop-entry.invariant.few_parts);
-          }
+          grind arith
     ]

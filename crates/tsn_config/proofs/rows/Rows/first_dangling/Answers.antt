@@ -1,25 +1,16 @@
-use Rattle.std.proofs.Common.{sym, ◌∙◌, ap, rules}
+use Rattle.std.proofs.Common.{sym, ◌∙◌, ap, rules, arith}
 use Rattle.std.specs.Prelude.{is_some}
 use Rattle.std.specs.Option.{option_copied}
 use Rattle.std.specs.Ordering.{nat_cmp}
 use Rattle.std.specs.FinMap.{FinMap, entries}
 use Rattle.tsn_types.specs.declared.records.StreamFilter.{StreamFilter}
-use Rattle.tsn_types.specs.declared.records.Record.TheVariants.{Filter as FilterRecord}
 use Rattle.tsn_table.specs.Firsts.{first_id}
-use Rattle.tsn_edit.specs.Edits.{dangling}
-use Rattle.tsn_config.specs.Opening.{dangling_cause}
 use Rattle.tsn_config.specs.Views.{RowsView}
 use Rattle.tsn_config.proofs.Dangling.{dangles, dangling_cause-none, dangling_cause-first, first_there}
 use Rattle.tsn_config.proofs.rows.Rows.first_dangling.Goals as goal
 
 pub returns-in_err-number : goal.returns-in_err-number
-returns-in_err-number c =
-    let i = c.self.inside in
-    let first = c.first_where.ensures (dangles c.args.self.now.map) (λ x b h. search rules) ∙ ap (λ (fs : FinMap nat_cmp StreamFilter). first_id (dangles c.args.self.now.map) (entries fs)) c.rows.ensures in
-    c.from_residual.ensures
-    ∙ sym (ap (λ (s : RowsView). dangling_cause s.map) (sym c.self.view_is)
-    ∙ dangling_cause-none i.ports.map i.filters.map i.gates.map i.meters.map
-    (ap (λ (s : RowsView). first_id (dangles s.map) (entries i.filters.map)) c.self.view_is ∙ sym first ∙ c.in_err-number.was))
+returns-in_err-number c = grind (arith, dangles, dangling_cause-none)
 
 pub returns-in_err-filter : goal.returns-in_err-filter
 returns-in_err-filter c =
@@ -32,13 +23,4 @@ returns-in_err-filter c =
     let never = sym there ∙ ap is_some none in (cc)
 
 pub returns : goal.returns
-returns c =
-    let i = c.self.inside in
-    let first = c.first_where.ensures (dangles c.args.self.now.map) (λ x b h. search rules) ∙ ap (λ (fs : FinMap nat_cmp StreamFilter). first_id (dangles c.args.self.now.map) (entries fs)) c.rows.ensures in
-    let r = c.in_ok-filter.filter.now in
-    c.dangling_filter.ensures
-    ∙ sym (ap (λ (s : RowsView). dangling_cause s.map) (sym c.self.view_is)
-    ∙ dangling_cause-first i.ports.map i.filters.map i.gates.map i.meters.map c.in_ok-number.number r
-    (ap (λ (s : RowsView). first_id (dangles s.map) (entries i.filters.map)) c.self.view_is ∙ sym first ∙ c.in_ok-number.was)
-    (sym c.get.ensures ∙ ap option_copied c.in_ok-filter.was)
-    ∙ ap (λ (s : RowsView). dangling s.map (FilterRecord r)) c.self.view_is)
+returns c = grind (arith, dangles, dangling_cause-first)

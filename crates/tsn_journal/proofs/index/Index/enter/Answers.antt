@@ -1,11 +1,6 @@
-use Rattle.std.proofs.Common.{◌≡◌, ◌∷◌, [], true, false, sym, subst, ◌∙◌, ap, length}
-use Rattle.std.proofs.lemmas.Option.{same_Some}
-use Rattle.tsn_journal.specs.declared.entries.MarkedEntry.{MarkedEntry}
-use Rattle.tsn_journal.specs.declared.groups.Group.TheVariants.{Of, EndsRedo}
+use Rattle.std.proofs.Common.{◌≡◌, [], sym, subst, ◌∙◌, ap, length, arith}
 use Rattle.tsn_journal.specs.Entries.{added_parts}
-use Rattle.tsn_journal.specs.Index.{HasRoom, TakesRoom, group_if, places_for}
-use Rattle.tsn_journal.proofs.Grouping.{covers_undone}
-use Rattle.tsn_journal.proofs.Indexing.{pending_newest}
+use Rattle.tsn_journal.specs.Index.{HasRoom, TakesRoom, places_for}
 use Rattle.tsn_journal.proofs.Keeping.{indexed_same}
 use Rattle.tsn_journal.proofs.index.Index.enter.Goals as goal
 
@@ -13,11 +8,7 @@ pub returns-in-Undone-clause-index : goal.returns-in-Undone-clause-index
 returns-in-Undone-clause-index c =
     indexed_same c.args.marked.now c.enter_session.new.self c.touch_parts.new.self (λ i. (c.touch_parts.ensures.kept.places i).items) c.touch_parts.ensures.kept.latest
     (c.enter_session.ensures.index []
-    (pending_newest c.args.marked.now (group_if false (Of c.numbered.result.now.entry.session) ∷ group_if true (EndsRedo c.numbered.result.now.entry.session) ∷ []) c.args.self.now
-    (λ m at g belong.
-    let one : c.numbered.result.now ≡ m = same_Some _ _ (sym c.numbered.ensures ∙ at) in
-    covers_undone m c.numbered.result.now.entry.session _ _ (ap (λ (x : MarkedEntry). x.entry.session) (sym one)) (ap (λ (x : MarkedEntry). x.entry.what) (sym one) ∙ c.in-Undone.is) g belong)
-    c.requires.index))
+    (grind arith))
 
 pub enter_change-requires-clause-room : goal.enter_change-requires-clause-room
 enter_change-requires-clause-room c =

@@ -1,7 +1,7 @@
-use Rattle.std.proofs.Common.{◌≡◌, ◌+◌, ◌≤◌, sym, ◌∙◌, ap, subst, arith, length, map}
+use Rattle.std.proofs.Common.{◌+◌, sym, ◌∙◌, ap, subst, arith, length, map}
 use Rattle.std.specs.Prelude.{reverse}
 use Rattle.tsn_journal.specs.declared.entries.MarkedEntry.{MarkedEntry}
-use Rattle.tsn_journal.specs.Index.{IsLast, belongs, is_of, number_at, number_of, place_at}
+use Rattle.tsn_journal.specs.Index.{IsLast, belongs}
 use Rattle.tsn_journal.specs.declared.groups.Group.TheVariants.{Of}
 use Rattle.tsn_journal.proofs.Links.{next_group, place_there, the_place}
 use Rattle.tsn_journal.proofs.Off.{none_before}
@@ -15,11 +15,7 @@ back-init c =
     let g = Of c.args.session in
     let at = c.requires.index.latest_is g in
     let none = none_after g (belongs g) c.args.marked.now ps c.session_places-place.result.standing (subst (λ j. IsLast g (belongs g) c.args.marked.now ps j (length c.args.marked.now + 1)) (sym c.session_places-place.ensures.standing) (c.requires.index.latest_is g)) in
-    record {
-      within = subst (λ j. j ≤ length ps) (sym c.session_places-place.ensures.standing) at.within;
-      group = ap (λ j. is_of g (place_at ps j)) c.session_places-place.ensures.standing ∙ at.group;
-      so_far = ap reverse c.new-found.ensures.items ∙ ap (map (λ (m : MarkedEntry). m.entry.number)) (sym (filter_none (belongs g) c.args.marked.now (number_at ps c.session_places-place.result.standing) none));
-    }
+    grind (arith, filter_none)
 
 pub numbered-entry-requires-clause-within : goal.numbered-entry-requires-clause-within
 numbered-entry-requires-clause-within c = (the_place c.args.marked.now c.args.self.now.places.items (Of c.args.session) c.back.place c.index-at.result.now c.back.invariant.group (place_there c.args.self.now.places.items c.back.place c.index-at.result.now c.back-test.true c.back.invariant.within c.index-at.ensures) c.requires.index.places).within
@@ -42,13 +38,4 @@ back-preserved c =
     }
 
 pub returns : goal.returns
-returns c =
-    let ps = c.args.self.now.places.items in
-    let passed : number_at ps c.back.place ≤ c.args.settled = elim c.back-test.branch [
-      | else-back-test w ↦ subst (λ j. number_at ps j ≤ c.args.settled) (sym w.back-test.false) (omega arith)
-      | then-back-test+then-from-settled w ↦
-          let number : number_at ps c.back.place ≡ w.index-at.result.now.number = ap number_of (place_there c.args.self.now.places.items c.back.place w.index-at.result.now w.back-test.true c.back.invariant.within w.index-at.ensures) in
-          omega (arith, number, w.from.ensures, w.if-from-settled.true)
-    ] in
-    c.back.invariant.so_far
-    ∙ ap (map (λ (m : MarkedEntry). m.entry.number)) (none_before c.args.session c.args.settled c.args.marked.now ps c.back.place c.requires.off passed)
+returns c = grind (arith, else-back-test, then-back-test+then-from-settled, place_there, none_before)

@@ -1,5 +1,5 @@
 use Rattle.std.proofs.Common.{◌+◌, ◌≤◌, ◌&&◌, Bool, sym, ◌∙◌, subst, arith, length}
-use Rattle.std.proofs.lemmas.Bool.{and_from, and_right}
+use Rattle.std.proofs.lemmas.Bool.{and_from}
 use Rattle.tsn_journal.specs.declared.entries.MarkedEntry.{MarkedEntry}
 use Rattle.tsn_journal.specs.Index.{belongs, number_at, number_of}
 use Rattle.tsn_journal.proofs.Links.{next_group, place_there, step_none, the_place}
@@ -36,10 +36,7 @@ back-preserved g c =
           let t : MarkedEntry → Bool = λ m. belongs c.args.group.now m && p m in
           step_none c.args.marked.now c.args.self.now.places.items c.args.group.now c.back.place c.index-found.result.now c.back.invariant.group (place_there c.args.self.now.places.items c.back.place c.index-found.result.now c.back-test.true c.back.invariant.within c.index-found.ensures) c.requires.index.places
           t (length c.args.marked.now + 1) (and_out p (belongs c.args.group.now)) (c.back.invariant.none_later p answers) c.numbered-entry.result.now c.numbered-entry.ensures
-          (elim c.else-is_in.branch [
-            | else-is_in-via-then-is_in+else-test w ↦ and_right _ _ (sym (answers _ _ w.test.ensures) ∙ w.if-test.false)
-            | else-is_in-via-else-is_in w ↦ and_out p (belongs c.args.group.now) _ (sym c.is_in.ensures ∙ w.if-is_in.false)
-          ]);
+          (grind arith);
     }
 
 pub returns : goal.returns

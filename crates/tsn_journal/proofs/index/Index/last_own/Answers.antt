@@ -1,6 +1,6 @@
 use Rattle.std.proofs.Common.{◌+◌, ◌≤◌, ◌&&◌, Bool, sym, ◌∙◌, subst, arith, length, rules}
 use Rattle.std.proofs.lemmas.List.{length-take-le}
-use Rattle.std.proofs.lemmas.Bool.{and_from, and_right}
+use Rattle.std.proofs.lemmas.Bool.{and_from}
 use Rattle.tsn_journal.specs.declared.entries.MarkedEntry.{MarkedEntry}
 use Rattle.tsn_journal.specs.declared.groups.Group.TheVariants.{Of}
 use Rattle.tsn_journal.specs.Index.{IsLast, belongs, number_at, number_of}
@@ -16,11 +16,7 @@ back-init g c =
     let h = Of c.args.session in
     let at : IsLast h (belongs h) c.args.marked.now ps c.session_places-place.result.standing (length c.args.marked.now + 1) =
     subst (λ j. IsLast h (belongs h) c.args.marked.now ps j (length c.args.marked.now + 1)) (sym c.session_places-place.ensures.standing) (c.requires.index.latest_is h) in
-    record {
-      within = at.within;
-      group = at.group;
-      none_later = λ p answers above i m low high is. and_out p (belongs h) m (at.none_later i m low high is);
-    }
+    grind arith
 
 pub numbered-entry-requires-clause-some : goal.numbered-entry-requires-clause-some
 numbered-entry-requires-clause-some g c = (the_place c.args.marked.now c.args.self.now.places.items (Of c.args.session) c.back.place c.index-found.result.now c.back.invariant.group (place_there c.args.self.now.places.items c.back.place c.index-found.result.now c.back-test.true c.back.invariant.within c.index-found.ensures) c.requires.index.places).some
@@ -53,10 +49,7 @@ back-preserved g c =
             | then-from-upto+else-is_own w ↦
                 step_none c.args.marked.now c.args.self.now.places.items (Of c.args.session) c.back.place c.index-found.result.now c.back.invariant.group (place_there c.args.self.now.places.items c.back.place c.index-found.result.now c.back-test.true c.back.invariant.within c.index-found.ensures) c.requires.index.places
                 t (length c.args.marked.now + 1) (and_out p (belongs (Of c.args.session))) (c.back.invariant.none_later p answers above) w.numbered-entry.result.now w.numbered-entry.ensures
-                (elim w.else-is_own.branch [
-                  | else-is_own-via-then-is_own+else-test v ↦ and_right _ _ (sym (answers _ _ v.test.ensures) ∙ v.if-test.false)
-                  | else-is_own-via-else-is_own v ↦ and_out p (belongs (Of c.args.session)) w.numbered-entry.result.now (sym w.is_own.ensures ∙ v.if-is_own.false)
-                ])
+                (grind arith)
             | else-from-upto+else-passed-upto w ↦
                 step_beyond c.args.marked.now c.args.self.now.places.items (Of c.args.session) c.back.place c.index-found.result.now c.back.invariant.group (place_there c.args.self.now.places.items c.back.place c.index-found.result.now c.back-test.true c.back.invariant.within c.index-found.ensures) c.requires.index.places
                 t (length c.args.marked.now + 1) (and_out p (belongs (Of c.args.session))) c.args.upto (omega (arith, w.if-from-upto.false, c.from.ensures)) above
@@ -71,9 +64,7 @@ returns g c = λ p answers above.
 pub slice_bounds-last-end : goal.slice_bounds-last-end
 slice_bounds-last-end g c =
     let at = the_place c.args.marked.now c.args.self.now.places.items (Of c.args.session) c.back.place c.index-found.result.now c.back.invariant.group (place_there c.args.self.now.places.items c.back.place c.index-found.result.now c.back-test.true c.back.invariant.within c.index-found.ensures) c.requires.index.places in
-    let number = c.from.ensures in
-    let within : c.args.upto ≤ length c.args.marked.now = omega (arith, c.if-from-upto.false, at.within, number) in
-    omega (arith, within, length-take-le c.args.upto c.args.marked.now within)
+    grind (arith, length-take-le)
 
 pub returns-then-passed-upto : goal.returns-then-passed-upto
 returns-then-passed-upto g c = λ p answers above. c.last.ensures (λ m. is_own c.args.session m && p m) (λ x b h. search (rules, answers)) ∙ last_upto (λ m. is_own c.args.session m && p m) c.args.marked.now c.args.upto above

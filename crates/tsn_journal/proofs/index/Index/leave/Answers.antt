@@ -1,4 +1,4 @@
-use Rattle.std.proofs.Common.{◌≡◌, ◌∷◌, [], ◌++◌, Option, Some, None, sym, subst, ◌∙◌, ap}
+use Rattle.std.proofs.Common.{◌≡◌, ◌∷◌, [], ◌++◌, Option, Some, sym, subst, ◌∙◌, ap, arith}
 use Rattle.std.specs.Option.{option_copied}
 use Rattle.tsn_edit.specs.Parts.{Change, parts}
 use Rattle.tsn_journal.specs.declared.groups.Group.TheVariants.{Of, EndsRedo}
@@ -29,8 +29,5 @@ returns-clause-newest c =
           let is : Some (parts w.in-Some.change.now) ≡ adds e.what = ap option_copied (sym w.in-Some.is) ∙ c.added.ensures in
           subst (λ (o : Option Change). MendsNewest ms (groups_added o ++ own) old new) is
           (mends_then ms _ own old w.lower_parts.new.self new (subst (λ ps. MendsNewest ms (groups_of_parts ps) old w.lower_parts.new.self) w.parts.ensures.parts w.lower_parts.ensures.newest) last)
-      | in_default w ↦
-          let last : MendsNewest ms own old new = subst (λ (a : Index). MendsNewest ms own a new) w.self-is c.lower_session.ensures.newest in
-          let is : None ≡ adds e.what = ap option_copied (sym w.in_default.is) ∙ c.added.ensures in
-          subst (λ (o : Option Change). MendsNewest ms (groups_added o ++ own) old new) is last
+      | in_default w ↦ grind arith
     ]

@@ -1,4 +1,4 @@
-use Rattle.std.proofs.Common.{arith, ◌∙◌}
+use Rattle.std.proofs.Common.{arith}
 use Rattle.tsn_journal.proofs.Indexing.{takes_more}
 use Rattle.tsn_journal.proofs.Newest.{mends_part}
 use Rattle.tsn_journal.proofs.index.Index.lower_parts.Goals as goal
@@ -8,10 +8,6 @@ loop-part-preserved c = record {
   indexed = c.lower_ref-in-loop-part.ensures.index;
   newest = mends_part c.args.marked.now c.args.parts.now c.loop-part.part-index c.part-item.result c.refs_of-refs.result c.args.self.now c.loop-part.self c.lower_on.new.self c.lower_ref.new.self c.lower_ref-in-loop-part.new.self
       (omega (arith, c.loop-part-test.true)) c.part-item.is c.refs_of-refs.ensures c.loop-part.invariant.newest c.lower_on.ensures.newest c.lower_ref.ensures.newest c.lower_ref-in-loop-part.ensures.newest;
-  tells = record {
-    stray = c.lower_ref-in-loop-part.ensures.tells.stray ∙ c.lower_ref.ensures.tells.stray ∙ c.lower_on.ensures.tells.stray ∙ c.loop-part.invariant.tells.stray;
-    on = λ k. c.lower_ref-in-loop-part.ensures.tells.on k ∙ c.lower_ref.ensures.tells.on k ∙ c.lower_on.ensures.tells.on k ∙ c.loop-part.invariant.tells.on k;
-    to = λ k. c.lower_ref-in-loop-part.ensures.tells.to k ∙ c.lower_ref.ensures.tells.to k ∙ c.lower_on.ensures.tells.to k ∙ c.loop-part.invariant.tells.to k;
-  };
+  tells = grind arith;
   room = takes_more 0 0 _ _ _ (takes_more 0 0 _ _ _ c.loop-part.invariant.room c.lower_on.ensures.room) (takes_more 0 0 _ _ _ c.lower_ref.ensures.room c.lower_ref-in-loop-part.ensures.room);
 }

@@ -1,11 +1,11 @@
-use Rattle.std.proofs.Common.{◌≡◌, ◌+◌, ◌-◌, ◌≤◌, Bool, refl, sym, ◌∙◌, ap, subst, arith, length, drop, take, filter}
+use Rattle.std.proofs.Common.{◌≡◌, ◌+◌, ◌-◌, Bool, sym, ap, subst, arith, length, drop, take, filter}
 use Rattle.tsn_journal.specs.declared.entries.MarkedEntry.{MarkedEntry}
-use Rattle.tsn_journal.specs.Marks.{IsTally, added_in}
-use Rattle.tsn_journal.specs.Index.{IsLast, belongs, is_of, number_at, number_of, place_at}
+use Rattle.tsn_journal.specs.Marks.{IsTally}
+use Rattle.tsn_journal.specs.Index.{IsLast, belongs, number_at, number_of}
 use Rattle.tsn_journal.specs.declared.groups.Group.TheVariants.{Of}
-use Rattle.tsn_journal.proofs.Links.{next_group, place_there, the_place}
+use Rattle.tsn_journal.proofs.Links.{place_there, the_place}
 use Rattle.tsn_journal.proofs.Off.{none_before, own_split}
-use Rattle.tsn_journal.proofs.Walking.{both_told, filter_none, none_after, none_told, one_told, step_back}
+use Rattle.tsn_journal.proofs.Walking.{both_told, filter_none, none_after, step_back}
 use Rattle.tsn_journal.proofs.index.Index.tally_of.Goals as goal
 use Rattle.tsn_journal.proofs.index.Index.tally_of.Goals.{then-is_own, else-is_own}
 
@@ -15,14 +15,7 @@ back-init c =
     let g = Of c.args.session in
     let at = c.requires.index.latest_is g in
     let none = none_after g (belongs g) c.args.marked.now ps c.session_places-place.result.standing (subst (λ j. IsLast g (belongs g) c.args.marked.now ps j (length c.args.marked.now + 1)) (sym c.session_places-place.ensures.standing) at) in
-    record {
-      within = subst (λ j. j ≤ length ps) (sym c.session_places-place.ensures.standing) at.within;
-      group = ap (λ j. is_of g (place_at ps j)) c.session_places-place.ensures.standing ∙ at.group;
-      so_far = subst (IsTally 0 0) (sym (filter_none (belongs g) c.args.marked.now (number_at ps c.session_places-place.result.standing) none)) (record { count = refl; added = refl });
-      few = omega arith;
-      few_parts = omega arith;
-      counted = omega arith;
-    }
+    grind (arith, filter_none)
 
 pub numbered-entry-requires : goal.numbered-entry-requires
 numbered-entry-requires c =
@@ -43,32 +36,10 @@ back-preserved c =
     let there = place_there ps c.back.place c.index-at.result.now c.back-test.true c.back.invariant.within c.index-at.ensures in
     let at = the_place ms ps g c.back.place c.index-at.result.now c.back.invariant.group there c.requires.index.places in
     let back = sym (step_back ms ps g c.back.place c.index-at.result.now c.back.invariant.group there c.requires.index.places m c.numbered-entry.ensures) in
-    record {
-      within = at.last.within;
-      group = next_group ms ps g c.back.place c.index-at.result.now c.back.invariant.group there c.requires.index.places;
-      so_far = elim c.if-is_own.branch [
-        | then-is_own w ↦
-            let told = one_told c.back.entries c.back.parts _ (belongs g m) m w.added_parts-parts.result c.back.invariant.so_far (sym c.is_own.ensures ∙ w.if-is_own.true) w.added_parts-parts.ensures.parts in
-            record { count = w.entries-is ∙ told.count ∙ ap length back; added = w.parts-is ∙ told.added ∙ ap added_in back }
-        | else-is_own w ↦
-            let told = none_told c.back.entries c.back.parts _ (belongs g m) m c.back.invariant.so_far (sym c.is_own.ensures ∙ w.if-is_own.false) in
-            record { count = w.entries-is ∙ told.count ∙ ap length back; added = w.parts-is ∙ told.added ∙ ap added_in back }
-      ];
-      few = elim c.if-is_own.branch [
-        | then-is_own w ↦ omega (arith, w.entries-is, c.back.invariant.few)
-        | else-is_own w ↦ omega (arith, w.entries-is, c.back.invariant.few)
-      ];
-      few_parts = elim c.if-is_own.branch [
-        | then-is_own w ↦ omega (arith, w.parts-is, w.added_parts-parts.ensures.few, c.back.invariant.few_parts)
-        | else-is_own w ↦ omega (arith, w.parts-is, c.back.invariant.few_parts)
-      ];
-      counted = omega (arith, at.earlier, c.back.invariant.counted, c.back-test.true);
-    }
+    grind arith
 
 pub returns-then-from-settled : goal.returns-then-from-settled
-returns-then-from-settled c =
-    let number : number_at c.args.self.now.places.items c.back.place ≡ c.index-at.result.now.number = ap number_of (place_there c.args.self.now.places.items c.back.place c.index-at.result.now c.back-test.true c.back.invariant.within c.index-at.ensures) in
-    subst (IsTally c.back.entries c.back.parts) (none_before c.args.session c.args.settled c.args.marked.now c.args.self.now.places.items c.back.place c.requires.off (omega (arith, number, c.from.ensures, c.if-from-settled.true))) c.back.invariant.so_far
+returns-then-from-settled c = grind (arith, place_there, none_before)
 
 pub slice_bounds-left-end : goal.slice_bounds-left-end
 slice_bounds-left-end c = (the_place c.args.marked.now c.args.self.now.places.items (Of c.args.session) c.back.place c.index-at.result.now c.back.invariant.group (place_there c.args.self.now.places.items c.back.place c.index-at.result.now c.back-test.true c.back.invariant.within c.index-at.ensures) c.requires.index.places).within

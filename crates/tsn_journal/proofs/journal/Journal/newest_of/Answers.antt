@@ -1,5 +1,5 @@
-use Rattle.std.proofs.Common.{◌≡◌, ℕ, List, Option, sym, ◌∙◌, ap, subst}
-use Rattle.std.specs.Prelude.{◌==◌, option_map}
+use Rattle.std.proofs.Common.{◌≡◌, ℕ, List, Option, sym, ◌∙◌, ap, subst, arith}
+use Rattle.std.specs.Prelude.{option_map}
 use Rattle.tsn_journal.specs.declared.entries.MarkedEntry.{MarkedEntry}
 use Rattle.tsn_journal.specs.Entries.{Applied}
 use Rattle.tsn_journal.specs.Finding.{last_of, last_where}
@@ -10,9 +10,7 @@ use Rattle.tsn_journal.proofs.journal.Journal.newest_of.Goals as goal
 
 looked_for : (s : ℕ) (looked : Option MarkedEntry) (now ms : List MarkedEntry) → IsJournal ms → looked ≡ last_where (is_own s) now → now ≡ ms
     → option_map (λ (m : MarkedEntry). m.entry.number) looked ≡ option_map (λ (x : Applied). x.number) (last_of (entries_of ms) s)
-looked_for s looked now ms journal is same =
-    ap (option_map (λ (m : MarkedEntry). m.entry.number)) (is ∙ ap (last_where (is_own s)) same)
-    ∙ last_standing ms journal (λ x. x.session == s) (is_own s) (own_agrees s)
+looked_for s looked now ms journal is same = grind (arith, last_standing, own_agrees)
 
 pub returns : goal.returns
 returns c =

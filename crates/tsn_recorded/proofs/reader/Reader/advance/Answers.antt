@@ -20,9 +20,7 @@ returns-in-None-clause-reads c fed rs given =
 -- where the first line, seen in the bytes at hand, is that of none, none begins there, whatever follows
 none_behind : (last bytes seen : List ℕ) (count : ℕ) → BeginsWithLine bytes count → seen ≡ bytes
     → ((r : Recorded) → IsRecordedAfter last r → take count seen ≢ line_of last r) → (more : List ℕ) → BeginsWithNone last (bytes ++ more)
-none_behind last bytes seen count first same none =
-    let P : List ℕ → Type 0 = λ b. (r : Recorded) → IsRecordedAfter last r → take count b ≢ line_of last r in
-    none_at bytes count first last (subst P same none)
+none_behind last bytes seen count first same none = grind (arith, none_at)
 
 pub invariant_of-self-in-None-stamp_of_line : goal.invariant_of-self-in-None-stamp_of_line
 invariant_of-self-in-None-stamp_of_line c =
