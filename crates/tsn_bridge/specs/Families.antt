@@ -14,7 +14,7 @@ use Rattle.tsn_bridge.specs.Acts.{act_rule}
 use Rattle.tsn_bridge.specs.Edits.{edit_rule, redo_rule, undo_all_rule, undo_rule}
 use Rattle.tsn_bridge.specs.Frames.{frame_rule}
 use Rattle.tsn_bridge.specs.Looking.{counters_look, states_look}
-use Rattle.tsn_bridge.specs.Reads.{list_look, show_look, since_look}
+use Rattle.tsn_bridge.specs.Reads.{list_look, setup_look, show_look, since_look}
 use Rattle.tsn_bridge.specs.Rule.{Look, Rule, look_rule}
 use Rattle.tsn_bridge.specs.Sessions.{hello_rule, resume_look, sessions_look}
 use Rattle.tsn_bridge.specs.Settling.{settle_rule}
@@ -56,6 +56,7 @@ family (commands.List kind) = Looking (λ s n. list_look s n kind)
 family (commands.Since after) = Looking (λ s n. since_look s n after)
 family commands.Resume = Looking resume_look
 family commands.Sessions = Looking sessions_look
+family commands.Setup = Looking setup_look
 
 -- a state as a look at what a journal keeps sees it: neither the bridge time nor what the filter chain keeps
 abbrev pub seen_by_looks : State → State

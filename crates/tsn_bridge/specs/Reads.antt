@@ -1,14 +1,17 @@
 -- The rules of what reads and changes nothing.
-use Rattle.std.specs.Prelude.{ℕ, Bool, true, false, [], ◌∷◌, Some, length, nat_lt, option_map}
+use Rattle.std.specs.Prelude.{ℕ, Bool, true, false, List, [], ◌∷◌, Some, Result, Ok, Err, length, nat_lt, option_map}
 use Rattle.std.specs.FinMap.{get}
 use Rattle.tsn_types.specs.declared.keys.Key.{Key}
 use Rattle.tsn_types.specs.declared.keys.Kind.{Kind}
 use Rattle.tsn_types.specs.declared.records.Record.{Record}
 use Rattle.tsn_types.specs.declared.records.Record.TheVariants as records
+use Rattle.tsn_types.specs.declared.refusals.Refusal.{Refusal}
 use Rattle.tsn_config.specs.Ids.{ids_of}
+use Rattle.tsn_export.specs.Text.{exported}
 use Rattle.tsn_journal.specs.Finding.{since}
 use Rattle.tsn_undo.specs.Ledger.{present}
-use Rattle.tsn_bridge.specs.declared.reply.Reply.TheVariants.{Entries, Ids, Shown}
+use Rattle.tsn_bridge.specs.declared.reply.Reply.{Reply}
+use Rattle.tsn_bridge.specs.declared.reply.Reply.TheVariants.{Entries, Ids, Refused, Setup, Shown}
 use Rattle.tsn_bridge.specs.Acts.{has_list, key_causes}
 use Rattle.tsn_bridge.specs.State.{State}
 use Rattle.tsn_bridge.specs.Rule.{Look, Rule, look_rule, no_session}
@@ -48,3 +51,15 @@ since_look s n after = record { causes = no_session s n ∷ []; answer = Some (E
 
 abbrev pub since_rule : State → ℕ → ℕ → Rule
 since_rule s n after = look_rule s (since_look s n after)
+
+-- the text, or that it would be too long
+abbrev pub setup_answer : Result (List ℕ) Refusal → Reply
+setup_answer (Ok text) = Setup text
+setup_answer (Err why) = Refused why
+
+-- a setup answers the present configuration as the text of one, or that this would be longer than one that is read
+abbrev pub setup_look : State → ℕ → Look
+setup_look s n = record { causes = no_session s n ∷ []; answer = Some (setup_answer (exported s.book.limits (present s.book))); takes_memory = true }
+
+abbrev pub setup_rule : State → ℕ → Rule
+setup_rule s n = look_rule s (setup_look s n)

@@ -25,7 +25,7 @@ ghost use Rattle.tsn_bridge.specs.Frames.{frame_rule};
 ghost use Rattle.tsn_bridge.specs.Later.{IsWhole};
 ghost use Rattle.tsn_bridge.specs.Looking.{counters_rule, states_rule};
 ghost use Rattle.tsn_bridge.specs.Machine.{Step};
-ghost use Rattle.tsn_bridge.specs.Reads.{list_rule, record_has_list, show_rule, since_rule};
+ghost use Rattle.tsn_bridge.specs.Reads.{list_rule, record_has_list, setup_rule, show_rule, since_rule};
 ghost use Rattle.tsn_bridge.specs.Refusing.{IsCause};
 ghost use Rattle.tsn_bridge.specs.Rule.{Allows, is_given, no_session};
 ghost use Rattle.tsn_bridge.specs.Sessions.{hello_rule, resume_rule, sessions_rule};
@@ -42,6 +42,7 @@ use tsn_config::Config;
 use tsn_config::records::Records;
 use tsn_edit::Edit;
 use tsn_edit::batches::Batch;
+use tsn_export::export_setup;
 use tsn_journal::entries::{Act, MarkedEntry};
 use tsn_journal::journal::Journal;
 use tsn_schedule::runner::Past;
@@ -154,6 +155,7 @@ impl Bridge {
             Command::Since { after } => self.since(session, after),
             Command::Resume => self.resume(session),
             Command::Sessions => self.given_sessions(session),
+            Command::Setup => self.setup(session),
         }
     }
 
@@ -511,6 +513,18 @@ impl Bridge {
         match GivenSessions::up_to(self.alloc, self.journal(), self.sessions) {
             Ok(sessions) => Reply::Sessions { sessions },
             Err(_) => Reply::Refused(Refusal::Memory),
+        }
+    }
+
+    fn setup(&self, session: u32) -> Reply
+        ensures { Allows (setup_rule self.now session) self.now result self.now }
+    {
+        if !self.is_given(session) {
+            return Reply::Refused(Refusal::NoSession);
+        }
+        match export_setup(self.alloc, self.config()) {
+            Ok(text) => Reply::Setup { text },
+            Err(why) => Reply::Refused(why),
         }
     }
 }

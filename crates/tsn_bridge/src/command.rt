@@ -56,4 +56,6 @@ pub enum Command {
     Resume,
     /// Asks for the sessions that were given out, and how many entries of each stand.
     Sessions,
+    /// Asks for the present configuration as the text of a setup.
+    Setup,
 }

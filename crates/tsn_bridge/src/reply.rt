@@ -3,6 +3,7 @@ use crate::sessions::GivenSessions;
 use tsn_chain::frame::Verdict;
 use tsn_chain::state::{Counters, State};
 use tsn_config::ids::Ids;
+use tsn_export::SetupText;
 use tsn_journal::entries::Entries;
 use tsn_types::keys::Key;
 use tsn_types::numbers::Instant;
@@ -64,6 +65,10 @@ pub enum Reply {
     /// The sessions that were given out, in the order of their numbers.
     Sessions {
         sessions: GivenSessions,
+    },
+    /// The present configuration as a setup in the plain spelling.
+    Setup {
+        text: SetupText,
     },
     /// Why the command was refused; nothing has changed.
     Refused(Refusal),

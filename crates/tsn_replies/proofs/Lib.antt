@@ -3,4 +3,5 @@ pub mod Lines
 pub mod Names
 pub mod Numerals
 pub mod Pieces
+pub mod Setups
 pub mod Telling

@@ -8,7 +8,7 @@ use Rattle.tsn_types.specs.declared.refusals.Refusal.TheVariants as refusals
 use Rattle.tsn_types.specs.Refusals.{number_of, name_of, field_name}
 use Rattle.tsn_records.specs.Keys.{key_text}
 use Rattle.tsn_replies.specs.Running.{act_data, verdict_data, state_data, counters_data}
-use Rattle.tsn_replies.specs.Told.{shown_data, ids_data, entries_data, sessions_data}
+use Rattle.tsn_replies.specs.Told.{shown_data, ids_data, entries_data, sessions_data, setup_data}
 
 -- a member that is a number, with a comma behind it
 abbrev pub number_member : List ℕ → ℕ → List ℕ
@@ -64,4 +64,5 @@ reply_text (replies.Shown key value) = compact_text (shown_data key value) ++ co
 reply_text (replies.Ids ids) = compact_text (ids_data ids) ++ codes "\n"
 reply_text (replies.Entries es) = compact_text (entries_data es) ++ codes "\n"
 reply_text (replies.Sessions all) = compact_text (sessions_data all) ++ codes "\n"
+reply_text (replies.Setup text) = compact_text (setup_data text) ++ codes "\n"
 reply_text (replies.Refused r) = refusal_text r

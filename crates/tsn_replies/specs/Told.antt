@@ -1,4 +1,4 @@
--- What replies tell as JSON values: a record under its key, numbers of instances, sessions, entries of the journal.
+-- What replies tell as JSON values: a record under its key, numbers of instances, sessions, a setup, entries of the journal.
 use Rattle.std.specs.Prelude.{ℕ, List, [], ◌∷◌, map, codes}
 use Rattle.serde_json.specs.Data.{Data, Members, string, array, object, member, no_members}
 use Rattle.serde_json.specs.View.{items_of}
@@ -28,6 +28,10 @@ session_data given = object (member (codes "session") (whole_data given.session)
 -- `{"sessions":[..]}`
 abbrev pub sessions_data : List GivenSession → Data
 sessions_data all = object (member (codes "sessions") (array (items_of (map session_data all))) no_members)
+
+-- `{"setup":TEXT}`
+abbrev pub setup_data : List ℕ → Data
+setup_data text = object (member (codes "setup") (string text) no_members)
 
 -- `{"ids":[..]}`
 abbrev pub ids_data : List ℕ → Data

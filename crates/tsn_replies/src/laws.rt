@@ -71,7 +71,7 @@ pub fn replies_are_spelled()
         ≡ codes "{\"refused\":18,\"why\":\"memory\"}\n" }
 {}
 
-/// The text of records, of numbers of instances and of sessions.
+/// The text of records, of numbers of instances, of sessions and of a setup.
 pub fn records_are_shown()
     ensures port { reply_text (replies.Shown (keys.Port 1) (records.Port a_port))
         ≡ shown_line (codes "port 1") port_text }
@@ -85,6 +85,8 @@ pub fn records_are_shown()
     ensures none { reply_text (replies.Ids []) ≡ codes "{\"ids\":[]}\n" }
     ensures sessions { reply_text (replies.Sessions (record { session = 1; standing = 0 } ∷ record { session = 2; standing = 13 } ∷ []))
         ≡ codes "{\"sessions\":[{\"session\":1,\"standing\":0},{\"session\":2,\"standing\":13}]}\n" }
+    ensures setup { reply_text (replies.Setup (codes "ports = 2\n\n[[port]]\n"))
+        ≡ codes "{\"setup\":\"ports = 2\\n\\n[[port]]\\n\"}\n" }
 {}
 
 /// The text of the journal's entries.

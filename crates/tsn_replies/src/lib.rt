@@ -9,6 +9,7 @@ pub mod laws;
 mod reply;
 mod running;
 mod sessions;
+mod setup;
 mod shown;
 mod text;
 mod told;

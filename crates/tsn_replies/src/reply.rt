@@ -14,6 +14,7 @@ ghost use Rattle.tsn_bytes.specs.declared.bytes.Fault.TheVariants.{Write};
 
 use crate::running::{push_act, push_counters, push_state, push_verdict};
 use crate::sessions::write_sessions;
+use crate::setup::write_setup;
 use crate::shown::{push_key, write_ids, write_lent_record, write_shown};
 use crate::text::{CAPACITY, ShortText};
 use crate::told::{write_entries, write_kept_entries};
@@ -249,6 +250,7 @@ pub fn write_reply<W: ByteOut>(writer: &mut W, reply: &Reply) -> Result<(), Faul
         Reply::Ids { ids } => write_ids(writer, &mut text, ids.as_slice()),
         Reply::Entries { entries } => write_entries(writer, &mut text, entries.as_slice()),
         Reply::Sessions { sessions } => write_sessions(writer, &mut text, sessions.as_slice()),
+        Reply::Setup { text: setup } => write_setup(writer, &mut text, setup.as_bytes()),
         Reply::Refused(refusal) => {
             push_refusal(&mut text, refusal);
             put_text(writer, &text)

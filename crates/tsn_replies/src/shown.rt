@@ -235,8 +235,8 @@ pub const LONGEST_ITEM: usize = 352;
 
 const LONGEST_REST: usize = 50;
 
-// The most bytes that may be held before a comma and an item, so that the bracket and the rest have room behind them.
-const MOST_BEFORE_ITEM: usize = CAPACITY - LONGEST_REST - LONGEST_ITEM - 2;
+/// The most bytes that may be held before a comma and an item, so that the bracket and the rest have room behind them.
+pub const MOST_BEFORE_ITEM: usize = CAPACITY - LONGEST_REST - LONGEST_ITEM - 2;
 
 /// What is shown in a list.
 pub trait ShownItem {
@@ -278,8 +278,8 @@ impl ShownItem for GateEntry {
     }
 }
 
-// Writes what is held, unless there is room behind it for one item more.
-fn make_room<W: ByteOut>(writer: &mut W, text: &mut ShortText) -> Result<(), Fault>
+/// Writes what is held, unless there is room behind it for one item more.
+pub fn make_room<W: ByteOut>(writer: &mut W, text: &mut ShortText) -> Result<(), Fault>
     ensures ok { OnOk result (
         TakesFront (W.taken writer.old) (W.taken writer.new) text.old text.new) }
     ensures room { OnOk result (length text.new ≤ MOST_BEFORE_ITEM) }

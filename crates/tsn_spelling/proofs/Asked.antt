@@ -152,6 +152,7 @@ value_plain s (commands.List k) h = (refl, (tt, (tt, (omega (arith, h.1), tt))))
 value_plain s (commands.Since after) h = (refl, (omega (arith, h.1), (tt, (omega (arith, h.0.1), tt))))
 value_plain s commands.Resume h = (refl, (tt, (omega (arith, h.1), tt)))
 value_plain s commands.Sessions h = (refl, (tt, (omega (arith, h.1), tt)))
+value_plain s commands.Setup h = (refl, (tt, (omega (arith, h.1), tt)))
 
 -- ---- its texts are plain
 
@@ -214,3 +215,4 @@ value_shown s (commands.List k) = (refl, refl, (refl, kind_shown k, (refl, tt, t
 value_shown s (commands.Since after) = (refl, tt, (refl, refl, (refl, tt, tt)))
 value_shown s commands.Resume = (refl, refl, (refl, tt, tt))
 value_shown s commands.Sessions = (refl, refl, (refl, tt, tt))
+value_shown s commands.Setup = (refl, refl, (refl, tt, tt))

@@ -72,4 +72,5 @@ pub fn asks_are_spelled()
     ensures since { line_text (asked (commands.Since 3)) ≡ codes "{\"after\":3,\"do\":\"since\",\"s\":1}" }
     ensures resume { line_text (asked commands.Resume) ≡ codes "{\"do\":\"resume\",\"s\":1}" }
     ensures sessions { line_text (asked commands.Sessions) ≡ codes "{\"do\":\"sessions\",\"s\":1}" }
+    ensures setup { line_text (asked commands.Setup) ≡ codes "{\"do\":\"setup\",\"s\":1}" }
 {}

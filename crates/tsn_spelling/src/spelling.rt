@@ -40,6 +40,7 @@ fn put_line(ask: &Ask, line: &mut Vec<u8>, text: &mut ShortText) -> Result<(), A
         Command::Since { after } => put_since(line, text, *after, session),
         Command::Resume => put_bare(line, text, "resume", session),
         Command::Sessions => put_bare(line, text, "sessions", session),
+        Command::Setup => put_bare(line, text, "setup", session),
     }
 }
 

@@ -347,7 +347,8 @@ command_known word s d draft c of shape range =
     (λ _ h16. by_test _ _ _ _ h16 (λ e h. since_known s d draft c (named word _ s d of e) h range)
     (λ _ h17. by_test _ _ _ _ h17 (λ e h. bare_known _ wanted.Resume commands.Resume s d draft c (named word _ s d of e) h range refl (λ session is. (session, is)))
     (λ _ h18. by_test _ _ _ _ h18 (λ e h. bare_known _ wanted.Sessions commands.Sessions s d draft c (named word _ s d of e) h range refl (λ session is. (session, is)))
-    (λ _ h19. cc)))))))))))))))))))
+    (λ _ h19. by_test _ _ _ _ h19 (λ e h. bare_known _ wanted.Setup commands.Setup s d draft c (named word _ s d of e) h range refl (λ session is. (session, is)))
+    (λ _ h20. cc))))))))))))))))))))
 
 -- a value that asks for what a line says
 abbrev SaysAsk : Data → Ask → Type 0
@@ -394,6 +395,10 @@ accepted line l h =
 -- in the value of an edit, the record may be seen as its draft
 as_draft : (word : List ℕ) (s : ℕ) (k : Key) (r : Record) (draft : LineDraft) → line_shape (edit_data word s (key_text k) (record_value (record_draft r))) ≡ Ok draft → line_shape (edit_data word s (key_text k) (record_data r)) ≡ Ok draft
 as_draft word s k r draft h = ap (λ d. line_shape (edit_data word s (key_text k) d)) (sym (record_same r)) ∙ h
+
+setup_shaped : (s : ℕ) → line_shape (bare_data (codes "setup") s) ≡ Ok (Session s wanted.Setup)
+unfolding line_shape command_shape bare_shape
+setup_shaped s = refl
 
 settle_shaped : (s upto : ℕ) → line_shape (settle_data s upto) ≡ Ok (Session s (wanted.Settle upto))
 unfolding line_shape command_shape settle_shape
@@ -451,6 +456,7 @@ read_as line s (commands.List k) fits read = in_steps line _ (Session s (wanted.
 read_as line s commands.Resume fits read = in_steps line _ (Session s wanted.Resume) _ read (resume_shaped s) (rw (within_ok fields.S 1 most_sessions s fits))
 read_as line s commands.Sessions fits read =
     in_steps line _ (Session s wanted.Sessions) _ read (sessions_shaped s) (rw (within_ok fields.S 1 most_sessions s fits))
+read_as line s commands.Setup fits read = in_steps line _ (Session s wanted.Setup) _ read (setup_shaped s) (rw (within_ok fields.S 1 most_sessions s fits))
 read_as line s (commands.Since after) fits read =
     in_steps line _ (Session s (wanted.Since after)) _ read (asked_shaped s after) (rw (within_ok fields.S 1 most_sessions s fits.0, within_ok fields.After 0 greatest_after after (omega arith, fits.1)))
 

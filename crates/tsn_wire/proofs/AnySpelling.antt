@@ -22,7 +22,7 @@ use Rattle.tsn_wire.specs.Members.{Rows, ReadsMembers}
 use Rattle.tsn_wire.specs.Reading.{line_of_draft, reading}
 use Rattle.tsn_wire.specs.Spelled.{record_value}
 use Rattle.tsn_wire.specs.Values.{MayHaveList}
-use Rattle.tsn_wire.specs.declared.drafts.CommandDraft.TheVariants.{Create, Replace, Remove, Batch, Undo, UndoAll, Redo, Settle, Enable, Disable, Apply, Frame, States, Counters, Show, List as ListKind, Since, Resume, Sessions}
+use Rattle.tsn_wire.specs.declared.drafts.CommandDraft.TheVariants.{Create, Replace, Remove, Batch, Undo, UndoAll, Redo, Settle, Enable, Disable, Apply, Frame, States, Counters, Show, List as ListKind, Since, Resume, Sessions, Setup}
 use Rattle.tsn_wire.specs.declared.drafts.FrameDraft.{FrameDraft}
 use Rattle.tsn_wire.specs.declared.drafts.LineDraft.{LineDraft}
 use Rattle.tsn_wire.specs.declared.drafts.LineDraft.TheVariants.{Hello, Session}
@@ -173,6 +173,7 @@ shaped (Session s (ListKind kind)) sound = listed_shaped s kind
 shaped (Session s (Since after)) sound = asked_shaped s after
 shaped (Session s Resume) sound = resume_shaped s
 shaped (Session s Sessions) sound = sessions_shaped s
+shaped (Session s Setup) never = absurd never
 
 rises : (draft : LineDraft) → Rise (line_members draft)
 rises Hello = tt
@@ -195,6 +196,7 @@ rises (Session s (ListKind kind)) = (refl, (refl, tt))
 rises (Session s (Since after)) = (refl, (refl, tt))
 rises (Session s Resume) = (refl, tt)
 rises (Session s Sessions) = (refl, tt)
+rises (Session s Setup) = (refl, tt)
 
 -- ---- the line
 

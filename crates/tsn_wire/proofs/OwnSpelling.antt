@@ -39,7 +39,7 @@ use Rattle.tsn_records.specs.declared.drafts.MeterDraft.{MeterDraft}
 use Rattle.tsn_records.specs.declared.drafts.RecordDraft.{RecordDraft}
 use Rattle.tsn_records.specs.declared.drafts.RecordDraft.TheVariants as records
 use Rattle.tsn_wire.specs.declared.drafts.CommandDraft.{CommandDraft}
-use Rattle.tsn_wire.specs.declared.drafts.CommandDraft.TheVariants.{Create, Replace, Remove, Batch, Undo, UndoAll, Redo, Settle, Enable, Disable, Apply, Frame, States, Counters, Show, List as ListKind, Since, Resume, Sessions}
+use Rattle.tsn_wire.specs.declared.drafts.CommandDraft.TheVariants.{Create, Replace, Remove, Batch, Undo, UndoAll, Redo, Settle, Enable, Disable, Apply, Frame, States, Counters, Show, List as ListKind, Since, Resume, Sessions, Setup}
 use Rattle.tsn_wire.specs.declared.drafts.EditDraft.{EditDraft}
 use Rattle.tsn_wire.specs.declared.drafts.EditDraft.TheVariants as edits
 use Rattle.tsn_wire.specs.declared.drafts.LineDraft.{LineDraft}
@@ -445,6 +445,7 @@ spelled_says line text rest (States key at) s first never small last utf8 = absu
 spelled_says line text rest (Since after) s first never small last utf8 = absurd never
 spelled_says line text rest Resume s first never small last utf8 = absurd never
 spelled_says line text rest Sessions s first never small last utf8 = absurd never
+spelled_says line text rest Setup s first never small last utf8 = absurd never
 
 pub front_says : (line rest : List ℕ) (command : CommandDraft) (s : ℕ) → SpellsFront line command rest → IsSmall s → rest ≡ tail s → IsUtf8 line → reading line ≡ line_of_draft (Session s command)
 front_says line rest command s (inl (after, asks, small_after, is)) small last utf8 =

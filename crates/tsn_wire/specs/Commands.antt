@@ -12,7 +12,7 @@ use Rattle.tsn_records.specs.declared.drafts.KeyDraft.{KeyDraft}
 use Rattle.tsn_records.specs.declared.drafts.RecordDraft.{RecordDraft}
 use Rattle.tsn_wire.specs.Batches.{batch_of}
 use Rattle.tsn_wire.specs.declared.drafts.CommandDraft.{CommandDraft}
-use Rattle.tsn_wire.specs.declared.drafts.CommandDraft.TheVariants.{Create, Replace, Remove, Batch, Undo, UndoAll, Redo, Settle, Enable, Disable, Apply, Frame, States, Counters, Show, List as ListKind, Since, Resume, Sessions}
+use Rattle.tsn_wire.specs.declared.drafts.CommandDraft.TheVariants.{Create, Replace, Remove, Batch, Undo, UndoAll, Redo, Settle, Enable, Disable, Apply, Frame, States, Counters, Show, List as ListKind, Since, Resume, Sessions, Setup}
 use Rattle.tsn_wire.specs.declared.drafts.EditDraft.{EditDraft}
 use Rattle.tsn_wire.specs.declared.drafts.EditDraft.TheVariants as edits
 use Rattle.tsn_wire.specs.declared.drafts.FrameDraft.{FrameDraft}
@@ -178,6 +178,7 @@ command_shape word d =
     else if bytes_eq word (codes "since") then since_shape d
     else if bytes_eq word (codes "resume") then bare_shape Resume d
     else if bytes_eq word (codes "sessions") then bare_shape Sessions d
+    else if bytes_eq word (codes "setup") then bare_shape Setup d
     else Err Shape
 
 -- a hello has the one member `do`; any other command has `s` too

@@ -16,7 +16,7 @@ use Rattle.tsn_wire.specs.Values.{MayHaveList}
 use Rattle.tsn_wire.specs.Words.{word_text}
 use Rattle.tsn_wire.specs.declared.any_line.LineMembers.{LineMembers}
 use Rattle.tsn_wire.specs.declared.drafts.CommandDraft.{CommandDraft}
-use Rattle.tsn_wire.specs.declared.drafts.CommandDraft.TheVariants.{Create, Replace, Remove, Batch, Undo, UndoAll, Redo, Settle, Enable, Disable, Apply, Frame, States, Counters, Show, List as ListKind, Since, Resume, Sessions}
+use Rattle.tsn_wire.specs.declared.drafts.CommandDraft.TheVariants.{Create, Replace, Remove, Batch, Undo, UndoAll, Redo, Settle, Enable, Disable, Apply, Frame, States, Counters, Show, List as ListKind, Since, Resume, Sessions, Setup}
 use Rattle.tsn_wire.specs.declared.drafts.EditDraft.{EditDraft}
 use Rattle.tsn_wire.specs.declared.drafts.FrameDraft.{FrameDraft}
 use Rattle.tsn_wire.specs.declared.drafts.LineDraft.{LineDraft}
@@ -107,12 +107,13 @@ command_members s (ListKind kind) = list_members s kind
 command_members s (Since after) = since_members s after
 command_members s Resume = bare_members (codes "resume") s
 command_members s Sessions = bare_members (codes "sessions") s
+command_members s Setup = bare_members (codes "setup") s
 
 abbrev pub line_members : LineDraft → Members
 line_members Hello = member (codes "do") (string (codes "hello")) no_members
 line_members (Session s command) = command_members s command
 
--- a key that some table may have, and what its kind must be; a batch and a settle are not read so
+-- a key that some table may have, and what its kind must be; a batch, a settle and a setup are not read so
 abbrev pub IsSound : CommandDraft → Type 0
 IsSound (Create key value) = IsKey key × IsOf key.kind value
 IsSound (Replace key value) = IsKey key × IsOf key.kind value
@@ -133,6 +134,7 @@ IsSound (ListKind kind) = ⊤
 IsSound (Since after) = ⊤
 IsSound Resume = ⊤
 IsSound Sessions = ⊤
+IsSound Setup = ⊥
 
 abbrev pub IsSoundLine : LineDraft → Type 0
 IsSoundLine Hello = ⊤

@@ -59,3 +59,4 @@ command_of_draft (wanted.List kind) = Ok (commands.List kind)
 command_of_draft (wanted.Since n) = within fields.After 0 greatest_after n >>= λ after. Ok (commands.Since after)
 command_of_draft wanted.Resume = Ok commands.Resume
 command_of_draft wanted.Sessions = Ok commands.Sessions
+command_of_draft wanted.Setup = Ok commands.Setup

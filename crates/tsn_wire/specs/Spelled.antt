@@ -22,7 +22,7 @@ use Rattle.tsn_wire.specs.Batches.{is_batch_draft}
 use Rattle.tsn_wire.specs.declared.drafts.CommandDraft.{CommandDraft}
 use Rattle.tsn_wire.specs.declared.drafts.EditDraft.{EditDraft}
 use Rattle.tsn_wire.specs.declared.drafts.EditDraft.TheVariants as edits
-use Rattle.tsn_wire.specs.declared.drafts.CommandDraft.TheVariants.{Create, Replace, Remove, Batch, Undo, UndoAll, Redo, Settle, Enable, Disable, Apply, Frame, States, Counters, Show, List as ListKind, Since, Resume, Sessions}
+use Rattle.tsn_wire.specs.declared.drafts.CommandDraft.TheVariants.{Create, Replace, Remove, Batch, Undo, UndoAll, Redo, Settle, Enable, Disable, Apply, Frame, States, Counters, Show, List as ListKind, Since, Resume, Sessions, Setup}
 
 -- a number that a line can hold
 abbrev pub IsSmall : ℕ → Type 0
@@ -160,3 +160,4 @@ Spells text (ListKind kind) rest = text ≡ codes "list\",\"kind\":\"" ++ (kind_
 Spells text (Since after) rest = ⊥
 Spells text Resume rest = ⊥
 Spells text Sessions rest = ⊥
+Spells text Setup rest = ⊥

@@ -5,7 +5,7 @@ use Rattle.std.specs.List.{AllByRecursion}
 use Rattle.serde_json.specs.Data.{Data, boolean, string, array, object, member, no_members}
 use Rattle.serde_json.specs.View.{items_of}
 use Rattle.tsn_bridge.specs.declared.command.Command.{Command}
-use Rattle.tsn_bridge.specs.declared.command.Command.TheVariants.{Hello, Create, Replace, Remove, Batch, Undo, UndoAll, Redo, Settle, Enable, Disable, Apply, Frame as FrameIn, States, Counters, Show, List as ListKind, Since, Resume, Sessions}
+use Rattle.tsn_bridge.specs.declared.command.Command.TheVariants.{Hello, Create, Replace, Remove, Batch, Undo, UndoAll, Redo, Settle, Enable, Disable, Apply, Frame as FrameIn, States, Counters, Show, List as ListKind, Since, Resume, Sessions, Setup}
 use Rattle.tsn_bridge.specs.Sessions.{most_sessions}
 use Rattle.tsn_chain.specs.declared.frame.Frame.{Frame}
 use Rattle.tsn_edit.specs.Batches.{IsBatch}
@@ -121,6 +121,7 @@ value_of s (ListKind k) = listed_data s (kind_text k)
 value_of s (Since after) = asked_data s after
 value_of s Resume = bare_data (codes "resume") s
 value_of s Sessions = bare_data (codes "sessions") s
+value_of s Setup = bare_data (codes "setup") s
 
 -- a key whose number is in its range
 abbrev pub KeyInRange : Key → Type 0
@@ -182,6 +183,7 @@ MayBeAsked s (ListKind k) = IsSession s
 MayBeAsked s (Since after) = IsSession s × (after ≤ greatest_after)
 MayBeAsked s Resume = IsSession s
 MayBeAsked s Sessions = IsSession s
+MayBeAsked s Setup = IsSession s
 
 -- A line is accepted as a command of a session exactly where that may be asked and the line is its value.
 abbrev pub AcceptsValues : Type 0

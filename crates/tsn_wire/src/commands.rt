@@ -200,6 +200,7 @@ fn command_shape(alloc: Global, word: &str, value: &Value) -> Result<CommandDraf
         "since" => since_shape(value),
         "resume" => bare_shape(CommandDraft::Resume, value),
         "sessions" => bare_shape(CommandDraft::Sessions, value),
+        "setup" => bare_shape(CommandDraft::Setup, value),
         _ => Err(Unread::Shape),
     }
 }

@@ -132,6 +132,7 @@ pub enum CommandDraft {
     Since { after: u64 },
     Resume,
     Sessions,
+    Setup,
 }
 
 /// A line: a hello, or a command of a session.

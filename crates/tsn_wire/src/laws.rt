@@ -29,6 +29,8 @@ pub fn lines_are_read()
         ≡ Ok (record { session = 2; command = commands.Resume }) }
     ensures sessions { line_of (codes "{\"do\":\"sessions\",\"s\":1}")
         ≡ Ok (record { session = 1; command = commands.Sessions }) }
+    ensures setup { line_of (codes "{\"do\":\"setup\",\"s\":1}")
+        ≡ Ok (record { session = 1; command = commands.Setup }) }
     ensures settle { line_of (codes "{\"do\":\"settle\",\"s\":1,\"upto\":3}")
         ≡ Ok (record { session = 1; command = commands.Settle 3 }) }
     ensures after { line_of (codes "{\"after\":4294967296,\"do\":\"since\",\"s\":1}")

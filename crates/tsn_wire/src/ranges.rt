@@ -177,5 +177,6 @@ pub fn command_of_draft(alloc: Global, draft: &CommandDraft) -> Result<Command, 
         }),
         CommandDraft::Resume => Ok(Command::Resume),
         CommandDraft::Sessions => Ok(Command::Sessions),
+        CommandDraft::Setup => Ok(Command::Setup),
     }
 }

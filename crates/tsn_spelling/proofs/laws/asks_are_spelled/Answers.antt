@@ -82,3 +82,7 @@ returns-clause-resume c = refl
 pub returns-clause-sessions : goal.returns-clause-sessions
 unfolding serde_json_on_literals digits
 returns-clause-sessions c = refl
+
+pub returns-clause-setup : goal.returns-clause-setup
+unfolding serde_json_on_literals digits
+returns-clause-setup c = refl

@@ -128,3 +128,7 @@ returns-clause-resume c = refl
 pub returns-clause-sessions : goal.returns-clause-sessions
 unfolding serde_json_on_literals is_utf8 chars line_shape command_shape bare_shape
 returns-clause-sessions c = refl
+
+pub returns-clause-setup : goal.returns-clause-setup
+unfolding serde_json_on_literals is_utf8 chars line_shape command_shape bare_shape
+returns-clause-setup c = refl
