@@ -1,0 +1,4 @@
+pub mod Along
+pub mod Kept
+pub mod Referred
+pub mod Written
