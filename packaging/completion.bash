@@ -32,9 +32,9 @@ _tsnd() {
         serve:-*) mapfile -t COMPREPLY < <(compgen -W "--listen --workers --connections --probe --idle --journal --sync --log --help" -- "$word") ;;
         states:-*) mapfile -t COMPREPLY < <(compgen -W "--port --from --step --count --help" -- "$word") ;;
         script:-*) mapfile -t COMPREPLY < <(compgen -W "--journal --sync --help" -- "$word") ;;
-        journal:-*) mapfile -t COMPREPLY < <(compgen -W "--since --diff --mend --help" -- "$word") ;;
+        journal:-*) mapfile -t COMPREPLY < <(compgen -W "--since --diff --setup --begin --mend --help" -- "$word") ;;
         journal:*) mapfile -t COMPREPLY < <(compgen -f -- "$word") ;;
-        check:-*) mapfile -t COMPREPLY < <(compgen -W "--help" -- "$word") ;;
+        check:-*) mapfile -t COMPREPLY < <(compgen -W "--lines --help" -- "$word") ;;
         script:* | serve:* | states:* | check:*) mapfile -t COMPREPLY < <(compgen -f -X '!*.toml' -- "$word"; compgen -d -- "$word") ;;
         help:*) mapfile -t COMPREPLY < <(compgen -W "check journal script serve states" -- "$word") ;;
     esac

@@ -4,6 +4,7 @@ There is no index and no table: a conflict is looked for along the entries, from
 service must answer, member for member.
 """
 import collections
+import json
 
 from crowd import REFUSALS, kind_of, references
 
@@ -48,6 +49,25 @@ class Entry:
         told = {"keys": keys} if len(keys) > 1 else {"key": keys[0]}
         of = {} if self.of is None else {"of": self.of.number}
         return {"entry": self.number, **told, "session": self.session, "what": self.what, **of}
+
+
+# The members of a table of each kind, in their order, and those of an entry of a list, by how many they are.
+MEMBERS = {
+    "port": ("id", "gates", "list", "cycle", "extension", "base"),
+    "filter": ("id", "handle", "priority", "gate", "max_sdu", "meter", "oversize"),
+    "gate": ("id", "open", "ipv", "list", "cycle", "extension", "base", "invalid_rx", "octets_exceeded"),
+    "meter": ("id", "cir", "cbs", "eir", "ebs", "cf", "aware", "drop_yellow", "all_red"),
+}
+ENTRIES = {2: ("gates", "interval"), 4: ("open", "ipv", "interval", "octets")}
+
+
+def line_of(name, value):
+    """A member of a table, on a line of its own; a list has one for each of its entries."""
+    if name != "list":
+        return f"{name} = {json.dumps(value)}\n"
+    rows = "".join("  {" + ", ".join(f"{inner} = {json.dumps(part)}" for inner, part in zip(ENTRIES[len(entry)], entry) if part is not None) + "},\n"
+                   for entry in value)
+    return f"list = [\n{rows}]\n" if value else "list = []\n"
 
 
 class Rules:
@@ -226,3 +246,14 @@ class Rules:
         """Each session that was given out, and how many of its entries stand."""
         standing = collections.Counter(entry.session for entry in self.standing)
         return {"sessions": [{"session": session, "standing": standing[session]} for session in range(1, self.sessions + 1)]}
+
+    def setup(self, command):
+        """The configuration as the text of a setup, in which a port that is as in the beginning is left out."""
+        named = sorted((key for key, record in self.map.items() if record != PORT), key=place_of)
+        return {"setup": "ports = 2\nmax_filters = 16\nmax_gates = 16\nmax_meters = 16\nlist_max = 16\n" + "".join(map(self.table, named))}
+
+    def table(self, key):
+        """A record as a table of a setup."""
+        rows = {"id": place_of(key)[1], **self.map[key]}
+        lines = [line_of(name, rows[name]) for name in MEMBERS[kind_of(key)] if rows[name] is not None]
+        return "".join([f"\n[[{kind_of(key)}]]\n", *lines])

@@ -1,8 +1,9 @@
--- What a setup has, as a line.
+-- What a setup has, as a line, and what is seldom meant in it.
 use Rattle.std.specs.Prelude.{ℕ, nat_eq, List, [], ◌++◌, length, if◌then◌else◌, codes, decimal}
 use Rattle.tsn_types.specs.declared.keys.Kind.{Kind}
 use Rattle.tsn_types.specs.declared.keys.Kind.TheVariants as kinds
 use Rattle.tsn_config.specs.Ids.{ids_of}
+use Rattle.tsn_remarks.specs.Remarks.{remarks}
 use Rattle.tsn_undo.specs.Ledger.{present}
 use Rattle.tsn_bridge.specs.State.{State}
 
@@ -21,3 +22,7 @@ summary s =
     ++ counted (codes "filter") (count_of kinds.Filter s) ++ codes ", "
     ++ counted (codes "gate") (count_of kinds.Gate s) ++ codes ", "
     ++ counted (codes "meter") (count_of kinds.Meter s) ++ codes "\n"
+
+-- that, and behind it what is allowed in the configuration but seldom meant
+abbrev pub told : State → List ℕ
+told s = summary s ++ remarks (present s.book)

@@ -1,5 +1,6 @@
 pub mod Checking
 pub mod Failures
+pub mod Lines
 pub mod Listing
 pub mod Opening
 pub mod Program

@@ -8,12 +8,12 @@ use Rattle.tsn_bridge.specs.State.{State}
 use Rattle.tsn_bridge.specs.Beginning.{standard}
 use Rattle.tsn_serve.specs.Answers.{Answers, BreaksInWriting}
 use Rattle.tsn_serve.specs.Outcomes.{Moment, Outcome, most_reads}
-use Rattle.tsn_program.specs.Checking.{summary}
+use Rattle.tsn_program.specs.Checking.{told}
 use Rattle.tsn_program.specs.Failures.{failure_line}
 use Rattle.tsn_program.specs.Listing.{Enables, EnablesNot, EndsEarly, lines, listing_refusal}
 use Rattle.tsn_program.specs.Opening.{opened}
 use Rattle.tsn_words.specs.declared.arguments.Asked.{Asked}
-use Rattle.tsn_words.specs.declared.arguments.Asked.TheVariants.{Script, States, Serve, Check, Journal, Shown, Refused}
+use Rattle.tsn_words.specs.declared.arguments.Asked.TheVariants.{Script, States, Serve, Check, Lines, Journal, Shown, Refused}
 use Rattle.tsn_words.specs.declared.arguments.Listing.{Listing}
 use Rattle.tsn_program.specs.declared.failures.Failure.{Failure}
 use Rattle.tsn_program.specs.declared.failures.Failure.TheVariants as failures
@@ -117,7 +117,7 @@ ServesStates x setup output status errors =
 -- What there is was shown; or nothing was, since memory was wanting.
 abbrev pub ShowsSummary : State → Output → Result (Unit {0}) Failure → Type 0
 ShowsSummary s output outcome =
-    Shows output (summary s) outcome
+    Shows output (told s) outcome
     ⊎ ((outcome ≡ Err (failures.Fault Memory)) × (output.new ≡ output.old))
 
 -- What came behind a moment of an output.
@@ -168,6 +168,7 @@ IsAlone (Script file (Some journal)) = ⊥
 IsAlone (States file listing) = Unit {0}
 IsAlone (Serve file listen serving kept) = ⊥
 IsAlone (Check file) = Unit {0}
+IsAlone Lines = ⊥
 IsAlone (Journal file look) = ⊥
 IsAlone (Shown text) = Unit {0}
 IsAlone (Refused text) = Unit {0}
@@ -184,6 +185,7 @@ Serves (Serve file listen serving kept) setup old new status errors = ⊥
 Serves (Check file) setup old new status errors =
     ReadsNothing (old standard) (new standard)
     × ServesCheck setup (output_of (old standard) (new standard)) status errors
+Serves Lines setup old new status errors = ⊥
 Serves (Journal file look) setup old new status errors = ⊥
 Serves (Shown text) setup old new status errors =
     ReadsNothing (old standard) (new standard)

@@ -1,6 +1,6 @@
-//! A look at a setup: what it has, or why it opens no bridge, and where it is at fault.
+//! A look at a setup: what it has and what is seldom meant in it, or why it opens no bridge, and where it is at fault.
 ghost use Rattle.std.specs.Prelude.{◌≡◌, ◌+◌, ◌≤◌, [], ◌++◌, length, IfOk};
-ghost use Rattle.tsn_program.specs.Checking.{count_of, counted, summary};
+ghost use Rattle.tsn_program.specs.Checking.{count_of, counted, summary, told};
 ghost use Rattle.tsn_program.specs.Program.{ServesCheck, ShowsSummary, TellsFault};
 ghost use Rattle.tsn_replies.specs.declared.text.TheConstants.{CAPACITY};
 
@@ -10,6 +10,7 @@ use crate::program::{fail, show, status_of, tell};
 use std::alloc::{AllocError, Global};
 use tsn_bridge::bridge::Bridge;
 use tsn_bytes::{ByteOut, Fault};
+use tsn_remarks::remarks;
 use tsn_replies::ShortText;
 use tsn_types::keys::Kind;
 use tsn_types::refusals::Refusal;
@@ -54,13 +55,24 @@ fn summary(alloc: Global, bridge: &Bridge) -> Result<ShortText, AllocError>
     Ok(text)
 }
 
-// Shows what there is.
+// What there is, and behind it what is seldom meant.
+fn told(alloc: Global, bridge: &Bridge) -> Result<Vec<u8>, AllocError>
+    ensures { IfOk result (λ text. text.items ≡ told bridge.now) }
+{
+    let summary = summary(alloc, bridge)?;
+    let remarks = remarks(alloc, bridge.config())?;
+    let mut text = Vec::from_slice(alloc, summary.as_slice())?;
+    text.extend_from_slice(remarks.as_bytes())?;
+    Ok(text)
+}
+
+// Shows what there is, and what is seldom meant in it.
 fn show_summary<W: ByteOut>(alloc: Global, bridge: &Bridge, writer: &mut W) -> Result<(), Failure>
     ensures { ShowsSummary bridge.now
         (record { old = W.taken writer.old; new = W.taken writer.new; held_back = W.pending writer.new; failed = W.has_failed writer.new })
         result }
 {
-    match summary(alloc, bridge) {
+    match told(alloc, bridge) {
         Ok(text) => show(writer, text.as_slice()),
         Err(_) => Err(Failure::Fault(Fault::Memory)),
     }
@@ -77,8 +89,9 @@ fn fail_at<E: ByteOut>(alloc: Global, setup: &[u8], why: &Refusal, errors: &mut 
     status
 }
 
-/// Looks at the setup of a text, and gives the status: 0 where it opens a bridge, after a line that says what this has; 1
-/// where it opens none, after the line of that failure and a text that may say where the setup is at fault.
+/// Looks at the setup of a text, and gives the status: 0 where it opens a bridge, after a line that says what this has, and a
+/// line on each thing in it that is seldom meant; 1 where it opens none, after the line of that failure and a text that may say
+/// where the setup is at fault.
 pub fn check_setup<O: ByteOut, E: ByteOut>(
     alloc: Global,
     setup: &[u8],

@@ -5,6 +5,7 @@
 mod checking;
 mod failures;
 mod files;
+mod lines;
 mod opening;
 mod program;
 mod script;
@@ -14,6 +15,7 @@ mod states;
 
 pub use failures::Failure;
 pub use files::read_setup;
+pub use lines::check_lines;
 pub use opening::bridge_of;
 pub use program::{fail, run};
 pub use serving::{last_instant, serve};

@@ -191,6 +191,7 @@ pub fn run<R: ByteIn, O: ByteOut, E: ByteOut>(
         Asked::States { listing, .. } => serve_states(alloc, setup, listing, output, errors),
         Asked::Serve { .. } => unreachable!(),
         Asked::Check { .. } => check_setup(alloc, setup, output, errors),
+        Asked::Lines => unreachable!(),
         Asked::Journal { .. } => unreachable!(),
         Asked::Shown(text) => serve_text(text.as_bytes(), output, errors),
         Asked::Refused(text) => refuse_words(text.as_bytes(), errors),

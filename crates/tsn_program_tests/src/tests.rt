@@ -88,7 +88,7 @@ fn asked(alloc: Global, words: &[&str]) -> Result<Asked, Fail>
 {
     match read(alloc, words)? {
         Asked::Serve { .. } => Err(Fail::from("connections are asked for")),
-        Asked::Journal { .. } | Asked::Script { kept: Some(_), .. } => {
+        Asked::Lines | Asked::Journal { .. } | Asked::Script { kept: Some(_), .. } => {
             Err(Fail::from("a journal is asked for"))
         }
         asked => Ok(asked),
@@ -362,8 +362,14 @@ fn is_look(asked: Asked, wanted: Look) -> bool {
 /// A look at a journal names no setup.
 #[test]
 fn a_journal_is_looked_at(rt: HostRuntime) -> Result<(), Fail> {
-    let cases: [(&'static [&'static str], Look); 6] = [
+    let new = String::from_str(rt.alloc(), "new.journal")?;
+    let cases: [(&'static [&'static str], Look); 8] = [
         (&["journal", "cell.journal"], Look::Whole),
+        (&["journal", "cell.journal", "--setup"], Look::Setup),
+        (
+            &["journal", "--begin", "new.journal", "cell.journal"],
+            Look::Begin(new),
+        ),
         (&["journal", "cell.journal", "--since", "0"], Look::Since(0)),
         (
             &["journal", "--since=4294967295", "cell.journal"],
@@ -384,7 +390,7 @@ fn a_journal_is_looked_at(rt: HostRuntime) -> Result<(), Fail> {
 }
 
 const TWO_LOOKS: &'static str =
-    "error: at most one of --since, --diff and --mend may be given\n\nUsage: tsnd <COMMAND>\n\nFor more information, try '--help'.\n";
+    "error: at most one of --since, --diff, --setup, --begin and --mend may be given\n\nUsage: tsnd <COMMAND>\n\nFor more information, try '--help'.\n";
 
 const NO_ENTRY: &'static str =
     "error: invalid value '0' for '--diff <diff>': 0 is not in 1..=4294967295\n\nFor more information, try '--help'.\n";
@@ -395,8 +401,10 @@ const LATE_ENTRY: &'static str =
 /// Two looks at once are refused, and a number that no entry has.
 #[test]
 fn a_look_that_is_none_is_refused(rt: HostRuntime) -> Result<(), Fail> {
-    let cases: [(&'static [&'static str], &'static str); 6] = [
+    let cases: [(&'static [&'static str], &'static str); 8] = [
         (&["--since", "1", "--diff", "1"], TWO_LOOKS),
+        (&["--setup", "--mend"], TWO_LOOKS),
+        (&["--begin", "new.journal", "--setup"], TWO_LOOKS),
         (&["--since", "1", "--mend"], TWO_LOOKS),
         (&["--mend", "--diff", "1"], TWO_LOOKS),
         (&["--since", "1", "--diff", "1", "--mend"], TWO_LOOKS),

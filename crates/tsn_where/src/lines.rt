@@ -3,6 +3,7 @@ use crate::faults::{
     Fault, Place, Sought, Wrong, fault_of_kind, fault_of_tables, referring, table_of, whole,
     wrong_table,
 };
+use crate::told::is_plain;
 use std::alloc::{AllocError, Global};
 use toml::Value;
 use tsn_records::allowed::{Allowed, DOCUMENT, KINDS, Member, name_of};
@@ -11,22 +12,6 @@ use tsn_types::refusals::Refusal;
 
 /// What an array of the document's tables is called.
 const TABLES: &str = "an array of tables";
-
-/// The most bytes of a name that is told.
-const LONGEST_NAME: usize = 60;
-
-// Whether a name may stand in a line as it is.
-fn is_plain(name: &str) -> bool {
-    if name.is_empty() || LONGEST_NAME < name.len() {
-        return false;
-    }
-    for byte in name.as_bytes() {
-        if *byte <= b' ' || 126 < *byte {
-            return false;
-        }
-    }
-    true
-}
 
 // What stands there.
 fn found_text(alloc: Global, value: &Value) -> Result<String, AllocError> {

@@ -18,7 +18,7 @@ use Rattle.clap.specs.declared.builder.action.ArgAction.TheVariants.{Set}
 use Rattle.clap.specs.declared.builder.range.ValueRange.{ValueRange}
 use Rattle.clap.specs.declared.error.kind.ErrorKind.TheVariants.{DisplayHelp, InvalidSubcommand}
 use Rattle.clap.proofs.ValueTestLemmas.{accepts-Accepts}
-use Rattle.tsn_words.specs.Asking.{HasCheck, HasJournal, HasNumber, HasServe, HasStates, HasText, IsComplete, MayHaveNumber, last_entry, last_probe, longest_idle, longest_step, most_connections, most_instants, most_workers, program}
+use Rattle.tsn_words.specs.Asking.{HasJournal, HasNumber, HasServe, HasStates, HasText, IsComplete, MayHaveNumber, last_entry, last_probe, longest_idle, longest_step, most_connections, most_instants, most_workers, program}
 use Rattle.tsn_words.proofs.OneValue.{DefaultsFit, RowsFit, RuleFits, RulesFit, after_fit, given_value, no_kind, value_fits}
 
 -- ---- no fault comes where `help` is no subcommand
@@ -281,30 +281,14 @@ serve_given words none =
 
 -- ---- `check`
 
-looked : Text → Text → Bool
-looked id v = true
-
 check_built : Shape
 unfolding fourth
 check_built = fourth (built program).subs
-
-check_fit : RulesFit looked check_built.rules
-unfolding looked fourth check_built
-check_fit = (one looked _ refl refl refl (λ v e. refl), ((tt, inl refl), tt))
 
 -- what one test does not miss is given
 one_given : (a : Bool) → ((true && not a) || false) ≡ false → a ≡ true
 one_given false h = (cc)
 one_given true h = refl
-
-check_given : (words : List Text) → level_fault check_built [] nothing_held words false [] ≡ [] → HasCheck (Some (rows_at check_built words))
-unfolding looked fourth check_built
-check_given words none =
-    let parts = level check_built [] words false [] none in
-    let rows = rows_after check_built.rules [] words in
-    let fit = after_fit looked check_built [] refl check_fit words parts.walks parts.settles in
-    let wanted = (checks check_built rows false parts.checks).1 in
-    record { named = refl; file = text_given looked (codes "check") (codes "FILE") rows fit (one_given (is_given (codes "FILE") rows) wanted) }
 
 -- ---- `journal`
 
@@ -324,7 +308,13 @@ journal_fit = (
     one kept _ refl refl refl (λ v e. e),
     (
       one kept _ refl refl refl (λ v e. e),
-      (((refl, refl), inr (inr (record { action = refl; range = refl; missing = refl; passes = refl }))), ((tt, inl refl), tt)),
+      (
+        ((refl, refl), inr (inr (record { action = refl; range = refl; missing = refl; passes = refl }))),
+        (
+          one kept _ refl refl refl (λ v e. refl),
+          (((refl, refl), inr (inr (record { action = refl; range = refl; missing = refl; passes = refl }))), ((tt, inl refl), tt)),
+        ),
+      ),
     ),
   ),
 )
@@ -366,7 +356,7 @@ by_stop (Some p) well none some = go (bytes_eq (codes "script") p.0) (bytes_eq (
     go true b c d e f is none some = inl refl
     go false true c d e f is none some = inr (inl (states_given p.1 none))
     go false false true d e f is none some = inr (inr (inl (serve_given p.1 none)))
-    go false false false true e f is none some = inr (inr (inr (inl (check_given p.1 none))))
+    go false false false true e f is none some = inr (inr (inr (inl refl)))
     go false false false false true f is none some = inr (inr (inr (inr (journal_given p.1 none))))
     go false false false false false true is none some = absurd (no_help is)
     go false false false false false false is none some = (cc)

@@ -1,7 +1,8 @@
 -- The words of worked command lines.
-use Rattle.std.proofs.Common.{◌⊎◌, ◌↔◌, Bool, true, false, not, ◌&&◌, sym, ◌≡◌, ℕ, List, [], ◌∷◌, codes, refl, ap, ap₂, subst, ◌∙◌, inl, inr, Option, Some, None, Result, Ok, Err, IfErr, IfOk, MatchResult, is_ok, map, option_map, unwrap_or}
+use Rattle.std.proofs.Common.{◌⊎◌, ◌↔◌, Bool, true, false, not, ◌&&◌, sym, ◌≡◌, ℕ, List, [], ◌∷◌, codes, refl, ap, ap₂, subst, ◌∙◌, inl, inr, Option, Some, None, Result, Ok, Err, IfErr, IfOk, MatchResult, arith, is_ok, is_some, map, option_map, unwrap_or, ◌+◌, ◌≤◌}
 use Rattle.std.specs.Prelude.{IsOk, IsSome}
 use Rattle.std.specs.Borrow.{Bor}
+use Rattle.std.proofs.lemmas.Result.{IfOk-weaker}
 use Rattle.std.specs.Result.{result_unwrap_or}
 use Rattle.std.specs.Str.Parse.{ParsesUnsigned}
 use Rattle.clap.specs.declared.error.Error.{Error}
@@ -19,10 +20,10 @@ use Rattle.clap.specs.Words.{first_value, rows_of}
 use Rattle.clap.specs.declared.parser.matches.Found.{Found}
 use Rattle.clap.proofs.WalkLemmas.{first_value-rows}
 use Rattle.clap.proofs.OnLiterals.{clap_on_literals}
-use Rattle.tsn_words.specs.Asking.{AsksFor, Given, GivesKept, GivesTooMuch, GivesWrongSyncs, HasCheck, HasJournal, HasServe, HasStates, IsComplete, IsNumber, IsRefusal, IsWork, Misgives, number_of, program, text_given}
+use Rattle.tsn_words.specs.Asking.{AsksFor, Given, GivesCheck, GivesKept, GivesNoCheck, GivesTooMuch, GivesWrongSyncs, HasJournal, HasServe, HasStates, IsComplete, IsFlagged, IsNumber, IsRefusal, IsWork, Misgives, Names, TellsSomething, bit, has_text, is_flagged, looks, number_of, program, text_given}
 use Rattle.tsn_words.specs.declared.kept.Kept.{Kept}
 use Rattle.tsn_words.specs.declared.arguments.Asked.{Asked}
-use Rattle.tsn_words.specs.declared.arguments.Asked.TheVariants.{Script, States, Serve, Check, Journal, Shown, Refused}
+use Rattle.tsn_words.specs.declared.arguments.Asked.TheVariants.{Script, States, Serve, Check, Lines, Journal, Shown, Refused}
 
 -- what a parse finds wrong is computed for this program
 pub simple : is_simple_and_free program ≡ true
@@ -119,6 +120,11 @@ checked_faultless : (name : List ℕ) → fault_of program (name ∷ codes "chec
 unfolding clap_on_literals
 checked_faultless name = refl
 
+-- or at command lines
+lines_looked_at : (name : List ℕ) → map (text_given (subcommand_of program (name ∷ codes "check" ∷ codes "--lines" ∷ []))) (codes "FILE" ∷ codes "lines" ∷ []) ≡ None ∷ Some (codes "true") ∷ []
+unfolding clap_on_literals
+lines_looked_at name = refl
+
 -- a script with a journal, whose setup's file is left out
 kept : (name : List ℕ) → map (text_given (subcommand_of program (name ∷ codes "script" ∷ codes "--journal" ∷ codes "j" ∷ []))) (codes "FILE" ∷ codes "journal" ∷ codes "sync" ∷ [])
     ≡ None ∷ Some (codes "j") ∷ None ∷ []
@@ -128,23 +134,31 @@ kept name = refl
 -- a look at a journal, by each of the options and by none
 abbrev looked_at : List ℕ → List (List ℕ) → List (Option (List ℕ))
 looked_at name options = map (text_given (subcommand_of program (name ∷ codes "journal" ∷ codes "j" ∷ options)))
-    (codes "JOURNAL" ∷ codes "since" ∷ codes "diff" ∷ codes "mend" ∷ [])
+    (codes "JOURNAL" ∷ codes "since" ∷ codes "diff" ∷ codes "setup" ∷ codes "begin" ∷ codes "mend" ∷ [])
 
-whole : (name : List ℕ) → looked_at name [] ≡ Some (codes "j") ∷ None ∷ None ∷ Some (codes "false") ∷ []
+whole : (name : List ℕ) → looked_at name [] ≡ Some (codes "j") ∷ None ∷ None ∷ Some (codes "false") ∷ None ∷ Some (codes "false") ∷ []
 unfolding clap_on_literals
 whole name = refl
 
-since : (name : List ℕ) → looked_at name (codes "--since=0" ∷ []) ≡ Some (codes "j") ∷ Some (codes "0") ∷ None ∷ Some (codes "false") ∷ []
+since : (name : List ℕ) → looked_at name (codes "--since=0" ∷ []) ≡ Some (codes "j") ∷ Some (codes "0") ∷ None ∷ Some (codes "false") ∷ None ∷ Some (codes "false") ∷ []
 unfolding clap_on_literals
 since name = refl
 
-diff : (name : List ℕ) → looked_at name (codes "--diff" ∷ codes "4294967295" ∷ []) ≡ Some (codes "j") ∷ None ∷ Some (codes "4294967295") ∷ Some (codes "false") ∷ []
+diff : (name : List ℕ) → looked_at name (codes "--diff" ∷ codes "4294967295" ∷ []) ≡ Some (codes "j") ∷ None ∷ Some (codes "4294967295") ∷ Some (codes "false") ∷ None ∷ Some (codes "false") ∷ []
 unfolding clap_on_literals
 diff name = refl
 
-mended : (name : List ℕ) → looked_at name (codes "--mend" ∷ []) ≡ Some (codes "j") ∷ None ∷ None ∷ Some (codes "true") ∷ []
+mended : (name : List ℕ) → looked_at name (codes "--mend" ∷ []) ≡ Some (codes "j") ∷ None ∷ None ∷ Some (codes "false") ∷ None ∷ Some (codes "true") ∷ []
 unfolding clap_on_literals
 mended name = refl
+
+exported : (name : List ℕ) → looked_at name (codes "--setup" ∷ []) ≡ Some (codes "j") ∷ None ∷ None ∷ Some (codes "true") ∷ None ∷ Some (codes "false") ∷ []
+unfolding clap_on_literals
+exported name = refl
+
+begun : (name : List ℕ) → looked_at name (codes "--begin=n" ∷ []) ≡ Some (codes "j") ∷ None ∷ None ∷ Some (codes "false") ∷ Some (codes "n") ∷ Some (codes "false") ∷ []
+unfolding clap_on_literals
+begun name = refl
 
 -- entries are counted from 1, to 2^32 - 1
 no_entry : (name : List ℕ) → fault_of program (name ∷ codes "journal" ∷ codes "j" ∷ codes "--diff" ∷ codes "0" ∷ []) ≡ ValueValidation ∷ []
@@ -227,7 +241,7 @@ states_given rows complete = elim complete [
   | inl named ↦ absurd (never_named (codes "states") (codes "script") refl refl named)
   | inr (inl has) ↦ has
   | inr (inr (inl has)) ↦ absurd (never_named (codes "states") (codes "serve") refl refl has.named)
-  | inr (inr (inr (inl has))) ↦ absurd (never_named (codes "states") (codes "check") refl refl has.named)
+  | inr (inr (inr (inl named))) ↦ absurd (never_named (codes "states") (codes "check") refl refl named)
   | inr (inr (inr (inr has))) ↦ absurd (never_named (codes "states") (codes "journal") refl refl has.named)
 ]
 
@@ -237,18 +251,8 @@ serve_given rows complete = elim complete [
   | inl named ↦ absurd (never_named (codes "serve") (codes "script") refl refl named)
   | inr (inl has) ↦ absurd (never_named (codes "serve") (codes "states") refl refl has.named)
   | inr (inr (inl has)) ↦ has
-  | inr (inr (inr (inl has))) ↦ absurd (never_named (codes "serve") (codes "check") refl refl has.named)
+  | inr (inr (inr (inl named))) ↦ absurd (never_named (codes "serve") (codes "check") refl refl named)
   | inr (inr (inr (inr has))) ↦ absurd (never_named (codes "serve") (codes "journal") refl refl has.named)
-]
-
--- and what `check` wants
-pub check_given : (rows : List Row) → IsComplete (Some (codes "check", rows)) → HasCheck (Some (codes "check", rows))
-check_given rows complete = elim complete [
-  | inl named ↦ absurd (never_named (codes "check") (codes "script") refl refl named)
-  | inr (inl has) ↦ absurd (never_named (codes "check") (codes "states") refl refl has.named)
-  | inr (inr (inl has)) ↦ absurd (never_named (codes "check") (codes "serve") refl refl has.named)
-  | inr (inr (inr (inl has))) ↦ has
-  | inr (inr (inr (inr has))) ↦ absurd (never_named (codes "check") (codes "journal") refl refl has.named)
 ]
 
 -- and what `journal` wants
@@ -257,7 +261,7 @@ journal_given rows complete = elim complete [
   | inl named ↦ absurd (never_named (codes "journal") (codes "script") refl refl named)
   | inr (inl has) ↦ absurd (never_named (codes "journal") (codes "states") refl refl has.named)
   | inr (inr (inl has)) ↦ absurd (never_named (codes "journal") (codes "serve") refl refl has.named)
-  | inr (inr (inr (inl has))) ↦ absurd (never_named (codes "journal") (codes "check") refl refl has.named)
+  | inr (inr (inr (inl named))) ↦ absurd (never_named (codes "journal") (codes "check") refl refl named)
   | inr (inr (inr (inr has))) ↦ has
 ]
 
@@ -270,19 +274,26 @@ no_syncs journal syncs none (inr alone) =
     let bad : Some (codes "none") ≡ None = sym alone.1 ∙ none in
     (cc)
 
+-- a check that may not be given so names `check`
+check_named : (given : Given) → GivesNoCheck given → Names given (codes "check")
+check_named given (inl neither) = neither.named
+check_named given (inr both) = both.1.named
+
 -- `script` alone asks for no look at a journal and says no word on syncs, so what it asks for is done
 pub script_works : (name : List ℕ) (words : List (List ℕ)) (given : Given) (asked : Asked) → given ≡ subcommand_of program words → words ≡ name ∷ codes "script" ∷ [] → AsksFor given asked → IsWork asked
 script_works name words given (Script file kept) is same asks = tt
 script_works name words given (States file listing) is same asks = tt
 script_works name words given (Serve file listen serving kept) is same asks = tt
 script_works name words given (Check file) is same asks = tt
+script_works name words given Lines is same asks = tt
 script_works name words given (Journal file look) is same asks = tt
 script_works name words given (Shown text) is same asks = asks
 script_works name words given (Refused text) is same asks =
     let named : given ≡ Some (codes "script", []) = is ∙ ap (subcommand_of program) same ∙ script_named name in
     elim asks [
       | inl much ↦ absurd (never_named (codes "script") (codes "journal") refl refl (sym (ap (option_map (λ (p : List ℕ × List Row). p.0)) named) ∙ much.named))
-      | inr wrong ↦ absurd (no_syncs (text_given given (codes "journal")) (text_given given (codes "sync")) (ap (λ (g : Given). text_given g (codes "sync")) named) wrong.wrong)
+      | inr (inl wrong) ↦ absurd (no_syncs (text_given given (codes "journal")) (text_given given (codes "sync")) (ap (λ (g : Given). text_given g (codes "sync")) named) wrong.wrong)
+      | inr (inr wrong) ↦ absurd (never_named (codes "script") (codes "check") refl refl (sym (ap (option_map (λ (p : List ℕ × List Row). p.0)) named) ∙ check_named given wrong))
     ]
 
 -- what is said of the words that are there
@@ -315,11 +326,41 @@ module _ (name : List ℕ) (found : Found) where
       (subst (λ s. Misgives (first_value found (codes "journal")) s) (first_value-rows found (codes "sync")) wrong)
 
 -- what a refusal asks for, where it is right
-pub refused_asks : (given : Given) (asked : Asked) → IsRefusal asked → GivesTooMuch given ⊎ GivesWrongSyncs given → AsksFor given asked
+pub refused_asks : (given : Given) (asked : Asked) → IsRefusal asked → GivesTooMuch given ⊎ (GivesWrongSyncs given ⊎ GivesNoCheck given) → AsksFor given asked
 refused_asks given (Script file kept) is wrong = absurd is
 refused_asks given (States file listing) is wrong = absurd is
 refused_asks given (Serve file listen serving kept) is wrong = absurd is
 refused_asks given (Check file) is wrong = absurd is
+refused_asks given Lines is wrong = absurd is
 refused_asks given (Journal file look) is wrong = absurd is
 refused_asks given (Shown text) is wrong = absurd is
 refused_asks given (Refused text) is wrong = wrong
+
+-- what is read of a check is what the rows have
+pub check_in_rows : (found : Found) (file : Option (List ℕ)) (is_lines : Bool) → first_value found (codes "FILE") ≡ file → ((is_lines ≡ true) ↔ IsFlagged (Some (codes "check", rows_of found)) (codes "lines"))
+    → GivesCheck (Some (codes "check", rows_of found)) file is_lines
+check_in_rows found file is_lines is flagged = record { named = refl; setup = given_in_rows (codes "check") found (codes "FILE") file is; lines = flagged }
+
+-- a check that may not be given so is refused
+pub both_refused : {E : Type 0} (found : Found) (file : List ℕ) (r : Result Asked E) → GivesCheck (Some (codes "check", rows_of found)) (Some file) true → IfOk r (λ asked. IsRefusal asked × TellsSomething asked)
+    → IfOk r (AsksFor (Some (codes "check", rows_of found)))
+both_refused found file r gives refused = IfOk-weaker r _ _ (λ asked h. refused_asks _ asked h.0 (inr (inr (inr (file, gives))))) refused
+
+pub neither_refused : {E : Type 0} (found : Found) (r : Result Asked E) → GivesCheck (Some (codes "check", rows_of found)) None false → IfOk r (λ asked. IsRefusal asked × TellsSomething asked)
+    → IfOk r (AsksFor (Some (codes "check", rows_of found)))
+neither_refused found r gives refused = IfOk-weaker r _ _ (λ asked h. refused_asks _ asked h.0 (inr (inr (inl gives)))) refused
+
+-- what something is made of is there with it
+pub some_mapped : {X Y : Type 0} (f : X → Y) (o : Option X) → is_some o ≡ is_some (option_map f o)
+some_mapped f None = refl
+some_mapped f (Some x) = refl
+
+-- one look is given, or none
+pub begin_alone : (given : Given) (text : List ℕ) → text_given given (codes "begin") ≡ Some text → looks given ≤ 1 → looks given ≡ 1
+begin_alone given text is few =
+    let one : bit (has_text given (codes "begin")) ≡ 1 = ap (λ o. bit (is_some o)) is in
+    omega (arith, one, few)
+
+pub none_given : (given : Given) → text_given given (codes "since") ≡ None → text_given given (codes "diff") ≡ None → text_given given (codes "begin") ≡ None → is_flagged given (codes "setup") ≡ false → is_flagged given (codes "mend") ≡ false
+    → looks given ≡ 0
+none_given given since diff begin setup mend = rw (since, diff, begin, setup, mend) refl

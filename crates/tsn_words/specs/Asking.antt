@@ -1,5 +1,6 @@
 -- What the words of a command line ask for.
-use Rattle.std.specs.Prelude.{◌≡◌, ◌≢◌, ◌⊎◌, ◌↔◌, IsTrue, ℕ, ◌^◌, ◌-◌, ◌<◌, List, [], Bool, Option, Some, None, Result, Ok, Err, codes, true, false, option_and_then, option_map, string_bytes, ⊤}
+use Rattle.std.specs.Prelude.{◌≡◌, ◌≢◌, ◌⊎◌, ◌↔◌, IsTrue, ℕ, ◌+◌, ◌^◌, ◌-◌, ◌<◌, List, [], Bool, Option, Some, None, Result, Ok, Err, codes, true, false, is_some, option_and_then, option_map, string_bytes, unwrap_or, ⊤}
+use Rattle.std.specs.Str.{bytes_eq}
 use Rattle.std.specs.Str.Parse.{IsNumeral, digits_value, without_leading_plus}
 use Rattle.clap.specs.Simple.{App, new_app, new_rule, on_top, subcommand_of, with_rule, with_subcommand}
 use Rattle.clap.specs.Values.{IsUnsignedIn}
@@ -11,7 +12,7 @@ use Rattle.clap.specs.declared.builder.value_parser.ValueParser.TheVariants.{Uns
 use Rattle.clap.specs.declared.error.kind.ErrorKind.{ErrorKind}
 use Rattle.clap.specs.declared.error.kind.ErrorKind.TheVariants.{DisplayHelp, DisplayVersion}
 use Rattle.tsn_words.specs.declared.arguments.Asked.{Asked}
-use Rattle.tsn_words.specs.declared.arguments.Asked.TheVariants.{Script, States, Serve, Check, Journal, Shown, Refused}
+use Rattle.tsn_words.specs.declared.arguments.Asked.TheVariants.{Script, States, Serve, Check, Lines, Journal, Shown, Refused}
 use Rattle.tsn_words.specs.declared.arguments.Listing.{Listing}
 use Rattle.tsn_words.specs.declared.kept.Kept.{Kept}
 use Rattle.tsn_words.specs.declared.kept.Keeping.{Keeping}
@@ -19,7 +20,7 @@ use Rattle.tsn_words.specs.declared.kept.Keeping.TheVariants.{Given as IsGiven, 
 use Rattle.tsn_words.specs.declared.kept.Syncs.{Syncs}
 use Rattle.tsn_words.specs.declared.kept.Syncs.TheVariants.{Each, None as NoSyncs}
 use Rattle.tsn_words.specs.declared.look.Look.{Look}
-use Rattle.tsn_words.specs.declared.look.Look.TheVariants.{Whole, Since, Diff, Mend}
+use Rattle.tsn_words.specs.declared.look.Look.TheVariants.{Whole, Since, Diff, Mend, Setup, Begin}
 use Rattle.tsn_words.specs.declared.serving.Serving.{Serving}
 
 -- The longest time from one instant of `states` to the next, and the most instants.
@@ -104,9 +105,9 @@ serve =
     (optional (any_text (codes "sync"))))
     (flag (codes "log"))
 
--- `check`, which wants a setup's file.
+-- `check`, which may be given a setup's file, and whether it looks at command lines.
 abbrev pub check : App
-check = with_rule (new_app (codes "check")) (setup_file true)
+check = with_rule (with_rule (new_app (codes "check")) (setup_file false)) (flag (codes "lines"))
 
 -- The file of a journal, which is wanted.
 abbrev pub journal_file : Rule
@@ -115,10 +116,12 @@ journal_file = record (new_rule (codes "JOURNAL")) { required = true }
 -- `journal`, which wants a journal's file, and may be given what of it is asked for.
 abbrev pub journal : App
 journal =
-    with_rule (with_rule (with_rule (with_rule (new_app (codes "journal"))
+    with_rule (with_rule (with_rule (with_rule (with_rule (with_rule (new_app (codes "journal"))
     journal_file)
     (optional (number (codes "since") 0 last_entry)))
     (optional (number (codes "diff") 1 last_entry)))
+    (flag (codes "setup")))
+    (optional (any_text (codes "begin"))))
     (flag (codes "mend"))
 
 -- `tsnd`, which has a version and wants a subcommand.
@@ -145,6 +148,7 @@ IsWork (Script file kept) = ⊤
 IsWork (States file listing) = ⊤
 IsWork (Serve file listen serving kept) = ⊤
 IsWork (Check file) = ⊤
+IsWork Lines = ⊤
 IsWork (Journal file look) = ⊤
 IsWork (Shown text) = ⊥
 IsWork (Refused text) = ⊥
@@ -155,6 +159,7 @@ IsRefusal (Script file kept) = ⊥
 IsRefusal (States file listing) = ⊥
 IsRefusal (Serve file listen serving kept) = ⊥
 IsRefusal (Check file) = ⊥
+IsRefusal Lines = ⊥
 IsRefusal (Journal file look) = ⊥
 IsRefusal (Shown text) = ⊥
 IsRefusal (Refused text) = ⊤
@@ -165,6 +170,7 @@ TellsSomething (Script file kept) = ⊤
 TellsSomething (States file listing) = ⊤
 TellsSomething (Serve file listen serving kept) = ⊤
 TellsSomething (Check file) = ⊤
+TellsSomething Lines = ⊤
 TellsSomething (Journal file look) = ⊤
 TellsSomething (Shown text) = string_bytes text ≢ []
 TellsSomething (Refused text) = string_bytes text ≢ []
@@ -175,6 +181,7 @@ file_of (Script file kept) = option_map string_bytes file
 file_of (States file listing) = Some (string_bytes file)
 file_of (Serve file listen serving kept) = option_map string_bytes file
 file_of (Check file) = Some (string_bytes file)
+file_of Lines = None
 file_of (Journal file look) = None
 file_of (Shown text) = None
 file_of (Refused text) = None
@@ -246,11 +253,6 @@ pub record HasServe (given : Given) : Type 0 where
   pub probe : MayHaveNumber given (codes "probe") 0 last_probe
   pub idle : MayHaveNumber given (codes "idle") 1 longest_idle
 
--- `check` is named, and the file that it wants is given.
-pub record HasCheck (given : Given) : Type 0 where
-  pub named : Names given (codes "check")
-  pub file : HasText given (codes "FILE")
-
 -- `journal` is named, the file that it wants is given, and the entries that may be asked for are in range.
 pub record HasJournal (given : Given) : Type 0 where
   pub named : Names given (codes "journal")
@@ -260,7 +262,7 @@ pub record HasJournal (given : Given) : Type 0 where
 
 -- A subcommand of the program is named, and what it wants is given.
 abbrev pub IsComplete : Given → Type 0
-IsComplete given = Names given (codes "script") ⊎ (HasStates given ⊎ (HasServe given ⊎ (HasCheck given ⊎ HasJournal given)))
+IsComplete given = Names given (codes "script") ⊎ (HasStates given ⊎ (HasServe given ⊎ (Names given (codes "check") ⊎ HasJournal given)))
 
 -- No word on syncs is given, and each is made; or `none`.
 abbrev pub GivesSyncs : Option (List ℕ) → Syncs → Type 0
@@ -332,30 +334,43 @@ pub record GivesServe (given : Given) (file : Option (List ℕ)) (listen : List 
   pub serving : GivesServing given x
   pub journal : GivesKept (text_given given (codes "journal")) (text_given given (codes "sync")) kept
 
--- `check` is named, and this file is given to it.
-pub record GivesCheck (given : Given) (file : List ℕ) : Type 0 where
+-- `check` is named, and this file is given to it, or none, and whether it looks at command lines.
+pub record GivesCheck (given : Given) (file : Option (List ℕ)) (is_lines : Bool) : Type 0 where
   pub named : Names given (codes "check")
-  pub setup : text_given given (codes "FILE") ≡ Some file
+  pub setup : text_given given (codes "FILE") ≡ file
+  pub lines : IsTrue is_lines ↔ IsFlagged given (codes "lines")
 
--- This look at a journal is given: `--since` with this number, `--diff` with this number, `--mend`, or none of the three.
+-- A setup's file and command lines are given to `check`, or neither.
+abbrev pub GivesNoCheck : Given → Type 0
+GivesNoCheck given = GivesCheck given None false ⊎ ((file : List ℕ) × GivesCheck given (Some file) true)
+
+-- 1 where it holds
+abbrev pub bit : Bool → ℕ
+bit true = 1
+bit false = 0
+
+-- an option of this name is given, which takes a value; or one that takes none
+abbrev pub has_text : Given → List ℕ → Bool
+has_text given name = is_some (text_given given name)
+
+abbrev pub is_flagged : Given → List ℕ → Bool
+is_flagged given name = unwrap_or (option_map (λ text. bytes_eq text (codes "true")) (text_given given name)) false
+
+-- How many looks at a journal are given.
+abbrev pub looks : Given → ℕ
+looks given =
+    bit (has_text given (codes "since")) + bit (has_text given (codes "diff")) + bit (has_text given (codes "begin"))
+    + bit (is_flagged given (codes "setup")) + bit (is_flagged given (codes "mend"))
+
+-- This look at a journal is given, and it alone: `--since` with this number, `--diff` with this number, `--setup`, `--begin` with
+-- this file, `--mend`, or none of them.
 abbrev pub GivesLook : Given → Look → Type 0
-GivesLook given Whole =
-    (text_given given (codes "since") ≡ None) × (text_given given (codes "diff") ≡ None) × (¬ IsFlagged given (codes "mend"))
-GivesLook given (Since n) =
-    GivesNumber given (codes "since") 0 last_entry n
-    × (text_given given (codes "diff") ≡ None) × (¬ IsFlagged given (codes "mend"))
-GivesLook given (Diff n) =
-    GivesNumber given (codes "diff") 1 last_entry n
-    × (text_given given (codes "since") ≡ None) × (¬ IsFlagged given (codes "mend"))
-GivesLook given Mend =
-    (text_given given (codes "since") ≡ None) × (text_given given (codes "diff") ≡ None) × IsFlagged given (codes "mend")
-
--- More than one of the three is given.
-abbrev pub GivesLooks : Given → Type 0
-GivesLooks given =
-    (HasText given (codes "since") × HasText given (codes "diff"))
-    ⊎ ((HasText given (codes "since") × IsFlagged given (codes "mend"))
-    ⊎ (HasText given (codes "diff") × IsFlagged given (codes "mend")))
+GivesLook given Whole = looks given ≡ 0
+GivesLook given (Since n) = GivesNumber given (codes "since") 0 last_entry n × (looks given ≡ 1)
+GivesLook given (Diff n) = GivesNumber given (codes "diff") 1 last_entry n × (looks given ≡ 1)
+GivesLook given Setup = (is_flagged given (codes "setup") ≡ true) × (looks given ≡ 1)
+GivesLook given (Begin new) = (text_given given (codes "begin") ≡ Some (string_bytes new)) × (looks given ≡ 1)
+GivesLook given Mend = (is_flagged given (codes "mend") ≡ true) × (looks given ≡ 1)
 
 -- `journal` is named, and this file and this look at it are given.
 pub record GivesJournal (given : Given) (file : List ℕ) (x : Look) : Type 0 where
@@ -366,7 +381,7 @@ pub record GivesJournal (given : Given) (file : List ℕ) (x : Look) : Type 0 wh
 -- `journal` is named, and more than one look at its file is given.
 pub record GivesTooMuch (given : Given) : Type 0 where
   pub named : Names given (codes "journal")
-  pub looks : GivesLooks given
+  pub several : 1 < looks given
 
 -- `script` or `serve` is named, and what is given of a journal is wrong.
 pub record GivesWrongSyncs (given : Given) : Type 0 where
@@ -378,10 +393,11 @@ abbrev pub AsksFor : Given → Asked → Type 0
 AsksFor given (Script file kept) = GivesScript given (option_map string_bytes file) kept
 AsksFor given (States file x) = GivesStates given (string_bytes file) x
 AsksFor given (Serve file listen x kept) = GivesServe given (option_map string_bytes file) (string_bytes listen) x kept
-AsksFor given (Check file) = GivesCheck given (string_bytes file)
+AsksFor given (Check file) = GivesCheck given (Some (string_bytes file)) false
+AsksFor given Lines = GivesCheck given None true
 AsksFor given (Journal file look) = GivesJournal given (string_bytes file) look
 AsksFor given (Shown text) = ⊥
-AsksFor given (Refused text) = GivesTooMuch given ⊎ GivesWrongSyncs given
+AsksFor given (Refused text) = GivesTooMuch given ⊎ (GivesWrongSyncs given ⊎ GivesNoCheck given)
 
 -- The words have a fault that is no mistake, or one that is.
 abbrev pub AreShown : List (List ℕ) → Type 0
@@ -394,14 +410,16 @@ AreMistaken words = (kind : ErrorKind) × IsAmong kind (fault_of program words) 
 abbrev pub AskRightly : List (List ℕ) → Asked → Type 0
 AskRightly words asked = (fault_of program words ≡ []) × AsksFor (subcommand_of program words) asked
 
--- Where the words have no fault, a script, a port's states, a server, a look at a setup or at a journal are asked for as the
--- words say; more than one look at a journal is refused, and so are syncs that there are none of. Else there is a text to show, or to refuse the words by, as the fault
--- is. Words that are no text are refused.
+-- Where the words have no fault, a script, a port's states, a server, a look at a setup, at command lines or at a journal are
+-- asked for as the words say; more than one look at a journal is refused, and so are syncs that there are none of, and a check of
+-- nothing or of a setup and of lines at once. Else there is a text to show, or to refuse the words by, as the fault is. Words that
+-- are no text are refused.
 abbrev pub Asks : Option (List (List ℕ)) → Asked → Type 0
 Asks (Some words) (Script file kept) = AskRightly words (Script file kept)
 Asks (Some words) (States file x) = AskRightly words (States file x)
 Asks (Some words) (Serve file listen x kept) = AskRightly words (Serve file listen x kept)
 Asks (Some words) (Check file) = AskRightly words (Check file)
+Asks (Some words) Lines = AskRightly words Lines
 Asks (Some words) (Journal file look) = AskRightly words (Journal file look)
 Asks (Some words) (Shown text) = AreShown words
 Asks (Some words) (Refused text) = AreMistaken words ⊎ AskRightly words (Refused text)
@@ -409,6 +427,7 @@ Asks None (Script file kept) = ⊥
 Asks None (States file x) = ⊥
 Asks None (Serve file listen x kept) = ⊥
 Asks None (Check file) = ⊥
+Asks None Lines = ⊥
 Asks None (Journal file look) = ⊥
 Asks None (Shown text) = ⊥
 Asks None (Refused text) = ⊤

@@ -4,12 +4,12 @@ ghost use Rattle.clap.specs.Words.{app_of, first_value, found_of, kind_of, rows_
 ghost use Rattle.clap.specs.Kinds.{FailsBy};
 ghost use Rattle.clap.specs.Faults.{fault_of};
 ghost use Rattle.tsn_bytes.specs.declared.bytes.Fault.TheVariants.{Memory};
-ghost use Rattle.tsn_words.specs.Asking.{any_text, bare, check, flag, journal, journal_file, number, optional, place_of, program, script, serve, setup_file, states, Asks, AsksFor, GivesListing, HasCheck, HasJournal, HasServe, HasStates, IsComplete, IsRefusal, IsWork, KeepsOrRefuses, TellsSomething};
+ghost use Rattle.tsn_words.specs.Asking.{any_text, bare, check, flag, journal, journal_file, number, optional, place_of, program, script, serve, setup_file, states, Asks, AsksFor, GivesListing, HasJournal, HasServe, HasStates, IsComplete, IsRefusal, IsWork, KeepsOrRefuses, TellsSomething};
 
 use crate::kept::{Keeping, Kept, keeping_of};
 use crate::look::{Look, look_of};
 use crate::serving::Serving;
-use crate::values::{number_of, text_if_given, text_of};
+use crate::values::{is_flagged, number_of, text_if_given, text_of};
 use clap::builder::ValueParser;
 use clap::error::ErrorKind;
 use clap::{Arg, ArgAction, ArgMatches, Command, Error};
@@ -64,17 +64,22 @@ const SERVE_EXAMPLE: &str = "Example, and a client in another terminal:
 
 /// Ends the help on `check`.
 const CHECK_EXAMPLE: &str = "Example:
-  tsnd check bridge.toml";
+  tsnd check bridge.toml
+  tsnd check --lines < commands.jsonl";
 
 /// Ends the help on `journal`.
 const JOURNAL_EXAMPLE: &str = "Example:
-  tsnd journal bridge.journal --since 40";
+  tsnd journal bridge.journal --since 40
+  tsnd journal bridge.journal --setup > bridge.toml";
 
 /// Why words that are no UTF-8 are refused.
 const NO_TEXT: &str = "invalid UTF-8 was detected in one or more arguments";
 
 /// Why more than one look at a journal is refused.
-const ONE_LOOK: &str = "at most one of --since, --diff and --mend may be given";
+const ONE_LOOK: &str = "at most one of --since, --diff, --setup, --begin and --mend may be given";
+
+/// Why a check of nothing, and one of a setup and of lines at once, is refused.
+const ONE_CHECK: &str = "either FILE or --lines is wanted";
 
 /// Why syncs of another kind than there is are refused.
 const OTHER_SYNCS: &str = "--sync may be none alone";
@@ -124,6 +129,8 @@ pub enum Asked {
     Check {
         file: String,
     },
+    /// Say which of the command lines on standard input are refused before they are asked, and where they are at fault.
+    Lines,
     /// Look at the journal of this file.
     Journal {
         file: String,
@@ -147,7 +154,7 @@ impl Asked {
             Asked::States { file, .. } => Some(file.as_str()),
             Asked::Serve { file, .. } => file.as_ref().map(String::as_str),
             Asked::Check { file } => Some(file.as_str()),
-            Asked::Journal { .. } | Asked::Shown(_) | Asked::Refused(_) => None,
+            Asked::Lines | Asked::Journal { .. } | Asked::Shown(_) | Asked::Refused(_) => None,
         }
     }
 }
@@ -314,10 +321,17 @@ fn serve<'a>(alloc: Global) -> Result<Command<'a>, AllocError>
 fn check<'a>(alloc: Global) -> Result<Command<'a>, AllocError>
     ensures { IfOk result (λ c. app_of c ≡ check) }
 {
+    let file = setup_file(alloc, false);
+    let lines = flag(
+        alloc,
+        "lines",
+        "Says which of the command lines on standard input are at fault, and where",
+    );
     Command::new(alloc, "check")
         .about("Says whether a setup opens a bridge, and what is in it or where it is at fault")
         .after_help(CHECK_EXAMPLE)
-        .arg(setup_file(alloc, true))
+        .arg(file)?
+        .arg(lines)
 }
 
 // The file of a journal.
@@ -341,6 +355,19 @@ fn flag<'a>(alloc: Global, name: &'a str, help: &'a str) -> Arg<'a>
         .help(help)
 }
 
+// The file of a new journal, which may be named.
+fn new_journal<'a>(alloc: Global) -> Arg<'a>
+    ensures rule { rule_of result ≡ optional (any_text (codes "begin")) }
+    ensures local { result.global ≡ false }
+{
+    any_text(
+        alloc,
+        "begin",
+        "Makes a new journal of this file, which begins with that configuration",
+    )
+    .required(false)
+}
+
 fn journal<'a>(alloc: Global) -> Result<Command<'a>, AllocError>
     ensures { IfOk result (λ c. app_of c ≡ journal) }
 {
@@ -359,6 +386,12 @@ fn journal<'a>(alloc: Global) -> Result<Command<'a>, AllocError>
         1,
         LAST_ENTRY,
     );
+    let setup = flag(
+        alloc,
+        "setup",
+        "Tells the configuration at its end, as a setup",
+    );
+    let begin = new_journal(alloc);
     let mend = flag(
         alloc,
         "mend",
@@ -370,6 +403,8 @@ fn journal<'a>(alloc: Global) -> Result<Command<'a>, AllocError>
         .arg(file)?
         .arg(since)?
         .arg(diff)?
+        .arg(setup)?
+        .arg(begin)?
         .arg(mend)
 }
 
@@ -476,14 +511,18 @@ fn serve_of(alloc: Global, given: &ArgMatches<'_>) -> Result<Asked, AllocError>
     }
 }
 
-// A look at the setup that is given.
+// A look at the setup that is given, or at command lines. Neither is refused, and so are both.
 fn check_of(alloc: Global, given: &ArgMatches<'_>) -> Result<Asked, AllocError>
-    requires { HasCheck (Some (codes "check", rows_of (found_of given.now))) }
     ensures asked { IfOk result (AsksFor (Some (codes "check", rows_of (found_of given.now)))) }
     ensures told { IfOk result TellsSomething }
 {
-    let file = text_of(alloc, given, "FILE")?;
-    Ok(Asked::Check { file })
+    let file = text_if_given(alloc, given, "FILE")?;
+    match (file, is_flagged(given, "lines")) {
+        (Some(file), false) => Ok(Asked::Check { file }),
+        (None, true) => Ok(Asked::Lines),
+        (Some(_), true) => refused_for(alloc, ONE_CHECK),
+        (None, false) => refused_for(alloc, ONE_CHECK),
+    }
 }
 
 // A script, from the setup and with the journal that are given.
@@ -504,7 +543,7 @@ fn journal_of(alloc: Global, given: &ArgMatches<'_>) -> Result<Asked, AllocError
     ensures asked { IfOk result (AsksFor (Some (codes "journal", rows_of (found_of given.now)))) }
     ensures told { IfOk result TellsSomething }
 {
-    let Some(look) = look_of(given) else {
+    let Some(look) = look_of(alloc, given)? else {
         return refused_for(alloc, ONE_LOOK);
     };
     let file = text_of(alloc, given, "JOURNAL")?;

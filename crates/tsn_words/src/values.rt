@@ -1,5 +1,6 @@
 //! The values that words give to a subcommand, by the names of its arguments.
-ghost use Rattle.std.specs.Prelude.{◌≡◌, ◌↔◌, IsTrue, ℕ, List, None, Some, IfNone, IfOk, IfSome, codes, option_map, string_bytes};
+ghost use Rattle.std.specs.Prelude.{◌≡◌, ◌↔◌, IsTrue, ℕ, List, None, Some, IfNone, IfOk, IfSome, false, codes, is_some, option_map, string_bytes, unwrap_or};
+ghost use Rattle.std.specs.Str.{bytes_eq};
 ghost use Rattle.clap.specs.Words.{first_of, first_value, found_of, rows_of};
 ghost use Rattle.tsn_words.specs.Asking.{number_of, IsNumber};
 
@@ -30,12 +31,20 @@ pub(crate) fn number_if_given(given: &ArgMatches<'_>, name: &str) -> Option<u64>
 
 // The option is given, which takes no value.
 pub(crate) fn is_flagged(given: &ArgMatches<'_>, name: &str) -> bool
-    ensures { IsTrue result ↔ (first_of name.now (rows_of (found_of given.now)) ≡ Some (codes "true")) }
+    ensures given { IsTrue result ↔ (first_of name.now (rows_of (found_of given.now)) ≡ Some (codes "true")) }
+    ensures is { result ≡ unwrap_or (option_map (λ text. bytes_eq text (codes "true")) (first_of name.now (rows_of (found_of given.now)))) false }
 {
     match given.get_str(name) {
         Some(text) => text == "true",
         None => false,
     }
+}
+
+// Whether a text is given.
+pub(crate) fn has_text(given: &ArgMatches<'_>, name: &str) -> bool
+    ensures { result ≡ is_some (first_of name.now (rows_of (found_of given.now))) }
+{
+    given.get_str(name).is_some()
 }
 
 // A text that is given.

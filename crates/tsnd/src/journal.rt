@@ -31,10 +31,15 @@ pub(crate) enum JournalFault {
     Damaged(u64),
     NoEntry(u64),
     Open(io::Error),
+    // The file is a new one.
+    Make(io::Error),
     // Why is not always known.
     Write(Option<io::Error>),
     NoSession,
 }
+
+/// Memory was wanted and not there.
+pub(crate) const NO_MEMORY: JournalFault = JournalFault::Failed(Failure::Fault(Fault::Memory));
 
 impl From<OpenFault> for JournalFault {
     fn from(fault: OpenFault) -> JournalFault {
@@ -48,7 +53,7 @@ impl From<OpenFault> for JournalFault {
 impl From<io::Error> for JournalFault {
     fn from(error: io::Error) -> JournalFault {
         if error.kind() == ErrorKind::OutOfMemory {
-            return JournalFault::Failed(Failure::Fault(Fault::Memory));
+            return NO_MEMORY;
         }
         JournalFault::Open(error)
     }
@@ -62,8 +67,8 @@ pub(crate) fn error_of(number: i32) -> Option<io::Error> {
     }
 }
 
-// Says a line on standard error, where there is memory for it and it takes one; else nothing is left to do.
-fn say<E: ByteOut>(errors: &mut E, line: Result<String, std::alloc::AllocError>) {
+/// Says a line on standard error, where there is memory for it and it takes one; else nothing is left to do.
+pub(crate) fn say<E: ByteOut>(errors: &mut E, line: Result<String, std::alloc::AllocError>) {
     if let Ok(line) = line {
         let _ = put_all(errors, line.as_bytes());
     }
@@ -79,7 +84,10 @@ pub(crate) fn fail_over<E: ByteOut>(
     match fault {
         JournalFault::Failed(failure) => return fail(errors, *failure),
         JournalFault::Start(StartFault::Read) => {
-            say(errors, format!(in alloc; "tsnd: cannot read the journal\n"))
+            say(
+                errors,
+                format!(in alloc; "tsnd: cannot read the journal: {path}\n"),
+            )
         }
         JournalFault::Start(StartFault::Memory) => {
             return fail(errors, Failure::Fault(Fault::Memory));
@@ -107,7 +115,12 @@ pub(crate) fn fail_over<E: ByteOut>(
                 format!(in alloc; "tsnd: the journal: line {line} is refused {number}\n"),
             )
         }
-        JournalFault::InUse => say(errors, format!(in alloc; "tsnd: the journal is in use\n")),
+        JournalFault::InUse => {
+            say(
+                errors,
+                format!(in alloc; "tsnd: the journal is in use: {path}\n"),
+            )
+        }
         JournalFault::Damaged(line) => {
             say(
                 errors,
@@ -124,6 +137,12 @@ pub(crate) fn fail_over<E: ByteOut>(
             say(
                 errors,
                 format!(in alloc; "tsnd: cannot open the journal {path}: {error}\n"),
+            )
+        }
+        JournalFault::Make(error) => {
+            say(
+                errors,
+                format!(in alloc; "tsnd: cannot make the journal {path}: {error}\n"),
             )
         }
         JournalFault::Write(Some(error)) => {
@@ -192,8 +211,8 @@ impl<R: time::Clock> Clock for WallClock<'_, R> {
     }
 }
 
-// The first line of a journal whose bridge begins with the setup. Refused is what the setup is refused.
-fn first_line<R: time::Clock>(
+/// The first line of a journal whose bridge begins with the setup. Refused is what the setup is refused.
+pub(crate) fn first_line<R: time::Clock>(
     rt: &R,
     alloc: Global,
     setup: &[u8],
@@ -209,7 +228,7 @@ fn first_line<R: time::Clock>(
     let mut line = Vec::new(alloc);
     match Chain::new().append(&mut line, stamp.bytes(), &command) {
         Ok(()) => Ok(line),
-        Err(_) => Err(JournalFault::Failed(Failure::Fault(Fault::Memory))),
+        Err(_) => Err(NO_MEMORY),
     }
 }
 
@@ -311,17 +330,17 @@ fn answer<D: DeviceOverFile + Drop, R: time::Clock, I: ByteIn, O: ByteOut + Drop
 ) -> Result<(), JournalFault> {
     let (file, resumed) = started;
     let Ok(keeper) = Keeper::new(alloc, D::over(file), resumed.chain) else {
-        return Err(JournalFault::Failed(Failure::Fault(Fault::Memory)));
+        return Err(NO_MEMORY);
     };
     let clock = WallClock::new(rt, alloc);
     let Ok(mut lasting) = Lasting::new(alloc, resumed.bridge, keeper, clock, output) else {
-        return Err(JournalFault::Failed(Failure::Fault(Fault::Memory)));
+        return Err(NO_MEMORY);
     };
     match run_lasting(alloc, &mut lasting, input) {
         Ok(()) => Ok(()),
         Err(LastingFault::Read) => Err(JournalFault::Failed(Failure::Fault(Fault::Read))),
         Err(LastingFault::Write) => Err(JournalFault::Failed(Failure::Fault(Fault::Write))),
-        Err(LastingFault::Memory) => Err(JournalFault::Failed(Failure::Fault(Fault::Memory))),
+        Err(LastingFault::Memory) => Err(NO_MEMORY),
         Err(LastingFault::Journal) => {
             let why = lasting.keeper().device().fault();
             let number = why.and_then(io::Error::raw_os_error).unwrap_or(0);

@@ -1,12 +1,16 @@
-//! A look at a journal file: what is in it, its entries with their times, what one of them changed; and the mending of one.
-use crate::journal::{JournalFault, fail_over, resume_from};
+//! A look at a journal file: what is in it, its entries with their times, what one of them changed, the configuration at its end;
+//! and the mending of one.
+use crate::beginning::begin;
+use crate::journal::{JournalFault, NO_MEMORY, fail_over, resume_from};
 use std::alloc::{AllocError, Global};
 use std::fs::File;
 use std::rt::Files;
+use std::time;
 use tsn_bridge::bridge::Bridge;
 use tsn_bytes::{ByteOut, Fault, put_all};
 use tsn_device::{move_end, open};
 use tsn_edit::Part;
+use tsn_export::{SetupText, export_setup};
 use tsn_program::Failure;
 use tsn_recorded::End;
 use tsn_replies::{write_kept, write_lent};
@@ -93,16 +97,16 @@ fn summary(alloc: Global, resumed: &Resumed, sessions: u64) -> Result<String, Al
     Ok(text)
 }
 
-// Writes and hands on a text.
-fn show<W: ByteOut>(writer: &mut W, text: &[u8]) -> Result<(), JournalFault> {
+/// Writes and hands on a text.
+pub(crate) fn show<W: ByteOut>(writer: &mut W, text: &[u8]) -> Result<(), JournalFault> {
     if put_all(writer, text).is_err() || writer.flush().is_err() {
         return Err(JournalFault::Failed(Failure::Fault(Fault::Write)));
     }
     Ok(())
 }
 
-// What is behind the lines that verify, as a fault where it is damage.
-fn faultless(end: End) -> Result<(), JournalFault> {
+/// What is behind the lines that verify, as a fault where it is damage.
+pub(crate) fn faultless(end: End) -> Result<(), JournalFault> {
     match end {
         End::Damaged { line } => Err(JournalFault::Damaged(line)),
         End::Whole | End::Unfinished { .. } => Ok(()),
@@ -117,7 +121,7 @@ fn look_at_all<R: Files<File = File> + AllocGlobal, W: ByteOut>(
     let mut sessions = Sessions { count: 0 };
     let resumed = resume_from(rt, path, &mut sessions)?;
     let Ok(text) = summary(rt.alloc(), &resumed, sessions.count) else {
-        return Err(JournalFault::Failed(Failure::Fault(Fault::Memory)));
+        return Err(NO_MEMORY);
     };
     show(writer, text.as_bytes())?;
     faultless(resumed.end)
@@ -185,6 +189,25 @@ fn look_at_entry<R: Files<File = File> + AllocGlobal, W: ByteOut>(
     faultless(resumed.end)
 }
 
+/// The configuration at the end, as a setup.
+pub(crate) fn setup_at_end(alloc: Global, resumed: &Resumed) -> Result<SetupText, JournalFault> {
+    match export_setup(alloc, resumed.bridge.config()) {
+        Ok(text) => Ok(text),
+        Err(why) => Err(JournalFault::Failed(Failure::Refused(why))),
+    }
+}
+
+fn look_at_setup<R: Files<File = File> + AllocGlobal, W: ByteOut>(
+    rt: &R,
+    path: &str,
+    writer: &mut W,
+) -> Result<(), JournalFault> {
+    let resumed = resume_from(rt, path, &mut Unwatched)?;
+    let setup = setup_at_end(rt.alloc(), &resumed)?;
+    show(writer, setup.as_bytes())?;
+    faultless(resumed.end)
+}
+
 // Moves what is behind the last line that verifies to the side, and says how many lines stay.
 fn mend<R: Files<File = File> + AllocGlobal, W: ByteOut>(
     rt: &R,
@@ -199,23 +222,25 @@ fn mend<R: Files<File = File> + AllocGlobal, W: ByteOut>(
     move_end(rt, &mut file, path, resumed.good)?;
     let lines = resumed.lines;
     let Ok(text) = format!(in rt.alloc(); "{lines} lines stay\n") else {
-        return Err(JournalFault::Failed(Failure::Fault(Fault::Memory)));
+        return Err(NO_MEMORY);
     };
     show(writer, text.as_bytes())
 }
 
 /// Looks at the journal at the path as it is asked for, and gives the status. Only mending changes it.
-pub(crate) fn look_at<R: Files<File = File> + AllocGlobal, O: ByteOut, E: ByteOut>(
+pub(crate) fn look_at<R: Files<File = File> + AllocGlobal + time::Clock, O: ByteOut, E: ByteOut>(
     rt: &R,
     path: &str,
-    look: Look,
+    look: &Look,
     output: &mut O,
     errors: &mut E,
 ) -> u8 {
     let outcome = match look {
         Look::Whole => look_at_all(rt, path, output),
-        Look::Since(after) => look_at_entries(rt, path, after, output),
-        Look::Diff(number) => look_at_entry(rt, path, number, output),
+        Look::Since(after) => look_at_entries(rt, path, *after, output),
+        Look::Diff(number) => look_at_entry(rt, path, *number, output),
+        Look::Setup => look_at_setup(rt, path, output),
+        Look::Begin(new) => return begin(rt, path, new.as_str(), output, errors),
         Look::Mend => mend(rt, path, output),
     };
     match outcome {

@@ -4,10 +4,11 @@
 //! setup in a file or from the standard one. `tsnd serve` answers the lines of many connections over TCP, on one bridge, and then
 //! tells the gates of each port. With a journal file, what the sessions of either do outlasts it, and `tsnd journal` says what is
 //! in one. `tsnd states` prints the gate states of a port at even steps. `tsnd check` says what is in
-//! a setup, or where it is at fault. The status is 0, or 1 after a line on standard error that says why, or 2 for a command line
+//! a setup, or where it is at fault, or which of the command lines on standard input can't be asked. The status is 0, or 1 after a line on standard error that says why, or 2 for a command line
 //! that is refused.
 #![tactic(auto)]
 
+mod beginning;
 mod connections;
 mod journal;
 mod logging;
@@ -29,7 +30,7 @@ use std::process::ExitCode;
 use std::rt::Env;
 use std::{env, io};
 use tsn_bytes::{Buffered, Fault, StdIo};
-use tsn_program::{Failure, fail, run};
+use tsn_program::{Failure, check_lines, fail, run};
 use tsn_words::{Asked, read_words};
 
 /// The words of the command line, the program's name first; none where a word is no UTF-8.
@@ -111,8 +112,9 @@ fn main(rt: HostRuntime) -> ExitCode {
             kept: Some(kept),
             ..
         } => script_over(&rt, own, kept, &mut input, output, &mut errors),
+        Asked::Lines => check_lines(alloc, &mut input, &mut output, &mut errors),
         Asked::Journal { file, look } => {
-            look_at(&rt, file.as_str(), *look, &mut output, &mut errors)
+            look_at(&rt, file.as_str(), look, &mut output, &mut errors)
         }
         _ => run(alloc, &asked, text, &mut input, &mut output, &mut errors),
     })

@@ -2,7 +2,7 @@
 ghost use Rattle.tsn_bridge.specs.Reached.{IsReached};
 
 use crate::connections::{fail_to_listen, say_where};
-use crate::journal::{JournalFault, WallClock, error_of, fail_over, start};
+use crate::journal::{JournalFault, NO_MEMORY, WallClock, error_of, fail_over, start};
 use crate::logging::ErrorLog;
 use std::alloc::Global;
 use std::fs::File;
@@ -23,8 +23,6 @@ use tsn_server::{LastingServerFault, ServerFault, SocketSource, StoppableSource,
 use tsn_sockets::{ListenFault, listen_on};
 use tsn_types::refusals::{Field, Refusal};
 use tsn_words::{Kept, Serving, Syncs};
-
-const NO_MEMORY: JournalFault = JournalFault::Failed(Failure::Fault(Fault::Memory));
 
 /// A file device that leaves word of why a call of it failed, for when it is gone: the number of the system's error, and 0
 /// as long as there is none.

@@ -3,7 +3,7 @@ use Rattle.std.proofs.lemmas.Slice.Eq.{bytes_eq-Decides}
 use Rattle.clap.specs.Words.{found_of, rows_of}
 use Rattle.clap.specs.declared.parser.matches.ArgMatches.TheViews.{out-ArgMatches}
 use Rattle.tsn_words.specs.Asking.{IsComplete}
-use Rattle.tsn_words.proofs.Worked.{check_given, journal_given, named_rows, serve_given, states_given}
+use Rattle.tsn_words.proofs.Worked.{journal_given, named_rows, serve_given, states_given}
 use Rattle.tsn_words.proofs.arguments.asked_of.Goals as goal
 
 pub states_of-requires : goal.states_of-requires
@@ -19,13 +19,6 @@ serve_of-requires c =
     let name = (bytes_eq-Decides c.in-Some.name.now (codes "serve")).0 (sym c.eq-else-eq.ensures ∙ c.if-eq-2.true) in
     let given = named_rows _ (out-ArgMatches c.args.matches.now).subcommand c.in-Some.name.now rows c.in-Some.ensures.name c.in-Some.ensures.rows in
     serve_given rows (subst IsComplete (given ∙ ap (λ n. Some (n, rows)) name) c.requires)
-
-pub check_of-requires : goal.check_of-requires
-check_of-requires c =
-    let rows = rows_of (found_of c.in-Some.given.now) in
-    let name = (bytes_eq-Decides c.in-Some.name.now (codes "check")).0 (sym c.eq-else-eq-2.ensures ∙ c.if-eq-3.true) in
-    let given = named_rows _ (out-ArgMatches c.args.matches.now).subcommand c.in-Some.name.now rows c.in-Some.ensures.name c.in-Some.ensures.rows in
-    check_given rows (subst IsComplete (given ∙ ap (λ n. Some (n, rows)) name) c.requires)
 
 pub journal_of-requires : goal.journal_of-requires
 journal_of-requires c =

@@ -15,7 +15,7 @@ returns-in-Ok-clause-asked c = record {
 pub returns-in-Err-clause-asked : goal.returns-in-Err-clause-asked
 returns-in-Err-clause-asked c =
     let wrong = subst (KeepsOrRefuses _ _) c.in-Err.is c.in_ok-kept.ensures in
-    refused_asks _ c.in-Err.refused wrong.1 (inr (record {
+    refused_asks _ c.in-Err.refused wrong.1 (inr (inl (record {
       named = inl refl;
       wrong = misgiven_in_rows (codes "script") (found_of c.args.given.now) wrong.0;
-    }))
+    })))

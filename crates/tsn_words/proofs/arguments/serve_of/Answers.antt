@@ -1,4 +1,4 @@
-use Rattle.std.proofs.Common.{◌∙◌, ap, inr, refl, subst}
+use Rattle.std.proofs.Common.{◌∙◌, ap, inl, inr, refl, subst}
 use Rattle.std.specs.Prelude.{codes}
 use Rattle.clap.specs.Words.{found_of}
 use Rattle.tsn_words.specs.Asking.{KeepsOrRefuses, place_of}
@@ -17,7 +17,7 @@ returns-in-Ok-clause-asked c = record {
 pub returns-in-Err-clause-asked : goal.returns-in-Err-clause-asked
 returns-in-Err-clause-asked c =
     let wrong = subst (KeepsOrRefuses _ _) c.in-Err.is c.in_ok-kept.ensures in
-    refused_asks _ c.in-Err.refused wrong.1 (inr (record {
+    refused_asks _ c.in-Err.refused wrong.1 (inr (inl (record {
       named = inr refl;
       wrong = misgiven_in_rows (codes "serve") (found_of c.args.given.now) wrong.0;
-    }))
+    })))
