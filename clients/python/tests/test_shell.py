@@ -1,6 +1,7 @@
 """The shell, against the real server: a planner's day, line by line, in a terminal and through a pipe."""
 from __future__ import annotations
 
+import contextlib
 import io
 import json
 import os
@@ -64,6 +65,7 @@ class Served(unittest.TestCase):
         self.addCleanup(self.server.kill)
         self.output = io.StringIO()
         self.shell = Shell(self.server.address, journal=str(self.server.journal), stdout=self.output)
+        self.addCleanup(self.shell.close)
 
     def says(self, line: str) -> str:
         """What the shell says to a line."""
@@ -111,7 +113,9 @@ class Commands(Served):
         self.assertIn("refers to gate 12, which is not there", self.says("new filter 15 gate=12"))
         self.assertEqual(self.says("set meter 7 cir=1"), "There is no meter 7.\n")
         self.assertEqual(self.says("new gate 9"), "gate 9 is there already: `set` changes it.\n")
-        self.assertIn("'cir' is outside its range", self.says("set meter 0 cir=9999G"))
+        self.assertEqual(self.says("set meter 0 cir=9999G"),
+                         "Nothing changed: record of meter 0: cir is 9999000000000, and 0 to 1000000000000 is allowed.\n")
+        self.assertEqual(self.says("new gate 16"), "'key' is outside its range, or its limit in the setup.\n")
         self.assertIn("nothing to bring back", self.says("redo"))
         self.assertIn("is disabled", self.says("apply port 1 now=0"))
         self.says("enable gate 9 now=0")
@@ -137,6 +141,35 @@ class Commands(Served):
                                            rf"session {other.number}: 0 standing\n")
         self.assertIn("cir", self.says("diff 1"))
 
+    def test_save_and_load(self) -> None:
+        saved, other = self.folder / "saved.toml", self.folder / "other.toml"
+        before = self.other().setup()
+        self.assertEqual(self.says(f"save {saved}").splitlines()[-1], f"{saved}: 8 records")
+        self.assertEqual(saved.read_text(), before)
+        for line in ("new meter 5 cir=8M cbs=1500", "new gate 9", "new filter 13 gate=9 meter=5 handle=10", "set port 1 cycle=2ms",
+                     "set filter 0 gate=9", f"save {other}"):
+            self.says(line)
+        self.assertIn("5 edits\n", self.says(f"load {saved} only"))
+        self.assertEqual(self.other().setup(), before)
+        self.assertEqual(self.says(f"load {saved}"), "All is as the setup says.\n")
+        self.assertIn("5 edits\n", self.says(f"load {other}"))
+        self.assertEqual(self.other().setup(), other.read_text())
+        self.assertRegex(self.says(f"load {saved}"), r"entry \d+\n2 edits\n")
+        self.assertIn("13", self.says("list filter"))
+
+    def test_what_can_not_be_loaded(self) -> None:
+        setup = self.folder / "setup.toml"
+        for text, said in (
+                ("ports = 3", "ports is 2 here and 3 there: a running bridge keeps its limits"),
+                ("[[gate]]\nopen = true", "has no number 'id'"),
+                ("[[meter]]\nid = 1\ncir = 5", "meter 1 lacks 'cbs'"), ("a b", "the setup is no TOML"),
+                ("port_count = 2", "has no member 'port_count'"),
+                ("[[meter]]\nid = 1\n[[meter]]\nid = 1", "meter 1 lacks 'cir'")):
+            setup.write_text(text)
+            self.assertIn(said, self.says(f"load {setup}"), text)
+        self.assertIn("No such file", self.says(f"load {self.folder / 'none.toml'}"))
+        self.assertEqual(self.says("list meter"), "meter:  0\n")
+
     def test_the_server_is_killed(self) -> None:
         self.says("set meter 0 cir=120M")
         number = self.shell.number
@@ -144,6 +177,52 @@ class Commands(Served):
         self.assertIn("There is no server at", self.says("undo"))
         self.server.start()
         self.assertEqual(self.says("undo"), f"You go on as session {number} at {self.server.address}.\nentry 2: 1 is taken back\n")
+
+
+class Recording(unittest.TestCase):
+    """The session that README.md shows is typed once more."""
+
+    def test_the_recording(self) -> None:
+        shells: dict[str, Shell] = {}
+        outputs: dict[str, io.StringIO] = {}
+        folder = self.enterContext(tempfile.TemporaryDirectory())
+        self.enterContext(contextlib.chdir(folder))
+        server = subprocess.Popen([PROGRAM, "serve", SETUP, "--listen", "127.0.0.1:0", "--journal", "day.journal"], stderr=subprocess.PIPE,
+                                  text=True)
+        self.addCleanup(server.communicate)
+        self.addCleanup(server.kill)
+        assert server.stderr is not None
+        address = server.stderr.readline().split(" ")[-1].strip()
+        typed = recorded((TOP / "README.md").read_text(encoding="utf-8").split("## A first session")[1].split("\n## ")[0])
+        self.assertGreater(len(typed), 8)
+        for number, line, told in typed:
+            if number not in shells:
+                outputs[number] = io.StringIO()
+                shells[number] = Shell(address, stdout=outputs[number])
+                self.addCleanup(shells[number].close)
+                shells[number].connected()
+                self.assertEqual(str(shells[number].number), number)
+            before = len(outputs[number].getvalue())
+            shells[number].onecmd(line)
+            self.assertEqual(outputs[number].getvalue()[before:], told, line)
+        self.assertEqual(Path("cell.toml").read_text(encoding="utf-8"), shells["1"].connected().setup())
+
+
+def recorded(text: str) -> list[tuple[str, str, str]]:
+    """What a text shows of shells: the number at each prompt, what is typed there, and what is then told."""
+    found: list[tuple[str, str, str]] = []
+    is_told = False
+    for line in text.splitlines():
+        prompt = re.fullmatch(r"    (\d+)> (.+)", line)
+        if prompt:
+            found.append((prompt[1], prompt[2], ""))
+            is_told = True
+        elif is_told and line.startswith("    "):
+            number, typed, told = found[-1]
+            found[-1] = (number, typed, f"{told}{line[4:]}\n")
+        else:
+            is_told = False
+    return found
 
 
 class Answers(unittest.TestCase):
@@ -154,6 +233,7 @@ class Answers(unittest.TestCase):
                 listener.settimeout(PATIENCE)
                 output = io.StringIO()
                 shell = Shell(f"127.0.0.1:{listener.getsockname()[1]}", stdout=output)
+                self.addCleanup(shell.close)
                 self.play(listener, shell, "undo", [('{"do":"hello"}', {"session": 3}), ('{"do":"undo","s":3}', None)])
                 self.assertIn("whether it was done is not known, and it is not sent again", output.getvalue())
                 self.play(listener, shell, "list meter", [

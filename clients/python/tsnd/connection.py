@@ -169,7 +169,9 @@ class Connection:
         if not isinstance(reply, dict):
             raise ServiceError(f"no reply of the service: {reply!r}")
         if "refused" in reply:
-            raise refusal_of(reply)
+            refused = refusal_of(reply)
+            refused.command = dict(command)
+            raise refused
         return reply
 
     def hello(self) -> Session:
@@ -292,6 +294,10 @@ class Session:
     def sessions(self) -> tuple[Given, ...]:
         """The sessions that were given out, ascending, each with how many of its entries stand."""
         return tuple(Given(members["session"], members["standing"]) for members in self._ask("sessions")["sessions"])
+
+    def setup(self) -> str:
+        """The present configuration as the text of a setup, which `tsnd` opens. `TooLong` where it would be over 1,048,576 bytes."""
+        return str(self._ask("setup")["setup"])
 
     def follow(self, after: int = 0, pause: float = 0.5) -> Iterator[Entry]:
         """The entries of a greater number, and then each new one as it comes: it asks again after a pause, in seconds."""

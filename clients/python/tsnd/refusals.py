@@ -13,9 +13,11 @@ class ServiceError(Exception):
 
 
 class Refused(Exception):
-    """The service refused a command. `number` and `why` say by which rule, `members` what else the reply names."""
+    """The service refused a command. `number` and `why` say by which rule, `members` what else the reply names; `command` has the
+    members of the command."""
 
     number = 0
+    command: Mapping[str, Any] = {}
 
     def __init__(self, why: str, members: Mapping[str, Any]) -> None:
         named = ", ".join(f"{name} {value}" for name, value in members.items())

@@ -7,10 +7,13 @@ from dataclasses import fields
 from pathlib import Path
 from typing import Any, TypeVar, get_args, get_origin, get_type_hints
 
-from .records import FlowMeter, GateEntry, PortEntry, PortGates, StreamGate
+from .records import FlowMeter, GateEntry, PortEntry, PortGates, Record, StreamFilter, StreamGate
 
-Kind = TypeVar("Kind", PortGates, StreamGate, FlowMeter, PortEntry, GateEntry)
-OPTIONAL = {"ipv", "octets"}
+Kind = TypeVar("Kind", PortGates, StreamFilter, StreamGate, FlowMeter, PortEntry, GateEntry)
+OPTIONAL = {"ipv", "octets", "handle", "priority", "max_sdu", "meter"}
+LIMITS = {"ports": 2, "max_filters": 16, "max_gates": 16, "max_meters": 16, "list_max": 16}
+"""The limits of a setup, and what each is where it is left out."""
+TABLES = ("port", "filter", "gate", "meter")
 
 
 class Unread(Exception):
@@ -58,19 +61,26 @@ class Setup:
         except UnicodeDecodeError as why:
             raise Unread(f"{path} is no text in UTF-8") from why
 
+    def limit(self, name: str) -> int:
+        """A limit, by its name."""
+        limit = self._document.get(name, LIMITS[name])
+        if not isinstance(limit, int):
+            raise Unread(f"{name} is no number")
+        return limit
+
     @property
     def ports(self) -> int:
         """How many ports the bridge has, 1 to 64."""
-        ports = self._document.get("ports", 2)
-        if not isinstance(ports, int):
-            raise Unread("ports is no number")
-        return ports
+        return self.limit("ports")
 
-    def _table(self, kind: str, number: int) -> dict[str, Any] | None:
+    def _tables(self, kind: str) -> list[Any]:
         tables = self._document.get(kind, [])
         if not isinstance(tables, list):
             raise Unread(f"{kind} is no list of tables")
-        for table in tables:
+        return tables
+
+    def _table(self, kind: str, number: int) -> dict[str, Any] | None:
+        for table in self._tables(kind):
             if isinstance(table, dict) and table.get("id") == number:
                 return {name: value for name, value in table.items() if name != "id"}
         return None
@@ -88,6 +98,10 @@ class Setup:
         """A port's gates, none where the setup does not name the port."""
         return self._record("port", number, PortGates, lambda name, entry: _made(PortEntry, name, entry))
 
+    def filter(self, number: int) -> StreamFilter | None:
+        """A stream filter, none where there is none of this number."""
+        return self._record("filter", number, StreamFilter, None)
+
     def gate(self, number: int) -> StreamGate | None:
         """A stream gate, none where there is none of this number."""
         return self._record("gate", number, StreamGate, lambda name, entry: _made(GateEntry, name, entry))
@@ -95,6 +109,27 @@ class Setup:
     def meter(self, number: int) -> FlowMeter | None:
         """A flow meter, none where there is none of this number."""
         return self._record("meter", number, FlowMeter, None)
+
+    def records(self) -> dict[str, Record]:
+        """All records that the setup names, by their keys: ports, then filters, gates and meters, each in the order of the file."""
+        unknown = [name for name in self._document if name not in LIMITS and name not in TABLES]
+        if unknown:
+            raise Unread(f"a setup has no member '{unknown[0]}'")
+        made: dict[str, Callable[[int], Record | None]] = {
+            "port": self.port, "filter": self.filter, "gate": self.gate, "meter": self.meter,
+        }
+        found: dict[str, Record] = {}
+        for kind in TABLES:
+            for place, table in enumerate(self._tables(kind), start=1):
+                number = table.get("id") if isinstance(table, dict) else None
+                if type(number) is not int:
+                    raise Unread(f"table {place} of [[{kind}]] has no number 'id'")
+                key, record = f"{kind} {number}", made[kind](number)
+                if key in found:
+                    raise Unread(f"{key} stands there twice")
+                if record is not None:
+                    found[key] = record
+        return found
 
 
 def port_table(number: int, port: PortGates) -> str:

@@ -21,12 +21,14 @@ from functools import partial
 from typing import IO, Any
 
 from .connection import Acted, Connection, Create, Edit, Entry, Remove, Replace, Session
-from .programs import NoProgram, program_of
+from .loading import Unfit, batches_of, edits_to
+from .programs import NoProgram, place_in, program_of
 from .records import Record
 from .refusals import (
     AlreadySettled, Conflict, Dangling, EmptyList, Exists, JournalFull, Missing, NoSession, NotEnabled, NothingToRedo, NothingToUndo,
-    OutOfMemory, OutOfRange, Past, RedoConflict, Referred, Refused, ServiceError, Shape,
+    OutOfMemory, OutOfRange, Past, RedoConflict, Referred, Refused, ServiceError, Shape, TooLong,
 )
+from .setups import Setup, Unread
 from .units import KINDS, Unclear, changed, created, gates_text, number_of, record_text, time_of, time_text
 
 DEFAULT = "127.0.0.1:7000"
@@ -59,6 +61,11 @@ def entry_text(entry: Entry) -> str:
     what = f"{entry.act} at {time_text(entry.now or 0)}" if entry.what == "acted" else entry.what
     of = "" if entry.of is None else f" (takes back {entry.of})"
     return f"{entry.number:>6}  session {entry.session:<5} {what} {keys_text(entry)}{of}"
+
+
+def counted(number: int, name: str) -> str:
+    """So many of a thing."""
+    return f"{number} {name}" + ("" if number == 1 else "s")
 
 
 def one_edit(session: Session, edit: Edit) -> int:
@@ -109,8 +116,7 @@ class Shell(cmd.Cmd):
     def connected(self) -> Session:
         """The session over a connection that stands: the one there is, or a new one that resumes it."""
         if self.session is not None and self.session.connection.is_ended():
-            self.session.connection.close()
-            self.session = None
+            self.close()
         if self.session is None:
             host, port = address_of(self.address)
             try:
@@ -126,6 +132,12 @@ class Shell(cmd.Cmd):
                 self.tell_unanswered(self.session)
             self.number = self.session.number
         return self.session
+
+    def close(self) -> None:
+        """Ends the connection, where there is one; the next command connects again, and goes on as the same session."""
+        if self.session is not None:
+            self.session.connection.close()
+            self.session = None
 
     def tell_unanswered(self, session: Session) -> None:
         """After a resume behind a command that got no answer: what of this session was entered since the last answer."""
@@ -148,8 +160,8 @@ class Shell(cmd.Cmd):
         try:
             return call(session)
         except (ServiceError, OSError) as why:
-            session.connection.close()
-            self.session, self.is_unanswered = None, True
+            self.close()
+            self.is_unanswered = True
             raise Gone(f"No answer came ({why}): whether it was done is not known, and it is not sent again. "
                        "The next command connects again and tells what was done.") from why
 
@@ -159,7 +171,7 @@ class Shell(cmd.Cmd):
             return bool(super().onecmd(line))
         except Refused as why:
             self.say(self.sentence(why))
-        except (Gone, NoProgram, Unclear) as why:
+        except (Gone, NoProgram, Unclear, Unfit, Unread) as why:
             self.say(str(why))
         except BrokenPipeError:
             raise
@@ -193,7 +205,8 @@ class Shell(cmd.Cmd):
         if isinstance(why, AlreadySettled):
             return f"The entries up to {why.upto} are settled already."
         if isinstance(why, OutOfRange):
-            return f"'{why.field}' is outside its range, or its limit in the setup."
+            place = place_in(why.command)
+            return f"Nothing changed: {place}." if place else f"'{why.field}' is outside its range, or its limit in the setup."
         for kind, text in SENTENCES.items():
             if isinstance(why, kind):
                 return text.format(key=getattr(why, "key", ""))
@@ -423,6 +436,34 @@ class Shell(cmd.Cmd):
         except KeyboardInterrupt:
             self.say("")
 
+    # ---- setups
+
+    def do_save(self, line: str) -> None:
+        """save FILE: writes the present configuration into a file, as a setup."""
+        path = self.words(line, 1, 1)[0]
+        text = self.ask(lambda session: session.setup())
+        with open(path, "w", encoding="utf-8") as file:
+            file.write(text)
+        self.say(f"{path}: {counted(len(Setup(text).records()), 'record')}")
+
+    def do_load(self, line: str) -> None:
+        """load FILE [only]: edits the bridge until it has all that a setup names; with `only`, what it does not name goes."""
+        words = self.words(line, 2, 1)
+        if words[1:] not in ([], ["only"]):
+            raise Unclear(f"usage: {USAGE['load']}")
+        if self.batch is not None:
+            raise Unclear("a batch is begun: `end` makes its edits, `drop` forgets them")
+        wanted = Setup.read(words[0])
+        present = Setup(self.ask(lambda session: session.setup()))
+        batches = batches_of(edits_to(present, wanted, only=bool(words[1:])))
+        for number, edits in enumerate(batches):
+            try:
+                self.entered(self.ask(partial(batch_of, edits=edits)))
+            except Refused:
+                self.say(f"{number} of {len(batches)} batches were made; `undo` takes them back one by one. The next was refused:")
+                raise
+        self.say(counted(sum(map(len, batches)), "edit") if batches else "All is as the setup says.")
+
     # ---- the journal file
 
     def journal_says(self, *words: str) -> str:
@@ -518,12 +559,13 @@ SENTENCES: dict[type[Refused], str] = {
     JournalFull: "The journal is full: it takes no further entry.",
     NoSession: "That session was not given out.",
     OutOfMemory: "The service had no memory for it; nothing changed, and it may be tried again.",
+    TooLong: "The configuration is longer than a setup may be, 1,048,576 bytes.",
     Shape: "That is not of the form that the service takes, as the removal of a port, or an act on what has no list.",
 }
 USAGE = {
     name: (getattr(Shell, f"do_{name}").__doc__ or "").split(":")[0]
     for name in ("show", "list", "new", "set", "remove", "batch", "end", "drop", "undo", "redo", "settle", "enable", "disable", "apply",
-                 "states", "counters", "log", "who", "diff", "follow", "resume", "hello", "help", "quit")
+                 "states", "counters", "log", "who", "diff", "follow", "save", "load", "resume", "hello", "help", "quit")
 }
 KEYED = {"show", "new", "set", "remove", "enable", "disable", "apply", "states", "counters"}
 
