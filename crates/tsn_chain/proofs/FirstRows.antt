@@ -1,12 +1,10 @@
 -- The instance data of a configuration is there for just its keys, and each runner is one that nothing was done to.
-use Rattle.std.proofs.Common.{◌≡◌, ◌<◌, ℕ, length, slice_index_or, arith, Bool, true, false, cond, List, [], ◌∷◌, map, refl, sym, ◌∙◌, ap, subst, Option, Some, None}
-use Rattle.std.proofs.lemmas.Grind.{common_steps}
-use Rattle.std.specs.Prelude.{◌||◌, IsSome, filter, fold, is_some}
+use Rattle.std.proofs.Common.{◌≡◌, ℕ, arith, Bool, true, false, cond, List, [], ◌∷◌, refl, sym, ◌∙◌, ap, Option, Some, None}
+use Rattle.std.specs.Prelude.{◌||◌, IsSome, fold, is_some}
 use Rattle.std.specs.Cmp.{nat_cmp_total}
-use Rattle.std.specs.FinMap.{FinMap, get, empty, keys, contains_key-keys, get-empty, get-insert, get-remove}
+use Rattle.std.specs.FinMap.{FinMap, get, empty, get-empty, get-insert}
 use Rattle.std.specs.List.{AllByRecursion, list_any}
 use Rattle.std.specs.Ordering.{nat_cmp, eq_by_cmp}
-use Rattle.std.proofs.lemmas.Bool.{or_right}
 use Rattle.std.proofs.Math.Bool.{or-false}
 use Rattle.tsn_types.specs.declared.keys.Key.{Key}
 use Rattle.tsn_types.specs.declared.keys.Key.TheVariants.{Port, Filter, Gate, Meter}
@@ -18,39 +16,20 @@ use Rattle.tsn_types.specs.declared.records.GateEntry.{GateEntry}
 use Rattle.tsn_types.specs.declared.records.PortEntry.{PortEntry}
 use Rattle.tsn_types.specs.declared.records.Record.{Record}
 use Rattle.tsn_types.specs.declared.records.Record.TheVariants as records
-use Rattle.tsn_types.specs.Keys.{key_cmp, number_of}
-use Rattle.tsn_types.specs.Limits.{HoldsKey, HoldsRecord}
-use Rattle.tsn_config.specs.Ids.{ids_of, is_of}
+use Rattle.tsn_types.specs.Limits.{HoldsRecord}
+use Rattle.tsn_config.specs.Ids.{ids_of, key_by}
 use Rattle.tsn_config.specs.Kinds.{meter_of}
+use Rattle.tsn_config.proofs.Keyed.{each_there, in_ids}
+use Rattle.tsn_chain.proofs.Each.{Each, each_empty, each_row}
 use Rattle.tsn_edit.specs.Configuration.{Configuration, IsWellKept}
-use Rattle.tsn_edit.proofs.KeyFacts.{by_option, same_itself}
+use Rattle.tsn_edit.proofs.KeyFacts.{by_option}
 use Rattle.tsn_schedule.specs.Kept.{Kept, fresh}
 use Rattle.tsn_chain.specs.declared.data.FilterData.{FilterData}
 use Rattle.tsn_chain.specs.declared.data.GateData.{GateData}
 use Rattle.tsn_chain.specs.declared.data.MeterData.{MeterData}
-use Rattle.tsn_chain.specs.Begun.{AreFresh, IsNumberOf, begun_frames, begun_runners, first_change, frames_of_kind, key_by, no_frames, no_runners, runners_of_kind}
+use Rattle.tsn_chain.specs.Begun.{AreFresh, begun_frames, begun_runners, first_change, frames_of_kind, no_frames, no_runners, runners_of_kind}
 use Rattle.tsn_chain.specs.Following.{frames_after, meter_row_after, new_filter, new_gate, new_meter, row_after, runners_after}
 use Rattle.tsn_chain.specs.Instances.{FrameData, HasKeys, Runners}
-
--- ---- the numbers of a kind are those of its keys
-
-one_more : (kind : Kind) (n : ℕ) (k : Key) (ks : List Key) → list_any (eq_by_cmp nat_cmp n) (map (λ k. number_of k) (filter (λ k. is_of kind k) ks)) ≡ list_any (eq_by_cmp key_cmp (key_by kind n)) ks
-    → list_any (eq_by_cmp nat_cmp n) (map (λ k. number_of k) (filter (λ k. is_of kind k) (k ∷ ks))) ≡ list_any (eq_by_cmp key_cmp (key_by kind n)) (k ∷ ks)
-one_more kind n k ks h = grind arith
-
-picked : (kind : Kind) (n : ℕ) (ks : List Key) → list_any (eq_by_cmp nat_cmp n) (map (λ k. number_of k) (filter (λ k. is_of kind k) ks)) ≡ list_any (eq_by_cmp key_cmp (key_by kind n)) ks
-picked kind n [] = refl
-picked kind n (k ∷ ks) = one_more kind n k ks (picked kind n ks)
-
-in_ids : (kind : Kind) (c : Configuration) (n : ℕ) → list_any (eq_by_cmp nat_cmp n) (ids_of kind c) ≡ is_some (get c (key_by kind n))
-in_ids kind c n = picked kind n (keys c) ∙ sym (contains_key-keys c (key_by kind n))
-
-each_in : (P : ℕ → Type 0) (ns : List ℕ) → ((n : ℕ) → list_any (eq_by_cmp nat_cmp n) ns ≡ true → P n) → AllByRecursion P ns
-each_in P [] h = tt
-each_in P (n ∷ ns) h = (h n (ap (λ b. b || list_any (eq_by_cmp nat_cmp n) ns) (same_itself (Filter n))), each_in P ns (λ m e. h m (or_right (eq_by_cmp nat_cmp m n) _ e)))
-
-pub each_there : (kind : Kind) (c : Configuration) → AllByRecursion (λ n. IsSome (get c (key_by kind n))) (ids_of kind c)
-each_there kind c = each_in (λ n. IsSome (get c (key_by kind n))) (ids_of kind c) (λ n e. sym (in_ids kind c n) ∙ e)
 
 -- ---- rows that are created at some numbers
 
@@ -190,45 +169,14 @@ module _ (c : Configuration) where
 
   -- ---- a runner that is there is fresh
 
-  fresh_row : {E : Type 0} (v : Option Record) (t : FinMap nat_cmp (Kept E)) (m : ℕ) → ((n : ℕ) (k : Kept E) → get t n ≡ Some k → k ≡ fresh) → (n : ℕ) (k : Kept E) → get (row_after fresh None v t m) n ≡ Some k → k ≡ fresh
-  fresh_row {E = E} None t m h n k is = go (eq_by_cmp nat_cmp n m) (sym (get-remove nat_cmp_total t m n) ∙ is)
-    where
-      go : (b : Bool) → cond b None (get t n) ≡ Some k → k ≡ fresh
-      go true e = (cc)
-      go false e = h n k e
-  fresh_row {E = E} (Some r) t m h n k is = go (eq_by_cmp nat_cmp n m) (sym (get-insert nat_cmp_total t m fresh n) ∙ is)
-    where
-      go : (b : Bool) → cond b (Some fresh) (get t n) ≡ Some k → k ≡ fresh
-      go true e = let same : fresh ≡ k = (cc) in sym same
-      go false e = h n k e
-
-  fresh_rows : {E : Type 0} (key : ℕ → Key) (ns : List ℕ) (t : FinMap nat_cmp (Kept E)) → ((n : ℕ) (k : Kept E) → get t n ≡ Some k → k ≡ fresh) → (n : ℕ) (k : Kept E) → get (fold (λ d m. row_after fresh None (get c (key m)) d m) t ns) n ≡ Some k → k ≡ fresh
-  fresh_rows key [] t h n k is = h n k is
-  fresh_rows key (m ∷ ns) t h n k is = fresh_rows key ns (row_after fresh None (get c (key m)) t m) (fresh_row (get c (key m)) t m h) n k is
-
-  nothing : {E : Type 0} (n : ℕ) (k : Kept E) → get (empty {R = nat_cmp}) n ≡ Some k → k ≡ fresh
-  nothing {E = E} n k is = let never : None ≡ Some k = sym (get-empty {X = Kept E} nat_cmp n) ∙ is in (cc)
+  fresh_rows : {E : Type 0} (key : ℕ → Key) (ns : List ℕ) (t : FinMap nat_cmp (Kept E)) → Each (λ n kept. kept ≡ fresh) t
+      → Each (λ n kept. kept ≡ fresh) (fold (λ d m. row_after fresh None (get c (key m)) d m) t ns)
+  fresh_rows key [] t h = h
+  fresh_rows key (m ∷ ns) t h = fresh_rows key ns (row_after fresh None (get c (key m)) t m)
+      (each_row (λ n kept. kept ≡ fresh) fresh None (get c (key m)) t m h (λ n. refl))
 
   pub begun_fresh : AreFresh (begun_runners c)
   begun_fresh = record {
-    ports = λ n k is. fresh_rows (λ m. Port m) (ids_of kinds.Port c) empty nothing n k (ap (λ t. get t n) (sym port_runners_are) ∙ is);
-    gates = λ n k is. fresh_rows (λ m. Gate m) (ids_of kinds.Gate c) empty nothing n k (ap (λ t. get t n) (sym gate_runners_are) ∙ is);
+    ports = λ n k is. fresh_rows (λ m. Port m) (ids_of kinds.Port c) empty (each_empty (λ n kept. kept ≡ fresh)) n k (ap (λ t. get t n) (sym port_runners_are) ∙ is);
+    gates = λ n k is. fresh_rows (λ m. Gate m) (ids_of kinds.Gate c) empty (each_empty (λ n kept. kept ≡ fresh)) n k (ap (λ t. get t n) (sym gate_runners_are) ∙ is);
   }
-
--- ---- the numbers of a kind are in its range
-
-each_at : (P : ℕ → Type 0) (ns : List ℕ) (i : ℕ) → i < length ns → AllByRecursion P ns → P (slice_index_or ns i 0)
-each_at P ns i h each = grind (arith, common_steps)
-
-module _ (l : Limits) (c : Configuration) (kept : IsWellKept l c) where
-  held : (kind : Kind) (n : ℕ) → HoldsKey l (key_by kind n) → IsNumberOf kind n
-  held kind n h = grind arith
-
-  there : (kind : Kind) (n : ℕ) → IsSome (get c (key_by kind n)) → IsNumberOf kind n
-  there kind n h = by_option (get c (key_by kind n))
-      (λ none. let never : false ≡ true = ap is_some (sym none) ∙ h in absurd (cc))
-      (λ r some. held kind n (kept.within (key_by kind n) r some).0)
-
-  pub number_at : (kind : Kind) (ns : List ℕ) (i : ℕ) → ns ≡ ids_of kind c → i < length ns → IsNumberOf kind (slice_index_or ns i 0)
-  number_at kind ns i is h =
-      each_at (IsNumberOf kind) ns i h (subst (AllByRecursion (IsNumberOf kind)) (sym is) (each_in (IsNumberOf kind) (ids_of kind c) (λ n e. there kind n (sym (in_ids kind c n) ∙ e))))

@@ -1,8 +1,7 @@
 -- Runners stand for the acts since their instance was created.
-use Rattle.std.proofs.Common.{◌≡◌, ℕ, cond, sym, ◌∙◌, ap, subst, List, [], ◌∷◌, Option, Some, None}
-use Rattle.std.specs.Cmp.{nat_cmp_total}
-use Rattle.std.specs.FinMap.{FinMap, get, insert, remove, empty, get-insert, get-remove, get-empty}
-use Rattle.std.specs.Ordering.{nat_cmp, eq_by_cmp}
+use Rattle.std.proofs.Common.{◌≡◌, ℕ, cond, sym, subst, List, [], ◌∷◌, Option, Some, None}
+use Rattle.std.specs.FinMap.{FinMap, insert, empty}
+use Rattle.std.specs.Ordering.{nat_cmp}
 use Rattle.tsn_types.specs.declared.keys.Key.{Key}
 use Rattle.tsn_types.specs.declared.keys.Key.TheVariants.{Port, Filter, Gate, Meter}
 use Rattle.tsn_types.specs.declared.records.GateEntry.{GateEntry}
@@ -10,7 +9,6 @@ use Rattle.tsn_types.specs.declared.records.PortEntry.{PortEntry}
 use Rattle.tsn_types.specs.declared.records.Record.{Record}
 use Rattle.tsn_types.specs.declared.records.Record.TheVariants as records
 use Rattle.tsn_edit.specs.Parts.{Change}
-use Rattle.tsn_edit.proofs.KeyFacts.{by_bool}
 use Rattle.tsn_schedule.specs.Acts.{Act, Apply, with_act}
 use Rattle.tsn_schedule.specs.Kept.{Kept, fresh}
 use Rattle.tsn_schedule.specs.Stands.{StandsFor}
@@ -18,34 +16,21 @@ use Rattle.tsn_schedule.proofs.Keeps.{fresh_stands}
 use Rattle.tsn_chain.specs.Acts.{KeyActs, KeyApplies, RowActs}
 use Rattle.tsn_chain.specs.Following.{row_after, runners_after, runners_at}
 use Rattle.tsn_chain.specs.Instances.{Runners}
+use Rattle.tsn_chain.proofs.Each.{each_empty, each_insert, each_remove}
 use Rattle.tsn_chain.specs.Standing.{Histories, Stand, StandIn, histories_after, histories_applied, histories_at, histories_with, since, with_acts}
 
 stand_empty : {E : Type 0} (acts : ℕ → List (Act E)) → StandIn {E = E} empty acts
-stand_empty {E = E} acts n kept is = let none = get-empty {X = Kept E} nat_cmp n in absurd (cc)
+stand_empty acts = each_empty (λ n kept. StandsFor kept (acts n))
 
-stand_insert : {E : Type 0} (n : ℕ) (t : FinMap nat_cmp (Kept E)) (k : Kept E) (acts : ℕ → List (Act E)) (own : List (Act E)) → StandIn t acts → StandsFor k own → StandIn (insert t n k) (with_acts n own acts)
-stand_insert {E = E} n t k acts own h stands m kept is =
-    let at = sym (get-insert nat_cmp_total t n k m) ∙ is in
-    by_bool (eq_by_cmp nat_cmp m n)
-    (λ yes.
-    let here : Some k ≡ Some kept = ap (λ b. cond b (Some k) (get t m)) (sym yes) ∙ at in
-    let same : k ≡ kept = cc in
-    subst (λ b. StandsFor kept (cond b own (acts m))) (sym yes) (subst (λ (x : Kept E). StandsFor x own) same stands))
-    (λ no.
-    let there : get t m ≡ Some kept = ap (λ b. cond b (Some k) (get t m)) (sym no) ∙ at in
-    subst (λ b. StandsFor kept (cond b own (acts m))) (sym no) (h m kept there))
-
-stand_remove : {E : Type 0} (n : ℕ) (t : FinMap nat_cmp (Kept E)) (acts : ℕ → List (Act E)) → StandIn t acts → StandIn (remove t n) acts
-stand_remove n t acts h m kept is =
-    let at = sym (get-remove nat_cmp_total t n m) ∙ is in
-    by_bool (eq_by_cmp nat_cmp m n)
-    (λ yes. let here : None ≡ Some kept = ap (λ b. cond b None (get t m)) (sym yes) ∙ at in absurd (cc))
-    (λ no.
-    let there : get t m ≡ Some kept = ap (λ b. cond b None (get t m)) (sym no) ∙ at in
-    h m kept there)
+stand_insert : {E : Type 0} (n : ℕ) (t : FinMap nat_cmp (Kept E)) (k : Kept E) (acts : ℕ → List (Act E)) (own : List (Act E)) → StandIn t acts
+    → StandsFor k own → StandIn (insert t n k) (with_acts n own acts)
+stand_insert n t k acts own h stands =
+    each_insert (λ m kept. StandsFor kept (acts m)) (λ m kept. StandsFor kept (with_acts n own acts m)) n t k h
+    (λ m yes. subst (λ b. StandsFor k (cond b own (acts m))) (sym yes) stands)
+    (λ m kept no held. subst (λ b. StandsFor kept (cond b own (acts m))) (sym no) held)
 
 stand_row : {E : Type 0} (n : ℕ) (before after : Option Record) (t : FinMap nat_cmp (Kept E)) (acts : ℕ → List (Act E)) → StandIn t acts → StandIn (row_after fresh before after t n) (since before after n acts)
-stand_row n before None t acts h = stand_remove n t acts h
+stand_row n before None t acts h = each_remove (λ m kept. StandsFor kept (acts m)) n t h
 stand_row n None (Some r) t acts h = stand_insert n t fresh acts [] h fresh_stands
 stand_row n (Some q) (Some r) t acts h = h
 

@@ -2,32 +2,16 @@
 use Rattle.std.specs.Prelude.{◌≡◌, ℕ, List, [], ◌∷◌, fold, Some, None}
 use Rattle.std.specs.FinMap.{empty, get}
 use Rattle.tsn_types.specs.declared.keys.Key.{Key}
-use Rattle.tsn_types.specs.declared.keys.Key.TheVariants.{Port, Filter, Gate, Meter}
 use Rattle.tsn_types.specs.declared.keys.Kind.{Kind}
 use Rattle.tsn_types.specs.declared.keys.Kind.TheVariants as kinds
 use Rattle.tsn_types.specs.declared.records.GateEntry.{GateEntry}
 use Rattle.tsn_types.specs.declared.records.PortEntry.{PortEntry}
-use Rattle.tsn_types.specs.Numbers.{IsInstanceId, IsPortId}
-use Rattle.tsn_config.specs.Ids.{ids_of}
+use Rattle.tsn_config.specs.Ids.{ids_of, key_by}
 use Rattle.tsn_edit.specs.Configuration.{Configuration}
 use Rattle.tsn_edit.specs.Parts.{Change}
 use Rattle.tsn_schedule.specs.Kept.{Kept, fresh}
 use Rattle.tsn_chain.specs.Following.{frames_after, runners_after}
 use Rattle.tsn_chain.specs.Instances.{FrameData, Runners}
-
--- the key of a kind and a number
-abbrev pub key_by : Kind → ℕ → Key
-key_by kinds.Port n = Port n
-key_by kinds.Filter n = Filter n
-key_by kinds.Gate n = Gate n
-key_by kinds.Meter n = Meter n
-
--- a number that a key of the kind may have
-abbrev pub IsNumberOf : Kind → ℕ → Type 0
-IsNumberOf kinds.Port n = IsPortId n
-IsNumberOf kinds.Filter n = IsInstanceId n
-IsNumberOf kinds.Gate n = IsInstanceId n
-IsNumberOf kinds.Meter n = IsInstanceId n
 
 -- a change from none to what a configuration has at a key
 abbrev pub first_change : Configuration → Key → Change

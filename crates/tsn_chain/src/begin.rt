@@ -1,15 +1,15 @@
 //! The runtime that a bridge begins with: instance data for each key of a configuration, all of it new.
 ghost use Rattle.std.specs.Prelude.{◌≡◌, IfOk, OnOk};
 ghost use Rattle.tsn_edit.specs.Configuration.{IsWellKept};
-ghost use Rattle.tsn_chain.specs.Begun.{IsNumberOf, begun_frames, begun_runners, first_change, frames_of_kind, key_by, runners_of_kind};
+ghost use Rattle.tsn_chain.specs.Begun.{begun_frames, begun_runners, first_change, frames_of_kind, runners_of_kind};
 ghost use Rattle.tsn_chain.specs.Following.{frames_after, runners_after};
 
 use crate::runtime::Runtime;
 use std::alloc::{AllocError, Global};
 use tsn_config::Config;
+use tsn_config::ids::key_of;
 use tsn_edit::{Change, Part};
 use tsn_types::keys::{Key, Kind};
-use tsn_types::numbers::{FilterId, GateId, MeterId, PortId};
 
 impl Runtime {
     /// A runtime of the configuration at the instant 0: of each key it has what a change from none to its record leaves.
@@ -60,18 +60,5 @@ impl Runtime {
         };
         self.follow(&Change::of(part));
         Ok(())
-    }
-}
-
-// The key of a kind and a number that its keys may have.
-fn key_of(kind: Kind, id: u64) -> Key
-    requires { IsNumberOf kind id }
-    ensures { result ≡ key_by kind id }
-{
-    match kind {
-        Kind::Port => Key::Port(PortId::new(id).unwrap()),
-        Kind::Filter => Key::Filter(FilterId::new(id).unwrap()),
-        Kind::Gate => Key::Gate(GateId::new(id).unwrap()),
-        Kind::Meter => Key::Meter(MeterId::new(id).unwrap()),
     }
 }

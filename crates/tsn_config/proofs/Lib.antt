@@ -8,6 +8,7 @@ pub mod Edits
 pub mod Examples
 pub mod Indexed
 pub mod Joined
+pub mod Keyed
 pub mod Listed
 pub mod Numbered
 pub mod Opened

@@ -1,13 +1,14 @@
-//! The numbers of the instances that are there.
+//! The numbers of the instances that are there, and the key of each.
 //!
 //! It relies on the tables of each kind, which tell their numbers in order.
 ghost use Rattle.std.specs.Prelude.{◌≡◌, ◌<◌, IfOk, OnErr, length};
-ghost use Rattle.tsn_config.specs.Ids.{ids_of};
+ghost use Rattle.tsn_config.specs.Ids.{IsNumberOf, ids_of, key_by};
 
 use crate::Config;
 use std::alloc::{AllocError, Global};
 use std::marker::Model;
-use tsn_types::keys::Kind;
+use tsn_types::keys::{Key, Kind};
+use tsn_types::numbers::{FilterId, GateId, MeterId, PortId};
 
 /// Numbers of instances in a list, which contracts see as the list.
 #[derive(Debug, Drop)]
@@ -42,5 +43,18 @@ impl Config {
         Ok(Ids {
             ids: self.rows.ids(alloc, kind)?,
         })
+    }
+}
+
+/// The key of a kind and a number that its keys may have.
+pub fn key_of(kind: Kind, id: u64) -> Key
+    requires { IsNumberOf kind id }
+    ensures { result ≡ key_by kind id }
+{
+    match kind {
+        Kind::Port => Key::Port(PortId::new(id).unwrap()),
+        Kind::Filter => Key::Filter(FilterId::new(id).unwrap()),
+        Kind::Gate => Key::Gate(GateId::new(id).unwrap()),
+        Kind::Meter => Key::Meter(MeterId::new(id).unwrap()),
     }
 }

@@ -78,6 +78,7 @@ impl Rows {
     }
 
     /// The record of the key, lent, none where the key is absent.
+    #[tactic(auto, using(crate::proofs::Joined::got_in_tables))]
     pub(crate) fn get(&self, key: Key) -> Option<RecordRef<'_>>
         ensures { option_map lent_record result ≡ map.get self.now.map key }
     {
@@ -214,6 +215,7 @@ impl Rows {
     }
 
     /// Sets the value of the key, or takes the key out, and gives the value that stood there.
+    #[tactic(auto, using(crate::proofs::Joined::got_in_tables, crate::proofs::SetRows::set_in_tables))]
     pub(crate) fn set(&mut self, key: Key, value: Option<Record>) -> Option<Record>
         requires kind { IfSome value (λ r. IsTrue (is_of_kind key r)) }
         requires room { 1 ≤ self.old.spare }

@@ -7,35 +7,11 @@ use std::alloc::{AllocError, Global};
 use std::process::Abort;
 use std::test::Fail;
 use tsn_edit::{Change, Edit, Part, conflicts};
+use tsn_samples::{meter_key, meter_record, port_key};
 use tsn_types::keys::Key;
 use tsn_types::lists::ControlList;
-use tsn_types::numbers::{
-    BitRate, Cycle, Extension, FilterId, GateId, Instant, Interval, MeterId, Octets, PortId,
-};
-use tsn_types::records::{FlowMeter, PortEntry, PortGates, Record, Schedule, StreamFilter};
-
-fn meter() -> Record {
-    Record::Meter(FlowMeter {
-        cir: BitRate::new(8_000_000).unwrap(),
-        cbs: Octets::new(1500).unwrap(),
-        eir: BitRate::new(0).unwrap(),
-        ebs: Octets::new(0).unwrap(),
-        cf: false,
-        aware: false,
-        drop_yellow: false,
-        all_red: false,
-    })
-}
-
-fn meter_key(number: u64) -> Key
-    requires { number ≤ 65535 }
-{
-    Key::Meter(MeterId::new(number).unwrap())
-}
-
-fn port_key() -> Key {
-    Key::Port(PortId::new(2).unwrap())
-}
+use tsn_types::numbers::{Cycle, Extension, FilterId, GateId, Instant, Interval, MeterId};
+use tsn_types::records::{PortEntry, PortGates, Record, Schedule, StreamFilter};
 
 /// A port whose gates are all open, and whose list has this many entries.
 fn port(alloc: Global, gates: u8, length: usize) -> Result<Record, AllocError> {
@@ -96,7 +72,7 @@ fn is_change(
 fn removed_meter() -> Change {
     Change::of(Part {
         key: meter_key(2),
-        before: Some(meter()),
+        before: Some(meter_record()),
         after: None,
     })
 }
@@ -116,7 +92,7 @@ fn is_copied(
 
 fn listed_change(alloc: Global) -> Result<Change, AllocError> {
     Ok(Change::of(Part {
-        key: port_key(),
+        key: port_key(2),
         before: Some(port(alloc, 1, 4_096)?),
         after: Some(port(alloc, 128, 1)?),
     }))
@@ -128,9 +104,9 @@ fn a_copy_has_the_key_and_both_values(rt: HostRuntime) -> Result<(), Fail> {
     let before = port(rt.alloc(), 1, 4_096)?;
     let after = port(rt.alloc(), 128, 1)?;
     let change = listed_change(rt.alloc())?;
-    is_copied(&rt, &change, port_key(), &before, &after)?;
+    is_copied(&rt, &change, port_key(2), &before, &after)?;
     let copy = removed_meter().try_clone()?;
-    is_change(&rt, &copy, meter_key(2), Some(&meter()), None);
+    is_change(&rt, &copy, meter_key(2), Some(&meter_record()), None);
     Ok(())
 }
 
@@ -140,8 +116,8 @@ fn calls_that_take_one_change(rt: HostRuntime) {
     let moved = moved();
     same(&rt, &conflicts(&moved, &moved), &true);
     let back = removed_meter().inverse();
-    is_change(&rt, &back, meter_key(2), None, Some(&meter()));
-    let edit = Edit::Replace(meter_key(2), meter());
+    is_change(&rt, &back, meter_key(2), None, Some(&meter_record()));
+    let edit = Edit::Replace(meter_key(2), meter_record());
     edit.tell_ranges();
     assert!(rt; matches!(&edit, Edit::Replace(_, _)));
 }

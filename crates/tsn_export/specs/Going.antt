@@ -1,13 +1,10 @@
 -- What the writing of a setup goes through: one record after another, and why it stops.
-use Rattle.std.specs.Prelude.{◌≡◌, ◌⊎◌, ℕ, ◌<◌, List, [], length, filter, if◌then◌else◌}
+use Rattle.std.specs.Prelude.{◌≡◌, ◌⊎◌, ℕ, ◌<◌, List, [], length, filter, Option, Some, None, if◌then◌else◌}
 use Rattle.tsn_types.specs.declared.keys.Key.{Key}
 use Rattle.tsn_types.specs.declared.keys.Kind.{Kind}
-use Rattle.tsn_types.specs.declared.keys.Kind.TheVariants as kinds
 use Rattle.tsn_types.specs.declared.records.Record.{Record}
 use Rattle.tsn_types.specs.declared.refusals.Refusal.{Refusal}
 use Rattle.tsn_types.specs.declared.refusals.Refusal.TheVariants.{Memory, TooLong}
-use Rattle.tsn_types.specs.Keys.{kind, number_of}
-use Rattle.tsn_types.specs.Numbers.{IsInstanceId, IsPortId}
 use Rattle.tsn_config.specs.Ids.{is_of}
 use Rattle.tsn_export.specs.Text.{is_default, longest_setup, table_text}
 
@@ -23,16 +20,10 @@ of_kind which es = filter (λ e. is_of which e.0) es
 abbrev pub entry_text : Key × Record → List ℕ
 entry_text e = if is_default e.1 then [] else table_text e
 
--- a number that a key of the kind may have
-abbrev pub MayNumber : Kind → ℕ → Type 0
-MayNumber kinds.Port n = IsPortId n
-MayNumber kinds.Filter n = IsInstanceId n
-MayNumber kinds.Gate n = IsInstanceId n
-MayNumber kinds.Meter n = IsInstanceId n
-
--- the key is of the kind and has the number
-abbrev pub IsNumbered : Kind → ℕ → Key → Type 0
-IsNumbered which n k = (kind k ≡ which) × (number_of k ≡ n)
+-- the text of what there is at a key: none where there is nothing
+abbrev pub text_of : (Key × Record → List ℕ) → Key → Option Record → List ℕ
+text_of text k None = []
+text_of text k (Some r) = text (k, r)
 
 -- why nothing is written: want of memory, or a text that is longer than any that is read
 abbrev pub Stops : List ℕ → Refusal → Type 0

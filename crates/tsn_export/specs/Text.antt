@@ -3,6 +3,7 @@
 -- that no setup names.
 use Rattle.std.specs.Prelude.{ℕ, ◌==◌, nat_le, ◌&&◌, not, Bool, true, false, if◌then◌else◌, List, [], ◌∷◌, ◌++◌, length, filter, Option, Some, None, Result, Ok, Err, codes, decimal}
 use Rattle.std.specs.FinMap.{entries}
+use Rattle.std.specs.List.{flat_map}
 use Rattle.tsn_types.specs.Keys.{number_of}
 use Rattle.tsn_types.specs.declared.keys.Key.{Key}
 use Rattle.tsn_types.specs.declared.keys.Kind.{Kind}
@@ -37,11 +38,6 @@ abbrev pub named : Configuration → List (Key × Record)
 named c = named_of kinds.Port c ++ named_of kinds.Filter c ++ named_of kinds.Gate c ++ named_of kinds.Meter c
 
 -- ---- their text
-
--- the texts of the elements one behind another
-abbrev pub in_a_row : {A : Type 0} → (A → List ℕ) → List A → List ℕ
-in_a_row text [] = []
-in_a_row text (x ∷ xs) = text x ++ in_a_row text xs
 
 abbrev pub flag_text : Bool → List ℕ
 flag_text true = codes "true"
@@ -82,7 +78,7 @@ gate_entry_line e =
 -- `list = []`, or a line for each entry between the brackets
 abbrev pub list_lines : {E : Type 0} → (E → List ℕ) → List E → List ℕ
 list_lines entry [] = codes "list = []\n"
-list_lines entry (e ∷ es) = codes "list = [\n" ++ in_a_row entry (e ∷ es) ++ codes "]\n"
+list_lines entry (e ∷ es) = codes "list = [\n" ++ flat_map entry (e ∷ es) ++ codes "]\n"
 
 -- each record under a header, in the order of its members
 abbrev pub port_table : ℕ → PortGates → List ℕ
@@ -149,7 +145,7 @@ limits_text l =
 
 -- the whole setup
 abbrev pub setup_text : Limits → Configuration → List ℕ
-setup_text l c = limits_text l ++ in_a_row table_text (named c)
+setup_text l c = limits_text l ++ flat_map table_text (named c)
 
 -- the bytes of the longest setup that is read
 abbrev pub longest_setup : ℕ

@@ -13,4 +13,4 @@ mod tables;
 pub mod text;
 
 pub use exporting::{LONGEST_SETUP, export_setup};
-pub use text::SetupText;
+pub use text::{PlainText, SetupText};

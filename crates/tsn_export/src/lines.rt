@@ -3,10 +3,10 @@ ghost use Rattle.std.specs.Prelude.{◌≡◌, ◌++◌, OnOk};
 ghost use Rattle.tsn_export.specs.Text.{flag_line, list_lines, number_line, number_or_none_line};
 
 use crate::entries::EntryLine;
-use crate::text::SetupText;
+use crate::text::PlainText;
 use std::alloc::AllocError;
 
-impl SetupText {
+impl PlainText {
     // Puts the line of a number at the end.
     pub(crate) fn number_line(&mut self, name: &str, number: u64) -> Result<(), AllocError>
         ensures { OnOk result (self.new ≡ self.old ++ number_line name.now number) }

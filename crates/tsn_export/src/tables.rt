@@ -1,13 +1,12 @@
 //! The tables of records, and the limits.
-ghost use Rattle.std.specs.Prelude.{◌≡◌, ◌++◌, OnOk, Some};
+ghost use Rattle.std.specs.Prelude.{◌≡◌, ◌++◌, OnOk};
 ghost use Rattle.std.specs.FinMap as map;
 ghost use Rattle.tsn_types.specs.Keys.{number_of};
-ghost use Rattle.tsn_types.specs.declared.records.Record.{Record as AnyRecord};
 ghost use Rattle.tsn_types.specs.declared.records.Record.TheVariants.{Port as PortRecord};
-ghost use Rattle.tsn_export.specs.Going.{entry_text};
+ghost use Rattle.tsn_export.specs.Going.{entry_text, text_of};
 ghost use Rattle.tsn_export.specs.Text.{filter_table, gate_table, is_default, limits_text, meter_table, port_table};
 
-use crate::text::SetupText;
+use crate::text::PlainText;
 use std::alloc::AllocError;
 use tsn_config::Config;
 use tsn_types::keys::Key;
@@ -38,7 +37,7 @@ fn is_default(port: &PortGates) -> bool
         && port.admin.base.get() == 0
 }
 
-impl SetupText {
+impl PlainText {
     // Puts the lines of all limits at the end.
     pub(crate) fn push_limits(&mut self, limits: Limits) -> Result<(), AllocError>
         ensures { OnOk result (self.new ≡ self.old ++ limits_text limits) }
@@ -52,8 +51,7 @@ impl SetupText {
 
     // Puts the table of the key's record at the end, unless it is one that no setup names.
     pub(crate) fn push_entry(&mut self, config: &Config, key: Key) -> Result<(), AllocError>
-        ensures { (r : AnyRecord) → map.get config.now.map key ≡ Some r →
-            OnOk result (self.new ≡ self.old ++ entry_text (key, r)) }
+        ensures { OnOk result (self.new ≡ self.old ++ text_of entry_text key (map.get config.now.map key)) }
     {
         let id = number_of(&key);
         match config.get(key) {

@@ -1,4 +1,4 @@
-//! The text of a setup, which grows at its end.
+//! Text that grows at its end.
 ghost use Rattle.std.specs.Prelude.{◌≡◌, ◌++◌, [], length, decimal, OnOk};
 ghost use Rattle.tsn_export.specs.Text.{flag_text};
 
@@ -6,13 +6,16 @@ use itoa::Buffer;
 use std::alloc::{AllocError, Global};
 use std::marker::Model;
 
-/// The text of a setup, which contracts see as the list of its bytes.
+/// Text, which contracts see as the list of its bytes.
 #[derive(Debug, Drop)]
-pub struct SetupText {
+pub struct PlainText {
     bytes: Vec<u8>,
 }
 
-impl Model for SetupText {
+/// The text of a setup.
+pub type SetupText = PlainText;
+
+impl Model for PlainText {
     ghost use Rattle.std.specs.Prelude.{ℕ, List};
 
     ghost Value = { List ℕ };
@@ -20,12 +23,12 @@ impl Model for SetupText {
     ghost view = { λ t. t.bytes.items };
 }
 
-impl SetupText {
-    // The empty text.
-    pub(crate) fn new(alloc: Global) -> SetupText
+impl PlainText {
+    /// The empty text.
+    pub fn new(alloc: Global) -> PlainText
         ensures { result ≡ [] }
     {
-        SetupText {
+        PlainText {
             bytes: Vec::new(alloc),
         }
     }
@@ -44,16 +47,16 @@ impl SetupText {
         self.bytes.len()
     }
 
-    // Puts the piece at the end.
-    pub(crate) fn push(&mut self, piece: &str) -> Result<(), AllocError>
+    /// Puts the piece at the end.
+    pub fn push(&mut self, piece: &str) -> Result<(), AllocError>
         ensures { OnOk result (self.new ≡ self.old ++ piece.now) }
     {
         self.bytes.extend_from_slice(piece.as_bytes())?;
         Ok(())
     }
 
-    // Puts the number at the end, in decimal digits.
-    pub(crate) fn push_number(&mut self, number: u64) -> Result<(), AllocError>
+    /// Puts the number at the end, in decimal digits.
+    pub fn push_number(&mut self, number: u64) -> Result<(), AllocError>
         ensures { OnOk result (self.new ≡ self.old ++ decimal number) }
     {
         let mut digits = Buffer::new();

@@ -12,35 +12,9 @@ use tsn_edit::{Change, Part};
 use tsn_journal::entries::{Act, Entry, What};
 use tsn_journal::journal::{Journal, MOST_ENTRIES};
 use tsn_journal::laws;
-use tsn_types::keys::Key;
-use tsn_types::numbers::{BitRate, GateId, Instant, MeterId, Octets};
-use tsn_types::records::{FlowMeter, Record};
+use tsn_samples::{gate_key, meter_key, meter_record};
+use tsn_types::numbers::Instant;
 use tsn_types::refusals::Refusal;
-
-fn meter_key(number: u64) -> Key
-    requires { number ≤ 65535 }
-{
-    Key::Meter(MeterId::new(number).unwrap())
-}
-
-fn gate_key(number: u64) -> Key
-    requires { number ≤ 65535 }
-{
-    Key::Gate(GateId::new(number).unwrap())
-}
-
-fn meter() -> Record {
-    Record::Meter(FlowMeter {
-        cir: BitRate::new(8_000_000).unwrap(),
-        cbs: Octets::new(1500).unwrap(),
-        eir: BitRate::new(0).unwrap(),
-        ebs: Octets::new(0).unwrap(),
-        cf: false,
-        aware: false,
-        drop_yellow: false,
-        all_red: false,
-    })
-}
 
 /// The creation of a meter.
 fn created(number: u64) -> Change
@@ -49,7 +23,7 @@ fn created(number: u64) -> Change
     Change::of(Part {
         key: meter_key(number),
         before: None,
-        after: Some(meter()),
+        after: Some(meter_record()),
     })
 }
 

@@ -1,10 +1,11 @@
 //! Marks that no frame gets from a script: of a frame that is red already, of more octets than a frame has, and at an
 //! instant that falls. `examples/tables/frames-meters.txt` has the others.
-ghost use Rattle.std.specs.Prelude.{◌≡◌, ◌≤◌, ◌^◌};
+ghost use Rattle.std.specs.Prelude.{◌≤◌, ◌^◌};
 
 use crate::comparing::same;
 use std::process::Abort;
 use tsn_meter::bucket::{Bucket, Colour};
+use tsn_samples::meter_of;
 use tsn_types::numbers::{BitRate, Instant, Octets};
 use tsn_types::records::FlowMeter;
 
@@ -20,23 +21,6 @@ fn octets(number: u64) -> Octets
     Octets::new(number).unwrap()
 }
 
-/// A meter with no flag on: a committed rate of 8 Mbit/s, two burst sizes, no excess rate.
-fn meter(cbs: u64, ebs: u64) -> FlowMeter
-    requires committed { cbs ≤ 4294967295 }
-    requires excess { ebs ≤ 4294967295 }
-{
-    FlowMeter {
-        cir: BitRate::new(8_000_000).unwrap(),
-        cbs: octets(cbs),
-        eir: BitRate::new(0).unwrap(),
-        ebs: octets(ebs),
-        cf: false,
-        aware: false,
-        drop_yellow: false,
-        all_red: false,
-    }
-}
-
 /// The mark of a green frame.
 fn mark(bucket: &mut Bucket, meter: &FlowMeter, now: u64, count: u64) -> Colour
     requires time { now ≤ 2 ^ 62 }
@@ -48,7 +32,7 @@ fn mark(bucket: &mut Bucket, meter: &FlowMeter, now: u64, count: u64) -> Colour
 /// In colour-aware mode a red frame stays red and takes nothing, and a drop eligible one tries the excess alone; in
 /// blind mode every frame counts as green.
 fn colours_count(rt: &impl Abort) {
-    let blind = meter(100, 100);
+    let blind = meter_of(100, 100);
     let aware = FlowMeter {
         aware: true,
         ..blind
@@ -71,7 +55,7 @@ fn greatest_numbers(rt: &impl Abort) {
         cir: BitRate::new(1_000_000_000_000).unwrap(),
         eir: BitRate::new(1_000_000_000_000).unwrap(),
         cf: true,
-        ..meter(most, most)
+        ..meter_of(most, most)
     };
     let mut bucket = Bucket::full(&meter, instant(0));
     for now in [0, 1 << 62] {
@@ -83,7 +67,7 @@ fn greatest_numbers(rt: &impl Abort) {
 
 /// An instant before the last one adds nothing.
 fn earlier_instant(rt: &impl Abort) {
-    let meter = meter(100, 0);
+    let meter = meter_of(100, 0);
     let mut bucket = Bucket::full(&meter, instant(1_000_000));
     let first = mark(&mut bucket, &meter, 1_000_000, 100);
     same(rt, &first, &Colour::Green);

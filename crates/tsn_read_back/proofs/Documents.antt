@@ -1,11 +1,11 @@
 -- Documents that are read back: the limits, and then the tables.
-use Rattle.std.proofs.Common.{◌≡◌, ℕ, suc, ◌||◌, List, [], ◌∷◌, ◌++◌, map, true, false, ◌==◌, length, codes, Option, Some, None, option_map, Ok, refl, sym, ap, subst, ◌∙◌, arith, append_assoc}
+use Rattle.std.proofs.Common.{◌≡◌, ℕ, List, [], ◌∷◌, ◌++◌, map, false, ◌==◌, length, codes, Some, None, Ok, refl, sym, ap, subst, ◌∙◌, arith, append_assoc}
 use Rattle.std.proofs.lemmas.Bool.Decides.{nat_tests}
-use Rattle.std.proofs.lemmas.List.Folds.{list_any-append}
-use Rattle.std.specs.Str.{bytes_eq, is_utf8}
+use Rattle.std.proofs.lemmas.List.Concat.{flat_map-append}
+use Rattle.std.specs.List.{flat_map}
 use Rattle.toml_parser.specs.Lexical.{first, skip_blank}
-use Rattle.toml.specs.Data.{Data, table, Members, get_member}
-use Rattle.toml.specs.Tables.{Nodes, get_node, close, along_header, array_table}
+use Rattle.toml.specs.Data.{Data}
+use Rattle.toml.specs.Tables.{array_table}
 use Rattle.toml.specs.Parse.{line}
 use Rattle.toml.proofs.Blanks.{skip_newline, skip_none, skip_within}
 use Rattle.tsn_types.specs.Bounds.{AreInRange}
@@ -19,21 +19,15 @@ use Rattle.tsn_types.specs.declared.limits.Limits.{Limits}
 use Rattle.tsn_types.specs.declared.records.Record.{Record}
 use Rattle.tsn_types.specs.declared.records.Record.TheVariants as records
 use Rattle.tsn_records.specs.Keys.{kind_text}
-use Rattle.tsn_records.specs.Members.{setup_names}
-use Rattle.tsn_setup.specs.Plain.{tables, tables_given, Slots, slot_at, put_slot, names, Tells, Frames, ReadsLines, IsArray, ReadsDocument, ReadsWhole}
-use Rattle.tsn_setup.specs.PlainSlots.{limits_slots}
+use Rattle.tsn_setup.specs.Plain.{tables, slot_at, put_slot, ReadsDocument}
+use Rattle.tsn_setup.specs.PlainSlots.{limits_slots, whole_slots}
 use Rattle.tsn_setup.specs.Setups.{document_of, setup_shape}
-use Rattle.tsn_setup.specs.Tables.{limits_shape, tables_of_kind, tables_shape}
-use Rattle.tsn_setup.specs.Toml.{are_among}
 use Rattle.tsn_setup.specs.declared.drafts.LimitsDraft.{LimitsDraft}
 use Rattle.tsn_setup.specs.declared.drafts.TableDraft.{TableDraft}
-use Rattle.tsn_setup.proofs.Filling.{closed_at, no_node}
 use Rattle.tsn_setup.proofs.Keyed.{keyed_draft}
 use Rattle.tsn_setup.proofs.OfKind.{InRange, AllOf, nothing_more, drafts_joined}
-use Rattle.tsn_setup.proofs.Rows.{is_among, known_at, other_member, all_among}
-use Rattle.tsn_setup.proofs.Told.{only}
-use Rattle.tsn_setup.proofs.WholeDocuments.{table_added, document_ended}
-use Rattle.tsn_export.specs.Text.{number_line, table_text, in_a_row, limits_text}
+use Rattle.tsn_setup.proofs.WholeDocuments.{document_begun, document_ended, document_shaped, table_added}
+use Rattle.tsn_export.specs.Text.{number_line, table_text, limits_text}
 use Rattle.tsn_read_back.proofs.Joined.{in_three, in_five}
 use Rattle.tsn_read_back.proofs.Lines.{Reads, reads_begun, number_back}
 use Rattle.tsn_read_back.proofs.Tables.{header, header_read, TableRead, port_back, filter_back, gate_back, meter_back}
@@ -84,13 +78,6 @@ with_kind kinds.Filter new ts kinds.Filter = new
 with_kind kinds.Gate new ts kinds.Gate = new
 with_kind kinds.Meter new ts kinds.Meter = new
 with_kind which new ts other = ts other
-
-abbrev table_slots : Tables → Slots
-table_slots ts = map (λ which. (kind_text which, tables which (ts which))) (kinds.Port ∷ kinds.Filter ∷ kinds.Gate ∷ kinds.Meter ∷ [])
-
--- the members of a document: the limits, and the tables of each kind
-abbrev whole_slots : LimitsDraft → Tables → Slots
-whole_slots l ts = limits_slots l ++ table_slots ts
 
 own_slot : (which : Kind) (l : LimitsDraft) (list : List TableDraft) (ts : Tables)
     → slot_at (kind_text which) (whole_slots l (with_kind which list ts)) ≡ Some (tables which list)
@@ -144,7 +131,7 @@ record_back k r more fits = absurd fits
 
 -- the tables of records
 abbrev pub rows : List (Key × Record) → List ℕ
-rows es = in_a_row table_text es
+rows es = flat_map table_text es
 
 -- the records of a kind
 kind_back : (which : Kind) (es : List (Key × Record)) (text more : List ℕ) (l : LimitsDraft) (list : List TableDraft) (ts : Tables)
@@ -164,86 +151,7 @@ kind_back which (e ∷ es) text more l list ts fits are so =
     (append_assoc list (keyed_draft e ∷ []) (map keyed_draft es))
     (kind_back which es text more l (list ++ keyed_draft e ∷ []) ts fits.1 are.1 next)
 
--- ---- the beginning
-
-tells_joined : (ms : Members) (a b : Slots) → Tells ms a → Tells ms b → Tells ms (a ++ b)
-tells_joined ms [] b first_ones others = others
-tells_joined ms (s ∷ a) b first_ones others = (first_ones.0, tells_joined ms a b first_ones.1 others)
-
-missing : (l : LimitsDraft) (which : Kind) (ms : Members) → are_among (names (limits_slots l)) ms ≡ true
-    → get_member (kind_text which) ms ≡ None
-missing l kinds.Port ms known = other_member (names (limits_slots l)) ms (kind_text kinds.Port) known refl
-missing l kinds.Filter ms known = other_member (names (limits_slots l)) ms (kind_text kinds.Filter) known refl
-missing l kinds.Gate ms known = other_member (names (limits_slots l)) ms (kind_text kinds.Gate) known refl
-missing l kinds.Meter ms known = other_member (names (limits_slots l)) ms (kind_text kinds.Meter) known refl
-
-wider : (some more : List (List ℕ)) (ms : Members) → are_among some ms ≡ true → are_among (some ++ more) ms ≡ true
-wider some more ms known =
-    all_among (some ++ more) ms (λ k there.
-    let this = known_at (is_among some k) some ms k refl known there in
-    list_any-append (λ name. bytes_eq name k) some more ∙ ap (λ b. b || is_among more k) this)
-
-as_it_is : (o : Option Nodes) → o ≡ option_map (λ ns. ns) o
-as_it_is None = refl
-as_it_is (Some ns) = refl
-
-whole_frames : Frames [] (λ ns. ns)
-unfolding along_header
-whole_frames edit ns = as_it_is (edit ns)
-
--- limits, and no tables
-begun : (text rest : List ℕ) (l : LimitsDraft) → ReadsLines text (limits_slots l) rest
-    → ReadsDocument text (whole_slots l (λ which. [])) rest
-begun text rest l read =
-    let found = close read.found in
-    let none = λ (which : Kind). missing l which found read.tells.only in
-    let no_tables = λ (which : Kind). ap (tables_given which) (none which) in
-    record {
-      root = read.found;
-      path = [];
-      leads = read.leads [] (λ ns. ns) whole_frames (suc (length text)) (omega arith);
-      tells = record {
-        tells = tells_joined found (limits_slots l) (table_slots (λ which. [])) read.tells.tells
-            (no_tables kinds.Port, (no_tables kinds.Filter, (no_tables kinds.Gate, (no_tables kinds.Meter, tt))));
-        only = wider (names (limits_slots l)) (names (table_slots (λ which. []))) found read.tells.only;
-      };
-      arrays = λ which.
-          let empty = no_node (get_node (kind_text which) read.found) (sym (closed_at (kind_text which) read.found) ∙ none which) in
-          subst IsArray (sym empty) tt;
-    }
-
 -- ---- the whole
-
--- the tables one kind behind another
-abbrev pub all_tables : (Kind → List TableDraft) → List TableDraft
-all_tables ts = ts kinds.Port ++ ts kinds.Filter ++ ts kinds.Gate ++ ts kinds.Meter
-
-shaped : (text : List ℕ) (l : LimitsDraft) (ts : Tables) → is_utf8 text ≡ true → ReadsWhole text (whole_slots l ts)
-    → (d : Data) × ((document_of text ≡ Some d) × (setup_shape d ≡ Ok (l, all_tables ts)))
-unfolding setup_shape limits_shape tables_shape tables_of_kind
-shaped text l ts utf8 read =
-    let told = read.tells.tells in (
-      table read.found,
-      (
-        rw (utf8, read.reads) refl,
-        rw (
-          only setup_names read.found read.tells.only,
-          told.0,
-          told.1.0,
-          told.1.1.0,
-          told.1.1.1.0,
-          told.1.1.1.1.0,
-          told.1.1.1.1.1.0,
-          told.1.1.1.1.1.1.0,
-          told.1.1.1.1.1.1.1.0,
-          told.1.1.1.1.1.1.1.1.0,
-        ) refl,
-      ),
-    )
-
-row_joined : (xs ys : List (Key × Record)) → rows (xs ++ ys) ≡ rows xs ++ rows ys
-row_joined [] ys = refl
-row_joined (x ∷ xs) ys = ap (λ t. table_text x ++ t) (row_joined xs ys) ∙ sym (append_assoc (table_text x) (rows xs) (rows ys))
 
 -- four lists of records, each of a kind
 pub record FourKinds (p f g m : List (Key × Record)) : Type 0 where
@@ -254,8 +162,8 @@ pub record FourKinds (p f g m : List (Key × Record)) : Type 0 where
 
 in_rows : (p f g m : List (Key × Record)) → rows (p ++ f ++ g ++ m) ≡ rows p ++ (rows f ++ (rows g ++ (rows m ++ [])))
 in_rows p f g m =
-    row_joined (p ++ f ++ g) m
-    ∙ ap (λ t. t ++ rows m) (row_joined (p ++ f) g ∙ ap (λ t. t ++ rows g) (row_joined p f))
+    flat_map-append table_text (p ++ f ++ g) m
+    ∙ ap (λ t. t ++ rows m) (flat_map-append table_text (p ++ f) g ∙ ap (λ t. t ++ rows g) (flat_map-append table_text p f))
     ∙ ap (λ t. rows p ++ rows f ++ rows g ++ t) (sym (nothing_more (rows m)))
     ∙ in_three (rows p) (rows f) (rows g) (rows m ++ [])
 
@@ -282,7 +190,7 @@ document_back l p f g m fits four =
     let three : Tables = with_kind kinds.Gate (map keyed_draft g) two in
     let all : Tables = with_kind kinds.Meter (map keyed_draft m) three in
     let start = subst (λ t. ReadsDocument text (whole_slots given none) (skip_blank t)) (in_rows p f g m)
-    (begun text (skip_blank tables) given (limits_back l tables fits)) in
+    (document_begun text (skip_blank tables) given (limits_back l tables fits)) in
     let a = kind_back kinds.Port p text filters given [] none four.ports.1 four.ports.0 start in
     let b = kind_back kinds.Filter f text gates given [] one four.filters.1 four.filters.0 a in
     let c = kind_back kinds.Gate g text meters given [] two four.gates.1 four.gates.0 b in
@@ -290,5 +198,4 @@ document_back l p f g m fits four =
     kind_back kinds.Meter m text [] given [] three four.meters.1 four.meters.0 c in
     let over : length (skip_blank (skip_blank [])) ≡ 0 = omega (arith, skip_within [], skip_within (skip_blank [])) in
     let read = document_ended text (whole_slots given all) (skip_blank []) whole over refl in
-    let found = shaped text given all (setup_utf8 l (p ++ f ++ g ++ m)) read in
-    (found.0, (found.1.0, found.1.1 ∙ ap (λ ds. Ok (given, ds)) (sym (all_drafts p f g m))))
+    document_shaped text given all (map keyed_draft (p ++ f ++ g ++ m)) (setup_utf8 l (p ++ f ++ g ++ m)) read (all_drafts p f g m)

@@ -1,7 +1,7 @@
 -- Entries of a list that are read back: inline tables, each on a line of its own.
 use Rattle.std.proofs.Common.{◌≡◌, ℕ, ◌+◌, ◌<◌, ◌≤◌, ◌^◌, ◌||◌, List, [], ◌∷◌, ◌++◌, map, Bool, true, false, cond, ◌==◌, length, length-drop, drop, codes, decimal, Option, Some, None, IfSome, Result, refl, sym, ap, subst, ◌∙◌, arith, append_assoc, length-append}
 use Rattle.std.proofs.lemmas.Bool.Decides.{nat_tests}
-use Rattle.std.specs.List.{AllByRecursion}
+use Rattle.std.specs.List.{AllByRecursion, flat_map}
 use Rattle.toml_parser.specs.Lexical.{first, skip_blank}
 use Rattle.toml.specs.Data.{Data}
 use Rattle.toml.specs.Parse.{after_element}
@@ -23,7 +23,7 @@ use Rattle.tsn_setup.proofs.OfKind.{nothing_more}
 use Rattle.tsn_setup.proofs.Told.{port_entry_told, gate_entry_told}
 use Rattle.tsn_setup.proofs.Turning.{table_begun, table_more, table_ended, entries_begun, entries_more, entries_ended}
 use Rattle.tsn_setup.proofs.Values.{port_list_read, gate_list_read}
-use Rattle.tsn_export.specs.Text.{inner_number, inner_number_or_none, flag_text, port_entry_line, gate_entry_line, in_a_row, list_lines}
+use Rattle.tsn_export.specs.Text.{inner_number, inner_number_or_none, flag_text, port_entry_line, gate_entry_line, list_lines}
 use Rattle.tsn_read_back.proofs.Joined.{in_three, in_four, in_six}
 use Rattle.tsn_read_back.proofs.Lines.{Spelled, name_start, member_read, number_spelled, flag_spelled, small, Reads, line_read}
 
@@ -196,13 +196,13 @@ next_entry shape text list draft line more entry so =
 
 entries_back : {E D : Type 0} (shape : Data → Result D Unread) (line : E → List ℕ) (draft : E → D) (InRange : E → Type 0)
     → AreRead shape line draft InRange → (es : List E) (text more : List ℕ) (list : List D) → AllByRecursion InRange es
-    → EntriesSoFar shape text list (10 ∷ (in_a_row line es ++ more)) → EntriesSoFar shape text (list ++ map draft es) (10 ∷ more)
+    → EntriesSoFar shape text list (10 ∷ (flat_map line es ++ more)) → EntriesSoFar shape text (list ++ map draft es) (10 ∷ more)
 entries_back shape line draft InRange one [] text more list fits so =
     subst (λ l. EntriesSoFar shape text l (10 ∷ more)) (sym (nothing_more list)) so
 entries_back {E} {D} shape line draft InRange one (e ∷ es) text more list fits so =
-    let tail = in_a_row line es ++ more in
+    let tail = flat_map line es ++ more in
     let here : EntriesSoFar shape text list (10 ∷ (line e ++ tail)) =
-    subst (λ t. EntriesSoFar shape text list (10 ∷ t)) (append_assoc (line e) (in_a_row line es) more) so in
+    subst (λ t. EntriesSoFar shape text list (10 ∷ t)) (append_assoc (line e) (flat_map line es) more) so in
     let next = next_entry shape text list (draft e) (line e ++ tail) tail (one e tail fits.0) here in
     subst (λ l. EntriesSoFar shape text l (10 ∷ more)) (append_assoc list (draft e ∷ []) (map draft es))
     (entries_back shape line draft InRange one es text more (list ++ draft e ∷ []) fits.1 next)
@@ -232,7 +232,7 @@ list_read shape line draft InRange one [] more fits =
     }
 list_read {E} {D} shape line draft InRange one (e ∷ es) more fits =
     let ends = 93 ∷ 10 ∷ more in
-    let lines = in_a_row line (e ∷ es) in
+    let lines = flat_map line (e ∷ es) in
     let inside = 10 ∷ (lines ++ ends) in
     let some : ListRead shape (list_lines line (e ∷ es) ++ more) (map draft (e ∷ es)) more = record {
       inside = inside;

@@ -2,7 +2,7 @@
 use Rattle.std.proofs.Common.{◌≡◌, ℕ, suc, zero, ◌/◌, ◌%◌, ◌&&◌, ◌==◌, List, [], ◌∷◌, ◌++◌, Bool, true, false, cond, codes, decimal, Option, Some, None, refl, arith}
 use Rattle.std.specs.Char.{is_ascii}
 use Rattle.std.specs.Fmt.{digit_glyph, digits, digits_onto}
-use Rattle.std.specs.List.{list_all}
+use Rattle.std.specs.List.{flat_map, list_all}
 use Rattle.std.specs.Str.{IsAscii, is_utf8}
 use Rattle.std.proofs.lemmas.Bool.{and_from, and_parts}
 use Rattle.std.proofs.lemmas.Bool.Decides.{nat_tests}
@@ -19,7 +19,7 @@ use Rattle.tsn_types.specs.declared.records.Record.TheVariants.{Port, Filter, Ga
 use Rattle.tsn_types.specs.declared.records.StreamFilter.{StreamFilter}
 use Rattle.tsn_types.specs.declared.records.StreamGate.{StreamGate}
 use Rattle.tsn_types.specs.Keys.{number_of}
-use Rattle.tsn_export.specs.Text.{number_or_none_line, flag_text, inner_number_or_none, port_entry_line, gate_entry_line, in_a_row, list_lines, port_table, filter_table, gate_table, meter_table, table_text, limits_text}
+use Rattle.tsn_export.specs.Text.{number_or_none_line, flag_text, inner_number_or_none, port_entry_line, gate_entry_line, list_lines, port_table, filter_table, gate_table, meter_table, table_text, limits_text}
 
 -- each byte is one of ASCII
 abbrev are_ascii : List ℕ → Bool
@@ -83,15 +83,15 @@ gate_entry_plain e =
           refl,
     ) refl
 
-row_plain : {E : Type 0} (line : E → List ℕ) (es : List E) → ((e : E) → are_ascii (line e) ≡ true) → are_ascii (in_a_row line es) ≡ true
+row_plain : {E : Type 0} (line : E → List ℕ) (es : List E) → ((e : E) → are_ascii (line e) ≡ true) → are_ascii (flat_map line es) ≡ true
 row_plain line [] each = refl
-row_plain line (e ∷ es) each = rw (joined (line e) (in_a_row line es), each e, row_plain line es each) refl
+row_plain line (e ∷ es) each = rw (joined (line e) (flat_map line es), each e, row_plain line es each) refl
 
 list_plain : {E : Type 0} (line : E → List ℕ) (es : List E) → ((e : E) → are_ascii (line e) ≡ true) → are_ascii (list_lines line es) ≡ true
 list_plain line [] each = refl
 list_plain {E} line (e ∷ es) each =
-    let rows : are_ascii (in_a_row line (e ∷ es)) ≡ true = row_plain line (e ∷ es) each in
-    rw (joined (codes "list = [\n" ++ in_a_row line (e ∷ es)) (codes "]\n"), joined (codes "list = [\n") (in_a_row line (e ∷ es)), rows)
+    let rows : are_ascii (flat_map line (e ∷ es)) ≡ true = row_plain line (e ∷ es) each in
+    rw (joined (codes "list = [\n" ++ flat_map line (e ∷ es)) (codes "]\n"), joined (codes "list = [\n") (flat_map line (e ∷ es)), rows)
     refl
 
 -- ---- tables
@@ -134,7 +134,7 @@ table_plain k (Meter r) = meter_plain (number_of k) r
 limits_plain : (l : Limits) → are_ascii (limits_text l) ≡ true
 limits_plain l = simp (joined, decimal_plain) refl
 
-pub setup_utf8 : (l : Limits) (es : List (Key × Record)) → is_utf8 (limits_text l ++ in_a_row table_text es) ≡ true
+pub setup_utf8 : (l : Limits) (es : List (Key × Record)) → is_utf8 (limits_text l ++ flat_map table_text es) ≡ true
 setup_utf8 l es =
-    utf8_from _ (rw (joined (limits_text l) (in_a_row table_text es), limits_plain l, row_plain table_text es (λ e. table_plain e.0 e.1))
+    utf8_from _ (rw (joined (limits_text l) (flat_map table_text es), limits_plain l, row_plain table_text es (λ e. table_plain e.0 e.1))
     refl)

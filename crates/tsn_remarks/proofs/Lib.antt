@@ -1,4 +1,3 @@
-pub mod Along
 pub mod Kept
 pub mod Referred
 pub mod Written

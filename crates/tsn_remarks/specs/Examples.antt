@@ -8,6 +8,7 @@ use Rattle.tsn_types.specs.declared.records.PortEntry.{PortEntry}
 use Rattle.tsn_types.specs.declared.records.Record.{Record}
 use Rattle.tsn_types.specs.declared.records.Record.TheVariants as records
 use Rattle.tsn_edit.specs.Configuration.{Configuration}
+use Rattle.tsn_export.specs.Examples.{meter}
 
 abbrev port_of : List PortEntry → Record
 port_of list = records.Port (record { gates = 255; admin = record { list = list; cycle = 1000; extension = 0; base = 0 } })
@@ -45,18 +46,6 @@ empty_gate = gate_of []
 -- it refers to gate 0 and meter 1
 abbrev filter : Record
 filter = records.Filter (record { handle = Some 7; priority = None; gate = 0; max_sdu = None; meter = Some 1; oversize = false })
-
-abbrev meter : Record
-meter = records.Meter (record {
-  cir = 8000000;
-  cbs = 1500;
-  eir = 0;
-  ebs = 0;
-  cf = false;
-  aware = false;
-  drop_yellow = false;
-  all_red = false;
-})
 
 abbrev pub entries : List (Key × Record)
 entries =

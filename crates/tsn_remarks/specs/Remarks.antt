@@ -1,7 +1,7 @@
 -- What is allowed in a configuration, but seldom meant: a line for each such thing.
 use Rattle.std.specs.Prelude.{ℕ, ◌==◌, ◌||◌, Bool, if◌then◌else◌, List, [], ◌++◌, length, codes, decimal}
 use Rattle.std.specs.FinMap.{entries}
-use Rattle.std.specs.List.{list_any, sum_by}
+use Rattle.std.specs.List.{flat_map, list_any, sum_by}
 use Rattle.tsn_types.specs.Keys.{has, refs}
 use Rattle.tsn_types.specs.declared.keys.Key.{Key}
 use Rattle.tsn_types.specs.declared.keys.Key.TheVariants.{Port, Filter, Gate, Meter}
@@ -12,7 +12,6 @@ use Rattle.tsn_types.specs.declared.records.Record.TheVariants as records
 use Rattle.tsn_types.specs.declared.records.Schedule.{Schedule}
 use Rattle.tsn_edit.specs.Configuration.{Configuration}
 use Rattle.tsn_export.specs.Going.{Entries, of_kind}
-use Rattle.tsn_export.specs.Text.{in_a_row}
 
 -- `gate 4`: the kind and the number
 abbrev pub name : Key → List ℕ
@@ -52,7 +51,7 @@ remarks_on es (k, records.Meter r) = reference_remark es k
 
 -- the lines on what is of a kind
 abbrev pub remarks_of : Kind → Entries → List ℕ
-remarks_of kind es = in_a_row (remarks_on es) (of_kind kind es)
+remarks_of kind es = flat_map (remarks_on es) (of_kind kind es)
 
 -- the lines on ports, then on stream gates, then on flow meters
 abbrev pub all_remarks : Entries → List ℕ

@@ -4,9 +4,8 @@
 #![tactic(auto)]
 
 pub mod laws;
+mod lines;
 mod lists;
 mod telling;
-pub mod text;
 
 pub use telling::remarks;
-pub use text::RemarkText;

@@ -13,6 +13,11 @@ use Rattle.tsn_setup.specs.Toml.{are_among, has_only}
 use Rattle.tsn_setup.specs.Values.{Rows, given, table_with}
 use Rattle.tsn_setup.proofs.Ordered.{order, Above, IsOrdered, AreOrdered, above_below, turned}
 
+-- facts one behind another
+infixr 4 ◌&◌
+pub ◌&◌ : {A B : Type 0} → A → B → A × B
+a & b = (a, b)
+
 abbrev Row : Type 0
 Row = List ℕ × Option Data
 

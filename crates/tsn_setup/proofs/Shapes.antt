@@ -21,7 +21,7 @@ use Rattle.tsn_setup.proofs.Ordered.{order, IsOrdered, EachOrdered, AreOrdered}
 use Rattle.tsn_records.proofs.RecordRanges.{port_entry_draft, gate_entry_draft, schedule_draft, port_draft, gate_draft, filter_draft, meter_draft}
 use Rattle.tsn_records.proofs.Shapes.{port_entry_has, gate_entry_has, schedule_has, port_has, gate_has, filter_has, meter_has, port_entry_of, gate_entry_of, schedule_of, port_of, gate_of, filter_of, meter_of}
 use Rattle.tsn_records.proofs.Steps.{mapped_there, steps, only}
-use Rattle.tsn_setup.proofs.Rows.{looked_up, is_rising, at_name, only_these, whole_table}
+use Rattle.tsn_setup.proofs.Rows.{◌&◌, looked_up, is_rising, at_name, only_these, whole_table}
 
 -- ---- what is at a name
 
@@ -127,13 +127,15 @@ inner_ordered k d e h is = subst (λ o. IfSome o IsOrdered) is (got_ordered k d 
 port_entry_is : (d : Data) (e : PortEntry) → IsOrdered d → port_entry_shape as_toml d ≡ Ok (port_entry_draft e) → d ≡ table_with (port_entry_rows e)
 port_entry_is d e ordered h =
     let has = port_entry_has as_toml d (port_entry_draft e) h in
-    whole_table (entry_names_of kinds.Port) d (port_entry_rows e) tt ordered has.only refl refl (number_there _ _ has.gates, (number_there _ _ has.interval, tt))
+    whole_table (entry_names_of kinds.Port) d (port_entry_rows e) tt ordered has.only refl refl
+    (number_there _ _ has.gates & number_there _ _ has.interval & tt)
 
 gate_entry_is : (d : Data) (e : GateEntry) → IsOrdered d → gate_entry_shape as_toml d ≡ Ok (gate_entry_draft e) → d ≡ table_with (gate_entry_rows e)
 gate_entry_is d e ordered h =
     let has = gate_entry_has as_toml d (gate_entry_draft e) h in
     whole_table (entry_names_of kinds.Gate) d (gate_entry_rows e) tt ordered has.only refl refl
-    (flag_there _ _ has.is_open, (number_or_none_there _ _ has.ipv, (number_there _ _ has.interval, (number_or_none_there _ _ has.octets, tt))))
+    (flag_there _ _ has.is_open & number_or_none_there _ _ has.ipv & number_there _ _ has.interval &
+    number_or_none_there _ _ has.octets & tt)
 
 -- the tables of a list are those of the records whose drafts they are
 abbrev AreTables : {D R : Type 0} (shape : Data → Result D Unread) (draft : R → D) (rows : R → Rows) → Type 0
@@ -179,71 +181,30 @@ port_is d id r ordered id_is h =
     let has = port_has as_toml d (port_draft r) h in
     let times = schedule_is (port_entry_shape as_toml) port_entry_draft port_entry_rows port_entry_is d r.admin ordered has.admin in
     whole_table (names_of kinds.Port) d (port_rows id r) tt ordered has.only refl refl
-    (number_there _ id id_is, (number_there _ _ has.gates, (times.list, (times.cycle, (times.extension, (times.base, tt))))))
+    (number_there _ id id_is & number_there _ _ has.gates & times.list & times.cycle & times.extension & times.base & tt)
 
 pub gate_is : (d : Data) (id : ℕ) (r : StreamGate) → IsOrdered d → number_at (codes "id") d ≡ Ok id → gate_shape as_toml d ≡ Ok (gate_draft r) → d ≡ table_with (gate_rows id r)
 gate_is d id r ordered id_is h =
     let has = gate_has as_toml d (gate_draft r) h in
     let times = schedule_is (gate_entry_shape as_toml) gate_entry_draft gate_entry_rows gate_entry_is d r.admin ordered has.admin in
-    whole_table (names_of kinds.Gate) d (gate_rows id r) tt ordered has.only refl refl (
-      number_there _ id id_is,
-      (
-        flag_there _ _ has.is_open,
-        (
-          number_or_none_there _ _ has.ipv,
-          (
-            times.list,
-            (
-              times.cycle,
-              (
-                times.extension,
-                (
-                  times.base,
-                  (flag_there _ _ has.invalid_rx, (flag_there _ _ has.octets_exceeded, tt)),
-                ),
-              ),
-            ),
-          ),
-        ),
-      ),
-    )
+    whole_table (names_of kinds.Gate) d (gate_rows id r) tt ordered has.only refl refl
+    (number_there _ id id_is & flag_there _ _ has.is_open & number_or_none_there _ _ has.ipv & times.list & times.cycle &
+    times.extension & times.base & flag_there _ _ has.invalid_rx & flag_there _ _ has.octets_exceeded & tt)
 
 pub filter_is : (d : Data) (id : ℕ) (r : StreamFilter) → IsOrdered d → number_at (codes "id") d ≡ Ok id → filter_shape as_toml d ≡ Ok (filter_draft r) → d ≡ table_with (filter_rows id r)
 filter_is d id r ordered id_is h =
     let has = filter_has as_toml d (filter_draft r) h in
-    whole_table (names_of kinds.Filter) d (filter_rows id r) tt ordered has.only refl refl (
-      number_there _ id id_is,
-      (
-        number_or_none_there _ _ has.handle,
-        (
-          number_or_none_there _ _ has.priority,
-          (
-            number_there _ _ has.gate,
-            (number_or_none_there _ _ has.max_sdu, (number_or_none_there _ _ has.meter, (flag_there _ _ has.oversize, tt))),
-          ),
-        ),
-      ),
-    )
+    whole_table (names_of kinds.Filter) d (filter_rows id r) tt ordered has.only refl refl
+    (number_there _ id id_is & number_or_none_there _ _ has.handle & number_or_none_there _ _ has.priority & number_there _ _ has.gate &
+    number_or_none_there _ _ has.max_sdu & number_or_none_there _ _ has.meter & flag_there _ _ has.oversize & tt)
 
 pub meter_is : (d : Data) (id : ℕ) (r : FlowMeter) → IsOrdered d → number_at (codes "id") d ≡ Ok id → meter_shape as_toml d ≡ Ok (meter_draft r) → d ≡ table_with (meter_rows id r)
 meter_is d id r ordered id_is h =
     let has = meter_has as_toml d (meter_draft r) h in
-    whole_table (names_of kinds.Meter) d (meter_rows id r) tt ordered has.only refl refl (
-      number_there _ id id_is,
-      (
-        number_there _ _ has.cir,
-        (
-          number_there _ _ has.cbs,
-          (
-            number_there _ _ has.eir,
-            (
-              number_there _ _ has.ebs,
-              (flag_there _ _ has.cf, (flag_there _ _ has.aware, (flag_there _ _ has.drop_yellow, (flag_there _ _ has.all_red, tt)))),
-            ),
-          ),
-        ),
-      ),
-    )
+    whole_table (names_of kinds.Meter) d (meter_rows id r) tt ordered has.only refl refl
+    (number_there _ id id_is & number_there _ _ has.cir & number_there _ _ has.cbs & number_there _ _ has.eir &
+    number_there _ _ has.ebs & flag_there _ _ has.cf & flag_there _ _ has.aware & flag_there _ _ has.drop_yellow &
+    flag_there _ _ has.all_red & tt)
 
 -- ---- the shape of a record's table
 

@@ -1,6 +1,6 @@
 -- Documents in the plain spelling: the limits, then one table after another.
-use Rattle.std.proofs.Common.{◌≡◌, ℕ, suc, ◌-◌, ◌<◌, List, [], ◌∷◌, ◌++◌, Bool, true, false, ◌==◌, ◌||◌, length, Option, Some, None, option_map, Ok, refl, sym, ap, subst, ◌∙◌, arith}
-use Rattle.std.specs.List.{list_any}
+use Rattle.std.proofs.Common.{◌≡◌, ℕ, suc, ◌-◌, ◌<◌, List, [], ◌∷◌, ◌++◌, map, Bool, true, false, ◌==◌, ◌||◌, length, Option, Some, None, option_map, Ok, refl, sym, ap, subst, ◌∙◌, arith}
+use Rattle.std.proofs.lemmas.List.Folds.{list_any-append}
 use Rattle.std.specs.Str.{bytes_eq, is_utf8}
 use Rattle.toml_parser.specs.Lexical.{first, skip_blank}
 use Rattle.toml.specs.Data.{Data, array, table, Items, no_items, push_item, Members, get_member}
@@ -16,13 +16,13 @@ use Rattle.tsn_records.specs.Members.{setup_names}
 use Rattle.tsn_setup.specs.Tables.{table_shape, limits_shape, tables_of_kind, tables_shape}
 use Rattle.tsn_setup.specs.Toml.{are_among, items_list}
 use Rattle.tsn_setup.specs.Setups.{document_of, setup_shape}
-use Rattle.tsn_setup.specs.Plain.{tables, tables_given, Slots, slot_at, put_slot, names, Frames, ReadsLines, IsArray, ReadsDocument, ReadsTableOf, ReadsWhole}
-use Rattle.tsn_setup.specs.PlainSlots.{limits_slots, document_slots, tables_of}
+use Rattle.tsn_setup.specs.Plain.{tables, tables_given, Slots, slot_at, put_slot, names, Tells, Frames, ReadsLines, IsArray, ReadsDocument, ReadsTableOf, ReadsWhole}
+use Rattle.tsn_setup.specs.PlainSlots.{limits_slots, whole_slots, document_slots}
 use Rattle.tsn_setup.specs.declared.drafts.LimitsDraft.{LimitsDraft}
 use Rattle.tsn_setup.specs.declared.drafts.TableDraft.{TableDraft}
 use Rattle.tsn_setup.specs.declared.plain_documents.DocumentTables.{DocumentTables}
 use Rattle.tsn_setup.proofs.Filling.{closed_at, Changes, replaced, told_after, no_node, insert_other, replace_other, told_slot}
-use Rattle.tsn_setup.proofs.Rows.{is_among, same_text, same_bytes, known_at, other_member, all_among}
+use Rattle.tsn_setup.proofs.Rows.{◌&◌, is_among, same_text, same_bytes, known_at, other_member, all_among}
 use Rattle.tsn_setup.proofs.Told.{only}
 use Rattle.tsn_setup.proofs.Turning.{each_last, items_pushed}
 
@@ -126,14 +126,6 @@ table_added text slots rest behind after kind ts draft so some head shorter t at
 
 -- ---- the beginning and the end
 
-any_first : (b : Bool) (p : List ℕ → Bool) (xs ys : List (List ℕ)) → b || list_any p xs ≡ true → (list_any p xs ≡ true → list_any p (xs ++ ys) ≡ true) → b || list_any p (xs ++ ys) ≡ true
-any_first true p xs ys h later = refl
-any_first false p xs ys h later = later h
-
-any_more : (p : List ℕ → Bool) (xs ys : List (List ℕ)) → list_any p xs ≡ true → list_any p (xs ++ ys) ≡ true
-any_more p [] ys h = cc
-any_more p (x ∷ xs) ys h = any_first (p x) p xs ys h (any_more p xs ys)
-
 as_it_is : (o : Option Nodes) → o ≡ option_map (λ ns. ns) o
 as_it_is None = refl
 as_it_is (Some x) = refl
@@ -142,60 +134,52 @@ whole_frames : Frames [] (λ ns. ns)
 unfolding along_header
 whole_frames edit ns = as_it_is (edit ns)
 
-missing : (l : LimitsDraft) (kind : Kind) (found : Nodes) → are_among (names (limits_slots l)) (close found) ≡ true → get_member (kind_text kind) (close found) ≡ None
-missing l kinds.Port found only = other_member (names (limits_slots l)) (close found) (kind_text kinds.Port) only refl
-missing l kinds.Filter found only = other_member (names (limits_slots l)) (close found) (kind_text kinds.Filter) only refl
-missing l kinds.Gate found only = other_member (names (limits_slots l)) (close found) (kind_text kinds.Gate) only refl
-missing l kinds.Meter found only = other_member (names (limits_slots l)) (close found) (kind_text kinds.Meter) only refl
-
-none_given : (kind : Kind) (found : Option Data) (ts : List TableDraft) → found ≡ None → ts ≡ [] → tables_given kind found ≡ Ok ts
-none_given kind found ts none nothing = ap (tables_given kind) none ∙ ap Ok (sym nothing)
+missing : (l : LimitsDraft) (kind : Kind) (ms : Members) → are_among (names (limits_slots l)) ms ≡ true
+    → get_member (kind_text kind) ms ≡ None
+missing l kinds.Port ms only = other_member (names (limits_slots l)) ms (kind_text kinds.Port) only refl
+missing l kinds.Filter ms only = other_member (names (limits_slots l)) ms (kind_text kinds.Filter) only refl
+missing l kinds.Gate ms only = other_member (names (limits_slots l)) ms (kind_text kinds.Gate) only refl
+missing l kinds.Meter ms only = other_member (names (limits_slots l)) ms (kind_text kinds.Meter) only refl
 
 wider : (xs ys : List (List ℕ)) (ms : Members) → are_among xs ms ≡ true → are_among (xs ++ ys) ms ≡ true
-wider xs ys ms only = all_among (xs ++ ys) ms (λ k there. any_more (λ name. bytes_eq name k) xs ys (known_at (is_among xs k) xs ms k refl only there))
+wider xs ys ms only = all_among (xs ++ ys) ms (λ k there.
+    list_any-append (λ name. bytes_eq name k) xs ys
+    ∙ ap (λ b. b || is_among ys k) (known_at (is_among xs k) xs ms k refl only there))
 
-pub document_begun : (text rest : List ℕ) (l : LimitsDraft) (t : DocumentTables) → ReadsLines text (limits_slots l) rest → t.ports.items ≡ [] → t.filters.items ≡ [] → t.gates.items ≡ [] → t.meters.items ≡ []
-    → ReadsDocument text (document_slots l t) rest
-document_begun text rest l t read p f g m =
-    let told = read.tells.tells in
-    let none = λ (kind : Kind). missing l kind read.found read.tells.only in
+tells_joined : (ms : Members) (a b : Slots) → Tells ms a → Tells ms b → Tells ms (a ++ b)
+tells_joined ms [] b first_ones others = others
+tells_joined ms (s ∷ a) b first_ones others = (first_ones.0, tells_joined ms a b first_ones.1 others)
+
+-- limits, and no tables
+pub document_begun : (text rest : List ℕ) (l : LimitsDraft) → ReadsLines text (limits_slots l) rest
+    → ReadsDocument text (whole_slots l (λ kind. [])) rest
+document_begun text rest l read =
+    let found = close read.found in
+    let none = λ (kind : Kind). missing l kind found read.tells.only in
+    let no_tables = λ (kind : Kind). ap (tables_given kind) (none kind) in
+    let more : Slots = map (λ kind. (kind_text kind, tables kind [])) (kinds.Port ∷ kinds.Filter ∷ kinds.Gate ∷ kinds.Meter ∷ []) in
     record {
       root = read.found;
       path = [];
       leads = read.leads [] (λ ns. ns) whole_frames (suc (length text)) (omega arith);
       tells = record {
-        tells = (
-          told.0,
-          (
-            told.1.0,
-            (
-              told.1.1.0,
-              (
-                told.1.1.1.0,
-                (
-                  told.1.1.1.1.0,
-                  (
-                    none_given kinds.Port _ _ (none kinds.Port) p,
-                    (
-                      none_given kinds.Filter _ _ (none kinds.Filter) f,
-                      (
-                        none_given kinds.Gate _ _ (none kinds.Gate) g,
-                        (
-                          none_given kinds.Meter _ _ (none kinds.Meter) m,
-                          tt,
-                        ),
-                      ),
-                    ),
-                  ),
-                ),
-              ),
-            ),
-          ),
-        );
-        only = wider (names (limits_slots l)) (kind_text kinds.Port ∷ kind_text kinds.Filter ∷ kind_text kinds.Gate ∷ kind_text kinds.Meter ∷ []) (close read.found) read.tells.only;
+        tells = tells_joined found (limits_slots l) more read.tells.tells
+            (no_tables kinds.Port & no_tables kinds.Filter & no_tables kinds.Gate & no_tables kinds.Meter & tt);
+        only = wider (names (limits_slots l)) (names more) found read.tells.only;
       };
-      arrays = λ kind. subst IsArray (sym (no_node (get_node (kind_text kind) read.found) (sym (closed_at (kind_text kind) read.found) ∙ none kind))) tt;
+      arrays = λ kind.
+          let empty = no_node (get_node (kind_text kind) read.found) (sym (closed_at (kind_text kind) read.found) ∙ none kind) in
+          subst IsArray (sym empty) tt;
     }
+
+-- the slots of what has no tables yet
+pub none_yet : (l : LimitsDraft) (t : DocumentTables) → t.ports.items ≡ [] → t.filters.items ≡ [] → t.gates.items ≡ []
+    → t.meters.items ≡ [] → whole_slots l (λ kind. []) ≡ document_slots l t
+none_yet l t p f g m = λ i. limits_slots l
+    ++ (kind_text kinds.Port, tables kinds.Port (sym p i)) ∷
+    (kind_text kinds.Filter, tables kinds.Filter (sym f i)) ∷
+    (kind_text kinds.Gate, tables kinds.Gate (sym g i)) ∷
+    (kind_text kinds.Meter, tables kinds.Meter (sym m i)) ∷ []
 
 no_mark : (text : List ℕ) → (first text == 0xEF) ≡ false → skip_bom text ≡ text
 unfolding skip_bom
@@ -213,10 +197,11 @@ document_ended text slots rest so ends other =
 
 -- ---- the shape of the whole
 
-pub document_shaped : (text : List ℕ) (l : LimitsDraft) (t : DocumentTables) (all : List TableDraft) → is_utf8 text ≡ true → ReadsWhole text (document_slots l t) → all ≡ t.ports.items ++ t.filters.items ++ t.gates.items ++ t.meters.items
+pub document_shaped : (text : List ℕ) (l : LimitsDraft) (ts : Kind → List TableDraft) (all : List TableDraft) → is_utf8 text ≡ true
+    → ReadsWhole text (whole_slots l ts) → all ≡ ts kinds.Port ++ ts kinds.Filter ++ ts kinds.Gate ++ ts kinds.Meter
     → (d : Data) × ((document_of text ≡ Some d) × (setup_shape d ≡ Ok (l, all)))
 unfolding setup_shape limits_shape tables_shape tables_of_kind
-document_shaped text l t all utf8 read is =
+document_shaped text l ts all utf8 read is =
     let told = read.tells.tells in (
       table read.found,
       (
@@ -238,8 +223,9 @@ document_shaped text l t all utf8 read is =
     )
 
 -- the slot of a kind
-pub own_slot : (kind : Kind) (l : LimitsDraft) (t : DocumentTables) → slot_at (kind_text kind) (document_slots l t) ≡ Some (tables kind (tables_of kind t))
-own_slot kinds.Port l t = refl
-own_slot kinds.Filter l t = refl
-own_slot kinds.Gate l t = refl
-own_slot kinds.Meter l t = refl
+pub own_slot : (kind : Kind) (l : LimitsDraft) (ts : Kind → List TableDraft)
+    → slot_at (kind_text kind) (whole_slots l ts) ≡ Some (tables kind (ts kind))
+own_slot kinds.Port l ts = refl
+own_slot kinds.Filter l ts = refl
+own_slot kinds.Gate l ts = refl
+own_slot kinds.Meter l ts = refl

@@ -1,5 +1,5 @@
 -- The names that each table of a setup may have, with what was read of it.
-use Rattle.std.specs.Prelude.{◌≡◌, List, [], ◌∷◌, ◌++◌, codes}
+use Rattle.std.specs.Prelude.{◌≡◌, List, [], ◌∷◌, ◌++◌, map, codes}
 use Rattle.tsn_types.specs.declared.keys.Kind.{Kind}
 use Rattle.tsn_types.specs.declared.keys.Kind.TheVariants.{Port, Filter, Gate, Meter}
 use Rattle.tsn_records.specs.Keys.{kind_text}
@@ -76,13 +76,8 @@ limits_slots m =
     (codes "list_max", number m.list_max) ∷ []
 
 -- the members of a document: the limits, and the tables of each kind
-abbrev pub document_slots : LimitsDraft → DocumentTables → Slots
-document_slots m t =
-    limits_slots m
-    ++ (kind_text Port, tables Port t.ports.items) ∷
-    (kind_text Filter, tables Filter t.filters.items) ∷
-    (kind_text Gate, tables Gate t.gates.items) ∷
-    (kind_text Meter, tables Meter t.meters.items) ∷ []
+abbrev pub whole_slots : LimitsDraft → (Kind → List TableDraft) → Slots
+whole_slots m ts = limits_slots m ++ map (λ kind. (kind_text kind, tables kind (ts kind))) (Port ∷ Filter ∷ Gate ∷ Meter ∷ [])
 
 -- the tables of a kind
 abbrev pub tables_of : Kind → DocumentTables → List TableDraft
@@ -91,6 +86,11 @@ tables_of Filter t = t.filters.items
 tables_of Gate t = t.gates.items
 tables_of Meter t = t.meters.items
 
+abbrev pub document_slots : LimitsDraft → DocumentTables → Slots
+document_slots m t = whole_slots m (λ kind. tables_of kind t)
+
 -- one table more, of that kind
 abbrev pub HasOneMore : Kind → TableDraft → DocumentTables → DocumentTables → Type 0
-HasOneMore kind draft before after = (limits : LimitsDraft) → document_slots limits after ≡ put_slot (kind_text kind) (tables kind (tables_of kind before ++ draft ∷ [])) (document_slots limits before)
+HasOneMore kind draft before after = (limits : LimitsDraft)
+    → document_slots limits after
+    ≡ put_slot (kind_text kind) (tables kind (tables_of kind before ++ draft ∷ [])) (document_slots limits before)

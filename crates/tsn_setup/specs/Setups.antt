@@ -6,6 +6,7 @@ use Rattle.toml.specs.Parse.{parse_document}
 use Rattle.tsn_types.specs.declared.refusals.Refusal.{Refusal}
 use Rattle.tsn_types.specs.declared.refusals.Refusal.TheVariants.{TooLong}
 use Rattle.tsn_bridge.specs.declared.bridge.Setup.{Setup}
+pub use Rattle.tsn_export.specs.Text.{longest_setup}
 use Rattle.tsn_records.specs.Answers.{◌>>=◌, each, or_syntax, refused}
 use Rattle.tsn_records.specs.Members.{setup_names}
 use Rattle.tsn_records.specs.declared.unread.Unread.{Unread}
@@ -14,10 +15,6 @@ use Rattle.tsn_setup.specs.Tables.{limits_shape, tables_shape}
 use Rattle.tsn_setup.specs.Toml.{has_only}
 use Rattle.tsn_setup.specs.declared.drafts.LimitsDraft.{LimitsDraft}
 use Rattle.tsn_setup.specs.declared.drafts.TableDraft.{TableDraft}
-
--- the bytes of the longest document that is read
-abbrev pub longest_setup : ℕ
-longest_setup = 1048576
 
 -- the one table that the bytes are; bytes that are no UTF-8 are none
 abbrev pub document_of : List ℕ → Option Data

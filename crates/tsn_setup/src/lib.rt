@@ -19,4 +19,5 @@ mod ranges;
 mod setups;
 mod tables;
 
-pub use setups::{LONGEST_SETUP, setup_of};
+pub use setups::setup_of;
+pub use tsn_export::LONGEST_SETUP;

@@ -15,12 +15,10 @@ use crate::tables::{limits_shape, tables_shape};
 use std::alloc::Global;
 use toml::Value;
 use tsn_bridge::bridge::Setup;
+use tsn_export::LONGEST_SETUP;
 use tsn_records::allowed::DOCUMENT;
 use tsn_records::unread::Unread;
 use tsn_types::refusals::Refusal;
-
-/// The bytes of the longest document that is read.
-pub const LONGEST_SETUP: usize = 1_048_576;
 
 fn document_of(alloc: Global, text: &[u8]) -> Result<Value, Unread>
     ensures { Reads (seen view result) (or_syntax (document_of text.now)) }

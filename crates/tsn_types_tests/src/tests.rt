@@ -6,11 +6,13 @@ mod lists;
 mod literals;
 
 use crate::comparing::same;
-use literals::{filter, filter_key, gate, gate_key, meter, meter_key, port, port_key};
+use literals::{gate, port};
 use std::alloc::{AllocError, AllocFailed};
 use std::cmp::Ordering;
 use std::process::Abort;
 use std::test::Fail;
+use tsn_samples::{filter, filter_key, gate_key, meter, meter_key, port_key};
+use tsn_types::numbers::MeterId;
 use tsn_types::records::{PortGates, Record, RecordRef, StreamFilter, StreamGate};
 use tsn_types::refusals::{Field, Refusal};
 
@@ -71,18 +73,26 @@ fn records_are_copied_and_told_apart(rt: HostRuntime) -> Result<(), Fail> {
     let closed = closed(&one_gate)?;
     let unmetered = Record::Filter(StreamFilter {
         meter: None,
-        ..filter()
+        ..filter(9, Some(MeterId::new(5).unwrap()))
     });
     let a_port = Record::Port(port(rt.alloc())?);
     let a_gate = Record::Gate(gate(rt.alloc())?);
-    let (a_filter, a_meter) = (Record::Filter(filter()), Record::Meter(meter()));
+    let (a_filter, a_meter) = (
+        Record::Filter(filter(9, Some(MeterId::new(5).unwrap()))),
+        Record::Meter(meter()),
+    );
     port_is_copied(&rt, &one_port)?;
     gate_is_copied(&rt, &one_gate)?;
     is_copied(&rt, &a_port, RecordRef::Port(&one_port), &closed)?;
     is_copied(&rt, &a_gate, RecordRef::Gate(&one_gate), &closed)?;
     is_copied(&rt, &a_meter, RecordRef::Meter(&meter()), &closed)?;
     for other in [&closed, &unmetered, &a_meter] {
-        is_copied(&rt, &a_filter, RecordRef::Filter(&filter()), other)?;
+        is_copied(
+            &rt,
+            &a_filter,
+            RecordRef::Filter(&filter(9, Some(MeterId::new(5).unwrap()))),
+            other,
+        )?;
     }
     Ok(())
 }

@@ -1,40 +1,9 @@
 //! Keys and records of the sessions in `examples/`.
-ghost use Rattle.std.specs.Prelude.{◌≤◌};
 
 use std::alloc::{AllocError, Global};
-use tsn_types::keys::Key;
 use tsn_types::lists::ControlList;
-use tsn_types::numbers::{
-    BitRate, Cycle, Extension, FilterId, GateId, Handle, Instant, Interval, MaxSdu, MeterId,
-    Octets, PortId, Priority,
-};
-use tsn_types::records::{
-    FlowMeter, GateEntry, PortEntry, PortGates, Schedule, StreamFilter, StreamGate,
-};
-
-pub(super) fn filter() -> StreamFilter {
-    StreamFilter {
-        handle: Some(Handle::new(7).unwrap()),
-        priority: None,
-        gate: GateId::new(9).unwrap(),
-        max_sdu: Some(MaxSdu::new(1500).unwrap()),
-        meter: Some(MeterId::new(5).unwrap()),
-        oversize: true,
-    }
-}
-
-pub(super) fn meter() -> FlowMeter {
-    FlowMeter {
-        cir: BitRate::new(8_000_000).unwrap(),
-        cbs: Octets::new(1500).unwrap(),
-        eir: BitRate::new(0).unwrap(),
-        ebs: Octets::new(0).unwrap(),
-        cf: false,
-        aware: false,
-        drop_yellow: false,
-        all_red: false,
-    }
-}
+use tsn_types::numbers::{Cycle, Extension, Instant, Interval, Octets, Priority};
+use tsn_types::records::{GateEntry, PortEntry, PortGates, Schedule, StreamGate};
 
 fn schedule<E: Drop>(list: ControlList<E>) -> Schedule<E> {
     Schedule {
@@ -78,28 +47,4 @@ pub(super) fn gate(alloc: Global) -> Result<StreamGate, AllocError> {
         octets_exceeded: false,
         admin: schedule(list),
     })
-}
-
-pub(super) fn port_key(number: u64) -> Key
-    requires { (1 ≤ number) × (number ≤ 64) }
-{
-    Key::Port(PortId::new(number).unwrap())
-}
-
-pub(super) fn filter_key(number: u64) -> Key
-    requires { number ≤ 65535 }
-{
-    Key::Filter(FilterId::new(number).unwrap())
-}
-
-pub(super) fn gate_key(number: u64) -> Key
-    requires { number ≤ 65535 }
-{
-    Key::Gate(GateId::new(number).unwrap())
-}
-
-pub(super) fn meter_key(number: u64) -> Key
-    requires { number ≤ 65535 }
-{
-    Key::Meter(MeterId::new(number).unwrap())
 }

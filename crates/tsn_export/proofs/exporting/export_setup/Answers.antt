@@ -1,71 +1,46 @@
-use Rattle.std.proofs.Common.{◌≡◌, ◌++◌, ◌∙◌, ap, inr, rules}
+use Rattle.std.proofs.Common.{◌≡◌, ◌++◌, ◌∙◌, ap, get_or, inr, refl, rules}
+use Rattle.std.specs.List.{flat_map}
 use Rattle.tsn_types.specs.declared.keys.Kind.TheVariants as kinds
 use Rattle.tsn_export.specs.Text.{limits_text}
-use Rattle.tsn_export.proofs.Whole.{IsRefused, at_filters, at_gates, at_limits, at_meters, at_ports, rows, whole_exported}
+use Rattle.tsn_export.proofs.Lists.{left_end, left_more, left_within}
+use Rattle.tsn_export.proofs.Whole.{IsRefused, all_kinds, rows, stopped, whole, whole_exported}
 use Rattle.tsn_export.proofs.exporting.export_setup.Goals as goal
+
+pub loop-kind-init : goal.loop-kind-init
+loop-kind-init c =
+    let m = c.args.config.now.map in
+    let start : c.push_limits.new.self ≡ limits_text c.args.config.now.limits = search rules in
+    ap (λ t. t ++ flat_map (rows m) all_kinds) start ∙ whole c.args.config.now.limits m
+
+pub loop-kind-preserved : goal.loop-kind-preserved
+loop-kind-preserved c =
+    left_more (rows c.args.config.now.map) all_kinds c.loop-kind.kind-index c.loop-kind.text _ c.loop-kind.invariant _ kinds.Port
+    c.push_kind.new.self c.loop-kind-test.true refl c.in_ok-push_kind.ensures.ok
 
 pub returns-in_err-push_kind-clause-refused : goal.returns-in_err-push_kind-clause-refused
 returns-in_err-push_kind-clause-refused c =
     let l = c.args.config.now.limits in
     let m = c.args.config.now.map in
-    let start : c.push_limits.new.self ≡ limits_text l = search rules in
-    let refused : IsRefused l m c.in_err-push_kind.field-0.0 = at_limits l m c.push_limits.new.self start c.in_err-push_kind.field-0.0
-    c.in_err-push_kind.ensures.refused in
-    search rules
-
-pub returns-in_err-push_kind-2-clause-refused : goal.returns-in_err-push_kind-2-clause-refused
-returns-in_err-push_kind-2-clause-refused c =
-    let l = c.args.config.now.limits in
-    let m = c.args.config.now.map in
-    let start : c.push_limits.new.self ≡ limits_text l = search rules in
-    let ports = c.in_ok-push_kind.ensures.ok in
-    let refused : IsRefused l m c.in_err-push_kind-2.field-0.0 = at_ports l m c.push_limits.new.self start c.push_kind.new.self
-    c.in_err-push_kind-2.field-0.0 ports c.in_err-push_kind-2.ensures.refused in
-    search rules
-
-pub returns-in_err-push_kind-3-clause-refused : goal.returns-in_err-push_kind-3-clause-refused
-returns-in_err-push_kind-3-clause-refused c =
-    let l = c.args.config.now.limits in
-    let m = c.args.config.now.map in
-    let start : c.push_limits.new.self ≡ limits_text l = search rules in
-    let ports = c.in_ok-push_kind.ensures.ok in
-    let filters = c.in_ok-push_kind-2.ensures.ok ∙ ap (λ t. t ++ rows m kinds.Filter) ports in
-    let refused : IsRefused l m c.in_err-push_kind-3.field-0.0 = at_filters l m c.push_limits.new.self start c.push_kind-2.new.self
-    c.in_err-push_kind-3.field-0.0 filters c.in_err-push_kind-3.ensures.refused in
-    search rules
-
-pub returns-in_err-push_kind-4-clause-refused : goal.returns-in_err-push_kind-4-clause-refused
-returns-in_err-push_kind-4-clause-refused c =
-    let l = c.args.config.now.limits in
-    let m = c.args.config.now.map in
-    let start : c.push_limits.new.self ≡ limits_text l = search rules in
-    let ports = c.in_ok-push_kind.ensures.ok in
-    let filters = c.in_ok-push_kind-2.ensures.ok ∙ ap (λ t. t ++ rows m kinds.Filter) ports in
-    let gates = c.in_ok-push_kind-3.ensures.ok ∙ ap (λ t. t ++ rows m kinds.Gate) filters in
-    let refused : IsRefused l m c.in_err-push_kind-4.field-0.0 = at_gates l m c.push_limits.new.self start c.push_kind-3.new.self
-    c.in_err-push_kind-4.field-0.0 gates c.in_err-push_kind-4.ensures.refused in
+    let kind = get_or all_kinds c.loop-kind.kind-index kinds.Port in
+    let new = c.loop-kind.text ++ rows m kind in
+    let left = left_more (rows m) all_kinds c.loop-kind.kind-index c.loop-kind.text _ c.loop-kind.invariant kind kinds.Port new
+    c.loop-kind-test.true refl refl in
+    let refused : IsRefused l m c.in_err-push_kind.field-0.0 = stopped l m new c.in_err-push_kind.field-0.0
+    (left_within (rows m) all_kinds _ new _ left) c.in_err-push_kind.ensures.refused in
     search rules
 
 pub returns-in_err-refuse_long-clause-refused : goal.returns-in_err-refuse_long-clause-refused
 returns-in_err-refuse_long-clause-refused c =
     let l = c.args.config.now.limits in
     let m = c.args.config.now.map in
-    let start : c.push_limits.new.self ≡ limits_text l = search rules in
-    let ports = c.in_ok-push_kind.ensures.ok in
-    let filters = c.in_ok-push_kind-2.ensures.ok ∙ ap (λ t. t ++ rows m kinds.Filter) ports in
-    let gates = c.in_ok-push_kind-3.ensures.ok ∙ ap (λ t. t ++ rows m kinds.Gate) filters in
-    let meters = c.in_ok-push_kind-4.ensures.ok ∙ ap (λ t. t ++ rows m kinds.Meter) gates in
-    let refused : IsRefused l m c.in_err-refuse_long.field-0.0 = at_meters l m c.push_limits.new.self start c.push_kind-4.new.self
-    c.in_err-refuse_long.field-0.0 meters (inr (c.in_err-refuse_long.ensures.why, c.in_err-refuse_long.ensures.long)) in
+    let part = left_within (rows m) all_kinds _ c.loop-kind.text _ c.loop-kind.invariant in
+    let refused : IsRefused l m c.in_err-refuse_long.field-0.0 = stopped l m c.loop-kind.text c.in_err-refuse_long.field-0.0 part
+    (inr (c.in_err-refuse_long.ensures.why, c.in_err-refuse_long.ensures.long)) in
     search rules
 
 pub returns-clause-ok : goal.returns-clause-ok
 returns-clause-ok c =
-    let l = c.args.config.now.limits in
     let m = c.args.config.now.map in
-    let start : c.push_limits.new.self ≡ limits_text l = search rules in
-    let ports = c.in_ok-push_kind.ensures.ok in
-    let filters = c.in_ok-push_kind-2.ensures.ok ∙ ap (λ t. t ++ rows m kinds.Filter) ports in
-    let gates = c.in_ok-push_kind-3.ensures.ok ∙ ap (λ t. t ++ rows m kinds.Gate) filters in
-    let meters = c.in_ok-push_kind-4.ensures.ok ∙ ap (λ t. t ++ rows m kinds.Meter) gates in
-    whole_exported l m c.push_limits.new.self start c.push_kind-4.new.self meters c.in_ok-refuse_long.ensures.ok
+    whole_exported c.args.config.now.limits m c.loop-kind.text
+    (left_end (rows m) all_kinds c.loop-kind.kind-index c.loop-kind.text _ c.loop-kind.invariant c.loop-kind-test.false)
+    c.in_ok-refuse_long.ensures.ok

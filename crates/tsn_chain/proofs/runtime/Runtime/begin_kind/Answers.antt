@@ -1,5 +1,5 @@
 use Rattle.std.proofs.Common.{◌∙◌}
-use Rattle.tsn_chain.proofs.FirstRows.{number_at}
+use Rattle.tsn_config.proofs.Keyed.{number_at}
 use Rattle.tsn_chain.proofs.runtime.Runtime.begin_kind.Goals as goal
 
 pub key_of-requires : goal.key_of-requires

@@ -3,7 +3,7 @@ use Rattle.std.specs.Prelude.{codes}
 use Rattle.std.proofs.lemmas.Result.{on_ok_weaker}
 use Rattle.tsn_export.specs.Text.{number_or_none_line}
 use Rattle.tsn_export.proofs.Pushed.{filter_pushed}
-use Rattle.tsn_export.proofs.text.SetupText.push_filter.Goals as goal
+use Rattle.tsn_export.proofs.text.PlainText.push_filter.Goals as goal
 
 pub returns : goal.returns
 returns c =

@@ -2,7 +2,7 @@ use Rattle.std.proofs.Common.{◌≡◌, rules, Some}
 use Rattle.std.specs.FinMap.{get}
 use Rattle.tsn_types.specs.declared.records.Record.TheVariants as records
 use Rattle.tsn_remarks.proofs.Kept.{gate_removable, gate_within, meter_removable, port_within}
-use Rattle.tsn_remarks.proofs.text.RemarkText.push_entry.Goals as goal
+use Rattle.tsn_remarks.proofs.telling.push_entry.Goals as goal
 
 pub push_list-requires : goal.push_list-requires
 push_list-requires c =

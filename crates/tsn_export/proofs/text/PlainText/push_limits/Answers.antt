@@ -1,6 +1,6 @@
 use Rattle.std.proofs.lemmas.Result.{on_ok_weaker}
 use Rattle.tsn_export.proofs.Pushed.{limits_pushed}
-use Rattle.tsn_export.proofs.text.SetupText.push_limits.Goals as goal
+use Rattle.tsn_export.proofs.text.PlainText.push_limits.Goals as goal
 
 pub returns : goal.returns
 returns c = on_ok_weaker c.number_line-5.result
