@@ -9,7 +9,7 @@ use std::time::{Clock, Duration};
 use std::{io, thread};
 use tsn_bytes::StdIo;
 use tsn_serve::Source;
-use tsn_sockets::{Listener, Log, LoggedReader};
+use tsn_sockets::{Listener, Log, LoggedWriter};
 
 // How often a call that a signal interrupts is made again, and a connection sought.
 pub(crate) const TRIES: u64 = u64::MAX;
@@ -21,7 +21,7 @@ const NUMBERS: u64 = u32::MAX as u64;
 const PAUSE: u64 = 100;
 
 /// A connection: its number, its reader and its writer.
-pub(crate) type Ends<'a, L> = (u32, LoggedReader<'a, StdIo<TcpStream>, L>, StdIo<TcpStream>);
+pub(crate) type Ends<'a, L> = (u32, StdIo<TcpStream>, LoggedWriter<'a, StdIo<TcpStream>, L>);
 
 /// Connections that a listener takes, so many at most or without end, numbered from 1. Where there is a log, it is told of each.
 #[derive(Drop)]
@@ -112,15 +112,15 @@ impl<'a, R: Clock, L: Log> SocketSource<'a, R, L> {
         if let Some(log) = self.log {
             log.begins(number, stream.peer_addr().ok());
         }
-        let reader = LoggedReader::new(StdIo::new(stream), self.log, number);
-        Some((number, reader, StdIo::new(writer)))
+        let writer = LoggedWriter::new(StdIo::new(writer), self.log, number);
+        Some((number, StdIo::new(stream), writer))
     }
 }
 
 impl<'a, R: Clock, L: Log + Sync> Source for SocketSource<'a, R, L> {
-    type Reader = LoggedReader<'a, StdIo<TcpStream>, L>;
+    type Reader = StdIo<TcpStream>;
 
-    type Writer = StdIo<TcpStream>;
+    type Writer = LoggedWriter<'a, StdIo<TcpStream>, L>;
 
     /// A connection for whose writer no descriptor is left is given up.
     fn next(&self) -> Option<Ends<'a, L>> {

@@ -8,7 +8,7 @@ use std::time::{Clock, Duration};
 use tsn_bytes::StdIo;
 use tsn_clerk::Stop;
 use tsn_serve::Source;
-use tsn_sockets::{Log, LoggedReader, Place};
+use tsn_sockets::{Log, LoggedWriter, Place};
 
 /// How long a connection of the service's own may take, in milliseconds, with which it wakes a thread that waits for one.
 const LONGEST_CALL: u64 = 100;
@@ -140,9 +140,9 @@ impl<R: Wait + Clock + Net<Listener = TcpListener, Stream = TcpStream>, L: Log> 
 
 impl<'a, R: Wait + Clock + Net<Listener = TcpListener, Stream = TcpStream>, L: Log + Sync> Source
     for StoppableSource<'a, R, L> {
-    type Reader = LoggedReader<'a, StdIo<TcpStream>, L>;
+    type Reader = StdIo<TcpStream>;
 
-    type Writer = StdIo<TcpStream>;
+    type Writer = LoggedWriter<'a, StdIo<TcpStream>, L>;
 
     /// A connection for which no descriptor is left is given up.
     fn next(&self) -> Option<Ends<'a, L>> {
