@@ -1,6 +1,7 @@
 //! A new journal that begins with the configuration at the end of another one, and what does not come along.
-use crate::journal::{JournalFault, NO_MEMORY, fail_over, first_line, resume_from, say};
-use crate::looking::{faultless, setup_at_end, show};
+use crate::anew::{Anew, text_of};
+use crate::journal::{JournalFault, NO_MEMORY, fail_over, resume_from, say};
+use crate::looking::{faultless, show};
 use std::alloc::{AllocError, Global};
 use std::fs::File;
 use std::rt::Files;
@@ -16,9 +17,6 @@ use tsn_spelling::spell;
 use tsn_types::keys::Key;
 use tsn_types::numbers::Instant;
 use tsn_types::records::Record;
-
-// The session of the commands that bring acts about again: the first of the new journal.
-const FIRST_SESSION: u32 = 1;
 
 /// An enable or an apply of a key, at the instant that counted, and the record that the key had then.
 #[derive(Drop)]
@@ -97,10 +95,8 @@ impl Acts {
 impl Watcher for Acts {
     fn began(&mut self, _setup: &[u8], _stamp: &[u8]) {}
 
-    fn stepped(&mut self, bridge: &Bridge, _stamp: &[u8], command: &[u8]) {
-        if command == b"{\"do\":\"hello\"}".as_slice() {
-            self.sessions = self.sessions.saturating_add(1);
-        }
+    fn stepped(&mut self, bridge: &Bridge, _stamp: &[u8], _command: &[u8]) {
+        self.sessions = u64::from(bridge.session_count());
         'entries: for entry in bridge.journal().kept_since(self.seen) {
             self.seen = self.seen.saturating_add(1);
             if self.enter(bridge, entry.entry()).is_err() {
@@ -110,88 +106,87 @@ impl Watcher for Acts {
     }
 }
 
-// Puts the line of a command of the first session behind the text.
-fn put(text: &mut Vec<u8>, command: Command) -> Result<(), AllocError> {
-    let ask = Ask {
-        session: FIRST_SESSION,
-        command,
-    };
+/// What was made, and what does not come along.
+#[derive(Drop)]
+struct Beginning {
+    // The commands that bring acts about again.
+    commands: Vec<u8>,
+    // How many sessions stay behind.
+    sessions: u64,
+    // How many entries of the new journal make what is no part of its setup.
+    entries: u32,
+}
+
+// Puts the line of a command of the session behind the text.
+fn put(text: &mut Vec<u8>, session: u32, command: Command) -> Result<(), AllocError> {
+    let ask = Ask { session, command };
     spell(&ask, text)?;
     text.push(b'\n')?;
     Ok(())
 }
 
+// The command of an act.
+fn command_of(done: &Done) -> Command {
+    let key = done.key;
+    let now = done.now;
+    match done.act {
+        Act::Enable => Command::Enable { key, now },
+        Act::Disable => Command::Disable { key, now },
+        Act::Apply => Command::Apply { key, now },
+    }
+}
+
+// Puts the replacement of the act's key by the record behind the text.
+fn put_record(
+    text: &mut Vec<u8>,
+    session: u32,
+    key: Key,
+    record: &Record,
+) -> Result<(), AllocError> {
+    let value = record.try_clone()?;
+    put(text, session, Command::Replace { key, value })
+}
+
 // Puts the commands behind the text that bring an act about again where the key has this record at last: it has the other one
 // for the while of the act.
-fn put_act(text: &mut Vec<u8>, done: &Done, last: &Record) -> Result<(), AllocError> {
+fn put_act(text: &mut Vec<u8>, session: u32, done: &Done, last: &Record) -> Result<(), AllocError> {
     let is_other = done.record != *last;
     if is_other {
-        let value = done.record.try_clone()?;
-        put(
-            text,
-            Command::Replace {
-                key: done.key,
-                value,
-            },
-        )?;
+        put_record(text, session, done.key, &done.record)?;
     }
-    match done.act {
-        Act::Enable => put(
-            text,
-            Command::Enable {
-                key: done.key,
-                now: done.now,
-            },
-        )?,
-        Act::Disable => put(
-            text,
-            Command::Disable {
-                key: done.key,
-                now: done.now,
-            },
-        )?,
-        Act::Apply => put(
-            text,
-            Command::Apply {
-                key: done.key,
-                now: done.now,
-            },
-        )?,
-    }
+    put(text, session, command_of(done))?;
     if is_other {
-        let value = last.try_clone()?;
-        put(
-            text,
-            Command::Replace {
-                key: done.key,
-                value,
-            },
-        )?;
+        put_record(text, session, done.key, last)?;
     }
     Ok(())
 }
 
-// The commands that bring the acts about again, behind a hello; none where there are no acts.
-fn commands_of(alloc: Global, bridge: &Bridge, acts: &[Done]) -> Result<Vec<u8>, AllocError> {
+// The commands that bring the acts about again, behind a hello that gives this session; none where there are no acts.
+fn commands_of(
+    alloc: Global,
+    bridge: &Bridge,
+    session: u32,
+    acts: &[Done],
+) -> Result<Vec<u8>, AllocError> {
     let mut text = Vec::new(alloc);
     if acts.is_empty() {
         return Ok(text);
     }
-    put(&mut text, Command::Hello)?;
+    put(&mut text, session, Command::Hello { name: None })?;
     for done in acts {
         if let Some(found) = bridge.config().get(done.key) {
-            put_act(&mut text, done, &found.try_clone()?)?;
+            put_act(&mut text, session, done, &found.try_clone()?)?;
         }
     }
     Ok(text)
 }
 
-// Makes the new journal, and gives the commands that bring about again what does not come along, and how many sessions don't.
+// Makes the new journal.
 fn begun<R: Files<File = File> + AllocGlobal + time::Clock>(
     rt: &R,
     path: &str,
     new: &str,
-) -> Result<(Vec<u8>, u64), JournalFault> {
+) -> Result<Beginning, JournalFault> {
     let alloc = rt.alloc();
     let mut acts = Acts {
         done: Vec::new(alloc),
@@ -201,18 +196,50 @@ fn begun<R: Files<File = File> + AllocGlobal + time::Clock>(
     };
     let resumed = resume_from(rt, path, &mut acts)?;
     faultless(resumed.end)?;
-    let Ok(commands) = commands_of(alloc, &resumed.bridge, &acts.done) else {
+    let Anew { text, entries } = text_of(rt, alloc, resumed.bridge.config())?;
+    let session = if entries == 0 { 1 } else { 2 };
+    let Ok(commands) = commands_of(alloc, &resumed.bridge, session, &acts.done) else {
         return Err(NO_MEMORY);
     };
     if acts.is_short {
         return Err(NO_MEMORY);
     }
-    let setup = setup_at_end(alloc, &resumed)?;
-    let line = first_line(rt, alloc, setup.as_bytes())?;
-    match make(rt, new, &line) {
-        Ok(_) => Ok((commands, acts.sessions)),
+    match make(rt, new, text.as_bytes()) {
+        Ok(_) => Ok(Beginning {
+            commands,
+            sessions: acts.sessions,
+            entries,
+        }),
         Err(OpenFault::InUse) => Err(JournalFault::InUse),
         Err(OpenFault::Io(error)) => Err(JournalFault::Make(error)),
+    }
+}
+
+// Tells of the new journal, and what does not come along.
+fn tell<E: ByteOut>(alloc: Global, path: &str, new: &str, begun: &Beginning, errors: &mut E) {
+    let sessions = begun.sessions;
+    say(
+        errors,
+        format!(in alloc;
+            "tsnd: {new} begins with the configuration at the end of {path}; sessions that stay behind, with what they can undo: {sessions}\n"
+        ),
+    );
+    let entries = begun.entries;
+    if entries > 0 {
+        say(
+            errors,
+            format!(in alloc;
+                "tsnd: that is longer than a setup may be, so all but the ports is created by {entries} entries of session 1, which are settled\n"
+            ),
+        );
+    }
+    if !begun.commands.is_empty() {
+        say(
+            errors,
+            format!(in alloc;
+                "tsnd: nothing is enabled there; these commands enable again what was, given to tsnd script --journal {new}\n"
+            ),
+        );
     }
 }
 
@@ -225,7 +252,7 @@ pub(crate) fn begin<R: Files<File = File> + AllocGlobal + time::Clock, O: ByteOu
     output: &mut O,
     errors: &mut E,
 ) -> u8 {
-    let (commands, sessions) = match begun(rt, path, new) {
+    let begun = match begun(rt, path, new) {
         Ok(begun) => begun,
         Err(fault) => {
             let at = if let JournalFault::Make(_) = fault {
@@ -236,21 +263,8 @@ pub(crate) fn begin<R: Files<File = File> + AllocGlobal + time::Clock, O: ByteOu
             return fail_over(rt.alloc(), errors, at, &fault);
         }
     };
-    say(
-        errors,
-        format!(in rt.alloc();
-            "tsnd: {new} begins with the configuration at the end of {path}; sessions that stay behind, with what they can undo: {sessions}\n"
-        ),
-    );
-    if !commands.is_empty() {
-        say(
-            errors,
-            format!(in rt.alloc();
-                "tsnd: nothing is enabled there; these commands enable again what was, given to tsnd script --journal {new}\n"
-            ),
-        );
-    }
-    match show(output, &commands) {
+    tell(rt.alloc(), path, new, &begun, errors);
+    match show(output, &begun.commands) {
         Ok(()) => 0,
         Err(fault) => fail_over(rt.alloc(), errors, path, &fault),
     }

@@ -5,7 +5,7 @@ use std::net::SocketAddr;
 use std::rt::Stderr;
 use std::time::Clock;
 use tsn_bytes::{StdIo, put_all};
-use tsn_sockets::Log;
+use tsn_sockets::{Log, Told};
 
 /// Tells of connections, a line each, with the time in UTC. A line goes out by one call, so no two run into each other.
 #[derive(Drop)]
@@ -48,10 +48,20 @@ impl<R: Clock> Log for ErrorLog<'_, R> {
         }
     }
 
-    fn ends(&self, number: u32, lines: u64) {
+    fn ends(&self, number: u32, told: Told) {
         let now = self.now();
-        self.say(format!(in self.alloc;
-            "tsnd: {now} connection {number} ends after {lines} lines\n"
-        ));
+        let Told {
+            session,
+            lines,
+            refused,
+        } = told;
+        match session {
+            Some(session) => self.say(format!(in self.alloc;
+                "tsnd: {now} connection {number} ends after {lines} lines: session {session}, {refused} refused\n"
+            )),
+            None => self.say(format!(in self.alloc;
+                "tsnd: {now} connection {number} ends after {lines} lines: no session, {refused} refused\n"
+            )),
+        }
     }
 }

@@ -8,9 +8,11 @@
 //! that is refused.
 #![tactic(auto)]
 
+mod anew;
 mod beginning;
 mod connections;
 mod journal;
+mod lines;
 mod logging;
 mod looking;
 mod progress;
