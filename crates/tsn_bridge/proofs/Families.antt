@@ -1,5 +1,5 @@
 -- What a step is, of whatever family: one rule allows it, and it leaves the state in one of a few ways.
-use Rattle.std.proofs.Common.{◌≡◌, ℕ, Bool, true, false, ◌+◌, [], ◌∷◌, refl, sym, ◌∙◌, ap, subst, Option, Some, None, inl, inr}
+use Rattle.std.proofs.Common.{◌≡◌, ℕ, Bool, true, false, ◌+◌, List, [], ◌∷◌, refl, sym, ◌∙◌, ap, subst, Option, Some, None, inl, inr}
 use Rattle.std.specs.Prelude.{◌⊎◌, ⊤, option_map}
 use Rattle.tsn_types.specs.declared.keys.Key.{Key}
 use Rattle.tsn_types.specs.declared.refusals.Refusal.{Refusal}
@@ -38,8 +38,9 @@ use Rattle.tsn_bridge.specs.Families.{Acting, Counting, Editing, Family, Framing
 use Rattle.tsn_bridge.specs.Frames.{acts_of_gates, frame_rule, framed_state}
 use Rattle.tsn_bridge.specs.Histories.{CommandInRange, StateIsSound}
 use Rattle.tsn_bridge.specs.Machine.{Goes, Step}
-use Rattle.tsn_bridge.specs.Rule.{Allows, Look, Rule, is_given, look_rule}
-use Rattle.tsn_bridge.specs.Sessions.{hello_rule}
+use Rattle.tsn_bridge.specs.Rule.{Allows, Look, Rule, is_given, look_rule, may_change}
+use Rattle.tsn_bridge.specs.Names.{known, with_name}
+use Rattle.tsn_bridge.specs.Sessions.{hello_as, known_look, new_session}
 use Rattle.tsn_bridge.specs.Settling.{settle_rule, settled_state}
 use Rattle.tsn_bridge.specs.State.{State}
 use Rattle.tsn_bridge.proofs.AtOnce.{done_of}
@@ -123,7 +124,7 @@ in_range command ranges = tt
 -- session had standing is taken back; or an entry settles, or is an act; or a frame was taken.
 pub data Left (s : State) (n : ℕ) (f : Family) : State → Type 0 where
   Same : Left s n f s
-  Greeted : Left s n f (record s { sessions = s.sessions + 1 })
+  Greeted : (name : Option (List ℕ)) → Left s n f (record s { sessions = s.sessions + 1; names = with_name s.names (s.sessions + 1) name })
   Changed : (w : What) (e : Change) → applies w ≡ Some e
       → (StateIsSound s → FamilyInRange f → Fits s.book.limits (present s.book) e × StateIsSound (changed_state s n w e))
       → Left s n f (changed_state s n w e)
@@ -149,10 +150,10 @@ redo_fits s n u false sound some tells none = by_option (find_redo_conflict s.bo
     named None h = refl
     named (Some x) h = (cc)
 
--- what a step leaves; and a reply that refuses tells that this is the state
+-- what a step leaves; and that this is the state, where the reply tells so
 pub record Leaves (s : State) (n : ℕ) (f : Family) (reply : Reply) (new : State) : Type 0 where
   pub how : Left s n f new
-  pub refused : (why : Refusal) → reply ≡ replies.Refused why → new ≡ s
+  pub stays : may_change reply ≡ false → new ≡ s
 
 -- what looks leaves the state
 pub looked : (l : Look) (s : State) (reply : Reply) (new : State) → Allows (look_rule s l) s reply new → new ≡ s
@@ -163,30 +164,35 @@ looked l s reply new step = elim (outcome (look_rule s l) s reply new step) as (
 
 module _ (s : State) (n : ℕ) (f : Family) (reply : Reply) (new : State) where
   unchanged : new ≡ s → Leaves s n f reply new
-  unchanged same = record { how = subst (Left s n f) (sym same) Same; refused = λ why is. same }
+  unchanged same = record { how = subst (Left s n f) (sym same) Same; stays = λ is. same }
 
   -- where it is what an option has, and no refusal
   by_each : {A : Type 0} (rule : Rule) (r : A → Reply) (t : A → State) (o : Option A)
       → ◌≡◌ {A = Option (Reply × State)} rule.done (option_map (λ x. (r x, t x)) o)
-      → ((x : A) (why : Refusal) → r x ≡ replies.Refused why → ⊥) → (least rule.causes ≡ None → (x : A) → o ≡ Some x → Left s n f (t x))
+      → ((x : A) → may_change (r x) ≡ true) → (least rule.causes ≡ None → (x : A) → o ≡ Some x → Left s n f (t x))
       → Allows rule s reply new → Leaves s n f reply new
-  by_each rule r t o is never how step = elim (outcome rule s reply new step) as (λ _. Leaves s n f reply new) [
+  by_each rule r t o is may how step = elim (outcome rule s reply new step) as (λ _. Leaves s n f reply new) [
     | inl still ↦ unchanged still.same
     | inr did ↦ done_each (Leaves s n f) r t o reply new
-        (λ x some. record { how = how did.none x some; refused = λ why told. absurd (never x why told) }) (sym is ∙ did.done)
+        (λ x some. record { how = how did.none x some; stays = λ told. (let never : true ≡ false = sym (may x) ∙ told in absurd (cc)) }) (sym is ∙ did.done)
   ]
 
   -- where it is there at once
   at_once : (rule : Rule) (r : Reply) (t : State) → ◌≡◌ {A = Option (Reply × State)} rule.done (Some (r, t))
-      → ((why : Refusal) → r ≡ replies.Refused why → ⊥) → (least rule.causes ≡ None → Left s n f t)
+      → may_change r ≡ true → (least rule.causes ≡ None → Left s n f t)
       → Allows rule s reply new → Leaves s n f reply new
-  at_once rule r t is never how = by_each {A = ⊤} rule (λ _. r) (λ _. t) (Some tt) is (λ _. never) (λ none _ _. how none)
+  at_once rule r t is may how = by_each {A = ⊤} rule (λ _. r) (λ _. t) (Some tt) is (λ _. may) (λ none _ _. how none)
+
+-- a hello, by the session that goes by its name, if there is one
+greeted : (s : State) (n : ℕ) (name : Option (List ℕ)) (reply : Reply) (new : State) (o : Option ℕ) → Allows (hello_as s name o) s reply new → Leaves s n (Greeting name) reply new
+greeted s n name reply new None step = at_once s n (Greeting name) reply new (new_session s name) _ _ refl refl (λ none. Greeted name) step
+greeted s n name reply new (Some m) step = unchanged s n (Greeting name) reply new (looked (known_look m) s reply new step)
 
 pub leaves : (s : State) (n : ℕ) (f : Family) (reply : Reply) (new : State) → Goes s n f reply new → Leaves s n f reply new
-leaves s n Greeting reply new step = at_once s n Greeting reply new (hello_rule s) _ _ refl (λ why h. (cc)) (λ none. Greeted) step
+leaves s n (Greeting name) reply new step = greeted s n name reply new (known s.names name) step
 leaves s n (Editing batch) reply new step =
     let e = change_of (present s.book) batch in
-    at_once s n (Editing batch) reply new (edit_rule s n batch) _ _ refl (λ why h. (cc))
+    at_once s n (Editing batch) reply new (edit_rule s n batch) _ _ refl refl
     (λ none. Changed (Made e) e refl
     (λ sound ranges.
     let admitted = (was_given (is_given s n) (edit_refusal s.book batch) none).1 in
@@ -195,19 +201,19 @@ leaves s n (Editing batch) reply new step =
     (fits, edit_sound s.book n batch sound fits))) step
 leaves s n Undoing reply new step =
     by_each s n Undoing reply new (undo_rule s n) (λ (x : Applied). replies.EntryOf (next s) x.number)
-    (λ x. changed_state s n (undone x) (inverse x.change)) (last_of s.book.entries n) refl (λ x why h. (cc))
+    (λ x. changed_state s n (undone x) (inverse x.change)) (last_of s.book.entries n) refl (λ x. refl)
     (λ none x some. Changed (undone x) (inverse x.change) refl
     (λ sound ranges.
     let made = undo_step_now s.book n x.number sound
     (record { newest = x; newest_is = some; free = (was_given (is_given s n) (undo_refusal s.book n) none).1; of_is = refl }) in
     (made.fits, made.sound))) step
 leaves s n UndoingAll reply new step =
-    at_once s n UndoingAll reply new (undo_all_rule s n) _ _ refl (λ why h. (cc))
+    at_once s n UndoingAll reply new (undo_all_rule s n) _ _ refl refl
     (λ none. AllUndone (was_given (is_given s n) (undo_all_refusal s.book n) none).1) step
 leaves s n Redoing reply new step =
     let cause = least (redo_cause s.book.entries (redo_of s.book.entries n) step.fits ∷ no_room s.book.entries 1 ∷ []) in
     by_each s n Redoing reply new (redo_rule s n cause) (λ (u : Applied). replies.EntryOf (next s) u.number)
-    (λ u. changed_state s n (redone u) (inverse u.change)) (redo_of s.book.entries n) refl (λ x why h. (cc))
+    (λ u. changed_state s n (redone u) (inverse u.change)) (redo_of s.book.entries n) refl (λ x. refl)
     (λ none u some. Changed (redone u) (inverse u.change) refl
     (λ sound ranges.
     let both = or_none _ _ (sym (redo_refusal-first s.book.entries (redo_of s.book.entries n) step.fits)
@@ -217,13 +223,13 @@ leaves s n Redoing reply new step =
     let is : IsRedoable s.book n u.number = record { undone = u; undone_is = some; fits = fits; room = both.1; of_is = refl } in
     (fits, redo_sound s.book n u.number sound is))) step.holds
 leaves s n (Settling upto) reply new step =
-    at_once s n (Settling upto) reply new (settle_rule s n upto) _ _ refl (λ why h. (cc)) (λ none. SettledTo upto) step
+    at_once s n (Settling upto) reply new (settle_rule s n upto) _ _ refl refl (λ none. SettledTo upto) step
 leaves s n (Acting act k now) reply new step =
-    at_once s n (Acting act k now) reply new (act_rule s n act k now) _ _ refl (λ why h. (cc)) (λ none. ActDone act k now none) step
+    at_once s n (Acting act k now) reply new (act_rule s n act k now) _ _ refl refl (λ none. ActDone act k now none) step
 leaves s n (Framing frame now) reply new step =
     by_each s n (Framing frame now) reply new {A = Verdict × FrameData} (frame_rule s n frame now) (λ x. replies.Framed x.0)
     (λ x. framed_state s now x.1)
-    (framed (present s.book) s.frames (acts_of_gates s.book) frame (instant s now)) refl (λ x why h. (cc))
+    (framed (present s.book) s.frames (acts_of_gates s.book) frame (instant s now)) refl (λ x. refl)
     (λ none x is. FrameTaken frame now x refl is) step
 leaves s n (Looking look) reply new step = unchanged s n (Looking look) reply new (looked (look (seen_by_looks s) n) s reply new step)
 leaves s n (Counting look) reply new step = unchanged s n (Counting look) reply new (looked (look s n) s reply new step)
@@ -231,4 +237,4 @@ leaves s n (Counting look) reply new step = unchanged s n (Counting look) reply 
 -- a refused step changes nothing
 pub refused_stays : (s : State) (n : ℕ) (why : Refusal) (new : State) (command : Command) → Step s n command (replies.Refused why) new
     → new ≡ s
-refused_stays s n why new command step = (leaves s n (family command) (replies.Refused why) new step).refused why refl
+refused_stays s n why new command step = (leaves s n (family command) (replies.Refused why) new step).stays refl

@@ -1,5 +1,5 @@
 -- Over every list of commands the journal stays sound; and what an undo of all leaves.
-use Rattle.std.proofs.Common.{◌≡◌, ℕ, ◌+◌, ◌≤◌, List, [], ◌∷◌, ◌++◌, refl, sym, ◌∙◌, ap, subst, Some, arith, length, append_assoc}
+use Rattle.std.proofs.Common.{◌≡◌, ℕ, ◌+◌, ◌≤◌, List, [], ◌∷◌, ◌++◌, refl, sym, ◌∙◌, ap, subst, Some, None, arith, length, append_assoc}
 use Rattle.tsn_edit.specs.declared.Edit.{Edit}
 use Rattle.tsn_chain.specs.Following.{frames_after}
 use Rattle.tsn_chain.specs.Instances.{FrameData}
@@ -21,6 +21,7 @@ use Rattle.tsn_bridge.specs.Acts.{instant}
 use Rattle.tsn_bridge.specs.Edits.{edit_rule, undo_all_rule}
 use Rattle.tsn_bridge.specs.Families.{Editing, Family, family}
 use Rattle.tsn_bridge.specs.Histories.{AreInRange, Answered, CommandInRange, Leads, StateIsSound, batch_of, edits_of}
+use Rattle.tsn_bridge.specs.declared.sessions.Named.{Named}
 use Rattle.tsn_bridge.specs.Later.{IsLater}
 use Rattle.tsn_bridge.specs.Machine.{Goes, Step}
 use Rattle.tsn_bridge.specs.Rule.{Allows, is_given}
@@ -32,13 +33,19 @@ use Rattle.tsn_bridge.proofs.Stepping.{accepted, was_given}
 -- ---- a later state
 
 -- no entry more
-no_entry : (s : State) (sessions time : ℕ) (frames : FrameData) → s.sessions ≤ sessions → s.time ≤ time
-    → IsLater s (record { book = s.book; sessions = sessions; time = time; frames = frames })
-no_entry s sessions time frames more late =
-    record { limits = refl; opening = refl; more = []; entries = sym (append_nil s.book.entries); sessions = more; time = late }
+no_entry : (s : State) (sessions time : ℕ) (frames : FrameData) (named : List Named) → s.sessions ≤ sessions → s.time ≤ time
+    → IsLater s (record { book = s.book; sessions = sessions; names = s.names ++ named; time = time; frames = frames })
+no_entry s sessions time frames named more late =
+    record { limits = refl; opening = refl; more = []; entries = sym (append_nil s.book.entries); sessions = more; named = named; names = refl; time = late }
+
+-- no entry and no name more
+no_name : (s : State) (sessions time : ℕ) (frames : FrameData) → s.sessions ≤ sessions → s.time ≤ time
+    → IsLater s (record s { sessions = sessions; time = time; frames = frames })
+no_name s sessions time frames more late =
+    subst (λ names. IsLater s (record s { sessions = sessions; names = names; time = time; frames = frames })) (append_nil s.names) (no_entry s sessions time frames [] more late)
 
 pub itself : (s : State) → IsLater s s
-itself s = no_entry s s.sessions s.time s.frames (omega arith) (omega arith)
+itself s = no_name s s.sessions s.time s.frames (omega arith) (omega arith)
 
 pub after_both : (s between new : State) → IsLater s between → IsLater between new → IsLater s new
 after_both s between new one two = record {
@@ -47,6 +54,8 @@ after_both s between new one two = record {
   more = one.more ++ two.more;
   entries = two.entries ∙ ap (λ es. es ++ two.more) one.entries ∙ append_assoc s.book.entries one.more two.more;
   sessions = omega (arith, one.sessions, two.sessions);
+  named = one.named ++ two.named;
+  names = two.names ∙ ap (λ ns. ns ++ two.named) one.names ∙ append_assoc s.names one.named two.named;
   time = omega (arith, one.time, two.time);
 }
 
@@ -60,6 +69,8 @@ entered s n w time frames late =
       more = record { number = length s.book.entries + 1; session = n; what = w } ∷ [];
       entries = refl;
       sessions = omega arith;
+      named = [];
+      names = sym (append_nil s.names);
       time = late;
     }
 
@@ -73,20 +84,22 @@ all_entered es n (x ∷ xs) =
 
 later : (s : State) (n : ℕ) (f : Family) (new : State) → Left s n f new → IsLater s new
 later s n f new Same = itself s
-later s n f new Greeted = no_entry s (s.sessions + 1) s.time s.frames (omega arith) (omega arith)
+later s n f new (Greeted None) = no_name s (s.sessions + 1) s.time s.frames (omega arith) (omega arith)
+later s n f new (Greeted (Some name)) =
+    no_entry s (s.sessions + 1) s.time s.frames (record { session = s.sessions + 1; name = name } ∷ []) (omega arith) (omega arith)
 later s n f new (Changed w e apply good) = entered s n w s.time (frames_after s.time s.frames e) (omega arith)
 later s n f new (AllUndone free) =
     let more = all_entered s.book.entries n (own_standing s.book.entries n) in
-    record { limits = refl; opening = refl; more = more.0; entries = more.1; sessions = omega arith; time = omega arith }
+    record { limits = refl; opening = refl; more = more.0; entries = more.1; sessions = omega arith; named = []; names = sym (append_nil s.names); time = omega arith }
 later s n f new (SettledTo upto) = entered s n (Settled upto) s.time s.frames (omega arith)
 later s n f new (ActDone act k now none) = entered s n (Acted act k (instant s now)) (instant s now) s.frames (omega arith)
-later s n f new (FrameTaken frame now x of is) = no_entry s s.sessions (instant s now) x.1 (omega arith) (omega arith)
+later s n f new (FrameTaken frame now x of is) = no_name s s.sessions (instant s now) x.1 (omega arith) (omega arith)
 
 -- ---- a sound journal stays so
 
 sound_left : (s : State) (n : ℕ) (f : Family) (new : State) → StateIsSound s → FamilyInRange f → Left s n f new → StateIsSound new
 sound_left s n f new sound ranges Same = sound
-sound_left s n f new sound ranges Greeted = sound
+sound_left s n f new sound ranges (Greeted name) = sound
 sound_left s n f new sound ranges (Changed w e apply good) = (good sound ranges).1
 sound_left s n f new sound ranges (AllUndone free) =
     (taken_to s.book.limits s.book.opening s.book.entries n [] (own_standing s.book.entries n)

@@ -17,6 +17,7 @@ use Rattle.tsn_undo.specs.Ledger.{present}
 use Rattle.tsn_undo.proofs.Free.{or_none}
 use Rattle.tsn_chain.specs.declared.state.Counters.{Counters}
 use Rattle.tsn_chain.specs.declared.state.State.{State as Shown}
+use Rattle.tsn_bridge.specs.Names.{GivenOut}
 use Rattle.tsn_bridge.specs.declared.reply.Reply.{Reply}
 use Rattle.tsn_bridge.specs.declared.reply.Reply.TheVariants as replies
 use Rattle.tsn_bridge.specs.Acts.{act_causes, act_change, act_rule, apply_causes, apply_rule, enabled_at, has_entry, key_causes, list_causes}
@@ -143,7 +144,7 @@ module _ (s : State) (n : ℕ) (k : Key) (why : Refusal) where
 
 -- ---- what looks
 
-module _ (p : PairState) (k : ℕ) (n : ℕ) (key : Key) (now : State) (view : ◌≡◌ {A = State} (seen p k) now) where
+module _ (p : PairState) (k : GivenOut) (n : ℕ) (key : Key) (now : State) (view : ◌≡◌ {A = State} (seen p k) now) where
   pub counters_step : (told : Counters) → first_cause (key_causes now n key []) ≡ None → counted_at p.ledger p.frames p.time key ≡ Some told → Allows (counters_rule now n key) now (replies.Counters told) now
   counters_step told none is =
       is_done (counters_rule now n key) now (replies.Counters told) now (least_key now n key [] tt ∙ ap (λ o. option_or o None) none)
@@ -166,7 +167,7 @@ module _ (p : PairState) (k : ℕ) (n : ℕ) (key : Key) (now : State) (view : �
 
 -- ---- acts
 
-module _ (p p' : PairState) (k : ℕ) (n : ℕ) (act : Asked) (key : Key) (now : ℕ) (s : State) (view : ◌≡◌ {A = State} (seen p k) s) (none : first_cause (list_causes s n key []) ≡ None) where
+module _ (p p' : PairState) (k : GivenOut) (n : ℕ) (act : Asked) (key : Key) (now : ℕ) (s : State) (view : ◌≡◌ {A = State} (seen p k) s) (none : first_cause (list_causes s n key []) ≡ None) where
   -- its key refuses nothing, so the causes are what it adds
   pub least_act : least (act_rule s n act key now).causes ≡ first_cause (act_causes p.ledger act key ++ no_room p.ledger.entries 1 ∷ [])
   least_act =

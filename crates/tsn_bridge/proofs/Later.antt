@@ -51,6 +51,8 @@ use Rattle.tsn_bridge.specs.Families.{Family, family}
 use Rattle.tsn_bridge.specs.Frames.{acts_of_gates}
 use Rattle.tsn_bridge.specs.Histories.{AreInRange, CommandInRange, Leads, Answered}
 use Rattle.tsn_bridge.specs.Later.{ActsAreBy, IsBy, IsLater, IsWhole}
+use Rattle.tsn_bridge.specs.Names.{AreWithin}
+use Rattle.tsn_bridge.proofs.Naming.{within_next}
 use Rattle.tsn_bridge.specs.Machine.{Step}
 use Rattle.tsn_bridge.specs.State.{State}
 use Rattle.tsn_bridge.specs.Together.{undone_by}
@@ -173,7 +175,7 @@ quiet_keeps s n w none h = subst (λ c. HasFrameKeys s.frames c) (sym (ap (run s
 frames_kept : (s : State) (n : ℕ) (f : Family) (new : State) → IsWhole s → FamilyInRange f → Left s n f new
     → HasFrameKeys new.frames (present new.book)
 frames_kept s n f new h ranges Same = h.frames
-frames_kept s n f new h ranges Greeted = h.frames
+frames_kept s n f new h ranges (Greeted name) = h.frames
 frames_kept s n f new h ranges (Changed w e apply good) =
     subst (λ c. HasFrameKeys (frames_after s.time s.frames e) c) (sym (configuration_push s.book.opening s.book.entries n w e apply))
     (frames_fit s.book.limits (present s.book) s.frames s.time e (kept_now s.book h.journal) h.frames (good h.journal ranges).0)
@@ -186,6 +188,15 @@ frames_kept s n f new h ranges (FrameTaken frame now x of is) =
     framed_keys s.book.limits (present s.book) s.frames (acts_of_gates s.book) frame (instant s now) (kept_now s.book h.journal) h.frames
     (chosen frame.handle frame.priority (filters_of (present s.book))) x.0 x.1 is
 
+names_kept : (s : State) (n : ℕ) (f : Family) (new : State) → AreWithin 0 s.names s.sessions → Left s n f new → AreWithin 0 new.names new.sessions
+names_kept s n f new h Same = h
+names_kept s n f new h (Greeted name) = within_next s.sessions name s.names h
+names_kept s n f new h (Changed w e apply good) = h
+names_kept s n f new h (AllUndone free) = h
+names_kept s n f new h (SettledTo upto) = h
+names_kept s n f new h (ActDone act k now none) = h
+names_kept s n f new h (FrameTaken frame now x of is) = h
+
 -- one entry more, and every act was done by the time
 by_entry : (s : State) (n : ℕ) (w : What) (time : ℕ) → s.time ≤ time → IsBy time w → ActsAreBy s
     → AllByRecursion (λ e. IsBy time e.what) (enter s.book n w).entries
@@ -195,7 +206,7 @@ by_entry s n w time late by a =
 
 acts_kept : (s : State) (n : ℕ) (f : Family) (new : State) → Left s n f new → ActsAreBy s → ActsAreBy new
 acts_kept s n f new Same a = a
-acts_kept s n f new Greeted a = a
+acts_kept s n f new (Greeted name) a = a
 acts_kept s n f new (Changed w e apply good) a = by_entry s n w s.time (omega arith) (by_applied s.time w e apply) a
 acts_kept s n f new (AllUndone free) a = acts_left s n a (own_standing s.book.entries n)
 acts_kept s n f new (SettledTo upto) a = by_entry s n (Settled upto) s.time (omega arith) tt a
@@ -209,7 +220,7 @@ goes_on s n command reply new h ranges step =
     let f = family command in
     let l = (leaves s n f reply new step).how in
     let kept = follows s n command reply new h.journal ranges step in
-    (record { journal = kept.sound; frames = frames_kept s n f new h (in_range command ranges) l }, kept.later, acts_kept s n f new l)
+    (record { journal = kept.sound; frames = frames_kept s n f new h (in_range command ranges) l; names = names_kept s n f new h.names l }, kept.later, acts_kept s n f new l)
 
 pub all_go_on : (ts : List Answered) (s new : State) → IsWhole s → AreInRange ts → Leads s ts new → IsWhole new × IsLater s new × (ActsAreBy s → ActsAreBy new)
 all_go_on [] s new h ranges same = subst (λ t. IsWhole t × IsLater s t × (ActsAreBy s → ActsAreBy t)) (sym same) (h, itself s, λ a. a)
@@ -229,4 +240,5 @@ whole_begun l records opens =
     record {
       journal = record { numbered = tt; kept = kept; replays = tt; settled = tt; good = tt; same = refl };
       frames = (begun_keys (opening l records) l kept).frames;
+      names = omega arith;
     }

@@ -17,6 +17,7 @@ pub mod Showing
 pub mod Restored
 pub mod LastActs
 pub mod Later
+pub mod Naming
 pub mod Headline
 pub mod Blocking
 pub mod WhyNotAll

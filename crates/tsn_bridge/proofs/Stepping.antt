@@ -12,6 +12,7 @@ use Rattle.tsn_undo.specs.Ledger.{Ledger, present}
 use Rattle.tsn_undo.specs.Steps.{Edits, edit_refusal}
 use Rattle.tsn_bridge.specs.declared.reply.Reply.{Reply}
 use Rattle.tsn_bridge.specs.declared.reply.Reply.TheVariants.{Entry, Refused}
+use Rattle.tsn_bridge.specs.Names.{GivenOut}
 use Rattle.tsn_bridge.specs.Pair.{PairState}
 use Rattle.tsn_bridge.specs.State.{State}
 use Rattle.tsn_bridge.specs.Rule.{Allows, Rule, is_given}
@@ -72,10 +73,10 @@ was_given false (Some why) h = never (nat_lt (rank_of why) 5) h
 -- ---- an edit that the book makes, or refuses, is a step
 
 -- a state by its parts
-abbrev pub seen : PairState → ℕ → State
-seen p k = record { book = p.ledger; sessions = k; time = p.time; frames = p.frames }
+abbrev pub seen : PairState → GivenOut → State
+seen p k = record { book = p.ledger; sessions = k.count; names = k.names; time = p.time; frames = p.frames }
 
-module _ (p p' : PairState) (k : ℕ) (s : State) (n : ℕ) (batch : List Edit) (view : ◌≡◌ {A = State} (seen p k) s) (known : is_given s n ≡ true) where
+module _ (p p' : PairState) (k : GivenOut) (s : State) (n : ℕ) (batch : List Edit) (view : ◌≡◌ {A = State} (seen p k) s) (known : is_given s n ≡ true) where
   book : p.ledger ≡ s.book
   book = ap (λ (x : State). x.book) view
 
@@ -83,7 +84,7 @@ module _ (p p' : PairState) (k : ℕ) (s : State) (n : ℕ) (batch : List Edit) 
   edit_step entry is follows =
       let number : entry ≡ length s.book.entries + 1 = is.number_is ∙ ap (λ (c : Ledger). length c.entries + 1) book in
       let left : seen p' k ≡ changed_state s n (Made (change_of (present s.book) batch)) (change_of (present s.book) batch) =
-      (λ i. record { book = is.after i; sessions = k; time = follows.time i; frames = follows.frames i })
+      (λ i. record { book = is.after i; sessions = k.count; names = k.names; time = follows.time i; frames = follows.frames i })
       ∙ ap (λ (x : State). changed_state x n (Made (change_of (present x.book) batch)) (change_of (present x.book) batch)) view in
       is_done (edit_rule s n batch) s (Entry entry) (seen p' k)
       (given (is_given s n) (edit_refusal s.book batch) known ∙ ap (λ (c : Ledger). edit_refusal c batch) (sym book) ∙ is.admitted)

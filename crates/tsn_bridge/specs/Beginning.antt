@@ -13,6 +13,7 @@ abbrev pub begun : Limits → List (Key × Record) → State
 begun limits records = record {
   book = record { limits = limits; opening = opening limits records; entries = [] };
   sessions = 0;
+  names = [];
   time = 0;
   frames = begun_frames (opening limits records);
 }

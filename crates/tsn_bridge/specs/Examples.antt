@@ -1,6 +1,6 @@
 -- Journals of worked examples at the whole bridge, by hand: an undo of all that keeps another session's edits, a list that
 -- is restored and applied again, and a stream gate whose list runs.
-use Rattle.std.specs.Prelude.{ℕ, false, true, List, [], ◌∷◌, Option, Some, None, map}
+use Rattle.std.specs.Prelude.{ℕ, false, true, List, [], ◌∷◌, Option, Some, None, map, codes}
 use Rattle.std.specs.List.{fold}
 use Rattle.std.specs.FinMap.{insert}
 use Rattle.tsn_types.specs.declared.keys.Key.TheVariants.{Filter, Gate, Port}
@@ -42,9 +42,9 @@ numbers xs = map (λ x. x.number) xs
 abbrev pub in_turns : List Entry
 in_turns = edits ((1, change (Gate 1) None (Some gate)) ∷ (2, change (Gate 2) None (Some gate)) ∷ (1, change (Filter 0) None (Some (filter 1))) ∷ (2, change (Filter 1) None (Some (filter 2))) ∷ [])
 
--- both sessions are given out
+-- both sessions are given out, and the second goes by a name
 abbrev pub two_sessions : State
-two_sessions = record standard { book = book_of in_turns; sessions = 2 }
+two_sessions = record standard { book = book_of in_turns; sessions = 2; names = record { session = 2; name = codes "anna" } ∷ [] }
 
 -- session 1 took its two edits back, the newest first
 abbrev pub one_left : List Entry
@@ -101,7 +101,7 @@ rows_after fs f =
     let left = left_by (filter_0 true gate_acts) no_meter fs in record f { filters = insert f.filters 0 left.filter; gates = insert f.gates 0 left.gate }
 
 abbrev pub with_rows : ℕ → FrameData → State
-with_rows time f = record { book = book_of gate_runs; sessions = 1; time = time; frames = f }
+with_rows time f = record { book = book_of gate_runs; sessions = 1; names = []; time = time; frames = f }
 
 -- what a frame is answered, and the state after it
 abbrev pub answers : State → Coming → Option (Reply × State)

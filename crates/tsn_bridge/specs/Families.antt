@@ -1,5 +1,5 @@
 -- The families of commands, by the rule that a command goes by.
-use Rattle.std.specs.Prelude.{ℕ, List, [], ◌∷◌}
+use Rattle.std.specs.Prelude.{ℕ, List, [], ◌∷◌, Option}
 use Rattle.tsn_chain.specs.Begun.{no_frames}
 use Rattle.tsn_chain.specs.declared.frame.Frame.{Frame}
 use Rattle.tsn_edit.specs.declared.Edit.{Edit}
@@ -20,10 +20,10 @@ use Rattle.tsn_bridge.specs.Sessions.{hello_rule, resume_look, sessions_look}
 use Rattle.tsn_bridge.specs.Settling.{settle_rule}
 use Rattle.tsn_bridge.specs.State.{State}
 
--- What a command asks for: a session number; a batch of edits; an undo, an undo of all, a redo; a settle up to a number; an act on
+-- What a command asks for: a session number, by a name or none; a batch of edits; an undo, an undo of all, a redo; a settle up to a number; an act on
 -- a key at an instant; what becomes of a frame; a look at what a journal keeps; or one at what it doesn't.
 pub data Family : Type 0 where
-  Greeting : Family
+  Greeting : Option (List ℕ) → Family
   Editing : List Edit → Family
   Undoing : Family
   UndoingAll : Family
@@ -36,7 +36,7 @@ pub data Family : Type 0 where
 
 -- the family of a command, whole: a command of one edit asks for a batch of one
 abbrev pub family : Command → Family
-family commands.Hello = Greeting
+family (commands.Hello name) = Greeting name
 family (commands.Create k r) = Editing (edits.Create k r ∷ [])
 family (commands.Replace k r) = Editing (edits.Replace k r ∷ [])
 family (commands.Remove k) = Editing (edits.Remove k ∷ [])
@@ -64,7 +64,7 @@ seen_by_looks s = record s { time = 0; frames = no_frames }
 
 -- what holds of the rule of a family; that of a redo is asked with the cause that the book says
 abbrev pub OfRule : State → ℕ → Family → (Rule → Type 0) → Type 0
-OfRule s n Greeting P = P (hello_rule s)
+OfRule s n (Greeting name) P = P (hello_rule s name)
 OfRule s n (Editing batch) P = P (edit_rule s n batch)
 OfRule s n Undoing P = P (undo_rule s n)
 OfRule s n UndoingAll P = P (undo_all_rule s n)

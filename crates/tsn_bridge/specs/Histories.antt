@@ -1,7 +1,8 @@
 -- Lists of commands given to the machine by sessions, and where they lead.
-use Rattle.std.specs.Prelude.{◌≡◌, List, [], ◌∷◌, ⊤, Option, Some, None}
+use Rattle.std.specs.Prelude.{◌≡◌, true, List, [], ◌∷◌, ⊤, Option, Some, None, IfSome}
 use Rattle.std.specs.List.{AllByRecursion}
 use Rattle.tsn_types.specs.InRange.{RecordInRange}
+use Rattle.tsn_types.specs.Names.{is_name}
 use Rattle.tsn_edit.specs.declared.Edit.{Edit}
 use Rattle.tsn_edit.specs.Batches.{EditsInRange, IsBatch}
 use Rattle.tsn_undo.specs.Soundness.{IsSound}
@@ -27,8 +28,9 @@ abbrev pub Leads : State → List Answered → State → Type 0
 Leads s [] new = new ≡ s
 Leads s (t ∷ ts) new = (between : State) × Answers s t.ask t.reply between × Leads between ts new
 
--- the numbers of a command's records are in their ranges, and a batch is 1 to 16 edits, on distinct keys
+-- the numbers of a command's records are in their ranges, a batch is 1 to 16 edits, on distinct keys, and a name may be one
 abbrev pub CommandInRange : Command → Type 0
+CommandInRange (commands.Hello name) = IfSome name (λ text. is_name text ≡ true)
 CommandInRange (commands.Create k r) = RecordInRange r
 CommandInRange (commands.Replace k r) = RecordInRange r
 CommandInRange (commands.Batch batch) = IsBatch batch × EditsInRange batch

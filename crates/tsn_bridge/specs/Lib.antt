@@ -11,6 +11,8 @@ pub mod Kept
 pub mod Later
 pub mod Looking
 pub mod Machine
+pub mod Names
+pub mod Naming
 pub mod Objects
 pub mod Pair
 pub mod Quiet

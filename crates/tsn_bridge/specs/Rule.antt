@@ -1,11 +1,11 @@
 -- The rule of a command: why it is refused, what it answers and leaves where it is not, and whether it takes memory.
-use Rattle.std.specs.Prelude.{◌≡◌, ◌⊎◌, ℕ, Bool, ◌&&◌, nat_lt, nat_le, List, Option, Some, MatchOption, IsTrue, option_map}
+use Rattle.std.specs.Prelude.{◌≡◌, ◌⊎◌, ℕ, Bool, true, false, ◌&&◌, nat_lt, nat_le, List, Option, Some, MatchOption, IsTrue, option_map}
 use Rattle.tsn_types.specs.declared.refusals.Refusal.{Refusal}
 use Rattle.tsn_types.specs.declared.refusals.Refusal.TheVariants.{NoSession, Memory}
 use Rattle.tsn_types.specs.Limits.{unless}
 use Rattle.tsn_types.specs.Refusals.{least}
 use Rattle.tsn_bridge.specs.declared.reply.Reply.{Reply}
-use Rattle.tsn_bridge.specs.declared.reply.Reply.TheVariants.{Refused}
+use Rattle.tsn_bridge.specs.declared.reply.Reply.TheVariants.{Known, Refused}
 use Rattle.tsn_bridge.specs.State.{State}
 
 pub record Rule : Type 0 where
@@ -22,6 +22,12 @@ Allows rule s reply new =
     MatchOption (least rule.causes)
     ((rule.done ≡ Some (reply, new)) ⊎ (IsTrue rule.takes_memory × (reply ≡ Refused Memory) × (new ≡ s)))
     (λ why. (reply ≡ Refused why) × (new ≡ s))
+
+-- whether a command with this reply may have changed the state: not where it was refused, nor where a hello goes on as a session
+abbrev pub may_change : Reply → Bool
+may_change (Refused why) = false
+may_change (Known n) = false
+may_change reply = true
 
 -- A look changes nothing: why it is refused, what it answers where no cause holds, and whether it takes memory.
 pub record Look : Type 0 where

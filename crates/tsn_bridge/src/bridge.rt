@@ -34,7 +34,7 @@ ghost use Rattle.tsn_bridge.specs.Settling.{settle_rule};
 use crate::command::Command;
 use crate::pair::Pair;
 use crate::reply::Reply;
-use crate::sessions::GivenSessions;
+use crate::sessions::{Named, Sessions};
 use std::alloc::{AllocError, Global};
 use std::marker::Model;
 use tsn_chain::frame::Frame;
@@ -48,6 +48,7 @@ use tsn_journal::journal::Journal;
 use tsn_schedule::runner::Past;
 use tsn_types::keys::{Key, Kind};
 use tsn_types::limits::Limits;
+use tsn_types::names::SessionName;
 use tsn_types::numbers::Instant;
 use tsn_types::records::{Record, RecordRef};
 use tsn_types::refusals::{Field, Refusal};
@@ -83,7 +84,7 @@ impl Setup {
 pub struct Bridge {
     alloc: Global,
     pair: Box<Pair>,
-    sessions: u32,
+    sessions: Sessions,
 }
 
 impl Model for Bridge {
@@ -93,7 +94,7 @@ impl Model for Bridge {
 
     ghost coded = { state_code };
 
-    ghost view = { λ a. record { book = a.pair.value.ledger; sessions = a.sessions; time = a.pair.value.time; frames = a.pair.value.frames } };
+    ghost view = { λ a. record { book = a.pair.value.ledger; sessions = a.sessions.count; names = a.sessions.names; time = a.pair.value.time; frames = a.pair.value.frames } };
 }
 
 impl Bridge {
@@ -119,7 +120,7 @@ impl Bridge {
         Ok(Bridge {
             alloc,
             pair,
-            sessions: 0,
+            sessions: Sessions::new(alloc),
         })
     }
 
@@ -129,7 +130,7 @@ impl Bridge {
         ensures { Step self.old session command result self.new }
     {
         match command {
-            Command::Hello => self.hello(),
+            Command::Hello { name } => self.hello(name),
             Command::Create { key, value } => self.edit(
                 session,
                 Batch::one(Edit::Create(key, value)),
@@ -165,7 +166,7 @@ impl Bridge {
         ensures { IsCause self.now session command result }
     {
         match command {
-            Command::Hello => self.cause_of_hello(),
+            Command::Hello { name } => self.cause_of_hello(&name),
             Command::Create { key, value } => self.cause_of_edit(session, Edit::Create(key, value)),
             Command::Replace { key, value } => self.cause_of_edit(
                 session,
@@ -198,6 +199,7 @@ impl Bridge {
         ensures good { IsGood self.now.book.limits (base_of self.now.book) (changes (standing self.now.book.entries)) }
         ensures stands { result.now.map ≡ run (base_of self.now.book) (changes (standing self.now.book.entries)) }
     {
+        self.sessions.tell_order();
         self.pair.book().config()
     }
 
@@ -240,6 +242,20 @@ impl Bridge {
         if time.get() < now.get() { now } else { time }
     }
 
+    /// How many sessions were given out.
+    pub fn session_count(&self) -> u32
+        ensures { result ≡ self.now.sessions }
+    {
+        self.sessions.count()
+    }
+
+    /// The sessions that go by a name, in the order of their numbers.
+    pub fn named_sessions(&self) -> &[Named]
+        ensures { result.now ≡ self.now.names }
+    {
+        self.sessions.names()
+    }
+
     /// The journal of what the sessions did.
     pub fn journal(&self) -> &Journal
         ensures entries { result.now.entries ≡ self.now.book.entries }
@@ -248,16 +264,21 @@ impl Bridge {
         self.pair.book().journal()
     }
 
-    /// Gives out the next session number. It takes no memory.
-    fn hello(&mut self) -> Reply
-        ensures { Allows (hello_rule self.old) self.old result self.new }
+    /// The session that goes by the name, or else the next session number. Only a name takes memory.
+    fn hello(&mut self, name: Option<SessionName>) -> Reply
+        ensures { Allows (hello_rule self.old name) self.old result self.new }
     {
-        if let Some(why) = self.cause_of_hello() {
-            return Reply::Refused(why);
+        if let Some(session) = self.sessions.known(&name) {
+            return Reply::Known { session };
         }
-        self.sessions += 1;
-        Reply::Session {
-            session: self.sessions,
+        if self.sessions.count() >= MOST_SESSIONS {
+            return Reply::Refused(Refusal::Range(Field::Session));
+        }
+        match self.sessions.give_out(name) {
+            Ok(()) => Reply::Session {
+                session: self.sessions.count(),
+            },
+            Err(_) => Reply::Refused(Refusal::Memory),
         }
     }
 
@@ -265,14 +286,14 @@ impl Bridge {
     fn is_given(&self, session: u32) -> bool
         ensures { result ≡ is_given self.now session }
     {
-        0 < session && session <= self.sessions
+        self.sessions.has(session)
     }
 
-    // Why a hello is refused: no session number is left.
-    fn cause_of_hello(&self) -> Option<Refusal>
-        ensures { result ≡ least (hello_rule self.now).causes }
+    // Why a hello is refused: no session goes by its name, and no session number is left.
+    fn cause_of_hello(&self, name: &Option<SessionName>) -> Option<Refusal>
+        ensures { result ≡ least (hello_rule self.now name.now).causes }
     {
-        if self.sessions >= MOST_SESSIONS {
+        if self.sessions.known(name).is_none() && self.sessions.count() >= MOST_SESSIONS {
             return Some(Refusal::Range(Field::Session));
         }
         None
@@ -510,7 +531,7 @@ impl Bridge {
         if !self.is_given(session) {
             return Reply::Refused(Refusal::NoSession);
         }
-        match GivenSessions::up_to(self.alloc, self.journal(), self.sessions) {
+        match self.sessions.told(self.alloc, self.journal()) {
             Ok(sessions) => Reply::Sessions { sessions },
             Err(_) => Reply::Refused(Refusal::Memory),
         }

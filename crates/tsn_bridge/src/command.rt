@@ -2,6 +2,7 @@
 use tsn_chain::frame::Frame;
 use tsn_edit::batches::Batch;
 use tsn_types::keys::{Key, Kind};
+use tsn_types::names::SessionName;
 use tsn_types::numbers::Instant;
 use tsn_types::records::Record;
 
@@ -16,8 +17,8 @@ pub struct Ask {
 /// A command, without the session that gives it.
 #[derive(Debug, Drop)]
 pub enum Command {
-    /// Asks for a session number.
-    Hello,
+    /// Goes on as the session of the name, where one is said and a session has it, and asks for a session number elsewhere.
+    Hello { name: Option<SessionName> },
     /// Creates the record at an absent key.
     Create { key: Key, value: Record },
     /// Puts the record in the place of the one at the key.

@@ -1,5 +1,5 @@
 //! Laws of the machine, as functions whose contracts state them. Their bodies are empty.
-ghost use Rattle.std.specs.Prelude.{◌≡◌, ◌⊎◌, ◌≤◌, ℕ, Bool, List, [], ◌∷◌, Some, None, false, true, option_map};
+ghost use Rattle.std.specs.Prelude.{◌≡◌, ◌⊎◌, ◌≤◌, ℕ, Bool, List, [], ◌∷◌, ◌++◌, Some, None, false, true, codes, option_map};
 ghost use Rattle.std.specs.FinMap as map;
 ghost use Rattle.tsn_types.specs.declared.keys.Key.{Key as AnyKey};
 ghost use Rattle.tsn_types.specs.declared.keys.Key.TheVariants.{Gate, Port};
@@ -32,7 +32,7 @@ ghost use Rattle.tsn_desk.specs.History.{Runs};
 ghost use Rattle.tsn_bridge.specs.declared.command.Ask.{Ask as AnyAsk};
 ghost use Rattle.tsn_bridge.specs.declared.command.Command.{Command as AnyCommand};
 ghost use Rattle.tsn_bridge.specs.declared.reply.Reply.{Reply as AnyReply};
-ghost use Rattle.tsn_bridge.specs.declared.reply.Reply.TheVariants.{Entry, EntryOf, Framed, Refused, Session, Sessions, TakenBack};
+ghost use Rattle.tsn_bridge.specs.declared.reply.Reply.TheVariants.{Entry, EntryOf, Framed, Known, Refused, Session, Sessions, TakenBack};
 ghost use Rattle.tsn_bridge.specs.declared.bridge.TheConstants.{MOST_SESSIONS};
 ghost use Rattle.tsn_bridge.specs.Beginning.{Opens, begun, standard};
 ghost use Rattle.tsn_bridge.specs.Edits.{edit_rule, undo_all_rule, undo_rule};
@@ -43,7 +43,7 @@ ghost use Rattle.tsn_bridge.specs.Later.{ActsAreBy, IsLater, IsWhole};
 ghost use Rattle.tsn_bridge.specs.Looking.{counted_at, shown_at};
 ghost use Rattle.tsn_bridge.specs.Machine.{Step};
 ghost use Rattle.tsn_bridge.specs.Rule.{Allows};
-ghost use Rattle.tsn_bridge.specs.Sessions.{given_to, most_sessions, resume_rule, sessions_rule};
+ghost use Rattle.tsn_bridge.specs.Sessions.{given_to, hello_rule, most_sessions, resume_rule, sessions_rule};
 ghost use Rattle.tsn_bridge.specs.State.{State};
 ghost use Rattle.tsn_bridge.specs.Turns.{Turns};
 
@@ -159,7 +159,7 @@ pub fn over_every_interleaving()
 /// This holds of every state of the machine, not only of those that a bridge comes to. A bridge begins whole: its
 /// journal is sound, and what the filter chain keeps is there for just the filters, gates and meters of its
 /// configuration; and every act was done by the bridge time. A step of a whole state leaves a whole state, and a later
-/// one: no entry is gone or changed, no session is taken back, the bridge time is no less, limits and opening stay;
+/// one: no entry is gone or changed, no session and no name is taken back, the bridge time is no less, limits and opening stay;
 /// and where every act was done by the bridge time, every act still was. So do any number of steps.
 pub fn steps_keep_states_sound()
     ensures begins { (limits : AnyLimits) (records : List (AnyKey × AnyRecord)) →
@@ -193,8 +193,12 @@ pub fn examples()
         (numbers (others_standing in_turns 1) ≡ 2 ∷ 4 ∷ []) ×
         (undo_all_cause in_turns 1 (own_standing in_turns 1) ≡ None) }
     ensures sessions { (option_map (λ (x : AnyReply × State). x.0) (sessions_rule two_sessions 1).done
-        ≡ Some (Sessions (record { session = 1; standing = 2 } ∷ record { session = 2; standing = 2 } ∷ []))) ×
-        (given_to one_left 2 ≡ record { session = 1; standing = 0 } ∷ record { session = 2; standing = 2 } ∷ []) }
+        ≡ Some (Sessions (record { name = None; session = 1; standing = 2 } ∷ record { name = Some (codes "anna"); session = 2; standing = 2 } ∷ []))) ×
+        (given_to [] one_left 2 ≡ record { name = None; session = 1; standing = 0 } ∷ record { name = None; session = 2; standing = 2 } ∷ []) }
+    ensures names { (option_map (λ (x : AnyReply × State). x.0) (hello_rule two_sessions (Some (codes "anna"))).done ≡ Some (Known 2)) ×
+        ((hello_rule two_sessions (Some (codes "bert"))).done
+        ≡ Some (Session 3, record two_sessions { sessions = 3; names = two_sessions.names ++ record { session = 3; name = codes "bert" } ∷ [] })) ×
+        ((hello_rule two_sessions None).done ≡ Some (Session 3, record two_sessions { sessions = 3 })) }
     ensures resume { option_map (λ (x : AnyReply × State). x.0) (resume_rule two_sessions 2).done ≡ Some (Session 2) }
     ensures undo_all_leaves { (present (book_of one_left) ≡ others_alone (book_of in_turns) 1) ×
         (ids_of kinds.Filter (present (book_of one_left)) ≡ 1 ∷ []) × (ids_of kinds.Gate (present (book_of one_left)) ≡ 2 ∷ []) }

@@ -8,11 +8,13 @@ use crate::reply::Reply;
 use tsn_desk::machine::Machine;
 
 impl Command {
-    /// Tells a proof that the numbers of the command's records are in their ranges. It does nothing else.
+    /// Tells a proof that the numbers of the command's records are in their ranges, and that its name may be one. It does
+    /// nothing else.
     pub fn tell_ranges(&self)
         ensures { CommandInRange self.now }
     {
         match self {
+            Command::Hello { name: Some(name) } => name.tell_range(),
             Command::Create { key: _, value } => value.tell_ranges(),
             Command::Replace { key: _, value } => value.tell_ranges(),
             Command::Batch { batch } => batch.tell_ranges(),

@@ -17,6 +17,10 @@ pub enum Reply {
     Session {
         session: u32,
     },
+    /// The session that has the name which a hello said; nothing has changed.
+    Known {
+        session: u32,
+    },
     /// The number of the entry that was made.
     Entry {
         entry: u64,

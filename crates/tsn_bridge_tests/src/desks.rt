@@ -49,7 +49,7 @@ fn hello<R: Wait>(
 {
     let ask = Ask {
         session: 0,
-        command: Command::Hello,
+        command: Command::Hello { name: None },
     };
     let (seat, turned) = desk.turn(rt, seat, ask);
     let Ok(turn) = turned else {

@@ -93,7 +93,7 @@ fn on_a_bridge<F: FnOnce(&mut Bridge) -> Result<(), Fail>>(
     requires { F.IsAlwaysCallable play }
 {
     let mut bridge = Bridge::new(alloc, Setup::standard(alloc))?;
-    assert!(rt; is_session(bridge.step(0, Command::Hello), 1));
+    assert!(rt; is_session(bridge.step(0, Command::Hello { name: None }), 1));
     play(&mut bridge)
 }
 
@@ -108,10 +108,10 @@ fn fill(bridge: &mut Bridge, pairs: u32) -> Result<(), Refusal> {
 
 fn give_out_every_session(rt: &impl Abort, bridge: &mut Bridge) -> Result<(), Fail> {
     for number in 2..65_536u32 {
-        assert!(rt; is_session(step(bridge, 0, Command::Hello)?, number));
+        assert!(rt; is_session(step(bridge, 0, Command::Hello { name: None })?, number));
     }
     let more = Refusal::Range(Field::Session);
-    assert!(rt; is_refused(step(bridge, 0, Command::Hello)?, more));
+    assert!(rt; is_refused(step(bridge, 0, Command::Hello { name: None })?, more));
     assert!(rt; is_entry(create(bridge, 65_535, 1)?, 1));
     assert!(rt; is_refused(create(bridge, 65_536, 2)?, Refusal::NoSession));
     assert!(rt; is_refused(step(bridge, 0, Command::Undo)?, Refusal::NoSession));

@@ -8,36 +8,38 @@ use Rattle.tsn_bridge.specs.declared.command.Command.{Command}
 use Rattle.tsn_bridge.specs.declared.command.Command.TheVariants as commands
 use Rattle.tsn_bridge.specs.declared.reply.Reply.{Reply}
 use Rattle.tsn_commit.specs.Lines.{IsLine}
-use Rattle.tsn_bridge.specs.Families.{Acting, Family, family}
-use Rattle.tsn_journal.specs.declared.entries.Act.TheVariants as asked
-use Rattle.tsn_replay.specs.Recording.{instant_told, is_accepted, kept, kept_in, recorded, with_reply}
+use Rattle.tsn_bridge.specs.Rule.{may_change}
+use Rattle.tsn_replay.specs.Recording.{instant_told, kept, recorded, with_reply}
 use Rattle.tsn_spelling.specs.Line.{line_text}
 use Rattle.tsn_clerk.specs.declared.clerk.Deed.{Deed}
 use Rattle.tsn_clerk.specs.declared.clerk.Heard.{Heard}
 use Rattle.tsn_clerk.specs.declared.clerk.Heard.TheVariants as heard
 use Rattle.tsn_clerk.specs.declared.clerk.Kind.{Kind}
 use Rattle.tsn_clerk.specs.declared.clerk.Kind.TheVariants.{Act, Hello, Itself, Passing}
-use Rattle.tsn_clerk.specs.Noting.{EndsWith, HasLast, IsHeard, IsRecorded, act_of, kind_in, kind_of}
+use Rattle.tsn_clerk.specs.Noting.{EndsWith, HasLast, IsHeard, IsRecorded, act_of, kind_of}
 
 -- what is kept of a command of this kind
 abbrev kept_by : ℕ → Command → ℕ → Kind → Option Ask
 kept_by n command at Itself = Some (record { session = n; command = command })
-kept_by n command at Hello = Some (record { session = 0; command = commands.Hello })
+kept_by n command at Hello = Some (record { session = 0; command = command })
 kept_by n command at (Act deed key) = Some (record { session = n; command = act_of deed key at })
 kept_by n command at Passing = None
 
-kept_is : (n : ℕ) (command : Command) (at : ℕ) (f : Family) → kept_in n command at f ≡ kept_by n command at (kind_in f)
-kept_is n command at (Acting asked.Enable k now) = refl
-kept_is n command at (Acting asked.Disable k now) = refl
-kept_is n command at (Acting asked.Apply k now) = refl
-kept_is n command at f = refl
+kept_is : (n : ℕ) (command : Command) (at : ℕ) → kept n command at ≡ kept_by n command at (kind_of command)
+kept_is n (commands.Hello name) at = refl
+kept_is n command at = refl
+
+-- the line of a hello names no session
+hello_line : (n : ℕ) (command : Command) → kind_of command ≡ Hello → line_text (record { session = n; command = command }) ≡ line_text (record { session = 0; command = command })
+hello_line n (commands.Hello name) is = refl
+hello_line n command is = absurd (cc)
 
 pub empty_line : IsLine []
 empty_line = record { free = All-nil _; short = omega arith }
 
 module _ (ask : Ask) (line : List ℕ) where
   of_kind : (kind : Kind) → kind_of ask.command ≡ kind → (at : ℕ) → kept ask.session ask.command at ≡ kept_by ask.session ask.command at kind
-  of_kind kind is at = kept_is ask.session ask.command at (family ask.command) ∙ ap (kept_by ask.session ask.command at) is
+  of_kind kind is at = kept_is ask.session ask.command at ∙ ap (kept_by ask.session ask.command at) is
 
   pub hears_passing : kind_of ask.command ≡ Passing → IsHeard heard.Passing line ask
   hears_passing is at = of_kind Passing is at
@@ -48,8 +50,8 @@ module _ (ask : Ask) (line : List ℕ) where
   pub hears_itself : kind_of ask.command ≡ Itself → line ≡ line_text ask → IsHeard heard.Line line ask
   hears_itself is spelled at = (ask, of_kind Itself is at, spelled)
 
-  pub hears_hello : kind_of ask.command ≡ Hello → line ≡ line_text (record { session = 0; command = commands.Hello }) → IsHeard heard.Line line ask
-  hears_hello is spelled at = (record { session = 0; command = commands.Hello }, of_kind Hello is at, spelled)
+  pub hears_hello : kind_of ask.command ≡ Hello → line ≡ line_text ask → IsHeard heard.Line line ask
+  hears_hello is spelled at = (record { session = 0; command = ask.command }, of_kind Hello is at, spelled ∙ hello_line ask.session ask.command is)
 
 -- ---- what is recorded
 
@@ -60,7 +62,7 @@ module _ (ask : Ask) (reply : Reply) (lines : List (List ℕ)) where
   by_kept true (Some a) ends = ends a refl
 
   pub has_last : (o : Option Ask) → kept ask.session ask.command (instant_told reply) ≡ o → ((a : Ask) → o ≡ Some a → EndsWith lines (line_text a)) → HasLast (recorded (record { ask = ask; reply = reply })) lines
-  has_last o is ends = subst (λ (x : Option Ask). HasLast (cond (is_accepted reply) (option_map (with_reply reply) x) None) lines) (sym is) (by_kept (is_accepted reply) o ends)
+  has_last o is ends = subst (λ (x : Option Ask). HasLast (cond (may_change reply) (option_map (with_reply reply) x) None) lines) (sym is) (by_kept (may_change reply) o ends)
 
   same_ends : (a b : Ask) → Some a ≡ Some b → EndsWith lines (line_text a) → EndsWith lines (line_text b)
   same_ends a b is ends = subst (λ (o : Option Ask). IfSome o (λ x. EndsWith lines (line_text x))) is ends

@@ -25,7 +25,7 @@ act_of Apply key now = commands.Apply key now
 
 -- how a command of a family is kept, if it is accepted
 abbrev pub kind_in : Family → Kind
-kind_in Greeting = Hello
+kind_in (Greeting name) = Hello
 kind_in (Acting asked.Enable k now) = Act Enable k
 kind_in (Acting asked.Disable k now) = Act Disable k
 kind_in (Acting asked.Apply k now) = Act Apply k

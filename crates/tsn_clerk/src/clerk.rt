@@ -1,7 +1,9 @@
-//! Who attends the turns of a desk whose work lasts: it records each command in its turn, if that lasts and was accepted.
+//! Who attends the turns of a desk whose work lasts: it records each command in its turn, if that lasts and was accepted,
+//! and no hello that goes on as a session.
 ghost use Rattle.std.specs.Prelude.{◌≡◌, ◌⊎◌, IfSome, true};
 ghost use Rattle.tsn_bridge.specs.declared.command.Ask.{Ask as AnyAsk};
-ghost use Rattle.tsn_replay.specs.Recording.{instant_told, is_accepted};
+ghost use Rattle.tsn_bridge.specs.Rule.{may_change};
+ghost use Rattle.tsn_replay.specs.Recording.{instant_told};
 ghost use Rattle.tsn_spelling.specs.Line.{line_text};
 ghost use Rattle.tsn_clerk.specs.Noting.{EndsWith, IsHeard, IsRecorded, act_of, kind_of};
 
@@ -32,7 +34,7 @@ pub enum Deed {
 pub enum Kind {
     /// As it is.
     Itself,
-    /// As a hello of no session.
+    /// As a hello, which is of no session.
     Hello,
     /// As an act on this key at the instant that counts.
     Act(Deed, Key),
@@ -67,7 +69,7 @@ fn kind_of(command: &Command) -> Kind
     ensures { result ≡ kind_of command.now }
 {
     match command {
-        Command::Hello => Kind::Hello,
+        Command::Hello { .. } => Kind::Hello,
         Command::Enable { key, .. } => Kind::Act(Deed::Enable, *key),
         Command::Disable { key, .. } => Kind::Act(Deed::Disable, *key),
         Command::Apply { key, .. } => Kind::Act(Deed::Apply, *key),
@@ -125,21 +127,21 @@ impl<'a, W: Wait, C: Clock + Drop, D: Device + Drop, R: Naming, K: Naming + Ahea
         })
     }
 
-    // What is heard of a command that is kept so.
-    fn heard_as(&mut self, to_keep: &Ask) -> Heard
-        ensures line { result ≡ Heard.Line → self.new.line ≡ line_text to_keep.now }
+    // What is heard of a command whose line is kept.
+    fn heard_as(&mut self, ask: &Ask) -> Heard
+        ensures line { result ≡ Heard.Line → self.new.line ≡ line_text ask.now }
         ensures either { (result ≡ Heard.Line) ⊎ (result ≡ Heard.Lost) }
     {
-        if self.line.spell(to_keep) {
+        if self.line.spell(ask) {
             Heard::Line
         } else {
             Heard::Lost
         }
     }
 
-    // Records the line that was spelled behind all others, of a command that was accepted. In a turn nobody else records.
+    // Records the line that was spelled behind all others, of a command that may have changed the bridge. In a turn nobody else records.
     fn record(&self, _reply: &Reply) -> Option<Front<R>>
-        requires { is_accepted _reply.now ≡ true }
+        requires { may_change _reply.now ≡ true }
         ensures { IfSome result (λ lines. EndsWith lines self.now.line) }
     {
         self.commit.add(self.rt, self.line.bytes()).ok()
@@ -147,7 +149,7 @@ impl<'a, W: Wait, C: Clock + Drop, D: Device + Drop, R: Naming, K: Naming + Ahea
 
     // Records an act at the instant that the reply tells.
     fn record_act(&mut self, deed: Deed, key: Key, session: u32, reply: &Reply) -> Option<Front<R>>
-        requires { is_accepted reply.now ≡ true }
+        requires { may_change reply.now ≡ true }
         ensures { IfSome result (λ lines. EndsWith lines (line_text (record { session = session; command = act_of deed key (instant_told reply.now) }))) }
     {
         let now = instant_in(reply)?;
@@ -161,10 +163,10 @@ impl<'a, W: Wait, C: Clock + Drop, D: Device + Drop, R: Naming, K: Naming + Ahea
         self.record(reply)
     }
 
-    // Records what was heard, and was accepted with this reply.
+    // Records what was heard, and may have changed the bridge by this reply.
     #[tactic(auto, using(crate::proofs::Noting::noted_line, crate::proofs::Noting::noted_act, crate::proofs::Noting::noted_none))]
     fn note(&mut self, reply: &Reply) -> Option<Front<R>>
-        requires { is_accepted reply.now ≡ true }
+        requires { may_change reply.now ≡ true }
         ensures { (ask : AnyAsk) → IsHeard self.old.heard self.old.line ask → IsRecorded ask reply.now result }
     {
         match self.heard {
@@ -193,17 +195,13 @@ impl<'a, W: Wait, C: Clock + Drop, D: Device + Drop, R: Naming, K: Naming + Ahea
         self.heard = match kind_of(&ask.command) {
             Kind::Passing => Heard::Passing,
             Kind::Act(deed, key) => Heard::Act(deed, key, ask.session),
-            Kind::Hello => self.heard_as(&Ask {
-                session: 0,
-                command: Command::Hello,
-            }),
-            Kind::Itself => self.heard_as(ask),
+            Kind::Hello | Kind::Itself => self.heard_as(ask),
         };
     }
 
-    #[tactic(auto, using(tsn_replay::proofs::Forms::no_refusal))]
+    #[tactic(auto, using(tsn_replay::proofs::Forms::no_rest))]
     fn attend(&mut self, reply: &Reply) -> Option<Front<R>> {
-        if let Reply::Refused(_) = reply {
+        if let Reply::Refused(_) | Reply::Known { .. } = reply {
             return Some(self.commit.recorded(self.rt));
         }
         let mark = self.note(reply);

@@ -92,7 +92,7 @@ impl<'a, W: Wait, C: Clock + Drop, D: Device + Drop, R: Naming, K: Naming + Ahea
         let Ok(mut clerk) = Clerk::new(alloc, self.rt, self.commit) else {
             return Err(RoundFault::Memory);
         };
-        let started = start_with(rt, desk, seat, port, &mut clerk);
+        let started = start_with(rt, alloc, desk, seat, port, &mut clerk);
         if let Err(RoundFault::Refused(_)) = &started {
             self.service.stop();
         }

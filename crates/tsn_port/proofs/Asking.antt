@@ -1,5 +1,5 @@
 -- What a bridge may answer to what a port worker asks.
-use Rattle.std.proofs.Common.{◌≡◌, ◌∙◌, ◌⊎◌, ◌+◌, ◌<◌, ◌≤◌, ℕ, Bool, true, false, Option, Some, None, [], ◌∷◌, ap, arith, inl, inr, refl, sym}
+use Rattle.std.proofs.Common.{◌≡◌, ◌∙◌, ◌⊎◌, ◌+◌, ◌<◌, ◌≤◌, ℕ, Bool, true, false, Option, Some, None, List, [], ◌∷◌, ap, arith, inl, inr, refl, subst, sym}
 use Rattle.std.proofs.lemmas.Bool.Decides.{nat_tests}
 use Rattle.std.specs.Prelude.{◌&&◌, is_some, nat_le, nat_lt, option_map}
 use Rattle.std.specs.FinMap.{get}
@@ -16,16 +16,18 @@ use Rattle.tsn_undo.specs.Ledger.{present}
 use Rattle.tsn_undo.proofs.Making.{kept_now}
 use Rattle.tsn_bridge.specs.declared.command.Command.TheVariants as commands
 use Rattle.tsn_bridge.specs.declared.reply.Reply.{Reply}
-use Rattle.tsn_bridge.specs.declared.reply.Reply.TheVariants.{Refused, Session, Shown}
+use Rattle.tsn_bridge.specs.declared.reply.Reply.TheVariants.{Known, Refused, Session, Shown}
 use Rattle.tsn_bridge.specs.Later.{IsWhole}
 use Rattle.tsn_bridge.specs.Machine.{Step}
 use Rattle.tsn_bridge.specs.Reads.{show_rule, since_rule}
 use Rattle.tsn_bridge.specs.Rule.{Allows, is_given, look_rule}
-use Rattle.tsn_bridge.specs.Sessions.{hello_rule, most_sessions}
+use Rattle.tsn_bridge.specs.Names.{known}
+use Rattle.tsn_bridge.specs.Sessions.{hello_as, most_sessions, new_session}
 use Rattle.tsn_bridge.specs.State.{State}
 use Rattle.tsn_bridge.proofs.AtOnce.{done_of}
+use Rattle.tsn_bridge.proofs.Naming.{known_given}
 use Rattle.tsn_bridge.proofs.Stepping.{AllowsAt}
-use Rattle.tsn_port.specs.Starting.{AnswersHello, AnswersLook, AnswersSince}
+use Rattle.tsn_port.specs.Starting.{AnswersHello, AnswersLook, AnswersSince, Gives}
 use Rattle.tsn_port.proofs.Ports.{port_of}
 
 -- what is done is the reply, and the state after
@@ -37,29 +39,65 @@ state_is a b s t done = sym (ap (λ (p : Reply × State). p.1) (done_of _ _ done
 
 -- ---- a hello
 
--- the session is the next one, and is given out; or none was left
-abbrev Greets : State → Reply → State → Type 0
-Greets s r new = ((r ≡ Session (s.sessions + 1)) × (new.sessions ≡ s.sessions + 1)) ⊎ (r ≡ Refused (refusals.Range fields.Session))
-
-greets_at : (b : Bool) (s : State) (r : Reply) (new : State) → AllowsAt (least (unless b (refusals.Range fields.Session) ∷ [])) (hello_rule s) s r new → Greets s r new
-greets_at true s r new (inl done) = inl (reply_is _ r _ new done, ap (λ (t : State). t.sessions) (state_is _ r _ new done))
-greets_at true s r new (inr memory) = absurd (let never : false ≡ true = memory.0 in (cc))
-greets_at false s r new cause = inr cause.0
-
-greets : (s : State) (n : ℕ) (r : Reply) (new : State) → Step s n commands.Hello r new → Greets s r new
-greets s n r new step = greets_at (nat_lt s.sessions most_sessions) s r new step
-
-pub answers_hello : (s : State) (n : ℕ) (r : Reply) (new : State) → Step s n commands.Hello r new → AnswersHello r
-answers_hello s n r new step = elim (greets s n r new step) as (λ _. AnswersHello r) [ inl told ↦ inl (s.sessions + 1, told.0) | inr refused ↦ inr refused ]
+-- the reply gives a session that was given out; or it refuses for want of memory, or since no session is left
+data Greets (new : State) : Reply → Type 0 where
+  GivesNew : (m : ℕ) → is_given new m ≡ true → Greets new (Session m)
+  GivesKnown : (m : ℕ) → is_given new m ≡ true → Greets new (Known m)
+  NoMemory : Greets new (Refused refusals.Memory)
+  NoneLeft : Greets new (Refused (refusals.Range fields.Session))
 
 is_given_next : (k m n : ℕ) → m ≡ k + 1 → n ≡ k + 1 → (nat_lt 0 m && nat_le m n) ≡ true
 is_given_next k m n same more = grind (arith, nat_tests)
 
-pub given_by_hello : (s : State) (n m : ℕ) (new : State) → Step s n commands.Hello (Session m) new → is_given new m ≡ true
-given_by_hello s n m new step = elim (greets s n (Session m) new step) as (λ _. is_given new m ≡ true) [
-  | inl told ↦ let same : Session m ≡ Session (s.sessions + 1) = told.0 in is_given_next s.sessions m new.sessions (cc) told.1
-  | inr refused ↦ absurd (let never : Session m ≡ Refused (refusals.Range fields.Session) = refused in (cc))
-]
+is_given_in : (m n : ℕ) → 0 < m → m ≤ n → (nat_lt 0 m && nat_le m n) ≡ true
+is_given_in m n low high = grind (arith, nat_tests)
+
+as_reply : (new : State) (a r : Reply) → r ≡ a → Greets new a → Greets new r
+as_reply new a r is g = subst (Greets new) (sym is) g
+
+-- a session more
+greets_new : (b : Bool) (s : State) (name : Option (List ℕ)) (r : Reply) (new : State) → AllowsAt (least (unless b (refusals.Range fields.Session) ∷ [])) (new_session s name) s r new → Greets new r
+greets_new true s name r new (inl done) =
+    as_reply new (Session (s.sessions + 1)) r (reply_is _ r _ new done)
+    (GivesNew (s.sessions + 1) (is_given_next s.sessions (s.sessions + 1) new.sessions refl (ap (λ (t : State). t.sessions) (state_is _ r _ new done))))
+greets_new true s name r new (inr memory) = as_reply new (Refused refusals.Memory) r memory.1 NoMemory
+greets_new false s name r new cause = as_reply new (Refused (refusals.Range fields.Session)) r cause.0 NoneLeft
+
+-- by the session that goes by the name, if there is one
+greets_as : (s : State) (name : Option (List ℕ)) (r : Reply) (new : State) (o : Option ℕ) → ((m : ℕ) → o ≡ Some m → is_given s m ≡ true) → Allows (hello_as s name o) s r new → Greets new r
+greets_as s name r new None given step = greets_new (nat_lt s.sessions most_sessions) s name r new step
+greets_as s name r new (Some m) given (inl done) =
+    as_reply new (Known m) r (reply_is _ r _ new done) (GivesKnown m (subst (λ (t : State). is_given t m ≡ true) (sym (state_is _ r _ new done)) (given m refl)))
+greets_as s name r new (Some m) given (inr memory) = absurd (let never : false ≡ true = memory.0 in (cc))
+
+known_is_given : (s : State) (name : Option (List ℕ)) → IsWhole s → (m : ℕ) → known s.names name ≡ Some m → is_given s m ≡ true
+known_is_given s None whole m is = absurd (cc)
+known_is_given s (Some name) whole m is = let within = known_given 0 s.sessions m name s.names whole.names is in is_given_in m s.sessions within.0 within.1
+
+greets : (s : State) (n : ℕ) (name : Option (List ℕ)) (r : Reply) (new : State) → IsWhole s → Step s n (commands.Hello name) r new → Greets new r
+greets s n name r new whole step = greets_as s name r new (known s.names name) (known_is_given s name whole) step
+
+answers : (new : State) (r : Reply) → Greets new r → AnswersHello r
+answers new r (GivesNew m given) = inl (m, inl refl)
+answers new r (GivesKnown m given) = inl (m, inr refl)
+answers new r NoMemory = inr (inl refl)
+answers new r NoneLeft = inr (inr refl)
+
+pub answers_hello : (s : State) (n : ℕ) (name : Option (List ℕ)) (r : Reply) (new : State) → IsWhole s → Step s n (commands.Hello name) r new → AnswersHello r
+answers_hello s n name r new whole step = answers new r (greets s n name r new whole step)
+
+gives_given : (new : State) (m : ℕ) (r : Reply) → Greets new r → Gives r m → is_given new m ≡ true
+gives_given new m r (GivesNew k given) (inl is) = let same : k ≡ m = (cc) in subst (λ x. is_given new x ≡ true) same given
+gives_given new m r (GivesNew k given) (inr is) = absurd (cc)
+gives_given new m r (GivesKnown k given) (inl is) = absurd (cc)
+gives_given new m r (GivesKnown k given) (inr is) = let same : k ≡ m = (cc) in subst (λ x. is_given new x ≡ true) same given
+gives_given new m r NoMemory (inl is) = absurd (cc)
+gives_given new m r NoMemory (inr is) = absurd (cc)
+gives_given new m r NoneLeft (inl is) = absurd (cc)
+gives_given new m r NoneLeft (inr is) = absurd (cc)
+
+pub given_by_hello : (s : State) (n : ℕ) (name : Option (List ℕ)) (m : ℕ) (r : Reply) (new : State) → IsWhole s → Step s n (commands.Hello name) r new → Gives r m → is_given new m ≡ true
+given_by_hello s n name m r new whole step gives = gives_given new m r (greets s n name r new whole step) gives
 
 pub given_later : (m n k : ℕ) → (nat_lt 0 m && nat_le m n) ≡ true → n ≤ k → (nat_lt 0 m && nat_le m k) ≡ true
 given_later m n k given more = grind (arith, nat_tests, given)

@@ -126,7 +126,7 @@ module _ (n : ℕ) (s : State) (m : ℕ) (low : 1 ≤ n) (high : n ≤ s.book.li
 
   acts_kept : (f : Family) (new : State) → Left s m f new → ActsOf n new.book
   acts_kept f new Same = h
-  acts_kept f new Greeted = h
+  acts_kept f new (Greeted name) = h
   acts_kept f new (Changed w e apply good) = changed n m s.book s.book.entries w e apply h
   acts_kept f new (AllUndone free) = all_undone n m s.book s.book.entries (own_standing s.book.entries m) h
   acts_kept f new (SettledTo upto) = acts_push n (first n s.book) s.book.entries _ h (now_history n s.book h)

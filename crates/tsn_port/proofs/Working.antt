@@ -1,5 +1,5 @@
 -- What the calls of a port worker tell it, and what it tells then.
-use Rattle.std.proofs.Common.{◌≡◌, ◌∙◌, ◌⊎◌, ◌+◌, ◌<◌, ◌≤◌, ◌++◌, ℕ, Bool, List, [], ◌∷◌, Some, ap, append-nil, arith, inl, inr, length, length-append, refl, subst, sym, take, true, false}
+use Rattle.std.proofs.Common.{◌≡◌, ◌∙◌, ◌⊎◌, ◌+◌, ◌<◌, ◌≤◌, ◌++◌, ℕ, Bool, List, [], ◌∷◌, Option, Some, ap, append-nil, arith, inl, inr, length, length-append, refl, subst, sym, take, true, false}
 use Rattle.std.proofs.lemmas.List.{take_all}
 use Rattle.std.specs.FinMap.{get}
 use Rattle.tsn_types.specs.declared.keys.Key.TheVariants.{Port}
@@ -30,7 +30,7 @@ use Rattle.tsn_bridge.proofs.Reaching.{limits_reached}
 use Rattle.tsn_port.specs.declared.worker.PortWorker.{PortWorker}
 use Rattle.tsn_port.specs.Histories.{IsWhole, Tells, TookSome}
 use Rattle.tsn_port.specs.Mirrors.{AreOfPort, MirrorState, Mirrors, ShowsGates, first_record, mirrored}
-use Rattle.tsn_port.specs.Starting.{AnswersHello, AnswersLook, AnswersSince, HasRead, IsGivenIn, Looked, SaidHello, hello, look_at, since}
+use Rattle.tsn_port.specs.Starting.{AnswersHello, AnswersLook, AnswersSince, Gives, HasRead, IsGivenIn, Looked, SaidHello, hello, look_at, since}
 use Rattle.tsn_port.specs.Workers.{BridgeSeat, CallsOnce, EndsIn, GoesOn, IsPast, IsRound, IsWorkerOf, TellsGates, entries_behind, last_seen, port_of}
 use Rattle.tsn_port.proofs.Asking.{Shows, answers_hello, answers_since, given_by_hello, given_later, shows}
 use Rattle.tsn_port.proofs.Following.{asked, grows, runs_split, since_gives, since_is, tells_on, whole_at, whole_on}
@@ -128,15 +128,21 @@ module _ (first : State) (reached : IsReached first) where
 -- ---- what each call tells
 
 module _ (desk : Desk State Ask Reply) (old new : BridgeSeat) (place : ℕ) (reply : Reply) where
-  pub hello_answered : HasTurned Turns desk old hello place reply new → AnswersHello reply
-  hello_answered t = of_reply desk old new hello place reply t (AnswersHello reply) (λ y z _ _ turn. answers_hello y 0 reply z turn.1)
+  module _ (reached : IsReached (first_of desk)) (name : Option (List ℕ)) where
+    pub hello_answered : HasTurned Turns desk old (hello name) place reply new → AnswersHello reply
+    hello_answered t = of_reply desk old new (hello name) place reply t (AnswersHello reply)
+        (λ y z upto _ turn. answers_hello y 0 name reply z (whole_at (first_of desk) reached t.before y upto) turn.1)
 
-  pub said_hello : (n : ℕ) → reply ≡ replies.Session n → HasTurned Turns desk old hello place reply new → SaidHello desk old n new
-  said_hello n is t = record {
-    legal = t.legal;
-    call_is = t.own ∙ ap (λ r. made old ++ call (number old) hello r ∷ []) is;
-    given = λ z run. let last = at_last desk old new hello place reply t z run in given_by_hello last.0 0 n z (subst (λ r. Turns last.0 hello r z) is last.2).1;
-  }
+    pub said_hello : (n : ℕ) → Gives reply n → HasTurned Turns desk old (hello name) place reply new → SaidHello desk old name n new
+    said_hello n gives t = record {
+      legal = t.legal;
+      reply = reply;
+      gives = gives;
+      call_is = t.own;
+      given = λ z run.
+          let last = at_last desk old new (hello name) place reply t z run in
+          given_by_hello last.0 0 name n reply z (whole_at (first_of desk) reached t.before last.0 last.1) last.2.1 gives;
+    }
 
   module _ (reached : IsReached (first_of desk)) (session : ℕ) (given : IsGivenIn (first_of desk) (seen old) session) where
     -- the session is given out before the call too

@@ -1,5 +1,5 @@
 -- The calls of a worker, one by one.
-use Rattle.std.specs.Prelude.{◌≡◌, ◌⊎◌, ℕ, ◌≤◌, ◌++◌, List, [], ◌∷◌, true, Some}
+use Rattle.std.specs.Prelude.{◌≡◌, ◌⊎◌, ℕ, ◌≤◌, ◌++◌, List, [], ◌∷◌, true, Option, Some}
 use Rattle.std.specs.FinMap.{get}
 use Rattle.tsn_types.specs.declared.keys.Key.TheVariants.{Port}
 use Rattle.tsn_types.specs.declared.records.PortGates.{PortGates}
@@ -26,8 +26,8 @@ abbrev pub IsGivenIn : State → List (Call Ask Reply) → ℕ → Type 0
 IsGivenIn first history n = (z : State) → Runs Turns first history z → is_given z n ≡ true
 
 -- what a worker asks for
-abbrev pub hello : Ask
-hello = record { session = 0; command = commands.Hello }
+abbrev pub hello : Option (List ℕ) → Ask
+hello name = record { session = 0; command = commands.Hello name }
 
 abbrev pub look_at : ℕ → ℕ → Ask
 look_at session n = record { session = session; command = commands.Show (Port n) }
@@ -35,9 +35,13 @@ look_at session n = record { session = session; command = commands.Show (Port n)
 abbrev pub since : ℕ → ℕ → Ask
 since session after = record { session = session; command = commands.Since after }
 
+-- a reply gives this session: a new one, or the one that goes by the name
+abbrev pub Gives : Reply → ℕ → Type 0
+Gives r n = (r ≡ replies.Session n) ⊎ (r ≡ replies.Known n)
+
 -- what a hello may be answered
 abbrev pub AnswersHello : Reply → Type 0
-AnswersHello r = ((n : ℕ) × (r ≡ replies.Session n)) ⊎ (r ≡ replies.Refused (refusals.Range fields.Session))
+AnswersHello r = ((n : ℕ) × Gives r n) ⊎ ((r ≡ replies.Refused refusals.Memory) ⊎ (r ≡ replies.Refused (refusals.Range fields.Session)))
 
 -- what a look at a port may be answered
 abbrev pub AnswersLook : ℕ → Reply → Type 0
@@ -48,9 +52,11 @@ abbrev pub AnswersSince : Reply → Type 0
 AnswersSince r = ((entries : List Entry) × (r ≡ replies.Entries entries)) ⊎ (r ≡ replies.Refused refusals.Memory)
 
 -- the seat said hello and was given this session
-pub record SaidHello (desk : Desk State Ask Reply) (old : BridgeSeat) (n : ℕ) (new : BridgeSeat) : Type 0 where
+pub record SaidHello (desk : Desk State Ask Reply) (old : BridgeSeat) (name : Option (List ℕ)) (n : ℕ) (new : BridgeSeat) : Type 0 where
   pub legal : IsLegal Turns (first_of desk) (seen new)
-  pub call_is : made new ≡ made old ++ call (number old) hello (replies.Session n) ∷ []
+  pub reply : Reply
+  pub gives : Gives reply n
+  pub call_is : made new ≡ made old ++ call (number old) (hello name) reply ∷ []
   pub given : IsGivenIn (first_of desk) (seen new) n
 
 -- the seat looked at a port within the limits and was shown this record of it, which it has in each state to which the

@@ -1,5 +1,5 @@
 -- What a port worker knows of the history at a desk, and what its calls are.
-use Rattle.std.specs.Prelude.{◌≡◌, ◌⊎◌, ℕ, ◌+◌, ◌^◌, ◌≤◌, ◌<◌, ◌++◌, List, [], ◌∷◌, length, true, false, Some}
+use Rattle.std.specs.Prelude.{◌≡◌, ◌⊎◌, ℕ, ◌+◌, ◌^◌, ◌≤◌, ◌<◌, ◌++◌, List, [], ◌∷◌, length, true, false, Option, Some}
 use Rattle.std.specs.FinMap.{get}
 use Rattle.tsn_types.specs.declared.keys.Key.TheVariants.{Port}
 use Rattle.tsn_types.specs.declared.records.PortGates.{PortGates}
@@ -89,12 +89,14 @@ CallsOnce ask old new = ((reply : Reply) × (made new ≡ made old ++ call (numb
 abbrev pub IsRound : PortWorker → BridgeSeat → BridgeSeat → Type 0
 IsRound w old new = (made new ≡ made old) ⊎ (((reply : Reply) × (made new ≡ made old ++ call (number old) (entries_behind w) reply ∷ [])) × ((w.is_short ≡ true) ⊎ (w.place + 2 < length (seen new))))
 
--- The three calls of a worker's start: a hello, a look at the port, and all entries.
-pub record IsStart (old new : BridgeSeat) (w : PortWorker) : Type 0 where
+-- The three calls of a worker's start: a hello by the name, a look at the port, and all entries.
+pub record IsStart (name : Option (List ℕ)) (old new : BridgeSeat) (w : PortWorker) : Type 0 where
+  pub greeting : Reply
+  pub gives : (greeting ≡ replies.Session w.session) ⊎ (greeting ≡ replies.Known w.session)
   pub value : PortGates
   pub entries : List Entry
   pub calls : made new ≡ made old
-      ++ call (number old) (record { session = 0; command = commands.Hello }) (replies.Session w.session)
+      ++ call (number old) (record { session = 0; command = commands.Hello name }) greeting
       ∷ call (number old) (record { session = w.session; command = commands.Show (Port (port_of w)) }) (replies.Shown (Port (port_of w)) (records.Port value))
       ∷ call (number old) (record { session = w.session; command = commands.Since 0 }) (replies.Entries entries)
       ∷ []

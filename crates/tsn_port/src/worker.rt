@@ -9,11 +9,11 @@ ghost use Rattle.tsn_schedule.specs.Acts.{last_instant};
 ghost use Rattle.tsn_journal.specs.declared.entries.Entry.{Entry as AnyEntry};
 ghost use Rattle.tsn_desk.specs.Desks.{HasTurned, IsSeatOf, first_of, made, seen, tickets};
 ghost use Rattle.tsn_desk.specs.History.{Begins};
-ghost use Rattle.tsn_bridge.specs.declared.reply.Reply.TheVariants.{Session, Shown, Refused, Entries as EntriesOf};
+ghost use Rattle.tsn_bridge.specs.declared.reply.Reply.TheVariants.{Shown, Refused, Entries as EntriesOf};
 ghost use Rattle.tsn_bridge.specs.Reached.{IsReached};
 ghost use Rattle.tsn_bridge.specs.Turns.{Turns};
 ghost use Rattle.tsn_port.specs.Mirrors.{Mirrors, ShowsGates, mirrored};
-ghost use Rattle.tsn_port.specs.Starting.{AnswersHello, AnswersLook, AnswersSince, HasRead, IsGivenIn, Looked, SaidHello, since};
+ghost use Rattle.tsn_port.specs.Starting.{AnswersHello, AnswersLook, AnswersSince, Gives, HasRead, IsGivenIn, Looked, SaidHello, since};
 ghost use Rattle.tsn_port.specs.Workers.{CallsOnce, EndsIn, GoesOn, IsPast, IsRound, IsStart, IsStartFault, IsWorkerOf, TellsGates, entries_behind, last_seen, port_of};
 
 use crate::mirror::Mirror;
@@ -26,6 +26,7 @@ use tsn_desk::desk::{Desk, Seat, Turn};
 use tsn_desk::machine::{Nobody, Witness};
 use tsn_journal::entries::Entries;
 use tsn_types::keys::Key;
+use tsn_types::names::SessionName;
 use tsn_types::numbers::{Instant, PortId};
 use tsn_types::records::{PortGates, Record};
 use tsn_types::refusals::Refusal;
@@ -59,24 +60,26 @@ pub struct PortWorker {
 type Told<T> = (Seat<Bridge>, Result<T, RoundFault>);
 
 impl PortWorker {
-    /// A worker of the port, by three turns of the seat: a hello, which the witness attends, a look at the port, and all
-    /// entries of the journal. It waits for the turns of others. Refused, the seat comes back with the fault: the port is over the limits, no session is left,
-    /// no ticket is left, or memory was wanting. A session that was given out stays given out.
+    /// A worker of the port, by three turns of the seat: a hello by the name, which the witness attends, a look at the port,
+    /// and all entries of the journal. It waits for the turns of others. Refused, the seat comes back with the fault: the port
+    /// is over the limits, no session is left, no ticket is left, or memory was wanting. A session that was given out stays
+    /// given out.
     pub fn start<R: Wait, W: Witness<Bridge>>(
         rt: &R,
         desk: &Desk<Bridge>,
         seat: Seat<Bridge>,
         port: PortId,
+        name: Option<SessionName>,
         witness: &mut W,
     ) -> Result<(Seat<Bridge>, PortWorker), (Seat<Bridge>, RoundFault)>
         requires { IsSeatOf desk.now seat × IsReached (first_of desk.now) }
         ensures goes { MatchResult result (λ r. GoesOn desk.now seat r.0) (λ e. GoesOn desk.now seat e.0) }
         ensures worker { IfOk result (λ r. IsWorkerOf desk.now r.1 × (port_of r.1 ≡ port) × (r.1.is_short ≡ false)) }
-        ensures last { IfOk result (λ r. (last_seen r.1 ≡ seen r.0) × IsStart seat r.0 r.1) }
+        ensures last { IfOk result (λ r. (last_seen r.1 ≡ seen r.0) × IsStart name seat r.0 r.1) }
         ensures fault { IfErr result (λ e. IsStartFault desk.now port e.1 e.0) }
     {
         let _ = port.get();
-        let (seat, said) = say_hello(rt, desk, seat, witness);
+        let (seat, said) = say_hello(rt, desk, seat, name, witness);
         let session = match said {
             Ok(session) => session,
             Err(fault) => return Err((seat, fault)),
@@ -224,19 +227,20 @@ fn ask<R: Wait, W: Witness<Bridge>>(
     }
 }
 
-/// A session of the worker's own. The witness attends.
+/// The session that goes by the name, or a new one. The witness attends.
 fn say_hello<R: Wait, W: Witness<Bridge>>(
     rt: &R,
     desk: &Desk<Bridge>,
     seat: Seat<Bridge>,
+    name: Option<SessionName>,
     witness: &mut W,
 ) -> Told<u32>
-    requires { IsSeatOf desk.now seat }
+    requires { IsSeatOf desk.now seat × IsReached (first_of desk.now) }
     ensures goes { GoesOn desk.now seat result.0 }
-    ensures said { IfOk result.1 (λ session. SaidHello desk.now seat session result.0) }
+    ensures said { IfOk result.1 (λ session. SaidHello desk.now seat name session result.0) }
     ensures fault { IfErr result.1 (λ e. (n : ℕ) → IsStartFault desk.now n e result.0) }
 {
-    let (seat, turned) = ask(rt, desk, seat, 0, Command::Hello, witness);
+    let (seat, turned) = ask(rt, desk, seat, 0, Command::Hello { name }, witness);
     let turn = match turned {
         Ok(turn) => turn,
         Err(fault) => return (seat, Err(fault)),
@@ -250,12 +254,15 @@ fn say_hello<R: Wait, W: Witness<Bridge>>(
 /// The session that a hello was given.
 fn session_in(reply: Reply) -> Result<u32, RoundFault>
     requires { AnswersHello reply }
-    ensures ok { IfOk result (λ session. reply ≡ Session session) }
-    ensures fault { IfErr result (λ e. e ≡ RoundFault.Refused (Range fields.Session)) }
+    ensures ok { IfOk result (λ session. Gives reply session) }
+    ensures fault { IfErr result (λ e. (e ≡ RoundFault.Memory) ⊎ (e ≡ RoundFault.Refused (Range fields.Session))) }
 {
     match reply {
-        Reply::Session { session } => Ok(session),
-        Reply::Refused(why) => Err(RoundFault::Refused(why)),
+        Reply::Session { session } | Reply::Known { session } => Ok(session),
+        Reply::Refused(why) => match why {
+            Refusal::Memory => Err(RoundFault::Memory),
+            _ => Err(RoundFault::Refused(why)),
+        },
         _ => unreachable!(),
     }
 }

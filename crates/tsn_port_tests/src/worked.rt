@@ -123,8 +123,8 @@ fn begin<R: Wait + Abort>(
     requires { IsSeatOf desk.now first × IsSeatOf desk.now second }
     ensures { IsSeatOf desk.now result.0 × IsSeatOf desk.now result.1 }
 {
-    let first = turn(rt, desk, first, Command::Hello, 1);
-    let second = turn(rt, desk, second, Command::Hello, 2);
+    let first = turn(rt, desk, first, Command::Hello { name: None }, 1);
+    let second = turn(rt, desk, second, Command::Hello { name: None }, 2);
     let first = turn(rt, desk, first, create(alloc), 1);
     (first, second)
 }
@@ -139,6 +139,7 @@ fn refuse<R: Wait + Abort>(rt: &R, desk: &Desk<Bridge>, seat: Seat<Bridge>) -> S
         desk,
         seat,
         PortId::new(3).unwrap(),
+        None,
         &mut Nobody,
     ) {
         Ok((seat, _worker)) => (seat, None),
@@ -190,7 +191,7 @@ fn start<R: Wait>(
     requires { IsSeatOf desk.now seat × IsOpened (first_of desk.now) }
     ensures { IfOk result (λ r. IsSeatOf desk.now r.0 × IsWorkerOf desk.now r.1 × Begins (last_seen r.1) (seen r.0)) }
 {
-    match PortWorker::start(rt, desk, seat, port(), &mut Nobody) {
+    match PortWorker::start(rt, desk, seat, port(), None, &mut Nobody) {
         Ok(started) => Ok(started),
         Err((_seat, fault)) => Err(Fail::from(fault)),
     }
@@ -311,7 +312,7 @@ fn change_alone(bridge: &mut Bridge, replace: Command) -> Result<Entries, Fail> 
 fn mirrored(alloc: Global) -> Result<Mirror, Fail> {
     let replace = replace(alloc)?;
     let mut bridge = Bridge::new(alloc, Setup::standard(alloc))?;
-    let _ = bridge.step(1, Command::Hello);
+    let _ = bridge.step(1, Command::Hello { name: None });
     let Some(first) = present(&mut bridge) else {
         return Err(Fail::from("no record"));
     };

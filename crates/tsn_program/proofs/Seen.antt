@@ -86,9 +86,9 @@ acted_seen s act p now early seen = record {
 
 -- ---- the commands before the first line
 
-pub greeted : (s new : State) → IsNew s → Takes s 0 commands.Hello new → IsNew new
+pub greeted : (s new : State) → IsNew s → Takes s 0 (commands.Hello None) new → IsNew new
 greeted s new is h =
-    let done = taken (hello_rule s) s new h.0 h.1 h.2 in
+    let done = taken (hello_rule s None) s new h.0 h.1 h.2 in
     subst IsNew (state_of _ h.0 _ new done.1) is
 
 new_last : (s : State) (p now : ℕ) → IsNew s → last_at s.book (Port p) ≤ now

@@ -86,15 +86,15 @@ Applies false s port now new = new ≡ s
 -- applied then, where it has an entry.
 abbrev pub Enables : State → ℕ → ℕ → State → Type 0
 Enables s port now new = (greeted : State) × (enabled : State)
-    × Takes s 0 commands.Hello greeted
+    × Takes s 0 (commands.Hello None) greeted
     × Takes greeted 1 (commands.Enable (Port port) now) enabled
     × Applies (has_entry (get (present s.book) (Port port))) enabled port now new
 
 -- One of these commands was refused.
 abbrev pub EnablesNot : State → ℕ → ℕ → Refusal → Type 0
 EnablesNot s port now why =
-    IsRefused s 0 commands.Hello why
-    ⊎ ((greeted : State) × Takes s 0 commands.Hello greeted × (IsRefused greeted 1 (commands.Enable (Port port) now) why
+    IsRefused s 0 (commands.Hello None) why
+    ⊎ ((greeted : State) × Takes s 0 (commands.Hello None) greeted × (IsRefused greeted 1 (commands.Enable (Port port) now) why
     ⊎ ((enabled : State) × Takes greeted 1 (commands.Enable (Port port) now) enabled × IsRefused enabled 1 (commands.Apply (Port port) now) why)))
 
 -- Nothing was done with the bridge yet.

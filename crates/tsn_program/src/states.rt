@@ -131,7 +131,7 @@ pub fn enable_at(bridge: &mut Bridge, port: PortId, now: Instant) -> Result<(), 
     ensures refused { IfErr result (EnablesNot bridge.old port now) }
 {
     let is_listed = has_list(bridge, Key::Port(port));
-    match take(bridge, 0, Command::Hello) {
+    match take(bridge, 0, Command::Hello { name: None }) {
         Ok(()) => {}
         Err(why) => return Err(why),
     }

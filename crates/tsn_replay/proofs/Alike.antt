@@ -1,5 +1,5 @@
 -- What each family of commands is answered, and what of it lasts, follows from what lasts before it.
-use Rattle.std.proofs.Common.{◌≡◌, ℕ, ◌≤◌, ◌+◌, refl, sym, ◌∙◌, ap, arith, max, [], ◌∷◌, Option, Some, inl, inr, length}
+use Rattle.std.proofs.Common.{◌≡◌, ℕ, ◌≤◌, ◌+◌, refl, sym, ◌∙◌, ap, arith, max, List, [], ◌∷◌, Option, Some, None, inl, inr, length}
 use Rattle.std.specs.Prelude.{⊤, IsTrue, option_map}
 use Rattle.tsn_types.specs.Refusals.{least}
 use Rattle.tsn_edit.specs.Parts.{inverse}
@@ -17,8 +17,9 @@ use Rattle.tsn_bridge.specs.Acts.{act_change, act_rule, acted_state, instant}
 use Rattle.tsn_bridge.specs.Edits.{changed_state, edit_rule, next, redo_rule, undo_all_rule, undo_rule}
 use Rattle.tsn_bridge.specs.Families.{Acting, Counting, Editing, Family, Framing, Greeting, Looking, Redoing, Settling, Undoing, UndoingAll, family, seen_by_looks}
 use Rattle.tsn_bridge.specs.Machine.{Goes, Step}
-use Rattle.tsn_bridge.specs.Rule.{Allows, Rule, look_rule}
-use Rattle.tsn_bridge.specs.Sessions.{hello_rule}
+use Rattle.tsn_bridge.specs.Rule.{Allows, Look, Rule, look_rule}
+use Rattle.tsn_bridge.specs.Names.{known}
+use Rattle.tsn_bridge.specs.Sessions.{hello_as, known_look, new_session}
 use Rattle.tsn_bridge.specs.Settling.{settle_rule}
 use Rattle.tsn_bridge.specs.State.{State}
 use Rattle.tsn_replay.specs.Answering.{IsFromLasting, IsFromLastingIn}
@@ -50,11 +51,22 @@ module _ (s : State) (time : ℕ) (frames : FrameData) where
   once one other r x y is also causes memory alike =
       each {A = ⊤} one other (λ _. r) (λ _. x) (λ _. y) (Some tt) is also causes memory (λ _. alike)
 
+  -- a look, in both alike
+  looked : (l : Look) (reply : Reply) (after : State) → Allows (look_rule s l) s reply after → IsCarried s t (look_rule t l) reply after
+  looked l reply after step =
+      each (look_rule s l) (look_rule t l) (λ r. r) (λ r. s) (λ r. t) l.answer refl refl refl (λ m. m)
+      (λ r. record { same = refl; times = inl (refl, refl) }) reply after step
+
+  -- a hello, by the session that goes by its name, if there is one
+  greeted : (name : Option (List ℕ)) (o : Option ℕ) (reply : Reply) (after : State) → Allows (hello_as s name o) s reply after → IsCarried s t (hello_as t name o) reply after
+  greeted name None reply after step =
+      once (new_session s name) (new_session t name) _ _ _ refl refl refl (λ m. m) (record { same = refl; times = inl (refl, refl) }) reply after step
+  greeted name (Some m) reply after step = looked (known_look m) reply after step
+
   -- each family whose answer follows from what lasts
   alike_in : (n : ℕ) (f : Family) (reply : Reply) (after : State) → IsFromLastingIn s.time f → IsFromLastingIn time f
       → Goes s n f reply after → (there : State) × Goes t n f reply there × KeepsAlike s t after there
-  alike_in n Greeting reply after from also step =
-      once (hello_rule s) (hello_rule t) _ _ _ refl refl refl (λ m. m) (record { same = refl; times = inl (refl, refl) }) reply after step
+  alike_in n (Greeting name) reply after from also step = greeted name (known s.names name) reply after step
   alike_in n (Editing batch) reply after from also step =
       once (edit_rule s n batch) (edit_rule t n batch) _ _ _ refl refl refl (λ m. m) (record { same = refl; times = inl (refl, refl) })
       reply after step
@@ -89,9 +101,7 @@ module _ (s : State) (time : ℕ) (frames : FrameData) where
       reply after step
   alike_in n (Framing frame now) reply after from also step = absurd from
   alike_in n (Looking look) reply after from also step =
-      let l = look (seen_by_looks s) n in
-      each (look_rule s l) (look_rule t l) (λ r. r) (λ r. s) (λ r. t) l.answer refl refl refl (λ m. m)
-      (λ r. record { same = refl; times = inl (refl, refl) }) reply after step
+      looked (look (seen_by_looks s) n) reply after step
   alike_in n (Counting look) reply after from also step = absurd from
 
   -- each command whose answer does

@@ -25,7 +25,7 @@ use Rattle.tsn_replay.specs.Replaying.{Comes, IsReplayed, LeadsBack, Life, Lives
 use Rattle.tsn_replay.proofs.Carrying.{beside}
 use Rattle.tsn_replay.proofs.Alike.{each_alike}
 use Rattle.tsn_replay.proofs.Exact.{IsExact, keeps_exact}
-use Rattle.tsn_replay.proofs.Recorded.{IsTold, each_told, still_passes}
+use Rattle.tsn_replay.proofs.Recorded.{IsTold, accepts, each_told, still_passes}
 
 -- ---- one step alone: where a command may be accepted, it may else only be refused for want of memory
 
@@ -59,7 +59,7 @@ earlier early late (Counting look) le h = h
 earlier early late f le h = tt
 
 is_beside : (s t : State) → lasting t ≡ lasting s → t ≡ beside s t.time t.frames
-is_beside s t same i = record { book = (same i).ledger; sessions = (same i).sessions; time = t.time; frames = t.frames }
+is_beside s t same i = record { book = (same i).ledger; sessions = (same i).sessions; names = (same i).names; time = t.time; frames = t.frames }
 
 module _ (s again : State) (h : Resumes s again) where
   in_time : (after there : State) → ((after.time ≡ s.time) × (there.time ≡ again.time)) ⊎ (there.time ≡ after.time) → there.time ≤ after.time
@@ -130,7 +130,7 @@ module _ (turn : Turn) (within : AreWithin turn) where
 
 pub replays_of : (front : List Answered) (s reached : State) → AreRecorded front → Leads s front reached → Replays s (asks_of front) reached
 replays_of [] s reached accepted same = same
-replays_of (t ∷ ts) s reached accepted (between, step, on) = (t.reply, between, step, accepted.0.0, replays_of ts between reached accepted.1 on)
+replays_of (t ∷ ts) s reached accepted (between, step, on) = (t.reply, between, step, accepts t.reply accepted.0.0, replays_of ts between reached accepted.1 on)
 
 -- two replays of the same come to the same state
 pub same_replay : (asks : List Ask) (s one other : State) → Replays s asks one → Replays s asks other → other ≡ one

@@ -24,7 +24,7 @@ use Rattle.tsn_bridge.specs.Histories.{AreInRange, Answered, CommandInRange}
 use Rattle.tsn_bridge.specs.Later.{IsWhole}
 use Rattle.tsn_bridge.specs.Looking.{counted_at}
 use Rattle.tsn_bridge.specs.Objects.{port_at}
-use Rattle.tsn_bridge.specs.Rule.{Allows}
+use Rattle.tsn_bridge.specs.Rule.{Allows, may_change}
 use Rattle.tsn_bridge.specs.State.{State}
 use Rattle.tsn_bridge.proofs.Later.{all_go_on, whole_begun}
 use Rattle.tsn_replay.specs.Lasting.{Lasting, Resumes}
@@ -74,12 +74,12 @@ act_in_range act k now = tt
 
 kept_in_range : (n at : ℕ) (command : Command) (a : Ask) → KeptAs n at command a → CommandInRange command → CommandInRange a.command
 kept_in_range n at command a (Itself c from is) h = h
-kept_in_range n at command a AHello h = tt
+kept_in_range n at command a (AHello name) h = h
 kept_in_range n at command a (AnAct act k now) h = act_in_range act k at
 
 pub records_in_range : (asks : List Answered) → AreInRange asks → AreInRange (all_recorded asks)
 records_in_range [] h = tt
-records_in_range (t ∷ ts) h = elim (is_accepted t.reply) as (λ b. AreInRange (cons_option (cond b (option_map (with_reply t.reply) (kept t.ask.session t.ask.command (instant_told t.reply))) None) (all_recorded ts))) [
+records_in_range (t ∷ ts) h = elim (may_change t.reply) as (λ b. AreInRange (cons_option (cond b (option_map (with_reply t.reply) (kept t.ask.session t.ask.command (instant_told t.reply))) None) (all_recorded ts))) [
   | true ↦ by_option (kept t.ask.session t.ask.command (instant_told t.reply))
       (λ none. subst (λ (o : Option Ask). AreInRange (cons_option (option_map (with_reply t.reply) o) (all_recorded ts))) (sym none) (records_in_range ts h.1))
       (λ a some. subst (λ (o : Option Ask). AreInRange (cons_option (option_map (with_reply t.reply) o) (all_recorded ts))) (sym some) (

@@ -1,5 +1,5 @@
 -- What is recorded of a step is a step again, and answered from what lasts; what is not recorded leaves what lasts.
-use Rattle.std.proofs.Common.{◌≡◌, ℕ, Bool, true, false, ◌≤◌, ◌+◌, arith, [], ◌∷◌, ◌++◌, refl, sym, ◌∙◌, ap, subst, cond, Option, Some, None, inl, inr, length}
+use Rattle.std.proofs.Common.{◌≡◌, ℕ, Bool, true, false, ◌≤◌, ◌+◌, arith, List, [], ◌∷◌, ◌++◌, refl, sym, ◌∙◌, ap, subst, cond, Option, Some, None, inl, inr, length}
 use Rattle.std.specs.Prelude.{◌⊎◌, option_map}
 use Rattle.tsn_types.specs.declared.keys.Key.{Key}
 use Rattle.tsn_types.specs.declared.refusals.Refusal.{Refusal}
@@ -22,7 +22,7 @@ use Rattle.tsn_bridge.specs.Families.{Acting, Counting, Family, Framing, Greetin
 use Rattle.tsn_bridge.specs.Frames.{acts_of_gates, frame_rule, framed_state}
 use Rattle.tsn_bridge.specs.Histories.{Answered, Answers}
 use Rattle.tsn_bridge.specs.Machine.{Goes, Step}
-use Rattle.tsn_bridge.specs.Rule.{Allows, Rule}
+use Rattle.tsn_bridge.specs.Rule.{Allows, Rule, may_change}
 use Rattle.tsn_bridge.specs.State.{State}
 use Rattle.tsn_bridge.proofs.AtOnce.{done_of}
 use Rattle.tsn_bridge.proofs.Families.{IsStill, done_each, leaves, looked, outcome, reply_of}
@@ -36,9 +36,9 @@ pub act_family : (act : Asked) (k : Key) (now : ℕ) → family (act_command act
 act_family asked.Enable k now = refl
 act_family act k now = refl
 
-a_hello : (command : Command) → family command ≡ Greeting → command ≡ commands.Hello
-a_hello commands.Hello is = refl
-a_hello command is = absurd (cc)
+a_hello : (command : Command) (name : Option (List ℕ)) → family command ≡ Greeting name → command ≡ commands.Hello name
+a_hello (commands.Hello said) name is = let same : said ≡ name = (cc) in ap commands.Hello same
+a_hello command name is = absurd (cc)
 
 same_act : (a b : Asked) (k q : Key) (t u : ℕ) → Acting a k t ≡ Acting b q u → act_command a k t ≡ act_command b q u
 same_act a b k q t u is =
@@ -55,13 +55,13 @@ pub data KeptAs (n at : ℕ) : Command → Ask → Type 0 where
   Itself : (command : Command) → ((time : ℕ) → IsFromLasting time command)
       → ((time : ℕ) → kept n command time ≡ Some (record { session = n; command = command }))
       → KeptAs n at command (record { session = n; command = command })
-  AHello : KeptAs n at commands.Hello (record { session = 0; command = commands.Hello })
+  AHello : (name : Option (List ℕ)) → KeptAs n at (commands.Hello name) (record { session = 0; command = commands.Hello name })
   AnAct : (act : Asked) (k : Key) (now : ℕ) → KeptAs n at (act_command act k now) (record { session = n; command = act_command act k at })
 
 kept_as_in : (n : ℕ) (command : Command) (at : ℕ) (a : Ask) (f : Family) → family command ≡ f → kept_in n command at f ≡ Some a
     → KeptAs n at command a
-kept_as_in n command at a Greeting of is =
-    subst (λ c. KeptAs n at c a) (sym (a_hello command of)) (subst (KeptAs n at commands.Hello) (done_of _ _ is) AHello)
+kept_as_in n command at a (Greeting name) of is =
+    subst (λ c. KeptAs n at c a) (sym (a_hello command name of)) (subst (KeptAs n at (commands.Hello name)) (done_of _ _ is) (AHello name))
 kept_as_in n command at a (Acting act k now) of is =
     subst (λ c. KeptAs n at c a) (sym (an_act command act k now of))
     (subst (KeptAs n at (act_command act k now)) (done_of _ _ is) (AnAct act k now))
@@ -74,6 +74,11 @@ kept_as_in n command at a f of is =
 
 pub kept_as : (n : ℕ) (command : Command) (at : ℕ) (a : Ask) → kept n command at ≡ Some a → KeptAs n at command a
 kept_as n command at a is = kept_as_in n command at a (family command) refl is
+
+-- what may change the state was accepted
+pub accepts : (reply : Reply) → may_change reply ≡ true → is_accepted reply ≡ true
+accepts (replies.Refused why) may = (cc)
+accepts reply may = refl
 
 -- ---- an act at the instant that counted
 
@@ -113,7 +118,7 @@ pub record IsPassing (s : State) (t : Answered) (after : State) : Type 0 where
 -- what is recorded is the same step
 pub record IsKept (s : State) (t : Answered) (after : State) : Type 0 where
   pub ask : Ask
-  pub accepted : is_accepted t.reply ≡ true
+  pub accepted : may_change t.reply ≡ true
   pub is : recorded t ≡ Some (with_reply t.reply ask)
   pub fixed : recorded (with_reply t.reply ask) ≡ Some (with_reply t.reply ask)
   pub step : Answers s ask t.reply after
@@ -153,13 +158,13 @@ passing s n command at reply after f none step = absurd (cc)
 -- ---- what is kept
 
 kept_step : (s : State) (n : ℕ) (reply : Reply) (after : State) (at : ℕ) (command : Command) (a : Ask) → KeptAs n at command a
-    → at ≡ instant_told reply → is_accepted reply ≡ true
+    → at ≡ instant_told reply → may_change reply ≡ true
     → Step s n command reply after → (kept a.session a.command at ≡ Some a) × Answers s a reply after × IsFromLasting s.time a.command
 kept_step s n reply after at command a (Itself c from is) told accepted step = (is at, step, from s.time)
-kept_step s n reply after at command a AHello told accepted step = (refl, step, tt)
+kept_step s n reply after at command a (AHello name) told accepted step = (refl, step, tt)
 kept_step s n reply after at command a (AnAct act k now) told accepted step =
     let did : Allows (act_rule s n act k now) s reply after = subst (λ f. Goes s n f reply after) (act_family act k now) step in
-    let then : at ≡ instant s now = told ∙ told_at s n act k now reply after accepted did in
+    let then : at ≡ instant s now = told ∙ told_at s n act k now reply after (accepts reply accepted) did in
     let same : Allows (act_rule s n act k at) s reply after = subst (λ (rule : Rule). Allows rule s reply after)
     (sym (ap (act_rule s n act k) then ∙ again s n act k now)) did in
     let family_is = sym (act_family act k at) in (
@@ -170,25 +175,22 @@ kept_step s n reply after at command a (AnAct act k now) told accepted step =
 
 -- ---- each step
 
-refuses : (reply : Reply) → is_accepted reply ≡ false → (why : Refusal) × (reply ≡ replies.Refused why)
-refuses (replies.Refused why) h = (why, refl)
-refuses reply h = absurd (cc)
-
 module _ (s : State) (n : ℕ) (reply : Reply) (after : State) (command : Command) where
-  -- what is refused is not recorded
-  pub still_passes : IsStill s reply after → IsTold s (answered_by n command reply) after
-  still_passes h =
-      let left = at_rest s after h.same in
+  -- what changes nothing is not recorded
+  at_rest_passes : may_change reply ≡ false → after ≡ s → IsTold s (answered_by n command reply) after
+  at_rest_passes none same =
+      let left = at_rest s after same in
       inl (record {
-        nothing = ap (λ b. recorded_by reply b (kept n command (instant_told reply))) (ap is_accepted h.refused);
+        nothing = ap (λ b. recorded_by reply b (kept n command (instant_told reply))) none;
         same = left.0;
         time = left.1;
       })
 
-  told : (b : Bool) → is_accepted reply ≡ b → Step s n command reply after → IsTold s (answered_by n command reply) after
-  told false refused step =
-      let r = refuses reply refused in still_passes
-      (record { why = r.0; refused = r.1; same = (leaves s n (family command) reply after step).refused r.0 r.1 })
+  pub still_passes : IsStill s reply after → IsTold s (answered_by n command reply) after
+  still_passes h = at_rest_passes (ap may_change h.refused) h.same
+
+  told : (b : Bool) → may_change reply ≡ b → Step s n command reply after → IsTold s (answered_by n command reply) after
+  told false none step = at_rest_passes none ((leaves s n (family command) reply after step).stays none)
   told true accepted step =
       let at = instant_told reply in
       by_option (kept n command at)
@@ -212,4 +214,4 @@ module _ (s : State) (n : ℕ) (reply : Reply) (after : State) (command : Comman
       }))
 
   pub each_told : Step s n command reply after → IsTold s (answered_by n command reply) after
-  each_told step = told (is_accepted reply) refl step
+  each_told step = told (may_change reply) refl step

@@ -6,12 +6,13 @@ use Rattle.tsn_bridge.specs.declared.command.Ask.{Ask}
 use Rattle.tsn_bridge.specs.declared.reply.Reply.{Reply}
 use Rattle.tsn_bridge.specs.declared.reply.Reply.TheVariants.{Refused}
 use Rattle.tsn_bridge.specs.Histories.{Answers}
+use Rattle.tsn_bridge.specs.Rule.{may_change}
 use Rattle.tsn_bridge.specs.State.{State}
 use Rattle.tsn_replay.specs.declared.recorder.Form.{Form}
 use Rattle.tsn_replay.specs.declared.recorder.Form.TheVariants.{Kept, Passing}
 use Rattle.tsn_replay.specs.Handling.{IsHelloWithoutMemory}
 use Rattle.tsn_replay.specs.Recorder.{IsOneLine, Recording, line_feed}
-use Rattle.tsn_replay.specs.Recording.{is_accepted, kept_of}
+use Rattle.tsn_replay.specs.Recording.{kept_of}
 
 -- what is kept of it at the instant that counts; or the ask itself, of which nothing is kept
 abbrev pub FormOf : State → Ask → Form → Type 0
@@ -26,10 +27,10 @@ IsWithoutMemory s a why = Answers s a (Refused why) s ⊎ IsHelloWithoutMemory s
 abbrev pub IsUnwritten : State → Ask → Refusal → Refusal → Type 0
 IsUnwritten s a reason why = ((reason ≡ TooLong) × (why ≡ TooLong)) ⊎ IsWithoutMemory s a why
 
--- the bridge steps at what is kept, and its line stands behind the text if it was accepted
+-- the bridge steps at what is kept, and its line stands behind the text if this may have changed the state
 pub record IsMade (line : Ask → List ℕ) (most : ℕ) (old : Recording) (a : Ask) (reply : Reply) (new : Recording) : Type 0 where
   pub step : Answers old.bridge a reply new.bridge
-  pub grows : new.text ≡ (if is_accepted reply then old.text ++ line a ++ line_feed ∷ [] else old.text)
+  pub grows : new.text ≡ (if may_change reply then old.text ++ line a ++ line_feed ∷ [] else old.text)
   pub one_line : IsOneLine (line a)
   pub within : length (line a) ≤ most
 

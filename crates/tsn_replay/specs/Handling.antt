@@ -1,5 +1,5 @@
 -- What a bridge with a recorder does with what is asked of it: a step of the machine, and two refusals more.
-use Rattle.std.specs.Prelude.{◌≡◌, ◌⊎◌, ◌<◌, ℕ, List, Some, None, length}
+use Rattle.std.specs.Prelude.{◌≡◌, ◌⊎◌, ◌<◌, ℕ, List, Option, Some, None, length}
 use Rattle.tsn_types.specs.declared.refusals.Refusal.TheVariants.{Memory, TooLong}
 use Rattle.tsn_types.specs.Refusals.{least}
 use Rattle.tsn_bridge.specs.declared.command.Ask.{Ask}
@@ -11,11 +11,12 @@ use Rattle.tsn_bridge.specs.Sessions.{hello_rule}
 use Rattle.tsn_bridge.specs.State.{State}
 use Rattle.tsn_replay.specs.Recording.{kept_of}
 
--- A hello that has no cause is refused 18, and nothing changes: memory is wanting for its line. The machine alone never refuses it
--- so. Any other command that is recorded takes memory there too: where it has no cause, its rule allows 18.
+-- A hello that has no cause is refused 18, and nothing changes: memory is wanting for its line. The machine alone refuses it so
+-- only where it would keep a name. Any other command that is recorded takes memory there too: where it has no cause, its rule allows 18.
 pub record IsHelloWithoutMemory (s : State) (a : Ask) (reply : Reply) (new : State) : Type 0 where
-  pub hello : a.command ≡ Hello
-  pub free : least (hello_rule s).causes ≡ None
+  pub name : Option (List ℕ)
+  pub hello : a.command ≡ Hello name
+  pub free : least (hello_rule s name).causes ≡ None
   pub refused : reply ≡ Refused Memory
   pub same : new ≡ s
 

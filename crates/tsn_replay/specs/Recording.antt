@@ -12,6 +12,7 @@ use Rattle.tsn_bridge.specs.declared.reply.Reply.TheVariants.{Acted, Refused}
 use Rattle.tsn_bridge.specs.Acts.{instant}
 use Rattle.tsn_bridge.specs.Families.{Acting, Counting, Family, Framing, Greeting, Looking, family}
 use Rattle.tsn_bridge.specs.Histories.{Answered}
+use Rattle.tsn_bridge.specs.Rule.{may_change}
 use Rattle.tsn_bridge.specs.State.{State}
 
 -- whether a reply is no refusal
@@ -41,7 +42,7 @@ act_command asked.Apply k now = commands.Apply k now
 -- What is kept of a session's command, once it was accepted: a hello of no session, an act at the instant that counted, any other
 -- command that changes what lasts as it is; of a look and of a frame nothing.
 abbrev pub kept_in : ℕ → Command → ℕ → Family → Option Ask
-kept_in n command at Greeting = Some (record { session = 0; command = commands.Hello })
+kept_in n command at (Greeting name) = Some (record { session = 0; command = commands.Hello name })
 kept_in n command at (Acting act k now) = Some (record { session = n; command = act_command act k at })
 kept_in n command at (Framing frame now) = None
 kept_in n command at (Looking look) = None
@@ -58,9 +59,9 @@ kept_of s a = kept a.session a.command (counted s a.command)
 abbrev pub with_reply : Reply → Ask → Answered
 with_reply reply a = record { ask = a; reply = reply }
 
--- the recorded command, if there is one; the reply stands here for the theorems, and in no file
+-- the recorded command, if there is one: of a hello that goes on as a session nothing is; the reply stands here for the theorems, and in no file
 abbrev pub recorded : Answered → Option Answered
-recorded t = if is_accepted t.reply then option_map (with_reply t.reply) (kept t.ask.session t.ask.command (instant_told t.reply)) else None
+recorded t = if may_change t.reply then option_map (with_reply t.reply) (kept t.ask.session t.ask.command (instant_told t.reply)) else None
 
 -- the recorded commands of all that was asked and answered, in order
 abbrev pub all_recorded : List Answered → List Answered
@@ -70,6 +71,6 @@ all_recorded ts = filter_map recorded ts
 abbrev pub asks_of : List Answered → List Ask
 asks_of ts = map (λ t. t.ask) ts
 
--- recorded commands: each was accepted, and what is recorded of it is itself, so that a replay that records writes the same again
+-- recorded commands: each may have changed the state, and what is recorded of it is itself, so that a replay that records writes the same again
 abbrev pub AreRecorded : List Answered → Type 0
-AreRecorded ts = AllByRecursion (λ t. (is_accepted t.reply ≡ true) × (recorded t ≡ Some t)) ts
+AreRecorded ts = AllByRecursion (λ t. (may_change t.reply ≡ true) × (recorded t ≡ Some t)) ts

@@ -98,7 +98,7 @@ impl<S: Spell> Recorder<S> {
     }
 
     /// A turn at what is kept of a command: its line is put behind the text, the bridge steps, and a line of a command that
-    /// was refused is cut off again.
+    /// was refused, or goes on as a session, is cut off again.
     fn keep(&mut self, ask: Ask) -> Reply
         requires { IsSome (kept ask.session ask.command 0) }
         ensures { Keeps S.line S.MOST self.old ask result self.new }
@@ -109,7 +109,7 @@ impl<S: Spell> Recorder<S> {
         }
         let Ask { session, command } = ask;
         let reply = self.bridge.step(session, command);
-        if let Reply::Refused(_) = reply {
+        if let Reply::Refused(_) | Reply::Known { .. } = reply {
             self.text.truncate(before);
         }
         reply
@@ -184,9 +184,9 @@ pub fn form_of(bridge: &Bridge, ask: Ask) -> Form
 {
     let Ask { session, command } = ask;
     match command {
-        Command::Hello => Form::Kept(Ask {
+        Command::Hello { name } => Form::Kept(Ask {
             session: 0,
-            command: Command::Hello,
+            command: Command::Hello { name },
         }),
         Command::Enable { key, now } => Form::Kept(Ask {
             session,

@@ -32,6 +32,7 @@ name_short (refusals.Settled a) = lit≤ tt
 pub field_name_short : (f : Field) → length (field_name f) ≤ 11
 field_name_short fields.S = lit≤ tt
 field_name_short fields.Session = lit≤ tt
+field_name_short fields.Name = lit≤ tt
 field_name_short fields.Key = lit≤ tt
 field_name_short fields.Gates = lit≤ tt
 field_name_short fields.List = lit≤ tt

@@ -6,12 +6,8 @@ use Rattle.serde_json.specs.Written.{compact_text}
 use Rattle.tsn_bytes.specs.Bytes.{IsCut}
 use Rattle.tsn_replies.specs.Pieces.{TakesFront}
 use Rattle.tsn_replies.specs.Told.{setup_data}
+use Rattle.tsn_replies.proofs.Escapes.{escape_joined}
 use Rattle.tsn_replies.proofs.Pieces.{none_gone, held_more, goes_on, cut_out}
-
--- what stands for two texts is what stands for each
-escape_joined : (xs ys : List ℕ) → escape (xs ++ ys) ≡ escape xs ++ escape ys
-escape_joined [] ys = refl
-escape_joined (x ∷ xs) ys = ap (λ l. escape_byte x ++ l) (escape_joined xs ys) ∙ sym (append_assoc (escape_byte x) (escape xs) (escape ys))
 
 line_of : (text : List ℕ) → (codes "{\"setup\":\"" ++ text) ++ codes "\"}\n" ≡ (codes "{\"setup\":" ++ ((34 ∷ (text ++ 34 ∷ [])) ++ codes "}")) ++ codes "\n"
 line_of text = simp append_assoc

@@ -1,5 +1,5 @@
 -- The text of the journal's entries, piece by piece.
-use Rattle.std.proofs.Common.{◌≡◌, ℕ, ◌+◌, ◌-◌, ◌^◌, ◌<◌, ◌≤◌, ◌++◌, List, [], ◌∷◌, length, take, take_all, drop, get_or, map, true, false, codes, decimal, refl, sym, ap, ap₂, ◌∙◌, append_assoc, append-nil, arith}
+use Rattle.std.proofs.Common.{◌≡◌, ℕ, ◌+◌, ◌-◌, ◌^◌, ◌<◌, ◌≤◌, ◌++◌, List, [], ◌∷◌, length, take, take_all, drop, get_or, map, true, false, Option, codes, decimal, refl, sym, ap, ap₂, ◌∙◌, append_assoc, append-nil, arith}
 use Rattle.std.proofs.lemmas.List.{take_more}
 use Rattle.json.specs.Print.{escape_byte}
 use Rattle.serde_json.specs.Data.{Data, string, object, item, Members, member, no_members}
@@ -16,7 +16,7 @@ use Rattle.tsn_types.specs.Keys.{number_of}
 use Rattle.tsn_records.specs.Keys.{key_text}
 use Rattle.tsn_records.specs.Shown.{whole_data}
 use Rattle.tsn_replies.specs.Pieces.{keys_piece, taking_back_front, told_line}
-use Rattle.tsn_replies.specs.Told.{act_name, key_data, with_keys, made_data, taking_back_data, acted_data, settled_data, session_data, entry_data, entries_data, kept_data}
+use Rattle.tsn_replies.specs.Told.{act_name, key_data, with_keys, made_data, taking_back_data, acted_data, settled_data, name_data, session_data, entry_data, entries_data, kept_data}
 use Rattle.tsn_replies.proofs.Pieces.{behind, behind_none, behind_more, behind_closed, text_unescaped}
 
 quoted_of : (key t0 t1 t2 t3 : List ℕ) → t1 ≡ t0 ++ codes "\"" → t2 ≡ t1 ++ key → t3 ≡ t2 ++ codes "\"" → t3 ≡ t0 ++ (codes "\"" ++ (key ++ codes "\""))
@@ -179,20 +179,25 @@ pub settled_pieces : (number session upto : ℕ) (t0 t1 t2 t3 t4 : List ℕ)
 unfolding escape_byte
 settled_pieces number session upto t0 t1 t2 t3 t4 e1 e2 e3 e4 = settled_of (decimal number) (decimal session) (decimal upto) t0 t1 t2 t3 t4 e1 e2 e3 e4
 
-given_of : (session standing t0 t1 t2 t3 : List ℕ)
-    → t1 ≡ t0 ++ (codes "{\"session\":" ++ session)
-    → t2 ≡ t1 ++ (codes ",\"standing\":" ++ standing)
-    → t3 ≡ t2 ++ codes "}"
-    → t3 ≡ t0 ++ (codes "{\"session\":" ++ (session ++ (codes ",\"standing\":" ++ (standing ++ codes "}"))))
-given_of session standing t0 t1 t2 t3 e1 e2 e3 = rw (e3, e2, e1) (simp append_assoc)
+given_of : (name session standing t0 t1 t2 t3 t4 t5 : List ℕ)
+    → t1 ≡ t0 ++ codes "{\"name\":"
+    → t2 ≡ t1 ++ name
+    → t3 ≡ t2 ++ (codes ",\"session\":" ++ session)
+    → t4 ≡ t3 ++ (codes ",\"standing\":" ++ standing)
+    → t5 ≡ t4 ++ codes "}"
+    → t5 ≡ t0 ++ (codes "{\"name\":" ++ (name ++ (codes ",\"session\":" ++ (session ++ (codes ",\"standing\":" ++ (standing ++ codes "}"))))))
+given_of name session standing t0 t1 t2 t3 t4 t5 e1 e2 e3 e4 e5 = rw (e5, e4, e3, e2, e1) (simp append_assoc)
 
-pub given_pieces : (session standing : ℕ) (t0 t1 t2 t3 : List ℕ)
-    → t1 ≡ t0 ++ (codes "{\"session\":" ++ decimal session)
-    → t2 ≡ t1 ++ (codes ",\"standing\":" ++ decimal standing)
-    → t3 ≡ t2 ++ codes "}"
-    → t3 ≡ t0 ++ compact_text (session_data (record { session = session; standing = standing }))
+pub given_pieces : (name : Option (List ℕ)) (session standing : ℕ) (t0 t1 t2 t3 t4 t5 : List ℕ)
+    → t1 ≡ t0 ++ codes "{\"name\":"
+    → t2 ≡ t1 ++ compact_text (name_data name)
+    → t3 ≡ t2 ++ (codes ",\"session\":" ++ decimal session)
+    → t4 ≡ t3 ++ (codes ",\"standing\":" ++ decimal standing)
+    → t5 ≡ t4 ++ codes "}"
+    → t5 ≡ t0 ++ compact_text (session_data (record { name = name; session = session; standing = standing }))
 unfolding escape_byte
-given_pieces session standing t0 t1 t2 t3 e1 e2 e3 = given_of (decimal session) (decimal standing) t0 t1 t2 t3 e1 e2 e3
+given_pieces name session standing t0 t1 t2 t3 t4 t5 e1 e2 e3 e4 e5 =
+    given_of (compact_text (name_data name)) (decimal session) (decimal standing) t0 t1 t2 t3 t4 t5 e1 e2 e3 e4 e5
 
 -- ---- the line
 

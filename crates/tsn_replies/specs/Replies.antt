@@ -52,6 +52,7 @@ refusal_text r = codes "{" ++ members_of r ++ codes "\"refused\":" ++ decimal (n
 -- the line of a reply, its line feed in it
 abbrev pub reply_text : Reply → List ℕ
 reply_text (replies.Session session) = codes "{\"session\":" ++ decimal session ++ codes "}\n"
+reply_text (replies.Known session) = codes "{\"session\":" ++ decimal session ++ codes "}\n"
 reply_text (replies.Entry entry) = codes "{\"entry\":" ++ decimal entry ++ codes "}\n"
 reply_text (replies.EntryOf entry of) = codes "{\"entry\":" ++ decimal entry ++ codes ",\"of\":" ++ decimal of ++ codes "}\n"
 reply_text (replies.TakenBack count entry) = codes "{\"count\":" ++ decimal count ++ codes ",\"entry\":" ++ decimal entry ++ codes "}\n"

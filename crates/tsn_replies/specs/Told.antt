@@ -1,6 +1,6 @@
 -- What replies tell as JSON values: a record under its key, numbers of instances, sessions, a setup, entries of the journal.
-use Rattle.std.specs.Prelude.{ℕ, List, [], ◌∷◌, map, codes}
-use Rattle.serde_json.specs.Data.{Data, Members, string, array, object, member, no_members}
+use Rattle.std.specs.Prelude.{ℕ, List, [], ◌∷◌, Option, Some, None, map, codes}
+use Rattle.serde_json.specs.Data.{Data, Members, null, string, array, object, member, no_members}
 use Rattle.serde_json.specs.View.{items_of}
 use Rattle.tsn_bridge.specs.declared.sessions.GivenSession.{GivenSession}
 use Rattle.tsn_edit.specs.Changes.{keys_of}
@@ -21,9 +21,17 @@ use Rattle.tsn_records.specs.Shown.{whole_data, record_data}
 abbrev pub shown_data : Key → Record → Data
 shown_data k r = object (member (codes "key") (string (key_text k)) (member (codes "record") (record_data r) no_members))
 
--- `{"session":N,"standing":C}`, a session that was given out, and how many of its entries stand
+-- a name, or null
+abbrev pub name_data : Option (List ℕ) → Data
+name_data None = null
+name_data (Some name) = string name
+
+-- `{"name":TEXT,"session":N,"standing":C}`, a session that was given out: its name or null, and how many of its entries stand
 abbrev pub session_data : GivenSession → Data
-session_data given = object (member (codes "session") (whole_data given.session) (member (codes "standing") (whole_data given.standing) no_members))
+session_data given =
+    object (member (codes "name") (name_data given.name)
+    (member (codes "session") (whole_data given.session)
+    (member (codes "standing") (whole_data given.standing) no_members)))
 
 -- `{"sessions":[..]}`
 abbrev pub sessions_data : List GivenSession → Data

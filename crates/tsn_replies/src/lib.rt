@@ -8,6 +8,7 @@ mod digits;
 pub mod laws;
 mod reply;
 mod running;
+mod session_names;
 mod sessions;
 mod setup;
 mod shown;
@@ -15,6 +16,8 @@ mod text;
 mod told;
 
 pub use reply::{write_kept, write_lent, write_refusal, write_reply};
+pub use session_names::{LONGEST_NAME_TEXT, push_session_name};
+pub use setup::LONGEST_ESCAPE;
 pub use shown::{
     LONGEST_ITEM, LONGEST_KEY, ShownItem, push_filter, push_flag, push_gate_front, push_meter,
     push_number, push_port_front, write_ids,

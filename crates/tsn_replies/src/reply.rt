@@ -210,7 +210,7 @@ pub fn write_reply<W: ByteOut>(writer: &mut W, reply: &Reply) -> Result<(), Faul
     // One text for all: each local text would be cleared at entry.
     let mut text = ShortText::new();
     match reply {
-        Reply::Session { session } => {
+        Reply::Session { session } | Reply::Known { session } => {
             push_session(&mut text, *session);
             put_text(writer, &text)
         }

@@ -6,6 +6,7 @@ ghost use Rattle.tsn_bytes.specs.Bytes.{IsCut};
 ghost use Rattle.tsn_bytes.specs.declared.bytes.Fault.TheVariants.{Write};
 ghost use Rattle.tsn_replies.specs.Told.{session_data, sessions_data};
 
+use crate::session_names::push_name_or_null;
 use crate::shown::{LONGEST_ITEM, ShownItem, push_number, write_listed};
 use crate::text::{CAPACITY, ShortText};
 use tsn_bridge::sessions::GivenSession;
@@ -16,7 +17,9 @@ fn push_given(text: &mut ShortText, given: &GivenSession)
     ensures text { text.new ≡ text.old ++ compact_text (session_data given.now) }
     ensures len { length text.new ≤ length text.old + LONGEST_ITEM }
 {
-    push_number(text, "{\"session\":", u64::from(given.session));
+    text.push("{\"name\":");
+    push_name_or_null(text, &given.name);
+    push_number(text, ",\"session\":", u64::from(given.session));
     push_number(text, ",\"standing\":", given.standing);
     text.push("}");
 }

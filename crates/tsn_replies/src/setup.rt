@@ -28,7 +28,7 @@ fn hex_digit(digit: u8) -> u8
 
 // Puts what stands for the byte within a text at the end.
 #[tactic(auto, unfolding(json::specs::Print::escape_byte))]
-fn push_escaped(text: &mut ShortText, byte: u8)
+pub(crate) fn push_escaped(text: &mut ShortText, byte: u8)
     requires { length text.old + LONGEST_ESCAPE ≤ CAPACITY }
     ensures text { text.new ≡ text.old ++ escape_byte byte }
     ensures len { length text.new ≤ length text.old + LONGEST_ESCAPE }

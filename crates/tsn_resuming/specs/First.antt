@@ -1,5 +1,5 @@
--- The first command of a journal file: `{"journal":1,"setup":TEXT}`.
-use Rattle.std.specs.Prelude.{◌≡◌, ◌⊎◌, ℕ, ◌==◌, List, codes, if◌then◌else◌, Option, Some, None, Result, Ok, Err}
+-- The first command of a journal file: `{"journal":2,"setup":TEXT}`.
+use Rattle.std.specs.Prelude.{◌≡◌, ◌⊎◌, ℕ, Bool, ◌&&◌, nat_le, List, codes, if◌then◌else◌, Option, Some, None, Result, Ok, Err}
 use Rattle.std.specs.Str.{is_utf8}
 use Rattle.serde_json.specs.Data.{Data, string, object, member, no_members}
 use Rattle.serde_json.specs.Written.{compact_text}
@@ -13,9 +13,13 @@ use Rattle.tsn_wire.specs.Reading.{data_of}
 use Rattle.tsn_resuming.specs.declared.first.NoSetup.{NoSetup}
 use Rattle.tsn_resuming.specs.declared.first.NoSetup.TheVariants.{NoJournal, OtherVersion, Memory}
 
--- the version of a journal file
+-- the version of a journal file that is written
 abbrev pub version : ℕ
-version = 1
+version = 2
+
+-- a file of this version or of 1 is read, whose hellos said no names
+abbrev pub is_read : ℕ → Bool
+is_read n = nat_le 1 n && nat_le n version
 
 -- the first command as a value
 abbrev pub first_data : List ℕ → Data
@@ -34,11 +38,11 @@ abbrev pub or_no_journal : {A : Type 0} → Result A Unread → Result A NoSetup
 or_no_journal (Ok x) = Ok x
 or_no_journal (Err e) = Err NoJournal
 
--- a value whose `journal` is this version has `setup`, a text, and no other member
+-- a value whose `journal` is such a version has `setup`, a text, and no other member
 abbrev pub setup_of_version : Result ℕ NoSetup → Data → Result (List ℕ) NoSetup
 setup_of_version (Err why) d = Err why
 setup_of_version (Ok n) d =
-    if n == version
+    if is_read n
     then or_no_journal (has_members 2 d >>= λ _. text_at (codes "setup") d)
     else Err OtherVersion
 

@@ -1,4 +1,4 @@
-//! The first command of a journal file: `{"journal":1,"setup":TEXT}`, with the whole text of the setup, which is empty
+//! The first command of a journal file: `{"journal":2,"setup":TEXT}`, with the whole text of the setup, which is empty
 //! for the standard one. So the file is enough to begin from.
 ghost use Rattle.std.specs.Prelude.{◌≡◌, IfOk, Ok, string_bytes};
 ghost use Rattle.serde_json.specs.View.{view};
@@ -11,8 +11,11 @@ use std::alloc::{AllocError, Global};
 use tsn_records::members::{has_members, number_at, text_at};
 use tsn_types::refusals::Refusal;
 
-/// The version of a journal file that is written and read.
-const VERSION: u64 = 1;
+/// The version of a journal file that is written.
+const VERSION: u64 = 2;
+
+/// The earliest version that is read. Its hellos said no names.
+const FIRST_VERSION: u64 = 1;
 
 /// Why a command has no setup.
 #[derive(Clone, Copy, Debug, PartialEq, Eq)]
@@ -29,7 +32,7 @@ pub enum NoSetup {
 fn first_value(alloc: Global, setup: &str) -> Result<Value, AllocError>
     ensures { IfOk result (λ value. view value ≡ first_data setup.now) }
 {
-    json!(in alloc; {"journal": 1u64, "setup": setup})
+    json!(in alloc; {"journal": 2u64, "setup": setup})
 }
 
 // The first command's text.
@@ -59,7 +62,7 @@ fn setup_of_value(value: &Value) -> Result<&str, NoSetup>
     let Ok(version) = number_at("journal", value) else {
         return Err(NoSetup::NoJournal);
     };
-    if version != VERSION {
+    if version < FIRST_VERSION || VERSION < version {
         return Err(NoSetup::OtherVersion);
     }
     let Ok(()) = has_members(2, value) else {

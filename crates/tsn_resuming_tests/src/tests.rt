@@ -122,7 +122,7 @@ fn faults_are_told(rt: HostRuntime) -> Result<(), Fail> {
         &fault(alloc, text_of(alloc, HELLO, &COMMANDS)?, None),
         &Some(StartFault::NoJournal),
     );
-    let other = b"{\"journal\":2,\"names\":true}";
+    let other = b"{\"journal\":3,\"names\":true}";
     same(
         &rt,
         &fault(alloc, text_of(alloc, other, &[])?, None),
@@ -185,7 +185,7 @@ fn failed_read_is_told(rt: HostRuntime) -> Result<(), Fail> {
 fn first_commands(rt: HostRuntime) -> Result<(), Fail> {
     let alloc = rt.alloc();
     let first = first_command(alloc, CONTROLLED)?;
-    let text = b"{\"journal\":1,\"setup\":\"ports = 3\\n# \\\"\\\\\\t\\u0001\\n\"}";
+    let text = b"{\"journal\":2,\"setup\":\"ports = 3\\n# \\\"\\\\\\t\\u0001\\n\"}";
     same(&rt, &first.as_slice(), &text.as_slice());
     same(
         &rt,
@@ -200,6 +200,7 @@ fn first_commands(rt: HostRuntime) -> Result<(), Fail> {
         &0,
     );
     for text in [
+        "{\"journal\":2}",
         "{\"journal\":1}",
         "{\"journal\":1,\"setup\":\"\",\"x\":0}",
         "{\"journal\":\"1\",\"setup\":\"\"}",

@@ -44,7 +44,7 @@ caller_of desk seat latest = record {
 
 -- a hello or a resume: a connection acts as the session of its latest one alone
 abbrev pub TakesUp : Command → Type 0
-TakesUp commands.Hello = ⊤
+TakesUp (commands.Hello name) = ⊤
 TakesUp commands.Resume = ⊤
 TakesUp command = ⊥
 
@@ -55,6 +55,7 @@ MayAsk latest ask = TakesUp ask.command ⊎ (latest ≡ Some ask.session)
 -- the session of the latest hello or resume: a reply that gives a session is the reply to one
 abbrev pub latest_after : Option ℕ → Reply → Option ℕ
 latest_after latest (replies.Session n) = Some n
+latest_after latest (replies.Known n) = Some n
 latest_after latest _ = latest
 
 -- The seat makes one call. The history then seen is legal, begins with what was seen and ends with that call; of the

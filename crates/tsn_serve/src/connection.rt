@@ -29,7 +29,7 @@ fn latest_after(latest: Option<u32>, reply: &Reply) -> Option<u32>
     ensures { result ≡ latest_after latest reply.now }
 {
     match reply {
-        Reply::Session { session } => Some(*session),
+        Reply::Session { session } | Reply::Known { session } => Some(*session),
         _ => latest,
     }
 }
@@ -38,7 +38,7 @@ fn latest_after(latest: Option<u32>, reply: &Reply) -> Option<u32>
 fn takes_up(command: &Command) -> bool
     ensures { IsTrue result ↔ TakesUp command.now }
 {
-    matches!(command, Command::Hello | Command::Resume)
+    matches!(command, Command::Hello { .. } | Command::Resume)
 }
 
 /// One end of a connection, which answers lines by turns of its seat, each attended by the witness. A contract sees what a caller

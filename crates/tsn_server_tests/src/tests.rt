@@ -18,7 +18,7 @@ use tsn_bytes::{Fault, MemOut};
 use tsn_serve::{Free, Gated};
 use tsn_server::{ServerFault, SocketSource, serve_bridge};
 use tsn_setup::setup_of;
-use tsn_sockets::{Listener, Log, Place, listen_on};
+use tsn_sockets::{Listener, Log, Place, Told, listen_on};
 use tsn_types::numbers::Instant;
 
 /// Port 1 has traffic class 0 alone for 300 ns, and class 7 alone for 700 ns.
@@ -33,7 +33,7 @@ struct Unheard;
 impl Log for Unheard {
     fn begins(&self, _number: u32, _peer: Option<SocketAddr>) {}
 
-    fn ends(&self, _number: u32, _lines: u64) {}
+    fn ends(&self, _number: u32, _told: Told) {}
 }
 
 /// A new bridge with that setup.

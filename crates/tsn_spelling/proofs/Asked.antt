@@ -1,6 +1,6 @@
 -- The value of what may be asked: its numbers fit 64 bits, and its texts are plain ASCII.
 use Rattle.std.proofs.Common.{◌≡◌, ℕ, suc, ◌^◌, ◌<◌, List, [], ◌∷◌, map, Option, Some, None, true, refl, arith}
-use Rattle.std.specs.Prelude.{IfSome}
+use Rattle.std.specs.Prelude.{IfSome, ⊤}
 use Rattle.std.specs.List.{AllByRecursion}
 use Rattle.serde_json.specs.Data.{Data}
 use Rattle.serde_json.specs.View.{items_of}
@@ -131,7 +131,8 @@ edit_plain (edits.Remove k) h = (refl, (tt, (tt, tt)))
 
 -- the value of a command
 pub value_plain : (s : ℕ) (c : Command) → MayBeAsked s c → IsPlain 6 (value_of s c)
-value_plain s commands.Hello h = (refl, (tt, tt))
+value_plain s (commands.Hello None) h = (refl, (tt, tt))
+value_plain s (commands.Hello (Some name)) h = (refl, (tt, (tt, tt)))
 value_plain s (commands.Create k r) h = (refl, (tt, (tt, (record_plain 2 r (keyed k r h.1), (omega (arith, h.0.1), tt)))))
 value_plain s (commands.Replace k r) h = (refl, (tt, (tt, (record_plain 2 r (keyed k r h.1), (omega (arith, h.0.1), tt)))))
 value_plain s (commands.Remove k) h = (refl, (tt, (tt, (omega (arith, h.0.1), tt))))
@@ -194,25 +195,36 @@ edit_shown (edits.Create k r) = (refl, refl, (refl, key_shown k, (refl, record_s
 edit_shown (edits.Replace k r) = (refl, refl, (refl, key_shown k, (refl, record_shown r, tt)))
 edit_shown (edits.Remove k) = (refl, refl, (refl, key_shown k, tt))
 
-pub value_shown : (s : ℕ) (c : Command) → IsShown (value_of s c)
-value_shown s commands.Hello = (refl, refl, tt)
-value_shown s (commands.Create k r) = (refl, refl, (refl, key_shown k, (refl, record_shown r, (refl, tt, tt))))
-value_shown s (commands.Replace k r) = (refl, refl, (refl, key_shown k, (refl, record_shown r, (refl, tt, tt))))
-value_shown s (commands.Remove k) = (refl, refl, (refl, key_shown k, (refl, tt, tt)))
-value_shown s (commands.Batch b) = (refl, refl, (refl, items_shown edit_value edit_shown b, (refl, tt, tt)))
-value_shown s commands.Undo = (refl, refl, (refl, tt, tt))
-value_shown s commands.UndoAll = (refl, refl, (refl, tt, tt))
-value_shown s commands.Redo = (refl, refl, (refl, tt, tt))
-value_shown s (commands.Settle upto) = (refl, refl, (refl, tt, (refl, tt, tt)))
-value_shown s (commands.Enable k now) = (refl, refl, (refl, key_shown k, (refl, tt, (refl, tt, tt))))
-value_shown s (commands.Disable k now) = (refl, refl, (refl, key_shown k, (refl, tt, (refl, tt, tt))))
-value_shown s (commands.Apply k now) = (refl, refl, (refl, key_shown k, (refl, tt, (refl, tt, tt))))
-value_shown s (commands.Frame f now) = (refl, refl, (refl, tt, (refl, tt, (refl, tt, (refl, tt, (refl, tt, (refl, tt, tt)))))))
-value_shown s (commands.States k at) = (refl, tt, (refl, refl, (refl, key_shown k, (refl, tt, tt))))
-value_shown s (commands.Counters k) = (refl, refl, (refl, key_shown k, (refl, tt, tt)))
-value_shown s (commands.Show k) = (refl, refl, (refl, key_shown k, (refl, tt, tt)))
-value_shown s (commands.List k) = (refl, refl, (refl, kind_shown k, (refl, tt, tt)))
-value_shown s (commands.Since after) = (refl, tt, (refl, refl, (refl, tt, tt)))
-value_shown s commands.Resume = (refl, refl, (refl, tt, tt))
-value_shown s commands.Sessions = (refl, refl, (refl, tt, tt))
-value_shown s commands.Setup = (refl, refl, (refl, tt, tt))
+-- no hello by a name, whose text need not be plain
+abbrev pub IsUnnamed : Command → Type 0
+IsUnnamed (commands.Hello (Some name)) = ⊥
+IsUnnamed c = ⊤
+
+pub value_shown : (s : ℕ) (c : Command) → IsUnnamed c → IsShown (value_of s c)
+value_shown s (commands.Hello None) h = (refl, refl, tt)
+value_shown s (commands.Hello (Some name)) h = absurd h
+value_shown s (commands.Create k r) h = (refl, refl, (refl, key_shown k, (refl, record_shown r, (refl, tt, tt))))
+value_shown s (commands.Replace k r) h = (refl, refl, (refl, key_shown k, (refl, record_shown r, (refl, tt, tt))))
+value_shown s (commands.Remove k) h = (refl, refl, (refl, key_shown k, (refl, tt, tt)))
+value_shown s (commands.Batch b) h = (refl, refl, (refl, items_shown edit_value edit_shown b, (refl, tt, tt)))
+value_shown s commands.Undo h = (refl, refl, (refl, tt, tt))
+value_shown s commands.UndoAll h = (refl, refl, (refl, tt, tt))
+value_shown s commands.Redo h = (refl, refl, (refl, tt, tt))
+value_shown s (commands.Settle upto) h = (refl, refl, (refl, tt, (refl, tt, tt)))
+value_shown s (commands.Enable k now) h = (refl, refl, (refl, key_shown k, (refl, tt, (refl, tt, tt))))
+value_shown s (commands.Disable k now) h = (refl, refl, (refl, key_shown k, (refl, tt, (refl, tt, tt))))
+value_shown s (commands.Apply k now) h = (refl, refl, (refl, key_shown k, (refl, tt, (refl, tt, tt))))
+value_shown s (commands.Frame f now) h = (refl, refl, (refl, tt, (refl, tt, (refl, tt, (refl, tt, (refl, tt, (refl, tt, tt)))))))
+value_shown s (commands.States k at) h = (refl, tt, (refl, refl, (refl, key_shown k, (refl, tt, tt))))
+value_shown s (commands.Counters k) h = (refl, refl, (refl, key_shown k, (refl, tt, tt)))
+value_shown s (commands.Show k) h = (refl, refl, (refl, key_shown k, (refl, tt, tt)))
+value_shown s (commands.List k) h = (refl, refl, (refl, kind_shown k, (refl, tt, tt)))
+value_shown s (commands.Since after) h = (refl, tt, (refl, refl, (refl, tt, tt)))
+value_shown s commands.Resume h = (refl, refl, (refl, tt, tt))
+value_shown s commands.Sessions h = (refl, refl, (refl, tt, tt))
+value_shown s commands.Setup h = (refl, refl, (refl, tt, tt))
+
+-- what holds of hellos by a name and of all others holds of each
+pub by_name : (P : Command → Type 0) → ((name : List ℕ) → P (commands.Hello (Some name))) → ((c : Command) → IsUnnamed c → P c) → (c : Command) → P c
+by_name P named other (commands.Hello (Some name)) = named name
+by_name P named other c = other c tt

@@ -1,6 +1,7 @@
 pub mod Asked
 pub mod Backs
 pub mod Changes
+pub mod Feeds
 pub mod Growing
 pub mod Holding
 pub mod Records

@@ -1,10 +1,9 @@
 -- The text of each value, piece by piece.
-use Rattle.std.proofs.Common.{◌≡◌, ℕ, ◌++◌, List, [], codes, decimal, map, false, refl, ◌∙◌, append_assoc}
+use Rattle.std.proofs.Common.{◌≡◌, ℕ, ◌++◌, List, [], Some, None, codes, decimal, map, false, refl, sym, ◌∙◌, append_assoc}
 use Rattle.json.specs.Print.{escape_byte, quoted}
 use Rattle.serde_json.specs.Data.{Data, boolean}
 use Rattle.serde_json.specs.View.{items_of}
 use Rattle.serde_json.specs.Written.{compact_text, items_text}
-use Rattle.tsn_bridge.specs.declared.command.Command.TheVariants.{Hello}
 use Rattle.tsn_chain.specs.declared.frame.Frame.{Frame}
 use Rattle.tsn_edit.specs.declared.Edit.{Edit}
 use Rattle.tsn_records.specs.Keys.{key_text, kind_text}
@@ -12,7 +11,7 @@ use Rattle.tsn_types.specs.declared.keys.Key.{Key}
 use Rattle.tsn_types.specs.declared.keys.Kind.{Kind}
 use Rattle.tsn_types.specs.declared.keys.Kind.TheVariants as kinds
 use Rattle.tsn_spelling.specs.Growing.{edit_front, list_front, session_end}
-use Rattle.tsn_wire.specs.Values.{bare_data, keyed_data, edit_data, put_data, removal_data, act_data, states_data, batch_data, edit_value, frame_data, settle_data, asked_data, listed_data, value_of}
+use Rattle.tsn_wire.specs.Values.{bare_data, keyed_data, edit_data, put_data, removal_data, act_data, states_data, batch_data, edit_value, frame_data, hello_data, settle_data, asked_data, listed_data}
 
 -- ---- so many pieces, the first behind an empty text
 
@@ -79,9 +78,18 @@ unfolding escape_byte
 states_line s key at t0 t1 t2 t3 e0 e1 e2 e3 =
     three (codes "{\"at\":") (decimal at) (codes ",\"do\":\"states\",\"key\":") (quoted key) (session_end (decimal s)) t0 t1 t2 t3 e0 e1 e2 e3
 
-pub hello_line : (t0 t1 : List ℕ) → t0 ≡ [] → t1 ≡ t0 ++ codes "{\"do\":\"hello\"}" → t1 ≡ compact_text (value_of 0 Hello)
+pub hello_line : (t0 t1 : List ℕ) → t0 ≡ [] → t1 ≡ t0 ++ codes "{\"do\":\"hello\"}" → t1 ≡ compact_text (hello_data None)
 unfolding escape_byte
 hello_line t0 t1 e0 e1 = rw (e1, e0) refl
+
+-- the line of a hello by a name, in three pieces
+pub named_text : (name : List ℕ) → compact_text (hello_data (Some name)) ≡ codes "{\"do\":\"hello\",\"name\":" ++ (quoted name ++ codes "}")
+unfolding escape_byte
+named_text name = refl
+
+pub named_line : (name t0 t1 t2 t3 : List ℕ) → t0 ≡ [] → t1 ≡ t0 ++ codes "{\"do\":\"hello\",\"name\":" → t2 ≡ t1 ++ quoted name → t3 ≡ t2 ++ codes "}"
+    → t3 ≡ compact_text (hello_data (Some name))
+named_line name t0 t1 t2 t3 e0 e1 e2 e3 = rw (e3, e2, e1, e0) (append_assoc (codes "{\"do\":\"hello\",\"name\":") (quoted name) (codes "}")) ∙ sym (named_text name)
 
 pub frame_line : (s : ℕ) (f : Frame) (now : ℕ) (t0 t1 t2 t3 t4 t5 t6 t7 : List ℕ)
     → t0 ≡ []

@@ -1,9 +1,10 @@
 -- The compact text of a value is no longer than any text that reads as it.
 use Rattle.std.proofs.Common.{◌≡◌, ℕ, ◌+◌, ◌≤◌, Bool, true, false, cond, ◌&&◌, List, [], ◌∷◌, ◌++◌, length, Option, Some, None, option_map, option_and_then, Ordering, Less, Equal, Greater, refl, ap, ◌∙◌, subst, arith, append_assoc, length-append}
+use Rattle.std.specs.Prelude.{⊤}
 use Rattle.std.specs.Ordering.{match_ordering, nat_cmp}
 use Rattle.std.specs.Cmp.Lexicographic.{slice_cmp}
 use Rattle.json.specs.Token.{Token, begin_object, end_object, begin_array, end_array, key, string, number, boolean, null, bad}
-use Rattle.json.specs.Print.{ends, quoted}
+use Rattle.json.specs.Print.{ends, escape, quoted}
 use Rattle.json.specs.Lex.{Lexeme, token, comma, colon, begins_colon, Place, fresh, after_value, after_comma, after_key, may_begin, may_close, if_allowed, place_token, punctuate, tokens, lex, between}
 use Rattle.json.specs.Json as json
 use Rattle.json.specs.Tree.{json_tokens, items_tokens, members_tokens}
@@ -12,7 +13,7 @@ use Rattle.serde_json.specs.Data as values
 use Rattle.serde_json.specs.Data.{Num, unsigned, negative, float, Data, Items, no_items, item, Members, no_members, member, put}
 use Rattle.serde_json.specs.Read.{number_of, of_json, of_items, of_members, max_depth, read}
 use Rattle.serde_json.specs.Written.{compact_text, items_text, members_text, comma_if}
-use Rattle.tsn_spelling.proofs.Visible.{are_plain, escape_plain, IsWhole, IsShown, ItemsAreShown, MembersAreShown}
+use Rattle.tsn_spelling.proofs.Visible.{IsWhole, IsShown, ItemsAreShown, MembersAreShown}
 use Rattle.tsn_spelling.proofs.Weighing.{whole_weight, token_weight, weight, between_fits}
 
 -- ---- tokens take no more than their lexemes
@@ -116,7 +117,7 @@ abbrev mutual
   json_weight json.null = 4
   json_weight (json.boolean b) = token_weight (boolean b)
   json_weight (json.number s) = whole_weight (number_of s)
-  json_weight (json.string s) = length s + 2
+  json_weight (json.string s) = length (escape s) + 2
   json_weight (json.array js) = 1 + items_weight false js
   json_weight (json.object ms) = 1 + members_weight false ms
 
@@ -126,7 +127,7 @@ abbrev mutual
 
   members_weight : Bool → json.Members → ℕ
   members_weight later json.no_members = 1
-  members_weight later (json.member k j ms) = one_if later + (length k + 3) + json_weight j + members_weight true ms
+  members_weight later (json.member k j ms) = one_if later + (length (escape k) + 3) + json_weight j + members_weight true ms
 
 mutual
   json_cost : (after : Bool) (j : json.Json) (ts : List Token) → cost after (json_tokens j ++ ts) ≡ one_if after + json_weight j + cost true ts
@@ -154,7 +155,7 @@ abbrev mutual
   data_weight values.null = 4
   data_weight (values.boolean b) = token_weight (boolean b)
   data_weight (values.number x) = whole_weight (Some x)
-  data_weight (values.string s) = length s + 2
+  data_weight (values.string s) = length (escape s) + 2
   data_weight (values.array ds) = 1 + list_weight false ds
   data_weight (values.object ms) = 1 + object_weight false ms
 
@@ -164,24 +165,24 @@ abbrev mutual
 
   object_weight : Bool → Members → ℕ
   object_weight later no_members = 1
-  object_weight later (member k d ms) = one_if later + (length k + 3) + data_weight d + object_weight true ms
+  object_weight later (member k d ms) = one_if later + (length (escape k) + 3) + data_weight d + object_weight true ms
 
 -- each member with a comma
 abbrev total : Members → ℕ
 total no_members = 0
-total (member k d ms) = length k + 4 + data_weight d + total ms
+total (member k d ms) = length (escape k) + 4 + data_weight d + total ms
 
 abbrev json_total : json.Members → ℕ
 json_total json.no_members = 0
-json_total (json.member k j ms) = length k + 4 + json_weight j + json_total ms
+json_total (json.member k j ms) = length (escape k) + 4 + json_weight j + json_total ms
 
-put_step : (o : Ordering) (k l : List ℕ) (d e : Data) (ms more : Members) → total more ≤ total ms + (length k + 4 + data_weight d)
-    → total (match_ordering o (member k d (member l e ms)) (member l d ms) (member l e more)) ≤ total (member l e ms) + (length k + 4 + data_weight d)
+put_step : (o : Ordering) (k l : List ℕ) (d e : Data) (ms more : Members) → total more ≤ total ms + (length (escape k) + 4 + data_weight d)
+    → total (match_ordering o (member k d (member l e ms)) (member l d ms) (member l e more)) ≤ total (member l e ms) + (length (escape k) + 4 + data_weight d)
 put_step Less k l d e ms more h = omega arith
 put_step Equal k l d e ms more h = omega arith
 put_step Greater k l d e ms more h = omega arith
 
-put_total : (k : List ℕ) (d : Data) (ms : Members) → total (put k d ms) ≤ total ms + (length k + 4 + data_weight d)
+put_total : (k : List ℕ) (d : Data) (ms : Members) → total (put k d ms) ≤ total ms + (length (escape k) + 4 + data_weight d)
 put_total k d no_members = omega arith
 put_total k d (member l e ms) = put_step (slice_cmp nat_cmp k l) k l d e ms (put k d ms) (put_total k d ms)
 
@@ -243,12 +244,12 @@ mutual
   of_members_weight json.no_members found n h = omega arith
   of_members_weight (json.member k j ms) found n h =
       and_then data_weight total (json_weight j) _ _
-      (λ d x. fewer total (n + (length k + 4 + json_weight j) + json_total ms) _ _ (of_members_weight ms (put k d found) (n + (length k + 4 + json_weight j)) (omega (arith, put_total k d found))) (omega arith)) _ (of_json_weight j)
+      (λ d x. fewer total (n + (length (escape k) + 4 + json_weight j) + json_total ms) _ _ (of_members_weight ms (put k d found) (n + (length (escape k) + 4 + json_weight j)) (omega (arith, put_total k d found))) (omega arith)) _ (of_json_weight j)
 
 -- ---- its text takes just that
 
-quoted_long : (s : List ℕ) → are_plain s ≡ true → length (quoted s) ≡ length s + 2
-quoted_long s h = ap (λ l. length (34 ∷ (l ++ 34 ∷ []))) (escape_plain s h) ∙ omega (arith, length-append s (34 ∷ []))
+quoted_long : (s : List ℕ) → length (quoted s) ≡ length (escape s) + 2
+quoted_long s = omega (arith, length-append (escape s) (34 ∷ []))
 
 boolean_long : (b : Bool) → length (compact_text (values.boolean b)) ≡ token_weight (boolean b)
 boolean_long true = refl
@@ -263,21 +264,56 @@ comma_long : (b : Bool) → length (comma_if b) ≡ one_if b
 comma_long true = refl
 comma_long false = refl
 
+-- its numbers are whole
+abbrev mutual
+  pub AreWhole : Data → Type 0
+  AreWhole values.null = ⊤
+  AreWhole (values.boolean b) = ⊤
+  AreWhole (values.number x) = IsWhole x
+  AreWhole (values.string s) = ⊤
+  AreWhole (values.array ds) = ItemsAreWhole ds
+  AreWhole (values.object ms) = MembersAreWhole ms
+
+  ItemsAreWhole : Items → Type 0
+  ItemsAreWhole no_items = ⊤
+  ItemsAreWhole (item d ds) = AreWhole d × ItemsAreWhole ds
+
+  MembersAreWhole : Members → Type 0
+  MembersAreWhole no_members = ⊤
+  MembersAreWhole (member k d ms) = AreWhole d × MembersAreWhole ms
+
 mutual
-  text_long : (d : Data) → IsShown d → length (compact_text d) ≡ data_weight d
+  pub shown_whole : (d : Data) → IsShown d → AreWhole d
+  shown_whole values.null h = tt
+  shown_whole (values.boolean b) h = tt
+  shown_whole (values.number x) h = h
+  shown_whole (values.string s) h = tt
+  shown_whole (values.array ds) h = shown_items ds h
+  shown_whole (values.object ms) h = shown_members ms h
+
+  shown_items : (ds : Items) → ItemsAreShown ds → ItemsAreWhole ds
+  shown_items no_items h = tt
+  shown_items (item d ds) h = (shown_whole d h.0, shown_items ds h.1)
+
+  shown_members : (ms : Members) → MembersAreShown ms → MembersAreWhole ms
+  shown_members no_members h = tt
+  shown_members (member k d ms) h = (shown_whole d h.1, shown_members ms h.2)
+
+mutual
+  text_long : (d : Data) → AreWhole d → length (compact_text d) ≡ data_weight d
   text_long values.null h = refl
   text_long (values.boolean b) h = boolean_long b
   text_long (values.number x) h = number_long x h
-  text_long (values.string s) h = quoted_long s h
+  text_long (values.string s) h = quoted_long s
   text_long (values.array ds) h = omega (arith, items_long false ds h)
   text_long (values.object ms) h = omega (arith, members_long false ms h)
 
-  items_long : (later : Bool) (ds : Items) → ItemsAreShown ds → length (items_text later ds) ≡ list_weight later ds
+  items_long : (later : Bool) (ds : Items) → ItemsAreWhole ds → length (items_text later ds) ≡ list_weight later ds
   items_long later no_items h = refl
   items_long later (item d ds) h =
       omega (arith, length-append (comma_if later) (compact_text d ++ items_text true ds), length-append (compact_text d) (items_text true ds), comma_long later, text_long d h.0, items_long true ds h.1)
 
-  members_long : (later : Bool) (ms : Members) → MembersAreShown ms → length (members_text later ms) ≡ object_weight later ms
+  members_long : (later : Bool) (ms : Members) → MembersAreWhole ms → length (members_text later ms) ≡ object_weight later ms
   members_long later no_members h = refl
   members_long later (member k d ms) h =
       let rest = compact_text d ++ members_text true ms in
@@ -287,9 +323,9 @@ mutual
         length-append (quoted k) (58 ∷ rest),
         length-append (compact_text d) (members_text true ms),
         comma_long later,
-        quoted_long k h.0,
-        text_long d h.1,
-        members_long true ms h.2,
+        quoted_long k,
+        text_long d h.0,
+        members_long true ms h.1,
       )
 
 -- ---- the whole
@@ -302,7 +338,7 @@ tree_of None d e = absurd (cc)
 tree_of (Some (j, [])) d e = (j, refl, e)
 tree_of (Some (j, t ∷ r)) d e = absurd (cc)
 
-pub no_longer : (text : List ℕ) (d : Data) → read text ≡ Some d → IsShown d → length (compact_text d) ≤ length text
+pub no_longer : (text : List ℕ) (d : Data) → read text ≡ Some d → AreWhole d → length (compact_text d) ≤ length text
 no_longer text d e h =
     let tree = tree_of (json.value max_depth (tokens text)) d e in
     let spelled : tokens text ≡ json_tokens tree.0 ++ [] = value-json_tokens_back max_depth (tokens text) [] tree.0 tree.1 in

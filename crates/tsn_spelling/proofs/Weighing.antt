@@ -1,11 +1,14 @@
--- Each lexeme of a text stands for at most as many bytes as it takes: a string has no more bytes than its spelling between
--- the quotes, and a whole number no more digits than its numeral.
-use Rattle.std.proofs.Common.{◌≡◌, ℕ, zero, suc, ◌+◌, ◌-◌, ◌^◌, ◌<◌, ◌≤◌, Bool, true, false, not, cond, ◌&&◌, ◌==◌, nat_lt, nat_le, List, [], ◌∷◌, ◌++◌, length, take, drop, get_or, Option, Some, None, option_and_then, decimal, refl, sym, ap, ◌∙◌, subst, arith, append-nil, length-append, nat_eq, inl, inr}
+-- Each lexeme of a text stands for at most as many bytes as it takes: what stands for a string has no more bytes than its
+-- spelling between the quotes, and a whole number no more digits than its numeral.
+use Rattle.std.proofs.Common.{◌≡◌, ℕ, zero, suc, ◌+◌, ◌-◌, ◌/◌, ◌%◌, ◌^◌, ◌<◌, ◌≤◌, Bool, true, false, not, cond, ◌&&◌, ◌||◌, ◌==◌, nat_lt, nat_le, List, [], ◌∷◌, ◌++◌, length, take, drop, get_or, Option, Some, None, option_and_then, decimal, refl, sym, ap, ◌∙◌, subst, arith, append-nil, length-append, nat_eq, inl, inr}
 use Rattle.std.specs.Prelude.{⊤, pos, neg_ℤ}
 use Rattle.std.specs.List.{prefix_len, starts_with}
 use Rattle.std.specs.Char.{is_ascii_digit, is_digit, digit_value, encode_utf8}
 use Rattle.std.specs.Str.Parse.{AllDigits, digits_value}
-use Rattle.std.proofs.lemmas.Bool.{and_parts, eqb-true, ne_eqb, ltb-true, leb-true, false≢true, cases_Bool}
+use Rattle.std.proofs.lemmas.Bool.{and_parts, eqb-true, eqb-false, ne_eqb, ltb-false, ltb-true, leb-true, false≢true, cases_Bool}
+use Rattle.std.proofs.lemmas.Bool.Decides.{nat_tests}
+use Rattle.json.proofs.Printed.Strings.{escape_byte_plain}
+use Rattle.json.specs.Print.{escape, escape_byte}
 use Rattle.json.specs.Token.{Token, begin_object, end_object, begin_array, end_array, key, string, number, boolean, null, bad}
 use Rattle.json.specs.Text.{code_unit, short_escape, is_high_surrogate, is_low_surrogate, surrogate_pair, Within, plain, after_backslash, after_u, after_high, prepend, content}
 use Rattle.json.specs.Word.{is_operator, is_space, head, ends_word, word, literal, number_before, after_number}
@@ -18,6 +21,7 @@ use Rattle.std.proofs.lemmas.Fmt.{length-decimal-le}
 use Rattle.std.specs.Float.{binary64, float_is_finite}
 use Rattle.std.specs.Float.Numeral.{Parts, scan_numeral, numeral_digits, nearest_float}
 use Rattle.serde_json.specs.Read.{number_of, number_from, float_of, is_integer}
+use Rattle.tsn_replies.proofs.Escapes.{byte_short, byte_within, escape_joined}
 
 -- the digits of a whole number; nothing is said of others
 abbrev pub whole_weight : Option Num → ℕ
@@ -32,8 +36,8 @@ token_weight begin_object = 1
 token_weight end_object = 1
 token_weight begin_array = 1
 token_weight end_array = 1
-token_weight (key s) = length s + 3
-token_weight (string s) = length s + 2
+token_weight (key s) = length (escape s) + 3
+token_weight (string s) = length (escape s) + 2
 token_weight (number s) = whole_weight (number_of s)
 token_weight (boolean true) = 4
 token_weight (boolean false) = 5
@@ -117,7 +121,7 @@ digits_taken (suc k) (x ∷ xs) = taken_step (is_ascii_digit x) (prefix_len is_a
 -- with w for what comes behind, the string and its closing quote take at most n bytes
 abbrev Fits : ℕ → ℕ → Option (List ℕ) → Type 0
 Fits w n None = ⊤
-Fits w n (Some s) = w + (length s + 1) ≤ n
+Fits w n (Some s) = w + (length (escape s) + 1) ≤ n
 
 both : (w n : ℕ) (b : Bool) (x y : Option (List ℕ)) → (b ≡ true → Fits w n x) → (b ≡ false → Fits w n y) → Fits w n (cond b x y)
 both w n true x y f g = f refl
@@ -131,16 +135,55 @@ fewer : (w m n : ℕ) (r : Option (List ℕ)) → Fits w m r → m ≤ n → Fit
 fewer w m n None h le = tt
 fewer w m n (Some s) h le = omega arith
 
-longer : (w m n : ℕ) (a : List ℕ) (r : Option (List ℕ)) → Fits w m r → length a + m ≤ n → Fits w n (prepend a r)
+longer : (w m n : ℕ) (a : List ℕ) (r : Option (List ℕ)) → Fits w m r → length (escape a) + m ≤ n → Fits w n (prepend a r)
 longer w m n a None h le = tt
-longer w m n a (Some s) h le = omega (arith, length-append a s)
+longer w m n a (Some s) h le = omega (arith, ap length (escape_joined a s), length-append (escape a) (escape s))
 
 same_weight : (w v n : ℕ) (r : Option (List ℕ)) → w ≡ v → Fits v n r → Fits w n r
 same_weight w v n r e h = subst (λ k. Fits k n r) (sym e) h
 
-encoded : (u : ℕ) → length (encode_utf8 u) ≤ 4
+-- what stands for one byte, for a byte that stands for itself, and for each byte of a character
+one_escaped : (x : ℕ) → length (escape (x ∷ [])) ≡ length (escape_byte x)
+one_escaped x = ap length (append-nil (escape_byte x))
+
+itself_escaped : (x : ℕ) → (x == 34) ≡ false → (x == 92) ≡ false → nat_lt x 32 ≡ false → length (escape_byte x) ≡ 1
+itself_escaped x q b l = ap length (escape_byte_plain x (eqb-false x 34 q) (eqb-false x 92 b) (ltb-false x 32 l))
+
+high_escaped : (x : ℕ) → 128 ≤ x → escape_byte x ≡ x ∷ []
+high_escaped x h = escape_byte_plain x (λ e. omega (arith, h, e)) (λ e. omega (arith, h, e)) (omega (arith, h))
+
+by_length : (a b c : Bool) (u : ℕ)
+    → length (escape (cond a (u ∷ []) (cond b ((192 + u / 64) ∷ (128 + u % 64) ∷ [])
+    (cond c ((224 + u / 4096) ∷ (128 + u / 64 % 64) ∷ (128 + u % 64) ∷ []) ((240 + u / 262144) ∷ (128 + u / 4096 % 64) ∷ (128 + u / 64 % 64) ∷ (128 + u % 64) ∷ []))))) ≤ 6
+by_length true b c u = omega (arith, one_escaped u, byte_within u)
+by_length false true c u = rw (high_escaped (192 + u / 64) (omega arith), high_escaped (128 + u % 64) (omega arith)) (omega arith)
+by_length false false true u = rw (high_escaped (224 + u / 4096) (omega arith), high_escaped (128 + u / 64 % 64) (omega arith), high_escaped (128 + u % 64) (omega arith)) (omega arith)
+by_length false false false u =
+    rw (high_escaped (240 + u / 262144) (omega arith), high_escaped (128 + u / 4096 % 64) (omega arith), high_escaped (128 + u / 64 % 64) (omega arith), high_escaped (128 + u % 64) (omega arith)) (omega arith)
+
+encoded : (u : ℕ) → length (escape (encode_utf8 u)) ≤ 6
 unfolding encode_utf8
-encoded u = grind arith
+encoded u = by_length _ _ _ u
+
+-- what stands for the byte of a short escape has two bytes at most
+shown_alone : (x : ℕ) → ((x == 34) || (x == 92) || (x == 47)) ≡ true → nat_lt x 32 ≡ false
+shown_alone x h = grind (arith, nat_tests, h)
+
+by_letter : (a b f n r t : Bool) (x c : ℕ) → (a ≡ true → length (escape_byte x) ≤ 2)
+    → cond a (Some x) (cond b (Some 8) (cond f (Some 12) (cond n (Some 10) (cond r (Some 13) (cond t (Some 9) None))))) ≡ Some c → length (escape_byte c) ≤ 2
+unfolding escape_byte
+by_letter true b f n r t x c h is = let same : x ≡ c = (cc) in subst (λ y. length (escape_byte y) ≤ 2) same (h refl)
+by_letter false true f n r t x c h is = let same : 8 ≡ c = (cc) in subst (λ y. length (escape_byte y) ≤ 2) same (omega arith)
+by_letter false false true n r t x c h is = let same : 12 ≡ c = (cc) in subst (λ y. length (escape_byte y) ≤ 2) same (omega arith)
+by_letter false false false true r t x c h is = let same : 10 ≡ c = (cc) in subst (λ y. length (escape_byte y) ≤ 2) same (omega arith)
+by_letter false false false false true t x c h is = let same : 13 ≡ c = (cc) in subst (λ y. length (escape_byte y) ≤ 2) same (omega arith)
+by_letter false false false false false true x c h is = let same : 9 ≡ c = (cc) in subst (λ y. length (escape_byte y) ≤ 2) same (omega arith)
+by_letter false false false false false false x c h is = absurd (cc)
+
+short_escaped : (x c : ℕ) → short_escape x ≡ Some c → length (escape (c ∷ [])) ≤ 2
+unfolding short_escape
+short_escaped x c is =
+    omega (arith, one_escaped c, by_letter ((x == 34) || (x == 92) || (x == 47)) (x == 98) (x == 102) (x == 110) (x == 114) (x == 116) x c (λ h. byte_short x (shown_alone x h)) is)
 
 in_any_class : (o s : Bool) (x : ℕ) (xs : List ℕ) (k : Mode → List Lexeme) → lex_byte in_string (cond o operator (cond s space other)) x xs k ≡ k in_string
 in_any_class true s x xs k = refl
@@ -159,9 +202,9 @@ escape_begins : (x : ℕ) (xs : List ℕ) → (x == 92) ≡ true → lex in_stri
 unfolding lex
 escape_begins x xs b = ap (λ y. lex in_string (y ∷ xs)) (eqb-true x 92 b)
 
-escape_byte : (x : ℕ) (xs : List ℕ) → lex in_escape (x ∷ xs) ≡ lex in_string xs
+escaped_byte : (x : ℕ) (xs : List ℕ) → lex in_escape (x ∷ xs) ≡ lex in_string xs
 unfolding lex
-escape_byte x xs = refl
+escaped_byte x xs = refl
 
 some_test : (b : Bool) (x u : ℕ) → cond b (Some x) None ≡ Some u → b ≡ true
 some_test true x u e = refl
@@ -334,12 +377,19 @@ mode after_backslash = in_escape
 mode after_u = in_string
 mode (after_high h) = in_string
 
+-- how many bytes of a spelled character stand ahead
+abbrev ahead : Within → ℕ
+ahead plain = 0
+ahead after_backslash = 1
+ahead after_u = 2
+ahead (after_high h) = 6
+
 mutual
   unfolding lex content span
 
   pub between_fits : (xs : List ℕ) → weight (lex between xs) ≤ length xs
   between_fits [] = omega arith
-  between_fits (x ∷ xs) = byte_between (class x) x xs (content_fits plain xs) (string_fits xs) (word_fits xs) (between_fits xs) (word_weight (x ∷ xs))
+  between_fits (x ∷ xs) = byte_between (class x) x xs (content_fits plain xs (length xs) (omega arith)) (string_fits xs) (word_fits xs) (between_fits xs) (word_weight (x ∷ xs))
 
   word_fits : (xs : List ℕ) → weight (lex in_word xs) + span xs ≤ length xs
   word_fits [] = omega arith
@@ -353,36 +403,33 @@ mutual
   escape_fits [] = omega arith
   escape_fits (x ∷ xs) = omega (arith, string_fits xs)
 
-  content_fits : (w : Within) (xs : List ℕ) → Fits (weight (lex (mode w) xs)) (length xs) (content w xs)
-  content_fits plain [] = tt
-  content_fits plain (x ∷ xs) =
-      let n = length (x ∷ xs) in
-      both _ n (x == 34) _ _ (λ q. let e = string_ends x xs q in omega (arith, ap weight e, between_fits xs))
-      (λ q. both _ n (x == 92) _ _ (λ b. same_weight _ _ n _ (ap weight (escape_begins x xs b)) (fewer _ (length xs) n _ (content_fits after_backslash xs) (omega arith)))
-      (λ b. both _ n (nat_lt x 32) _ _ (λ l. tt) (λ l. same_weight _ _ n _ (ap weight (string_byte x xs q b)) (longer _ (length xs) n (x ∷ []) _ (content_fits plain xs) (omega arith)))))
-  content_fits after_backslash [] = tt
-  content_fits after_backslash (x ∷ xs) =
-      let n = length (x ∷ xs) in
-      both _ n (x == 117) _ _ (λ u. fewer _ (length xs) n _ (content_fits after_u xs) (omega arith))
-      (λ u. then _ n _ (short_escape x) (λ c f. longer _ (length xs) n (c ∷ []) _ (content_fits plain xs) (omega arith)))
-  content_fits after_u [] = tt
-  content_fits after_u (a ∷ []) = tt
-  content_fits after_u (a ∷ b ∷ []) = tt
-  content_fits after_u (a ∷ b ∷ c ∷ []) = tt
-  content_fits after_u (a ∷ b ∷ c ∷ d ∷ xs) =
-      let n = length (a ∷ b ∷ c ∷ d ∷ xs) in
+  content_fits : (w : Within) (xs : List ℕ) (n : ℕ) → n ≡ ahead w + length xs → Fits (weight (lex (mode w) xs)) n (content w xs)
+  content_fits plain [] n e = tt
+  content_fits plain (x ∷ xs) n e =
+      both _ n (x == 34) _ _ (λ q. let k = string_ends x xs q in omega (arith, ap weight k, between_fits xs, e))
+      (λ q. both _ n (x == 92) _ _ (λ b. same_weight _ _ n _ (ap weight (escape_begins x xs b)) (content_fits after_backslash xs n (omega (arith, e))))
+      (λ b. both _ n (nat_lt x 32) _ _ (λ l. tt)
+      (λ l. same_weight _ _ n _ (ap weight (string_byte x xs q b)) (longer _ (length xs) n (x ∷ []) _ (content_fits plain xs (length xs) (omega arith)) (omega (arith, e, one_escaped x, itself_escaped x q b l))))))
+  content_fits after_backslash [] n e = tt
+  content_fits after_backslash (x ∷ xs) n e =
+      both _ n (x == 117) _ _ (λ u. content_fits after_u xs n (omega (arith, e)))
+      (λ u. then _ n _ (short_escape x) (λ c f. longer _ (length xs) n (c ∷ []) _ (content_fits plain xs (length xs) (omega arith)) (omega (arith, e, short_escaped x c f))))
+  content_fits after_u [] n e = tt
+  content_fits after_u (a ∷ []) n e = tt
+  content_fits after_u (a ∷ b ∷ []) n e = tt
+  content_fits after_u (a ∷ b ∷ c ∷ []) n e = tt
+  content_fits after_u (a ∷ b ∷ c ∷ d ∷ xs) n e =
       then _ n _ (code_unit a b c d) (λ u f. same_weight _ _ n _ (ap weight (four_hex a b c d u xs f))
-      (both _ n (is_high_surrogate u) _ _ (λ h. fewer _ (length xs) n _ (content_fits (after_high u) xs) (omega arith))
-      (λ h. both _ n (is_low_surrogate u) _ _ (λ l. tt) (λ l. longer _ (length xs) n (encode_utf8 u) _ (content_fits plain xs) (omega (arith, encoded u))))))
-  content_fits (after_high h) [] = tt
-  content_fits (after_high h) (s ∷ []) = tt
-  content_fits (after_high h) (s ∷ u ∷ []) = tt
-  content_fits (after_high h) (s ∷ u ∷ a ∷ []) = tt
-  content_fits (after_high h) (s ∷ u ∷ a ∷ b ∷ []) = tt
-  content_fits (after_high h) (s ∷ u ∷ a ∷ b ∷ c ∷ []) = tt
-  content_fits (after_high h) (s ∷ u ∷ a ∷ b ∷ c ∷ d ∷ xs) =
-      let n = length (s ∷ u ∷ a ∷ b ∷ c ∷ d ∷ xs) in
+      (both _ n (is_high_surrogate u) _ _ (λ h. content_fits (after_high u) xs n (omega (arith, e)))
+      (λ h. both _ n (is_low_surrogate u) _ _ (λ l. tt) (λ l. longer _ (length xs) n (encode_utf8 u) _ (content_fits plain xs (length xs) (omega arith)) (omega (arith, e, encoded u))))))
+  content_fits (after_high h) [] n e = tt
+  content_fits (after_high h) (s ∷ []) n e = tt
+  content_fits (after_high h) (s ∷ u ∷ []) n e = tt
+  content_fits (after_high h) (s ∷ u ∷ a ∷ []) n e = tt
+  content_fits (after_high h) (s ∷ u ∷ a ∷ b ∷ []) n e = tt
+  content_fits (after_high h) (s ∷ u ∷ a ∷ b ∷ c ∷ []) n e = tt
+  content_fits (after_high h) (s ∷ u ∷ a ∷ b ∷ c ∷ d ∷ xs) n e =
       both _ n ((s == 92) && (u == 117)) _ _
-      (λ e. then _ n _ (code_unit a b c d) (λ l f. same_weight _ _ n _ (ap weight (escape_begins s (u ∷ a ∷ b ∷ c ∷ d ∷ xs) (and_parts (s == 92) _ e).0 ∙ escape_byte u (a ∷ b ∷ c ∷ d ∷ xs) ∙ four_hex a b c d l xs f))
-      (both _ n (is_low_surrogate l) _ _ (λ y. longer _ (length xs) n (encode_utf8 (surrogate_pair h l)) _ (content_fits plain xs) (omega (arith, encoded (surrogate_pair h l)))) (λ y. tt))))
-      (λ e. tt)
+      (λ p. then _ n _ (code_unit a b c d) (λ l f. same_weight _ _ n _ (ap weight (escape_begins s (u ∷ a ∷ b ∷ c ∷ d ∷ xs) (and_parts (s == 92) _ p).0 ∙ escaped_byte u (a ∷ b ∷ c ∷ d ∷ xs) ∙ four_hex a b c d l xs f))
+      (both _ n (is_low_surrogate l) _ _ (λ y. longer _ (length xs) n (encode_utf8 (surrogate_pair h l)) _ (content_fits plain xs (length xs) (omega arith)) (omega (arith, e, encoded (surrogate_pair h l)))) (λ y. tt))))
+      (λ p. tt)

@@ -1,8 +1,9 @@
 -- What holds of the line of an ask: it reads back, it has no line feed, and what was read may be asked.
-use Rattle.std.specs.Prelude.{◌≡◌, ◌≢◌, ℕ, ◌≤◌, List, All, Ok, length}
+use Rattle.std.specs.Prelude.{◌≡◌, ◌≢◌, ℕ, ◌≤◌, List, Option, All, Ok, length}
 use Rattle.tsn_bridge.specs.declared.command.Ask.{Ask}
 use Rattle.tsn_bridge.specs.declared.command.Command.{Command}
 use Rattle.tsn_bridge.specs.declared.command.Command.TheVariants.{Hello, Enable, Disable, Apply}
+use Rattle.tsn_bridge.specs.Histories.{CommandInRange}
 use Rattle.tsn_types.specs.declared.keys.Key.{Key}
 use Rattle.tsn_types.specs.Numbers.{IsInstant}
 use Rattle.tsn_wire.specs.Reading.{line_of}
@@ -29,9 +30,9 @@ IsAskedAgain = (line : List ℕ) (ask : Ask) → line_of line ≡ Ok ask → lin
 abbrev pub IsNoLonger : Type 0
 IsNoLonger = (line : List ℕ) (ask : Ask) → line_of line ≡ Ok ask → length (line_text ask) ≤ length line
 
--- A hello may be asked, of session 0.
+-- A hello may be asked, of session 0, by a name that may be one or by none.
 abbrev pub HelloMayBeAsked : Type 0
-HelloMayBeAsked = MayBeAsked 0 Hello
+HelloMayBeAsked = (name : Option (List ℕ)) → CommandInRange (Hello name) → MayBeAsked 0 (Hello name)
 
 -- An act that may be asked at one instant may be asked at each other one.
 abbrev pub ActsAtAnyInstant : (Key → ℕ → Command) → Type 0

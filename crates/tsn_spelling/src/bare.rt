@@ -2,25 +2,44 @@
 ghost use Rattle.std.specs.Prelude.{◌≡◌, ◌≤◌, ◌++◌, [], length, OnOk};
 ghost use Rattle.json.specs.Print.{escape};
 ghost use Rattle.serde_json.specs.Written.{compact_text};
-ghost use Rattle.tsn_bridge.specs.declared.command.Command.TheVariants.{Hello};
 ghost use Rattle.tsn_records.specs.Keys.{key_text, kind_text};
-ghost use Rattle.tsn_wire.specs.Values.{act_data, asked_data, bare_data, frame_data, keyed_data, listed_data, settle_data, states_data, value_of};
+ghost use Rattle.tsn_wire.specs.Values.{act_data, asked_data, bare_data, frame_data, hello_data, keyed_data, listed_data, settle_data, states_data};
 ghost use Rattle.tsn_spelling.specs.Growing.{Grows, list_front};
 
 use crate::line::{LONGEST_WORD, hand_on, push_session, push_word};
 use std::alloc::AllocError;
 use tsn_chain::frame::Frame;
-use tsn_replies::{ShortText, push_flag, push_key_text, push_number};
+use tsn_replies::{ShortText, push_flag, push_key_text, push_number, push_session_name};
 use tsn_types::keys::{Key, Kind};
+use tsn_types::names::SessionName;
 use tsn_types::numbers::Instant;
 
-/// The line of a hello.
-pub fn put_hello(line: &mut Vec<u8>, text: &mut ShortText) -> Result<(), AllocError>
+// Puts the line of a hello into an empty text.
+fn push_hello(text: &mut ShortText, name: &Option<SessionName>)
     requires { text.old ≡ [] }
-    ensures ok { OnOk result (line.new.items ≡ line.old.items ++ compact_text (value_of 0 Hello)) }
+    ensures { text.new ≡ compact_text (hello_data name.now) }
+{
+    match name {
+        Some(name) => {
+            text.push("{\"do\":\"hello\",\"name\":");
+            push_session_name(text, name);
+            text.push("}");
+        }
+        None => text.push("{\"do\":\"hello\"}"),
+    }
+}
+
+/// The line of a hello.
+pub fn put_hello(
+    line: &mut Vec<u8>,
+    text: &mut ShortText,
+    name: &Option<SessionName>,
+) -> Result<(), AllocError>
+    requires { text.old ≡ [] }
+    ensures ok { OnOk result (line.new.items ≡ line.old.items ++ compact_text (hello_data name.now)) }
     ensures front { Grows line.old.items line.new.items }
 {
-    text.push("{\"do\":\"hello\"}");
+    push_hello(text, name);
     hand_on(line, text)
 }
 

@@ -1,5 +1,5 @@
 //! What is proved of the line of an ask. Each function does nothing; its contract is what is proved.
-ghost use Rattle.std.specs.Prelude.{◌≡◌, ◌++◌, codes};
+ghost use Rattle.std.specs.Prelude.{◌≡◌, ◌++◌, Some, None, codes};
 ghost use Rattle.tsn_bridge.specs.declared.command.Command.TheVariants as commands;
 ghost use Rattle.tsn_types.specs.declared.keys.Key.TheVariants as keys;
 ghost use Rattle.tsn_types.specs.declared.keys.Kind.TheVariants as kinds;
@@ -31,7 +31,7 @@ pub fn no_longer()
     ensures { IsNoLonger }
 {}
 
-/// A hello may be asked, of session 0, and an act that may be asked at one instant at each other one.
+/// A hello may be asked, of session 0, by a name or none, and an act that may be asked at one instant at each other one.
 pub fn others_may_be_asked()
     ensures hello { HelloMayBeAsked }
     ensures acts { ActsMayBeAsked }
@@ -39,7 +39,8 @@ pub fn others_may_be_asked()
 
 /// Lines of worked examples.
 pub fn asks_are_spelled()
-    ensures hello { line_text (asked commands.Hello) ≡ codes "{\"do\":\"hello\"}" }
+    ensures hello { line_text (asked (commands.Hello None)) ≡ codes "{\"do\":\"hello\"}" }
+    ensures name { line_text (asked (commands.Hello (Some (codes "anna \"n\"")))) ≡ codes "{\"do\":\"hello\",\"name\":\"anna \\\"n\\\"\"}" }
     ensures create { line_text (asked (commands.Create (keys.Gate 0) (records.Gate a_gate)))
         ≡ create_line (codes "gate 0") gate_text }
     ensures replace { line_text (asked (commands.Replace (keys.Port 1) (records.Port a_port)))

@@ -20,7 +20,7 @@ fn put_line(ask: &Ask, line: &mut Vec<u8>, text: &mut ShortText) -> Result<(), A
 {
     let session = ask.session;
     match &ask.command {
-        Command::Hello => put_hello(line, text),
+        Command::Hello { name } => put_hello(line, text, name),
         Command::Create { key, value } => put_edit(line, text, "create", *key, value, session),
         Command::Replace { key, value } => put_edit(line, text, "replace", *key, value, session),
         Command::Remove { key } => put_keyed(line, text, "remove", *key, session),

@@ -76,6 +76,7 @@ name_of (refusals.Settled a) = codes "settled"
 abbrev pub field_name : Field → List ℕ
 field_name fields.S = codes "s"
 field_name fields.Session = codes "session"
+field_name fields.Name = codes "name"
 field_name fields.Key = codes "key"
 field_name fields.Gates = codes "gates"
 field_name fields.List = codes "list"

@@ -6,13 +6,15 @@ ghost use Rattle.tsn_types.specs.declared.refusals.Refusal.TheVariants.{Memory};
 use crate::keys::Key;
 use std::alloc::{AllocError, AllocFailed};
 
-/// A member of a command, a record or a setup whose number is outside its range or its limit.
+/// A member of a command, a record or a setup whose number is outside its range or its limit, or whose text may not be a name.
 #[derive(Clone, Copy, Debug, PartialEq, Eq)]
 pub enum Field {
     /// The member `s`, the session that gives a command.
     S,
     /// The member `session`, a number to be given out.
     Session,
+    /// The member `name` of a hello, which may not be one.
+    Name,
     Key,
     Gates,
     List,
@@ -50,6 +52,7 @@ impl Field {
         match self {
             Field::S => "s",
             Field::Session => "session",
+            Field::Name => "name",
             Field::Key => "key",
             Field::Gates => "gates",
             Field::List => "list",

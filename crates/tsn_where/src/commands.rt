@@ -8,6 +8,7 @@ use tsn_records::allowed::{Allowed, Member, entry_members_of, members_of, name_o
 use tsn_records::drafts::KeyDraft;
 use tsn_records::keys::{key_of, kind_of};
 use tsn_types::keys::Kind;
+use tsn_types::names::LONGEST_NAME;
 use tsn_types::numbers::identifiers::{
     GREATEST_HANDLE, GREATEST_INSTANCE, GREATEST_PRIORITY, MOST_PORTS,
 };
@@ -30,6 +31,8 @@ enum Wanted {
     Record,
     /// The edits of a batch.
     Edits,
+    /// A name of a session.
+    Name,
 }
 
 /// A member's name, and what it may be.
@@ -48,6 +51,8 @@ const REMOVABLE: Part = ("key", Wanted::Removable);
 
 const RECORD: Part = ("record", Wanted::Record);
 
+const NAME: Part = ("name", Wanted::Name);
+
 const NOW: Part = ("now", Wanted::Number(0, GREATEST_INSTANT));
 
 const GREATEST_ENTRY: u64 = (1 << 32) - 1;
@@ -59,9 +64,10 @@ const COMMANDS: &str =
     "hello, create, replace, remove, batch, undo, undo_all, redo, settle, enable, disable, apply, frame, \
 states, counters, show, list, since, resume, sessions and setup";
 
-// The members of a command beside `do`; none where there is no such command.
-fn parts_of(word: &str) -> Option<&'static [Part]> {
+// The members of a command beside `do`, where a hello that has more than that has a name; none where there is no such command.
+fn parts_of(word: &str, has_more: bool) -> Option<&'static [Part]> {
     match word {
+        "hello" if has_more => Some(&[NAME]),
         "hello" => Some(&[]),
         "create" | "replace" => Some(&[S, KEY, RECORD]),
         "remove" => Some(&[S, REMOVABLE]),
@@ -136,6 +142,9 @@ fn wanted_text(alloc: Global, wanted: Wanted) -> Result<String, AllocError> {
         Wanted::Kind => String::from_str(alloc, "\"port\", \"filter\", \"gate\" or \"meter\""),
         Wanted::Record => String::from_str(alloc, "an object"),
         Wanted::Edits => format!(in alloc; "an array of 1 to {MOST_EDITS}"),
+        Wanted::Name => format!(in alloc;
+            "a text of 1 to {LONGEST_NAME} bytes with no control character"
+        ),
     }
 }
 
@@ -216,6 +225,8 @@ fn fits(value: &Value, wanted: Wanted, by_range: bool) -> bool {
             Some(edits) => 1 <= edits.len() && edits.len() <= MOST_EDITS,
             None => false,
         },
+        // A hello has no other member with a range.
+        Wanted::Name => value.is_string() && !by_range,
     }
 }
 
@@ -413,7 +424,8 @@ pub fn command_fault(alloc: Global, value: &Value, by_range: bool) -> Told {
             "do is left out or is no text, and a command is wanted: {COMMANDS}"
         )?));
     };
-    let Some(parts) = parts_of(word) else {
+    let has_more = value.get("name").is_some();
+    let Some(parts) = parts_of(word, has_more) else {
         let word = as_told(alloc, word)?;
         return Ok(Some(format!(in alloc;
             "there is no command {word}; the commands are {COMMANDS}"

@@ -1,5 +1,5 @@
 -- A line is accepted exactly where it is the value of a command.
-use Rattle.std.proofs.Common.{◌≡◌, ℕ, ◌≤◌, List, map, true, Some, Ok, codes, bytes_eq, refl, sym, ap, subst, ◌∙◌, arith}
+use Rattle.std.proofs.Common.{◌≡◌, ℕ, ◌≤◌, List, map, Bool, true, false, cond, Some, None, Result, Ok, Err, codes, bytes_eq, refl, sym, ap, subst, ◌∙◌, arith}
 use Rattle.serde_json.specs.Data.{Data, boolean, string}
 use Rattle.serde_json.specs.Find.{get}
 use Rattle.tsn_bridge.specs.declared.command.Command.{Command}
@@ -13,27 +13,30 @@ use Rattle.tsn_types.specs.declared.records.Record.{Record}
 use Rattle.tsn_types.specs.declared.refusals.Field.{Field}
 use Rattle.tsn_types.specs.declared.refusals.Field.TheVariants as fields
 use Rattle.tsn_types.specs.InRange.{KeyedInRange}
+use Rattle.tsn_types.specs.Names.{is_name}
 use Rattle.tsn_types.specs.Keys.{kind, number_of}
 use Rattle.tsn_types.specs.Numbers.{IsHandle, IsPriority, greatest_handle, greatest_instant, greatest_priority}
 use Rattle.tsn_records.specs.Answers.{or_shape, or_syntax}
-use Rattle.tsn_wire.specs.Commands.{key_at, listed, listed_at, keyed_record, create_shape, replace_shape, removed_key, remove_shape, batch_shape, bare_shape, enable_shape, disable_shape, apply_shape, frame_members, frame_shape, states_shape, counters_shape, show_shape, list_shape, since_shape, settle_shape, command_shape, line_shape}
+use Rattle.tsn_wire.specs.Commands.{bare_or_named, key_at, listed, name_draft, named_shape, listed_at, keyed_record, create_shape, replace_shape, removed_key, remove_shape, batch_shape, bare_shape, enable_shape, disable_shape, apply_shape, frame_members, frame_shape, states_shape, counters_shape, show_shape, list_shape, since_shape, settle_shape, command_shape, line_shape}
 use Rattle.tsn_records.specs.Json.{flag_at, has_members, as_json, number_at, text_at, value_at}
 use Rattle.tsn_records.specs.Keys.{kind_of, key_text, kind_text}
 use Rattle.tsn_records.specs.Ranges.{within, record_of, key}
 use Rattle.tsn_wire.specs.Ranges.{greatest_after, longest_frame, frame_of_draft, command_of_draft}
-use Rattle.tsn_wire.specs.Reading.{data_of, line_of_draft, reading, line_of}
+use Rattle.tsn_wire.specs.Reading.{data_of, line_of_draft, name_of_draft, reading, line_of}
 use Rattle.tsn_records.specs.Records.{record_shape}
 use Rattle.tsn_records.specs.Shown.{whole_data, record_data}
 use Rattle.tsn_wire.specs.Spelled.{IsNoPort, record_value}
-use Rattle.tsn_wire.specs.Values.{act_data, asked_data, bare_data, frame_data, keyed_data, edit_data, listed_data, settle_data, states_data, value_of, MayHaveList, ListInRange, FrameInRange, IsSession, MayBeAsked, AcceptsValues}
+use Rattle.tsn_wire.specs.Values.{act_data, asked_data, bare_data, frame_data, keyed_data, edit_data, listed_data, hello_data, settle_data, states_data, value_of, MayHaveList, ListInRange, FrameInRange, IsSession, MayBeAsked, AcceptsValues}
 use Rattle.tsn_wire.specs.ReadingBack.{ReadsBack}
 use Rattle.tsn_records.specs.declared.drafts.KeyDraft.{KeyDraft}
 use Rattle.tsn_records.specs.declared.drafts.RecordDraft.{RecordDraft}
+use Rattle.tsn_records.specs.declared.unread.Unread.{Unread}
 use Rattle.tsn_wire.specs.declared.drafts.CommandDraft.{CommandDraft}
 use Rattle.tsn_wire.specs.declared.drafts.CommandDraft.TheVariants as wanted
 use Rattle.tsn_wire.specs.declared.drafts.FrameDraft.{FrameDraft}
 use Rattle.tsn_wire.specs.declared.drafts.LineDraft.{LineDraft}
-use Rattle.tsn_wire.specs.declared.drafts.LineDraft.TheVariants.{Hello, Session}
+use Rattle.tsn_wire.specs.declared.drafts.LineDraft.TheVariants.{Hello, Named, Session}
+use Rattle.tsn_wire.specs.declared.drafts.NameDraft.TheVariants.{Fit, Unfit}
 use Rattle.tsn_bridge.specs.declared.command.Ask.{Ask}
 use Rattle.tsn_records.proofs.RecordRanges.{passed, at_most, within_ok, at_most_ok}
 use Rattle.tsn_records.proofs.Steps.{only, steps, syntax_there, not_refused}
@@ -354,10 +357,34 @@ command_known word s d draft c of shape range =
 abbrev SaysAsk : Data → Ask → Type 0
 SaysAsk d line = IsValue line.session d line.command
 
-hello_known : (d : Data) (u : Unit {0}) (line : Ask) → IsOrdered d → get (codes "do") d ≡ Some (string (codes "hello")) → has_members 1 d ≡ Ok u → line_of_draft Hello ≡ Ok line → SaysAsk d line
-hello_known d u line ordered word count range =
-    let found : Ask = record { session = 0; command = commands.Hello } in
-    subst (SaysAsk d) (only (Ok found) found line refl range) (refl, whole_object 0 d (inside (value_of 0 commands.Hello)) u ordered count refl tt (word, tt))
+bare_hello_known : (d : Data) (u : Unit {0}) (line : Ask) → IsOrdered d → get (codes "do") d ≡ Some (string (codes "hello")) → has_members 1 d ≡ Ok u → line_of_draft Hello ≡ Ok line → SaysAsk d line
+bare_hello_known d u line ordered word count range =
+    let found : Ask = record { session = 0; command = commands.Hello None } in
+    subst (SaysAsk d) (only (Ok found) found line refl range) (refl, whole_object 0 d (inside (value_of 0 (commands.Hello None))) u ordered count refl tt (word, tt))
+
+-- the name that a text is, where it may be one
+name_known : (text name : List ℕ) → name_of_draft (name_draft text) ≡ Ok name → (text ≡ name) × (is_name text ≡ true)
+name_known text name h = at (is_name text) h
+  where
+    at : (b : Bool) → name_of_draft (cond b (Fit text) Unfit) ≡ Ok name → (text ≡ name) × (b ≡ true)
+    at true h = (only (Ok text) text name refl h, refl)
+    at false h = cc
+
+named_known : (d : Data) (draft : LineDraft) (line : Ask) → IsOrdered d → get (codes "do") d ≡ Some (string (codes "hello")) → named_shape d ≡ Ok draft → line_of_draft draft ≡ Ok line → SaysAsk d line
+unfolding named_shape
+named_known d draft line ordered word shape range =
+    steps (has_members 2 d) _ draft shape (λ u count count_next.
+    steps (text_at (codes "name") d) _ draft count_next (λ text text_is text_next.
+    let whole = Named (name_draft text) in
+    steps (name_of_draft (name_draft text)) _ line (ap line_of_draft (only (Ok whole) whole draft refl text_next) ∙ range) (λ name name_is name_next.
+    let fits = name_known text name name_is in
+    let found : Ask = record { session = 0; command = commands.Hello (Some name) } in
+    subst (SaysAsk d) (only (Ok found) found line refl name_next)
+    ((refl, ap is_name (sym fits.0) ∙ fits.1), whole_object 1 d (inside (hello_data (Some name))) u ordered count refl (refl, tt) (word, (text_there _ text text_is ∙ ap (λ l. Some (string l)) fits.0, tt))))))
+
+hello_known : (d : Data) (draft : LineDraft) (line : Ask) (one : Result (Unit {0}) Unread) → IsOrdered d → get (codes "do") d ≡ Some (string (codes "hello")) → has_members 1 d ≡ one → bare_or_named one d ≡ Ok draft → line_of_draft draft ≡ Ok line → SaysAsk d line
+hello_known d draft line (Ok u) ordered word count shape range = bare_hello_known d u line ordered word count (ap line_of_draft (only (Ok Hello) Hello draft refl shape) ∙ range)
+hello_known d draft line (Err why) ordered word count shape range = named_known d draft line ordered word shape range
 
 session_known : (word : List ℕ) (n : ℕ) (d : Data) (draft : CommandDraft) (line : Ask) → IsOrdered d → get (codes "do") d ≡ Some (string word) → get (codes "s") d ≡ Some (whole_data n)
     → command_shape word d ≡ Ok draft → line_of_draft (Session n draft) ≡ Ok line → SaysAsk d line
@@ -375,8 +402,7 @@ line_known d draft line ordered shape range =
     steps (text_at (codes "do") d) _ draft shape (λ word word_is word_next.
     let there = text_there _ word word_is in
     by_test _ _ _ _ word_next
-    (λ e h. steps (has_members 1 d) _ draft h (λ count count_is count_next.
-    hello_known d count line ordered (there ∙ ap (λ l. Some (string l)) (same_text word _ e)) count_is (ap line_of_draft (only (Ok Hello) Hello draft refl count_next) ∙ range)))
+    (λ e h. hello_known d draft line (has_members 1 d) ordered (there ∙ ap (λ l. Some (string l)) (same_text word _ e)) refl h range)
     (λ _ h. steps (number_at (codes "s") d) _ draft h (λ n n_is n_next.
     steps (command_shape word d) _ draft n_next (λ command command_is command_next.
     let whole = Session n command in
@@ -404,16 +430,22 @@ settle_shaped : (s upto : ℕ) → line_shape (settle_data s upto) ≡ Ok (Sessi
 unfolding line_shape command_shape settle_shape
 settle_shaped s upto = refl
 
-hello_shaped : (s : ℕ) → line_shape (value_of s commands.Hello) ≡ Ok Hello
+hello_shaped : (s : ℕ) → line_shape (value_of s (commands.Hello None)) ≡ Ok Hello
 unfolding line_shape
 hello_shaped s = refl
+
+named_shaped : (name : List ℕ) → line_shape (hello_data (Some name)) ≡ Ok (Named (name_draft name))
+unfolding line_shape named_shape
+named_shaped name = refl
 
 frame_back : (f : Frame) (now : ℕ) → FrameInRange f now → frame_of_draft (frame_draft f) ≡ Ok f
 unfolding frame_of_draft
 frame_back f now fits = rw (at_most_ok fields.Handle greatest_handle f.handle fits.handle, at_most_ok fields.Priority greatest_priority f.priority fits.priority, at_most_ok fields.Octets longest_frame f.octets fits.octets) refl
 
 read_as : (line : List ℕ) (s : ℕ) (c : Command) → MayBeAsked s c → data_of line ≡ Some (value_of s c) → line_of line ≡ Ok (record { session = s; command = c })
-read_as line s commands.Hello fits read = rw fits (in_steps line _ Hello _ read (hello_shaped s) refl)
+read_as line s (commands.Hello None) fits read = rw fits (in_steps line _ Hello _ read (hello_shaped s) refl)
+read_as line s (commands.Hello (Some name)) fits read =
+    rw fits.0 (in_steps line _ (Named (name_draft name)) _ read (named_shaped name) (rw fits.1 refl))
 read_as line s (commands.Create k r) fits read =
     let back = read_back k r fits.1 in
     in_steps line _ (Session s (wanted.Create (key_draft k) (record_draft r))) _ read

@@ -25,7 +25,7 @@ use Rattle.tsn_wire.specs.Values.{MayHaveList}
 use Rattle.tsn_wire.specs.declared.drafts.CommandDraft.TheVariants.{Create, Replace, Remove, Batch, Undo, UndoAll, Redo, Settle, Enable, Disable, Apply, Frame, States, Counters, Show, List as ListKind, Since, Resume, Sessions, Setup}
 use Rattle.tsn_wire.specs.declared.drafts.FrameDraft.{FrameDraft}
 use Rattle.tsn_wire.specs.declared.drafts.LineDraft.{LineDraft}
-use Rattle.tsn_wire.specs.declared.drafts.LineDraft.TheVariants.{Hello, Session}
+use Rattle.tsn_wire.specs.declared.drafts.LineDraft.TheVariants.{Hello, Named, Session}
 use Rattle.tsn_wire.proofs.Answering.{data_of_read}
 use Rattle.tsn_wire.proofs.Gathering.{object_read}
 use Rattle.tsn_wire.proofs.Objects.{Rise}
@@ -154,6 +154,7 @@ hello_shaped = refl
 
 shaped : (draft : LineDraft) → IsSoundLine draft → line_shape (object (line_members draft)) ≡ Ok draft
 shaped Hello sound = hello_shaped
+shaped (Named name) never = absurd never
 shaped (Session s (Create key v)) (k, of) = create_shaped s key.kind key.number v k (record_kept key.kind v of)
 shaped (Session s (Replace key v)) (k, of) = replace_shaped s key.kind key.number v k (record_kept key.kind v of)
 shaped (Session s (Remove key)) (k, other) = remove_shaped s key.kind key.number k other
@@ -177,6 +178,7 @@ shaped (Session s Setup) never = absurd never
 
 rises : (draft : LineDraft) → Rise (line_members draft)
 rises Hello = tt
+rises (Named name) = tt
 rises (Session s (Create key v)) = (refl, (refl, (refl, tt)))
 rises (Session s (Replace key v)) = (refl, (refl, (refl, tt)))
 rises (Session s (Remove key)) = (refl, (refl, tt))

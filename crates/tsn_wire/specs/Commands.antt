@@ -4,6 +4,7 @@ use Rattle.std.specs.Str.{bytes_eq}
 use Rattle.serde_json.specs.Data.{Data}
 use Rattle.tsn_types.specs.declared.keys.Kind.{Kind}
 use Rattle.tsn_types.specs.declared.keys.Kind.TheVariants as kinds
+use Rattle.tsn_types.specs.Names.{is_name}
 use Rattle.tsn_records.specs.Answers.{◌>>=◌, each, or_shape}
 use Rattle.tsn_records.specs.Json.{flag_at, has_members, items_at, items_list, as_json, number_at, text_at, value_at}
 use Rattle.tsn_records.specs.Keys.{key_of, kind_of}
@@ -17,7 +18,9 @@ use Rattle.tsn_wire.specs.declared.drafts.EditDraft.{EditDraft}
 use Rattle.tsn_wire.specs.declared.drafts.EditDraft.TheVariants as edits
 use Rattle.tsn_wire.specs.declared.drafts.FrameDraft.{FrameDraft}
 use Rattle.tsn_wire.specs.declared.drafts.LineDraft.{LineDraft}
-use Rattle.tsn_wire.specs.declared.drafts.LineDraft.TheVariants.{Hello, Session}
+use Rattle.tsn_wire.specs.declared.drafts.LineDraft.TheVariants.{Hello, Named, Session}
+use Rattle.tsn_wire.specs.declared.drafts.NameDraft.{NameDraft}
+use Rattle.tsn_wire.specs.declared.drafts.NameDraft.TheVariants.{Fit, Unfit}
 use Rattle.tsn_records.specs.declared.unread.Unread.{Unread}
 use Rattle.tsn_records.specs.declared.unread.Unread.TheVariants.{Shape}
 
@@ -181,10 +184,25 @@ command_shape word d =
     else if bytes_eq word (codes "setup") then bare_shape Setup d
     else Err Shape
 
--- a hello has the one member `do`; any other command has `s` too
+-- a text that may be a name, or one that may not
+abbrev pub name_draft : List ℕ → NameDraft
+name_draft text = if is_name text then Fit text else Unfit
+
+-- a hello that has a second member has `name`, a text
+unfoldable pub named_shape : Data → Result LineDraft Unread
+named_shape d = do
+  _ ← has_members 2 d
+  text ← text_at (codes "name") d
+  Ok (Named (name_draft text))
+
+abbrev pub bare_or_named : Result (Unit {0}) Unread → Data → Result LineDraft Unread
+bare_or_named (Ok one) d = Ok Hello
+bare_or_named (Err why) d = named_shape d
+
+-- a hello has the one member `do`, or one more; any other command has `s` too
 unfoldable pub line_shape : Data → Result LineDraft Unread
 line_shape d = do
   word ← text_at (codes "do") d
   if bytes_eq word (codes "hello")
-      then (has_members 1 d >>= λ _. Ok Hello)
+      then bare_or_named (has_members 1 d) d
       else (number_at (codes "s") d >>= λ session. command_shape word d >>= λ command. Ok (Session session command))

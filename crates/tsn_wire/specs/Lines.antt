@@ -20,7 +20,7 @@ use Rattle.tsn_wire.specs.declared.drafts.CommandDraft.TheVariants.{Create, Repl
 use Rattle.tsn_wire.specs.declared.drafts.EditDraft.{EditDraft}
 use Rattle.tsn_wire.specs.declared.drafts.FrameDraft.{FrameDraft}
 use Rattle.tsn_wire.specs.declared.drafts.LineDraft.{LineDraft}
-use Rattle.tsn_wire.specs.declared.drafts.LineDraft.TheVariants.{Hello, Session}
+use Rattle.tsn_wire.specs.declared.drafts.LineDraft.TheVariants.{Hello, Named, Session}
 
 -- the names that a line may have, each with its value where that was read
 abbrev pub line_rows : LineMembers → Rows
@@ -111,9 +111,10 @@ command_members s Setup = bare_members (codes "setup") s
 
 abbrev pub line_members : LineDraft → Members
 line_members Hello = member (codes "do") (string (codes "hello")) no_members
+line_members (Named name) = no_members
 line_members (Session s command) = command_members s command
 
--- a key that some table may have, and what its kind must be; a batch, a settle and a setup are not read so
+-- a key that some table may have, and what its kind must be; a batch, a settle, a setup and a hello by a name are not read so
 abbrev pub IsSound : CommandDraft → Type 0
 IsSound (Create key value) = IsKey key × IsOf key.kind value
 IsSound (Replace key value) = IsKey key × IsOf key.kind value
@@ -138,6 +139,7 @@ IsSound Setup = ⊥
 
 abbrev pub IsSoundLine : LineDraft → Type 0
 IsSoundLine Hello = ⊤
+IsSoundLine (Named name) = ⊥
 IsSoundLine (Session s command) = IsSound command
 
 -- so many members were read, which are just those of this line

@@ -1,6 +1,6 @@
 -- The value of a command: what a line is that asks for it. A value holds each member once, in ascending order of the
 -- names, whatever their order in the line; so two lines with the same members, each of the same value, are one value.
-use Rattle.std.specs.Prelude.{◌≡◌, ◌↔◌, ℕ, ◌≤◌, List, map, Some, Ok, codes, ⊤}
+use Rattle.std.specs.Prelude.{◌≡◌, ◌↔◌, ℕ, ◌≤◌, true, List, map, Option, Some, None, Ok, codes, ⊤}
 use Rattle.std.specs.List.{AllByRecursion}
 use Rattle.serde_json.specs.Data.{Data, boolean, string, array, object, member, no_members}
 use Rattle.serde_json.specs.View.{items_of}
@@ -16,6 +16,7 @@ use Rattle.tsn_types.specs.declared.keys.Key.TheVariants.{Port, Filter, Gate, Me
 use Rattle.tsn_types.specs.declared.keys.Kind.{Kind}
 use Rattle.tsn_types.specs.declared.keys.Kind.TheVariants as kinds
 use Rattle.tsn_types.specs.InRange.{KeyedInRange}
+use Rattle.tsn_types.specs.Names.{is_name}
 use Rattle.tsn_types.specs.Keys.{kind}
 use Rattle.tsn_types.specs.Numbers.{Within, IsHandle, IsInstanceId, IsInstant, IsPortId, IsPriority}
 use Rattle.tsn_records.specs.Keys.{key_text, kind_text}
@@ -99,9 +100,14 @@ asked_data s after = object (member (codes "after") (whole_data after) (member (
 abbrev pub settle_data : ℕ → ℕ → Data
 settle_data s upto = object (member (codes "do") (string (codes "settle")) (member (codes "s") (whole_data s) (member (codes "upto") (whole_data upto) no_members)))
 
+-- `{"do":"hello"}`, and `{"do":"hello","name":N}`
+abbrev pub hello_data : Option (List ℕ) → Data
+hello_data None = object (member (codes "do") (string (codes "hello")) no_members)
+hello_data (Some name) = object (member (codes "do") (string (codes "hello")) (member (codes "name") (string name) no_members))
+
 -- the value of a session's command, its record as it is shown; a hello names no session
 abbrev pub value_of : ℕ → Command → Data
-value_of s Hello = object (member (codes "do") (string (codes "hello")) no_members)
+value_of s (Hello name) = hello_data name
 value_of s (Create k r) = edit_data (codes "create") s (key_text k) (record_data r)
 value_of s (Replace k r) = edit_data (codes "replace") s (key_text k) (record_data r)
 value_of s (Remove k) = keyed_data (codes "remove") s (key_text k)
@@ -161,9 +167,10 @@ EditMayBeAsked (edits.Replace k r) = KeyedInRange k r
 EditMayBeAsked (edits.Remove k) = KeyInRange k × IsNoPort (kind k)
 
 -- what may be asked: every number in its range, a record of its key's kind, a port never removed, an act or a
--- look only at what has a list, a batch of 1 to 16 edits on distinct keys; a hello has no session, which is written 0
+-- look only at what has a list, a batch of 1 to 16 edits on distinct keys, a name that may be one; a hello has no session, which is written 0
 abbrev pub MayBeAsked : ℕ → Command → Type 0
-MayBeAsked s Hello = s ≡ 0
+MayBeAsked s (Hello None) = s ≡ 0
+MayBeAsked s (Hello (Some name)) = (s ≡ 0) × (is_name name ≡ true)
 MayBeAsked s (Create k r) = IsSession s × KeyedInRange k r
 MayBeAsked s (Replace k r) = IsSession s × KeyedInRange k r
 MayBeAsked s (Remove k) = IsSession s × KeyInRange k × IsNoPort (kind k)

@@ -1,14 +1,14 @@
 //! The shapes of commands: the word in `do`, and the members that it wants.
 //!
 //! A command has exactly its members, in any order. Every fault is one of shape; numbers are tested later.
-ghost use Rattle.std.specs.Prelude.{◌≡◌, codes, option_and_then};
+ghost use Rattle.std.specs.Prelude.{◌≡◌, Ok, codes, option_and_then};
 ghost use Rattle.serde_json.specs.View.{view};
 ghost use Rattle.tsn_records.specs.Answers.{Reads};
-ghost use Rattle.tsn_records.specs.Json.{text_at, value_at};
-ghost use Rattle.tsn_wire.specs.Commands.{listed, listed_at, create_shape, replace_shape, remove_shape, bare_shape, enable_shape, disable_shape, apply_shape, frame_members, frame_shape, states_shape, counters_shape, show_shape, list_shape, since_shape, settle_shape, command_shape, line_shape};
+ghost use Rattle.tsn_records.specs.Json.{has_members, text_at, value_at};
+ghost use Rattle.tsn_wire.specs.Commands.{listed, listed_at, create_shape, replace_shape, remove_shape, bare_shape, enable_shape, disable_shape, apply_shape, frame_members, frame_shape, states_shape, counters_shape, show_shape, list_shape, since_shape, settle_shape, command_shape, name_draft, named_shape, bare_or_named, line_shape};
 
 use crate::batches::batch_shape;
-use crate::drafts::{CommandDraft, FrameDraft, LineDraft};
+use crate::drafts::{CommandDraft, FrameDraft, LineDraft, NameDraft};
 use crate::keyed::{key_at, keyed_record, removed_key};
 use serde_json::Value;
 use std::alloc::Global;
@@ -17,6 +17,7 @@ use tsn_records::keys::kind_of;
 use tsn_records::members::{flag_at, has_members, number_at, text_at, value_at};
 use tsn_records::unread::Unread;
 use tsn_types::keys::Kind;
+use tsn_types::names::SessionName;
 
 // A key of a kind that has a gate control list.
 fn listed(key: KeyDraft) -> Result<KeyDraft, Unread>
@@ -205,6 +206,37 @@ fn command_shape(alloc: Global, word: &str, value: &Value) -> Result<CommandDraf
     }
 }
 
+// A text that may be a name, or one that may not.
+fn name_draft(alloc: Global, text: &str) -> Result<NameDraft, Unread>
+    ensures { Reads result (Ok (name_draft text.now)) }
+{
+    match SessionName::new(alloc, text) {
+        Ok(Some(name)) => Ok(NameDraft::Fit(name)),
+        Ok(None) => Ok(NameDraft::Unfit),
+        Err(_) => Err(Unread::Memory),
+    }
+}
+
+#[tactic(auto, unfolding(crate::specs::Commands::named_shape))]
+fn named_shape(alloc: Global, value: &Value) -> Result<LineDraft, Unread>
+    ensures { Reads result (named_shape (view value.now)) }
+{
+    has_members(2, value)?;
+    let text = text_at("name", value)?;
+    let name = name_draft(alloc, text)?;
+    Ok(LineDraft::Named { name })
+}
+
+// A hello, with or without a name.
+fn hello_shape(alloc: Global, value: &Value) -> Result<LineDraft, Unread>
+    ensures { Reads result (bare_or_named (has_members 1 (view value.now)) (view value.now)) }
+{
+    match has_members(1, value) {
+        Ok(()) => Ok(LineDraft::Hello),
+        Err(_) => named_shape(alloc, value),
+    }
+}
+
 /// The command that the value is, with its session; a fault of shape where it is none.
 #[tactic(auto, unfolding(crate::specs::Commands::line_shape))]
 pub fn line_shape(alloc: Global, value: &Value) -> Result<LineDraft, Unread>
@@ -212,8 +244,7 @@ pub fn line_shape(alloc: Global, value: &Value) -> Result<LineDraft, Unread>
 {
     let word = text_at("do", value)?;
     if word == "hello" {
-        has_members(1, value)?;
-        return Ok(LineDraft::Hello);
+        return hello_shape(alloc, value);
     }
     let session = number_at("s", value)?;
     let command = command_shape(alloc, word, value)?;

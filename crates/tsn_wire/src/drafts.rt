@@ -7,6 +7,7 @@ use tsn_edit::MOST_PARTS;
 use tsn_records::drafts::{KeyDraft, RecordDraft};
 use tsn_records::unread::Unread;
 use tsn_types::keys::Kind;
+use tsn_types::names::SessionName;
 
 /// A frame as a line names it.
 #[derive(Clone, Copy, Debug, PartialEq, Eq)]
@@ -110,7 +111,7 @@ fn are_distinct(edits: &[EditDraft]) -> bool
     true
 }
 
-/// A command other than hello.
+/// A command other than a hello.
 #[derive(Debug, Drop)]
 pub enum CommandDraft {
     Create { key: KeyDraft, value: RecordDraft },
@@ -135,9 +136,17 @@ pub enum CommandDraft {
     Setup,
 }
 
-/// A line: a hello, or a command of a session.
+/// The name of a hello: what may be one, or a text that may not.
+#[derive(Debug, Drop)]
+pub enum NameDraft {
+    Fit(SessionName),
+    Unfit,
+}
+
+/// A line: a hello, one by a name, or a command of a session.
 #[derive(Debug, Drop)]
 pub enum LineDraft {
     Hello,
+    Named { name: NameDraft },
     Session { session: u64, command: CommandDraft },
 }

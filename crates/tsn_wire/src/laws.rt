@@ -1,6 +1,6 @@
 //! What the definitions of this crate say of worked examples, so that a definition and a body that are wrong alike
 //! are found out. Each function does nothing; its contract is what is proved.
-ghost use Rattle.std.specs.Prelude.{◌≡◌, [], ◌∷◌, ◌++◌, Some, Ok, Err, codes};
+ghost use Rattle.std.specs.Prelude.{◌≡◌, [], ◌∷◌, ◌++◌, Some, None, Ok, Err, codes};
 ghost use Rattle.tsn_bridge.specs.declared.command.Command.TheVariants as commands;
 ghost use Rattle.tsn_edit.specs.declared.Edit.TheVariants as edits;
 ghost use Rattle.tsn_types.specs.declared.keys.Key.TheVariants as keys;
@@ -16,7 +16,15 @@ ghost use Rattle.tsn_wire.specs.Values.{AcceptsValues, value_of};
 /// Lines that are read, and lines that are not.
 pub fn lines_are_read()
     ensures hello { line_of (codes "{\"do\":\"hello\"}")
-        ≡ Ok (record { session = 0; command = commands.Hello }) }
+        ≡ Ok (record { session = 0; command = commands.Hello None }) }
+    ensures name { line_of (codes "{\"do\":\"hello\",\"name\":\"planner anna\"}")
+        ≡ Ok (record { session = 0; command = commands.Hello (Some (codes "planner anna")) }) }
+    ensures escaped_name { line_of (codes "{\"name\":\"a\\u006ena \\\"n\\\"\",\"do\":\"hello\"}")
+        ≡ Ok (record { session = 0; command = commands.Hello (Some (codes "anna \"n\"")) }) }
+    ensures no_name { line_of (codes "{\"do\":\"hello\",\"name\":\"\"}") ≡ Err (refusals.Range fields.Name) }
+    ensures bell { line_of (codes "{\"do\":\"hello\",\"name\":\"a\\u0007\"}") ≡ Err (refusals.Range fields.Name) }
+    ensures null_name { line_of (codes "{\"do\":\"hello\",\"name\":null}") ≡ Err refusals.Shape }
+    ensures hello_of_a_session { line_of (codes "{\"do\":\"hello\",\"s\":1}") ≡ Err refusals.Shape }
     ensures undo { line_of (codes "{\"do\":\"undo\",\"s\":1}")
         ≡ Ok (record { session = 1; command = commands.Undo }) }
     ensures undo_all { line_of (codes "{\"do\":\"undo_all\",\"s\":1}")

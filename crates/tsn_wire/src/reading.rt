@@ -8,10 +8,10 @@ ghost use Rattle.tsn_bridge.specs.Sessions.{most_sessions};
 ghost use Rattle.tsn_types.specs.declared.refusals.Field.TheVariants as fields;
 ghost use Rattle.tsn_records.specs.Answers.{Reads, IsOrMemory, or_syntax, seen};
 ghost use Rattle.tsn_records.specs.Ranges.{within};
-ghost use Rattle.tsn_wire.specs.Reading.{data_of, line_of_draft, reading, line_of};
+ghost use Rattle.tsn_wire.specs.Reading.{data_of, line_of_draft, name_of_draft, reading, line_of};
 
 use crate::commands::line_shape;
-use crate::drafts::LineDraft;
+use crate::drafts::{LineDraft, NameDraft};
 use crate::ranges::command_of_draft;
 use crate::spelled::spelled_draft;
 use serde_json::Value;
@@ -19,6 +19,7 @@ use std::alloc::Global;
 use tsn_bridge::bridge::MOST_SESSIONS;
 use tsn_bridge::command::{Ask, Command};
 use tsn_records::unread::Unread;
+use tsn_types::names::SessionName;
 use tsn_types::refusals::{Field, Refusal};
 
 fn value_of(alloc: Global, line: &[u8]) -> Result<Value, Unread>
@@ -40,13 +41,32 @@ fn session(number: u64) -> Result<u32, Unread>
     Ok(number as u32)
 }
 
+// A copy of the name, or that it may not be one.
+fn name_of_draft(draft: &NameDraft) -> Result<SessionName, Unread>
+    ensures { Reads result (name_of_draft draft.now) }
+{
+    match draft {
+        NameDraft::Fit(name) => match name.try_clone() {
+            Ok(name) => Ok(name),
+            Err(_) => Err(Unread::Memory),
+        },
+        NameDraft::Unfit => Err(Unread::Range(Field::Name)),
+    }
+}
+
 fn line_of_draft(alloc: Global, draft: &LineDraft) -> Result<Ask, Unread>
     ensures { Reads result (line_of_draft draft.now) }
 {
     match draft {
         LineDraft::Hello => Ok(Ask {
             session: 0,
-            command: Command::Hello,
+            command: Command::Hello { name: None },
+        }),
+        LineDraft::Named { name } => Ok(Ask {
+            session: 0,
+            command: Command::Hello {
+                name: Some(name_of_draft(name)?),
+            },
         }),
         LineDraft::Session {
             session: number,
@@ -71,7 +91,7 @@ fn reading(alloc: Global, line: &[u8]) -> Result<Ask, Unread>
 }
 
 /// What a line without its line feed asks, of session 0 where it is a hello, which has none: refusal 2 where it is no JSON value, 3 where it has
-/// other members than a command, 4 where a number is outside its range, 18 in place of any of these where memory is
+/// other members than a command, 4 where a number is outside its range or a name may not be one, 18 in place of any of these where memory is
 /// refused.
 pub fn command_of(alloc: Global, line: &[u8]) -> Result<Ask, Refusal>
     ensures { IsOrMemory result (line_of line.now) }

@@ -5,6 +5,7 @@
 ghost use Rattle.std.specs.Prelude.{IfOk};
 ghost use Rattle.tsn_bridge.specs.Reached.{IsReached};
 
+use crate::lines::NewText;
 use crate::progress::Progress;
 use jiff::Timestamp;
 use std::alloc::Global;
@@ -17,9 +18,9 @@ use tsn_device::{DeviceOverFile, FileDevice, OpenFault, UnsyncedDevice, make, mo
 use tsn_keeping::Keeper;
 use tsn_lasting::{Clock, Lasting, LastingFault, Stamp, run_lasting};
 use tsn_program::{Failure, fail};
-use tsn_recorded::{Chain, End};
-use tsn_resuming::{Resumed, StartFault, Unwatched, Watcher, bridge_of, first_command, resume};
-use tsn_types::refusals::Refusal;
+use tsn_recorded::End;
+use tsn_resuming::{Resumed, StartFault, Unwatched, Watcher, resume};
+use tsn_types::keys::Key;
 use tsn_words::{Kept, Syncs};
 
 /// What ends a run over a journal with status 1, as its line says.
@@ -36,6 +37,8 @@ pub(crate) enum JournalFault {
     // Why is not always known.
     Write(Option<io::Error>),
     NoSession,
+    // No line has room for the record of this key.
+    LongRecord(Key),
 }
 
 /// Memory was wanted and not there.
@@ -71,6 +74,16 @@ pub(crate) fn error_of(number: i32) -> Option<io::Error> {
 pub(crate) fn say<E: ByteOut>(errors: &mut E, line: Result<String, std::alloc::AllocError>) {
     if let Ok(line) = line {
         let _ = put_all(errors, line.as_bytes());
+    }
+}
+
+// What the text of a key has: the name of its kind, and its number.
+fn name_of(key: &Key) -> (&'static str, u64) {
+    match key {
+        Key::Port(id) => ("port", id.get()),
+        Key::Filter(id) => ("filter", id.get()),
+        Key::Gate(id) => ("gate", id.get()),
+        Key::Meter(id) => ("meter", id.get()),
     }
 }
 
@@ -156,6 +169,13 @@ pub(crate) fn fail_over<E: ByteOut>(
             format!(in alloc; "tsnd: cannot write the journal\n"),
         ),
         JournalFault::NoSession => { say(errors, format!(in alloc; "tsnd: no session is left\n")) }
+        JournalFault::LongRecord(key) => {
+            let (kind, id) = name_of(key);
+            say(
+                errors,
+                format!(in alloc; "tsnd: the record of {kind} {id} is longer than a line may be\n"),
+            )
+        }
     }
     1
 }
@@ -177,6 +197,11 @@ fn second_of_now<R: time::Clock>(rt: &R) -> i64 {
         Ok(now) => now.as_second(),
         Err(_) => 0,
     }
+}
+
+/// The stamp of now.
+pub(crate) fn stamp_of_now<R: time::Clock>(rt: &R, alloc: Global) -> Stamp {
+    stamp_of(alloc, second_of_now(rt))
 }
 
 /// The wall time. Its text is made anew where the second is another.
@@ -211,27 +236,6 @@ impl<R: time::Clock> Clock for WallClock<'_, R> {
     }
 }
 
-/// The first line of a journal whose bridge begins with the setup. Refused is what the setup is refused.
-pub(crate) fn first_line<R: time::Clock>(
-    rt: &R,
-    alloc: Global,
-    setup: &[u8],
-) -> Result<Vec<u8>, JournalFault> {
-    if let Err(why) = bridge_of(alloc, setup) {
-        return Err(JournalFault::Failed(Failure::Refused(why)));
-    }
-    let command = match first_command(alloc, setup) {
-        Ok(command) => command,
-        Err(why) => return Err(JournalFault::Failed(Failure::Refused(why))),
-    };
-    let stamp = stamp_of(alloc, second_of_now(rt));
-    let mut line = Vec::new(alloc);
-    match Chain::new().append(&mut line, stamp.bytes(), &command) {
-        Ok(()) => Ok(line),
-        Err(_) => Err(NO_MEMORY),
-    }
-}
-
 // The file of a journal, locked. Where it is not there it is made, with the setup or with the standard one.
 fn open_or_make<R: Files<File = File> + AllocGlobal + time::Clock>(
     rt: &R,
@@ -243,8 +247,8 @@ fn open_or_make<R: Files<File = File> + AllocGlobal + time::Clock>(
         Err(OpenFault::Io(error)) if error.kind() == ErrorKind::NotFound => {}
         Err(fault) => return Err(JournalFault::from(fault)),
     }
-    let line = first_line(rt, rt.alloc(), setup.unwrap_or(&[]))?;
-    match make(rt, path, &line) {
+    let text = NewText::begin(rt, rt.alloc(), setup.unwrap_or(&[]))?;
+    match make(rt, path, text.as_bytes()) {
         Ok(file) => Ok(file),
         Err(OpenFault::Io(error)) if error.kind() == ErrorKind::AlreadyExists => {
             Ok(open(rt, path)?)

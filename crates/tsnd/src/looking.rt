@@ -49,22 +49,6 @@ impl<W: ByteOut> Watcher for Entries<'_, W> {
     }
 }
 
-/// Counts the sessions that were given out.
-#[derive(Drop)]
-struct Sessions {
-    count: u64,
-}
-
-impl Watcher for Sessions {
-    fn began(&mut self, _setup: &[u8], _stamp: &[u8]) {}
-
-    fn stepped(&mut self, _bridge: &Bridge, _stamp: &[u8], command: &[u8]) {
-        if command == b"{\"do\":\"hello\"}".as_slice() {
-            self.count = self.count.saturating_add(1);
-        }
-    }
-}
-
 // How many entries of the bridge's journal stand.
 fn count_standing(bridge: &Bridge) -> u64 {
     let journal = bridge.journal();
@@ -77,8 +61,20 @@ fn count_standing(bridge: &Bridge) -> u64 {
     count
 }
 
+// Puts the names by which sessions go behind the text, a line each.
+fn push_names(alloc: Global, text: &mut String, bridge: &Bridge) -> Result<(), AllocError> {
+    for named in bridge.named_sessions() {
+        let session = named.session;
+        let name = str::from_utf8(named.name.as_bytes()).unwrap_or("");
+        let line = format!(in alloc; "name {session} {name}\n")?;
+        text.push_str(line.as_str())?;
+    }
+    Ok(())
+}
+
 // The text of a look at all of it.
-fn summary(alloc: Global, resumed: &Resumed, sessions: u64) -> Result<String, AllocError> {
+fn summary(alloc: Global, resumed: &Resumed) -> Result<String, AllocError> {
+    let sessions = resumed.bridge.session_count();
     let journal = resumed.bridge.journal();
     let lines = resumed.lines;
     let entries = journal.len();
@@ -88,6 +84,7 @@ fn summary(alloc: Global, resumed: &Resumed, sessions: u64) -> Result<String, Al
     let mut text = format!(in alloc;
         "lines {lines}\nsessions {sessions}\nentries {entries}\nstanding {standing}\nsettled {settled}\ndigest {digest}\n"
     )?;
+    push_names(alloc, &mut text, &resumed.bridge)?;
     let end = match resumed.end {
         End::Whole => format!(in alloc; "end whole\n")?,
         End::Unfinished { bytes } => format!(in alloc; "end unfinished, {bytes} bytes\n")?,
@@ -118,9 +115,8 @@ fn look_at_all<R: Files<File = File> + AllocGlobal, W: ByteOut>(
     path: &str,
     writer: &mut W,
 ) -> Result<(), JournalFault> {
-    let mut sessions = Sessions { count: 0 };
-    let resumed = resume_from(rt, path, &mut sessions)?;
-    let Ok(text) = summary(rt.alloc(), &resumed, sessions.count) else {
+    let resumed = resume_from(rt, path, &mut Unwatched)?;
+    let Ok(text) = summary(rt.alloc(), &resumed) else {
         return Err(NO_MEMORY);
     };
     show(writer, text.as_bytes())?;
@@ -189,8 +185,8 @@ fn look_at_entry<R: Files<File = File> + AllocGlobal, W: ByteOut>(
     faultless(resumed.end)
 }
 
-/// The configuration at the end, as a setup.
-pub(crate) fn setup_at_end(alloc: Global, resumed: &Resumed) -> Result<SetupText, JournalFault> {
+// The configuration at the end, as a setup.
+fn setup_at_end(alloc: Global, resumed: &Resumed) -> Result<SetupText, JournalFault> {
     match export_setup(alloc, resumed.bridge.config()) {
         Ok(text) => Ok(text),
         Err(why) => Err(JournalFault::Failed(Failure::Refused(why))),

@@ -177,8 +177,8 @@ fn compare(rt: &impl Abort, bridge: &mut Bridge, session: u32, at: u64) -> Resul
 }
 
 fn play(rt: &impl Abort, alloc: Global, bridge: &mut Bridge) -> Result<(), Fail> {
-    let _ = step(bridge, 0, Command::Hello)?;
-    let _ = step(bridge, 0, Command::Hello)?;
+    let _ = step(bridge, 0, Command::Hello { name: None })?;
+    let _ = step(bridge, 0, Command::Hello { name: None })?;
     let mut seed = 2511;
     for turn in 0..STEPS {
         let at = u64::from(turn) * 100;

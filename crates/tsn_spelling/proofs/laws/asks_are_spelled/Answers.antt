@@ -7,6 +7,10 @@ pub returns-clause-hello : goal.returns-clause-hello
 unfolding serde_json_on_literals digits
 returns-clause-hello c = refl
 
+pub returns-clause-name : goal.returns-clause-name
+unfolding serde_json_on_literals digits
+returns-clause-name c = refl
+
 pub returns-clause-create : goal.returns-clause-create
 unfolding serde_json_on_literals digits
 returns-clause-create c = refl

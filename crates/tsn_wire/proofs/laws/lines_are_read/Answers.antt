@@ -1,13 +1,37 @@
 use Rattle.std.proofs.Common.{refl}
 use Rattle.std.specs.Str.{is_utf8, chars}
 use Rattle.serde_json.proofs.OnLiterals.{serde_json_on_literals}
-use Rattle.tsn_wire.specs.Commands.{line_shape, command_shape, listed_at, bare_shape, removed_key, remove_shape, enable_shape, disable_shape, apply_shape, frame_members, frame_shape, states_shape, counters_shape, since_shape, settle_shape}
+use Rattle.tsn_wire.specs.Commands.{line_shape, named_shape, command_shape, listed_at, bare_shape, removed_key, remove_shape, enable_shape, disable_shape, apply_shape, frame_members, frame_shape, states_shape, counters_shape, since_shape, settle_shape}
 use Rattle.tsn_wire.specs.Ranges.{frame_of_draft}
 use Rattle.tsn_wire.proofs.laws.lines_are_read.Goals as goal
 
 pub returns-clause-hello : goal.returns-clause-hello
 unfolding serde_json_on_literals is_utf8 chars line_shape
 returns-clause-hello c = refl
+
+pub returns-clause-name : goal.returns-clause-name
+unfolding serde_json_on_literals is_utf8 chars line_shape named_shape
+returns-clause-name c = refl
+
+pub returns-clause-escaped_name : goal.returns-clause-escaped_name
+unfolding serde_json_on_literals is_utf8 chars line_shape named_shape
+returns-clause-escaped_name c = refl
+
+pub returns-clause-no_name : goal.returns-clause-no_name
+unfolding serde_json_on_literals is_utf8 chars line_shape named_shape
+returns-clause-no_name c = refl
+
+pub returns-clause-bell : goal.returns-clause-bell
+unfolding serde_json_on_literals is_utf8 chars line_shape named_shape
+returns-clause-bell c = refl
+
+pub returns-clause-null_name : goal.returns-clause-null_name
+unfolding serde_json_on_literals is_utf8 chars line_shape named_shape
+returns-clause-null_name c = refl
+
+pub returns-clause-hello_of_a_session : goal.returns-clause-hello_of_a_session
+unfolding serde_json_on_literals is_utf8 chars line_shape named_shape
+returns-clause-hello_of_a_session c = refl
 
 pub returns-clause-undo : goal.returns-clause-undo
 unfolding serde_json_on_literals is_utf8 chars line_shape command_shape bare_shape

@@ -38,3 +38,8 @@ returns-clause-worker g c =
       ([], append-nil (last_seen w) ∙ last),
       c.take-taken.ensures.port,
     )
+
+pub returns-in-Err-clause-once : goal.returns-in-Err-clause-once
+returns-in-Err-clause-once g c =
+    let after : c.in-Ok.after ≡ c.args.self.now.mirror.front = search rules in
+    rw (sym after) c.read_behind-seat.ensures.once
