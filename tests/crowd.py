@@ -5,6 +5,7 @@ look: something that must have been so between two entries of its own. When all 
 are gone through from the first to the last, by the rules of docs/definitions.md, and each look must have been true on
 its way.
 """
+import itertools
 import json
 import random
 
@@ -386,7 +387,11 @@ def looks_at_the_end(session):
                 yield {"at": at, "do": "states", "key": key, "s": session}
 
 
+JOINED = itertools.count()
+
+
 def join(server):
-    """A new member, with its connection."""
-    client = Client(server).hello()
+    """A new member, every second one by a name that nobody else has, with its connection."""
+    number = next(JOINED)
+    client = Client(server).hello(f"member {number}" if number % 2 else None)
     return Member(client.session), client

@@ -10,6 +10,8 @@ from crowd import REFUSALS, kind_of, references
 
 KINDS = ("port", "filter", "gate", "meter")
 MOST_ENTRIES = 262144
+MOST_SESSIONS = 65535
+MOST_BYTES = 64
 PORT = {"base": 0, "cycle": 1000000, "extension": 0, "gates": 255, "list": []}
 
 
@@ -21,6 +23,11 @@ def place_of(key):
 
 def refused(number, **more):
     return {"refused": number, "why": REFUSALS[number], **more}
+
+
+def is_name(text):
+    """A name has 1 to 64 bytes in UTF-8, and no control character."""
+    return 1 <= len(text.encode()) <= MOST_BYTES and not any(ord(letter) < 0x20 or 0x7f <= ord(letter) <= 0x9f for letter in text)
 
 
 def is_in_conflict(later, earlier):
@@ -65,29 +72,30 @@ def line_of(name, value):
     """A member of a table, on a line of its own; a list has one for each of its entries."""
     if name != "list":
         return f"{name} = {json.dumps(value)}\n"
-    rows = "".join("  {" + ", ".join(f"{inner} = {json.dumps(part)}" for inner, part in zip(ENTRIES[len(entry)], entry) if part is not None) + "},\n"
-                   for entry in value)
-    return f"list = [\n{rows}]\n" if value else "list = []\n"
+    rows = []
+    for entry in value:
+        inner = zip(ENTRIES[len(entry)], entry)
+        rows.append("  {" + ", ".join(f"{member} = {json.dumps(part)}" for member, part in inner if part is not None) + "},\n")
+    return f"list = [\n{''.join(rows)}]\n" if value else "list = []\n"
 
 
 class Rules:
-    """A configuration, its journal and the sessions that were given out. `answer` is one step."""
+    """A configuration, its journal and the sessions that were given out, each with its name or none. `answer` is one step."""
 
     def __init__(self):
         self.map = {"port 1": PORT, "port 2": PORT}
         self.entries = []
         self.standing = []
-        self.sessions = 0
+        self.names = []
         self.settled = 0
 
     def answer(self, command):
         do = command["do"]
         if do == "hello":
-            self.sessions += 1
-            return {"session": self.sessions}
+            return self.hello(command)
         if do == "settle" and command["upto"] > len(self.entries):
             return refused(4, field="upto")
-        if not 1 <= command["s"] <= self.sessions:
+        if not 1 <= command["s"] <= len(self.names):
             return refused(5)
         if do in ("create", "replace", "remove"):
             return self.edit(command["s"], [command])
@@ -96,6 +104,20 @@ class Rules:
         if do == "sessions":
             return self.sessions_told(command)
         return getattr(self, do)(command)
+
+    def hello(self, command):
+        """Gives out a session; who says a name that is there already goes on as the session that has it, and nothing changes."""
+        name = command.get("name")
+        if "name" in command and not isinstance(name, str):
+            return refused(3)
+        if name is not None and not is_name(name):
+            return refused(4, field="name")
+        if name is not None and name in self.names:
+            return {"session": self.names.index(name) + 1}
+        if len(self.names) == MOST_SESSIONS:
+            return refused(4, field="session")
+        self.names.append(name)
+        return {"session": len(self.names)}
 
     # ---- edits
 
@@ -243,9 +265,10 @@ class Rules:
         return {"session": command["s"]}
 
     def sessions_told(self, command):
-        """Each session that was given out, and how many of its entries stand."""
+        """Each session that was given out, its name, and how many of its entries stand."""
         standing = collections.Counter(entry.session for entry in self.standing)
-        return {"sessions": [{"session": session, "standing": standing[session]} for session in range(1, self.sessions + 1)]}
+        return {"sessions": [{"name": name, "session": number, "standing": standing[number]}
+                             for number, name in enumerate(self.names, start=1)]}
 
     def setup(self, command):
         """The configuration as the text of a setup, in which a port that is as in the beginning is left out."""

@@ -40,7 +40,7 @@ def same(found, wanted, text):
 
 def line_of(command):
     """The line of a command, in the service's own spelling."""
-    return json.dumps(command, separators=(",", ":"), sort_keys=True).encode() + b"\n"
+    return json.dumps(command, ensure_ascii=False, separators=(",", ":"), sort_keys=True).encode() + b"\n"
 
 
 def example(name):
@@ -166,9 +166,9 @@ class Client:
         self.send(line_of(words))
         return json.loads(self.reply())
 
-    def hello(self):
-        """Says hello, and takes the session number from the reply."""
-        reply = self.ask({"do": "hello"})
+    def hello(self, name=None):
+        """Says hello, by a name where one is given, and takes the session number from the reply."""
+        reply = self.ask({"do": "hello", **({} if name is None else {"name": name})})
         want(list(reply) == ["session"], f"a hello: {reply}")
         self.session = reply["session"]
         return self
