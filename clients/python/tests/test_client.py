@@ -196,6 +196,65 @@ class Edits(unittest.TestCase):
         self.assertEqual(session.counters("filter 0")["not_passing_sdu"], 1)
 
 
+class Names(unittest.TestCase):
+    def setUp(self) -> None:
+        self.server = self.enterContext(Server(os.devnull, 3))
+
+    def connection(self) -> tsnd.Connection:
+        return self.enterContext(self.server.connect())
+
+    def names(self, session: tsnd.Session) -> dict[int, str | None]:
+        """The sessions with their names, but for those of the workers of ports."""
+        return {given.session: given.name for given in session.sessions() if given.name not in ("port 1", "port 2")}
+
+    def test_who_comes_back_goes_on(self) -> None:
+        with self.server.connect() as lost:
+            anna = lost.hello("anna")
+            self.assertEqual(anna.create("gate 0", OPEN_GATE), 1)
+        nameless = self.connection().hello()
+        again = self.connection().hello("anna")
+        self.assertEqual((again.number, nameless.number > anna.number), (anna.number, True))
+        self.assertEqual(self.names(again), {anna.number: "anna", nameless.number: None})
+        self.assertIn(tsnd.Given(anna.number, 1, "anna"), nameless.sessions())
+        self.assertEqual(again.undo(), tsnd.Undone(2, 1))
+
+    def test_a_connection_goes_from_name_to_name(self) -> None:
+        connection = self.connection()
+        anna, bert = connection.hello("anna"), connection.hello("bert")
+        with self.assertRaises(tsnd.NoSession):
+            anna.undo()
+        self.assertEqual(bert.create("gate 0", OPEN_GATE), 1)
+        self.assertEqual(connection.hello("anna").number, anna.number)
+        with self.assertRaises(tsnd.NothingToUndo):
+            anna.undo()
+        with self.assertRaises(tsnd.NoSession):
+            bert.undo()
+        self.assertEqual(connection.hello("bert").undo(), tsnd.Undone(2, 1))
+
+    def test_names_of_any_text(self) -> None:
+        connection = self.connection()
+        named: dict[int, str | None] = {}
+        for name in ("a", "Zo\u00eb", "a b", " ", '"', "\\", "\u00e9" * 32, "\U0001f600" * 16, "x" * 64, "null", "\u2028", "\u00a0"):
+            session = connection.hello(name)
+            named[session.number] = name
+            self.assertEqual(connection.hello(name).number, session.number)
+        self.assertEqual(len(named), 12)
+        self.assertEqual(self.names(session), named)
+
+    def test_what_is_no_name(self) -> None:
+        connection = self.connection()
+        session = connection.hello("anna")
+        for name in ("", "x" * 65, "\u00e9" * 32 + "x", "\U0001f600" * 17, "a\nb", "\0", "\x1f", "\x7f", "\x80", "\x9f"):
+            with self.assertRaises(tsnd.OutOfRange) as caught:
+                connection.hello(name)
+            self.assertEqual((caught.exception.field, caught.exception.members), ("name", {"field": "name"}))
+        for value in (None, 3, True, ["anna"], {"anna": 1}):
+            with self.assertRaises(tsnd.Shape):
+                connection.ask({"do": "hello", "name": value})
+        self.assertEqual(self.names(session), {session.number: "anna"})
+        self.assertEqual(session.create("gate 0", OPEN_GATE), 1)
+
+
 class Refusals(unittest.TestCase):
     def setUp(self) -> None:
         server = self.enterContext(Server(os.devnull, 1))

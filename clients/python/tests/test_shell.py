@@ -2,6 +2,7 @@
 from __future__ import annotations
 
 import contextlib
+import difflib
 import io
 import json
 import os
@@ -17,7 +18,7 @@ import threading
 import time
 import unittest
 from pathlib import Path
-from typing import Any
+from typing import Any, Optional
 
 HERE = Path(__file__).resolve()
 TOP = HERE.parents[3]
@@ -28,6 +29,8 @@ import tsnd  # noqa: E402
 from tsnd import units  # noqa: E402
 from tsnd.shell import Shell  # noqa: E402
 
+# Lines that a server is asked, each with its reply; none where it goes.
+Asked = list[tuple[str, Optional[dict[str, Any]]]]
 SETUP = str(TOP / "examples/small-cell.toml")
 PATIENCE = 20
 
@@ -73,9 +76,9 @@ class Served(unittest.TestCase):
         self.shell.onecmd(line)
         return self.output.getvalue()[before:]
 
-    def other(self) -> tsnd.Session:
+    def other(self, name: str | None = None) -> tsnd.Session:
         """A colleague's session."""
-        return self.enterContext(tsnd.Connection(port=self.server.port, timeout=PATIENCE)).hello()
+        return self.enterContext(tsnd.Connection(port=self.server.port, timeout=PATIENCE)).hello(name)
 
 
 class Commands(Served):
@@ -100,14 +103,14 @@ class Commands(Served):
         self.assertEqual(self.says("states port 1 at=+250us"), "at 3250us: gates 0x60, open for traffic class 5, 6\n")
         self.assertEqual(self.says("states gate 9 at=0"), "at 0: open\n")
         self.assertIn("change_time=3ms\n  enabled=true\n  pending=false", self.says("counters port 1"))
-        self.assertIn("apply at 3ms port 1", self.says("log 6"))
+        self.assertIn("applied port 1 at 3ms", self.says("log 6"))
         self.assertEqual(self.says("undo all"), "2 taken back, up to entry 9\n")
 
     def test_refusals_are_sentences(self) -> None:
         self.says("new gate 9")
         other = self.other()
         made = other.create("filter 14", tsnd.StreamFilter(gate=9))
-        self.assertRegex(self.says("undo"), rf"^Not undone.*: session {other.number}'s entry {made} \(made filter 14\) came")
+        self.assertRegex(self.says("undo"), rf"^Not undone.*: entry {made} of session {other.number} \(edited filter 14\) came")
         self.assertEqual(self.says("remove gate 9"),
                          "It can't go, since filter 14 refers to it: change or remove filter 14 first, or both in one batch.\n")
         self.assertIn("refers to gate 12, which is not there", self.says("new filter 15 gate=12"))
@@ -179,6 +182,110 @@ class Commands(Served):
         self.assertEqual(self.says("undo"), f"You go on as session {number} at {self.server.address}.\nentry 2: 1 is taken back\n")
 
 
+class Names(Served):
+    def shell_of(self, name: str) -> tuple[Shell, io.StringIO]:
+        """A shell that is started by a name, and what it says."""
+        output = io.StringIO()
+        shell = Shell(self.server.address, name=name, stdout=output)
+        self.addCleanup(shell.close)
+        return shell, output
+
+    def test_who_is_who(self) -> None:
+        number = self.shell.connected().number
+        self.assertRegex(self.says("name anna"), r"^You are session \d+, anna\.\n$")
+        anna = self.shell.number
+        self.assertNotEqual(anna, number)
+        self.assertEqual(self.shell.prompt, "anna> ")
+        self.assertEqual(self.says("new gate 9"), "entry 1\n")
+        bert, nameless = self.other("bert"), self.other()
+        bert.create("filter 14", tsnd.StreamFilter(gate=9))
+        nameless.create("meter 9", tsnd.FlowMeter(cir=1, cbs=1))
+        self.assertEqual(
+            self.says("undo"),
+            f"Not undone, and nothing changed: entry 2 of session {bert.number}, bert (edited filter 14) came later and touches or "
+            "refers to what your entry 1 changed. It has to be taken back first, by whom it belongs to.\n")
+        told = self.says("log").splitlines()
+        self.assertEqual([line.split() for line in told], [
+            ["1", "session", f"{anna},", "anna", "edited", "gate", "9"],
+            ["2", "session", f"{bert.number},", "bert", "edited", "filter", "14"],
+            ["3", "session", f"{nameless.number}", "edited", "meter", "9"]])
+        said = self.says("who")
+        for line in (f"session {anna}, anna (you): 1 standing", f"session {bert.number}, bert: 1 standing",
+                     f"session {nameless.number}: 1 standing", f"session {number}: 0 standing"):
+            self.assertRegex(said, f"(?m)^{re.escape(line)}(, last .*)?$")
+
+    def test_from_name_to_name(self) -> None:
+        self.assertRegex(self.says("name anna"), r"You are session \d+, anna\.\n$")
+        anna = self.shell.number
+        self.says("new gate 9")
+        self.assertRegex(self.says("name 'Bert B.'"), r"^You are session \d+, Bert B\.\.\n$")
+        self.assertIn("nothing to take back", self.says("undo"))
+        self.assertEqual(self.says("name anna"), f"You go on as session {anna}, anna.\n")
+        self.assertEqual(self.says("undo"), "entry 2: 1 is taken back\n")
+        self.assertRegex(self.says("hello"), r"^You are session \d+\.\n$")
+        self.assertEqual(self.shell.prompt, f"{self.shell.number}> ")
+        self.assertEqual(self.says(f"resume {anna}"), f"You go on as session {anna}.\n")
+        self.assertEqual(self.says("redo"), "entry 3: the undo 2 is taken back\n")
+        for line in ("name", "name anna bert"):
+            self.assertIn("usage: name NAME", self.says(line))
+
+    def test_what_is_no_name(self) -> None:
+        self.says("name anna")
+        anna = self.shell.number
+        for name in ("''", "x" * 65, "'a\x7fb'"):
+            self.assertEqual(self.says(f"name {name}"), "That is no name: it has 1 to 64 bytes in UTF-8, and no control character.\n")
+        self.assertEqual((self.shell.number, self.shell.name), (anna, "anna"))
+        self.assertEqual(self.says("new gate 9"), "entry 1\n")
+        shell, output = self.shell_of("")
+        shell.onecmd("undo")
+        self.assertIn("That is no name", output.getvalue())
+        self.assertIsNone(shell.session)
+
+    def test_the_server_is_killed(self) -> None:
+        shell, output = self.shell_of("anna")
+        shell.onecmd("set meter 0 cir=120M")
+        number = shell.number
+        self.assertEqual(output.getvalue(), f"You are session {number}, anna, at {self.server.address}.\nentry 1\n")
+        self.server.kill()
+        self.server.start()
+        again, told = self.shell_of("anna")
+        for one in (shell, again):
+            one.onecmd("log")
+        for said in (output.getvalue(), told.getvalue()):
+            self.assertIn(f"You go on as session {number}, anna, at {self.server.address}.\n     1  session {number}, anna", said)
+        again.onecmd("undo")
+        self.assertTrue(told.getvalue().endswith("entry 2: 1 is taken back\n"))
+
+    def run_by(self, lines: str, *words: str) -> tuple[int, str, str]:
+        """The status, output and errors of a shell that is started with these words, and gets lines through a pipe."""
+        run = subprocess.run([sys.executable, "-m", "tsnd.shell", self.server.address, *words], input=lines, capture_output=True, text=True,
+                             env={**os.environ, "PYTHONPATH": str(HERE.parents[1])}, timeout=PATIENCE, check=False)
+        return run.returncode, run.stdout, run.stderr
+
+    def test_through_a_pipe(self) -> None:
+        status, said, errors = self.run_by("new gate 9\n", "--name", "anna")
+        found = re.fullmatch(r"You are session (\d+), anna, at .*\nentry 1\n\n", said)
+        assert found, said
+        self.assertEqual((status, errors), (0, ""))
+        self.assertEqual(self.run_by("undo\n", "--name", "anna"),
+                         (0, f"You go on as session {found[1]}, anna, at {self.server.address}.\nentry 2: 1 is taken back\n\n", ""))
+        self.assertEqual(self.run_by("", "--name", "x" * 65),
+                         (1, "", "tsnd.shell: That is no name: it has 1 to 64 bytes in UTF-8, and no control character.\n"))
+        self.assertEqual(self.run_by("", "--name", "anna", "--session", "1")[0], 2)
+
+    def test_a_server_that_kept_nothing(self) -> None:
+        shell, output = self.shell_of("anna")
+        shell.onecmd("set meter 0 cir=120M")
+        self.server.kill()
+        self.server.journal = self.folder / "other.journal"
+        self.server.start()
+        nameless = self.other()
+        shell.onecmd("who")
+        self.assertNotEqual(shell.number, nameless.number)
+        self.assertIn(f"You are session {shell.number}, anna, at {self.server.address}.\n", output.getvalue()[5:])
+        self.assertIn(f"session {shell.number}, anna (you): 0 standing\n", output.getvalue())
+
+
 class Recording(unittest.TestCase):
     """The session that README.md shows is typed once more."""
 
@@ -193,33 +300,35 @@ class Recording(unittest.TestCase):
         self.addCleanup(server.kill)
         assert server.stderr is not None
         address = server.stderr.readline().split(" ")[-1].strip()
-        typed = recorded((TOP / "README.md").read_text(encoding="utf-8").split("## A first session")[1].split("\n## ")[0])
+        text = (TOP / "README.md").read_text(encoding="utf-8").split("## A first session")[1].split("\n## ")[0]
+        typed = recorded(text)
         self.assertGreater(len(typed), 8)
-        for number, line, told in typed:
-            if number not in shells:
-                outputs[number] = io.StringIO()
-                shells[number] = Shell(address, stdout=outputs[number])
-                self.addCleanup(shells[number].close)
-                shells[number].connected()
-                self.assertEqual(str(shells[number].number), number)
-            before = len(outputs[number].getvalue())
-            shells[number].onecmd(line)
-            self.assertEqual(outputs[number].getvalue()[before:], told, line)
-        self.assertEqual(Path("cell.toml").read_text(encoding="utf-8"), shells["1"].connected().setup())
+        for name, line, told in typed:
+            if name not in shells:
+                outputs[name] = io.StringIO()
+                shells[name] = Shell(address, stdout=outputs[name], name=name)
+                self.addCleanup(shells[name].close)
+                shells[name].connected()
+                self.assertIn("    " + outputs[name].getvalue().replace(address, "127.0.0.1:7000"), text)
+            before = len(outputs[name].getvalue())
+            shells[name].onecmd(line)
+            self.assertEqual(outputs[name].getvalue()[before:], told, line)
+        self.assertEqual(list(shells), ["anna", "bert"])
+        self.assertEqual(Path("cell.toml").read_text(encoding="utf-8"), shells["anna"].connected().setup())
 
 
 def recorded(text: str) -> list[tuple[str, str, str]]:
-    """What a text shows of shells: the number at each prompt, what is typed there, and what is then told."""
+    """What a text shows of shells: the name at each prompt, what is typed there, and what is then told."""
     found: list[tuple[str, str, str]] = []
     is_told = False
     for line in text.splitlines():
-        prompt = re.fullmatch(r"    (\d+)> (.+)", line)
+        prompt = re.fullmatch(r"    (\w+)> (.+)", line)
         if prompt:
             found.append((prompt[1], prompt[2], ""))
             is_told = True
         elif is_told and line.startswith("    "):
-            number, typed, told = found[-1]
-            found[-1] = (number, typed, f"{told}{line[4:]}\n")
+            name, typed, told = found[-1]
+            found[-1] = (name, typed, f"{told}{line[4:]}\n")
         else:
             is_told = False
     return found
@@ -242,28 +351,66 @@ class Answers(unittest.TestCase):
                 self.assertIn(said, output.getvalue())
                 self.assertTrue(output.getvalue().endswith("meter:  5\n"))
 
-    def play(self, listener: socket.socket, shell: Shell, line: str, asked: list[tuple[str, dict[str, Any] | None]]) -> None:
-        """A line is typed, and a peer is asked this, and replies so; without a reply it goes."""
+    def test_a_name_goes_on_where_no_answer_came(self) -> None:
+        named = {"name": "anna", "session": 3, "standing": 1}
+        done = {"entry": 7, "session": 3, "key": "gate 4", "of": 6, "what": "undone"}
+        with socket.create_server(("127.0.0.1", 0)) as listener:
+            listener.settimeout(PATIENCE)
+            output = io.StringIO()
+            shell = Shell(f"127.0.0.1:{listener.getsockname()[1]}", stdout=output, name="anna")
+            self.addCleanup(shell.close)
+            known: Asked = [('{"do":"resume","s":1}', {"session": 1}), ('{"do":"sessions","s":1}', {"sessions": [named]}),
+                            ('{"do":"hello","name":"anna"}', {"session": 3})]
+            self.play(listener, shell, "undo", [*known, ('{"do":"undo","s":3}', None)])
+            self.play(listener, shell, "list meter", [
+                *known, ('{"do":"since","s":3,"after":0}', {"entries": [done]}), ('{"do":"list","s":3,"kind":"meter"}', {"ids": [5]})])
+            said = output.getvalue()
+            self.assertEqual(said.count(f"You go on as session 3, anna, at {shell.address}.\n"), 2)
+            self.assertIn("What it did last is\n     7  session 3, anna undid gate 4 (takes back 6)\n", said)
+            self.play(listener, shell, "undo", [('{"do":"undo","s":3}', None)], is_new=False)
+            self.play(listener, shell, "list meter", [
+                *known, ('{"do":"since","s":3,"after":7}', {"entries": []}), ('{"do":"list","s":3,"kind":"meter"}', {"ids": [5]})])
+            self.assertTrue(output.getvalue().endswith("Nothing of yours was entered since your last answer.\nmeter:  5\n"))
+
+    def test_a_name_that_is_new(self) -> None:
+        with socket.create_server(("127.0.0.1", 0)) as listener:
+            listener.settimeout(PATIENCE)
+            output = io.StringIO()
+            shell = Shell(f"127.0.0.1:{listener.getsockname()[1]}", stdout=output, name="anna")
+            self.addCleanup(shell.close)
+            self.play(listener, shell, "list meter", [
+                ('{"do":"resume","s":1}', {"refused": 5, "why": "no_session"}), ('{"do":"hello","name":"anna"}', {"session": 1}),
+                ('{"do":"list","s":1,"kind":"meter"}', {"ids": []})])
+            self.assertEqual(output.getvalue(), f"You are session 1, anna, at {shell.address}.\nmeter:  none\n")
+
+    def play(self, listener: socket.socket, shell: Shell, line: str, asked: Asked, is_new: bool = True) -> None:
+        """A line is typed, and a peer, a new one or the one before, is asked this, and replies so; without a reply it goes."""
         planner = threading.Thread(target=shell.onecmd, args=(line,))
         planner.start()
-        peer, _ = listener.accept()
-        self.addCleanup(peer.close)
+        if is_new:
+            self.peer, _ = listener.accept()
+            self.addCleanup(self.peer.close)
         for wanted, reply in asked:
-            self.assertEqual(peer.recv(4096).decode(), wanted + "\n")
+            self.assertEqual(self.peer.recv(4096).decode(), wanted + "\n")
             if reply is None:
-                peer.close()
+                self.peer.close()
             else:
-                peer.sendall(json.dumps(reply).encode() + b"\n")
+                self.peer.sendall(json.dumps(reply).encode() + b"\n")
         planner.join(PATIENCE)
 
 
 class Terminal(Served):
-    def test_typed_in_a_terminal(self) -> None:
+    def started(self, *words: str) -> tuple[int, int]:
+        """A shell in a terminal of its own: its process, and the terminal."""
         pid, terminal = pty.fork()
         if pid == 0:
             os.environ.update(PYTHONPATH=str(HERE.parents[1]), TERM="dumb")
-            os.execv(sys.executable, [sys.executable, "-m", "tsnd.shell", self.server.address])
+            os.execv(sys.executable, [sys.executable, "-m", "tsnd.shell", self.server.address, *words])
         self.addCleanup(os.close, terminal)
+        return pid, terminal
+
+    def test_typed_in_a_terminal(self) -> None:
+        pid, terminal = self.started()
         self.assertRegex(self.read(terminal, r"\d+> "), r"You are session \d+")
         os.write(terminal, b"sho\tmet\t0\n")
         self.assertIn("cbs=", self.read(terminal, r"all_red=false\r\n\d+> "))
@@ -273,6 +420,46 @@ class Terminal(Served):
         self.read(terminal, r"\d+> ")
         os.write(terminal, b"undo\n")
         self.read(terminal, r"entry 2: 1 is taken back\r\n\d+> ")
+        os.write(terminal, b"quit\n")
+        self.assertEqual(os.waitpid(pid, 0)[1], 0)
+
+    def test_a_day_in_a_terminal(self) -> None:
+        pid, terminal = self.started("--name", "anna", "--journal", str(self.server.journal))
+        self.assertRegex(self.read(terminal, "anna> "), r"You are session \d+, anna, at ")
+
+        def types(line: str, until: str) -> str:
+            os.write(terminal, line.encode() + b"\n")
+            return self.read(terminal, until + r"\r\nanna> ")
+
+        saved = str(self.folder / "cell.toml")
+        types(f"save {saved}", "8 records")
+        before = Path(saved).read_text(encoding="utf-8")
+        types("show port 1", "list=0x80:200us,0x60:300us,0x7f:500us")
+        types("set meter 0 cir=120M cbs=3k", "entry 1")
+        os.write(terminal, b"batch\nnew gate 9 cycle=500us list=open:250us,closed:250us\nnew filter 13 gate=9 handle=10\n")
+        self.read(terminal, "batch of 2> ")
+        types("end", "entry 2")
+        types("enable port 1 now=0", "entry 3")
+        types("apply port 1 now=now", r"entry 4: the list starts at \d+(\.\d+)?\w+")
+        types("states port 1 at=+1500us", "at .*: gates 0x[0-9a-f]{2}, open for traffic class [0-9, ]+")
+        bert = self.other("bert")
+        bert.create("filter 14", tsnd.StreamFilter(gate=9))
+        said = types("undo", "by whom it belongs to\\.")
+        self.assertIn(f"Not undone, and nothing changed: entry 5 of session {bert.number}, bert (edited filter 14) came later", said)
+        bert.undo()
+        types("undo", "entry 7: 2 is taken back")
+        self.server.kill()
+        types("who", "There is no server at .*")
+        self.server.start()
+        said = types("who", r"bert: 0 standing, last .*")
+        self.assertRegex(said, r"You go on as session (\d+), anna, at .*\r\n(.*\r\n)*session \1, anna \(you\): 1 standing, last \d{4}-")
+        said = types("log", r"7  session \d+, anna undid filter 13, gate 9 \(takes back 2\)")
+        self.assertRegex(said, r"5  session \d+, bert edited filter 14\r\n")
+        self.assertIn("120000000", types("diff 1", ".*cir.*"))
+        types(f"save {saved}", "8 records")
+        lines = difflib.ndiff(before.splitlines(), Path(saved).read_text(encoding="utf-8").splitlines())
+        self.assertEqual([line for line in lines if line.startswith("+")], ["+ cir = 120000000"])
+        types("redo", "entry 8: the undo 7 is taken back")
         os.write(terminal, b"quit\n")
         self.assertEqual(os.waitpid(pid, 0)[1], 0)
 

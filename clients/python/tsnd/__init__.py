@@ -3,7 +3,7 @@
     import tsnd
 
     with tsnd.Connection(port=7000) as connection:
-        session = connection.hello()
+        session = connection.hello("anna")
         session.create("meter 1", tsnd.FlowMeter(cir=8_000_000, cbs=1500))
         session.undo()
 """

@@ -70,10 +70,12 @@ class Entry:
 
 @dataclass(frozen=True)
 class Given:
-    """A session that was given out: its number, and how many of its entries stand."""
+    """A session that was given out: its number, how many of its entries stand, and the name under which it said hello."""
 
     session: int
     standing: int
+    name: str | None = None
+    """None where it said no name."""
 
 
 @dataclass(frozen=True)
@@ -174,9 +176,15 @@ class Connection:
             raise refused
         return reply
 
-    def hello(self) -> Session:
-        """A new session, for which the connection acts from now on. `OutOfRange` (field `session`) where all 65,535 were given out."""
-        return Session(self, int(self.ask({"do": "hello"})["session"]))
+    def hello(self, name: str | None = None) -> Session:
+        """A session, for which the connection acts from now on: a new one, or the one that has this name already.
+
+        So who lost a connection, or whose server was started again over its journal, says the same hello and can still undo. A name
+        has 1 to 64 bytes in UTF-8 and no control character: else `OutOfRange` (field `name`). `OutOfRange` (field `session`) where
+        all 65,535 sessions were given out, and none of them has the name.
+        """
+        named = {} if name is None else {"name": name}
+        return Session(self, int(self.ask({"do": "hello", **named})["session"]))
 
     def resume(self, number: int) -> Session:
         """The session of this number, for which the connection acts from now on: who lost a connection can still undo.
@@ -292,8 +300,9 @@ class Session:
         return tuple(Entry.of_members(members) for members in self._ask("since", after=after)["entries"])
 
     def sessions(self) -> tuple[Given, ...]:
-        """The sessions that were given out, ascending, each with how many of its entries stand."""
-        return tuple(Given(members["session"], members["standing"]) for members in self._ask("sessions")["sessions"])
+        """The sessions that were given out, ascending, each with how many of its entries stand, and its name."""
+        told = self._ask("sessions")["sessions"]
+        return tuple(Given(members["session"], members["standing"], members.get("name")) for members in told)
 
     def setup(self) -> str:
         """The present configuration as the text of a setup, which `tsnd` opens. `TooLong` where it would be over 1,048,576 bytes."""

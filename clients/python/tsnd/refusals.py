@@ -46,13 +46,13 @@ class Shape(Refused):
 
 
 class OutOfRange(Refused):
-    """A number outside its range or its limit. `field` names it."""
+    """A number outside its range or its limit, or a name of another length or with a control character. `field` names it."""
 
     number = 4
 
     @property
     def field(self) -> str:
-        """The member whose number is out of range."""
+        """The member that is out of range."""
         return str(self.members["field"])
 
 

@@ -1,9 +1,10 @@
 """A shell for planners: commands of a line over a connection to `tsnd serve`.
 
-    python3 -m tsnd.shell [ADDRESS] [--session N] [--journal FILE]
+    python3 -m tsnd.shell [ADDRESS] [--name NAME | --session N] [--journal FILE]
 
-ADDRESS is HOST:PORT or unix:PATH, 127.0.0.1:7000 where it is left out. `help` lists the commands. The shell says hello, or goes on as
-session N. Where the connection ends, the next command makes another one and resumes the session; a command that got no answer is
+ADDRESS is HOST:PORT or unix:PATH, 127.0.0.1:7000 where it is left out. `help` lists the commands. The shell says hello, by NAME where
+one is given, so that it goes on as the session of that name where there is one; or it goes on as session N. Where the connection ends,
+the next command makes another one and goes on as the same session, by the same hello or by its number; a command that got no answer is
 told, and is never sent again. With --journal, the server's journal file, `who` tells times and `diff` what an entry changed.
 """
 from __future__ import annotations
@@ -56,11 +57,40 @@ def keys_text(entry: Entry) -> str:
     return ", ".join(entry.keys)
 
 
-def entry_text(entry: Entry) -> str:
-    """An entry in a line: its number, its session, what it did and to what."""
-    what = f"{entry.act} at {time_text(entry.now or 0)}" if entry.what == "acted" else entry.what
+# What is said of an entry that did this.
+DID = {"made": "edited", "undone": "undid", "redone": "redid", "settled": "settled",
+       "enable": "enabled", "disable": "disabled", "apply": "applied"}
+
+
+def did_text(entry: Entry) -> str:
+    """What an entry did, and to what."""
+    if entry.what == "acted":
+        return f"{DID[entry.act or 'apply']} {keys_text(entry)} at {time_text(entry.now or 0)}"
+    return f"{DID[entry.what]} {keys_text(entry)}"
+
+
+def entry_text(entry: Entry, whose: str) -> str:
+    """An entry in a line: its number, whose it is, what it did and to what."""
     of = "" if entry.of is None else f" (takes back {entry.of})"
-    return f"{entry.number:>6}  session {entry.session:<5} {what} {keys_text(entry)}{of}"
+    return f"{entry.number:>6}  {whose:<13} {did_text(entry)}{of}"
+
+
+def whose_text(number: int, name: str | None) -> str:
+    """A session in words, with its name where it has one."""
+    return f"session {number}" if name is None else f"session {number}, {name}"
+
+
+def names_of(session: Session) -> dict[int, str | None]:
+    """The sessions that were given out, each with its name, or with none."""
+    return {given.session: given.name for given in session.sessions()}
+
+
+def names_ahead(connection: Connection) -> dict[int, str | None]:
+    """The same ahead of a hello: the first session looks, where there is one."""
+    try:
+        return names_of(connection.resume(1))
+    except NoSession:
+        return {}
 
 
 def counted(number: int, name: str) -> str:
@@ -85,18 +115,22 @@ def batch_of(session: Session, edits: tuple[Edit, ...]) -> int:
 class Shell(cmd.Cmd):
     """One planner's session, typed line by line."""
 
-    intro = "Type help for the commands, and quit to end. What you did stays, and `resume` goes on with it."
+    intro = "Type help for the commands, and quit to end. What you did stays: `name` or `resume` goes on with it."
 
     def __init__(self, address: str, session: int | None = None, journal: str | None = None, stdin: IO[str] | None = None,
-                 stdout: IO[str] | None = None) -> None:
+                 stdout: IO[str] | None = None, name: str | None = None) -> None:
         super().__init__(stdin=stdin, stdout=stdout)
         self.use_rawinput = stdin is None
         self.address, self.journal = address, journal
-        self.number = session
+        self.number, self.name = session, name
         self.session: Session | None = None
+        # The names of sessions, as far as they were asked for; a session keeps its name, or its having none.
+        self.names: dict[int, str | None] = {}
         self.batch: dict[str, Edit] | None = None
-        # The latest entry of this session that was answered here, the latest one of anybody that was told, and the latest instant.
-        self.own, self.seen, self.latest = 0, 0, 0
+        # The latest entry of this session that was answered here (none where that is not known, 0 where there is none), the latest one
+        # of anybody that was told, and the latest instant.
+        self.own: int | None = None if session is not None else 0
+        self.seen, self.latest = 0, 0
         self.is_unanswered = False
         self.failed = False
 
@@ -104,7 +138,7 @@ class Shell(cmd.Cmd):
     def prompt(self) -> str:  # type: ignore[override]
         if not self.use_rawinput:
             return ""
-        return f"batch of {len(self.batch)}> " if self.batch is not None else f"{self.number or ''}> "
+        return f"batch of {len(self.batch)}> " if self.batch is not None else f"{self.name or self.number or ''}> "
 
     def say(self, text: str) -> None:
         """Writes a line."""
@@ -114,7 +148,7 @@ class Shell(cmd.Cmd):
     # ---- the connection
 
     def connected(self) -> Session:
-        """The session over a connection that stands: the one there is, or a new one that resumes it."""
+        """The session over a connection that stands: the one there is, or a new one that goes on as the same session."""
         if self.session is not None and self.session.connection.is_ended():
             self.close()
         if self.session is None:
@@ -123,15 +157,41 @@ class Shell(cmd.Cmd):
                 connection = Connection(host, port)
             except OSError as why:
                 raise Gone(f"There is no server at {self.address}: {why.strerror or why}.") from why
-            if self.number is None:
-                self.session = connection.hello()
-                self.say(f"You are session {self.session.number} at {self.address}.")
-            else:
-                self.session = connection.resume(self.number)
-                self.say(f"You go on as session {self.number} at {self.address}.")
+            try:
+                self.session = self.begun(connection)
+                self.number = self.session.number
                 self.tell_unanswered(self.session)
-            self.number = self.session.number
+            except (ServiceError, OSError) as why:
+                self.session = None
+                connection.close()
+                raise Gone(f"The server at {self.address} ended the connection: {why}.") from why
+            except Refused:
+                connection.close()
+                raise
         return self.session
+
+    def begun(self, connection: Connection) -> Session:
+        """The session that a new connection acts for: that of the name or of the number, or a new one."""
+        if self.name is not None:
+            return self.named(connection, self.name, names_ahead(connection), f", at {self.address}")
+        self.names = {}
+        if self.number is None:
+            session = connection.hello()
+            self.say(f"You are session {session.number} at {self.address}.")
+        else:
+            session = connection.resume(self.number)
+            self.say(f"You go on as session {self.number} at {self.address}.")
+        return session
+
+    def named(self, connection: Connection, name: str, names: dict[int, str | None], where: str = "") -> Session:
+        """The session of this name, given what names there were: the one that has it, or a new one."""
+        is_known = name in names.values()
+        session = connection.hello(name)
+        if not is_known or session.number != self.number:
+            self.own = None if is_known else 0
+        self.session, self.number, self.name, self.names = session, session.number, name, {**names, session.number: name}
+        self.say(f"You {'go on as' if is_known else 'are'} {whose_text(session.number, name)}{where}.")
+        return session
 
     def close(self) -> None:
         """Ends the connection, where there is one; the next command connects again, and goes on as the same session."""
@@ -141,14 +201,19 @@ class Shell(cmd.Cmd):
 
     def tell_unanswered(self, session: Session) -> None:
         """After a resume behind a command that got no answer: what of this session was entered since the last answer."""
-        if self.is_unanswered:
-            self.is_unanswered = False
-            own = [entry for entry in session.since(self.own) if entry.session == session.number]
-            if own:
-                self.say("This was done, though no answer came:\n" + "\n".join(map(entry_text, own)))
-                self.note(own[-1].number)
-            else:
-                self.say("Nothing of yours was entered since your last answer.")
+        if not self.is_unanswered:
+            return
+        own = [entry for entry in session.since(self.own or 0) if entry.session == session.number]
+        told = [entry_text(entry, whose_text(entry.session, self.name)) for entry in own]
+        if not own:
+            self.say("Nothing of yours was entered since your last answer.")
+        elif self.own is None:
+            self.say(f"Nothing of this session was answered here before. What it did last is\n{told[-1]}")
+        else:
+            self.say("This was done, though no answer came:\n" + "\n".join(told))
+        if own:
+            self.note(own[-1].number)
+        self.is_unanswered = False
 
     def note(self, entry: int) -> None:
         """Notes an entry of this session."""
@@ -170,7 +235,7 @@ class Shell(cmd.Cmd):
         try:
             return bool(super().onecmd(line))
         except Refused as why:
-            self.say(self.sentence(why))
+            self.say(self.told(why))
         except (Gone, NoProgram, Unclear, Unfit, Unread) as why:
             self.say(str(why))
         except BrokenPipeError:
@@ -182,13 +247,28 @@ class Shell(cmd.Cmd):
 
     # ---- what a refusal says
 
+    def told(self, why: Refused) -> str:
+        """A refusal in a sentence; as the service said it, where that says no more."""
+        try:
+            return self.sentence(why)
+        except (Gone, Refused):
+            return str(why)
+
+    def whose(self, number: int) -> str:
+        """A session in words. Names are asked for once, and again where a session is met that came behind that."""
+        if number not in self.names:
+            self.names = self.ask(names_of)
+        return whose_text(number, self.names.get(number))
+
     def entry_at(self, number: int) -> str:
         """An entry of somebody, in words."""
         found = [entry for entry in self.ask(lambda session: session.since(number - 1)) if entry.number == number]
         if not found:
             return f"entry {number}"
-        who = "your own" if found[0].session == self.number else f"session {found[0].session}'s"
-        return f"{who} entry {number} ({found[0].what} {keys_text(found[0])})"
+        what = did_text(found[0])
+        if found[0].session == self.number:
+            return f"your own entry {number} ({what})"
+        return f"entry {number} of {self.whose(found[0].session)} ({what})"
 
     def sentence(self, why: Refused) -> str:
         """A refusal in a sentence, with what to do."""
@@ -204,6 +284,8 @@ class Shell(cmd.Cmd):
             return f"It refers to {why.key}, which is not there: make {why.key} first, or both in one batch."
         if isinstance(why, AlreadySettled):
             return f"The entries up to {why.upto} are settled already."
+        if isinstance(why, OutOfRange) and why.field in HELLOS:
+            return HELLOS[why.field]
         if isinstance(why, OutOfRange):
             place = place_in(why.command)
             return f"Nothing changed: {place}." if place else f"'{why.field}' is outside its range, or its limit in the setup."
@@ -412,7 +494,7 @@ class Shell(cmd.Cmd):
         words = self.words(line, 1)
         entries = self.ask(lambda session: session.since(number_of(words[0]) if words else 0))
         for entry in entries if words else entries[-10:]:
-            self.say(entry_text(entry))
+            self.say(entry_text(entry, self.whose(entry.session)))
         self.seen = max([self.seen, *(entry.number for entry in entries)])
 
     def do_who(self, line: str) -> None:
@@ -422,7 +504,7 @@ class Shell(cmd.Cmd):
         for given in self.ask(lambda session: session.sessions()):
             you = " (you)" if given.session == self.number else ""
             last = f", last {times[given.session]}" if given.session in times else ""
-            self.say(f"session {given.session}{you}: {given.standing} standing{last}")
+            self.say(f"{whose_text(given.session, given.name)}{you}: {given.standing} standing{last}")
 
     def do_follow(self, line: str) -> None:
         """follow: tells each entry as it comes, until Ctrl-C."""
@@ -431,7 +513,7 @@ class Shell(cmd.Cmd):
             while True:
                 for entry in self.ask(lambda session: session.since(self.seen)):
                     self.seen = entry.number
-                    self.say(entry_text(entry))
+                    self.say(entry_text(entry, self.whose(entry.session)))
                 time.sleep(0.5)
         except KeyboardInterrupt:
             self.say("")
@@ -492,14 +574,20 @@ class Shell(cmd.Cmd):
         """resume N: goes on as session N."""
         number = number_of(self.words(line, 1, 1)[0])
         self.session = self.ask(lambda session: session.connection.resume(number))
-        self.number, self.own = number, 0
+        self.number, self.name, self.own = number, None, None
         self.say(f"You go on as session {number}.")
 
+    def do_name(self, line: str) -> None:
+        """name NAME: goes on as the session of this name; where there is none, a new one gets it."""
+        name = self.words(line, 1, 1)[0]
+        names = self.ask(names_of)
+        self.ask(lambda session: self.named(session.connection, name, names))
+
     def do_hello(self, line: str) -> None:
-        """hello: begins a new session."""
+        """hello: begins a new session, with no name."""
         self.words(line, 0)
         fresh: Session = self.ask(lambda session: session.connection.hello())
-        self.session, self.number, self.own = fresh, fresh.number, 0
+        self.session, self.number, self.name, self.own = fresh, fresh.number, None, 0
         self.say(f"You are session {fresh.number}.")
 
     def do_quit(self, line: str) -> bool:
@@ -548,6 +636,10 @@ class Shell(cmd.Cmd):
         return [member for member in members if member.startswith(text)]
 
 
+HELLOS = {
+    "name": "That is no name: it has 1 to 64 bytes in UTF-8, and no control character.",
+    "session": "All 65,535 sessions were given out: go on as one of them, by `resume` or by its name.",
+}
 SENTENCES: dict[type[Refused], str] = {
     Missing: "There is no {key}.",
     Exists: "{key} is there already: `set` changes it.",
@@ -565,7 +657,8 @@ SENTENCES: dict[type[Refused], str] = {
 USAGE = {
     name: (getattr(Shell, f"do_{name}").__doc__ or "").split(":")[0]
     for name in ("show", "list", "new", "set", "remove", "batch", "end", "drop", "undo", "redo", "settle", "enable", "disable", "apply",
-                 "states", "counters", "log", "who", "diff", "follow", "save", "load", "resume", "hello", "help", "quit")
+                 "states", "counters", "log", "who", "diff", "follow", "save", "load", "name", "resume", "hello", "help",
+                 "quit")
 }
 KEYED = {"show", "new", "set", "remove", "enable", "disable", "apply", "states", "counters"}
 
@@ -574,15 +667,17 @@ def main() -> int:
     """Runs the shell over standard input; where that is no terminal, the status is 1 if a command failed."""
     parser = argparse.ArgumentParser(prog="python3 -m tsnd.shell", description="A shell for planners, over a connection to `tsnd serve`.")
     parser.add_argument("address", nargs="?", default=DEFAULT, metavar="ADDRESS", help=f"HOST:PORT or unix:PATH; {DEFAULT} where left out")
-    parser.add_argument("--session", type=int, metavar="N", help="goes on as session N")
+    who = parser.add_mutually_exclusive_group()
+    who.add_argument("--name", metavar="NAME", help="goes on as the session of this name; where there is none, a new one gets it")
+    who.add_argument("--session", type=int, metavar="N", help="goes on as session N")
     parser.add_argument("--journal", metavar="FILE", help="the server's journal file, for who and diff")
     given = parser.parse_args()
     is_typed = sys.stdin.isatty()
-    shell = Shell(given.address, given.session, given.journal, None if is_typed else sys.stdin)
+    shell = Shell(given.address, given.session, given.journal, None if is_typed else sys.stdin, name=given.name)
     try:
         shell.connected()
     except (Gone, Refused, Unclear) as why:
-        print(f"tsnd.shell: {shell.sentence(why) if isinstance(why, Refused) else why}", file=sys.stderr)
+        print(f"tsnd.shell: {shell.told(why) if isinstance(why, Refused) else why}", file=sys.stderr)
         return 1
     if not is_typed:
         shell.intro = ""
