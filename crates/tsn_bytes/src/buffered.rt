@@ -140,6 +140,10 @@ impl<W: ByteOut> ByteOut for Buffered<W> {
         Ok(self.hold(bytes))
     }
 
+    fn has_room(&self, bytes: usize) -> bool {
+        bytes <= CAPACITY - self.bytes.len()
+    }
+
     fn flush(&mut self) -> Result<(), Failed> {
         self.hand_on()?;
         self.inner.flush()

@@ -77,6 +77,11 @@ pub trait ByteOut {
         ensures err { OnErr result (Keeps (taken self.old) (taken self.new)) }
         ensures failed { OnErr result (has_failed self.new ≡ true) };
 
+    /// Whether it would take so many bytes with no wait, as far as it knows. Nothing is decided by it but when to write.
+    fn has_room(&self, _bytes: usize) -> bool {
+        false
+    }
+
     /// Hands on all that is held back. It takes no byte, and a call that fails loses none.
     fn flush(&mut self) -> Result<(), Failed>
         ensures bytes { Keeps (taken self.old) (taken self.new) }

@@ -55,6 +55,15 @@ impl<M: Machine> Seat<M> {
     }
 }
 
+/// Where a thread begins its turn.
+#[derive(Clone, Copy, Debug, PartialEq, Eq)]
+pub enum Standing {
+    /// At the door, where it waits until no ticket is out and nobody has locked it.
+    AtTheDoor,
+    /// Inside, since it locked the door itself.
+    Inside,
+}
+
 /// A turn that has ended.
 #[derive(Debug, Drop)]
 pub struct Turn<A> {
@@ -155,12 +164,35 @@ impl<M: Machine> Desk<M> {
         ensures exhausted { OnErr result.1 ((2 ^ 63 ≤ tickets result.0) × (seen result.0 ≡ seen seat) × (made result.0 ≡ made seat)) }
         ensures always_then { 2 ^ 63 ≤ tickets seat → IsErr result.1 }
     {
+        self.turn_from(rt, Standing::AtTheDoor, seat, request, witness)
+    }
+
+    /// The same of a thread that may be inside already, since it locked the door.
+    pub fn turn_from<R: Wait, W: Witness<M>>(
+        &self,
+        rt: &R,
+        standing: Standing,
+        seat: Seat<M>,
+        request: M::Request,
+        witness: &mut W,
+    ) -> (
+        Seat<M>,
+        Result<(Turn<M::Reply>, W::Mark), Exhausted<M::Request>>,
+    )
+        requires { IsSeatOf self.now seat }
+        ensures own { IsSeatOf self.now result.0 × (number result.0 ≡ number seat) }
+        ensures turn { IfOk result.1 (λ t. HasTurned M.steps self.now seat request t.0.place t.0.reply result.0) }
+        ensures mark { IfOk result.1 (λ t. W.marks request t.0.reply t.1) }
+        ensures request { IfErr result.1 (λ back. back.request ≡ request) }
+        ensures exhausted { OnErr result.1 ((2 ^ 63 ≤ tickets result.0) × (seen result.0 ≡ seen seat) × (made result.0 ≡ made seat)) }
+        ensures always_then { 2 ^ 63 ≤ tickets seat → IsErr result.1 }
+    {
         witness.hear(&request);
-        self.come_in(rt);
+        self.come_from(rt, standing);
         let mut seat = seat.into_inner();
         if self.table.shared.load::<SeeTickets>(&mut seat, TICKETS) >= LAST_TICKET {
             // No turn ends here that would wake the next one at the door.
-            self.waiting.call_in();
+            self.wake_from(standing);
             return (Seat { inner: seat }, Err(Exhausted { request }));
         }
         let place = self.table.shared.fetch_add::<Draw>(&mut seat, TICKETS, 1);
@@ -174,8 +206,27 @@ impl<M: Machine> Desk<M> {
         let nothing = self.table.shared.exchange(&mut seat, 0, Some(machine));
         let None = nothing else { unreachable!() };
         self.finish_said(&mut seat, &asked, &reply);
-        self.wake();
+        self.wake_from(standing);
         (Seat { inner: seat }, Ok((Turn { place, reply }, mark)))
+    }
+
+    /// Locks the door once no ticket is out and nobody else has locked it: threads whose turns begin at the door wait there until it is
+    /// opened. This decides who waits, and never what a turn finds. Whoever locks the door opens it, and takes turns from inside alone till
+    /// then.
+    pub fn lock_door<R: Wait>(&self, rt: &R) {
+        for _ in rt.forever() {
+            self.come_in(rt);
+            if self.waiting.lock() {
+                return;
+            }
+        }
+        unreachable!()
+    }
+
+    /// Opens the door that was locked, and wakes one who waits there.
+    pub fn open_door(&self) {
+        self.waiting.unlock();
+        self.waiting.call_in();
     }
 
     /// How many turns have ended. The seat has then seen the history of just these. It neither waits nor takes memory.

@@ -10,7 +10,7 @@ ghost use Rattle.tsn_desk.specs.declared.board.Stage.TheVariants.{Serving, Waiti
 ghost use Rattle.tsn_desk.specs.Steps.{Ended, HasServed, Took};
 
 use crate::board::{SERVING, TICKETS};
-use crate::desk::{Desk, TableSeat};
+use crate::desk::{Desk, Standing, TableSeat};
 use crate::machine::Machine;
 use crate::plays::{End, Look, Said};
 use std::hint;
@@ -52,7 +52,7 @@ impl<M: Machine> Desk<M> {
         }
     }
 
-    /// Waits at the door until no ticket is out.
+    /// Waits at the door until it is not locked and no ticket is out.
     pub(crate) fn come_in<R: Wait>(&self, rt: &R) {
         let mut looks = 0;
         for _ in rt.forever() {
@@ -75,18 +75,30 @@ impl<M: Machine> Desk<M> {
         unreachable!()
     }
 
-    /// Whether no ticket is out: every turn that was drawn for has ended.
+    /// Whether nobody has locked the door and no ticket is out: every turn that was drawn for has ended.
     fn is_free(&self) -> bool {
+        if self.waiting.is_locked() {
+            return false;
+        }
         let tickets = self.table.shared.peek(TICKETS);
         tickets <= self.table.shared.peek(SERVING)
     }
 
-    /// Wakes those who sleep with a ticket, and one at the door.
-    pub(crate) fn wake(&self) {
+    /// Comes in, where the thread is not inside.
+    pub(crate) fn come_from<R: Wait>(&self, rt: &R, standing: Standing) {
+        if standing == Standing::AtTheDoor {
+            self.come_in(rt);
+        }
+    }
+
+    /// Wakes those who sleep with a ticket, and one at the door where it is not locked.
+    pub(crate) fn wake_from(&self, standing: Standing) {
         if self.waiting.has_sleepers() {
             self.table.shared.wake_all(SERVING);
         }
-        self.waiting.call_in();
+        if standing == Standing::AtTheDoor {
+            self.waiting.call_in();
+        }
     }
 
     /// Ends the turn, in which `asked` was asked and `reply` was the answer.

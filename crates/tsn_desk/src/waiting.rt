@@ -5,16 +5,24 @@
 //! there. Who ends a turn sets it to 0 and wakes one; who was woken sets it to 1 again, since others may still sleep.
 //! Whoever sets it to 1 looks once more after that: it goes in, and its own turn ends later, or it finds a ticket out,
 //! and the turn of that ends later. Either way one more is woken.
+//!
+//! A thread that has turns to take one behind the other locks the door, and the others stay there. It unlocks it and looks then whether
+//! someone may sleep there; and who says so looks at the lock once more. So either the one finds it open or the other wakes one.
 use std::sync::Wait;
 use std::sync::atomic::{AtomicU64, Ordering};
 
 /// Someone may sleep at the door.
 const CROWDED: u32 = 1;
 
+/// The door is locked.
+const LOCKED: u64 = 1;
+
 #[derive(Drop)]
 pub(crate) struct Waiting {
     /// Whether someone may sleep at the door.
     door: AtomicU64,
+    /// Whether the door is locked.
+    lock: AtomicU64,
     /// How many sleep with a ticket, or are about to.
     sleepers: AtomicU64,
 }
@@ -24,6 +32,7 @@ impl Waiting {
     pub(crate) fn new() -> Waiting {
         Waiting {
             door: AtomicU64::new(0),
+            lock: AtomicU64::new(0),
             sleepers: AtomicU64::new(0),
         }
     }
@@ -44,6 +53,21 @@ impl Waiting {
             self.door.store(0, Ordering::SeqCst);
             self.door.wake_one();
         }
+    }
+
+    /// Whether the door is locked.
+    pub(crate) fn is_locked(&self) -> bool {
+        self.lock.load(Ordering::SeqCst) != 0
+    }
+
+    /// Locks the door, unless it is locked, and says whether it was open.
+    pub(crate) fn lock(&self) -> bool {
+        self.lock.swap(LOCKED, Ordering::SeqCst) == 0
+    }
+
+    /// The door is no longer locked.
+    pub(crate) fn unlock(&self) {
+        self.lock.store(0, Ordering::SeqCst);
     }
 
     /// Counts one more that is about to sleep with a ticket.

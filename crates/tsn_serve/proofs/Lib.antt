@@ -1,5 +1,6 @@
 pub mod Cutting
 pub mod Running
+pub mod Ahead
 pub mod OneCut
 pub mod Ending
 pub mod Writing

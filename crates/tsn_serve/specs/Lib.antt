@@ -3,6 +3,7 @@ pub mod Script
 pub mod Pieces
 pub mod Outcomes
 pub mod Answers
+pub mod Rows
 pub mod Talk
 pub mod Held
 pub mod Served

@@ -1,16 +1,19 @@
 //! One connection over a bridge that threads share: its lines are calls of one seat.
 //! It relies on the loop over lines, on the turns of a desk, on the reading of a line and on the text of a reply.
-ghost use Rattle.std.specs.Prelude.{◌≡◌, ◌^◌, ◌≤◌, ◌↔◌, ℕ, Option, None, Result, IsTrue, IfOk, IfErr, IfNone, OnErr, IsErrOf, option_map};
+ghost use Rattle.std.specs.Prelude.{◌≡◌, ◌≢◌, ◌⊎◌, ◌^◌, ◌<◌, ◌≤◌, ◌↔◌, ℕ, List, [], ◌∷◌, Option, None, Result, Err, true, IsTrue, IfOk, IfErr, IfNone, OnOk, OnErr, IsErrOf, option_map, length, drop, vec_len};
+ghost use Rattle.std.specs.Io.KnownBytes.{Appends};
 ghost use Rattle.tsn_types.specs.declared.refusals.Refusal.{Refusal as AnyRefusal};
 ghost use Rattle.tsn_bridge.specs.declared.command.Ask.{Ask as AnyAsk};
-ghost use Rattle.tsn_bytes.specs.declared.bytes.Fault.TheVariants.{Memory, Exhausted};
+ghost use Rattle.tsn_bytes.specs.declared.bytes.Fault.TheVariants.{Write, Memory, Exhausted};
 ghost use Rattle.tsn_desk.specs.Desks.{IsSeatOf, id_of, first_of};
 ghost use Rattle.tsn_serve.specs.Answers.{MayRead, Replies};
 ghost use Rattle.tsn_serve.specs.Talk.{MayAsk, Calls, Asks, TakesUp, Tires, Talks, BreaksTalk, Goes, IsMarked, Told, caller_of, latest_after};
+ghost use Rattle.tsn_serve.specs.Rows.{AnswersFront, IsRow};
 ghost use Rattle.tsn_serve.specs.Outcomes.{Outcome, moment, most_reads};
 
 use crate::gate::Gate;
 use crate::responder::{Responder, answer_lines};
+use crate::rows::{MOST_REPLIES, ReadLine, read_front, read_row};
 use crate::script::{READS, read_line};
 use std::alloc::Global;
 use std::marker::Model;
@@ -19,7 +22,7 @@ use tsn_bridge::bridge::Bridge;
 use tsn_bridge::command::{Ask, Command};
 use tsn_bridge::reply::Reply;
 use tsn_bytes::{ByteIn, ByteOut, Fault};
-use tsn_desk::desk::{Desk, Seat};
+use tsn_desk::desk::{Desk, Seat, Standing};
 use tsn_desk::machine::{Nobody, Witness};
 use tsn_replies::write_reply;
 use tsn_types::refusals::Refusal;
@@ -53,6 +56,8 @@ pub struct Connection<'a, R: Wait, G: Gate, W: Witness<Bridge>> {
     seat: Option<Seat<Bridge>>,
     // The session of its latest hello or resume.
     latest: Option<u32>,
+    // Whether it has locked the door.
+    standing: Standing,
 }
 
 impl<'a, R: Wait, G: Gate, W: Witness<Bridge>> Model for Connection<'a, R, G, W> {
@@ -89,6 +94,7 @@ impl<'a, R: Wait, G: Gate, W: Witness<Bridge> + Drop> Connection<'a, R, G, W> {
             number,
             seat: Some(seat),
             latest: None,
+            standing: Standing::AtTheDoor,
         }
     }
 
@@ -106,6 +112,7 @@ impl<'a, R: Wait, G: Gate, W: Witness<Bridge> + Drop> Connection<'a, R, G, W> {
             number: _,
             seat,
             latest: _,
+            standing: _,
         } = self;
         let Some(seat) = seat else { unreachable!() };
         seat
@@ -131,7 +138,7 @@ impl<'a, R: Wait, G: Gate, W: Witness<Bridge> + Drop> Connection<'a, R, G, W> {
         };
         let (seat, turned) = self
             .desk
-            .attended_turn(self.rt, seat, ask, &mut self.witness);
+            .turn_from(self.rt, self.standing, seat, ask, &mut self.witness);
         self.seat = Some(seat);
         let Ok((turn, mark)) = turned else {
             return Err(Fault::Exhausted);
@@ -173,6 +180,133 @@ impl<'a, R: Wait, G: Gate, W: Witness<Bridge> + Drop> Connection<'a, R, G, W> {
     {
         self.reply_to(read_line(alloc, line))
     }
+
+    // Answers what a line was read as.
+    fn answer_read<O: ByteOut>(
+        &mut self,
+        read: Result<Ask, Refusal>,
+        writer: &mut O,
+    ) -> Result<(), Fault>
+        ensures ok { OnOk result ((text : List ℕ)
+            × ((line : Option (List ℕ)) → MayRead line read → Talks self.old line text self.new)
+            × Appends (O.taken writer.old) (O.taken writer.new) text) }
+        ensures worked { result ≢ Err Write → O.has_failed writer.new ≡ O.has_failed writer.old }
+        ensures fault { IfErr result (λ e. (e ≡ Write) ⊎ (e ≡ Exhausted)) }
+        ensures failed { IsErrOf result Write → O.has_failed writer.new ≡ true }
+        ensures broken { IfErr result (λ e. (part : List ℕ)
+            × ((line : Option (List ℕ)) → MayRead line read → BreaksTalk self.old line e part self.new)
+            × Appends (O.taken writer.old) (O.taken writer.new) part) }
+    {
+        let (reply, _) = match self.reply_to(read) {
+            Ok(replied) => replied,
+            Err(fault) => return Err(fault),
+        };
+        let written = write_reply(writer, &reply);
+        if written.is_ok() {
+            self.gate.answered(self.number);
+        }
+        written
+    }
+
+    // Answers a line alone, the first of these bytes, and says how many bytes it has.
+    fn answer_one<O: ByteOut>(
+        &mut self,
+        line: ReadLine,
+        _bytes: &[u8],
+        writer: &mut O,
+    ) -> Result<usize, Fault>
+        requires { (0 < line.count) × (line.count ≤ length _bytes.now) × IsRow _bytes.now (line ∷ []) (drop line.count _bytes.now) }
+        ensures front { AnswersFront Talks BreaksTalk self.old _bytes.now (O.taken writer.old) (O.taken writer.new) result self.new }
+        ensures worked { result ≢ Err Write → O.has_failed writer.new ≡ O.has_failed writer.old }
+        ensures failed { IsErrOf result Write → O.has_failed writer.new ≡ true }
+    {
+        match self.answer_read(line.read, writer) {
+            Ok(()) => Ok(line.count),
+            Err(fault) => Err(fault),
+        }
+    }
+
+    // Opens the door, where it has locked it, unless it may stay.
+    fn leave_unless(&mut self, may_stay: bool)
+        ensures { self.new ≡ self.old }
+    {
+        if self.standing == Standing::Inside && !may_stay {
+            self.standing = Standing::AtTheDoor;
+            self.desk.open_door();
+        }
+    }
+
+    // Answers the lines of a row, one behind the other, and says how many bytes they have. Where one may have a long reply the door
+    // is opened first.
+    fn answer_each<O: ByteOut>(
+        &mut self,
+        row: Vec<ReadLine>,
+        _bytes: &[u8],
+        writer: &mut O,
+    ) -> Result<usize, Fault>
+        requires { (0 < vec_len row) × ((rest : List ℕ) × IsRow _bytes.now row.items rest) }
+        ensures front { AnswersFront Talks BreaksTalk self.old _bytes.now (O.taken writer.old) (O.taken writer.new) result self.new }
+        ensures worked { result ≢ Err Write → O.has_failed writer.new ≡ O.has_failed writer.old }
+        ensures failed { IsErrOf result Write → O.has_failed writer.new ≡ true }
+    {
+        let mut done = 0;
+        'lines: for line in row {
+            let ReadLine {
+                read,
+                count,
+                is_brief,
+            } = line;
+            self.leave_unless(is_brief);
+            if let Err(fault) = self.answer_read(read, writer) {
+                return Err(fault);
+            }
+            done += count;
+        }
+        Ok(done)
+    }
+
+    // The same with the door locked, so that the turns follow each other and no other thread's come between.
+    fn answer_row<O: ByteOut>(
+        &mut self,
+        row: Vec<ReadLine>,
+        bytes: &[u8],
+        writer: &mut O,
+    ) -> Result<usize, Fault>
+        requires { (0 < vec_len row) × ((rest : List ℕ) × IsRow bytes.now row.items rest) }
+        ensures front { AnswersFront Talks BreaksTalk self.old bytes.now (O.taken writer.old) (O.taken writer.new) result self.new }
+        ensures worked { result ≢ Err Write → O.has_failed writer.new ≡ O.has_failed writer.old }
+        ensures failed { IsErrOf result Write → O.has_failed writer.new ≡ true }
+    {
+        self.desk.lock_door(self.rt);
+        self.standing = Standing::Inside;
+        let answered = self.answer_each(row, bytes, writer);
+        self.leave_unless(false);
+        answered
+    }
+
+    // Answers the first line of these bytes, and the lines that lie whole behind it where their replies are short and nothing in between
+    // may wait.
+    fn answer_from<O: ByteOut>(
+        &mut self,
+        alloc: Global,
+        first: ReadLine,
+        bytes: &[u8],
+        writer: &mut O,
+    ) -> Result<usize, Fault>
+        requires { (0 < first.count) × (first.count ≤ length bytes.now) × IsRow bytes.now (first ∷ []) (drop first.count bytes.now) }
+        ensures front { AnswersFront Talks BreaksTalk self.old bytes.now (O.taken writer.old) (O.taken writer.new) result self.new }
+        ensures worked { result ≢ Err Write → O.has_failed writer.new ≡ O.has_failed writer.old }
+        ensures failed { IsErrOf result Write → O.has_failed writer.new ≡ true }
+    {
+        let is_alone = first.count == bytes.len() || !first.is_brief;
+        if is_alone || self.gate.may_wait() || !writer.has_room(MOST_REPLIES) {
+            return self.answer_one(first, bytes, writer);
+        }
+        match read_row(alloc, first, bytes) {
+            Ok(row) => self.answer_row(row, bytes, writer),
+            Err(first) => self.answer_one(first, bytes, writer),
+        }
+    }
 }
 
 impl<'a, R: Wait, G: Gate, W: Witness<Bridge> + Drop> Responder for Connection<'a, R, G, W> {
@@ -195,6 +329,21 @@ impl<'a, R: Wait, G: Gate, W: Witness<Bridge> + Drop> Responder for Connection<'
             self.gate.answered(self.number);
         }
         written
+    }
+
+    fn answer_front<O: ByteOut>(
+        &mut self,
+        alloc: Global,
+        bytes: &[u8],
+        writer: &mut O,
+    ) -> Result<Option<usize>, Fault> {
+        let Some(first) = read_front(alloc, bytes) else {
+            return Ok(None);
+        };
+        match self.answer_from(alloc, first, bytes, writer) {
+            Ok(count) => Ok(Some(count)),
+            Err(fault) => Err(fault),
+        }
     }
 }
 

@@ -7,6 +7,12 @@ pub trait Gate {
 
     /// After each reply of this connection, once the writer took it.
     fn answered(&self, connection: u32);
+
+    /// Whether a call of it may wait. If not, the turns for lines that a connection has at hand follow each other, and others wait
+    /// meanwhile.
+    fn may_wait(&self) -> bool {
+        true
+    }
 }
 
 /// A gate that is always open.
@@ -17,4 +23,8 @@ impl Gate for Free {
     fn before(&self, _connection: u32) {}
 
     fn answered(&self, _connection: u32) {}
+
+    fn may_wait(&self) -> bool {
+        false
+    }
 }

@@ -11,6 +11,7 @@ mod laws;
 mod line_buffer;
 mod probing;
 mod responder;
+mod rows;
 mod script;
 mod serving;
 

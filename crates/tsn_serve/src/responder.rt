@@ -1,6 +1,6 @@
 //! The loop that answers lines, in whatever pieces their bytes come.
 //! It is generic in what answers a line, and relies on that one's contract, on the reader's and on the writer's.
-ghost use Rattle.std.specs.Prelude.{◌≡◌, ◌≢◌, ◌⊎◌, ◌<◌, ◌≤◌, ◌+◌, ◌++◌, ℕ, Option, List, [], ◌∷◌, length, take, Some, IfSome, true, IfOk, IfErr, OnOk, OnErr, IsErrOf, Err, option_map, slice_index};
+ghost use Rattle.std.specs.Prelude.{◌≡◌, ◌≢◌, ◌⊎◌, ◌<◌, ◌≤◌, ◌+◌, ◌++◌, ℕ, Option, List, [], ◌∷◌, length, take, None, Some, IfSome, true, IfOk, IfErr, OnOk, OnErr, IsErrOf, Ok, Err, option_map, slice_index};
 ghost use Rattle.std.specs.Io.KnownBytes.{Appends, Consumes, Keeps, IsAtEnd};
 ghost use Rattle.tsn_bytes.specs.Bytes.{Counts};
 ghost use Rattle.tsn_bytes.specs.declared.bytes.Fault.{Fault as AnyFault};
@@ -8,8 +8,10 @@ ghost use Rattle.tsn_bytes.specs.declared.bytes.Fault.TheVariants.{Write, Memory
 ghost use Rattle.tsn_serve.specs.Lines.{HasNoLineFeed, line_feed, longest_line};
 ghost use Rattle.tsn_serve.specs.Pieces.{Feeds, Ends, Breaks, EndBreaks};
 ghost use Rattle.tsn_serve.specs.Outcomes.{Outcome, moment};
+ghost use Rattle.tsn_serve.specs.Rows.{AnswersFront};
 
-use crate::line_buffer::{LineBuffer, MAX_LINE};
+use crate::line_buffer::LineBuffer;
+use crate::rows::front_line;
 use memchr::memchr;
 use std::alloc::Global;
 use tsn_bytes::{ByteIn, ByteOut, Failed, Fault};
@@ -44,6 +46,23 @@ pub trait Responder {
         ensures broken { IfErr result (λ e. (part : List ℕ)
             × breaks self.old (option_map (λ s. s.now) line.entry) e part self.new
             × Appends (W.taken writer.old) (W.taken writer.new) part) };
+
+    /// Answers one line or more of those that lie whole in front of the bytes, where nothing is kept of a line, and says how many bytes
+    /// these have; or none of them. The faults are those of an answer.
+    fn answer_front<W: ByteOut>(
+        &mut self,
+        _alloc: Global,
+        _bytes: &[u8],
+        _writer: &mut W,
+    ) -> Result<Option<usize>, Fault>
+        ensures none { result ≡ Ok None → (self.new ≡ self.old) × (_writer.new ≡ _writer.old) }
+        ensures front { IfOk result (λ count. IfSome count (λ n. AnswersFront answers breaks self.old _bytes.now (W.taken _writer.old) (W.taken _writer.new) (Ok n) self.new)) }
+        ensures broken { IfErr result (λ e. AnswersFront answers breaks self.old _bytes.now (W.taken _writer.old) (W.taken _writer.new) (Err e) self.new) }
+        ensures worked { result ≢ Err Write → W.has_failed _writer.new ≡ W.has_failed _writer.old }
+        ensures failed { IsErrOf result Write → W.has_failed _writer.new ≡ true }
+    {
+        Ok(None)
+    }
 }
 
 // The line that lies whole in these bytes, up to their first line feed, where nothing is kept of an earlier one.
@@ -57,11 +76,7 @@ fn whole_line<'p>(line: &LineBuffer, bytes: &'p [u8]) -> Option<&'p [u8]>
     if !line.is_empty() {
         return None;
     }
-    let end = memchr(b'\n', bytes)?;
-    if end > MAX_LINE {
-        return None;
-    }
-    Some(&bytes[..end])
+    front_line(bytes)
 }
 
 // The bytes up to the first line feed, all of them where there is none.
@@ -135,7 +150,7 @@ fn feed_part<A: Responder, W: ByteOut>(
 }
 
 // Goes on by the line that lies whole in front, or else by a part of one, and says by how many bytes.
-fn feed_front<A: Responder, W: ByteOut>(
+fn feed_whole<A: Responder, W: ByteOut>(
     alloc: Global,
     responder: &mut A,
     line: &mut LineBuffer,
@@ -160,6 +175,36 @@ fn feed_front<A: Responder, W: ByteOut>(
             Err(fault) => Err(fault),
         },
         None => feed_part(alloc, responder, line, bytes, writer),
+    }
+}
+
+// Goes on by lines that lie whole in front, or else by a part of one, and says by how many bytes.
+fn feed_front<A: Responder, W: ByteOut>(
+    alloc: Global,
+    responder: &mut A,
+    line: &mut LineBuffer,
+    bytes: &[u8],
+    writer: &mut W,
+) -> Result<usize, Fault>
+    requires { 0 < length bytes.now }
+    ensures count { IfOk result (λ n. (0 < n) × (n ≤ length bytes.now)) }
+    ensures ok { IfOk result (λ n. (text : List ℕ)
+        × Feeds A.answers responder.old line.old (take n bytes.now) text responder.new line.new
+        × Appends (W.taken writer.old) (W.taken writer.new) text) }
+    ensures worked { result ≢ Err Write → W.has_failed writer.new ≡ W.has_failed writer.old }
+    ensures fault { IfErr result (λ e. (e ≡ Write) ⊎ (e ≡ Exhausted)) }
+    ensures failed { IsErrOf result Write → W.has_failed writer.new ≡ true }
+    ensures broken { IfErr result (λ e. (written : List ℕ)
+        × Breaks A.answers A.breaks e responder.old line.old bytes.now written responder.new
+        × Appends (W.taken writer.old) (W.taken writer.new) written) }
+{
+    if !line.is_empty() {
+        return feed_part(alloc, responder, line, bytes, writer);
+    }
+    match responder.answer_front(alloc, bytes, writer) {
+        Ok(Some(count)) => Ok(count),
+        Ok(None) => feed_whole(alloc, responder, line, bytes, writer),
+        Err(fault) => Err(fault),
     }
 }
 

@@ -1,4 +1,4 @@
-use Rattle.tsn_serve.proofs.Rounds.{rounded, started}
+use Rattle.tsn_serve.proofs.Rounds.{rounded}
 use Rattle.tsn_serve.proofs.probing.probe_seat.Goals as goal
 
 pub rounds-preserved : goal.rounds-preserved

@@ -1,7 +1,7 @@
 use Rattle.std.proofs.Common.{rules, length, ap, sym, ◌∙◌, ◌∷◌, Some, arith}
 use Rattle.atomic_table.specs.Table.{rest}
 use Rattle.tsn_desk.proofs.Keeps.{sees_tickets, draws}
-use Rattle.tsn_desk.proofs.desk.Desk.attended_turn.Goals as goal
+use Rattle.tsn_desk.proofs.desk.Desk.turn_from.Goals as goal
 
 pub load-requires : goal.load-requires
 load-requires g c = (search rules, search rules, sees_tickets _ _ _ _ _ _)
