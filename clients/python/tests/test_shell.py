@@ -106,6 +106,17 @@ class Commands(Served):
         self.assertIn("applied port 1 at 3ms", self.says("log 6"))
         self.assertEqual(self.says("undo all"), "2 taken back, up to entry 9\n")
 
+    def test_instants_from_now(self) -> None:
+        """`now` is this machine's clock, in TAI, and another instant is counted from it."""
+        self.assertIn("entry 1\n", self.says("enable port 1 now=now"))
+        before = time.clock_gettime_ns(time.CLOCK_TAI)
+        told = re.match(r"at (\d+)(ns|us|ms|s): gates 0xff, ", self.says("states port 1 at=now+100s"))
+        after = time.clock_gettime_ns(time.CLOCK_TAI)
+        assert told is not None
+        instant = int(told[1]) * {"ns": 1, "us": 10**3, "ms": 10**6, "s": 10**9}[told[2]]
+        self.assertLessEqual(before + 100 * 10**9, instant)
+        self.assertLessEqual(instant, after + 100 * 10**9)
+
     def test_refusals_are_sentences(self) -> None:
         self.says("new gate 9")
         other = self.other()
