@@ -4,7 +4,8 @@ ghost use Rattle.std.specs.Option.{ForSome};
 
 use std::io::ErrorKind;
 use std::net::TcpStream;
-use std::sync::atomic::{AtomicU64, Ordering};
+use std::sync::atomic::{AtomicBool, AtomicU64, Ordering};
+use std::sync::{Mutex, Wait};
 use std::time::{Clock, Duration};
 use std::{io, thread};
 use tsn_bytes::StdIo;
@@ -32,6 +33,9 @@ pub struct SocketSource<'a, R: Clock, L: Log> {
     most: Option<u64>,
     idle: Option<Duration>,
     log: Option<&'a L>,
+    // A thread that waits for a connection holds a descriptor for it already, so one waits at a time.
+    accepting: Mutex<()>,
+    is_closed: AtomicBool,
     ghost few: { ForSome most (λ n. n ≤ 65535) },
 }
 
@@ -55,6 +59,8 @@ impl<'a, R: Clock, L: Log> SocketSource<'a, R, L> {
             most,
             idle: idle.map(Duration::from_secs),
             log,
+            accepting: Mutex::new(()),
+            is_closed: AtomicBool::new(false),
         }
     }
 
@@ -68,7 +74,7 @@ impl<'a, R: Clock, L: Log> SocketSource<'a, R, L> {
     }
 
     // The next stream. A wait that a signal interrupts goes on.
-    fn take(&self) -> io::Result<TcpStream> {
+    fn accept(&self) -> io::Result<TcpStream> {
         'accepts: for _ in 0..TRIES {
             match self.listener.accept() {
                 Ok(stream) => return Ok(stream),
@@ -79,24 +85,14 @@ impl<'a, R: Clock, L: Log> SocketSource<'a, R, L> {
         Err(io::Error::from(ErrorKind::Interrupted))
     }
 
-    // Lets some time pass, in which descriptors or memory may come free.
-    fn pause(&self) {
+    /// Lets some time pass, in which descriptors or memory may come free.
+    pub(crate) fn pause(&self) {
         thread::sleep(self.rt, Duration::from_millis(PAUSE));
     }
 
-    /// The next connection, with its number. A peer that is gone before its connection is taken costs that connection alone.
-    /// Where none can be taken for another reason, no descriptor left say, the thread that asks waits and tries again with the
-    /// next number.
-    pub(crate) fn next_stream(&self) -> Option<(u32, TcpStream)> {
-        'numbers: for _ in 0..TRIES {
-            let number = self.next_number()?;
-            match self.take() {
-                Ok(stream) => return Some((number, stream)),
-                Err(error) if error.kind() == ErrorKind::ConnectionAborted => {}
-                Err(_) => self.pause(),
-            }
-        }
-        None
+    /// Takes no further connection, once the thread that waits for one has got it.
+    pub(crate) fn close(&self) {
+        self.is_closed.store(true, Ordering::SeqCst);
     }
 
     /// Both ends of a connection, for its reader and its writer; none where no descriptor is left for both, or its times can't be
@@ -117,7 +113,33 @@ impl<'a, R: Clock, L: Log> SocketSource<'a, R, L> {
     }
 }
 
-impl<'a, R: Clock, L: Log + Sync> Source for SocketSource<'a, R, L> {
+impl<'a, R: Wait + Clock, L: Log> SocketSource<'a, R, L> {
+    // The next stream, once no other thread waits for one; none where no further one is taken.
+    fn take(&self) -> io::Result<Option<TcpStream>> {
+        let _alone = self.accepting.lock(self.rt);
+        if self.is_closed.load(Ordering::SeqCst) {
+            return Ok(None);
+        }
+        self.accept().map(Some)
+    }
+
+    /// The next connection, with its number. A peer that is gone before its connection is taken costs that connection alone.
+    /// Where none can be taken for another reason, no descriptor left say, the thread that asks waits and tries again with the
+    /// next number.
+    pub(crate) fn next_stream(&self) -> Option<(u32, TcpStream)> {
+        'numbers: for _ in 0..TRIES {
+            let number = self.next_number()?;
+            match self.take() {
+                Ok(taken) => return taken.map(|stream| (number, stream)),
+                Err(error) if error.kind() == ErrorKind::ConnectionAborted => {}
+                Err(_) => self.pause(),
+            }
+        }
+        None
+    }
+}
+
+impl<'a, R: Wait + Clock, L: Log + Sync> Source for SocketSource<'a, R, L> {
     type Reader = StdIo<TcpStream>;
 
     type Writer = LoggedWriter<'a, StdIo<TcpStream>, L>;

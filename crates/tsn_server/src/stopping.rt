@@ -10,8 +10,11 @@ use tsn_clerk::Stop;
 use tsn_serve::Source;
 use tsn_sockets::{Log, LoggedWriter, Place};
 
-/// How long a connection of the service's own may take, in milliseconds, with which it wakes a thread that waits for one.
+/// How long a connection of the service's own may take, in milliseconds, with which it wakes the thread that waits for one.
 const LONGEST_CALL: u64 = 100;
+
+/// How often it is tried, where no descriptor is left for it.
+const CALLS: u64 = 100;
 
 /// What became of a handle that was to be kept.
 #[derive(Clone, Copy, Debug, PartialEq, Eq)]
@@ -40,7 +43,6 @@ pub struct StoppableSource<
     rt: &'a R,
     source: SocketSource<'a, R, L>,
     place: Place,
-    threads: u64,
     open: Mutex<Open>,
 }
 
@@ -62,7 +64,6 @@ impl<'a, R: Wait + Clock + Net<Listener = TcpListener, Stream = TcpStream>, L: L
             rt,
             source,
             place,
-            threads,
             open: Mutex::new(Open {
                 handles,
                 is_stopped: false,
@@ -108,12 +109,13 @@ impl<'a, R: Wait + Clock + Net<Listener = TcpListener, Stream = TcpStream>, L: L
         }
     }
 
-    // Wakes each thread that waits for a connection, or will, by one of the service's own.
+    // Wakes the thread that waits for a connection, by one of the service's own. Connections that end leave a descriptor for it.
     fn wake(&self) {
-        for _ in 0..self.threads {
-            if !self.call() {
+        'calls: for _ in 0..CALLS {
+            if self.call() {
                 return;
             }
+            self.source.pause();
         }
     }
 }
@@ -122,6 +124,7 @@ impl<R: Wait + Clock + Net<Listener = TcpListener, Stream = TcpStream>, L: Log> 
     for StoppableSource<'_, R, L> {
     fn stop(&self) {
         if !self.close() {
+            self.source.close();
             self.wake();
         }
     }
