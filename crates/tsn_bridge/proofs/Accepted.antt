@@ -13,8 +13,11 @@ use Rattle.tsn_bridge.specs.Beginning.{standard_limits}
 -- its entries are the ports, which refer to nothing
 standard_accepted : opening_refusal standard_limits [] ≡ None
 standard_accepted =
-    ap (λ (es : List (Key × Record)). first_cause (None ∷ None ∷ first_cause (map (λ e. dangling (opening standard_limits []) e.1) es) ∷ []))
+    ap (λ (es : List (Key × Record)). first_cause
+    (None ∷ None ∷ first_cause (map (λ e. dangling (opening standard_limits []) e.1) es) ∷ []))
     (from_sorted_list (default_ports 2) refl)
 
-pub accepted : (limits : Limits) (records : List (Key × Record)) → limits ≡ standard_limits → records ≡ [] → opening_refusal limits records ≡ None
-accepted limits records of none = ap (λ (l : Limits). opening_refusal l records) of ∙ ap (opening_refusal standard_limits) none ∙ standard_accepted
+pub accepted : (limits : Limits) (records : List (Key × Record)) → limits ≡ standard_limits → records ≡ []
+    → opening_refusal limits records ≡ None
+accepted limits records of none =
+    ap (λ (l : Limits). opening_refusal l records) of ∙ ap (opening_refusal standard_limits) none ∙ standard_accepted

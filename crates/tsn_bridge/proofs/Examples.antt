@@ -58,9 +58,14 @@ none_listed = from_sorted_list [] refl
 -- ---- an undo of all that keeps another session's edits
 
 -- what the key has where neither of the keys taken out is asked for
-same_at : (a b : Bool) (k : Key) → same_key k (Gate 1) ≡ a → same_key k (Filter 0) ≡ b → get (present (book_of one_left)) k ≡ get (others_alone (book_of in_turns) 1) k
-same_at true b k gate_1 filter_0 = subst (λ q. get (present (book_of one_left)) q ≡ get (others_alone (book_of in_turns) 1) q) (sym (one_key k (Gate 1) gate_1)) (simp (inserted, taken_out, none_at))
-same_at false true k gate_1 filter_0 = subst (λ q. get (present (book_of one_left)) q ≡ get (others_alone (book_of in_turns) 1) q) (sym (one_key k (Filter 0) filter_0)) (simp (inserted, taken_out, none_at))
+same_at : (a b : Bool) (k : Key) → same_key k (Gate 1) ≡ a → same_key k (Filter 0) ≡ b
+    → get (present (book_of one_left)) k ≡ get (others_alone (book_of in_turns) 1) k
+same_at true b k gate_1 filter_0 =
+    subst (λ q. get (present (book_of one_left)) q ≡ get (others_alone (book_of in_turns) 1) q) (sym (one_key k (Gate 1) gate_1))
+    (simp (inserted, taken_out, none_at))
+same_at false true k gate_1 filter_0 =
+    subst (λ q. get (present (book_of one_left)) q ≡ get (others_alone (book_of in_turns) 1) q) (sym (one_key k (Filter 0) filter_0))
+    (simp (inserted, taken_out, none_at))
 same_at false false k gate_1 filter_0 = simp (inserted, taken_out, gate_1, filter_0)
 
 pub left_is : present (book_of one_left) ≡ others_alone (book_of in_turns) 1
@@ -92,7 +97,8 @@ one_filter = (0, record { handle = None; priority = None; gate = 0; max_sdu = No
 
 one_row : entries (from_entries {R = nat_cmp} one_filter) ≡ one_filter
 one_row =
-    ap entries (same_map nat_cmp_total nat_cmp-IsAntisymmetric (from_entries one_filter) (from_sorted one_filter) (λ q. get-from_entries nat_cmp_total one_filter q ∙ sym (get-from_sorted nat_cmp one_filter q tt)))
+    ap entries (same_map nat_cmp_total nat_cmp-IsAntisymmetric (from_entries one_filter) (from_sorted one_filter)
+    (λ q. get-from_entries nat_cmp_total one_filter q ∙ sym (get-from_sorted nat_cmp one_filter q tt)))
     ∙ entries-from_sorted nat_cmp one_filter tt
 
 filters_are : filter_rows (entries held) ≡ one_filter
@@ -113,7 +119,13 @@ acts_held = acts_of_gates (book_of gate_runs)
 module _ (f : FrameData) (d : FilterData) (g : GateData) (has_filter : get f.filters 0 ≡ Some d) (has_gate : get f.gates 0 ≡ Some g) where
   abbrev case_of : Frame → ℕ → Case
   case_of frame time =
-      let by : StreamGate = record { is_open = false; ipv = None; invalid_rx = false; octets_exceeded = true; admin = record { list = gate_list; cycle = 2000; extension = 0; base = 0 } } in
+      let by : StreamGate = record {
+        is_open = false;
+        ipv = None;
+        invalid_rx = false;
+        octets_exceeded = true;
+        admin = record { list = gate_list; cycle = 2000; extension = 0; base = 0 };
+      } in
       record {
         number = 0;
         filter = record { handle = None; priority = None; gate = 0; max_sdu = None; meter = None; oversize = false };
@@ -127,10 +139,13 @@ module _ (f : FrameData) (d : FilterData) (g : GateData) (has_filter : get f.fil
   at_filter : (frame : Frame) (time : ℕ) → framed_at held f acts_held frame time (Some 0) ≡ Some (framed_by f (case_of frame time))
   at_filter frame time = rw (filter_is, gate_is, has_filter, has_gate) refl
 
-  framed_here : (frame : Frame) (time : ℕ) (x : Verdict × FrameData) → framed_by f (case_of frame time) ≡ x → framed held f acts_held frame time ≡ Some x
-  framed_here frame time x is = ap (framed_at held f acts_held frame time) (chosen_is frame.handle frame.priority) ∙ at_filter frame time ∙ ap Some is
+  framed_here : (frame : Frame) (time : ℕ) (x : Verdict × FrameData) → framed_by f (case_of frame time) ≡ x
+      → framed held f acts_held frame time ≡ Some x
+  framed_here frame time x is =
+      ap (framed_at held f acts_held frame time) (chosen_is frame.handle frame.priority) ∙ at_filter frame time ∙ ap Some is
 
-  answered : (now : ℕ) (x : Coming) (v : Verdict) (new : FrameData) → framed_by f (case_of (record { handle = 7; priority = 2; octets = x.octets; yellow = false }) (max now x.time)) ≡ (v, new)
+  answered : (now : ℕ) (x : Coming) (v : Verdict) (new : FrameData)
+      → framed_by f (case_of (record { handle = 7; priority = 2; octets = x.octets; yellow = false }) (max now x.time)) ≡ (v, new)
       → answers (with_rows now f) x ≡ Some (Framed v, with_rows (max now x.time) new)
   answered now x v new is =
       ap (option_map {T = Verdict × FrameData} {U = Reply × State} (λ y. (Framed y.0, framed_state (with_rows now f) x.time y.1)))
@@ -143,19 +158,25 @@ abbrev left_2 : List Coming
 left_2 = frame_of 10 100 ∷ frame_of 20 60 ∷ []
 
 pub frame_1 : answers (with_rows 0 rows_new) (frame_of 10 100) ≡ Some (Framed (Passed (Some 0) 10 5 false), with_rows 10 rows_1)
-frame_1 = answered rows_new new_filter new_gate (put_in standard.frames.filters 0 new_filter 0) (put_in standard.frames.gates 0 new_gate 0) 0 (frame_of 10 100) (Passed (Some 0) 10 5 false) rows_1 refl
+frame_1 = answered rows_new new_filter new_gate (put_in standard.frames.filters 0 new_filter 0) (put_in standard.frames.gates 0 new_gate 0)
+    0 (frame_of 10 100) (Passed (Some 0) 10 5 false) rows_1 refl
 
 pub frame_2 : answers (with_rows 10 rows_1) (frame_of 20 60) ≡ Some (Framed (Dropped 0 20 Octets), with_rows 20 rows_2)
 frame_2 =
     answered rows_1 (left_by (filter_0 true gate_acts) no_meter left_1).filter (left_by (filter_0 true gate_acts) no_meter left_1).gate
-    (put_in rows_new.filters 0 (left_by (filter_0 true gate_acts) no_meter left_1).filter 0) (put_in rows_new.gates 0 (left_by (filter_0 true gate_acts) no_meter left_1).gate 0) 10 (frame_of 20 60) (Dropped 0 20 Octets) rows_2 refl
+    (put_in rows_new.filters 0 (left_by (filter_0 true gate_acts) no_meter left_1).filter 0)
+    (put_in rows_new.gates 0 (left_by (filter_0 true gate_acts) no_meter left_1).gate 0) 10 (frame_of 20 60) (Dropped 0 20 Octets)
+    rows_2 refl
 
 pub frame_3 : answers (with_rows 20 rows_2) (frame_of 2010 10) ≡ Some (Framed (Dropped 0 2010 Closed), with_rows 2010 rows_3)
 frame_3 =
     answered rows_2 (left_by (filter_0 true gate_acts) no_meter left_2).filter (left_by (filter_0 true gate_acts) no_meter left_2).gate
-    (put_in rows_1.filters 0 (left_by (filter_0 true gate_acts) no_meter left_2).filter 0) (put_in rows_1.gates 0 (left_by (filter_0 true gate_acts) no_meter left_2).gate 0) 20 (frame_of 2010 10) (Dropped 0 2010 Closed) rows_3 refl
+    (put_in rows_1.filters 0 (left_by (filter_0 true gate_acts) no_meter left_2).filter 0)
+    (put_in rows_1.gates 0 (left_by (filter_0 true gate_acts) no_meter left_2).gate 0) 20 (frame_of 2010 10) (Dropped 0 2010 Closed)
+    rows_3 refl
 
-pub told_3 : counted_at (book_of gate_runs) rows_3 2010 (Gate 0) ≡ Some (counters.Gate (record { change_error = 0; change_time = Some 0; enabled = true; pending = false }) false true)
+pub told_3 : counted_at (book_of gate_runs) rows_3 2010 (Gate 0)
+    ≡ Some (counters.Gate (record { change_error = 0; change_time = Some 0; enabled = true; pending = false }) false true)
 told_3 =
     ap (option_map (λ (d : GateData). gate_counters 2010 d (acts_held 0)))
     (put_in rows_2.gates 0 (left_by (filter_0 true gate_acts) no_meter (frame_of 10 100 ∷ frame_of 20 60 ∷ frame_of 2010 10 ∷ [])).gate 0)

@@ -174,7 +174,8 @@ module _ (s : State) (n : ℕ) (f : Family) (reply : Reply) (new : State) where
   by_each rule r t o is may how step = elim (outcome rule s reply new step) as (λ _. Leaves s n f reply new) [
     | inl still ↦ unchanged still.same
     | inr did ↦ done_each (Leaves s n f) r t o reply new
-        (λ x some. record { how = how did.none x some; stays = λ told. (let never : true ≡ false = sym (may x) ∙ told in absurd (cc)) }) (sym is ∙ did.done)
+        (λ x some. record { how = how did.none x some; stays = λ told. (let never : true ≡ false = sym (may x) ∙ told in absurd (cc)) })
+        (sym is ∙ did.done)
   ]
 
   -- where it is there at once
@@ -184,7 +185,8 @@ module _ (s : State) (n : ℕ) (f : Family) (reply : Reply) (new : State) where
   at_once rule r t is may how = by_each {A = ⊤} rule (λ _. r) (λ _. t) (Some tt) is (λ _. may) (λ none _ _. how none)
 
 -- a hello, by the session that goes by its name, if there is one
-greeted : (s : State) (n : ℕ) (name : Option (List ℕ)) (reply : Reply) (new : State) (o : Option ℕ) → Allows (hello_as s name o) s reply new → Leaves s n (Greeting name) reply new
+greeted : (s : State) (n : ℕ) (name : Option (List ℕ)) (reply : Reply) (new : State) (o : Option ℕ) → Allows (hello_as s name o) s reply new
+    → Leaves s n (Greeting name) reply new
 greeted s n name reply new None step = at_once s n (Greeting name) reply new (new_session s name) _ _ refl refl (λ none. Greeted name) step
 greeted s n name reply new (Some m) step = unchanged s n (Greeting name) reply new (looked (known_look m) s reply new step)
 

@@ -1,4 +1,5 @@
--- Instance data stays tied to the book where an entry applied a change that fitted and the runtime followed it: whether the change was made, undone or redone.
+-- Instance data stays tied to the book where an entry applied a change that fitted and the runtime followed it: whether the change was
+-- made, undone or redone.
 use Rattle.std.proofs.Common.{◌≡◌, ℕ, Bool, true, false, cond, refl, sym, ◌∙◌, ap, subst, List, [], ◌∷◌, ◌++◌, Option, Some, None}
 use Rattle.std.proofs.lemmas.List.Sums.{fold-append}
 use Rattle.std.specs.List.{IsDistinct}
@@ -32,11 +33,14 @@ use Rattle.tsn_bridge.specs.Objects.{Object, after_entry, after_part, gate_at, g
 use Rattle.tsn_bridge.specs.Kept.{IsTied, RunsActs}
 
 -- one entry more
-pub object_push : {E : Type 0} (admin : Option Record → Option (Schedule E)) (k : Key) (o : Option Record) (es : List Entry) (w : Entry) → object admin k o (es ++ w ∷ []) ≡ after_entry admin k (object admin k o es) w.what
-object_push {E = E} admin k o es w = fold-append (λ (o : Object E) (e : Entry). after_entry admin k o e.what) (record { value = o; acts = [] }) es (w ∷ [])
+pub object_push : {E : Type 0} (admin : Option Record → Option (Schedule E)) (k : Key) (o : Option Record) (es : List Entry) (w : Entry)
+    → object admin k o (es ++ w ∷ []) ≡ after_entry admin k (object admin k o es) w.what
+object_push {E = E} admin k o es w =
+    fold-append (λ (o : Object E) (e : Entry). after_entry admin k o e.what) (record { value = o; acts = [] }) es (w ∷ [])
 
 -- an entry that applied a change
-pub applied_entry : {E : Type 0} (admin : Option Record → Option (Schedule E)) (k : Key) (o : Object E) (w : What) (e : Change) → applies w ≡ Some e → after_entry admin k o w ≡ after_part o (part_of k (parts e))
+pub applied_entry : {E : Type 0} (admin : Option Record → Option (Schedule E)) (k : Key) (o : Object E) (w : What) (e : Change)
+    → applies w ≡ Some e → after_entry admin k o w ≡ after_part o (part_of k (parts e))
 applied_entry admin k o (Made f) e is = let same : f ≡ e = cc in ap (λ (g : Change). after_part o (part_of k (parts g))) same
 applied_entry admin k o (Undone n f) e is = let same : f ≡ e = cc in ap (λ (g : Change). after_part o (part_of k (parts g))) same
 applied_entry admin k o (Redone n f) e is = let same : f ≡ e = cc in ap (λ (g : Change). after_part o (part_of k (parts g))) same
@@ -44,12 +48,16 @@ applied_entry admin k o (Acted act key a) e is = absurd (cc)
 applied_entry admin k o (Settled upto) e is = absurd (cc)
 
 -- a row of the table of runners
-module _ {E : Type 0} (t : FinMap nat_cmp (Kept E)) (m n : ℕ) (o : Object E) (k : Kept E) (h : (k : Kept E) → get t n ≡ Some k → StandsFor k o.acts) where
-  removed : (b : Bool) → eq_by_cmp nat_cmp n m ≡ b → get (remove t m) n ≡ Some k → StandsFor k (cond b (record { value = None; acts = [] }) o).acts
-  removed true e is = let none : None ≡ Some k = sym (get-remove nat_cmp_total t m n ∙ ap (λ b. cond b None (get t n)) e) ∙ is in absurd (cc)
+module _ {E : Type 0} (t : FinMap nat_cmp (Kept E)) (m n : ℕ) (o : Object E) (k : Kept E) (h : (k : Kept E) → get t n ≡ Some k
+    → StandsFor k o.acts) where
+  removed : (b : Bool) → eq_by_cmp nat_cmp n m ≡ b → get (remove t m) n ≡ Some k
+      → StandsFor k (cond b (record { value = None; acts = [] }) o).acts
+  removed true e is =
+      let none : None ≡ Some k = sym (get-remove nat_cmp_total t m n ∙ ap (λ b. cond b None (get t n)) e) ∙ is in absurd (cc)
   removed false e is = h k (sym (get-remove nat_cmp_total t m n ∙ ap (λ b. cond b None (get t n)) e) ∙ is)
 
-  created : (r : Record) (b : Bool) → eq_by_cmp nat_cmp n m ≡ b → get (insert t m fresh) n ≡ Some k → StandsFor k (cond b (record { value = Some r; acts = [] }) o).acts
+  created : (r : Record) (b : Bool) → eq_by_cmp nat_cmp n m ≡ b → get (insert t m fresh) n ≡ Some k
+      → StandsFor k (cond b (record { value = Some r; acts = [] }) o).acts
   created r true e is =
       let here : Some fresh ≡ Some k = sym (get-insert nat_cmp_total t m fresh n ∙ ap (λ b. cond b (Some fresh) (get t n)) e) ∙ is in
       let same : fresh ≡ k = cc in
@@ -60,22 +68,27 @@ module _ {E : Type 0} (t : FinMap nat_cmp (Kept E)) (m n : ℕ) (o : Object E) (
   replaced v true is = h k is
   replaced v false is = h k is
 
-  row_stands : (before after : Option Record) → get (row_after fresh before after t m) n ≡ Some k → StandsFor k (cond (eq_by_cmp nat_cmp n m) (record { value = after; acts = lived before after o.acts }) o).acts
+  row_stands : (before after : Option Record) → get (row_after fresh before after t m) n ≡ Some k
+      → StandsFor k (cond (eq_by_cmp nat_cmp n m) (record { value = after; acts = lived before after o.acts }) o).acts
   row_stands None None is = removed (eq_by_cmp nat_cmp n m) refl is
   row_stands (Some q) None is = removed (eq_by_cmp nat_cmp n m) refl is
   row_stands None (Some r) is = created r (eq_by_cmp nat_cmp n m) refl is
   row_stands (Some q) (Some r) is = replaced (Some r) (eq_by_cmp nat_cmp n m) is
 
 -- the runner of a port, of a gate, after a change of any key
-port_stands : (key : Key) (before after : Option Record) (r : Runners) (o : Object PortEntry) (n : ℕ) (k : Kept PortEntry) → ((k : Kept PortEntry) → get r.ports n ≡ Some k → StandsFor k o.acts)
-    → get (runners_at r key before after).ports n ≡ Some k → StandsFor k (cond (same_key (Port n) key) (record { value = after; acts = lived before after o.acts }) o).acts
+port_stands : (key : Key) (before after : Option Record) (r : Runners) (o : Object PortEntry) (n : ℕ) (k : Kept PortEntry)
+    → ((k : Kept PortEntry) → get r.ports n ≡ Some k → StandsFor k o.acts)
+    → get (runners_at r key before after).ports n ≡ Some k
+    → StandsFor k (cond (same_key (Port n) key) (record { value = after; acts = lived before after o.acts }) o).acts
 port_stands (Port m) before after r o n k h is = row_stands r.ports m n o k h before after is
 port_stands (Filter m) before after r o n k h is = h k is
 port_stands (Gate m) before after r o n k h is = h k is
 port_stands (Meter m) before after r o n k h is = h k is
 
-gate_stands : (key : Key) (before after : Option Record) (r : Runners) (o : Object GateEntry) (n : ℕ) (k : Kept GateEntry) → ((k : Kept GateEntry) → get r.gates n ≡ Some k → StandsFor k o.acts)
-    → get (runners_at r key before after).gates n ≡ Some k → StandsFor k (cond (same_key (Gate n) key) (record { value = after; acts = lived before after o.acts }) o).acts
+gate_stands : (key : Key) (before after : Option Record) (r : Runners) (o : Object GateEntry) (n : ℕ) (k : Kept GateEntry)
+    → ((k : Kept GateEntry) → get r.gates n ≡ Some k → StandsFor k o.acts)
+    → get (runners_at r key before after).gates n ≡ Some k
+    → StandsFor k (cond (same_key (Gate n) key) (record { value = after; acts = lived before after o.acts }) o).acts
 gate_stands (Port m) before after r o n k h is = h k is
 gate_stands (Filter m) before after r o n k h is = h k is
 gate_stands (Gate m) before after r o n k h is = row_stands r.gates m n o k h before after is
@@ -93,7 +106,8 @@ unfolding part_on
 one_part p ps distinct k same = part_on_none k ps (no_other p ps distinct k same)
 
 -- the runner of a port, of a gate, after the parts of a change
-ports_stand : (ps : List Part) → IsDistinct same_key (keys_of ps) → (r : Runners) (o : Object PortEntry) (n : ℕ) (k : Kept PortEntry) → ((k : Kept PortEntry) → get r.ports n ≡ Some k → StandsFor k o.acts)
+ports_stand : (ps : List Part) → IsDistinct same_key (keys_of ps) → (r : Runners) (o : Object PortEntry) (n : ℕ) (k : Kept PortEntry)
+    → ((k : Kept PortEntry) → get r.ports n ≡ Some k → StandsFor k o.acts)
     → get (runners_after r ps).ports n ≡ Some k → StandsFor k (after_part o (part_of (Port n) ps)).acts
 unfolding IsDistinct
 ports_stand [] distinct r o n k h is = h k is
@@ -101,9 +115,11 @@ ports_stand (p ∷ ps) distinct r o n k h is =
     let b = same_key (Port n) p.key in
     let changed : Object PortEntry = record { value = p.after; acts = lived p.before p.after o.acts } in
     subst (λ (q : Object PortEntry). StandsFor k q.acts) (joined b o p (part_of (Port n) ps) (one_part p ps distinct (Port n)))
-    (ports_stand ps distinct.1 (runners_at r p.key p.before p.after) (cond b changed o) n k (λ k is. port_stands p.key p.before p.after r o n k h is) is)
+    (ports_stand ps distinct.1 (runners_at r p.key p.before p.after) (cond b changed o) n k
+    (λ k is. port_stands p.key p.before p.after r o n k h is) is)
 
-gates_stand : (ps : List Part) → IsDistinct same_key (keys_of ps) → (r : Runners) (o : Object GateEntry) (n : ℕ) (k : Kept GateEntry) → ((k : Kept GateEntry) → get r.gates n ≡ Some k → StandsFor k o.acts)
+gates_stand : (ps : List Part) → IsDistinct same_key (keys_of ps) → (r : Runners) (o : Object GateEntry) (n : ℕ) (k : Kept GateEntry)
+    → ((k : Kept GateEntry) → get r.gates n ≡ Some k → StandsFor k o.acts)
     → get (runners_after r ps).gates n ≡ Some k → StandsFor k (after_part o (part_of (Gate n) ps)).acts
 unfolding IsDistinct
 gates_stand [] distinct r o n k h is = h k is
@@ -111,20 +127,28 @@ gates_stand (p ∷ ps) distinct r o n k h is =
     let b = same_key (Gate n) p.key in
     let changed : Object GateEntry = record { value = p.after; acts = lived p.before p.after o.acts } in
     subst (λ (q : Object GateEntry). StandsFor k q.acts) (joined b o p (part_of (Gate n) ps) (one_part p ps distinct (Gate n)))
-    (gates_stand ps distinct.1 (runners_at r p.key p.before p.after) (cond b changed o) n k (λ k is. gate_stands p.key p.before p.after r o n k h is) is)
+    (gates_stand ps distinct.1 (runners_at r p.key p.before p.after) (cond b changed o) n k
+    (λ k is. gate_stands p.key p.before p.after r o n k h is) is)
 
 module _ (b : Ledger) (s : ℕ) (w : What) (e : Change) (apply : applies w ≡ Some e) where
-  acts_of : {E : Type 0} (admin : Option Record → Option (Schedule E)) (k : Key) → object admin k (get b.opening k) (enter b s w).entries ≡ after_part (object admin k (get b.opening k) b.entries) (part_of k (parts e))
-  acts_of admin k = object_push admin k (get b.opening k) b.entries _ ∙ applied_entry admin k (object admin k (get b.opening k) b.entries) w e apply
+  acts_of : {E : Type 0} (admin : Option Record → Option (Schedule E)) (k : Key)
+      → object admin k (get b.opening k) (enter b s w).entries ≡ after_part (object admin k (get b.opening k) b.entries)
+      (part_of k (parts e))
+  acts_of admin k =
+      object_push admin k (get b.opening k) b.entries _ ∙ applied_entry admin k (object admin k (get b.opening k) b.entries) w e apply
 
   runs_on : (r : Runners) → IsDistinct same_key (keys_of (parts e)) → RunsActs b r → RunsActs (enter b s w) (runners_after r e)
   runs_on r distinct h = record {
-    ports = λ n k is. subst (λ (o : Object PortEntry). StandsFor k o.acts) (sym (acts_of port_schedule (Port n))) (ports_stand (parts e) distinct r (port_at b n) n k (h.ports n) is);
-    gates = λ n k is. subst (λ (o : Object GateEntry). StandsFor k o.acts) (sym (acts_of gate_schedule (Gate n))) (gates_stand (parts e) distinct r (gate_at b n) n k (h.gates n) is);
+    ports = λ n k is. subst (λ (o : Object PortEntry). StandsFor k o.acts) (sym (acts_of port_schedule (Port n)))
+        (ports_stand (parts e) distinct r (port_at b n) n k (h.ports n) is);
+    gates = λ n k is. subst (λ (o : Object GateEntry). StandsFor k o.acts) (sym (acts_of gate_schedule (Gate n)))
+        (gates_stand (parts e) distinct r (gate_at b n) n k (h.gates n) is);
   }
 
-  pub followed : (r : Runners) (f : FrameData) (now : ℕ) → IsTied b r f → Fits b.limits (present b) e → IsTied (enter b s w) (runners_after r e) (frames_after now f e)
+  pub followed : (r : Runners) (f : FrameData) (now : ℕ) → IsTied b r f → Fits b.limits (present b) e
+      → IsTied (enter b s w) (runners_after r e) (frames_after now f e)
   followed r f now h fits = record {
     runs = runs_on r fits.distinct h.runs;
-    keys = subst (λ c. HasKeys (runners_after r e) (frames_after now f e) c) (sym (configuration_push b.opening b.entries s w e apply)) (keys_fit b.limits (present b) r f now e h.keys fits);
+    keys = subst (λ c. HasKeys (runners_after r e) (frames_after now f e) c) (sym (configuration_push b.opening b.entries s w e apply))
+        (keys_fit b.limits (present b) r f now e h.keys fits);
   }

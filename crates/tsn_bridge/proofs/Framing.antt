@@ -18,8 +18,10 @@ use Rattle.tsn_bridge.specs.Rule.{Allows, is_given}
 use Rattle.tsn_bridge.specs.State.{State}
 use Rattle.tsn_bridge.proofs.Stepping.{is_done, seen}
 
-pub framed_step : (p p' : PairState) (k : GivenOut) (s : State) (n : ℕ) (frame : Frame) (now : ℕ) (v : Verdict) → ◌≡◌ {A = State} (seen p k) s → is_given s n ≡ true
-    → p'.ledger ≡ p.ledger → p'.time ≡ max p.time now → framed (present p.ledger) p.frames (acts_of_gates p.ledger) frame (max p.time now) ≡ Some (v, p'.frames)
+pub framed_step : (p p' : PairState) (k : GivenOut) (s : State) (n : ℕ) (frame : Frame) (now : ℕ) (v : Verdict) → ◌≡◌ {A = State} (seen p k)
+    s → is_given s n ≡ true
+    → p'.ledger ≡ p.ledger → p'.time ≡ max p.time now
+    → framed (present p.ledger) p.frames (acts_of_gates p.ledger) frame (max p.time now) ≡ Some (v, p'.frames)
     → Allows (frame_rule s n frame now) s (Framed v) (seen p' k)
 framed_step p p' k s n frame now v view known same time is =
     let done : (frame_rule s n frame now).done ≡ Some (Framed v, seen p' k) =

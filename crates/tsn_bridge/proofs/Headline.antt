@@ -59,10 +59,12 @@ batch_in_range : (f : Family) (batch : List Edit) → batch_of f ≡ Some batch 
 batch_in_range (Editing edits) batch is h = subst (λ b. IsBatch b × EditsInRange b) (same_edits is) h
 batch_in_range f batch is h = (cc)
 
-edits_in_range : (command : Command) (batch : List Edit) → edits_of command ≡ Some batch → CommandInRange command → IsBatch batch × EditsInRange batch
+edits_in_range : (command : Command) (batch : List Edit) → edits_of command ≡ Some batch → CommandInRange command
+    → IsBatch batch × EditsInRange batch
 edits_in_range command batch is h = batch_in_range (family command) batch is (in_range command h)
 
-module _ (before between : State) (session : ℕ) (command : Command) (entry : ℕ) (sound : StateIsSound before) (last : EditsLast before between session command entry) where
+module _ (before between : State) (session : ℕ) (command : Command) (entry : ℕ) (sound : StateIsSound before)
+    (last : EditsLast before between session command entry) where
   sound_edited : StateIsSound last.edited
   sound_edited = (follows before session command (Entry entry) last.edited sound last.ranges last.step).sound
 
@@ -72,10 +74,12 @@ module _ (before between : State) (session : ℕ) (command : Command) (entry : �
       let on = (follow last.asks last.edited between sound_edited last.in_range last.leads).later in
       λ i. record { limits = on.limits i; opening = on.opening i; entries = last.none_since i }
 
-  undone_edit : (after : State) (number of : ℕ) → Allows (undo_rule between session) between (EntryOf number of) after → (of ≡ entry) × (present after.book ≡ present before.book)
+  undone_edit : (after : State) (number of : ℕ) → Allows (undo_rule between session) between (EntryOf number of) after
+      → (of ≡ entry) × (present after.book ≡ present before.book)
   undone_edit after number of back =
       let fine = edits_in_range command last.batch last.asks_for last.ranges in
-      undone_at_once before last.edited between session last.batch entry fine.0 fine.1 sound (made_by before last.edited session command last.batch entry last.asks_for last.step) same_book after number of back
+      undone_at_once before last.edited between session last.batch entry fine.0 fine.1 sound
+      (made_by before last.edited session command last.batch entry last.asks_for last.step) same_book after number of back
 
   -- what is said of the batch of the edit and the undo after it
   module _ (after : State) where
@@ -89,27 +93,36 @@ module _ (before between : State) (session : ℕ) (command : Command) (entry : �
     fine = edits_in_range command last.batch last.asks_for last.ranges
 
     free_edit : (why : Refusal) → Allows (undo_rule between session) between (Refused why) after → (why ≡ JournalFull) ⊎ (why ≡ Memory)
-    free_edit why back = free before last.edited between session last.batch entry fine.0 fine.1 sound made same_book sessions_on after why back
+    free_edit why back =
+        free before last.edited between session last.batch entry fine.0 fine.1 sound made same_book sessions_on after why back
 
-    full_edit : (reply : Reply) → Allows (undo_rule between session) between reply after → no_room between.book.entries 1 ≡ Some JournalFull → (reply ≡ Refused JournalFull) × (after ≡ between)
-    full_edit reply back none = full before last.edited between session last.batch entry fine.0 fine.1 sound made same_book sessions_on after reply back none
+    full_edit : (reply : Reply) → Allows (undo_rule between session) between reply after → no_room between.book.entries 1 ≡ Some JournalFull
+        → (reply ≡ Refused JournalFull) × (after ≡ between)
+    full_edit reply back none =
+        full before last.edited between session last.batch entry fine.0 fine.1 sound made same_book sessions_on after reply back none
 
-    room_edit : (reply : Reply) → Allows (undo_rule between session) between reply after → no_room between.book.entries 1 ≡ None → (reply ≡ EntryOf (next between) entry) ⊎ ((reply ≡ Refused Memory) × (after ≡ between))
-    room_edit reply back room = with_room before last.edited between session last.batch entry fine.0 fine.1 sound made same_book sessions_on after reply back room
+    room_edit : (reply : Reply) → Allows (undo_rule between session) between reply after → no_room between.book.entries 1 ≡ None
+        → (reply ≡ EntryOf (next between) entry) ⊎ ((reply ≡ Refused Memory) × (after ≡ between))
+    room_edit reply back room =
+        with_room before last.edited between session last.batch entry fine.0 fine.1 sound made same_book sessions_on after reply back room
 
 pub at_once_undone : (s : State) → StateIsSound s → AtOnceUndone s
 at_once_undone s sound = record {
-  accepted = λ between after session command entry number of last back. undone_edit s between session command entry sound last after number of back;
+  accepted = λ between after session command entry number of last back. undone_edit s between session command entry sound last after number
+      of back;
   refused = λ between after session command entry why last back. free_edit s between session command entry sound last after why back;
-  full = λ between after session command entry reply last back none. full_edit s between session command entry sound last after reply back none;
-  with_room = λ between after session command entry reply last back room. room_edit s between session command entry sound last after reply back room;
+  full = λ between after session command entry reply last back none. full_edit s between session command entry sound last after reply back
+      none;
+  with_room = λ between after session command entry reply last back room. room_edit s between session command entry sound last after reply
+      back room;
 }
 
 -- ---- an undo of all
 
 pub others_alone_left : (s : State) → StateIsSound s → OthersAlone s
 others_alone_left s sound = record {
-  accepted = λ after session count entry back. let is = all_taken_back s session count entry after sound back in (is.map, is.good, is.stands);
+  accepted =
+      λ after session count entry back. let is = all_taken_back s session count entry after sound back in (is.map, is.good, is.stands);
   refused = λ after session why back. not_all s session why after sound back;
   blocked = λ after session x y reply pair known back. surely_blocked s session x y reply after sound pair known back;
 }
@@ -135,7 +148,8 @@ others_left s sound after session number of back =
 -- ---- a restored list
 
 -- a list with an entry has one at each offset
-entry_there : {E : Type 0} (interval : E → ℕ) (list : List E) (offset : ℕ) → has_entries list ≡ true → (e : E) × (entry_at interval list offset ≡ Some e)
+entry_there : {E : Type 0} (interval : E → ℕ) (list : List E) (offset : ℕ) → has_entries list ≡ true
+    → (e : E) × (entry_at interval list offset ≡ Some e)
 entry_there interval [] offset some = (cc)
 entry_there interval (x ∷ []) offset some = (x, refl)
 entry_there {E = E} interval (x ∷ y ∷ list) offset some =
@@ -150,14 +164,16 @@ record IsApplied (s : State) (n : ℕ) (k : Key) (now at : ℕ) (change : Option
   counted : instant s now ≡ at
   some : has_entry (get (present s.book) k) ≡ true
 
-applied_is : (s applied : State) (n : ℕ) (k : Key) (now entry at : ℕ) (change : Option ℕ) → Allows (apply_rule s n k now) s (Acted change entry at) applied → IsApplied s n k now at change
+applied_is : (s applied : State) (n : ℕ) (k : Key) (now entry at : ℕ) (change : Option ℕ)
+    → Allows (apply_rule s n k now) s (Acted change entry at) applied → IsApplied s n k now at change
 applied_is s applied n k now entry at change step =
     let is = accepted (apply_rule s n k now) s (Acted change entry at) applied (λ why h. (cc)) step in
     let reply : Acted _ _ _ ≡ Acted change entry at = ap (λ (p : Reply × State). p.0) (done_of _ _ is.1) in
     record { told = (cc); counted = (cc); some = (applied_finds s n k now is.0).some }
 
 -- the later state keeps what the apply left
-goes_on : (s applied later : State) (n : ℕ) (k : Key) (now : ℕ) (reply : Reply) → StateIsSound s → Step s n (commands.Apply k now) reply applied → SinceQuiet k applied later → GoesOn k applied.book later.book
+goes_on : (s applied later : State) (n : ℕ) (k : Key) (now : ℕ) (reply : Reply) → StateIsSound s
+    → Step s n (commands.Apply k now) reply applied → SinceQuiet k applied later → GoesOn k applied.book later.book
 goes_on s applied later n k now reply sound step quiet =
     let first = follows s n (commands.Apply k now) reply applied sound tt step in
     let on = follow quiet.asks applied later first.sound quiet.in_range quiet.leads in
@@ -170,31 +186,39 @@ goes_on s applied later n k now reply sound step quiet =
       kept = kept_now later.book on.sound;
     }
 
-pub port_runs : (s : State) (m : ℕ) (p : PortGates) → StateIsSound s → get (present s.book) (Port m) ≡ Some (records.Port p) → PortRuns s m p
+pub port_runs : (s : State) (m : ℕ) (p : PortGates) → StateIsSound s → get (present s.book) (Port m) ≡ Some (records.Port p)
+    → PortRuns s m p
 port_runs s m p sound is applied session now entry at change step past =
     let done = applied_is s applied session (Port m) now entry at change step in
     let at_is = done.counted in (
       done.told ∙ ap (λ v. apply_change v (instant s now)) is ∙ ap (λ a. Some (change_of p.admin.base p.admin.cycle a)) at_is,
       λ later asker t reply quiet after given asked.
-          let e = entry_there (λ (y : PortEntry). y.interval) p.admin.list ((t - p.admin.base) % p.admin.cycle) (ap has_entry (sym is) ∙ done.some) in (
+          let e = entry_there (λ (y : PortEntry). y.interval) p.admin.list ((t - p.admin.base) % p.admin.cycle)
+          (ap has_entry (sym is) ∙ done.some) in (
             e.0,
             e.1,
-            restored_port s applied later session m now at entry change p sound is step (goes_on s applied later session (Port m) now (Acted change entry at) sound step quiet)
-                asker t reply e.0 (subst (λ a. p.admin.base ≤ a) (sym at_is) past) (subst (λ a. change_of p.admin.base p.admin.cycle a ≤ t) (sym at_is) after) given asked e.1,
+            restored_port s applied later session m now at entry change p sound is step
+                (goes_on s applied later session (Port m) now (Acted change entry at) sound step quiet)
+                asker t reply e.0 (subst (λ a. p.admin.base ≤ a) (sym at_is) past)
+                (subst (λ a. change_of p.admin.base p.admin.cycle a ≤ t) (sym at_is) after) given asked e.1,
           ),
     )
 
-pub gate_runs : (s : State) (m : ℕ) (g : StreamGate) → StateIsSound s → get (present s.book) (Gate m) ≡ Some (records.Gate g) → GateRuns s m g
+pub gate_runs : (s : State) (m : ℕ) (g : StreamGate) → StateIsSound s → get (present s.book) (Gate m) ≡ Some (records.Gate g)
+    → GateRuns s m g
 gate_runs s m g sound is applied session now entry at change step past =
     let done = applied_is s applied session (Gate m) now entry at change step in
     let at_is = done.counted in (
       done.told ∙ ap (λ v. apply_change v (instant s now)) is ∙ ap (λ a. Some (change_of g.admin.base g.admin.cycle a)) at_is,
       λ later asker t reply quiet after given asked.
-          let e = entry_there (λ (y : GateEntry). y.interval) g.admin.list ((t - g.admin.base) % g.admin.cycle) (ap has_entry (sym is) ∙ done.some) in (
+          let e = entry_there (λ (y : GateEntry). y.interval) g.admin.list ((t - g.admin.base) % g.admin.cycle)
+          (ap has_entry (sym is) ∙ done.some) in (
             e.0,
             e.1,
-            restored_gate s applied later session m now at entry change g sound is step (goes_on s applied later session (Gate m) now (Acted change entry at) sound step quiet)
-                asker t reply e.0 (subst (λ a. g.admin.base ≤ a) (sym at_is) past) (subst (λ a. change_of g.admin.base g.admin.cycle a ≤ t) (sym at_is) after) given asked e.1,
+            restored_gate s applied later session m now at entry change g sound is step
+                (goes_on s applied later session (Gate m) now (Acted change entry at) sound step quiet)
+                asker t reply e.0 (subst (λ a. g.admin.base ≤ a) (sym at_is) past)
+                (subst (λ a. change_of g.admin.base g.admin.cycle a ≤ t) (sym at_is) after) given asked e.1,
           ),
     )
 
@@ -209,7 +233,8 @@ put_back s undone k r sound back =
     let x = taken.0 in
     let found = standing_found s.book.entries (λ (y : Applied). y.session == back.session) x sound.numbered taken.1 in
     let same : x ≡ back.entry = same_entry x back.entry (sym found ∙ ap (standing_entry s.book.entries) (sym taken.2) ∙ back.entry_is) in
-    let map : present undone.book ≡ restored (present s.book) back.entry.change = taken.3 ∙ ap (λ (y : Applied). restored (present s.book) y.change) same in
+    let map : present undone.book ≡ restored (present s.book) back.entry.change = taken.3
+    ∙ ap (λ (y : Applied). restored (present s.book) y.change) same in
     ap (λ (c : Configuration). get c k) map
     ∙ get-inverse (present s.book) back.entry.change k
     ∙ ap (λ o. before_or o (get (present s.book) k)) back.part_is
@@ -220,7 +245,8 @@ all_put_back : (s undone : State) (k : Key) (r : Record) → StateIsSound s → 
 all_put_back s undone k r sound back =
     let taken = all_taken_back s back.session back.count back.entry undone sound back.step in
     let closed = own_closed s.book.entries back.session sound.numbered (free_of_all s.book back.session taken.free).none in
-    let commutes = commutation s.book.limits (base_of s.book) (standing s.book.entries) (own back.session) (kept_base s.book.limits s.book.opening s.book.entries sound) sound.good closed in
+    let commutes = commutation s.book.limits (base_of s.book) (standing s.book.entries) (own back.session)
+    (kept_base s.book.limits s.book.opening s.book.entries sound) sound.good closed in
     ap (λ (c : Configuration). get c k) taken.map
     ∙ commutes.ends k
     ∙ ap (λ o. value_before o (get (run (base_of s.book) (changes (standing s.book.entries))) k)) back.part_is
@@ -229,21 +255,28 @@ all_put_back s undone k r sound back =
 -- where a sound state has the record, its list runs so
 module _ (undone : State) (sound : StateIsSound undone) where
   port_restored : (m : ℕ) (p : PortGates) → get (present undone.book) (Port m) ≡ Some (records.Port p) → PortRestored undone m p
-  port_restored m p stands = (stands, λ asks ready ranges leads is. port_runs ready m p (follow asks undone ready sound ranges leads).sound is)
+  port_restored m p stands =
+      (stands, λ asks ready ranges leads is. port_runs ready m p (follow asks undone ready sound ranges leads).sound is)
 
   gate_restored : (m : ℕ) (g : StreamGate) → get (present undone.book) (Gate m) ≡ Some (records.Gate g) → GateRestored undone m g
-  gate_restored m g stands = (stands, λ asks ready ranges leads is. gate_runs ready m g (follow asks undone ready sound ranges leads).sound is)
+  gate_restored m g stands =
+      (stands, λ asks ready ranges leads is. gate_runs ready m g (follow asks undone ready sound ranges leads).sound is)
 
 sound_undone : (s undone : State) (k : Key) (r : Record) → StateIsSound s → PutsBack s undone k r → StateIsSound undone
 sound_undone s undone k r sound back = (follows s back.session commands.Undo (EntryOf back.number back.of) undone sound tt back.step).sound
 
 sound_all_undone : (s undone : State) (k : Key) (r : Record) → StateIsSound s → PutsAllBack s undone k r → StateIsSound undone
-sound_all_undone s undone k r sound back = (follows s back.session commands.UndoAll (TakenBack back.count back.entry) undone sound tt back.step).sound
+sound_all_undone s undone k r sound back =
+    (follows s back.session commands.UndoAll (TakenBack back.count back.entry) undone sound tt back.step).sound
 
 pub restored_list : (s : State) → StateIsSound s → RestoredList s
 restored_list s sound = record {
-  port = λ undone m p back. port_restored undone (sound_undone s undone (Port m) (records.Port p) sound back) m p (put_back s undone (Port m) (records.Port p) sound back);
-  gate = λ undone m g back. gate_restored undone (sound_undone s undone (Gate m) (records.Gate g) sound back) m g (put_back s undone (Gate m) (records.Gate g) sound back);
-  port_of_all = λ undone m p back. port_restored undone (sound_all_undone s undone (Port m) (records.Port p) sound back) m p (all_put_back s undone (Port m) (records.Port p) sound back);
-  gate_of_all = λ undone m g back. gate_restored undone (sound_all_undone s undone (Gate m) (records.Gate g) sound back) m g (all_put_back s undone (Gate m) (records.Gate g) sound back);
+  port = λ undone m p back. port_restored undone (sound_undone s undone (Port m) (records.Port p) sound back) m p
+      (put_back s undone (Port m) (records.Port p) sound back);
+  gate = λ undone m g back. gate_restored undone (sound_undone s undone (Gate m) (records.Gate g) sound back) m g
+      (put_back s undone (Gate m) (records.Gate g) sound back);
+  port_of_all = λ undone m p back. port_restored undone (sound_all_undone s undone (Port m) (records.Port p) sound back) m p
+      (all_put_back s undone (Port m) (records.Port p) sound back);
+  gate_of_all = λ undone m g back. gate_restored undone (sound_all_undone s undone (Gate m) (records.Gate g) sound back) m g
+      (all_put_back s undone (Gate m) (records.Gate g) sound back);
 }

@@ -36,13 +36,23 @@ use Rattle.tsn_bridge.proofs.Stepping.{accepted, was_given}
 no_entry : (s : State) (sessions time : ℕ) (frames : FrameData) (named : List Named) → s.sessions ≤ sessions → s.time ≤ time
     → IsLater s (record { book = s.book; sessions = sessions; names = s.names ++ named; time = time; frames = frames })
 no_entry s sessions time frames named more late =
-    record { limits = refl; opening = refl; more = []; entries = sym (append_nil s.book.entries); sessions = more; named = named; names = refl; time = late }
+    record {
+      limits = refl;
+      opening = refl;
+      more = [];
+      entries = sym (append_nil s.book.entries);
+      sessions = more;
+      named = named;
+      names = refl;
+      time = late;
+    }
 
 -- no entry and no name more
 no_name : (s : State) (sessions time : ℕ) (frames : FrameData) → s.sessions ≤ sessions → s.time ≤ time
     → IsLater s (record s { sessions = sessions; time = time; frames = frames })
 no_name s sessions time frames more late =
-    subst (λ names. IsLater s (record s { sessions = sessions; names = names; time = time; frames = frames })) (append_nil s.names) (no_entry s sessions time frames [] more late)
+    subst (λ names. IsLater s (record s { sessions = sessions; names = names; time = time; frames = frames })) (append_nil s.names)
+    (no_entry s sessions time frames [] more late)
 
 pub itself : (s : State) → IsLater s s
 itself s = no_name s s.sessions s.time s.frames (omega arith) (omega arith)
@@ -90,7 +100,16 @@ later s n f new (Greeted (Some name)) =
 later s n f new (Changed w e apply good) = entered s n w s.time (frames_after s.time s.frames e) (omega arith)
 later s n f new (AllUndone free) =
     let more = all_entered s.book.entries n (own_standing s.book.entries n) in
-    record { limits = refl; opening = refl; more = more.0; entries = more.1; sessions = omega arith; named = []; names = sym (append_nil s.names); time = omega arith }
+    record {
+      limits = refl;
+      opening = refl;
+      more = more.0;
+      entries = more.1;
+      sessions = omega arith;
+      named = [];
+      names = sym (append_nil s.names);
+      time = omega arith;
+    }
 later s n f new (SettledTo upto) = entered s n (Settled upto) s.time s.frames (omega arith)
 later s n f new (ActDone act k now none) = entered s n (Acted act k (instant s now)) (instant s now) s.frames (omega arith)
 later s n f new (FrameTaken frame now x of is) = no_name s s.sessions (instant s now) x.1 (omega arith) (omega arith)
@@ -115,7 +134,8 @@ pub record Follows (s new : State) : Type 0 where
   pub sound : StateIsSound new
   pub later : IsLater s new
 
-pub follows : (s : State) (n : ℕ) (command : Command) (reply : Reply) (new : State) → StateIsSound s → CommandInRange command → Step s n command reply new → Follows s new
+pub follows : (s : State) (n : ℕ) (command : Command) (reply : Reply) (new : State) → StateIsSound s → CommandInRange command
+    → Step s n command reply new → Follows s new
 follows s n command reply new sound ranges step =
     let l = (leaves s n (family command) reply new step).how in
     record { sound = sound_left s n (family command) new sound (in_range command ranges) l; later = later s n (family command) new l }
@@ -130,11 +150,14 @@ follow (t ∷ ts) s new sound ranges (between, step, rest) =
 -- ---- an undo of all
 
 -- that was answered with how many it took back
-pub all_taken_back : (s : State) (n count entry : ℕ) (new : State) → StateIsSound s → Step s n commands.UndoAll (TakenBack count entry) new → TakesAllBack s.book n (length (own_standing s.book.entries n)) (length (with_undone s.book.entries n (own_standing s.book.entries n))) new.book
+pub all_taken_back : (s : State) (n count entry : ℕ) (new : State) → StateIsSound s → Step s n commands.UndoAll (TakenBack count entry) new
+    → TakesAllBack s.book n (length (own_standing s.book.entries n)) (length (with_undone s.book.entries n (own_standing s.book.entries n)))
+    new.book
 all_taken_back s n count entry new sound step =
     let is = accepted (undo_all_rule s n) s (TakenBack count entry) new (λ why h. (cc)) step in
     let admitted = (was_given (is_given s n) (undo_all_refusal s.book n) is.0).1 in
-    makes_all s.book n sound admitted _ _ new.book refl refl (sym (ap (λ (t : State). t.book) (state_of _ (TakenBack count entry) _ new is.1)))
+    makes_all s.book n sound admitted _ _ new.book refl refl
+    (sym (ap (λ (t : State). t.book) (state_of _ (TakenBack count entry) _ new is.1)))
 
 -- ---- an edit that was answered with an entry
 

@@ -16,7 +16,8 @@ use Rattle.tsn_journal.specs.declared.entries.What.TheVariants.{Made, Undone, Re
 use Rattle.tsn_bridge.specs.Later.{IsBy}
 use Rattle.tsn_bridge.specs.Objects.{Object, after_entry, after_part, lived, with_asked}
 
-pub asked_last : {E : Type 0} (act : Asked) (schedule : Option (Schedule E)) (a t : ℕ) (acts : List (Act E)) → a ≤ t → last_instant acts ≤ t → last_instant (with_asked act schedule a acts) ≤ t
+pub asked_last : {E : Type 0} (act : Asked) (schedule : Option (Schedule E)) (a t : ℕ) (acts : List (Act E)) → a ≤ t → last_instant acts ≤ t
+    → last_instant (with_asked act schedule a acts) ≤ t
 asked_last asked.Enable schedule a t acts now before = go (is_enabled acts)
   where
     go : (b : Bool) → last_instant (cond b acts (Enable a ∷ acts)) ≤ t
@@ -30,7 +31,8 @@ asked_last asked.Disable schedule a t acts now before = go (is_enabled acts)
 asked_last asked.Apply None a t acts now before = before
 asked_last asked.Apply (Some schedule) a t acts now before = now
 
-lived_last : {E : Type 0} (before now : Option Record) (acts : List (Act E)) (t : ℕ) → last_instant acts ≤ t → last_instant (lived before now acts) ≤ t
+lived_last : {E : Type 0} (before now : Option Record) (acts : List (Act E)) (t : ℕ) → last_instant acts ≤ t
+    → last_instant (lived before now acts) ≤ t
 lived_last None now acts t h = omega arith
 lived_last (Some q) None acts t h = omega arith
 lived_last (Some q) (Some r) acts t h = h
@@ -51,6 +53,7 @@ module _ {E : Type 0} (admin : Option Record → Option (Schedule E)) (k : Key) 
       go false = h
   entry_last o (Settled upto) by h = h
 
-  pub all_last : (o : Object E) (es : List Entry) → AllByRecursion (λ (e : Entry). IsBy t e.what) es → last_instant o.acts ≤ t → last_instant (fold (λ (o : Object E) (e : Entry). after_entry admin k o e.what) o es).acts ≤ t
+  pub all_last : (o : Object E) (es : List Entry) → AllByRecursion (λ (e : Entry). IsBy t e.what) es → last_instant o.acts ≤ t
+      → last_instant (fold (λ (o : Object E) (e : Entry). after_entry admin k o e.what) o es).acts ≤ t
   all_last o [] by h = h
   all_last o (e ∷ es) by h = all_last (after_entry admin k o e.what) es by.1 (entry_last o e.what by.0 h)

@@ -67,7 +67,8 @@ both P (x ∷ xs) ys h g = (h.0, both P xs ys h.1 g)
 -- ---- an entry that applied a change that fits
 
 -- the rows follow a change, whatever runners there may be
-frames_fit : (l : Limits) (c : Configuration) (f : FrameData) (now : ℕ) (e : Change) → IsWellKept l c → HasFrameKeys f c → Fits l c e → HasFrameKeys (frames_after now f e) (after_change c e)
+frames_fit : (l : Limits) (c : Configuration) (f : FrameData) (now : ℕ) (e : Change) → IsWellKept l c → HasFrameKeys f c → Fits l c e
+    → HasFrameKeys (frames_after now f e) (after_change c e)
 frames_fit l c f now e kept h fits =
     let begun = begun_keys c l kept in
     (keys_fit l c (begun_runners c) f now e (record { ports = begun.ports; gates = begun.gates; frames = h }) fits).frames
@@ -89,7 +90,8 @@ module _ (s : State) (n : ℕ) (h : IsWhole s) where
       → HasFrameKeys (undone_by (frames_after s.time) s.frames ys) (present (record s.book { entries = undone_to ys }))
   frames_left xs [] t = h.frames
   frames_left xs (y ∷ ys) t =
-      let more : IsTaken s.book.limits s.book.opening s.book.entries n ((xs ++ y ∷ []) ++ ys) [] = subst (λ zs. IsTaken s.book.limits s.book.opening s.book.entries n zs []) (sym (append_assoc xs (y ∷ []) ys)) t in
+      let more : IsTaken s.book.limits s.book.opening s.book.entries n ((xs ++ y ∷ []) ++ ys) [] = subst
+      (λ zs. IsTaken s.book.limits s.book.opening s.book.entries n zs []) (sym (append_assoc xs (y ∷ []) ys)) t in
       let so_far = taken_to s.book.limits s.book.opening s.book.entries n (xs ++ y ∷ []) ys more in
       let step = (next_taken s.book.limits s.book.opening s.book.entries n xs y ys so_far).step in
       subst (λ c. HasFrameKeys (frames_after s.time (undone_by (frames_after s.time) s.frames ys) (inverse y.change)) c)
@@ -109,8 +111,10 @@ acts_left s n a (y ∷ ys) =
 -- ---- an act, and a frame
 
 -- what was done by a time was done by a later one
-by_later : (early late : ℕ) (es : List Entry) → early ≤ late → AllByRecursion (λ e. IsBy early e.what) es → AllByRecursion (λ e. IsBy late e.what) es
-by_later early late es le h = each_weaker (λ (x : Entry). IsBy early x.what) (λ (x : Entry). IsBy late x.what) (λ x by. longer x.what by) es h
+by_later : (early late : ℕ) (es : List Entry) → early ≤ late → AllByRecursion (λ e. IsBy early e.what) es
+    → AllByRecursion (λ e. IsBy late e.what) es
+by_later early late es le h =
+    each_weaker (λ (x : Entry). IsBy early x.what) (λ (x : Entry). IsBy late x.what) (λ x by. longer x.what by) es h
   where
     longer : (w : What) → IsBy early w → IsBy late w
     longer (Made e) by = tt
@@ -130,27 +134,53 @@ refers_to_gate : (q : StreamFilter) → has (refs (records.Filter q)) (Gate q.ga
 refers_to_gate q = or_left (same_key (Gate q.gate) (Gate q.gate)) _ (same_itself (Gate q.gate))
 
 refers_to_meter : (q : StreamFilter) (m : ℕ) → q.meter ≡ Some m → has (refs (records.Filter q)) (Meter m) ≡ true
-refers_to_meter q m is = ap (λ o. has (Gate q.gate ∷ meter_ref o) (Meter m)) is ∙ or_right (same_key (Meter m) (Gate q.gate)) _ (or_left (same_key (Meter m) (Meter m)) _ (same_itself (Meter m)))
+refers_to_meter q m is = ap (λ o. has (Gate q.gate ∷ meter_ref o) (Meter m)) is
+    ∙ or_right (same_key (Meter m) (Gate q.gate)) _ (or_left (same_key (Meter m) (Meter m)) _ (same_itself (Meter m)))
 
-module _ (l : Limits) (c : Configuration) (f : FrameData) (acts : GateActs) (frame : Frame) (time : ℕ) (kept : IsWellKept l c) (h : HasFrameKeys f c) where
+module _ (l : Limits) (c : Configuration) (f : FrameData) (acts : GateActs) (frame : Frame) (time : ℕ) (kept : IsWellKept l c)
+    (h : HasFrameKeys f c) where
   abbrev gives : Option Case → Verdict → FrameData → Type 0
   gives o v new = option_map {U = Verdict × FrameData} (framed_by f) o ≡ Some (v, new)
 
   abbrev is_back : ℕ → StreamFilter → FrameData → Type 0
   is_back n q new = (x : Case) × (new ≡ with_met f n q (through x).1)
 
-  met_back : {A : Type 0} (n : ℕ) (q : StreamFilter) (case_of : A → Case) → ((k : A) → ((case_of k).number ≡ n) × ((case_of k).filter ≡ q)) → (o : Option A) (v : Verdict) (new : FrameData) → gives (option_map case_of o) v new → is_back n q new
+  met_back : {A : Type 0} (n : ℕ) (q : StreamFilter) (case_of : A → Case) → ((k : A) → ((case_of k).number ≡ n) × ((case_of k).filter ≡ q))
+      → (o : Option A) (v : Verdict) (new : FrameData) → gives (option_map case_of o) v new → is_back n q new
   met_back n q case_of is None v new e = (cc)
-  met_back n q case_of is (Some k) v new e =
-      (case_of k, sym (ap (λ (p : Verdict × FrameData). p.1) (done_of _ _ e)) ∙ (λ i. with_met f ((is k).0 i) ((is k).1 i) (through (case_of k)).1))
+  met_back n q case_of is (Some k) v new e = (
+    case_of k,
+    sym (ap (λ (p : Verdict × FrameData). p.1) (done_of _ _ e))
+        ∙ (λ i. with_met f ((is k).0 i) ((is k).1 i) (through (case_of k)).1),
+  )
 
   gate_back : (n : ℕ) (q : StreamFilter) (o : Option StreamGate) (v : Verdict) (new : FrameData)
-      → gives (option_and_then (λ g. option_map (λ k. record { number = n; filter = q; gate = g; state = state_at acts q.gate g time; frame = frame; time = time; met = k }) (met_at f n q (meter_at c q.meter))) o) v new → is_back n q new
+      → gives (option_and_then (λ g. option_map
+      (λ k. record { number = n; filter = q; gate = g; state = state_at acts q.gate g time; frame = frame; time = time; met = k })
+      (met_at f n q (meter_at c q.meter))) o) v new → is_back n q new
   gate_back n q None v new e = (cc)
-  gate_back n q (Some g) v new e = met_back n q (λ k. record { number = n; filter = q; gate = g; state = state_at acts q.gate g time; frame = frame; time = time; met = k }) (λ k. (refl, refl)) (met_at f n q (meter_at c q.meter)) v new e
+  gate_back n q (Some g) v new e =
+      met_back n q (λ k. record {
+        number = n;
+        filter = q;
+        gate = g;
+        state = state_at acts q.gate g time;
+        frame = frame;
+        time = time;
+        met = k;
+      }) (λ k. (refl, refl)) (met_at f n q (meter_at c q.meter)) v new e
 
   filter_back : (n : ℕ) (o : Option StreamFilter) (v : Verdict) (new : FrameData)
-      → gives (option_and_then (λ q. option_and_then (λ g. option_map (λ k. record { number = n; filter = q; gate = g; state = state_at acts q.gate g time; frame = frame; time = time; met = k }) (met_at f n q (meter_at c q.meter))) (gate_of (get c (Gate q.gate)))) o) v new
+      → gives (option_and_then (λ q. option_and_then
+      (λ g. option_map (λ k. record {
+        number = n;
+        filter = q;
+        gate = g;
+        state = state_at acts q.gate g time;
+        frame = frame;
+        time = time;
+        met = k;
+      }) (met_at f n q (meter_at c q.meter))) (gate_of (get c (Gate q.gate)))) o) v new
       → (q : StreamFilter) × (o ≡ Some q) × is_back n q new
   filter_back n None v new e = (cc)
   filter_back n (Some q) v new e = (q, refl, gate_back n q (gate_of (get c (Gate q.gate))) v new e)
@@ -162,7 +192,8 @@ module _ (l : Limits) (c : Configuration) (f : FrameData) (acts : GateActs) (fra
       let q = back.0 in
       let at = is_filter (get c (Filter n)) q back.1 in
       subst (λ x. HasFrameKeys x c) (sym back.2.1)
-      (met_keys f n q (through back.2.0).1 c (h.filters n ∙ ap is_some at) (h.gates q.gate ∙ kept.referred (Filter n) (records.Filter q) (Gate q.gate) at (refers_to_gate q))
+      (met_keys f n q (through back.2.0).1 c (h.filters n ∙ ap is_some at)
+      (h.gates q.gate ∙ kept.referred (Filter n) (records.Filter q) (Gate q.gate) at (refers_to_gate q))
       (λ m is. h.meters m ∙ kept.referred (Filter n) (records.Filter q) (Meter m) at (refers_to_meter q m is)) h)
 
 -- what no entry applied stays, and so do the keys
@@ -188,7 +219,8 @@ frames_kept s n f new h ranges (FrameTaken frame now x of is) =
     framed_keys s.book.limits (present s.book) s.frames (acts_of_gates s.book) frame (instant s now) (kept_now s.book h.journal) h.frames
     (chosen frame.handle frame.priority (filters_of (present s.book))) x.0 x.1 is
 
-names_kept : (s : State) (n : ℕ) (f : Family) (new : State) → AreWithin 0 s.names s.sessions → Left s n f new → AreWithin 0 new.names new.sessions
+names_kept : (s : State) (n : ℕ) (f : Family) (new : State) → AreWithin 0 s.names s.sessions → Left s n f new
+    → AreWithin 0 new.names new.sessions
 names_kept s n f new h Same = h
 names_kept s n f new h (Greeted name) = within_next s.sessions name s.names h
 names_kept s n f new h (Changed w e apply good) = h
@@ -215,14 +247,19 @@ acts_kept s n f new (FrameTaken frame now x of is) a = by_later s.time (instant 
 
 -- ---- each step, and each list of them
 
-pub goes_on : (s : State) (n : ℕ) (command : Command) (reply : Reply) (new : State) → IsWhole s → CommandInRange command → Step s n command reply new → IsWhole new × IsLater s new × (ActsAreBy s → ActsAreBy new)
+pub goes_on : (s : State) (n : ℕ) (command : Command) (reply : Reply) (new : State) → IsWhole s → CommandInRange command
+    → Step s n command reply new → IsWhole new × IsLater s new × (ActsAreBy s → ActsAreBy new)
 goes_on s n command reply new h ranges step =
     let f = family command in
     let l = (leaves s n f reply new step).how in
-    let kept = follows s n command reply new h.journal ranges step in
-    (record { journal = kept.sound; frames = frames_kept s n f new h (in_range command ranges) l; names = names_kept s n f new h.names l }, kept.later, acts_kept s n f new l)
+    let kept = follows s n command reply new h.journal ranges step in (
+      record { journal = kept.sound; frames = frames_kept s n f new h (in_range command ranges) l; names = names_kept s n f new h.names l },
+      kept.later,
+      acts_kept s n f new l,
+    )
 
-pub all_go_on : (ts : List Answered) (s new : State) → IsWhole s → AreInRange ts → Leads s ts new → IsWhole new × IsLater s new × (ActsAreBy s → ActsAreBy new)
+pub all_go_on : (ts : List Answered) (s new : State) → IsWhole s → AreInRange ts → Leads s ts new
+    → IsWhole new × IsLater s new × (ActsAreBy s → ActsAreBy new)
 all_go_on [] s new h ranges same = subst (λ t. IsWhole t × IsLater s t × (ActsAreBy s → ActsAreBy t)) (sym same) (h, itself s, λ a. a)
 all_go_on (t ∷ ts) s new h ranges (between, step, rest) =
     let one = goes_on s t.ask.session t.ask.command t.reply between h ranges.0 step in

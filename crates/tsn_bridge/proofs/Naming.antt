@@ -26,7 +26,8 @@ within_push before last n name [] h less = (omega (arith, h, less), omega arith)
 within_push before last n name (x ∷ xs) h less = (h.0, within_push x.session last n name xs h.1 less)
 
 -- with one session more
-pub within_next : (last : ℕ) (name : Option (List ℕ)) (names : List Named) → AreWithin 0 names last → AreWithin 0 (with_name names (last + 1) name) (last + 1)
+pub within_next : (last : ℕ) (name : Option (List ℕ)) (names : List Named) → AreWithin 0 names last
+    → AreWithin 0 (with_name names (last + 1) name) (last + 1)
 within_next last None names h = within_later 0 last (last + 1) names h (omega arith)
 within_next last (Some name) names h = within_push 0 last (last + 1) name names h (omega arith)
 
@@ -35,7 +36,8 @@ named_by : (b : Bool) (n m : ℕ) (rest : Option ℕ) → cond b (Some m) rest �
 named_by true n m rest is never = absurd (never refl (let same : Some m ≡ Some n = is in (cc)))
 named_by false n m rest is never = is
 
-pub known_given : (before last n : ℕ) (name : List ℕ) (names : List Named) → AreWithin before names last → session_of names name ≡ Some n → (before < n) × (n ≤ last)
+pub known_given : (before last n : ℕ) (name : List ℕ) (names : List Named) → AreWithin before names last → session_of names name ≡ Some n
+    → (before < n) × (n ≤ last)
 known_given before last n name [] h is = absurd (cc)
 known_given before last n name (x ∷ xs) h is = elim (cases_Bool (bytes_eq x.name name)) [
   | inl e ↦
@@ -72,7 +74,8 @@ head_told before last (x ∷ xs) h = elim (cases_Bool (x.session == before + 1))
       rw e (sym (none_before x.session last (before + 1) xs h.1 beyond))
 ]
 
-behind_within : (before last : ℕ) (left : List Named) → AreWithin before left last → before < last → AreWithin (before + 1) (behind left (before + 1)) last
+behind_within : (before last : ℕ) (left : List Named) → AreWithin before left last → before < last
+    → AreWithin (before + 1) (behind left (before + 1)) last
 behind_within before last [] h less = omega (arith, less)
 behind_within before last (x ∷ xs) h less = elim (cases_Bool (x.session == before + 1)) [
   | inl e ↦ rw e (subst (λ b. AreWithin b xs last) (eqb-true x.session (before + 1) e) h.1)
@@ -97,15 +100,20 @@ module _ (names left : List Named) (before last : ℕ) (h : AreLeft names left b
   }
 
   -- one session more is told
-  pub next_told_in : (es : List Entry) (all more : List GivenSession) (name : Option (List ℕ)) (standing : ℕ) → all ≡ given_to names es before → name ≡ head_name left (before + 1)
-      → standing ≡ length (own_standing es (before + 1)) → more ≡ all ++ record { name = name; session = before + 1; standing = standing } ∷ [] → more ≡ given_to names es (before + 1)
+  pub next_told_in : (es : List Entry) (all more : List GivenSession) (name : Option (List ℕ)) (standing : ℕ)
+      → all ≡ given_to names es before → name ≡ head_name left (before + 1)
+      → standing ≡ length (own_standing es (before + 1)) → more ≡ all ++ record { name = name; session = before + 1; standing = standing }
+      ∷ [] → more ≡ given_to names es (before + 1)
   next_told_in es all more name standing told is stands grows =
       let next : before + 1 ≡ suc before = omega arith in
       let named : name ≡ name_of names (before + 1) = is ∙ name_told in
       grows ∙ (λ i. told i ++ record { name = named i; session = before + 1; standing = stands i } ∷ [])
       ∙ (λ i. given_to names es before ++ given_session names es (next i) ∷ []) ∙ ap (given_to names es) (sym next)
 
-pub next_told : {last : ℕ} {left : List Named} (names : List Named) (es : List Entry) (before : ℕ) (all more : List GivenSession) (name : Option (List ℕ)) (standing : ℕ)
+pub next_told : {last : ℕ} {left : List Named} (names : List Named) (es : List Entry) (before : ℕ) (all more : List GivenSession)
+    (name : Option (List ℕ)) (standing : ℕ)
     → all ≡ given_to names es before → name ≡ head_name left (before + 1) → standing ≡ length (own_standing es (before + 1))
-    → more ≡ all ++ record { name = name; session = before + 1; standing = standing } ∷ [] → AreLeft names left before last → more ≡ given_to names es (before + 1)
-next_told {last} {left} names es before all more name standing told is stands grows h = next_told_in names left before last h es all more name standing told is stands grows
+    → more ≡ all ++ record { name = name; session = before + 1; standing = standing }
+    ∷ [] → AreLeft names left before last → more ≡ given_to names es (before + 1)
+next_told {last} {left} names es before all more name standing told is stands grows h =
+    next_told_in names left before last h es all more name standing told is stands grows

@@ -13,7 +13,8 @@ use Rattle.tsn_bridge.specs.Turns.{Turns, answered}
 use Rattle.tsn_bridge.proofs.Later.{all_go_on, whole_begun}
 use Rattle.tsn_bridge.proofs.Turning.{leads}
 
-pub led_on : (front more : List Answered) (s between now : State) → Leads s front between → Leads between more now → Leads s (front ++ more) now
+pub led_on : (front more : List Answered) (s between now : State) → Leads s front between → Leads between more now
+    → Leads s (front ++ more) now
 led_on [] more s between now same on = subst (λ (x : State). Leads x more now) same on
 led_on (t ∷ front) more s between now (next, step, rest) on = (next, step, led_on front more next between now rest on)
 
@@ -23,7 +24,8 @@ ranges_on (t ∷ front) more h k = (h.0, ranges_on front more h.1 k)
 
 -- nothing was asked yet of a bridge that has just been opened
 pub opened_is_reached : (first : State) → IsOpened first → IsReached first
-opened_is_reached first opened = record { limits = opened.limits; given = opened.given; opens = opened.opens; asks = []; ranges = tt; led = opened.is }
+opened_is_reached first opened =
+    record { limits = opened.limits; given = opened.given; opens = opened.opens; asks = []; ranges = tt; led = opened.is }
 
 module _ (first : State) (reached : IsReached first) where
   -- where more is asked, that is reached, too
@@ -45,8 +47,10 @@ module _ (first : State) (reached : IsReached first) where
   whole_there history now run = let more = leads history first now run in reached_on (answered history) now more.0 more.1
 
   pub whole_reached : IsWhole first
-  whole_reached = (all_go_on reached.asks (begun reached.limits reached.given) first (whole_begun reached.limits reached.given reached.opens) reached.ranges reached.led).0
+  whole_reached = (all_go_on reached.asks (begun reached.limits reached.given) first
+      (whole_begun reached.limits reached.given reached.opens) reached.ranges reached.led).0
 
   -- its limits are those that opened it
   pub limits_reached : first.book.limits ≡ reached.limits
-  limits_reached = (all_go_on reached.asks (begun reached.limits reached.given) first (whole_begun reached.limits reached.given reached.opens) reached.ranges reached.led).1.limits
+  limits_reached = (all_go_on reached.asks (begun reached.limits reached.given) first
+      (whole_begun reached.limits reached.given reached.opens) reached.ranges reached.led).1.limits

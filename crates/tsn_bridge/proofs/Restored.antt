@@ -64,16 +64,19 @@ part_kept : {E : Type 0} (q : Option Part) (o : Object E) → IsReplacement q �
 part_kept None o h = refl
 part_kept (Some p) o h = kept p.before p.after o.acts h.0 h.1
 
-act_kept : {E : Type 0} (b : Bool) (o : Object E) (acts : List (Act E)) → b ≡ false → (cond b (record { value = o.value; acts = acts }) o).acts ≡ o.acts
+act_kept : {E : Type 0} (b : Bool) (o : Object E) (acts : List (Act E)) → b ≡ false
+    → (cond b (record { value = o.value; acts = acts }) o).acts ≡ o.acts
 act_kept true o acts e = (cc)
 act_kept false o acts e = refl
 
 -- an enable of an enabled key is no act
-enable_kept : {E : Type 0} (b : Bool) (o : Object E) (a : ℕ) → is_enabled o.acts ≡ true → (cond b (record { value = o.value; acts = with_act (Enable a) o.acts }) o).acts ≡ o.acts
+enable_kept : {E : Type 0} (b : Bool) (o : Object E) (a : ℕ) → is_enabled o.acts ≡ true
+    → (cond b (record { value = o.value; acts = with_act (Enable a) o.acts }) o).acts ≡ o.acts
 enable_kept true o a on = ap (λ is. cond is o.acts (Enable a ∷ o.acts)) on
 enable_kept false o a on = refl
 
-quiet_entry : {E : Type 0} (admin : Option Record → Option (Schedule E)) (k : Key) (o : Object E) (w : What) → is_enabled o.acts ≡ true → IsQuiet k w → (after_entry admin k o w).acts ≡ o.acts
+quiet_entry : {E : Type 0} (admin : Option Record → Option (Schedule E)) (k : Key) (o : Object E) (w : What) → is_enabled o.acts ≡ true
+    → IsQuiet k w → (after_entry admin k o w).acts ≡ o.acts
 quiet_entry admin k o (Made e) on h = part_kept (part_of k (parts e)) o h
 quiet_entry admin k o (Undone n e) on h = part_kept (part_of k (parts e)) o h
 quiet_entry admin k o (Redone n e) on h = part_kept (part_of k (parts e)) o h
@@ -82,7 +85,8 @@ quiet_entry admin k o (Acted asked.Disable key a) on h = act_kept (same_key k ke
 quiet_entry admin k o (Acted asked.Apply key a) on h = act_kept (same_key k key) o (with_asked asked.Apply (admin o.value) a o.acts) h
 quiet_entry admin k o (Settled upto) on h = refl
 
-quiet_run : {E : Type 0} (admin : Option Record → Option (Schedule E)) (k : Key) (es : List Entry) (o : Object E) → is_enabled o.acts ≡ true → AllByRecursion (λ e. IsQuiet k e.what) es → (fold (λ (o : Object E) (e : Entry). after_entry admin k o e.what) o es).acts ≡ o.acts
+quiet_run : {E : Type 0} (admin : Option Record → Option (Schedule E)) (k : Key) (es : List Entry) (o : Object E) → is_enabled o.acts ≡ true
+    → AllByRecursion (λ e. IsQuiet k e.what) es → (fold (λ (o : Object E) (e : Entry). after_entry admin k o e.what) o es).acts ≡ o.acts
 quiet_run admin k [] o on h = refl
 quiet_run {E = E} admin k (e ∷ es) o on h =
     let one = quiet_entry admin k o e.what on h.0 in
@@ -92,18 +96,22 @@ part_there : {E : Type 0} (q : Option Part) (o : Object E) → IsReplacement q �
 part_there None o h some = some
 part_there (Some p) o h some = h.1
 
-act_there : {E : Type 0} (b : Bool) (o : Object E) (acts : List (Act E)) → IsSome o.value → IsSome (cond b (record { value = o.value; acts = acts }) o).value
+act_there : {E : Type 0} (b : Bool) (o : Object E) (acts : List (Act E)) → IsSome o.value
+    → IsSome (cond b (record { value = o.value; acts = acts }) o).value
 act_there true o acts some = some
 act_there false o acts some = some
 
-there_entry : {E : Type 0} (admin : Option Record → Option (Schedule E)) (k : Key) (o : Object E) (w : What) → IsQuiet k w → IsSome o.value → IsSome (after_entry admin k o w).value
+there_entry : {E : Type 0} (admin : Option Record → Option (Schedule E)) (k : Key) (o : Object E) (w : What) → IsQuiet k w → IsSome o.value
+    → IsSome (after_entry admin k o w).value
 there_entry admin k o (Made e) h some = part_there (part_of k (parts e)) o h some
 there_entry admin k o (Undone n e) h some = part_there (part_of k (parts e)) o h some
 there_entry admin k o (Redone n e) h some = part_there (part_of k (parts e)) o h some
 there_entry admin k o (Acted act key a) h some = act_there (same_key k key) o (with_asked act (admin o.value) a o.acts) some
 there_entry admin k o (Settled upto) h some = some
 
-there_run : {E : Type 0} (admin : Option Record → Option (Schedule E)) (k : Key) (es : List Entry) (o : Object E) → AllByRecursion (λ e. IsQuiet k e.what) es → IsSome o.value → IsSome (fold (λ (o : Object E) (e : Entry). after_entry admin k o e.what) o es).value
+there_run : {E : Type 0} (admin : Option Record → Option (Schedule E)) (k : Key) (es : List Entry) (o : Object E)
+    → AllByRecursion (λ e. IsQuiet k e.what) es → IsSome o.value
+    → IsSome (fold (λ (o : Object E) (e : Entry). after_entry admin k o e.what) o es).value
 there_run admin k [] o h some = some
 there_run admin k (e ∷ es) o h some = there_run admin k es (after_entry admin k o e.what) h.1 (there_entry admin k o e.what h.0 some)
 
@@ -117,22 +125,28 @@ pub record GoesOn (k : Key) (b later : Ledger) : Type 0 where
   pub kept : IsWellKept later.limits (present later)
 
 module _ {E : Type 0} (admin : Option Record → Option (Schedule E)) (k : Key) (b later : Ledger) (on : GoesOn k b later) where
-  object_on : object admin k (get later.opening k) later.entries ≡ fold (λ (o : Object E) (e : Entry). after_entry admin k o e.what) (object admin k (get b.opening k) b.entries) on.more
+  object_on : object admin k (get later.opening k) later.entries ≡ fold (λ (o : Object E) (e : Entry). after_entry admin k o e.what)
+      (object admin k (get b.opening k) b.entries) on.more
   object_on =
       ap (λ c. object admin k (get c k) later.entries) on.opening ∙ ap (object admin k (get b.opening k)) on.entries
-      ∙ fold-append (λ (o : Object E) (e : Entry). after_entry admin k o e.what) (record { value = get b.opening k; acts = [] }) b.entries on.more
+      ∙ fold-append (λ (o : Object E) (e : Entry). after_entry admin k o e.what) (record { value = get b.opening k; acts = [] }) b.entries
+      on.more
 
-  acts_on : is_enabled (object admin k (get b.opening k) b.entries).acts ≡ true → (object admin k (get later.opening k) later.entries).acts ≡ (object admin k (get b.opening k) b.entries).acts
-  acts_on enabled = ap (λ (o : Object E). o.acts) object_on ∙ quiet_run admin k on.more (object admin k (get b.opening k) b.entries) enabled on.quiet
+  acts_on : is_enabled (object admin k (get b.opening k) b.entries).acts ≡ true
+      → (object admin k (get later.opening k) later.entries).acts ≡ (object admin k (get b.opening k) b.entries).acts
+  acts_on enabled =
+      ap (λ (o : Object E). o.acts) object_on ∙ quiet_run admin k on.more (object admin k (get b.opening k) b.entries) enabled on.quiet
 
   there_on : IsSome (get (present b) k) → IsSome (get (present later) k)
   there_on some =
       subst (λ v. IsSome v) (ap (λ (o : Object E). o.value) (sym object_on) ∙ value_is admin k later)
-      (there_run admin k on.more (object admin k (get b.opening k) b.entries) on.quiet (subst (λ v. IsSome v) (sym (value_is admin k b)) some))
+      (there_run admin k on.more (object admin k (get b.opening k) b.entries) on.quiet
+      (subst (λ v. IsSome v) (sym (value_is admin k b)) some))
 
 -- ---- what is done and told
 
-applied_state : (s applied : State) (n : ℕ) (k : Key) (now at entry : ℕ) (change : Option ℕ) → Allows (apply_rule s n k now) s (replies.Acted change entry at) applied → applied ≡ acted_state s n asked.Apply k now
+applied_state : (s applied : State) (n : ℕ) (k : Key) (now at entry : ℕ) (change : Option ℕ)
+    → Allows (apply_rule s n k now) s (replies.Acted change entry at) applied → applied ≡ acted_state s n asked.Apply k now
 applied_state s applied n k now at entry change step =
     let is = accepted (apply_rule s n k now) s (replies.Acted change entry at) applied (λ why h. (cc)) step in
     sym (ap (λ (p : Reply × State). p.1) (done_of _ _ is.1))
@@ -148,106 +162,150 @@ told_at : (s : State) (x : Shown) (reply : Reply) → Tells s reply (Some x) →
 told_at s x reply (inl done) = sym (ap (λ (p : Reply × State). p.0) (done_of _ _ done))
 told_at s x reply (inr memory) = let never = memory.0 in (cc)
 
-told : (s : State) (n : ℕ) (k : Key) (t : ℕ) (x : Shown) (reply : Reply) → first_cause (list_causes s n k []) ≡ None → last_at s.book k ≤ t → shown_at s.book k (get (present s.book) k) t ≡ Some x → Allows (states_rule s n k t) s reply s → reply ≡ replies.States x
+told : (s : State) (n : ℕ) (k : Key) (t : ℕ) (x : Shown) (reply : Reply) → first_cause (list_causes s n k []) ≡ None → last_at s.book k ≤ t
+    → shown_at s.book k (get (present s.book) k) t ≡ Some x → Allows (states_rule s n k t) s reply s → reply ≡ replies.States x
 told s n k t x reply none after is step =
-    told_at s x reply (subst (Tells s reply) is (subst (λ o. AllowsAt o (states_rule s n k t) s reply s) (states_free s n k t none after) step))
+    told_at s x reply (subst (Tells s reply) is
+    (subst (λ o. AllowsAt o (states_rule s n k t) s reply s) (states_free s n k t none after) step))
 
 -- an act leaves the configuration
-stays_there : (s : State) (n : ℕ) (k : Key) (now : ℕ) (q : Key) → get (present (acted_state s n asked.Apply k now).book) q ≡ get (present s.book) q
-stays_there s n k now q = ap (λ es. get (run s.book.opening es) q) (nothing_push s.book.entries n (Acted asked.Apply k (instant s now)) refl)
+stays_there : (s : State) (n : ℕ) (k : Key) (now : ℕ) (q : Key)
+    → get (present (acted_state s n asked.Apply k now).book) q ≡ get (present s.book) q
+stays_there s n k now q =
+    ap (λ es. get (run s.book.opening es) q) (nothing_push s.book.entries n (Acted asked.Apply k (instant s now)) refl)
 
 -- ---- a port
 
 -- after an apply its acts begin with it
-applied_port : (s : State) (n m now : ℕ) (p : PortGates) → get (present s.book) (Port m) ≡ Some (records.Port p) → (port_at (acted_state s n asked.Apply (Port m) now).book m).acts ≡ Apply p.admin (instant s now) ∷ (port_at s.book m).acts
+applied_port : (s : State) (n m now : ℕ) (p : PortGates) → get (present s.book) (Port m) ≡ Some (records.Port p)
+    → (port_at (acted_state s n asked.Apply (Port m) now).book m).acts ≡ Apply p.admin (instant s now) ∷ (port_at s.book m).acts
 applied_port s n m now p is =
     ap (λ (o : Object PortEntry). o.acts) (object_push port_schedule (Port m) (get s.book.opening (Port m)) s.book.entries _)
-    ∙ ap (λ b. (cond b (record { value = (port_at s.book m).value; acts = with_asked asked.Apply (port_schedule (port_at s.book m).value) (instant s now) (port_at s.book m).acts }) (port_at s.book m)).acts) (same_itself (Port m))
-    ∙ ap (λ v. with_asked asked.Apply (port_schedule v) (instant s now) (port_at s.book m).acts) (value_is port_schedule (Port m) s.book ∙ is)
+    ∙ ap (λ b. (cond b (record {
+      value = (port_at s.book m).value;
+      acts = with_asked asked.Apply (port_schedule (port_at s.book m).value) (instant s now) (port_at s.book m).acts;
+    })
+    (port_at s.book m)).acts) (same_itself (Port m))
+    ∙ ap (λ v. with_asked asked.Apply (port_schedule v) (instant s now) (port_at s.book m).acts)
+    (value_is port_schedule (Port m) s.book ∙ is)
 
 -- what it shows, from its acts: its record is one of a port
-shown_port : (b : Ledger) (m t : ℕ) (v : Option Record) (e : PortEntry) → IsSome v → ((r : Record) → v ≡ Some r → HoldsRecord b.limits (Port m) r) → state_in (λ e. e.interval) (port_at b m).acts t ≡ Some e → shown_at b (Port m) v t ≡ Some (states.Port e.gates)
+shown_port : (b : Ledger) (m t : ℕ) (v : Option Record) (e : PortEntry) → IsSome v
+    → ((r : Record) → v ≡ Some r → HoldsRecord b.limits (Port m) r) → state_in (λ e. e.interval) (port_at b m).acts t ≡ Some e
+    → shown_at b (Port m) v t ≡ Some (states.Port e.gates)
 shown_port b m t (Some (records.Port q)) e some kind by = ap (λ o. Some (port_state q o)) by
 shown_port b m t None e some kind by = (cc)
 shown_port b m t (Some (records.Filter q)) e some kind by = absurd (kind (records.Filter q) refl)
 shown_port b m t (Some (records.Gate q)) e some kind by = absurd (kind (records.Gate q) refl)
 shown_port b m t (Some (records.Meter q)) e some kind by = absurd (kind (records.Meter q) refl)
 
-module _ (s applied later : State) (n m now at entry : ℕ) (change : Option ℕ) (p : PortGates) (sound : StateIsSound s) (is : get (present s.book) (Port m) ≡ Some (records.Port p))
-    (apply : Allows (apply_rule s n (Port m) now) s (replies.Acted change entry at) applied) (on : GoesOn (Port m) applied.book later.book) where
-  finds_port : FindsList s n (Port m)
-  finds_port = applied_finds s n (Port m) now (accepted (apply_rule s n (Port m) now) s (replies.Acted change entry at) applied (λ why h. (cc)) apply).0
+module _ (s applied later : State) (n m now at entry : ℕ) (change : Option ℕ) (p : PortGates) (sound : StateIsSound s)
+    (is : get (present s.book) (Port m) ≡ Some (records.Port p))
+    (apply : Allows (apply_rule s n (Port m) now) s (replies.Acted change entry at) applied) (on : GoesOn (Port m) applied.book later.book)
+  where
+    finds_port : FindsList s n (Port m)
+    finds_port = applied_finds s n (Port m) now
+        (accepted (apply_rule s n (Port m) now) s (replies.Acted change entry at) applied (λ why h. (cc)) apply).0
 
-  -- its acts later are those of the apply
-  acts_port : (port_at later.book m).acts ≡ Apply p.admin (instant s now) ∷ (port_at s.book m).acts
-  acts_port =
-      let first : (port_at applied.book m).acts ≡ Apply p.admin (instant s now) ∷ (port_at s.book m).acts = ap (λ (z : State). (port_at z.book m).acts) (applied_state s applied n (Port m) now at entry change apply) ∙ applied_port s n m now p is in
-      acts_on port_schedule (Port m) applied.book later.book on (ap (λ (acts : List (Act PortEntry)). is_enabled acts) first ∙ finds_port.enabled) ∙ first
+    -- its acts later are those of the apply
+    acts_port : (port_at later.book m).acts ≡ Apply p.admin (instant s now) ∷ (port_at s.book m).acts
+    acts_port =
+        let first : (port_at applied.book m).acts ≡ Apply p.admin (instant s now)
+        ∷ (port_at s.book m).acts = ap (λ (z : State). (port_at z.book m).acts)
+        (applied_state s applied n (Port m) now at entry change apply) ∙ applied_port s n m now p is in
+        acts_on port_schedule (Port m) applied.book later.book on
+        (ap (λ (acts : List (Act PortEntry)). is_enabled acts) first ∙ finds_port.enabled) ∙ first
 
-  there_port : IsSome (get (present later.book) (Port m))
-  there_port =
-      there_on port_schedule (Port m) applied.book later.book on
-      (subst (λ (z : State). IsSome (get (present z.book) (Port m))) (sym (applied_state s applied n (Port m) now at entry change apply))
-      (subst (λ v. IsSome v) (sym (stays_there s n (Port m) now (Port m) ∙ is)) refl))
+    there_port : IsSome (get (present later.book) (Port m))
+    there_port =
+        there_on port_schedule (Port m) applied.book later.book on
+        (subst (λ (z : State). IsSome (get (present z.book) (Port m))) (sym (applied_state s applied n (Port m) now at entry change apply))
+        (subst (λ v. IsSome v) (sym (stays_there s n (Port m) now (Port m) ∙ is)) refl))
 
-  cycle_port : 0 < p.admin.cycle
-  cycle_port = ((kept_now s.book sound).in_range (Port m) (records.Port p) is).admin.cycle.0
+    cycle_port : 0 < p.admin.cycle
+    cycle_port = ((kept_now s.book sound).in_range (Port m) (records.Port p) is).admin.cycle.0
 
-  pub restored_port : (asker t : ℕ) (reply : Reply) (e : PortEntry) → p.admin.base ≤ instant s now → change_of p.admin.base p.admin.cycle (instant s now) ≤ t → is_given later asker ≡ true
-      → Allows (states_rule later asker (Port m) t) later reply later → entry_at (λ (y : PortEntry). y.interval) p.admin.list ((t - p.admin.base) % p.admin.cycle) ≡ Some e → reply ≡ replies.States (states.Port e.gates)
-  restored_port asker t reply e past after given step found =
-      let by : state_in (λ (y : PortEntry). y.interval) (port_at later.book m).acts t ≡ Some e =
-      ap (λ xs. state_in (λ (y : PortEntry). y.interval) xs t) acts_port ∙ restored (λ (y : PortEntry). y.interval) p.admin (port_at s.book m).acts (instant s now) t cycle_port past after ∙ found in
-      let within = ap (λ l. holds_key l (Port m)) (on.limits ∙ ap (λ (z : State). z.book.limits) (applied_state s applied n (Port m) now at entry change apply)) ∙ within_list s n (Port m) finds_port.none in
-      let last : last_at later.book (Port m) ≡ instant s now = ap (λ (acts : List (Act PortEntry)). last_instant acts) acts_port in
-      told later asker (Port m) t (states.Port e.gates) reply (none_of_list later asker (Port m) refl within given there_port)
-      (omega (arith, last, after, (change_is_least p.admin.base p.admin.cycle (instant s now) cycle_port).reached))
-      (shown_port later.book m t (get (present later.book) (Port m)) e there_port (λ r h. (on.kept.within (Port m) r h).1) by) step
+    pub restored_port : (asker t : ℕ) (reply : Reply) (e : PortEntry) → p.admin.base ≤ instant s now
+        → change_of p.admin.base p.admin.cycle (instant s now) ≤ t → is_given later asker ≡ true
+        → Allows (states_rule later asker (Port m) t) later reply later
+        → entry_at (λ (y : PortEntry). y.interval) p.admin.list ((t - p.admin.base) % p.admin.cycle) ≡ Some e
+        → reply ≡ replies.States (states.Port e.gates)
+    restored_port asker t reply e past after given step found =
+        let by : state_in (λ (y : PortEntry). y.interval) (port_at later.book m).acts t ≡ Some e =
+        ap (λ xs. state_in (λ (y : PortEntry). y.interval) xs t) acts_port
+        ∙ restored (λ (y : PortEntry). y.interval) p.admin (port_at s.book m).acts (instant s now) t cycle_port past after ∙ found in
+        let within = ap (λ l. holds_key l (Port m))
+        (on.limits ∙ ap (λ (z : State). z.book.limits) (applied_state s applied n (Port m) now at entry change apply))
+        ∙ within_list s n (Port m) finds_port.none in
+        let last : last_at later.book (Port m) ≡ instant s now = ap (λ (acts : List (Act PortEntry)). last_instant acts) acts_port in
+        told later asker (Port m) t (states.Port e.gates) reply (none_of_list later asker (Port m) refl within given there_port)
+        (omega (arith, last, after, (change_is_least p.admin.base p.admin.cycle (instant s now) cycle_port).reached))
+        (shown_port later.book m t (get (present later.book) (Port m)) e there_port (λ r h. (on.kept.within (Port m) r h).1) by) step
 
 -- ---- a gate
 
 -- after an apply its acts begin with it
-applied_gate : (s : State) (n m now : ℕ) (p : StreamGate) → get (present s.book) (Gate m) ≡ Some (records.Gate p) → (gate_at (acted_state s n asked.Apply (Gate m) now).book m).acts ≡ Apply p.admin (instant s now) ∷ (gate_at s.book m).acts
+applied_gate : (s : State) (n m now : ℕ) (p : StreamGate) → get (present s.book) (Gate m) ≡ Some (records.Gate p)
+    → (gate_at (acted_state s n asked.Apply (Gate m) now).book m).acts ≡ Apply p.admin (instant s now) ∷ (gate_at s.book m).acts
 applied_gate s n m now p is =
     ap (λ (o : Object GateEntry). o.acts) (object_push gate_schedule (Gate m) (get s.book.opening (Gate m)) s.book.entries _)
-    ∙ ap (λ b. (cond b (record { value = (gate_at s.book m).value; acts = with_asked asked.Apply (gate_schedule (gate_at s.book m).value) (instant s now) (gate_at s.book m).acts }) (gate_at s.book m)).acts) (same_itself (Gate m))
-    ∙ ap (λ v. with_asked asked.Apply (gate_schedule v) (instant s now) (gate_at s.book m).acts) (value_is gate_schedule (Gate m) s.book ∙ is)
+    ∙ ap (λ b. (cond b (record {
+      value = (gate_at s.book m).value;
+      acts = with_asked asked.Apply (gate_schedule (gate_at s.book m).value) (instant s now) (gate_at s.book m).acts;
+    })
+    (gate_at s.book m)).acts) (same_itself (Gate m))
+    ∙ ap (λ v. with_asked asked.Apply (gate_schedule v) (instant s now) (gate_at s.book m).acts)
+    (value_is gate_schedule (Gate m) s.book ∙ is)
 
 -- what it shows, from its acts: its record is one of a gate
-shown_gate : (b : Ledger) (m t : ℕ) (v : Option Record) (e : GateEntry) → IsSome v → ((r : Record) → v ≡ Some r → HoldsRecord b.limits (Gate m) r) → state_in (λ e. e.interval) (gate_at b m).acts t ≡ Some e → shown_at b (Gate m) v t ≡ Some (states.Gate e.is_open e.ipv)
+shown_gate : (b : Ledger) (m t : ℕ) (v : Option Record) (e : GateEntry) → IsSome v
+    → ((r : Record) → v ≡ Some r → HoldsRecord b.limits (Gate m) r) → state_in (λ e. e.interval) (gate_at b m).acts t ≡ Some e
+    → shown_at b (Gate m) v t ≡ Some (states.Gate e.is_open e.ipv)
 shown_gate b m t (Some (records.Gate q)) e some kind by = ap (λ o. Some (gate_state q o)) by
 shown_gate b m t None e some kind by = (cc)
 shown_gate b m t (Some (records.Filter q)) e some kind by = absurd (kind (records.Filter q) refl)
 shown_gate b m t (Some (records.Port q)) e some kind by = absurd (kind (records.Port q) refl)
 shown_gate b m t (Some (records.Meter q)) e some kind by = absurd (kind (records.Meter q) refl)
 
-module _ (s applied later : State) (n m now at entry : ℕ) (change : Option ℕ) (p : StreamGate) (sound : StateIsSound s) (is : get (present s.book) (Gate m) ≡ Some (records.Gate p))
-    (apply : Allows (apply_rule s n (Gate m) now) s (replies.Acted change entry at) applied) (on : GoesOn (Gate m) applied.book later.book) where
-  finds_gate : FindsList s n (Gate m)
-  finds_gate = applied_finds s n (Gate m) now (accepted (apply_rule s n (Gate m) now) s (replies.Acted change entry at) applied (λ why h. (cc)) apply).0
+module _ (s applied later : State) (n m now at entry : ℕ) (change : Option ℕ) (p : StreamGate) (sound : StateIsSound s)
+    (is : get (present s.book) (Gate m) ≡ Some (records.Gate p))
+    (apply : Allows (apply_rule s n (Gate m) now) s (replies.Acted change entry at) applied) (on : GoesOn (Gate m) applied.book later.book)
+  where
+    finds_gate : FindsList s n (Gate m)
+    finds_gate = applied_finds s n (Gate m) now
+        (accepted (apply_rule s n (Gate m) now) s (replies.Acted change entry at) applied (λ why h. (cc)) apply).0
 
-  -- its acts later are those of the apply
-  acts_gate : (gate_at later.book m).acts ≡ Apply p.admin (instant s now) ∷ (gate_at s.book m).acts
-  acts_gate =
-      let first : (gate_at applied.book m).acts ≡ Apply p.admin (instant s now) ∷ (gate_at s.book m).acts = ap (λ (z : State). (gate_at z.book m).acts) (applied_state s applied n (Gate m) now at entry change apply) ∙ applied_gate s n m now p is in
-      acts_on gate_schedule (Gate m) applied.book later.book on (ap (λ (acts : List (Act GateEntry)). is_enabled acts) first ∙ finds_gate.enabled) ∙ first
+    -- its acts later are those of the apply
+    acts_gate : (gate_at later.book m).acts ≡ Apply p.admin (instant s now) ∷ (gate_at s.book m).acts
+    acts_gate =
+        let first : (gate_at applied.book m).acts ≡ Apply p.admin (instant s now)
+        ∷ (gate_at s.book m).acts = ap (λ (z : State). (gate_at z.book m).acts)
+        (applied_state s applied n (Gate m) now at entry change apply) ∙ applied_gate s n m now p is in
+        acts_on gate_schedule (Gate m) applied.book later.book on
+        (ap (λ (acts : List (Act GateEntry)). is_enabled acts) first ∙ finds_gate.enabled) ∙ first
 
-  there_gate : IsSome (get (present later.book) (Gate m))
-  there_gate =
-      there_on gate_schedule (Gate m) applied.book later.book on
-      (subst (λ (z : State). IsSome (get (present z.book) (Gate m))) (sym (applied_state s applied n (Gate m) now at entry change apply))
-      (subst (λ v. IsSome v) (sym (stays_there s n (Gate m) now (Gate m) ∙ is)) refl))
+    there_gate : IsSome (get (present later.book) (Gate m))
+    there_gate =
+        there_on gate_schedule (Gate m) applied.book later.book on
+        (subst (λ (z : State). IsSome (get (present z.book) (Gate m))) (sym (applied_state s applied n (Gate m) now at entry change apply))
+        (subst (λ v. IsSome v) (sym (stays_there s n (Gate m) now (Gate m) ∙ is)) refl))
 
-  cycle_gate : 0 < p.admin.cycle
-  cycle_gate = ((kept_now s.book sound).in_range (Gate m) (records.Gate p) is).admin.cycle.0
+    cycle_gate : 0 < p.admin.cycle
+    cycle_gate = ((kept_now s.book sound).in_range (Gate m) (records.Gate p) is).admin.cycle.0
 
-  pub restored_gate : (asker t : ℕ) (reply : Reply) (e : GateEntry) → p.admin.base ≤ instant s now → change_of p.admin.base p.admin.cycle (instant s now) ≤ t → is_given later asker ≡ true
-      → Allows (states_rule later asker (Gate m) t) later reply later → entry_at (λ (y : GateEntry). y.interval) p.admin.list ((t - p.admin.base) % p.admin.cycle) ≡ Some e → reply ≡ replies.States (states.Gate e.is_open e.ipv)
-  restored_gate asker t reply e past after given step found =
-      let by : state_in (λ (y : GateEntry). y.interval) (gate_at later.book m).acts t ≡ Some e =
-      ap (λ xs. state_in (λ (y : GateEntry). y.interval) xs t) acts_gate ∙ restored (λ (y : GateEntry). y.interval) p.admin (gate_at s.book m).acts (instant s now) t cycle_gate past after ∙ found in
-      let within = ap (λ l. holds_key l (Gate m)) (on.limits ∙ ap (λ (z : State). z.book.limits) (applied_state s applied n (Gate m) now at entry change apply)) ∙ within_list s n (Gate m) finds_gate.none in
-      let last : last_at later.book (Gate m) ≡ instant s now = ap (λ (acts : List (Act GateEntry)). last_instant acts) acts_gate in
-      told later asker (Gate m) t (states.Gate e.is_open e.ipv) reply (none_of_list later asker (Gate m) refl within given there_gate)
-      (omega (arith, last, after, (change_is_least p.admin.base p.admin.cycle (instant s now) cycle_gate).reached))
-      (shown_gate later.book m t (get (present later.book) (Gate m)) e there_gate (λ r h. (on.kept.within (Gate m) r h).1) by) step
+    pub restored_gate : (asker t : ℕ) (reply : Reply) (e : GateEntry) → p.admin.base ≤ instant s now
+        → change_of p.admin.base p.admin.cycle (instant s now) ≤ t → is_given later asker ≡ true
+        → Allows (states_rule later asker (Gate m) t) later reply later
+        → entry_at (λ (y : GateEntry). y.interval) p.admin.list ((t - p.admin.base) % p.admin.cycle) ≡ Some e
+        → reply ≡ replies.States (states.Gate e.is_open e.ipv)
+    restored_gate asker t reply e past after given step found =
+        let by : state_in (λ (y : GateEntry). y.interval) (gate_at later.book m).acts t ≡ Some e =
+        ap (λ xs. state_in (λ (y : GateEntry). y.interval) xs t) acts_gate
+        ∙ restored (λ (y : GateEntry). y.interval) p.admin (gate_at s.book m).acts (instant s now) t cycle_gate past after ∙ found in
+        let within = ap (λ l. holds_key l (Gate m))
+        (on.limits ∙ ap (λ (z : State). z.book.limits) (applied_state s applied n (Gate m) now at entry change apply))
+        ∙ within_list s n (Gate m) finds_gate.none in
+        let last : last_at later.book (Gate m) ≡ instant s now = ap (λ (acts : List (Act GateEntry)). last_instant acts) acts_gate in
+        told later asker (Gate m) t (states.Gate e.is_open e.ipv) reply (none_of_list later asker (Gate m) refl within given there_gate)
+        (omega (arith, last, after, (change_is_least p.admin.base p.admin.cycle (instant s now) cycle_gate).reached))
+        (shown_gate later.book m t (get (present later.book) (Gate m)) e there_gate (λ r h. (on.kept.within (Gate m) r h).1) by) step

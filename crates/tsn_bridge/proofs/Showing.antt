@@ -39,24 +39,29 @@ has_list_of l (Meter n) (records.Filter r) holds list = (cc)
 has_list_of l (Meter n) (records.Gate r) holds list = absurd holds
 has_list_of l (Meter n) (records.Meter r) holds list = (cc)
 
-pub show_refused : (s : State) (n : ℕ) (k : Key) (r : Record) → IsWellKept s.book.limits (present s.book) → holds_key s.book.limits k ≡ true → is_given s n ≡ true → get (present s.book) k ≡ Some r
+pub show_refused : (s : State) (n : ℕ) (k : Key) (r : Record) → IsWellKept s.book.limits (present s.book) → holds_key s.book.limits k ≡ true
+    → is_given s n ≡ true → get (present s.book) k ≡ Some r
     → record_has_list r ≡ true → Allows (show_rule s n k) s (Refused Memory) s
 show_refused s n k r kept holds known stands list =
     is_refused (show_rule s n k) s (Refused Memory) s None Memory
     (λ i. least (unless (holds i) (Range fields.Key) ∷ unless (known i) NoSession ∷ unless (is_some (stands i)) (Missing k) ∷ []))
     (has_list_of s.book.limits k r (kept.within k r stands).1 list) refl refl refl
 
-pub list_refused : (s : State) (n : ℕ) (kind : Kind) → is_given s n ≡ true → 0 < length (ids_of kind (present s.book)) → Allows (list_rule s n kind) s (Refused Memory) s
+pub list_refused : (s : State) (n : ℕ) (kind : Kind) → is_given s n ≡ true → 0 < length (ids_of kind (present s.book))
+    → Allows (list_rule s n kind) s (Refused Memory) s
 list_refused s n kind known some =
-    is_refused (list_rule s n kind) s (Refused Memory) s None Memory (λ i. least (unless (known i) NoSession ∷ [])) (lt-ltb 0 (length (ids_of kind (present s.book))) some) refl refl refl
+    is_refused (list_rule s n kind) s (Refused Memory) s None Memory (λ i. least (unless (known i) NoSession ∷ []))
+    (lt-ltb 0 (length (ids_of kind (present s.book))) some) refl refl refl
 
 -- ---- the setup
 
 -- where the session was given out, what its text comes to is told, or want of memory
-pub setup_told : (s : State) (n : ℕ) (text : List ℕ) → is_given s n ≡ true → exported s.book.limits (present s.book) ≡ Ok text → Allows (setup_rule s n) s (Setup text) s
+pub setup_told : (s : State) (n : ℕ) (text : List ℕ) → is_given s n ≡ true → exported s.book.limits (present s.book) ≡ Ok text
+    → Allows (setup_rule s n) s (Setup text) s
 setup_told s n text given is = rw (given, is) (inl refl)
 
-pub setup_refused : (s : State) (n : ℕ) (why : Refusal) {x : Result (List ℕ) Refusal} → is_given s n ≡ true → x ≡ exported s.book.limits (present s.book) → (x ≡ Err why) ⊎ (why ≡ Memory)
+pub setup_refused : (s : State) (n : ℕ) (why : Refusal) {x : Result (List ℕ) Refusal} → is_given s n ≡ true
+    → x ≡ exported s.book.limits (present s.book) → (x ≡ Err why) ⊎ (why ≡ Memory)
     → Allows (setup_rule s n) s (Refused why) s
 setup_refused s n why given same (inl is) = rw (given, sym same ∙ is) (inl refl)
 setup_refused s n why given same (inr memory) = rw (given, memory) (inr (refl, refl, refl))

@@ -21,35 +21,44 @@ use Rattle.tsn_bridge.specs.Together.{Follows}
 
 -- what a rule allows where its least cause is o
 abbrev pub AllowsAt : Option Refusal → Rule → State → Reply → State → Type 0
-AllowsAt o rule s reply new = MatchOption o ((rule.done ≡ Some (reply, new)) ⊎ (IsTrue rule.takes_memory × (reply ≡ Refused Memory) × (new ≡ s))) (λ why. (reply ≡ Refused why) × (new ≡ s))
+AllowsAt o rule s reply new = MatchOption o
+    ((rule.done ≡ Some (reply, new)) ⊎ (IsTrue rule.takes_memory × (reply ≡ Refused Memory) × (new ≡ s)))
+    (λ why. (reply ≡ Refused why) × (new ≡ s))
 
 module _ (rule : Rule) (s : State) (reply : Reply) (new : State) where
   pub is_done : least rule.causes ≡ None → rule.done ≡ Some (reply, new) → Allows rule s reply new
   is_done none d = subst (λ o. AllowsAt o rule s reply new) (sym none) (inl d)
 
-  pub is_refused : (o : Option Refusal) (why : Refusal) → least rule.causes ≡ o → IsTrue rule.takes_memory → IsLeastOrMemory o why → reply ≡ Refused why → new ≡ s → Allows rule s reply new
-  is_refused None why none takes memory is same = subst (λ o. AllowsAt o rule s reply new) (sym none) (inr (takes, is ∙ ap Refused memory, same))
+  pub is_refused : (o : Option Refusal) (why : Refusal) → least rule.causes ≡ o → IsTrue rule.takes_memory → IsLeastOrMemory o why
+      → reply ≡ Refused why → new ≡ s → Allows rule s reply new
+  is_refused None why none takes memory is same =
+      subst (λ o. AllowsAt o rule s reply new) (sym none) (inr (takes, is ∙ ap Refused memory, same))
   is_refused (Some cause) why some takes least' is same = subst (λ o. AllowsAt o rule s reply new) (sym some) (is ∙ ap Refused least', same)
 
   pub is_surely_refused : (why : Refusal) → least rule.causes ≡ Some why → reply ≡ Refused why → new ≡ s → Allows rule s reply new
   is_surely_refused why some is same = subst (λ o. AllowsAt o rule s reply new) (sym some) (is, same)
 
   -- what is answered by no refusal has no cause and is done
-  accepted_at : (o : Option Refusal) → ((why : Refusal) → reply ≡ Refused why → ⊥) → AllowsAt o rule s reply new → (o ≡ None) × (rule.done ≡ Some (reply, new))
+  accepted_at : (o : Option Refusal) → ((why : Refusal) → reply ≡ Refused why → ⊥) → AllowsAt o rule s reply new
+      → (o ≡ None) × (rule.done ≡ Some (reply, new))
   accepted_at None other (inl done) = (refl, done)
   accepted_at None other (inr memory) = absurd (other Memory memory.1)
   accepted_at (Some why) other cause = absurd (other why cause.0)
 
-  pub accepted : ((why : Refusal) → reply ≡ Refused why → ⊥) → Allows rule s reply new → (least rule.causes ≡ None) × (rule.done ≡ Some (reply, new))
+  pub accepted : ((why : Refusal) → reply ≡ Refused why → ⊥) → Allows rule s reply new
+      → (least rule.causes ≡ None) × (rule.done ≡ Some (reply, new))
   accepted other step = accepted_at (least rule.causes) other step
 
 -- what is refused has that cause, or none and memory was wanting
-refused_at : (o : Option Refusal) (rule : Rule) (s new : State) (why : Refusal) → (rule.done ≡ Some (Refused why, new) → ⊥) → AllowsAt o rule s (Refused why) new → (o ≡ Some why) ⊎ (why ≡ Memory)
+refused_at : (o : Option Refusal) (rule : Rule) (s new : State) (why : Refusal) → (rule.done ≡ Some (Refused why, new) → ⊥)
+    → AllowsAt o rule s (Refused why) new → (o ≡ Some why) ⊎ (why ≡ Memory)
 refused_at None rule s new why never (inl done) = absurd (never done)
 refused_at None rule s new why never (inr memory) = let same : Refused why ≡ Refused Memory = memory.1 in inr (cc)
-refused_at (Some cause) rule s new why never is = let same : Refused why ≡ Refused cause = is.0 in let also : cause ≡ why = (cc) in inl (ap Some also)
+refused_at (Some cause) rule s new why never is =
+    let same : Refused why ≡ Refused cause = is.0 in let also : cause ≡ why = (cc) in inl (ap Some also)
 
-pub refused : (rule : Rule) (s new : State) (why : Refusal) → (rule.done ≡ Some (Refused why, new) → ⊥) → Allows rule s (Refused why) new → (least rule.causes ≡ Some why) ⊎ (why ≡ Memory)
+pub refused : (rule : Rule) (s new : State) (why : Refusal) → (rule.done ≡ Some (Refused why, new) → ⊥) → Allows rule s (Refused why) new
+    → (least rule.causes ≡ Some why) ⊎ (why ≡ Memory)
 refused rule s new why never step = refused_at (least rule.causes) rule s new why never step
 
 -- ---- the session was given out
@@ -76,11 +85,13 @@ was_given false (Some why) h = never (nat_lt (rank_of why) 5) h
 abbrev pub seen : PairState → GivenOut → State
 seen p k = record { book = p.ledger; sessions = k.count; names = k.names; time = p.time; frames = p.frames }
 
-module _ (p p' : PairState) (k : GivenOut) (s : State) (n : ℕ) (batch : List Edit) (view : ◌≡◌ {A = State} (seen p k) s) (known : is_given s n ≡ true) where
+module _ (p p' : PairState) (k : GivenOut) (s : State) (n : ℕ) (batch : List Edit) (view : ◌≡◌ {A = State} (seen p k) s)
+    (known : is_given s n ≡ true) where
   book : p.ledger ≡ s.book
   book = ap (λ (x : State). x.book) view
 
-  pub edit_step : (entry : ℕ) → Edits p.ledger n batch entry p'.ledger → Follows p (change_of (present p.ledger) batch) p' → Allows (edit_rule s n batch) s (Entry entry) (seen p' k)
+  pub edit_step : (entry : ℕ) → Edits p.ledger n batch entry p'.ledger → Follows p (change_of (present p.ledger) batch) p'
+      → Allows (edit_rule s n batch) s (Entry entry) (seen p' k)
   edit_step entry is follows =
       let number : entry ≡ length s.book.entries + 1 = is.number_is ∙ ap (λ (c : Ledger). length c.entries + 1) book in
       let left : seen p' k ≡ changed_state s n (Made (change_of (present s.book) batch)) (change_of (present s.book) batch) =
@@ -90,7 +101,8 @@ module _ (p p' : PairState) (k : GivenOut) (s : State) (n : ℕ) (batch : List E
       (given (is_given s n) (edit_refusal s.book batch) known ∙ ap (λ (c : Ledger). edit_refusal c batch) (sym book) ∙ is.admitted)
       (λ i. Some (Entry (sym number i), sym left i))
 
-  pub edit_refused : (why : Refusal) → IsLeastOrMemory (edit_refusal p.ledger batch) why → p' ≡ p → Allows (edit_rule s n batch) s (Refused why) (seen p' k)
+  pub edit_refused : (why : Refusal) → IsLeastOrMemory (edit_refusal p.ledger batch) why → p' ≡ p
+      → Allows (edit_rule s n batch) s (Refused why) (seen p' k)
   edit_refused why least' same =
       is_refused (edit_rule s n batch) s (Refused why) (seen p' k) (edit_refusal p.ledger batch) why
       (given (is_given s n) (edit_refusal s.book batch) known ∙ ap (λ (c : Ledger). edit_refusal c batch) (sym book)) refl least' refl

@@ -48,7 +48,8 @@ module _ (b : Ledger) (t : Instances) (h : IsTied b t.runners t.frames) where
   data_of (Gate m) there = (h.keys.gates m ∙ there, h.keys.frames.gates m ∙ there)
   data_of (Meter m) there = h.keys.frames.meters m ∙ there
 
-  shown_told : (key : Key) (v : Option Record) (at : ℕ) (x : Shown) → HasRunner t.runners key → KeyStates t.runners key v at (Ok x) → (last_at b key ≤ at) × (Some x ≡ shown_at b key v at)
+  shown_told : (key : Key) (v : Option Record) (at : ℕ) (x : Shown) → HasRunner t.runners key → KeyStates t.runners key v at (Ok x)
+      → (last_at b key ≤ at) × (Some x ≡ shown_at b key v at)
   shown_told (Port m) (Some (records.Port p)) at x there told =
       let r = held (get t.runners.ports m) there in
       let f = told r.0 r.1 (port_at b m).acts (h.runs.ports m r.0 r.1) in
@@ -59,18 +60,23 @@ module _ (b : Ledger) (t : Instances) (h : IsTied b t.runners t.frames) where
       (f.0, ap Some f.1)
   shown_told key v at x there told = absurd told
 
-  past_told : (key : Key) (v : Option Record) (at : ℕ) (x : TooEarly) → HasRunner t.runners key → KeyStates t.runners key v at (Err x) → at < last_at b key
-  past_told (Port m) (Some (records.Port p)) at x there told = let r = held (get t.runners.ports m) there in told r.0 r.1 (port_at b m).acts (h.runs.ports m r.0 r.1)
-  past_told (Gate m) (Some (records.Gate p)) at x there told = let r = held (get t.runners.gates m) there in told r.0 r.1 (gate_at b m).acts (h.runs.gates m r.0 r.1)
+  past_told : (key : Key) (v : Option Record) (at : ℕ) (x : TooEarly) → HasRunner t.runners key → KeyStates t.runners key v at (Err x)
+      → at < last_at b key
+  past_told (Port m) (Some (records.Port p)) at x there told =
+      let r = held (get t.runners.ports m) there in told r.0 r.1 (port_at b m).acts (h.runs.ports m r.0 r.1)
+  past_told (Gate m) (Some (records.Gate p)) at x there told =
+      let r = held (get t.runners.gates m) there in told r.0 r.1 (gate_at b m).acts (h.runs.gates m r.0 r.1)
   past_told key v at x there told = absurd told
 
-  pub states_told : (key : Key) (v : Option Record) (at : ℕ) (result : Result Shown TooEarly) → HasRunner t.runners key → KeyStates t.runners key v at result
+  pub states_told : (key : Key) (v : Option Record) (at : ℕ) (result : Result Shown TooEarly) → HasRunner t.runners key
+      → KeyStates t.runners key v at result
       → MatchResult result (λ x. (last_at b key ≤ at) × (shown_at b key v at ≡ Some x)) (λ _. at < last_at b key)
   states_told key v at (Ok x) there told = let f = shown_told key v at x there told in (f.0, sym f.1)
   states_told key v at (Err x) there told = past_told key v at x there told
 
   -- an apply that finds its key enabled and its list with an entry is refused for memory alone
-  memory_told : (key : Key) (v : Option Record) (why : Refusal) → HasRunner t.runners key → KeyRefuses t.runners key v (Err why) → first_cause (unless (enabled_at b key) NotEnabled ∷ unless (has_entry v) EmptyList ∷ []) ≡ None → why ≡ Memory
+  memory_told : (key : Key) (v : Option Record) (why : Refusal) → HasRunner t.runners key → KeyRefuses t.runners key v (Err why)
+      → first_cause (unless (enabled_at b key) NotEnabled ∷ unless (has_entry v) EmptyList ∷ []) ≡ None → why ≡ Memory
   memory_told (Port m) (Some (records.Port p)) why there told none =
       let r = held (get t.runners.ports m) there in
       told r.0 r.1 (port_at b m).acts (h.runs.ports m r.0 r.1) ∙ ap (λ o. unwrap_or o Memory) none
@@ -79,22 +85,30 @@ module _ (b : Ledger) (t : Instances) (h : IsTied b t.runners t.frames) where
       told r.0 r.1 (gate_at b m).acts (h.runs.gates m r.0 r.1) ∙ ap (λ o. unwrap_or o Memory) none
   memory_told key v why there told none = absurd told
 
-  pub refused_told : (act : Asked) (key : Key) (why : Refusal) → HasRunner t.runners key → act ≡ asked.Apply → KeyRefuses t.runners key (get (present b) key) (Err why) → first_cause (act_causes b act key) ≡ None → why ≡ Memory
+  pub refused_told : (act : Asked) (key : Key) (why : Refusal) → HasRunner t.runners key → act ≡ asked.Apply
+      → KeyRefuses t.runners key (get (present b) key) (Err why) → first_cause (act_causes b act key) ≡ None → why ≡ Memory
   refused_told asked.Enable key why there is told none = absurd (cc)
   refused_told asked.Disable key why there is told none = absurd (cc)
   refused_told asked.Apply key why there is told none = memory_told key (get (present b) key) why there told none
 
-  pub counted_told : (key : Key) (now : ℕ) (told : Counters) → HasData t.runners t.frames key → KeyCounts t.runners t.frames now key told → Some told ≡ counted_at b t.frames now key
-  counted_told (Port m) now told there is = let r = held (get t.runners.ports m) there in ap Some (is r.0 r.1 (port_at b m).acts (h.runs.ports m r.0 r.1))
-  counted_told (Filter m) now told there is = let d = held (get t.frames.filters m) there in ap Some (is d.0 d.1) ∙ sym (ap (option_map (λ x. counters.Filter x)) d.1)
+  pub counted_told : (key : Key) (now : ℕ) (told : Counters) → HasData t.runners t.frames key → KeyCounts t.runners t.frames now key told
+      → Some told ≡ counted_at b t.frames now key
+  counted_told (Port m) now told there is =
+      let r = held (get t.runners.ports m) there in ap Some (is r.0 r.1 (port_at b m).acts (h.runs.ports m r.0 r.1))
+  counted_told (Filter m) now told there is =
+      let d = held (get t.frames.filters m) there in ap Some (is d.0 d.1) ∙ sym (ap (option_map (λ x. counters.Filter x)) d.1)
   counted_told (Gate m) now told there is =
       let r = held (get t.runners.gates m) there.0 in
       let d = held (get t.frames.gates m) there.1 in
-      ap Some (is d.0 d.1 r.0 r.1 (gate_at b m).acts (h.runs.gates m r.0 r.1)) ∙ sym (ap (option_map (λ x. gate_counters now x (gate_at b m).acts)) d.1)
-  counted_told (Meter m) now told there is = let d = held (get t.frames.meters m) there in ap Some (is d.0 d.1) ∙ sym (ap (option_map (λ x. counters.Meter x.red)) d.1)
+      ap Some (is d.0 d.1 r.0 r.1 (gate_at b m).acts (h.runs.gates m r.0 r.1))
+      ∙ sym (ap (option_map (λ x. gate_counters now x (gate_at b m).acts)) d.1)
+  counted_told (Meter m) now told there is =
+      let d = held (get t.frames.meters m) there in ap Some (is d.0 d.1) ∙ sym (ap (option_map (λ x. counters.Meter x.red)) d.1)
 
-  pub enabled_told : (key : Key) (now : ℕ) (told : Counters) → HasData t.runners t.frames key → KeyCounts t.runners t.frames now key told → says_enabled told ≡ enabled_at b key
-  enabled_told (Port m) now told there is = let r = held (get t.runners.ports m) there in ap says_enabled (is r.0 r.1 (port_at b m).acts (h.runs.ports m r.0 r.1))
+  pub enabled_told : (key : Key) (now : ℕ) (told : Counters) → HasData t.runners t.frames key → KeyCounts t.runners t.frames now key told
+      → says_enabled told ≡ enabled_at b key
+  enabled_told (Port m) now told there is =
+      let r = held (get t.runners.ports m) there in ap says_enabled (is r.0 r.1 (port_at b m).acts (h.runs.ports m r.0 r.1))
   enabled_told (Filter m) now told there is = let d = held (get t.frames.filters m) there in ap says_enabled (is d.0 d.1)
   enabled_told (Gate m) now told there is =
       let r = held (get t.runners.gates m) there.0 in
@@ -103,8 +117,11 @@ module _ (b : Ledger) (t : Instances) (h : IsTied b t.runners t.frames) where
   enabled_told (Meter m) now told there is = let d = held (get t.frames.meters m) there in ap says_enabled (is d.0 d.1)
 
   -- the same, of the pair that is seen
-  pub enabled_of : (p : PairState) (key : Key) (told : Counters) → b ≡ p.ledger → is_some (get (present p.ledger) key) ≡ true → KeyCounts t.runners t.frames t.time key told → says_enabled told ≡ enabled_at p.ledger key
-  enabled_of p key told view there counts = enabled_told key t.time told (data_of key (ap (λ (c : Ledger). is_some (get (present c) key)) view ∙ there)) counts ∙ ap (λ (c : Ledger). enabled_at c key) view
+  pub enabled_of : (p : PairState) (key : Key) (told : Counters) → b ≡ p.ledger → is_some (get (present p.ledger) key) ≡ true
+      → KeyCounts t.runners t.frames t.time key told → says_enabled told ≡ enabled_at p.ledger key
+  enabled_of p key told view there counts =
+      enabled_told key t.time told (data_of key (ap (λ (c : Ledger). is_some (get (present c) key)) view ∙ there)) counts
+      ∙ ap (λ (c : Ledger). enabled_at c key) view
 
 -- the record of a key that has a list, in a well kept configuration
 record_of : (b : Ledger) (key : Key) (r : Record) → has_list key ≡ true → HoldsRecord b.limits key r → HasList key (Some r)
@@ -114,18 +131,23 @@ record_of b (Filter m) r e h = (cc)
 record_of b (Meter m) r e h = (cc)
 record_of b key r e h = absurd h
 
-pub list_of : (b : Ledger) (key : Key) → IsWellKept b.limits (present b) → has_list key ≡ true → is_some (get (present b) key) ≡ true → HasList key (get (present b) key)
+pub list_of : (b : Ledger) (key : Key) → IsWellKept b.limits (present b) → has_list key ≡ true → is_some (get (present b) key) ≡ true
+    → HasList key (get (present b) key)
 list_of b key kept e there =
     let r = held (get (present b) key) there in
     subst (λ (v : Option Record). HasList key v) (sym r.1) (record_of b key r.0 e (kept.within key r.0 r.1).1)
 
 -- ---- an act is refused by what it adds, then by the journal, then for memory
 
-act_first : (b : Ledger) (act : Asked) (key : Key) → first_cause (act_causes b act key ++ no_room b.entries 1 ∷ []) ≡ option_or (first_cause (act_causes b act key)) (option_or (no_room b.entries 1) None)
+act_first : (b : Ledger) (act : Asked) (key : Key)
+    → first_cause (act_causes b act key ++ no_room b.entries 1 ∷ []) ≡ option_or (first_cause (act_causes b act key))
+    (option_or (no_room b.entries 1) None)
 act_first b act key = first_cause-append (act_causes b act key) (no_room b.entries 1 ∷ [])
 
 -- where it adds no cause, and the journal has room
-pub act_memory : (b : Ledger) (act : Asked) (key : Key) → first_cause (act_causes b act key) ≡ None → (why : Refusal) → no_room b.entries 1 ≡ None → why ≡ Memory → IsLeastOrMemory (first_cause (act_causes b act key ++ no_room b.entries 1 ∷ [])) why
+pub act_memory : (b : Ledger) (act : Asked) (key : Key) → first_cause (act_causes b act key) ≡ None → (why : Refusal)
+    → no_room b.entries 1 ≡ None → why ≡ Memory → IsLeastOrMemory (first_cause (act_causes b act key ++ no_room b.entries 1 ∷ [])) why
 act_memory b act key none why room memory =
-    let rest = act_first b act key ∙ ap (λ o. option_or o (option_or (no_room b.entries 1) None)) none ∙ option_or-None (no_room b.entries 1) in
+    let rest = act_first b act key ∙ ap (λ o. option_or o (option_or (no_room b.entries 1) None)) none
+    ∙ option_or-None (no_room b.entries 1) in
     subst (λ o. IsLeastOrMemory o why) (sym (rest ∙ room)) memory

@@ -36,7 +36,8 @@ has_list (Meter n) = false
 
 -- a key outside the limits, a session that was not given out, a key that is absent, and further causes
 abbrev pub key_causes : State → ℕ → Key → List (Option Refusal) → List (Option Refusal)
-key_causes s n k more = unless (holds_key s.book.limits k) (Range fields.Key) ∷ no_session s n ∷ unless (is_some (get (present s.book) k)) (Missing k) ∷ more
+key_causes s n k more =
+    unless (holds_key s.book.limits k) (Range fields.Key) ∷ no_session s n ∷ unless (is_some (get (present s.book) k)) (Missing k) ∷ more
 
 -- before these, a key of a kind that has no list
 abbrev pub list_causes : State → ℕ → Key → List (Option Refusal) → List (Option Refusal)

@@ -32,19 +32,25 @@ changed_state s n w e = record s { book = enter s.book n w; frames = frames_afte
 abbrev pub edit_rule : State → ℕ → List Edit → Rule
 edit_rule s n batch =
     let e = change_of (present s.book) batch in
-    record { causes = no_session s n ∷ edit_refusal s.book batch ∷ []; done = Some (Entry (next s), changed_state s n (Made e) e); takes_memory = true }
+    record {
+      causes = no_session s n ∷ edit_refusal s.book batch ∷ [];
+      done = Some (Entry (next s), changed_state s n (Made e) e);
+      takes_memory = true;
+    }
 
 -- an undo makes one entry, which takes back the session's newest standing entry
 abbrev pub undo_rule : State → ℕ → Rule
 undo_rule s n = record {
   causes = no_session s n ∷ undo_refusal s.book n ∷ [];
-  done = option_map (λ (x : Applied). (EntryOf (next s) x.number, changed_state s n (undone x) (inverse x.change))) (last_of s.book.entries n);
+  done =
+      option_map (λ (x : Applied). (EntryOf (next s) x.number, changed_state s n (undone x) (inverse x.change))) (last_of s.book.entries n);
   takes_memory = true;
 }
 
 -- the state after an Undone entry for each of xs, the last of them first
 abbrev pub undone_state : State → ℕ → List Applied → State
-undone_state s n xs = record s { book = record s.book { entries = with_undone s.book.entries n xs }; frames = undone_by (frames_after s.time) s.frames xs }
+undone_state s n xs =
+    record s { book = record s.book { entries = with_undone s.book.entries n xs }; frames = undone_by (frames_after s.time) s.frames xs }
 
 -- an undo of all makes an entry for each of the session's standing entries, which takes it back, newest first
 abbrev pub undo_all_rule : State → ℕ → Rule
@@ -60,7 +66,8 @@ undo_all_rule s n =
 abbrev pub redo_rule : State → ℕ → Option Refusal → Rule
 redo_rule s n cause = record {
   causes = no_session s n ∷ cause ∷ [];
-  done = option_map (λ (u : Applied). (EntryOf (next s) u.number, changed_state s n (redone u) (inverse u.change))) (redo_of s.book.entries n);
+  done =
+      option_map (λ (u : Applied). (EntryOf (next s) u.number, changed_state s n (redone u) (inverse u.change))) (redo_of s.book.entries n);
   takes_memory = true;
 }
 

@@ -40,7 +40,8 @@ numbers xs = map (λ x. x.number) xs
 -- ---- session 1 creates gate 1 and filter 0 on it, session 2 gate 2 and filter 1 on it, in turns
 
 abbrev pub in_turns : List Entry
-in_turns = edits ((1, change (Gate 1) None (Some gate)) ∷ (2, change (Gate 2) None (Some gate)) ∷ (1, change (Filter 0) None (Some (filter 1))) ∷ (2, change (Filter 1) None (Some (filter 2))) ∷ [])
+in_turns = edits ((1, change (Gate 1) None (Some gate)) ∷ (2, change (Gate 2) None (Some gate))
+    ∷ (1, change (Filter 0) None (Some (filter 1))) ∷ (2, change (Filter 1) None (Some (filter 2))) ∷ [])
 
 -- both sessions are given out, and the second goes by a name
 abbrev pub two_sessions : State
@@ -48,7 +49,8 @@ two_sessions = record standard { book = book_of in_turns; sessions = 2; names = 
 
 -- session 1 took its two edits back, the newest first
 abbrev pub one_left : List Entry
-one_left = with_entry (with_entry in_turns 1 (Undone 3 (change (Filter 0) (Some (filter 1)) None))) 1 (Undone 1 (change (Gate 1) (Some gate) None))
+one_left =
+    with_entry (with_entry in_turns 1 (Undone 3 (change (Filter 0) (Some (filter 1)) None))) 1 (Undone 1 (change (Gate 1) (Some gate) None))
 
 -- ---- a port's list is changed while it runs, and changed back, and then applied again
 
@@ -68,7 +70,8 @@ put_back =
 
 -- and then its base is moved ahead, and the list applied just there
 abbrev pub put_ahead : List Entry
-put_ahead = with_entry (with_entry put_back 1 (Made (change (Port 1) (Some (port one_two 0)) (Some (port one_two 12000))))) 1 (Acted asked.Apply (Port 1) 12000)
+put_ahead = with_entry (with_entry put_back 1 (Made (change (Port 1) (Some (port one_two 0)) (Some (port one_two 12000))))) 1
+    (Acted asked.Apply (Port 1) 12000)
 
 -- what the port shows at some instants
 abbrev pub shows : List Entry → Record → List ℕ → List (Option Shown)
@@ -79,7 +82,13 @@ shows es r ts = map (λ t. shown_at (book_of es) (Port 1) (Some r) t) ts
 -- it closes for good after a frame with more octets than the interval has left
 abbrev pub closed_gate : Record
 closed_gate =
-    records.Gate (record { is_open = false; ipv = None; invalid_rx = false; octets_exceeded = true; admin = record { list = gate_list; cycle = 2000; extension = 0; base = 0 } })
+    records.Gate (record {
+      is_open = false;
+      ipv = None;
+      invalid_rx = false;
+      octets_exceeded = true;
+      admin = record { list = gate_list; cycle = 2000; extension = 0; base = 0 };
+    })
 
 abbrev pub any_stream : Record
 any_stream = records.Filter (record { handle = None; priority = None; gate = 0; max_sdu = None; meter = None; oversize = false })
@@ -94,11 +103,13 @@ gate_runs =
 
 -- what is kept of new instances, and after these frames
 abbrev pub rows_new : FrameData
-rows_new = frames_after 0 (frames_after 0 standard.frames (change (Gate 0) None (Some closed_gate))) (change (Filter 0) None (Some any_stream))
+rows_new =
+    frames_after 0 (frames_after 0 standard.frames (change (Gate 0) None (Some closed_gate))) (change (Filter 0) None (Some any_stream))
 
 abbrev pub rows_after : List Coming → FrameData → FrameData
 rows_after fs f =
-    let left = left_by (filter_0 true gate_acts) no_meter fs in record f { filters = insert f.filters 0 left.filter; gates = insert f.gates 0 left.gate }
+    let left = left_by (filter_0 true gate_acts) no_meter fs in
+    record f { filters = insert f.filters 0 left.filter; gates = insert f.gates 0 left.gate }
 
 abbrev pub with_rows : ℕ → FrameData → State
 with_rows time f = record { book = book_of gate_runs; sessions = 1; names = []; time = time; frames = f }

@@ -20,8 +20,8 @@ use Rattle.tsn_bridge.specs.Sessions.{hello_rule, resume_look, sessions_look}
 use Rattle.tsn_bridge.specs.Settling.{settle_rule}
 use Rattle.tsn_bridge.specs.State.{State}
 
--- What a command asks for: a session number, by a name or none; a batch of edits; an undo, an undo of all, a redo; a settle up to a number; an act on
--- a key at an instant; what becomes of a frame; a look at what a journal keeps; or one at what it doesn't.
+-- What a command asks for: a session number, by a name or none; a batch of edits; an undo, an undo of all, a redo; a settle up to a number;
+-- an act on a key at an instant; what becomes of a frame; a look at what a journal keeps; or one at what it doesn't.
 pub data Family : Type 0 where
   Greeting : Option (List ℕ) → Family
   Editing : List Edit → Family

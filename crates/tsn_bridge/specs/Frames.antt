@@ -23,6 +23,7 @@ framed_state s now f = record s { time = instant s now; frames = f }
 abbrev pub frame_rule : State → ℕ → Frame → ℕ → Rule
 frame_rule s n frame now = record {
   causes = no_session s n ∷ [];
-  done = option_map {T = Verdict × FrameData} {U = Reply × State} (λ x. (replies.Framed x.0, framed_state s now x.1)) (framed (present s.book) s.frames (acts_of_gates s.book) frame (instant s now));
+  done = option_map {T = Verdict × FrameData} {U = Reply × State} (λ x. (replies.Framed x.0, framed_state s now x.1))
+      (framed (present s.book) s.frames (acts_of_gates s.book) frame (instant s now));
   takes_memory = false;
 }

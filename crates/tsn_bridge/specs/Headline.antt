@@ -54,13 +54,18 @@ pub record EditsLast (before between : State) (session : ℕ) (command : Command
 -- always refused where the journal is full, for this and for nothing else, and changes nothing; where there is room for an entry,
 -- it is answered with the next entry, or refused for want of memory, and then changes nothing.
 pub record AtOnceUndone (before : State) : Type 0 where
-  pub accepted : (between after : State) (session : ℕ) (command : Command) (entry number of : ℕ) → EditsLast before between session command entry
+  pub accepted : (between after : State) (session : ℕ) (command : Command) (entry number of : ℕ)
+      → EditsLast before between session command entry
       → Step between session commands.Undo (EntryOf number of) after → (of ≡ entry) × (present after.book ≡ present before.book)
-  pub refused : (between after : State) (session : ℕ) (command : Command) (entry : ℕ) (why : Refusal) → EditsLast before between session command entry
+  pub refused : (between after : State) (session : ℕ) (command : Command) (entry : ℕ) (why : Refusal)
+      → EditsLast before between session command entry
       → Step between session commands.Undo (Refused why) after → (why ≡ JournalFull) ⊎ (why ≡ Memory)
-  pub full : (between after : State) (session : ℕ) (command : Command) (entry : ℕ) (reply : Reply) → EditsLast before between session command entry
-      → Step between session commands.Undo reply after → no_room between.book.entries 1 ≡ Some JournalFull → (reply ≡ Refused JournalFull) × (after ≡ between)
-  pub with_room : (between after : State) (session : ℕ) (command : Command) (entry : ℕ) (reply : Reply) → EditsLast before between session command entry
+  pub full : (between after : State) (session : ℕ) (command : Command) (entry : ℕ) (reply : Reply)
+      → EditsLast before between session command entry
+      → Step between session commands.Undo reply after → no_room between.book.entries 1 ≡ Some JournalFull
+      → (reply ≡ Refused JournalFull) × (after ≡ between)
+  pub with_room : (between after : State) (session : ℕ) (command : Command) (entry : ℕ) (reply : Reply)
+      → EditsLast before between session command entry
       → Step between session commands.Undo reply after → no_room between.book.entries 1 ≡ None
       → (reply ≡ EntryOf (length between.book.entries + 1) entry) ⊎ ((reply ≡ Refused Memory) × (after ≡ between))
 
@@ -95,7 +100,8 @@ pub record OthersAlone (before : State) : Type 0 where
       × (standing after.book.entries ≡ others_standing before.book.entries session)
   pub refused : (after : State) (session : ℕ) (why : Refusal) → Step before session commands.UndoAll (Refused why) after
       → (after ≡ before) × WhyNotAll before session why
-  pub blocked : (after : State) (session x y : ℕ) (reply : Reply) → BlocksAll before.book.entries session x y → is_given before session ≡ true
+  pub blocked : (after : State) (session x y : ℕ) (reply : Reply) → BlocksAll before.book.entries session x y
+      → is_given before session ≡ true
       → Step before session commands.UndoAll reply after → (own : ℕ) × (other : ℕ) × (reply ≡ Refused (Conflict own other))
 
 -- ---- an undo of one entry leaves what the other standing entries give
@@ -116,7 +122,8 @@ pub record UndoesNewest (before after : State) (session number of : ℕ) : Type 
 -- an undo that was answered with an entry is such an undo
 abbrev pub OthersLeft : State → Type 0
 OthersLeft before =
-    (after : State) (session number of : ℕ) → Step before session commands.Undo (EntryOf number of) after → UndoesNewest before after session number of
+    (after : State) (session number of : ℕ) → Step before session commands.Undo (EntryOf number of) after
+    → UndoesNewest before after session number of
 
 -- ---- a list that an undo restored, once applied with its base past, gives its states at every later instant
 
@@ -132,7 +139,8 @@ PortRuns ready port p =
     × ((later : State) (asker t : ℕ) (reply : Reply)
     → SinceQuiet (Port port) applied later → change_of p.admin.base p.admin.cycle at ≤ t → is_given later asker ≡ true
     → Step later asker (commands.States (Port port) t) reply later
-    → (e : PortEntry) × (entry_at (λ (y : PortEntry). y.interval) p.admin.list ((t - p.admin.base) % p.admin.cycle) ≡ Some e) × (reply ≡ States (states.Port e.gates)))
+    → (e : PortEntry) × (entry_at (λ (y : PortEntry). y.interval) p.admin.list ((t - p.admin.base) % p.admin.cycle) ≡ Some e)
+    × (reply ≡ States (states.Port e.gates)))
 
 -- the list of a stream gate's record likewise
 abbrev pub GateRuns : State → ℕ → StreamGate → Type 0
@@ -143,7 +151,8 @@ GateRuns ready gate g =
     × ((later : State) (asker t : ℕ) (reply : Reply)
     → SinceQuiet (Gate gate) applied later → change_of g.admin.base g.admin.cycle at ≤ t → is_given later asker ≡ true
     → Step later asker (commands.States (Gate gate) t) reply later
-    → (e : GateEntry) × (entry_at (λ (y : GateEntry). y.interval) g.admin.list ((t - g.admin.base) % g.admin.cycle) ≡ Some e) × (reply ≡ States (states.Gate e.is_open e.ipv)))
+    → (e : GateEntry) × (entry_at (λ (y : GateEntry). y.interval) g.admin.list ((t - g.admin.base) % g.admin.cycle) ≡ Some e)
+    × (reply ≡ States (states.Gate e.is_open e.ipv)))
 
 -- an undo that was answered with an entry, and took back one before which the key had this record
 pub record PutsBack (before undone : State) (k : Key) (r : Record) : Type 0 where
@@ -172,16 +181,20 @@ pub record PutsAllBack (before undone : State) (k : Key) (r : Record) : Type 0 w
 abbrev pub PortRestored : State → ℕ → PortGates → Type 0
 PortRestored undone port p =
     (get (present undone.book) (Port port) ≡ Some (records.Port p))
-    × ((asks : List Answered) (ready : State) → AreInRange asks → Leads undone asks ready → get (present ready.book) (Port port) ≡ Some (records.Port p) → PortRuns ready port p)
+    × ((asks : List Answered) (ready : State) → AreInRange asks → Leads undone asks ready
+    → get (present ready.book) (Port port) ≡ Some (records.Port p) → PortRuns ready port p)
 
 abbrev pub GateRestored : State → ℕ → StreamGate → Type 0
 GateRestored undone gate g =
     (get (present undone.book) (Gate gate) ≡ Some (records.Gate g))
-    × ((asks : List Answered) (ready : State) → AreInRange asks → Leads undone asks ready → get (present ready.book) (Gate gate) ≡ Some (records.Gate g) → GateRuns ready gate g)
+    × ((asks : List Answered) (ready : State) → AreInRange asks → Leads undone asks ready
+    → get (present ready.book) (Gate gate) ≡ Some (records.Gate g) → GateRuns ready gate g)
 
 -- so it is after an undo that put the record back, and after an undo of all that did
 pub record RestoredList (before : State) : Type 0 where
   pub port : (undone : State) (port : ℕ) (p : PortGates) → PutsBack before undone (Port port) (records.Port p) → PortRestored undone port p
   pub gate : (undone : State) (gate : ℕ) (g : StreamGate) → PutsBack before undone (Gate gate) (records.Gate g) → GateRestored undone gate g
-  pub port_of_all : (undone : State) (port : ℕ) (p : PortGates) → PutsAllBack before undone (Port port) (records.Port p) → PortRestored undone port p
-  pub gate_of_all : (undone : State) (gate : ℕ) (g : StreamGate) → PutsAllBack before undone (Gate gate) (records.Gate g) → GateRestored undone gate g
+  pub port_of_all : (undone : State) (port : ℕ) (p : PortGates) → PutsAllBack before undone (Port port) (records.Port p)
+      → PortRestored undone port p
+  pub gate_of_all : (undone : State) (gate : ℕ) (g : StreamGate) → PutsAllBack before undone (Gate gate) (records.Gate g)
+      → GateRestored undone gate g

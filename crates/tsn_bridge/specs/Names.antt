@@ -35,7 +35,9 @@ pub record GivenOut : Type 0 where
   pub names : List Named
 
 abbrev pub named_code : Coded Named
-named_code = code_by (ℕ × List ℕ) (coded× coded_ℕ (coded_list coded_ℕ)) (λ x. (x.session, x.name)) (λ p. record { session = p.0; name = p.1 }) (λ _. refl)
+named_code = code_by (ℕ × List ℕ) (coded× coded_ℕ (coded_list coded_ℕ)) (λ x. (x.session, x.name))
+    (λ p. record { session = p.0; name = p.1 }) (λ _. refl)
 
 abbrev pub given_out_code : Coded GivenOut
-given_out_code = code_by (ℕ × List Named) (coded× coded_ℕ (coded_list named_code)) (λ g. (g.count, g.names)) (λ p. record { count = p.0; names = p.1 }) (λ _. refl)
+given_out_code = code_by (ℕ × List Named) (coded× coded_ℕ (coded_list named_code)) (λ g. (g.count, g.names))
+    (λ p. record { count = p.0; names = p.1 }) (λ _. refl)

@@ -51,7 +51,8 @@ after_changed k o (Some e) = after_part o (part_of k (parts e))
 -- an object after the act that an entry is, if it is one, where `admin` is the schedule in a record of its kind
 abbrev pub after_asked : {E : Type 0} → (Option Record → Option (Schedule E)) → Key → Object E → Option Asked → Object E
 after_asked admin k o None = o
-after_asked admin k o (Some a) = if same_key k a.key then record { value = o.value; acts = with_asked a.act (admin o.value) a.now o.acts } else o
+after_asked admin k o (Some a) =
+    if same_key k a.key then record { value = o.value; acts = with_asked a.act (admin o.value) a.now o.acts } else o
 
 -- an object after an entry
 abbrev pub after_entry : {E : Type 0} → (Option Record → Option (Schedule E)) → Key → Object E → What → Object E

@@ -14,7 +14,8 @@ pub record PairState : Type 0 where
   pub frames : FrameData
 
 abbrev pub pair_code : Coded PairState
-pair_code = code_by (Ledger × (ℕ × FrameData)) (coded× ledger_code (coded× coded_ℕ frames_code)) (λ p. (p.ledger, (p.time, p.frames))) (λ p. record { ledger = p.0; time = p.1.0; frames = p.1.1 }) (λ _. refl)
+pair_code = code_by (Ledger × (ℕ × FrameData)) (coded× ledger_code (coded× coded_ℕ frames_code)) (λ p. (p.ledger, (p.time, p.frames)))
+    (λ p. record { ledger = p.0; time = p.1.0; frames = p.1.1 }) (λ _. refl)
 
 -- after an act, it is entered with the instant that counts, and the bridge time is that instant
 abbrev pub acted : PairState → ℕ → Asked → Key → ℕ → PairState

@@ -59,7 +59,8 @@ setup_answer (Err why) = Refused why
 
 -- a setup answers the present configuration as the text of one, or that this would be longer than one that is read
 abbrev pub setup_look : State → ℕ → Look
-setup_look s n = record { causes = no_session s n ∷ []; answer = Some (setup_answer (exported s.book.limits (present s.book))); takes_memory = true }
+setup_look s n =
+    record { causes = no_session s n ∷ []; answer = Some (setup_answer (exported s.book.limits (present s.book))); takes_memory = true }
 
 abbrev pub setup_rule : State → ℕ → Rule
 setup_rule s n = look_rule s (setup_look s n)

@@ -16,7 +16,8 @@ pub record Rule : Type 0 where
   -- whether it takes memory
   pub takes_memory : Bool
 
--- where a cause holds, the one of the least number is the reply and the state stays; where none holds, it is done, or, of a command that takes memory, 18 is the reply and the state stays
+-- where a cause holds, the one of the least number is the reply and the state stays; where none holds, it is done, or, of a command that
+-- takes memory, 18 is the reply and the state stays
 abbrev pub Allows : Rule → State → Reply → State → Type 0
 Allows rule s reply new =
     MatchOption (least rule.causes)

@@ -16,6 +16,7 @@ pub record State : Type 0 where
 
 abbrev pub state_code : Coded State
 state_code =
-    code_by (Ledger × (ℕ × (List Named × (ℕ × FrameData)))) (coded× ledger_code (coded× coded_ℕ (coded× (coded_list named_code) (coded× coded_ℕ frames_code))))
+    code_by (Ledger × (ℕ × (List Named × (ℕ × FrameData))))
+    (coded× ledger_code (coded× coded_ℕ (coded× (coded_list named_code) (coded× coded_ℕ frames_code))))
     (λ s. (s.book, (s.sessions, (s.names, (s.time, s.frames)))))
     (λ p. record { book = p.0; sessions = p.1.0; names = p.1.1.0; time = p.1.1.1.0; frames = p.1.1.1.1 }) (λ _. refl)

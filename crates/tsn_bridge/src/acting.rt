@@ -17,8 +17,8 @@ use tsn_types::numbers::Instant;
 use tsn_types::records::RecordRef;
 use tsn_types::refusals::Refusal;
 
-/// Lets the runtime do an act on a key, and answers its change time. Only an apply takes memory, or is refused; refused,
-/// it has changed nothing.
+/// Lets the runtime do an act on a key, and answers its change time. Only an apply takes memory, or is refused;
+/// refused, it has changed nothing.
 pub fn run_act(
     config: &Config,
     runtime: &mut Runtime,
@@ -30,8 +30,10 @@ pub fn run_act(
     requires list { HasList key (map.get config.now.map key) }
     ensures time { OnOk result (runtime.new.time ≡ max runtime.old.time now) }
     ensures frames { runtime.new.frames ≡ runtime.old.frames }
-    ensures does { OnOk result (Does runtime.old.runners act key (map.get config.now.map key) (max runtime.old.time now) runtime.new.runners) }
-    ensures change { IfOk result (λ change. Changes runtime.old.runners act key (map.get config.now.map key) (max runtime.old.time now) change) }
+    ensures does { OnOk result (Does runtime.old.runners act key (map.get config.now.map key) (max runtime.old.time now)
+        runtime.new.runners) }
+    ensures change { IfOk result (λ change. Changes runtime.old.runners act key (map.get config.now.map key) (max runtime.old.time now)
+        change) }
     ensures refused { IfErr result (λ why. (act ≡ asked.Apply) × KeyRefuses runtime.old.runners key (map.get config.now.map key) (Err why)) }
     ensures kept { OnErr result (runtime.new.runners ≡ runtime.old.runners) }
     ensures still { OnErr result (runtime.new.time ≡ runtime.old.time) }

@@ -94,14 +94,20 @@ impl Model for Bridge {
 
     ghost coded = { state_code };
 
-    ghost view = { λ a. record { book = a.pair.value.ledger; sessions = a.sessions.count; names = a.sessions.names; time = a.pair.value.time; frames = a.pair.value.frames } };
+    ghost view = { λ a. record {
+      book = a.pair.value.ledger;
+      sessions = a.sessions.count;
+      names = a.sessions.names;
+      time = a.pair.value.time;
+      frames = a.pair.value.frames;
+    } };
 }
 
 impl Bridge {
     /// A bridge that begins with the setup. Refused are, in this order: the first record whose identifier, gate, meter
     /// or list is outside the limits (4, field `id` for the identifier), the first key that is given twice (7), and the
-    /// first absent reference of the least filter (8). A refusal for limits is answered whatever memory there is; want of
-    /// memory (18) may be answered in place of any other answer.
+    /// first absent reference of the least filter (8). A refusal for limits is answered whatever memory there is; want
+    /// of memory (18) may be answered in place of any other answer.
     pub fn new(alloc: Global, setup: Setup) -> Result<Bridge, Refusal>
         ensures admitted { OnOk result (opening_refusal setup.limits setup.records ≡ None) }
         ensures begins { IfOk result (λ bridge. bridge ≡ begun setup.limits setup.records) }
@@ -160,8 +166,8 @@ impl Bridge {
         }
     }
 
-    /// Why a command that changes what the bridge keeps would be refused, but for want of memory. That of a look and of a
-    /// frame is not told: none. It takes no memory.
+    /// Why a command that changes what the bridge keeps would be refused, but for want of memory. That of a look and of
+    /// a frame is not told: none. It takes no memory.
     pub fn cause(&self, session: u32, command: Command) -> Option<Refusal>
         ensures { IsCause self.now session command result }
     {
@@ -203,9 +209,11 @@ impl Bridge {
         self.pair.book().config()
     }
 
-    /// The record at the key, lent, which a show by the session answers; refused as a show is, and never for want of memory.
+    /// The record at the key, lent, which a show by the session answers; refused as a show is, and never for want of
+    /// memory.
     pub fn lent_record(&self, session: u32, key: &Key) -> Result<RecordRef<'_>, Refusal>
-        ensures ok { IfOk result (λ found. Allows (show_rule self.now session key.now) self.now (Shown key.now (lent_record found)) self.now) }
+        ensures ok { IfOk result (λ found. Allows (show_rule self.now session key.now) self.now (Shown key.now (lent_record found))
+            self.now) }
         ensures refused { IfErr result (λ why. Allows (show_rule self.now session key.now) self.now (Refused why) self.now) }
         ensures memory { IfErr result (λ why. why ≢ Memory) }
     {
@@ -221,8 +229,8 @@ impl Bridge {
         }
     }
 
-    /// The entries of a greater number than `after`, as they are kept, which a since by the session answers; refused as a
-    /// since is, and never for want of memory.
+    /// The entries of a greater number than `after`, as they are kept, which a since by the session answers; refused as
+    /// a since is, and never for want of memory.
     pub fn kept_since(&self, session: u32, after: u32) -> Result<&[MarkedEntry], Refusal>
         ensures ok { IfOk result (λ kept. Allows (since_rule self.now session after) self.now (Entries (entries_of kept.now)) self.now) }
         ensures refused { IfErr result (λ why. Allows (since_rule self.now session after) self.now (Refused why) self.now) }
@@ -325,7 +333,8 @@ impl Bridge {
 
     // Why an act is refused, but for want of memory.
     fn cause_of_act(&self, session: u32, act: Act, key: &Key) -> Option<Refusal>
-        ensures { result ≡ least (list_causes self.now session key.now (act_causes self.now.book act key.now ++ no_room self.now.book.entries 1 ∷ [])) }
+        ensures { result ≡ least (list_causes self.now session key.now
+            (act_causes self.now.book act key.now ++ no_room self.now.book.entries 1 ∷ [])) }
     {
         if let Some(why) = self.refuse_list(session, key) {
             return Some(why);

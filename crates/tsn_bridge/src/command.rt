@@ -17,7 +17,8 @@ pub struct Ask {
 /// A command, without the session that gives it.
 #[derive(Debug, Drop)]
 pub enum Command {
-    /// Goes on as the session of the name, where one is said and a session has it, and asks for a session number elsewhere.
+    /// Goes on as the session of the name, where one is said and a session has it, and asks for a session number
+    /// elsewhere.
     Hello { name: Option<SessionName> },
     /// Creates the record at an absent key.
     Create { key: Key, value: Record },

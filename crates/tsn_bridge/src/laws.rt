@@ -74,22 +74,27 @@ pub fn headline()
 /// The headline, of a bridge that many threads share. Take a desk whose bridge began with limits and records that open
 /// one. Of each state to which a history of its turns leads, in whatever order the threads made them: it is whole; any
 /// standing entries may be taken out of the run with all that are in conflict with them (commutation under references);
-/// and the headline holds of it. Nothing is asked of the requests: the numbers of each are in their ranges, as a turn says.
+/// and the headline holds of it. Nothing is asked of the requests: the numbers of each are in their ranges, as a turn
+/// says.
 /// `Desk::close` tells such a history of the bridge that it gives back, and `Desk::turn` and `front` of what a seat has
 /// seen.
 pub fn headline_at_a_desk()
     ensures whole { (limits : AnyLimits) (records : List (AnyKey × AnyRecord)) (history : List (Call AnyAsk AnyReply)) (now : State) →
         Opens limits records → Runs Turns (begun limits records) history now → IsWhole now }
-    ensures commutation { (limits : AnyLimits) (records : List (AnyKey × AnyRecord)) (history : List (Call AnyAsk AnyReply)) (now : State) (out : Applied → Bool) →
+    ensures commutation { (limits : AnyLimits) (records : List (AnyKey × AnyRecord)) (history : List (Call AnyAsk AnyReply)) (now : State)
+        (out : Applied → Bool) →
         Opens limits records → Runs Turns (begun limits records) history now →
         IsClosed out (standing now.book.entries) → Commutes now.book.limits (base_of now.book) out (standing now.book.entries) }
-    ensures at_once_undone { (limits : AnyLimits) (records : List (AnyKey × AnyRecord)) (history : List (Call AnyAsk AnyReply)) (now : State) →
+    ensures at_once_undone { (limits : AnyLimits) (records : List (AnyKey × AnyRecord)) (history : List (Call AnyAsk AnyReply))
+        (now : State) →
         Opens limits records → Runs Turns (begun limits records) history now → AtOnceUndone now }
-    ensures others_alone { (limits : AnyLimits) (records : List (AnyKey × AnyRecord)) (history : List (Call AnyAsk AnyReply)) (now : State) →
+    ensures others_alone { (limits : AnyLimits) (records : List (AnyKey × AnyRecord)) (history : List (Call AnyAsk AnyReply)) (now : State)
+        →
         Opens limits records → Runs Turns (begun limits records) history now → OthersAlone now }
     ensures others_left { (limits : AnyLimits) (records : List (AnyKey × AnyRecord)) (history : List (Call AnyAsk AnyReply)) (now : State) →
         Opens limits records → Runs Turns (begun limits records) history now → OthersLeft now }
-    ensures restored_list { (limits : AnyLimits) (records : List (AnyKey × AnyRecord)) (history : List (Call AnyAsk AnyReply)) (now : State) →
+    ensures restored_list { (limits : AnyLimits) (records : List (AnyKey × AnyRecord)) (history : List (Call AnyAsk AnyReply)) (now : State)
+        →
         Opens limits records → Runs Turns (begun limits records) history now → RestoredList now }
 {}
 
@@ -114,9 +119,9 @@ pub fn maps_after_steps()
 
 /// A session's edit, of one record or of several at once, that was answered with an entry, and the same session's undo
 /// after it, with no entry between: only sessions may have been given out. Where the undo is answered with an entry, it
-/// took that edit back, and the configuration is the one before the edit: the whole map, every member of every record. It
-/// is refused only where the journal is full or memory was wanting. Every bridge is sound, as `Bridge::config` says; that
-/// a batch's keys are distinct and its numbers are in their ranges is said by `Batch::tell_ranges`.
+/// took that edit back, and the configuration is the one before the edit: the whole map, every member of every record.
+/// It is refused only where the journal is full or memory was wanting. Every bridge is sound, as `Bridge::config` says;
+/// that a batch's keys are distinct and its numbers are in their ranges is said by `Batch::tell_ranges`.
 pub fn edit_at_once_undone()
     ensures undone { (before edited between after : State) (session : ℕ) (batch : List AnyEdit) (entry number of : ℕ) →
         IsBatch batch →
@@ -159,8 +164,8 @@ pub fn over_every_interleaving()
 /// This holds of every state of the machine, not only of those that a bridge comes to. A bridge begins whole: its
 /// journal is sound, and what the filter chain keeps is there for just the filters, gates and meters of its
 /// configuration; and every act was done by the bridge time. A step of a whole state leaves a whole state, and a later
-/// one: no entry is gone or changed, no session and no name is taken back, the bridge time is no less, limits and opening stay;
-/// and where every act was done by the bridge time, every act still was. So do any number of steps.
+/// one: no entry is gone or changed, no session and no name is taken back, the bridge time is no less, limits and
+/// opening stay; and where every act was done by the bridge time, every act still was. So do any number of steps.
 pub fn steps_keep_states_sound()
     ensures begins { (limits : AnyLimits) (records : List (AnyKey × AnyRecord)) →
         Opens limits records → IsWhole (begun limits records) × ActsAreBy (begun limits records) }
@@ -188,27 +193,37 @@ pub fn restored_list()
 /// list that is restored and applied again, with what the port's counters tell; and what a stream gate shows, with the
 /// verdicts on three frames and what its counters tell after them.
 pub fn examples()
-    ensures undo_all_keeps_others { (option_map (λ (x : AnyReply × State). x.0) (undo_all_rule two_sessions 1).done ≡ Some (TakenBack 2 6)) ×
+    ensures undo_all_keeps_others { (option_map (λ (x : AnyReply × State). x.0) (undo_all_rule two_sessions 1).done ≡ Some (TakenBack 2 6))
+        ×
         (with_undone in_turns 1 (own_standing in_turns 1) ≡ one_left) ×
         (numbers (others_standing in_turns 1) ≡ 2 ∷ 4 ∷ []) ×
         (undo_all_cause in_turns 1 (own_standing in_turns 1) ≡ None) }
     ensures sessions { (option_map (λ (x : AnyReply × State). x.0) (sessions_rule two_sessions 1).done
-        ≡ Some (Sessions (record { name = None; session = 1; standing = 2 } ∷ record { name = Some (codes "anna"); session = 2; standing = 2 } ∷ []))) ×
-        (given_to [] one_left 2 ≡ record { name = None; session = 1; standing = 0 } ∷ record { name = None; session = 2; standing = 2 } ∷ []) }
+        ≡ Some (Sessions (record { name = None; session = 1; standing = 2 }
+        ∷ record { name = Some (codes "anna"); session = 2; standing = 2 } ∷ []))) ×
+        (given_to [] one_left 2 ≡ record { name = None; session = 1; standing = 0 } ∷ record { name = None; session = 2; standing = 2 }
+        ∷ []) }
     ensures names { (option_map (λ (x : AnyReply × State). x.0) (hello_rule two_sessions (Some (codes "anna"))).done ≡ Some (Known 2)) ×
         ((hello_rule two_sessions (Some (codes "bert"))).done
-        ≡ Some (Session 3, record two_sessions { sessions = 3; names = two_sessions.names ++ record { session = 3; name = codes "bert" } ∷ [] })) ×
+        ≡ Some (
+          Session 3,
+          record two_sessions
+              { sessions = 3; names = two_sessions.names ++ record { session = 3; name = codes "bert" } ∷ [] },
+        )) ×
         ((hello_rule two_sessions None).done ≡ Some (Session 3, record two_sessions { sessions = 3 })) }
     ensures resume { option_map (λ (x : AnyReply × State). x.0) (resume_rule two_sessions 2).done ≡ Some (Session 2) }
     ensures undo_all_leaves { (present (book_of one_left) ≡ others_alone (book_of in_turns) 1) ×
         (ids_of kinds.Filter (present (book_of one_left)) ≡ 1 ∷ []) × (ids_of kinds.Gate (present (book_of one_left)) ≡ 2 ∷ []) }
     ensures restored_list { (shows put_back (port one_two 0) (9999 ∷ 10000 ∷ 10299 ∷ 10300 ∷ []) ≡
         Some (states.Port 0) ∷ Some (states.Port 1) ∷ Some (states.Port 1) ∷ Some (states.Port 128) ∷ []) ×
-        (counted_at (book_of put_back) standard.frames 9001 (Port 1) ≡ Some (counters.Port (record { change_error = 2; change_time = Some 10000; enabled = true; pending = true }))) ×
-        (counted_at (book_of put_ahead) standard.frames 12000 (Port 1) ≡ Some (counters.Port (record { change_error = 2; change_time = Some 12000; enabled = true; pending = false }))) }
+        (counted_at (book_of put_back) standard.frames 9001 (Port 1)
+        ≡ Some (counters.Port (record { change_error = 2; change_time = Some 10000; enabled = true; pending = true }))) ×
+        (counted_at (book_of put_ahead) standard.frames 12000 (Port 1)
+        ≡ Some (counters.Port (record { change_error = 2; change_time = Some 12000; enabled = true; pending = false }))) }
     ensures gate_octets { (shown_at (book_of gate_runs) (Gate 0) (Some closed_gate) 500 ≡ Some (states.Gate true (Some 5))) ×
         (shown_at (book_of gate_runs) (Gate 0) (Some closed_gate) 1500 ≡ Some (states.Gate false None)) }
-    ensures gate_octets_frames { (answers (with_rows 0 rows_new) (frame_of 10 100) ≡ Some (Framed (Passed (Some 0) 10 5 false), with_rows 10 rows_1)) ×
+    ensures gate_octets_frames { (answers (with_rows 0 rows_new) (frame_of 10 100)
+        ≡ Some (Framed (Passed (Some 0) 10 5 false), with_rows 10 rows_1)) ×
         (answers (with_rows 10 rows_1) (frame_of 20 60) ≡ Some (Framed (Dropped 0 20 Octets), with_rows 20 rows_2)) ×
         (answers (with_rows 20 rows_2) (frame_of 2010 10) ≡ Some (Framed (Dropped 0 2010 Closed), with_rows 2010 rows_3)) ×
         (counted_at (book_of gate_runs) rows_3 2010 (Gate 0) ≡

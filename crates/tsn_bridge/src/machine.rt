@@ -8,8 +8,8 @@ use crate::reply::Reply;
 use tsn_desk::machine::Machine;
 
 impl Command {
-    /// Tells a proof that the numbers of the command's records are in their ranges, and that its name may be one. It does
-    /// nothing else.
+    /// Tells a proof that the numbers of the command's records are in their ranges, and that its name may be one. It
+    /// does nothing else.
     pub fn tell_ranges(&self)
         ensures { CommandInRange self.now }
     {

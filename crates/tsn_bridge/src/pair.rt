@@ -73,7 +73,12 @@ impl Model for Pair {
 impl Pair {
     /// The book of this configuration, with no entry, and new instance data, at the instant 0.
     pub fn begin(alloc: Global, config: Config) -> Result<Pair, AllocError>
-        ensures { IfOk result (λ pair. pair ≡ record { ledger = record { limits = config.limits; opening = config.map; entries = [] }; time = 0; frames = begun_frames config.map }) }
+        ensures { IfOk result (λ pair. pair
+            ≡ record {
+              ledger = record { limits = config.limits; opening = config.map; entries = [] };
+              time = 0;
+              frames = begun_frames config.map;
+            }) }
     {
         let runtime = Runtime::begin(alloc, &config)?;
         Ok(Pair {
@@ -107,7 +112,8 @@ impl Pair {
 
     /// Makes an undo, which instance data follows; the answer is its entry and the one that it takes back.
     pub fn undo(&mut self, session: u32) -> Result<(u64, u64), Refusal>
-        ensures made { IfOk result (λ numbers. (is : TakesBack self.old.ledger session numbers.0 numbers.1 self.new.ledger) × Follows self.old (inverse is.newest.change) self.new) }
+        ensures made { IfOk result (λ numbers. (is : TakesBack self.old.ledger session numbers.0 numbers.1 self.new.ledger)
+            × Follows self.old (inverse is.newest.change) self.new) }
         ensures refused { IfErr result (λ why. IsLeastOrMemory (undo_refusal self.old.ledger session) why) }
         ensures unchanged { OnErr result (self.new ≡ self.old) }
     {
@@ -121,7 +127,8 @@ impl Pair {
 
     /// Makes a redo, which instance data follows; the answer is its entry and the one that it takes back.
     pub fn redo(&mut self, session: u32) -> Result<(u64, u64), Refusal>
-        ensures made { IfOk result (λ numbers. (is : Redoes self.old.ledger session numbers.0 numbers.1 self.new.ledger) × Follows self.old (inverse is.redoable.undone.change) self.new) }
+        ensures made { IfOk result (λ numbers. (is : Redoes self.old.ledger session numbers.0 numbers.1 self.new.ledger)
+            × Follows self.old (inverse is.redoable.undone.change) self.new) }
         ensures refused { IfErr result (λ why. WhyNoRedo self.old.ledger session (λ cause. IsLeastOrMemory cause why)) }
         ensures unchanged { OnErr result (self.new ≡ self.old) }
     {
@@ -160,8 +167,8 @@ impl Pair {
         Ok((count, last))
     }
 
-    /// Makes the entries up to the number final; the answer is the entry of the settle. No record changes, and instance data
-    /// stays.
+    /// Makes the entries up to the number final; the answer is the entry of the settle. No record changes, and instance
+    /// data stays.
     pub fn settle(&mut self, session: u32, upto: u64) -> Result<u64, Refusal>
         ensures made { IfOk result (λ number. Settles self.old.ledger session upto number self.new.ledger) }
         ensures stays { (self.new.time ≡ self.old.time) × (self.new.frames ≡ self.old.frames) }
@@ -176,10 +183,16 @@ impl Pair {
     pub fn act(&mut self, session: u32, act: Act, key: &Key, now: Instant) -> Result<Done, Refusal>
         requires list { has_list key.now ≡ true }
         requires there { IsSome (map.get (present self.old.ledger) key.now) }
-        ensures done { IfOk result (λ done. done ≡ record { change = act_change self.old.ledger act key.now (max self.old.time now); entry = length self.old.ledger.entries + 1; now = max self.old.time now }) }
+        ensures done { IfOk result (λ done.
+            done ≡ record {
+              change = act_change self.old.ledger act key.now (max self.old.time now);
+              entry = length self.old.ledger.entries + 1;
+              now = max self.old.time now;
+            }) }
         ensures free { OnOk result (first_cause (act_causes self.old.ledger act key.now ++ no_room self.old.ledger.entries 1 ∷ []) ≡ None) }
         ensures after { OnOk result (self.new ≡ acted self.old session act key.now now) }
-        ensures refused { IfErr result (λ why. IsLeastOrMemory (first_cause (act_causes self.old.ledger act key.now ++ no_room self.old.ledger.entries 1 ∷ [])) why) }
+        ensures refused { IfErr result (λ why.
+            IsLeastOrMemory (first_cause (act_causes self.old.ledger act key.now ++ no_room self.old.ledger.entries 1 ∷ [])) why) }
         ensures unchanged { OnErr result (self.new ≡ self.old) }
     {
         if let Some(why) = self.refuse_act(act, key) {
@@ -217,7 +230,8 @@ impl Pair {
     pub fn frame(&mut self, frame: Frame, now: Instant) -> Verdict
         ensures ledger { self.new.ledger ≡ self.old.ledger }
         ensures time { self.new.time ≡ max self.old.time now }
-        ensures framed { framed (present self.old.ledger) self.old.frames (acts_of_gates self.old.ledger) frame (max self.old.time now) ≡ Some (result, self.new.frames) }
+        ensures framed { framed (present self.old.ledger) self.old.frames (acts_of_gates self.old.ledger) frame (max self.old.time now)
+            ≡ Some (result, self.new.frames) }
     {
         police(self.book.config(), &mut self.runtime, frame, now)
     }
@@ -226,7 +240,9 @@ impl Pair {
     pub fn states_at(&self, key: &Key, at: Instant) -> Result<State, Past>
         requires list { has_list key.now ≡ true }
         requires there { IsSome (map.get (present self.now.ledger) key.now) }
-        ensures { MatchResult result (λ state. (last_at self.now.ledger key.now ≤ at) × (shown_at self.now.ledger key.now (map.get (present self.now.ledger) key.now) at ≡ Some state)) (λ _. at < last_at self.now.ledger key.now) }
+        ensures { MatchResult result (λ state. (last_at self.now.ledger key.now ≤ at)
+            × (shown_at self.now.ledger key.now (map.get (present self.now.ledger) key.now) at ≡ Some state))
+            (λ _. at < last_at self.now.ledger key.now) }
     {
         self.runtime.states_at(self.book.config(), *key, at)
     }
@@ -276,11 +292,13 @@ impl Pair {
     }
 }
 
-// Lets the runtime follow the change of the entry of the number, if it applied one. By its type that has at most 16 parts.
+// Lets the runtime follow the change of the entry of the number, if it applied one. By its type that has at most 16
+// parts.
 fn follow(journal: &Journal, runtime: &mut Runtime, number: u64)
     requires room { room_at journal.now.entries number ≤ MOST_PARTS → room_at journal.now.entries number ≤ runtime.old.spare }
     ensures runners { runtime.new.runners ≡ followed_by runners_after runtime.old.runners (change_at journal.now.entries number) }
-    ensures frames { runtime.new.frames ≡ followed_by (frames_after runtime.old.time) runtime.old.frames (change_at journal.now.entries number) }
+    ensures frames { runtime.new.frames ≡ followed_by (frames_after runtime.old.time) runtime.old.frames
+        (change_at journal.now.entries number) }
     ensures time { runtime.new.time ≡ runtime.old.time }
     ensures spare { runtime.old.spare ≤ runtime.new.spare + room_at journal.now.entries number }
 {

@@ -40,8 +40,8 @@ pub enum Reply {
         entry: u64,
         settled: u64,
     },
-    /// The change time that an act leads to, in nanoseconds, the number of the entry that was made, and the instant that
-    /// counted.
+    /// The change time that an act leads to, in nanoseconds, the number of the entry that was made, and the instant
+    /// that counted.
     Acted {
         change: Option<u64>,
         entry: u64,

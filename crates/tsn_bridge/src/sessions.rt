@@ -125,7 +125,8 @@ impl Sessions {
     // Gives out the next number, which goes by the name that is said. Refused for want of memory alone, where one is.
     pub(crate) fn give_out(&mut self, name: Option<SessionName>) -> Result<(), AllocError>
         requires { self.old.count + 1 < 4294967296 }
-        ensures ok { OnOk result (self.new ≡ record { count = self.old.count + 1; names = with_name self.old.names (self.old.count + 1) name }) }
+        ensures ok { OnOk result (self.new
+            ≡ record { count = self.old.count + 1; names = with_name self.old.names (self.old.count + 1) name }) }
         ensures err { OnErr result ((self.new ≡ self.old) × IsTrue (is_some name)) }
     {
         if let Some(name) = name {

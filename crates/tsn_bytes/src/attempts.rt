@@ -1,6 +1,5 @@
-//! A call of std that a signal may interrupt: how often it may be made again, and how it stands.
-//! The fields are private to this file, so that a call counts as done only where std's call works, and as failed only where
-//! std gave an error.
+//! A call of std that a signal may interrupt: how often it may be made again, and how it stands. The fields are private
+//! to this file, so that a call counts as done only where std's call works, and as failed only where std gave an error.
 ghost use Rattle.std.specs.Prelude.{◌≡◌, ◌<◌, ◌↔◌, IsTrue, MatchResult, true, false};
 ghost use Rattle.std.specs.Io.{ReadsAtMost, WritesAtMost};
 ghost use Rattle.std.specs.Io.KnownBytes.{Keeps, ReadConsumes, WriteAppends};
@@ -14,8 +13,8 @@ use std::marker::Model;
 // How often a call is made at most.
 const TRIES: u64 = u64::MAX;
 
-/// A reader or writer of std, and the call that is being made of it. A contract sees it, how often the call may still be
-/// tried, and whether it worked.
+/// A reader or writer of std, and the call that is being made of it. A contract sees it, how often the call may still
+/// be tried, and whether it worked.
 #[derive(Drop)]
 pub struct Attempts<T> {
     inner: T,
@@ -58,8 +57,8 @@ impl<T> Attempts<T> {
         self.tries_left > 0
     }
 
-    // Takes note of what a try gave, and gives it on: of the tries that are left a signal's interruption takes one, and any other
-    // error takes all.
+    // Takes note of what a try gave, and gives it on: of the tries that are left a signal's interruption takes one, and
+    // any other error takes all.
     fn noted<N>(&mut self, given: io::Result<N>) -> io::Result<N>
         requires { 0 < self.old.tries_left }
         ensures same { result ≡ given }

@@ -1,6 +1,5 @@
-//! A writer that gathers small writes and hands them on together.
-//! It relies on the writer behind it, to which it gives all that it holds when it is full or flushed. A failure of that one is
-//! the only failure here.
+//! A writer that gathers small writes and hands them on together. It relies on the writer behind it, to which it gives
+//! all that it holds when it is full or flushed. A failure of that one is the only failure here.
 ghost use Rattle.std.specs.Prelude.{◌≡◌, ◌+◌, ◌-◌, ◌<◌, ◌≤◌, ◌++◌, [], vec_len, vec_capacity, length, take, min, true, IfOk, OnOk, OnErr};
 ghost use Rattle.std.specs.Io.KnownBytes.{append_known, Keeps};
 ghost use Rattle.tsn_bytes.specs.Buffered.{most_held};

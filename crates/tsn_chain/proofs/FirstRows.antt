@@ -37,21 +37,27 @@ either : {A : Type 0} (b : Bool) (x : A) (o : Option A) → is_some (cond b (Som
 either b x o = grind arith
 
 -- where each step makes the row of its number be there and leaves the others, just those of the numbers come
-rows_there : {A : Type 0} (step : FinMap nat_cmp A → ℕ → FinMap nat_cmp A) (P : ℕ → Type 0) → ((t : FinMap nat_cmp A) (m n : ℕ) → P m → is_some (get (step t m) n) ≡ (eq_by_cmp nat_cmp n m || is_some (get t n)))
-    → (ns : List ℕ) (t : FinMap nat_cmp A) (n : ℕ) → AllByRecursion P ns → is_some (get (fold step t ns) n) ≡ (list_any (eq_by_cmp nat_cmp n) ns || is_some (get t n))
+rows_there : {A : Type 0} (step : FinMap nat_cmp A → ℕ → FinMap nat_cmp A) (P : ℕ → Type 0)
+    → ((t : FinMap nat_cmp A) (m n : ℕ) → P m → is_some (get (step t m) n) ≡ (eq_by_cmp nat_cmp n m || is_some (get t n)))
+    → (ns : List ℕ) (t : FinMap nat_cmp A) (n : ℕ) → AllByRecursion P ns
+    → is_some (get (fold step t ns) n) ≡ (list_any (eq_by_cmp nat_cmp n) ns || is_some (get t n))
 rows_there step P one [] t n each = refl
 rows_there step P one (m ∷ ns) t n each = grind (arith, (rows_there step P one ns (step t m) n each.1))
 
-created : {A : Type 0} (new : A) (v : Option Record) (t : FinMap nat_cmp A) (m n : ℕ) → IsSome v → is_some (get (row_after new None v t m) n) ≡ (eq_by_cmp nat_cmp n m || is_some (get t n))
+created : {A : Type 0} (new : A) (v : Option Record) (t : FinMap nat_cmp A) (m n : ℕ) → IsSome v
+    → is_some (get (row_after new None v t m) n) ≡ (eq_by_cmp nat_cmp n m || is_some (get t n))
 created new None t m n there = (cc)
 created new (Some r) t m n there = ap is_some (get-insert nat_cmp_total t m new n) ∙ either (eq_by_cmp nat_cmp n m) new (get t n)
 
-created_meter : (o : Option FlowMeter) (t : FinMap nat_cmp MeterData) (m n : ℕ) → IsSome o → is_some (get (meter_row_after 0 None o t m) n) ≡ (eq_by_cmp nat_cmp n m || is_some (get t n))
+created_meter : (o : Option FlowMeter) (t : FinMap nat_cmp MeterData) (m n : ℕ) → IsSome o
+    → is_some (get (meter_row_after 0 None o t m) n) ≡ (eq_by_cmp nat_cmp n m || is_some (get t n))
 created_meter None t m n there = (cc)
-created_meter (Some r) t m n there = ap is_some (get-insert nat_cmp_total t m (new_meter 0 r) n) ∙ either (eq_by_cmp nat_cmp n m) (new_meter 0 r) (get t n)
+created_meter (Some r) t m n there =
+    ap is_some (get-insert nat_cmp_total t m (new_meter 0 r) n) ∙ either (eq_by_cmp nat_cmp n m) (new_meter 0 r) (get t n)
 
 -- from none, just the rows of a configuration's keys
-rows_of : {A : Type 0} (kind : Kind) (c : Configuration) (step : FinMap nat_cmp A → ℕ → FinMap nat_cmp A) (P : ℕ → Type 0) → ((t : FinMap nat_cmp A) (m n : ℕ) → P m → is_some (get (step t m) n) ≡ (eq_by_cmp nat_cmp n m || is_some (get t n)))
+rows_of : {A : Type 0} (kind : Kind) (c : Configuration) (step : FinMap nat_cmp A → ℕ → FinMap nat_cmp A) (P : ℕ → Type 0)
+    → ((t : FinMap nat_cmp A) (m n : ℕ) → P m → is_some (get (step t m) n) ≡ (eq_by_cmp nat_cmp n m || is_some (get t n)))
     → AllByRecursion P (ids_of kind c) → (n : ℕ) → is_some (get (fold step empty (ids_of kind c)) n) ≡ is_some (get c (key_by kind n))
 rows_of {A = A} kind c step P one each n =
     rows_there step P one (ids_of kind c) empty n each
@@ -61,11 +67,13 @@ rows_of {A = A} kind c step P one each n =
 
 -- ---- one table of all: it moves with the keys of its kind, and stays with the others
 
-moves : {A B : Type 0} (g : A → B) (step : A → ℕ → A) (step' : B → ℕ → B) → ((a : A) (n : ℕ) → g (step a n) ≡ step' (g a) n) → (ns : List ℕ) (a : A) → g (fold step a ns) ≡ fold step' (g a) ns
+moves : {A B : Type 0} (g : A → B) (step : A → ℕ → A) (step' : B → ℕ → B) → ((a : A) (n : ℕ) → g (step a n) ≡ step' (g a) n)
+    → (ns : List ℕ) (a : A) → g (fold step a ns) ≡ fold step' (g a) ns
 moves g step step' same [] a = refl
 moves g step step' same (n ∷ ns) a = moves g step step' same ns (step a n) ∙ ap (λ b. fold step' b ns) (same a n)
 
-remains : {A B : Type 0} (g : A → B) (step : A → ℕ → A) → ((a : A) (n : ℕ) → g (step a n) ≡ g a) → (ns : List ℕ) (a : A) → g (fold step a ns) ≡ g a
+remains : {A B : Type 0} (g : A → B) (step : A → ℕ → A) → ((a : A) (n : ℕ) → g (step a n) ≡ g a) → (ns : List ℕ) (a : A)
+    → g (fold step a ns) ≡ g a
 remains g step same [] a = refl
 remains g step same (n ∷ ns) a = remains g step same ns (step a n) ∙ same a n
 
@@ -105,14 +113,16 @@ module _ (c : Configuration) where
       remains (λ d. d.filters) (one kinds.Meter) (λ d n. refl) (ids_of kinds.Meter c) after_gates
       ∙ remains (λ d. d.filters) (one kinds.Gate) (λ d n. refl) (ids_of kinds.Gate c) after_filters
       ∙ moves (λ d. d.filters) (one kinds.Filter) filter_rows (λ d n. refl) (ids_of kinds.Filter c) after_ports
-      ∙ ap (λ t. fold filter_rows t (ids_of kinds.Filter c)) (remains (λ d. d.filters) (one kinds.Port) (λ d n. refl) (ids_of kinds.Port c) no_frames)
+      ∙ ap (λ t. fold filter_rows t (ids_of kinds.Filter c))
+      (remains (λ d. d.filters) (one kinds.Port) (λ d n. refl) (ids_of kinds.Port c) no_frames)
 
   gates_are : (begun_frames c).gates ≡ fold gate_rows empty (ids_of kinds.Gate c)
   gates_are =
       remains (λ d. d.gates) (one kinds.Meter) (λ d n. refl) (ids_of kinds.Meter c) after_gates
       ∙ moves (λ d. d.gates) (one kinds.Gate) gate_rows (λ d n. refl) (ids_of kinds.Gate c) after_filters
       ∙ ap (λ t. fold gate_rows t (ids_of kinds.Gate c))
-      (remains (λ d. d.gates) (one kinds.Filter) (λ d n. refl) (ids_of kinds.Filter c) after_ports ∙ remains (λ d. d.gates) (one kinds.Port) (λ d n. refl) (ids_of kinds.Port c) no_frames)
+      (remains (λ d. d.gates) (one kinds.Filter) (λ d n. refl) (ids_of kinds.Filter c) after_ports
+      ∙ remains (λ d. d.gates) (one kinds.Port) (λ d n. refl) (ids_of kinds.Port c) no_frames)
 
   meters_are : (begun_frames c).meters ≡ fold meter_rows empty (ids_of kinds.Meter c)
   meters_are =
@@ -143,7 +153,8 @@ module _ (c : Configuration) where
       remains (λ d. d.gates) (runs kinds.Meter) (λ d n. refl) (ids_of kinds.Meter c) runs_gates
       ∙ moves (λ d. d.gates) (runs kinds.Gate) gate_runs (λ d n. refl) (ids_of kinds.Gate c) runs_filters
       ∙ ap (λ t. fold gate_runs t (ids_of kinds.Gate c))
-      (remains (λ d. d.gates) (runs kinds.Filter) (λ d n. refl) (ids_of kinds.Filter c) runs_ports ∙ remains (λ d. d.gates) (runs kinds.Port) (λ d n. refl) (ids_of kinds.Port c) no_runners)
+      (remains (λ d. d.gates) (runs kinds.Filter) (λ d n. refl) (ids_of kinds.Filter c) runs_ports
+      ∙ remains (λ d. d.gates) (runs kinds.Port) (λ d n. refl) (ids_of kinds.Port c) no_runners)
 
   meter_there : (l : Limits) → IsWellKept l c → (n : ℕ) → IsSome (get c (Meter n)) → IsSome (meter_of (get c (Meter n)))
   meter_there l kept n there = by_option (get c (Meter n))
@@ -158,12 +169,22 @@ module _ (c : Configuration) where
 
   pub begun_keys : (l : Limits) → IsWellKept l c → HasKeys (begun_runners c) (begun_frames c) c
   begun_keys l kept = record {
-    ports = λ n. ap (λ t. is_some (get t n)) port_runners_are ∙ rows_of kinds.Port c port_runs (λ m. IsSome (get c (Port m))) (λ t m q there. created fresh (get c (Port m)) t m q there) (each_there kinds.Port c) n;
-    gates = λ n. ap (λ t. is_some (get t n)) gate_runners_are ∙ rows_of kinds.Gate c gate_runs (λ m. IsSome (get c (Gate m))) (λ t m q there. created fresh (get c (Gate m)) t m q there) (each_there kinds.Gate c) n;
+    ports = λ n. ap (λ t. is_some (get t n)) port_runners_are
+        ∙ rows_of kinds.Port c port_runs (λ m. IsSome (get c (Port m))) (λ t m q there. created fresh (get c (Port m)) t m q there)
+        (each_there kinds.Port c) n;
+    gates = λ n. ap (λ t. is_some (get t n)) gate_runners_are
+        ∙ rows_of kinds.Gate c gate_runs (λ m. IsSome (get c (Gate m))) (λ t m q there. created fresh (get c (Gate m)) t m q there)
+        (each_there kinds.Gate c) n;
     frames = record {
-      filters = λ n. ap (λ t. is_some (get t n)) filters_are ∙ rows_of kinds.Filter c filter_rows (λ m. IsSome (get c (Filter m))) (λ t m q there. created new_filter (get c (Filter m)) t m q there) (each_there kinds.Filter c) n;
-      gates = λ n. ap (λ t. is_some (get t n)) gates_are ∙ rows_of kinds.Gate c gate_rows (λ m. IsSome (get c (Gate m))) (λ t m q there. created new_gate (get c (Gate m)) t m q there) (each_there kinds.Gate c) n;
-      meters = λ n. ap (λ t. is_some (get t n)) meters_are ∙ rows_of kinds.Meter c meter_rows (λ m. IsSome (get c (Meter m))) (λ t m q there. created_meter (meter_of (get c (Meter m))) t m q (meter_there l kept m there)) (each_there kinds.Meter c) n;
+      filters = λ n. ap (λ t. is_some (get t n)) filters_are
+          ∙ rows_of kinds.Filter c filter_rows (λ m. IsSome (get c (Filter m)))
+          (λ t m q there. created new_filter (get c (Filter m)) t m q there) (each_there kinds.Filter c) n;
+      gates = λ n. ap (λ t. is_some (get t n)) gates_are
+          ∙ rows_of kinds.Gate c gate_rows (λ m. IsSome (get c (Gate m))) (λ t m q there. created new_gate (get c (Gate m)) t m q there)
+          (each_there kinds.Gate c) n;
+      meters = λ n. ap (λ t. is_some (get t n)) meters_are
+          ∙ rows_of kinds.Meter c meter_rows (λ m. IsSome (get c (Meter m)))
+          (λ t m q there. created_meter (meter_of (get c (Meter m))) t m q (meter_there l kept m there)) (each_there kinds.Meter c) n;
     };
   }
 
@@ -177,6 +198,8 @@ module _ (c : Configuration) where
 
   pub begun_fresh : AreFresh (begun_runners c)
   begun_fresh = record {
-    ports = λ n k is. fresh_rows (λ m. Port m) (ids_of kinds.Port c) empty (each_empty (λ n kept. kept ≡ fresh)) n k (ap (λ t. get t n) (sym port_runners_are) ∙ is);
-    gates = λ n k is. fresh_rows (λ m. Gate m) (ids_of kinds.Gate c) empty (each_empty (λ n kept. kept ≡ fresh)) n k (ap (λ t. get t n) (sym gate_runners_are) ∙ is);
+    ports = λ n k is. fresh_rows (λ m. Port m) (ids_of kinds.Port c) empty (each_empty (λ n kept. kept ≡ fresh)) n k
+        (ap (λ t. get t n) (sym port_runners_are) ∙ is);
+    gates = λ n k is. fresh_rows (λ m. Gate m) (ids_of kinds.Gate c) empty (each_empty (λ n kept. kept ≡ fresh)) n k
+        (ap (λ t. get t n) (sym gate_runners_are) ∙ is);
   }

@@ -29,14 +29,17 @@ use Rattle.tsn_chain.specs.Instances.{FrameData, HasFrameKeys, SameKeys}
 use Rattle.tsn_chain.specs.Rows.{IsReady}
 
 -- the parts of a frame's way, put together
-pub put_together : (c : Configuration) (f : FrameData) (acts : GateActs) (frame : Frame) (time n : ℕ) (q : StreamFilter) (g : StreamGate) (by : Option FlowMeter) (state : GateState) (met left : Met) (verdict : Verdict) (new : FrameData)
-    → filter_of (get c (Filter n)) ≡ Some q → gate_of (get c (Gate q.gate)) ≡ Some g → by ≡ meter_at c q.meter → met_at f n q by ≡ Some met → state ≡ state_at acts q.gate g time
+pub put_together : (c : Configuration) (f : FrameData) (acts : GateActs) (frame : Frame) (time n : ℕ) (q : StreamFilter) (g : StreamGate)
+    (by : Option FlowMeter) (state : GateState) (met left : Met) (verdict : Verdict) (new : FrameData)
+    → filter_of (get c (Filter n)) ≡ Some q → gate_of (get c (Gate q.gate)) ≡ Some g → by ≡ meter_at c q.meter → met_at f n q by ≡ Some met
+    → state ≡ state_at acts q.gate g time
     → (verdict, left) ≡ through (record { number = n; filter = q; gate = g; state = state; frame = frame; time = time; met = met })
     → new ≡ with_met f n q left
     → framed_at c f acts frame time (Some n) ≡ Some (verdict, new)
 put_together c f acts frame time n q g by state met left verdict new filter gate meter found shown passed back = grind arith
 
-gate_there : (l : Limits) (n : ℕ) (v : Option Record) → IsSome v → ((r : Record) → v ≡ Some r → HoldsRecord l (Gate n) r) → (g : StreamGate) × (gate_of v ≡ Some g)
+gate_there : (l : Limits) (n : ℕ) (v : Option Record) → IsSome v → ((r : Record) → v ≡ Some r → HoldsRecord l (Gate n) r)
+    → (g : StreamGate) × (gate_of v ≡ Some g)
 gate_there l n None there held = absurd (cc)
 gate_there l n (Some (records.Port r)) there held = absurd (held (records.Port r) refl)
 gate_there l n (Some (records.Filter r)) there held = absurd (held (records.Filter r) refl)
@@ -47,9 +50,11 @@ refers_to_gate : (q : StreamFilter) → has (refs (records.Filter q)) (Gate q.ga
 refers_to_gate q = or_left (same_key (Gate q.gate) (Gate q.gate)) _ (same_itself (Gate q.gate))
 
 refers_to_meter : (q : StreamFilter) (m : ℕ) → q.meter ≡ Some m → has (refs (records.Filter q)) (Meter m) ≡ true
-refers_to_meter q m is = ap (λ o. has (Gate q.gate ∷ meter_ref o) (Meter m)) is ∙ or_right (same_key (Meter m) (Gate q.gate)) _ (or_left (same_key (Meter m) (Meter m)) _ (same_itself (Meter m)))
+refers_to_meter q m is = ap (λ o. has (Gate q.gate ∷ meter_ref o) (Meter m)) is
+    ∙ or_right (same_key (Meter m) (Gate q.gate)) _ (or_left (same_key (Meter m) (Meter m)) _ (same_itself (Meter m)))
 
-module _ (l : Limits) (c : Configuration) (t : FinMap nat_cmp StreamFilter) (same : (n : ℕ) → option_map records.Filter (get t n) ≡ get c (Filter n)) (kept : IsWellKept l c) where
+module _ (l : Limits) (c : Configuration) (t : FinMap nat_cmp StreamFilter) (same : (n : ℕ)
+    → option_map records.Filter (get t n) ≡ get c (Filter n)) (kept : IsWellKept l c) where
   -- Where the instance data has the keys of the configuration, a filter finds what it refers to.
   pub ready : (runners : FinMap nat_cmp (Kept GateEntry)) (f : FrameData) (n : ℕ) (q : StreamFilter) → get t n ≡ Some q
       → SameKeys runners (λ m. Gate m) c → HasFrameKeys f c → IsReady c runners f n
@@ -69,8 +74,10 @@ module _ (l : Limits) (c : Configuration) (t : FinMap nat_cmp StreamFilter) (sam
       }
 
 -- what is told of a runtime's fields, told of what it is seen as
-pub seen : (c : Configuration) (frame : Frame) (gates gates' : FinMap nat_cmp (Kept GateEntry)) (f f' : FrameData) (t t' : ℕ) (answer : Option (Verdict × FrameData)) → gates ≡ gates' → f ≡ f' → t ≡ t'
-    → ((acts : GateActs) → StandFor gates acts → framed c f acts frame t ≡ answer) → (acts : GateActs) → StandFor gates' acts → framed c f' acts frame t' ≡ answer
+pub seen : (c : Configuration) (frame : Frame) (gates gates' : FinMap nat_cmp (Kept GateEntry)) (f f' : FrameData) (t t' : ℕ)
+    (answer : Option (Verdict × FrameData)) → gates ≡ gates' → f ≡ f' → t ≡ t'
+    → ((acts : GateActs) → StandFor gates acts → framed c f acts frame t ≡ answer) → (acts : GateActs) → StandFor gates' acts
+    → framed c f' acts frame t' ≡ answer
 seen c frame gates gates' f f' t t' answer same kept time told acts stand =
     let stood : StandFor gates acts = subst (λ (m : FinMap nat_cmp (Kept GateEntry)). StandFor m acts) (sym same) stand in
     rw (← kept, ← time) (told acts stood)

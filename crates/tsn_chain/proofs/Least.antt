@@ -35,23 +35,29 @@ four a b c d = grind arith
 
 -- a filter matches where its specifications are one of four pairs
 matching_alike : (h q : ℕ) (r : StreamFilter)
-    → is_matching h q r ≡ ((specifies (Some h) (Some q) r || specifies (Some h) None r) || (specifies None (Some q) r || specifies None None r))
-matching_alike h q r = rw (met_alike r.handle h, met_alike r.priority q) (four (is_just (Some h) r.handle) (is_just None r.handle) (is_just (Some q) r.priority) (is_just None r.priority))
+    → is_matching h q r ≡ ((specifies (Some h) (Some q) r || specifies (Some h) None r)
+    || (specifies None (Some q) r || specifies None None r))
+matching_alike h q r = rw (met_alike r.handle h, met_alike r.priority q)
+    (four (is_just (Some h) r.handle) (is_just None r.handle) (is_just (Some q) r.priority) (is_just None r.priority))
 
-first_alike : (p t : StreamFilter → Bool) → ((r : StreamFilter) → p r ≡ t r) → (es : List (ℕ × StreamFilter)) → first_id p es ≡ first_id t es
+first_alike : (p t : StreamFilter → Bool) → ((r : StreamFilter) → p r ≡ t r) → (es : List (ℕ × StreamFilter))
+    → first_id p es ≡ first_id t es
 first_alike p t same es = grind arith
 
 -- the chosen filter is the least of the first ones with each of the four pairs
 pub chosen_of_four : (h q : ℕ) (m : FinMap nat_cmp StreamFilter)
-    → chosen h q m ≡ lesser (lesser (first_id (specifies (Some h) (Some q)) (entries m)) (first_id (specifies (Some h) None) (entries m))) (lesser (first_id (specifies None (Some q)) (entries m)) (first_id (specifies None None) (entries m)))
+    → chosen h q m ≡ lesser (lesser (first_id (specifies (Some h) (Some q)) (entries m)) (first_id (specifies (Some h) None) (entries m)))
+    (lesser (first_id (specifies None (Some q)) (entries m)) (first_id (specifies None None) (entries m)))
 chosen_of_four h q m =
     let sorted = of_T _ (entries_sorted m) in
     let handles = λ (r : StreamFilter). specifies (Some h) (Some q) r || specifies (Some h) None r in
     let wildcards = λ (r : StreamFilter). specifies None (Some q) r || specifies None None r in
     first_alike (is_matching h q) (λ r. handles r || wildcards r) (matching_alike h q) (entries m)
     ∙ first_either handles wildcards (entries m) sorted
-    ∙ ap (λ o. lesser o (first_id wildcards (entries m))) (first_either (specifies (Some h) (Some q)) (specifies (Some h) None) (entries m) sorted)
-    ∙ ap (lesser (lesser (first_id (specifies (Some h) (Some q)) (entries m)) (first_id (specifies (Some h) None) (entries m)))) (first_either (specifies None (Some q)) (specifies None None) (entries m) sorted)
+    ∙ ap (λ o. lesser o (first_id wildcards (entries m)))
+    (first_either (specifies (Some h) (Some q)) (specifies (Some h) None) (entries m) sorted)
+    ∙ ap (lesser (lesser (first_id (specifies (Some h) (Some q)) (entries m)) (first_id (specifies (Some h) None) (entries m))))
+    (first_either (specifies None (Some q)) (specifies None None) (entries m) sorted)
 
 -- a value that is a filter's record, or none
 abbrev IsFilter : Option Record → Type 0
@@ -59,20 +65,25 @@ IsFilter None = Unit {0}
 IsFilter (Some (records.Filter q)) = Unit {0}
 IsFilter (Some r) = ⊥
 
-row_skipped : (n m : ℕ) (r : Record) (es : List (Key × Record)) → (IsFilter (Some r) → ⊥) → (IsFilter (find key_cmp (Filter n) es) → find nat_cmp n (filter_rows es) ≡ filter_of (find key_cmp (Filter n) es))
-    → IsFilter (cond (eq_by_cmp nat_cmp n m) (Some r) (find key_cmp (Filter n) es)) → find nat_cmp n (filter_rows es) ≡ filter_of (cond (eq_by_cmp nat_cmp n m) (Some r) (find key_cmp (Filter n) es))
+row_skipped : (n m : ℕ) (r : Record) (es : List (Key × Record)) → (IsFilter (Some r) → ⊥)
+    → (IsFilter (find key_cmp (Filter n) es) → find nat_cmp n (filter_rows es) ≡ filter_of (find key_cmp (Filter n) es))
+    → IsFilter (cond (eq_by_cmp nat_cmp n m) (Some r) (find key_cmp (Filter n) es))
+    → find nat_cmp n (filter_rows es) ≡ filter_of (cond (eq_by_cmp nat_cmp n m) (Some r) (find key_cmp (Filter n) es))
 row_skipped n m r es not_so rest h = grind arith
 
-row_of : (q : StreamFilter) (b : Bool) (o : Option StreamFilter) (v : Option Record) → (IsFilter v → o ≡ filter_of v) → IsFilter (cond b (Some (records.Filter q)) v)
+row_of : (q : StreamFilter) (b : Bool) (o : Option StreamFilter) (v : Option Record) → (IsFilter v → o ≡ filter_of v)
+    → IsFilter (cond b (Some (records.Filter q)) v)
     → cond b (Some q) o ≡ filter_of (cond b (Some (records.Filter q)) v)
 row_of q b o v rest h = grind arith
 
 -- the row of a number among the filters is the record of its key
-row_at : (n : ℕ) (es : List (Key × Record)) → IsFilter (find key_cmp (Filter n) es) → find nat_cmp n (filter_rows es) ≡ filter_of (find key_cmp (Filter n) es)
+row_at : (n : ℕ) (es : List (Key × Record)) → IsFilter (find key_cmp (Filter n) es)
+    → find nat_cmp n (filter_rows es) ≡ filter_of (find key_cmp (Filter n) es)
 row_at n [] h = refl
 row_at n ((Port m, r) ∷ es) h = row_at n es h
 row_at n ((Filter m, records.Port r) ∷ es) h = row_skipped n m (records.Port r) es (λ x. x) (row_at n es) h
-row_at n ((Filter m, records.Filter q) ∷ es) h = row_of q (eq_by_cmp nat_cmp n m) (find nat_cmp n (filter_rows es)) (find key_cmp (Filter n) es) (row_at n es) h
+row_at n ((Filter m, records.Filter q) ∷ es) h =
+    row_of q (eq_by_cmp nat_cmp n m) (find nat_cmp n (filter_rows es)) (find key_cmp (Filter n) es) (row_at n es) h
 row_at n ((Filter m, records.Gate r) ∷ es) h = row_skipped n m (records.Gate r) es (λ x. x) (row_at n es) h
 row_at n ((Filter m, records.Meter r) ∷ es) h = row_skipped n m (records.Meter r) es (λ x. x) (row_at n es) h
 row_at n ((Gate m, r) ∷ es) h = row_at n es h
@@ -85,9 +96,12 @@ filter_is : (o : Option StreamFilter) (v : Option Record) → option_map records
 filter_is o v e = grind arith
 
 -- a table of the filters of a configuration
-pub filters_are : (c : Configuration) (t : FinMap nat_cmp StreamFilter) → ((n : ℕ) → option_map records.Filter (get t n) ≡ get c (Filter n)) → t ≡ filters_of c
+pub filters_are : (c : Configuration) (t : FinMap nat_cmp StreamFilter) → ((n : ℕ) → option_map records.Filter (get t n) ≡ get c (Filter n))
+    → t ≡ filters_of c
 filters_are c t same =
     same_map nat_cmp_total nat_cmp-IsAntisymmetric t (filters_of c)
     (λ n.
-    let there : IsFilter (find key_cmp (Filter n) (entries c)) = is_filter (get t n) (find key_cmp (Filter n) (entries c)) (same n ∙ get-entries c (Filter n)) in
-    sym (get-from_entries nat_cmp_total (filter_rows (entries c)) n ∙ row_at n (entries c) there ∙ filter_is (get t n) (find key_cmp (Filter n) (entries c)) (same n ∙ get-entries c (Filter n))))
+    let there : IsFilter (find key_cmp (Filter n) (entries c)) = is_filter (get t n) (find key_cmp (Filter n) (entries c))
+    (same n ∙ get-entries c (Filter n)) in
+    sym (get-from_entries nat_cmp_total (filter_rows (entries c)) n ∙ row_at n (entries c) there
+    ∙ filter_is (get t n) (find key_cmp (Filter n) (entries c)) (same n ∙ get-entries c (Filter n))))

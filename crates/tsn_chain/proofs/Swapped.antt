@@ -24,9 +24,11 @@ over b x y z = grind arith
 pub insert_twice : {A : Type 0} (t : FinMap nat_cmp A) (n : ℕ) (x y : A) → insert (insert t n x) n y ≡ insert t n y
 insert_twice t n x y =
     same_map nat_cmp_total nat_cmp-IsAntisymmetric (insert (insert t n x) n y) (insert t n y)
-    (λ q. get-insert nat_cmp_total (insert t n x) n y q ∙ ap (cond (eq_by_cmp nat_cmp q n) (Some y)) (get-insert nat_cmp_total t n x q) ∙ over (eq_by_cmp nat_cmp q n) (Some y) (Some x) (get t q) ∙ sym (get-insert nat_cmp_total t n y q))
+    (λ q. get-insert nat_cmp_total (insert t n x) n y q ∙ ap (cond (eq_by_cmp nat_cmp q n) (Some y)) (get-insert nat_cmp_total t n x q)
+    ∙ over (eq_by_cmp nat_cmp q n) (Some y) (Some x) (get t q) ∙ sym (get-insert nat_cmp_total t n y q))
 
-same_place : {A : Type 0} (t : FinMap nat_cmp A) (n q : ℕ) (x : A) (b : Bool) → eq_by_cmp nat_cmp q n ≡ b → get t n ≡ Some x → cond b (Some x) (get t q) ≡ get t q
+same_place : {A : Type 0} (t : FinMap nat_cmp A) (n q : ℕ) (x : A) (b : Bool) → eq_by_cmp nat_cmp q n ≡ b → get t n ≡ Some x
+    → cond b (Some x) (get t q) ≡ get t q
 same_place t n q x b e is = grind arith
 
 -- a row put over itself
@@ -40,7 +42,8 @@ has_row {A = A} t m n x is =
     ap (λ (s : FinMap nat_cmp A). is_some (get s n)) is
     ∙ ap is_some (get-insert nat_cmp_total t n x n ∙ ap (λ b. cond b (Some x) (get t n)) (ap is_eq (tied_itself nat_cmp_total n)))
 
-module _ {E : Type 0} (t middle last : FinMap nat_cmp (Kept E)) (n : ℕ) (placeholder was is : Kept E) (found : Some was ≡ get t n) (out : middle ≡ insert t n placeholder) (back : last ≡ insert middle n is) where
+module _ {E : Type 0} (t middle last : FinMap nat_cmp (Kept E)) (n : ℕ) (placeholder was is : Kept E) (found : Some was ≡ get t n)
+    (out : middle ≡ insert t n placeholder) (back : last ≡ insert middle n is) where
   pub set : last ≡ insert t n is
   set = back ∙ ap (λ (m : FinMap nat_cmp (Kept E)). insert m n is) out ∙ insert_twice t n placeholder is
 

@@ -62,7 +62,8 @@ KeyApplies old k v a new = ⊥
 -- Why an apply of a list is refused, after some acts: 14, then 15; without these causes it is accepted, or refused 18.
 abbrev pub IsApplied : {E : Type 0} → List E → Result ℕ Refusal → List (Act E) → Type 0
 IsApplied list result acts =
-    MatchResult result (λ _. apply_refusal (is_enabled acts) list ≡ None) (λ why. why ≡ unwrap_or (apply_refusal (is_enabled acts) list) Memory)
+    MatchResult result (λ _. apply_refusal (is_enabled acts) list ≡ None)
+    (λ why. why ≡ unwrap_or (apply_refusal (is_enabled acts) list) Memory)
 
 abbrev pub KeyRefuses : Runners → Key → Option Record → Result ℕ Refusal → Type 0
 KeyRefuses old (Port n) (Some (records.Port r)) result = RowAnswers old.ports n (IsApplied r.admin.list result)
@@ -77,7 +78,8 @@ ChangesAt v a change = ⊥
 
 -- The state at an instant, after some acts; or the instant comes before the last of them.
 abbrev pub StateAt : {E : Type 0} → (E → ℕ) → (Option E → State) → ℕ → Result State Past → List (Act E) → Type 0
-StateAt interval shown t result acts = MatchResult result (λ s. (last_instant acts ≤ t) × (s ≡ shown (state_in interval acts t))) (λ _. t < last_instant acts)
+StateAt interval shown t result acts =
+    MatchResult result (λ s. (last_instant acts ≤ t) × (s ≡ shown (state_in interval acts t))) (λ _. t < last_instant acts)
 
 abbrev pub KeyStates : Runners → Key → Option Record → ℕ → Result State Past → Type 0
 KeyStates r (Port n) (Some (records.Port p)) t result = RowAnswers r.ports n (StateAt (λ e. e.interval) (port_state p) t result)

@@ -39,10 +39,12 @@ no_runners = record { ports = empty; gates = empty }
 
 -- kind after kind, in the order of keys
 abbrev pub begun_frames : Configuration → FrameData
-begun_frames c = frames_of_kind c (frames_of_kind c (frames_of_kind c (frames_of_kind c no_frames kinds.Port) kinds.Filter) kinds.Gate) kinds.Meter
+begun_frames c =
+    frames_of_kind c (frames_of_kind c (frames_of_kind c (frames_of_kind c no_frames kinds.Port) kinds.Filter) kinds.Gate) kinds.Meter
 
 abbrev pub begun_runners : Configuration → Runners
-begun_runners c = runners_of_kind c (runners_of_kind c (runners_of_kind c (runners_of_kind c no_runners kinds.Port) kinds.Filter) kinds.Gate) kinds.Meter
+begun_runners c =
+    runners_of_kind c (runners_of_kind c (runners_of_kind c (runners_of_kind c no_runners kinds.Port) kinds.Filter) kinds.Gate) kinds.Meter
 
 -- each runner is one that nothing was done to
 pub record AreFresh (r : Runners) : Type 0 where

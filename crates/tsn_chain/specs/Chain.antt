@@ -166,7 +166,8 @@ gate_steps x =
     ∷ GoesOn passing_sdu
     ∷ Ends (is_latched x.gate x.met.gate) not_passing (drop x Closed)
     ∷ Ends (not x.state.is_open) (both not_passing (invalid_rx_where x.gate.invalid_rx)) (drop x Closed)
-    ∷ Ends (is_over x.met.gate x.frame.octets x.state.running) (both not_passing (octets_exceeded_where x.gate.octets_exceeded)) (drop x Octets)
+    ∷ Ends (is_over x.met.gate x.frame.octets x.state.running) (both not_passing (octets_exceeded_where x.gate.octets_exceeded))
+    (drop x Octets)
     ∷ GoesOn (both (used_by x.frame.octets x.state.running) passing)
     ∷ []
 

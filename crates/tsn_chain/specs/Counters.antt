@@ -16,7 +16,8 @@ use Rattle.tsn_chain.specs.Instances.{Runners, FrameData}
 
 -- of a port's or a gate's list, after some acts and at the bridge time (802.1Q-2018, 12.29.1)
 abbrev pub list_counters : {E : Type 0} → ℕ → List (Act E) → ListCounters
-list_counters now acts = record { change_error = errors_in acts; change_time = change_in acts; enabled = is_enabled acts; pending = is_pending acts now }
+list_counters now acts =
+    record { change_error = errors_in acts; change_time = change_in acts; enabled = is_enabled acts; pending = is_pending acts now }
 
 -- of a gate: those of its list, and its latches
 abbrev pub gate_counters : {E : Type 0} → ℕ → GateData → List (Act E) → Counters

@@ -55,26 +55,50 @@ with_meter_new m = record { filter = new_filter; gate = new_gate; meter = Some (
 
 -- a gate that is open or closed where no list is in force
 abbrev pub gate_with : Bool → Bool → StreamGate
-gate_with is_open octets_exceeded = record { is_open = is_open; ipv = None; invalid_rx = false; octets_exceeded = octets_exceeded; admin = record { list = []; cycle = 1000000; extension = 0; base = 0 } }
+gate_with is_open octets_exceeded =
+    record {
+      is_open = is_open;
+      ipv = None;
+      invalid_rx = false;
+      octets_exceeded = octets_exceeded;
+      admin = record { list = []; cycle = 1000000; extension = 0; base = 0 };
+    }
 
 -- 8 Mbit/s and 1500 octets, with or without marking all frames red
 abbrev pub meter_with : Bool → FlowMeter
-meter_with all_red = record { cir = 8000000; cbs = 1500; eir = 0; ebs = 0; cf = false; aware = false; drop_yellow = false; all_red = all_red }
+meter_with all_red =
+    record { cir = 8000000; cbs = 1500; eir = 0; ebs = 0; cf = false; aware = false; drop_yellow = false; all_red = all_red }
 
 -- both sizes 100 octets, coupled or not
 abbrev pub two_sizes : Bool → FlowMeter
 two_sizes cf = record { cir = 8000000; cbs = 100; eir = 0; ebs = 100; cf = cf; aware = false; drop_yellow = false; all_red = false }
 
 abbrev pub filter_3 : Scene
-filter_3 = record { number = 3; filter = record { handle = Some 7; priority = None; gate = 0; max_sdu = Some 1500; meter = Some 0; oversize = true }; gate = gate_with true false; acts = [] }
+filter_3 = record {
+  number = 3;
+  filter = record { handle = Some 7; priority = None; gate = 0; max_sdu = Some 1500; meter = Some 0; oversize = true };
+  gate = gate_with true false;
+  acts = [];
+}
 
 -- a filter with nothing but a gate, whose list runs
 abbrev pub filter_0 : Bool → List (Act GateEntry) → Scene
-filter_0 octets_exceeded acts = record { number = 0; filter = record { handle = None; priority = None; gate = 0; max_sdu = None; meter = None; oversize = false }; gate = gate_with false octets_exceeded; acts = acts }
+filter_0 octets_exceeded acts =
+    record {
+      number = 0;
+      filter = record { handle = None; priority = None; gate = 0; max_sdu = None; meter = None; oversize = false };
+      gate = gate_with false octets_exceeded;
+      acts = acts;
+    }
 
 -- a filter that lets 100 octets through
 abbrev pub short_filter : Scene
-short_filter = record { number = 0; filter = record { handle = None; priority = None; gate = 0; max_sdu = Some 100; meter = None; oversize = true }; gate = gate_with true false; acts = [] }
+short_filter = record {
+  number = 0;
+  filter = record { handle = None; priority = None; gate = 0; max_sdu = Some 100; meter = None; oversize = true };
+  gate = gate_with true false;
+  acts = [];
+}
 
 -- frames of 1000 octets at 0, at 100000 and at 500000
 abbrev pub three : List Coming

@@ -46,7 +46,8 @@ metered_at f (Some n) (Some by) = option_map (λ d. record { by = by; kept = d }
 
 -- what is kept of the filter of a number, its gate and its meter
 abbrev pub met_at : FrameData → ℕ → StreamFilter → Option FlowMeter → Option Met
-met_at f n q by = option_and_then (λ d. option_map (λ g. record { filter = d; gate = g; meter = metered_at f q.meter by }) (get f.gates q.gate)) (get f.filters n)
+met_at f n q by = option_and_then
+    (λ d. option_map (λ g. record { filter = d; gate = g; meter = metered_at f q.meter by }) (get f.gates q.gate)) (get f.filters n)
 
 -- the same, put back
 abbrev pub with_meter : FinMap nat_cmp MeterData → Option ℕ → Option Metered → FinMap nat_cmp MeterData
@@ -55,7 +56,8 @@ with_meter t (Some n) None = t
 with_meter t (Some n) (Some q) = insert t n q.kept
 
 abbrev pub with_met : FrameData → ℕ → StreamFilter → Met → FrameData
-with_met f n q k = record { filters = insert f.filters n k.filter; gates = insert f.gates q.gate k.gate; meters = with_meter f.meters q.meter k.meter }
+with_met f n q k =
+    record { filters = insert f.filters n k.filter; gates = insert f.gates q.gate k.gate; meters = with_meter f.meters q.meter k.meter }
 
 -- the state of a gate that the chain reads at an instant
 abbrev pub state_at : GateActs → ℕ → StreamGate → ℕ → GateState

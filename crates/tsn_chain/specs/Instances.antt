@@ -86,4 +86,5 @@ runners_code =
 abbrev pub instances_code : Coded Instances
 instances_code =
     code_by (Runners × (FrameData × (ℕ × ℕ))) (coded× runners_code (coded× frames_code (coded× coded_ℕ coded_ℕ)))
-    (λ s. (s.runners, (s.frames, (s.time, s.spare)))) (λ p. record { runners = p.0; frames = p.1.0; time = p.1.1.0; spare = p.1.1.1 }) (λ _. refl)
+    (λ s. (s.runners, (s.frames, (s.time, s.spare)))) (λ p. record { runners = p.0; frames = p.1.0; time = p.1.1.0; spare = p.1.1.1 })
+    (λ _. refl)

@@ -8,7 +8,8 @@ use Rattle.tsn_chain.specs.Chain.{Case, Row, drop, pass, walk}
 
 -- a passage, with what is kept of the instances that the frame meets
 abbrev pub case_of : Passage → Met → Case
-case_of p met = record { number = p.id; filter = p.filter.now; gate = p.gate.now; state = p.state; frame = p.frame; time = p.time; met = met }
+case_of p met =
+    record { number = p.id; filter = p.filter.now; gate = p.gate.now; state = p.state; frame = p.frame; time = p.time; met = met }
 
 -- a part dropped the frame, or the other rows are to be taken
 abbrev pub gone_on : {A : Type 0} → Case → Result A DropCause → Met → List Row → Verdict → Verdict × Met

@@ -21,5 +21,6 @@ gate_state r (Some e) = states.Gate e.is_open e.ipv
 
 -- What the chain reads of a gate: the entry in force and its interval are there together, or not at all.
 abbrev pub read_state : StreamGate → Option GateEntry → Option ℕ → GateState
-read_state r (Some e) (Some began) = record { is_open = e.is_open; ipv = e.ipv; running = Some (record { began = began; octets = e.octets }) }
+read_state r (Some e) (Some began) =
+    record { is_open = e.is_open; ipv = e.ipv; running = Some (record { began = began; octets = e.octets }) }
 read_state r e began = record { is_open = r.is_open; ipv = r.ipv; running = None }

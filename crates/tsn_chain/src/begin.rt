@@ -12,8 +12,8 @@ use tsn_edit::{Change, Part};
 use tsn_types::keys::{Key, Kind};
 
 impl Runtime {
-    /// A runtime of the configuration at the instant 0: of each key it has what a change from none to its record leaves.
-    /// Refused only for want of memory.
+    /// A runtime of the configuration at the instant 0: of each key it has what a change from none to its record
+    /// leaves. Refused only for want of memory.
     pub fn begin(alloc: Global, config: &Config) -> Result<Runtime, AllocError>
         ensures runners { IfOk result (λ new. new.runners ≡ begun_runners config.now.map) }
         ensures frames { IfOk result (λ new. new.frames ≡ begun_frames config.now.map) }

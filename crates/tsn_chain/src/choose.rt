@@ -1,7 +1,7 @@
 //! The choice of a frame's filter.
 //!
-//! A filter that matches has one of four pairs of specifications: the frame's handle or the wildcard, with its priority or
-//! the wildcard. A configuration tells the least filter of two pairs, so a frame goes along no filters.
+//! A filter that matches has one of four pairs of specifications: the frame's handle or the wildcard, with its priority
+//! or the wildcard. A configuration tells the least filter of two pairs, so a frame goes along no filters.
 ghost use Rattle.std.specs.Prelude.{◌≡◌, ◌<◌, ℕ, IsSome, Bool, List, Option, Some, None, false, true};
 ghost use Rattle.std.specs.FinMap as map;
 ghost use Rattle.std.specs.FinMap.{FinMap};

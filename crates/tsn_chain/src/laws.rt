@@ -29,14 +29,20 @@ ghost use Rattle.tsn_chain.specs.Standing.{Histories, Stand, histories_after, hi
 /// configuration where both follow a change on distinct keys whose values before stand and whose values after are of
 /// their key's kind, as every change that fits does. Acts leave the keys.
 pub fn keys()
-    ensures beginning { HasKeys (record { ports = map.empty; gates = map.empty }) (record { filters = map.empty; gates = map.empty; meters = map.empty }) map.empty }
-    ensures begun { (l : AnyLimits) (c : Configuration) → IsWellKept l c → HasKeys (begun_runners c) (begun_frames c) c × AreFresh (begun_runners c) }
-    ensures following { (c : Configuration) (r : Runners) (f : FrameData) (now : ℕ) (e : Change) → HasKeys r f c → IsDistinct same_key (keys_of (parts e)) → Stands c (parts e) → AreOfKind (parts e) →
+    ensures beginning { HasKeys (record { ports = map.empty; gates = map.empty })
+        (record { filters = map.empty; gates = map.empty; meters = map.empty }) map.empty }
+    ensures begun { (l : AnyLimits) (c : Configuration) → IsWellKept l c
+        → HasKeys (begun_runners c) (begun_frames c) c × AreFresh (begun_runners c) }
+    ensures following { (c : Configuration) (r : Runners) (f : FrameData) (now : ℕ) (e : Change) → HasKeys r f c
+        → IsDistinct same_key (keys_of (parts e)) → Stands c (parts e) → AreOfKind (parts e) →
         HasKeys (runners_after r e) (frames_after now f e) (after_change c e) }
-    ensures fitting { (l : AnyLimits) (c : Configuration) (r : Runners) (f : FrameData) (now : ℕ) (e : Change) → HasKeys r f c → Fits l c e →
+    ensures fitting { (l : AnyLimits) (c : Configuration) (r : Runners) (f : FrameData) (now : ℕ) (e : Change) → HasKeys r f c
+        → Fits l c e →
         HasKeys (runners_after r e) (frames_after now f e) (after_change c e) }
-    ensures acting { (old new : Runners) (f : FrameData) (c : Configuration) (key : AnyKey) (p : Act AnyPortEntry) (g : Act AnyGateEntry) → HasKeys old f c → KeyActs old key p g new → HasKeys new f c }
-    ensures applying { (old new : Runners) (f : FrameData) (c : Configuration) (key : AnyKey) (v : Option AnyRecord) (a : ℕ) → HasKeys old f c → KeyApplies old key v a new → HasKeys new f c }
+    ensures acting { (old new : Runners) (f : FrameData) (c : Configuration) (key : AnyKey) (p : Act AnyPortEntry) (g : Act AnyGateEntry)
+        → HasKeys old f c → KeyActs old key p g new → HasKeys new f c }
+    ensures applying { (old new : Runners) (f : FrameData) (c : Configuration) (key : AnyKey) (v : Option AnyRecord) (a : ℕ)
+        → HasKeys old f c → KeyApplies old key v a new → HasKeys new f c }
 {}
 
 /// Whatever changes and acts the instance data went through, there are acts for which its runners stand, those of each
@@ -44,29 +50,38 @@ pub fn keys()
 pub fn standing()
     ensures beginning { Stand (record { ports = map.empty; gates = map.empty }) (record { ports = λ n. []; gates = λ n. [] }) }
     ensures following { (r : Runners) (h : Histories) (e : Change) → Stand r h → Stand (runners_after r e) (histories_after h e) }
-    ensures acting { (old new : Runners) (h : Histories) (key : AnyKey) (p : Act AnyPortEntry) (g : Act AnyGateEntry) → Stand old h → KeyActs old key p g new → Stand new (histories_with h key p g) }
-    ensures applying { (old new : Runners) (h : Histories) (key : AnyKey) (v : Option AnyRecord) (a : ℕ) → Stand old h → KeyApplies old key v a new → Stand new (histories_applied h key v a) }
+    ensures acting { (old new : Runners) (h : Histories) (key : AnyKey) (p : Act AnyPortEntry) (g : Act AnyGateEntry) → Stand old h
+        → KeyActs old key p g new → Stand new (histories_with h key p g) }
+    ensures applying { (old new : Runners) (h : Histories) (key : AnyKey) (v : Option AnyRecord) (a : ℕ) → Stand old h
+        → KeyApplies old key v a new → Stand new (histories_applied h key v a) }
 {}
 
 /// Worked examples: a meter with its counters and its flag, coupled buckets, the octets of an interval, and a stream
 /// that is blocked.
 pub fn examples()
-    ensures meter_and_counters { (verdicts filter_3 (with_meter_new (meter_with false)) three ≡ Passed (Some 3) 0 2 false ∷ Dropped 3 100000 Red ∷ Passed (Some 3) 500000 2 false ∷ []) ×
+    ensures meter_and_counters { (verdicts filter_3 (with_meter_new (meter_with false)) three ≡ Passed (Some 3) 0 2 false
+        ∷ Dropped 3 100000 Red ∷ Passed (Some 3) 500000 2 false ∷ []) ×
         ((left_by filter_3 (with_meter_new (meter_with false)) three).filter ≡
         record { blocked = false; matching = 3; not_passing = 0; not_passing_sdu = 0; passing = 3; passing_sdu = 3; red = 1 }) }
-    ensures all_red { (verdicts filter_3 (with_meter_new (meter_with true)) three ≡ Passed (Some 3) 0 2 false ∷ Dropped 3 100000 Red ∷ Dropped 3 500000 Red ∷ []) ×
+    ensures all_red { (verdicts filter_3 (with_meter_new (meter_with true)) three ≡ Passed (Some 3) 0 2 false ∷ Dropped 3 100000 Red
+        ∷ Dropped 3 500000 Red ∷ []) ×
         (option_map (λ (q : Metered). q.kept.red) (left_by filter_3 (with_meter_new (meter_with true)) three).meter ≡ Some true) }
     ensures coupled_buckets { (verdicts filter_3 (with_meter_new (two_sizes true)) five ≡
-        Passed (Some 3) 0 2 false ∷ Passed (Some 3) 0 2 true ∷ Dropped 3 0 Red ∷ Passed (Some 3) 150000 2 false ∷ Passed (Some 3) 150000 2 true ∷ []) ×
+        Passed (Some 3) 0 2 false ∷ Passed (Some 3) 0 2 true ∷ Dropped 3 0 Red ∷ Passed (Some 3) 150000 2 false
+        ∷ Passed (Some 3) 150000 2 true ∷ []) ×
         (verdicts filter_3 (with_meter_new (two_sizes false)) five ≡
-        Passed (Some 3) 0 2 false ∷ Passed (Some 3) 0 2 true ∷ Dropped 3 0 Red ∷ Passed (Some 3) 150000 2 false ∷ Dropped 3 150000 Red ∷ []) }
+        Passed (Some 3) 0 2 false ∷ Passed (Some 3) 0 2 true ∷ Dropped 3 0 Red ∷ Passed (Some 3) 150000 2 false ∷ Dropped 3 150000 Red
+        ∷ []) }
     ensures gate_octets { (verdicts (filter_0 true gate_acts) no_meter (frame_of 10 100 ∷ frame_of 20 60 ∷ frame_of 2010 10 ∷ []) ≡
         Passed (Some 0) 10 5 false ∷ Dropped 0 20 Octets ∷ Dropped 0 2010 Closed ∷ []) ×
         ((left_by (filter_0 true gate_acts) no_meter (frame_of 10 100 ∷ frame_of 20 60 ∷ frame_of 2010 10 ∷ [])).gate ≡
         record { invalid_rx = false; octets_exceeded = true; used = 100; began = Some 0 }) }
-    ensures gate_octets_not_latched { verdicts (filter_0 false gate_acts) no_meter (frame_of 10 100 ∷ frame_of 20 60 ∷ frame_of 30 50 ∷ frame_of 1500 10 ∷ frame_of 2010 100 ∷ []) ≡
-        Passed (Some 0) 10 5 false ∷ Dropped 0 20 Octets ∷ Passed (Some 0) 30 5 false ∷ Dropped 0 1500 Closed ∷ Passed (Some 0) 2010 5 false ∷ [] }
-    ensures oversize_blocks { (verdicts short_filter no_meter (frame_of 0 101 ∷ frame_of 0 50 ∷ []) ≡ Dropped 0 0 Oversize ∷ Dropped 0 0 Blocked ∷ []) ×
+    ensures gate_octets_not_latched { verdicts (filter_0 false gate_acts) no_meter
+        (frame_of 10 100 ∷ frame_of 20 60 ∷ frame_of 30 50 ∷ frame_of 1500 10 ∷ frame_of 2010 100 ∷ []) ≡
+        Passed (Some 0) 10 5 false ∷ Dropped 0 20 Octets ∷ Passed (Some 0) 30 5 false ∷ Dropped 0 1500 Closed ∷ Passed (Some 0) 2010 5 false
+        ∷ [] }
+    ensures oversize_blocks { (verdicts short_filter no_meter (frame_of 0 101 ∷ frame_of 0 50 ∷ []) ≡ Dropped 0 0 Oversize
+        ∷ Dropped 0 0 Blocked ∷ []) ×
         ((left_by short_filter no_meter (frame_of 0 101 ∷ frame_of 0 50 ∷ [])).filter ≡
         record { blocked = true; matching = 2; not_passing = 0; not_passing_sdu = 1; passing = 0; passing_sdu = 0; red = 0 }) }
 {}

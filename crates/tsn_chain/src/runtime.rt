@@ -39,8 +39,8 @@ use tsn_types::records::{
 use tsn_types::refusals::Refusal;
 
 /// The bridge time and instance data. `runners` are those of the ports and the gates, `frames` is what the filter chain
-/// keeps of filters, gates and meters, `time` is the bridge time, and `spare` is the number of parts of changes that the
-/// runtime certainly has room for.
+/// keeps of filters, gates and meters, `time` is the bridge time, and `spare` is the number of parts of changes that
+/// the runtime certainly has room for.
 #[derive(Debug, Drop)]
 pub struct Runtime {
     ports: Table<Runner<PortEntry>>,
@@ -194,7 +194,8 @@ impl Runtime {
         ensures time { self.new.time ≡ max self.old.time now }
         ensures frames { self.new.frames ≡ self.old.frames }
         ensures acts { KeyActs self.old.runners key (Enable (max self.old.time now)) (Enable (max self.old.time now)) self.new.runners }
-        ensures change { KeyAnswers self.old.runners key (λ acts. result ≡ enabled_change (max self.old.time now) acts) (λ acts. result ≡ enabled_change (max self.old.time now) acts) }
+        ensures change { KeyAnswers self.old.runners key (λ acts. result ≡ enabled_change (max self.old.time now) acts)
+            (λ acts. result ≡ enabled_change (max self.old.time now) acts) }
     {
         let time = later(self.time, now);
         self.time = time;

@@ -79,8 +79,8 @@ pub(crate) fn gate_shows(gate: &StreamGate, entry: Option<&GateEntry>) -> State
     }
 }
 
-/// The state of a gate as the filter chain reads it, by the entry in force and when its interval began; without them, by
-/// its record.
+/// The state of a gate as the filter chain reads it, by the entry in force and when its interval began; without them,
+/// by its record.
 pub(crate) fn read_gate(gate: &StreamGate, current: Option<Current<'_, GateEntry>>) -> GateState
     ensures { result ≡ read_state gate.now (option_map (λ c. c.entry.now) current.entry) (option_map (λ c. c.began) current.entry) }
 {

@@ -30,7 +30,8 @@ kept_is n (commands.Hello name) at = refl
 kept_is n command at = refl
 
 -- the line of a hello names no session
-hello_line : (n : ℕ) (command : Command) → kind_of command ≡ Hello → line_text (record { session = n; command = command }) ≡ line_text (record { session = 0; command = command })
+hello_line : (n : ℕ) (command : Command) → kind_of command ≡ Hello → line_text (record { session = n; command = command })
+    ≡ line_text (record { session = 0; command = command })
 hello_line n (commands.Hello name) is = refl
 hello_line n command is = absurd (cc)
 
@@ -38,7 +39,8 @@ pub empty_line : IsLine []
 empty_line = record { free = All-nil _; short = omega arith }
 
 module _ (ask : Ask) (line : List ℕ) where
-  of_kind : (kind : Kind) → kind_of ask.command ≡ kind → (at : ℕ) → kept ask.session ask.command at ≡ kept_by ask.session ask.command at kind
+  of_kind : (kind : Kind) → kind_of ask.command ≡ kind → (at : ℕ)
+      → kept ask.session ask.command at ≡ kept_by ask.session ask.command at kind
   of_kind kind is at = kept_is ask.session ask.command at ∙ ap (kept_by ask.session ask.command at) is
 
   pub hears_passing : kind_of ask.command ≡ Passing → IsHeard heard.Passing line ask
@@ -51,39 +53,49 @@ module _ (ask : Ask) (line : List ℕ) where
   hears_itself is spelled at = (ask, of_kind Itself is at, spelled)
 
   pub hears_hello : kind_of ask.command ≡ Hello → line ≡ line_text ask → IsHeard heard.Line line ask
-  hears_hello is spelled at = (record { session = 0; command = ask.command }, of_kind Hello is at, spelled ∙ hello_line ask.session ask.command is)
+  hears_hello is spelled at =
+      (record { session = 0; command = ask.command }, of_kind Hello is at, spelled ∙ hello_line ask.session ask.command is)
 
 -- ---- what is recorded
 
 module _ (ask : Ask) (reply : Reply) (lines : List (List ℕ)) where
-  by_kept : (b : Bool) (o : Option Ask) → ((a : Ask) → o ≡ Some a → EndsWith lines (line_text a)) → HasLast (cond b (option_map (with_reply reply) o) None) lines
+  by_kept : (b : Bool) (o : Option Ask) → ((a : Ask) → o ≡ Some a → EndsWith lines (line_text a))
+      → HasLast (cond b (option_map (with_reply reply) o) None) lines
   by_kept false o ends = tt
   by_kept true None ends = tt
   by_kept true (Some a) ends = ends a refl
 
-  pub has_last : (o : Option Ask) → kept ask.session ask.command (instant_told reply) ≡ o → ((a : Ask) → o ≡ Some a → EndsWith lines (line_text a)) → HasLast (recorded (record { ask = ask; reply = reply })) lines
-  has_last o is ends = subst (λ (x : Option Ask). HasLast (cond (may_change reply) (option_map (with_reply reply) x) None) lines) (sym is) (by_kept (may_change reply) o ends)
+  pub has_last : (o : Option Ask) → kept ask.session ask.command (instant_told reply) ≡ o
+      → ((a : Ask) → o ≡ Some a → EndsWith lines (line_text a)) → HasLast (recorded (record { ask = ask; reply = reply })) lines
+  has_last o is ends = subst (λ (x : Option Ask). HasLast (cond (may_change reply) (option_map (with_reply reply) x) None) lines) (sym is)
+      (by_kept (may_change reply) o ends)
 
   same_ends : (a b : Ask) → Some a ≡ Some b → EndsWith lines (line_text a) → EndsWith lines (line_text b)
   same_ends a b is ends = subst (λ (o : Option Ask). IfSome o (λ x. EndsWith lines (line_text x))) is ends
 
-  pub one_kept : (a : Ask) → kept ask.session ask.command (instant_told reply) ≡ Some a → EndsWith lines (line_text a) → HasLast (recorded (record { ask = ask; reply = reply })) lines
+  pub one_kept : (a : Ask) → kept ask.session ask.command (instant_told reply) ≡ Some a → EndsWith lines (line_text a)
+      → HasLast (recorded (record { ask = ask; reply = reply })) lines
   one_kept a is ends = has_last (Some a) is (λ b same. same_ends a b same ends)
 
   pub none_kept : kept ask.session ask.command (instant_told reply) ≡ None → HasLast (recorded (record { ask = ask; reply = reply })) lines
   none_kept is = has_last None is (λ b never. cc)
 
 -- what is noted of what was heard
-pub noted_line : (ask : Ask) (reply : Reply) (line : List ℕ) (mark : Option (List (List ℕ))) → IsHeard heard.Line line ask → IfSome mark (λ lines. EndsWith lines line) → IsRecorded ask reply mark
+pub noted_line : (ask : Ask) (reply : Reply) (line : List ℕ) (mark : Option (List (List ℕ))) → IsHeard heard.Line line ask
+    → IfSome mark (λ lines. EndsWith lines line) → IsRecorded ask reply mark
 noted_line ask reply line None h ends = tt
 noted_line ask reply line (Some lines) h ends =
     let k = h (instant_told reply) in
     one_kept ask reply lines k.0 k.1 (subst (λ l. EndsWith lines l) k.2 ends)
 
-pub noted_act : (ask : Ask) (reply : Reply) (line : List ℕ) (deed : Deed) (key : Key) (session : ℕ) (mark : Option (List (List ℕ))) → IsHeard (heard.Act deed key session) line ask
-    → IfSome mark (λ lines. EndsWith lines (line_text (record { session = session; command = act_of deed key (instant_told reply) }))) → IsRecorded ask reply mark
+pub noted_act : (ask : Ask) (reply : Reply) (line : List ℕ) (deed : Deed) (key : Key) (session : ℕ) (mark : Option (List (List ℕ)))
+    → IsHeard (heard.Act deed key session) line ask
+    → IfSome mark (λ lines. EndsWith lines (line_text (record { session = session; command = act_of deed key (instant_told reply) })))
+    → IsRecorded ask reply mark
 noted_act ask reply line deed key session None h ends = tt
-noted_act ask reply line deed key session (Some lines) h ends = one_kept ask reply lines (record { session = session; command = act_of deed key (instant_told reply) }) (h (instant_told reply)) ends
+noted_act ask reply line deed key session (Some lines) h ends =
+    one_kept ask reply lines (record { session = session; command = act_of deed key (instant_told reply) }) (h (instant_told reply)) ends
 
-pub noted_none : (ask : Ask) (reply : Reply) (line : List ℕ) (lines : List (List ℕ)) → IsHeard heard.Passing line ask → IsRecorded ask reply (Some lines)
+pub noted_none : (ask : Ask) (reply : Reply) (line : List ℕ) (lines : List (List ℕ)) → IsHeard heard.Passing line ask
+    → IsRecorded ask reply (Some lines)
 noted_none ask reply line lines h = none_kept ask reply lines (h (instant_told reply))

@@ -15,7 +15,8 @@ use Rattle.tsn_clerk.proofs.Going.{broken_stays, replied_goes, with_caller}
 
 module _ {O : Type 0} (taken : O → Option (List ℕ)) where
   -- the writer took a front of what waits, all that is due being kept
-  pub cut_short : (a : Parts O) (w : O) → IsCovered a.due a.kept → IsCut (taken a.writer) (taken w) a.replies.bytes → IsCutShort taken a [] (record a { writer = w })
+  pub cut_short : (a : Parts O) (w : O) → IsCovered a.due a.kept → IsCut (taken a.writer) (taken w) a.replies.bytes
+      → IsCutShort taken a [] (record a { writer = w })
   cut_short a w covered (n, few, took) = record {
     caller = refl;
     due = refl;
@@ -39,14 +40,20 @@ module _ {O : Type 0} (taken : O → Option (List ℕ)) where
       covered = short.covered;
       front = short.front;
       took = short.took;
-      begins = (short.begins.0 ++ text, ap (λ b. b ++ text) (sym cut ∙ sym (append-nil r.bytes) ∙ short.begins.1) ∙ append_assoc short.front short.begins.0 text);
+      begins = (
+        short.begins.0 ++ text,
+        ap (λ b. b ++ text) (sym cut ∙ sym (append-nil r.bytes) ∙ short.begins.1)
+            ∙ append_assoc short.front short.begins.0 text,
+      );
     })
 
     module _ (a mid : Parts O) (hands : HandsOn taken before [] mid) (same : a ≡ mid) (w : O) where
-      took_more : (more : List ℕ) → Appends (taken a.writer) (taken w) more → Appends (taken old.writer) (taken w) (old.replies.bytes ++ more)
+      took_more : (more : List ℕ) → Appends (taken a.writer) (taken w) more
+          → Appends (taken old.writer) (taken w) (old.replies.bytes ++ more)
       took_more more appended =
           subst (λ t. Appends (taken old.writer) (taken w) (t ++ more)) (append-nil r.bytes ∙ cut)
-          (Appends-trans (taken old.writer) (taken mid.writer) (taken w) (r.bytes ++ []) more hands.took (subst (λ (p : Parts O). Appends (taken p.writer) (taken w) more) same appended))
+          (Appends-trans (taken old.writer) (taken mid.writer) (taken w) (r.bytes ++ []) more hands.took
+          (subst (λ (p : Parts O). Appends (taken p.writer) (taken w) more) same appended))
 
       pub told_directly : Appends (taken a.writer) (taken w) text → HandsOn taken old text (record a { writer = w })
       told_directly appended = record {
@@ -64,7 +71,11 @@ module _ {O : Type 0} (taken : O → Option (List ℕ)) where
         covered = subst (λ (p : Parts O). IsCovered p.due p.kept) (sym same) hands.covered;
         front = old.replies.bytes ++ take n text;
         took = took_more (take n text) appended;
-        begins = (drop n text, ap (λ t. old.replies.bytes ++ t) (sym (take-append-drop n text)) ∙ sym (append_assoc old.replies.bytes (take n text) (drop n text)));
+        begins = (
+          drop n text,
+          ap (λ t. old.replies.bytes ++ t) (sym (take-append-drop n text))
+              ∙ sym (append_assoc old.replies.bytes (take n text) (drop n text)),
+        );
       }
 
   -- ---- a line
@@ -73,17 +84,21 @@ module _ {O : Type 0} (taken : O → Option (List ℕ)) where
     pub answered : Tells taken mid (reply_text reply) new → AnswersLine taken old line new
     answered told = record { reply = reply; between = mid; replied = replied; told = told }
 
-    told_of : BreaksOff taken mid (reply_text reply) new → (taken new.writer ≡ taken old.writer) ⊎ ((r : Reply) × (between : Parts O) × Replied old line r between × IsCutShort taken between (reply_text r) new)
+    told_of : BreaksOff taken mid (reply_text reply) new
+        → (taken new.writer ≡ taken old.writer)
+        ⊎ ((r : Reply) × (between : Parts O) × Replied old line r between × IsCutShort taken between (reply_text r) new)
     told_of (inl off) = inl (off.taken_is ∙ ap taken replied.writer)
     told_of (inr short) = inr (reply, mid, replied, short)
 
     pub broken : BreaksOff taken mid (reply_text reply) new → BreaksLine taken old line new
     broken off = record {
-      goes = with_caller taken old mid new (replied_goes taken old line reply mid replied) (broken_stays taken mid new (reply_text reply) off);
+      goes =
+          with_caller taken old mid new (replied_goes taken old line reply mid replied) (broken_stays taken mid new (reply_text reply) off);
       told = told_of off;
     }
 
-  pub cut_off : (old new : Parts O) (line : Option (List ℕ)) → Goes old.caller new.caller → new.writer ≡ old.writer → BreaksLine taken old line new
+  pub cut_off : (old new : Parts O) (line : Option (List ℕ)) → Goes old.caller new.caller → new.writer ≡ old.writer
+      → BreaksLine taken old line new
   cut_off old new line goes writer = record { goes = goes; told = inl (ap taken writer) }
 
   -- ---- a view and what it is of
@@ -95,10 +110,14 @@ module _ {O : Type 0} (taken : O → Option (List ℕ)) where
     pub tells_from : Tells taken a text n → Tells taken b text n
     tells_from h = subst (λ p. Tells taken p text n) same h
 
-pub replied_as : {O : Type 0} (old new : Parts O) (line : Option (List ℕ)) (reply : Reply) (mark : Option Lines) → Told IsRecorded old.caller line reply mark new.caller → IsDue old.due mark new.due → new.replies ≡ old.replies → new.writer ≡ old.writer → Replied old line reply new
-replied_as old new line reply mark told due replies writer = record { mark = mark; told = told; due = due; replies = replies; writer = writer }
+pub replied_as : {O : Type 0} (old new : Parts O) (line : Option (List ℕ)) (reply : Reply) (mark : Option Lines)
+    → Told IsRecorded old.caller line reply mark new.caller → IsDue old.due mark new.due → new.replies ≡ old.replies
+    → new.writer ≡ old.writer → Replied old line reply new
+replied_as old new line reply mark told due replies writer =
+    record { mark = mark; told = told; due = due; replies = replies; writer = writer }
 
 -- settled or broken off, the caller stays
-pub settle_stays : {O E : Type 0} (taken : O → Option (List ℕ)) (r : Result (Unit {0}) E) (old new : Parts O) → OnOk r (HandsOn taken old [] new) → OnErr r (BreaksOff taken old [] new) → new.caller ≡ old.caller
+pub settle_stays : {O E : Type 0} (taken : O → Option (List ℕ)) (r : Result (Unit {0}) E) (old new : Parts O)
+    → OnOk r (HandsOn taken old [] new) → OnErr r (BreaksOff taken old [] new) → new.caller ≡ old.caller
 settle_stays taken (Ok u) old new ok err = ok.caller
 settle_stays taken (Err e) old new ok err = broken_stays taken old new [] err

@@ -42,7 +42,8 @@ kind_of command = kind_in (family command)
 abbrev pub IsHeard : Heard → List ℕ → Ask → Type 0
 IsHeard heard.Passing line ask = (at : ℕ) → kept ask.session ask.command at ≡ None
 IsHeard heard.Line line ask = (at : ℕ) → (to_keep : Ask) × (kept ask.session ask.command at ≡ Some to_keep) × (line ≡ line_text to_keep)
-IsHeard (heard.Act deed key session) line ask = (at : ℕ) → kept ask.session ask.command at ≡ Some (record { session = session; command = act_of deed key at })
+IsHeard (heard.Act deed key session) line ask =
+    (at : ℕ) → kept ask.session ask.command at ≡ Some (record { session = session; command = act_of deed key at })
 IsHeard heard.Lost line ask = Unit {0}
 
 -- The lines end with this one.

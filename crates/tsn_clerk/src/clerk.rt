@@ -1,5 +1,5 @@
-//! Who attends the turns of a desk whose work lasts: it records each command in its turn, if that lasts and was accepted,
-//! and no hello that goes on as a session.
+//! Who attends the turns of a desk whose work lasts: it records each command in its turn, if that lasts and was
+//! accepted, and no hello that goes on as a session.
 ghost use Rattle.std.specs.Prelude.{◌≡◌, ◌⊎◌, IfSome, true};
 ghost use Rattle.tsn_bridge.specs.declared.command.Ask.{Ask as AnyAsk};
 ghost use Rattle.tsn_bridge.specs.Rule.{may_change};
@@ -55,8 +55,8 @@ pub enum Heard {
     Lost,
 }
 
-/// Who records commands in a text that threads share. It takes all memory that it ever needs when it is made, that of the
-/// longest line.
+/// Who records commands in a text that threads share. It takes all memory that it ever needs when it is made, that of
+/// the longest line.
 #[derive(Drop)]
 pub struct Clerk<'a, W: Wait, C: Clock, D: Device, R: Naming, K: Naming + Ahead> {
     rt: &'a W,
@@ -139,7 +139,8 @@ impl<'a, W: Wait, C: Clock + Drop, D: Device + Drop, R: Naming, K: Naming + Ahea
         }
     }
 
-    // Records the line that was spelled behind all others, of a command that may have changed the bridge. In a turn nobody else records.
+    // Records the line that was spelled behind all others, of a command that may have changed the bridge. In a turn
+    // nobody else records.
     fn record(&self, _reply: &Reply) -> Option<Front<R>>
         requires { may_change _reply.now ≡ true }
         ensures { IfSome result (λ lines. EndsWith lines self.now.line) }
@@ -150,7 +151,8 @@ impl<'a, W: Wait, C: Clock + Drop, D: Device + Drop, R: Naming, K: Naming + Ahea
     // Records an act at the instant that the reply tells.
     fn record_act(&mut self, deed: Deed, key: Key, session: u32, reply: &Reply) -> Option<Front<R>>
         requires { may_change reply.now ≡ true }
-        ensures { IfSome result (λ lines. EndsWith lines (line_text (record { session = session; command = act_of deed key (instant_told reply.now) }))) }
+        ensures { IfSome result (λ lines.
+            EndsWith lines (line_text (record { session = session; command = act_of deed key (instant_told reply.now) }))) }
     {
         let now = instant_in(reply)?;
         let ask = Ask {
@@ -182,8 +184,8 @@ impl<'a, W: Wait, C: Clock + Drop, D: Device + Drop, R: Naming, K: Naming + Ahea
     for Clerk<'a, W, C, D, R, K> {
     ghost use Rattle.tsn_clerk.specs.Noting.{IsHeard, IsRecorded};
 
-    /// All that is recorded by the end of the turn, none where this turn's command could not be: then nothing is recorded
-    /// any more.
+    /// All that is recorded by the end of the turn, none where this turn's command could not be: then nothing is
+    /// recorded any more.
     type Mark = Option<Front<R>>;
 
     ghost hears = { λ c ask. IsHeard c.heard c.line ask };

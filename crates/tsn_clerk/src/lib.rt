@@ -1,4 +1,5 @@
-//! A server whose sessions' work lasts: a clerk records each turn at the desk, and replies wait until what they tell of is kept.
+//! A server whose sessions' work lasts: a clerk records each turn at the desk, and replies wait until what they tell of
+//! is kept.
 #![tactic(auto)]
 
 mod clerk;

@@ -33,7 +33,8 @@ pub enum TalkFault {
     Journal,
 }
 
-/// One end of a connection, the text of records that all share, and the writer of its replies, ahead of which they wait.
+/// One end of a connection, the text of records that all share, and the writer of its replies, ahead of which they
+/// wait.
 pub struct Talk<
     'a,
     W: Wait,
@@ -168,7 +169,8 @@ impl<'a, W: Wait, C: Clock + Drop, D: Device + Drop, R: Naming, K: Naming + Ahea
         self.hand_on()
     }
 
-    // Tells a reply: it waits where there is room; else all that is due is kept first, and it goes out at once behind what waits.
+    // Tells a reply: it waits where there is room; else all that is due is kept first, and it goes out at once behind
+    // what waits.
     fn tell(&mut self, reply: &Reply) -> Result<(), TalkFault>
         ensures ok { OnOk result (Tells O.taken self.old (reply_text reply.now) self.new) }
         ensures err { OnErr result (BreaksOff O.taken self.old (reply_text reply.now) self.new) }

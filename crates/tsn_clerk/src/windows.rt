@@ -20,8 +20,8 @@ const CHUNK: usize = 65_536;
 /// The most reads of a connection.
 const READS: u64 = 4_294_967_296;
 
-/// Answers each line of the input, with at most 2^32 reads. Before each read and at the end all that is due is kept, and
-/// then all replies are handed on.
+/// Answers each line of the input, with at most 2^32 reads. Before each read and at the end all that is due is kept,
+/// and then all replies are handed on.
 pub fn talk_on<
     W: Wait,
     C: Clock + Drop,

@@ -17,8 +17,10 @@ pub line_fits : (last stamp line : List ℕ) → IsStamp stamp → IsLine line
 line_fits last stamp line word is = stamped_fits last stamp line word is.free is.short
 
 -- Lines more, each with the stamp.
-pub all_more : (had first stamp : List ℕ) (settled others : List Recorded) (lines : List (List ℕ)) (k : Keeping) → IsStamp stamp → All IsLine lines
-    → HasEntered had first settled others k → HasEntered had first settled (others ++ stamped stamp lines) (with_all (stamped stamp lines) k)
+pub all_more : (had first stamp : List ℕ) (settled others : List Recorded) (lines : List (List ℕ)) (k : Keeping) → IsStamp stamp
+    → All IsLine lines
+    → HasEntered had first settled others k
+    → HasEntered had first settled (others ++ stamped stamp lines) (with_all (stamped stamp lines) k)
 all_more had first stamp settled others [] k word all h =
     let P : List Recorded → Type 0 = λ rs. HasEntered had first settled rs k in subst P (sym (append-nil others)) h
 all_more had first stamp settled others (line ∷ lines) k word all h =
@@ -50,8 +52,10 @@ rests_more had first stamp kept lines k new word all rests is =
     record {
       works = ap (λ (k : Keeping). k.works) is ∙ (with_all-works more k ∙ rests.works);
       recorded = rs ++ more;
-      entered = subst P (sym is) (all_settled had first rs more (with_all more k) (all_more had first stamp rs [] lines k word all rests.entered));
-      commands = commands_of-append rs more ∙ (ap (λ ls. ls ++ commands_of more) rests.commands ∙ ap (λ ls. kept ++ ls) (commands_of-stamped stamp lines));
+      entered = subst P (sym is) (all_settled had first rs more (with_all more k)
+          (all_more had first stamp rs [] lines k word all rests.entered));
+      commands = commands_of-append rs more
+          ∙ (ap (λ ls. ls ++ commands_of more) rests.commands ∙ ap (λ ls. kept ++ ls) (commands_of-stamped stamp lines));
     }
 
 -- A keeper that nothing was entered into rests with no line.

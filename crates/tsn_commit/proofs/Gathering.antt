@@ -66,22 +66,24 @@ pub record First (text line rest : List ℕ) : Type 0 where
   pub line_is : IsLine line
   pub others : AreLines rest
 
-module _ (text line rest : List ℕ) (are : AreLines text) (free : All (λ b. b ≢ line_feed) line) (cut : text ≡ line ++ line_feed ∷ rest) where
-  first_is : lines_in text ≡ line ∷ lines_in rest
-  first_is = ap lines_in cut ∙ lines_in-line line rest free
+module _ (text line rest : List ℕ) (are : AreLines text) (free : All (λ b. b ≢ line_feed) line) (cut : text ≡ line ++ line_feed ∷ rest)
+  where
+    first_is : lines_in text ≡ line ∷ lines_in rest
+    first_is = ap lines_in cut ∙ lines_in-line line rest free
 
-  pub first_of : First text line rest
-  first_of =
-      let all = All-same IsLine (line ∷ lines_in rest) (lines_in text) (sym first_is) are.lines in
-      let joined : line ++ line_feed ∷ lines_text (lines_in rest) ≡ line ++ line_feed ∷ rest = ap lines_text (sym first_is) ∙ are.ended ∙ cut in
-      record {
-        is = first_is;
-        line_is = All-head IsLine line (lines_in rest) all;
-        others = record {
-          ended = (same_parts line_feed line (lines_text (lines_in rest)) line rest free free joined).1;
-          lines = All-tail IsLine line (lines_in rest) all;
-        };
-      }
+    pub first_of : First text line rest
+    first_of =
+        let all = All-same IsLine (line ∷ lines_in rest) (lines_in text) (sym first_is) are.lines in
+        let joined : line ++ line_feed ∷ lines_text (lines_in rest) ≡ line ++ line_feed ∷ rest = ap lines_text (sym first_is) ∙ are.ended
+        ∙ cut in
+        record {
+          is = first_is;
+          line_is = All-head IsLine line (lines_in rest) all;
+          others = record {
+            ended = (same_parts line_feed line (lines_text (lines_in rest)) line rest free free joined).1;
+            lines = All-tail IsLine line (lines_in rest) all;
+          };
+        }
 
 no_lines : (text : List ℕ) (lines : List (List ℕ)) → lines_text lines ≡ text → All (λ b. b ≢ line_feed) text → lines ≡ []
 no_lines text [] is free = refl
@@ -99,7 +101,8 @@ module _ (text : List ℕ) (r : Option ℕ) (are : AreLines text) (answer : IsFi
       let first = found line_feed text text refl r answer k is in
       let P : List ℕ → Type 0 = λ rest. First text (take k text) rest in
       subst P (sym (take_rest text (k + 1)))
-      (first_of text (take k text) (drop (k + 1) text) are (free_front line_feed text k first.before) (split_at line_feed text k first.inside first.here))
+      (first_of text (take k text) (drop (k + 1) text) are (free_front line_feed text k first.before)
+      (split_at line_feed text k first.inside first.here))
 
   pub no_cut : r ≡ None → lines_in text ≡ []
   no_cut is = none_in text are (missing line_feed text text refl r answer is)

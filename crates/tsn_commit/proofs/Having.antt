@@ -22,14 +22,16 @@ has_more text front line b h =
     subst P (sym b.1) (Contains-append_left front b.0 line h)
 
 -- A keeper at rest that began with these bytes, and whose lines have two, keeps both.
-pub keeps_both : (had first : List ℕ) (lines : List (List ℕ)) (old k : Keeping) (one other : List ℕ) → Begins had first old → Rests had first lines k
+pub keeps_both : (had first : List ℕ) (lines : List (List ℕ)) (old k : Keeping) (one other : List ℕ) → Begins had first old
+    → Rests had first lines k
     → Contains lines one → Contains lines other → KeepsBoth old.kept old.last k.kept one other
 keeps_both had first lines old k one other begins rests has_one has_other =
     let rs = rests.recorded in
     let Q : List ℕ → Type 0 = λ d. AreRecordedAfter d rs in
     record {
       recorded = rs;
-      kept_is = rests.entered.kept ∙ (ap (λ h. h ++ text_after first rs) (sym begins.kept_is) ∙ ap (λ d. old.kept ++ text_after d rs) (sym begins.last_is));
+      kept_is = rests.entered.kept ∙ (ap (λ h. h ++ text_after first rs) (sym begins.kept_is)
+          ∙ ap (λ d. old.kept ++ text_after d rs) (sym begins.last_is));
       well = subst Q (sym begins.last_is) (subst (AreRecordedAfter first) (append-nil rs) rests.entered.recorded);
       has_one = subst (λ (ls : List (List ℕ)). Contains ls one) (sym rests.commands) has_one;
       has_other = subst (λ (ls : List (List ℕ)). Contains ls other) (sym rests.commands) has_other;

@@ -1,12 +1,13 @@
 //! Where threads sleep until they are woken. No contract speaks of it.
 //!
-//! Whoever sleeps looks under a lock whether it has to, and reads the word there. Whoever wakes takes that lock behind the change
-//! for which they wait, and wakes behind it. So a sleeper has seen the change, or the wake comes behind its look.
+//! Whoever sleeps looks under a lock whether it has to, and reads the word there. Whoever wakes takes that lock behind
+//! the change for which they wait, and wakes behind it. So a sleeper has seen the change, or the wake comes behind its
+//! look.
 use std::sync::Wait;
 use std::sync::atomic::{AtomicU64, Ordering};
 
-/// A word that counts how often sleepers were woken, and how many sleep or are about to. Who is about to is counted first, and
-/// sleeps only while the word is as it saw it, so no wake is lost.
+/// A word that counts how often sleepers were woken, and how many sleep or are about to. Who is about to is counted
+/// first, and sleeps only while the word is as it saw it, so no wake is lost.
 #[derive(Drop)]
 pub(crate) struct Bed {
     woken: AtomicU64,

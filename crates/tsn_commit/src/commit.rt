@@ -22,8 +22,8 @@ pub struct Commit<C: Clock, D: Device, R: Naming, K: Naming + Ahead> {
     state: Mutex<State<C, D, R, K>>,
     // What is kept has a lock of its own, so that those who were woken are not in the way of who records.
     told: Mutex<Told<R, K>>,
-    // Who waits for the lines that are handed out sleeps in one of the two, and who waits for later ones in the other; with each
-    // handing out they change their parts.
+    // Who waits for the lines that are handed out sleeps in one of the two, and who waits for later ones in the other;
+    // with each handing out they change their parts.
     even: Bed,
     odd: Bed,
     // Who waits for room sleeps here.
@@ -31,8 +31,8 @@ pub struct Commit<C: Clock, D: Device, R: Naming, K: Naming + Ahead> {
 }
 
 impl<C: Clock + Drop, D: Device + Drop, R: Naming, K: Naming + Ahead> Commit<C, D, R, K> {
-    /// Over a keeper at rest, the clock that stamps its lines, and two texts that were just opened. It takes all memory that it
-    /// ever needs, two mebibytes.
+    /// Over a keeper at rest, the clock that stamps its lines, and two texts that were just opened. It takes all memory
+    /// that it ever needs, two mebibytes.
     pub fn new(
         alloc: Global,
         keeper: Keeper<D>,
@@ -59,9 +59,9 @@ impl<C: Clock + Drop, D: Device + Drop, R: Naming, K: Naming + Ahead> Commit<C, 
         })
     }
 
-    /// Records a command line behind this front, which is all that was recorded: so who records in turns, and keeps the front of
-    /// the last record, knows all that is recorded. It waits for the lock, which nobody holds while the device works, and,
-    /// where too much waits for the device, for that.
+    /// Records a command line behind this front, which is all that was recorded: so who records in turns, and keeps the
+    /// front of the last record, knows all that is recorded. It waits for the lock, which nobody holds while the device
+    /// works, and, where too much waits for the device, for that.
     pub fn record<W: Wait>(
         &self,
         rt: &W,
@@ -102,8 +102,8 @@ impl<C: Clock + Drop, D: Device + Drop, R: Naming, K: Naming + Ahead> Commit<C, 
         self.state.lock(rt).recorded()
     }
 
-    /// Waits until all of the front is kept. What is kept then begins with it. Where it is kept already nobody is waited for
-    /// who is at the device. Behind a call of the device that failed nothing further is kept.
+    /// Waits until all of the front is kept. What is kept then begins with it. Where it is kept already nobody is
+    /// waited for who is at the device. Behind a call of the device that failed nothing further is kept.
     pub fn settle<W: Wait>(&self, rt: &W, mine: &Front<R>) -> Result<Front<K>, Stopped>
         ensures { IfOk result (λ kept. BeginsWith kept mine.now) }
     {
@@ -131,8 +131,8 @@ impl<C: Clock + Drop, D: Device + Drop, R: Naming, K: Naming + Ahead> Commit<C, 
         self.full.wake_all();
     }
 
-    // Has all that waits be kept, with no lock held meanwhile; or, where somebody is at it, sleeps in the bed until that is done,
-    // or until somebody has to go on.
+    // Has all that waits be kept, with no lock held meanwhile; or, where somebody is at it, sleeps in the bed until
+    // that is done, or until somebody has to go on.
     fn turn<W: Wait>(&self, rt: &W, mut state: MutexGuard<'_, State<C, D, R, K>>, bed: &Bed) {
         let Some(job) = state.hand_out() else {
             let seen = bed.woken();
@@ -165,8 +165,8 @@ impl<C: Clock + Drop, D: Device + Drop, R: Naming, K: Naming + Ahead> Commit<C, 
         if is_odd { &self.odd } else { &self.even }
     }
 
-    /// The keeper, unless the device has failed, and all that its journal keeps of what was recorded, as a front of the kept
-    /// text. What was recorded and never settled may be lacking.
+    /// The keeper, unless the device has failed, and all that its journal keeps of what was recorded, as a front of the
+    /// kept text. What was recorded and never settled may be lacking.
     pub fn into_keeper(self) -> Option<(Keeper<D>, Front<K>)>
         ensures { IfSome result (λ r. Rests K.had K.digest r.1 r.0) }
     {

@@ -12,8 +12,8 @@ use tsn_device::{Device, Failed};
 use tsn_history::{Book, Front, Naming};
 use tsn_keeping::{Clock, Keeper};
 
-/// What stands ahead of the kept text: the bytes that the device had, and the digest with which they end. Each call of a program
-/// picks it.
+/// What stands ahead of the kept text: the bytes that the device had, and the digest with which they end. Each call of
+/// a program picks it.
 pub trait Ahead {
     ghost use Rattle.std.specs.Prelude.{ℕ, List};
 
@@ -30,8 +30,8 @@ impl Ahead for Brand {
     ghost digest = { [] };
 }
 
-/// A keeper at rest, with the clock for its lines, and the kept text with the front of it that has just these. A contract sees the
-/// front. Nobody else adds to that text.
+/// A keeper at rest, with the clock for its lines, and the kept text with the front of it that has just these. A
+/// contract sees the front. Nobody else adds to that text.
 #[derive(Drop)]
 pub(crate) struct Scribe<C: Clock, D: Device, K: Naming + Ahead> {
     pub(crate) keeper: Keeper<D>,

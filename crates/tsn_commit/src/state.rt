@@ -26,8 +26,8 @@ pub enum RecordFault {
     Behind,
 }
 
-/// What is recorded, which a contract sees: the part that was handed out to be kept, and the rest, which waits. The scribe,
-/// while nobody is at it, has kept just what was handed out.
+/// What is recorded, which a contract sees: the part that was handed out to be kept, and the rest, which waits. The
+/// scribe, while nobody is at it, has kept just what was handed out.
 #[derive(Drop)]
 pub(crate) struct State<C: Clock, D: Device, R: Naming, K: Naming + Ahead> {
     records: Front<R>,
@@ -82,7 +82,8 @@ impl<C: Clock + Drop, D: Device + Drop, R: Naming, K: Naming + Ahead> State<C, D
         })
     }
 
-    /// Records a line behind this front, and gives the front that ends with it; none where there is no room for the line yet.
+    /// Records a line behind this front, and gives the front that ends with it; none where there is no room for the
+    /// line yet.
     pub(crate) fn record(
         &mut self,
         book: &Book<R>,
@@ -118,7 +119,8 @@ impl<C: Clock + Drop, D: Device + Drop, R: Naming, K: Naming + Ahead> State<C, D
         self.records.again()
     }
 
-    /// Whether the front is handed out, all of it. Then one that is not is in the other half of what is recorded, which waits.
+    /// Whether the front is handed out, all of it. Then one that is not is in the other half of what is recorded, which
+    /// waits.
     pub(crate) fn has_handed(&self, mine: &Front<R>) -> bool {
         self.handed.covers(mine)
     }
@@ -153,8 +155,8 @@ impl<C: Clock + Drop, D: Device + Drop, R: Naming, K: Naming + Ahead> State<C, D
         })
     }
 
-    /// Takes the scribe back, and says whether it has kept all that was handed out. (So it always has, since one has the scribe
-    /// at a time; if not, it is let go.)
+    /// Takes the scribe back, and says whether it has kept all that was handed out. (So it always has, since one has
+    /// the scribe at a time; if not, it is let go.)
     pub(crate) fn back(&mut self, done: Done<C, D, R, K>) -> bool
         ensures { self.new ≡ self.old }
     {

@@ -34,8 +34,8 @@ pub fn keep<C: Clock + Drop, D: Device + Drop, R: Naming, K: Naming + Ahead, W: 
     unreachable!()
 }
 
-/// Two threads record and settle a line each. Where both were told that theirs is kept, and the keeper comes back, its journal
-/// surely keeps both.
+/// Two threads record and settle a line each. Where both were told that theirs is kept, and the keeper comes back, its
+/// journal surely keeps both.
 pub fn keep_both<
     C: Clock + Drop + Send,
     D: Device + Drop + Send,

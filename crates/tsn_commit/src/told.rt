@@ -6,8 +6,8 @@ use crate::state::Stopped;
 use std::marker::Model;
 use tsn_history::{Front, Naming};
 
-/// A front of what is recorded, that of the kept text which is the same, and whether no more will be kept. A contract sees the
-/// front.
+/// A front of what is recorded, that of the kept text which is the same, and whether no more will be kept. A contract
+/// sees the front.
 #[derive(Drop)]
 pub(crate) struct Told<R: Naming, K: Naming> {
     pub(crate) records: Front<R>,
@@ -26,8 +26,8 @@ impl<R: Naming, K: Naming> Model for Told<R, K> {
 }
 
 impl<R: Naming, K: Naming> Told<R, K> {
-    /// What is kept, where that begins with this front; that it never will, where the device has failed; and none while it is
-    /// still to be kept.
+    /// What is kept, where that begins with this front; that it never will, where the device has failed; and none while
+    /// it is still to be kept.
     pub(crate) fn outcome(&self, mine: &Front<R>) -> Option<Result<Front<K>, Stopped>>
         ensures { IfSome result (λ r. IfOk r (λ kept. BeginsWith kept mine.now)) }
     {

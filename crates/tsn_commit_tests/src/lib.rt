@@ -1,5 +1,5 @@
-//! Tests of `tsn_commit` over its public calls alone, with a device in memory: each of its calls fails in turn, two threads record
-//! at once, and more is recorded than may wait.
+//! Tests of `tsn_commit` over its public calls alone, with a device in memory: each of its calls fails in turn, two
+//! threads record at once, and more is recorded than may wait.
 //!
 //! They stand beside the crate and not in it, so that proving them does not prove the crate again.
 #![tactic(auto)]

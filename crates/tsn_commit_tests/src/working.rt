@@ -144,8 +144,8 @@ fn keep_in_two<R: Naming + Send + Sync, K: Naming + Ahead + Send + Sync, W: Thre
     one && other
 }
 
-/// Four threads record a line each, two of them the first and two the other, so often, and each time wait until it is kept. What
-/// is kept then, if that is told.
+/// Four threads record a line each, two of them the first and two the other, so often, and each time wait until it is
+/// kept. What is kept then, if that is told.
 pub fn keep_in_four<
     R: Naming + Send + Sync,
     K: Naming + Ahead + Send + Sync,

@@ -45,11 +45,13 @@ each_own [] d = tt
 each_own (p ∷ ps) d = (
   ap (λ b. cond b (Some p) (part_on p.key ps)) (same_itself p.key),
   each_weaker (λ x. part_on x.key ps ≡ Some x) (λ x. part_on x.key (p ∷ ps) ≡ Some x)
-      (λ x is. ap (λ b. cond b (Some p) (part_on x.key ps)) (not_again p.key (keys_of ps) d.0 x.key (part_on_some x.key ps x is).there) ∙ is)
+      (λ x is. ap (λ b. cond b (Some p) (part_on x.key ps)) (not_again p.key (keys_of ps) d.0 x.key (part_on_some x.key ps x is).there)
+      ∙ is)
       ps (each_own ps d.1),
 )
 
-pub each_both : {A : Type 0} (P Q R : A → Type 0) → ((x : A) → P x → Q x → R x) → (xs : List A) → AllByRecursion P xs → AllByRecursion Q xs → AllByRecursion R xs
+pub each_both : {A : Type 0} (P Q R : A → Type 0) → ((x : A) → P x → Q x → R x) → (xs : List A) → AllByRecursion P xs → AllByRecursion Q xs
+    → AllByRecursion R xs
 each_both P Q R f [] g h = tt
 each_both P Q R f (x ∷ xs) g h = (f x g.0 h.0, each_both P Q R f xs g.1 h.1)
 
@@ -62,7 +64,8 @@ all_pass t [] h = refl
 all_pass t (x ∷ xs) h = and_from (t x) (list_all t xs) h.0 (all_pass t xs h.1)
 
 -- where a test finds nothing, no entry passes it
-pub none_found : (t : Key × Record → Bool) (es : List (Key × Record)) → find t es ≡ None → (q : Key) (r : Record) → find_entry key_cmp q es ≡ Some r → t (q, r) ≡ false
+pub none_found : (t : Key × Record → Bool) (es : List (Key × Record)) → find t es ≡ None → (q : Key) (r : Record)
+    → find_entry key_cmp q es ≡ Some r → t (q, r) ≡ false
 none_found t [] h q r is = (cc)
 none_found t (e ∷ es) h q r is = by_bool (t e)
     (λ yes. let never : Some e ≡ None = sym (ap (λ b. cond b (Some e) (find t es)) yes) ∙ h in (cc))
@@ -77,20 +80,24 @@ none_found t (e ∷ es) h q r is = by_bool (t e)
 -- a value after that may stand at its key, or none, among the changed keys ks
 abbrev pub IsSound : Limits → List Key → Configuration → Configuration → Key → Option Record → Option Record → Type 0
 IsSound l ks c d k b (Some r) = RecordInRange r × HoldsKey l k × HoldsRecord l k r × ((q : Key) → has (refs r) q ≡ true → IsSome (get d q))
-IsSound l ks c d k b None = IsSome b → (not (is_port k) ≡ true) × ((q : Key) (r : Record) → has ks q ≡ false → get c q ≡ Some r → has (refs r) k ≡ false)
+IsSound l ks c d k b None =
+    IsSome b → (not (is_port k) ≡ true) × ((q : Key) (r : Record) → has ks q ≡ false → get c q ≡ Some r → has (refs r) k ≡ false)
 
 abbrev pub AreSound : Limits → Configuration → List Part → Type 0
 AreSound l c ps = AllByRecursion (λ p. IsSound l (keys_of ps) c (put_all c ps) p.key p.before p.after) ps
 
-pub beside_none : (ks : List Key) (c : Configuration) (k : Key) → referrer_beside ks c k ≡ None → (q : Key) (r : Record) → has ks q ≡ false → get c q ≡ Some r → has (refs r) k ≡ false
+pub beside_none : (ks : List Key) (c : Configuration) (k : Key) → referrer_beside ks c k ≡ None → (q : Key) (r : Record) → has ks q ≡ false
+    → get c q ≡ Some r → has (refs r) k ≡ false
 beside_none ks c k h q r off is =
-    let fails : (has (refs r) k && not (has ks q)) ≡ false = none_found (λ e. has (refs e.1) k && not (has ks e.0)) (entries c) (map_none (λ e. Referred e.0) _ h) q r (sym (get-entries c q) ∙ is) in
+    let fails : (has (refs r) k && not (has ks q)) ≡ false = none_found (λ e. has (refs e.1) k && not (has ks e.0)) (entries c)
+    (map_none (λ e. Referred e.0) _ h) q r (sym (get-entries c q) ∙ is) in
     by_bool (has (refs r) k)
     (λ yes. let never : true ≡ false = sym (ap not off) ∙ sym (ap (λ b. b && not (has ks q)) yes) ∙ fails in (cc))
     (λ no. no)
 
 -- the test answers true only for sound values
-pub sound_from : (l : Limits) (ks : List Key) (c d : Configuration) (k : Key) (b v : Option Record) → IfSome v RecordInRange → keeps_value l ks c d k b v ≡ true → IsSound l ks c d k b v
+pub sound_from : (l : Limits) (ks : List Key) (c d : Configuration) (k : Key) (b v : Option Record) → IfSome v RecordInRange
+    → keeps_value l ks c d k b v ≡ true → IsSound l ks c d k b v
 sound_from l ks c d k b v ranges h = grind (arith, each_none, none_of, and_parts, unless-None, none_dangling, beside_none)
 
 module _ (l : Limits) (c : Configuration) (kept : IsWellKept l c) (ps : List Part) where
@@ -104,23 +111,27 @@ module _ (l : Limits) (c : Configuration) (kept : IsWellKept l c) (ps : List Par
     stood : (q : Key) (p : Part) → part_on q ps ≡ Some p → get c q ≡ p.before
     stood q p is = ap (get c) (part_on_some q ps p is).key ∙ each_part (λ p. get c p.key ≡ p.before) q ps p is stands
 
-    sound_of : (q : Key) (p : Part) (v : Option Record) → part_on q ps ≡ Some p → p.after ≡ v → IsSound l (keys_of ps) c (put_all c ps) q p.before v
+    sound_of : (q : Key) (p : Part) (v : Option Record) → part_on q ps ≡ Some p → p.after ≡ v
+        → IsSound l (keys_of ps) c (put_all c ps) q p.before v
     sound_of q p v is after =
         subst (λ v. IsSound l (keys_of ps) c (put_all c ps) q p.before v) after
         (subst (λ k. IsSound l (keys_of ps) c (put_all c ps) k p.before p.after) (sym (part_on_some q ps p is).key)
         (each_part (λ p. IsSound l (keys_of ps) c (put_all c ps) p.key p.before p.after) q ps p is sound))
 
-    sound_at : (q : Key) (p : Part) (r : Record) → part_on q ps ≡ Some p → get (put_all c ps) q ≡ Some r → IsSound l (keys_of ps) c (put_all c ps) q p.before (Some r)
+    sound_at : (q : Key) (p : Part) (r : Record) → part_on q ps ≡ Some p → get (put_all c ps) q ≡ Some r
+        → IsSound l (keys_of ps) c (put_all c ps) q p.before (Some r)
     sound_at q p r is now = sound_of q p (Some r) is (sym (at q p is) ∙ now)
 
     -- a key that was there is there, or went soundly
     stays : (q : Key) (p : Part) → part_on q ps ≡ Some p → IsSome (get c q)
-        → ((not (is_port q) ≡ true) × ((k : Key) (r : Record) → has (keys_of ps) k ≡ false → get c k ≡ Some r → has (refs r) q ≡ false) → ⊥) → IsSome (get (put_all c ps) q)
+        → ((not (is_port q) ≡ true) × ((k : Key) (r : Record) → has (keys_of ps) k ≡ false → get c k ≡ Some r → has (refs r) q ≡ false) → ⊥)
+        → IsSome (get (put_all c ps) q)
     stays q p is was never = by_option p.after
         (λ gone. absurd (never (sound_of q p None is gone (ap is_some (sym (stood q p is)) ∙ was))))
         (λ r some. ap is_some (at q p is ∙ some))
 
-    referred_still : (k : Key) (r : Record) (q : Key) → part_on k ps ≡ None → get c k ≡ Some r → has (refs r) q ≡ true → IsSome (get (put_all c ps) q)
+    referred_still : (k : Key) (r : Record) (q : Key) → part_on k ps ≡ None → get c k ≡ Some r → has (refs r) q ≡ true
+        → IsSome (get (put_all c ps) q)
     referred_still k r q none old ref = by_option (part_on q ps)
         (λ untouched. ap is_some (same_at q untouched) ∙ kept.referred k r q old ref)
         (λ p is. stays q p is (kept.referred k r q old ref)
@@ -163,13 +174,20 @@ module _ (l : Limits) (c : Configuration) (kept : IsWellKept l c) (ps : List Par
         never_gone k gone (after.referred e.0 e.1 k stays_e both.0))
       where
         not_on : (q : Key) → not (has (keys_of ps) q) ≡ true → part_on q ps ≡ None
-        not_on q h = by_bool (has (keys_of ps) q) (λ yes. let never : false ≡ true = sym (ap not yes) ∙ h in absurd (cc)) (λ no. part_on_none q ps no)
+        not_on q h = by_bool (has (keys_of ps) q) (λ yes. let never : false ≡ true = sym (ap not yes) ∙ h in
+            absurd (cc)) (λ no. part_on_none q ps no)
 
-    passes : (k : Key) (b v : Option Record) → get c k ≡ b → get (put_all c ps) k ≡ v → keeps_value l (keys_of ps) c (put_all c ps) k b v ≡ true
+    passes : (k : Key) (b v : Option Record) → get c k ≡ b → get (put_all c ps) k ≡ v
+        → keeps_value l (keys_of ps) c (put_all c ps) k b v ≡ true
     passes k b (Some r) was now =
         let h = after.within k r now in
         let there : (q : Key) → has (refs r) q ≡ true → IsSome (get (put_all c ps) q) = λ q ref. after.referred k r q now ref in
-        rw (of_kind l k r h.1, test_holds l k h.0, no_limits l (put_all c ps) after k r h.1 there, no_cause (λ q. is_some (get (put_all c ps) q)) Dangling (refs r) there) refl
+        rw (
+          of_kind l k r h.1,
+          test_holds l k h.0,
+          no_limits l (put_all c ps) after k r h.1 there,
+          no_cause (λ q. is_some (get (put_all c ps) q)) Dangling (refs r) there,
+        ) refl
     passes k None None was now = refl
     passes k (Some s) None was now = and_from _ _ (no_port k s was now) (ap is_none (none_beside k now))
 
@@ -178,10 +196,12 @@ module _ (l : Limits) (c : Configuration) (kept : IsWellKept l c) (ps : List Par
     kind_of_value k (Some r) now = of_kind l k r (after.within k r now).1
 
   -- where the values before stand, the test decides whether the map after is well kept
-  pub together_decides : IsDistinct same_key (keys_of ps) → Stands c ps → AreInRange ps → Decides (keep_together l c ps) (IsWellKept l (put_all c ps))
+  pub together_decides : IsDistinct same_key (keys_of ps) → Stands c ps → AreInRange ps
+      → Decides (keep_together l c ps) (IsWellKept l (put_all c ps))
   together_decides distinct stands ranges = (
     λ h. kept_together stands
-        (each_both (λ p. IfSome p.after RecordInRange) (λ p. keeps_part l c ps p ≡ true) (λ p. IsSound l (keys_of ps) c (put_all c ps) p.key p.before p.after)
+        (each_both (λ p. IfSome p.after RecordInRange) (λ p. keeps_part l c ps p ≡ true)
+        (λ p. IsSound l (keys_of ps) c (put_all c ps) p.key p.before p.after)
         (λ p r t. sound_from l (keys_of ps) c (put_all c ps) p.key p.before p.after r t) ps ranges (each_passes (keeps_part l c ps) ps h)),
     λ after. all_pass (keeps_part l c ps) ps
         (each_both (λ p. part_on p.key ps ≡ Some p) (λ p. get c p.key ≡ p.before) (λ p. keeps_part l c ps p ≡ true)
@@ -194,4 +214,5 @@ module _ (l : Limits) (c : Configuration) (kept : IsWellKept l c) (ps : List Par
   -- the values after of a change that fits are of their keys' kinds
   pub after_kinds : Fits l c ps → AreOfKinds ps
   after_kinds fits =
-      each_weaker (λ p. part_on p.key ps ≡ Some p) (λ p. IsOfKind p.key p.after) (λ p own. kind_of_value fits.kept p.key p.after (at p.key p own)) ps (each_own ps fits.distinct)
+      each_weaker (λ p. part_on p.key ps ≡ Some p) (λ p. IsOfKind p.key p.after)
+      (λ p own. kind_of_value fits.kept p.key p.after (at p.key p own)) ps (each_own ps fits.distinct)

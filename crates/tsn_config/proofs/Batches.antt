@@ -33,7 +33,8 @@ pub one_more : (o p : Option Refusal) (ps : List (Option Refusal)) → lesser (l
 one_more o p ps = ap (λ q. lesser (lesser o q) (least ps)) (sym (lesser-none p)) ∙ sym (least-append (o ∷ p ∷ []) ps)
 
 module _ (l : Limits) (c : Configuration) (b : List Edit) where
-  sound_put : (e : Edit) → EditInRange e → own_cause l c b e ≡ None → IsSound l (edited_keys b) c (result c b) (key_of e) (get c (key_of e)) (value_of e)
+  sound_put : (e : Edit) → EditInRange e → own_cause l c b e ≡ None
+      → IsSound l (edited_keys b) c (result c b) (key_of e) (get c (key_of e)) (value_of e)
   sound_put (Create k r) ranges h = search (rules, each_none, unless-None, none_dangling)
   sound_put (Replace k r) ranges h = search (rules, each_none, unless-None, none_dangling)
   sound_put (Remove k) ranges h =
@@ -51,18 +52,26 @@ stand : (c : Configuration) (b : List Edit) → Stands c (map (λ e. part_in c e
 stand c [] = tt
 stand c (e ∷ b) = (refl, stand c b)
 
-pub batch_fits : (l : Limits) (c : Configuration) → IsWellKept l c → (b : List Edit) → IsBatch b → EditsInRange b → refusal l c b ≡ None → Fits l c (change_of c b)
+pub batch_fits : (l : Limits) (c : Configuration) → IsWellKept l c → (b : List Edit) → IsBatch b → EditsInRange b → refusal l c b ≡ None
+    → Fits l c (change_of c b)
 batch_fits l c kept b is ranges h =
     let ps = map (λ e. part_in c e) b in
     let sound : AreSound l c ps =
-    subst (λ (t : List Key × Configuration). AllByRecursion (λ p. IsSound l t.0 c t.1 p.key p.before p.after) ps) (λ i. (sym (keys_of-parts c b) i, sym (put_parts c c b) i))
+    subst (λ (t : List Key × Configuration). AllByRecursion (λ p. IsSound l t.0 c t.1 p.key p.before p.after) ps)
+    (λ i. (sym (keys_of-parts c b) i, sym (put_parts c c b) i))
     (each_sound l c b b ranges (sym (batch_refusal-first l c b) ∙ h)) in
-    fits_in_order l c ps (record { distinct = distinct_parts c b is; stands = stand c b; kept = kept_together l c kept ps (stand c b) sound })
+    fits_in_order l c ps (record {
+      distinct = distinct_parts c b is;
+      stands = stand c b;
+      kept = kept_together l c kept ps (stand c b) sound;
+    })
 
 -- edits of which e is the first, and fs are the others
 module _ (es fs : List Edit) (e : Edit) (is : es ≡ e ∷ fs) where
   pub result_at : (c : Configuration) (k : Key) → same_key k (key_of e) ≡ true → get (result c es) k ≡ value_of e
-  result_at c k same = ap (λ es. get (result c es) k) is ∙ get-put (result c fs) (key_of e) (value_of e) k ∙ ap (λ b. cond b (value_of e) (get (result c fs) k)) same
+  result_at c k same = ap (λ es. get (result c es) k) is ∙ get-put (result c fs) (key_of e) (value_of e) k
+      ∙ ap (λ b. cond b (value_of e) (get (result c fs) k)) same
 
   pub result_beside : (c : Configuration) (k : Key) → same_key k (key_of e) ≡ false → get (result c fs) k ≡ get (result c es) k
-  result_beside c k other = sym (ap (λ es. get (result c es) k) is ∙ get-put (result c fs) (key_of e) (value_of e) k ∙ ap (λ b. cond b (value_of e) (get (result c fs) k)) other)
+  result_beside c k other = sym (ap (λ es. get (result c es) k) is ∙ get-put (result c fs) (key_of e) (value_of e) k
+      ∙ ap (λ b. cond b (value_of e) (get (result c fs) k)) other)

@@ -20,14 +20,17 @@ use Rattle.tsn_config.specs.Keeping.{referrer_beside, refers}
 use Rattle.tsn_config.proofs.Deciding.{find_above, found}
 
 -- a key in a sorted list is above those before it
-above : (x k : Key) (r : Record) (es : List (Key × Record)) → below_all key_cmp x es ≡ true → find_entry key_cmp k es ≡ Some r → is_lt (key_cmp x k) ≡ true
+above : (x k : Key) (r : Record) (es : List (Key × Record)) → below_all key_cmp x es ≡ true → find_entry key_cmp k es ≡ Some r
+    → is_lt (key_cmp x k) ≡ true
 above x k r [] h is = (cc)
 above x k r (e ∷ es) h is = by_bool (same_key k e.0)
     (λ same. ap (λ q. is_lt (key_cmp x q)) (one_key k e.0 same) ∙ (and_parts _ _ h).0)
-    (λ other. above x k r es ((and_parts (is_lt (key_cmp x e.0)) _ h).1) (sym (ap (λ b. cond b (Some e.1) (find_entry key_cmp k es)) other) ∙ is))
+    (λ other. above x k r es ((and_parts (is_lt (key_cmp x e.0)) _ h).1)
+    (sym (ap (λ b. cond b (Some e.1) (find_entry key_cmp k es)) other) ∙ is))
 
 -- the entry that passes a test is found where no lesser one does
-least_found : (t : Key × Record → Bool) (es : List (Key × Record)) → is_sorted key_cmp es ≡ true → (k : Key) (r : Record) → find_entry key_cmp k es ≡ Some r → t (k, r) ≡ true
+least_found : (t : Key × Record → Bool) (es : List (Key × Record)) → is_sorted key_cmp es ≡ true → (k : Key) (r : Record)
+    → find_entry key_cmp k es ≡ Some r → t (k, r) ≡ true
     → ((q : Key) (s : Record) → find_entry key_cmp q es ≡ Some s → is_lt (key_cmp q k) ≡ true → t (q, s) ≡ false) → find t es ≡ Some (k, r)
 least_found t [] h k r is passes least = (cc)
 least_found t (x ∷ es) h k r is passes least = by_bool (same_key k x.0)
@@ -39,14 +42,16 @@ least_found t (x ∷ es) h k r is passes least = by_bool (same_key k x.0)
     (λ other.
     let below = (and_parts _ _ h).0 in
     let in_es : find_entry key_cmp k es ≡ Some r = sym (ap (λ b. cond b (Some x.1) (find_entry key_cmp k es)) other) ∙ is in
-    let fails : t x ≡ false = least x.0 x.1 (ap (λ b. cond b (Some x.1) (find_entry key_cmp x.0 es)) (same_itself x.0)) (above x.0 k r es below in_es) in
+    let fails : t x ≡ false = least x.0 x.1 (ap (λ b. cond b (Some x.1) (find_entry key_cmp x.0 es)) (same_itself x.0))
+    (above x.0 k r es below in_es) in
     ap (λ b. cond b (Some x) (find t es)) fails
     ∙ least_found t es ((and_parts (below_all key_cmp x.0 es) _ h).1) k r in_es passes
     (λ q s at lt. least q s (ap (λ b. cond b (Some x.1) (find_entry key_cmp q es)) (another q s below at) ∙ at) lt))
   where
     another : (q : Key) (s : Record) → below_all key_cmp x.0 es ≡ true → find_entry key_cmp q es ≡ Some s → same_key q x.0 ≡ false
     another q s below at = by_bool (same_key q x.0)
-        (λ same. let never : None ≡ Some s = sym (ap (λ k. find_entry key_cmp k es) (one_key q x.0 same) ∙ find_above x.0 es below) ∙ at in (cc))
+        (λ same. let never : None ≡ Some s = sym (ap (λ k. find_entry key_cmp k es) (one_key q x.0 same) ∙ find_above x.0 es below) ∙ at in
+        (cc))
         (λ no. no)
 
 -- only a filter refers to anything
@@ -57,7 +62,8 @@ module _ (l : Limits) (c : Configuration) (kept : IsWellKept l c) (ks : List Key
   abbrev passes : Key × Record → Bool
   passes e = has (refs e.1) k && not (has ks e.0)
 
-  fails : (q : Key) (r : Record) → get c q ≡ Some r → ((n : ℕ) → q ≡ Filter n → refers (get c (Filter n)) k ≡ true → has ks (Filter n) ≡ true) → passes (q, r) ≡ false
+  fails : (q : Key) (r : Record) → get c q ≡ Some r
+      → ((n : ℕ) → q ≡ Filter n → refers (get c (Filter n)) k ≡ true → has ks (Filter n) ≡ true) → passes (q, r) ≡ false
   fails q r is on = by_bool (has (refs r) k)
       (λ yes.
       let filter = owner l k q r (kept.within q r is).1 yes in
@@ -77,12 +83,16 @@ module _ (l : Limits) (c : Configuration) (kept : IsWellKept l c) (ks : List Key
   refers_by v h = grind arith
 
   -- the filter refers to the key and is none of these, and every lesser one that refers to it is
-  pub one_beside : (n : ℕ) → refers (get c (Filter n)) k ≡ true → has ks (Filter n) ≡ false → ((m : ℕ) → m < n → refers (get c (Filter m)) k ≡ true → has ks (Filter m) ≡ true) → referrer_beside ks c k ≡ Some (Referred (Filter n))
+  pub one_beside : (n : ℕ) → refers (get c (Filter n)) k ≡ true → has ks (Filter n) ≡ false
+      → ((m : ℕ) → m < n → refers (get c (Filter m)) k ≡ true → has ks (Filter m) ≡ true)
+      → referrer_beside ks c k ≡ Some (Referred (Filter n))
   one_beside n is off on =
       let by = refers_by (get c (Filter n)) is in
       ap (option_map (λ e. Referred e.0))
-      (least_found passes (entries c) (of_T _ (entries_sorted c)) (Filter n) by.0 (sym (get-entries c (Filter n)) ∙ by.1) (and_from _ _ by.2 (ap not off))
-      (λ q s at lt. fails q s (get-entries c q ∙ at) (λ m same h. on m (less_is m n (sym (ap (λ q. is_lt (key_cmp q (Filter n))) same) ∙ lt)) h)))
+      (least_found passes (entries c) (of_T _ (entries_sorted c)) (Filter n) by.0 (sym (get-entries c (Filter n)) ∙ by.1)
+      (and_from _ _ by.2 (ap not off))
+      (λ q s at lt. fails q s (get-entries c q ∙ at)
+      (λ m same h. on m (less_is m n (sym (ap (λ q. is_lt (key_cmp q (Filter n))) same) ∙ lt)) h)))
 
 module _ (c : Configuration) (ks : List Key) (k : Key) where
   -- each lesser filter than this that refers to the key is one of these
@@ -92,5 +102,6 @@ module _ (c : Configuration) (ks : List Key) (k : Key) where
   pub below_next : (from next : ℕ) → AreOn from → ((n : ℕ) → from ≤ n → refers (get c (Filter n)) k ≡ true → next ≤ n) → AreOn next
   below_next from next below least n lt h = grind arith
 
-  pub none_left : (from : ℕ) → AreOn from → ((n : ℕ) → from ≤ n → refers (get c (Filter n)) k ≡ true → ⊥) → (n : ℕ) → refers (get c (Filter n)) k ≡ true → has ks (Filter n) ≡ true
+  pub none_left : (from : ℕ) → AreOn from → ((n : ℕ) → from ≤ n → refers (get c (Filter n)) k ≡ true → ⊥) → (n : ℕ)
+      → refers (get c (Filter n)) k ≡ true → has ks (Filter n) ≡ true
   none_left from below least n h = grind arith

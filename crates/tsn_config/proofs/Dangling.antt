@@ -65,18 +65,22 @@ first_some p (e ∷ es) n h = by_bool (eq_by_cmp nat_cmp n e.0)
 
 module _ (c : Configuration) where
   -- entries with no references have no cause
-  skipped : {A : Type 0} (key : ℕ → Key) (rec : A → Record) → ((r : A) → dangling c (rec r) ≡ None) → (es : List (ℕ × A)) (ys : List (Key × Record)) → causes_of c (keyed_rows key rec es ++ ys) ≡ causes_of c ys
+  skipped : {A : Type 0} (key : ℕ → Key) (rec : A → Record) → ((r : A) → dangling c (rec r) ≡ None)
+      → (es : List (ℕ × A)) (ys : List (Key × Record)) → causes_of c (keyed_rows key rec es ++ ys) ≡ causes_of c ys
   skipped key rec none [] ys = refl
-  skipped key rec none (e ∷ es) ys = ap (λ o. option_or o (causes_of c (keyed_rows key rec es ++ ys))) (none e.1) ∙ skipped key rec none es ys
+  skipped key rec none (e ∷ es) ys =
+      ap (λ o. option_or o (causes_of c (keyed_rows key rec es ++ ys))) (none e.1) ∙ skipped key rec none es ys
 
-  none_first : (es : List (ℕ × StreamFilter)) (ys : List (Key × Record)) → first_id (dangles c) es ≡ None → causes_of c (keyed_rows Filter FilterRecord es ++ ys) ≡ causes_of c ys
+  none_first : (es : List (ℕ × StreamFilter)) (ys : List (Key × Record)) → first_id (dangles c) es ≡ None
+      → causes_of c (keyed_rows Filter FilterRecord es ++ ys) ≡ causes_of c ys
   none_first [] ys h = refl
   none_first (e ∷ es) ys h = by_bool (dangles c e.1)
       (λ yes. let never : Some e.0 ≡ None = sym (ap (λ b. cond b (Some e.0) (first_id (dangles c) es)) yes) ∙ h in (cc))
       (λ no. none_or (dangling c (FilterRecord e.1)) (causes_of c (keyed_rows Filter FilterRecord es ++ ys)) no
       ∙ none_first es ys (sym (ap (λ b. cond b (Some e.0) (first_id (dangles c) es)) no) ∙ h))
 
-  first_is : (es : List (ℕ × StreamFilter)) (ys : List (Key × Record)) → is_sorted nat_cmp es ≡ true → (n : ℕ) (r : StreamFilter) → first_id (dangles c) es ≡ Some n → find nat_cmp n es ≡ Some r
+  first_is : (es : List (ℕ × StreamFilter)) (ys : List (Key × Record)) → is_sorted nat_cmp es ≡ true → (n : ℕ) (r : StreamFilter)
+      → first_id (dangles c) es ≡ Some n → find nat_cmp n es ≡ Some r
       → causes_of c (keyed_rows Filter FilterRecord es ++ ys) ≡ dangling c (FilterRecord r)
   first_is [] ys sorted n r h is = (cc)
   first_is (e ∷ es) ys sorted n r h is = by_bool (dangles c e.1)
@@ -84,34 +88,42 @@ module _ (c : Configuration) where
       let same : e.0 ≡ n = (cc) in
       let found : Some e.1 ≡ Some r = sym (ap (λ b. cond b (Some e.1) (find nat_cmp n es)) (equal_itself n e.0 same)) ∙ is in
       let one : e.1 ≡ r = (cc) in
-      some_or (dangling c (FilterRecord e.1)) (causes_of c (keyed_rows Filter FilterRecord es ++ ys)) yes ∙ ap (λ x. dangling c (FilterRecord x)) one)
+      some_or (dangling c (FilterRecord e.1)) (causes_of c (keyed_rows Filter FilterRecord es ++ ys)) yes
+      ∙ ap (λ x. dangling c (FilterRecord x)) one)
       (λ no. let rest : first_id (dangles c) es ≡ Some n = sym (ap (λ b. cond b (Some e.0) (first_id (dangles c) es)) no) ∙ h in
       none_or (dangling c (FilterRecord e.1)) (causes_of c (keyed_rows Filter FilterRecord es ++ ys)) no
       ∙ by_bool (eq_by_cmp nat_cmp n e.0)
-      (λ same. let none : find nat_cmp n es ≡ None = ap (λ x. find nat_cmp x es) (sym (equal_one n e.0 same)) ∙ find_above e.0 es ((and_parts _ _ sorted).0) in
+      (λ same. let none : find nat_cmp n es ≡ None = ap (λ x. find nat_cmp x es) (sym (equal_one n e.0 same))
+      ∙ find_above e.0 es ((and_parts _ _ sorted).0) in
       let never : false ≡ true = sym (ap is_some none) ∙ first_some (dangles c) es n rest in (cc))
-      (λ other. first_is es ys ((and_parts (below_all nat_cmp e.0 es) _ sorted).1) n r rest (sym (ap (λ b. cond b (Some e.1) (find nat_cmp n es)) other) ∙ is)))
+      (λ other. first_is es ys ((and_parts (below_all nat_cmp e.0 es) _ sorted).1) n r rest
+      (sym (ap (λ b. cond b (Some e.1) (find nat_cmp n es)) other) ∙ is)))
 
-module _ (ps : FinMap nat_cmp PortGates) (fs : FinMap nat_cmp StreamFilter) (gs : FinMap nat_cmp StreamGate) (ms : FinMap nat_cmp FlowMeter) where
-  abbrev all : Configuration
-  all = map_of_tables ps fs gs ms
+module _ (ps : FinMap nat_cmp PortGates) (fs : FinMap nat_cmp StreamFilter) (gs : FinMap nat_cmp StreamGate) (ms : FinMap nat_cmp FlowMeter)
+  where
+    abbrev all : Configuration
+    all = map_of_tables ps fs gs ms
 
-  abbrev others : List (Key × Record)
-  others = keyed_rows Gate GateRecord (entries gs) ++ keyed_rows Meter MeterRecord (entries ms)
+    abbrev others : List (Key × Record)
+    others = keyed_rows Gate GateRecord (entries gs) ++ keyed_rows Meter MeterRecord (entries ms)
 
-  of_filters : dangling_cause all ≡ causes_of all (keyed_rows Filter FilterRecord (entries fs) ++ others)
-  of_filters = ap (causes_of all) (entries-map_of_tables ps fs gs ms) ∙ skipped all Port PortRecord (λ r. refl) (entries ps) (keyed_rows Filter FilterRecord (entries fs) ++ others)
+    of_filters : dangling_cause all ≡ causes_of all (keyed_rows Filter FilterRecord (entries fs) ++ others)
+    of_filters = ap (causes_of all) (entries-map_of_tables ps fs gs ms)
+        ∙ skipped all Port PortRecord (λ r. refl) (entries ps) (keyed_rows Filter FilterRecord (entries fs) ++ others)
 
-  no_others : causes_of all others ≡ None
-  no_others =
-      skipped all Gate GateRecord (λ r. refl) (entries gs) (keyed_rows Meter MeterRecord (entries ms))
-      ∙ ap (causes_of all) (sym (append-nil (keyed_rows Meter MeterRecord (entries ms)))) ∙ skipped all Meter MeterRecord (λ r. refl) (entries ms) []
+    no_others : causes_of all others ≡ None
+    no_others =
+        skipped all Gate GateRecord (λ r. refl) (entries gs) (keyed_rows Meter MeterRecord (entries ms))
+        ∙ ap (causes_of all) (sym (append-nil (keyed_rows Meter MeterRecord (entries ms))))
+        ∙ skipped all Meter MeterRecord (λ r. refl) (entries ms) []
 
-  pub dangling_cause-none : first_id (dangles all) (entries fs) ≡ None → dangling_cause all ≡ None
-  dangling_cause-none h = of_filters ∙ none_first all (entries fs) others h ∙ no_others
+    pub dangling_cause-none : first_id (dangles all) (entries fs) ≡ None → dangling_cause all ≡ None
+    dangling_cause-none h = of_filters ∙ none_first all (entries fs) others h ∙ no_others
 
-  pub dangling_cause-first : (n : ℕ) (r : StreamFilter) → first_id (dangles all) (entries fs) ≡ Some n → get fs n ≡ Some r → dangling_cause all ≡ dangling all (FilterRecord r)
-  dangling_cause-first n r h is = of_filters ∙ first_is all (entries fs) others (of_T _ (entries_sorted fs)) n r h (sym (get-entries fs n) ∙ is)
+    pub dangling_cause-first : (n : ℕ) (r : StreamFilter) → first_id (dangles all) (entries fs) ≡ Some n → get fs n ≡ Some r
+        → dangling_cause all ≡ dangling all (FilterRecord r)
+    dangling_cause-first n r h is =
+        of_filters ∙ first_is all (entries fs) others (of_T _ (entries_sorted fs)) n r h (sym (get-entries fs n) ∙ is)
 
-  pub first_there : (n : ℕ) → first_id (dangles all) (entries fs) ≡ Some n → IsSome (get fs n)
-  first_there n h = ap is_some (get-entries fs n) ∙ first_some (dangles all) (entries fs) n h
+    pub first_there : (n : ℕ) → first_id (dangles all) (entries fs) ≡ Some n → IsSome (get fs n)
+    first_there n h = ap is_some (get-entries fs n) ∙ first_some (dangles all) (entries fs) n h

@@ -29,14 +29,16 @@ use Rattle.tsn_config.specs.Keeping.{keeps}
 use Rattle.tsn_config.proofs.Edits.{fits_put, remove_kept, none_refers, map_none}
 
 -- what stands at a key of a well kept map is within the limits
-pub limits_hold : (l : Limits) (c : Configuration) (k : Key) (r : Record) → IsWellKept l (put c k (Some r)) → HoldsKey l k × HoldsRecord l k r
+pub limits_hold : (l : Limits) (c : Configuration) (k : Key) (r : Record) → IsWellKept l (put c k (Some r))
+    → HoldsKey l k × HoldsRecord l k r
 limits_hold l c k r kept = kept.within k r (get-put c k (Some r) k ∙ ap (λ b. cond b (Some r) (get c k)) (same_itself k))
 
 pub none_of : {A : Type 0} (o : Option A) → is_none o ≡ true → o ≡ None
 none_of o h = grind arith
 
 -- no cause where each test holds
-pub no_cause : (test : Key → Bool) (why : Key → Refusal) (ks : List Key) → ((q : Key) → has ks q ≡ true → test q ≡ true) → first_cause (map (λ q. unless (test q) (why q)) ks) ≡ None
+pub no_cause : (test : Key → Bool) (why : Key → Refusal) (ks : List Key) → ((q : Key) → has ks q ≡ true → test q ≡ true)
+    → first_cause (map (λ q. unless (test q) (why q)) ks) ≡ None
 no_cause test why [] h = refl
 no_cause test why (k ∷ ks) h = grind (arith, (no_cause test why ks (λ q is. h q (or_right (same_key q k) _ is))))
 
@@ -55,16 +57,21 @@ find_above k [] h = refl
 find_above k (e ∷ es) h = grind (arith, (find_above k es ((and_parts (is_lt (key_cmp k e.0)) _ h).1)))
 
 -- what a test finds in a sorted list passes it, and stands at its key
-pub found : (p : Key × Record → Bool) (es : List (Key × Record)) → is_sorted key_cmp es ≡ true → (e : Key × Record) → find p es ≡ Some e → (p e ≡ true) × (find_entry key_cmp e.0 es ≡ Some e.1)
+pub found : (p : Key × Record → Bool) (es : List (Key × Record)) → is_sorted key_cmp es ≡ true → (e : Key × Record) → find p es ≡ Some e
+    → (p e ≡ true) × (find_entry key_cmp e.0 es ≡ Some e.1)
 found p [] h e is = (cc)
 found p (x ∷ es) h e is = by_bool (p x)
     (λ yes. let this : Some x ≡ Some e = sym (ap (λ b. cond b (Some x) (find p es)) yes) ∙ is in
-    let same : x ≡ e = (cc) in
-    (ap p (sym same) ∙ yes, subst (λ (y : Key × Record). find_entry key_cmp y.0 (x ∷ es) ≡ Some y.1) same (ap (λ b. cond b (Some x.1) (find_entry key_cmp x.0 es)) (same_itself x.0))))
+    let same : x ≡ e = (cc) in (
+      ap p (sym same) ∙ yes,
+      subst (λ (y : Key × Record). find_entry key_cmp y.0 (x ∷ es) ≡ Some y.1) same
+          (ap (λ b. cond b (Some x.1) (find_entry key_cmp x.0 es)) (same_itself x.0)),
+    ))
     (λ no. let rest = found p es ((and_parts (below_all key_cmp x.0 es) _ h).1) e (sym (ap (λ b. cond b (Some x) (find p es)) no) ∙ is) in (
       rest.0,
       by_bool (same_key e.0 x.0)
-          (λ same. let none : find_entry key_cmp e.0 es ≡ None = ap (λ k. find_entry key_cmp k es) (one_key e.0 x.0 same) ∙ find_above x.0 es ((and_parts _ _ h).0) in
+          (λ same. let none : find_entry key_cmp e.0 es ≡ None = ap (λ k. find_entry key_cmp k es) (one_key e.0 x.0 same)
+          ∙ find_above x.0 es ((and_parts _ _ h).0) in
           let never : None ≡ Some e.1 = sym none ∙ rest.1 in (cc))
           (λ other. ap (λ b. cond b (Some x.1) (find_entry key_cmp e.0 es)) other ∙ rest.1),
     ))
@@ -100,11 +107,14 @@ module _ (l : Limits) (c : Configuration) (kept : IsWellKept l c) where
       ap is_some (sym (get-put c k (Some r) q ∙ ap (λ b. cond b (Some r) (get c q)) (refs_other l k r holds q is))) ∙ at
 
   within_limits : (q : Key) → IsSome (get c q) → holds_key l q ≡ true
-  within_limits q some = by_option (get c q) (λ none. let h : is_some (get c q) ≡ false = ap is_some none in (cc)) (λ s is. test_holds l q (kept.within q s is).0)
+  within_limits q some = by_option (get c q) (λ none. let h : is_some (get c q) ≡ false = ap is_some none in
+      (cc)) (λ s is. test_holds l q (kept.within q s is).0)
 
-  pub no_limits : (k : Key) (r : Record) → HoldsRecord l k r → ((q : Key) → has (refs r) q ≡ true → IsSome (get c q)) → out_of_limits l r ≡ None
+  pub no_limits : (k : Key) (r : Record) → HoldsRecord l k r → ((q : Key) → has (refs r) q ≡ true → IsSome (get c q))
+      → out_of_limits l r ≡ None
   no_limits (Port n) (PortRecord r) h there = unless-true _ _ (le-leb (length r.admin.list) l.list h)
-  no_limits (Filter n) (FilterRecord r) h there = no_cause (holds_key l) field_of (refs (FilterRecord r)) (λ q is. within_limits q (there q is))
+  no_limits (Filter n) (FilterRecord r) h there =
+      no_cause (holds_key l) field_of (refs (FilterRecord r)) (λ q is. within_limits q (there q is))
   no_limits (Gate n) (GateRecord r) h there = unless-true _ _ (le-leb (length r.admin.list) l.list h)
   no_limits (Meter n) (MeterRecord r) h there = refl
   no_limits k r h there = absurd h
@@ -113,7 +123,12 @@ module _ (l : Limits) (c : Configuration) (kept : IsWellKept l c) where
   keeps_put k b r after =
       let h = limits_hold l c k r after in
       let refs_there = there k r after in
-      rw (of_kind l k r h.1, test_holds l k h.0, no_limits k r h.1 refs_there, no_cause (λ q. is_some (get c q)) Dangling (refs r) refs_there) refl
+      rw (
+        of_kind l k r h.1,
+        test_holds l k h.0,
+        no_limits k r h.1 refs_there,
+        no_cause (λ q. is_some (get c q)) Dangling (refs r) refs_there,
+      ) refl
 
   put_keeps : (k : Key) (b : Option Record) (r : Record) → RecordInRange r → keeps l c k b (Some r) ≡ true → IsWellKept l (put c k (Some r))
   put_keeps k b r ranges h = grind (arith, each_none, none_of, and_parts, fits_put, unless-None)
@@ -150,7 +165,8 @@ module _ (l : Limits) (c : Configuration) (kept : IsWellKept l c) where
       subst (IsWellKept l) (sym same) kept
   remove_keeps k (Some s) is h =
       remove_kept l c kept k ((and_parts _ _ h).0)
-      (λ q r at. none_refers k (entries c) (map_none (λ e. Referred e.0) _ (none_of _ ((and_parts (not (is_port k)) _ h).1))) q r (sym (get-entries c q) ∙ at))
+      (λ q r at. none_refers k (entries c) (map_none (λ e. Referred e.0) _ (none_of _ ((and_parts (not (is_port k)) _ h).1))) q r
+      (sym (get-entries c q) ∙ at))
 
   to : (k : Key) (b v : Option Record) → IfSome v RecordInRange → get c k ≡ b → keeps l c k b v ≡ true → IsWellKept l (put c k v)
   to k b None ranges is h = remove_keeps k b is h
@@ -161,6 +177,10 @@ module _ (l : Limits) (c : Configuration) (kept : IsWellKept l c) where
   from k b (Some r) is h = keeps_put k b r h
 
   -- where the value before stands, the test decides whether the change fits
-  pub fits_decides : (e : Part) → IfSome e.after RecordInRange → get c e.key ≡ e.before → Decides (keeps l c e.key e.before e.after) (Fits l c (e ∷ []))
+  pub fits_decides : (e : Part) → IfSome e.after RecordInRange → get c e.key ≡ e.before
+      → Decides (keeps l c e.key e.before e.after) (Fits l c (e ∷ []))
   unfolding IsDistinct
-  fits_decides e ranges is = (λ h. record { distinct = (tt, tt); stands = (is, tt); kept = to e.key e.before e.after ranges is h }, λ f. from e.key e.before e.after is f.kept)
+  fits_decides e ranges is = (
+    λ h. record { distinct = (tt, tt); stands = (is, tt); kept = to e.key e.before e.after ranges is h },
+    λ f. from e.key e.before e.after is f.kept,
+  )

@@ -21,21 +21,25 @@ HoldsKey-from_test l k h = grind arith
 pub HoldsRecord-from_test : (l : Limits) (k : Key) (r : Record) → is_of_kind k r ≡ true → out_of_limits l r ≡ None → HoldsRecord l k r
 HoldsRecord-from_test l k r h o = grind arith
 
-pub none_dangling : (c : Configuration) (ks : List Key) → first_cause (map (λ q. unless (is_some (get c q)) (Dangling q)) ks) ≡ None → (q : Key) → has ks q ≡ true → IsSome (get c q)
+pub none_dangling : (c : Configuration) (ks : List Key) → first_cause (map (λ q. unless (is_some (get c q)) (Dangling q)) ks) ≡ None
+    → (q : Key) → has ks q ≡ true → IsSome (get c q)
 none_dangling c [] h q in' = (cc)
 none_dangling c (k ∷ ks) h q in' =
     elim (same_key q k) as (λ b. same_key q k ≡ b → (b || has ks q) ≡ true → IsSome (get c q)) [
-      | true ↦ λ same _. ap (λ k. is_some (get c k)) (one_key q k same) ∙ unless-None (is_some (get c k)) (Dangling k) ((option_or_parts _ _ h).0)
+      | true ↦ λ same _. ap (λ k. is_some (get c k)) (one_key q k same)
+          ∙ unless-None (is_some (get c k)) (Dangling k) ((option_or_parts _ _ h).0)
       | false ↦ λ _ rest. none_dangling c ks ((option_or_parts _ _ h).1) q rest
     ] refl in'
 
 pub map_none : {A B : Type 0} (f : A → B) (o : Option A) → option_map f o ≡ None → o ≡ None
 map_none f o h = grind arith
 
-pub none_refers : (k : Key) (es : List (Key × Record)) → find (λ e. has (refs e.1) k) es ≡ None → (q : Key) (r : Record) → find_entry key_cmp q es ≡ Some r → has (refs r) k ≡ false
+pub none_refers : (k : Key) (es : List (Key × Record)) → find (λ e. has (refs e.1) k) es ≡ None → (q : Key) (r : Record)
+    → find_entry key_cmp q es ≡ Some r → has (refs r) k ≡ false
 none_refers k [] h q r is = (cc)
 none_refers k (e ∷ es) h q r is =
-    elim (has (refs e.1) k) as (λ b. has (refs e.1) k ≡ b → cond b (Some e) (find (λ e. has (refs e.1) k) es) ≡ None → has (refs r) k ≡ false) [
+    elim (has (refs e.1) k) as (λ b. has (refs e.1) k ≡ b → cond b (Some e) (find (λ e. has (refs e.1) k) es) ≡ None → has (refs r) k
+    ≡ false) [
       | true ↦ λ _ no. (cc)
       | false ↦ λ not_here no.
           elim (same_key q e.0) as (λ b. cond b (Some e.1) (find_entry key_cmp q es) ≡ Some r → has (refs r) k ≡ false) [
@@ -46,22 +50,29 @@ none_refers k (e ∷ es) h q r is =
 
 module _ (l : Limits) (c : Configuration) (kept : IsWellKept l c) where
   still_some : (k : Key) (r : Record) (q : Key) → IsSome (get c q) → IsSome (get (put c k (Some r)) q)
-  still_some k r q h = ap is_some (get-put c k (Some r) q) ∙ elim (same_key q k) as (λ b. is_some (cond b (Some r) (get c q)) ≡ true) [ true ↦ refl | false ↦ h ]
+  still_some k r q h = ap is_some (get-put c k (Some r) q) ∙ elim (same_key q k) as (λ b. is_some (cond b (Some r) (get c q)) ≡ true)
+      [ true ↦ refl | false ↦ h ]
 
-  put_kept : (k : Key) (r : Record) → RecordInRange r → HoldsKey l k → HoldsRecord l k r → ((q : Key) → has (refs r) q ≡ true → IsSome (get c q)) → IsWellKept l (put c k (Some r))
+  put_kept : (k : Key) (r : Record) → RecordInRange r → HoldsKey l k → HoldsRecord l k r
+      → ((q : Key) → has (refs r) q ≡ true → IsSome (get c q)) → IsWellKept l (put c k (Some r))
   put_kept k r ranges holds_k holds_r there = record {
     limits = kept.limits;
     in_range = λ q s is. by_bool (same_key q k)
-        (λ same. let now : r ≡ s = (let e : Some r ≡ Some s = sym (get-put c k (Some r) q ∙ ap (λ b. cond b (Some r) (get c q)) same) ∙ is in (cc)) in
+        (λ same. let now : r ≡ s = (let e : Some r ≡ Some s = sym (get-put c k (Some r) q ∙ ap (λ b. cond b (Some r) (get c q)) same)
+        ∙ is in (cc)) in
         subst (λ (x : Record). RecordInRange x) now ranges)
         (λ other. kept.in_range q s (sym (get-put c k (Some r) q ∙ ap (λ b. cond b (Some r) (get c q)) other) ∙ is));
     within = λ q s is. by_bool (same_key q k)
-        (λ same. let now : r ≡ s = (let e : Some r ≡ Some s = sym (get-put c k (Some r) q ∙ ap (λ b. cond b (Some r) (get c q)) same) ∙ is in (cc)) in
-        (subst (λ x. HoldsKey l x) (sym (one_key q k same)) holds_k, subst (λ (p : Key × Record). HoldsRecord l p.0 p.1) (λ i. (sym (one_key q k same) i, now i)) holds_r))
+        (λ same. let now : r ≡ s = (let e : Some r ≡ Some s = sym (get-put c k (Some r) q ∙ ap (λ b. cond b (Some r) (get c q)) same)
+        ∙ is in (cc)) in (
+          subst (λ x. HoldsKey l x) (sym (one_key q k same)) holds_k,
+          subst (λ (p : Key × Record). HoldsRecord l p.0 p.1) (λ i. (sym (one_key q k same) i, now i)) holds_r,
+        ))
         (λ other. kept.within q s (sym (get-put c k (Some r) q ∙ ap (λ b. cond b (Some r) (get c q)) other) ∙ is));
     ports = λ n low high. still_some k r (Port n) (kept.ports n low high);
     referred = λ q s t is ref. still_some k r t (by_bool (same_key q k)
-        (λ same. let now : r ≡ s = (let e : Some r ≡ Some s = sym (get-put c k (Some r) q ∙ ap (λ b. cond b (Some r) (get c q)) same) ∙ is in (cc)) in
+        (λ same. let now : r ≡ s = (let e : Some r ≡ Some s = sym (get-put c k (Some r) q ∙ ap (λ b. cond b (Some r) (get c q)) same)
+        ∙ is in (cc)) in
         there t (ap (λ x. has (refs x) t) now ∙ ref))
         (λ other. kept.referred q s t (sym (get-put c k (Some r) q ∙ ap (λ b. cond b (Some r) (get c q)) other) ∙ is) ref));
   }
@@ -77,7 +88,8 @@ module _ (l : Limits) (c : Configuration) (kept : IsWellKept l c) where
   not_port : (k : Key) (n : ℕ) → not (is_port k) ≡ true → same_key (Port n) k ≡ false
   not_port k n h = grind arith
 
-  pub remove_kept : (k : Key) → not (is_port k) ≡ true → ((q : Key) (r : Record) → get c q ≡ Some r → has (refs r) k ≡ false) → IsWellKept l (put c k None)
+  pub remove_kept : (k : Key) → not (is_port k) ≡ true → ((q : Key) (r : Record) → get c q ≡ Some r → has (refs r) k ≡ false)
+      → IsWellKept l (put c k None)
   remove_kept k no_port free = record {
     limits = kept.limits;
     in_range = λ q s is. kept.in_range q s (gone k q s is).1;
@@ -85,8 +97,11 @@ module _ (l : Limits) (c : Configuration) (kept : IsWellKept l c) where
     ports = λ n low high. stays k (Port n) (not_port k n no_port) (kept.ports n low high);
     referred = λ q s t is ref.
         let before = (gone k q s is).1 in
-        stays k t (by_bool (same_key t k) (λ same. let a : has (refs s) t ≡ false = ap (has (refs s)) (one_key t k same) ∙ free q s before in (cc)) (λ h. h)) (kept.referred q s t before ref);
+        stays k t (by_bool (same_key t k)
+        (λ same. let a : has (refs s) t ≡ false = ap (has (refs s)) (one_key t k same) ∙ free q s before in (cc)) (λ h. h))
+        (kept.referred q s t before ref);
   }
 
-  pub fits_put : (k : Key) (r : Record) → RecordInRange r → is_of_kind k r ≡ true → holds_key l k ≡ true → out_of_limits l r ≡ None → dangling c r ≡ None → IsWellKept l (put c k (Some r))
+  pub fits_put : (k : Key) (r : Record) → RecordInRange r → is_of_kind k r ≡ true → holds_key l k ≡ true → out_of_limits l r ≡ None
+      → dangling c r ≡ None → IsWellKept l (put c k (Some r))
   fits_put k r ranges kind in_limits fields there = search (rules, put_kept, HoldsKey-from_test, HoldsRecord-from_test, none_dangling)

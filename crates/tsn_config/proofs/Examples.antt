@@ -28,7 +28,13 @@ abbrev limits : Limits
 limits = record { ports = 2; filters = 16; gates = 16; meters = 16; list = 16 }
 
 abbrev gate_with : List GateEntry → Record
-gate_with es = GateRecord (record { is_open = true; ipv = None; invalid_rx = false; octets_exceeded = false; admin = record { list = es; cycle = 1000000; extension = 0; base = 0 } })
+gate_with es = GateRecord (record {
+  is_open = true;
+  ipv = None;
+  invalid_rx = false;
+  octets_exceeded = false;
+  admin = record { list = es; cycle = 1000000; extension = 0; base = 0 };
+})
 
 abbrev gate : Record
 gate = gate_with []
@@ -37,7 +43,8 @@ abbrev entry : GateEntry
 entry = record { is_open = true; ipv = None; interval = 1; octets = None }
 
 abbrev meter : Record
-meter = MeterRecord (record { cir = 8000000; cbs = 1500; eir = 0; ebs = 0; cf = false; aware = false; drop_yellow = false; all_red = false })
+meter =
+    MeterRecord (record { cir = 8000000; cbs = 1500; eir = 0; ebs = 0; cf = false; aware = false; drop_yellow = false; all_red = false })
 
 abbrev filter : ℕ → Option ℕ → Record
 filter g m = FilterRecord (record { handle = Some 7; priority = None; gate = g; max_sdu = Some 1500; meter = m; oversize = true })
@@ -105,7 +112,9 @@ replace_absent : refusal limits now (Replace (Meter 9) meter) ≡ Some (Missing 
 replace_absent = simp (inserted, none_at)
 
 remove_absent : refusal limits now (Remove (Gate 9)) ≡ Some (Missing (Gate 9))
-remove_absent = let first : own_cause limits now (Remove (Gate 9) ∷ []) (Remove (Gate 9)) ≡ Some (Missing (Gate 9)) = simp (inserted, none_at) in refusal-first limits now (Remove (Gate 9)) ∙ first
+remove_absent =
+    let first : own_cause limits now (Remove (Gate 9) ∷ []) (Remove (Gate 9)) ≡ Some (Missing (Gate 9)) = simp (inserted, none_at) in
+    refusal-first limits now (Remove (Gate 9)) ∙ first
 
 -- a port is never removed, and one within the limits is there already
 port_removed : (c : Configuration) → refusal limits c (Remove (Port 1)) ≡ Some Shape
@@ -122,10 +131,12 @@ other_kind c = refusal-first limits c (Create (Gate 16) meter)
 
 -- a key in use is not removed; of filters that use it the least is named
 gate_in_use : referrer now (Gate 0) ≡ Some (Referred (Filter 3))
-gate_in_use = ap (λ es. option_map (λ (e : Key × Record). Referred e.0) (find (λ e. has (refs e.1) (Gate 0)) es)) (from_sorted_list rows refl)
+gate_in_use =
+    ap (λ es. option_map (λ (e : Key × Record). Referred e.0) (find (λ e. has (refs e.1) (Gate 0)) es)) (from_sorted_list rows refl)
 
 meter_in_use : referrer now (Meter 0) ≡ Some (Referred (Filter 3))
-meter_in_use = ap (λ es. option_map (λ (e : Key × Record). Referred e.0) (find (λ e. has (refs e.1) (Meter 0)) es)) (from_sorted_list rows refl)
+meter_in_use =
+    ap (λ es. option_map (λ (e : Key × Record). Referred e.0) (find (λ e. has (refs e.1) (Meter 0)) es)) (from_sorted_list rows refl)
 
 gate_removed : refusal limits now (Remove (Gate 0)) ≡ Some (Referred (Filter 3))
 gate_removed = simp (inserted, none_at, listed, none_listed)
@@ -134,7 +145,8 @@ abbrev shared : List (Key × Record)
 shared = (Filter 3, filter 0 None) ∷ (Filter 5, filter 0 None) ∷ (Gate 0, gate) ∷ []
 
 least_user : referrer (from_entries shared) (Gate 0) ≡ Some (Referred (Filter 3))
-least_user = ap (λ es. option_map (λ (e : Key × Record). Referred e.0) (find (λ e. has (refs e.1) (Gate 0)) es)) (from_sorted_list shared refl)
+least_user =
+    ap (λ es. option_map (λ (e : Key × Record). Referred e.0) (find (λ e. has (refs e.1) (Gate 0)) es)) (from_sorted_list shared refl)
 
 -- edits at once are seen whole: what a record refers to may come after it, and a key may go with what refers to it
 removed : (c : Configuration) (k q : Key) → get (remove c k) q ≡ cond (same_key q k) None (get c q)
@@ -157,7 +169,8 @@ gate_goes = simp (inserted, removed, none_at, listed, none_listed)
 later_is_less : batches.refusal limits now (Create (Filter 4) (filter 9 None) ∷ Create (Gate 0) gate ∷ []) ≡ Some (Exists (Gate 0))
 later_is_less = simp (inserted, none_at)
 
-first_of_two : batches.refusal limits now (Create (Filter 4) (filter 9 None) ∷ Create (Filter 5) (filter 8 None) ∷ []) ≡ Some (Dangling (Gate 9))
+first_of_two : batches.refusal limits now (Create (Filter 4) (filter 9 None) ∷ Create (Filter 5) (filter 8 None) ∷ [])
+    ≡ Some (Dangling (Gate 9))
 first_of_two = simp (inserted, none_at)
 
 -- an opening with no record has the default ports and nothing else
@@ -174,7 +187,8 @@ port_three = get-from_entries keys_total (default_ports 2) (Port 3)
 given_twice : opening_refusal limits ((Gate 0, gate) ∷ (Meter 1, meter) ∷ (Gate 0, gate) ∷ (Meter 1, meter) ∷ []) ≡ Some (Exists (Gate 0))
 given_twice = refl
 
-beyond_first : opening_refusal limits ((Gate 0, gate) ∷ (Gate 0, gate) ∷ (Filter 1, filter 16 None) ∷ (Gate 16, gate) ∷ []) ≡ Some (Range fields.Gate)
+beyond_first : opening_refusal limits ((Gate 0, gate) ∷ (Gate 0, gate) ∷ (Filter 1, filter 16 None) ∷ (Gate 16, gate) ∷ [])
+    ≡ Some (Range fields.Gate)
 beyond_first = refl
 
 -- an absent reference is that of the least filter, wherever it stands in the list

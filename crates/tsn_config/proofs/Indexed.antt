@@ -51,32 +51,41 @@ module _ {X : Type 0} (m : FinMap nat_cmp X) where
   beside_set q k v no_same = grind (arith, beside_removed, beside_inserted)
 
 -- the rows of other filters stay
-beside_left : (index : FinMap nat_cmp (Unit {0})) (n c : ℕ) (about : Option ℕ) → n < 65536 → (c % 65536 ≡ n → ⊥) → get (left index n about) c ≡ get index c
+beside_left : (index : FinMap nat_cmp (Unit {0})) (n c : ℕ) (about : Option ℕ) → n < 65536 → (c % 65536 ≡ n → ⊥)
+    → get (left index n about) c ≡ get index c
 beside_left index n c about l no_same = grind (arith, beside_removed)
 
-beside_entered : (index : FinMap nat_cmp (Unit {0})) (n c : ℕ) (about : Option ℕ) → n < 65536 → (c % 65536 ≡ n → ⊥) → get (entered index n about) c ≡ get index c
+beside_entered : (index : FinMap nat_cmp (Unit {0})) (n c : ℕ) (about : Option ℕ) → n < 65536 → (c % 65536 ≡ n → ⊥)
+    → get (entered index n about) c ≡ get index c
 beside_entered index n c about l no_same = grind (arith, beside_inserted)
 
 -- no row of the filter is left
-left_at : (index : FinMap nat_cmp (Unit {0})) (n c : ℕ) (about : Option ℕ) → n < 65536 → c % 65536 ≡ n → is_some (get index c) ≡ is_the (c / 65536) about → is_some (get (left index n about) c) ≡ false
+left_at : (index : FinMap nat_cmp (Unit {0})) (n c : ℕ) (about : Option ℕ) → n < 65536 → c % 65536 ≡ n
+    → is_some (get index c) ≡ is_the (c / 65536) about → is_some (get (left index n about) c) ≡ false
 left_at index n c about l same h = grind (arith, cases_eq, removed, beside_removed, unequal_is)
 
-entered_at : (index : FinMap nat_cmp (Unit {0})) (n c : ℕ) (about : Option ℕ) → n < 65536 → c % 65536 ≡ n → is_some (get index c) ≡ false → is_some (get (entered index n about) c) ≡ is_the (c / 65536) about
+entered_at : (index : FinMap nat_cmp (Unit {0})) (n c : ℕ) (about : Option ℕ) → n < 65536 → c % 65536 ≡ n → is_some (get index c) ≡ false
+    → is_some (get (entered index n about) c) ≡ is_the (c / 65536) about
 entered_at index n c about l same h = grind (arith, cases_eq, inserted, equal_is, beside_inserted, unequal_is)
 
-module _ (about : StreamFilter → Option ℕ) (fs : FinMap nat_cmp StreamFilter) (n : ℕ) (before after : Option ℕ) (value : Option StreamFilter)
+module _ (about : StreamFilter → Option ℕ) (fs : FinMap nat_cmp StreamFilter) (n : ℕ) (before after : Option ℕ)
+    (value : Option StreamFilter)
     (is_before : before ≡ about_at about (get fs n)) (is_after : after ≡ about_at about value) where
   -- what the filters are about, once one is set
   here : (c : ℕ) → c % 65536 ≡ n → is_the (c / 65536) after ≡ is_the (c / 65536) (about_at about (get (set_row fs n value) (c % 65536)))
-  here c same = ap (is_the (c / 65536)) (is_after ∙ ap (about_at about) (sym (set_there fs n value) ∙ ap (get (set_row fs n value)) (sym same)))
+  here c same =
+      ap (is_the (c / 65536)) (is_after ∙ ap (about_at about) (sym (set_there fs n value) ∙ ap (get (set_row fs n value)) (sym same)))
 
-  elsewhere : (c : ℕ) → (c % 65536 ≡ n → ⊥) → is_the (c / 65536) (about_at about (get fs (c % 65536))) ≡ is_the (c / 65536) (about_at about (get (set_row fs n value) (c % 65536)))
+  elsewhere : (c : ℕ) → (c % 65536 ≡ n → ⊥)
+      → is_the (c / 65536) (about_at about (get fs (c % 65536))) ≡ is_the (c / 65536)
+      (about_at about (get (set_row fs n value) (c % 65536)))
   elsewhere c no_same = ap (λ o. is_the (c / 65536) (about_at about o)) (sym (beside_set fs (c % 65536) n value no_same))
 
   was : (c : ℕ) → c % 65536 ≡ n → is_the (c / 65536) (about_at about (get fs (c % 65536))) ≡ is_the (c / 65536) before
   was c same = ap (is_the (c / 65536)) (ap (λ k. about_at about (get fs k)) same ∙ sym is_before)
 
-  pub moved : (index : FinMap nat_cmp (Unit {0})) → n < 65536 → Indexes about fs index → Indexes about (set_row fs n value) (entered (left index n before) n after)
+  pub moved : (index : FinMap nat_cmp (Unit {0})) → n < 65536 → Indexes about fs index
+      → Indexes about (set_row fs n value) (entered (left index n before) n after)
   moved index l h c = grind (arith, cases_eq, entered_at, left_at, was, here, beside_entered, beside_left, elsewhere)
 
   pub unmoved : (index : FinMap nat_cmp (Unit {0})) → before ≡ after → Indexes about fs index → Indexes about (set_row fs n value) index
@@ -87,8 +96,10 @@ abbrev pub Told : FinMap nat_cmp (Unit {0}) → ℕ → Option ℕ → Type 0
 Told index q o = (c : ℕ) → q * 65536 ≤ c → IsSome (get index c) → MatchOption o ⊥ (λ least. least ≤ c)
 
 -- the least filter that is about a number, from the first row that is found
-module _ (about : StreamFilter → Option ℕ) (fs : FinMap nat_cmp StreamFilter) (p : StreamFilter → Bool) (index : FinMap nat_cmp (Unit {0})) (q : ℕ)
-    (indexes : Indexes about fs index) (small : AreSmall fs) (tests : (n : ℕ) (r : StreamFilter) → get fs n ≡ Some r → p r ≡ is_the q (about r)) where
+module _ (about : StreamFilter → Option ℕ) (fs : FinMap nat_cmp StreamFilter) (p : StreamFilter → Bool) (index : FinMap nat_cmp (Unit {0}))
+    (q : ℕ)
+    (indexes : Indexes about fs index) (small : AreSmall fs) (tests : (n : ℕ) (r : StreamFilter) → get fs n ≡ Some r
+    → p r ≡ is_the q (about r)) where
   row_there : (n : ℕ) (r : StreamFilter) → get fs n ≡ Some r → p r ≡ true → IsSome (get index (q * 65536 + n))
   row_there n r is passes = grind arith
 
@@ -97,26 +108,35 @@ module _ (about : StreamFilter → Option ℕ) (fs : FinMap nat_cmp StreamFilter
   misses n none r is =
       by_bool (p r) (λ passes. absurd (none (row_there n r (get-entries fs n ∙ is) passes))) (λ fails. fails)
 
-  passing : (n : ℕ) (o : Option StreamFilter) → get fs n ≡ o → is_the q (about_at about o) ≡ true → (r : StreamFilter) × (find nat_cmp n (entries fs) ≡ Some r) × (p r ≡ true)
+  passing : (n : ℕ) (o : Option StreamFilter) → get fs n ≡ o → is_the q (about_at about o) ≡ true
+      → (r : StreamFilter) × (find nat_cmp n (entries fs) ≡ Some r) × (p r ≡ true)
   passing n None is h = absurd (cc)
   passing n (Some r) is h = (r, sym (get-entries fs n) ∙ is, tests n r is ∙ h)
 
   pub least_none : Told index q None → None ≡ first_id p (entries fs)
-  least_none told = first_is p (entries fs) (of_T _ (entries_sorted fs)) None (λ n. misses n (λ there. told (q * 65536 + n) (omega arith) there))
+  least_none told =
+      first_is p (entries fs) (of_T _ (entries_sorted fs)) None (λ n. misses n (λ there. told (q * 65536 + n) (omega arith) there))
 
   pub least_other : (c : ℕ) → q * 65536 ≤ c → (c / 65536 ≡ q → ⊥) → Told index q (Some c) → None ≡ first_id p (entries fs)
   least_other c from other told =
       first_is p (entries fs) (of_T _ (entries_sorted fs)) None
-      (λ n r is. misses n (λ there. let l : n < 65536 = small n (ap is_some (get-entries fs n ∙ is)) in let le = told (q * 65536 + n) (omega arith) there in other (omega arith)) r is)
+      (λ n r is. misses n (λ there. let l : n < 65536 = small n (ap is_some (get-entries fs n ∙ is)) in
+      let le = told (q * 65536 + n) (omega arith) there in other (omega arith)) r is)
 
-  pub least_some : (c : ℕ) → q * 65536 ≤ c → IsSome (get index c) → c / 65536 ≡ q → Told index q (Some c) → Some (c % 65536) ≡ first_id p (entries fs)
+  pub least_some : (c : ℕ) → q * 65536 ≤ c → IsSome (get index c) → c / 65536 ≡ q → Told index q (Some c)
+      → Some (c % 65536) ≡ first_id p (entries fs)
   least_some c from there about_q told =
-      let passes : is_the q (about_at about (get fs (c % 65536))) ≡ true = ap (λ k. is_the k (about_at about (get fs (c % 65536)))) (sym about_q) ∙ sym (indexes c) ∙ there in
-      first_is p (entries fs) (of_T _ (entries_sorted fs)) (Some (c % 65536))
-      (passing (c % 65536) (get fs (c % 65536)) refl passes, λ k lt. misses k (λ row. let le = told (q * 65536 + k) (omega arith) row in absurd (omega arith)))
+      let passes : is_the q (about_at about (get fs (c % 65536))) ≡ true = ap (λ k. is_the k (about_at about (get fs (c % 65536))))
+      (sym about_q) ∙ sym (indexes c) ∙ there in
+      first_is p (entries fs) (of_T _ (entries_sorted fs)) (Some (c % 65536)) (
+        passing (c % 65536) (get fs (c % 65536)) refl passes,
+        λ k lt. misses k (λ row. let le = told (q * 65536 + k) (omega arith) row in
+            absurd (omega arith)),
+      )
 
   -- the same by what is told of the filter of that row
-  pub least_own : (c : ℕ) → q * 65536 ≤ c → IsSome (get index c) → Told index q (Some c) → (o : Option ℕ) → MatchOption o (c / 65536 ≢ q) (λ n. (c / 65536 ≡ q) × (n ≡ c % 65536)) → o ≡ first_id p (entries fs)
+  pub least_own : (c : ℕ) → q * 65536 ≤ c → IsSome (get index c) → Told index q (Some c) → (o : Option ℕ)
+      → MatchOption o (c / 65536 ≢ q) (λ n. (c / 65536 ≡ q) × (n ≡ c % 65536)) → o ≡ first_id p (entries fs)
   least_own c from there told o other = grind (arith, least_other, least_some)
 
 -- equal options of numbers are one
@@ -124,15 +144,18 @@ pub same_options : (o r : Option ℕ) → option_eq eqb o r ≡ true → o ≡ r
 same_options o r h = grind arith
 
 -- with no filter there is no row
-indexes_none : (about : StreamFilter → Option ℕ) (fs : FinMap nat_cmp StreamFilter) (index : FinMap nat_cmp (Unit {0})) → fs ≡ empty → index ≡ empty → Indexes about fs index
+indexes_none : (about : StreamFilter → Option ℕ) (fs : FinMap nat_cmp StreamFilter) (index : FinMap nat_cmp (Unit {0})) → fs ≡ empty
+    → index ≡ empty → Indexes about fs index
 indexes_none about fs index none no_row c =
     ap (λ (m : FinMap nat_cmp (Unit {0})). is_some (get m c)) no_row ∙ ap is_some (get-empty nat_cmp c)
-    ∙ sym (ap (λ (m : FinMap nat_cmp StreamFilter). is_the (c / 65536) (about_at about (get m (c % 65536)))) none ∙ ap (λ o. is_the (c / 65536) (about_at about o)) (get-empty nat_cmp (c % 65536)))
+    ∙ sym (ap (λ (m : FinMap nat_cmp StreamFilter). is_the (c / 65536) (about_at about (get m (c % 65536)))) none
+    ∙ ap (λ o. is_the (c / 65536) (about_at about o)) (get-empty nat_cmp (c % 65536)))
 
 no_value : (fs : FinMap nat_cmp StreamFilter) (n : ℕ) → fs ≡ empty → get fs n ≡ None
 no_value fs n none = ap (λ (m : FinMap nat_cmp StreamFilter). get m n) none ∙ get-empty nat_cmp n
 
-pub none_indexed : (fs : FinMap nat_cmp StreamFilter) (gates meters matches : FinMap nat_cmp (Unit {0})) → fs ≡ empty → gates ≡ empty → meters ≡ empty → matches ≡ empty → IsIndexed fs gates meters matches
+pub none_indexed : (fs : FinMap nat_cmp StreamFilter) (gates meters matches : FinMap nat_cmp (Unit {0})) → fs ≡ empty → gates ≡ empty
+    → meters ≡ empty → matches ≡ empty → IsIndexed fs gates meters matches
 none_indexed fs gates meters matches none g m s = grind (arith, no_value, indexes_none)
 
 -- the numbers of filters and of their priorities, once one is set
@@ -140,7 +163,8 @@ module _ (fs : FinMap nat_cmp StreamFilter) (n : ℕ) (value : Option StreamFilt
   pub still_small : n < 65536 → AreSmall fs → AreSmall (set_row fs n value)
   still_small l small k there = grind (arith, cases_eq, beside_set)
 
-  narrow_value : (o : Option StreamFilter) (r : StreamFilter) → IfSome o (λ q. specified q.priority < 16) → o ≡ Some r → specified r.priority < 16
+  narrow_value : (o : Option StreamFilter) (r : StreamFilter) → IfSome o (λ q. specified q.priority < 16) → o ≡ Some r
+      → specified r.priority < 16
   narrow_value o r h is = grind arith
 
   pub still_narrow : IfSome value (λ r. specified r.priority < 16) → AreNarrow fs → AreNarrow (set_row fs n value)
@@ -163,7 +187,8 @@ pub no_first : (p : StreamFilter → Bool) (es : List (ℕ × StreamFilter)) →
 no_first p [] never = refl
 no_first p (e ∷ es) never = no_first p es never ∙ ap (λ b. cond b (Some e.0) (first_id p es)) (sym (never e.1))
 
-pub never_referred : (k : Key) → ((n : ℕ) → k ≡ Gate n → ⊥) → ((n : ℕ) → k ≡ Meter n → ⊥) → (r : StreamFilter) → has (refs (FilterRecord r)) k ≡ false
+pub never_referred : (k : Key) → ((n : ℕ) → k ≡ Gate n → ⊥) → ((n : ℕ) → k ≡ Meter n → ⊥) → (r : StreamFilter)
+    → has (refs (FilterRecord r)) k ≡ false
 never_referred k no_gate no_meter r = grind arith
 
 pub specifies_alike : (handle priority : Option ℕ) (r : StreamFilter) → specified priority < 16 → specified r.priority < 16

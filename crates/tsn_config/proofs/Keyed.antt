@@ -18,11 +18,16 @@ use Rattle.tsn_config.specs.Ids.{IsNumberOf, ids_of, is_of, key_by}
 
 -- ---- the numbers of a kind are those of its keys
 
-one_more : (kind : Kind) (n : ℕ) (k : Key) (ks : List Key) → list_any (eq_by_cmp nat_cmp n) (map (λ k. number_of k) (filter (λ k. is_of kind k) ks)) ≡ list_any (eq_by_cmp key_cmp (key_by kind n)) ks
-    → list_any (eq_by_cmp nat_cmp n) (map (λ k. number_of k) (filter (λ k. is_of kind k) (k ∷ ks))) ≡ list_any (eq_by_cmp key_cmp (key_by kind n)) (k ∷ ks)
+one_more : (kind : Kind) (n : ℕ) (k : Key) (ks : List Key)
+    → list_any (eq_by_cmp nat_cmp n) (map (λ k. number_of k) (filter (λ k. is_of kind k) ks)) ≡ list_any (eq_by_cmp key_cmp (key_by kind n))
+    ks
+    → list_any (eq_by_cmp nat_cmp n) (map (λ k. number_of k) (filter (λ k. is_of kind k) (k ∷ ks)))
+    ≡ list_any (eq_by_cmp key_cmp (key_by kind n)) (k ∷ ks)
 one_more kind n k ks h = grind arith
 
-picked : (kind : Kind) (n : ℕ) (ks : List Key) → list_any (eq_by_cmp nat_cmp n) (map (λ k. number_of k) (filter (λ k. is_of kind k) ks)) ≡ list_any (eq_by_cmp key_cmp (key_by kind n)) ks
+picked : (kind : Kind) (n : ℕ) (ks : List Key)
+    → list_any (eq_by_cmp nat_cmp n) (map (λ k. number_of k) (filter (λ k. is_of kind k) ks)) ≡ list_any (eq_by_cmp key_cmp (key_by kind n))
+    ks
 picked kind n [] = refl
 picked kind n (k ∷ ks) = one_more kind n k ks (picked kind n ks)
 
@@ -31,7 +36,10 @@ in_ids kind c n = picked kind n (keys c) ∙ sym (contains_key-keys c (key_by ki
 
 each_in : (P : ℕ → Type 0) (ns : List ℕ) → ((n : ℕ) → list_any (eq_by_cmp nat_cmp n) ns ≡ true → P n) → AllByRecursion P ns
 each_in P [] h = tt
-each_in P (n ∷ ns) h = (h n (ap (λ b. b || list_any (eq_by_cmp nat_cmp n) ns) (same_itself (Filter n))), each_in P ns (λ m e. h m (or_right (eq_by_cmp nat_cmp m n) _ e)))
+each_in P (n ∷ ns) h = (
+  h n (ap (λ b. b || list_any (eq_by_cmp nat_cmp n) ns) (same_itself (Filter n))),
+  each_in P ns (λ m e. h m (or_right (eq_by_cmp nat_cmp m n) _ e)),
+)
 
 pub each_there : (kind : Kind) (c : Configuration) → AllByRecursion (λ n. IsSome (get c (key_by kind n))) (ids_of kind c)
 each_there kind c = each_in (λ n. IsSome (get c (key_by kind n))) (ids_of kind c) (λ n e. sym (in_ids kind c n) ∙ e)
@@ -52,4 +60,6 @@ module _ (l : Limits) (c : Configuration) (kept : IsWellKept l c) where
 
   pub number_at : (kind : Kind) (ns : List ℕ) (i : ℕ) → ns ≡ ids_of kind c → i < length ns → IsNumberOf kind (slice_index_or ns i 0)
   number_at kind ns i is h =
-      each_at (IsNumberOf kind) ns i h (subst (AllByRecursion (IsNumberOf kind)) (sym is) (each_in (IsNumberOf kind) (ids_of kind c) (λ n e. there kind n (sym (in_ids kind c n) ∙ e))))
+      each_at (IsNumberOf kind) ns i h
+      (subst (AllByRecursion (IsNumberOf kind)) (sym is)
+      (each_in (IsNumberOf kind) (ids_of kind c) (λ n e. there kind n (sym (in_ids kind c n) ∙ e))))

@@ -28,7 +28,8 @@ picked-append : (kind : Kind) (xs ys : List (Key × Record)) → picked kind (xs
 picked-append kind xs ys = grind (arith, common_steps)
 
 module _ {A : Type 0} (key : ℕ → Key) (rec : A → Record) (kind : Kind) where
-  all_picked : ((n : ℕ) → is_of kind (key n) ≡ true) → ((n : ℕ) → number_of (key n) ≡ n) → (es : List (ℕ × A)) → picked kind (keyed_rows key rec es) ≡ map (λ (e : ℕ × A). e.0) es
+  all_picked : ((n : ℕ) → is_of kind (key n) ≡ true) → ((n : ℕ) → number_of (key n) ≡ n) → (es : List (ℕ × A))
+      → picked kind (keyed_rows key rec es) ≡ map (λ (e : ℕ × A). e.0) es
   all_picked own number [] = refl
   all_picked own number (e ∷ es) = grind (arith, (all_picked own number es))
 
@@ -36,43 +37,45 @@ module _ {A : Type 0} (key : ℕ → Key) (rec : A → Record) (kind : Kind) whe
   none_picked other [] = refl
   none_picked other (e ∷ es) = grind (arith, (none_picked other es))
 
-module _ (ps : FinMap nat_cmp PortGates) (fs : FinMap nat_cmp StreamFilter) (gs : FinMap nat_cmp StreamGate) (ms : FinMap nat_cmp FlowMeter) where
-  abbrev tp : List (Key × Record)
-  tp = keyed_rows Port PortRecord (entries ps)
+module _ (ps : FinMap nat_cmp PortGates) (fs : FinMap nat_cmp StreamFilter) (gs : FinMap nat_cmp StreamGate) (ms : FinMap nat_cmp FlowMeter)
+  where
+    abbrev tp : List (Key × Record)
+    tp = keyed_rows Port PortRecord (entries ps)
 
-  abbrev tf : List (Key × Record)
-  tf = keyed_rows Filter FilterRecord (entries fs)
+    abbrev tf : List (Key × Record)
+    tf = keyed_rows Filter FilterRecord (entries fs)
 
-  abbrev tg : List (Key × Record)
-  tg = keyed_rows Gate GateRecord (entries gs)
+    abbrev tg : List (Key × Record)
+    tg = keyed_rows Gate GateRecord (entries gs)
 
-  abbrev tm : List (Key × Record)
-  tm = keyed_rows Meter MeterRecord (entries ms)
+    abbrev tm : List (Key × Record)
+    tm = keyed_rows Meter MeterRecord (entries ms)
 
-  parts : (kind : Kind) → ids_of kind (map_of_tables ps fs gs ms) ≡ picked kind tp ++ (picked kind tf ++ (picked kind tg ++ picked kind tm))
-  parts kind = grind (arith, common_steps, entries-map_of_tables, picked-append)
+    parts : (kind : Kind) → ids_of kind (map_of_tables ps fs gs ms) ≡ picked kind tp
+        ++ (picked kind tf ++ (picked kind tg ++ picked kind tm))
+    parts kind = grind (arith, common_steps, entries-map_of_tables, picked-append)
 
-  pub ids_of_ports : ids_of kinds.Port (map_of_tables ps fs gs ms) ≡ keys ps
-  ids_of_ports = grind (arith, parts, all_picked, none_picked, append-nil)
+    pub ids_of_ports : ids_of kinds.Port (map_of_tables ps fs gs ms) ≡ keys ps
+    ids_of_ports = grind (arith, parts, all_picked, none_picked, append-nil)
 
-  pub ids_of_filters : ids_of kinds.Filter (map_of_tables ps fs gs ms) ≡ keys fs
-  ids_of_filters = grind (arith, parts, none_picked, all_picked, append-nil)
+    pub ids_of_filters : ids_of kinds.Filter (map_of_tables ps fs gs ms) ≡ keys fs
+    ids_of_filters = grind (arith, parts, none_picked, all_picked, append-nil)
 
-  pub ids_of_gates : ids_of kinds.Gate (map_of_tables ps fs gs ms) ≡ keys gs
-  ids_of_gates = grind (arith, parts, none_picked, all_picked, append-nil)
+    pub ids_of_gates : ids_of kinds.Gate (map_of_tables ps fs gs ms) ≡ keys gs
+    ids_of_gates = grind (arith, parts, none_picked, all_picked, append-nil)
 
-  pub ids_of_meters : ids_of kinds.Meter (map_of_tables ps fs gs ms) ≡ keys ms
-  ids_of_meters = grind (arith, parts, none_picked, all_picked)
+    pub ids_of_meters : ids_of kinds.Meter (map_of_tables ps fs gs ms) ≡ keys ms
+    ids_of_meters = grind (arith, parts, none_picked, all_picked)
 
-  -- the same of any kind and map, by what they are
-  pub ports_numbered : (kind : Kind) (m : Configuration) → map_of_tables ps fs gs ms ≡ m → kind ≡ kinds.Port → ids_of kind m ≡ keys ps
-  ports_numbered kind m tables is = (λ i. ids_of (is i) (sym tables i)) ∙ ids_of_ports
+    -- the same of any kind and map, by what they are
+    pub ports_numbered : (kind : Kind) (m : Configuration) → map_of_tables ps fs gs ms ≡ m → kind ≡ kinds.Port → ids_of kind m ≡ keys ps
+    ports_numbered kind m tables is = (λ i. ids_of (is i) (sym tables i)) ∙ ids_of_ports
 
-  pub filters_numbered : (kind : Kind) (m : Configuration) → map_of_tables ps fs gs ms ≡ m → kind ≡ kinds.Filter → ids_of kind m ≡ keys fs
-  filters_numbered kind m tables is = (λ i. ids_of (is i) (sym tables i)) ∙ ids_of_filters
+    pub filters_numbered : (kind : Kind) (m : Configuration) → map_of_tables ps fs gs ms ≡ m → kind ≡ kinds.Filter → ids_of kind m ≡ keys fs
+    filters_numbered kind m tables is = (λ i. ids_of (is i) (sym tables i)) ∙ ids_of_filters
 
-  pub gates_numbered : (kind : Kind) (m : Configuration) → map_of_tables ps fs gs ms ≡ m → kind ≡ kinds.Gate → ids_of kind m ≡ keys gs
-  gates_numbered kind m tables is = (λ i. ids_of (is i) (sym tables i)) ∙ ids_of_gates
+    pub gates_numbered : (kind : Kind) (m : Configuration) → map_of_tables ps fs gs ms ≡ m → kind ≡ kinds.Gate → ids_of kind m ≡ keys gs
+    gates_numbered kind m tables is = (λ i. ids_of (is i) (sym tables i)) ∙ ids_of_gates
 
-  pub meters_numbered : (kind : Kind) (m : Configuration) → map_of_tables ps fs gs ms ≡ m → kind ≡ kinds.Meter → ids_of kind m ≡ keys ms
-  meters_numbered kind m tables is = (λ i. ids_of (is i) (sym tables i)) ∙ ids_of_meters
+    pub meters_numbered : (kind : Kind) (m : Configuration) → map_of_tables ps fs gs ms ≡ m → kind ≡ kinds.Meter → ids_of kind m ≡ keys ms
+    meters_numbered kind m tables is = (λ i. ids_of (is i) (sym tables i)) ∙ ids_of_meters

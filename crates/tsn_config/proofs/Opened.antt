@@ -16,7 +16,8 @@ use Rattle.tsn_types.proofs.Causes.{option_or-None}
 use Rattle.tsn_config.proofs.Joined.{find_append}
 
 -- a further entry of a key that is there changes nothing
-again : (es : List (Key × Record)) (k : Key) (r : Record) → IsSome (find key_cmp k es) → from_entries {R = key_cmp} (es ++ (k, r) ∷ []) ≡ from_entries es
+again : (es : List (Key × Record)) (k : Key) (r : Record) → IsSome (find key_cmp k es) → from_entries {R = key_cmp} (es ++ (k, r) ∷ [])
+    ≡ from_entries es
 again es k r some = same_configuration _ _ (λ q.
     get-from_entries keys_total (es ++ (k, r) ∷ []) q ∙ find_append q es ((k, r) ∷ []) ∙ by_bool (same_key q k)
     (λ same. by_option (find key_cmp q es)
@@ -26,21 +27,28 @@ again es k r some = same_configuration _ _ (λ q.
     ∙ sym (get-from_entries keys_total es q))
 
 -- a further entry of a key that is not there is put at it
-fresh : (es : List (Key × Record)) (k : Key) (r : Record) → get (from_entries {R = key_cmp} es) k ≡ None → from_entries {R = key_cmp} (es ++ (k, r) ∷ []) ≡ insert (from_entries es) k r
+fresh : (es : List (Key × Record)) (k : Key) (r : Record) → get (from_entries {R = key_cmp} es) k ≡ None → from_entries {R = key_cmp}
+    (es ++ (k, r) ∷ []) ≡ insert (from_entries es) k r
 fresh es k r none = from_entries_push keys_total exact_keys es k r (sym (get-from_entries keys_total es k) ∙ none)
 
 -- one more default port
-pub port_added : (es : List (Key × Record)) (n : ℕ) (c d : Configuration) → c ≡ from_entries (es ++ default_ports n) → d ≡ with_port c (n + 1) → d ≡ from_entries (es ++ default_ports (n + 1))
+pub port_added : (es : List (Key × Record)) (n : ℕ) (c d : Configuration) → c ≡ from_entries (es ++ default_ports n)
+    → d ≡ with_port c (n + 1) → d ≡ from_entries (es ++ default_ports (n + 1))
 port_added es n c d is then =
     then ∙ ap (λ x. with_port x (n + 1)) is ∙ ap (with_port (from_entries (es ++ default_ports n))) (add-one n) ∙ step
-    ∙ ap from_entries (append_assoc es (default_ports n) ((Port (suc n), default_port) ∷ [])) ∙ ap (λ m. from_entries (es ++ default_ports m)) (sym (add-one n))
+    ∙ ap from_entries (append_assoc es (default_ports n) ((Port (suc n), default_port) ∷ []))
+    ∙ ap (λ m. from_entries (es ++ default_ports m)) (sym (add-one n))
   where
-    step : with_port (from_entries (es ++ default_ports n)) (suc n) ≡ from_entries ((es ++ default_ports n) ++ (Port (suc n), default_port) ∷ [])
+    step : with_port (from_entries (es ++ default_ports n)) (suc n) ≡ from_entries
+        ((es ++ default_ports n) ++ (Port (suc n), default_port) ∷ [])
     step = by_option (get (from_entries {R = key_cmp} (es ++ default_ports n)) (Port (suc n)))
-        (λ none. ap (λ o. cond (is_some o) (from_entries (es ++ default_ports n)) (insert (from_entries (es ++ default_ports n)) (Port (suc n)) default_port)) none
+        (λ none. ap (λ o. cond (is_some o) (from_entries (es ++ default_ports n))
+        (insert (from_entries (es ++ default_ports n)) (Port (suc n)) default_port)) none
         ∙ sym (fresh (es ++ default_ports n) (Port (suc n)) default_port none))
-        (λ x is. ap (λ o. cond (is_some o) (from_entries (es ++ default_ports n)) (insert (from_entries (es ++ default_ports n)) (Port (suc n)) default_port)) is
-        ∙ sym (again (es ++ default_ports n) (Port (suc n)) default_port (ap is_some (sym (get-from_entries keys_total (es ++ default_ports n) (Port (suc n))) ∙ is))))
+        (λ x is. ap (λ o. cond (is_some o) (from_entries (es ++ default_ports n))
+        (insert (from_entries (es ++ default_ports n)) (Port (suc n)) default_port)) is
+        ∙ sym (again (es ++ default_ports n) (Port (suc n)) default_port
+        (ap is_some (sym (get-from_entries keys_total (es ++ default_ports n) (Port (suc n))) ∙ is))))
 
 -- how far the records are put in: those that are done, and the keys seen, which are those of the map
 pub record IsFilled (items : List (Key × Record)) (c : Configuration) (rest : List (Key × Record)) : Type 0 where
@@ -66,7 +74,8 @@ fill_start items c kinds is = record {
   kinds = kinds;
 }
 
-pub fill_more : (items : List (Key × Record)) (c d : Configuration) (k : Key) (r : Record) (rest : List (Key × Record)) → IsFilled items c ((k, r) ∷ rest) → get c k ≡ None → d ≡ insert c k r → IsFilled items d rest
+pub fill_more : (items : List (Key × Record)) (c d : Configuration) (k : Key) (r : Record) (rest : List (Key × Record))
+    → IsFilled items c ((k, r) ∷ rest) → get c k ≡ None → d ≡ insert c k r → IsFilled items d rest
 fill_more items c d k r rest f none is =
     let unseen : has f.seen k ≡ false = f.seen_is k ∙ ap is_some none in
     record {

@@ -24,7 +24,8 @@ use Rattle.tsn_config.proofs.Edits.{none_dangling}
 use Rattle.tsn_config.proofs.Joined.{find_append}
 
 -- what holds of each entry holds of one that is found
-find_each : (P : Key → Record → Type 0) (es : List (Key × Record)) → AllByRecursion (λ e. P e.0 e.1) es → (k : Key) (r : Record) → find key_cmp k es ≡ Some r → P k r
+find_each : (P : Key → Record → Type 0) (es : List (Key × Record)) → AllByRecursion (λ e. P e.0 e.1) es → (k : Key) (r : Record)
+    → find key_cmp k es ≡ Some r → P k r
 find_each P [] all k r is = (cc)
 find_each P (e ∷ es) all k r is = by_bool (same_key k e.0)
     (λ same. let found : Some e.1 ≡ Some r = sym (ap (λ b. cond b (Some e.1) (find key_cmp k es)) same) ∙ is in
@@ -32,14 +33,16 @@ find_each P (e ∷ es) all k r is = by_bool (same_key k e.0)
     subst (λ (p : Key × Record). P p.0 p.1) (λ i. (sym (one_key k e.0 same) i, now i)) all.0)
     (λ other. find_each P es all.1 k r (sym (ap (λ b. cond b (Some e.1) (find key_cmp k es)) other) ∙ is))
 
-all_append : (Q : Key × Record → Type 0) (xs ys : List (Key × Record)) → AllByRecursion Q xs → AllByRecursion Q ys → AllByRecursion Q (xs ++ ys)
+all_append : (Q : Key × Record → Type 0) (xs ys : List (Key × Record)) → AllByRecursion Q xs → AllByRecursion Q ys
+    → AllByRecursion Q (xs ++ ys)
 all_append Q xs ys h g = grind (arith, common_steps)
 
 -- the key and the record are within the limits
 abbrev IsWithin : Limits → Key → Record → Type 0
 IsWithin l k r = HoldsKey l k × HoldsRecord l k r
 
-records_within : (l : Limits) (rs : List (Key × Record)) → AreOfKind rs → limits_cause l rs ≡ None → AllByRecursion (λ e. IsWithin l e.0 e.1) rs
+records_within : (l : Limits) (rs : List (Key × Record)) → AreOfKind rs → limits_cause l rs ≡ None
+    → AllByRecursion (λ e. IsWithin l e.0 e.1) rs
 records_within l [] kinds none = tt
 records_within l (e ∷ es) kinds none =
     grind (arith, (records_within l es kinds.1 (option_or_parts (limit_cause l e) (limits_cause l es) none).1))
@@ -49,11 +52,15 @@ ports_within l zero le = tt
 ports_within l (suc n) le = grind (arith, all_append, (ports_within l n (omega arith)))
 
 default_in_range : RecordInRange default_port
-default_in_range = record { gates = omega arith; admin = record { list = tt; cycle = (omega arith, omega arith); extension = omega arith; base = omega arith } }
+default_in_range = record {
+  gates = omega arith;
+  admin = record { list = tt; cycle = (omega arith, omega arith); extension = omega arith; base = omega arith };
+}
 
 ports_in_range : (n : ℕ) → RecordsInRange (default_ports n)
 ports_in_range zero = tt
-ports_in_range (suc n) = all_append (λ e. RecordInRange e.1) (default_ports n) ((Port (suc n), default_port) ∷ []) (ports_in_range n) (default_in_range, tt)
+ports_in_range (suc n) =
+    all_append (λ e. RecordInRange e.1) (default_ports n) ((Port (suc n), default_port) ∷ []) (ports_in_range n) (default_in_range, tt)
 
 some_left : {A : Type 0} (o p : Option A) → IsSome o → IsSome (option_or o p)
 some_left o p h = grind arith
@@ -72,18 +79,25 @@ port_there n (suc m) low high =
     ∙ by_bool (nat_le n m)
     (λ yes. some_left _ (find key_cmp (Port n) last) (port_there n m low (leb-true n m yes)))
     (λ no. some_right (find key_cmp (Port n) (default_ports m)) _
-    (ap (λ x. is_some (find key_cmp (Port x) last)) (above n m high no) ∙ ap (λ b. is_some (cond b (Some default_port) None)) (same_itself (Port (suc m)))))
+    (ap (λ x. is_some (find key_cmp (Port x) last)) (above n m high no)
+    ∙ ap (λ b. is_some (cond b (Some default_port) None)) (same_itself (Port (suc m)))))
 
-none_each : (c : Configuration) (es : List (Key × Record)) → first_cause (map (λ e. dangling c e.1) es) ≡ None → AllByRecursion (λ e. dangling c e.1 ≡ None) es
+none_each : (c : Configuration) (es : List (Key × Record)) → first_cause (map (λ e. dangling c e.1) es) ≡ None
+    → AllByRecursion (λ e. dangling c e.1 ≡ None) es
 none_each c [] h = tt
 none_each c (e ∷ es) h = (let both = option_or_parts (dangling c e.1) _ h in (both.0, none_each c es both.1))
 
-pub opening_kept : (l : Limits) (rs : List (Key × Record)) (c : Configuration) → AreInRange l → RecordsInRange rs → AreOfKind rs → limits_cause l rs ≡ None → c ≡ from_entries (rs ++ default_ports l.ports) → dangling_cause c ≡ None → IsWellKept l c
+pub opening_kept : (l : Limits) (rs : List (Key × Record)) (c : Configuration) → AreInRange l → RecordsInRange rs → AreOfKind rs
+    → limits_cause l rs ≡ None → c ≡ from_entries (rs ++ default_ports l.ports) → dangling_cause c ≡ None → IsWellKept l c
 opening_kept l rs c bounds ranges kinds limits is none = record {
   limits = bounds;
-  in_range = λ k r at. find_each (λ k r. RecordInRange r) (rs ++ default_ports l.ports) (all_append (λ e. RecordInRange e.1) rs (default_ports l.ports) ranges (ports_in_range l.ports)) k r (sym (found k) ∙ at);
-  within = λ k r at. find_each (IsWithin l) (rs ++ default_ports l.ports) (all_append (λ e. IsWithin l e.0 e.1) rs (default_ports l.ports) (records_within l rs kinds limits) (ports_within l l.ports (omega arith))) k r (sym (found k) ∙ at);
-  ports = λ n low high. ap is_some (found (Port n) ∙ find_append (Port n) rs (default_ports l.ports)) ∙ some_right (find key_cmp (Port n) rs) _ (port_there n l.ports low high);
+  in_range = λ k r at. find_each (λ k r. RecordInRange r) (rs ++ default_ports l.ports)
+      (all_append (λ e. RecordInRange e.1) rs (default_ports l.ports) ranges (ports_in_range l.ports)) k r (sym (found k) ∙ at);
+  within = λ k r at. find_each (IsWithin l) (rs ++ default_ports l.ports)
+      (all_append (λ e. IsWithin l e.0 e.1) rs (default_ports l.ports) (records_within l rs kinds limits)
+      (ports_within l l.ports (omega arith))) k r (sym (found k) ∙ at);
+  ports = λ n low high. ap is_some (found (Port n) ∙ find_append (Port n) rs (default_ports l.ports))
+      ∙ some_right (find key_cmp (Port n) rs) _ (port_there n l.ports low high);
   referred = λ k r q at ref.
       let there = find_each (λ k r. dangling c r ≡ None) (entries c) (none_each c (entries c) none) k r (sym (get-entries c k) ∙ at) in
       none_dangling c (refs r) there q ref;

@@ -26,4 +26,5 @@ pub whole_meter : (n : ℕ) (v : Option Record) → IsOfKind (Meter n) v → opt
 whole_meter n v kind = grind arith
 
 -- what a row that is set does to the map of the tables
-pub ruleset set_in_tables = (whole_port, set_in_tables_port, whole_filter, set_in_tables_filter, whole_gate, set_in_tables_gate, whole_meter, set_in_tables_meter)
+pub ruleset set_in_tables =
+    (whole_port, set_in_tables_port, whole_filter, set_in_tables_filter, whole_gate, set_in_tables_gate, whole_meter, set_in_tables_meter)

@@ -57,7 +57,8 @@ module _ (way : Way) (ps qs : List Part) (p : Part) (is : ps ≡ p ∷ qs) where
   pub put_at : (c : Configuration) (k : Key) → same_key k p.key ≡ true → get (put_all c (turned way ps)) k ≡ (turned_part way p).after
   put_at c k same = grind (arith, get-put, key_turned)
 
-  pub put_beside : (c : Configuration) (k : Key) → same_key k p.key ≡ false → get (put_all c (turned way qs)) k ≡ get (put_all c (turned way ps)) k
+  pub put_beside : (c : Configuration) (k : Key) → same_key k p.key ≡ false
+      → get (put_all c (turned way qs)) k ≡ get (put_all c (turned way ps)) k
   put_beside c k other = grind (arith, get-put, key_turned)
 
 -- the keys stay as they are
@@ -73,10 +74,12 @@ pub none_distinct : (ps : List Part) → ps ≡ [] → IsDistinct same_key (keys
 unfolding IsDistinct
 none_distinct ps h = (cc)
 
-removed : (l : Limits) (ks : List Key) (c d : Configuration) (k : Key) (b v : Option Record) → v ≡ None → is_none b ≡ false → is_port k ≡ false → keeps_value l ks c d k b v ≡ is_none (referrer_beside ks c k)
+removed : (l : Limits) (ks : List Key) (c d : Configuration) (k : Key) (b v : Option Record) → v ≡ None → is_none b ≡ false
+    → is_port k ≡ false → keeps_value l ks c d k b v ≡ is_none (referrer_beside ks c k)
 removed l ks c d k b v gone there no_port = (cc)
 
 -- a part that takes away what stood there, and no port
-pub keeps_removed : (l : Limits) (c : Configuration) (way : Way) (ps : List Part) (p : Part) → (turned_part way p).after ≡ None → is_none (turned_part way p).before ≡ false → is_port p.key ≡ false
+pub keeps_removed : (l : Limits) (c : Configuration) (way : Way) (ps : List Part) (p : Part) → (turned_part way p).after ≡ None
+    → is_none (turned_part way p).before ≡ false → is_port p.key ≡ false
     → keeps_part l c (turned way ps) (turned_part way p) ≡ is_none (referrer_beside (keys_of ps) c p.key)
 keeps_removed l c way ps p gone there no_port = grind (arith, keys_turned, key_turned, removed)

@@ -1,8 +1,8 @@
 //! Why edits that are made at once are refused.
 //!
-//! The causes of an edit are tested in the order of their numbers: 3, 4, 6, 7, 8, 9. Of all the edits of a batch the least
-//! cause counts, and of several with that number the one of the first edit. It relies on the rows for look-ups, and on the
-//! limits for all that depends on no other record.
+//! The causes of an edit are tested in the order of their numbers: 3, 4, 6, 7, 8, 9. Of all the edits of a batch the
+//! least cause counts, and of several with that number the one of the first edit. It relies on the rows for look-ups,
+//! and on the limits for all that depends on no other record.
 ghost use Rattle.std.specs.Prelude.{◌≡◌, is_some};
 ghost use Rattle.std.specs.FinMap as map;
 ghost use Rattle.tsn_types.specs.Limits.{first_cause};
@@ -20,10 +20,10 @@ use tsn_types::records::Record;
 use tsn_types::refusals::{Field, Refusal};
 
 impl Config {
-    /// Why the edits are refused: the cause of the least number, none where they are admitted. Of causes of that number the
-    /// first edit's is named; of absent references the gate before the meter, and of filters that refer to a key the least.
-    /// Whether a key is there is asked of the map before; what a record refers to is to be there once all edits are made; a
-    /// key goes only if each filter that refers to it has an edit here. It takes no memory.
+    /// Why the edits are refused: the cause of the least number, none where they are admitted. Of causes of that number
+    /// the first edit's is named; of absent references the gate before the meter, and of filters that refer to a key
+    /// the least. Whether a key is there is asked of the map before; what a record refers to is to be there once all
+    /// edits are made; a key goes only if each filter that refers to it has an edit here. It takes no memory.
     pub fn check(&self, batch: &Batch) -> Option<Refusal>
         ensures { result ≡ refusal self.now.limits self.now.map batch.now }
     {

@@ -14,8 +14,8 @@ use tsn_edit::batches::{Batch, Edits};
 use tsn_edit::{Change, Edit, Part, Parts};
 
 impl Config {
-    /// Makes room for at least `count` parts of changes. It is refused only for want of memory, and never where there is that
-    /// room already; the map stays, and the room never falls.
+    /// Makes room for at least `count` parts of changes. It is refused only for want of memory, and never where there
+    /// is that room already; the map stays, and the room never falls.
     pub fn reserve(&mut self, count: usize) -> Result<(), AllocError>
         ensures limits { self.new.limits ≡ self.old.limits }
         ensures map { self.new.map ≡ self.old.map }
@@ -44,8 +44,8 @@ impl Config {
         }
     }
 
-    /// Makes admitted edits, in room for their parts, and gives the change that they are: it has the values that stood at
-    /// their keys, and copies of those that stand there now. It is refused only for want of memory; refused, it has
+    /// Makes admitted edits, in room for their parts, and gives the change that they are: it has the values that stood
+    /// at their keys, and copies of those that stand there now. It is refused only for want of memory; refused, it has
     /// changed nothing.
     pub fn make(&mut self, batch: Batch) -> Result<Change, AllocError>
         requires admitted { refusal self.old.limits self.old.map batch ≡ None }
@@ -65,7 +65,8 @@ impl Config {
         }
     }
 
-    // The change of admitted edits fits, and its values after are of their keys' kinds. It does nothing as the program runs.
+    // The change of admitted edits fits, and its values after are of their keys' kinds. It does nothing as the program
+    // runs.
     fn tell_fits(&self, batch: &Batch)
         requires { refusal self.now.limits self.now.map batch.now ≡ None }
         ensures batch { IsBatch batch.now }

@@ -1,9 +1,9 @@
-//! The stream filters by number, with three indexes: of the filters by the gate that they refer to, by the meter, and by
-//! their stream handle and priority specifications.
+//! The stream filters by number, with three indexes: of the filters by the gate that they refer to, by the meter, and
+//! by their stream handle and priority specifications.
 //!
-//! What is sought in an index is its least filter, by one way down a tree: who refers to a gate or a meter, and which filter
-//! has two specifications. The type says that each index has just the filters that the table has. Setting a filter takes
-//! no memory; room is made ahead.
+//! What is sought in an index is its least filter, by one way down a tree: who refers to a gate or a meter, and which
+//! filter has two specifications. The type says that each index has just the filters that the table has. Setting a
+//! filter takes no memory; room is made ahead.
 ghost use Rattle.std.specs.Prelude.{◌≡◌, ◌≢◌, ◌/◌, ◌%◌, ℕ, ◌+◌, ◌*◌, ◌^◌, ◌<◌, ◌≤◌, Bool, Option, None, Some, IfOk, IfSome, IsOk, IsSome, IsTrue, MatchOption, OnOk, option_map};
 ghost use Rattle.std.specs.FinMap as map;
 ghost use Rattle.std.specs.FinMap.{FinMap};
@@ -27,8 +27,8 @@ use tsn_types::keys::Key;
 use tsn_types::numbers::{FilterId, Handle, Priority};
 use tsn_types::records::{Record, StreamFilter};
 
-/// The filters by number. `map` is the map, and `spare` the number of filters of new numbers that there is certainly room
-/// for.
+/// The filters by number. `map` is the map, and `spare` the number of filters of new numbers that there is certainly
+/// room for.
 #[derive(Debug, Drop)]
 pub(crate) struct Filters {
     rows: Table<StreamFilter>,
@@ -193,11 +193,13 @@ fn own_filter(number: u64, about: u64) -> Option<u64>
     }
 }
 
-// The least filter that is about the number, where this is the first number of an index that is about it or what is greater.
+// The least filter that is about the number, where this is the first number of an index that is about it or what is
+// greater.
 fn filter_about(first: Option<u64>, about: u64) -> Option<u64>
     requires { about < 2 ^ 40 }
     ensures small { IfSome result (λ n. n < 65536) }
-    ensures least { (index : FinMap nat_cmp (Unit {0})) (what : AnyFilter → Option ℕ) (fs : FinMap nat_cmp AnyFilter) (p : AnyFilter → Bool) →
+    ensures least { (index : FinMap nat_cmp (Unit {0})) (what : AnyFilter → Option ℕ) (fs : FinMap nat_cmp AnyFilter) (p : AnyFilter
+        → Bool) →
         IsFirst index (about * 65536) first → Indexes what fs index → AreSmall fs →
         ((n : ℕ) (r : AnyFilter) → map.get fs n ≡ Some r → p r ≡ is_the about (what r)) →
         result ≡ first_id p (map.entries fs) }
@@ -237,8 +239,8 @@ fn least_about(index: &Numbers, about: u64) -> Option<u64>
     filter_about(first_in(index, about * 65_536), about)
 }
 
-// The lesser of the least filter that is about the one number and the least that is about the other, which is less. It is found
-// by one way down a tree, unless some filter is about the lesser number or one between them.
+// The lesser of the least filter that is about the one number and the least that is about the other, which is less. It
+// is found by one way down a tree, unless some filter is about the lesser number or one between them.
 fn least_of_two(index: &Numbers, about: u64, less: u64) -> Option<u64>
     requires less { less ≤ about }
     requires about { about < 2 ^ 40 }
@@ -260,7 +262,8 @@ fn next_about(index: &Numbers, about: u64, from: u64) -> Option<u64>
     requires from { from ≤ 65536 }
     ensures small { IfSome result (λ n. n < 65536) }
     ensures there { IfSome result (λ n. (from ≤ n) × IsSome (map.get index.now.map (about * 65536 + n))) }
-    ensures least { (n : ℕ) → from ≤ n → n < 65536 → IsSome (map.get index.now.map (about * 65536 + n)) → MatchOption result ⊥ (λ least. least ≤ n) }
+    ensures least { (n : ℕ) → from ≤ n → n < 65536 → IsSome (map.get index.now.map (about * 65536 + n))
+        → MatchOption result ⊥ (λ least. least ≤ n) }
 {
     let found = index.first_from(about * 65_536 + from)?;
     own_filter(found, about)
@@ -325,7 +328,8 @@ impl Filters {
         requires { from ≤ 65536 }
         ensures small { IfSome result (λ n. n < 65536) }
         ensures there { IfSome result (λ n. (from ≤ n) × IsTrue (refers (option_map FilterRecord (map.get self.now.map n)) key.now)) }
-        ensures least { (n : ℕ) → from ≤ n → IsTrue (refers (option_map FilterRecord (map.get self.now.map n)) key.now) → MatchOption result ⊥ (λ least. least ≤ n) }
+        ensures least { (n : ℕ) → from ≤ n → IsTrue (refers (option_map FilterRecord (map.get self.now.map n)) key.now)
+            → MatchOption result ⊥ (λ least. least ≤ n) }
     {
         match key {
             Key::Gate(id) => next_about(&self.by_gate, id.get(), from),
@@ -353,7 +357,8 @@ impl Filters {
         priority: Priority,
     ) -> Option<u64>
         ensures small { IfSome result (λ n. n < 65536) }
-        ensures least { result ≡ lesser (first_id (specifies handle (Some priority)) (map.entries self.now.map)) (first_id (specifies handle None) (map.entries self.now.map)) }
+        ensures least { result ≡ lesser (first_id (specifies handle (Some priority)) (map.entries self.now.map))
+            (first_id (specifies handle None) (map.entries self.now.map)) }
     {
         let any = specification_of(handle, None);
         least_of_two(&self.by_match, with_priority(any, priority), any)

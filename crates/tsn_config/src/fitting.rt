@@ -55,7 +55,8 @@ impl Config {
 
     // Whether the change of the key alone from one value to the other fits.
     fn fits_between(&self, key: &Key, before: &Option<Record>, after: &Option<Record>) -> bool
-        ensures { IsTrue result ↔ Fits self.now.limits self.now.map (record { key = key.now; before = before.now; after = after.now } ∷ []) }
+        ensures { IsTrue result ↔ Fits self.now.limits self.now.map
+            (record { key = key.now; before = before.now; after = after.now } ∷ []) }
     {
         // The proof needs what the type keeps, which reading a field gives, and the ranges of the record's numbers.
         let _kept = &self.limits;

@@ -2,7 +2,8 @@
 //!
 //! A `Config` is seen as one finite map from keys to records with its limits (802.1Q-2018, 12.29 and 12.31). Each key
 //! and list is within the limits, each record is of its key's kind, each port is there, and each reference of a filter
-//! is to a key that is there. `check` says why edits are refused, `change_of` what admitted ones do, and `make` does it;
+//! is to a key that is there. `check` says why edits are refused, `change_of` what admitted ones do, and `make` does
+//! it;
 //! `apply` makes any change that fits. The definitions of edits and changes are those of `tsn_edit`. Beside the filters
 //! stand indexes of them, so that who refers to a key, and which filter has two specifications, is found without going
 //! along them.
@@ -100,18 +101,20 @@ impl Config {
     /// The least filter whose stream handle and priority specifications are these two, none for a wildcard. It is found
     /// by one binary search, and takes no memory.
     pub fn first_with(&self, handle: Option<Handle>, priority: Option<Priority>) -> Option<FilterId>
-        ensures { (fs : FinMap nat_cmp AnyFilter) → AreFilters fs self.now.map → result ≡ first_id (specifies handle priority) (map.entries fs) }
+        ensures { (fs : FinMap nat_cmp AnyFilter) → AreFilters fs self.now.map
+            → result ≡ first_id (specifies handle priority) (map.entries fs) }
     {
         let number = self.rows.first_with(handle, priority)?;
         Some(FilterId::new(number).unwrap())
     }
 
     /// The least filter whose stream handle specification is this one, none for the wildcard, and whose priority
-    /// specification is this one or the wildcard. It is found by one binary search, and by another where a filter with that
-    /// handle specification has the wildcard or a lesser priority. It takes no memory.
+    /// specification is this one or the wildcard. It is found by one binary search, and by another where a filter with
+    /// that handle specification has the wildcard or a lesser priority. It takes no memory.
     pub fn first_with_either(&self, handle: Option<Handle>, priority: Priority) -> Option<FilterId>
         ensures { (fs : FinMap nat_cmp AnyFilter) → AreFilters fs self.now.map →
-            result ≡ lesser (first_id (specifies handle (Some priority)) (map.entries fs)) (first_id (specifies handle None) (map.entries fs)) }
+            result ≡ lesser (first_id (specifies handle (Some priority)) (map.entries fs))
+            (first_id (specifies handle None) (map.entries fs)) }
     {
         let number = self.rows.first_with_either(handle, priority)?;
         Some(FilterId::new(number).unwrap())

@@ -29,9 +29,10 @@ impl Config {
     /// open, an empty list, a cycle of a millisecond, extension and base 0.
     ///
     /// Refused are, in this order: the first record whose identifier, gate, meter or list is outside the limits (4, by
-    /// that field, `id` for the identifier); the first key that stands earlier in the list (7); the first absent reference of the least filter, its
-    /// gate before its meter (8). Limits are looked at before any memory is taken, so that a refusal for them is answered
-    /// whatever memory there is; want of memory (18) may be answered in place of any other answer.
+    /// that field, `id` for the identifier); the first key that stands earlier in the list (7); the first absent
+    /// reference of the least filter, its gate before its meter (8). Limits are looked at before any memory is taken,
+    /// so that a refusal for them is answered whatever memory there is; want of memory (18) may be answered in place of
+    /// any other answer.
     pub fn open(alloc: Global, limits: Limits, records: Records) -> Result<Config, Refusal>
         ensures admitted { OnOk result (opening_refusal limits records ≡ None) }
         ensures bounds { OnOk result (AreInRange limits) }
@@ -107,7 +108,8 @@ fn add(rows: &mut Rows, key: &Key, value: Record) -> Result<(), Refusal>
 // Puts the default record at each port from 1 to the last that is not there.
 fn add_ports(rows: &mut Rows, alloc: Global, last: u64) -> Result<(), AllocError>
     requires { last ≤ most_ports }
-    ensures { (es : List (Key × Record)) → rows.old.map ≡ map.from_entries es → OnOk result (rows.new.map ≡ map.from_entries (es ++ default_ports last)) }
+    ensures { (es : List (Key × Record)) → rows.old.map ≡ map.from_entries es
+        → OnOk result (rows.new.map ≡ map.from_entries (es ++ default_ports last)) }
 {
     for index in 0..last {
         add_port(rows, alloc, &PortId::new(index + 1).unwrap())?;

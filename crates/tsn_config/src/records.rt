@@ -1,7 +1,7 @@
 //! Lists of records with their keys, from which a configuration is opened.
 //!
-//! Each record is of its key's kind and its numbers are in range, by the type of the list. Limits, repeated keys and references are not looked at
-//! here.
+//! Each record is of its key's kind and its numbers are in range, by the type of the list. Limits, repeated keys and
+//! references are not looked at here.
 ghost use Rattle.std.specs.Prelude.{◌≡◌, ◌++◌, ◌∷◌, [], IsTrue, OnErr, OnOk};
 ghost use Rattle.tsn_edit.specs.Edits.{is_of_kind};
 ghost use Rattle.tsn_config.specs.Opening.{AreOfKind, RecordsInRange};

@@ -46,7 +46,10 @@ impl Model for Rows {
 
     ghost coded = { rows_code };
 
-    ghost view = { λ a. record { map = map_of_tables a.ports.map a.filters.map a.gates.map a.meters.map; spare = least_of_four a.ports.spare a.filters.spare a.gates.spare a.meters.spare } };
+    ghost view = { λ a. record {
+      map = map_of_tables a.ports.map a.filters.map a.gates.map a.meters.map;
+      spare = least_of_four a.ports.spare a.filters.spare a.gates.spare a.meters.spare;
+    } };
 }
 
 impl Rows {
@@ -165,7 +168,8 @@ impl Rows {
         priority: Option<Priority>,
     ) -> Option<u64>
         ensures small { IfSome result (λ n. n < 65536) }
-        ensures least { (fs : FinMap nat_cmp AnyFilter) → AreFilters fs self.now.map → result ≡ first_id (specifies handle priority) (map.entries fs) }
+        ensures least { (fs : FinMap nat_cmp AnyFilter) → AreFilters fs self.now.map
+            → result ≡ first_id (specifies handle priority) (map.entries fs) }
     {
         self.filters.first_with(handle, priority)
     }
@@ -179,7 +183,8 @@ impl Rows {
     ) -> Option<u64>
         ensures small { IfSome result (λ n. n < 65536) }
         ensures least { (fs : FinMap nat_cmp AnyFilter) → AreFilters fs self.now.map →
-            result ≡ lesser (first_id (specifies handle (Some priority)) (map.entries fs)) (first_id (specifies handle None) (map.entries fs)) }
+            result ≡ lesser (first_id (specifies handle (Some priority)) (map.entries fs))
+            (first_id (specifies handle None) (map.entries fs)) }
     {
         self.filters.first_with_either(handle, priority)
     }
@@ -196,7 +201,8 @@ impl Rows {
         requires { from ≤ 65536 }
         ensures small { IfSome result (λ n. n < 65536) }
         ensures there { IfSome result (λ n. (from ≤ n) × IsTrue (refers (map.get self.now.map (Key.Filter n)) key.now)) }
-        ensures least { (n : ℕ) → from ≤ n → IsTrue (refers (map.get self.now.map (Key.Filter n)) key.now) → MatchOption result ⊥ (λ least. least ≤ n) }
+        ensures least { (n : ℕ) → from ≤ n → IsTrue (refers (map.get self.now.map (Key.Filter n)) key.now)
+            → MatchOption result ⊥ (λ least. least ≤ n) }
     {
         self.filters.next_referrer(key, from)
     }

@@ -33,7 +33,8 @@ module _ {E : Type 0} where
       (λ gt. inr (begins_shorter ys xs zs q p (omega arith)))
 
 module _ {M Q A : Type 0} (steps : M → Q → A → M → Type 0) where
-  pub Runs-snoc : (x y z : M) (log : List (Entry Q A)) (e : Entry Q A) → Runs steps x log y → steps y e.request e.reply z → Runs steps x (log ++ e ∷ []) z
+  pub Runs-snoc : (x y z : M) (log : List (Entry Q A)) (e : Entry Q A) → Runs steps x log y → steps y e.request e.reply z
+      → Runs steps x (log ++ e ∷ []) z
   Runs-snoc x y z [] e r h = let P : M → Type 0 = λ m. steps m e.request e.reply z in (z, subst P (sym r) h, refl)
   Runs-snoc x y z (d ∷ log) e r h = (r.0, r.1, Runs-snoc r.0 y z log e r.2 h)
 

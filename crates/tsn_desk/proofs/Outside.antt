@@ -15,13 +15,15 @@ module _ {V W : Type 0} (f : V → W) where
   back (x ∷ l) zero w e = (x, refl, cc e)
   back (x ∷ l) (suc k) w e = back l k w e
 
-pub closes_seats : {M Q A : Type 0} {D : _} (steps : M → Q → A → M → Type 0) (x : M) (seats : List (Seat M Q A D)) (y : M) → inner.Closes steps x (map (λ s. s.inner) seats) y → Closes steps x seats y
+pub closes_seats : {M Q A : Type 0} {D : _} (steps : M → Q → A → M → Type 0) (x : M) (seats : List (Seat M Q A D)) (y : M)
+    → inner.Closes steps x (map (λ s. s.inner) seats) y → Closes steps x seats y
 closes_seats {M} {Q} {A} {D} steps x seats y c = record {
   log = c.log;
   runs = c.runs;
   begins = λ k s e. c.begins k s.inner (there (λ (t : Seat M Q A D). t.inner) seats k s e);
   calls = λ k s e. c.calls k s.inner (there (λ (t : Seat M Q A D). t.inner) seats k s e);
-  apart = λ i j s t d e same. c.apart i j s.inner t.inner (there (λ (u : Seat M Q A D). u.inner) seats i s d) (there (λ (u : Seat M Q A D). u.inner) seats j t e) same;
+  apart = λ i j s t d e same. c.apart i j s.inner t.inner (there (λ (u : Seat M Q A D). u.inner) seats i s d)
+      (there (λ (u : Seat M Q A D). u.inner) seats j t e) same;
   no_other = λ n none_is. c.no_other n (λ k s e. let b = back (λ (t : Seat M Q A D). t.inner) seats k s e in
       λ same. none_is k b.0 b.1 (ap (λ t. inner.number t) b.2 ∙ same));
 }

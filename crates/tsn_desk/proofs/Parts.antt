@@ -19,19 +19,23 @@ use Rattle.tsn_desk.proofs.Begin.{begins_self}
 use Rattle.tsn_desk.proofs.Totals.{total_set, total_snoc, each_set}
 use Rattle.tsn_desk.proofs.Keeps.{apart_set, slot_stays}
 
-late_two : (a l m n : ℕ) → l + m ≡ n → (if nat_lt (2 ^ 63) a then l else 0) + (if nat_lt (2 ^ 63) a then m else 0) ≡ (if nat_lt (2 ^ 63) a then n else 0)
+late_two : (a l m n : ℕ) → l + m ≡ n
+    → (if nat_lt (2 ^ 63) a then l else 0) + (if nat_lt (2 ^ 63) a then m else 0) ≡ (if nat_lt (2 ^ 63) a then n else 0)
 late_two a l m n e = grind (arith, nat_tests)
 
-late_both : (a b l m : ℕ) → (if nat_lt (2 ^ 63) a then l else 0) + (if nat_lt (2 ^ 63) b then m else 0) ≤ (if nat_lt (2 ^ 63) (max a b) then m + l else 0)
+late_both : (a b l m : ℕ) → (if nat_lt (2 ^ 63) a then l else 0) + (if nat_lt (2 ^ 63) b then m else 0)
+    ≤ (if nat_lt (2 ^ 63) (max a b) then m + l else 0)
 late_both a b l m = grind (arith, nat_tests)
 
 module _ {V : Type 0} where
   -- what holds of each place holds with one more at the end
-  pub each_snoc : (P : ℕ → V → Type 0) (l : List V) (y : V) → ((k : ℕ) (s : V) → slice_get l k ≡ Some s → P k s) → P (length l) y → (k : ℕ) (s : V) → slice_get (l ++ y ∷ []) k ≡ Some s → P k s
+  pub each_snoc : (P : ℕ → V → Type 0) (l : List V) (y : V) → ((k : ℕ) (s : V) → slice_get l k ≡ Some s → P k s) → P (length l) y
+      → (k : ℕ) (s : V) → slice_get (l ++ y ∷ []) k ≡ Some s → P k s
   each_snoc P [] y all here zero s e = subst (λ (z : V). P 0 z) (cc e) here
   each_snoc P [] y all here (suc k) s e = absurd (cc e)
   each_snoc P (z ∷ l) y all here zero s e = all zero s e
-  each_snoc P (z ∷ l) y all here (suc k) s e = each_snoc (λ k s. P (suc k) s) l y (λ k s e. all (suc k) s e) (subst (λ (n : ℕ). P n y) refl here) k s e
+  each_snoc P (z ∷ l) y all here (suc k) s e =
+      each_snoc (λ k s. P (suc k) s) l y (λ k s e. all (suc k) s e) (subst (λ (n : ℕ). P n y) refl here) k s e
 
 module _ {Q A : Type 0} where
   pub times-append : (n : ℕ) (a b : List (Calls Q A)) → times n (a ++ b) ≡ times n a + times n b
@@ -51,7 +55,9 @@ module _ (Q A : Type 0) where
 
   none_below : (n k m : ℕ) → n < k → times {Q = Q} {A = A} n (numbered k m) ≡ 0
   none_below n k zero h = refl
-  none_below n k (suc m) h = let r = none_below n (suc k) m (omega arith) in let c : Calls Q A = record { number = k; made = [] } in let o = one_at c n (λ e. omega arith) in omega arith
+  none_below n k (suc m) h =
+      let r = none_below n (suc k) m (omega arith) in let c : Calls Q A = record { number = k; made = [] } in
+      let o = one_at c n (λ e. omega arith) in omega arith
 
   once_numbered : (n k m : ℕ) → times {Q = Q} {A = A} n (numbered k m) ≤ 1
   once_numbered n k zero = omega arith
@@ -90,7 +96,15 @@ module _ {M Q A : Type 0} (steps : M → Q → A → M → Type 0) (x : M) (seat
         legal = (x, refl);
         slot = inl (x, refl, refl);
         each_seat = λ j u at. let F : V → Type 0 = λ z. Knows x [] 0 (some (Some x) ∷ []) z in subst F (only j u at).1
-            record { first = λ y e. cc e; seen = begins_self []; told = begins_self []; tickets = omega arith; made = none_made Q A 1 seats; stage = tt; active = λ t h. absurd h };
+            record {
+              first = λ y e. cc e;
+              seen = begins_self [];
+              told = begins_self [];
+              tickets = omega arith;
+              made = none_made Q A 1 seats;
+              stage = tt;
+              active = λ t h. absurd h;
+            };
         apart = λ i j t a b ai bj ha hb. (only i a ai).0 ∙ sym (only j b bj).0;
         few = few;
         all_numbers = counted;
@@ -103,20 +117,32 @@ module _ {M Q A : Type 0} (steps : M → Q → A → M → Type 0) (x : M) (seat
       only_one v zero u e = (refl, some-injective v u e)
       only_one v (suc j) u e = absurd (some-ne-none u (sym e))
 
-  pub splits : (id : ℕ) (v : V) (a b : List (Calls Q A)) → v.stage ≡ Idle → length a + length b ≡ length v.calls → ((n : ℕ) → times n a + times n b ≡ times n v.calls)
-      → ((log : List (Entry Q A)) → AllMade log v.calls → AllMade log a × AllMade log b) → Splits Rule id v record v { calls = a } record v { calls = b }
+  pub splits : (id : ℕ) (v : V) (a b : List (Calls Q A)) → v.stage ≡ Idle → length a + length b ≡ length v.calls
+      → ((n : ℕ) → times n a + times n b ≡ times n v.calls)
+      → ((log : List (Entry Q A)) → AllMade log v.calls → AllMade log a × AllMade log b) → Splits Rule id v record v { calls = a } record v
+      { calls = b }
   splits id v a b idle as_many as_often apiece s k at =
       let left : V = record v { calls = a } in let right : V = record v { calls = b } in
       let known = k.each_seat id v at in
       let parts = apiece k.log known.made in
       let none_held : (t : ℕ) → Holds v.stage t → ⊥ = λ t h. (let F : Stage → Type 0 = λ z. Holds z t in subst F idle h) in
       let knows : (c : List (Calls Q A)) → AllMade k.log c → Knows x k.log k.ticket s.homes (record v { calls = c }) = λ c m.
-      record { first = known.first; seen = known.seen; told = known.told; tickets = known.tickets; made = m; stage = known.stage; active = λ t h. absurd (none_held t h) } in
+      record {
+        first = known.first;
+        seen = known.seen;
+        told = known.told;
+        tickets = known.tickets;
+        made = m;
+        stage = known.stage;
+        active = λ t h. absurd (none_held t h);
+      } in
       let sum : (f : V → ℕ) → f left + f right ≡ f v → total f (set s.views id left ++ right ∷ []) ≡ total f s.views = λ f e.
       let t = total_set f s.views id v left at in let u = total_snoc f (set s.views id left) right in omega arith in
-      let in_set : (i j t : ℕ) (c d : V) → get_elem? (set s.views id left) i ≡ some c → get_elem? (set s.views id left) j ≡ some d → Holds c.stage t → Holds d.stage t → i ≡ j =
+      let in_set : (i j t : ℕ) (c d : V) → get_elem? (set s.views id left) i ≡ some c → get_elem? (set s.views id left) j ≡ some d
+      → Holds c.stage t → Holds d.stage t → i ≡ j =
       apart_set steps x seats s k id left (λ j t u n at' h hu. none_held t h) in
-      let right_holds : (t : ℕ) (c : V) → right ≡ c → Holds c.stage t → ⊥ = λ t c e h. (let F : V → Type 0 = λ z. Holds z.stage t in none_held t (subst F (sym e) h)) in
+      let right_holds : (t : ℕ) (c : V) → right ≡ c → Holds c.stage t → ⊥ = λ t c e h. (let F : V → Type 0 = λ z. Holds z.stage t in
+      none_held t (subst F (sym e) h)) in
       record {
         log = k.log;
         ticket = k.ticket;
@@ -126,11 +152,13 @@ module _ {M Q A : Type 0} (steps : M → Q → A → M → Type 0) (x : M) (seat
         slot = ⊎_elim (λ h. inl h) (λ h. inr (h.0, h.1, at_longer (set s.views id left) (right ∷ []) h.0 h.1 h.2, h.3, h.4))
             (slot_stays steps x seats k.log s.homes s.views id v left at (λ h. h) k.slot);
         each_seat = λ j u at'. ⊎_elim
-            (λ h. each_set (λ j u. Knows x k.log k.ticket s.homes u) s.views id left (knows a parts.0) (λ j u n at'. k.each_seat j u at') j u h)
+            (λ h. each_set (λ j u. Knows x k.log k.ticket s.homes u) s.views id left (knows a parts.0) (λ j u n at'. k.each_seat j u at') j
+            u h)
             (λ h. let F : V → Type 0 = λ z. Knows x k.log k.ticket s.homes z in subst F h (knows b parts.1))
             (at_snoc (set s.views id left) right u j at');
         apart = λ i j t c d ci dj hc hd. ⊎_elim
-            (λ p. ⊎_elim (λ q. in_set i j t c d p q hc hd) (λ q. absurd (right_holds t d q hd)) (at_snoc (set s.views id left) right d j dj))
+            (λ p. ⊎_elim (λ q. in_set i j t c d p q hc hd) (λ q. absurd (right_holds t d q hd))
+            (at_snoc (set s.views id left) right d j dj))
             (λ p. absurd (right_holds t c p hc))
             (at_snoc (set s.views id left) right c i ci);
         few = k.few;
@@ -164,24 +192,44 @@ module _ {M Q A : Type 0} (steps : M → Q → A → M → Type 0) (x : M) (seat
         slot = slot_stays steps x seats k.log s.homes vs other w gone at' (λ h. absurd (cc (idle', h)))
             (slot_stays steps x seats k.log s.homes s.views id v both at (λ h. h) k.slot);
         each_seat = each_set (λ j u. Knows x k.log k.ticket s.homes u) vs other gone
-            record { first = λ y e. absurd (cc e); seen = (k.log, refl); told = (k.log, refl); tickets = omega arith; made = tt; stage = tt; active = λ t h. absurd h }
+            record {
+              first = λ y e. absurd (cc e);
+              seen = (k.log, refl);
+              told = (k.log, refl);
+              tickets = omega arith;
+              made = tt;
+              stage = tt;
+              active = λ t h. absurd h;
+            }
             (λ j u n at''. each_set (λ j u. Knows x k.log k.ticket s.homes u) s.views id both
-            record { first = known.first; seen = known.seen; told = known'.seen; tickets = most; made = AllMade-append k.log w.calls v.calls known'.made known.made; stage = known.stage; active = λ t h. absurd (none_held t h) }
+            record {
+              first = known.first;
+              seen = known.seen;
+              told = known'.seen;
+              tickets = most;
+              made = AllMade-append k.log w.calls v.calls known'.made known.made;
+              stage = known.stage;
+              active = λ t h. absurd (none_held t h);
+            }
             (λ j u n at'. k.each_seat j u at') j u at'');
-        apart = λ i j t c d. each_set (λ i c. get_elem? (set vs other gone) j ≡ some d → Holds c.stage t → Holds d.stage t → i ≡ j) vs other gone
+        apart = λ i j t c d. each_set (λ i c. get_elem? (set vs other gone) j ≡ some d → Holds c.stage t → Holds d.stage t → i ≡ j) vs other
+            gone
             (λ _ h _. absurd h)
-            (λ i c n ci. each_set (λ j d. Holds c.stage t → Holds d.stage t → i ≡ j) vs other gone (λ _ h. absurd h) (λ j d n' dj. in_first i j t c d ci dj) j d)
+            (λ i c n ci. each_set (λ j d. Holds c.stage t → Holds d.stage t → i ≡ j) vs other gone (λ _ h. absurd h)
+            (λ j d n' dj. in_first i j t c d ci dj) j d)
             i c;
         few = k.few;
         all_numbers = (let e = sum numbers in let a = k.all_numbers in omega arith);
         once = λ n. let e = often n in let o = k.once n in omega arith;
         unmade = λ n z. k.unmade n (sym (often n) ∙ z);
         room = (let e = sum late in let r = k.room in let l = late_both v.tickets w.tickets (length v.calls) (length w.calls) in
-            let f : late both ≡ (if nat_lt (2 ^ 63) (max v.tickets w.tickets) then length w.calls + length v.calls else 0) = ap (λ (n : ℕ). if nat_lt (2 ^ 63) (max v.tickets w.tickets) then n else 0) lengths in
+            let f : late both ≡ (if nat_lt (2 ^ 63) (max v.tickets w.tickets) then length w.calls + length v.calls else 0) = ap
+            (λ (n : ℕ). if nat_lt (2 ^ 63) (max v.tickets w.tickets) then n else 0) lengths in
             let z : late gone ≡ 0 = refl in omega arith);
       }
 
-  pub gives_out : (id : ℕ) (v : V) → v.stage ≡ Idle → Splits Rule id v record v { calls = rest_calls v.calls } record v { calls = first_calls v.calls }
+  pub gives_out : (id : ℕ) (v : V) → v.stage ≡ Idle → Splits Rule id v record v { calls = rest_calls v.calls } record v
+      { calls = first_calls v.calls }
   gives_out id v idle = splits id v (rest_calls v.calls) (first_calls v.calls) idle (lengths v.calls) (often v.calls) (apiece v.calls)
     where
       lengths : (cs : List (Calls Q A)) → length (rest_calls cs) + length (first_calls cs) ≡ length cs
@@ -192,7 +240,8 @@ module _ {M Q A : Type 0} (steps : M → Q → A → M → Type 0) (x : M) (seat
       often [] n = refl
       often (c ∷ cs) n = omega arith
 
-      apiece : (cs : List (Calls Q A)) (log : List (Entry Q A)) → AllMade log cs → AllMade log (rest_calls cs) × AllMade log (first_calls cs)
+      apiece : (cs : List (Calls Q A)) (log : List (Entry Q A)) → AllMade log cs
+          → AllMade log (rest_calls cs) × AllMade log (first_calls cs)
       apiece [] log h = (tt, tt)
       apiece (c ∷ cs) log h = (h.1, (h.0, tt))
 

@@ -20,11 +20,14 @@ module _ {V : Type 0} where
   total_at f (x ∷ xs) zero v e = let s : f x ≡ f v = ap f (some-injective x v e) in omega arith
   total_at f (x ∷ xs) (suc i) v e = let r = total_at f xs i v e in omega arith
 
-  pub total_two : (f : V → ℕ) (l : List V) (i j : ℕ) (v w : V) → i ≢ j → get_elem? l i ≡ some v → get_elem? l j ≡ some w → f v + f w ≤ total f l
+  pub total_two : (f : V → ℕ) (l : List V) (i j : ℕ) (v w : V) → i ≢ j → get_elem? l i ≡ some v → get_elem? l j ≡ some w
+      → f v + f w ≤ total f l
   total_two f [] i j v w n e d = absurd (some-ne-none v (sym e))
   total_two f (x ∷ xs) zero zero v w n e d = absurd (n refl)
-  total_two f (x ∷ xs) zero (suc j) v w n e d = let s : f x ≡ f v = ap f (some-injective x v e) in let r = total_at f xs j w d in omega arith
-  total_two f (x ∷ xs) (suc i) zero v w n e d = let s : f x ≡ f w = ap f (some-injective x w d) in let r = total_at f xs i v e in omega arith
+  total_two f (x ∷ xs) zero (suc j) v w n e d =
+      let s : f x ≡ f v = ap f (some-injective x v e) in let r = total_at f xs j w d in omega arith
+  total_two f (x ∷ xs) (suc i) zero v w n e d =
+      let s : f x ≡ f w = ap f (some-injective x w d) in let r = total_at f xs i v e in omega arith
   total_two f (x ∷ xs) (suc i) (suc j) v w n e d = let r = total_two f xs i j v w (λ p. n (ap suc p)) e d in omega arith
 
   pub total_below : (f g : V → ℕ) (l : List V) → ((v : V) → f v ≤ g v) → total f l ≤ total g l

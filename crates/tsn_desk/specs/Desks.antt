@@ -52,8 +52,10 @@ pub record HasSeenMore {M Q A : Type 0} {D : _} (steps : M → Q → A → M →
   pub begins : Begins (seen old) (seen new)
   pub legal : IsLegal steps (first_of desk) (seen new)
 
--- The history then seen is legal, begins with what was seen before, and ends with this call, at its place. Of the calls of the seat's number it has those that the seat had made and this one, each once.
-pub record HasTurned {M Q A : Type 0} {D : _} (steps : M → Q → A → M → Type 0) (desk : Desk M Q A) (old : Seat M Q A D) (request : Q) (place : ℕ) (reply : A) (new : Seat M Q A D) : Type 0 where
+-- The history then seen is legal, begins with what was seen before, and ends with this call, at its place. Of the calls of the seat's
+-- number it has those that the seat had made and this one, each once.
+pub record HasTurned {M Q A : Type 0} {D : _} (steps : M → Q → A → M → Type 0) (desk : Desk M Q A) (old : Seat M Q A D) (request : Q)
+    (place : ℕ) (reply : A) (new : Seat M Q A D) : Type 0 where
   pub before : List (Entry Q A)
   pub begins : Begins (seen old) before
   pub at_place : length before ≡ place
@@ -69,11 +71,13 @@ pub record IsFresh {M Q A : Type 0} {D : _} (desk : Desk M Q A) (seat : Seat M Q
   pub nothing_made : made seat ≡ []
   pub number_is : number seat ≡ n
 
--- The machine is where a legal history ends, which begins with what each seat has seen. The calls in it are those of the seats, in their order, which differ in their numbers, and no others.
-pub record Closes {M Q A : Type 0} {D : _} (steps : M → Q → A → M → Type 0) (x : M) (seats : List (Seat M Q A D)) (machine : M) : Type 0 where
-  pub log : List (Entry Q A)
-  pub runs : Runs steps x log machine
-  pub begins : (k : ℕ) (s : Seat M Q A D) → slice_get seats k ≡ Some s → Begins (seen s) log
-  pub calls : (k : ℕ) (s : Seat M Q A D) → slice_get seats k ≡ Some s → calls_by (number s) log ≡ made s
-  pub apart : (i j : ℕ) (s t : Seat M Q A D) → slice_get seats i ≡ Some s → slice_get seats j ≡ Some t → number s ≡ number t → i ≡ j
-  pub no_other : (n : ℕ) → ((k : ℕ) (s : Seat M Q A D) → slice_get seats k ≡ Some s → number s ≢ n) → calls_by n log ≡ []
+-- The machine is where a legal history ends, which begins with what each seat has seen. The calls in it are those of the seats, in their
+-- order, which differ in their numbers, and no others.
+pub record Closes {M Q A : Type 0} {D : _} (steps : M → Q → A → M → Type 0) (x : M) (seats : List (Seat M Q A D)) (machine : M) : Type 0
+  where
+    pub log : List (Entry Q A)
+    pub runs : Runs steps x log machine
+    pub begins : (k : ℕ) (s : Seat M Q A D) → slice_get seats k ≡ Some s → Begins (seen s) log
+    pub calls : (k : ℕ) (s : Seat M Q A D) → slice_get seats k ≡ Some s → calls_by (number s) log ≡ made s
+    pub apart : (i j : ℕ) (s t : Seat M Q A D) → slice_get seats i ≡ Some s → slice_get seats j ≡ Some t → number s ≡ number t → i ≡ j
+    pub no_other : (n : ℕ) → ((k : ℕ) (s : Seat M Q A D) → slice_get seats k ≡ Some s → number s ≢ n) → calls_by n log ≡ []

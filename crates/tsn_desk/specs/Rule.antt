@@ -1,5 +1,6 @@
--- The rule of a desk: what holds of its words, its slot and the views of all seats between any two atomic steps.
--- Word 0 counts the turns that have ended, and word 1 the tickets that were drawn. The one slot has the machine, but while a seat has its turn: then nothing is at home.
+-- The rule of a desk: what holds of its words, its slot and the views of all seats between any two atomic steps. Word 0 counts the turns
+-- that have ended, and word 1 the tickets that were drawn. The one slot has the machine, but while a seat has its turn: then nothing is at
+-- home.
 use Rattle.std.specs.Prelude.{◌≡◌, ℕ, ◌+◌, ◌^◌, ◌<◌, ◌≤◌, ◌⊎◌, ◌==◌, nat_lt, List, [], ◌∷◌, length, if◌then◌else◌, Option, Some, zero, suc}
 use mathlib.Core.Option.{some, none}
 use mathlib.Core.Option as maybe
@@ -67,13 +68,15 @@ module _ {M Q A : Type 0} where
   late v = if nat_lt (2 ^ 63) v.tickets then length v.calls else 0
 
   module _ (log : List (Entry Q A)) (ticket : ℕ) (homes : List (maybe.Option (Option M))) (seen : List (Entry Q A)) where
-    -- A ticket that waits is not yet served, or just now, and was drawn. One that has its turn is the one that is served; its seat has seen the whole history, and the machine is out.
+    -- A ticket that waits is not yet served, or just now, and was drawn. One that has its turn is the one that is served; its seat has seen
+    -- the whole history, and the machine is out.
     abbrev pub InStage : Stage → Type 0
     InStage Idle = Unit {0}
     InStage (Waiting k) = (length log ≤ k) × (k < ticket)
     InStage (Serving k) = (length log ≡ k) × (k < ticket) × (seen ≡ log) × (homes ≡ none ∷ [])
 
-  -- what a seat knows is so: its first machine is the desk's, the history begins with what it has seen and was told, no more tickets were seen than drawn, its calls are those of the history, and it has a number where it holds a ticket
+  -- what a seat knows is so: its first machine is the desk's, the history begins with what it has seen and was told, no more tickets were
+  -- seen than drawn, its calls are those of the history, and it has a number where it holds a ticket
   pub record Knows (x : M) (log : List (Entry Q A)) (ticket : ℕ) (homes : List (maybe.Option (Option M))) (v : View M Q A) : Type 0 where
     pub first : (y : M) → v.first ≡ Some y → y ≡ x
     pub seen : Begins v.seen log
@@ -89,7 +92,9 @@ module _ {M Q A : Type 0} where
       ((y : M) × (homes ≡ some (Some y) ∷ []) × Runs steps x log y)
       ⊎ ((j : ℕ) × (v : View M Q A) × (get_elem? views j ≡ some v) × (v.stage ≡ Serving (length log)) × (homes ≡ none ∷ []))
 
--- There is one history, of all turns that have ended, and it is legal from the desk's first machine. Each turn that has ended and each ticket that is held make up the tickets drawn, and no ticket is held twice. There are so many numbers as seats, at most 1,024; none stands with two seats, and no call has a number that stands with none.
+-- There is one history, of all turns that have ended, and it is legal from the desk's first machine. Each turn that has ended and each
+-- ticket that is held make up the tickets drawn, and no ticket is held twice. There are so many numbers as seats, at most 1,024; none
+-- stands with two seats, and no call has a number that stands with none.
 pub record Kept {M Q A : Type 0} (steps : M → Q → A → M → Type 0) (x : M) (seats : ℕ) (s : State (Option M) (View M Q A)) : Type 0 where
   pub log : List (Entry Q A)
   pub ticket : ℕ
@@ -98,7 +103,8 @@ pub record Kept {M Q A : Type 0} (steps : M → Q → A → M → Type 0) (x : M
   pub legal : IsLegal steps x log
   pub slot : Slot steps x log s.homes s.views
   pub each_seat : (j : ℕ) (v : View M Q A) → get_elem? s.views j ≡ some v → Knows x log ticket s.homes v
-  pub apart : (i j t : ℕ) (v w : View M Q A) → get_elem? s.views i ≡ some v → get_elem? s.views j ≡ some w → Holds v.stage t → Holds w.stage t → i ≡ j
+  pub apart : (i j t : ℕ) (v w : View M Q A) → get_elem? s.views i ≡ some v → get_elem? s.views j ≡ some w → Holds v.stage t
+      → Holds w.stage t → i ≡ j
   pub few : seats ≤ 1024
   pub all_numbers : total numbers s.views ≡ seats
   pub once : (n : ℕ) → total (λ v. times n v.calls) s.views ≤ 1

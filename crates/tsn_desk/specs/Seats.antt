@@ -31,13 +31,15 @@ module _ {M Q A : Type 0} where
   IsSameCaller old new = (number new ≡ number old) × (made new ≡ made old)
 
 module _ {M Q A : Type 0} where
-  -- The machine is where a legal history ends, which begins with what each seat has seen. The calls in it are those of the seats, which differ in their numbers, and no others.
+  -- The machine is where a legal history ends, which begins with what each seat has seen. The calls in it are those of the seats, which
+  -- differ in their numbers, and no others.
   pub record Closes (steps : M → Q → A → M → Type 0) (x : M) (seats : List (Seat (Option M) (View M Q A))) (machine : M) : Type 0 where
     pub log : List (Entry Q A)
     pub runs : Runs steps x log machine
     pub begins : (k : ℕ) (s : Seat (Option M) (View M Q A)) → slice_get seats k ≡ Some s → Begins (seen s) log
     pub calls : (k : ℕ) (s : Seat (Option M) (View M Q A)) → slice_get seats k ≡ Some s → calls_by (number s) log ≡ made s
-    pub apart : (i j : ℕ) (s t : Seat (Option M) (View M Q A)) → slice_get seats i ≡ Some s → slice_get seats j ≡ Some t → number s ≡ number t → i ≡ j
+    pub apart : (i j : ℕ) (s t : Seat (Option M) (View M Q A)) → slice_get seats i ≡ Some s → slice_get seats j ≡ Some t
+        → number s ≡ number t → i ≡ j
     pub no_other : (n : ℕ) → ((k : ℕ) (s : Seat (Option M) (View M Q A)) → slice_get seats k ≡ Some s → number s ≢ n) → calls_by n log ≡ []
 
 module _ {M Q A T P : Type 0} where
@@ -60,7 +62,8 @@ module _ {M Q A T P : Type 0} where
     pub idle : seat.me.0.stage ≡ Idle
 
   -- the seat has seen the whole history, which begins with what it and the other had seen, and has taken in the other's numbers
-  pub record Gathered (steps : M → Q → A → M → Type 0) (table : Table (Option M) (View M Q A) (Opening M) P T) (other old new : Seat (Option M) (View M Q A)) : Type 0 where
+  pub record Gathered (steps : M → Q → A → M → Type 0) (table : Table (Option M) (View M Q A) (Opening M) P T)
+      (other old new : Seat (Option M) (View M Q A)) : Type 0 where
     pub rests : IsAtRest table new
     pub calls : new.me.0.calls ≡ other.me.0.calls ++ old.me.0.calls
     pub kept : Begins (seen old) (seen new)
@@ -68,7 +71,8 @@ module _ {M Q A T P : Type 0} where
     pub legal : IsLegal steps (first_of table) (seen new)
 
   -- the seat has seen the whole history, which begins with what it and another had seen, and its own calls stay
-  pub record Learned (steps : M → Q → A → M → Type 0) (table : Table (Option M) (View M Q A) (Opening M) P T) (from old new : Seat (Option M) (View M Q A)) : Type 0 where
+  pub record Learned (steps : M → Q → A → M → Type 0) (table : Table (Option M) (View M Q A) (Opening M) P T)
+      (from old new : Seat (Option M) (View M Q A)) : Type 0 where
     pub rests : IsAtRest table new
     pub calls : new.me.0.calls ≡ old.me.0.calls
     pub kept : Begins (seen old) (seen new)

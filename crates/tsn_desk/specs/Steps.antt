@@ -62,7 +62,8 @@ module _ {M Q A : Type 0} where
   module _ (steps : M → Q → A → M → Type 0) where
     -- the seat has taken the machine, which is where the history ends; it has seen that whole, and it has n calls
     abbrev pub Took : Sitter M Q A → ℕ → Sitter M Q A → Type 0
-    Took m n k = (x : M) × (log : List (Entry Q A)) × (k ≡ (record m.0 { seen = log; stage = Serving n }, (0, Some x) ∷ m.1)) × Begins m.0.seen log × (length log ≡ n) × ((y : M) → m.0.first ≡ Some y → Runs steps y log x)
+    Took m n k = (x : M) × (log : List (Entry Q A)) × (k ≡ (record m.0 { seen = log; stage = Serving n }, (0, Some x) ∷ m.1))
+        × Begins m.0.seen log × (length log ≡ n) × ((y : M) → m.0.first ≡ Some y → Runs steps y log x)
 
     -- a look whether the ticket is served: if so, the seat has taken the machine, and else nothing changed
     abbrev pub looked : Step (Option M) → Sitter M Q A → ℕ → Sitter M Q A → Type 0
@@ -70,7 +71,8 @@ module _ {M Q A : Type 0} where
 
     -- the seat has seen the whole history, which is legal, has n calls, and begins with what the seat had seen and was told
     abbrev pub saw_front : Step (Option M) → Sitter M Q A → ℕ → Sitter M Q A → Type 0
-    saw_front step m n k = (log : List (Entry Q A)) × (k ≡ (record m.0 { seen = log }, m.1)) × Begins m.0.seen log × Begins m.0.told log × (length log ≡ n) × ((y : M) → m.0.first ≡ Some y → IsLegal steps y log) × AllMade log m.0.calls
+    saw_front step m n k = (log : List (Entry Q A)) × (k ≡ (record m.0 { seen = log }, m.1)) × Begins m.0.seen log × Begins m.0.told log
+        × (length log ≡ n) × ((y : M) → m.0.first ≡ Some y → IsLegal steps y log) × AllMade log m.0.calls
 
     -- the seat has its turn, and in its slot the machine after a step that was asked and answered so
     abbrev pub HasServed : Sitter M Q A → Q → A → Type 0
@@ -79,9 +81,11 @@ module _ {M Q A : Type 0} where
         × ((y : M) × (z : M) × (m.1 ≡ (0, Some z) ∷ []) × ((b : M) → m.0.first ≡ Some b → Runs steps b m.0.seen y) × steps y q a z)
         × (0 < length m.0.calls)
 
-    -- the turn has ended: the call stands last in the history, which is legal and has just the calls that the seat has made, and the machine is at home
+    -- the turn has ended: the call stands last in the history, which is legal and has just the calls that the seat has made, and the
+    -- machine is at home
     abbrev pub Ended : Sitter M Q A → Q → A → Sitter M Q A → Type 0
-    Ended m q a k = (k ≡ (finished m.0 (call (number_of m.0.calls) q a), rest m.1)) × ((y : M) → m.0.first ≡ Some y → IsLegal steps y k.0.seen) × AllMade k.0.seen k.0.calls
+    Ended m q a k = (k ≡ (finished m.0 (call (number_of m.0.calls) q a), rest m.1))
+        × ((y : M) → m.0.first ≡ Some y → IsLegal steps y k.0.seen) × AllMade k.0.seen k.0.calls
 
     -- the same, where something was said
     abbrev pub ended : Option (Q × A) → Step (Option M) → Sitter M Q A → ℕ → Sitter M Q A → Type 0

@@ -8,8 +8,8 @@ use crate::machine::Machine;
 use crate::plays::GiveOut;
 
 impl<M: Machine> Desk<M> {
-    /// The seats, in the order of their numbers: the first seat has all numbers, gives out one after the other, and keeps
-    /// the last.
+    /// The seats, in the order of their numbers: the first seat has all numbers, gives out one after the other, and
+    /// keeps the last.
     pub(crate) fn deal(
         &self,
         mut seat: TableSeat<M>,

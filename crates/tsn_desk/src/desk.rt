@@ -81,8 +81,8 @@ pub struct Exhausted<Q> {
 impl<M: Machine> Desk<M> {
     ghost use Rattle.tsn_desk.specs.Desks.{seen, tickets, number, made, first_of, seats_of, IsSeatOf, IsSameCaller, HasSeenMore, HasTurned, IsFresh, Closes};
 
-    /// A desk with the machine, and its seats, 1 to 1,024 of them, numbered from 1. Each has seen nothing of the history,
-    /// which is empty, and has made no call. For want of memory the machine comes back as it was.
+    /// A desk with the machine, and its seats, 1 to 1,024 of them, numbered from 1. Each has seen nothing of the
+    /// history, which is empty, and has made no call. For want of memory the machine comes back as it was.
     pub fn new(alloc: Global, machine: M, seats: usize) -> Result<(Desk<M>, Vec<Seat<M>>), M>
         requires { (0 < seats) × (seats ≤ 1024) }
         ensures desk { IfOk result (λ opened. (first_of opened.0 ≡ machine) × (seats_of opened.0 ≡ seats)) }
@@ -123,8 +123,8 @@ impl<M: Machine> Desk<M> {
     }
 
     /// Steps the machine once, when the turns before it have ended: it waits for them. It takes no memory of its own.
-    /// The history then seen ends with this call, at its place. It is refused where 2^63 tickets were drawn; the request
-    /// comes back, and the seat has made no call.
+    /// The history then seen ends with this call, at its place. It is refused where 2^63 tickets were drawn; the
+    /// request comes back, and the seat has made no call.
     pub fn turn<R: Wait>(
         &self,
         rt: &R,
@@ -210,9 +210,9 @@ impl<M: Machine> Desk<M> {
         (Seat { inner: seat }, Ok((Turn { place, reply }, mark)))
     }
 
-    /// Locks the door once no ticket is out and nobody else has locked it: threads whose turns begin at the door wait there until it is
-    /// opened. This decides who waits, and never what a turn finds. Whoever locks the door opens it, and takes turns from inside alone till
-    /// then.
+    /// Locks the door once no ticket is out and nobody else has locked it: threads whose turns begin at the door wait
+    /// there until it is opened. This decides who waits, and never what a turn finds. Whoever locks the door opens it,
+    /// and takes turns from inside alone till then.
     pub fn lock_door<R: Wait>(&self, rt: &R) {
         for _ in rt.forever() {
             self.come_in(rt);

@@ -1,10 +1,10 @@
 //! The parts of a turn: the way in, the wait for its ticket, and its end.
 //!
-//! Who finds a ticket out stays at the door, and draws none. Two that find none out at once both draw one, and the later
-//! one waits: it looks some times at the serving word and then parks on it. A park expects the number that the look
-//! found, so one that comes late returns at once; and who ends a turn wakes all, if some sleep with a ticket. Who is about
-//! to is counted first and then looks once more, so no wake is lost. No park, wake or count needs a seat or tells
-//! anything, and who was woken looks again.
+//! Who finds a ticket out stays at the door, and draws none. Two that find none out at once both draw one, and the
+//! later one waits: it looks some times at the serving word and then parks on it. A park expects the number that the
+//! look found, so one that comes late returns at once; and who ends a turn wakes all, if some sleep with a ticket. Who
+//! is about to is counted first and then looks once more, so no wake is lost. No park, wake or count needs a seat or
+//! tells anything, and who was woken looks again.
 ghost use Rattle.std.specs.Prelude.{◌≡◌, ◌<◌, [], ◌∷◌, length, Some};
 ghost use Rattle.tsn_desk.specs.declared.board.Stage.TheVariants.{Serving, Waiting};
 ghost use Rattle.tsn_desk.specs.Steps.{Ended, HasServed, Took};
@@ -109,7 +109,8 @@ impl<M: Machine> Desk<M> {
         reply: &M::Reply,
     )
         requires said { W.said ≡ Some (asked.now.value, reply.now) }
-        requires desk { (seat.old.table_id ≡ self.now.table.shared.table_id) × (seat.old.me.0.first ≡ Some self.now.table.shared.key.first.value) }
+        requires desk { (seat.old.table_id ≡ self.now.table.shared.table_id)
+            × (seat.old.me.0.first ≡ Some self.now.table.shared.key.first.value) }
         requires served { HasServed M.steps seat.old.me asked.now.value reply.now }
         ensures same { (seat.new.table_id ≡ seat.old.table_id) × (seat.new.id ≡ seat.old.id) }
         ensures ended { Ended M.steps seat.old.me asked.now.value reply.now seat.new.me }
@@ -124,7 +125,8 @@ impl<M: Machine> Desk<M> {
         asked: &Snapshot<M::Request>,
         reply: &M::Reply,
     )
-        requires desk { (seat.old.table_id ≡ self.now.table.shared.table_id) × (seat.old.me.0.first ≡ Some self.now.table.shared.key.first.value) }
+        requires desk { (seat.old.table_id ≡ self.now.table.shared.table_id)
+            × (seat.old.me.0.first ≡ Some self.now.table.shared.key.first.value) }
         requires served { HasServed M.steps seat.old.me asked.now.value reply.now }
         ensures same { (seat.new.table_id ≡ seat.old.table_id) × (seat.new.id ≡ seat.old.id) }
         ensures ended { Ended M.steps seat.old.me asked.now.value reply.now seat.new.me }

@@ -1,13 +1,14 @@
 //! Who waits at a desk, and who wakes them. This decides when a thread sleeps, and never what it finds.
 //!
-//! A thread that finds a ticket out stays at the door until none is. So one that draws a ticket is served soon and seldom
-//! sleeps, and who sleeps at the door is not in the way of those who run. The door is a word: 1 while someone may sleep
-//! there. Who ends a turn sets it to 0 and wakes one; who was woken sets it to 1 again, since others may still sleep.
-//! Whoever sets it to 1 looks once more after that: it goes in, and its own turn ends later, or it finds a ticket out,
-//! and the turn of that ends later. Either way one more is woken.
+//! A thread that finds a ticket out stays at the door until none is. So one that draws a ticket is served soon and
+//! seldom sleeps, and who sleeps at the door is not in the way of those who run. The door is a word: 1 while someone
+//! may sleep there. Who ends a turn sets it to 0 and wakes one; who was woken sets it to 1 again, since others may
+//! still sleep. Whoever sets it to 1 looks once more after that: it goes in, and its own turn ends later, or it finds a
+//! ticket out, and the turn of that ends later. Either way one more is woken.
 //!
-//! A thread that has turns to take one behind the other locks the door, and the others stay there. It unlocks it and looks then whether
-//! someone may sleep there; and who says so looks at the lock once more. So either the one finds it open or the other wakes one.
+//! A thread that has turns to take one behind the other locks the door, and the others stay there. It unlocks it and
+//! looks then whether someone may sleep there; and who says so looks at the lock once more. So either the one finds it
+//! open or the other wakes one.
 use std::sync::Wait;
 use std::sync::atomic::{AtomicU64, Ordering};
 

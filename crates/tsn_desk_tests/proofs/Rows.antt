@@ -4,7 +4,8 @@ use Rattle.std.specs.Prelude.{IfSome}
 use Rattle.std.specs.Option.{option_to_list}
 use Rattle.std.proofs.lemmas.List.Elements.{All-pop, All-push}
 
-pub all_popped : {X : Type 0} (P : X → Type 0) → (xs ys : List X) (r : Option X) → xs ≡ ys ++ option_to_list r → All P xs → All P ys × IfSome r P
+pub all_popped : {X : Type 0} (P : X → Type 0) → (xs ys : List X) (r : Option X) → xs ≡ ys ++ option_to_list r → All P xs
+    → All P ys × IfSome r P
 all_popped P xs ys r e h = All-pop P xs ys r e h
 
 pub all_pushed : {X : Type 0} (P : X → Type 0) → (xs : List X) (x : X) → All P xs → P x → All P (xs ++ x ∷ [])

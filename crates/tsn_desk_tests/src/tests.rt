@@ -1,5 +1,5 @@
-//! What threads find at one desk: each call at its own place, none lost and none twice, also where far more threads wait
-//! than there are processors.
+//! What threads find at one desk: each call at its own place, none lost and none twice, also where far more threads
+//! wait than there are processors.
 ghost use Rattle.std.specs.Prelude.{◌≡◌, ◌≤◌, ◌<◌, All, IfOk, vec_len};
 ghost use Rattle.tsn_desk.specs.Desks.{IsSeatOf, seats_of};
 

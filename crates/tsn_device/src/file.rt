@@ -22,8 +22,8 @@ const SYNCED: u64 = 1;
 
 /// A device over a file of the system, which is written at its end.
 pub trait DeviceOverFile: Device {
-    /// A device over an open file that is written at its end. What stands in it from before is no part of what the device
-    /// is seen to keep.
+    /// A device over an open file that is written at its end. What stands in it from before is no part of what the
+    /// device is seen to keep.
     fn over(file: File) -> Self
         ensures none { (Self.kept result ≡ []) × (Self.loose result ≡ []) }
         ensures works { Self.works result ≡ true };
@@ -120,8 +120,8 @@ impl Device for FileDevice {
     }
 }
 
-/// A file that is written at its end, and of which no sync is made. It is seen to keep what a sync would have it keep: that
-/// outlasts the process, and perhaps not a loss of power.
+/// A file that is written at its end, and of which no sync is made. It is seen to keep what a sync would have it keep:
+/// that outlasts the process, and perhaps not a loss of power.
 #[derive(Drop)]
 pub struct UnsyncedDevice {
     device: FileDevice,

@@ -1,4 +1,5 @@
-//! A device in memory, for tests. It fails at the call that it is told to fail at, and gives each text that a crash may leave.
+//! A device in memory, for tests. It fails at the call that it is told to fail at, and gives each text that a crash may
+//! leave.
 ghost use Rattle.std.specs.Prelude.{◌≡◌, ◌≤◌, ◌↔◌, ◌++◌, Some, [], true, false, length, take, IsErr, IsTrue, OnOk, OnErr};
 ghost use Rattle.tsn_device.specs.Kept.{IsCutShort, LeavesFront};
 ghost use Rattle.tsn_device.specs.Memory.{one_call_later};
@@ -52,8 +53,8 @@ fn is_due(fails_after: &mut Option<u64>) -> bool
 }
 
 impl MemoryDevice {
-    /// A device with this text, which it keeps. The append or sync behind so many others fails, and an append that does takes
-    /// at most `takes` bytes; with none, none fails but for want of memory.
+    /// A device with this text, which it keeps. The append or sync behind so many others fails, and an append that does
+    /// takes at most `takes` bytes; with none, none fails but for want of memory.
     pub fn new(bytes: Vec<u8>, fails_after: Option<u64>, takes: usize) -> MemoryDevice
         ensures { result ≡ record {
           kept = bytes.items;

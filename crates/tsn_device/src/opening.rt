@@ -1,8 +1,8 @@
 //! What a start does with the files of a journal.
 //!
-//! No contract of std tells what a file holds, so that these functions say nothing by contract: each is a few lines, to be
-//! read by hand. A journal is locked for as long as it is open. Beside a journal FILE there may be FILE.new, a journal in
-//! the making, and FILE.cut, which keeps what was cut off.
+//! No contract of std tells what a file holds, so that these functions say nothing by contract: each is a few lines, to
+//! be read by hand. A journal is locked for as long as it is open. Beside a journal FILE there may be FILE.new, a
+//! journal in the making, and FILE.cut, which keeps what was cut off.
 ghost use Rattle.std.specs.Prelude.{◌≤◌, length};
 
 use crate::writing::write_all;
@@ -41,8 +41,8 @@ pub fn open<R: Files<File = File>>(files: &R, path: &str) -> Result<File, OpenFa
     Ok(file)
 }
 
-/// Makes a journal with this first line where no file is, and gives it as `open` does. It comes to its name only once it
-/// has the line on the disk, and never over a file that is there: then it fails with `AlreadyExists`.
+/// Makes a journal with this first line where no file is, and gives it as `open` does. It comes to its name only once
+/// it has the line on the disk, and never over a file that is there: then it fails with `AlreadyExists`.
 pub fn make<R: Files<File = File> + AllocGlobal>(
     rt: &R,
     path: &str,

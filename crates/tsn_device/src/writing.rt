@@ -24,7 +24,8 @@ pub(crate) fn write_some(file: &mut File, bytes: &[u8]) -> io::Result<usize>
     Err(io::Error::from(ErrorKind::Interrupted))
 }
 
-/// Writes all the bytes. What reaches the file is not known where it fails, and no contract says what does where it works.
+/// Writes all the bytes. What reaches the file is not known where it fails, and no contract says what does where it
+/// works.
 pub(crate) fn write_all(file: &mut File, bytes: &[u8]) -> io::Result<()> {
     let mut done = 0;
     'writes: while done < bytes.len() {

@@ -36,23 +36,27 @@ pub record Agrees (l : Limits) (c d : Configuration) (t : List Part) : Type 0 wh
   pub agree : (k : Key) → get d k ≡ before_or (part_on k t) (get c k)
 
 -- a change of the set goes into c alone
-pub agrees_taken : (l : Limits) (c d : Configuration) (t : List Part) (f : Change) → Agrees l c d t → Fits l c f → Agrees l (after_change c f) d (t ++ parts f)
+pub agrees_taken : (l : Limits) (c d : Configuration) (t : List Part) (f : Change) → Agrees l c d t → Fits l c f
+    → Agrees l (after_change c f) d (t ++ parts f)
 agrees_taken l c d t f a fits =
     grind (arith, part_on, before_or, part_on-append, after_or, get-after_change, part_on_some, each_part, part_on-append_found)
 
 -- maps that agree on a change's keys both have its values before
-pub stands_alike : (c d : Configuration) (f : List Part) → ((k : Key) → has (keys_of f) k ≡ true → get d k ≡ get c k) → Stands c f → Stands d f
+pub stands_alike : (c d : Configuration) (f : List Part) → ((k : Key) → has (keys_of f) k ≡ true → get d k ≡ get c k) → Stands c f
+    → Stands d f
 stands_alike c d [] same h = tt
 stands_alike c d (p ∷ f) same h = grind (arith, (stands_alike c d f (λ k in'. same k (or_right (same_key k p.key) _ in')) h.1))
 
-module _ (l : Limits) (c d : Configuration) (t : List Part) (f : Change) (a : Agrees l c d t) (fits : Fits l c f) (apart : Apart (parts f) t) where
+module _ (l : Limits) (c d : Configuration) (t : List Part) (f : Change) (a : Agrees l c d t) (fits : Fits l c f)
+    (apart : Apart (parts f) t) where
   -- at a key that f leaves alone
   untouched : (m : Configuration) (k : Key) → part_on k (parts f) ≡ None → get (after_change m f) k ≡ get m k
   untouched m k none = get-after_change m f k ∙ ap (λ o. after_or o (get m k)) none
 
   -- at a key that f touches
   touched : (m n : Configuration) (k : Key) (p : Part) → part_on k (parts f) ≡ Some p → get (after_change m f) k ≡ get (after_change n f) k
-  touched m n k p is = get-after_change m f k ∙ ap (λ o. after_or o (get m k)) is ∙ sym (ap (λ o. after_or o (get n k)) is) ∙ sym (get-after_change n f k)
+  touched m n k p is =
+      get-after_change m f k ∙ ap (λ o. after_or o (get m k)) is ∙ sym (ap (λ o. after_or o (get n k)) is) ∙ sym (get-after_change n f k)
 
   still_agree : (k : Key) → get (after_change d f) k ≡ before_or (part_on k t) (get (after_change c f) k)
   still_agree k = grind (arith, part_on, untouched, before_or, touched, part_on_none, part_on_some)
@@ -60,7 +64,8 @@ module _ (l : Limits) (c d : Configuration) (t : List Part) (f : Change) (a : Ag
   same_outside : (k : Key) → has (keys_of t) k ≡ false → get (after_change d f) k ≡ get (after_change c f) k
   same_outside k out = still_agree k ∙ ap (λ o. before_or o (get (after_change c f) k)) (part_on_none k t out)
 
-  still_referred : (k : Key) (r : Record) (q : Key) → get (after_change d f) k ≡ Some r → IsTrue (has (refs r) q) → IsSome (get (after_change d f) q)
+  still_referred : (k : Key) (r : Record) (q : Key) → get (after_change d f) k ≡ Some r → IsTrue (has (refs r) q)
+      → IsSome (get (after_change d f) q)
   still_referred k r q is ref =
       grind (arith, part_on, untouched, touched, before_or, part_on_some, get-after_change, after_or, same_outside)
 

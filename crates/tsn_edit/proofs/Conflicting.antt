@@ -14,7 +14,8 @@ any_map : {A B : Type 0} (f : A → B) (t : B → Bool) (xs : List A) → list_a
 any_map f t [] = refl
 any_map f t (x ∷ xs) = ap (λ b. t (f x) || b) (any_map f t xs)
 
-any_flat_map : {A B : Type 0} (f : A → List B) (t : B → Bool) (xs : List A) → list_any t (flat_map f xs) ≡ list_any (λ x. list_any t (f x)) xs
+any_flat_map : {A B : Type 0} (f : A → List B) (t : B → Bool) (xs : List A)
+    → list_any t (flat_map f xs) ≡ list_any (λ x. list_any t (f x)) xs
 any_flat_map f t [] = refl
 any_flat_map f t (x ∷ xs) = list_any-append t (f x) (flat_map f xs) ∙ ap (λ b. list_any t (f x) || b) (any_flat_map f t xs)
 

@@ -12,7 +12,8 @@ use Rattle.tsn_edit.proofs.Inverses.{not_again}
 use Rattle.tsn_edit.proofs.KeyFacts.{after_or, by_bool, get-put, get-put_all, part_on, part_on_none, same_configuration}
 
 -- the key of the first part stands in no other
-pub no_other : (p : Part) (ps : List Part) → IsDistinct same_key (keys_of (p ∷ ps)) → (k : Key) → same_key k p.key ≡ true → has (keys_of ps) k ≡ false
+pub no_other : (p : Part) (ps : List Part) → IsDistinct same_key (keys_of (p ∷ ps)) → (k : Key) → same_key k p.key ≡ true
+    → has (keys_of ps) k ≡ false
 unfolding IsDistinct
 no_other p ps d k same = by_bool (has (keys_of ps) k)
     (λ yes. let no : same_key k p.key ≡ false = not_again p.key (keys_of ps) d.0 k yes in (cc))

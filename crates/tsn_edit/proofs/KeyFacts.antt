@@ -99,7 +99,8 @@ part_on_some k (x ∷ e) p h =
           record {
             key = one_key k x.key same ∙ ap (λ (y : Part). y.key) is;
             there = or_left (same_key k x.key) _ same;
-            before = λ q h. has-append (refs_of x.before) (refs_before e) q ∙ or_left _ _ (ap (λ (y : Part). has (refs_of y.before) q) is ∙ h);
+            before =
+                λ q h. has-append (refs_of x.before) (refs_before e) q ∙ or_left _ _ (ap (λ (y : Part). has (refs_of y.before) q) is ∙ h);
             after = λ q h. has-append (refs_of x.after) (refs_after e) q ∙ or_left _ _ (ap (λ (y : Part). has (refs_of y.after) q) is ∙ h);
           }
       | false ↦ λ same found. let rest = part_on_some k e p found in

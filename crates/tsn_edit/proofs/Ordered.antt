@@ -23,7 +23,8 @@ limited l r = grind arith
 
 absent : (test : Key → Bool) (qs : List Key) → Is 8 (first_cause (map (λ q. unless (test q) (Dangling q)) qs))
 absent test [] = tt
-absent test (q ∷ qs) = is_either 8 (unless (test q) (Dangling q)) (first_cause (map (λ q. unless (test q) (Dangling q)) qs)) (is_unless (test q) (Dangling q)) (absent test qs)
+absent test (q ∷ qs) = is_either 8 (unless (test q) (Dangling q)) (first_cause (map (λ q. unless (test q) (Dangling q)) qs))
+    (is_unless (test q) (Dangling q)) (absent test qs)
 
 named : (o : Option (Key × Record)) → Is 9 (option_map (λ e. Referred e.0) o)
 named o = grind arith
@@ -33,14 +34,61 @@ named_beside test es = named (find test es)
 
 -- the causes of one edit of a batch, with their numbers
 abbrev numbered_of : Limits → Configuration → List Edit → Edit → List (ℕ × Option Refusal)
-numbered_of l c b (Create k r) = (3, unless (is_of_kind k r) Shape) ∷ (4, unless (holds_key l k) (Range KeyField)) ∷ (4, out_of_limits l r) ∷ (7, unless (is_none (get c k)) (Exists k)) ∷ (8, dangling (result c b) r) ∷ []
-numbered_of l c b (Replace k r) = (3, unless (is_of_kind k r) Shape) ∷ (4, unless (holds_key l k) (Range KeyField)) ∷ (4, out_of_limits l r) ∷ (6, unless (is_some (get c k)) (Missing k)) ∷ (8, dangling (result c b) r) ∷ []
-numbered_of l c b (Remove k) = (3, unless (not (is_port k)) Shape) ∷ (4, unless (holds_key l k) (Range KeyField)) ∷ (6, unless (is_some (get c k)) (Missing k)) ∷ (9, referrer_beside c b k) ∷ []
+numbered_of l c b (Create k r) = (3, unless (is_of_kind k r) Shape) ∷ (4, unless (holds_key l k) (Range KeyField)) ∷ (4, out_of_limits l r)
+    ∷ (7, unless (is_none (get c k)) (Exists k)) ∷ (8, dangling (result c b) r) ∷ []
+numbered_of l c b (Replace k r) = (3, unless (is_of_kind k r) Shape) ∷ (4, unless (holds_key l k) (Range KeyField)) ∷ (4, out_of_limits l r)
+    ∷ (6, unless (is_some (get c k)) (Missing k)) ∷ (8, dangling (result c b) r) ∷ []
+numbered_of l c b (Remove k) = (3, unless (not (is_port k)) Shape) ∷ (4, unless (holds_key l k) (Range KeyField))
+    ∷ (6, unless (is_some (get c k)) (Missing k)) ∷ (9, referrer_beside c b k) ∷ []
 
 ordered_of : (l : Limits) (c : Configuration) (b : List Edit) (edit : Edit) → IsOrdered 0 (numbered_of l c b edit)
-ordered_of l c b (Create k r) = (omega arith, is_unless _ Shape, (omega arith, is_unless _ (Range KeyField), (omega arith, limited l r, (omega arith, is_unless _ (Exists k), (omega arith, absent (λ q. is_some (get (result c b) q)) (refs r), tt)))))
-ordered_of l c b (Replace k r) = (omega arith, is_unless _ Shape, (omega arith, is_unless _ (Range KeyField), (omega arith, limited l r, (omega arith, is_unless _ (Missing k), (omega arith, absent (λ q. is_some (get (result c b) q)) (refs r), tt)))))
-ordered_of l c b (Remove k) = (omega arith, is_unless _ Shape, (omega arith, is_unless _ (Range KeyField), (omega arith, is_unless _ (Missing k), (omega arith, named_beside (λ e. has (refs e.1) k && not (has (edited_keys b) e.0)) (entries c), tt))))
+ordered_of l c b (Create k r) = (
+  omega arith,
+  is_unless _ Shape,
+  (
+    omega arith,
+    is_unless _ (Range KeyField),
+    (
+      omega arith,
+      limited l r,
+      (
+        omega arith,
+        is_unless _ (Exists k),
+        (omega arith, absent (λ q. is_some (get (result c b) q)) (refs r), tt),
+      ),
+    ),
+  ),
+)
+ordered_of l c b (Replace k r) = (
+  omega arith,
+  is_unless _ Shape,
+  (
+    omega arith,
+    is_unless _ (Range KeyField),
+    (
+      omega arith,
+      limited l r,
+      (
+        omega arith,
+        is_unless _ (Missing k),
+        (omega arith, absent (λ q. is_some (get (result c b) q)) (refs r), tt),
+      ),
+    ),
+  ),
+)
+ordered_of l c b (Remove k) = (
+  omega arith,
+  is_unless _ Shape,
+  (
+    omega arith,
+    is_unless _ (Range KeyField),
+    (
+      omega arith,
+      is_unless _ (Missing k),
+      (omega arith, named_beside (λ e. has (refs e.1) k && not (has (edited_keys b) e.0)) (entries c), tt),
+    ),
+  ),
+)
 
 up_to_9_of : (l : Limits) (c : Configuration) (b : List Edit) (edit : Edit) → AreAtMost 9 (numbered_of l c b edit)
 up_to_9_of l c b edit = grind arith
@@ -53,14 +101,18 @@ abbrev pub own_cause : Limits → Configuration → List Edit → Edit → Optio
 own_cause l c b e = first_cause (causes l c b e)
 
 own_first : (l : Limits) (c : Configuration) (b : List Edit) (edit : Edit) → least (causes l c b edit) ≡ own_cause l c b edit
-own_first l c b edit = ap least (sym (same_causes_of l c b edit)) ∙ least-ordered (numbered_of l c b edit) (ordered_of l c b edit) ∙ ap first_cause (same_causes_of l c b edit)
+own_first l c b edit = ap least (sym (same_causes_of l c b edit)) ∙ least-ordered (numbered_of l c b edit) (ordered_of l c b edit)
+    ∙ ap first_cause (same_causes_of l c b edit)
 
 own_most : (l : Limits) (c : Configuration) (b : List Edit) (edit : Edit) → AtMost 9 (own_cause l c b edit)
-own_most l c b edit = subst (λ cs. AtMost 9 (first_cause cs)) (same_causes_of l c b edit) (first-most 9 0 (numbered_of l c b edit) (ordered_of l c b edit) (up_to_9_of l c b edit))
+own_most l c b edit = subst (λ cs. AtMost 9 (first_cause cs)) (same_causes_of l c b edit)
+    (first-most 9 0 (numbered_of l c b edit) (ordered_of l c b edit) (up_to_9_of l c b edit))
 
-least_each : {A : Type 0} (f : A → List (Option Refusal)) (g : A → Option Refusal) → ((x : A) → least (f x) ≡ g x) → (xs : List A) → least (flat_map f xs) ≡ least (map g xs)
+least_each : {A : Type 0} (f : A → List (Option Refusal)) (g : A → Option Refusal) → ((x : A) → least (f x) ≡ g x) → (xs : List A)
+    → least (flat_map f xs) ≡ least (map g xs)
 least_each f g h [] = refl
-least_each f g h (x ∷ xs) = least-append (f x) (flat_map f xs) ∙ ap (λ o. lesser o (least (flat_map f xs))) (h x) ∙ ap (lesser (g x)) (least_each f g h xs)
+least_each f g h (x ∷ xs) =
+    least-append (f x) (flat_map f xs) ∙ ap (λ o. lesser o (least (flat_map f xs))) (h x) ∙ ap (lesser (g x)) (least_each f g h xs)
 
 -- a batch is refused by the least of its edits' first causes
 pub batch_refusal-first : (l : Limits) (c : Configuration) (b : List Edit) → refusal l c b ≡ least (map (λ e. own_cause l c b e) b)
@@ -68,7 +120,8 @@ batch_refusal-first l c b = least_each (λ e. causes l c b e) (λ e. own_cause l
 
 least_most : (l : Limits) (c : Configuration) (b es : List Edit) → AtMost 9 (least (map (λ e. own_cause l c b e) es))
 least_most l c b [] = tt
-least_most l c b (e ∷ es) = lesser-most 9 (own_cause l c b e) (least (map (λ e. own_cause l c b e) es)) (own_most l c b e) (least_most l c b es)
+least_most l c b (e ∷ es) =
+    lesser-most 9 (own_cause l c b e) (least (map (λ e. own_cause l c b e) es)) (own_most l c b e) (least_most l c b es)
 
 -- and by no cause of a number over 9
 pub batch_refusal-most : (l : Limits) (c : Configuration) (b : List Edit) → AtMost 9 (refusal l c b)

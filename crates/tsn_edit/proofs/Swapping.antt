@@ -20,5 +20,6 @@ length_so_far : (ps : List Part) (i : ℕ) → length (so_far i ps) ≡ length p
 length_so_far ps i = grind (arith, common_steps)
 
 -- one part more
-pub swapped_next : (ps qs : List Part) (i : ℕ) (d new : Part) → qs ≡ so_far i ps → i < length qs → new ≡ inverse_part (get_or qs i d) → set qs i new ≡ so_far (i + 1) ps
+pub swapped_next : (ps qs : List Part) (i : ℕ) (d new : Part) → qs ≡ so_far i ps → i < length qs → new ≡ inverse_part (get_or qs i d)
+    → set qs i new ≡ so_far (i + 1) ps
 swapped_next ps qs i d new is h inv = grind (arith, length_so_far, next_is, set, next_set, add-one)

@@ -65,7 +65,8 @@ referrer_beside c b k = option_map (λ e. Referred e.0) (find (λ e. has (refs e
 abbrev pub causes : Limits → Configuration → List Edit → Edit → List (Option Refusal)
 causes l c b (Create k r) = limit_causes l k r ++ (unless (is_none (get c k)) (Exists k) ∷ dangling (result c b) r ∷ [])
 causes l c b (Replace k r) = limit_causes l k r ++ (unless (is_some (get c k)) (Missing k) ∷ dangling (result c b) r ∷ [])
-causes l c b (Remove k) = unless (not (is_port k)) Shape ∷ unless (holds_key l k) (Range KeyField) ∷ unless (is_some (get c k)) (Missing k) ∷ referrer_beside c b k ∷ []
+causes l c b (Remove k) = unless (not (is_port k)) Shape ∷ unless (holds_key l k) (Range KeyField) ∷ unless (is_some (get c k)) (Missing k)
+    ∷ referrer_beside c b k ∷ []
 
 -- the cause of the least number, and of several of that number the first in the batch's order; a batch is admitted where there is none
 abbrev pub refusal : Limits → Configuration → List Edit → Option Refusal

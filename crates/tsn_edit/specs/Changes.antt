@@ -49,7 +49,8 @@ pub record Fits (l : Limits) (c : Configuration) (e : Change) : Type 0 where
   pub stands : Stands c (parts e)
   pub kept : IsWellKept l (after_change c e)
 
--- whether later parts ps conflict with qs: they have a key in common, or a value after in ps refers to a key of qs, or ps have a key that a value before in qs refers to
+-- whether later parts ps conflict with qs: they have a key in common, or a value after in ps refers to a key of qs, or ps have a key that a
+-- value before in qs refers to
 abbrev pub clashes : List Part → List Part → Bool
 clashes ps qs = meets (keys_of ps) (keys_of qs) || (meets (refs_after ps) (keys_of qs) || meets (keys_of ps) (refs_before qs))
 

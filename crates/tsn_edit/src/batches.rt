@@ -18,7 +18,8 @@ pub enum Edits {
     Many(Vec<Edit>),
 }
 
-/// Edits that are made at once, or not at all: 1 to 16, on distinct keys. Contracts see a batch as the list of its edits.
+/// Edits that are made at once, or not at all: 1 to 16, on distinct keys. Contracts see a batch as the list of its
+/// edits.
 #[derive(Debug, Drop)]
 pub struct Batch {
     edits: Edits,
@@ -72,8 +73,8 @@ impl Batch {
         }
     }
 
-    /// There are 1 to 16 edits on distinct keys, and the numbers of their records are in their ranges: all by their types. It
-    /// changes nothing as the program runs.
+    /// There are 1 to 16 edits on distinct keys, and the numbers of their records are in their ranges: all by their
+    /// types. It changes nothing as the program runs.
     pub fn tell_ranges(&self)
         ensures batch { IsBatch self.now }
         ensures ranges { EditsInRange self.now }

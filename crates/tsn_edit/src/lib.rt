@@ -93,8 +93,8 @@ pub enum Parts {
     Many(Vec<Part>),
 }
 
-/// What an admitted edit does: 1 to 16 parts on distinct keys, in the order of keys. Contracts see a change as the list of
-/// its parts. An edit of one record has one part.
+/// What an admitted edit does: 1 to 16 parts on distinct keys, in the order of keys. Contracts see a change as the list
+/// of its parts. An edit of one record has one part.
 #[derive(Debug, Drop)]
 pub struct Change {
     parts: Parts,

@@ -26,7 +26,8 @@ use Rattle.tsn_edit.specs.Configuration.{Configuration}
 
 -- a port's record as it is where no setup names the port
 abbrev pub is_default : Record → Bool
-is_default (Port r) = r.gates == 255 && (length r.admin.list == 0 && (r.admin.cycle == 1000000 && (r.admin.extension == 0 && r.admin.base == 0)))
+is_default (Port r) =
+    r.gates == 255 && (length r.admin.list == 0 && (r.admin.cycle == 1000000 && (r.admin.extension == 0 && r.admin.base == 0)))
 is_default r = false
 
 -- the records of a kind that are named, by number

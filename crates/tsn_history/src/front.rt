@@ -171,7 +171,8 @@ impl<J: Naming> Front<J> {
         }
     }
 
-    /// Adds a line to all that was seen, and says whether it did. It did not where the text was longer, or has 2^62 lines.
+    /// Adds a line to all that was seen, and says whether it did. It did not where the text was longer, or has 2^62
+    /// lines.
     pub fn add(&mut self, book: &Book<J>, line: &[u8]) -> bool
         ensures { IsTrue result → self.new ≡ self.old ++ line.now ∷ [] }
     {

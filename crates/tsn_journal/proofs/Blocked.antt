@@ -26,12 +26,14 @@ at o = option_map (λ m. m.entry.number) o
 above_later : (n : ℕ) (x y : Option ℕ) → above n (later_of x y) ≡ later_of (above n x) (above n y)
 above_later n x y = grind arith
 
-pub both_later : (n : ℕ) (x y x' y' : Option ℕ) → above n x ≡ above n x' → above n y ≡ above n y' → above n (later_of x y) ≡ above n (later_of x' y')
+pub both_later : (n : ℕ) (x y x' y' : Option ℕ) → above n x ≡ above n x' → above n y ≡ above n y'
+    → above n (later_of x y) ≡ above n (later_of x' y')
 both_later n x y x' y' first second = above_later n x y ∙ (λ i. later_of (first i) (second i)) ∙ sym (above_later n x' y')
 
 -- ---- what the rows tell of one part
 
-one_at : (t : Entry → Bool) (m : MarkedEntry) (o : Option MarkedEntry) (q : Option Entry) → at o ≡ option_map (λ (e : Entry). e.number) q → (c : Bool) → at (option_or o (cond c (Some m) None)) ≡ option_map (λ (e : Entry). e.number) (option_or q (cond c (Some m.entry) None))
+one_at : (t : Entry → Bool) (m : MarkedEntry) (o : Option MarkedEntry) (q : Option Entry) → at o ≡ option_map (λ (e : Entry). e.number) q
+    → (c : Bool) → at (option_or o (cond c (Some m) None)) ≡ option_map (λ (e : Entry). e.number) (option_or q (cond c (Some m.entry) None))
 one_at t m o q is c = grind arith
 
 -- the newest entry, among the marked ones
@@ -53,14 +55,17 @@ on_some r d = grind arith
 abbrev told_test : Part → Refs → Option Change → Bool
 told_test p refs o = (is_on p.key o || refers p.key o) || (on_one refs.first o || on_one refs.second o)
 
-told_is : (p : Part) (refs : Refs) → keys_of_refs refs ≡ refs_of p.before → (o : Option Change) → told_test p refs o ≡ is_in_conflict o (p ∷ [])
+told_is : (p : Part) (refs : Refs) → keys_of_refs refs ≡ refs_of p.before → (o : Option Change)
+    → told_test p refs o ≡ is_in_conflict o (p ∷ [])
 told_is p refs same o = grind (arith, on_none, on_some, in_conflict)
 
 module _ (ms : List MarkedEntry) (a : Index) (e : Entry) (can : CanTell ms a e) where
-  above_touched : (k : Key) → above e.number (some_number (touched a k)) ≡ above e.number (at (last_where (λ m. is_on k (applies m.entry.what)) ms))
+  above_touched : (k : Key) → above e.number (some_number (touched a k)) ≡ above e.number
+      (at (last_where (λ m. is_on k (applies m.entry.what)) ms))
   above_touched k = grind (arith, newest_marked (touches k) ms)
 
-  above_referred : (k : Key) → touches k e ≡ true → above e.number (some_number (referred a k)) ≡ above e.number (at (last_where (λ m. refers k (applies m.entry.what)) ms))
+  above_referred : (k : Key) → touches k e ≡ true
+      → above e.number (some_number (referred a k)) ≡ above e.number (at (last_where (λ m. refers k (applies m.entry.what)) ms))
   above_referred k on = can.tells.to k e can.there on can.later ∙ ap (above e.number) (sym (newest_marked (mentions k) ms))
 
   above_told : (r : Option Key) → above e.number (told_on a r) ≡ above e.number (at (last_where (λ m. on_one r (applies m.entry.what)) ms))
@@ -68,14 +73,16 @@ module _ (ms : List MarkedEntry) (a : Index) (e : Entry) (can : CanTell ms a e) 
   above_told (Some k) = above_touched k
 
   pub part_told : (p : Part) (refs : Refs) → keys_of_refs refs ≡ refs_of p.before → touches p.key e ≡ true
-      → above e.number (later_of (later_of (some_number (touched a p.key)) (some_number (referred a p.key))) (later_of (told_on a refs.first) (told_on a refs.second)))
+      → above e.number (later_of (later_of (some_number (touched a p.key)) (some_number (referred a p.key)))
+      (later_of (told_on a refs.first) (told_on a refs.second)))
       ≡ above e.number (at (last_where (λ m. true && is_in_conflict (applies m.entry.what) (p ∷ [])) ms))
   part_told p refs same on =
       let t1 : MarkedEntry → Bool = λ m. is_on p.key (applies m.entry.what) in
       let t2 : MarkedEntry → Bool = λ m. refers p.key (applies m.entry.what) in
       let t3 : MarkedEntry → Bool = λ m. on_one refs.first (applies m.entry.what) in
       let t4 : MarkedEntry → Bool = λ m. on_one refs.second (applies m.entry.what) in
-      both_later e.number _ _ (later_of (at (last_where t1 ms)) (at (last_where t2 ms))) (later_of (at (last_where t3 ms)) (at (last_where t4 ms)))
+      both_later e.number _ _ (later_of (at (last_where t1 ms)) (at (last_where t2 ms)))
+      (later_of (at (last_where t3 ms)) (at (last_where t4 ms)))
       (both_later e.number _ _ (at (last_where t1 ms)) (at (last_where t2 ms)) (above_touched p.key) (above_referred p.key on))
       (both_later e.number _ _ (at (last_where t3 ms)) (at (last_where t4 ms)) (above_told refs.first) (above_told refs.second))
       ∙ ap (above e.number)
@@ -98,5 +105,6 @@ module _ (ms : List MarkedEntry) (a : Index) (e : Entry) (can : CanTell ms a e) 
 
 -- ---- a change is on the keys of its parts
 
-pub on_part : (ps : List Part) (i : ℕ) (p : Part) (e : Entry) → applies e.what ≡ Some ps → i < length ps → p ≡ get_or ps i p → touches p.key e ≡ true
+pub on_part : (ps : List Part) (i : ℕ) (p : Part) (e : Entry) → applies e.what ≡ Some ps → i < length ps → p ≡ get_or ps i p
+    → touches p.key e ≡ true
 on_part ps i p e is short at' = ap (is_on p.key) is ∙ has_key ps i p short at'

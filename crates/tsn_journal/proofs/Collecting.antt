@@ -37,7 +37,8 @@ pub standing-marked : (ms : List MarkedEntry) → AreMarked ms → standing (ent
 standing-marked [] h = refl
 standing-marked (m ∷ ms) h = grind (arith, standing-marked ms h.1)
 
-pub collect-marked : (pick : What → Option Change) (ms : List MarkedEntry) → collect pick (entries_of ms) ≡ filter_map (λ m. applied pick m.entry) ms
+pub collect-marked : (pick : What → Option Change) (ms : List MarkedEntry)
+    → collect pick (entries_of ms) ≡ filter_map (λ m. applied pick m.entry) ms
 collect-marked pick [] = refl
 collect-marked pick (m ∷ ms) = ap (cons_option (applied pick m.entry)) (collect-marked pick ms)
 
@@ -49,14 +50,16 @@ num o = option_map (λ x. x.number) o
 abbrev at : Option MarkedEntry → Option ℕ
 at o = option_map (λ m. m.entry.number) o
 
-pub last_marked : (pick : MarkedEntry → Option Applied) (t : Applied → Bool) (p : MarkedEntry → Bool) (ms : List MarkedEntry) → IsOwn pick → ((m : MarkedEntry) → p m ≡ passes t (pick m))
+pub last_marked : (pick : MarkedEntry → Option Applied) (t : Applied → Bool) (p : MarkedEntry → Bool) (ms : List MarkedEntry) → IsOwn pick
+    → ((m : MarkedEntry) → p m ≡ passes t (pick m))
     → num (last_where t (filter_map pick ms)) ≡ at (last_where p ms)
 last_marked pick t p [] own agree = refl
 last_marked pick t p (m ∷ ms) own agree = grind (arith, last_marked pick t p ms own agree)
 
 -- ---- the numbers of those that pass
 
-pub filter_marked : (pick : MarkedEntry → Option Applied) (t : Applied → Bool) (p : MarkedEntry → Bool) (ms : List MarkedEntry) → IsOwn pick → ((m : MarkedEntry) → p m ≡ passes t (pick m))
+pub filter_marked : (pick : MarkedEntry → Option Applied) (t : Applied → Bool) (p : MarkedEntry → Bool) (ms : List MarkedEntry) → IsOwn pick
+    → ((m : MarkedEntry) → p m ≡ passes t (pick m))
     → map (λ (x : Applied). x.number) (filter t (filter_map pick ms)) ≡ map (λ (m : MarkedEntry). m.entry.number) (filter p ms)
 filter_marked pick t p [] own agree = refl
 filter_marked pick t p (m ∷ ms) own agree = grind (arith, filter_marked pick t p ms own agree)
@@ -77,17 +80,22 @@ find_marked pick n k (m ∷ ms) own h = grind (arith, no_number, nat_tests, find
 
 -- ---- those of greater numbers
 
-all_later : (pick : MarkedEntry → Option Applied) (k n : ℕ) (ms : List MarkedEntry) → IsOwn pick → k < n → IsNumbered n (entries_of ms) → later_than k (filter_map pick ms) ≡ filter_map pick ms
+all_later : (pick : MarkedEntry → Option Applied) (k n : ℕ) (ms : List MarkedEntry) → IsOwn pick → k < n → IsNumbered n (entries_of ms)
+    → later_than k (filter_map pick ms) ≡ filter_map pick ms
 all_later pick k n [] own l h = refl
 all_later pick k n (m ∷ ms) own l h = grind (arith, all_later pick k (n + 1) ms own (omega arith) h.1)
 
-later_from : (pick : MarkedEntry → Option Applied) (k n : ℕ) (ms : List MarkedEntry) → IsOwn pick → IsNumbered (k + 1) (entries_of ms) → later_than (k + n) (filter_map pick ms) ≡ filter_map pick (drop n ms)
-later_from pick k zero ms own h = ap (λ j. later_than j (filter_map pick ms)) (let e : k + 0 ≡ k = omega arith in e) ∙ all_later pick k (k + 1) ms own (omega arith) h
+later_from : (pick : MarkedEntry → Option Applied) (k n : ℕ) (ms : List MarkedEntry) → IsOwn pick → IsNumbered (k + 1) (entries_of ms)
+    → later_than (k + n) (filter_map pick ms) ≡ filter_map pick (drop n ms)
+later_from pick k zero ms own h =
+    ap (λ j. later_than j (filter_map pick ms)) (let e : k + 0 ≡ k = omega arith in e) ∙ all_later pick k (k + 1) ms own (omega arith) h
 later_from pick k (suc n) [] own h = refl
 later_from pick k (suc n) (m ∷ ms) own h = grind (arith, later_from pick (k + 1) n ms own h.1)
 
-pub later_marked : (pick : MarkedEntry → Option Applied) (n : ℕ) (ms : List MarkedEntry) → IsOwn pick → IsNumbered 1 (entries_of ms) → later_than n (filter_map pick ms) ≡ filter_map pick (drop n ms)
-later_marked pick n ms own h = ap (λ j. later_than j (filter_map pick ms)) (let e : n ≡ 0 + n = omega arith in e) ∙ later_from pick 0 n ms own h
+pub later_marked : (pick : MarkedEntry → Option Applied) (n : ℕ) (ms : List MarkedEntry) → IsOwn pick → IsNumbered 1 (entries_of ms)
+    → later_than n (filter_map pick ms) ≡ filter_map pick (drop n ms)
+later_marked pick n ms own h =
+    ap (λ j. later_than j (filter_map pick ms)) (let e : n ≡ 0 + n = omega arith in e) ∙ later_from pick 0 n ms own h
 
 -- ---- the entries of greater numbers
 
@@ -101,4 +109,5 @@ since_from k (suc n) [] h = refl
 since_from k (suc n) (e ∷ es) h = grind (arith, since_from (k + 1) n es h.1)
 
 pub since-drop : (n : ℕ) (ms : List MarkedEntry) → IsNumbered 1 (entries_of ms) → entries_of (drop n ms) ≡ since (entries_of ms) n
-since-drop n ms h = sym (ap (since (entries_of ms)) (let e : n ≡ 0 + n = omega arith in e) ∙ since_from 0 n (entries_of ms) h ∙ drop-map (λ (m : MarkedEntry). m.entry) n ms)
+since-drop n ms h = sym (ap (since (entries_of ms)) (let e : n ≡ 0 + n = omega arith in e) ∙ since_from 0 n (entries_of ms) h
+    ∙ drop-map (λ (m : MarkedEntry). m.entry) n ms)

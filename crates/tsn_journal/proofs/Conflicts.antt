@@ -14,10 +14,13 @@ use Rattle.tsn_journal.proofs.Finders.{any_agrees, conflict_agrees, later_picked
 use Rattle.tsn_journal.proofs.Standing.{IsEntry, standing_is_entry, undone_is_entry}
 
 -- the search of marked entries, from the entry that was found at the number, finds the latest picked one in conflict with x
-pub sought : (ms : List MarkedEntry) (is : IsJournal ms) (pick : MarkedEntry → Option Applied) (xs : List Applied) → IsOwn pick → xs ≡ filter_map pick ms
+pub sought : (ms : List MarkedEntry) (is : IsJournal ms) (pick : MarkedEntry → Option Applied) (xs : List Applied) → IsOwn pick
+    → xs ≡ filter_map pick ms
     → (es : List Entry) (n : ℕ) (x : Applied) → IsEntry es n x
-    → (p : ℕ → MarkedEntry → Bool) (t : Applied → Bool) → ((m : MarkedEntry) → (p x.session m && is_in_conflict (applies m.entry.what) x.change) ≡ passes t (pick m))
-    → option_map (λ (m : MarkedEntry). m.entry.number) (option_and_then (λ e. conflict_after (p e.session) ms e) (entry es n)) ≡ option_map (λ (y : Applied). y.number) (last_where t (later_than x.number xs))
+    → (p : ℕ → MarkedEntry → Bool) (t : Applied → Bool)
+    → ((m : MarkedEntry) → (p x.session m && is_in_conflict (applies m.entry.what) x.change) ≡ passes t (pick m))
+    → option_map (λ (m : MarkedEntry). m.entry.number) (option_and_then (λ e. conflict_after (p e.session) ms e) (entry es n))
+    ≡ option_map (λ (y : Applied). y.number) (last_where t (later_than x.number xs))
 sought ms is pick xs own picked es n x at p t agree = grind (arith, later_picked)
 
 module _ (ms : List MarkedEntry) (is : IsJournal ms) (es : List Entry) (same : entries_of ms ≡ es) (n : ℕ) (x : Applied) where
@@ -27,17 +30,24 @@ module _ (ms : List MarkedEntry) (is : IsJournal ms) (es : List Entry) (same : e
   standing_marked : standing es ≡ filter_map stands ms
   standing_marked = ap standing (sym same) ∙ standing-marked ms is.marked
 
-  pub standing_conflict : standing_entry es n ≡ Some x → option_map (λ (m : MarkedEntry). m.entry.number) (option_and_then (conflict_after (λ m. is_some (stands m)) ms) (entry es n)) ≡ option_map (λ (y : Applied). y.number) (find_conflict es x)
+  pub standing_conflict : standing_entry es n ≡ Some x
+      → option_map (λ (m : MarkedEntry). m.entry.number) (option_and_then (conflict_after (λ m. is_some (stands m)) ms) (entry es n))
+      ≡ option_map (λ (y : Applied). y.number) (find_conflict es x)
   standing_conflict there =
       sought ms is stands (standing es) stands-own standing_marked es n x (standing_is_entry es n x numbered there)
       (λ s m. is_some (stands m)) (λ f. conflicts f.change x.change) (conflict_agrees x.change)
 
-  pub others_conflict : standing_entry es n ≡ Some x → option_map (λ (m : MarkedEntry). m.entry.number) (option_and_then (conflict_of_others ms) (entry es n)) ≡ option_map (λ (y : Applied). y.number) (find_conflict_of_others es x)
+  pub others_conflict : standing_entry es n ≡ Some x
+      → option_map (λ (m : MarkedEntry). m.entry.number) (option_and_then (conflict_of_others ms) (entry es n))
+      ≡ option_map (λ (y : Applied). y.number) (find_conflict_of_others es x)
   others_conflict there =
       sought ms is stands (standing es) stands-own standing_marked es n x (standing_is_entry es n x numbered there)
       is_others (λ f. not (f.session == x.session) && conflicts f.change x.change) (other_agrees x.session x.change)
 
-  pub redo_conflict : undone_entry es n ≡ Some x → option_map (λ (m : MarkedEntry). m.entry.number) (option_and_then (conflict_after (λ m. true) ms) (entry es n)) ≡ option_map (λ (y : Applied). y.number) (find_redo_conflict es x)
+  pub redo_conflict : undone_entry es n ≡ Some x
+      → option_map (λ (m : MarkedEntry). m.entry.number) (option_and_then (conflict_after (λ m. true) ms) (entry es n))
+      ≡ option_map (λ (y : Applied). y.number) (find_redo_conflict es x)
   redo_conflict there =
-      sought ms is (λ m. applied applies m.entry) (collect applies es) (applied-own applies) (ap (collect applies) (sym same) ∙ collect-marked applies ms) es n x (undone_is_entry es n x numbered there)
+      sought ms is (λ m. applied applies m.entry) (collect applies es) (applied-own applies)
+      (ap (collect applies) (sym same) ∙ collect-marked applies ms) es n x (undone_is_entry es n x numbered there)
       (λ s m. true) (λ f. conflicts f.change x.change) (any_agrees x.change)

@@ -27,11 +27,14 @@ abbrev pub Agrees : (Applied → Bool) → (MarkedEntry → Bool) → Type 0
 Agrees t p = (m : MarkedEntry) → p m ≡ passes t (stands m)
 
 module _ (ms : List MarkedEntry) (is : IsJournal ms) where
-  pub last_standing : (t : Applied → Bool) (p : MarkedEntry → Bool) → Agrees t p → at (last_where p ms) ≡ num (last_where t (standing (entries_of ms)))
-  last_standing t p agree = sym (ap (λ xs. num (last_where t xs)) (standing-marked ms is.marked) ∙ last_marked stands t p ms stands-own agree)
+  pub last_standing : (t : Applied → Bool) (p : MarkedEntry → Bool) → Agrees t p
+      → at (last_where p ms) ≡ num (last_where t (standing (entries_of ms)))
+  last_standing t p agree =
+      sym (ap (λ xs. num (last_where t xs)) (standing-marked ms is.marked) ∙ last_marked stands t p ms stands-own agree)
 
   -- a search for the latest later one among what is picked of the entries
-  pub later_picked : (pick : MarkedEntry → Option Applied) (xs : List Applied) → IsOwn pick → xs ≡ filter_map pick ms → (n : ℕ) (t : Applied → Bool) (p : MarkedEntry → Bool) → ((m : MarkedEntry) → p m ≡ passes t (pick m))
+  pub later_picked : (pick : MarkedEntry → Option Applied) (xs : List Applied) → IsOwn pick → xs ≡ filter_map pick ms
+      → (n : ℕ) (t : Applied → Bool) (p : MarkedEntry → Bool) → ((m : MarkedEntry) → p m ≡ passes t (pick m))
       → at (last_where p (drop n ms)) ≡ num (last_where t (later_than n xs))
   later_picked pick xs own picked n t p agree = grind (arith, later_marked, last_marked)
 
@@ -43,28 +46,37 @@ module _ (ms : List MarkedEntry) (is : IsJournal ms) where
 abbrev mk : ℕ → ℕ → Change → Applied
 mk n s c = record { number = n; session = s; change = c }
 
-own : (b : Bool) (n s k : ℕ) (w : What) → (is_some (cond b (option_map (mk n s) (adds w)) None) && (s == k)) ≡ passes (λ x. x.session == k) (cond b (option_map (mk n s) (adds w)) None)
+own : (b : Bool) (n s k : ℕ) (w : What)
+    → (is_some (cond b (option_map (mk n s) (adds w)) None) && (s == k)) ≡ passes (λ x. x.session == k)
+    (cond b (option_map (mk n s) (adds w)) None)
 own b n s k w = grind arith
 
 pub own_agrees : (k : ℕ) → Agrees (λ x. x.session == k) (λ m. is_some (stands m) && (m.entry.session == k))
 own_agrees k m = own m.is_open m.entry.number m.entry.session k m.entry.what
 
-conflict : (b : Bool) (n s : ℕ) (w : What) (e : Change) → (is_some (cond b (option_map (mk n s) (adds w)) None) && is_in_conflict (applies w) e) ≡ passes (λ f. conflicts f.change e) (cond b (option_map (mk n s) (adds w)) None)
+conflict : (b : Bool) (n s : ℕ) (w : What) (e : Change)
+    → (is_some (cond b (option_map (mk n s) (adds w)) None) && is_in_conflict (applies w) e) ≡ passes (λ f. conflicts f.change e)
+    (cond b (option_map (mk n s) (adds w)) None)
 conflict b n s w e = grind arith
 
 pub conflict_agrees : (e : Change) → Agrees (λ f. conflicts f.change e) (λ m. is_some (stands m) && is_in_conflict (applies m.entry.what) e)
 conflict_agrees e m = conflict m.is_open m.entry.number m.entry.session m.entry.what e
 
-other : (b : Bool) (n s k : ℕ) (w : What) (e : Change) → ((is_some (cond b (option_map (mk n s) (adds w)) None) && not (s == k)) && is_in_conflict (applies w) e) ≡ passes (λ f. not (f.session == k) && conflicts f.change e) (cond b (option_map (mk n s) (adds w)) None)
+other : (b : Bool) (n s k : ℕ) (w : What) (e : Change)
+    → ((is_some (cond b (option_map (mk n s) (adds w)) None) && not (s == k)) && is_in_conflict (applies w) e)
+    ≡ passes (λ f. not (f.session == k) && conflicts f.change e) (cond b (option_map (mk n s) (adds w)) None)
 other b n s k w e = grind arith
 
-pub other_agrees : (k : ℕ) (e : Change) → Agrees (λ f. not (f.session == k) && conflicts f.change e) (λ m. is_others k m && is_in_conflict (applies m.entry.what) e)
+pub other_agrees : (k : ℕ) (e : Change) → Agrees (λ f. not (f.session == k) && conflicts f.change e)
+    (λ m. is_others k m && is_in_conflict (applies m.entry.what) e)
 other_agrees k e m = other m.is_open m.entry.number m.entry.session k m.entry.what e
 
-any : (n s : ℕ) (w : What) (e : Change) → is_in_conflict (applies w) e ≡ passes (λ f. conflicts f.change e) (option_map (mk n s) (applies w))
+any : (n s : ℕ) (w : What) (e : Change)
+    → is_in_conflict (applies w) e ≡ passes (λ f. conflicts f.change e) (option_map (mk n s) (applies w))
 any n s w e = grind arith
 
-pub any_agrees : (e : Change) (m : MarkedEntry) → is_in_conflict (applies m.entry.what) e ≡ passes (λ f. conflicts f.change e) (applied applies m.entry)
+pub any_agrees : (e : Change) (m : MarkedEntry)
+    → is_in_conflict (applies m.entry.what) e ≡ passes (λ f. conflicts f.change e) (applied applies m.entry)
 any_agrees e m = any m.entry.number m.entry.session m.entry.what e
 
 -- ---- an own entry that is blocked, and the own entries
@@ -73,18 +85,25 @@ same_some : (o : Option MarkedEntry) (p : Option Applied) → at o ≡ num p →
 same_some o p h = grind arith
 
 module _ (ms : List MarkedEntry) (is : IsJournal ms) where
-  others_is : (n s : ℕ) (w : What) (c : Change) → applies w ≡ Some c → is_some (conflict_of_others ms (record { number = n; session = s; what = w })) ≡ is_some (find_conflict_of_others (entries_of ms) (mk n s c))
+  others_is : (n s : ℕ) (w : What) (c : Change) → applies w ≡ Some c
+      → is_some (conflict_of_others ms (record { number = n; session = s; what = w }))
+      ≡ is_some (find_conflict_of_others (entries_of ms) (mk n s c))
   others_is n s w c change = grind (arith, same_some, later_picked, stands-own, standing-marked, other_agrees)
 
-  blocked : (b : Bool) (n s k : ℕ) (w : What) → ((is_some (cond b (option_map (mk n s) (adds w)) None) && (s == k)) && is_some (conflict_of_others ms (record { number = n; session = s; what = w })))
+  blocked : (b : Bool) (n s k : ℕ) (w : What)
+      → ((is_some (cond b (option_map (mk n s) (adds w)) None) && (s == k))
+      && is_some (conflict_of_others ms (record { number = n; session = s; what = w })))
       ≡ passes (λ x. (x.session == k) && is_some (find_conflict_of_others (entries_of ms) x)) (cond b (option_map (mk n s) (adds w)) None)
   blocked b n s k w = grind (arith, others_is)
 
-  pub own_in_conflict_is : (s : ℕ) → at (last_where (λ m. is_own s m && is_some (conflict_of_others ms m.entry)) ms) ≡ num (find_own_in_conflict (entries_of ms) s)
+  pub own_in_conflict_is : (s : ℕ) → at (last_where (λ m. is_own s m && is_some (conflict_of_others ms m.entry)) ms)
+      ≡ num (find_own_in_conflict (entries_of ms) s)
   own_in_conflict_is s = search (rules, last_standing, blocked)
 
-  pub own_numbers : (s : ℕ) → map (λ (m : MarkedEntry). m.entry.number) (filter (is_own s) ms) ≡ map (λ (x : Applied). x.number) (own_standing (entries_of ms) s)
-  own_numbers s = sym (ap (λ xs. map (λ (x : Applied). x.number) (filter (λ x. x.session == s) xs)) (standing-marked ms is.marked) ∙ filter_marked stands (λ x. x.session == s) (is_own s) ms stands-own (own_agrees s))
+  pub own_numbers : (s : ℕ) → map (λ (m : MarkedEntry). m.entry.number) (filter (is_own s) ms) ≡ map (λ (x : Applied). x.number)
+      (own_standing (entries_of ms) s)
+  own_numbers s = sym (ap (λ xs. map (λ (x : Applied). x.number) (filter (λ x. x.session == s) xs)) (standing-marked ms is.marked)
+      ∙ filter_marked stands (λ x. x.session == s) (is_own s) ms stands-own (own_agrees s))
 
   pub own_count : (s : ℕ) → length (filter (is_own s) ms) ≡ length (own_standing (entries_of ms) s)
   own_count s =
@@ -93,7 +112,8 @@ module _ (ms : List MarkedEntry) (is : IsJournal ms) where
       ∙ length-map (own_standing (entries_of ms) s) (λ (x : Applied). x.number)
 
   pub own_parts : (s : ℕ) → added_in (filter (is_own s) ms) ≡ parts_of_all (own_standing (entries_of ms) s)
-  own_parts s = sym (ap (λ xs. parts_of_all (filter (λ x. x.session == s) xs)) (standing-marked ms is.marked) ∙ filter_parts (λ x. x.session == s) (is_own s) ms (own_agrees s))
+  own_parts s = sym (ap (λ xs. parts_of_all (filter (λ x. x.session == s) xs)) (standing-marked ms is.marked)
+      ∙ filter_parts (λ x. x.session == s) (is_own s) ms (own_agrees s))
 
 -- a session's newest standing entry that is blocked, by number
 pub blocked_named : (ms : List MarkedEntry) (s : ℕ) → IsJournal ms → newest_blocked s ms ms ≡ num (find_own_in_conflict (entries_of ms) s)
@@ -111,17 +131,21 @@ abbrev pub redone_at : MarkedEntry → Option Applied
 redone_at m = applied undoes m.entry
 
 -- where the search ends at an edit, there is one
-made_ends : (a b o : Bool) (w : What) (n s : ℕ) → (a && (is_made w || (is_some (undoes w) && o))) ≡ true → option_map (mk n s) (undoes w) ≡ None → (a && is_made w) ≡ true
+made_ends : (a b o : Bool) (w : What) (n s : ℕ) → (a && (is_made w || (is_some (undoes w) && o))) ≡ true
+    → option_map (mk n s) (undoes w) ≡ None → (a && is_made w) ≡ true
 made_ends a b o w n s h none = grind arith
 
-pub last_of_two : (o : Option MarkedEntry) (b : Bool) (m x : MarkedEntry) (G : Type 0) → option_or o (cond b (Some m) None) ≡ Some x → ((b ≡ true) → m ≡ x → G) → (o ≡ Some x → G) → G
+pub last_of_two : (o : Option MarkedEntry) (b : Bool) (m x : MarkedEntry) (G : Type 0) → option_or o (cond b (Some m) None) ≡ Some x
+    → ((b ≡ true) → m ≡ x → G) → (o ≡ Some x → G) → G
 last_of_two o b m x G h f g = grind arith
 
-edit_there : (s : ℕ) (ms : List MarkedEntry) (x : MarkedEntry) → last_where (ends s) ms ≡ Some x → redone_at x ≡ None → list_any (edit_of s) (entries_of ms) ≡ true
+edit_there : (s : ℕ) (ms : List MarkedEntry) (x : MarkedEntry) → last_where (ends s) ms ≡ Some x → redone_at x ≡ None
+    → list_any (edit_of s) (entries_of ms) ≡ true
 edit_there s [] x h none = (cc)
 edit_there s (m ∷ ms) x h none =
     last_of_two (last_where (ends s) ms) (ends s m) m x (list_any (edit_of s) (entries_of (m ∷ ms)) ≡ true) h
-    (λ here same. or_left (edit_of s m.entry) _ (made_ends (m.entry.session == s) true m.is_open m.entry.what m.entry.number m.entry.session here (ap redone_at same ∙ none)))
+    (λ here same. or_left (edit_of s m.entry) _
+    (made_ends (m.entry.session == s) true m.is_open m.entry.what m.entry.number m.entry.session here (ap redone_at same ∙ none)))
     (λ later. or_right (edit_of s m.entry) _ (edit_there s ms x later none))
 
 pub neither : {A : Type 0} (o : Option A) (b : Bool) (m : A) → option_or o (cond b (Some m) None) ≡ None → (o ≡ None) × (b ≡ false)
@@ -138,13 +162,15 @@ no_edit s (m ∷ ms) h =
 
 -- an entry after which nothing ends the search
 ended_here : (a o t : Bool) (w : What) (n s : ℕ) (m : MarkedEntry) → o ≡ not t → redone_at m ≡ option_map (mk n s) (undoes w)
-    → cond (a && (is_some (undoes w) && (not t && true))) (option_map (mk n s) (undoes w)) None ≡ option_and_then redone_at (cond (a && (is_made w || (is_some (undoes w) && o))) (Some m) None)
+    → cond (a && (is_some (undoes w) && (not t && true))) (option_map (mk n s) (undoes w)) None ≡ option_and_then redone_at
+    (cond (a && (is_made w || (is_some (undoes w) && o))) (Some m) None)
 ended_here a o t w n s m open' same = grind arith
 
 never : (a u t : Bool) (o : Option Applied) → cond (a && (u && (t && false))) o None ≡ None
 never a u t o = grind arith
 
-pub redo_marked : (s : ℕ) (ms : List MarkedEntry) → AreMarked ms → redo_of (entries_of ms) s ≡ option_and_then redone_at (last_where (ends s) ms)
+pub redo_marked : (s : ℕ) (ms : List MarkedEntry) → AreMarked ms
+    → redo_of (entries_of ms) s ≡ option_and_then redone_at (last_where (ends s) ms)
 redo_marked s [] h = refl
 redo_marked s (m ∷ ms) h = grind (arith, no_edit, ended_here, edit_there, never, redo_marked s ms h.1)
 
@@ -153,7 +179,8 @@ redo_marked s (m ∷ ms) h = grind (arith, no_edit, ended_here, edit_there, neve
 find_passes : (p : MarkedEntry → Bool) (ms : List MarkedEntry) (m : MarkedEntry) → find p ms ≡ Some m → p m ≡ true
 find_passes p [] m h = (cc)
 find_passes p (x ∷ ms) m h = by_bool (p x)
-    (λ here. let is : Some x ≡ Some m = sym (ap (λ b. cond b (Some x) (find p ms)) here) ∙ h in let same : x ≡ m = (cc) in ap p (sym same) ∙ here)
+    (λ here. let is : Some x ≡ Some m = sym (ap (λ b. cond b (Some x) (find p ms)) here) ∙ h in let same : x ≡ m = (cc) in
+    ap p (sym same) ∙ here)
     (λ off. find_passes p ms m (sym (ap (λ b. cond b (Some x) (find p ms)) off) ∙ h))
 
 -- what the entry of a number is, as the one that was picked
@@ -163,10 +190,12 @@ pub record IsPicked (m : MarkedEntry) (n : ℕ) (e : Applied) : Type 0 where
   pub session : e.session ≡ m.entry.session
   pub change : applies m.entry.what ≡ Some e.change
 
-standing_parts : (b : Bool) (n s : ℕ) (w : What) (e : Applied) → cond b (option_map (mk n s) (adds w)) None ≡ Some e → (e.number ≡ n) × (e.session ≡ s) × (applies w ≡ Some e.change)
+standing_parts : (b : Bool) (n s : ℕ) (w : What) (e : Applied) → cond b (option_map (mk n s) (adds w)) None ≡ Some e
+    → (e.number ≡ n) × (e.session ≡ s) × (applies w ≡ Some e.change)
 standing_parts b n s w e h = grind arith
 
-undone_parts : (n s : ℕ) (w : What) (e : Applied) → option_map (mk n s) (undoes w) ≡ Some e → (e.number ≡ n) × (e.session ≡ s) × (applies w ≡ Some e.change)
+undone_parts : (n s : ℕ) (w : What) (e : Applied) → option_map (mk n s) (undoes w) ≡ Some e
+    → (e.number ≡ n) × (e.session ≡ s) × (applies w ≡ Some e.change)
 undone_parts n s w e h = grind arith
 
 module _ (ms : List MarkedEntry) (n : ℕ) (e : Applied) (m : MarkedEntry) (found : find (λ m. m.entry.number == n) ms ≡ Some m) where

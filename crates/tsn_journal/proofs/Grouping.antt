@@ -28,7 +28,8 @@ group_itself a = grind arith
 pub belongs-mark_off : (w : What) (g : Group) (m : MarkedEntry) → belongs g m ≡ false → belongs g (mark_off w m) ≡ false
 belongs-mark_off w g m h = grind arith
 
-pub others-mark_off : (w : What) (g : Group) (s : ℕ) (m : MarkedEntry) → belongs_to_others g s m ≡ false → belongs_to_others g s (mark_off w m) ≡ false
+pub others-mark_off : (w : What) (g : Group) (s : ℕ) (m : MarkedEntry) → belongs_to_others g s m ≡ false
+    → belongs_to_others g s (mark_off w m) ≡ false
 others-mark_off w g s m h = grind arith
 
 -- an entry stays its session's
@@ -52,7 +53,8 @@ same_one k y h = ap (λ x. same_group (RefersTo y) (RefersTo x)) (one_key k y h)
 pub is_among-append : (gs hs : List (Option Group)) (g : Group) → is_among (gs ++ hs) g ≡ (is_among gs g || is_among hs g)
 is_among-append [] hs g = refl
 is_among-append (None ∷ gs) hs g = is_among-append gs hs g
-is_among-append (Some x ∷ gs) hs g = ap (λ b. same_group x g || b) (is_among-append gs hs g) ∙ sym (or_assoc (same_group x g) (is_among gs g) (is_among hs g))
+is_among-append (Some x ∷ gs) hs g =
+    ap (λ b. same_group x g || b) (is_among-append gs hs g) ∙ sym (or_assoc (same_group x g) (is_among gs g) (is_among hs g))
 
 among_first : (gs hs : List (Option Group)) (g : Group) → is_among gs g ≡ true → is_among (gs ++ hs) g ≡ true
 among_first gs hs g h = is_among-append gs hs g ∙ or_left _ _ h
@@ -70,7 +72,8 @@ pub on_among : (ps : List Part) (k : Key) → has (keys_of ps) k ≡ true → is
 on_among [] k h = (cc)
 on_among (p ∷ ps) k h = either (same_key k p.key) (has (keys_of ps) k) h
     (λ same. or_left _ _ (ap (λ (x : Key). same_group (On p.key) (On x)) (one_key k p.key same) ∙ group_itself (On p.key)))
-    (λ later. or_right _ _ (among_second (map (λ r. Some (RefersTo r)) (refs_of p.after)) (groups_of_parts ps) (On k) (on_among ps k later)))
+    (λ later. or_right _ _ (among_second (map (λ r. Some (RefersTo r)) (refs_of p.after)) (groups_of_parts ps) (On k)
+    (on_among ps k later)))
 
 pub refers_among : (ps : List Part) (k : Key) → has (refs_after ps) k ≡ true → is_among (groups_of_parts ps) (RefersTo k) ≡ true
 refers_among [] k h = (cc)
@@ -80,21 +83,24 @@ refers_among (p ∷ ps) k h =
     (λ first. among_first refs (groups_of_parts ps) (RefersTo k) (refs_among (refs_of p.after) k first))
     (λ later. among_second refs (groups_of_parts ps) (RefersTo k) (refers_among ps k later))
 
-module _ (s : ℕ) (redo : Option Group) (m : MarkedEntry) (c : Change) (session : m.entry.session ≡ s) (adds' : adds m.entry.what ≡ Some c) where
-  abbrev pub the_groups : List (Option Group)
-  the_groups = groups_of_parts (parts c) ++ Some (Of s) ∷ redo ∷ []
+module _ (s : ℕ) (redo : Option Group) (m : MarkedEntry) (c : Change) (session : m.entry.session ≡ s) (adds' : adds m.entry.what ≡ Some c)
+  where
+    abbrev pub the_groups : List (Option Group)
+    the_groups = groups_of_parts (parts c) ++ Some (Of s) ∷ redo ∷ []
 
-  while_open : (t : Option Change → Bool) → t None ≡ false → t (standing_change m) ≡ true → t (Some c) ≡ true
-  while_open t none h = grind arith
+    while_open : (t : Option Change → Bool) → t None ≡ false → t (standing_change m) ≡ true → t (Some c) ≡ true
+    while_open t none h = grind arith
 
-  pub covers : ((q : ℕ) → belongs (EndsRedo q) m ≡ true → is_among (redo ∷ []) (EndsRedo q) ≡ true) → (g : Group) → belongs g m ≡ true → is_among the_groups g ≡ true
-  covers ends g h = grind (arith, among_first, on_among, while_open, refers_among, among_second, or_left, second_true)
+    pub covers : ((q : ℕ) → belongs (EndsRedo q) m ≡ true → is_among (redo ∷ []) (EndsRedo q) ≡ true) → (g : Group) → belongs g m ≡ true
+        → is_among the_groups g ≡ true
+    covers ends g h = grind (arith, among_first, on_among, while_open, refers_among, among_second, or_left, second_true)
 
 pub first_true : (a b : Bool) → (a && b) ≡ true → a ≡ true
 first_true a b h = grind arith
 
 -- a made or redone entry ends a search for a redo where it was made
-pub ends_or_not : (m : MarkedEntry) (s : ℕ) (c : Change) (ends : Bool) → m.entry.session ≡ s → adds m.entry.what ≡ Some c → is_made m.entry.what ≡ ends
+pub ends_or_not : (m : MarkedEntry) (s : ℕ) (c : Change) (ends : Bool) → m.entry.session ≡ s → adds m.entry.what ≡ Some c
+    → is_made m.entry.what ≡ ends
     → (q : ℕ) → belongs (EndsRedo q) m ≡ true → is_among (group_if ends (EndsRedo s) ∷ []) (EndsRedo q) ≡ true
 ends_or_not m s c ends same adds' made q h = grind arith
 

@@ -18,11 +18,14 @@ use Rattle.tsn_journal.proofs.Links.{end_at, front_at, hop, none_some, not_of_ot
 -- ---- a mark off
 
 module _ (w : What) (ms : List MarkedEntry) where
-  none_off : (t : MarkedEntry → Bool) → ((m : MarkedEntry) → t m ≡ false → t (mark_off w m) ≡ false) → (n limit : ℕ) → NoneBetween t ms n limit → NoneBetween t (map (mark_off w) ms) n limit
+  none_off : (t : MarkedEntry → Bool) → ((m : MarkedEntry) → t m ≡ false → t (mark_off w m) ≡ false) → (n limit : ℕ)
+      → NoneBetween t ms n limit → NoneBetween t (map (mark_off w) ms) n limit
   none_off t falls n limit none i m low high at = grind (arith, slice_get-map, none_some, same_Some)
 
-  last_off : (g : Group) (t : MarkedEntry → Bool) → ((m : MarkedEntry) → t m ≡ false → t (mark_off w m) ≡ false) → (ps : List Place) (j limit : ℕ) → IsLast g t ms ps j limit → IsLast g t (map (mark_off w) ms) ps j limit
-  last_off g t falls ps j limit is = record { within = is.within; group = is.group; none_later = none_off t falls (number_at ps j) limit is.none_later }
+  last_off : (g : Group) (t : MarkedEntry → Bool) → ((m : MarkedEntry) → t m ≡ false → t (mark_off w m) ≡ false)
+      → (ps : List Place) (j limit : ℕ) → IsLast g t ms ps j limit → IsLast g t (map (mark_off w) ms) ps j limit
+  last_off g t falls ps j limit is =
+      record { within = is.within; group = is.group; none_later = none_off t falls (number_at ps j) limit is.none_later }
 
   pub indexed_off : (a : Index) → IsIndexed ms a → IsIndexed (map (mark_off w) ms) a
   indexed_off a is = record {
@@ -36,11 +39,13 @@ module _ (w : What) (ms : List MarkedEntry) where
           other_earlier = old.other_earlier;
           other = λ s by.
               last_off p.group (belongs_to_others p.group s) (others-mark_off w p.group s) a.places.items p.other p.number
-              (old.other s (sym (ap (is_by s) (slice_get-map (mark_off w) ms (p.number - 1)) ∙ by-mark_off w s (slice_get ms (p.number - 1))) ∙ by));
+              (old.other s (sym (ap (is_by s) (slice_get-map (mark_off w) ms (p.number - 1))
+              ∙ by-mark_off w s (slice_get ms (p.number - 1))) ∙ by));
         };
     latest_is = λ g.
         last_off g (belongs g) (belongs-mark_off w g) a.places.items (latest_of a.latest g) (length (map (mark_off w) ms) + 1)
-        (subst (λ k. IsLast g (belongs g) ms a.places.items (latest_of a.latest g) (k + 1)) (sym (length-map ms (mark_off w))) (is.latest_is g));
+        (subst (λ k. IsLast g (belongs g) ms a.places.items (latest_of a.latest g) (k + 1)) (sym (length-map ms (mark_off w)))
+        (is.latest_is g));
   }
 
 -- ---- an entry more
@@ -55,8 +60,10 @@ module _ (ms : List MarkedEntry) (x : MarkedEntry) where
   none_more : (t : MarkedEntry → Bool) (n limit : ℕ) → limit ≤ length ms + 1 → NoneBetween t ms n limit → NoneBetween t more n limit
   none_more t n limit few none i m low high at = none i m low high (sym (front_at ms (x ∷ []) i (omega arith)) ∙ at)
 
-  last_more : (g : Group) (t : MarkedEntry → Bool) (ps : List Place) (j limit : ℕ) → limit ≤ length ms + 1 → IsLast g t ms ps j limit → IsLast g t more ps j limit
-  last_more g t ps j limit few is = record { within = is.within; group = is.group; none_later = none_more t (number_at ps j) limit few is.none_later }
+  last_more : (g : Group) (t : MarkedEntry → Bool) (ps : List Place) (j limit : ℕ) → limit ≤ length ms + 1 → IsLast g t ms ps j limit
+      → IsLast g t more ps j limit
+  last_more g t ps j limit few is =
+      record { within = is.within; group = is.group; none_later = none_more t (number_at ps j) limit few is.none_later }
 
   -- an entry more, which has no place yet
   pub indexed_more : (a : Index) → IsIndexed ms a → IsIndexedButNewest more a
@@ -67,21 +74,25 @@ module _ (ms : List MarkedEntry) (x : MarkedEntry) where
             let old = is.places i p at in
             grind (arith, longer, last_more, front_at);
         latest_is = λ g.
-            subst (λ k. IsLast g (belongs g) more ps (latest_of a.latest g) k) (sym longer) (last_more g (belongs g) ps (latest_of a.latest g) (length ms + 1) (omega arith) (is.latest_is g));
+            subst (λ k. IsLast g (belongs g) more ps (latest_of a.latest g) k) (sym longer)
+            (last_more g (belongs g) ps (latest_of a.latest g) (length ms + 1) (omega arith) (is.latest_is g));
       }
 
 -- ---- a place more
 
 module _ (ms : List MarkedEntry) where
-  pub indexed_skip : (rest : List (Option Group)) (ps : List Place) (l : Group → ℕ) → IsIndexedBut (None ∷ rest) ms ps l → IsIndexedBut rest ms ps l
+  pub indexed_skip : (rest : List (Option Group)) (ps : List Place) (l : Group → ℕ) → IsIndexedBut (None ∷ rest) ms ps l
+      → IsIndexedBut rest ms ps l
   indexed_skip rest ps l is = record { places = is.places; latest_is = is.latest_is }
 
   -- the newest places may be said otherwise
-  pub reindexed : (pending : List (Option Group)) (ps : List Place) (l k : Group → ℕ) → ((g : Group) → k g ≡ l g) → IsIndexedBut pending ms ps l → IsIndexedBut pending ms ps k
+  pub reindexed : (pending : List (Option Group)) (ps : List Place) (l k : Group → ℕ) → ((g : Group) → k g ≡ l g)
+      → IsIndexedBut pending ms ps l → IsIndexedBut pending ms ps k
   reindexed pending ps l k same is = grind arith
 
   -- the newest entry is in no group but the pending ones
-  pub pending_newest : (pending : List (Option Group)) (a : Index) → ((m : MarkedEntry) → slice_get ms (length ms - 1) ≡ Some m → (g : Group) → belongs g m ≡ true → is_among pending g ≡ true)
+  pub pending_newest : (pending : List (Option Group)) (a : Index)
+      → ((m : MarkedEntry) → slice_get ms (length ms - 1) ≡ Some m → (g : Group) → belongs g m ≡ true → is_among pending g ≡ true)
       → IsIndexedButNewest ms a → IsIndexedBut pending ms a.places.items (latest_of a.latest)
   pending_newest pending a covers is = grind arith
 
@@ -89,7 +100,8 @@ module _ (ms : List MarkedEntry) where
   past_end : (t : MarkedEntry → Bool) (n limit : ℕ) → length ms ≤ n → NoneBetween t ms n limit
   past_end t n limit h i m low high at = let in' : i < length ms = slice_get_within ms i m at in absurd (omega arith)
 
-  pub last_front : (g : Group) (t : MarkedEntry → Bool) (ps : List Place) (p : Place) (j limit : ℕ) → IsLast g t ms ps j limit → IsLast g t ms (ps ++ p ∷ []) j limit
+  pub last_front : (g : Group) (t : MarkedEntry → Bool) (ps : List Place) (p : Place) (j limit : ℕ) → IsLast g t ms ps j limit
+      → IsLast g t ms (ps ++ p ∷ []) j limit
   last_front g t ps p j limit is = grind (arith, place_front, length-append)
 
   place_more : (ps : List Place) (q : Place) (i : ℕ) (p : Place) → i ≤ length ps → IsPlace ms ps i p → IsPlace ms (ps ++ q ∷ []) i p
@@ -105,16 +117,25 @@ module _ (ms : List MarkedEntry) where
       }
 
   -- the last place of another session, looked up from the last one of any
-  others_of : (g : Group) (s : ℕ) (ps : List Place) (j limit : ℕ) → IsLast g (belongs g) ms ps j limit → IsLast g (belongs_to_others g s) ms ps j limit
-  others_of g s ps j limit is = record { within = is.within; group = is.group; none_later = λ i m low high at. not_of_others g s m (is.none_later i m low high at) }
+  others_of : (g : Group) (s : ℕ) (ps : List Place) (j limit : ℕ) → IsLast g (belongs g) ms ps j limit
+      → IsLast g (belongs_to_others g s) ms ps j limit
+  others_of g s ps j limit is =
+      record { within = is.within; group = is.group; none_later = λ i m low high at. not_of_others g s m (is.none_later i m low high at) }
 
-  other_last : (g : Group) (s : ℕ) (ps : List Place) (j limit : ℕ) → ArePlaces ms ps → IsLast g (belongs g) ms ps j limit → IsLast g (belongs_to_others g s) ms ps (other_of ms ps s j) limit
+  other_last : (g : Group) (s : ℕ) (ps : List Place) (j limit : ℕ) → ArePlaces ms ps → IsLast g (belongs g) ms ps j limit
+      → IsLast g (belongs_to_others g s) ms ps (other_of ms ps s j) limit
   other_last g s ps j limit are is = by_option (place_at ps j)
       (λ none. subst (λ o. IsLast g (belongs_to_others g s) ms ps (other_from ms s j o) limit) (sym none)
-      (record { within = omega arith; group = refl; none_later = subst (λ o. NoneBetween (belongs_to_others g s) ms (number_of o) limit) none (others_of g s ps j limit is).none_later }))
+      (record {
+        within = omega arith;
+        group = refl;
+        none_later = subst (λ o. NoneBetween (belongs_to_others g s) ms (number_of o) limit) none
+            (others_of g s ps j limit is).none_later;
+      }))
       (λ p there. subst (λ o. IsLast g (belongs_to_others g s) ms ps (other_from ms s j o) limit) (sym there)
       (by_bool (is_by s (slice_get ms (p.number - 1)))
-      (λ yes. subst (λ b. IsLast g (belongs_to_others g s) ms ps (cond b p.other j) limit) (sym yes) (hop ms ps g j p is.group there are s limit (others_of g s ps j limit is) yes))
+      (λ yes. subst (λ b. IsLast g (belongs_to_others g s) ms ps (cond b p.other j) limit) (sym yes)
+      (hop ms ps g j p is.group there are s limit (others_of g s ps j limit is) yes))
       (λ no. subst (λ b. IsLast g (belongs_to_others g s) ms ps (cond b p.other j) limit) (sym no) (others_of g s ps j limit is))))
 
   other_in : (s : ℕ) (ps : List Place) (j : ℕ) → j ≤ length ps → ArePlaces ms ps → other_of ms ps s j ≤ length ps
@@ -122,12 +143,14 @@ module _ (ms : List MarkedEntry) where
   other_in s ps (suc i) h are = by_option (slice_get ps i)
       (λ none. subst (λ o. other_from ms s (suc i) o ≤ length ps) (sym none) (omega arith))
       (λ p there. subst (λ o. other_from ms s (suc i) o ≤ length ps) (sym there)
-      (elim (is_by s (slice_get ms (p.number - 1))) as (λ b. cond b p.other (suc i) ≤ length ps) [ true ↦ omega (arith, (are i p there).other_earlier) | false ↦ h ]))
+      (elim (is_by s (slice_get ms (p.number - 1))) as (λ b. cond b p.other (suc i) ≤ length ps)
+      [ true ↦ omega (arith, (are i p there).other_earlier) | false ↦ h ]))
 
   by_one : (s q : ℕ) (o : Option MarkedEntry) → is_by s o ≡ true → is_by q o ≡ true → s ≡ q
   by_one s q o h k = grind arith
 
-  module _ (g : Group) (n s before : ℕ) (ps : List Place) (newest : n ≡ length ms) (some : 1 ≤ n) (by : is_by s (slice_get ms (n - 1)) ≡ true) (are : ArePlaces ms ps) (here : IsLast g (belongs g) ms ps before (length ms)) where
+  module _ (g : Group) (n s before : ℕ) (ps : List Place) (newest : n ≡ length ms) (some : 1 ≤ n)
+      (by : is_by s (slice_get ms (n - 1)) ≡ true) (are : ArePlaces ms ps) (here : IsLast g (belongs g) ms ps before (length ms)) where
     abbrev pub new_place : Place
     new_place = record { group = g; number = n; before = before; other = other_of ms ps s before }
 
@@ -141,7 +164,8 @@ module _ (ms : List MarkedEntry) where
       other_earlier = other_in s ps before here.within are;
       other = λ q by'.
           subst (λ r. IsLast g (belongs_to_others g r) ms ps (other_of ms ps s before) n) (by_one s q _ by by')
-          (subst (λ k. IsLast g (belongs_to_others g s) ms ps (other_of ms ps s before) k) (sym newest) (other_last g s ps before (length ms) are here));
+          (subst (λ k. IsLast g (belongs_to_others g s) ms ps (other_of ms ps s before) k) (sym newest)
+          (other_last g s ps before (length ms) are here));
     }
 
     pub new_last : (q : Group) (limit : ℕ) → g ≡ q → IsLast q (belongs q) ms (ps ++ new_place ∷ []) (length ps + 1) limit
@@ -156,29 +180,37 @@ module _ (ms : List MarkedEntry) where
         elim (where_at (length ps) i) [
           | inl front ↦ place_more ps new_place i p (omega arith) (are i p (sym (front_at ps (new_place ∷ []) i front) ∙ at))
           | inr more ↦ elim more [
-            | inl at_end ↦ subst (λ r. IsPlace ms (ps ++ new_place ∷ []) i r) (same_Some new_place p (sym (end_at ps new_place i at_end) ∙ at))
+            | inl at_end ↦ subst (λ r. IsPlace ms (ps ++ new_place ∷ []) i r)
+                (same_Some new_place p (sym (end_at ps new_place i at_end) ∙ at))
                 (place_more ps new_place i new_place (omega arith) (subst (λ k. IsPlace ms ps k new_place) (sym at_end) (the_place less)))
-            | inr after ↦ none_some p (sym (slice_get_past (ps ++ new_place ∷ []) i (omega (arith, length-append ps (new_place ∷ [])))) ∙ at)
+            | inr after ↦ none_some p (sym (slice_get_past (ps ++ new_place ∷ []) i (omega (arith, length-append ps (new_place ∷ []))))
+                ∙ at)
           ]
         ]
 
-  module _ (g : Group) (rest : List (Option Group)) (n s : ℕ) (ps : List Place) (l : Group → ℕ) (newest : n ≡ length ms) (some : 1 ≤ n) (by : is_by s (slice_get ms (n - 1)) ≡ true) (is : IsIndexedBut (Some g ∷ rest) ms ps l) where
+  module _ (g : Group) (rest : List (Option Group)) (n s : ℕ) (ps : List Place) (l : Group → ℕ) (newest : n ≡ length ms) (some : 1 ≤ n)
+      (by : is_by s (slice_get ms (n - 1)) ≡ true) (is : IsIndexedBut (Some g ∷ rest) ms ps l) where
     here' : IsLast g (belongs g) ms ps (l g) (length ms)
-    here' = subst (λ b. IsLast g (belongs g) ms ps (l g) (cond (b || is_among rest g) (length ms) (length ms + 1))) (group_itself g) (is.latest_is g)
+    here' = subst (λ b. IsLast g (belongs g) ms ps (l g) (cond (b || is_among rest g) (length ms) (length ms + 1))) (group_itself g)
+        (is.latest_is g)
 
     abbrev place' : Place
     place' = record { group = g; number = n; before = l g; other = other_of ms ps s (l g) }
 
     others : (q : Group) → same_group g q ≡ false → IsLast q (belongs q) ms ps (l q) (cond (is_among rest q) (length ms) (length ms + 1))
-    others q other = subst (λ b. IsLast q (belongs q) ms ps (l q) (cond (b || is_among rest q) (length ms) (length ms + 1))) other (is.latest_is q)
+    others q other =
+        subst (λ b. IsLast q (belongs q) ms ps (l q) (cond (b || is_among rest q) (length ms) (length ms + 1))) other (is.latest_is q)
 
     with_place : number_at ps (l g) < n → IsIndexedBut rest ms (ps ++ place' ∷ []) (set_at g (length ps + 1) l)
     with_place less = record {
       places = places_with g n s (l g) ps newest some by is.places here' less;
       latest_is = λ q.
           by_bool (same_group g q)
-          (λ same. subst (λ b. IsLast q (belongs q) ms (ps ++ place' ∷ []) (cond b (length ps + 1) (l q)) (cond (is_among rest q) (length ms) (length ms + 1))) (sym same) (new_last g n s (l g) ps newest some by is.places here' q _ (one_group g q same)))
-          (λ other. subst (λ b. IsLast q (belongs q) ms (ps ++ place' ∷ []) (cond b (length ps + 1) (l q)) (cond (is_among rest q) (length ms) (length ms + 1))) (sym other) (last_front q (belongs q) ps place' _ _ (others q other)));
+          (λ same. subst (λ b. IsLast q (belongs q) ms (ps ++ place' ∷ []) (cond b (length ps + 1) (l q))
+          (cond (is_among rest q) (length ms) (length ms + 1))) (sym same)
+          (new_last g n s (l g) ps newest some by is.places here' q _ (one_group g q same)))
+          (λ other. subst (λ b. IsLast q (belongs q) ms (ps ++ place' ∷ []) (cond b (length ps + 1) (l q))
+          (cond (is_among rest q) (length ms) (length ms + 1))) (sym other) (last_front q (belongs q) ps place' _ _ (others q other)));
     }
 
     -- the newest place of the group stays
@@ -202,31 +234,39 @@ module _ (ms : List MarkedEntry) where
     pub indexed_place : (qs : List Place) (j : ℕ) → Adds ms true g n s (l g) ps qs j → IsIndexedBut rest ms qs (set_at g j l)
     indexed_place qs j adds =
         elim (where_at n (number_at ps (l g))) [
-          | inl less ↦ subst (λ k. IsIndexedBut rest ms qs (set_at g k l)) (sym (adds.place refl less)) (subst (λ xs. IsIndexedBut rest ms xs (set_at g (length ps + 1) l)) (sym (adds.places refl less)) (with_place less))
+          | inl less ↦ subst (λ k. IsIndexedBut rest ms qs (set_at g k l)) (sym (adds.place refl less))
+              (subst (λ xs. IsIndexedBut rest ms xs (set_at g (length ps + 1) l)) (sym (adds.places refl less)) (with_place less))
           | inr least ↦
               let at_least : n ≤ number_at ps (l g) = elim least [ inl e ↦ omega arith | inr m ↦ omega arith ] in
               subst (λ k. IsIndexedBut rest ms qs (set_at g k l)) (sym (adds.there_place at_least))
-              (subst (λ xs. IsIndexedBut rest ms xs (set_at g (l g) l)) (sym (adds.there at_least)) (reindexed rest ps l (set_at g (l g) l) same_latest (without_place at_least)))
+              (subst (λ xs. IsIndexedBut rest ms xs (set_at g (l g) l)) (sym (adds.there at_least))
+              (reindexed rest ps l (set_at g (l g) l) same_latest (without_place at_least)))
         ]
 
   unchanged : (g : Group) (l : Group → ℕ) (q : Group) → set_at g (l g) l q ≡ l q
   unchanged g l q = grind arith
 
   -- the same where the place may be unwanted
-  pub indexed_if : (wanted : Bool) (g : Group) (rest : List (Option Group)) (n s before : ℕ) (ps : List Place) (l : Group → ℕ) → n ≡ length ms → 1 ≤ n → is_by s (slice_get ms (n - 1)) ≡ true → before ≡ l g
-      → (qs : List Place) (j : ℕ) → Adds ms wanted g n s before ps qs j → IsIndexedBut (group_if wanted g ∷ rest) ms ps l → IsIndexedBut rest ms qs (set_at g j l)
-  indexed_if true g rest n s before ps l newest some by same qs j adds is = indexed_place g rest n s ps l newest some by is qs j (subst (λ b. Adds ms true g n s b ps qs j) same adds)
+  pub indexed_if : (wanted : Bool) (g : Group) (rest : List (Option Group)) (n s before : ℕ) (ps : List Place) (l : Group → ℕ)
+      → n ≡ length ms → 1 ≤ n → is_by s (slice_get ms (n - 1)) ≡ true → before ≡ l g
+      → (qs : List Place) (j : ℕ) → Adds ms wanted g n s before ps qs j → IsIndexedBut (group_if wanted g ∷ rest) ms ps l
+      → IsIndexedBut rest ms qs (set_at g j l)
+  indexed_if true g rest n s before ps l newest some by same qs j adds is =
+      indexed_place g rest n s ps l newest some by is qs j (subst (λ b. Adds ms true g n s b ps qs j) same adds)
   indexed_if false g rest n s before ps l newest some by same qs j adds is =
       subst (λ k. IsIndexedBut rest ms qs (set_at g k l)) (sym (adds.unwanted_place refl ∙ same))
-      (subst (λ xs. IsIndexedBut rest ms xs (set_at g (l g) l)) (sym (adds.unwanted refl)) (reindexed rest ps l (set_at g (l g) l) (unchanged g l) (indexed_skip rest ps l is)))
+      (subst (λ xs. IsIndexedBut rest ms xs (set_at g (l g) l)) (sym (adds.unwanted refl))
+      (reindexed rest ps l (set_at g (l g) l) (unchanged g l) (indexed_skip rest ps l is)))
 
   -- what is known with pending groups is known but for the newest entry
-  pub but_newest : (pending : List (Option Group)) (a : Index) → IsIndexedBut pending ms a.places.items (latest_of a.latest) → IsIndexedButNewest ms a
+  pub but_newest : (pending : List (Option Group)) (a : Index) → IsIndexedBut pending ms a.places.items (latest_of a.latest)
+      → IsIndexedButNewest ms a
   but_newest pending a is = grind arith
 
 -- ---- room
 
-pub rows_then : (n k : ℕ) (a b d : Index) → TakesRows n a.latest b.latest → TakesRows k b.latest d.latest → TakesRows (n + k) a.latest d.latest
+pub rows_then : (n k : ℕ) (a b d : Index) → TakesRows n a.latest b.latest → TakesRows k b.latest d.latest
+    → TakesRows (n + k) a.latest d.latest
 rows_then n k a b d h m = grind arith
 
 pub takes_more : (n k : ℕ) (a b d : Index) → TakesRoom n a b → TakesRoom k b d → TakesRoom (n + k) a d

@@ -6,13 +6,15 @@ use Rattle.std.proofs.lemmas.List.{take-append-drop}
 use Rattle.tsn_types.proofs.Causes.{option_or-None}
 use Rattle.tsn_journal.specs.Finding.{last_where}
 
-pub last_where-append : {A : Type 0} (t : A → Bool) (xs ys : List A) → last_where t (xs ++ ys) ≡ option_or (last_where t ys) (last_where t xs)
+pub last_where-append : {A : Type 0} (t : A → Bool) (xs ys : List A)
+    → last_where t (xs ++ ys) ≡ option_or (last_where t ys) (last_where t xs)
 last_where-append t [] ys = sym (option_or-None (last_where t ys))
 last_where-append t (x ∷ xs) ys = grind (arith, last_where-append t xs ys)
 
 -- ---- a search from the back, a place at a time
 
-module _ {A : Type 0} (t : A → Bool) (xs : List A) (i : ℕ) (x : A) (within : i < length xs) (at : x ≡ get_or xs i x) (none : last_where t (drop (i + 1) xs) ≡ None) where
+module _ {A : Type 0} (t : A → Bool) (xs : List A) (i : ℕ) (x : A) (within : i < length xs) (at : x ≡ get_or xs i x)
+    (none : last_where t (drop (i + 1) xs) ≡ None) where
   here : last_where t (drop i xs) ≡ cond (t x) (Some x) None
   here = grind (arith, drop-cons, add-one)
 

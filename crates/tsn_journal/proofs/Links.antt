@@ -39,7 +39,8 @@ place_end ps p = ap (place_at (ps ++ p ∷ [])) (add-one (length ps)) ∙ end_at
 pub place_there : (ps : List Place) (j : ℕ) (p : Place) → (j ≡ 0 → ⊥) → j ≤ length ps → p ≡ get_or ps (j - 1) p → place_at ps j ≡ Some p
 place_there ps j p some h at = grind (arith, slice_get_read)
 
-pub place_of : (ms : List MarkedEntry) (ps : List Place) (j : ℕ) (p : Place) → place_at ps j ≡ Some p → ArePlaces ms ps → IsPlace ms ps (j - 1) p
+pub place_of : (ms : List MarkedEntry) (ps : List Place) (j : ℕ) (p : Place) → place_at ps j ≡ Some p → ArePlaces ms ps
+    → IsPlace ms ps (j - 1) p
 place_of ms ps zero p there are = none_some p there
 place_of ms ps (suc i) p there are = let e : i ≡ suc i - 1 = omega arith in subst (λ k. IsPlace ms ps k p) e (are i p there)
 
@@ -47,7 +48,8 @@ place_of ms ps (suc i) p there are = let e : i ≡ suc i - 1 = omega arith in su
 pub not_of_others : (g : Group) (s : ℕ) (m : MarkedEntry) → belongs g m ≡ false → belongs_to_others g s m ≡ false
 not_of_others g s m h = and_left (belongs g m) _ h
 
-module _ (ms : List MarkedEntry) (ps : List Place) (g : Group) (j : ℕ) (p : Place) (group : is_of g (place_at ps j) ≡ true) (there : place_at ps j ≡ Some p) (are : ArePlaces ms ps) where
+module _ (ms : List MarkedEntry) (ps : List Place) (g : Group) (j : ℕ) (p : Place) (group : is_of g (place_at ps j) ≡ true)
+    (there : place_at ps j ≡ Some p) (are : ArePlaces ms ps) where
   pub one : p.group ≡ g
   one = one_group p.group g (ap (is_of g) (sym there) ∙ group)
 
@@ -58,20 +60,25 @@ module _ (ms : List MarkedEntry) (ps : List Place) (g : Group) (j : ℕ) (p : Pl
   next_group = subst (λ h. is_of h (place_at ps p.before) ≡ true) one the_place.last.group
 
   -- a link back to the place before
-  pub step_none : (t : MarkedEntry → Bool) (limit : ℕ) → ((m : MarkedEntry) → belongs g m ≡ false → t m ≡ false) → NoneBetween t ms (number_at ps j) limit
+  pub step_none : (t : MarkedEntry → Bool) (limit : ℕ) → ((m : MarkedEntry) → belongs g m ≡ false → t m ≡ false)
+      → NoneBetween t ms (number_at ps j) limit
       → (m : MarkedEntry) → slice_get ms (p.number - 1) ≡ Some m → t m ≡ false → NoneBetween t ms (number_at ps p.before) limit
   step_none t limit out none m here fails i x low high at' = grind arith
 
   -- the same where nothing from a number below the place's on passes
-  pub step_beyond : (t : MarkedEntry → Bool) (limit : ℕ) → ((m : MarkedEntry) → belongs g m ≡ false → t m ≡ false) → (n : ℕ) → n < p.number → NoneFrom t ms n → NoneBetween t ms (number_at ps p.before) limit
+  pub step_beyond : (t : MarkedEntry → Bool) (limit : ℕ) → ((m : MarkedEntry) → belongs g m ≡ false → t m ≡ false) → (n : ℕ) → n < p.number
+      → NoneFrom t ms n → NoneBetween t ms (number_at ps p.before) limit
   step_beyond t limit out n below none i x low high at' = grind arith
 
   pub step : (t : MarkedEntry → Bool) (limit : ℕ) → ((m : MarkedEntry) → belongs g m ≡ false → t m ≡ false) → IsLast g t ms ps j limit
       → (m : MarkedEntry) → slice_get ms (p.number - 1) ≡ Some m → t m ≡ false → IsLast g t ms ps p.before limit
-  step t limit out at m here fails = record { within = the_place.last.within; group = next_group; none_later = step_none t limit out at.none_later m here fails }
+  step t limit out at m here fails =
+      record { within = the_place.last.within; group = next_group; none_later = step_none t limit out at.none_later m here fails }
 
   -- a link back to the last place of another session, where this one is of the session itself
-  pub hop : (s limit : ℕ) → IsLast g (belongs_to_others g s) ms ps j limit → is_by s (slice_get ms (p.number - 1)) ≡ true → IsLast g (belongs_to_others g s) ms ps p.other limit
+  pub hop : (s limit : ℕ) → IsLast g (belongs_to_others g s) ms ps j limit → is_by s (slice_get ms (p.number - 1)) ≡ true
+      → IsLast g (belongs_to_others g s) ms ps p.other limit
   hop s limit at by =
-      let other : IsLast g (belongs_to_others g s) ms ps p.other p.number = subst (λ h. IsLast h (belongs_to_others h s) ms ps p.other p.number) one (the_place.other s by) in
+      let other : IsLast g (belongs_to_others g s) ms ps p.other p.number = subst
+      (λ h. IsLast h (belongs_to_others h s) ms ps p.other p.number) one (the_place.other s by) in
       grind arith

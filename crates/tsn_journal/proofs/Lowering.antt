@@ -7,5 +7,6 @@ use Rattle.tsn_journal.specs.declared.index.Place.{Place}
 use Rattle.tsn_journal.specs.Index.{IsIndexedBut, IsLast, belongs, set_at}
 use Rattle.tsn_journal.proofs.Grouping.{one_group}
 
-pub index_lowered : (ms : List MarkedEntry) (ps : List Place) (l : Group → ℕ) (g : Group) (j : ℕ) → IsIndexedBut [] ms ps l → IsLast g (belongs g) ms ps j (length ms + 1) → IsIndexedBut [] ms ps (set_at g j l)
+pub index_lowered : (ms : List MarkedEntry) (ps : List Place) (l : Group → ℕ) (g : Group) (j : ℕ) → IsIndexedBut [] ms ps l
+    → IsLast g (belongs g) ms ps j (length ms + 1) → IsIndexedBut [] ms ps (set_at g j l)
 index_lowered ms ps l g j is last = grind (arith, common_steps, one_group)

@@ -26,7 +26,8 @@ use Rattle.tsn_journal.proofs.Links.{end_at, front_at, none_some, where_at}
 use Rattle.tsn_journal.proofs.Newest.{number_at'}
 
 max_of : (a b : ℕ) → (max a b ≡ a) ⊎ (max a b ≡ b)
-max_of a b = elim (where_at a b) [ inl less ↦ inl (omega arith) | inr rest ↦ elim rest [ inl same ↦ inl (omega arith) | inr more ↦ inr (omega arith) ] ]
+max_of a b = elim (where_at a b)
+    [ inl less ↦ inl (omega arith) | inr rest ↦ elim rest [ inl same ↦ inl (omega arith) | inr more ↦ inr (omega arith) ] ]
 
 -- ---- the last that passes is there, and passes
 
@@ -44,12 +45,15 @@ there_in t (x ∷ ms) y h = by_option (last_where t ms)
     let rest = there_in t ms y (some ∙ ap Some same) in
     record { place = suc rest.place; at = rest.at; passes = rest.passes })
 
-there_behind : (t : MarkedEntry → Bool) (n : ℕ) (ms : List MarkedEntry) (y : MarkedEntry) → last_where t (drop n ms) ≡ Some y → IsThere t ms y
+there_behind : (t : MarkedEntry → Bool) (n : ℕ) (ms : List MarkedEntry) (y : MarkedEntry) → last_where t (drop n ms) ≡ Some y
+    → IsThere t ms y
 there_behind t zero ms y h = there_in t ms y h
 there_behind t (suc n) [] y h = none_some y h
-there_behind t (suc n) (x ∷ ms) y h = let rest = there_behind t n ms y h in record { place = suc rest.place; at = rest.at; passes = rest.passes }
+there_behind t (suc n) (x ∷ ms) y h =
+    let rest = there_behind t n ms y h in record { place = suc rest.place; at = rest.at; passes = rest.passes }
 
-pub found_on : (s n before : ℕ) (k : Key) (ms : List MarkedEntry) (y : MarkedEntry) → IsNumbered 1 (entries_of ms) → last_where (belongs_to_others (On k) s) (drop before ms) ≡ Some y → n ≡ max y.entry.number before → IsFoundOn before n ms s k
+pub found_on : (s n before : ℕ) (k : Key) (ms : List MarkedEntry) (y : MarkedEntry) → IsNumbered 1 (entries_of ms)
+    → last_where (belongs_to_others (On k) s) (drop before ms) ≡ Some y → n ≡ max y.entry.number before → IsFoundOn before n ms s k
 found_on s n before k ms y numbered found is = greater (max_of y.entry.number before)
   where
     greater : ((max y.entry.number before ≡ y.entry.number) ⊎ (max y.entry.number before ≡ before)) → IsFoundOn before n ms s k
@@ -65,10 +69,12 @@ found_on s n before k ms y numbered found is = greater (max_of y.entry.number be
 -- ---- part after part
 
 on_front : (k : Key) (es fs : List Part) → is_on k (Some es) ≡ true → is_on k (Some (es ++ fs)) ≡ true
-on_front k es fs h = ap (λ ks. has ks k) (keys_of-append es fs) ∙ has-append (keys_of es) (keys_of fs) k ∙ or_left (has (keys_of es) k) (has (keys_of fs) k) h
+on_front k es fs h = ap (λ ks. has ks k) (keys_of-append es fs) ∙ has-append (keys_of es) (keys_of fs) k
+    ∙ or_left (has (keys_of es) k) (has (keys_of fs) k) h
 
 on_back : (k : Key) (es fs : List Part) → is_on k (Some fs) ≡ true → is_on k (Some (es ++ fs)) ≡ true
-on_back k es fs h = ap (λ ks. has ks k) (keys_of-append es fs) ∙ has-append (keys_of es) (keys_of fs) k ∙ or_right (has (keys_of es) k) (has (keys_of fs) k) h
+on_back k es fs h = ap (λ ks. has ks k) (keys_of-append es fs) ∙ has-append (keys_of es) (keys_of fs) k
+    ∙ or_right (has (keys_of es) k) (has (keys_of fs) k) h
 
 referred_front : (es fs : List Part) → is_on_referred (Some es) ≡ true → is_on_referred (Some (es ++ fs)) ≡ true
 referred_front es fs h = grind (arith, common_steps, none_true, or_left, or_right)
@@ -76,10 +82,12 @@ referred_front es fs h = grind (arith, common_steps, none_true, or_left, or_righ
 referred_back : (es fs : List Part) → is_on_referred (Some fs) ≡ true → is_on_referred (Some (es ++ fs)) ≡ true
 referred_back es fs h = grind (arith, common_steps, or_right)
 
-wider : (before n s : ℕ) (ms : List MarkedEntry) (es fs : List Part) → IsRaised before n ms s (Some es) → IsRaised before n ms s (Some (es ++ fs))
+wider : (before n s : ℕ) (ms : List MarkedEntry) (es fs : List Part) → IsRaised before n ms s (Some es)
+    → IsRaised before n ms s (Some (es ++ fs))
 wider before n s ms es fs h = grind (arith, referred_front, on_front)
 
-pub raised_then : (before n k s : ℕ) (ms : List MarkedEntry) (es fs : List Part) → IsRaised before n ms s (Some es) → IsRaised n k ms s (Some fs) → IsRaised before k ms s (Some (es ++ fs))
+pub raised_then : (before n k s : ℕ) (ms : List MarkedEntry) (es fs : List Part) → IsRaised before n ms s (Some es)
+    → IsRaised n k ms s (Some fs) → IsRaised before k ms s (Some (es ++ fs))
 raised_then before n k s ms es fs first h = grind (arith, common_steps, wider, referred_back, on_back)
 
 -- ---- an entry more
@@ -97,12 +105,19 @@ module _ (es : List Entry) (w : What) (s : ℕ) where
   pub still_needed : (n : ℕ) → IsNeeded n es → IsNeeded n (with_entry es s w)
   still_needed n h = grind (arith, still_at)
 
-pub needed_pushed : (before n s : ℕ) (ms : List MarkedEntry) (w : What) → IsNeeded before (entries_of ms) → IsRaised before n ms s (adds w) → IsNeeded n (with_entry (entries_of ms) s w)
-needed_pushed before n s ms w old (inl same) = subst (λ i. IsNeeded i (with_entry (entries_of ms) s w)) (sym same) (still_needed (entries_of ms) w s before old)
+pub needed_pushed : (before n s : ℕ) (ms : List MarkedEntry) (w : What) → IsNeeded before (entries_of ms) → IsRaised before n ms s (adds w)
+    → IsNeeded n (with_entry (entries_of ms) s w)
+needed_pushed before n s ms w old (inl same) =
+    subst (λ i. IsNeeded i (with_entry (entries_of ms) s w)) (sym same) (still_needed (entries_of ms) w s before old)
 needed_pushed before n s ms w old (inr (inl own)) =
     let es = entries_of ms in
     let count : length es ≡ length ms = length-map ms (λ (x : MarkedEntry). x.entry) in
-    inr (record { some = omega (arith, own.0); entry = record { number = length es + 1; session = s; what = w }; at = end_at es _ (n - 1) (omega (arith, own.0, count)); why = inl own.1 })
+    inr (record {
+      some = omega (arith, own.0);
+      entry = record { number = length es + 1; session = s; what = w };
+      at = end_at es _ (n - 1) (omega (arith, own.0, count));
+      why = inl own.1;
+    })
 needed_pushed before n s ms w old (inr (inr o)) =
     let es = entries_of ms in
     let count : length es ≡ length ms = length-map ms (λ (x : MarkedEntry). x.entry) in

@@ -22,7 +22,8 @@ append_nil xs = search rules
 pub changes-append : (xs ys : List Applied) → changes (xs ++ ys) ≡ changes xs ++ changes ys
 changes-append xs ys = grind (arith, common_steps)
 
-pub collect_push : (pick : What → Option Change) (es : List Entry) (e : Entry) → collect pick (es ++ e ∷ []) ≡ collect pick es ++ cons_option (applied pick e) []
+pub collect_push : (pick : What → Option Change) (es : List Entry) (e : Entry)
+    → collect pick (es ++ e ∷ []) ≡ collect pick es ++ cons_option (applied pick e) []
 collect_push pick es e = filter_map-append (applied pick) es (e ∷ [])
 
 -- ---- the standing entries with one entry more
@@ -35,19 +36,23 @@ undoes_number (Redone n c) k = false
 undoes_number (Acted act key now) k = false
 undoes_number (Settled upto) k = nat_le k upto
 
-undone_by : (w v : What) (n s : ℕ) (c : Change) → adds v ≡ Some c → closes w (record { number = n; session = s; what = v }) ≡ undoes_number w n
+undone_by : (w v : What) (n s : ℕ) (c : Change) → adds v ≡ Some c → closes w (record { number = n; session = s; what = v }) ≡ undoes_number
+    w n
 undone_by w v n s c some = grind arith
 
-one_left : (taken by : Bool) (p : Applied → Bool) (x : Applied) (xs : List Applied) → p x ≡ not by → cons_option (cond (taken || by) None (Some x)) (filter p xs) ≡ filter p (cons_option (cond taken None (Some x)) xs)
+one_left : (taken by : Bool) (p : Applied → Bool) (x : Applied) (xs : List Applied) → p x ≡ not by
+    → cons_option (cond (taken || by) None (Some x)) (filter p xs) ≡ filter p (cons_option (cond taken None (Some x)) xs)
 one_left taken by p x xs h = grind arith
 
-none_left : (taken by : Bool) (p : Applied → Bool) (xs : List Applied) → cons_option (cond (taken || by) None None) (filter p xs) ≡ filter p (cons_option (cond taken None None) xs)
+none_left : (taken by : Bool) (p : Applied → Bool) (xs : List Applied)
+    → cons_option (cond (taken || by) None None) (filter p xs) ≡ filter p (cons_option (cond taken None None) xs)
 none_left taken by p xs = grind arith
 
 cons_filter : (o : Option Applied) (p : Applied → Bool) (xs ys : List Applied) → cons_option o (xs ++ ys) ≡ cons_option o xs ++ ys
 cons_filter o p xs ys = grind arith
 
-pub standing_push : (es : List Entry) (e : Entry) → standing (es ++ e ∷ []) ≡ filter (λ x. not (undoes_number e.what x.number)) (standing es) ++ cons_option (applied adds e) []
+pub standing_push : (es : List Entry) (e : Entry)
+    → standing (es ++ e ∷ []) ≡ filter (λ x. not (undoes_number e.what x.number)) (standing es) ++ cons_option (applied adds e) []
 standing_push [] e = refl
 standing_push (x ∷ es) e = grind (arith, is_closed-push, cons_filter, none_left, one_left, undone_by, standing_push es e)
 
@@ -60,12 +65,14 @@ pub rises_lower : (n m : ℕ) (xs : List Applied) → n ≤ m → Rises m xs →
 rises_lower n m [] h r = tt
 rises_lower n m (x ∷ xs) h r = (let a : m ≤ x.number = r.0 in omega arith, r.1)
 
-rises_cons : (n number session : ℕ) (o : Option Change) (xs : List Applied) → n ≡ number → Rises (n + 1) xs → Rises n (cons_option (option_map (λ c. record { number = number; session = session; change = c }) o) xs)
+rises_cons : (n number session : ℕ) (o : Option Change) (xs : List Applied) → n ≡ number → Rises (n + 1) xs
+    → Rises n (cons_option (option_map (λ c. record { number = number; session = session; change = c }) o) xs)
 rises_cons n number session o xs is rest = grind (arith, rises_lower)
 
 pub rises_collect : (pick : What → Option Change) (n : ℕ) (es : List Entry) → IsNumbered n es → Rises n (collect pick es)
 rises_collect pick n [] h = tt
-rises_collect pick n (e ∷ es) h = rises_cons n e.number e.session (pick e.what) (collect pick es) (sym h.0) (rises_collect pick (n + 1) es h.1)
+rises_collect pick n (e ∷ es) h =
+    rises_cons n e.number e.session (pick e.what) (collect pick es) (sym h.0) (rises_collect pick (n + 1) es h.1)
 
 rises_from : (n : ℕ) (es : List Entry) → IsNumbered n es → Rises n (standing es)
 rises_from n [] h = tt
@@ -93,8 +100,13 @@ pub record IsLast (test : Applied → Bool) (xs : List Applied) (x : Applied) : 
 pub last_where_none : (test : Applied → Bool) (xs : List Applied) → last_where test xs ≡ None → AllByRecursion (λ y. test y ≡ false) xs
 last_where_none test [] h = tt
 last_where_none test (x ∷ xs) h =
-    elim (last_where test xs) as (λ o. last_where test xs ≡ o → option_or o (cond (test x) (Some x) None) ≡ None → AllByRecursion (λ y. test y ≡ false) (x ∷ xs)) [
-      | None ↦ λ none h. (by_bool (test x) (λ yes. let e : cond true (Some x) None ≡ None = ap (λ b. cond b (Some x) None) (sym yes) ∙ h in (cc)) (λ no. no), last_where_none test xs none)
+    elim (last_where test xs) as (λ o. last_where test xs ≡ o → option_or o (cond (test x) (Some x) None) ≡ None
+    → AllByRecursion (λ y. test y ≡ false) (x ∷ xs)) [
+      | None ↦ λ none h. (
+        by_bool (test x) (λ yes. let e : cond true (Some x) None ≡ None = ap (λ b. cond b (Some x) None) (sym yes) ∙ h in
+            (cc)) (λ no. no),
+        last_where_none test xs none,
+      )
       | Some y ↦ λ some h. (cc)
     ] refl h
 
@@ -115,10 +127,17 @@ last_where_some test (z ∷ xs) x h =
           ] refl h
       | Some y ↦ λ some h. let is : y ≡ x = (cc) in
           let found = last_where_some test xs x (some ∙ ap Some is) in
-          record { front = z ∷ found.front; rest = found.rest; is = ap (λ ys. z ∷ ys) found.is; passes = found.passes; none_later = found.none_later }
+          record {
+            front = z ∷ found.front;
+            rest = found.rest;
+            is = ap (λ ys. z ∷ ys) found.is;
+            passes = found.passes;
+            none_later = found.none_later;
+          }
     ] refl h
 
-pub rises_rest : (n : ℕ) (front : List Applied) (x : Applied) (rest : List Applied) → Rises n (front ++ x ∷ rest) → (n ≤ x.number) × Rises (x.number + 1) rest × AllByRecursion (λ y. y.number < x.number) front
+pub rises_rest : (n : ℕ) (front : List Applied) (x : Applied) (rest : List Applied) → Rises n (front ++ x ∷ rest)
+    → (n ≤ x.number) × Rises (x.number + 1) rest × AllByRecursion (λ y. y.number < x.number) front
 rises_rest n [] x rest r = (r.0, r.1, tt)
 rises_rest n (y ∷ front) x rest r = grind (arith, rises_rest (y.number + 1) front x rest r.1)
 
@@ -143,11 +162,13 @@ own_number : (n : ℕ) → not (n == n) ≡ false
 own_number n = grind (arith, nat_tests)
 
 -- the later entries are those after it
-pub later_than_rest : (n : ℕ) (front : List Applied) (x : Applied) (rest : List Applied) → Rises n (front ++ x ∷ rest) → later_than x.number (front ++ x ∷ rest) ≡ rest
+pub later_than_rest : (n : ℕ) (front : List Applied) (x : Applied) (rest : List Applied) → Rises n (front ++ x ∷ rest)
+    → later_than x.number (front ++ x ∷ rest) ≡ rest
 later_than_rest n front x rest r =
     grind (arith, rises_rest, filter-append, filter_none, each_weaker, le-ltb, filter_all, above_lt, rises_above)
 
 -- without the number the list is the front and the rest
-pub left_one : (n : ℕ) (front : List Applied) (x : Applied) (rest : List Applied) → Rises n (front ++ x ∷ rest) → filter (λ y. not (x.number == y.number)) (front ++ x ∷ rest) ≡ front ++ rest
+pub left_one : (n : ℕ) (front : List Applied) (x : Applied) (rest : List Applied) → Rises n (front ++ x ∷ rest)
+    → filter (λ y. not (x.number == y.number)) (front ++ x ∷ rest) ≡ front ++ rest
 left_one n front x rest r =
     grind (arith, rises_rest, filter-append, filter_all, each_weaker, other_number, own_number, other_number_above, rises_above)

@@ -30,8 +30,10 @@ pub none_own : (s n : ℕ) (ms : List MarkedEntry) → AreOff n ms → NoneBetwe
 none_own s n ms h i m low lt at = ap (λ b. is_own s (record { entry = m.entry; is_open = b })) (off_at n ms h i m (omega arith) at)
 
 -- so a walk back along the session's entries may end at the first place up to there
-pub none_before : (s n : ℕ) (ms : List MarkedEntry) (ps : List Place) (j : ℕ) → AreOff n ms → number_at ps j ≤ n → filter (belongs (Of s)) (drop (number_at ps j) ms) ≡ filter (belongs (Of s)) ms
-none_before s n ms ps j h le = sym (filter_gap (belongs (Of s)) ms 0 (number_at ps j) (omega arith) (λ i x low lt at. none_own s n ms h i x low (omega arith) at))
+pub none_before : (s n : ℕ) (ms : List MarkedEntry) (ps : List Place) (j : ℕ) → AreOff n ms → number_at ps j ≤ n
+    → filter (belongs (Of s)) (drop (number_at ps j) ms) ≡ filter (belongs (Of s)) ms
+none_before s n ms ps j h le =
+    sym (filter_gap (belongs (Of s)) ms 0 (number_at ps j) (omega arith) (λ i x low lt at. none_own s n ms h i x low (omega arith) at))
 
 drop_twice : {A : Type 0} (k n : ℕ) (xs : List A) → drop k (drop n xs) ≡ drop (n + k) xs
 drop_twice k n xs = grind (arith, common_steps, drop-nil)
@@ -41,7 +43,8 @@ pub own_split : (s off n : ℕ) (ms : List MarkedEntry) → AreOff off ms → of
     → filter (belongs (Of s)) (take (n - off) (drop off ms)) ++ filter (belongs (Of s)) (drop n ms) ≡ filter (belongs (Of s)) ms
 own_split s off n ms h le =
     let t : MarkedEntry → Bool = belongs (Of s) in
-    ap (λ xs. filter t (take (n - off) (drop off ms)) ++ filter t xs) (sym (drop_twice (n - off) off ms ∙ ap (λ k. drop k ms) (let e : off + (n - off) ≡ n = omega arith in e)))
+    ap (λ xs. filter t (take (n - off) (drop off ms)) ++ filter t xs)
+    (sym (drop_twice (n - off) off ms ∙ ap (λ k. drop k ms) (let e : off + (n - off) ≡ n = omega arith in e)))
     ∙ sym (filter-append t (take (n - off) (drop off ms)) (drop (n - off) (drop off ms)))
     ∙ ap (filter t) (take-append-drop (n - off) (drop off ms))
     ∙ sym (filter_gap t ms 0 off (omega arith) (λ i x low lt at. none_own s off ms h i x low (omega arith) at))

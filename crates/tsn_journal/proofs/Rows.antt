@@ -27,12 +27,15 @@ kept f b x o = grind arith
 same_either : {A : Type 0} (b : Bool) (x : A) (y : A) → (b ≡ true → x ≡ y) → cond b x y ≡ y
 same_either b x y h = grind arith
 
-module _ (l k : Latest) (key : Key) (row : KeyPlaces) (rows : (q : Key) → key_row k q ≡ cond (same_key q key) (Some row) (key_row l q)) (sessions : k.sessions ≡ l.sessions) where
+module _ (l k : Latest) (key : Key) (row : KeyPlaces) (rows : (q : Key) → key_row k q ≡ cond (same_key q key) (Some row) (key_row l q))
+    (sessions : k.sessions ≡ l.sessions) where
   set_on' : (q : Key) → on_of (key_row k q) ≡ cond (same_key key q) row.on (on_of (key_row l q))
-  set_on' q = ap on_of (rows q) ∙ kept on_of (same_key q key) (Some row) (key_row l q) ∙ ap (λ b. cond b row.on (on_of (key_row l q))) (same_key_swap q key)
+  set_on' q = ap on_of (rows q) ∙ kept on_of (same_key q key) (Some row) (key_row l q)
+      ∙ ap (λ b. cond b row.on (on_of (key_row l q))) (same_key_swap q key)
 
   set_refers' : (q : Key) → refers_of (key_row k q) ≡ cond (same_key key q) row.refers (refers_of (key_row l q))
-  set_refers' q = ap refers_of (rows q) ∙ kept refers_of (same_key q key) (Some row) (key_row l q) ∙ ap (λ b. cond b row.refers (refers_of (key_row l q))) (same_key_swap q key)
+  set_refers' q = ap refers_of (rows q) ∙ kept refers_of (same_key q key) (Some row) (key_row l q)
+      ∙ ap (λ b. cond b row.refers (refers_of (key_row l q))) (same_key_swap q key)
 
   session_same : (s : ℕ) → session_row k s ≡ session_row l s
   session_same s = (λ i. get (sessions i).map s)
@@ -40,12 +43,15 @@ module _ (l k : Latest) (key : Key) (row : KeyPlaces) (rows : (q : Key) → key_
   pub set_on : row.refers ≡ refers_of (key_row l key) → (q : Group) → latest_of k q ≡ cond (same_group (On key) q) row.on (latest_of l q)
   set_on same q = grind (arith, common_steps, set_on', set_refers', same_either, one_key, session_same)
 
-  pub set_refers : row.on ≡ on_of (key_row l key) → (q : Group) → latest_of k q ≡ cond (same_group (RefersTo key) q) row.refers (latest_of l q)
+  pub set_refers : row.on ≡ on_of (key_row l key) → (q : Group)
+      → latest_of k q ≡ cond (same_group (RefersTo key) q) row.refers (latest_of l q)
   set_refers same q = grind (arith, common_steps, set_on', same_either, one_key, set_refers', session_same)
 
-module _ (l k : Latest) (session : ℕ) (row : SessionPlaces) (sessions : k.sessions.map ≡ insert l.sessions.map session row) (keys : (q : Key) → key_row k q ≡ key_row l q) where
+module _ (l k : Latest) (session : ℕ) (row : SessionPlaces) (sessions : k.sessions.map ≡ insert l.sessions.map session row)
+    (keys : (q : Key) → key_row k q ≡ key_row l q) where
   row_at : (s : ℕ) → session_row k s ≡ cond (session == s) (Some row) (session_row l s)
-  row_at s = ap (λ (m : FinMap nat_cmp SessionPlaces). get m s) sessions ∙ get-insert nat_cmp_total l.sessions.map session row s ∙ ap (λ b. cond b (Some row) (session_row l s)) (same_by_order session s)
+  row_at s = ap (λ (m : FinMap nat_cmp SessionPlaces). get m s) sessions ∙ get-insert nat_cmp_total l.sessions.map session row s
+      ∙ ap (λ b. cond b (Some row) (session_row l s)) (same_by_order session s)
 
   standing_at : (s : ℕ) → standing_of (session_row k s) ≡ cond (session == s) row.standing (standing_of (session_row l s))
   standing_at s = ap standing_of (row_at s) ∙ kept standing_of (session == s) (Some row) (session_row l s)
@@ -53,7 +59,8 @@ module _ (l k : Latest) (session : ℕ) (row : SessionPlaces) (sessions : k.sess
   ends_at : (s : ℕ) → ends_of (session_row k s) ≡ cond (session == s) row.ends_redo (ends_of (session_row l s))
   ends_at s = ap ends_of (row_at s) ∙ kept ends_of (session == s) (Some row) (session_row l s)
 
-  pub set_both : (q : Group) → latest_of k q ≡ cond (same_group (EndsRedo session) q) row.ends_redo (cond (same_group (Of session) q) row.standing (latest_of l q))
+  pub set_both : (q : Group) → latest_of k q ≡ cond (same_group (EndsRedo session) q) row.ends_redo
+      (cond (same_group (Of session) q) row.standing (latest_of l q))
   set_both q = grind (arith, standing_at, ends_at)
 
 -- a row set in one of the tables of keys
@@ -61,16 +68,20 @@ module _ (m n : FinMap nat_cmp KeyPlaces) (number : ℕ) (row : KeyPlaces) (put 
   pub row_put : (q : ℕ) → get n q ≡ cond (eq_by_cmp nat_cmp q number) (Some row) (get m q)
   row_put q = ap (λ (t : FinMap nat_cmp KeyPlaces). get t q) put ∙ get-insert nat_cmp_total m number row q
 
-pub port_put : (l k : Latest) (n : ℕ) (row : KeyPlaces) → k.ports.map ≡ insert l.ports.map n row → k.filters ≡ l.filters → k.gates ≡ l.gates → k.meters ≡ l.meters → (q : Key) → key_row k q ≡ cond (same_key q (Port n)) (Some row) (key_row l q)
+pub port_put : (l k : Latest) (n : ℕ) (row : KeyPlaces) → k.ports.map ≡ insert l.ports.map n row → k.filters ≡ l.filters → k.gates ≡ l.gates
+    → k.meters ≡ l.meters → (q : Key) → key_row k q ≡ cond (same_key q (Port n)) (Some row) (key_row l q)
 port_put l k n row put f g m q = grind (arith, row_put)
 
-pub filter_put : (l k : Latest) (n : ℕ) (row : KeyPlaces) → k.filters.map ≡ insert l.filters.map n row → k.ports ≡ l.ports → k.gates ≡ l.gates → k.meters ≡ l.meters → (q : Key) → key_row k q ≡ cond (same_key q (Filter n)) (Some row) (key_row l q)
+pub filter_put : (l k : Latest) (n : ℕ) (row : KeyPlaces) → k.filters.map ≡ insert l.filters.map n row → k.ports ≡ l.ports
+    → k.gates ≡ l.gates → k.meters ≡ l.meters → (q : Key) → key_row k q ≡ cond (same_key q (Filter n)) (Some row) (key_row l q)
 filter_put l k n row put p g m q = grind (arith, row_put)
 
-pub gate_put : (l k : Latest) (n : ℕ) (row : KeyPlaces) → k.gates.map ≡ insert l.gates.map n row → k.ports ≡ l.ports → k.filters ≡ l.filters → k.meters ≡ l.meters → (q : Key) → key_row k q ≡ cond (same_key q (Gate n)) (Some row) (key_row l q)
+pub gate_put : (l k : Latest) (n : ℕ) (row : KeyPlaces) → k.gates.map ≡ insert l.gates.map n row → k.ports ≡ l.ports → k.filters ≡ l.filters
+    → k.meters ≡ l.meters → (q : Key) → key_row k q ≡ cond (same_key q (Gate n)) (Some row) (key_row l q)
 gate_put l k n row put p f m q = grind (arith, row_put)
 
-pub meter_put : (l k : Latest) (n : ℕ) (row : KeyPlaces) → k.meters.map ≡ insert l.meters.map n row → k.ports ≡ l.ports → k.filters ≡ l.filters → k.gates ≡ l.gates → (q : Key) → key_row k q ≡ cond (same_key q (Meter n)) (Some row) (key_row l q)
+pub meter_put : (l k : Latest) (n : ℕ) (row : KeyPlaces) → k.meters.map ≡ insert l.meters.map n row → k.ports ≡ l.ports
+    → k.filters ≡ l.filters → k.gates ≡ l.gates → (q : Key) → key_row k q ≡ cond (same_key q (Meter n)) (Some row) (key_row l q)
 meter_put l k n row put p f g q = grind (arith, row_put)
 
 -- tables with no row have no place in any group
@@ -80,15 +91,19 @@ no_key_row m n none = ap (λ (t : FinMap nat_cmp KeyPlaces). get t n) none ∙ g
 no_session_row : (m : FinMap nat_cmp SessionPlaces) (n : ℕ) → m ≡ empty → get m n ≡ None
 no_session_row m n none = ap (λ (t : FinMap nat_cmp SessionPlaces). get t n) none ∙ get-empty nat_cmp n
 
-pub no_rows : (l : Latest) → l.ports.map ≡ empty → l.filters.map ≡ empty → l.gates.map ≡ empty → l.meters.map ≡ empty → l.sessions.map ≡ empty → (g : Group) → latest_of l g ≡ 0
+pub no_rows : (l : Latest) → l.ports.map ≡ empty → l.filters.map ≡ empty → l.gates.map ≡ empty → l.meters.map ≡ empty
+    → l.sessions.map ≡ empty → (g : Group) → latest_of l g ≡ 0
 no_rows l p f g m s h = grind (arith, no_key_row, no_session_row)
 
-pub no_touched : (l : Latest) → l.ports.map ≡ empty → l.filters.map ≡ empty → l.gates.map ≡ empty → l.meters.map ≡ empty → (k : Key) → touched_of (key_row l k) ≡ 0
+pub no_touched : (l : Latest) → l.ports.map ≡ empty → l.filters.map ≡ empty → l.gates.map ≡ empty → l.meters.map ≡ empty → (k : Key)
+    → touched_of (key_row l k) ≡ 0
 no_touched l p f g m k = grind (arith, no_key_row)
 
-pub no_referred : (l : Latest) → l.ports.map ≡ empty → l.filters.map ≡ empty → l.gates.map ≡ empty → l.meters.map ≡ empty → (k : Key) → referred_of (key_row l k) ≡ 0
+pub no_referred : (l : Latest) → l.ports.map ≡ empty → l.filters.map ≡ empty → l.gates.map ≡ empty → l.meters.map ≡ empty → (k : Key)
+    → referred_of (key_row l k) ≡ 0
 no_referred l p f g m k = grind (arith, no_key_row)
 
 -- the same tables have the same rows
-pub same_rows : (l k : Latest) → k.ports.map ≡ l.ports.map → k.filters.map ≡ l.filters.map → k.gates.map ≡ l.gates.map → k.meters.map ≡ l.meters.map → (q : Key) → key_row k q ≡ key_row l q
+pub same_rows : (l k : Latest) → k.ports.map ≡ l.ports.map → k.filters.map ≡ l.filters.map → k.gates.map ≡ l.gates.map
+    → k.meters.map ≡ l.meters.map → (q : Key) → key_row k q ≡ key_row l q
 same_rows l k p f g m q = (cc)

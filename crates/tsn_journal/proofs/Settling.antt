@@ -41,19 +41,22 @@ none_settled n x [] lt h open' = refl
 none_settled n x (e ∷ es) lt h open' =
     let at : e.number ≡ n = h.0 in
     let rest = or_second (closes e.what x) (is_closed x es) open' in
-    (λ i. cons_option (cond (behind_open x e es (omega arith) rest i) (applied adds e) None) (none_settled (n + 1) x es (omega arith) h.1 rest i))
+    (λ i. cons_option (cond (behind_open x e es (omega arith) rest i) (applied adds e) None)
+    (none_settled (n + 1) x es (omega arith) h.1 rest i))
 
 -- an entry that is closed already stays as it is
 closed_stays : (x : Entry) (es : List Entry) (e : Entry) → is_closed x es ≡ true → is_settled x (es ++ e ∷ []) ≡ is_settled x es
 closed_stays x [] e h = (cc)
 closed_stays x (w ∷ es) e h = by_bool (closes w.what x)
-    (λ here. ap (λ b. cond b (not (takes_back w.what x)) (is_settled x (es ++ e ∷ []))) here ∙ sym (ap (λ b. cond b (not (takes_back w.what x)) (is_settled x es)) here))
+    (λ here. ap (λ b. cond b (not (takes_back w.what x)) (is_settled x (es ++ e ∷ []))) here
+    ∙ sym (ap (λ b. cond b (not (takes_back w.what x)) (is_settled x es)) here))
     (λ later.
     let rest : is_closed x es ≡ true = ap (λ b. b || is_closed x es) (sym later) ∙ h in
     ap (λ b. cond (closes w.what x) (not (takes_back w.what x)) b) (closed_stays x es e rest))
 
 -- an entry that is open is settled by the new one, or not
-open_settled : (x : Entry) (es : List Entry) (e : Entry) (upto : ℕ) → e.what ≡ Settled upto → is_closed x es ≡ false → is_settled x (es ++ e ∷ []) ≡ nat_le x.number upto
+open_settled : (x : Entry) (es : List Entry) (e : Entry) (upto : ℕ) → e.what ≡ Settled upto → is_closed x es ≡ false
+    → is_settled x (es ++ e ∷ []) ≡ nat_le x.number upto
 open_settled x [] e upto is open' = grind arith
 open_settled x (w ∷ es) e upto is open' = grind (arith, open_settled x es e upto is (or_second (closes w.what x) (is_closed x es) open'))
 
@@ -62,8 +65,10 @@ cons_front o xs ys = grind arith
 
 -- the first of the standing, settled or not
 first_one : (number session : ℕ) (upto : ℕ) (o : Option Change) (xs : List Applied)
-    → cons_option (cond (nat_le number upto) (option_map (λ c. record { number = number; session = session; change = c }) o) None) (filter (λ (y : Applied). nat_le y.number upto) xs)
-    ≡ filter (λ (y : Applied). nat_le y.number upto) (cons_option (option_map (λ c. record { number = number; session = session; change = c }) o) xs)
+    → cons_option (cond (nat_le number upto) (option_map (λ c. record { number = number; session = session; change = c }) o) None)
+    (filter (λ (y : Applied). nat_le y.number upto) xs)
+    ≡ filter (λ (y : Applied). nat_le y.number upto)
+    (cons_option (option_map (λ c. record { number = number; session = session; change = c }) o) xs)
 first_one number session upto o xs = grind arith
 
 -- those that stood up to the number come to the settled ones
@@ -75,10 +80,12 @@ settled_more n (x ∷ es) e upto is h =
 
 -- ---- rising numbers up to one, and above it
 
-all_above : (n k : ℕ) (xs : List Applied) → k < n → Rises n xs → (filter (λ (x : Applied). nat_le x.number k) xs ≡ []) × (filter (λ (x : Applied). not (nat_le x.number k)) xs ≡ xs)
+all_above : (n k : ℕ) (xs : List Applied) → k < n → Rises n xs
+    → (filter (λ (x : Applied). nat_le x.number k) xs ≡ []) × (filter (λ (x : Applied). not (nat_le x.number k)) xs ≡ xs)
 all_above n k [] lt h = (refl, refl)
 all_above n k (x ∷ xs) lt h = grind (arith, all_above (x.number + 1) k xs (omega arith) h.1)
 
-pub split_at : (n k : ℕ) (xs : List Applied) → Rises n xs → xs ≡ filter (λ (x : Applied). nat_le x.number k) xs ++ filter (λ (x : Applied). not (nat_le x.number k)) xs
+pub split_at : (n k : ℕ) (xs : List Applied) → Rises n xs
+    → xs ≡ filter (λ (x : Applied). nat_le x.number k) xs ++ filter (λ (x : Applied). not (nat_le x.number k)) xs
 split_at n k [] h = refl
 split_at n k (x ∷ xs) h = grind (arith, all_above, leb-false, split_at (x.number + 1) k xs h.1)

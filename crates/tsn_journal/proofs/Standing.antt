@@ -20,17 +20,20 @@ use Rattle.tsn_journal.proofs.Numbers.{Rises, last_where_some, rises_rest, rises
 same_number : (n : ℕ) → (n == n) ≡ true
 same_number n = grind (arith, nat_tests)
 
-behind : (front : List Applied) (x : Applied) (rest : List Applied) → AllByRecursion (λ y. y.number < x.number) front → find (λ y. y.number == x.number) (front ++ x ∷ rest) ≡ Some x
+behind : (front : List Applied) (x : Applied) (rest : List Applied) → AllByRecursion (λ y. y.number < x.number) front
+    → find (λ y. y.number == x.number) (front ++ x ∷ rest) ≡ Some x
 behind [] x rest h = ap (λ b. cond b (Some x) (find (λ y. y.number == x.number) rest)) (same_number x.number)
 behind (y ∷ front) x rest h = grind (arith, behind front x rest h.1)
 
 -- a standing entry that stands at a place is the one of its number
-pub standing_placed : (es : List Entry) (front : List Applied) (x : Applied) (rest : List Applied) → IsNumbered 1 es → standing es ≡ front ++ x ∷ rest → standing_entry es x.number ≡ Some x
+pub standing_placed : (es : List Entry) (front : List Applied) (x : Applied) (rest : List Applied) → IsNumbered 1 es
+    → standing es ≡ front ++ x ∷ rest → standing_entry es x.number ≡ Some x
 standing_placed es front x rest numbered is =
     let parts = rises_rest 1 front x rest (subst (Rises 1) is (rises_standing es numbered)) in
     ap (find (λ y. y.number == x.number)) is ∙ behind front x rest parts.2
 
-pub standing_found : (es : List Entry) (test : Applied → Bool) (x : Applied) → IsNumbered 1 es → last_where test (standing es) ≡ Some x → standing_entry es x.number ≡ Some x
+pub standing_found : (es : List Entry) (test : Applied → Bool) (x : Applied) → IsNumbered 1 es → last_where test (standing es) ≡ Some x
+    → standing_entry es x.number ≡ Some x
 standing_found es test x numbered last =
     let found = last_where_some test (standing es) x last in
     standing_placed es found.front x found.rest numbered found.is
@@ -77,7 +80,8 @@ module _ (es : List Entry) (n : ℕ) (x : Applied) (numbered : IsNumbered 1 es) 
   pub standing_is_entry : standing_entry es n ≡ Some x → IsEntry es n x
   standing_is_entry is =
       let at : option_and_then stands looked ≡ Some x =
-      sym (find_marked stands 1 n (marks_of es) stands-own numbered_marks) ∙ ap (find (λ y. y.number == n)) (sym (standing-marked (marks_of es) (well_marked es)) ∙ ap standing (same_entries es)) ∙ is in
+      sym (find_marked stands 1 n (marks_of es) stands-own numbered_marks)
+      ∙ ap (find (λ y. y.number == n)) (sym (standing-marked (marks_of es) (well_marked es)) ∙ ap standing (same_entries es)) ∙ is in
       grind (arith, as_entry, standing_picked_of, marks_of)
 
   pub undone_is_entry : undone_entry es n ≡ Some x → IsEntry es n x
@@ -93,7 +97,8 @@ module _ (es : List Entry) (n : ℕ) (x : Applied) (numbered : IsNumbered 1 es) 
 
 -- ---- what may be redone is an Undone entry
 
-pub redo_found : (n s : ℕ) (es : List Entry) (u : Applied) → IsNumbered n es → redo_of es s ≡ Some u → (n ≤ u.number) × (undone_entry es u.number ≡ Some u)
+pub redo_found : (n s : ℕ) (es : List Entry) (u : Applied) → IsNumbered n es → redo_of es s ≡ Some u
+    → (n ≤ u.number) × (undone_entry es u.number ≡ Some u)
 redo_found n s [] u h is = (cc)
 redo_found n s (e ∷ es) u h is =
     let test : Applied → Bool = λ x. x.number == u.number in
@@ -105,5 +110,6 @@ redo_found n s (e ∷ es) u h is =
     let same : v ≡ u = (cc) in
     grind (arith, redo_found (n + 1) s es u h.1 (some ∙ ap Some same)))
 
-pub redo_is_undone : (es : List Entry) (s : ℕ) (r : Option ℕ) → IsNumbered 1 es → r ≡ option_map (λ (x : Applied). x.number) (redo_of es s) → IfSome r (λ n. IsSome (undone_entry es n))
+pub redo_is_undone : (es : List Entry) (s : ℕ) (r : Option ℕ) → IsNumbered 1 es → r ≡ option_map (λ (x : Applied). x.number) (redo_of es s)
+    → IfSome r (λ n. IsSome (undone_entry es n))
 redo_is_undone es s r numbered is = grind (arith, redo_found)

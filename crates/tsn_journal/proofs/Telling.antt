@@ -35,7 +35,8 @@ same_itself' a = record { stray = refl; on = λ q. refl; to = λ q. refl }
 
 -- ---- one after the other
 
-module _ (n : ℕ) (keys refs keys' refs' : List Key) (a b c : Index) (some : 1 ≤ n) (first : Told n keys refs a b) (second : Told n keys' refs' b c) where
+module _ (n : ℕ) (keys refs keys' refs' : List Key) (a b c : Index) (some : 1 ≤ n) (first : Told n keys refs a b)
+    (second : Told n keys' refs' b c) where
   still_stray : b.stray ≡ n → c.stray ≡ n
   still_stray is = elim second.stray [ inl same ↦ same ∙ is | inr now ↦ now ]
 
@@ -61,18 +62,22 @@ pub refs_after-append : (es fs : List Part) → refs_after (es ++ fs) ≡ refs_a
 refs_after-append es fs = grind (arith, common_steps, append_assoc)
 
 -- a part more
-pub told_more : (n i : ℕ) (ps : List Part) (p : Part) (refs : Refs) (a b c d e : Index) → 1 ≤ n → i < length ps → p ≡ get_or ps i p → keys_of_refs refs ≡ refs_of p.after
-    → Told n (keys_of (take i ps)) (refs_after (take i ps)) a b → Told n (p.key ∷ []) [] b c → Told n [] (option_to_list refs.first) c d → Told n [] (option_to_list refs.second) d e
+pub told_more : (n i : ℕ) (ps : List Part) (p : Part) (refs : Refs) (a b c d e : Index) → 1 ≤ n → i < length ps → p ≡ get_or ps i p
+    → keys_of_refs refs ≡ refs_of p.after
+    → Told n (keys_of (take i ps)) (refs_after (take i ps)) a b → Told n (p.key ∷ []) [] b c → Told n [] (option_to_list refs.first) c d
+    → Told n [] (option_to_list refs.second) d e
     → Told n (keys_of (take (i + 1) ps)) (refs_after (take (i + 1) ps)) a e
 told_more n i ps p refs a b c d e some short is same before on first second =
     let now = take_next ps i p short is in
     let keys : keys_of (take (i + 1) ps) ≡ keys_of (take i ps) ++ p.key ∷ [] = ap keys_of now ∙ keys_of-append (take i ps) (p ∷ []) in
     let after : refs_after (take (i + 1) ps) ≡ refs_after (take i ps) ++ keys_of_refs refs =
-    ap refs_after now ∙ refs_after-append (take i ps) (p ∷ []) ∙ ap (λ rs. refs_after (take i ps) ++ rs) (nothing_after (refs_of p.after) ∙ sym same) in
+    ap refs_after now ∙ refs_after-append (take i ps) (p ∷ [])
+    ∙ ap (λ rs. refs_after (take i ps) ++ rs) (nothing_after (refs_of p.after) ∙ sym same) in
     let both = told_then n [] (option_to_list refs.first) [] (option_to_list refs.second) c d e some first second in
     let part = told_then n (p.key ∷ []) [] [] (keys_of_refs refs) b c e some on both in
     let all = told_then n (keys_of (take i ps)) (refs_after (take i ps)) (p.key ∷ []) (keys_of_refs refs) a b e some before part in
-    subst (λ ks. Told n ks (refs_after (take (i + 1) ps)) a e) (sym keys) (subst (λ rs. Told n (keys_of (take i ps) ++ p.key ∷ []) rs a e) (sym after) all)
+    subst (λ ks. Told n ks (refs_after (take (i + 1) ps)) a e) (sym keys)
+    (subst (λ rs. Told n (keys_of (take i ps) ++ p.key ∷ []) rs a e) (sym after) all)
 
 -- ---- an entry more
 
@@ -111,7 +116,8 @@ lowest t k (e ∷ es) y h is =
     grind (arith, lowest t (k + 1) es y h.1 (some ∙ ap Some same)))
   where
     here : (b : Bool) → cond b (Some e) None ≡ Some y → k ≤ y.number
-    here true is' = let same : e.number ≡ y.number = ap (λ (x : Entry). x.number) (same_Some e y is') in let first : e.number ≡ k = h.0 in omega arith
+    here true is' =
+        let same : e.number ≡ y.number = ap (λ (x : Entry). x.number) (same_Some e y is') in let first : e.number ≡ k = h.0 in omega arith
     here false is' = none_some y is'
 
 -- an entry that passes, and the newest one, which is no earlier
@@ -120,7 +126,8 @@ pub record IsNewer (t : Entry → Bool) (es : List Entry) (n : ℕ) : Type 0 whe
   pub is : newest t es ≡ Some number
   pub late : n ≤ number
 
-pub newer : (t : Entry → Bool) (k : ℕ) (es : List Entry) (n : ℕ) (e : Entry) → IsNumbered k es → entry es n ≡ Some e → t e ≡ true → IsNewer t es n
+pub newer : (t : Entry → Bool) (k : ℕ) (es : List Entry) (n : ℕ) (e : Entry) → IsNumbered k es → entry es n ≡ Some e → t e ≡ true
+    → IsNewer t es n
 newer t k [] n e h there pass = none_some e there
 newer t k (x ∷ es) n e h there pass =
     let first : x.number ≡ k = h.0 in
@@ -153,7 +160,8 @@ number_itself n h = grind arith
 one_or : (b : Bool) (x : Entry) (o : Option Entry) → option_or (option_or None (cond b (Some x) None)) o ≡ cond b (Some x) o
 one_or b x o = grind arith
 
-module _ (es : List Entry) (x : Entry) (n : ℕ) (a b : Index) (numbered : IsNumbered 1 es) (number : x.number ≡ n) (next : n ≡ length es + 1) (is : Tells es a) (told : Told n (keys_in (applies x.what)) (refs_in (applies x.what)) a b) where
+module _ (es : List Entry) (x : Entry) (n : ℕ) (a b : Index) (numbered : IsNumbered 1 es) (number : x.number ≡ n) (next : n ≡ length es + 1)
+    (is : Tells es a) (told : Told n (keys_in (applies x.what)) (refs_in (applies x.what)) a b) where
   abbrev more : List Entry
   more = es ++ x ∷ []
 
@@ -164,7 +172,8 @@ module _ (es : List Entry) (x : Entry) (n : ℕ) (a b : Index) (numbered : IsNum
   newest_more t = ap (option_map (λ (e : Entry). e.number)) (last_where-append t es (x ∷ []) ∙ one_or (t x) x (last_where t es))
 
   newest_this : (t : Entry → Bool) → t x ≡ true → newest t more ≡ Some n
-  newest_this t pass = newest_more t ∙ ap (λ c. option_map (λ (e : Entry). e.number) (cond c (Some x) (last_where t es))) pass ∙ ap Some number
+  newest_this t pass =
+      newest_more t ∙ ap (λ c. option_map (λ (e : Entry). e.number) (cond c (Some x) (last_where t es))) pass ∙ ap Some number
 
   newest_old : (t : Entry → Bool) → t x ≡ false → newest t more ≡ newest t es
   newest_old t fail = newest_more t ∙ ap (λ c. option_map (λ (e : Entry). e.number) (cond c (Some x) (last_where t es))) fail
@@ -172,7 +181,8 @@ module _ (es : List Entry) (x : Entry) (n : ℕ) (a b : Index) (numbered : IsNum
   more_within : (t : Entry → Bool) → Within n (newest t more)
   more_within t = by_bool (t x)
       (λ yes. subst (Within n) (sym (newest_this t yes)) (let e : n ≤ n = omega arith in e))
-      (λ no. subst (Within n) (sym (newest_old t no)) (within_more (0 + length es) n (newest t es) (omega arith) (newest_within t 0 es numbered)))
+      (λ no. subst (Within n) (sym (newest_old t no))
+      (within_more (0 + length es) n (newest t es) (omega arith) (newest_within t 0 es numbered)))
 
   on_within' : (k : Key) → touched b k ≤ n
   on_within' k = elim (told.on_or_same k) [ inl same ↦ omega (arith, is.on_within k) | inr now ↦ omega (arith, now.1) ]
@@ -200,15 +210,18 @@ module _ (es : List Entry) (x : Entry) (n : ℕ) (a b : Index) (numbered : IsNum
   was_on : {G : Type 0} (k : Key) (e : Entry) → entry es e.number ≡ Some e → touches k e ≡ true → a.stray < e.number → touched a k ≡ 0 → G
   was_on k e there on late none =
       let new = newer (touches k) 1 es e.number e numbered there on in
-      none_some new.number (ap (λ j. above a.stray (some_number j)) (sym none) ∙ is.on k ∙ ap (above a.stray) new.is ∙ some_above a.stray new.number (omega (arith, new.late)))
+      none_some new.number (ap (λ j. above a.stray (some_number j)) (sym none) ∙ is.on k ∙ ap (above a.stray) new.is
+      ∙ some_above a.stray new.number (omega (arith, new.late)))
 
-  to_old : b.stray ≡ a.stray → (k : Key) (e : Entry) → entry es e.number ≡ Some e → touches k e ≡ true → b.stray < e.number → above e.number (some_number (referred b k)) ≡ above e.number (newest (mentions k) more)
+  to_old : b.stray ≡ a.stray → (k : Key) (e : Entry) → entry es e.number ≡ Some e → touches k e ≡ true → b.stray < e.number
+      → above e.number (some_number (referred b k)) ≡ above e.number (newest (mentions k) more)
   to_old same k e there on late =
       let late' : a.stray < e.number = omega arith in
       by_bool (mentions k x)
       (λ yes.
       let here : referred b k ≡ n = elim (told.to k (refs_here k yes)) [ inl now ↦ now | inr none ↦ was_on k e there on late' none ] in
-      ap (λ j. above e.number (some_number j)) here ∙ ap (above e.number) (number_itself n (omega arith)) ∙ ap (above e.number) (sym (newest_this (mentions k) yes)))
+      ap (λ j. above e.number (some_number j)) here ∙ ap (above e.number) (number_itself n (omega arith))
+      ∙ ap (above e.number) (sym (newest_this (mentions k) yes)))
       (λ no.
       grind (arith, not_both, refers-refs, newest_old))
 
@@ -219,7 +232,8 @@ module _ (es : List Entry) (x : Entry) (n : ℕ) (a b : Index) (numbered : IsNum
   late_entry : (j : ℕ) (c : Bool) (e : Entry) → (x.number == j) ≡ c → cond c (Some x) None ≡ Some e → n ≤ j
   late_entry j c e same is' = grind arith
 
-  to_same : b.stray ≡ a.stray → (k : Key) (e : Entry) → entry more e.number ≡ Some e → touches k e ≡ true → b.stray < e.number → above e.number (some_number (referred b k)) ≡ above e.number (newest (mentions k) more)
+  to_same : b.stray ≡ a.stray → (k : Key) (e : Entry) → entry more e.number ≡ Some e → touches k e ≡ true → b.stray < e.number
+      → above e.number (some_number (referred b k)) ≡ above e.number (newest (mentions k) more)
   to_same same k e there on late = grind (arith, both_none, late_entry, find_more, to_within', same_Some, to_old)
 
   pub tells_more : Tells more b
@@ -230,7 +244,8 @@ found_number [] n e there = none_some e there
 found_number (x ∷ es) n e there =
     let rest : Option Entry = find (λ y. y.number == n) es in
     by_bool (x.number == n)
-    (λ yes. let one : x ≡ e = same_Some x e (sym (ap (λ b. cond b (Some x) rest) yes) ∙ there) in ap (λ (y : Entry). y.number) (sym one) ∙ eqb-true x.number n yes)
+    (λ yes. let one : x ≡ e = same_Some x e (sym (ap (λ b. cond b (Some x) rest) yes) ∙ there) in
+    ap (λ (y : Entry). y.number) (sym one) ∙ eqb-true x.number n yes)
     (λ no. found_number es n e (sym (ap (λ b. cond b (Some x) rest) no) ∙ there))
 
 -- an entry that was found is the one of its number
@@ -244,4 +259,5 @@ tells_same es a b same is = grind arith
 -- ---- the places stay
 
 pub keeps_then : (a b c : Index) → KeepsPlaces a b → KeepsPlaces b c → KeepsPlaces a c
-keeps_then a b c h k = record { places = k.places ∙ h.places; latest = λ g. k.latest g ∙ h.latest g; rows = rows_then 0 0 a b c h.rows k.rows }
+keeps_then a b c h k =
+    record { places = k.places ∙ h.places; latest = λ g. k.latest g ∙ h.latest g; rows = rows_then 0 0 a b c h.rows k.rows }

@@ -31,7 +31,8 @@ NoneCrossed n f s ms = (i : ℕ) (e : MarkedEntry) → n ≤ i → slice_get ms 
 
 -- no entry above the number n has a later standing one of another session in conflict with it
 abbrev pub IsFreeAbove : ℕ → List MarkedEntry → Type 0
-IsFreeAbove n ms = (i j : ℕ) (e m : MarkedEntry) → n ≤ i → i < j → slice_get ms i ≡ Some e → slice_get ms j ≡ Some m → crosses (standing_change m) m.entry.session e ≡ false
+IsFreeAbove n ms = (i j : ℕ) (e m : MarkedEntry) → n ≤ i → i < j → slice_get ms i ≡ Some e → slice_get ms j ≡ Some m
+    → crosses (standing_change m) m.entry.session e ≡ false
 
 -- above the number n, other sessions have nothing standing on the key
 abbrev pub NoneOn : ℕ → Key → ℕ → List MarkedEntry → Type 0

@@ -58,7 +58,8 @@ find_conflict es e = last_where (λ f. conflicts f.change e.change) (later_than 
 
 -- the latest later standing entry of another session in conflict with e
 abbrev pub find_conflict_of_others : List Entry → Applied → Option Applied
-find_conflict_of_others es e = last_where (λ f. not (f.session == e.session) && conflicts f.change e.change) (later_than e.number (standing es))
+find_conflict_of_others es e =
+    last_where (λ f. not (f.session == e.session) && conflicts f.change e.change) (later_than e.number (standing es))
 
 -- the newest standing entry of a session that has a later standing entry of another session in conflict
 abbrev pub find_own_in_conflict : List Entry → ℕ → Option Applied
@@ -67,7 +68,8 @@ find_own_in_conflict es s = last_where (λ x. (x.session == s) && is_some (find_
 -- whether a session may redo e: an Undone entry of its own that no later entry takes back or settles, with no later edit of the
 -- session
 abbrev pub may_redo : ℕ → Entry → List Entry → Bool
-may_redo s e later = (e.session == s) && (is_some (undoes e.what) && (not (is_closed e later) && not (list_any (λ w. (w.session == s) && is_made w.what) later)))
+may_redo s e later = (e.session == s)
+    && (is_some (undoes e.what) && (not (is_closed e later) && not (list_any (λ w. (w.session == s) && is_made w.what) later)))
 
 -- the newest Undone entry of a session that comes after its last Made entry, that no Redone entry names, and that is not settled
 abbrev pub redo_of : List Entry → ℕ → Option Applied

@@ -90,7 +90,8 @@ pub record IsLast (g : Group) (t : MarkedEntry → Bool) (ms : List MarkedEntry)
   pub group : is_of g (place_at ps j) ≡ true
   pub none_later : NoneBetween t ms (number_at ps j) limit
 
--- a place is of an entry, and linked to the last place before it that may belong to its group, and to the last one that may and is of another session
+-- a place is of an entry, and linked to the last place before it that may belong to its group, and to the last one that may and is of
+-- another session
 pub record IsPlace (ms : List MarkedEntry) (ps : List Place) (i : ℕ) (p : Place) : Type 0 where
   pub some : 1 ≤ p.number
   pub within : p.number ≤ length ms
@@ -183,9 +184,11 @@ other_from ms s j (Some p) = if is_by s (slice_get ms (p.number - 1)) then p.oth
 abbrev pub other_of : List MarkedEntry → List Place → ℕ → ℕ → ℕ
 other_of ms ps s j = other_from ms s j (place_at ps j)
 
--- the places with one more, of the session's entry of the number in the group, whose newest place was `before`; none more where it is not wanted, or where that place is of the entry
+-- the places with one more, of the session's entry of the number in the group, whose newest place was `before`; none more where it is not
+-- wanted, or where that place is of the entry
 pub record Adds (ms : List MarkedEntry) (wanted : Bool) (g : Group) (n s before : ℕ) (ps qs : List Place) (j : ℕ) : Type 0 where
-  pub places : wanted ≡ true → number_at ps before < n → qs ≡ ps ++ record { group = g; number = n; before = before; other = other_of ms ps s before } ∷ []
+  pub places : wanted ≡ true → number_at ps before < n → qs ≡ ps
+      ++ record { group = g; number = n; before = before; other = other_of ms ps s before } ∷ []
   pub place : wanted ≡ true → number_at ps before < n → j ≡ length ps + 1
   pub there : n ≤ number_at ps before → qs ≡ ps
   pub there_place : n ≤ number_at ps before → j ≡ before

@@ -9,9 +9,9 @@ use Rattle.tsn_journal.specs.Marks.{AreOff, IsJournal, entries_of}
 use Rattle.tsn_journal.specs.Newest.{AreNewest}
 use Rattle.tsn_journal.specs.Touched.{Tells}
 
--- with all in the index and told by its rows, the newest place of each group of an entry that belongs to it, with room for as many entries and parts more as it says, settled up to the
--- number that it says, and with none blocked, and none on a gate or a meter, above the other number that it
--- says, which is no greater than it has to be
+-- with all in the index and told by its rows, the newest place of each group of an entry that belongs to it, with room for as many entries
+-- and parts more as it says, settled up to the number that it says, and with none blocked, and none on a gate or a meter, above the other
+-- number that it says, which is no greater than it has to be
 pub record IsKept (ms : List MarkedEntry) (len capacity : ℕ) (index : Index) (room parts upto crossed : ℕ) : Type 0 where
   pub journal : IsJournal ms
   pub indexed : IsIndexed ms index

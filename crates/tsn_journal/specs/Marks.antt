@@ -19,7 +19,8 @@ pub record Log : Type 0 where
 
 abbrev pub log_code : Coded Log
 log_code =
-    code_by (List Entry × (ℕ × ℕ)) (coded× (coded_list entry_row.the_row.coded) (coded× coded_ℕ coded_ℕ)) (λ l. (l.entries, (l.spare, l.parts))) (λ p. record { entries = p.0; spare = p.1.0; parts = p.1.1 }) (λ _. refl)
+    code_by (List Entry × (ℕ × ℕ)) (coded× (coded_list entry_row.the_row.coded) (coded× coded_ℕ coded_ℕ))
+    (λ l. (l.entries, (l.spare, l.parts))) (λ p. record { entries = p.0; spare = p.1.0; parts = p.1.1 }) (λ _. refl)
 
 -- the entry that is kept with a mark
 abbrev pub entry_in : MarkedEntry → Entry
@@ -73,7 +74,8 @@ is_in_conflict (Some f) e = conflicts f e
 
 -- the latest entry after e that passes the test and applied a change in conflict with e's
 abbrev pub conflict_after : (MarkedEntry → Bool) → List MarkedEntry → Entry → Option MarkedEntry
-conflict_after p ms e = option_and_then (λ c. last_where (λ m. p m && is_in_conflict (applies m.entry.what) c) (drop e.number ms)) (applies e.what)
+conflict_after p ms e =
+    option_and_then (λ c. last_where (λ m. p m && is_in_conflict (applies m.entry.what) c) (drop e.number ms)) (applies e.what)
 
 -- whether a marked entry stands and is another session's
 abbrev pub is_others : ℕ → MarkedEntry → Bool
@@ -85,7 +87,8 @@ conflict_of_others ms e = conflict_after (is_others e.session) ms e
 
 -- the number of the newest own standing entry with a later standing entry of another session among `others` in conflict
 abbrev pub newest_blocked : ℕ → List MarkedEntry → List MarkedEntry → Option ℕ
-newest_blocked s others ms = option_map (λ m. m.entry.number) (last_where (λ m. is_own s m && is_some (conflict_of_others others m.entry)) ms)
+newest_blocked s others ms =
+    option_map (λ m. m.entry.number) (last_where (λ m. is_own s m && is_some (conflict_of_others others m.entry)) ms)
 
 -- the later of two numbers, or the one that there is
 abbrev pub later_of : Option ℕ → Option ℕ → Option ℕ

@@ -76,7 +76,8 @@ refs_in (Some c) = refs_after (parts c)
 
 -- the newest entry, of the number n, is told
 abbrev pub NewestTold : List MarkedEntry → ℕ → Index → Index → Type 0
-NewestTold ms n a b = (m : MarkedEntry) → slice_get ms (n - 1) ≡ Some m → Told n (keys_in (applies m.entry.what)) (refs_in (applies m.entry.what)) a b
+NewestTold ms n a b =
+    (m : MarkedEntry) → slice_get ms (n - 1) ≡ Some m → Told n (keys_in (applies m.entry.what)) (refs_in (applies m.entry.what)) a b
 
 -- b has the places of a, the newest ones of groups too, and its room
 pub record KeepsPlaces (a b : Index) : Type 0 where

@@ -1,8 +1,8 @@
 //! Up to which number a standing entry may have a later standing one of another session in conflict with it.
 //!
 //! The number is raised as an entry comes in, to the newest one of another session that it is in conflict with, and it
-//! never falls. An entry on a gate or a meter, to which values may refer, raises it to its own number. What stands above it
-//! need not be looked at where an entry that is blocked is sought.
+//! never falls. An entry on a gate or a meter, to which values may refer, raises it to its own number. What stands
+//! above it need not be looked at where an entry that is blocked is sought.
 ghost use Rattle.std.specs.Prelude.{◌≡◌, ◌≤◌, ◌∷◌, [], Some, false, length};
 ghost use Rattle.tsn_journal.specs.Crossed.{IsFoundOn, IsRaised, NoneCrossed, NoneOn, NoneReferred, is_on_referred, is_referred};
 ghost use Rattle.tsn_journal.specs.Entries.{IsNumbered, adds};
@@ -62,8 +62,8 @@ fn crossed_by_parts(
     crossed
 }
 
-/// The same for a change of the part alone. A value before may have referred to a gate or a meter in any entry; and what a
-/// value after refers to is one, so that the number is above what stands on it.
+/// The same for a change of the part alone. A value before may have referred to a gate or a meter in any entry; and
+/// what a value after refers to is one, so that the number is above what stands on it.
 fn crossed_by_part(
     index: &Index,
     marked: &[MarkedEntry],

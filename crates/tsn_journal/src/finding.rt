@@ -148,7 +148,8 @@ fn latest_conflict(
     requires index { IsIndexed marked.now index.now }
     requires numbered { IsNumbered 1 (entries_of marked.now) }
     ensures { result ≡ option_map (λ m. m.entry.number)
-        (last_where (λ m. (is_some (stands m) && is_sought but m) && is_in_conflict (applies m.entry.what) change.now) (drop after marked.now)) }
+        (last_where (λ m. (is_some (stands m) && is_sought but m) && is_in_conflict (applies m.entry.what) change.now)
+        (drop after marked.now)) }
 {
     let mut latest = None;
     for part in change.parts() {
@@ -169,7 +170,8 @@ fn conflict_with_part(
     requires index { IsIndexed marked.now index.now }
     requires numbered { IsNumbered 1 (entries_of marked.now) }
     ensures { result ≡ option_map (λ m. m.entry.number)
-        (last_where (λ m. (is_some (stands m) && is_sought but m) && is_in_conflict (applies m.entry.what) (part.now ∷ [])) (drop after marked.now)) }
+        (last_where (λ m. (is_some (stands m) && is_sought but m) && is_in_conflict (applies m.entry.what) (part.now ∷ []))
+        (drop after marked.now)) }
 {
     let latest = index.latest.key_places(part.key);
     let on_key = number_in(index, marked, &Group::On(part.key), latest.on, but, after);
@@ -291,8 +293,8 @@ fn newest_blocked<'a>(
     )
 }
 
-/// Puts off the marks of the entries that are taken back or settled, where those of the first ones up to `settled` are off
-/// already.
+/// Puts off the marks of the entries that are taken back or settled, where those of the first ones up to `settled` are
+/// off already.
 pub(crate) fn put_off(marked: &mut [MarkedEntry], what: &What, settled: u64)
     requires numbered { IsNumbered 1 (entries_of marked.old) }
     requires off { AreOff settled marked.old }
@@ -337,8 +339,8 @@ fn put_off_one(marked: &mut [MarkedEntry], what: &What)
     }
 }
 
-/// Sets the newest places of groups back where entries have left them: the one of the number, if one was taken back, and
-/// those behind the first ones, up to the number that was settled, whose marks are off.
+/// Sets the newest places of groups back where entries have left them: the one of the number, if one was taken back,
+/// and those behind the first ones, up to the number that was settled, whose marks are off.
 pub(crate) fn leave(
     index: &mut Index,
     marked: &[MarkedEntry],

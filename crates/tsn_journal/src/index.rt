@@ -114,8 +114,8 @@ impl Index {
         }
     }
 
-    /// Gives the newest entry, which adds so many parts to what stands, its places, in room for them, and tells it in the
-    /// rows of its keys and of what it refers to.
+    /// Gives the newest entry, which adds so many parts to what stands, its places, in room for them, and tells it in
+    /// the rows of its keys and of what it refers to.
     pub(crate) fn enter(&mut self, marked: &[MarkedEntry], parts: usize)
         requires index { IsIndexedButNewest marked.now self.old }
         requires parts { NewestAdds marked.now parts }
@@ -180,7 +180,8 @@ impl Index {
         requires some { 1 ≤ number }
         requires by { is_by session (slice_get marked.now (number - 1)) ≡ true }
         requires in_group { (m : AnyEntry) → slice_get marked.now (number - 1) ≡ Some m → belongs (On key.now) m ≡ true }
-        ensures index { (rest : List (Option AnyGroup)) → IsIndexedBut (Some (On key.now) ∷ rest) marked.now self.old.places.items (latest_of self.old.latest)
+        ensures index { (rest : List (Option AnyGroup))
+            → IsIndexedBut (Some (On key.now) ∷ rest) marked.now self.old.places.items (latest_of self.old.latest)
             → IsIndexedBut rest marked.now self.new.places.items (latest_of self.new.latest) }
         ensures newest { KeepsNewest marked.now self.old self.new }
         ensures told { Told number (key.now ∷ []) [] self.old self.new }
@@ -204,8 +205,10 @@ impl Index {
         requires count { number ≡ length marked.now }
         requires some { 1 ≤ number }
         requires by { is_by session (slice_get marked.now (number - 1)) ≡ true }
-        requires in_group { (k : AnyKey) (m : AnyEntry) → key.now ≡ Some k → slice_get marked.now (number - 1) ≡ Some m → belongs (RefersTo k) m ≡ true }
-        ensures index { (rest : List (Option AnyGroup)) → IsIndexedBut (option_map RefersTo key.now ∷ rest) marked.now self.old.places.items (latest_of self.old.latest)
+        requires in_group { (k : AnyKey) (m : AnyEntry) → key.now ≡ Some k → slice_get marked.now (number - 1) ≡ Some m
+            → belongs (RefersTo k) m ≡ true }
+        ensures index { (rest : List (Option AnyGroup))
+            → IsIndexedBut (option_map RefersTo key.now ∷ rest) marked.now self.old.places.items (latest_of self.old.latest)
             → IsIndexedBut rest marked.now self.new.places.items (latest_of self.new.latest) }
         ensures newest { KeepsNewest marked.now self.old self.new }
         ensures told { Told number [] (option_to_list key.now) self.old self.new }
@@ -248,9 +251,11 @@ impl Index {
         requires some { 1 ≤ number }
         requires by { is_by session (slice_get marked.now (number - 1)) ≡ true }
         requires in_standing { (m : AnyEntry) → stands ≡ true → slice_get marked.now (number - 1) ≡ Some m → belongs (Of session) m ≡ true }
-        requires in_ending { (m : AnyEntry) → ends ≡ true → slice_get marked.now (number - 1) ≡ Some m → belongs (EndsRedo session) m ≡ true }
+        requires in_ending { (m : AnyEntry) → ends ≡ true → slice_get marked.now (number - 1) ≡ Some m
+            → belongs (EndsRedo session) m ≡ true }
         ensures index { (rest : List (Option AnyGroup))
-            → IsIndexedBut (group_if stands (Of session) ∷ group_if ends (EndsRedo session) ∷ rest) marked.now self.old.places.items (latest_of self.old.latest)
+            → IsIndexedBut (group_if stands (Of session) ∷ group_if ends (EndsRedo session) ∷ rest) marked.now self.old.places.items
+            (latest_of self.old.latest)
             → IsIndexedBut rest marked.now self.new.places.items (latest_of self.new.latest) }
         ensures newest { KeepsNewest marked.now self.old self.new }
         ensures tells { TellsSame self.old self.new }
@@ -324,8 +329,8 @@ impl Index {
         self.places.as_slice().len() as u32
     }
 
-    /// Sets the newest places of the groups of an entry that was taken back, or settled, to where their last entries are.
-    /// The entries up to the number `settled` are off. It takes no room.
+    /// Sets the newest places of the groups of an entry that was taken back, or settled, to where their last entries
+    /// are. The entries up to the number `settled` are off. It takes no room.
     pub(crate) fn leave(&mut self, marked: &[MarkedEntry], taken_back: &Entry, settled: u64)
         requires index { IsIndexed marked.now self.old }
         requires off { AreOff settled marked.now }
@@ -428,8 +433,8 @@ impl Index {
         );
     }
 
-    /// The first place back from this one, which is the latest, whose entry belongs to the group, from 1, and 0 for none.
-    /// It looks at no entry up to the number `settled`, since none of these belongs to it.
+    /// The first place back from this one, which is the latest, whose entry belongs to the group, from 1, and 0 for
+    /// none. It looks at no entry up to the number `settled`, since none of these belongs to it.
     fn first_from(&self, marked: &[MarkedEntry], group: &Group, latest: u32, settled: u64) -> u32
         requires places { ArePlaces marked.now self.now.places.items }
         requires latest { IsLast group.now (belongs group.now) marked.now self.now.places.items latest (length marked.now + 1) }
@@ -451,8 +456,9 @@ impl Index {
         place
     }
 
-    /// How many standing entries the session has, and how many parts their changes have. Those up to the number `settled`
-    /// are off. Once it passed a quarter of what is left, it goes through the rest in order, whosever that is.
+    /// How many standing entries the session has, and how many parts their changes have. Those up to the number
+    /// `settled` are off. Once it passed a quarter of what is left, it goes through the rest in order, whosever that
+    /// is.
     pub(crate) fn tally_of(&self, marked: &[MarkedEntry], session: u32, settled: u64) -> Tally
         requires index { IsIndexed marked.now self.now }
         requires off { AreOff settled marked.now }
@@ -486,8 +492,8 @@ impl Index {
         Tally { entries, parts }
     }
 
-    /// The numbers of the session's standing entries, rising. Those up to the number `settled` are off. Refused only for
-    /// want of memory.
+    /// The numbers of the session's standing entries, rising. Those up to the number `settled` are off. Refused only
+    /// for want of memory.
     pub(crate) fn numbers_of(
         &self,
         alloc: Global,
@@ -504,8 +510,8 @@ impl Index {
         Ok(found)
     }
 
-    /// The numbers of the session's standing entries, falling. Those up to the number `settled` are off. Refused only for
-    /// want of memory.
+    /// The numbers of the session's standing entries, falling. Those up to the number `settled` are off. Refused only
+    /// for want of memory.
     fn falling_numbers_of(
         &self,
         alloc: Global,
@@ -573,9 +579,10 @@ impl Index {
         None
     }
 
-    /// The session's last standing entry that passes the test, where none above the number `upto` does. At those it does
-    /// not look; once it passed as many places of theirs as there are entries up to the number, it goes back through these, one
-    /// by one. That costs at most as much again as what it passed, so a switch is never dearer than twice the better way.
+    /// The session's last standing entry that passes the test, where none above the number `upto` does. At those it
+    /// does not look; once it passed as many places of theirs as there are entries up to the number, it goes back
+    /// through these, one by one. That costs at most as much again as what it passed, so a switch is never dearer than
+    /// twice the better way.
     pub(crate) fn last_own<'a, F: Fn(&MarkedEntry) -> bool>(
         &self,
         marked: &'a [MarkedEntry],

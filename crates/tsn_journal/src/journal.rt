@@ -35,8 +35,8 @@ pub struct Journal {
     parts: usize,
     /// Up to which number the entries are settled.
     settled: u64,
-    /// Above which number no entry stands on a gate or a meter, nor has a later standing one of another session in conflict
-    /// with it.
+    /// Above which number no entry stands on a gate or a meter, nor has a later standing one of another session in
+    /// conflict with it.
     crossed: u64,
 }
 
@@ -77,9 +77,9 @@ impl Journal {
         self.marked.len()
     }
 
-    /// Makes room for at least `count` entries more that add `parts` parts of changes, at most 16 an entry. It is refused
-    /// 17 where the journal never holds so many entries, then 18, and never where there is that room already. The entries
-    /// stay, and the room never falls.
+    /// Makes room for at least `count` entries more that add `parts` parts of changes, at most 16 an entry. It is
+    /// refused 17 where the journal never holds so many entries, then 18, and never where there is that room already.
+    /// The entries stay, and the room never falls.
     pub fn reserve(&mut self, count: usize, parts: usize) -> Result<(), Refusal>
         requires { parts ≤ 16 * count }
         ensures entries { self.new.entries ≡ self.old.entries }
@@ -105,8 +105,8 @@ impl Journal {
         Ok(())
     }
 
-    /// Puts an entry of the session at the end, in room for one and for the parts that it adds, and answers its number. One
-    /// that settles names an entry that is there, or none. It takes no memory.
+    /// Puts an entry of the session at the end, in room for one and for the parts that it adds, and answers its number.
+    /// One that settles names an entry that is there, or none. It takes no memory.
     pub fn push(&mut self, session: u32, what: What) -> u64
         requires room { 1 ≤ self.old.spare }
         requires parts { added_parts what ≤ self.old.parts }

@@ -1,4 +1,5 @@
-//! What the rows of keys and sessions tell: the newest place of each group, and of each key the newest entries of any kind.
+//! What the rows of keys and sessions tell: the newest place of each group, and of each key the newest entries of any
+//! kind.
 ghost use Rattle.std.specs.Prelude.{◌≡◌, ◌⊎◌, IsSome, OnOk, Some, if◌then◌else◌};
 ghost use Rattle.std.specs.FinMap as map;
 ghost use Rattle.std.specs.Option.{option_copied};
@@ -11,7 +12,8 @@ use std::alloc::{AllocError, Global};
 use tsn_table::Table;
 use tsn_types::keys::Key;
 
-/// The newest places of a key's two groups, counted from 1, and the numbers of its newest entries of any kind. 0 is none.
+/// The newest places of a key's two groups, counted from 1, and the numbers of its newest entries of any kind. 0 is
+/// none.
 #[derive(Clone, Copy, Debug)]
 pub(crate) struct KeyPlaces {
     /// The place of the entries on the key.

@@ -1,6 +1,7 @@
 //! What blocks a redo: the newest entries of each key, whatever their kind and whether they stand or not.
 //!
-//! The rows of keys tell them. An entry that was made or redone is told as it gets its places, and an Undone entry here.
+//! The rows of keys tell them. An entry that was made or redone is told as it gets its places, and an Undone entry
+//! here.
 ghost use Rattle.std.specs.Prelude.{◌≡◌, ◌≤◌, ◌&&◌, ◌∷◌, [], Bool, List, Some, option_map, option_to_list, true};
 ghost use Rattle.std.specs.Option.{option_and_then, option_copied};
 ghost use Rattle.tsn_edit.specs.Changes.{keys_of, refs_after};
@@ -49,7 +50,8 @@ impl Index {
         self.latest.set_key(*key, row.touched_by(number));
     }
 
-    /// Tells that the entry refers to the key, if there is a key. A reference to a key that no entry was on is not told.
+    /// Tells that the entry refers to the key, if there is a key. A reference to a key that no entry was on is not
+    /// told.
     fn touch_ref(&mut self, key: &Option<Key>, number: u32)
         ensures told { Told number [] (option_to_list key.now) self.old self.new }
         ensures kept { KeepsPlaces self.old self.new }
@@ -68,7 +70,8 @@ impl Index {
     /// entry on its keys it is the last.
     fn told_conflict(&self, change: &Change) -> Option<u64>
         ensures { (ms : List AnyMarkedEntry) (e : AnyEntry) → CanTell ms self.now e → applies e.what ≡ Some change.now
-            → above e.number result ≡ above e.number (option_map (λ m. m.entry.number) (last_where (λ m. true && is_in_conflict (applies m.entry.what) change.now) ms)) }
+            → above e.number result ≡ above e.number
+            (option_map (λ m. m.entry.number) (last_where (λ m. true && is_in_conflict (applies m.entry.what) change.now) ms)) }
     {
         let mut latest = None;
         for part in change.parts() {
@@ -81,7 +84,8 @@ impl Index {
     /// The same for a change of the part alone.
     fn told_part(&self, part: &Part) -> Option<u64>
         ensures { (ms : List AnyMarkedEntry) (e : AnyEntry) → CanTell ms self.now e → touches part.now.key e ≡ true
-            → above e.number result ≡ above e.number (option_map (λ m. m.entry.number) (last_where (λ m. true && is_in_conflict (applies m.entry.what) (part.now ∷ [])) ms)) }
+            → above e.number result ≡ above e.number
+            (option_map (λ m. m.entry.number) (last_where (λ m. true && is_in_conflict (applies m.entry.what) (part.now ∷ [])) ms)) }
     {
         let row = self.latest.key_places(part.key);
         let refs = refs_of(&part.before);
@@ -113,7 +117,8 @@ fn some_number(number: u32) -> Option<u64>
 }
 
 /// The number of the latest entry after the undone one, of any kind, that applied a change in conflict with it. Where
-/// the newest stray entry is not before the undone one, the rows do not tell, and the entries after it are gone through.
+/// the newest stray entry is not before the undone one, the rows do not tell, and the entries after it are gone
+/// through.
 pub(crate) fn redo_conflict(
     index: &Index,
     marked: &[MarkedEntry],

@@ -1,6 +1,6 @@
-//! What only a journal's own calls show, entry by entry: which numbers stand, what is found of them, what is copied, and
-//! for how many more there is room. `examples/tables/undo-*.txt` have what sessions are told.
-//! One function makes the journals and lends them, so that a proof goes once over a journal's end.
+//! What only a journal's own calls show, entry by entry: which numbers stand, what is found of them, what is copied,
+//! and for how many more there is room. `examples/tables/undo-*.txt` have what sessions are told. One function makes
+//! the journals and lends them, so that a proof goes once over a journal's end.
 ghost use Rattle.std.specs.Prelude.{◌≡◌, ◌≤◌, length};
 ghost use Rattle.tsn_journal.specs.Entries.{settles_to};
 

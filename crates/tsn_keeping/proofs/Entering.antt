@@ -12,7 +12,8 @@ are_recorded-front : (last : List ℕ) (rs more : List Recorded) → AreRecorded
 are_recorded-front last [] more all = tt
 are_recorded-front last (r ∷ rs) more all = (all.0, are_recorded-front (digest_after last (body_of r)) rs more all.1)
 
-are_recorded-behind : (last : List ℕ) (rs more : List Recorded) → AreRecordedAfter last (rs ++ more) → AreRecordedAfter (last_digest last rs) more
+are_recorded-behind : (last : List ℕ) (rs more : List Recorded) → AreRecordedAfter last (rs ++ more)
+    → AreRecordedAfter (last_digest last rs) more
 are_recorded-behind last [] more all = all
 are_recorded-behind last (r ∷ rs) more all = are_recorded-behind (digest_after last (body_of r)) rs more all.1
 
@@ -84,7 +85,8 @@ module _ (ahead had left rest : List ℕ) (before settled others found : List Re
   are_recorded : AreRecordedAfter [] (before ++ settled)
   are_recorded = are_recorded-append [] before settled all (are_recorded-front (last_digest [] before) settled others h.recorded)
 
-  pub at_least : LeavesKept k.kept left → Reads [] (ahead ++ left) found rest → (more : List Recorded) × (found ≡ (before ++ settled) ++ more)
+  pub at_least : LeavesKept k.kept left → Reads [] (ahead ++ left) found rest
+      → (more : List Recorded) × (found ≡ (before ++ settled) ++ more)
   at_least leaves reads =
       longest_front [] (ahead ++ left) found (before ++ settled) rest leaves.0 reads are_recorded
       (ap (λ t. ahead ++ t) leaves.1 ∙ begins leaves.0)

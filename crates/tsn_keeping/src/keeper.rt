@@ -11,8 +11,8 @@ use std::marker::Model;
 use tsn_device::{Device, Failed};
 use tsn_recorded::Chain;
 
-/// What enters the lines of recorded commands into a journal, and settles them. A contract sees the bytes that its device
-/// keeps, those entered behind them, the last digest, and whether no call has failed.
+/// What enters the lines of recorded commands into a journal, and settles them. A contract sees the bytes that its
+/// device keeps, those entered behind them, the last digest, and whether no call has failed.
 #[derive(Drop)]
 pub struct Keeper<D: Device> {
     behind: BufferedDevice<D>,
@@ -34,8 +34,8 @@ impl<D: Device> Model for Keeper<D> {
 }
 
 impl<D: Device> Keeper<D> {
-    /// A keeper over this device, which goes on behind this chain. It takes the memory of its buffer, 64 KiB, and no more
-    /// later.
+    /// A keeper over this device, which goes on behind this chain. It takes the memory of its buffer, 64 KiB, and no
+    /// more later.
     pub fn new(alloc: Global, device: D, chain: Chain) -> Result<Keeper<D>, AllocError>
     where
         D: Drop,
@@ -98,8 +98,8 @@ impl<D: Device> Keeper<D> {
         self.behind.push(b"\n")
     }
 
-    /// Has the device keep all that was entered; where it keeps that already, it is not asked. Where it fails, what is kept
-    /// stays kept, and no further call may be made.
+    /// Has the device keep all that was entered; where it keeps that already, it is not asked. Where it fails, what is
+    /// kept stays kept, and no further call may be made.
     pub fn settle(&mut self) -> Result<(), Failed>
         requires { self.old.works ≡ true }
         ensures ok { OnOk result (self.new ≡ with_settled self.old) }

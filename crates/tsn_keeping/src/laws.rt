@@ -1,5 +1,5 @@
-//! Laws of what was entered, and of what a crash leaves of it, as functions whose contracts state them. Their bodies are
-//! empty.
+//! Laws of what was entered, and of what a crash leaves of it, as functions whose contracts state them. Their bodies
+//! are empty.
 ghost use Rattle.std.specs.Prelude.{◌≡◌, ℕ, ◌++◌, List, [], ◌∷◌};
 ghost use Rattle.tsn_device.specs.Kept.{LeavesFront, LeavesKept};
 ghost use Rattle.tsn_recorded.specs.Text.{Recorded, IsRecordedAfter, AreRecordedAfter, last_digest, text_after};
@@ -16,10 +16,10 @@ pub fn enters()
         HasEntered had first settled others k → HasEntered had first (settled ++ others) [] (with_settled k) }
 {}
 
-/// What a crash leaves of a journal. Its file had these bytes ahead of the device's, which with what the device had are the
-/// text of recorded commands. Where what the device keeps is left, and behind it anything, whoever reads the file is given
-/// all those commands, then all that were settled, and maybe more; where it is a front of what was entered, some of the
-/// others, in order from their first on, and no more.
+/// What a crash leaves of a journal. Its file had these bytes ahead of the device's, which with what the device had are
+/// the text of recorded commands. Where what the device keeps is left, and behind it anything, whoever reads the file
+/// is given all those commands, then all that were settled, and maybe more; where it is a front of what was entered,
+/// some of the others, in order from their first on, and no more.
 pub fn survives()
     ensures settled { (ahead had left rest : List ℕ) (before settled others found : List Recorded) (k : Keeping) →
         AreRecordedAfter [] before → ahead ++ had ≡ text_after [] before →

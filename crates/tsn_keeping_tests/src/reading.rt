@@ -8,7 +8,8 @@ fn advance_all(reader: &mut Reader) {
     'lines: while reader.advance() {}
 }
 
-/// How many are read back where a crash leaves what is kept, and so many bytes of the others, or all where these are fewer.
+/// How many are read back where a crash leaves what is kept, and so many bytes of the others, or all where these are
+/// fewer.
 pub fn count_left(alloc: Global, device: &MemoryDevice, most: usize) -> Result<u64, AllocError> {
     let loose = device.written().len() - device.kept();
     let mut reader = Reader::new(alloc);

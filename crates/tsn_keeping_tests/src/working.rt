@@ -40,7 +40,8 @@ fn enter_and_settle(keeper: &mut Keeper<MemoryDevice>, command: &[u8], count: u6
     keeper.works() && keeper.settle().is_ok()
 }
 
-/// Enters three short lines, none, two of this command, and a short one, and settles each time. Says how many were settled.
+/// Enters three short lines, none, two of this command, and a short one, and settles each time. Says how many were
+/// settled.
 pub fn work(keeper: &mut Keeper<MemoryDevice>, command: &[u8]) -> u64 {
     if !enter_and_settle(keeper, SHORT, 3) {
         return 0;

@@ -26,7 +26,8 @@ use Rattle.tsn_lasting.proofs.Windows.{stopped}
 pub begins_same : (a b : List ℕ) → b ≡ a → BeginsWith b a
 begins_same a b same = ([], same ∙ sym (append-nil a))
 
-steps_of : (line : Option (List ℕ)) (s : Standing) (read : Result Ask Refusal) (reply : Reply) (rs : List Recorded) (mid : Standing) → MayRead line read → StepsRead s read reply rs mid
+steps_of : (line : Option (List ℕ)) (s : Standing) (read : Result Ask Refusal) (reply : Reply) (rs : List Recorded) (mid : Standing)
+    → MayRead line read → StepsRead s read reply rs mid
     → Steps s (record { line = line; read = read; reply = reply }) rs mid
 steps_of line s read reply rs mid may steps = record {
   exchanges = record { may = may; answers = steps.answers; has_line = steps.has_line };
@@ -35,7 +36,8 @@ steps_of line s read reply rs mid may steps = record {
   entered = steps.entered;
 }
 
-module _ {W : Type 0} (taken : W → Option (List ℕ)) (line : Option (List ℕ)) (read : Result Ask Refusal) (reply : Reply) (rs : List Recorded) (old mid new : Parts W)
+module _ {W : Type 0} (taken : W → Option (List ℕ)) (line : Option (List ℕ)) (read : Result Ask Refusal) (reply : Reply)
+    (rs : List Recorded) (old mid new : Parts W)
     (may : MayRead line read) (steps : StepsRead (standing taken old) read reply rs (standing taken mid)) where
   abbrev s : Standing
   s = standing taken old
@@ -51,24 +53,31 @@ module _ {W : Type 0} (taken : W → Option (List ℕ)) (line : Option (List ℕ
 
   pub answered : Tells m n (reply_text reply) → AnswersLine taken old line new
   answered (inl w) s0 ls has =
-      waits s0 ls s has x rs m (steps_of line s read reply rs m may steps) n w.stays (begins_same s.kept n.kept (w.kept ∙ steps.kept)) (w.taken ∙ steps.taken) (w.waiting ∙ ap (λ t. t ++ reply_text reply) steps.waiting)
+      waits s0 ls s has x rs m (steps_of line s read reply rs m may steps) n w.stays (begins_same s.kept n.kept (w.kept ∙ steps.kept))
+      (w.taken ∙ steps.taken) (w.waiting ∙ ap (λ t. t ++ reply_text reply) steps.waiting)
   answered (inr h) s0 ls has =
       told s0 ls s has x rs m (steps_of line s read reply rs m may steps) n h.stays h.kept
-      (subst (λ t. Appends t n.taken (s.waiting ++ reply_text reply)) steps.taken (subst (λ t. Appends m.taken n.taken (t ++ reply_text reply)) steps.waiting h.took)) h.none
+      (subst (λ t. Appends t n.taken (s.waiting ++ reply_text reply)) steps.taken
+      (subst (λ t. Appends m.taken n.taken (t ++ reply_text reply)) steps.waiting h.took)) h.none
 
   pub broken : BreaksOff m n (reply_text reply) → BreaksLine taken old line new
-  broken (inl off) s0 ls has = still_lasts s0 ls s has n (line ∷ []) (off.taken ∙ steps.taken) (subst (λ t. BeginsWith n.kept t) steps.kept off.kept)
+  broken (inl off) s0 ls has =
+      still_lasts s0 ls s has n (line ∷ []) (off.taken ∙ steps.taken) (subst (λ t. BeginsWith n.kept t) steps.kept off.kept)
   broken (inr short) s0 ls has =
       told_lasts s0 ls s has x rs m (steps_of line s read reply rs m may steps) n short.front short.kept
-      (subst (λ t. Appends t n.taken short.front) steps.taken short.took) (subst (λ t. BeginsWith (t ++ reply_text reply) short.front) steps.waiting short.begins)
+      (subst (λ t. Appends t n.taken short.front) steps.taken short.took)
+      (subst (λ t. BeginsWith (t ++ reply_text reply) short.front) steps.waiting short.begins)
 
 module _ {W : Type 0} (taken : W → Option (List ℕ)) where
-  pub cut_off : (line : Option (List ℕ)) (old new : Parts W) → IsCutOff (standing taken old) (standing taken new) → BreaksLine taken old line new
+  pub cut_off : (line : Option (List ℕ)) (old new : Parts W) → IsCutOff (standing taken old) (standing taken new)
+      → BreaksLine taken old line new
   cut_off line old new off s0 ls has = still_lasts s0 ls (standing taken old) has (standing taken new) (line ∷ []) off.taken off.kept
 
   -- ---- behind a window
 
-  pub window_settled : (s0 : Standing) (input : List ℕ) (held : Option (List ℕ)) (mid new : Parts W) → Goes s0 input held (standing taken mid) → HandsOn (standing taken mid) (standing taken new) [] → Goes s0 input held (standing taken new)
+  pub window_settled : (s0 : Standing) (input : List ℕ) (held : Option (List ℕ)) (mid new : Parts W)
+      → Goes s0 input held (standing taken mid) → HandsOn (standing taken mid) (standing taken new) []
+      → Goes s0 input held (standing taken new)
   window_settled s0 input held mid new goes hands = record {
     lines = goes.lines;
     rest = goes.rest;
@@ -81,24 +90,33 @@ module _ {W : Type 0} (taken : W → Option (List ℕ)) where
   pub rests : (mid new : Parts W) → HandsOn (standing taken mid) (standing taken new) [] → IsAtRest (standing taken new)
   rests mid new hands = record { kept = hands.kept ∙ sym hands.stays.entered; none = hands.none }
 
-  lasts_broken : (s0 : Standing) (ls : List (Option (List ℕ))) (mid new : Parts W) → HasAnswered s0 ls (standing taken mid) → BreaksOff (standing taken mid) (standing taken new) [] → Lasts s0 (ls ++ []) (standing taken new)
+  lasts_broken : (s0 : Standing) (ls : List (Option (List ℕ))) (mid new : Parts W) → HasAnswered s0 ls (standing taken mid)
+      → BreaksOff (standing taken mid) (standing taken new) [] → Lasts s0 (ls ++ []) (standing taken new)
   lasts_broken s0 ls mid new has (inl off) = still_lasts s0 ls (standing taken mid) has (standing taken new) [] off.taken off.kept
-  lasts_broken s0 ls mid new has (inr short) = settled_lasts s0 ls (standing taken mid) has (standing taken new) [] short.front short.kept short.took (subst (λ t. BeginsWith t short.front) (append-nil mid.replies.bytes) short.begins)
+  lasts_broken s0 ls mid new has (inr short) =
+      settled_lasts s0 ls (standing taken mid) has (standing taken new) [] short.front short.kept short.took
+      (subst (λ t. BeginsWith t short.front) (append-nil mid.replies.bytes) short.begins)
 
-  pub window_broke : (s0 : Standing) (input : List ℕ) (held : Option (List ℕ)) (mid new : Parts W) → Goes s0 input held (standing taken mid) → BreaksOff (standing taken mid) (standing taken new) [] → IsBroken s0 input (standing taken new)
+  pub window_broke : (s0 : Standing) (input : List ℕ) (held : Option (List ℕ)) (mid new : Parts W) → Goes s0 input held (standing taken mid)
+      → BreaksOff (standing taken mid) (standing taken new) [] → IsBroken s0 input (standing taken new)
   window_broke s0 input held mid new goes breaks =
-      stopped taken s0 input held mid goes new (subst (λ xs. Lasts s0 xs (standing taken new)) (append-nil (map short_line goes.lines)) (lasts_broken s0 (map short_line goes.lines) mid new goes.answered breaks))
+      stopped taken s0 input held mid goes new
+      (subst (λ xs. Lasts s0 xs (standing taken new)) (append-nil (map short_line goes.lines))
+      (lasts_broken s0 (map short_line goes.lines) mid new goes.answered breaks))
 
-  pub whole_settled : (s0 : Standing) (input : List ℕ) (mid new : Parts W) → IsWhole s0 input (standing taken mid) → HandsOn (standing taken mid) (standing taken new) [] → IsWhole s0 input (standing taken new)
+  pub whole_settled : (s0 : Standing) (input : List ℕ) (mid new : Parts W) → IsWhole s0 input (standing taken mid)
+      → HandsOn (standing taken mid) (standing taken new) [] → IsWhole s0 input (standing taken new)
   whole_settled s0 input mid new whole hands = record {
     lines = whole.lines;
     rest = whole.rest;
     splits = whole.splits;
-    answered = settled s0 (map short_line (whole.lines ++ last_line whole.rest)) (standing taken mid) whole.answered (standing taken new) hands.stays hands.kept
+    answered = settled s0 (map short_line (whole.lines ++ last_line whole.rest)) (standing taken mid) whole.answered (standing taken new)
+        hands.stays hands.kept
         (subst (λ t. Appends (taken mid.writer) (taken new.writer) t) (append-nil mid.replies.bytes) hands.took) hands.none;
   }
 
-  pub whole_broke : (s0 : Standing) (input : List ℕ) (mid new : Parts W) → IsWhole s0 input (standing taken mid) → BreaksOff (standing taken mid) (standing taken new) [] → IsBroken s0 input (standing taken new)
+  pub whole_broke : (s0 : Standing) (input : List ℕ) (mid new : Parts W) → IsWhole s0 input (standing taken mid)
+      → BreaksOff (standing taken mid) (standing taken new) [] → IsBroken s0 input (standing taken new)
   whole_broke s0 input mid new whole breaks = record {
     lines = whole.lines;
     read = (whole.rest, whole.splits.whole);
@@ -114,7 +132,8 @@ pub record Leaves (r0 : Recording) (read : Result Ask Refusal) (reply : Reply) (
   pub has_line : HasLine line_text longest_line (recorded_of read reply)
   pub answers : AnswersRead r0.bridge read reply r1.bridge
 
-pub turn_leaves : (r0 : Recording) (read : Result Ask Refusal) (reply : Reply) (r1 : Recording) → r0.text ≡ [] → StepsRecorder r0 read reply r1 → Leaves r0 read reply r1
+pub turn_leaves : (r0 : Recording) (read : Result Ask Refusal) (reply : Reply) (r1 : Recording) → r0.text ≡ []
+    → StepsRecorder r0 read reply r1 → Leaves r0 read reply r1
 turn_leaves r0 (Ok ask) reply r1 none steps = record {
   text = steps.grows ∙ ap (λ t. t ++ text_of line_text (recorded_of (Ok ask) reply)) none;
   has_line = steps.has_line;
@@ -126,10 +145,13 @@ turn_leaves r0 (Err why) reply r1 none steps = record {
   answers = (steps.0, ap (λ (r : Recording). r.bridge) steps.1);
 }
 
-pub exchanged : {W : Type 0} (taken : W → Option (List ℕ)) (old new : Parts W) (r0 r1 : Recording) (read : Result Ask Refusal) (reply : Reply)
+pub exchanged : {W : Type 0} (taken : W → Option (List ℕ)) (old new : Parts W) (r0 r1 : Recording) (read : Result Ask Refusal)
+    (reply : Reply)
     → r0.bridge ≡ old.bridge → r0.text ≡ [] → StepsRecorder r0 read reply r1 → new.bridge ≡ r1.bridge
-    → ((t : Option Answered) → r1.text ≡ text_of line_text t → HasLine line_text longest_line t → (rs : List Recorded) × Puts old.keeper t rs new.keeper)
-    → new.writer ≡ old.writer → new.replies ≡ old.replies → (rs : List Recorded) × StepsRead (standing taken old) read reply rs (standing taken new)
+    → ((t : Option Answered) → r1.text ≡ text_of line_text t → HasLine line_text longest_line t
+    → (rs : List Recorded) × Puts old.keeper t rs new.keeper)
+    → new.writer ≡ old.writer → new.replies ≡ old.replies
+    → (rs : List Recorded) × StepsRead (standing taken old) read reply rs (standing taken new)
 exchanged taken old new r0 r1 read reply here none steps there enters writer replies =
     let left = turn_leaves r0 read reply r1 none steps in
     let put = enters (recorded_of read reply) left.text left.has_line in (
@@ -140,7 +162,8 @@ exchanged taken old new r0 r1 read reply here none steps there enters writer rep
         commands = put.1.commands;
         well = put.1.well;
         last = put.1.last;
-        entered = (λ i. put.1.kept i ++ put.1.unsettled i) ∙ sym (append_assoc old.keeper.kept old.keeper.unsettled (text_after old.keeper.last put.0));
+        entered = (λ i. put.1.kept i ++ put.1.unsettled i)
+            ∙ sym (append_assoc old.keeper.kept old.keeper.unsettled (text_after old.keeper.last put.0));
         kept = put.1.kept;
         taken = ap taken writer;
         waiting = ap (λ (r : Replies). r.bytes) replies;
@@ -158,7 +181,8 @@ ok_of (Ok x) h p = p
 ok_of (Err e) h p = (cc)
 
 -- the writer took a front of what waits, once all was kept
-pub cut_short : {W : Type 0} (taken : W → Option (List ℕ)) (old new : Parts W) → new.keeper ≡ with_settled old.keeper → IsCut (taken old.writer) (taken new.writer) old.replies.bytes → IsCutShort (standing taken old) (standing taken new) []
+pub cut_short : {W : Type 0} (taken : W → Option (List ℕ)) (old new : Parts W) → new.keeper ≡ with_settled old.keeper
+    → IsCut (taken old.writer) (taken new.writer) old.replies.bytes → IsCutShort (standing taken old) (standing taken new) []
 cut_short taken old new settled' (n, few, took) = record {
   kept = ap (λ (k : Keeping). k.kept) settled';
   front = take n old.replies.bytes;
@@ -188,50 +212,62 @@ if_err_of (Err e) h p = (e, p)
 
 -- what a reply that found no room left of itself is cut off again
 pub cut_back : (old new text : List ℕ) (len : ℕ) → len ≡ length old → IsCut (Some old) (Some new) text → take len new ≡ old
-cut_back old new text len is (n, few, grown) = (λ i. take (is i) (grown i)) ∙ take-append-le (length old) old (take n text) (omega arith) ∙ take_all (length old) old (omega arith)
+cut_back old new text len is (n, few, grown) =
+    (λ i. take (is i) (grown i)) ∙ take-append-le (length old) old (take n text) (omega arith) ∙ take_all (length old) old (omega arith)
 
 -- a reply found no room: what waits was handed on, and then its own text, or a front of it
-module _ {W : Type 0} (taken : W → Option (List ℕ)) (old a mid : Parts W) (r : Replies) (text : List ℕ) (cut : r.bytes ≡ old.replies.bytes) where
-  abbrev before : Standing
-  before = standing taken (record { bridge = old.bridge; keeper = old.keeper; replies = r; writer = old.writer })
+module _ {W : Type 0} (taken : W → Option (List ℕ)) (old a mid : Parts W) (r : Replies) (text : List ℕ) (cut : r.bytes ≡ old.replies.bytes)
+  where
+    abbrev before : Standing
+    before = standing taken (record { bridge = old.bridge; keeper = old.keeper; replies = r; writer = old.writer })
 
-  pub not_settled : (n : Standing) → BreaksOff before n [] → BreaksOff (standing taken old) n text
-  not_settled n (inl off) = inl (record { taken = off.taken; kept = off.kept })
-  not_settled n (inr short) = inr (record {
-    kept = short.kept;
-    front = short.front;
-    took = short.took;
-    begins = (short.begins.0 ++ text, ap (λ b. b ++ text) (sym cut ∙ sym (append-nil r.bytes) ∙ short.begins.1) ∙ append_assoc short.front short.begins.0 text);
-  })
+    pub not_settled : (n : Standing) → BreaksOff before n [] → BreaksOff (standing taken old) n text
+    not_settled n (inl off) = inl (record { taken = off.taken; kept = off.kept })
+    not_settled n (inr short) = inr (record {
+      kept = short.kept;
+      front = short.front;
+      took = short.took;
+      begins = (
+        short.begins.0 ++ text,
+        ap (λ b. b ++ text) (sym cut ∙ sym (append-nil r.bytes) ∙ short.begins.1)
+            ∙ append_assoc short.front short.begins.0 text,
+      );
+    })
 
-  module _ (hands : HandsOn before (standing taken mid) []) (same : a ≡ mid) (w : W) where
-    abbrev after : Standing
-    after = standing taken (record { bridge = a.bridge; keeper = a.keeper; replies = a.replies; writer = w })
+    module _ (hands : HandsOn before (standing taken mid) []) (same : a ≡ mid) (w : W) where
+      abbrev after : Standing
+      after = standing taken (record { bridge = a.bridge; keeper = a.keeper; replies = a.replies; writer = w })
 
-    took_more : (more : List ℕ) → Appends (taken a.writer) (taken w) more → Appends (taken old.writer) (taken w) (old.replies.bytes ++ more)
-    took_more more appended =
-        subst (λ t. Appends (taken old.writer) (taken w) (t ++ more)) (append-nil r.bytes ∙ cut)
-        (Appends-trans (taken old.writer) (taken mid.writer) (taken w) (r.bytes ++ []) more hands.took (subst (λ (p : Parts W). Appends (taken p.writer) (taken w) more) same appended))
+      took_more : (more : List ℕ) → Appends (taken a.writer) (taken w) more
+          → Appends (taken old.writer) (taken w) (old.replies.bytes ++ more)
+      took_more more appended =
+          subst (λ t. Appends (taken old.writer) (taken w) (t ++ more)) (append-nil r.bytes ∙ cut)
+          (Appends-trans (taken old.writer) (taken mid.writer) (taken w) (r.bytes ++ []) more hands.took
+          (subst (λ (p : Parts W). Appends (taken p.writer) (taken w) more) same appended))
 
-    pub told_directly : Appends (taken a.writer) (taken w) text → HandsOn (standing taken old) after text
-    told_directly appended = record {
-      stays = record {
-        bridge = ap (λ (p : Parts W). p.bridge) same ∙ hands.stays.bridge;
-        last = ap (λ (p : Parts W). p.keeper.last) same ∙ hands.stays.last;
-        entered = ap (λ (p : Parts W). p.keeper.kept ++ p.keeper.unsettled) same ∙ hands.stays.entered;
-      };
-      kept = ap (λ (p : Parts W). p.keeper.kept) same ∙ hands.kept;
-      took = took_more text appended;
-      none = ap (λ (p : Parts W). p.replies.bytes) same ∙ hands.none;
-    }
+      pub told_directly : Appends (taken a.writer) (taken w) text → HandsOn (standing taken old) after text
+      told_directly appended = record {
+        stays = record {
+          bridge = ap (λ (p : Parts W). p.bridge) same ∙ hands.stays.bridge;
+          last = ap (λ (p : Parts W). p.keeper.last) same ∙ hands.stays.last;
+          entered = ap (λ (p : Parts W). p.keeper.kept ++ p.keeper.unsettled) same ∙ hands.stays.entered;
+        };
+        kept = ap (λ (p : Parts W). p.keeper.kept) same ∙ hands.kept;
+        took = took_more text appended;
+        none = ap (λ (p : Parts W). p.replies.bytes) same ∙ hands.none;
+      }
 
-    pub cut_directly : IsCut (taken a.writer) (taken w) text → IsCutShort (standing taken old) after text
-    cut_directly (n, few, appended) = record {
-      kept = ap (λ (p : Parts W). p.keeper.kept) same ∙ hands.kept;
-      front = old.replies.bytes ++ take n text;
-      took = took_more (take n text) appended;
-      begins = (drop n text, ap (λ t. old.replies.bytes ++ t) (sym (take-append-drop n text)) ∙ sym (append_assoc old.replies.bytes (take n text) (drop n text)));
-    }
+      pub cut_directly : IsCut (taken a.writer) (taken w) text → IsCutShort (standing taken old) after text
+      cut_directly (n, few, appended) = record {
+        kept = ap (λ (p : Parts W). p.keeper.kept) same ∙ hands.kept;
+        front = old.replies.bytes ++ take n text;
+        took = took_more (take n text) appended;
+        begins = (
+          drop n text,
+          ap (λ t. old.replies.bytes ++ t) (sym (take-append-drop n text))
+              ∙ sym (append_assoc old.replies.bytes (take n text) (drop n text)),
+        );
+      }
 
 -- ---- a view and what it is of
 
@@ -245,8 +281,10 @@ module _ {W : Type 0} (taken : W → Option (List ℕ)) (a b : Parts W) (same : 
   pub tells_from : (text : List ℕ) → Tells (standing taken a) n text → Tells (standing taken b) n text
   tells_from text h = subst (λ p. Tells (standing taken p) n text) same h
 
-  pub steps_from : (read : Result Ask Refusal) (reply : Reply) → ((rs : List Recorded) × StepsRead (standing taken a) read reply rs n) → (rs : List Recorded) × StepsRead (standing taken b) read reply rs n
+  pub steps_from : (read : Result Ask Refusal) (reply : Reply) → ((rs : List Recorded) × StepsRead (standing taken a) read reply rs n)
+      → (rs : List Recorded) × StepsRead (standing taken b) read reply rs n
   steps_from read reply h = subst (λ p. (rs : List Recorded) × StepsRead (standing taken p) read reply rs n) same h
 
-pub breaks_line_to : {W : Type 0} (taken : W → Option (List ℕ)) (old a b : Parts W) (line : Option (List ℕ)) → a ≡ b → BreaksLine taken old line a → BreaksLine taken old line b
+pub breaks_line_to : {W : Type 0} (taken : W → Option (List ℕ)) (old a b : Parts W) (line : Option (List ℕ)) → a ≡ b
+    → BreaksLine taken old line a → BreaksLine taken old line b
 breaks_line_to taken old a b line same h = subst (λ p. BreaksLine taken old line p) same h

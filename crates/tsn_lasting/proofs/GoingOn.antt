@@ -18,11 +18,13 @@ runs_more s mid new (y ∷ ys) x (m, first, rest) last = (m, first, runs_more m 
 
 commands_more : (xs : List Exchange) (x : Exchange) → commands_of (xs ++ x ∷ []) ≡ commands_of xs ++ command_of (recorded_of x.read x.reply)
 commands_more [] x = append-nil (command_of (recorded_of x.read x.reply))
-commands_more (y ∷ ys) x = ap (λ cs. command_of (recorded_of y.read y.reply) ++ cs) (commands_more ys x) ∙ sym (append_assoc (command_of (recorded_of y.read y.reply)) (commands_of ys) (command_of (recorded_of x.read x.reply)))
+commands_more (y ∷ ys) x = ap (λ cs. command_of (recorded_of y.read y.reply) ++ cs) (commands_more ys x)
+    ∙ sym (append_assoc (command_of (recorded_of y.read y.reply)) (commands_of ys) (command_of (recorded_of x.read x.reply)))
 
 replies_more : (xs : List Exchange) (x : Exchange) → replies_of (xs ++ x ∷ []) ≡ replies_of xs ++ reply_text x.reply
 replies_more [] x = append-nil (reply_text x.reply)
-replies_more (y ∷ ys) x = ap (λ cs. reply_text y.reply ++ cs) (replies_more ys x) ∙ sym (append_assoc (reply_text y.reply) (replies_of ys) (reply_text x.reply))
+replies_more (y ∷ ys) x =
+    ap (λ cs. reply_text y.reply ++ cs) (replies_more ys x) ∙ sym (append_assoc (reply_text y.reply) (replies_of ys) (reply_text x.reply))
 
 lines_more : (xs : List Exchange) (x : Exchange) → lines_of (xs ++ x ∷ []) ≡ lines_of xs ++ x.line ∷ []
 lines_more xs x = map-append (λ (y : Exchange). y.line) xs (x ∷ [])
@@ -65,7 +67,8 @@ begun s0 rest = record {
 module _ (s0 : Standing) (ls : List (Option (List ℕ))) (s : Standing) (has : HasAnswered s0 ls s) where
   -- ---- what was handed on stays, and what is kept grows
 
-  pub still_lasts : (new : Standing) (more : List (Option (List ℕ))) → new.taken ≡ s.taken → BeginsWith new.kept s.kept → Lasts s0 (ls ++ more) new
+  pub still_lasts : (new : Standing) (more : List (Option (List ℕ))) → new.taken ≡ s.taken → BeginsWith new.kept s.kept
+      → Lasts s0 (ls ++ more) new
   still_lasts new more taken grown =
       let old = has.lasts in record {
         exchanges = old.exchanges;
@@ -82,7 +85,8 @@ module _ (s0 : Standing) (ls : List (Option (List ℕ))) (s : Standing) (has : H
       }
 
   -- all that was entered is kept, and a front of what waits is handed on
-  pub settled_lasts : (new : Standing) (more : List (Option (List ℕ))) (front : List ℕ) → new.kept ≡ s.entered → Appends s.taken new.taken front → BeginsWith s.waiting front → Lasts s0 (ls ++ more) new
+  pub settled_lasts : (new : Standing) (more : List (Option (List ℕ))) (front : List ℕ) → new.kept ≡ s.entered
+      → Appends s.taken new.taken front → BeginsWith s.waiting front → Lasts s0 (ls ++ more) new
   settled_lasts new more front kept took begins = record {
     exchanges = has.exchanges;
     others = more;
@@ -97,7 +101,8 @@ module _ (s0 : Standing) (ls : List (Option (List ℕ))) (s : Standing) (has : H
     covers = (begins.0, has.told ∙ ap (λ t. has.handed ++ t) begins.1 ∙ sym (append_assoc has.handed front begins.0));
   }
 
-  pub settled : (new : Standing) → Stays s new → new.kept ≡ s.entered → Appends s.taken new.taken s.waiting → new.waiting ≡ [] → HasAnswered s0 ls new
+  pub settled : (new : Standing) → Stays s new → new.kept ≡ s.entered → Appends s.taken new.taken s.waiting → new.waiting ≡ []
+      → HasAnswered s0 ls new
   settled new stays kept took none = record {
     exchanges = has.exchanges;
     lines = has.lines;
@@ -120,7 +125,8 @@ module _ (s0 : Standing) (ls : List (Option (List ℕ))) (s : Standing) (has : H
 
     more_leaves : Leaves s0 all (has.recorded ++ rs)
     more_leaves = record {
-      commands = map-append (λ (r : Recorded). r.command) has.recorded rs ∙ (λ i. has.leaves.commands i ++ steps.leaves.commands i) ∙ sym (commands_more has.exchanges x);
+      commands = map-append (λ (r : Recorded). r.command) has.recorded rs ∙ (λ i. has.leaves.commands i ++ steps.leaves.commands i)
+          ∙ sym (commands_more has.exchanges x);
       well = are_recorded-append s0.last has.recorded rs has.leaves.well (subst (λ d. AreRecordedAfter d rs) has.last steps.leaves.well);
     }
 
@@ -141,7 +147,8 @@ module _ (s0 : Standing) (ls : List (Option (List ℕ))) (s : Standing) (has : H
     more_lines = lines_more has.exchanges x ∙ ap (λ xs. xs ++ x.line ∷ []) has.lines
 
     -- what it leaves is kept, with all that was entered, and a front of what waits and of its reply is handed on
-    pub told_lasts : (new : Standing) (front : List ℕ) → new.kept ≡ mid.entered → Appends s.taken new.taken front → BeginsWith (s.waiting ++ reply_text x.reply) front → Lasts s0 (ls ++ x.line ∷ []) new
+    pub told_lasts : (new : Standing) (front : List ℕ) → new.kept ≡ mid.entered → Appends s.taken new.taken front
+        → BeginsWith (s.waiting ++ reply_text x.reply) front → Lasts s0 (ls ++ x.line ∷ []) new
     told_lasts new front kept took begins = record {
       exchanges = all;
       others = [];
@@ -153,11 +160,16 @@ module _ (s0 : Standing) (ls : List (Option (List ℕ))) (s : Standing) (has : H
       kept = ([], kept ∙ more_entered ∙ sym (append-nil _));
       handed = has.handed ++ front;
       took = Appends-trans s0.taken s.taken new.taken has.handed front has.took took;
-      covers = (begins.0, more_told ∙ append_assoc has.handed s.waiting (reply_text x.reply) ∙ ap (λ t. has.handed ++ t) begins.1 ∙ sym (append_assoc has.handed front begins.0));
+      covers = (
+        begins.0,
+        more_told ∙ append_assoc has.handed s.waiting (reply_text x.reply) ∙ ap (λ t. has.handed ++ t) begins.1
+            ∙ sym (append_assoc has.handed front begins.0),
+      );
     }
 
     -- its reply waits
-    pub waits : (new : Standing) → Stays mid new → BeginsWith new.kept s.kept → new.taken ≡ s.taken → new.waiting ≡ s.waiting ++ reply_text x.reply → HasAnswered s0 (ls ++ x.line ∷ []) new
+    pub waits : (new : Standing) → Stays mid new → BeginsWith new.kept s.kept → new.taken ≡ s.taken
+        → new.waiting ≡ s.waiting ++ reply_text x.reply → HasAnswered s0 (ls ++ x.line ∷ []) new
     waits new stays grown taken waiting = record {
       exchanges = all;
       lines = more_lines;
@@ -173,7 +185,8 @@ module _ (s0 : Standing) (ls : List (Option (List ℕ))) (s : Standing) (has : H
     }
 
     -- it is told at once, behind what waits
-    pub told : (new : Standing) → Stays mid new → new.kept ≡ mid.entered → Appends s.taken new.taken (s.waiting ++ reply_text x.reply) → new.waiting ≡ [] → HasAnswered s0 (ls ++ x.line ∷ []) new
+    pub told : (new : Standing) → Stays mid new → new.kept ≡ mid.entered → Appends s.taken new.taken (s.waiting ++ reply_text x.reply)
+        → new.waiting ≡ [] → HasAnswered s0 (ls ++ x.line ∷ []) new
     told new stays kept took none = record {
       exchanges = all;
       lines = more_lines;
@@ -184,6 +197,7 @@ module _ (s0 : Standing) (ls : List (Option (List ℕ))) (s : Standing) (has : H
       entered = stays.entered ∙ more_entered;
       handed = has.handed ++ (s.waiting ++ reply_text x.reply);
       took = Appends-trans s0.taken s.taken new.taken has.handed (s.waiting ++ reply_text x.reply) has.took took;
-      told = more_told ∙ append_assoc has.handed s.waiting (reply_text x.reply) ∙ sym (append-nil _) ∙ ap (λ t. (has.handed ++ (s.waiting ++ reply_text x.reply)) ++ t) (sym none);
+      told = more_told ∙ append_assoc has.handed s.waiting (reply_text x.reply) ∙ sym (append-nil _)
+          ∙ ap (λ t. (has.handed ++ (s.waiting ++ reply_text x.reply)) ++ t) (sym none);
       lasts = told_lasts new (s.waiting ++ reply_text x.reply) kept took (begins_itself (s.waiting ++ reply_text x.reply));
     }

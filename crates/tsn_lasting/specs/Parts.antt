@@ -96,7 +96,8 @@ BreaksOff s new text = IsCutOff s new ⊎ IsCutShort s new text
 -- Where lines were answered, this one is answered behind them.
 abbrev pub AnswersLine : {W : Type 0} → (W → Option (List ℕ)) → Parts W → Option (List ℕ) → Parts W → Type 0
 AnswersLine taken old line new =
-    (s0 : Standing) (ls : List (Option (List ℕ))) → HasAnswered s0 ls (standing taken old) → HasAnswered s0 (ls ++ line ∷ []) (standing taken new)
+    (s0 : Standing) (ls : List (Option (List ℕ))) → HasAnswered s0 ls (standing taken old)
+    → HasAnswered s0 (ls ++ line ∷ []) (standing taken new)
 
 -- Or its answer broke off, and what was handed on lasts.
 abbrev pub BreaksLine : {W : Type 0} → (W → Option (List ℕ)) → Parts W → Option (List ℕ) → Parts W → Type 0

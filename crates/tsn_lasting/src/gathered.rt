@@ -8,7 +8,8 @@ use tsn_bytes::{ByteOut, Failed};
 /// The most bytes of replies that wait.
 const CAPACITY: usize = 65_536;
 
-/// Bytes in room for so many; a put that finds none left fails. A contract sees the bytes, and whether a put has failed.
+/// Bytes in room for so many; a put that finds none left fails. A contract sees the bytes, and whether a put has
+/// failed.
 #[derive(Drop)]
 pub struct Gathered {
     bytes: Vec<u8>,

@@ -55,8 +55,8 @@ pub enum LastingFault {
     Journal,
 }
 
-/// A bridge with a recorder, the journal file behind it, and the writer of its replies, ahead of which they wait for the
-/// journal.
+/// A bridge with a recorder, the journal file behind it, and the writer of its replies, ahead of which they wait for
+/// the journal.
 #[derive(Drop)]
 pub struct Lasting<C: Clock, D: Device, W: ByteOut> {
     recorder: Recorder<CommandLine>,
@@ -85,8 +85,8 @@ impl<C: Clock, D: Device, W: ByteOut> Model for Lasting<C, D, W> {
 }
 
 impl<C: Clock, D: Device, W: ByteOut> Lasting<C, D, W> {
-    /// The bridge goes on, with what it records behind what the keeper's file has. It takes the memory for all replies that
-    /// may wait.
+    /// The bridge goes on, with what it records behind what the keeper's file has. It takes the memory for all replies
+    /// that may wait.
     pub fn new(
         alloc: Global,
         bridge: Bridge,
@@ -149,7 +149,8 @@ impl<C: Clock, D: Device, W: ByteOut> Lasting<C, D, W> {
         Ok(reply)
     }
 
-    /// Has the journal keep all that was entered, and hands on what waits. Where the journal fails nothing is handed on.
+    /// Has the journal keep all that was entered, and hands on what waits. Where the journal fails nothing is handed
+    /// on.
     pub fn settle(&mut self) -> Result<(), LastingFault>
         ensures ok { OnOk result (HandsOn (standing W.taken self.old) (standing W.taken self.new) []) }
         ensures err { OnErr result (BreaksOff (standing W.taken self.old) (standing W.taken self.new) []) }
@@ -167,8 +168,8 @@ impl<C: Clock, D: Device, W: ByteOut> Lasting<C, D, W> {
         Ok(())
     }
 
-    /// Tells a reply: it waits where there is room; else all that was entered is kept first, and it goes out at once behind
-    /// what waits.
+    /// Tells a reply: it waits where there is room; else all that was entered is kept first, and it goes out at once
+    /// behind what waits.
     fn tell(&mut self, reply: &Reply) -> Result<(), LastingFault>
         ensures ok { OnOk result (Tells (standing W.taken self.old) (standing W.taken self.new) (reply_text reply.now)) }
         ensures err { OnErr result (BreaksOff (standing W.taken self.old) (standing W.taken self.new) (reply_text reply.now)) }
@@ -215,7 +216,8 @@ fn step(recorder: &mut Recorder<CommandLine>, read: Result<Ask, Refusal>) -> Rep
 #[tactic(auto, using(crate::proofs::Entering::enter_well, crate::proofs::Entering::enter_none, crate::proofs::Entering::enter_one))]
 fn enter<D: Device>(keeper: &mut Keeper<D>, stamp: Stamp, text: &[u8]) -> Result<(), Failed>
     requires { (t : Option Answered) × (text.now ≡ text_of line_text t) × HasLine line_text longest_line t }
-    ensures ok { OnOk result ((t : Option Answered) → text.now ≡ text_of line_text t → HasLine line_text longest_line t → (rs : List Recorded) × Puts keeper.old t rs keeper.new) }
+    ensures ok { OnOk result ((t : Option Answered) → text.now ≡ text_of line_text t → HasLine line_text longest_line t
+        → (rs : List Recorded) × Puts keeper.old t rs keeper.new) }
     ensures err { OnErr result (keeper.new.kept ≡ keeper.old.kept) }
 {
     if text.is_empty() {

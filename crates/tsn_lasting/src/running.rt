@@ -18,17 +18,19 @@ const CHUNK: usize = 65_536;
 /// The most reads of a script.
 const READS: u64 = 4_294_967_296;
 
-/// Answers each line of the input, with at most 2^32 reads. Before each read and at the end all that was entered is kept,
-/// and then all replies are handed on. On `Ok` all bytes were read. At each end what the writer took are the first replies
-/// to these lines, and all that the commands leave which they tell of is kept.
+/// Answers each line of the input, with at most 2^32 reads. Before each read and at the end all that was entered is
+/// kept, and then all replies are handed on. On `Ok` all bytes were read. At each end what the writer took are the
+/// first replies to these lines, and all that the commands leave which they tell of is kept.
 pub fn run_lasting<C: Clock, D: Device, W: ByteOut, R: ByteIn>(
     alloc: Global,
     lasting: &mut Lasting<C, D, W>,
     reader: &mut R,
 ) -> Result<(), LastingFault>
     requires rest { IsAtRest (standing W.taken lasting.old) }
-    ensures ok { OnOk result (Ends (standing W.taken lasting.old) (R.remaining reader.old) (R.remaining reader.new) (standing W.taken lasting.new)) }
-    ensures broken { OnErr result (Breaks (standing W.taken lasting.old) (R.remaining reader.old) (R.remaining reader.new) (standing W.taken lasting.new)) }
+    ensures ok { OnOk result (Ends (standing W.taken lasting.old) (R.remaining reader.old) (R.remaining reader.new)
+        (standing W.taken lasting.new)) }
+    ensures broken { OnErr result (Breaks (standing W.taken lasting.old) (R.remaining reader.old) (R.remaining reader.new)
+        (standing W.taken lasting.new)) }
 {
     let Ok(mut line) = LineBuffer::new(alloc) else {
         return Err(LastingFault::Memory);
@@ -48,7 +50,8 @@ pub fn run_lasting<C: Clock, D: Device, W: ByteOut, R: ByteIn>(
     Err(LastingFault::Read)
 }
 
-/// Answers the lines that end in a piece of the input; then all that they leave is kept, and their replies are handed on.
+/// Answers the lines that end in a piece of the input; then all that they leave is kept, and their replies are handed
+/// on.
 fn answer_window<C: Clock, D: Device, W: ByteOut>(
     alloc: Global,
     lasting: &mut Lasting<C, D, W>,

@@ -15,7 +15,8 @@ paid counts octets = tokens (cond counts octets 0)
 pub record Pays (octets : ℕ) (b : Tokens) (mark : Colour) : Type 0 where
   pub green : paid (is_green mark) octets + (taken (tokens octets) b mark).committed ≡ b.committed
   pub yellow : paid (is_yellow mark) octets + (taken (tokens octets) b mark).excess ≡ b.excess
-  pub passed : paid (is_passed mark) octets + (taken (tokens octets) b mark).committed + (taken (tokens octets) b mark).excess ≡ b.committed + b.excess
+  pub passed : paid (is_passed mark) octets + (taken (tokens octets) b mark).committed + (taken (tokens octets) b mark).excess
+      ≡ b.committed + b.excess
 
 -- The tokens that a frame's mark takes are those of its octets.
 best_pays : (octets : ℕ) (b : Tokens) (colour : Colour) → Pays octets b (best (tokens octets) b colour)
@@ -51,16 +52,21 @@ pub within : (b : Tokens) (e : Event) → IsWithin (record_of e) (after b e)
 within b e = grind arith
 
 -- A red frame takes nothing.
-pub red_takes_nothing : (m : FlowMeter) (now octets : ℕ) (colour : Colour) (b : Tokens) → colour_of m now octets colour b ≡ Red → marked m now octets colour b ≡ refilled m now b
+pub red_takes_nothing : (m : FlowMeter) (now octets : ℕ) (colour : Colour) (b : Tokens) → colour_of m now octets colour b ≡ Red
+    → marked m now octets colour b ≡ refilled m now b
 red_takes_nothing m now octets colour b red = ap (λ mark. taken (tokens octets) (refilled m now b) mark) red
 
 -- What is marked is no more than what was there at t and what came since.
-green_bound : (m : FlowMeter) (b : Tokens) (t : ℕ) (fs : List Arrival) → b.last ≡ t → IsRising t fs → tokens (octets_marked is_green m b fs) ≤ b.committed + m.cir * (end_of t fs - t)
+green_bound : (m : FlowMeter) (b : Tokens) (t : ℕ) (fs : List Arrival) → b.last ≡ t → IsRising t fs
+    → tokens (octets_marked is_green m b fs) ≤ b.committed + m.cir * (end_of t fs - t)
 green_bound m b t [] at r = omega arith
 green_bound m b t (f ∷ fs) at r =
-    let rest : tokens (octets_marked is_green m (next m b f) fs) ≤ (next m b f).committed + m.cir * (end_of f.time fs - f.time) = green_bound m (next m b f) f.time fs (next_last m b f) r.1 in
-    let pays : paid (is_green (mark_on m b f)) f.octets + (next m b f).committed ≡ min (grown m f.time b) (tokens m.cbs) = (mark_pays m b f).green in
-    let both : m.cir * (f.time - t) + m.cir * (end_of f.time fs - f.time) ≡ m.cir * (end_of f.time fs - t) = spans m.cir t f.time (end_of f.time fs) r.0 (end_after f.time fs r.1) in
+    let rest : tokens (octets_marked is_green m (next m b f) fs) ≤ (next m b f).committed + m.cir
+    * (end_of f.time fs - f.time) = green_bound m (next m b f) f.time fs (next_last m b f) r.1 in
+    let pays : paid (is_green (mark_on m b f)) f.octets + (next m b f).committed ≡ min (grown m f.time b)
+    (tokens m.cbs) = (mark_pays m b f).green in
+    let both : m.cir * (f.time - t) + m.cir * (end_of f.time fs - f.time) ≡ m.cir * (end_of f.time fs - t) = spans m.cir t f.time
+    (end_of f.time fs) r.0 (end_after f.time fs r.1) in
     let grows : grown m f.time b ≡ b.committed + m.cir * (f.time - t) = ap (λ l. b.committed + m.cir * (f.time - l)) at in
     omega arith
 
@@ -68,14 +74,18 @@ passed_bound : (m : FlowMeter) (b : Tokens) (t : ℕ) (fs : List Arrival) → b.
     → tokens (octets_marked is_passed m b fs) ≤ b.committed + b.excess + (m.cir * (end_of t fs - t) + m.eir * (end_of t fs - t))
 passed_bound m b t [] at r = omega arith
 passed_bound m b t (f ∷ fs) at r =
-    let rest : tokens (octets_marked is_passed m (next m b f) fs) ≤ (next m b f).committed + (next m b f).excess + (m.cir * (end_of f.time fs - f.time) + m.eir * (end_of f.time fs - f.time)) =
+    let rest : tokens (octets_marked is_passed m (next m b f) fs) ≤ (next m b f).committed + (next m b f).excess
+    + (m.cir * (end_of f.time fs - f.time) + m.eir * (end_of f.time fs - f.time)) =
     passed_bound m (next m b f) f.time fs (next_last m b f) r.1 in
-    let pays : paid (is_passed (mark_on m b f)) f.octets + (next m b f).committed + (next m b f).excess ≡ (refilled m f.time b).committed + (refilled m f.time b).excess = (mark_pays m b f).passed in
+    let pays : paid (is_passed (mark_on m b f)) f.octets + (next m b f).committed + (next m b f).excess ≡ (refilled m f.time b).committed
+    + (refilled m f.time b).excess = (mark_pays m b f).passed in
     let fills : (refilled m f.time b).committed + (refilled m f.time b).excess ≤ grown m f.time b + (b.excess + m.eir * (f.time - b.last)) =
     coupled m.cf (grown m f.time b) (tokens m.cbs) (b.excess + m.eir * (f.time - b.last)) (tokens m.ebs) in
     let ends : f.time ≤ end_of f.time fs = end_after f.time fs r.1 in
-    let c : m.cir * (f.time - t) + m.cir * (end_of f.time fs - f.time) ≡ m.cir * (end_of f.time fs - t) = spans m.cir t f.time (end_of f.time fs) r.0 ends in
-    let e : m.eir * (f.time - t) + m.eir * (end_of f.time fs - f.time) ≡ m.eir * (end_of f.time fs - t) = spans m.eir t f.time (end_of f.time fs) r.0 ends in
+    let c : m.cir * (f.time - t) + m.cir * (end_of f.time fs - f.time) ≡ m.cir * (end_of f.time fs - t) = spans m.cir t f.time
+    (end_of f.time fs) r.0 ends in
+    let e : m.eir * (f.time - t) + m.eir * (end_of f.time fs - f.time) ≡ m.eir * (end_of f.time fs - t) = spans m.eir t f.time
+    (end_of f.time fs) r.0 ends in
     let grows : grown m f.time b ≡ b.committed + m.cir * (f.time - t) = ap (λ l. b.committed + m.cir * (f.time - l)) at in
     let earns : m.eir * (f.time - b.last) ≡ m.eir * (f.time - t) = ap (λ l. m.eir * (f.time - l)) at in
     omega arith
@@ -85,13 +95,17 @@ yellow_bound : (m : FlowMeter) (b : Tokens) (t : ℕ) (fs : List Arrival) → b.
     → tokens (octets_marked is_yellow m b fs) ≤ b.excess + (m.cir * (end_of t fs - t) + m.eir * (end_of t fs - t))
 yellow_bound m b t [] at full r = omega arith
 yellow_bound m b t (f ∷ fs) at full r =
-    let rest : tokens (octets_marked is_yellow m (next m b f) fs) ≤ (next m b f).excess + (m.cir * (end_of f.time fs - f.time) + m.eir * (end_of f.time fs - f.time)) =
+    let rest : tokens (octets_marked is_yellow m (next m b f) fs) ≤ (next m b f).excess
+    + (m.cir * (end_of f.time fs - f.time) + m.eir * (end_of f.time fs - f.time)) =
     yellow_bound m (next m b f) f.time fs (next_last m b f) (within b (Mark m f.time f.octets f.colour)).committed r.1 in
-    let pays : paid (is_yellow (mark_on m b f)) f.octets + (next m b f).excess ≡ min (b.excess + m.eir * (f.time - b.last) + over m f.time b) (tokens m.ebs) = (mark_pays m b f).yellow in
+    let pays : paid (is_yellow (mark_on m b f)) f.octets + (next m b f).excess
+    ≡ min (b.excess + m.eir * (f.time - b.last) + over m f.time b) (tokens m.ebs) = (mark_pays m b f).yellow in
     let spill : over m f.time b ≤ grown m f.time b - tokens m.cbs = flows m.cf (grown m f.time b) (tokens m.cbs) in
     let ends : f.time ≤ end_of f.time fs = end_after f.time fs r.1 in
-    let c : m.cir * (f.time - t) + m.cir * (end_of f.time fs - f.time) ≡ m.cir * (end_of f.time fs - t) = spans m.cir t f.time (end_of f.time fs) r.0 ends in
-    let e : m.eir * (f.time - t) + m.eir * (end_of f.time fs - f.time) ≡ m.eir * (end_of f.time fs - t) = spans m.eir t f.time (end_of f.time fs) r.0 ends in
+    let c : m.cir * (f.time - t) + m.cir * (end_of f.time fs - f.time) ≡ m.cir * (end_of f.time fs - t) = spans m.cir t f.time
+    (end_of f.time fs) r.0 ends in
+    let e : m.eir * (f.time - t) + m.eir * (end_of f.time fs - f.time) ≡ m.eir * (end_of f.time fs - t) = spans m.eir t f.time
+    (end_of f.time fs) r.0 ends in
     let grows : grown m f.time b ≡ b.committed + m.cir * (f.time - t) = ap (λ l. b.committed + m.cir * (f.time - l)) at in
     let earns : m.eir * (f.time - b.last) ≡ m.eir * (f.time - t) = ap (λ l. m.eir * (f.time - l)) at in
     omega arith
@@ -101,7 +115,8 @@ module _ (m : FlowMeter) (b : Tokens) (f : Arrival) (fs : List Arrival) (r : IsR
   pub green_rate : tokens (octets_marked is_green m b (f ∷ fs)) ≤ tokens m.cbs + m.cir * (end_of f.time fs - f.time)
   green_rate = grind (arith, green_bound, next_last, mark_pays)
 
-  pub passed_rate : tokens (octets_marked is_passed m b (f ∷ fs)) ≤ tokens m.cbs + tokens m.ebs + (m.cir + m.eir) * (end_of f.time fs - f.time)
+  pub passed_rate : tokens (octets_marked is_passed m b (f ∷ fs)) ≤ tokens m.cbs + tokens m.ebs + (m.cir + m.eir)
+      * (end_of f.time fs - f.time)
   passed_rate = grind (arith, passed_bound, next_last, mark_pays)
 
   pub yellow_rate : tokens (octets_marked is_yellow m b (f ∷ fs)) ≤ tokens m.ebs + (m.cir + m.eir) * (end_of f.time fs - f.time)

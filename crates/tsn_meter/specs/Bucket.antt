@@ -93,4 +93,5 @@ pub record IsWithin (m : FlowMeter) (b : Tokens) : Type 0 where
   pub excess : b.excess ≤ tokens m.ebs
 
 abbrev pub tokens_code : Coded Tokens
-tokens_code = code_by (ℕ × (ℕ × ℕ)) (coded× coded_ℕ (coded× coded_ℕ coded_ℕ)) (λ b. (b.committed, (b.excess, b.last))) (λ p. record { committed = p.0; excess = p.1.0; last = p.1.1 }) (λ _. refl)
+tokens_code = code_by (ℕ × (ℕ × ℕ)) (coded× coded_ℕ (coded× coded_ℕ coded_ℕ)) (λ b. (b.committed, (b.excess, b.last)))
+    (λ p. record { committed = p.0; excess = p.1.0; last = p.1.1 }) (λ _. refl)

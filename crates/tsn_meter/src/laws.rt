@@ -39,11 +39,13 @@ pub fn events()
 /// into the excess, or are lost; a clip.
 pub fn examples()
     ensures meter_and_counters { (marks_from_full (committed_only 1500) three ≡ Green ∷ Red ∷ Green ∷ []) ×
-        ((left_by (committed_only 1500) (full_of (committed_only 1500) 0) (green_at 0 1000 ∷ green_at 100000 1000 ∷ [])).committed ≡ 4800000000000) ×
+        ((left_by (committed_only 1500) (full_of (committed_only 1500) 0) (green_at 0 1000 ∷ green_at 100000 1000 ∷ [])).committed
+        ≡ 4800000000000) ×
         ((left_by (committed_only 1500) (full_of (committed_only 1500) 0) three).committed ≡ 0) }
     ensures coupled_buckets { (marks_from_full (two_sizes true) five ≡ Green ∷ Yellow ∷ Red ∷ Green ∷ Yellow ∷ []) ×
         (marks_from_full (two_sizes false) five ≡ Green ∷ Yellow ∷ Red ∷ Green ∷ Red ∷ []) }
-    ensures clip { let clipped_once : Tokens = clipped (committed_only 250) (left_by (committed_only 1500) (full_of (committed_only 1500) 0) (green_at 0 1000 ∷ [])) in
+    ensures clip { let clipped_once : Tokens = clipped (committed_only 250)
+        (left_by (committed_only 1500) (full_of (committed_only 1500) 0) (green_at 0 1000 ∷ [])) in
         (colour_of (committed_only 250) 0 250 Green clipped_once ≡ Green) ×
         (colour_of (committed_only 250) 0 1 Green (marked (committed_only 250) 0 250 Green clipped_once) ≡ Red) }
     // a drop eligible frame tries the excess alone where colours count, and a red one neither; in blind mode it is as

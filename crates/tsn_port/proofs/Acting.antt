@@ -27,7 +27,8 @@ abbrev pub AreActs : ℕ → Object PortEntry → List Entry → Type 0
 AreActs n o [] = Unit {0}
 AreActs n o (e ∷ es) = IsHistory (after n o e).acts × AreActs n (after n o e) es
 
-pub acts_push : (n : ℕ) (o : Object PortEntry) (es : List Entry) (e : Entry) → AreActs n o es → IsHistory (after n (fold (after n) o es) e).acts → AreActs n o (es ++ e ∷ [])
+pub acts_push : (n : ℕ) (o : Object PortEntry) (es : List Entry) (e : Entry) → AreActs n o es
+    → IsHistory (after n (fold (after n) o es) e).acts → AreActs n o (es ++ e ∷ [])
 acts_push n o [] e h one = (one, tt)
 acts_push n o (x ∷ es) e h one = (h.0, acts_push n (after n o x) es e h.1 one)
 
@@ -46,8 +47,10 @@ part_history : (o : Object PortEntry) (q : Option Part) → IsHistory o.acts →
 part_history o None h = h
 part_history o (Some p) h = lived_history p.before p.after o.acts h
 
-pub change_history : (n : ℕ) (o : Object PortEntry) (w : What) (e : Change) → applies w ≡ Some e → IsHistory o.acts → IsHistory (after_entry port_schedule (Port n) o w).acts
-change_history n o w e is h = subst (λ (x : Object PortEntry). IsHistory x.acts) (sym (applied_entry port_schedule (Port n) o w e is)) (part_history o (part_of (Port n) (parts e)) h)
+pub change_history : (n : ℕ) (o : Object PortEntry) (w : What) (e : Change) → applies w ≡ Some e → IsHistory o.acts
+    → IsHistory (after_entry port_schedule (Port n) o w).acts
+change_history n o w e is h = subst (λ (x : Object PortEntry). IsHistory x.acts) (sym (applied_entry port_schedule (Port n) o w e is))
+    (part_history o (part_of (Port n) (parts e)) h)
 
 -- ---- an act at an instant not before the last one
 
@@ -63,27 +66,35 @@ not_empty : {E : Type 0} (list : List E) → has_entries list ≡ true → list 
 not_empty [] some = λ same. (cc)
 not_empty (x ∷ list) some = λ same. (cc)
 
-enabled_history : {E : Type 0} (a : ℕ) (acts : List (Act E)) (b : Bool) → is_enabled acts ≡ b → IsHistory acts → last_instant acts ≤ a → IsHistory (cond b acts (Enable a ∷ acts))
+enabled_history : {E : Type 0} (a : ℕ) (acts : List (Act E)) (b : Bool) → is_enabled acts ≡ b → IsHistory acts → last_instant acts ≤ a
+    → IsHistory (cond b acts (Enable a ∷ acts))
 enabled_history a acts true is h last = h
 enabled_history a acts false is h last = (last, is, h)
 
-disabled_history : {E : Type 0} (a : ℕ) (acts : List (Act E)) (b : Bool) → is_enabled acts ≡ b → IsHistory acts → last_instant acts ≤ a → IsHistory (cond b (Disable a ∷ acts) acts)
+disabled_history : {E : Type 0} (a : ℕ) (acts : List (Act E)) (b : Bool) → is_enabled acts ≡ b → IsHistory acts → last_instant acts ≤ a
+    → IsHistory (cond b (Disable a ∷ acts) acts)
 disabled_history a acts true is h last = (last, is, h)
 disabled_history a acts false is h last = h
 
-applied_history : (a : ℕ) (o : Object PortEntry) → Finds o → IsHistory o.acts → last_instant o.acts ≤ a → IsHistory (with_asked asked.Apply (port_schedule o.value) a o.acts)
+applied_history : (a : ℕ) (o : Object PortEntry) → Finds o → IsHistory o.acts → last_instant o.acts ≤ a
+    → IsHistory (with_asked asked.Apply (port_schedule o.value) a o.acts)
 applied_history a o f h last =
-    subst (λ v. IsHistory (with_asked asked.Apply (port_schedule v) a o.acts)) (sym f.value_is) (last, (f.enabled, not_empty f.value.admin.list f.some, f.cycle), h)
+    subst (λ v. IsHistory (with_asked asked.Apply (port_schedule v) a o.acts)) (sym f.value_is)
+    (last, (f.enabled, not_empty f.value.admin.list f.some, f.cycle), h)
 
-pub asked_history : (act : Asked) (a : ℕ) (o : Object PortEntry) → (act ≡ asked.Apply → Finds o) → IsHistory o.acts → last_instant o.acts ≤ a → IsHistory (with_asked act (port_schedule o.value) a o.acts)
+pub asked_history : (act : Asked) (a : ℕ) (o : Object PortEntry) → (act ≡ asked.Apply → Finds o) → IsHistory o.acts
+    → last_instant o.acts ≤ a → IsHistory (with_asked act (port_schedule o.value) a o.acts)
 asked_history asked.Enable a o finds h last = enabled_history a o.acts (is_enabled o.acts) refl h last
 asked_history asked.Disable a o finds h last = disabled_history a o.acts (is_enabled o.acts) refl h last
 asked_history asked.Apply a o finds h last = applied_history a o (finds refl) h last
 
 -- an act on this port, or on another key
-pub acted_history : (n : ℕ) (o : Object PortEntry) (act : Asked) (key : Key) (a : ℕ) → (same_key (Port n) key ≡ true → act ≡ asked.Apply → Finds o) → IsHistory o.acts → last_instant o.acts ≤ a → IsHistory (after_entry port_schedule (Port n) o (Acted act key a)).acts
+pub acted_history : (n : ℕ) (o : Object PortEntry) (act : Asked) (key : Key) (a : ℕ)
+    → (same_key (Port n) key ≡ true → act ≡ asked.Apply → Finds o) → IsHistory o.acts → last_instant o.acts ≤ a
+    → IsHistory (after_entry port_schedule (Port n) o (Acted act key a)).acts
 acted_history n o act key a finds h last = go (same_key (Port n) key) refl
   where
-    go : (b : Bool) → same_key (Port n) key ≡ b → IsHistory (cond b (record { value = o.value; acts = with_asked act (port_schedule o.value) a o.acts }) o).acts
+    go : (b : Bool) → same_key (Port n) key ≡ b
+        → IsHistory (cond b (record { value = o.value; acts = with_asked act (port_schedule o.value) a o.acts }) o).acts
     go true is = asked_history act a o (finds is) h last
     go false is = h

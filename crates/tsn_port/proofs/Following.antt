@@ -46,7 +46,8 @@ runs_split x z [] b h = (x, refl, h)
 runs_split x z (e ∷ a) b h = let rest = runs_split h.0 z a b h.2 in (rest.0, (h.0, h.1, rest.1), rest.2)
 
 -- what a since answers
-pub since_gives : (s : State) (n from : ℕ) (entries : List Entry) (new : State) → Step s n (commands.Since from) (replies.Entries entries) new → (entries ≡ since s.book.entries from) × (new ≡ s)
+pub since_gives : (s : State) (n from : ℕ) (entries : List Entry) (new : State)
+    → Step s n (commands.Since from) (replies.Entries entries) new → (entries ≡ since s.book.entries from) × (new ≡ s)
 since_gives s n from entries new step =
     let is = accepted (since_rule s n from) s (replies.Entries entries) new (λ why h. (cc)) step in
     let both = done_of _ _ is.1 in
@@ -71,10 +72,12 @@ unmarked_drop (suc n) (e ∷ es) = unmarked_drop n es
 
 pub since_is : (es : List Entry) (n : ℕ) → IsNumbered 1 es → since es n ≡ drop n es
 since_is es n numbered =
-    ap (λ xs. since xs n) (sym (unmarked es)) ∙ sym (since-drop n (marked es) (subst (IsNumbered 1) (sym (unmarked es)) numbered)) ∙ unmarked_drop n es
+    ap (λ xs. since xs n) (sym (unmarked es)) ∙ sym (since-drop n (marked es) (subst (IsNumbered 1) (sym (unmarked es)) numbered))
+    ∙ unmarked_drop n es
 
 -- what holds after each entry holds after those behind the first ones
-of_port_drop : (n : ℕ) (o : Object PortEntry) (k : ℕ) (es : List Entry) → AreOfPort n o es → AreOfPort n (fold (after n) o (take k es)) (drop k es)
+of_port_drop : (n : ℕ) (o : Object PortEntry) (k : ℕ) (es : List Entry) → AreOfPort n o es
+    → AreOfPort n (fold (after n) o (take k es)) (drop k es)
 of_port_drop n o zero es h = h
 of_port_drop n o (suc k) [] h = tt
 of_port_drop n o (suc k) (e ∷ es) h = of_port_drop n (after n o e) k es h.1
@@ -99,53 +102,65 @@ module _ (first : State) (reached : IsReached first) where
       (tells : Tells first h m) (begins : Begins h before)
       (whole : now ≡ before ++ call number (record { session = session; command = commands.Since m.front }) (replies.Entries entries) ∷ [])
       (more : m.front ≤ m'.front) (most : m'.front ≤ m.front + length entries)
-      (taken : (opening : PortGates) (before : List Entry) → Mirrors m opening before → AreOfPort m.port (mirrored m.port opening before) entries → Mirrors m' opening (before ++ take (m'.front - m.front) entries)) where
-    -- what is known of any state to which the longer history leads
-    record Known (z : State) : Type 0 where
-      stands : (opening : PortGates) → get z.book.opening (Port m.port) ≡ Some (records.Port opening) → Mirrors m opening (take m.front z.book.entries)
-      within : m.front ≤ length z.book.entries
-      entries_are : entries ≡ drop m.front z.book.entries
+      (taken : (opening : PortGates) (before : List Entry) → Mirrors m opening before
+      → AreOfPort m.port (mirrored m.port opening before) entries → Mirrors m' opening (before ++ take (m'.front - m.front) entries))
+    where
+      -- what is known of any state to which the longer history leads
+      record Known (z : State) : Type 0 where
+        stands : (opening : PortGates) → get z.book.opening (Port m.port) ≡ Some (records.Port opening)
+            → Mirrors m opening (take m.front z.book.entries)
+        within : m.front ≤ length z.book.entries
+        entries_are : entries ≡ drop m.front z.book.entries
 
-    known : (z : State) → Runs Turns first now z → Known z
-    known z run =
-        let (y, upto, (z', step, end)) = runs_split first z before _ (subst (λ l. Runs Turns first l z) whole run) in
-        let gives = since_gives y session m.front entries z' step.1 in
-        let is : z ≡ y = sym end ∙ gives.1 in
-        let (u, old, onto) = runs_split first y h begins.0 (subst (λ l. Runs Turns first l y) (sym begins.1) upto) in
-        let late = grows u y begins.0 (whole_at h u old) onto in
-        let low' = tells.within u old in
-        let front : take m.front y.book.entries ≡ take m.front u.book.entries = ap (take m.front) late.entries ∙ take_begins m.front u.book.entries late.more low' in
-        let size : length y.book.entries ≡ length u.book.entries + length late.more = ap (λ es. length es) late.entries ∙ length-append u.book.entries late.more in
-        subst Known (sym is) (record {
-          stands = λ opening at. subst (λ es. Mirrors m opening es) (sym front) (tells.stands u opening old (ap (λ c. get c (Port m.port)) (sym late.opening) ∙ at));
-          within = omega (arith, low', size);
-          entries_are = gives.0 ∙ since_is y.book.entries m.front (whole_at before y upto).journal.numbered;
-        })
+      known : (z : State) → Runs Turns first now z → Known z
+      known z run =
+          let (y, upto, (z', step, end)) = runs_split first z before _ (subst (λ l. Runs Turns first l z) whole run) in
+          let gives = since_gives y session m.front entries z' step.1 in
+          let is : z ≡ y = sym end ∙ gives.1 in
+          let (u, old, onto) = runs_split first y h begins.0 (subst (λ l. Runs Turns first l y) (sym begins.1) upto) in
+          let late = grows u y begins.0 (whole_at h u old) onto in
+          let low' = tells.within u old in
+          let front : take m.front y.book.entries ≡ take m.front u.book.entries = ap (take m.front) late.entries
+          ∙ take_begins m.front u.book.entries late.more low' in
+          let size : length y.book.entries ≡ length u.book.entries + length late.more = ap (λ es. length es) late.entries
+          ∙ length-append u.book.entries late.more in
+          subst Known (sym is) (record {
+            stands = λ opening at. subst (λ es. Mirrors m opening es) (sym front)
+                (tells.stands u opening old (ap (λ c. get c (Port m.port)) (sym late.opening) ∙ at));
+            within = omega (arith, low', size);
+            entries_are = gives.0 ∙ since_is y.book.entries m.front (whole_at before y upto).journal.numbered;
+          })
 
-    pub tells_on : Tells first now m'
-    tells_on = record {
-      stands = λ z opening run at.
+      pub tells_on : Tells first now m'
+      tells_on = record {
+        stands = λ z opening run at.
+            let k = known z run in
+            let at' : get z.book.opening (Port m.port) ≡ Some (records.Port opening) = ap (λ n. get z.book.opening (Port n)) (sym same)
+            ∙ at in
+            let is = asked now z run in
+            let fits : m.port ≤ is.limits.ports = subst (λ (l : Limits). m.port ≤ l.ports)
+            (sym (grows first z now (whole_at [] first refl) run).limits ∙ limits_reached z is) high in
+            let of_all = entries_of_ports is.limits is.given is.asks z m.port opening is.opens is.ranges is.led low fits at' in
+            let of_rest = of_port_drop m.port (mirrored m.port opening []) m.front z.book.entries of_all in
+            let of_port : AreOfPort m.port (mirrored m.port opening (take m.front z.book.entries)) entries = subst
+            (λ es. AreOfPort m.port (mirrored m.port opening (take m.front z.book.entries)) es) (sym k.entries_are) of_rest in
+            let n : m.front + (m'.front - m.front) ≡ m'.front = omega arith in
+            let joined : take m.front z.book.entries ++ take (m'.front - m.front) entries ≡ take m'.front z.book.entries =
+            ap (λ es. take m.front z.book.entries ++ take (m'.front - m.front) es) k.entries_are
+            ∙ (sym (take-add m.front (m'.front - m.front) z.book.entries) ∙ ap (λ i. take i z.book.entries) n) in
+            subst (λ es. Mirrors m' opening es) joined (taken opening (take m.front z.book.entries) (k.stands opening at') of_port);
+        within = λ z run.
+            let k = known z run in
+            let size : length entries ≡ length z.book.entries - m.front = ap (λ es. length es) k.entries_are
+            ∙ length-drop m.front z.book.entries in
+            let room = k.within in
+            omega arith;
+      }
+
+      pub whole_on : m'.front ≡ m.front + length entries → IsWhole first now m'
+      whole_on all z run =
           let k = known z run in
-          let at' : get z.book.opening (Port m.port) ≡ Some (records.Port opening) = ap (λ n. get z.book.opening (Port n)) (sym same) ∙ at in
-          let is = asked now z run in
-          let fits : m.port ≤ is.limits.ports = subst (λ (l : Limits). m.port ≤ l.ports) (sym (grows first z now (whole_at [] first refl) run).limits ∙ limits_reached z is) high in
-          let of_all = entries_of_ports is.limits is.given is.asks z m.port opening is.opens is.ranges is.led low fits at' in
-          let of_rest = of_port_drop m.port (mirrored m.port opening []) m.front z.book.entries of_all in
-          let of_port : AreOfPort m.port (mirrored m.port opening (take m.front z.book.entries)) entries = subst (λ es. AreOfPort m.port (mirrored m.port opening (take m.front z.book.entries)) es) (sym k.entries_are) of_rest in
-          let n : m.front + (m'.front - m.front) ≡ m'.front = omega arith in
-          let joined : take m.front z.book.entries ++ take (m'.front - m.front) entries ≡ take m'.front z.book.entries =
-          ap (λ es. take m.front z.book.entries ++ take (m'.front - m.front) es) k.entries_are ∙ (sym (take-add m.front (m'.front - m.front) z.book.entries) ∙ ap (λ i. take i z.book.entries) n) in
-          subst (λ es. Mirrors m' opening es) joined (taken opening (take m.front z.book.entries) (k.stands opening at') of_port);
-      within = λ z run.
-          let k = known z run in
-          let size : length entries ≡ length z.book.entries - m.front = ap (λ es. length es) k.entries_are ∙ length-drop m.front z.book.entries in
+          let size : length entries ≡ length z.book.entries - m.front = ap (λ es. length es) k.entries_are
+          ∙ length-drop m.front z.book.entries in
           let room = k.within in
-          omega arith;
-    }
-
-    pub whole_on : m'.front ≡ m.front + length entries → IsWhole first now m'
-    whole_on all z run =
-        let k = known z run in
-        let size : length entries ≡ length z.book.entries - m.front = ap (λ es. length es) k.entries_are ∙ length-drop m.front z.book.entries in
-        let room = k.within in
-        omega arith
+          omega arith

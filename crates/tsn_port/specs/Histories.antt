@@ -17,7 +17,8 @@ use Rattle.tsn_port.specs.Mirrors.{AreOfPort, MirrorState, Mirrors, mirrored}
 
 -- The mirror is the port's after its first entries of every state to which the history leads, and there are so many.
 pub record Tells (first : State) (history : List (Call Ask Reply)) (m : MirrorState) : Type 0 where
-  pub stands : (z : State) (opening : PortGates) → Runs Turns first history z → get z.book.opening (Port m.port) ≡ Some (records.Port opening) → Mirrors m opening (take m.front z.book.entries)
+  pub stands : (z : State) (opening : PortGates) → Runs Turns first history z
+      → get z.book.opening (Port m.port) ≡ Some (records.Port opening) → Mirrors m opening (take m.front z.book.entries)
   pub within : (z : State) → Runs Turns first history z → m.front ≤ length z.book.entries
 
 -- all entries of every such state are in
@@ -30,12 +31,14 @@ pub record TookSome (m : MirrorState) (entries : List Entry) (m' : MirrorState) 
   pub port : m'.port ≡ m.port
   pub more : m.front ≤ m'.front
   pub most : m'.front ≤ m.front + length entries
-  pub taken : (opening : PortGates) (before : List Entry) → Mirrors m opening before → AreOfPort m.port (mirrored m.port opening before) entries → Mirrors m' opening (before ++ take (m'.front - m.front) entries)
+  pub taken : (opening : PortGates) (before : List Entry) → Mirrors m opening before
+      → AreOfPort m.port (mirrored m.port opening before) entries → Mirrors m' opening (before ++ take (m'.front - m.front) entries)
 
 -- the history that ends with a turn in which the entries behind a mirror's front were asked for and told
-pub record AsksBehind (history : List (Call Ask Reply)) (m : MirrorState) (entries : List Entry) (now : List (Call Ask Reply)) : Type 0 where
-  pub before : List (Call Ask Reply)
-  pub begins : Begins history before
-  pub number : ℕ
-  pub session : ℕ
-  pub whole : now ≡ before ++ call number (record { session = session; command = commands.Since m.front }) (replies.Entries entries) ∷ []
+pub record AsksBehind (history : List (Call Ask Reply)) (m : MirrorState) (entries : List Entry) (now : List (Call Ask Reply)) : Type 0
+  where
+    pub before : List (Call Ask Reply)
+    pub begins : Begins history before
+    pub number : ℕ
+    pub session : ℕ
+    pub whole : now ≡ before ++ call number (record { session = session; command = commands.Since m.front }) (replies.Entries entries) ∷ []

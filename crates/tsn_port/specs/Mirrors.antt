@@ -30,8 +30,10 @@ pub record MirrorState : Type 0 where
 
 abbrev pub mirror_code : Coded MirrorState
 mirror_code =
-    code_by (ℕ × (PortGates × (Kept PortEntry × ℕ))) (coded× coded_ℕ (coded× port_gates_row.the_row.coded (coded× (kept_code port_entry_row.the_row.coded) coded_ℕ)))
-    (λ m. (m.port, (m.value, (m.runner, m.front)))) (λ p. record { port = p.0; value = p.1.0; runner = p.1.1.0; front = p.1.1.1 }) (λ _. refl)
+    code_by (ℕ × (PortGates × (Kept PortEntry × ℕ)))
+    (coded× coded_ℕ (coded× port_gates_row.the_row.coded (coded× (kept_code port_entry_row.the_row.coded) coded_ℕ)))
+    (λ m. (m.port, (m.value, (m.runner, m.front)))) (λ p. record { port = p.0; value = p.1.0; runner = p.1.1.0; front = p.1.1.1 })
+    (λ _. refl)
 
 -- a port after these entries, of a journal that began with this record of it
 abbrev pub mirrored : ℕ → PortGates → List Entry → Object PortEntry
@@ -57,7 +59,8 @@ pub record IsOfPort (o : Object PortEntry) : Type 0 where
 -- and so it is after each of these entries
 abbrev pub AreOfPort : ℕ → Object PortEntry → List Entry → Type 0
 AreOfPort n o [] = Unit {0}
-AreOfPort n o (e ∷ es) = IsOfPort (after_entry port_schedule (Port n) o e.what) × AreOfPort n (after_entry port_schedule (Port n) o e.what) es
+AreOfPort n o (e ∷ es) =
+    IsOfPort (after_entry port_schedule (Port n) o e.what) × AreOfPort n (after_entry port_schedule (Port n) o e.what) es
 
 -- what an entry changed of a port
 abbrev pub port_part : ℕ → What → Option Part

@@ -45,7 +45,8 @@ AnswersHello r = ((n : ℕ) × Gives r n) ⊎ ((r ≡ replies.Refused refusals.M
 
 -- what a look at a port may be answered
 abbrev pub AnswersLook : ℕ → Reply → Type 0
-AnswersLook n r = ((p : PortGates) × (r ≡ replies.Shown (Port n) (records.Port p))) ⊎ ((r ≡ replies.Refused refusals.Memory) ⊎ (r ≡ replies.Refused (refusals.Range fields.Key)))
+AnswersLook n r = ((p : PortGates) × (r ≡ replies.Shown (Port n) (records.Port p)))
+    ⊎ ((r ≡ replies.Refused refusals.Memory) ⊎ (r ≡ replies.Refused (refusals.Range fields.Key)))
 
 -- what a question for entries may be answered, of a session that was given out
 abbrev pub AnswersSince : Reply → Type 0
@@ -69,6 +70,7 @@ pub record Looked (desk : Desk State Ask Reply) (old : BridgeSeat) (session n : 
   pub stands : (z : State) → Runs Turns (first_of desk) (seen new) z → get (present z.book) (Port n) ≡ Some (records.Port value)
 
 -- the seat asked for the entries of a greater number, and was told these
-pub record HasRead (desk : Desk State Ask Reply) (old : BridgeSeat) (session after : ℕ) (entries : List Entry) (place : ℕ) (new : BridgeSeat) : Type 0 where
+pub record HasRead (desk : Desk State Ask Reply) (old : BridgeSeat) (session after : ℕ) (entries : List Entry) (place : ℕ)
+    (new : BridgeSeat) : Type 0 where
   pub turned : HasTurned Turns desk old (since session after) place (replies.Entries entries) new
   pub given : IsGivenIn (first_of desk) (seen new) session

@@ -82,12 +82,15 @@ entries_behind w = record { session = w.session; command = commands.Since w.mirr
 
 -- the seat makes one call, and has then seen more
 abbrev pub CallsOnce : Ask → BridgeSeat → BridgeSeat → Type 0
-CallsOnce ask old new = ((reply : Reply) × (made new ≡ made old ++ call (number old) ask reply ∷ [])) × (length (seen old) < length (seen new))
+CallsOnce ask old new =
+    ((reply : Reply) × (made new ≡ made old ++ call (number old) ask reply ∷ [])) × (length (seen old) < length (seen new))
 
 -- In a round the seat makes one call at most, and none where nothing came since the worker's last turn and memory was not
 -- wanting in that turn: with a call the history is longer by two calls at least.
 abbrev pub IsRound : PortWorker → BridgeSeat → BridgeSeat → Type 0
-IsRound w old new = (made new ≡ made old) ⊎ (((reply : Reply) × (made new ≡ made old ++ call (number old) (entries_behind w) reply ∷ [])) × ((w.is_short ≡ true) ⊎ (w.place + 2 < length (seen new))))
+IsRound w old new = (made new ≡ made old)
+    ⊎ (((reply : Reply) × (made new ≡ made old ++ call (number old) (entries_behind w) reply ∷ []))
+    × ((w.is_short ≡ true) ⊎ (w.place + 2 < length (seen new))))
 
 -- The three calls of a worker's start: a hello by the name, a look at the port, and all entries.
 pub record IsStart (name : Option (List ℕ)) (old new : BridgeSeat) (w : PortWorker) : Type 0 where
@@ -97,7 +100,8 @@ pub record IsStart (name : Option (List ℕ)) (old new : BridgeSeat) (w : PortWo
   pub entries : List Entry
   pub calls : made new ≡ made old
       ++ call (number old) (record { session = 0; command = commands.Hello name }) greeting
-      ∷ call (number old) (record { session = w.session; command = commands.Show (Port (port_of w)) }) (replies.Shown (Port (port_of w)) (records.Port value))
+      ∷ call (number old) (record { session = w.session; command = commands.Show (Port (port_of w)) })
+      (replies.Shown (Port (port_of w)) (records.Port value))
       ∷ call (number old) (record { session = w.session; command = commands.Since 0 }) (replies.Entries entries)
       ∷ []
 
@@ -107,4 +111,5 @@ abbrev pub IsStartFault : Desk State Ask Reply → ℕ → RoundFault → Bridge
 IsStartFault desk n faults.Past new = ⊥
 IsStartFault desk n faults.Memory new = Unit {0}
 IsStartFault desk n faults.Exhausted new = 2 ^ 63 ≤ tickets new
-IsStartFault desk n (faults.Refused why) new = (why ≡ refusals.Range fields.Session) ⊎ ((why ≡ refusals.Range fields.Key) × ((first_of desk).book.limits.ports < n))
+IsStartFault desk n (faults.Refused why) new =
+    (why ≡ refusals.Range fields.Session) ⊎ ((why ≡ refusals.Range fields.Key) × ((first_of desk).book.limits.ports < n))

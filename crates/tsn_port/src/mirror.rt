@@ -58,12 +58,14 @@ impl Mirror {
         }
     }
 
-    /// The mirror of a port of which the record and then all entries were looked up: with all of them in. Where no entry
-    /// changed the port, the record that was shown is the one with which the journal began. Refused only for want of memory.
+    /// The mirror of a port of which the record and then all entries were looked up: with all of them in. Where no
+    /// entry changed the port, the record that was shown is the one with which the journal began. Refused only for want
+    /// of memory.
     pub fn of(port: PortId, shown: &PortGates, entries: &Entries) -> Result<Mirror, AllocError>
         ensures port { IfOk result (λ mirror. mirror.port ≡ port) }
         ensures front { IfOk result (λ mirror. mirror.front ≡ length entries.now) }
-        ensures mirrors { IfOk result (λ mirror. AreOfPort port (mirrored port (first_record port entries.now shown.now) []) entries.now → Mirrors mirror (first_record port entries.now shown.now) entries.now) }
+        ensures mirrors { IfOk result (λ mirror. AreOfPort port (mirrored port (first_record port entries.now shown.now) []) entries.now
+            → Mirrors mirror (first_record port entries.now shown.now) entries.now) }
     {
         let first = first_record(port, entries.as_slice(), shown).try_clone()?;
         let mut mirror = Mirror::new(port, first);
@@ -87,9 +89,9 @@ impl Mirror {
         *front
     }
 
-    /// Takes in the entries that come next. Refused only for want of memory; `front` then tells how many of them are in.
-    /// What is in is told where the entries are such as a bridge makes: after each of them the port is there, and its
-    /// acts are in order of time, each with effect.
+    /// Takes in the entries that come next. Refused only for want of memory; `front` then tells how many of them are
+    /// in. What is in is told where the entries are such as a bridge makes: after each of them the port is there, and
+    /// its acts are in order of time, each with effect.
     pub fn take(&mut self, entries: &Entries) -> Result<(), AllocError>
         ensures port { self.new.port ≡ self.old.port }
         ensures front { (self.old.front ≤ self.new.front) × (self.new.front ≤ self.old.front + length entries.now) }
@@ -108,12 +110,13 @@ impl Mirror {
         Ok(())
     }
 
-    /// The gates at an instant: those of the list's entry in force (802.1Q-2018, 8.6.9), or of the record. Past where the
-    /// instant comes before the last act on the port. It takes no memory.
+    /// The gates at an instant: those of the list's entry in force (802.1Q-2018, 8.6.9), or of the record. Past where
+    /// the instant comes before the last act on the port. It takes no memory.
     pub fn states_at(&self, t: Instant) -> Result<u8, Past>
         ensures { (opening : AnyPortGates) (entries : List AnyEntry) → Mirrors self.now opening entries →
             MatchResult result
-            (λ gates. (last_instant (mirrored self.now.port opening entries).acts ≤ t) × (ShowsGates (mirrored self.now.port opening entries) t gates))
+            (λ gates. (last_instant (mirrored self.now.port opening entries).acts ≤ t)
+            × (ShowsGates (mirrored self.now.port opening entries) t gates))
             (λ _. t < last_instant (mirrored self.now.port opening entries).acts) }
     {
         match self.runner.states_at(t)? {
@@ -163,7 +166,8 @@ impl Mirror {
     fn change(&mut self, part: &Part) -> Result<(), AllocError>
         ensures same { (self.new.port ≡ self.old.port) × (self.new.front ≡ self.old.front) }
         ensures kept { OnErr result (self.new ≡ self.old) }
-        ensures shows { OnOk result ((o : Object AnyPortEntry) → Shows self.old o → IsOfPort (after_part o (Some part.now)) → Shows self.new (after_part o (Some part.now))) }
+        ensures shows { OnOk result ((o : Object AnyPortEntry) → Shows self.old o → IsOfPort (after_part o (Some part.now))
+            → Shows self.new (after_part o (Some part.now))) }
     {
         let Some(Record::Port(value)) = &part.after else {
             return Ok(());
@@ -189,7 +193,8 @@ impl Mirror {
     fn act(&mut self, act: Act, now: Instant) -> Result<(), AllocError>
         ensures same { (self.new.port ≡ self.old.port) × (self.new.front ≡ self.old.front) }
         ensures kept { OnErr result (self.new ≡ self.old) }
-        ensures shows { OnOk result ((o : Object AnyPortEntry) → Shows self.old o → IsHistory (acted act now o).acts → Shows self.new (acted act now o)) }
+        ensures shows { OnOk result ((o : Object AnyPortEntry) → Shows self.old o → IsHistory (acted act now o).acts
+            → Shows self.new (acted act now o)) }
     {
         if self.runner.is_past(now) {
             return Ok(());

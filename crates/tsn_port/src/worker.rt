@@ -40,13 +40,13 @@ pub enum RoundFault {
     Memory,
     /// No ticket is left at the desk.
     Exhausted,
-    /// The bridge refused a call of the start: no session is left (4, field `session`), or the port is over the limits (4,
-    /// field `key`).
+    /// The bridge refused a call of the start: no session is left (4, field `session`), or the port is over the limits
+    /// (4, field `key`).
     Refused(Refusal),
 }
 
-/// A mirror of a port that follows a bridge behind a desk, by a seat that is handed in at each call. It keeps its session,
-/// the place of its last turn, and whether memory was wanting in that.
+/// A mirror of a port that follows a bridge behind a desk, by a seat that is handed in at each call. It keeps its
+/// session, the place of its last turn, and whether memory was wanting in that.
 #[derive(Drop)]
 pub struct PortWorker {
     mirror: Mirror,
@@ -60,10 +60,10 @@ pub struct PortWorker {
 type Told<T> = (Seat<Bridge>, Result<T, RoundFault>);
 
 impl PortWorker {
-    /// A worker of the port, by three turns of the seat: a hello by the name, which the witness attends, a look at the port,
-    /// and all entries of the journal. It waits for the turns of others. Refused, the seat comes back with the fault: the port
-    /// is over the limits, no session is left, no ticket is left, or memory was wanting. A session that was given out stays
-    /// given out.
+    /// A worker of the port, by three turns of the seat: a hello by the name, which the witness attends, a look at the
+    /// port, and all entries of the journal. It waits for the turns of others. Refused, the seat comes back with the
+    /// fault: the port is over the limits, no session is left, no ticket is left, or memory was wanting. A session that
+    /// was given out stays given out.
     pub fn start<R: Wait, W: Witness<Bridge>>(
         rt: &R,
         desk: &Desk<Bridge>,
@@ -114,9 +114,9 @@ impl PortWorker {
         self.mirror.port()
     }
 
-    /// The gates of the port at an instant, in the state that ends the history that the seat has then seen. Where nothing
-    /// came since the worker's last turn, and memory was not wanting in that, the mirror answers, and the call neither waits
-    /// nor takes memory. Else it makes one turn, for the entries behind the mirror's front.
+    /// The gates of the port at an instant, in the state that ends the history that the seat has then seen. Where
+    /// nothing came since the worker's last turn, and memory was not wanting in that, the mirror answers, and the call
+    /// neither waits nor takes memory. Else it makes one turn, for the entries behind the mirror's front.
     pub fn round<R: Wait>(
         &mut self,
         rt: &R,
@@ -126,10 +126,12 @@ impl PortWorker {
     ) -> (Seat<Bridge>, Result<u8, RoundFault>)
         requires { IsSeatOf desk.now seat × IsWorkerOf desk.now self.old × Begins (last_seen self.old) (seen seat) }
         ensures goes { GoesOn desk.now seat result.0 }
-        ensures worker { IsWorkerOf desk.now self.new × Begins (last_seen self.new) (seen result.0) × (port_of self.new ≡ port_of self.old) }
+        ensures worker { IsWorkerOf desk.now self.new × Begins (last_seen self.new) (seen result.0)
+            × (port_of self.new ≡ port_of self.old) }
         ensures gates { IfOk result.1 (λ gates. EndsIn (first_of desk.now) (seen result.0) (TellsGates (port_of self.old) t gates)) }
         ensures past { IsErrOf result.1 RoundFault.Past → EndsIn (first_of desk.now) (seen result.0) (IsPast (port_of self.old) t) }
-        ensures fault { IfErr result.1 (λ e. (e ≡ RoundFault.Past) ⊎ ((e ≡ RoundFault.Memory) ⊎ ((e ≡ RoundFault.Exhausted) × (2 ^ 63 ≤ tickets result.0)))) }
+        ensures fault { IfErr result.1 (λ e. (e ≡ RoundFault.Past)
+            ⊎ ((e ≡ RoundFault.Memory) ⊎ ((e ≡ RoundFault.Exhausted) × (2 ^ 63 ≤ tickets result.0)))) }
         ensures turns { IsRound self.old seat result.0 }
     {
         let (seat, caught_up) = self.catch_up(rt, desk, seat);
@@ -143,7 +145,8 @@ impl PortWorker {
     fn catch_up<R: Wait>(&mut self, rt: &R, desk: &Desk<Bridge>, seat: Seat<Bridge>) -> Told<()>
         requires { IsSeatOf desk.now seat × IsWorkerOf desk.now self.old × Begins (last_seen self.old) (seen seat) }
         ensures goes { GoesOn desk.now seat result.0 }
-        ensures worker { IsWorkerOf desk.now self.new × Begins (last_seen self.new) (seen result.0) × (port_of self.new ≡ port_of self.old) }
+        ensures worker { IsWorkerOf desk.now self.new × Begins (last_seen self.new) (seen result.0)
+            × (port_of self.new ≡ port_of self.old) }
         ensures ok { OnOk result.1 ((self.new.is_short ≡ false) × (seen result.0 ≡ last_seen self.new)) }
         ensures fault { IfErr result.1 (λ e. (e ≡ RoundFault.Memory) ⊎ ((e ≡ RoundFault.Exhausted) × (2 ^ 63 ≤ tickets result.0))) }
         ensures turns { IsRound self.old seat result.0 }
@@ -155,7 +158,8 @@ impl PortWorker {
         self.follow(rt, desk, seat)
     }
 
-    /// Whether nothing came since the worker's last turn, where so many turns have ended, and memory was not wanting in it.
+    /// Whether nothing came since the worker's last turn, where so many turns have ended, and memory was not wanting in
+    /// it.
     fn is_current(&self, front: u64) -> bool
         ensures { IsTrue result ↔ ((self.now.is_short ≡ false) × (self.now.place + 1 ≡ front)) }
     {
@@ -166,7 +170,8 @@ impl PortWorker {
     fn follow<R: Wait>(&mut self, rt: &R, desk: &Desk<Bridge>, seat: Seat<Bridge>) -> Told<()>
         requires { IsSeatOf desk.now seat × IsWorkerOf desk.now self.old × Begins (last_seen self.old) (seen seat) }
         ensures goes { GoesOn desk.now seat result.0 }
-        ensures worker { IsWorkerOf desk.now self.new × Begins (last_seen self.new) (seen result.0) × (port_of self.new ≡ port_of self.old) }
+        ensures worker { IsWorkerOf desk.now self.new × Begins (last_seen self.new) (seen result.0)
+            × (port_of self.new ≡ port_of self.old) }
         ensures ok { OnOk result.1 ((self.new.is_short ≡ false) × (seen result.0 ≡ last_seen self.new)) }
         ensures fault { IfErr result.1 (λ e. (e ≡ RoundFault.Memory) ⊎ ((e ≡ RoundFault.Exhausted) × (2 ^ 63 ≤ tickets result.0))) }
         ensures once { (made result.0 ≡ made seat) ⊎ CallsOnce (entries_behind self.old) seat result.0 }
@@ -216,7 +221,8 @@ fn ask<R: Wait, W: Witness<Bridge>>(
 ) -> Told<Turn<Reply>>
     requires { IsSeatOf desk.now seat }
     ensures goes { GoesOn desk.now seat result.0 }
-    ensures turned { IfOk result.1 (λ turn. HasTurned Turns desk.now seat (record { session = session; command = command }) turn.place turn.reply result.0) }
+    ensures turned { IfOk result.1 (λ turn. HasTurned Turns desk.now seat (record { session = session; command = command }) turn.place
+        turn.reply result.0) }
     ensures fault { IfErr result.1 (λ e. (e ≡ RoundFault.Exhausted) × (2 ^ 63 ≤ tickets result.0)) }
     ensures none { OnErr result.1 (made result.0 ≡ made seat) }
 {
@@ -296,7 +302,8 @@ fn look<R: Wait>(
 fn record_in(reply: Reply, port: PortId) -> Result<PortGates, RoundFault>
     requires { AnswersLook port reply }
     ensures ok { IfOk result (λ value. reply ≡ Shown (Port port) (records.Port value)) }
-    ensures fault { IfErr result (λ e. (e ≡ RoundFault.Memory) ⊎ ((e ≡ RoundFault.Refused (Range fields.Key)) × (reply ≡ Refused (Range fields.Key)))) }
+    ensures fault { IfErr result (λ e. (e ≡ RoundFault.Memory)
+        ⊎ ((e ≡ RoundFault.Refused (Range fields.Key)) × (reply ≡ Refused (Range fields.Key)))) }
 {
     match reply {
         Reply::Shown {

@@ -81,7 +81,8 @@ pub never_untold : (o : Option Shown) (reply : Reply) → TellsPort o reply → 
 never_untold o reply h none = subst (λ (x : Option ℕ). MatchOption x ⊤ (λ y. ⊥)) (sym none ∙ ap gates_told h.1) tt
 
 -- and of those that the port shows
-pub told_gates : (o : Option Shown) (reply : Reply) (gates : ℕ) → TellsPort o reply → gates_told reply ≡ Some gates → o ≡ Some (shown.Port gates)
+pub told_gates : (o : Option Shown) (reply : Reply) (gates : ℕ) → TellsPort o reply → gates_told reply ≡ Some gates
+    → o ≡ Some (shown.Port gates)
 told_gates o reply gates h some =
     let same : h.0 ≡ gates = ap (λ (x : Option ℕ). unwrap_or x gates) (sym (ap gates_told h.1) ∙ some) in
     h.2 ∙ ap (λ (g : ℕ). Some (shown.Port g)) same
@@ -98,10 +99,12 @@ look s new port t reply seen step =
 pub listed_within : (l m : Limits) (x : Listing) → l ≡ m → listing_refusal l x ≡ None → listing_refusal m x ≡ None
 listed_within l m x same none = subst (λ (k : Limits). listing_refusal k x ≡ None) same none
 
-pub enables_listed : (s new : State) (x : Listing) (port now : ℕ) → port ≡ x.port → now ≡ x.from → Enables s port now new → Enables s x.port x.from new
+pub enables_listed : (s new : State) (x : Listing) (port now : ℕ) → port ≡ x.port → now ≡ x.from → Enables s port now new
+    → Enables s x.port x.from new
 enables_listed s new x port now is_port is_now h =
     subst (λ (t : ℕ). Enables s x.port t new) is_now (subst (λ (p : ℕ). Enables s p now new) is_port h)
 
-pub enables_not_listed : (s : State) (x : Listing) (port now : ℕ) (why : Refusal) → port ≡ x.port → now ≡ x.from → EnablesNot s port now why → EnablesNot s x.port x.from why
+pub enables_not_listed : (s : State) (x : Listing) (port now : ℕ) (why : Refusal) → port ≡ x.port → now ≡ x.from → EnablesNot s port now why
+    → EnablesNot s x.port x.from why
 enables_not_listed s x port now why is_port is_now h =
     subst (λ (t : ℕ). EnablesNot s x.port t why) is_now (subst (λ (p : ℕ). EnablesNot s p now why) is_port h)

@@ -62,16 +62,20 @@ module _ (s : State) (p : ℕ) (more : List (Option Refusal)) (none : least (lis
       (holds _ _ first.0, holds _ _ second.0, holds _ _ third.0)
 
 -- what was taken has no cause and was done
-taken : (rule : Rule) (s new : State) (reply : Reply) → Allows rule s reply new → refusal_told reply ≡ None → (least rule.causes ≡ None) × (rule.done ≡ Some (reply, new))
-taken rule s new reply step told = accepted rule s reply new (λ why is. let never : Some why ≡ None = sym (ap refusal_told is) ∙ told in (cc)) step
+taken : (rule : Rule) (s new : State) (reply : Reply) → Allows rule s reply new → refusal_told reply ≡ None
+    → (least rule.causes ≡ None) × (rule.done ≡ Some (reply, new))
+taken rule s new reply step told =
+    accepted rule s reply new (λ why is. let never : Some why ≡ None = sym (ap refusal_told is) ∙ told in (cc)) step
 
 -- ---- the last act on a port
 
-acted_last : (s : State) (act : Asked) (p now t : ℕ) → instant s now ≤ t → last_at s.book (Port p) ≤ t → last_at (acted_state s 1 act (Port p) now).book (Port p) ≤ t
+acted_last : (s : State) (act : Asked) (p now t : ℕ) → instant s now ≤ t → last_at s.book (Port p) ≤ t
+    → last_at (acted_state s 1 act (Port p) now).book (Port p) ≤ t
 acted_last s act p now t at before =
     let o = port_at s.book p in
     let acts = with_asked act (port_schedule o.value) (instant s now) o.acts in
-    let push = ap (λ (x : Object PortEntry). last_instant x.acts) (object_push port_schedule (Port p) (get s.book.opening (Port p)) s.book.entries _) in
+    let push = ap (λ (x : Object PortEntry). last_instant x.acts)
+    (object_push port_schedule (Port p) (get s.book.opening (Port p)) s.book.entries _) in
     let own = ap (λ b. last_instant (cond b (record { value = o.value; acts = acts }) o).acts) (same_itself (Port p)) in
     subst (λ m. m ≤ t) (sym (push ∙ own)) (asked_last act (port_schedule o.value) (instant s now) t o.acts at before)
 
@@ -80,7 +84,8 @@ acted_seen : (s : State) (act : Asked) (p now : ℕ) → s.time ≤ now → IsSe
 acted_seen s act p now early seen = record {
   within = seen.within;
   given = seen.given;
-  there = ap (λ c. is_some (get (run s.book.opening c) (Port p))) (nothing_push s.book.entries 1 (Acted act (Port p) (instant s now)) refl) ∙ seen.there;
+  there = ap (λ c. is_some (get (run s.book.opening c) (Port p))) (nothing_push s.book.entries 1 (Acted act (Port p) (instant s now)) refl)
+      ∙ seen.there;
   last = acted_last s act p now now (omega arith) seen.last;
 }
 
@@ -102,9 +107,11 @@ enabled s new p now is h =
     let there = listed s p (no_room s.book.entries 1 ∷ []) done.0 in
     let seen : IsSeenFrom s p now = record { within = there.0; given = there.1; there = there.2; last = new_last s p now is } in
     let early : s.time ≤ now = omega (arith, is.1) in
-    subst (λ (x : State). IsSeenFrom x p now × (x.time ≤ now)) (state_of _ h.0 _ new done.1) (acted_seen s asked.Enable p now early seen, omega arith)
+    subst (λ (x : State). IsSeenFrom x p now × (x.time ≤ now)) (state_of _ h.0 _ new done.1)
+    (acted_seen s asked.Enable p now early seen, omega arith)
 
-pub applied : (is_listed : Bool) (s new : State) (p now : ℕ) → s.time ≤ now → IsSeenFrom s p now → Applies is_listed s p now new → IsSeenFrom new p now
+pub applied : (is_listed : Bool) (s new : State) (p now : ℕ) → s.time ≤ now → IsSeenFrom s p now → Applies is_listed s p now new
+    → IsSeenFrom new p now
 applied true s new p now early seen h =
     let done = taken (apply_rule s 1 (Port p) now) s new h.0 h.1 h.2 in
     subst (λ (x : State). IsSeenFrom x p now) (state_of _ h.0 _ new done.1) (acted_seen s asked.Apply p now early seen)
@@ -114,7 +121,8 @@ applied false s new p now early seen h = subst (λ (x : State). IsSeenFrom x p n
 
 -- what can be seen from an instant on is seen later
 pub seen_later : (s : State) (p from t : ℕ) → from ≤ t → IsSeenFrom s p from → IsSeenFrom s p t
-seen_later s p from t later seen = record { within = seen.within; given = seen.given; there = seen.there; last = omega (arith, later, seen.last) }
+seen_later s p from t later seen =
+    record { within = seen.within; given = seen.given; there = seen.there; last = omega (arith, later, seen.last) }
 
 -- nothing refuses a look
 pub unrefused : (s : State) (p t : ℕ) → IsSeenFrom s p t → least (states_rule s 1 (Port p) t).causes ≡ None

@@ -95,7 +95,8 @@ abbrev pub EnablesNot : State → ℕ → ℕ → Refusal → Type 0
 EnablesNot s port now why =
     IsRefused s 0 (commands.Hello None) why
     ⊎ ((greeted : State) × Takes s 0 (commands.Hello None) greeted × (IsRefused greeted 1 (commands.Enable (Port port) now) why
-    ⊎ ((enabled : State) × Takes greeted 1 (commands.Enable (Port port) now) enabled × IsRefused enabled 1 (commands.Apply (Port port) now) why)))
+    ⊎ ((enabled : State) × Takes greeted 1 (commands.Enable (Port port) now) enabled
+    × IsRefused enabled 1 (commands.Apply (Port port) now) why)))
 
 -- Nothing was done with the bridge yet.
 abbrev pub IsNew : State → Type 0

@@ -57,7 +57,8 @@ Opens text start = IsOrMemory start (opened text)
 -- A script is answered from the state that the setup opens; where it opens none, nothing is read or written.
 abbrev pub AnswersFrom : Result State Refusal → (State → Moment State) → (State → Moment State) → Result (Unit {0}) Failure → Type 0
 AnswersFrom (Ok start) old new (Ok u) = (end : State) × Outcome Answers BreaksInWriting most_reads (old start) (new end) (Ok u)
-AnswersFrom (Ok start) old new (Err (failures.Fault fault)) = (end : State) × Outcome Answers BreaksInWriting most_reads (old start) (new end) (Err fault)
+AnswersFrom (Ok start) old new (Err (failures.Fault fault)) =
+    (end : State) × Outcome Answers BreaksInWriting most_reads (old start) (new end) (Err fault)
 AnswersFrom (Ok start) old new (Err (failures.Refused why)) = ⊥
 AnswersFrom (Ok start) old new (Err failures.Setup) = ⊥
 AnswersFrom (Err why) old new outcome = (outcome ≡ Err (failures.Refused why)) × (new standard ≡ old standard)

@@ -89,9 +89,9 @@ fn fail_at<E: ByteOut>(alloc: Global, setup: &[u8], why: &Refusal, errors: &mut 
     status
 }
 
-/// Looks at the setup of a text, and gives the status: 0 where it opens a bridge, after a line that says what this has, and a
-/// line on each thing in it that is seldom meant; 1 where it opens none, after the line of that failure and a text that may say
-/// where the setup is at fault.
+/// Looks at the setup of a text, and gives the status: 0 where it opens a bridge, after a line that says what this has,
+/// and a line on each thing in it that is seldom meant; 1 where it opens none, after the line of that failure and a
+/// text that may say where the setup is at fault.
 pub fn check_setup<O: ByteOut, E: ByteOut>(
     alloc: Global,
     setup: &[u8],

@@ -108,8 +108,8 @@ impl Responder for LineLook {
     }
 }
 
-/// Looks at each line of the input as a command, and tells on the output of those that can't be asked: which line it is, why,
-/// and where it is at fault. The status is 0 where there is none.
+/// Looks at each line of the input as a command, and tells on the output of those that can't be asked: which line it
+/// is, why, and where it is at fault. The status is 0 where there is none.
 pub fn check_lines<R: ByteIn, O: ByteOut, E: ByteOut>(
     alloc: Global,
     input: &mut R,

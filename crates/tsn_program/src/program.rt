@@ -38,7 +38,12 @@ pub(crate) fn show<W: ByteOut>(writer: &mut W, text: &[u8]) -> Result<(), Failur
 
 // Writes the text where it can. Nothing is left to do where it can't.
 pub(crate) fn tell<W: ByteOut>(errors: &mut W, text: &[u8])
-    ensures { Tells (record { old = W.taken errors.old; new = W.taken errors.new; held_back = W.pending errors.new; failed = W.has_failed errors.new })
+    ensures { Tells (record {
+      old = W.taken errors.old;
+      new = W.taken errors.new;
+      held_back = W.pending errors.new;
+      failed = W.has_failed errors.new;
+    })
         text.now }
 {
     let _ = show(errors, text);
@@ -47,7 +52,12 @@ pub(crate) fn tell<W: ByteOut>(errors: &mut W, text: &[u8])
 /// Tells of a failure, and gives its status, 1.
 pub fn fail<W: ByteOut>(errors: &mut W, failure: Failure) -> u8
     ensures status { result ≡ 1 }
-    ensures line { Tells (record { old = W.taken errors.old; new = W.taken errors.new; held_back = W.pending errors.new; failed = W.has_failed errors.new })
+    ensures line { Tells (record {
+      old = W.taken errors.old;
+      new = W.taken errors.new;
+      held_back = W.pending errors.new;
+      failed = W.has_failed errors.new;
+    })
         (failure_line failure) }
 {
     tell(errors, failure_line(&failure).as_slice());
@@ -168,8 +178,8 @@ fn refuse_words<E: ByteOut>(text: &[u8], errors: &mut E) -> u8
 }
 
 /// Does what is asked for, with the setup of this text, and gives the status: 0; 1 after one line that says what
-/// failed; 2 after a text that says why the words are refused. Connections are served by `serve`, which takes a source of
-/// them. What asks for a journal is not done here.
+/// failed; 2 after a text that says why the words are refused. Connections are served by `serve`, which takes a source
+/// of them. What asks for a journal is not done here.
 pub fn run<R: ByteIn, O: ByteOut, E: ByteOut>(
     alloc: Global,
     asked: &Asked,

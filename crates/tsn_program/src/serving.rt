@@ -57,9 +57,9 @@ fn serve_all_of<R: Wait + Threads + Sync, S: Source + Sync, O: ByteOut>(
     }
 }
 
-/// Serves the source's connections on the bridge, as many at once as there are workers, until none is left; then, where an
-/// instant is given, writes a line for each port, which tells its gates at the instant or that it is past, in the order of the
-/// ports. Gives the status: 0, or 1 after one line that says what failed.
+/// Serves the source's connections on the bridge, as many at once as there are workers, until none is left; then, where
+/// an instant is given, writes a line for each port, which tells its gates at the instant or that it is past, in the
+/// order of the ports. Gives the status: 0, or 1 after one line that says what failed.
 pub fn serve<R: Wait + Threads + Sync, S: Source + Sync, O: ByteOut, E: ByteOut>(
     rt: &R,
     alloc: Global,

@@ -43,8 +43,8 @@ fn line_of(alloc: Global, undone: Undone, name: &str, reason: &str) -> Result<Ve
     Ok(line)
 }
 
-/// Tells in one line what could not be done, with which file or at which address, and why; and gives the status, 1. Where there
-/// is no memory for that line, that is told in its place.
+/// Tells in one line what could not be done, with which file or at which address, and why; and gives the status, 1.
+/// Where there is no memory for that line, that is told in its place.
 pub fn fail_start<W: ByteOut>(
     alloc: Global,
     errors: &mut W,
@@ -53,9 +53,19 @@ pub fn fail_start<W: ByteOut>(
     reason: &str,
 ) -> u8
     ensures status { result ≡ 1 }
-    ensures line { Tells (record { old = W.taken errors.old; new = W.taken errors.new; held_back = W.pending errors.new; failed = W.has_failed errors.new })
+    ensures line { Tells (record {
+      old = W.taken errors.old;
+      new = W.taken errors.new;
+      held_back = W.pending errors.new;
+      failed = W.has_failed errors.new;
+    })
         (undone_line undone name.now reason.now)
-        ⊎ Tells (record { old = W.taken errors.old; new = W.taken errors.new; held_back = W.pending errors.new; failed = W.has_failed errors.new })
+        ⊎ Tells (record {
+          old = W.taken errors.old;
+          new = W.taken errors.new;
+          held_back = W.pending errors.new;
+          failed = W.has_failed errors.new;
+        })
         (fault_line Memory) }
 {
     let Ok(line) = line_of(alloc, undone, name, reason) else {

@@ -1,6 +1,6 @@
-//! The program over words and bytes in memory: a script, states and a refused setup, as `main` hands them in, and what no
-//! run of the program brings about: a reader and a writer that fail, how much of a setup is read, and the line of each
-//! failure. Words, setups and states are seen through the program (`examples/tables`, `examples/check`).
+//! The program over words and bytes in memory: a script, states and a refused setup, as `main` hands them in, and what
+//! no run of the program brings about: a reader and a writer that fail, how much of a setup is read, and the line of
+//! each failure. Words, setups and states are seen through the program (`examples/tables`, `examples/check`).
 ghost use Rattle.std.specs.Prelude.{IfOk};
 ghost use Rattle.tsn_program.specs.Program.{IsAlone};
 
@@ -327,8 +327,8 @@ fn keeps(asked: &Asked, setup: Option<&str>, syncs: Syncs) -> bool {
     }
 }
 
-/// A journal is not the setup, and either may be named alone, to a script and to a server. Each sync is made, unless it is said
-/// that none is.
+/// A journal is not the setup, and either may be named alone, to a script and to a server. Each sync is made, unless it
+/// is said that none is.
 #[test]
 fn a_journal_may_be_kept(rt: HostRuntime) -> Result<(), Fail> {
     let both: &[&str] = &["script", "--journal", "cell.journal", "cell.toml"];

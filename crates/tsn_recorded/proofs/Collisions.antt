@@ -33,7 +33,8 @@ pub stands_once : (last other : List ℕ) (r : Recorded) → text_of last r ≡ 
 stands_once last other r e = same_behind last other (body_of r) (sym (text_of-digest last r) ∙ ap (take 32) e ∙ text_of-digest other r)
 
 -- a digest behind a digest is that of one recorded command
-pub is_unchanged : (last : List ℕ) (r q : Recorded) → IsRecorded r → IsRecorded q → digest_after last (body_of r) ≡ digest_after last (body_of q) → (r ≡ q) ⊎ Collision
+pub is_unchanged : (last : List ℕ) (r q : Recorded) → IsRecorded r → IsRecorded q
+    → digest_after last (body_of r) ≡ digest_after last (body_of q) → (r ≡ q) ⊎ Collision
 is_unchanged last r q isr isq e = grind (arith, same_text, same_body, append_cancel_left)
 
 same_start : (xs ys us vs : List ℕ) → length xs ≡ length us → xs ++ ys ≡ us ++ vs → xs ≡ us
@@ -43,7 +44,8 @@ same_cons : (r q : Recorded) (rs qs : List Recorded) → r ≡ q → rs ≡ qs �
 same_cons r q rs qs e f = cc
 
 -- the last digest is that of one list of so many recorded commands
-pub same_records : (last other : List ℕ) (rs qs : List Recorded) → length last ≡ length other → length rs ≡ length qs → All IsRecorded rs → All IsRecorded qs
+pub same_records : (last other : List ℕ) (rs qs : List Recorded) → length last ≡ length other → length rs ≡ length qs → All IsRecorded rs
+    → All IsRecorded qs
     → last_digest last rs ≡ last_digest other qs → ((last ≡ other) × (rs ≡ qs)) ⊎ Collision
 same_records last other [] [] size count isr isq e = inl (e, refl)
 same_records last other [] (q ∷ qs) size count isr isq e = absurd (omega arith)
@@ -51,13 +53,15 @@ same_records last other (r ∷ rs) [] size count isr isq e = absurd (omega arith
 same_records last other (r ∷ rs) (q ∷ qs) size count isr isq e =
     let sizes = length-digest_after last (body_of r) ∙ sym (length-digest_after other (body_of q)) in
     let counts : length rs ≡ length qs = omega arith in
-    elim (same_records (digest_after last (body_of r)) (digest_after other (body_of q)) rs qs sizes counts (All-tail IsRecorded r rs isr) (All-tail IsRecorded q qs isq) e) [
+    elim (same_records (digest_after last (body_of r)) (digest_after other (body_of q)) rs qs sizes counts (All-tail IsRecorded r rs isr)
+    (All-tail IsRecorded q qs isq) e) [
       | inr c ↦ inr c
       | inl later ↦ elim (same_text (last ++ body_of r) (other ++ body_of q) later.0) [
         | inr c ↦ inr c
         | inl same ↦ inl (
           same_start last (body_of r) other (body_of q) size same,
-          same_cons r q rs qs (same_body r q (All-head IsRecorded r rs isr) (All-head IsRecorded q qs isq) (same_fronts last (body_of r) other (body_of q) size same)) later.1,
+          same_cons r q rs qs (same_body r q (All-head IsRecorded r rs isr) (All-head IsRecorded q qs isq)
+              (same_fronts last (body_of r) other (body_of q) size same)) later.1,
         )
       ]
     ]

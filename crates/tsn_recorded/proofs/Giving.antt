@@ -24,12 +24,14 @@ pub record GoesOn (s next : Standing) (r : Recorded) : Type 0 where
   pub counted : next.counted ≡ s.counted
   pub has_line_feed : next.has_line_feed ≡ s.has_line_feed
 
-pub gives_on : (fed : List ℕ) (rs : List Recorded) (s next : Standing) (r : Recorded) → HasGiven fed rs s → GoesOn s next r → HasGiven fed (rs ++ r ∷ []) next
+pub gives_on : (fed : List ℕ) (rs : List Recorded) (s next : Standing) (r : Recorded) → HasGiven fed rs s → GoesOn s next r
+    → HasGiven fed (rs ++ r ∷ []) next
 gives_on fed rs s next r given on =
     grind (arith, text_after-append, append-nil, append_assoc, length-append, are_recorded-append, last_digest-append)
 
 -- what stands behind what was given
-pub rest_of_given : (fed : List ℕ) (rs : List Recorded) (s : Standing) → (given : HasGiven fed rs s) → drop s.good fed ≡ s.held ++ given.counted
+pub rest_of_given : (fed : List ℕ) (rs : List Recorded) (s : Standing) → (given : HasGiven fed rs s)
+    → drop s.good fed ≡ s.held ++ given.counted
 rest_of_given fed rs s given = ap (drop s.good) given.front ∙ drop_at (text_after [] rs) (s.held ++ given.counted) s.good given.good
 
 -- where none begins behind it, this is how the bytes read
@@ -39,12 +41,14 @@ given_reads fed rs s given none = grind (arith, common_steps, rest_of_given)
 
 -- ---- a line further
 
-module _ (s next : Standing) (r : Recorded) (bytes : List ℕ) (count : ℕ) (held : s.held ≡ bytes) (first : BeginsWithLine bytes count) (line : take count bytes ≡ line_of s.last r) where
+module _ (s next : Standing) (r : Recorded) (bytes : List ℕ) (count : ℕ) (held : s.held ≡ bytes) (first : BeginsWithLine bytes count)
+    (line : take count bytes ≡ line_of s.last r) where
   text_size : length (text_of s.last r) ≡ count + 1
   text_size = grind (arith, length-take-le, length-append)
 
   pub goes_on : IsRecordedAfter s.last r → next.held ≡ drop (count + 1) bytes → next.last ≡ take digest_length (take count bytes)
-      → next.lines ≡ s.lines + 1 → next.good ≡ s.good + (count + 1) → next.counted ≡ s.counted → next.has_line_feed ≡ s.has_line_feed → GoesOn s next r
+      → next.lines ≡ s.lines + 1 → next.good ≡ s.good + (count + 1) → next.counted ≡ s.counted → next.has_line_feed ≡ s.has_line_feed
+      → GoesOn s next r
   goes_on is rest last lines good counted has = grind (arith, text_at, line_digest, text_size)
 
 -- ---- a piece further
@@ -60,7 +64,8 @@ nil_of xs none = grind (arith, common_steps)
 
 module _ (fed piece : List ℕ) (rs : List Recorded) (s next : Standing) (given : HasGiven fed rs s) (same : KeepsPlace s next) where
   -- it was held
-  pub gives_held : next.held ≡ s.held ++ piece → s.counted ≡ 0 → next.counted ≡ s.counted → next.has_line_feed ≡ s.has_line_feed → HasGiven (fed ++ piece) rs next
+  pub gives_held : next.held ≡ s.held ++ piece → s.counted ≡ 0 → next.counted ≡ s.counted → next.has_line_feed ≡ s.has_line_feed
+      → HasGiven (fed ++ piece) rs next
   gives_held held none counted has = grind (arith, nil_of, append-nil, append_assoc)
 
   -- it was only counted
@@ -84,7 +89,8 @@ found_with before false counted piece known some none = grind (arith, common_ste
 -- ---- the end
 
 module _ (fed : List ℕ) (rs : List Recorded) (s : Standing) (given : HasGiven fed rs s) where
-  pub ends_damaged : (s.has_line_feed ≡ true) ⊎ Contains s.held line_feed → (line : ℕ) → line ≡ s.lines + 1 → IsEnd s.lines (drop s.good fed) (Damaged line)
+  pub ends_damaged : (s.has_line_feed ≡ true) ⊎ Contains s.held line_feed → (line : ℕ) → line ≡ s.lines + 1
+      → IsEnd s.lines (drop s.good fed) (Damaged line)
   ends_damaged found line e =
       let P : List ℕ → Type 0 = λ t. Contains t line_feed in
       let rest = sym (rest_of_given fed rs s given) in (
@@ -95,11 +101,13 @@ module _ (fed : List ℕ) (rs : List Recorded) (s : Standing) (given : HasGiven 
         ]),
       )
 
-  pub ends_unfinished : (s.has_line_feed ≡ false) × All (λ b. b ≢ line_feed) s.held → (bytes : ℕ) → bytes ≡ length s.held + s.counted → bytes ≢ 0
+  pub ends_unfinished : (s.has_line_feed ≡ false)
+      × All (λ b. b ≢ line_feed) s.held → (bytes : ℕ) → bytes ≡ length s.held + s.counted → bytes ≢ 0
       → IsEnd s.lines (drop s.good fed) (Unfinished bytes)
   ends_unfinished none bytes e some =
       let rest = rest_of_given fed rs s given in
-      let size : length (drop s.good fed) ≡ bytes = ap length rest ∙ length-append s.held given.counted ∙ ap (λ n. length s.held + n) given.size ∙ sym e in
+      let size : length (drop s.good fed) ≡ bytes = ap length rest ∙ length-append s.held given.counted
+      ∙ ap (λ n. length s.held + n) given.size ∙ sym e in
       let counted : All (λ b. b ≢ line_feed) given.counted =
       (λ k d below is. false≢true (sym none.0 ∙ given.line_feeds.1 (k, below, get_or_default given.counted k line_feed d below ∙ is))) in (
         (λ nothing. some (sym size ∙ ap length nothing)),

@@ -15,10 +15,12 @@ pub free_front : (b : ℕ) (bytes : List ℕ) (k : ℕ) → Nowhere (Passes (is_
 free_front b bytes k none i d below e = grind (arith, length-take, get_or_default, get_or-take, eq-eqb)
 
 pub free_all : (b : ℕ) (bytes : List ℕ) → Nowhere (Passes (is_byte b) bytes) 0 (length bytes) → All (λ x. x ≢ b) bytes
-free_all b bytes none = All-same (λ x. x ≢ b) bytes (take (length bytes) bytes) (sym (take_all (length bytes) bytes (omega arith))) (free_front b bytes (length bytes) none)
+free_all b bytes none = All-same (λ x. x ≢ b) bytes (take (length bytes) bytes) (sym (take_all (length bytes) bytes (omega arith)))
+    (free_front b bytes (length bytes) none)
 
 -- a list is what lies ahead of a place, what stands there, and what lies behind
-pub split_at : (b : ℕ) (bytes : List ℕ) (k : ℕ) → k < length bytes → slice_index bytes k ≡ b → bytes ≡ take k bytes ++ b ∷ drop (k + 1) bytes
+pub split_at : (b : ℕ) (bytes : List ℕ) (k : ℕ) → k < length bytes → slice_index bytes k ≡ b
+    → bytes ≡ take k bytes ++ b ∷ drop (k + 1) bytes
 split_at b bytes k inside here = grind (arith, drop_more, take-append-drop)
 
 -- ---- where a line is that of a recorded command
@@ -50,10 +52,12 @@ module _ (last line : List ℕ) (r : Recorded) (is : line ≡ line_of last r) wh
   not_joined other = other (ap (λ t. slice_index t digest_length) is ∙ line_gap last r)
 
   pub not_one_word : All (λ x. x ≢ space) (drop (digest_length + 1) line) → ⊥
-  not_one_word free = has_one space r.stamp r.command (All-same (λ x. x ≢ space) (body_of r) _ (sym (ap (drop (digest_length + 1)) is ∙ line_body last r)) free)
+  not_one_word free = has_one space r.stamp r.command
+      (All-same (λ x. x ≢ space) (body_of r) _ (sym (ap (drop (digest_length + 1)) is ∙ line_body last r)) free)
 
   pub own_digest : digest_after last (drop (digest_length + 1) line) ≡ take digest_length line
-  own_digest = ap (digest_after last) (ap (drop (digest_length + 1)) is ∙ line_body last r) ∙ sym (ap (take digest_length) is ∙ line_digest last r)
+  own_digest =
+      ap (digest_after last) (ap (drop (digest_length + 1)) is ∙ line_body last r) ∙ sym (ap (take digest_length) is ∙ line_digest last r)
 
 -- ---- where the bytes say so, it is the line of this one
 
@@ -67,7 +71,8 @@ module _ (last line : List ℕ) (n : ℕ) where
       let words : body ≡ body_of (recorded_in line n) = split_at space body n inside here in
       split_at space line digest_length long gap ∙ ap (λ t. t ++ space ∷ body) (sym own) ∙ ap (λ b. digest_after last b ++ space ∷ b) words
 
-  pub is_recorded : All (λ b. b ≢ line_feed) line → Nowhere (Passes (is_byte space) (drop (digest_length + 1) line)) 0 n → IsRecorded (recorded_in line n)
+  pub is_recorded : All (λ b. b ≢ line_feed) line → Nowhere (Passes (is_byte space) (drop (digest_length + 1) line)) 0 n
+      → IsRecorded (recorded_in line n)
   is_recorded free before =
       let P : ℕ → Type 0 = λ b. b ≢ line_feed in
       let body = All-drop P (digest_length + 1) line free in

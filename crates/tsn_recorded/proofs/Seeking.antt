@@ -17,15 +17,18 @@ take_sum (suc n) k (x ∷ xs) = let e : suc n + k ≡ suc (n + k) = omega arith 
 
 module _ (bytes : List ℕ) (from sought : ℕ) (so : IsSought bytes from sought) where
   -- it was sought further
-  pub sought_on : (count : ℕ) → sought + count ≤ length bytes → All (λ b. b ≢ line_feed) (take count (drop sought bytes)) → IsSought bytes from (sought + count)
+  pub sought_on : (count : ℕ) → sought + count ≤ length bytes → All (λ b. b ≢ line_feed) (take count (drop sought bytes))
+      → IsSought bytes from (sought + count)
   sought_on count within free =
       let order = so.order in
       let width : sought + count - from ≡ (sought - from) + count = omega (arith, order) in
       let place : from + (sought - from) ≡ sought = omega (arith, order) in
-      let behind : drop (sought - from) (drop from bytes) ≡ drop sought bytes = drop-drop (sought - from) from bytes ∙ ap (λ n. drop n bytes) place in
+      let behind : drop (sought - from) (drop from bytes) ≡ drop sought bytes = drop-drop (sought - from) from bytes
+      ∙ ap (λ n. drop n bytes) place in
       let P : ℕ → Type 0 = λ b. b ≢ line_feed in
       let all : take (sought + count - from) (drop from bytes) ≡ take (sought - from) (drop from bytes) ++ take count (drop sought bytes) =
-      ap (λ n. take n (drop from bytes)) width ∙ take_sum (sought - from) count (drop from bytes) ∙ ap (λ t. take (sought - from) (drop from bytes) ++ take count t) behind in
+      ap (λ n. take n (drop from bytes)) width ∙ take_sum (sought - from) count (drop from bytes)
+      ∙ ap (λ t. take (sought - from) (drop from bytes) ++ take count t) behind in
       record {
         order = omega (arith, order);
         within = within;
@@ -37,7 +40,8 @@ module _ (bytes : List ℕ) (from sought : ℕ) (so : IsSought bytes from sought
   sought_all free =
       let within = so.within in
       let size = length-drop sought bytes in
-      let rest : take (length bytes - sought) (drop sought bytes) ≡ drop sought bytes = take_all (length bytes - sought) (drop sought bytes) (omega (arith, size)) in
+      let rest : take (length bytes - sought) (drop sought bytes) ≡ drop sought bytes = take_all (length bytes - sought) (drop sought bytes)
+      (omega (arith, size)) in
       let end : sought + (length bytes - sought) ≡ length bytes = omega (arith, within) in
       let P : ℕ → Type 0 = λ n. IsSought bytes from n in
       subst P end (sought_on (length bytes - sought) (omega (arith, end)) (All-same (λ b. b ≢ line_feed) _ _ rest free))

@@ -79,7 +79,8 @@ impl Chain {
         self.digest = Some(digest_of_parts(self.last(), stamp, command));
     }
 
-    /// Puts a line with this stamp and this command behind what the buffer has, where there is room. It takes no memory.
+    /// Puts a line with this stamp and this command behind what the buffer has, where there is room. It takes no
+    /// memory.
     pub fn put(&mut self, buffer: &mut Vec<u8>, stamp: &[u8], command: &[u8])
         requires { vec_len buffer.old + (length stamp.now + length command.now + AROUND) ≤ vec_capacity buffer.old }
         ensures grows { let r : Recorded = record { stamp = stamp.now; command = command.now } in
@@ -98,7 +99,8 @@ impl Chain {
         self.digest = Some(digest);
     }
 
-    /// The same, where there may be no room yet. Want of memory is the only error, and changes neither bytes nor digest.
+    /// The same, where there may be no room yet. Want of memory is the only error, and changes neither bytes nor
+    /// digest.
     pub fn append(
         &mut self,
         buffer: &mut Vec<u8>,

@@ -1,4 +1,5 @@
-//! Laws of the text of a journal file and of its reading, as functions whose contracts state them. Their bodies are empty.
+//! Laws of the text of a journal file and of its reading, as functions whose contracts state them. Their bodies are
+//! empty.
 ghost use Rattle.std.specs.Prelude.{◌≡◌, ◌≢◌, ◌⊎◌, ℕ, ◌≤◌, ◌++◌, List, [], ◌∷◌, All, length, take, drop};
 ghost use Rattle.tsn_recorded.specs.declared.end.End.{End as AnyEnd};
 ghost use Rattle.tsn_recorded.specs.declared.end.End.TheVariants.{Damaged};
@@ -15,8 +16,8 @@ pub fn fits()
     ensures recorded { (last : List ℕ) (rs : List Recorded) → AreRecordedAfter last rs → All IsRecorded rs }
 {}
 
-/// Bytes read in one way only: the recorded commands, the rest behind them, and which end that is. Whatever lines verify
-/// at their front are a front of those that are read, which so are the most that do.
+/// Bytes read in one way only: the recorded commands, the rest behind them, and which end that is. Whatever lines
+/// verify at their front are a front of those that are read, which so are the most that do.
 pub fn one_reading()
     ensures recorded { (last bytes : List ℕ) (rs others : List Recorded) (rest other : List ℕ) →
         Reads last bytes rs rest → Reads last bytes others other → (rs ≡ others) × (rest ≡ other) }
@@ -32,9 +33,9 @@ pub fn reads_back()
     ensures { (last : List ℕ) (rs : List Recorded) → AreRecordedAfter last rs → Reads last (text_after last rs) rs [] }
 {}
 
-/// A text cut after any byte reads, by whoever reads it, as the lines that lie whole in it, which are a front of all; what
-/// is left behind them has no line feed, so the end is whole or unfinished and never damaged. More bytes with no line feed
-/// behind the cut, as zero bytes are, change nothing of it.
+/// A text cut after any byte reads, by whoever reads it, as the lines that lie whole in it, which are a front of all;
+/// what is left behind them has no line feed, so the end is whole or unfinished and never damaged. More bytes with no
+/// line feed behind the cut, as zero bytes are, change nothing of it.
 pub fn reads_cut()
     ensures reads { (last : List ℕ) (rs : List Recorded) (n : ℕ) → AreRecordedAfter last rs →
         (rest : List ℕ) × Reads last (take n (text_after last rs)) (recorded_within last n rs) rest
@@ -60,7 +61,8 @@ pub fn appends()
         AreRecordedAfter (last_digest last rs) more → AreRecordedAfter last (rs ++ more) }
 {}
 
-/// What is cut off behind the verified lines of any bytes is gone, and what is recorded there reads back whole with them.
+/// What is cut off behind the verified lines of any bytes is gone, and what is recorded there reads back whole with
+/// them.
 pub fn continues()
     ensures { (bytes : List ℕ) (rs more : List Recorded) (n : ℕ) →
         Reads [] bytes rs (drop n bytes) → AreRecordedAfter (last_digest [] rs) more →
@@ -68,8 +70,8 @@ pub fn continues()
 {}
 
 /// What the digests show, unless two texts are at hand that have one digest. A line that lost, gained or changed what
-/// stands ahead of it does not verify; nor does a digest with another line's text; and the last digest with the number of
-/// lines stands for all of them.
+/// stands ahead of it does not verify; nor does a digest with another line's text; and the last digest with the number
+/// of lines stands for all of them.
 pub fn chain()
     ensures place { (last other : List ℕ) (r : Recorded) → text_of last r ≡ text_of other r → (last ≡ other) ⊎ Collision }
     ensures recorded { (last : List ℕ) (r q : Recorded) → IsRecorded r → IsRecorded q →

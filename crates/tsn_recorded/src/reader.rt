@@ -156,8 +156,8 @@ impl Reader {
         Ok(())
     }
 
-    /// Goes on to the next line, where all of it was fed and it verifies; false where there is none. Either way the line
-    /// before is no longer at hand.
+    /// Goes on to the next line, where all of it was fed and it verifies; false where there is none. Either way the
+    /// line before is no longer at hand.
     pub fn advance(&mut self) -> bool
         ensures given { (fed : List ℕ) (rs : List Recorded) → HasGiven fed rs self.old →
             OnTrue result (HasGiven fed (rs ++ self.new.latest ∷ []) self.new) }

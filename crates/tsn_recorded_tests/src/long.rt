@@ -1,4 +1,5 @@
-//! The longest line, one that is a byte longer, and a long rest with no line feed. Digests are those of Python's `hashlib`.
+//! The longest line, one that is a byte longer, and a long rest with no line feed. Digests are those of Python's
+//! `hashlib`.
 use crate::comparing::same;
 use crate::reading::{FILE, advance_all, read};
 use std::alloc::{AllocError, Global};

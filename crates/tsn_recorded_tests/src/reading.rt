@@ -15,7 +15,8 @@ pub fn advance_all(reader: &mut Reader) {
     'lines: while reader.advance() {}
 }
 
-/// How many lines a file gives that is fed in pieces of so many bytes, 1 or more; how many bytes these are; and its end.
+/// How many lines a file gives that is fed in pieces of so many bytes, 1 or more; how many bytes these are; and its
+/// end.
 pub fn read(alloc: Global, text: &[u8], size: usize) -> Result<(u64, u64, End), AllocError>
     requires { 0 < size }
 {

@@ -18,16 +18,20 @@ items_of_values (v ∷ vs) = ap (λ ds. view v ∷ ds) (items_of_values vs)
 pub first : {A : Type 0} (xs : List A) (i : ℕ) (x : A) → i < length xs → x ≡ get_or xs i x → drop i xs ≡ x ∷ drop (i + 1) xs
 first xs i x h e = rw add-one (drop-cons xs i x h ∙ ap (λ y. y ∷ drop (suc i) xs) (sym e))
 
-front_moves : {B : Type 0} (front : List B) (y : B) (rest : Result (List B) Unread) → with_front front (rest >>= λ ys. Ok (y ∷ ys)) ≡ with_front (front ++ y ∷ []) rest
+front_moves : {B : Type 0} (front : List B) (y : B) (rest : Result (List B) Unread)
+    → with_front front (rest >>= λ ys. Ok (y ∷ ys)) ≡ with_front (front ++ y ∷ []) rest
 front_moves front y (Ok ys) = ap (λ l. Ok l) (sym (append_assoc front (y ∷ []) ys))
 front_moves front y (Err e) = refl
 
 -- one entry more is read
-pub reads_on : {A B : Type 0} (f : A → Result B Unread) (front : List B) (x : A) (xs : List A) (y : B) → f x ≡ Ok y → with_front (front ++ y ∷ []) (each f xs) ≡ with_front front (each f (x ∷ xs))
-reads_on f front x xs y is = sym (front_moves front y (each f xs)) ∙ ap (λ r. with_front front (r >>= λ z. each f xs >>= λ zs. Ok (z ∷ zs))) (sym is)
+pub reads_on : {A B : Type 0} (f : A → Result B Unread) (front : List B) (x : A) (xs : List A) (y : B) → f x ≡ Ok y
+    → with_front (front ++ y ∷ []) (each f xs) ≡ with_front front (each f (x ∷ xs))
+reads_on f front x xs y is =
+    sym (front_moves front y (each f xs)) ∙ ap (λ r. with_front front (r >>= λ z. each f xs >>= λ zs. Ok (z ∷ zs))) (sym is)
 
 -- an entry is faulty
-pub stops : {A B : Type 0} (f : A → Result B Unread) (front : List B) (x : A) (xs : List A) (e : Unread) → f x ≡ Err e → with_front front (each f (x ∷ xs)) ≡ Err e
+pub stops : {A B : Type 0} (f : A → Result B Unread) (front : List B) (x : A) (xs : List A) (e : Unread) → f x ≡ Err e
+    → with_front front (each f (x ∷ xs)) ≡ Err e
 stops f front x xs e is = ap (λ r. with_front front (r >>= λ z. each f xs >>= λ zs. Ok (z ∷ zs))) is
 
 -- nothing is left to read

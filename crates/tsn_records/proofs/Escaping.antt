@@ -18,7 +18,8 @@ escape_digits (d ∷ ds) h =
     let bounds = and_parts _ _ digit.0 in
     let low : 48 ≤ d = leb-true _ _ bounds.0 in
     let high : d ≤ 57 = leb-true _ _ bounds.1 in
-    ap (λ l. l ++ escape ds) (escape_byte_plain d (λ e. omega arith) (λ e. omega arith) (omega arith)) ∙ ap (λ l. d ∷ l) (escape_digits ds digit.1)
+    ap (λ l. l ++ escape ds) (escape_byte_plain d (λ e. omega arith) (λ e. omega arith) (omega arith))
+    ∙ ap (λ l. d ∷ l) (escape_digits ds digit.1)
 
 escape_decimal : (n : ℕ) → n < 2 ^ 64 → escape (decimal n) ≡ decimal n
 escape_decimal n small = escape_digits (decimal n) (digits_decimal own n small)

@@ -38,16 +38,35 @@ abbrev pub schedule_draft : {D E : Type 0} → (E → D) → Schedule E → Sche
 schedule_draft draft s = record { list = map draft s.list; cycle = s.cycle; extension = s.extension; base = s.base }
 
 abbrev pub port_draft : PortGates → PortDraft
-port_draft r = record { gates = r.gates; admin = record { list = map port_entry_draft r.admin.list; cycle = r.admin.cycle; extension = r.admin.extension; base = r.admin.base } }
+port_draft r = record {
+  gates = r.gates;
+  admin = record { list = map port_entry_draft r.admin.list; cycle = r.admin.cycle; extension = r.admin.extension; base = r.admin.base };
+}
 
 abbrev pub gate_draft : StreamGate → GateDraft
-gate_draft r = record { is_open = r.is_open; ipv = r.ipv; admin = record { list = map gate_entry_draft r.admin.list; cycle = r.admin.cycle; extension = r.admin.extension; base = r.admin.base }; invalid_rx = r.invalid_rx; octets_exceeded = r.octets_exceeded }
+gate_draft r = record {
+  is_open = r.is_open;
+  ipv = r.ipv;
+  admin = record { list = map gate_entry_draft r.admin.list; cycle = r.admin.cycle; extension = r.admin.extension; base = r.admin.base };
+  invalid_rx = r.invalid_rx;
+  octets_exceeded = r.octets_exceeded;
+}
 
 abbrev pub filter_draft : StreamFilter → FilterDraft
-filter_draft r = record { handle = r.handle; priority = r.priority; gate = r.gate; max_sdu = r.max_sdu; meter = r.meter; oversize = r.oversize }
+filter_draft r =
+    record { handle = r.handle; priority = r.priority; gate = r.gate; max_sdu = r.max_sdu; meter = r.meter; oversize = r.oversize }
 
 abbrev pub meter_draft : FlowMeter → MeterDraft
-meter_draft r = record { cir = r.cir; cbs = r.cbs; eir = r.eir; ebs = r.ebs; cf = r.cf; aware = r.aware; drop_yellow = r.drop_yellow; all_red = r.all_red }
+meter_draft r = record {
+  cir = r.cir;
+  cbs = r.cbs;
+  eir = r.eir;
+  ebs = r.ebs;
+  cf = r.cf;
+  aware = r.aware;
+  drop_yellow = r.drop_yellow;
+  all_red = r.all_red;
+}
 
 -- ---- numbers that pass
 
@@ -61,12 +80,14 @@ passed field least most n m h =
     let parts = and_parts _ _ test.0 in
     (test.1, subst (Within least most) test.1 (leb-true _ _ parts.0, leb-true _ _ parts.1))
 
-passed_or_none : (field : Field) (least most : ℕ) (o p : Option ℕ) → within_or_none field least most o ≡ Ok p → (o ≡ p) × IfSome p (Within least most)
+passed_or_none : (field : Field) (least most : ℕ) (o p : Option ℕ) → within_or_none field least most o ≡ Ok p
+    → (o ≡ p) × IfSome p (Within least most)
 passed_or_none field least most None p h = subst (λ q. (None ≡ q) × IfSome q (Within least most)) (only (Ok None) None p refl h) (refl, tt)
 passed_or_none field least most (Some n) p h =
     steps (within field least most n) _ p h (λ number number_is number_next.
     let known = passed field least most n number number_is in
-    subst (λ q. (Some n ≡ q) × IfSome q (Within least most)) (only (Ok (Some number)) (Some number) p refl number_next) (rw known.0, known.1))
+    subst (λ q. (Some n ≡ q) × IfSome q (Within least most)) (only (Ok (Some number)) (Some number) p refl number_next)
+    (rw known.0, known.1))
 
 pub at_most : (field : Field) (most n m : ℕ) → within field 0 most n ≡ Ok m → (n ≡ m) × (m ≤ most)
 at_most field most n m h = let known = passed field 0 most n m h in (known.0, known.1.1)
@@ -88,7 +109,8 @@ port_entry_passed d e h =
     let found : PortEntry = record { gates = gates; interval = interval } in
     let g = at_most fields.List greatest_gate_states d.gates gates gates_is in
     let i = passed fields.List 1 longest_interval d.interval interval interval_is in
-    subst (λ x. (d ≡ port_entry_draft x) × PortEntryInRange x) (only (Ok found) found e refl interval_next) (rw (← g.0, ← i.0), record { gates = g.1; interval = i.1 })))
+    subst (λ x. (d ≡ port_entry_draft x) × PortEntryInRange x) (only (Ok found) found e refl interval_next)
+    (rw (← g.0, ← i.0), record { gates = g.1; interval = i.1 })))
 
 gate_entry_passed : (d : GateEntryDraft) (e : GateEntry) → gate_entry d ≡ Ok e → (d ≡ gate_entry_draft e) × GateEntryInRange e
 unfolding gate_entry
@@ -100,20 +122,26 @@ gate_entry_passed d e h =
     let v = at_most_or_none fields.List greatest_priority d.ipv ipv ipv_is in
     let i = passed fields.List 1 longest_interval d.interval interval interval_is in
     let o = at_most_or_none fields.List most_octets d.octets octets octets_is in
-    subst (λ x. (d ≡ gate_entry_draft x) × GateEntryInRange x) (only (Ok found) found e refl octets_next) (rw (← v.0, ← i.0, ← o.0), record { ipv = v.1; interval = i.1; octets = o.1 }))))
+    subst (λ x. (d ≡ gate_entry_draft x) × GateEntryInRange x) (only (Ok found) found e refl octets_next)
+    (rw (← v.0, ← i.0, ← o.0), record { ipv = v.1; interval = i.1; octets = o.1 }))))
 
-each_passed : {D E : Type 0} (range : D → Result E Unread) (draft : E → D) (P : E → Type 0) → ((d : D) (e : E) → range d ≡ Ok e → (d ≡ draft e) × P e) → (ds : List D) (es : List E) → each range ds ≡ Ok es → (ds ≡ map draft es) × AllByRecursion P es
+each_passed : {D E : Type 0} (range : D → Result E Unread) (draft : E → D) (P : E → Type 0)
+    → ((d : D) (e : E) → range d ≡ Ok e → (d ≡ draft e) × P e) → (ds : List D) (es : List E) → each range ds ≡ Ok es
+    → (ds ≡ map draft es) × AllByRecursion P es
 each_passed range draft P one [] es h = subst (λ l. ([] ≡ map draft l) × AllByRecursion P l) (only (Ok []) [] es refl h) (refl, tt)
 each_passed range draft P one (d ∷ ds) es h =
     steps (range d) _ es h (λ first first_is first_next.
     steps (each range ds) _ es first_next (λ rest rest_is rest_next.
     let here = one d first first_is in
     let later = each_passed range draft P one ds rest rest_is in
-    subst (λ l. ((d ∷ ds) ≡ map draft l) × AllByRecursion P l) (only (Ok (first ∷ rest)) (first ∷ rest) es refl rest_next) (ap₂ ◌∷◌ here.0 later.0, (here.1, later.1))))
+    subst (λ l. ((d ∷ ds) ≡ map draft l) × AllByRecursion P l) (only (Ok (first ∷ rest)) (first ∷ rest) es refl rest_next)
+    (ap₂ ◌∷◌ here.0 later.0, (here.1, later.1))))
 
 -- ---- records that pass
 
-schedule_passed : {D E : Type 0} (range : D → Result E Unread) (draft : E → D) (P : E → Type 0) → ((d : D) (e : E) → range d ≡ Ok e → (d ≡ draft e) × P e) → (d : ScheduleDraft D) (s : Schedule E) → schedule range d ≡ Ok s → (d ≡ schedule_draft draft s) × ScheduleInRange P s
+schedule_passed : {D E : Type 0} (range : D → Result E Unread) (draft : E → D) (P : E → Type 0)
+    → ((d : D) (e : E) → range d ≡ Ok e → (d ≡ draft e) × P e) → (d : ScheduleDraft D) (s : Schedule E) → schedule range d ≡ Ok s
+    → (d ≡ schedule_draft draft s) × ScheduleInRange P s
 unfolding schedule
 schedule_passed {D} {E} range draft P one d s h =
     steps (each range d.list) _ s h (λ list list_is list_next.
@@ -125,7 +153,8 @@ schedule_passed {D} {E} range draft P one d s h =
     let c = passed fields.Cycle 1 longest_cycle d.cycle cycle cycle_is in
     let x = at_most fields.Extension longest_extension d.extension extension extension_is in
     let b = at_most fields.Base greatest_instant d.base base base_is in
-    subst (λ y. (d ≡ schedule_draft draft y) × ScheduleInRange P y) (only (Ok found) found s refl base_next) (rw (← l.0, ← c.0, ← x.0, ← b.0), record { list = l.1; cycle = c.1; extension = x.1; base = b.1 })))))
+    subst (λ y. (d ≡ schedule_draft draft y) × ScheduleInRange P y) (only (Ok found) found s refl base_next)
+    (rw (← l.0, ← c.0, ← x.0, ← b.0), record { list = l.1; cycle = c.1; extension = x.1; base = b.1 })))))
 
 pub port_passed : (d : PortDraft) (r : PortGates) → port d ≡ Ok r → (d ≡ port_draft r) × PortInRange r
 unfolding port
@@ -135,17 +164,20 @@ port_passed d r h =
     let found : PortGates = record { gates = gates; admin = admin } in
     let g = at_most fields.Gates greatest_gate_states d.gates gates gates_is in
     let a = schedule_passed port_entry port_entry_draft PortEntryInRange port_entry_passed d.admin admin admin_is in
-    subst (λ x. (d ≡ port_draft x) × PortInRange x) (only (Ok found) found r refl admin_next) (rw (← g.0, ← a.0), record { gates = g.1; admin = a.1 })))
+    subst (λ x. (d ≡ port_draft x) × PortInRange x) (only (Ok found) found r refl admin_next)
+    (rw (← g.0, ← a.0), record { gates = g.1; admin = a.1 })))
 
 pub gate_passed : (d : GateDraft) (r : StreamGate) → gate d ≡ Ok r → (d ≡ gate_draft r) × GateInRange r
 unfolding gate
 gate_passed d r h =
     steps (within_or_none fields.Ipv 0 greatest_priority d.ipv) _ r h (λ ipv ipv_is ipv_next.
     steps (schedule gate_entry d.admin) _ r ipv_next (λ admin admin_is admin_next.
-    let found : StreamGate = record { is_open = d.is_open; ipv = ipv; invalid_rx = d.invalid_rx; octets_exceeded = d.octets_exceeded; admin = admin } in
+    let found : StreamGate = record
+    { is_open = d.is_open; ipv = ipv; invalid_rx = d.invalid_rx; octets_exceeded = d.octets_exceeded; admin = admin } in
     let v = at_most_or_none fields.Ipv greatest_priority d.ipv ipv ipv_is in
     let a = schedule_passed gate_entry gate_entry_draft GateEntryInRange gate_entry_passed d.admin admin admin_is in
-    subst (λ x. (d ≡ gate_draft x) × GateInRange x) (only (Ok found) found r refl admin_next) (rw (← v.0, ← a.0), record { ipv = v.1; admin = a.1 })))
+    subst (λ x. (d ≡ gate_draft x) × GateInRange x) (only (Ok found) found r refl admin_next)
+    (rw (← v.0, ← a.0), record { ipv = v.1; admin = a.1 })))
 
 pub filter_passed : (d : FilterDraft) (r : StreamFilter) → filter d ≡ Ok r → (d ≡ filter_draft r) × FilterInRange r
 unfolding filter
@@ -155,7 +187,8 @@ filter_passed d r h =
     steps (within fields.Gate 0 greatest_instance d.gate) _ r priority_next (λ gate gate_is gate_next.
     steps (within_or_none fields.MaxSdu 1 greatest_max_sdu d.max_sdu) _ r gate_next (λ max_sdu max_sdu_is max_sdu_next.
     steps (within_or_none fields.Meter 0 greatest_instance d.meter) _ r max_sdu_next (λ meter meter_is meter_next.
-    let found : StreamFilter = record { handle = handle; priority = priority; gate = gate; max_sdu = max_sdu; meter = meter; oversize = d.oversize } in
+    let found : StreamFilter = record
+    { handle = handle; priority = priority; gate = gate; max_sdu = max_sdu; meter = meter; oversize = d.oversize } in
     let a = at_most_or_none fields.Handle greatest_handle d.handle handle handle_is in
     let b = at_most_or_none fields.Priority greatest_priority d.priority priority priority_is in
     let c = at_most fields.Gate greatest_instance d.gate gate gate_is in
@@ -171,12 +204,22 @@ meter_passed d r h =
     steps (within fields.Cbs 0 most_octets d.cbs) _ r cir_next (λ cbs cbs_is cbs_next.
     steps (within fields.Eir 0 greatest_bit_rate d.eir) _ r cbs_next (λ eir eir_is eir_next.
     steps (within fields.Ebs 0 most_octets d.ebs) _ r eir_next (λ ebs ebs_is ebs_next.
-    let found : FlowMeter = record { cir = cir; cbs = cbs; eir = eir; ebs = ebs; cf = d.cf; aware = d.aware; drop_yellow = d.drop_yellow; all_red = d.all_red } in
+    let found : FlowMeter = record {
+      cir = cir;
+      cbs = cbs;
+      eir = eir;
+      ebs = ebs;
+      cf = d.cf;
+      aware = d.aware;
+      drop_yellow = d.drop_yellow;
+      all_red = d.all_red;
+    } in
     let a = at_most fields.Cir greatest_bit_rate d.cir cir cir_is in
     let b = at_most fields.Cbs most_octets d.cbs cbs cbs_is in
     let c = at_most fields.Eir greatest_bit_rate d.eir eir eir_is in
     let e = at_most fields.Ebs most_octets d.ebs ebs ebs_is in
-    subst (λ x. (d ≡ meter_draft x) × MeterInRange x) (only (Ok found) found r refl ebs_next) (rw (← a.0, ← b.0, ← c.0, ← e.0), record { cir = a.1; cbs = b.1; eir = c.1; ebs = e.1 })
+    subst (λ x. (d ≡ meter_draft x) × MeterInRange x) (only (Ok found) found r refl ebs_next)
+    (rw (← a.0, ← b.0, ← c.0, ← e.0), record { cir = a.1; cbs = b.1; eir = c.1; ebs = e.1 })
     ))))
 
 -- ---- records in range pass
@@ -184,7 +227,8 @@ meter_passed d r h =
 pub within_ok : (field : Field) (least most n : ℕ) → Within least most n → within field least most n ≡ Ok n
 within_ok field least most n fits = rw (le-leb least n fits.0, le-leb n most fits.1) refl
 
-within_or_none_ok : (field : Field) (least most : ℕ) (o : Option ℕ) → IfSome o (Within least most) → within_or_none field least most o ≡ Ok o
+within_or_none_ok : (field : Field) (least most : ℕ) (o : Option ℕ) → IfSome o (Within least most)
+    → within_or_none field least most o ≡ Ok o
 within_or_none_ok field least most None fits = refl
 within_or_none_ok field least most (Some n) fits = rw (within_ok field least most n fits) refl
 
@@ -196,30 +240,59 @@ at_most_or_none_ok field most None fits = refl
 at_most_or_none_ok field most (Some n) fits = rw (at_most_ok field most n fits) refl
 
 -- entry by entry
-entries_back : {A B : Type 0} (P : A → Type 0) (f : B → Result A Unread) (draft : A → B) → ((x : A) → P x → f (draft x) ≡ Ok x) → (xs : List A) → AllByRecursion P xs → each f (map draft xs) ≡ Ok xs
+entries_back : {A B : Type 0} (P : A → Type 0) (f : B → Result A Unread) (draft : A → B) → ((x : A) → P x → f (draft x) ≡ Ok x)
+    → (xs : List A) → AllByRecursion P xs → each f (map draft xs) ≡ Ok xs
 entries_back P f draft one [] fits = refl
 entries_back P f draft one (x ∷ xs) fits = rw (one x fits.0, entries_back P f draft one xs fits.1) refl
 
 port_entry_back : (e : PortEntry) → PortEntryInRange e → port_entry (port_entry_draft e) ≡ Ok e
 unfolding port_entry
-port_entry_back e fits = rw (at_most_ok _ greatest_gate_states e.gates fits.gates, within_ok _ 1 longest_interval e.interval fits.interval) refl
+port_entry_back e fits =
+    rw (at_most_ok _ greatest_gate_states e.gates fits.gates, within_ok _ 1 longest_interval e.interval fits.interval) refl
 
 gate_entry_back : (e : GateEntry) → GateEntryInRange e → gate_entry (gate_entry_draft e) ≡ Ok e
 unfolding gate_entry
-gate_entry_back e fits = rw (at_most_or_none_ok _ greatest_priority e.ipv fits.ipv, within_ok _ 1 longest_interval e.interval fits.interval, at_most_or_none_ok _ most_octets e.octets fits.octets) refl
+gate_entry_back e fits = rw (
+  at_most_or_none_ok _ greatest_priority e.ipv fits.ipv,
+  within_ok _ 1 longest_interval e.interval fits.interval,
+  at_most_or_none_ok _ most_octets e.octets fits.octets,
+) refl
 
 pub port_back : (r : PortGates) → PortInRange r → port (port_draft r) ≡ Ok r
 unfolding port schedule
-port_back r fits = rw (at_most_ok _ greatest_gate_states r.gates fits.gates, entries_back PortEntryInRange port_entry port_entry_draft port_entry_back r.admin.list fits.admin.list, within_ok _ 1 longest_cycle r.admin.cycle fits.admin.cycle, at_most_ok _ longest_extension r.admin.extension fits.admin.extension, at_most_ok _ greatest_instant r.admin.base fits.admin.base) refl
+port_back r fits = rw (
+  at_most_ok _ greatest_gate_states r.gates fits.gates,
+  entries_back PortEntryInRange port_entry port_entry_draft port_entry_back r.admin.list fits.admin.list,
+  within_ok _ 1 longest_cycle r.admin.cycle fits.admin.cycle,
+  at_most_ok _ longest_extension r.admin.extension fits.admin.extension,
+  at_most_ok _ greatest_instant r.admin.base fits.admin.base,
+) refl
 
 pub gate_back : (r : StreamGate) → GateInRange r → gate (gate_draft r) ≡ Ok r
 unfolding gate schedule
-gate_back r fits = rw (at_most_or_none_ok _ greatest_priority r.ipv fits.ipv, entries_back GateEntryInRange gate_entry gate_entry_draft gate_entry_back r.admin.list fits.admin.list, within_ok _ 1 longest_cycle r.admin.cycle fits.admin.cycle, at_most_ok _ longest_extension r.admin.extension fits.admin.extension, at_most_ok _ greatest_instant r.admin.base fits.admin.base) refl
+gate_back r fits = rw (
+  at_most_or_none_ok _ greatest_priority r.ipv fits.ipv,
+  entries_back GateEntryInRange gate_entry gate_entry_draft gate_entry_back r.admin.list fits.admin.list,
+  within_ok _ 1 longest_cycle r.admin.cycle fits.admin.cycle,
+  at_most_ok _ longest_extension r.admin.extension fits.admin.extension,
+  at_most_ok _ greatest_instant r.admin.base fits.admin.base,
+) refl
 
 pub filter_back : (r : StreamFilter) → FilterInRange r → filter (filter_draft r) ≡ Ok r
 unfolding filter
-filter_back r fits = rw (at_most_or_none_ok _ greatest_handle r.handle fits.handle, at_most_or_none_ok _ greatest_priority r.priority fits.priority, at_most_ok _ greatest_instance r.gate fits.gate, within_or_none_ok _ 1 greatest_max_sdu r.max_sdu fits.max_sdu, at_most_or_none_ok _ greatest_instance r.meter fits.meter) refl
+filter_back r fits = rw (
+  at_most_or_none_ok _ greatest_handle r.handle fits.handle,
+  at_most_or_none_ok _ greatest_priority r.priority fits.priority,
+  at_most_ok _ greatest_instance r.gate fits.gate,
+  within_or_none_ok _ 1 greatest_max_sdu r.max_sdu fits.max_sdu,
+  at_most_or_none_ok _ greatest_instance r.meter fits.meter,
+) refl
 
 pub meter_back : (r : FlowMeter) → MeterInRange r → meter (meter_draft r) ≡ Ok r
 unfolding meter
-meter_back r fits = rw (at_most_ok _ greatest_bit_rate r.cir fits.cir, at_most_ok _ most_octets r.cbs fits.cbs, at_most_ok _ greatest_bit_rate r.eir fits.eir, at_most_ok _ most_octets r.ebs fits.ebs) refl
+meter_back r fits = rw (
+  at_most_ok _ greatest_bit_rate r.cir fits.cir,
+  at_most_ok _ most_octets r.cbs fits.cbs,
+  at_most_ok _ greatest_bit_rate r.eir fits.eir,
+  at_most_ok _ most_octets r.ebs fits.ebs,
+) refl

@@ -79,7 +79,8 @@ port_entry_has look d x h =
     steps (look.number (look.part 0 (codes "gates") d)) _ x only_next (λ gates gates_is gates_next.
     steps (look.number (look.part 1 (codes "interval") d)) _ x gates_next (λ interval interval_is interval_next.
     let found : PortEntryDraft = record { gates = gates; interval = interval } in
-    subst (PortEntryHas look d) (one (Ok found) found x refl interval_next) (record { only = only_is; gates = gates_is; interval = interval_is }))))
+    subst (PortEntryHas look d) (one (Ok found) found x refl interval_next)
+    (record { only = only_is; gates = gates_is; interval = interval_is }))))
 
 pub gate_entry_has : {D : Type 0} (look : Look D) (d : D) (x : GateEntryDraft) → gate_entry_shape look d ≡ Ok x → GateEntryHas look d x
 unfolding gate_entry_shape
@@ -90,9 +91,11 @@ gate_entry_has look d x h =
     steps (look.number (look.part 2 (codes "interval") d)) _ x ipv_next (λ interval interval_is interval_next.
     steps (look.number_or_none (look.part 3 (codes "octets") d)) _ x interval_next (λ octets octets_is octets_next.
     let found : GateEntryDraft = record { is_open = is_open; ipv = ipv; interval = interval; octets = octets } in
-    subst (GateEntryHas look d) (one (Ok found) found x refl octets_next) (record { only = only_is; is_open = is_open_is; ipv = ipv_is; interval = interval_is; octets = octets_is }))))))
+    subst (GateEntryHas look d) (one (Ok found) found x refl octets_next)
+    (record { only = only_is; is_open = is_open_is; ipv = ipv_is; interval = interval_is; octets = octets_is }))))))
 
-pub schedule_has : {D E : Type 0} (look : Look D) (entry : D → Result E Unread) (d : D) (x : ScheduleDraft E) → schedule_shape look entry d ≡ Ok x → ScheduleHas look entry d x
+pub schedule_has : {D E : Type 0} (look : Look D) (entry : D → Result E Unread) (d : D) (x : ScheduleDraft E)
+    → schedule_shape look entry d ≡ Ok x → ScheduleHas look entry d x
 unfolding schedule_shape list_shape
 schedule_has {D} {E} look entry d x h =
     steps (list_shape look entry d) _ x h (λ list list_is list_next.
@@ -122,8 +125,22 @@ gate_has look d x h =
     steps (schedule_shape look (gate_entry_shape look) d) _ x ipv_next (λ admin admin_is admin_next.
     steps (look.flag (look.at (codes "invalid_rx") d)) _ x admin_next (λ invalid_rx invalid_rx_is invalid_rx_next.
     steps (look.flag (look.at (codes "octets_exceeded") d)) _ x invalid_rx_next (λ octets_exceeded octets_exceeded_is octets_exceeded_next.
-    let found : GateDraft = record { is_open = is_open; ipv = ipv; admin = admin; invalid_rx = invalid_rx; octets_exceeded = octets_exceeded } in
-    subst (GateHas look d) (one (Ok found) found x refl octets_exceeded_next) (record { only = only_is; is_open = is_open_is; ipv = ipv_is; admin = admin_is; invalid_rx = invalid_rx_is; octets_exceeded = octets_exceeded_is })))))))
+    let found : GateDraft = record {
+      is_open = is_open;
+      ipv = ipv;
+      admin = admin;
+      invalid_rx = invalid_rx;
+      octets_exceeded = octets_exceeded;
+    } in
+    subst (GateHas look d) (one (Ok found) found x refl octets_exceeded_next)
+    (record {
+      only = only_is;
+      is_open = is_open_is;
+      ipv = ipv_is;
+      admin = admin_is;
+      invalid_rx = invalid_rx_is;
+      octets_exceeded = octets_exceeded_is;
+    })))))))
 
 pub filter_has : {D : Type 0} (look : Look D) (d : D) (x : FilterDraft) → filter_shape look d ≡ Ok x → FilterHas look d x
 unfolding filter_shape
@@ -135,8 +152,18 @@ filter_has look d x h =
     steps (look.number_or_none (look.at (codes "max_sdu") d)) _ x gate_next (λ max_sdu max_sdu_is max_sdu_next.
     steps (look.number_or_none (look.at (codes "meter") d)) _ x max_sdu_next (λ meter meter_is meter_next.
     steps (look.flag (look.at (codes "oversize") d)) _ x meter_next (λ oversize oversize_is oversize_next.
-    let found : FilterDraft = record { handle = handle; priority = priority; gate = gate; max_sdu = max_sdu; meter = meter; oversize = oversize } in
-    subst (FilterHas look d) (one (Ok found) found x refl oversize_next) (record { only = only_is; handle = handle_is; priority = priority_is; gate = gate_is; max_sdu = max_sdu_is; meter = meter_is; oversize = oversize_is }))))))))
+    let found : FilterDraft = record
+    { handle = handle; priority = priority; gate = gate; max_sdu = max_sdu; meter = meter; oversize = oversize } in
+    subst (FilterHas look d) (one (Ok found) found x refl oversize_next)
+    (record {
+      only = only_is;
+      handle = handle_is;
+      priority = priority_is;
+      gate = gate_is;
+      max_sdu = max_sdu_is;
+      meter = meter_is;
+      oversize = oversize_is;
+    }))))))))
 
 pub meter_has : {D : Type 0} (look : Look D) (d : D) (x : MeterDraft) → meter_shape look d ≡ Ok x → MeterHas look d x
 unfolding meter_shape
@@ -150,8 +177,20 @@ meter_has look d x h =
     steps (look.flag (look.at (codes "aware") d)) _ x cf_next (λ aware aware_is aware_next.
     steps (look.flag (look.at (codes "drop_yellow") d)) _ x aware_next (λ drop_yellow drop_yellow_is drop_yellow_next.
     steps (look.flag (look.at (codes "all_red") d)) _ x drop_yellow_next (λ all_red all_red_is all_red_next.
-    let found : MeterDraft = record { cir = cir; cbs = cbs; eir = eir; ebs = ebs; cf = cf; aware = aware; drop_yellow = drop_yellow; all_red = all_red } in
-    subst (MeterHas look d) (one (Ok found) found x refl all_red_next) (record { only = only_is; cir = cir_is; cbs = cbs_is; eir = eir_is; ebs = ebs_is; cf = cf_is; aware = aware_is; drop_yellow = drop_yellow_is; all_red = all_red_is }))))))))))
+    let found : MeterDraft = record
+    { cir = cir; cbs = cbs; eir = eir; ebs = ebs; cf = cf; aware = aware; drop_yellow = drop_yellow; all_red = all_red } in
+    subst (MeterHas look d) (one (Ok found) found x refl all_red_next)
+    (record {
+      only = only_is;
+      cir = cir_is;
+      cbs = cbs_is;
+      eir = eir_is;
+      ebs = ebs_is;
+      cf = cf_is;
+      aware = aware_is;
+      drop_yellow = drop_yellow_is;
+      all_red = all_red_is;
+    }))))))))))
 
 -- ---- a value that has it
 
@@ -163,7 +202,8 @@ pub gate_entry_of : {D : Type 0} (look : Look D) (d : D) (x : GateEntryDraft) �
 unfolding gate_entry_shape
 gate_entry_of look d x has = rw (has.only, has.is_open, has.ipv, has.interval, has.octets)
 
-pub schedule_of : {D E : Type 0} (look : Look D) (entry : D → Result E Unread) (d : D) (x : ScheduleDraft E) → ScheduleHas look entry d x → schedule_shape look entry d ≡ Ok x
+pub schedule_of : {D E : Type 0} (look : Look D) (entry : D → Result E Unread) (d : D) (x : ScheduleDraft E) → ScheduleHas look entry d x
+    → schedule_shape look entry d ≡ Ok x
 unfolding schedule_shape list_shape
 schedule_of look entry d x has = rw (has.items, has.list, has.cycle, has.extension, has.base)
 

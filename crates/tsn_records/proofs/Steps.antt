@@ -8,7 +8,8 @@ pub then : {A B : Type 0} (x : Result A Unread) (f : A → Result B Unread) (a :
 then x f a y first next = ap (λ r. r >>= f) first ∙ next
 
 -- where two steps have an answer, the first has one
-pub steps : {A B P : Type 0} (x : Result A Unread) (f : A → Result B Unread) (b : B) → (x >>= f) ≡ Ok b → ((a : A) → x ≡ Ok a → f a ≡ Ok b → P) → P
+pub steps : {A B P : Type 0} (x : Result A Unread) (f : A → Result B Unread) (b : B) → (x >>= f) ≡ Ok b
+    → ((a : A) → x ≡ Ok a → f a ≡ Ok b → P) → P
 steps (Ok a) f b h next = next a refl h
 steps (Err e) f b h next = cc
 

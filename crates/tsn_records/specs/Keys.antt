@@ -12,7 +12,8 @@ use Rattle.tsn_records.specs.declared.drafts.KeyDraft.{KeyDraft}
 
 -- one to ten decimal digits, with no 0 before another digit
 abbrev pub is_decimal : List ℕ → Bool
-is_decimal ds = list_all is_ascii_digit ds && (nat_lt 0 (length ds) && (nat_le (length ds) 10 && (length ds == 1 || not (slice_index ds 0 == 48))))
+is_decimal ds =
+    list_all is_ascii_digit ds && (nat_lt 0 (length ds) && (nat_le (length ds) 10 && (length ds == 1 || not (slice_index ds 0 == 48))))
 
 -- the number that such digits spell
 abbrev pub decimal_of : List ℕ → Option ℕ

@@ -87,7 +87,8 @@ filter_data r = filter_object r.gate r.handle r.max_sdu r.meter r.oversize r.pri
 
 abbrev pub gate_data : StreamGate → Data
 gate_data r =
-    gate_object r.admin.base r.admin.cycle r.admin.extension r.invalid_rx r.ipv (list_array gate_entry_data r.admin.list) r.octets_exceeded r.is_open
+    gate_object r.admin.base r.admin.cycle r.admin.extension r.invalid_rx r.ipv (list_array gate_entry_data r.admin.list) r.octets_exceeded
+    r.is_open
 
 abbrev pub meter_data : FlowMeter → Data
 meter_data r = meter_object r.all_red r.aware r.cbs r.cf r.cir r.drop_yellow r.ebs r.eir

@@ -1,7 +1,7 @@
 //! The members of a setup, of its tables and of records, and what each may be.
 //!
-//! A table of a setup has the members of its record, and its identifier ahead of them. An entry of a list that is an array
-//! has its members in this order.
+//! A table of a setup has the members of its record, and its identifier ahead of them. An entry of a list that is an
+//! array has its members in this order.
 ghost use Rattle.std.specs.Prelude.{◌≡◌, map};
 ghost use Rattle.tsn_records.specs.Keys.{kind_text};
 ghost use Rattle.tsn_records.specs.Members.{names_of, entry_names_of};

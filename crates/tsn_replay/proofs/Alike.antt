@@ -58,9 +58,11 @@ module _ (s : State) (time : ℕ) (frames : FrameData) where
       (λ r. record { same = refl; times = inl (refl, refl) }) reply after step
 
   -- a hello, by the session that goes by its name, if there is one
-  greeted : (name : Option (List ℕ)) (o : Option ℕ) (reply : Reply) (after : State) → Allows (hello_as s name o) s reply after → IsCarried s t (hello_as t name o) reply after
+  greeted : (name : Option (List ℕ)) (o : Option ℕ) (reply : Reply) (after : State) → Allows (hello_as s name o) s reply after
+      → IsCarried s t (hello_as t name o) reply after
   greeted name None reply after step =
-      once (new_session s name) (new_session t name) _ _ _ refl refl refl (λ m. m) (record { same = refl; times = inl (refl, refl) }) reply after step
+      once (new_session s name) (new_session t name) _ _ _ refl refl refl (λ m. m) (record { same = refl; times = inl (refl, refl) }) reply
+      after step
   greeted name (Some m) reply after step = looked (known_look m) reply after step
 
   -- each family whose answer follows from what lasts

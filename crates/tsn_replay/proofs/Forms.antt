@@ -66,7 +66,8 @@ module _ (line : Ask → List ℕ) (most : ℕ) (ask : Ask) (reply : Reply) (ran
   of_ask = recorded (record { ask = ask; reply = reply })
 
   -- what is not recorded leaves the text
-  unrecorded : (old new : Recording) → Handles line most old.bridge ask reply new.bridge → new.text ≡ old.text → of_ask ≡ None → Records line most old ask reply new
+  unrecorded : (old new : Recording) → Handles line most old.bridge ask reply new.bridge → new.text ≡ old.text → of_ask ≡ None
+      → Records line most old ask reply new
   unrecorded old new handles same none = record {
     ranges = ranges;
     handles = handles;
@@ -85,12 +86,17 @@ module _ (line : Ask → List ℕ) (most : ℕ) (ask : Ask) (reply : Reply) (ran
       ap (λ b. recorded_by reply b (kept ask.session ask.command (instant_told reply))) accepted
       ∙ ap (recorded_by reply true) (kept_told s ask.session reply after ask.command accepted step ∙ none)
 
-  pub passing_records : (old new : Recording) → kept_of old.bridge ask ≡ None → Answers old.bridge ask reply new.bridge → new.text ≡ old.text → Records line most old ask reply new
-  passing_records old new none step same = unrecorded old new (inl step) same (passing_none old.bridge new.bridge none step (may_change reply) refl)
+  pub passing_records : (old new : Recording) → kept_of old.bridge ask ≡ None → Answers old.bridge ask reply new.bridge
+      → new.text ≡ old.text → Records line most old ask reply new
+  passing_records old new none step same =
+      unrecorded old new (inl step) same (passing_none old.bridge new.bridge none step (may_change reply) refl)
 
   module _ (a : Ask) (old new : Recording) (is : kept_of old.bridge ask ≡ Some a) where
-    by_kept : (b : Bool) → may_change reply ≡ b → Answers old.bridge a reply new.bridge → new.text ≡ cond b (old.text ++ line a ++ line_feed ∷ []) old.text → IsOneLine (line a) → length (line a) ≤ most → Records line most old ask reply new
-    by_kept false refused step text one within = unrecorded old new (inl (same_step old.bridge ask.session reply new.bridge ask.command a is step)) text (refused_none refused)
+    by_kept : (b : Bool) → may_change reply ≡ b → Answers old.bridge a reply new.bridge
+        → new.text ≡ cond b (old.text ++ line a ++ line_feed ∷ []) old.text → IsOneLine (line a) → length (line a) ≤ most
+        → Records line most old ask reply new
+    by_kept false refused step text one within =
+        unrecorded old new (inl (same_step old.bridge ask.session reply new.bridge ask.command a is step)) text (refused_none refused)
     by_kept true accepted step text one within =
         let there = same_step old.bridge ask.session reply new.bridge ask.command a is step in
         let some : of_ask ≡ Some (with_reply reply a) =
@@ -103,22 +109,36 @@ module _ (line : Ask → List ℕ) (most : ℕ) (ask : Ask) (reply : Reply) (ran
           has_line = subst (HasLine line most) (sym some) (one, within);
         }
 
-    refused_by_kept : Handles line most old.bridge ask reply new.bridge → (why : Refusal) → reply ≡ Refused why → new ≡ old → Records line most old ask reply new
-    refused_by_kept handles why refused same = unrecorded old new handles (ap (λ (x : Recording). x.text) same) (refused_none (ap may_change refused))
+    refused_by_kept : Handles line most old.bridge ask reply new.bridge → (why : Refusal) → reply ≡ Refused why → new ≡ old
+        → Records line most old ask reply new
+    refused_by_kept handles why refused same =
+        unrecorded old new handles (ap (λ (x : Recording). x.text) same) (refused_none (ap may_change refused))
 
     left : new ≡ old → new.bridge ≡ old.bridge
     left same = ap (λ (x : Recording). x.bridge) same
 
-    wanting_handles : (why : Refusal) → reply ≡ Refused why → IsWithoutMemory old.bridge a why → new ≡ old → Handles line most old.bridge ask reply new.bridge
+    wanting_handles : (why : Refusal) → reply ≡ Refused why → IsWithoutMemory old.bridge a why → new ≡ old
+        → Handles line most old.bridge ask reply new.bridge
     wanting_handles why refused (inl step) same =
-        inl (same_step old.bridge ask.session reply new.bridge ask.command a is (subst (λ (x : State). Answers old.bridge a reply x) (sym (left same)) (subst (λ (r : Reply). Answers old.bridge a r old.bridge) (sym refused) step)))
+        inl (same_step old.bridge ask.session reply new.bridge ask.command a is
+        (subst (λ (x : State). Answers old.bridge a reply x) (sym (left same))
+        (subst (λ (r : Reply). Answers old.bridge a r old.bridge) (sym refused) step)))
     wanting_handles why refused (inr hello) same =
-        inr (inl (record { name = hello.name; hello = hello_of ask.session ask.command (counted old.bridge ask.command) a hello.name is hello.hello; free = hello.free; refused = refused ∙ hello.refused; same = left same }))
+        inr (inl (record {
+          name = hello.name;
+          hello = hello_of ask.session ask.command (counted old.bridge ask.command) a hello.name is hello.hello;
+          free = hello.free;
+          refused = refused ∙ hello.refused;
+          same = left same;
+        }))
 
     pub kept_records : Keeps line most old a reply new → Records line most old ask reply new
     kept_records (inl made) = by_kept (may_change reply) refl made.step made.grows made.one_line made.within
-    kept_records (inr (inl long)) = refused_by_kept (inr (inr (record { to_keep = a; is = is; over = long.over; refused = long.refused; same = left long.same }))) TooLong long.refused long.same
-    kept_records (inr (inr want)) = refused_by_kept (wanting_handles want.why want.refused want.wanting want.same) want.why want.refused want.same
+    kept_records (inr (inl long)) =
+        refused_by_kept (inr (inr (record { to_keep = a; is = is; over = long.over; refused = long.refused; same = left long.same })))
+        TooLong long.refused long.same
+    kept_records (inr (inr want)) =
+        refused_by_kept (wanting_handles want.why want.refused want.wanting want.same) want.why want.refused want.same
 
 -- ---- one recorded command replayed
 
@@ -133,5 +153,6 @@ no_rest (Refused why) refused known = absurd (refused why refl)
 no_rest (Known n) refused known = absurd (known n refl)
 no_rest reply refused known = refl
 
-pub one_replayed : (s : State) (a : Ask) (reply : Reply) (new : State) → Answers s a reply new → is_accepted reply ≡ true → Replays s (a ∷ []) new
+pub one_replayed : (s : State) (a : Ask) (reply : Reply) (new : State) → Answers s a reply new → is_accepted reply ≡ true
+    → Replays s (a ∷ []) new
 one_replayed s a reply new step accepted = (reply, new, step, accepted, refl)

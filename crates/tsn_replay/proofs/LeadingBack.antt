@@ -36,7 +36,8 @@ never_both reply why accepted refused = let never : true ≡ false = sym accepte
 abbrev pub IsOneWay : State → Reply → State → Reply → State → Type 0
 IsOneWay s reply after other left = ((other ≡ reply) × (left ≡ after)) ⊎ ((other ≡ Refused Memory) × (left ≡ s))
 
-one_at : (o : Option Refusal) (rule : Rule) (s : State) (reply : Reply) (after : State) (other : Reply) (left : State) → is_accepted reply ≡ true → AllowsAt o rule s reply after → AllowsAt o rule s other left → IsOneWay s reply after other left
+one_at : (o : Option Refusal) (rule : Rule) (s : State) (reply : Reply) (after : State) (other : Reply) (left : State)
+    → is_accepted reply ≡ true → AllowsAt o rule s reply after → AllowsAt o rule s other left → IsOneWay s reply after other left
 one_at None rule s reply after other left accepted (inl done) (inl also) =
     let same = done_of _ _ (sym also ∙ done) in inl (ap (λ (p : Reply × State). p.0) same, ap (λ (p : Reply × State). p.1) same)
 one_at None rule s reply after other left accepted (inl done) (inr memory) = inr (memory.1, memory.2)
@@ -59,27 +60,38 @@ earlier early late (Counting look) le h = h
 earlier early late f le h = tt
 
 is_beside : (s t : State) → lasting t ≡ lasting s → t ≡ beside s t.time t.frames
-is_beside s t same i = record { book = (same i).ledger; sessions = (same i).sessions; names = (same i).names; time = t.time; frames = t.frames }
+is_beside s t same i =
+    record { book = (same i).ledger; sessions = (same i).sessions; names = (same i).names; time = t.time; frames = t.frames }
 
 module _ (s again : State) (h : Resumes s again) where
-  in_time : (after there : State) → ((after.time ≡ s.time) × (there.time ≡ again.time)) ⊎ (there.time ≡ after.time) → there.time ≤ after.time
+  in_time : (after there : State) → ((after.time ≡ s.time) × (there.time ≡ again.time)) ⊎ (there.time ≡ after.time)
+      → there.time ≤ after.time
   in_time after there (inl kept) = omega (arith, kept.0, kept.1, h.time)
   in_time after there (inr one) = omega (arith, one)
 
-  out_of_time : (after there : State) → ((there.time ≡ again.time) × (after.time ≡ s.time)) ⊎ (after.time ≡ there.time) → there.time ≤ after.time
+  out_of_time : (after there : State) → ((there.time ≡ again.time) × (after.time ≡ s.time)) ⊎ (after.time ≡ there.time)
+      → there.time ≤ after.time
   out_of_time after there (inl kept) = omega (arith, kept.0, kept.1, h.time)
   out_of_time after there (inr one) = omega (arith, one)
 
-  pub forth : (n : ℕ) (command : Command) (reply : Reply) (after : State) → IsFromLasting s.time command → Step s n command reply after → (there : State) × Step again n command reply there × Resumes after there
+  pub forth : (n : ℕ) (command : Command) (reply : Reply) (after : State) → IsFromLasting s.time command → Step s n command reply after
+      → (there : State) × Step again n command reply there × Resumes after there
   forth n command reply after from step =
       let c = each_alike s again.time again.frames n command reply after from (earlier again.time s.time (family command) h.time from)
-      step in
-      (c.0, subst (λ (x : State). Step x n command reply c.0) (sym (is_beside s again h.same)) c.1, record { same = c.2.same; time = in_time after c.0 c.2.times })
+      step in (
+        c.0,
+        subst (λ (x : State). Step x n command reply c.0) (sym (is_beside s again h.same)) c.1,
+        record { same = c.2.same; time = in_time after c.0 c.2.times },
+      )
 
-  back : (n : ℕ) (command : Command) (reply : Reply) (there : State) → IsFromLasting s.time command → Step again n command reply there → (after : State) × Step s n command reply after × Resumes after there
+  back : (n : ℕ) (command : Command) (reply : Reply) (there : State) → IsFromLasting s.time command → Step again n command reply there
+      → (after : State) × Step s n command reply after × Resumes after there
   back n command reply there from step =
-      let c = each_alike again s.time s.frames n command reply there (earlier again.time s.time (family command) h.time from) from step in
-      (c.0, subst (λ (x : State). Step x n command reply c.0) (sym (is_beside again s (sym h.same))) c.1, record { same = sym c.2.same; time = out_of_time c.0 there c.2.times })
+      let c = each_alike again s.time s.frames n command reply there (earlier again.time s.time (family command) h.time from) from step in (
+        c.0,
+        subst (λ (x : State). Step x n command reply c.0) (sym (is_beside again s (sym h.same))) c.1,
+        record { same = sym c.2.same; time = out_of_time c.0 there c.2.times },
+      )
 
   pub alike : AnswerAlike s again
   alike = record { forth = forth; back = back }
@@ -111,26 +123,31 @@ module _ (turn : Turn) (within : AreWithin turn) where
   each_turned s t between step = told_within s t between (within s t.ask t.reply between step)
 
   pub reaches : (ts : List Answered) (s again now : State) → Resumes s again → Comes turn s ts now → Reaches again (all_recorded ts) now
-  reaches [] s again now h same = record { reached = again; leads = refl; are = tt; resumes = subst (λ (x : State). Resumes x again) (sym same) h; exact = λ e. e }
-  reaches (t ∷ ts) s again now h (between, step, rest) = elim (each_turned s t between step) as (λ _. Reaches again (all_recorded (t ∷ ts)) now) [
-    | inl passing ↦
-        let on : Resumes between again = record { same = h.same ∙ sym passing.same; time = omega (arith, h.time, passing.time) } in
-        subst (λ (o : Option Answered). Reaches again (cons_option o (all_recorded ts)) now) (sym passing.nothing) (reaches ts between again now on rest)
-    | inr kept ↦
-        let one = forth s again h kept.ask.session kept.ask.command t.reply between kept.from kept.step in
-        let more = reaches ts between one.0 now one.2 rest in
-        subst (λ (o : Option Answered). Reaches again (cons_option o (all_recorded ts)) now) (sym kept.is) (record {
-          reached = more.reached;
-          leads = (one.0, one.1, more.leads);
-          are = ((kept.accepted, kept.fixed), more.are);
-          resumes = more.resumes;
-          exact = λ e. more.exact (keeps_exact again kept.ask.session t.reply one.0 e kept.ask.command (with_reply t.reply kept.ask) kept.accepted kept.fixed one.1);
-        })
-  ]
+  reaches [] s again now h same =
+      record { reached = again; leads = refl; are = tt; resumes = subst (λ (x : State). Resumes x again) (sym same) h; exact = λ e. e }
+  reaches (t ∷ ts) s again now h (between, step, rest) =
+      elim (each_turned s t between step) as (λ _. Reaches again (all_recorded (t ∷ ts)) now) [
+        | inl passing ↦
+            let on : Resumes between again = record { same = h.same ∙ sym passing.same; time = omega (arith, h.time, passing.time) } in
+            subst (λ (o : Option Answered). Reaches again (cons_option o (all_recorded ts)) now) (sym passing.nothing)
+            (reaches ts between again now on rest)
+        | inr kept ↦
+            let one = forth s again h kept.ask.session kept.ask.command t.reply between kept.from kept.step in
+            let more = reaches ts between one.0 now one.2 rest in
+            subst (λ (o : Option Answered). Reaches again (cons_option o (all_recorded ts)) now) (sym kept.is) (record {
+              reached = more.reached;
+              leads = (one.0, one.1, more.leads);
+              are = ((kept.accepted, kept.fixed), more.are);
+              resumes = more.resumes;
+              exact = λ e. more.exact (keeps_exact again kept.ask.session t.reply one.0 e kept.ask.command (with_reply t.reply kept.ask)
+                  kept.accepted kept.fixed one.1);
+            })
+      ]
 
 pub replays_of : (front : List Answered) (s reached : State) → AreRecorded front → Leads s front reached → Replays s (asks_of front) reached
 replays_of [] s reached accepted same = same
-replays_of (t ∷ ts) s reached accepted (between, step, on) = (t.reply, between, step, accepts t.reply accepted.0.0, replays_of ts between reached accepted.1 on)
+replays_of (t ∷ ts) s reached accepted (between, step, on) =
+    (t.reply, between, step, accepts t.reply accepted.0.0, replays_of ts between reached accepted.1 on)
 
 -- two replays of the same come to the same state
 pub same_replay : (asks : List Ask) (s one other : State) → Replays s asks one → Replays s asks other → other ≡ one
@@ -142,18 +159,22 @@ same_replay (a ∷ rest) s one other (reply, between, step, accepted, on) (told,
     ]
 
 -- a replay of two parts is one of the first, and then one of the second
-pub in_parts : (done rest : List Ask) (s now : State) → Replays s (done ++ rest) now → (mid : State) × Replays s done mid × Replays mid rest now
+pub in_parts : (done rest : List Ask) (s now : State) → Replays s (done ++ rest) now
+    → (mid : State) × Replays s done mid × Replays mid rest now
 in_parts [] rest s now h = (s, refl, h)
 in_parts (a ∷ done) rest s now (reply, between, step, accepted, on) =
     let more = in_parts done rest between now on in (more.0, (reply, between, step, accepted, more.1), more.2)
 
-goes_on : (start reached : State) (all : List Ask) → Replays start all reached → (done : List Ask) (a : Ask) (rest : List Ask) (between new : State) (reply : Reply)
-    → all ≡ done ++ a ∷ rest → Replays start done between → Answers between a reply new → (is_accepted reply ≡ true) ⊎ ((reply ≡ Refused Memory) × (new ≡ between))
+goes_on : (start reached : State) (all : List Ask) → Replays start all reached
+    → (done : List Ask) (a : Ask) (rest : List Ask) (between new : State) (reply : Reply)
+    → all ≡ done ++ a ∷ rest → Replays start done between → Answers between a reply new
+    → (is_accepted reply ≡ true) ⊎ ((reply ≡ Refused Memory) × (new ≡ between))
 goes_on start reached all replays done a rest between new reply is so_far step =
     let parts = in_parts done (a ∷ rest) start reached (subst (λ (xs : List Ask). Replays start xs reached) is replays) in
     let here : parts.0 ≡ between = same_replay done start between parts.0 so_far parts.1 in
     let next : Replays between (a ∷ rest) reached = subst (λ (x : State). Replays x (a ∷ rest) reached) here parts.2 in
-    elim (one_way between a.session next.0 next.1 reply new next.3 a.command next.2 step) as (λ _. (is_accepted reply ≡ true) ⊎ ((reply ≡ Refused Memory) × (new ≡ between))) [
+    elim (one_way between a.session next.0 next.1 reply new next.3 a.command next.2 step) as
+    (λ _. (is_accepted reply ≡ true) ⊎ ((reply ≡ Refused Memory) × (new ≡ between))) [
       | inl same ↦ inl (ap is_accepted same.0 ∙ next.3)
       | inr memory ↦ inr memory
     ]
@@ -168,7 +189,8 @@ leads_back start front moment r =
       resumes = r.resumes;
       alike = alike moment r.reached r.resumes;
       only = λ other also. same_replay (asks_of front) start r.reached other replays also;
-      goes_on = λ done a rest between new reply is so_far step. goes_on start r.reached (asks_of front) replays done a rest between new reply is so_far step;
+      goes_on = λ done a rest between new reply is so_far step. goes_on start r.reached (asks_of front) replays done a rest between new
+          reply is so_far step;
       time = r.exact;
     }
 
@@ -187,15 +209,26 @@ front_of [] (f ∷ front) rest is = (cc)
 front_of (t ∷ ts) (f ∷ front) rest is = by_option (recorded t)
     (λ none.
     let r = front_of ts (f ∷ front) rest (sym (ap (λ (o : Option Answered). cons_option o (all_recorded ts)) none) ∙ is) in
-    record { before = t ∷ r.before; after = r.after; split = ap (λ (xs : List Answered). t ∷ xs) r.split; recorded_then = ap (λ (o : Option Answered). cons_option o (all_recorded r.before)) none ∙ r.recorded_then })
+    record {
+      before = t ∷ r.before;
+      after = r.after;
+      split = ap (λ (xs : List Answered). t ∷ xs) r.split;
+      recorded_then = ap (λ (o : Option Answered). cons_option o (all_recorded r.before)) none ∙ r.recorded_then;
+    })
     (λ a some.
     let both : a ∷ all_recorded ts ≡ f ∷ (front ++ rest) = sym (ap (λ (o : Option Answered). cons_option o (all_recorded ts)) some) ∙ is in
     let first : a ≡ f = (cc) in
     let others : all_recorded ts ≡ front ++ rest = (cc) in
     let r = front_of ts front rest others in
-    record { before = t ∷ r.before; after = r.after; split = ap (λ (xs : List Answered). t ∷ xs) r.split; recorded_then = ap (λ (o : Option Answered). cons_option o (all_recorded r.before)) some ∙ (λ i. first i ∷ r.recorded_then i) })
+    record {
+      before = t ∷ r.before;
+      after = r.after;
+      split = ap (λ (xs : List Answered). t ∷ xs) r.split;
+      recorded_then = ap (λ (o : Option Answered). cons_option o (all_recorded r.before)) some ∙ (λ i. first i ∷ r.recorded_then i);
+    })
 
-come_in_parts : (turn : Turn) (before after : List Answered) (s now : State) → Comes turn s (before ++ after) now → (moment : State) × Comes turn s before moment × Comes turn moment after now
+come_in_parts : (turn : Turn) (before after : List Answered) (s now : State) → Comes turn s (before ++ after) now
+    → (moment : State) × Comes turn s before moment × Comes turn moment after now
 come_in_parts turn [] after s now h = (s, refl, h)
 come_in_parts turn (t ∷ before) after s now (between, step, on) =
     let more = come_in_parts turn before after between now on in (more.0, (between, step, more.1), more.2)
@@ -203,7 +236,8 @@ come_in_parts turn (t ∷ before) after s now (between, step, on) =
 pub itself : (s : State) → Resumes s s
 itself s = record { same = refl; time = omega arith }
 
-pub replayed : (turn : Turn) → AreWithin turn → (start : State) (asks : List Answered) (now : State) → Comes turn start asks now → IsReplayed turn start asks now
+pub replayed : (turn : Turn) → AreWithin turn → (start : State) (asks : List Answered) (now : State) → Comes turn start asks now
+    → IsReplayed turn start asks now
 replayed turn within start asks now comes = record {
   whole = leads_back start (all_recorded asks) now (reaches turn within asks start start now (itself start) comes);
   fronts = λ front rest is.
@@ -217,7 +251,9 @@ replayed turn within start asks now comes = record {
         moment = parts.0;
         led = parts.1;
         leads_on = parts.2;
-        back = leads_back start front parts.0 (subst (λ (xs : List Answered). Reaches start xs parts.0) f.recorded_then (reaches turn within f.before start start parts.0 (itself start) parts.1));
+        back = leads_back start front parts.0
+            (subst (λ (xs : List Answered). Reaches start xs parts.0)
+            f.recorded_then (reaches turn within f.before start start parts.0 (itself start) parts.1));
       };
 }
 
@@ -228,7 +264,8 @@ comes_of (t ∷ ts) s now (between, step, on) = (between, step, comes_of ts betw
 
 -- ---- over many starts
 
-pub joined : (front more : List Answered) (s between now : State) → Leads s front between → Leads between more now → Leads s (front ++ more) now
+pub joined : (front more : List Answered) (s between now : State) → Leads s front between → Leads between more now
+    → Leads s (front ++ more) now
 joined [] more s between now same on = subst (λ (x : State). Leads x more now) same on
 joined (t ∷ front) more s between now (next, step, rest) on = (next, step, joined front more next between now rest on)
 
@@ -237,7 +274,8 @@ both_records [] more h k = k
 both_records (t ∷ front) more h k = (h.0, both_records front more h.1 k)
 
 -- what is asked further, and recorded behind what stands in the file
-pub goes_further : (turn : Turn) → AreWithin turn → (start : State) (file : List Answered) (s : State) (asks : List Answered) (now : State) → Reaches start file s → Comes turn s asks now → Reaches start (file ++ all_recorded asks) now
+pub goes_further : (turn : Turn) → AreWithin turn → (start : State) (file : List Answered) (s : State) (asks : List Answered) (now : State)
+    → Reaches start file s → Comes turn s asks now → Reaches start (file ++ all_recorded asks) now
 goes_further turn within start file s asks now r comes =
     let more = reaches turn within asks s r.reached now r.resumes comes in
     record {
@@ -251,7 +289,8 @@ goes_further turn within start file s asks now r comes =
 -- a front of what leads there leads to one state
 led_in_parts : (front rest : List Answered) (s now : State) → Leads s (front ++ rest) now → (mid : State) × Leads s front mid
 led_in_parts [] rest s now h = (s, refl)
-led_in_parts (t ∷ front) rest s now (between, step, on) = let more = led_in_parts front rest between now on in (more.0, (between, step, more.1))
+led_in_parts (t ∷ front) rest s now (between, step, on) =
+    let more = led_in_parts front rest between now on in (more.0, (between, step, more.1))
 
 front_records : (front rest : List Answered) → AreRecorded (front ++ rest) → AreRecorded front
 front_records [] rest h = tt
@@ -263,7 +302,8 @@ each_exact (t ∷ front) s reached are (between, step, on) exact =
     each_exact front between reached are.1 on (keeps_exact s t.ask.session t.reply between exact t.ask.command t are.0.0 are.0.1 step)
 
 -- a start again with a front: it is where the file leads
-starts_again : (start : State) (all front rest : List Answered) (ended again : State) → Reaches start all ended → all ≡ front ++ rest → Replays start (asks_of front) again → Reaches start front again
+starts_again : (start : State) (all front rest : List Answered) (ended again : State) → Reaches start all ended → all ≡ front ++ rest
+    → Replays start (asks_of front) again → Reaches start front again
 starts_again start all front rest ended again r is replays =
     let led = led_in_parts front rest start r.reached (subst (λ (xs : List Answered). Leads start xs r.reached) is r.leads) in
     let accepted = front_records front rest (subst AreRecorded is r.are) in
@@ -276,32 +316,42 @@ starts_again start all front rest ended again r is replays =
       exact = λ e. subst IsExact same (each_exact front start led.0 accepted led.1 e);
     }
 
-pub over_lives : (turn : Turn) → AreWithin turn → (lives : List Life) (start s now : State) (file written : List Answered) → Reaches start file s → Lives turn start s file lives now written → Reaches start written now
-over_lives turn within [] start s now file written r h = subst (λ (x : State). Reaches start written x) (sym h.0) (subst (λ (xs : List Answered). Reaches start xs s) (sym h.1) r)
+pub over_lives : (turn : Turn) → AreWithin turn → (lives : List Life) (start s now : State) (file written : List Answered)
+    → Reaches start file s → Lives turn start s file lives now written → Reaches start written now
+over_lives turn within [] start s now file written r h =
+    subst (λ (x : State). Reaches start written x) (sym h.0) (subst (λ (xs : List Answered). Reaches start xs s) (sym h.1) r)
 over_lives turn within (life ∷ lives) start s now file written r (ended, comes, front, again, replays, on) =
-    over_lives turn within lives start again now life.stays written (starts_again start (file ++ all_recorded life.asks) life.stays front.0 ended again (goes_further turn within start file s life.asks ended r comes) front.1 replays) on
+    over_lives turn within lives start again now life.stays written
+    (starts_again start (file ++ all_recorded life.asks) life.stays front.0 ended again
+    (goes_further turn within start file s life.asks ended r comes) front.1 replays) on
 
-pub lived : (turn : Turn) → AreWithin turn → (lives : List Life) (start now : State) (written : List Answered) → Lives turn start start [] lives now written → LeadsBack start written now
+pub lived : (turn : Turn) → AreWithin turn → (lives : List Life) (start now : State) (written : List Answered)
+    → Lives turn start start [] lives now written → LeadsBack start written now
 lived turn within lives start now written h =
-    leads_back start written now (over_lives turn within lives start start now [] written (record { reached = start; leads = refl; are = tt; resumes = itself start; exact = λ e. e }) h)
+    leads_back start written now (over_lives turn within lives start start now [] written
+    (record { reached = start; leads = refl; are = tt; resumes = itself start; exact = λ e. e }) h)
 
 -- ---- a replay, step after step
 
 -- a replay goes on with another
-pub replays_on : (done rest : List Ask) (s between now : State) → Replays s done between → Replays between rest now → Replays s (done ++ rest) now
+pub replays_on : (done rest : List Ask) (s between now : State) → Replays s done between → Replays between rest now
+    → Replays s (done ++ rest) now
 replays_on [] rest s between now same on = subst (λ (x : State). Replays x rest now) same on
-replays_on (a ∷ done) rest s between now (reply, next, step, accepted, more) on = (reply, next, step, accepted, replays_on done rest next between now more on)
+replays_on (a ∷ done) rest s between now (reply, next, step, accepted, more) on =
+    (reply, next, step, accepted, replays_on done rest next between now more on)
 
 refused_by : (reply : Reply) (why : Refusal) → reply ≡ Refused why → (is_accepted reply ≡ true) ⊎ (reply ≡ Refused Memory) → why ≡ Memory
 refused_by reply why is (inl accepted) = absurd (never_both reply why accepted is)
 refused_by reply why is (inr memory) = let same : Refused why ≡ Refused Memory = sym is ∙ memory in (cc)
 
-either : (reply : Reply) (s new : State) → (is_accepted reply ≡ true) ⊎ ((reply ≡ Refused Memory) × (new ≡ s)) → (is_accepted reply ≡ true) ⊎ (reply ≡ Refused Memory)
+either : (reply : Reply) (s new : State) → (is_accepted reply ≡ true) ⊎ ((reply ≡ Refused Memory) × (new ≡ s))
+    → (is_accepted reply ≡ true) ⊎ (reply ≡ Refused Memory)
 either reply s new (inl accepted) = inl accepted
 either reply s new (inr memory) = inr memory.0
 
 -- of what was written only want of memory refuses any
-pub only_memory : (start now : State) (written : List Answered) → LeadsBack start written now → (done : List Ask) (a : Ask) (rest : List Ask) (between new : State) (why : Refusal)
+pub only_memory : (start now : State) (written : List Answered) → LeadsBack start written now
+    → (done : List Ask) (a : Ask) (rest : List Ask) (between new : State) (why : Refusal)
     → asks_of written ≡ done ++ a ∷ rest → Replays start done between → Answers between a (Refused why) new → why ≡ Memory
 only_memory start now written back done a rest between new why is so_far step =
     refused_by (Refused why) why refl (either (Refused why) between new (back.goes_on done a rest between new (Refused why) is so_far step))

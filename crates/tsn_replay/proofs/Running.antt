@@ -24,19 +24,22 @@ module _ (line : Ask → List ℕ) (most : ℕ) where
   handles_within = within_of
 
   -- but for these refusals, what was asked is asked of the machine
-  steps_alone : (asks : List Answered) (s now : State) → AreInRange asks → Comes (Handles line most) s asks now → (others : List Answered) × AreInRange others × Leads s others now
+  steps_alone : (asks : List Answered) (s now : State) → AreInRange asks → Comes (Handles line most) s asks now
+      → (others : List Answered) × AreInRange others × Leads s others now
   steps_alone [] s now ranges same = ([], tt, same)
-  steps_alone (t ∷ ts) s now ranges (between, turn, on) = elim (within_of s t.ask t.reply between turn) as (λ _. (others : List Answered) × AreInRange others × Leads s others now) [
-    | inl step ↦ (let more = steps_alone ts between now ranges.1 on in (t ∷ more.0, (ranges.0, more.1), (between, step, more.2)))
-    | inr still ↦ steps_alone ts s now ranges.1 (subst (λ (x : State). Comes (Handles line most) x ts now) still.same on)
-  ]
+  steps_alone (t ∷ ts) s now ranges (between, turn, on) =
+      elim (within_of s t.ask t.reply between turn) as (λ _. (others : List Answered) × AreInRange others × Leads s others now) [
+        | inl step ↦ (let more = steps_alone ts between now ranges.1 on in (t ∷ more.0, (ranges.0, more.1), (between, step, more.2)))
+        | inr still ↦ steps_alone ts s now ranges.1 (subst (λ (x : State). Comes (Handles line most) x ts now) still.same on)
+      ]
 
   one_more : (o : Option Answered) (ts : List Answered) → text_of line o ++ text_of_all line ts ≡ text_of_all line (cons_option o ts)
   one_more None ts = refl
   one_more (Some t) ts = refl
 
   -- what a turn puts behind the text is the line of the recorded command
-  added_is : (s : State) (t : Answered) (between : State) (added : List ℕ) → IsTurn line most s t between added → added ≡ text_of line (recorded t)
+  added_is : (s : State) (t : Answered) (between : State) (added : List ℕ) → IsTurn line most s t between added
+      → added ≡ text_of line (recorded t)
   added_is s t between added turn = append_cancel_left turn.before added (text_of line (recorded t)) turn.records.grows
 
   -- all that was asked is in range, is handled, and leaves just its lines
@@ -59,10 +62,13 @@ module _ (line : Ask → List ℕ) (most : ℕ) where
             ∙ one_more (recorded t) (all_recorded ts);
       }
 
-  pub recorder_back : (start : State) (asks : List Answered) (now : State) (told : List ℕ) → Runs line most start asks now told → (told ≡ text_of_all line (all_recorded asks)) × IsReplayed (Handles line most) start asks now
-  recorder_back start asks now told h = let r = has_run asks start now told h in (r.text, replayed (Handles line most) handles_within start asks now r.comes)
+  pub recorder_back : (start : State) (asks : List Answered) (now : State) (told : List ℕ) → Runs line most start asks now told
+      → (told ≡ text_of_all line (all_recorded asks)) × IsReplayed (Handles line most) start asks now
+  recorder_back start asks now told h =
+      let r = has_run asks start now told h in (r.text, replayed (Handles line most) handles_within start asks now r.comes)
 
-  pub stands_alone : (start : State) (asks : List Answered) (now : State) (told : List ℕ) → Runs line most start asks now told → (others : List Answered) × AreInRange others × Leads start others now
+  pub stands_alone : (start : State) (asks : List Answered) (now : State) (told : List ℕ) → Runs line most start asks now told
+      → (others : List Answered) × AreInRange others × Leads start others now
   stands_alone start asks now told h = let r = has_run asks start now told h in steps_alone asks start now r.ranges r.comes
 
 -- a step of the machine is one

@@ -37,7 +37,8 @@ pub record Recording : Type 0 where
   pub text : List ℕ
 
 abbrev pub recording_code : Coded Recording
-recording_code = code_by (State × List ℕ) (coded× state_code (coded_list coded_ℕ)) (λ r. (r.bridge, r.text)) (λ p. record { bridge = p.0; text = p.1 }) (λ _. refl)
+recording_code = code_by (State × List ℕ) (coded× state_code (coded_list coded_ℕ)) (λ r. (r.bridge, r.text))
+    (λ p. record { bridge = p.0; text = p.1 }) (λ _. refl)
 
 -- Recorded: the bridge does as a bridge with a recorder does; the text grows by exactly the line of the recorded command and a
 -- line feed, if there is one, and that line is as a line may be. The numbers of what was asked are in their ranges.

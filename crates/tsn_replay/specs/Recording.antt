@@ -59,7 +59,8 @@ kept_of s a = kept a.session a.command (counted s a.command)
 abbrev pub with_reply : Reply → Ask → Answered
 with_reply reply a = record { ask = a; reply = reply }
 
--- the recorded command, if there is one: of a hello that goes on as a session nothing is; the reply stands here for the theorems, and in no file
+-- the recorded command, if there is one: of a hello that goes on as a session nothing is; the reply stands here for the theorems, and in no
+-- file
 abbrev pub recorded : Answered → Option Answered
 recorded t = if may_change t.reply then option_map (with_reply t.reply) (kept t.ask.session t.ask.command (instant_told t.reply)) else None
 
@@ -71,6 +72,7 @@ all_recorded ts = filter_map recorded ts
 abbrev pub asks_of : List Answered → List Ask
 asks_of ts = map (λ t. t.ask) ts
 
--- recorded commands: each may have changed the state, and what is recorded of it is itself, so that a replay that records writes the same again
+-- recorded commands: each may have changed the state, and what is recorded of it is itself, so that a replay that records writes the same
+-- again
 abbrev pub AreRecorded : List Answered → Type 0
 AreRecorded ts = AllByRecursion (λ t. (may_change t.reply ≡ true) × (recorded t ≡ Some t)) ts

@@ -1,8 +1,9 @@
 //! The recorder: a bridge, and the text of what was recorded of what was asked of it.
 //!
-//! It is a machine, which a desk can serve: a turn is a step of the bridge, and puts the line of the recorded command behind the
-//! text, where the command was accepted and is of a kind that lasts. Memory for the line is taken before the bridge
-//! steps, so that nothing is refused behind the step. Whoever writes the text into a file reads it and takes it away.
+//! It is a machine, which a desk can serve: a turn is a step of the bridge, and puts the line of the recorded command
+//! behind the text, where the command was accepted and is of a kind that lasts. Memory for the line is taken before the
+//! bridge steps, so that nothing is refused behind the step. Whoever writes the text into a file reads it and takes it
+//! away.
 ghost use Rattle.std.specs.Prelude.{[], ◌≡◌, ◌∷◌, ◌++◌, ◌⊎◌, ◌<◌, ◌≤◌, IfErr, IsSome, List, OnErr, OnOk, length, ℕ};
 ghost use Rattle.tsn_types.specs.declared.refusals.Refusal.TheVariants.{Memory, TooLong};
 ghost use Rattle.tsn_bridge.specs.Acts.{instant};
@@ -38,8 +39,8 @@ pub trait Spell {
         ensures err { OnErr result (text.new.items ≡ text.old.items) };
 }
 
-/// What is asked of a bridge, as it is kept where it is of a kind that is recorded: a hello of no session, an act at the
-/// instant that counts.
+/// What is asked of a bridge, as it is kept where it is of a kind that is recorded: a hello of no session, an act at
+/// the instant that counts.
 #[derive(Drop)]
 pub enum Form {
     Kept(Ask),
@@ -97,8 +98,8 @@ impl<S: Spell> Recorder<S> {
         self.text.clear();
     }
 
-    /// A turn at what is kept of a command: its line is put behind the text, the bridge steps, and a line of a command that
-    /// was refused, or goes on as a session, is cut off again.
+    /// A turn at what is kept of a command: its line is put behind the text, the bridge steps, and a line of a command
+    /// that was refused, or goes on as a session, is cut off again.
     fn keep(&mut self, ask: Ask) -> Reply
         requires { IsSome (kept ask.session ask.command 0) }
         ensures { Keeps S.line S.MOST self.old ask result self.new }
@@ -116,9 +117,9 @@ impl<S: Spell> Recorder<S> {
     }
 }
 
-/// A turn is a step of the bridge, and puts just the line of the recorded command behind the text. Where there is no memory
-/// for the line, the answer is the command's cause, or 18 where it has none; a line that is too long is refused 1. Refused,
-/// nothing has changed.
+/// A turn is a step of the bridge, and puts just the line of the recorded command behind the text. Where there is no
+/// memory for the line, the answer is the command's cause, or 18 where it has none; a line that is too long is refused
+/// 1. Refused, nothing has changed.
 impl<S: Spell> Machine for Recorder<S> {
     type Request = Ask;
 
@@ -138,8 +139,8 @@ impl<S: Spell> Machine for Recorder<S> {
     }
 }
 
-/// Puts the line of what is kept behind the text, and a line feed. Refused 1 where the line is too long, and 18; the text
-/// is then as it was.
+/// Puts the line of what is kept behind the text, and a line feed. Refused 1 where the line is too long, and 18; the
+/// text is then as it was.
 fn put_line<S: Spell>(ask: &Ask, text: &mut Vec<u8>) -> Result<(), Refusal>
     ensures ok { OnOk result (text.new.items ≡ text.old.items ++ S.line ask.now ++ line_feed ∷ []) }
     ensures one_line { OnOk result (IsOneLine (S.line ask.now)) }
@@ -162,8 +163,8 @@ fn put_line<S: Spell>(ask: &Ask, text: &mut Vec<u8>) -> Result<(), Refusal>
     Ok(())
 }
 
-/// How a command is refused whose line could not be put: 1 where it is too long; where memory is wanting, by the command's
-/// cause, and 18 only where it has none.
+/// How a command is refused whose line could not be put: 1 where it is too long; where memory is wanting, by the
+/// command's cause, and 18 only where it has none.
 fn refuse_unwritten(bridge: &Bridge, ask: Ask, why: Refusal) -> Refusal
     requires { IsSome (kept ask.session ask.command 0) }
     ensures { IsUnwritten bridge.now ask why result }

@@ -19,7 +19,8 @@ byte_more bytes now piece at place room more so_far =
     let next : at + (place + 1) ≡ at + place + 1 = omega arith in
     rw (next, take_more_set now (at + place) (get_or piece place 0) room, so_far, take_more piece place 0 more, append_assoc)
 
-pub every_byte : (text bytes now piece given : List ℕ) (at place : ℕ) → take at bytes ≡ text → piece ≡ given → length piece ≤ place → place ≤ length piece
+pub every_byte : (text bytes now piece given : List ℕ) (at place : ℕ) → take at bytes ≡ text → piece ≡ given → length piece ≤ place
+    → place ≤ length piece
     → take (at + place) now ≡ take at bytes ++ take place piece
     → take (at + length piece) now ≡ text ++ given
 every_byte text bytes now piece given at place is same down up so_far =

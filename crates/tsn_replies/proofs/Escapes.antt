@@ -12,9 +12,11 @@ escape_joined [] ys = refl
 escape_joined (x ∷ xs) ys = ap (λ l. escape_byte x ++ l) (escape_joined xs ys) ∙ sym (append_assoc (escape_byte x) (escape xs) (escape ys))
 
 -- one byte more
-pub escape_more : (xs : List ℕ) (byte i d : ℕ) → i < length xs → byte ≡ get_or xs i d → escape (take (i + 1) xs) ≡ escape (take i xs) ++ escape_byte byte
+pub escape_more : (xs : List ℕ) (byte i d : ℕ) → i < length xs → byte ≡ get_or xs i d
+    → escape (take (i + 1) xs) ≡ escape (take i xs) ++ escape_byte byte
 escape_more xs byte i d within is =
-    ap escape (take_more xs i d within ∙ ap (λ x. take i xs ++ x ∷ []) (sym is)) ∙ escape_joined (take i xs) (byte ∷ []) ∙ ap (λ l. escape (take i xs) ++ l) (append-nil (escape_byte byte))
+    ap escape (take_more xs i d within ∙ ap (λ x. take i xs ++ x ∷ []) (sym is)) ∙ escape_joined (take i xs) (byte ∷ [])
+    ∙ ap (λ l. escape (take i xs) ++ l) (append-nil (escape_byte byte))
 
 -- what stands for a byte
 at_most_six : (a b : Bool) (x y z w : ℕ) → length (cond a (92 ∷ y ∷ []) (cond b (92 ∷ 117 ∷ 48 ∷ 48 ∷ z ∷ w ∷ []) (x ∷ []))) ≤ 6
@@ -55,11 +57,13 @@ name_short name h =
 -- what stands for a front is no longer than what stands for the whole
 pub front_short : (i : ℕ) (s : List ℕ) → length (escape (take i s)) ≤ length (escape s)
 front_short i s =
-    let whole : escape s ≡ escape (take i s) ++ escape (drop i s) = ap escape (sym (take-append-drop i s)) ∙ escape_joined (take i s) (drop i s) in
+    let whole : escape s ≡ escape (take i s) ++ escape (drop i s) = ap escape (sym (take-append-drop i s))
+    ∙ escape_joined (take i s) (drop i s) in
     omega (arith, ap length whole, length-append (escape (take i s)) (escape (drop i s)))
 
 -- what is held with a front of a name's bytes behind it
-pub held_short : (t0 t name bytes : List ℕ) (i : ℕ) → t ≡ t0 ++ escape (take i bytes) → bytes ≡ name → is_name name ≡ true → length t ≤ length t0 + 128
+pub held_short : (t0 t name bytes : List ℕ) (i : ℕ) → t ≡ t0 ++ escape (take i bytes) → bytes ≡ name → is_name name ≡ true
+    → length t ≤ length t0 + 128
 held_short t0 t name bytes i is same fits =
     let named : is_name bytes ≡ true = ap is_name same ∙ fits in
     omega (arith, ap length is, length-append t0 (escape (take i bytes)), front_short i bytes, name_short bytes named)

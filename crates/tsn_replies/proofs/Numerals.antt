@@ -66,7 +66,8 @@ two_bytes xs at n h room =
     let first = set xs at (48 + n / 10) in
     let size : length first ≡ length xs = length-set xs at (48 + n / 10) in
     let next : at + 2 ≡ at + 1 + 1 = omega arith in
-    rw (p.0, p.1, next) (two_pieces (take at xs) (take (at + 1) first) _ _ _ (take_more_set xs at _ (omega arith)) (take_more_set first (at + 1) _ (omega arith)))
+    rw (p.0, p.1, next) (two_pieces (take at xs) (take (at + 1) first) _ _ _ (take_more_set xs at _ (omega arith))
+    (take_more_set first (at + 1) _ (omega arith)))
 
 pub one_digit : (xs : List ℕ) (at n : ℕ) → n < 10 → at + 1 ≤ length xs → take (at + 1) (set xs at (48 + n)) ≡ take at xs ++ decimal n
 one_digit xs at n h room = rw (decimal_digit n h) (take_more_set xs at (48 + n) (omega arith))

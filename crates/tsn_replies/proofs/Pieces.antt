@@ -37,10 +37,12 @@ pub all_gone : (a b : Option (List ℕ)) (text held : List ℕ) → Appends a b 
 all_gone a b text held took e = (text, took, sym (ap (λ l. text ++ l) e ∙ append-nil text))
 
 -- a piece goes behind what is held
-pub held_more : (a b : Option (List ℕ)) (text held piece : List ℕ) → TakesFront a b text held → TakesFront a b (text ++ piece) (held ++ piece)
+pub held_more : (a b : Option (List ℕ)) (text held piece : List ℕ) → TakesFront a b text held
+    → TakesFront a b (text ++ piece) (held ++ piece)
 held_more a b text held piece h = (h.0, h.1, ap (λ l. l ++ piece) h.2 ∙ append_assoc h.0 held piece)
 
-pub goes_on : (a b c : Option (List ℕ)) (text held later : List ℕ) → TakesFront a b text held → TakesFront b c held later → TakesFront a c text later
+pub goes_on : (a b c : Option (List ℕ)) (text held later : List ℕ) → TakesFront a b text held → TakesFront b c held later
+    → TakesFront a c text later
 goes_on a b c text held later h k =
     (h.0 ++ k.0, Appends-trans a b c h.0 k.0 h.1 k.1, h.2 ∙ ap (λ l. h.0 ++ l) k.2 ∙ sym (append_assoc h.0 k.0 later))
 
@@ -56,9 +58,14 @@ pub cut_out : (a b c : Option (List ℕ)) (text held more : List ℕ) → TakesF
 cut_out a b c text held more h cut =
     let whole : text ++ more ≡ h.0 ++ (held ++ more) = ap (λ l. l ++ more) h.2 ∙ append_assoc h.0 held more in
     let front : take (length h.0 + cut.0) (text ++ more) ≡ h.0 ++ take cut.0 held =
-    ap (take (length h.0 + cut.0)) whole ∙ take-append-add h.0 (held ++ more) cut.0 ∙ ap (λ l. h.0 ++ l) (take_within held more cut.0 cut.1) in
-    let size : length (text ++ more) ≡ length h.0 + (length held + length more) = ap length whole ∙ length-append h.0 (held ++ more) ∙ ap (λ n. length h.0 + n) (length-append held more) in
-    (length h.0 + cut.0, omega (arith, size, cut.1), subst (λ l. Appends a c l) (sym front) (Appends-trans a b c h.0 (take cut.0 held) h.1 cut.2))
+    ap (take (length h.0 + cut.0)) whole ∙ take-append-add h.0 (held ++ more) cut.0
+    ∙ ap (λ l. h.0 ++ l) (take_within held more cut.0 cut.1) in
+    let size : length (text ++ more) ≡ length h.0 + (length held + length more) = ap length whole ∙ length-append h.0 (held ++ more)
+    ∙ ap (λ n. length h.0 + n) (length-append held more) in (
+      length h.0 + cut.0,
+      omega (arith, size, cut.1),
+      subst (λ l. Appends a c l) (sym front) (Appends-trans a b c h.0 (take cut.0 held) h.1 cut.2),
+    )
 
 -- ---- items
 
@@ -70,7 +77,8 @@ behind f (x ∷ xs) = 44 ∷ (compact_text (f x) ++ behind f xs)
 pub behind_more : {I : Type 0} (f : I → Data) (xs : List I) (x : I) → behind f (xs ++ x ∷ []) ≡ behind f xs ++ 44 ∷ compact_text (f x)
 unfolding behind
 behind_more f [] x = ap (λ l. 44 ∷ l) (append-nil (compact_text (f x)))
-behind_more f (y ∷ xs) x = ap (λ l. 44 ∷ (compact_text (f y) ++ l)) (behind_more f xs x) ∙ ap (λ l. 44 ∷ l) (sym (append_assoc (compact_text (f y)) (behind f xs) (44 ∷ compact_text (f x))))
+behind_more f (y ∷ xs) x = ap (λ l. 44 ∷ (compact_text (f y) ++ l)) (behind_more f xs x)
+    ∙ ap (λ l. 44 ∷ l) (sym (append_assoc (compact_text (f y)) (behind f xs) (44 ∷ compact_text (f x))))
 
 pub behind_none : {I : Type 0} (f : I → Data) → behind f [] ≡ []
 unfolding behind
@@ -79,7 +87,8 @@ behind_none f = refl
 pub behind_closed : {I : Type 0} (f : I → Data) (xs : List I) → items_text true (items_of (map f xs)) ≡ behind f xs ++ 93 ∷ []
 unfolding behind
 behind_closed f [] = refl
-behind_closed f (x ∷ xs) = ap (λ l. 44 ∷ (compact_text (f x) ++ l)) (behind_closed f xs) ∙ ap (λ l. 44 ∷ l) (sym (append_assoc (compact_text (f x)) (behind f xs) (93 ∷ [])))
+behind_closed f (x ∷ xs) = ap (λ l. 44 ∷ (compact_text (f x) ++ l)) (behind_closed f xs)
+    ∙ ap (λ l. 44 ∷ l) (sym (append_assoc (compact_text (f x)) (behind f xs) (93 ∷ [])))
 
 -- ---- keys
 
@@ -138,7 +147,10 @@ gate_pieces_of : (base cycle extension invalid_rx ipv t0 t1 t2 t3 t4 t5 t6 : Lis
     → t4 ≡ t3 ++ (codes ",\"invalid_rx\":" ++ invalid_rx)
     → t5 ≡ t4 ++ (codes ",\"ipv\":" ++ ipv)
     → t6 ≡ t5 ++ codes ",\"list\":["
-    → t6 ≡ t0 ++ (codes "{\"base\":" ++ (base ++ (codes ",\"cycle\":" ++ (cycle ++ (codes ",\"extension\":" ++ (extension ++ (codes ",\"invalid_rx\":" ++ (invalid_rx ++ (codes ",\"ipv\":" ++ (ipv ++ codes ",\"list\":["))))))))))
+    → t6 ≡ t0 ++ (codes "{\"base\":"
+    ++ (base ++ (codes ",\"cycle\":"
+    ++ (cycle ++ (codes ",\"extension\":"
+    ++ (extension ++ (codes ",\"invalid_rx\":" ++ (invalid_rx ++ (codes ",\"ipv\":" ++ (ipv ++ codes ",\"list\":["))))))))))
 gate_pieces_of base cycle extension invalid_rx ipv t0 t1 t2 t3 t4 t5 t6 e1 e2 e3 e4 e5 e6 = rw (e6, e5, e4, e3, e2, e1) (simp append_assoc)
 
 pub gate_pieces : (r : StreamGate) (t0 t1 t2 t3 t4 t5 t6 : List ℕ)
@@ -153,57 +165,87 @@ gate_pieces r t0 t1 t2 t3 t4 t5 t6 e1 e2 e3 e4 e5 e6 = gate_pieces_of _ _ _ _ _ 
 
 -- ---- lines
 
-line_of_record : (key value : List ℕ) → (codes "{\"key\":" ++ (key ++ codes ",\"record\":")) ++ (value ++ codes "}\n") ≡ (codes "{\"key\":" ++ (key ++ (codes ",\"record\":" ++ (value ++ codes "}")))) ++ codes "\n"
+line_of_record : (key value : List ℕ)
+    → (codes "{\"key\":" ++ (key ++ codes ",\"record\":"))
+    ++ (value ++ codes "}\n") ≡ (codes "{\"key\":" ++ (key ++ (codes ",\"record\":" ++ (value ++ codes "}")))) ++ codes "\n"
 line_of_record key value = simp append_assoc
 
 -- the line of a key and a record
-pub shown_line : (k : Key) (r : Record) → key_front k ++ (compact_text (record_data r) ++ codes "}\n") ≡ compact_text (shown_data k r) ++ codes "\n"
+pub shown_line : (k : Key) (r : Record)
+    → key_front k ++ (compact_text (record_data r) ++ codes "}\n") ≡ compact_text (shown_data k r) ++ codes "\n"
 unfolding escape_byte
 shown_line k r = line_of_record (compact_text (string (key_text k))) (compact_text (record_data r))
 
-pub flat_line : (k : Key) (r : Record) (t1 t2 t3 : List ℕ) → t1 ≡ key_front k → t2 ≡ t1 ++ compact_text (record_data r) → t3 ≡ t2 ++ codes "}\n" → t3 ≡ compact_text (shown_data k r) ++ codes "\n"
+pub flat_line : (k : Key) (r : Record) (t1 t2 t3 : List ℕ) → t1 ≡ key_front k → t2 ≡ t1 ++ compact_text (record_data r)
+    → t3 ≡ t2 ++ codes "}\n" → t3 ≡ compact_text (shown_data k r) ++ codes "\n"
 flat_line k r t1 t2 t3 e1 e2 e3 =
-    e3 ∙ ap (λ l. l ++ codes "}\n") (e2 ∙ ap (λ l. l ++ compact_text (record_data r)) e1) ∙ append_assoc (key_front k) (compact_text (record_data r)) (codes "}\n") ∙ shown_line k r
+    e3 ∙ ap (λ l. l ++ codes "}\n") (e2 ∙ ap (λ l. l ++ compact_text (record_data r)) e1)
+    ∙ append_assoc (key_front k) (compact_text (record_data r)) (codes "}\n") ∙ shown_line k r
 
-port_text_of : (base cycle extension gates items : List ℕ) → (codes "{\"base\":" ++ (base ++ (codes ",\"cycle\":" ++ (cycle ++ (codes ",\"extension\":" ++ (extension ++ (codes ",\"gates\":" ++ (gates ++ codes ",\"list\":[")))))))) ++ (items ++ codes "}}\n")
-    ≡ (codes "{\"base\":" ++ (base ++ (codes ",\"cycle\":" ++ (cycle ++ (codes ",\"extension\":" ++ (extension ++ (codes ",\"gates\":" ++ (gates ++ (codes ",\"list\":[" ++ (items ++ codes "}")))))))))) ++ codes "}\n"
+port_text_of : (base cycle extension gates items : List ℕ)
+    → (codes "{\"base\":" ++ (base ++
+    (codes ",\"cycle\":" ++ (cycle ++
+    (codes ",\"extension\":" ++ (extension ++ (codes ",\"gates\":" ++ (gates ++ codes ",\"list\":[")))))))) ++ (items ++ codes "}}\n")
+    ≡ (codes "{\"base\":" ++ (base ++
+    (codes ",\"cycle\":" ++ (cycle ++
+    (codes ",\"extension\":" ++ (extension ++ (codes ",\"gates\":" ++ (gates ++ (codes ",\"list\":[" ++ (items ++ codes "}"))))))))))
+    ++ codes "}\n"
 port_text_of base cycle extension gates items = simp append_assoc
 
-port_text : (r : PortGates) → port_front r ++ (items_text false (items_of (map port_entry_data r.admin.list)) ++ codes "}}\n") ≡ compact_text (port_data r) ++ codes "}\n"
+port_text : (r : PortGates) → port_front r ++ (items_text false (items_of (map port_entry_data r.admin.list)) ++ codes "}}\n")
+    ≡ compact_text (port_data r) ++ codes "}\n"
 unfolding escape_byte
 port_text r = port_text_of _ _ _ _ (items_text false (items_of (map port_entry_data r.admin.list)))
 
-gate_text_of : (base cycle extension invalid_rx ipv items octets_exceeded is_open : List ℕ) → (codes "{\"base\":" ++ (base ++ (codes ",\"cycle\":" ++ (cycle ++ (codes ",\"extension\":" ++ (extension ++ (codes ",\"invalid_rx\":" ++ (invalid_rx ++ (codes ",\"ipv\":" ++ (ipv ++ codes ",\"list\":["))))))))))
+gate_text_of : (base cycle extension invalid_rx ipv items octets_exceeded is_open : List ℕ)
+    → (codes "{\"base\":" ++ (base ++
+    (codes ",\"cycle\":" ++ (cycle ++
+    (codes ",\"extension\":" ++ (extension
+    ++ (codes ",\"invalid_rx\":" ++ (invalid_rx ++ (codes ",\"ipv\":" ++ (ipv ++ codes ",\"list\":["))))))))))
     ++ (items ++ (codes ",\"octets_exceeded\":" ++ (octets_exceeded ++ (codes ",\"open\":" ++ (is_open ++ codes "}}\n")))))
-    ≡ (codes "{\"base\":" ++ (base ++ (codes ",\"cycle\":" ++ (cycle ++ (codes ",\"extension\":" ++ (extension ++ (codes ",\"invalid_rx\":" ++ (invalid_rx ++ (codes ",\"ipv\":" ++ (ipv ++ (codes ",\"list\":["
-    ++ (items ++ (codes ",\"octets_exceeded\":" ++ (octets_exceeded ++ (codes ",\"open\":" ++ (is_open ++ codes "}")))))))))))))))) ++ codes "}\n"
+    ≡ (codes "{\"base\":" ++ (base ++
+    (codes ",\"cycle\":" ++ (cycle ++
+    (codes ",\"extension\":" ++ (extension
+    ++ (codes ",\"invalid_rx\":" ++ (invalid_rx ++ (codes ",\"ipv\":" ++ (ipv ++ (codes ",\"list\":["
+    ++ (items ++ (codes ",\"octets_exceeded\":" ++ (octets_exceeded ++ (codes ",\"open\":" ++ (is_open ++ codes "}"))))))))))))))))
+    ++ codes "}\n"
 gate_text_of base cycle extension invalid_rx ipv items octets_exceeded is_open = simp append_assoc
 
-gate_text : (r : StreamGate) → gate_front r ++ (items_text false (items_of (map gate_entry_data r.admin.list)) ++ gate_rest r) ≡ compact_text (gate_data r) ++ codes "}\n"
+gate_text : (r : StreamGate) → gate_front r ++ (items_text false (items_of (map gate_entry_data r.admin.list)) ++ gate_rest r)
+    ≡ compact_text (gate_data r) ++ codes "}\n"
 unfolding escape_byte
 gate_text r = gate_text_of _ _ _ _ _ (items_text false (items_of (map gate_entry_data r.admin.list))) _ _
 
-listed_line : (k : Key) (r : Record) (front rest items : List ℕ) → front ++ (items ++ rest) ≡ compact_text (record_data r) ++ codes "}\n" → (key_front k ++ front) ++ (items ++ rest) ≡ compact_text (shown_data k r) ++ codes "\n"
+listed_line : (k : Key) (r : Record) (front rest items : List ℕ) → front ++ (items ++ rest) ≡ compact_text (record_data r) ++ codes "}\n"
+    → (key_front k ++ front) ++ (items ++ rest) ≡ compact_text (shown_data k r) ++ codes "\n"
 listed_line k r front rest items e = append_assoc (key_front k) front (items ++ rest) ∙ ap (λ l. key_front k ++ l) e ∙ shown_line k r
 
-pub port_line : (k : Key) (r : PortGates) (t1 t2 rest : List ℕ) (es : List PortEntry) → es ≡ r.admin.list → t1 ≡ key_front k → t2 ≡ t1 ++ port_front r → rest ≡ codes "}}\n"
+pub port_line : (k : Key) (r : PortGates) (t1 t2 rest : List ℕ) (es : List PortEntry) → es ≡ r.admin.list → t1 ≡ key_front k
+    → t2 ≡ t1 ++ port_front r → rest ≡ codes "}}\n"
     → t2 ++ (items_text false (items_of (map port_entry_data es)) ++ rest) ≡ compact_text (shown_data k (records.Port r)) ++ codes "\n"
-port_line k r t1 t2 rest es e e1 e2 e3 = rw (e, e2, e1, e3) (listed_line k (records.Port r) (port_front r) (codes "}}\n") (items_text false (items_of (map port_entry_data r.admin.list))) (port_text r))
+port_line k r t1 t2 rest es e e1 e2 e3 =
+    rw (e, e2, e1, e3) (listed_line k (records.Port r) (port_front r) (codes "}}\n")
+    (items_text false (items_of (map port_entry_data r.admin.list))) (port_text r))
 
-pub gate_line : (k : Key) (r : StreamGate) (t1 t2 rest : List ℕ) (es : List GateEntry) → es ≡ r.admin.list → t1 ≡ key_front k → t2 ≡ t1 ++ gate_front r → rest ≡ gate_rest r
+pub gate_line : (k : Key) (r : StreamGate) (t1 t2 rest : List ℕ) (es : List GateEntry) → es ≡ r.admin.list → t1 ≡ key_front k
+    → t2 ≡ t1 ++ gate_front r → rest ≡ gate_rest r
     → t2 ++ (items_text false (items_of (map gate_entry_data es)) ++ rest) ≡ compact_text (shown_data k (records.Gate r)) ++ codes "\n"
-gate_line k r t1 t2 rest es e e1 e2 e3 = rw (e, e2, e1, e3) (listed_line k (records.Gate r) (gate_front r) (gate_rest r) (items_text false (items_of (map gate_entry_data r.admin.list))) (gate_text r))
+gate_line k r t1 t2 rest es e e1 e2 e3 =
+    rw (e, e2, e1, e3) (listed_line k (records.Gate r) (gate_front r) (gate_rest r)
+    (items_text false (items_of (map gate_entry_data r.admin.list))) (gate_text r))
 
 ids_text_of : (items : List ℕ) → codes "{\"ids\":[" ++ (items ++ codes "}\n") ≡ (codes "{\"ids\":[" ++ (items ++ codes "}")) ++ codes "\n"
 ids_text_of items = simp append_assoc
 
-pub ids_line : (ids t rest : List ℕ) → t ≡ codes "{\"ids\":[" → rest ≡ codes "}\n" → t ++ (items_text false (items_of (map whole_data ids)) ++ rest) ≡ compact_text (ids_data ids) ++ codes "\n"
+pub ids_line : (ids t rest : List ℕ) → t ≡ codes "{\"ids\":[" → rest ≡ codes "}\n"
+    → t ++ (items_text false (items_of (map whole_data ids)) ++ rest) ≡ compact_text (ids_data ids) ++ codes "\n"
 unfolding escape_byte
 ids_line ids t rest e1 e2 = rw (e1, e2) (ids_text_of (items_text false (items_of (map whole_data ids))))
 
 -- ---- sessions
 
-sessions_text_of : (items : List ℕ) → codes "{\"sessions\":[" ++ (items ++ codes "}\n") ≡ (codes "{\"sessions\":[" ++ (items ++ codes "}")) ++ codes "\n"
+sessions_text_of : (items : List ℕ)
+    → codes "{\"sessions\":[" ++ (items ++ codes "}\n") ≡ (codes "{\"sessions\":[" ++ (items ++ codes "}")) ++ codes "\n"
 sessions_text_of items = simp append_assoc
 
 pub sessions_line : (all : List GivenSession) (t rest : List ℕ) → t ≡ codes "{\"sessions\":[" → rest ≡ codes "}\n"
@@ -216,17 +258,22 @@ sessions_line all t rest e1 e2 = rw (e1, e2) (sessions_text_of (items_text false
 behind_split : {I : Type 0} (f : I → Data) (xs ys : List I) → behind f (xs ++ ys) ≡ behind f xs ++ behind f ys
 unfolding behind
 behind_split f [] ys = refl
-behind_split f (x ∷ xs) ys = ap (λ l. 44 ∷ (compact_text (f x) ++ l)) (behind_split f xs ys) ∙ ap (λ l. 44 ∷ l) (sym (append_assoc (compact_text (f x)) (behind f xs) (behind f ys)))
+behind_split f (x ∷ xs) ys = ap (λ l. 44 ∷ (compact_text (f x) ++ l)) (behind_split f xs ys)
+    ∙ ap (λ l. 44 ∷ l) (sym (append_assoc (compact_text (f x)) (behind f xs) (behind f ys)))
 
-in_parts : (front first done left rest : List ℕ) → front ++ ((first ++ ((done ++ left) ++ 93 ∷ [])) ++ rest) ≡ ((front ++ first) ++ done) ++ (left ++ 93 ∷ rest)
+in_parts : (front first done left rest : List ℕ)
+    → front ++ ((first ++ ((done ++ left) ++ 93 ∷ [])) ++ rest) ≡ ((front ++ first) ++ done) ++ (left ++ 93 ∷ rest)
 in_parts front first done left rest = simp append_assoc
 
 -- a list in its front, its first items and those that are left
-whole_at : {I : Type 0} (f : I → Data) (front rest t : List ℕ) (items others : List I) (first : I) (i : ℕ) → items ≡ first ∷ others → t ≡ front ++ compact_text (f first)
-    → front ++ (items_text false (items_of (map f items)) ++ rest) ≡ (t ++ behind f (take i others)) ++ (behind f (drop i others) ++ 93 ∷ rest)
+whole_at : {I : Type 0} (f : I → Data) (front rest t : List ℕ) (items others : List I) (first : I) (i : ℕ) → items ≡ first ∷ others
+    → t ≡ front ++ compact_text (f first)
+    → front ++ (items_text false (items_of (map f items)) ++ rest) ≡ (t ++ behind f (take i others))
+    ++ (behind f (drop i others) ++ 93 ∷ rest)
 whole_at f front rest t items others first i e et =
     let split : items_text true (items_of (map f others)) ≡ (behind f (take i others) ++ behind f (drop i others)) ++ 93 ∷ [] =
-    behind_closed f others ∙ ap (λ l. behind f l ++ 93 ∷ []) (sym (take-append-drop i others)) ∙ ap (λ l. l ++ 93 ∷ []) (behind_split f (take i others) (drop i others)) in
+    behind_closed f others ∙ ap (λ l. behind f l ++ 93 ∷ []) (sym (take-append-drop i others))
+    ∙ ap (λ l. l ++ 93 ∷ []) (behind_split f (take i others) (drop i others)) in
     ap (λ l. front ++ (items_text false (items_of (map f l)) ++ rest)) e
     ∙ ap (λ l. front ++ ((compact_text (f first) ++ l) ++ rest)) split
     ∙ in_parts front (compact_text (f first)) (behind f (take i others)) (behind f (drop i others)) rest
@@ -237,30 +284,42 @@ pub begun : {I : Type 0} (a : Option (List ℕ)) (f : I → Data) (t : List ℕ)
 begun a f t = subst (λ l. TakesFront a a l t) (sym (ap (λ l. t ++ l) (behind_none f) ∙ append-nil t)) (none_gone a t)
 
 -- one item more
-pub one_more : {I : Type 0} (a b c : Option (List ℕ)) (f : I → Data) (t held later h : List ℕ) (others : List I) (item d : I) (i : ℕ) → i < length others → item ≡ get_or others i d
-    → TakesFront a b (t ++ behind f (take i others)) held → TakesFront b c held later → h ≡ later ++ (codes "," ++ compact_text (f item)) → TakesFront a c (t ++ behind f (take (i + 1) others)) h
+pub one_more : {I : Type 0} (a b c : Option (List ℕ)) (f : I → Data) (t held later h : List ℕ) (others : List I) (item d : I) (i : ℕ)
+    → i < length others → item ≡ get_or others i d
+    → TakesFront a b (t ++ behind f (take i others)) held → TakesFront b c held later → h ≡ later ++ (codes "," ++ compact_text (f item))
+    → TakesFront a c (t ++ behind f (take (i + 1) others)) h
 one_more a b c f t held later h others item d i within is taken went end =
     let piece = 44 ∷ compact_text (f item) in
     let more : behind f (take (i + 1) others) ≡ behind f (take i others) ++ piece =
     ap (behind f) (take_more others i d within ∙ ap (λ x. take i others ++ x ∷ []) (sym is)) ∙ behind_more f (take i others) item in
     let whole : t ++ behind f (take (i + 1) others) ≡ (t ++ behind f (take i others)) ++ piece =
     ap (λ l. t ++ l) more ∙ sym (append_assoc t (behind f (take i others)) piece) in
-    subst (λ l. TakesFront a c l h) (sym whole) (subst (λ l. TakesFront a c ((t ++ behind f (take i others)) ++ piece) l) (sym end) (held_more a c (t ++ behind f (take i others)) later piece (goes_on a b c (t ++ behind f (take i others)) held later taken went)))
+    subst (λ l. TakesFront a c l h) (sym whole)
+    (subst (λ l. TakesFront a c ((t ++ behind f (take i others)) ++ piece) l) (sym end)
+    (held_more a c (t ++ behind f (take i others)) later piece (goes_on a b c (t ++ behind f (take i others)) held later taken went)))
 
 -- the writer failed before an item
-pub cut_inside : {I : Type 0} (a b c : Option (List ℕ)) (f : I → Data) (front rest t held : List ℕ) (items others : List I) (first : I) (i : ℕ) → items ≡ first ∷ others → t ≡ front ++ compact_text (f first)
-    → TakesFront a b (t ++ behind f (take i others)) held → IsCut b c held → IsCut a c (front ++ (items_text false (items_of (map f items)) ++ rest))
+pub cut_inside : {I : Type 0} (a b c : Option (List ℕ)) (f : I → Data) (front rest t held : List ℕ) (items others : List I) (first : I)
+    (i : ℕ) → items ≡ first ∷ others → t ≡ front ++ compact_text (f first)
+    → TakesFront a b (t ++ behind f (take i others)) held → IsCut b c held
+    → IsCut a c (front ++ (items_text false (items_of (map f items)) ++ rest))
 cut_inside a b c f front rest t held items others first i e et taken cut =
-    subst (IsCut a c) (sym (whole_at f front rest t items others first i e et)) (cut_out a b c (t ++ behind f (take i others)) held (behind f (drop i others) ++ 93 ∷ rest) taken cut)
+    subst (IsCut a c) (sym (whole_at f front rest t items others first i e et))
+    (cut_out a b c (t ++ behind f (take i others)) held (behind f (drop i others) ++ 93 ∷ rest) taken cut)
 
 -- all items, the bracket and the rest
-pub ended : {I : Type 0} (a b : Option (List ℕ)) (f : I → Data) (front rest t held h1 h2 s : List ℕ) (items others : List I) (first : I) (i : ℕ) → items ≡ first ∷ others → t ≡ front ++ compact_text (f first) → length others ≤ i
-    → TakesFront a b (t ++ behind f (take i others)) held → h1 ≡ held ++ codes "]" → h2 ≡ h1 ++ rest → s ≡ h2 → TakesFront a b (front ++ (items_text false (items_of (map f items)) ++ rest)) s
+pub ended : {I : Type 0} (a b : Option (List ℕ)) (f : I → Data) (front rest t held h1 h2 s : List ℕ) (items others : List I) (first : I)
+    (i : ℕ) → items ≡ first ∷ others → t ≡ front ++ compact_text (f first) → length others ≤ i
+    → TakesFront a b (t ++ behind f (take i others)) held → h1 ≡ held ++ codes "]" → h2 ≡ h1 ++ rest → s ≡ h2
+    → TakesFront a b (front ++ (items_text false (items_of (map f items)) ++ rest)) s
 ended a b f front rest t held h1 h2 s items others first i e et all taken e1 e2 e3 =
     let end : s ≡ held ++ 93 ∷ rest = e3 ∙ e2 ∙ ap (λ l. l ++ rest) e1 ∙ append_assoc held (codes "]") rest in
-    let none : behind f (drop i others) ++ 93 ∷ rest ≡ 93 ∷ rest = ap (λ l. behind f l ++ 93 ∷ rest) (drop_all i others all) ∙ ap (λ l. l ++ 93 ∷ rest) (behind_none f) in
+    let none : behind f (drop i others) ++ 93 ∷ rest ≡ 93 ∷ rest = ap (λ l. behind f l ++ 93 ∷ rest) (drop_all i others all)
+    ∙ ap (λ l. l ++ 93 ∷ rest) (behind_none f) in
     let whole = whole_at f front rest t items others first i e et ∙ ap (λ l. (t ++ behind f (take i others)) ++ l) none in
-    subst (λ l. TakesFront a b l s) (sym whole) (subst (λ l. TakesFront a b ((t ++ behind f (take i others)) ++ 93 ∷ rest) l) (sym end) (held_more a b (t ++ behind f (take i others)) held (93 ∷ rest) taken))
+    subst (λ l. TakesFront a b l s) (sym whole)
+    (subst (λ l. TakesFront a b ((t ++ behind f (take i others)) ++ 93 ∷ rest) l) (sym end)
+    (held_more a b (t ++ behind f (take i others)) held (93 ∷ rest) taken))
 
 -- the rest is cut
 pub cut_end : (a b c : Option (List ℕ)) (text held : List ℕ) → TakesFront a b text held → IsCut b c held → IsCut a c text

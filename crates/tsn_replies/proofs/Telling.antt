@@ -19,10 +19,12 @@ use Rattle.tsn_replies.specs.Pieces.{keys_piece, taking_back_front, told_line}
 use Rattle.tsn_replies.specs.Told.{act_name, key_data, with_keys, made_data, taking_back_data, acted_data, settled_data, name_data, session_data, entry_data, entries_data, kept_data}
 use Rattle.tsn_replies.proofs.Pieces.{behind, behind_none, behind_more, behind_closed, text_unescaped}
 
-quoted_of : (key t0 t1 t2 t3 : List ℕ) → t1 ≡ t0 ++ codes "\"" → t2 ≡ t1 ++ key → t3 ≡ t2 ++ codes "\"" → t3 ≡ t0 ++ (codes "\"" ++ (key ++ codes "\""))
+quoted_of : (key t0 t1 t2 t3 : List ℕ) → t1 ≡ t0 ++ codes "\"" → t2 ≡ t1 ++ key → t3 ≡ t2 ++ codes "\""
+    → t3 ≡ t0 ++ (codes "\"" ++ (key ++ codes "\""))
 quoted_of key t0 t1 t2 t3 e1 e2 e3 = rw (e3, e2, e1) (simp append_assoc)
 
-pub quoted_pieces : (k : Key) (t0 t1 t2 t3 : List ℕ) → number_of k < 2 ^ 64 → t1 ≡ t0 ++ codes "\"" → t2 ≡ t1 ++ key_text k → t3 ≡ t2 ++ codes "\"" → t3 ≡ t0 ++ compact_text (key_data k)
+pub quoted_pieces : (k : Key) (t0 t1 t2 t3 : List ℕ) → number_of k < 2 ^ 64 → t1 ≡ t0 ++ codes "\"" → t2 ≡ t1 ++ key_text k
+    → t3 ≡ t2 ++ codes "\"" → t3 ≡ t0 ++ compact_text (key_data k)
 quoted_pieces k t0 t1 t2 t3 small e1 e2 e3 =
     quoted_of (key_text k) t0 t1 t2 t3 e1 e2 e3 ∙ sym (ap (λ l. t0 ++ (codes "\"" ++ (l ++ codes "\""))) (text_unescaped k small))
 
@@ -41,7 +43,9 @@ pub no_others : (t : List ℕ) → t ≡ t ++ others_text []
 no_others t = sym (ap (λ l. t ++ l) (behind_none (λ p. key_data p.key)) ∙ append-nil t)
 
 -- one key more
-pub other_more : (t held later : List ℕ) (ps : List Part) (p d : Part) (i : ℕ) → i < length ps → p ≡ get_or ps i d → held ≡ t ++ others_text (take i ps) → later ≡ held ++ (codes "," ++ compact_text (key_data p.key)) → later ≡ t ++ others_text (take (i + 1) ps)
+pub other_more : (t held later : List ℕ) (ps : List Part) (p d : Part) (i : ℕ) → i < length ps → p ≡ get_or ps i d
+    → held ≡ t ++ others_text (take i ps) → later ≡ held ++ (codes "," ++ compact_text (key_data p.key))
+    → later ≡ t ++ others_text (take (i + 1) ps)
 other_more t held later ps p d i within is before e =
     let piece = 44 ∷ compact_text (key_data p.key) in
     let more : others_text (take (i + 1) ps) ≡ others_text (take i ps) ++ piece =
@@ -53,12 +57,14 @@ pub first_of : (ps : List Part) (p : Part) → 1 ≤ length ps → p ≡ get_or 
 first_of [] p some is = absurd (omega arith)
 first_of (q ∷ ps) p some is = ap₂ ◌∷◌ (sym is) (sym (take_all (length (q ∷ ps) - 1) ps (omega arith)))
 
-several_of : (first others t0 : List ℕ) → ((t0 ++ (codes ",\"keys\":[" ++ first)) ++ others) ++ codes "]" ≡ t0 ++ (codes ",\"keys\":[" ++ (first ++ (others ++ codes "]")))
+several_of : (first others t0 : List ℕ)
+    → ((t0 ++ (codes ",\"keys\":[" ++ first)) ++ others) ++ codes "]" ≡ t0 ++ (codes ",\"keys\":[" ++ (first ++ (others ++ codes "]")))
 several_of first others t0 = simp append_assoc
 
 -- all keys of two parts or more
 pub several_pieces : (ps others : List Part) (p : Part) (t0 t1 t2 t3 : List ℕ) (i : ℕ) → ps ≡ p ∷ others → 2 ≤ length ps → length others ≤ i
-    → t1 ≡ t0 ++ (codes ",\"keys\":[" ++ compact_text (key_data p.key)) → t2 ≡ t1 ++ others_text (take i others) → t3 ≡ t2 ++ codes "]" → t3 ≡ t0 ++ keys_piece (keys_of ps)
+    → t1 ≡ t0 ++ (codes ",\"keys\":[" ++ compact_text (key_data p.key)) → t2 ≡ t1 ++ others_text (take i others) → t3 ≡ t2 ++ codes "]"
+    → t3 ≡ t0 ++ keys_piece (keys_of ps)
 several_pieces ps [] p t0 t1 t2 t3 i is two all e1 e2 e3 = absurd (omega (arith, ap length is, two))
 several_pieces ps (q ∷ others) p t0 t1 t2 t3 i is two all e1 e2 e3 =
     let whole : take i (q ∷ others) ≡ q ∷ others = take_all i (q ∷ others) all in
@@ -90,7 +96,8 @@ made_of number keys session t0 t1 t2 t3 t4 e1 e2 e3 e4 = rw (e4, e3, e2, e1) (si
 numbered : ℕ → List Key → Members → Data
 numbered number ks others = object (member (codes "entry") (whole_data number) (with_keys ks others))
 
-numbered_text : (number : ℕ) (ks : List Key) (others : Members) → codes "{\"entry\":" ++ (decimal number ++ (keys_piece ks ++ members_text true others)) ≡ compact_text (numbered number ks others)
+numbered_text : (number : ℕ) (ks : List Key) (others : Members)
+    → codes "{\"entry\":" ++ (decimal number ++ (keys_piece ks ++ members_text true others)) ≡ compact_text (numbered number ks others)
 unfolding escape_byte numbered
 numbered_text number ks others = sym (ap (λ l. codes "{\"entry\":" ++ (decimal number ++ l)) (keys_text ks others))
 
@@ -103,7 +110,8 @@ pub made_pieces : (number session : ℕ) (ks : List Key) (t0 t1 t2 t3 t4 : List 
 unfolding escape_byte numbered
 made_pieces number session ks t0 t1 t2 t3 t4 e1 e2 e3 e4 =
     made_of (decimal number) (keys_piece ks) (decimal session) t0 t1 t2 t3 t4 e1 e2 e3 e4
-    ∙ ap (λ l. t0 ++ l) (numbered_text number ks (member (codes "session") (whole_data session) (member (codes "what") (string (codes "made")) no_members)))
+    ∙ ap (λ l. t0 ++ l) (numbered_text number ks
+    (member (codes "session") (whole_data session) (member (codes "what") (string (codes "made")) no_members)))
 
 taking_back_of : (number keys of session t0 t1 t2 t3 t4 : List ℕ)
     → t1 ≡ t0 ++ (codes "{\"entry\":" ++ number)
@@ -119,7 +127,8 @@ pub taking_back_pieces : (number session of : ℕ) (ks : List Key) (t0 t1 t2 t3 
     → t3 ≡ t2 ++ (codes ",\"of\":" ++ decimal of)
     → t4 ≡ t3 ++ (codes ",\"session\":" ++ decimal session)
     → t4 ≡ t0 ++ taking_back_front number session of ks
-taking_back_pieces number session of ks t0 t1 t2 t3 t4 e1 e2 e3 e4 = taking_back_of (decimal number) (keys_piece ks) (decimal of) (decimal session) t0 t1 t2 t3 t4 e1 e2 e3 e4
+taking_back_pieces number session of ks t0 t1 t2 t3 t4 e1 e2 e3 e4 =
+    taking_back_of (decimal number) (keys_piece ks) (decimal of) (decimal session) t0 t1 t2 t3 t4 e1 e2 e3 e4
 
 -- up to what was done, and the rest
 ending_of : (number keys of session rest t0 t1 t2 : List ℕ)
@@ -128,17 +137,23 @@ ending_of : (number keys of session rest t0 t1 t2 : List ℕ)
     → t2 ≡ t0 ++ (codes "{\"entry\":" ++ (number ++ (keys ++ (codes ",\"of\":" ++ (of ++ (codes ",\"session\":" ++ (session ++ rest)))))))
 ending_of number keys of session rest t0 t1 t2 e1 e2 = rw (e2, e1) (simp append_assoc)
 
-pub undone_pieces : (number session of : ℕ) (ks : List Key) (t0 t1 t2 : List ℕ) → t1 ≡ t0 ++ taking_back_front number session of ks → t2 ≡ t1 ++ codes ",\"what\":\"undone\"}" → t2 ≡ t0 ++ compact_text (taking_back_data number session of ks (codes "undone"))
+pub undone_pieces : (number session of : ℕ) (ks : List Key) (t0 t1 t2 : List ℕ) → t1 ≡ t0 ++ taking_back_front number session of ks
+    → t2 ≡ t1 ++ codes ",\"what\":\"undone\"}" → t2 ≡ t0 ++ compact_text (taking_back_data number session of ks (codes "undone"))
 unfolding escape_byte numbered
 undone_pieces number session of ks t0 t1 t2 e1 e2 =
     ending_of (decimal number) (keys_piece ks) (decimal of) (decimal session) (codes ",\"what\":\"undone\"}") t0 t1 t2 e1 e2
-    ∙ ap (λ l. t0 ++ l) (numbered_text number ks (member (codes "of") (whole_data of) (member (codes "session") (whole_data session) (member (codes "what") (string (codes "undone")) no_members))))
+    ∙ ap (λ l. t0 ++ l) (numbered_text number ks
+    (member (codes "of") (whole_data of)
+    (member (codes "session") (whole_data session) (member (codes "what") (string (codes "undone")) no_members))))
 
-pub redone_pieces : (number session of : ℕ) (ks : List Key) (t0 t1 t2 : List ℕ) → t1 ≡ t0 ++ taking_back_front number session of ks → t2 ≡ t1 ++ codes ",\"what\":\"redone\"}" → t2 ≡ t0 ++ compact_text (taking_back_data number session of ks (codes "redone"))
+pub redone_pieces : (number session of : ℕ) (ks : List Key) (t0 t1 t2 : List ℕ) → t1 ≡ t0 ++ taking_back_front number session of ks
+    → t2 ≡ t1 ++ codes ",\"what\":\"redone\"}" → t2 ≡ t0 ++ compact_text (taking_back_data number session of ks (codes "redone"))
 unfolding escape_byte numbered
 redone_pieces number session of ks t0 t1 t2 e1 e2 =
     ending_of (decimal number) (keys_piece ks) (decimal of) (decimal session) (codes ",\"what\":\"redone\"}") t0 t1 t2 e1 e2
-    ∙ ap (λ l. t0 ++ l) (numbered_text number ks (member (codes "of") (whole_data of) (member (codes "session") (whole_data session) (member (codes "what") (string (codes "redone")) no_members))))
+    ∙ ap (λ l. t0 ++ l) (numbered_text number ks
+    (member (codes "of") (whole_data of)
+    (member (codes "session") (whole_data session) (member (codes "what") (string (codes "redone")) no_members))))
 
 acted_of : (act number key now session t0 t1 t2 t3 t4 t5 t6 : List ℕ)
     → t1 ≡ t0 ++ (codes "{\"act\":" ++ act)
@@ -147,7 +162,10 @@ acted_of : (act number key now session t0 t1 t2 t3 t4 t5 t6 : List ℕ)
     → t4 ≡ t3 ++ (codes ",\"now\":" ++ now)
     → t5 ≡ t4 ++ (codes ",\"session\":" ++ session)
     → t6 ≡ t5 ++ codes ",\"what\":\"acted\"}"
-    → t6 ≡ t0 ++ (codes "{\"act\":" ++ (act ++ (codes ",\"entry\":" ++ (number ++ (codes ",\"key\":" ++ (key ++ (codes ",\"now\":" ++ (now ++ (codes ",\"session\":" ++ (session ++ codes ",\"what\":\"acted\"}"))))))))))
+    → t6 ≡ t0 ++ (codes "{\"act\":"
+    ++ (act ++ (codes ",\"entry\":"
+    ++ (number ++ (codes ",\"key\":"
+    ++ (key ++ (codes ",\"now\":" ++ (now ++ (codes ",\"session\":" ++ (session ++ codes ",\"what\":\"acted\"}"))))))))))
 acted_of act number key now session t0 t1 t2 t3 t4 t5 t6 e1 e2 e3 e4 e5 e6 = rw (e6, e5, e4, e3, e2, e1) (simp append_assoc)
 
 pub acted_pieces : (number session : ℕ) (act : Act) (k : Key) (now : ℕ) (t0 t1 t2 t3 t4 t5 t6 : List ℕ)
@@ -160,14 +178,16 @@ pub acted_pieces : (number session : ℕ) (act : Act) (k : Key) (now : ℕ) (t0 
     → t6 ≡ t0 ++ compact_text (acted_data number session act k now)
 unfolding escape_byte
 acted_pieces number session act k now t0 t1 t2 t3 t4 t5 t6 e1 e2 e3 e4 e5 e6 =
-    acted_of (compact_text (string (act_name act))) (decimal number) (compact_text (key_data k)) (decimal now) (decimal session) t0 t1 t2 t3 t4 t5 t6 e1 e2 e3 e4 e5 e6
+    acted_of (compact_text (string (act_name act))) (decimal number) (compact_text (key_data k)) (decimal now) (decimal session) t0 t1 t2 t3
+    t4 t5 t6 e1 e2 e3 e4 e5 e6
 
 settled_of : (number session upto t0 t1 t2 t3 t4 : List ℕ)
     → t1 ≡ t0 ++ (codes "{\"entry\":" ++ number)
     → t2 ≡ t1 ++ (codes ",\"session\":" ++ session)
     → t3 ≡ t2 ++ (codes ",\"settled\":" ++ upto)
     → t4 ≡ t3 ++ codes ",\"what\":\"settled\"}"
-    → t4 ≡ t0 ++ (codes "{\"entry\":" ++ (number ++ (codes ",\"session\":" ++ (session ++ (codes ",\"settled\":" ++ (upto ++ codes ",\"what\":\"settled\"}"))))))
+    → t4 ≡ t0 ++ (codes "{\"entry\":"
+    ++ (number ++ (codes ",\"session\":" ++ (session ++ (codes ",\"settled\":" ++ (upto ++ codes ",\"what\":\"settled\"}"))))))
 settled_of number session upto t0 t1 t2 t3 t4 e1 e2 e3 e4 = rw (e4, e3, e2, e1) (simp append_assoc)
 
 pub settled_pieces : (number session upto : ℕ) (t0 t1 t2 t3 t4 : List ℕ)
@@ -177,7 +197,8 @@ pub settled_pieces : (number session upto : ℕ) (t0 t1 t2 t3 t4 : List ℕ)
     → t4 ≡ t3 ++ codes ",\"what\":\"settled\"}"
     → t4 ≡ t0 ++ compact_text (settled_data number session upto)
 unfolding escape_byte
-settled_pieces number session upto t0 t1 t2 t3 t4 e1 e2 e3 e4 = settled_of (decimal number) (decimal session) (decimal upto) t0 t1 t2 t3 t4 e1 e2 e3 e4
+settled_pieces number session upto t0 t1 t2 t3 t4 e1 e2 e3 e4 =
+    settled_of (decimal number) (decimal session) (decimal upto) t0 t1 t2 t3 t4 e1 e2 e3 e4
 
 given_of : (name session standing t0 t1 t2 t3 t4 t5 : List ℕ)
     → t1 ≡ t0 ++ codes "{\"name\":"
@@ -185,7 +206,8 @@ given_of : (name session standing t0 t1 t2 t3 t4 t5 : List ℕ)
     → t3 ≡ t2 ++ (codes ",\"session\":" ++ session)
     → t4 ≡ t3 ++ (codes ",\"standing\":" ++ standing)
     → t5 ≡ t4 ++ codes "}"
-    → t5 ≡ t0 ++ (codes "{\"name\":" ++ (name ++ (codes ",\"session\":" ++ (session ++ (codes ",\"standing\":" ++ (standing ++ codes "}"))))))
+    → t5 ≡ t0 ++ (codes "{\"name\":"
+    ++ (name ++ (codes ",\"session\":" ++ (session ++ (codes ",\"standing\":" ++ (standing ++ codes "}"))))))
 given_of name session standing t0 t1 t2 t3 t4 t5 e1 e2 e3 e4 e5 = rw (e5, e4, e3, e2, e1) (simp append_assoc)
 
 pub given_pieces : (name : Option (List ℕ)) (session standing : ℕ) (t0 t1 t2 t3 t4 t5 : List ℕ)
@@ -201,7 +223,8 @@ given_pieces name session standing t0 t1 t2 t3 t4 t5 e1 e2 e3 e4 e5 =
 
 -- ---- the line
 
-entries_text_of : (items : List ℕ) → codes "{\"entries\":[" ++ (items ++ codes "}\n") ≡ (codes "{\"entries\":[" ++ (items ++ codes "}")) ++ codes "\n"
+entries_text_of : (items : List ℕ)
+    → codes "{\"entries\":[" ++ (items ++ codes "}\n") ≡ (codes "{\"entries\":[" ++ (items ++ codes "}")) ++ codes "\n"
 entries_text_of items = simp append_assoc
 
 pub entries_line : (es : List Entry) → told_line (map entry_data es) ≡ compact_text (entries_data es) ++ codes "\n"
@@ -217,5 +240,6 @@ pub kept_line : (ms : List MarkedEntry) → told_line (map kept_data ms) ≡ com
 kept_line ms = ap (λ l. codes "{\"entries\":[" ++ (items_text false l ++ codes "}\n")) (kept_items ms) ∙ entries_line (entries_of ms)
 
 -- what is pushed first, and what is written behind it
-pub told_of : (t t1 items rest : List ℕ) → t ≡ [] → t1 ≡ t ++ codes "{\"entries\":[" → rest ≡ codes "}\n" → t1 ++ (items ++ rest) ≡ codes "{\"entries\":[" ++ (items ++ codes "}\n")
+pub told_of : (t t1 items rest : List ℕ) → t ≡ [] → t1 ≡ t ++ codes "{\"entries\":[" → rest ≡ codes "}\n"
+    → t1 ++ (items ++ rest) ≡ codes "{\"entries\":[" ++ (items ++ codes "}\n")
 told_of t t1 items rest e0 e1 e2 = rw (e1, e0, e2) refl

@@ -20,7 +20,8 @@ a_removal = record { key = keys.Filter 3; before = Some (records.Filter a_filter
 
 -- the removal and the undo of it
 abbrev pub a_removal_undone : List Entry
-a_removal_undone = record { number = 4; session = 1; what = Made a_removal } ∷ record { number = 5; session = 1; what = Undone 4 (inverse a_removal) } ∷ []
+a_removal_undone =
+    record { number = 4; session = 1; what = Made a_removal } ∷ record { number = 5; session = 1; what = Undone 4 (inverse a_removal) } ∷ []
 
 abbrev pub removal_undone_text : List ℕ
 removal_undone_text = codes "{\"entries\":[{\"entry\":4,\"key\":\"filter 3\",\"session\":1,\"what\":\"made\"},"

@@ -47,7 +47,8 @@ behind_of r = []
 
 -- what it is about, its number and its name
 abbrev pub refusal_text : Refusal → List ℕ
-refusal_text r = codes "{" ++ members_of r ++ codes "\"refused\":" ++ decimal (number_of r) ++ behind_of r ++ codes ",\"why\":\"" ++ name_of r ++ codes "\"}\n"
+refusal_text r = codes "{" ++ members_of r ++ codes "\"refused\":" ++ decimal (number_of r) ++ behind_of r ++ codes ",\"why\":\""
+    ++ name_of r ++ codes "\"}\n"
 
 -- the line of a reply, its line feed in it
 abbrev pub reply_text : Reply → List ℕ

@@ -83,7 +83,8 @@ pub fn records_are_shown()
         ≡ shown_line (codes "meter 0") meter_text }
     ensures ids { reply_text (replies.Ids (0 ∷ 1 ∷ 15 ∷ [])) ≡ codes "{\"ids\":[0,1,15]}\n" }
     ensures none { reply_text (replies.Ids []) ≡ codes "{\"ids\":[]}\n" }
-    ensures sessions { reply_text (replies.Sessions (record { name = None; session = 1; standing = 0 } ∷ record { name = Some (codes "anna \"n\""); session = 2; standing = 13 } ∷ []))
+    ensures sessions { reply_text (replies.Sessions
+        (record { name = None; session = 1; standing = 0 } ∷ record { name = Some (codes "anna \"n\""); session = 2; standing = 13 } ∷ []))
         ≡ codes "{\"sessions\":[{\"name\":null,\"session\":1,\"standing\":0},{\"name\":\"anna \\\"n\\\"\",\"session\":2,\"standing\":13}]}\n" }
     ensures setup { reply_text (replies.Setup (codes "ports = 2\n\n[[port]]\n"))
         ≡ codes "{\"setup\":\"ports = 2\\n\\n[[port]]\\n\"}\n" }

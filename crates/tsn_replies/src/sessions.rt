@@ -32,8 +32,8 @@ impl ShownItem for GivenSession {
     }
 }
 
-/// Writes the line of the sessions, in their order, by way of an empty text. Its one fault is `Write`; what went out is then
-/// a front of the line.
+/// Writes the line of the sessions, in their order, by way of an empty text. Its one fault is `Write`; what went out is
+/// then a front of the line.
 pub fn write_sessions<W: ByteOut>(
     writer: &mut W,
     text: &mut ShortText,

@@ -56,7 +56,8 @@ pub(crate) fn push_escaped(text: &mut ShortText, byte: u8)
     }
 }
 
-/// Writes the line of a setup by way of an empty text. Its one fault is `Write`; what went out is then a front of the line.
+/// Writes the line of a setup by way of an empty text. Its one fault is `Write`; what went out is then a front of the
+/// line.
 pub fn write_setup<W: ByteOut>(
     writer: &mut W,
     text: &mut ShortText,

@@ -28,13 +28,15 @@ none_read None why (inr e) = inr (cc)
 none_read (Some d) why (inl e) = absurd (cc)
 none_read (Some d) why (inr e) = inr (cc)
 
-pub none_found : (read : Option Data) (d : Data) (why : NoSetup) → Finds (Ok d) (or_none read) → setup_of_data d ≡ Err why → Finds (Err why) (setup_of_read read)
+pub none_found : (read : Option Data) (d : Data) (why : NoSetup) → Finds (Ok d) (or_none read) → setup_of_data d ≡ Err why
+    → Finds (Err why) (setup_of_read read)
 none_found None d why (inl e) h = absurd (cc)
 none_found None d why (inr e) h = absurd (cc)
 none_found (Some other) d why (inl e) h = let same : d ≡ other = cc in inl (sym (ap setup_of_data (sym same) ∙ h))
 none_found (Some other) d why (inr e) h = absurd (cc)
 
-pub found : (read : Option Data) (d : Data) (setup : List ℕ) → Finds (Ok d) (or_none read) → setup_of_data d ≡ Ok setup → Finds (Ok setup) (setup_of_read read)
+pub found : (read : Option Data) (d : Data) (setup : List ℕ) → Finds (Ok d) (or_none read) → setup_of_data d ≡ Ok setup
+    → Finds (Ok setup) (setup_of_read read)
 found None d setup (inl e) h = absurd (cc)
 found None d setup (inr e) h = absurd (cc)
 found (Some other) d setup (inl e) h = let same : d ≡ other = cc in inl (sym (ap setup_of_data (sym same) ∙ h))

@@ -62,11 +62,19 @@ quoted_length s = omega (arith, length-append (escape s) (34 ∷ []))
 
 pub first_within : (setup : List ℕ) → length setup ≤ longest_setup → length (first_text setup) ≤ longest_first_command
 first_within setup h =
-    omega (arith, ap length (first_pieces setup), length-append front (quoted setup ++ codes "}"), length-append (quoted setup) (codes "}"), quoted_length setup, escape_within setup)
+    omega (
+      arith,
+      ap length (first_pieces setup),
+      length-append front (quoted setup ++ codes "}"),
+      length-append (quoted setup) (codes "}"),
+      quoted_length setup,
+      escape_within setup,
+    )
 
 -- ---- that it is one line
 
 pub first_is_one_line : (setup : List ℕ) → All IsNoFeed (first_text setup)
 first_is_one_line setup =
     subst (All IsNoFeed) (sym (first_pieces setup))
-    (All-append IsNoFeed front (quoted setup ++ codes "}") (no_feed front refl) (All-append IsNoFeed (quoted setup) (codes "}") (quoted_no_feed setup) (no_feed (codes "}") refl)))
+    (All-append IsNoFeed front (quoted setup ++ codes "}") (no_feed front refl)
+    (All-append IsNoFeed (quoted setup) (codes "}") (quoted_no_feed setup) (no_feed (codes "}") refl)))

@@ -15,7 +15,8 @@ use Rattle.tsn_resuming.specs.Resuming.{BeginsWith, IsRefusedAt}
 use Rattle.tsn_resuming.specs.Standing.{IsEnded, IsFed, IsRefused, IsStepped, IsThrough, IsUnderWay, LeadTo, read_as}
 
 -- a further line, by which the bridge was stepped
-pub leads_on : (setup : List ℕ) (rs : List Recorded) (r : Recorded) (s now : State) → LeadTo setup rs s → IsStepped s r.command now → LeadTo setup (rs ++ r ∷ []) now
+pub leads_on : (setup : List ℕ) (rs : List Recorded) (r : Recorded) (s now : State) → LeadTo setup rs s → IsStepped s r.command now
+    → LeadTo setup (rs ++ r ∷ []) now
 leads_on setup rs r s now leads stepped = record {
   first = leads.first;
   others = leads.others ++ r ∷ [];
@@ -39,7 +40,8 @@ GivesNone old new = (fed : List ℕ) (rs : List Recorded) → HasGiven fed rs ol
 abbrev pub ReadsAll : Standing → Standing → Type 0
 ReadsAll old new = (fed : List ℕ) (rs : List Recorded) → HasGiven fed rs old → Reads [] fed rs (drop new.good fed)
 
-pub goes_on : (before now : Option (List ℕ)) (setup : List ℕ) (old new : Standing) (s t : State) → Gives old new → IsStepped s new.latest.command t
+pub goes_on : (before now : Option (List ℕ)) (setup : List ℕ) (old new : Standing) (s t : State) → Gives old new
+    → IsStepped s new.latest.command t
     → IsUnderWay before now setup old s → IsUnderWay before now setup new t
 goes_on before now setup old new s t gives stepped way = record {
   commands = way.commands ++ new.latest ∷ [];
@@ -58,7 +60,8 @@ is_through before now setup old new s gives reads way = record {
   leads = way.leads;
 }
 
-pub stays_under_way : (before now : Option (List ℕ)) (setup : List ℕ) (new : Standing) (s : State) → IsThrough before now setup new s → IsUnderWay before now setup new s
+pub stays_under_way : (before now : Option (List ℕ)) (setup : List ℕ) (new : Standing) (s : State) → IsThrough before now setup new s
+    → IsUnderWay before now setup new s
 stays_under_way before now setup new s through = record {
   commands = through.commands;
   fed = record { bytes = through.bytes; read = through.read; given = through.given };
@@ -74,14 +77,16 @@ begins_with before now rs s fed = record {
   recorded = fed.given.recorded;
 }
 
-pub refused_at : (before now : Option (List ℕ)) (setup : List ℕ) (old new : Standing) (s : State) (line : ℕ) (why : Refusal) → Gives old new → new.lines ≡ line
+pub refused_at : (before now : Option (List ℕ)) (setup : List ℕ) (old new : Standing) (s : State) (line : ℕ) (why : Refusal) → Gives old new
+    → new.lines ≡ line
     → IsRefused s new.latest.command why → why ≢ refusals.Memory → IsUnderWay before now setup old s → IsRefusedAt before now line why
 refused_at before now setup old new s line why gives count refused known way =
     let given = gives way.fed.bytes way.commands way.fed.given in
     record {
       done = way.commands;
       last = new.latest;
-      begins = begins_with before now (way.commands ++ new.latest ∷ []) new (record { bytes = way.fed.bytes; read = way.fed.read; given = given });
+      begins = begins_with before now (way.commands ++ new.latest ∷ []) new
+          (record { bytes = way.fed.bytes; read = way.fed.read; given = given });
       setup = setup;
       s = s;
       leads = way.leads;
@@ -101,13 +106,18 @@ fed_on before now after piece rs old new read feeds fed = record {
 }
 
 -- at the end of the file nothing is read
-pub reads_on : (before now after : Option (List ℕ)) (bytes : List ℕ) → Consumes now after [] → Consumes before now bytes → Consumes before after bytes
-reads_on before now after bytes nothing read = subst (Consumes before after) (append-nil bytes) (Consumes-trans before now after bytes [] read nothing)
+pub reads_on : (before now after : Option (List ℕ)) (bytes : List ℕ) → Consumes now after [] → Consumes before now bytes
+    → Consumes before after bytes
+reads_on before now after bytes nothing read =
+    subst (Consumes before after) (append-nil bytes) (Consumes-trans before now after bytes [] read nothing)
 
-pub fed_to_end : (before now after : Option (List ℕ)) (rs : List Recorded) (s : Standing) → Consumes now after [] → IsFed before now rs s → IsFed before after rs s
-fed_to_end before now after rs s nothing fed = record { bytes = fed.bytes; read = reads_on before now after fed.bytes nothing fed.read; given = fed.given }
+pub fed_to_end : (before now after : Option (List ℕ)) (rs : List Recorded) (s : Standing) → Consumes now after [] → IsFed before now rs s
+    → IsFed before after rs s
+fed_to_end before now after rs s nothing fed =
+    record { bytes = fed.bytes; read = reads_on before now after fed.bytes nothing fed.read; given = fed.given }
 
-pub through_to_end : (before now after : Option (List ℕ)) (setup : List ℕ) (s : Standing) (bridge : State) → IsEnded now after → IsThrough before now setup s bridge → IsThrough before after setup s bridge
+pub through_to_end : (before now after : Option (List ℕ)) (setup : List ℕ) (s : Standing) (bridge : State) → IsEnded now after
+    → IsThrough before now setup s bridge → IsThrough before after setup s bridge
 through_to_end before now after setup s bridge ended through = record {
   commands = through.commands;
   bytes = through.bytes;
@@ -120,11 +130,13 @@ through_to_end before now after setup s bridge ended through = record {
 pub begins_fed : (file : Option (List ℕ)) (s : Standing) → HasGiven [] [] s → IsFed file file [] s
 begins_fed file s given = record { bytes = []; read = Consumes-nil file; given = given }
 
-pub stays_fed : (before now : Option (List ℕ)) (rs : List Recorded) (old new : Standing) → GivesNone old new → IsFed before now rs old → IsFed before now rs new
+pub stays_fed : (before now : Option (List ℕ)) (rs : List Recorded) (old new : Standing) → GivesNone old new → IsFed before now rs old
+    → IsFed before now rs new
 stays_fed before now rs old new gives fed = record { bytes = fed.bytes; read = fed.read; given = gives fed.bytes rs fed.given }
 
 -- where there was more to read
-pub way_on : (before now after : Option (List ℕ)) (setup : List ℕ) (old new : Standing) (s : State) → ((rs : List Recorded) → IsFed before now rs old → IsFed before after rs new)
+pub way_on : (before now after : Option (List ℕ)) (setup : List ℕ) (old new : Standing) (s : State)
+    → ((rs : List Recorded) → IsFed before now rs old → IsFed before after rs new)
     → IsThrough before now setup old s → IsUnderWay before after setup new s
 way_on before now after setup old new s feeds through = record {
   commands = through.commands;

@@ -41,7 +41,8 @@ read_of : (r : Recorded) (ask : Ask) → r.command ≡ line_text ask → AreAska
 unfolding asked
 read_of r ask e h = ap line_of e ∙ reads_back ask.session ask.command h.0
 
-parted : (os : List Recorded) (last : Recorded) (more : List Recorded) (asks : List Ask) → map command_of ((os ++ last ∷ []) ++ more) ≡ map line_text asks → AreAskable asks
+parted : (os : List Recorded) (last : Recorded) (more : List Recorded) (asks : List Ask)
+    → map command_of ((os ++ last ∷ []) ++ more) ≡ map line_text asks → AreAskable asks
     → Parted os last asks
 parted [] last more [] e h = absurd (cc)
 parted [] last more (a ∷ rest) e h = record {
@@ -84,7 +85,8 @@ no_both : {A E : Type 0} (r : Result A E) (x : A) (e : E) → r ≡ Ok x → r �
 no_both r x e p q = absurd (cc)
 
 -- what was read is a front of the file
-front_of : (file after : Option (List ℕ)) (bytes read front rest : List ℕ) → file ≡ Some bytes → Consumes file after read → read ≡ front ++ rest
+front_of : (file after : Option (List ℕ)) (bytes read front rest : List ℕ) → file ≡ Some bytes → Consumes file after read
+    → read ≡ front ++ rest
     → (more : List ℕ) × (bytes ≡ front ++ more)
 front_of None after bytes read front rest is c e = absurd (cc)
 front_of (Some xs) None bytes read front rest is c e = absurd c
@@ -93,22 +95,29 @@ front_of (Some xs) (Some ys) bytes read front rest is c e =
     (rest ++ ys, sym same ∙ c ∙ ap (λ t. t ++ ys) e ∙ append_assoc front rest ys)
 
 -- where the front leads is where the replay of its asks leads, and the next ask is answered 18 at most
-refused_ask : (command : List ℕ) (s : State) (why : Refusal) (ask : Ask) → asked command ≡ Ok ask → IsRefused s command why → Answers s ask (Refused why) s
+refused_ask : (command : List ℕ) (s : State) (why : Refusal) (ask : Ask) → asked command ≡ Ok ask → IsRefused s command why
+    → Answers s ask (Refused why) s
 refused_ask command s why ask read (inl e) = absurd (no_both _ ask why read e)
-refused_ask command s why ask read (inr r) = subst (λ a. Answers s a (Refused why) s) (same_ok (asked command) r.ask ask r.read read) r.answered
+refused_ask command s why ask read (inr r) =
+    subst (λ a. Answers s a (Refused why) s) (same_ok (asked command) r.ask ask r.read read) r.answered
 
 pub not_refused : (file after : Option (List ℕ)) (line : ℕ) (why : Refusal) → WasWritten file → IsRefusedAt file after line why → ⊥
 not_refused file after line why w r =
-    let front = front_of file after w.bytes r.begins.bytes (file_of (r.done ++ r.last ∷ [])) r.begins.rest w.is r.begins.read r.begins.front in
+    let front = front_of file after w.bytes r.begins.bytes (file_of (r.done ++ r.last ∷ [])) r.begins.rest w.is r.begins.read
+    r.begins.front in
     let longer = longest_front [] w.bytes (w.first ∷ w.others) (r.done ++ r.last ∷ []) w.rest front.0 w.reads r.begins.recorded front.1 in
-    let whole : w.first ∷ w.others ≡ r.leads.first ∷ ((r.leads.others ++ r.last ∷ []) ++ longer.0) = longer.1 ∙ ap (λ t. (t ++ r.last ∷ []) ++ longer.0) r.leads.all in
+    let whole : w.first ∷ w.others ≡ r.leads.first ∷ ((r.leads.others ++ r.last ∷ []) ++ longer.0) = longer.1
+    ∙ ap (λ t. (t ++ r.last ∷ []) ++ longer.0) r.leads.all in
     let first : w.first ≡ r.leads.first = head_of _ _ _ _ whole in
     let others : w.others ≡ (r.leads.others ++ r.last ∷ []) ++ longer.0 = tail_of _ _ _ _ whole in
     let p : Parted r.leads.others r.last (asks_of w.written) =
     parted r.leads.others r.last longer.0 (asks_of w.written) (ap (map command_of) (sym others) ∙ w.spelled) w.askable in
-    let setup : w.setup ≡ r.setup = same_ok (setup_in w.first.command) w.setup r.setup w.has_setup (ap (λ t. setup_in t.command) first ∙ r.leads.has_setup) in
+    let setup : w.setup ≡ r.setup = same_ok (setup_in w.first.command) w.setup r.setup w.has_setup
+    (ap (λ t. setup_in t.command) first ∙ r.leads.has_setup) in
     let start : w.start ≡ r.leads.start = same_ok (opened w.setup) w.start r.leads.start w.opens (ap opened setup ∙ r.leads.opens) in
     let asks : r.leads.asks ≡ p.done = same_oks _ _ (sym r.leads.read ∙ p.read) in
-    let replayed : Replays w.start p.done r.s = subst (λ a. Replays w.start a r.s) asks (subst (λ a. Replays a r.leads.asks r.s) (sym start) r.leads.replayed) in
+    let replayed : Replays w.start p.done r.s = subst (λ a. Replays w.start a r.s) asks
+    (subst (λ a. Replays a r.leads.asks r.s) (sym start) r.leads.replayed) in
     let back = lived (Handles line_text w.most) (handles_within line_text w.most) w.lives w.start w.now w.written w.lived in
-    r.not_memory (only_memory w.start w.now w.written back p.done p.ask p.rest r.s r.s why p.parts replayed (refused_ask r.last.command r.s why p.ask p.next r.refused))
+    r.not_memory (only_memory w.start w.now w.written back p.done p.ask p.rest r.s r.s why p.parts replayed
+    (refused_ask r.last.command r.s why p.ask p.next r.refused))

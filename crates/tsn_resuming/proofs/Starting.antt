@@ -15,7 +15,8 @@ use Rattle.tsn_resuming.specs.declared.resuming.Resumed.{Resumed}
 use Rattle.tsn_resuming.specs.declared.resuming.StartFault.{StartFault}
 use Rattle.tsn_resuming.specs.declared.resuming.StartFault.TheVariants.{Read, Memory, NoJournal, OtherVersion, OtherSetup, Setup, Refused}
 
-pub begun : (before now given : Option (List ℕ)) (s : Standing) (bridge : State) → IsFed before now (s.latest ∷ []) s → (b : Begins given s.latest.command bridge)
+pub begun : (before now given : Option (List ℕ)) (s : Standing) (bridge : State) → IsFed before now (s.latest ∷ []) s
+    → (b : Begins given s.latest.command bridge)
     → IsUnderWay before now b.setup s bridge
 begun before now given s bridge fed b = record {
   commands = s.latest ∷ [];
@@ -33,17 +34,20 @@ begun before now given s bridge fed b = record {
   };
 }
 
-pub has_begun : (before now given : Option (List ℕ)) (s : Standing) (bridge : State) → IsFed before now (s.latest ∷ []) s → Begins given s.latest.command bridge → HasBegun before now given s bridge
+pub has_begun : (before now given : Option (List ℕ)) (s : Standing) (bridge : State) → IsFed before now (s.latest ∷ []) s
+    → Begins given s.latest.command bridge → HasBegun before now given s bridge
 has_begun before now given s bridge fed b = record { setup = b.setup; own = b.own; way = begun before now given s bridge fed b }
 
-bad_first : (before after given : Option (List ℕ)) (s : Standing) (why : StartFault) → IsFed before after (s.latest ∷ []) s → OpensNone given s.latest.command why → HasBadFirst before after given why
+bad_first : (before after given : Option (List ℕ)) (s : Standing) (why : StartFault) → IsFed before after (s.latest ∷ []) s
+    → OpensNone given s.latest.command why → HasBadFirst before after given why
 bad_first before after given s why fed none = record {
   first = s.latest;
   begins = begins_with before after (s.latest ∷ []) s fed;
   opens_none = none;
 }
 
-fails_first : (before after : Option (List ℕ)) (failed : Bool) (given : Option (List ℕ)) (why : StartFault) → HasBadFirst before after given why → Fails before after failed given why
+fails_first : (before after : Option (List ℕ)) (failed : Bool) (given : Option (List ℕ)) (why : StartFault)
+    → HasBadFirst before after given why → Fails before after failed given why
 fails_first before after failed given Read h = absurd h.opens_none
 fails_first before after failed given Memory h = tt
 fails_first before after failed given NoJournal h = inr h
@@ -53,11 +57,13 @@ fails_first before after failed given (Setup why) h = h
 fails_first before after failed given (Refused line why) h = absurd h.opens_none
 
 -- the first line opens no bridge
-pub not_begun : (before after : Option (List ℕ)) (failed : Bool) (given : Option (List ℕ)) (s : Standing) (why : StartFault) → IsFed before after (s.latest ∷ []) s → OpensNone given s.latest.command why
+pub not_begun : (before after : Option (List ℕ)) (failed : Bool) (given : Option (List ℕ)) (s : Standing) (why : StartFault)
+    → IsFed before after (s.latest ∷ []) s → OpensNone given s.latest.command why
     → Fails before after failed given why
 not_begun before after failed given s why fed none = fails_first before after failed given why (bad_first before after given s why fed none)
 
-stops : (before after : Option (List ℕ)) (failed : Bool) (given : Option (List ℕ)) (why : StartFault) → StopsAt before after why → Fails before after failed given why
+stops : (before after : Option (List ℕ)) (failed : Bool) (given : Option (List ℕ)) (why : StartFault) → StopsAt before after why
+    → Fails before after failed given why
 stops before after failed given Read h = absurd h
 stops before after failed given Memory h = tt
 stops before after failed given NoJournal h = absurd h
@@ -66,23 +72,28 @@ stops before after failed given OtherSetup h = absurd h
 stops before after failed given (Setup why) h = absurd h
 stops before after failed given (Refused line why) h = h
 
-read_fails : (before after : Option (List ℕ)) (failed : Bool) (given : Option (List ℕ)) (why : StartFault) → why ≡ Read → failed ≡ true → Fails before after failed given why
+read_fails : (before after : Option (List ℕ)) (failed : Bool) (given : Option (List ℕ)) (why : StartFault) → why ≡ Read → failed ≡ true
+    → Fails before after failed given why
 read_fails before after failed given why is h = subst (Fails before after failed given) (sym is) h
 
-memory_fails : (before after : Option (List ℕ)) (failed : Bool) (given : Option (List ℕ)) (why : StartFault) → why ≡ Memory → Fails before after failed given why
+memory_fails : (before after : Option (List ℕ)) (failed : Bool) (given : Option (List ℕ)) (why : StartFault) → why ≡ Memory
+    → Fails before after failed given why
 memory_fails before after failed given why is = subst (Fails before after failed given) (sym is) tt
 
 -- the reading ended behind the first line
-pub stops_reading : (before after : Option (List ℕ)) (failed : Bool) (given : Option (List ℕ)) (why : StartFault) → StopsReading before after failed why → Fails before after failed given why
+pub stops_reading : (before after : Option (List ℕ)) (failed : Bool) (given : Option (List ℕ)) (why : StartFault)
+    → StopsReading before after failed why → Fails before after failed given why
 stops_reading before after failed given why (inl h) = read_fails before after failed given why h.0 h.1
 stops_reading before after failed given why (inr h) = stops before after failed given why h
 
 -- the reading ended ahead of it
-pub stops_early : (before after : Option (List ℕ)) (failed : Bool) (given : Option (List ℕ)) (why : StartFault) → ((why ≡ Read) × (failed ≡ true)) ⊎ (why ≡ Memory) → Fails before after failed given why
+pub stops_early : (before after : Option (List ℕ)) (failed : Bool) (given : Option (List ℕ)) (why : StartFault)
+    → ((why ≡ Read) × (failed ≡ true)) ⊎ (why ≡ Memory) → Fails before after failed given why
 stops_early before after failed given why (inl h) = read_fails before after failed given why h.0 h.1
 stops_early before after failed given why (inr h) = memory_fails before after failed given why h
 
-pub early_stop : (before after : Option (List ℕ)) (failed : Bool) (why : StartFault) → ((why ≡ Read) × (failed ≡ true)) ⊎ (why ≡ Memory) → StopsReading before after failed why
+pub early_stop : (before after : Option (List ℕ)) (failed : Bool) (why : StartFault) → ((why ≡ Read) × (failed ≡ true)) ⊎ (why ≡ Memory)
+    → StopsReading before after failed why
 early_stop before after failed why (inl h) = inl h
 early_stop before after failed why (inr h) = inr (subst (StopsAt before after) (sym h) tt)
 
@@ -123,7 +134,8 @@ resumed before after given setup s r all own chain lines good end through = reco
 
 -- the fault of a line that is refused, unless memory was wanting
 pub stopped : (before now : Option (List ℕ)) (line : ℕ) (why : AnyRefusal) (fault : StartFault)
-    → (fault ≡ Memory) ⊎ ((fault ≡ Refused line why) × (why ≢ refusals.Memory)) → (why ≢ refusals.Memory → IsRefusedAt before now line why) → StopsAt before now fault
+    → (fault ≡ Memory) ⊎ ((fault ≡ Refused line why) × (why ≢ refusals.Memory)) → (why ≢ refusals.Memory → IsRefusedAt before now line why)
+    → StopsAt before now fault
 stopped before now line why fault (inl e) at = subst (StopsAt before now) (sym e) tt
 stopped before now line why fault (inr p) at = subst (StopsAt before now) (sym p.0) (at p.1)
 

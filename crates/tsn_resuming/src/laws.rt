@@ -21,8 +21,8 @@ pub fn first_fits()
     ensures one_line { (setup : List ℕ) → All (λ b. b ≢ line_feed) (first_text setup) }
 {}
 
-/// What a bridge with a recorder has written behind a first command, in any number of runs, is resumed: no line of it is
-/// ever refused, but for want of memory, which is the fault `Memory`.
+/// What a bridge with a recorder has written behind a first command, in any number of runs, is resumed: no line of it
+/// is ever refused, but for want of memory, which is the fault `Memory`.
 pub fn written_is_resumed()
     ensures { (file after : Option (List ℕ)) (line : ℕ) (why : AnyRefusal) → WasWritten file → ¬ IsRefusedAt file after line why }
 {}

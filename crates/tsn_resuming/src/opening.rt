@@ -9,8 +9,8 @@ use tsn_bridge::bridge::Bridge;
 use tsn_setup::setup_of;
 use tsn_types::refusals::Refusal;
 
-/// A bridge that begins with the setup of the text; of the empty text, with the standard setup. Refused is what the text
-/// or the opening is refused, and want of memory (18) in place of any answer.
+/// A bridge that begins with the setup of the text; of the empty text, with the standard setup. Refused is what the
+/// text or the opening is refused, and want of memory (18) in place of any answer.
 #[tactic(auto, unfolding(crate::specs::Opening::opened))]
 pub fn bridge_of(alloc: Global, text: &[u8]) -> Result<Bridge, Refusal>
     ensures opened { IsOrMemory result (opened text.now) }

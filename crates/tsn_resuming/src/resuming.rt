@@ -273,9 +273,9 @@ fn begin_reading<R: ByteIn, W: Watcher>(
 }
 
 /// A bridge that goes on from a journal file: it begins with the setup in the first line, which must be the one that is
-/// given, byte for byte, if one is; and steps by the command of each further line that verifies. All of the file is read.
-/// How it ends is told in `end`, and is no fault. The watcher is told of each line as it was stepped. Memory is that of the
-/// bridge, of a piece, and at most thrice the longest line.
+/// given, byte for byte, if one is; and steps by the command of each further line that verifies. All of the file is
+/// read. How it ends is told in `end`, and is no fault. The watcher is told of each line as it was stepped. Memory is
+/// that of the bridge, of a piece, and at most thrice the longest line.
 pub fn resume<R: ByteIn, W: Watcher>(
     alloc: Global,
     file: &mut R,
@@ -285,7 +285,8 @@ pub fn resume<R: ByteIn, W: Watcher>(
     ensures goes_on { IfOk result (GoesOn (R.remaining file.old) (R.remaining file.new) (option_map (λ own. own.now) setup.entry)) }
     ensures reached { IfOk result (λ resumed. IsReached resumed.bridge) }
     ensures worked { OnOk result (R.has_failed file.new ≡ R.has_failed file.old) }
-    ensures fault { IfErr result (Fails (R.remaining file.old) (R.remaining file.new) (R.has_failed file.new) (option_map (λ own. own.now) setup.entry)) }
+    ensures fault { IfErr result (Fails (R.remaining file.old) (R.remaining file.new) (R.has_failed file.new)
+        (option_map (λ own. own.now) setup.entry)) }
 {
     let Ok(mut piece) = zeros(alloc, PIECE) else {
         return Err(StartFault::Memory);

@@ -15,10 +15,12 @@ pub record IsAt {E : Type 0} (interval : E → ℕ) (list : List E) (offset i : 
   pub from : sum_by interval (take i list) ≤ offset
   pub to : suc i < length list → offset < sum_by interval (take (suc i) list)
 
-later : {E : Type 0} (interval : E → ℕ) (x : E) (list : List E) (offset i : ℕ) → IsAt interval (x ∷ list) offset (suc i) → IsAt interval list (offset - interval x) i
+later : {E : Type 0} (interval : E → ℕ) (x : E) (list : List E) (offset i : ℕ) → IsAt interval (x ∷ list) offset (suc i)
+    → IsAt interval list (offset - interval x) i
 later interval x list offset i at = grind (arith, sum_by-cons)
 
-pub only_entry : {E : Type 0} (interval : E → ℕ) (list : List E) (offset i : ℕ) → IsAt interval list offset i → entry_at interval list offset ≡ slice_get list i
+pub only_entry : {E : Type 0} (interval : E → ℕ) (list : List E) (offset i : ℕ) → IsAt interval list offset i
+    → entry_at interval list offset ≡ slice_get list i
 only_entry interval [] offset i at = absurd (omega (arith, at.within))
 only_entry interval (x ∷ []) offset zero at = refl
 only_entry interval (x ∷ []) offset (suc i) at = absurd (omega (arith, at.within))
@@ -27,17 +29,23 @@ only_entry interval (x ∷ y ∷ list) offset (suc i) at =
     rw (le-ltb offset (interval x) (omega (arith, at.from, sum_by-cons interval x (take i (y ∷ list)))))
     (only_entry interval (y ∷ list) (offset - interval x) i (later interval x (y ∷ list) offset i at))
 
-pub only_earlier : {E : Type 0} (interval : E → ℕ) (list : List E) (offset i : ℕ) → IsAt interval list offset i → earlier_at interval list offset ≡ sum_by interval (take i list)
+pub only_earlier : {E : Type 0} (interval : E → ℕ) (list : List E) (offset i : ℕ) → IsAt interval list offset i
+    → earlier_at interval list offset ≡ sum_by interval (take i list)
 only_earlier interval [] offset i at = absurd (omega (arith, at.within))
 only_earlier interval (x ∷ []) offset zero at = refl
 only_earlier interval (x ∷ []) offset (suc i) at = absurd (omega (arith, at.within))
 only_earlier interval (x ∷ y ∷ list) offset zero at = grind arith
 only_earlier interval (x ∷ y ∷ list) offset (suc i) at =
     rw (le-ltb offset (interval x) (omega (arith, at.from, sum_by-cons interval x (take i (y ∷ list)))))
-    (omega (arith, only_earlier interval (y ∷ list) (offset - interval x) i (later interval x (y ∷ list) offset i at), sum_by-cons interval x (take i (y ∷ list))))
+    (omega (
+      arith,
+      only_earlier interval (y ∷ list) (offset - interval x) i (later interval x (y ∷ list) offset i at),
+      sum_by-cons interval x (take i (y ∷ list)),
+    ))
 
 -- sums rise
-sums_rise : {E : Type 0} (interval : E → ℕ) (list : List E) (i j : ℕ) → i ≤ j → sum_by interval (take i list) ≤ sum_by interval (take j list)
+sums_rise : {E : Type 0} (interval : E → ℕ) (list : List E) (i j : ℕ) → i ≤ j
+    → sum_by interval (take i list) ≤ sum_by interval (take j list)
 sums_rise interval [] i zero h = let z : i ≡ 0 = omega arith in rw z (omega arith)
 sums_rise interval [] zero (suc j) h = omega arith
 sums_rise interval [] (suc i) (suc j) h = omega arith
@@ -58,7 +66,8 @@ module _ {E : Type 0} (interval : E → ℕ) (list : List E) (begins : List ℕ)
   last_begun seen offset begun same small some within before after =
       let as_many : length seen ≡ length begins = ap length same in
       let from : get_or begins (begun - 1) 0 ≤ offset = rw (← same) (before (begun - 1) (omega arith)) in
-      let to : (suc (begun - 1) < length begins → offset < get_or begins (suc (begun - 1)) 0) = λ more. rw (← same) (after (suc (begun - 1)) (omega arith) (omega arith)) in
+      let to : (suc (begun - 1) < length begins → offset < get_or begins (suc (begun - 1)) 0) = λ more.
+      rw (← same) (after (suc (begun - 1)) (omega arith) (omega arith)) in
       record {
         within = omega (arith, are.within);
         from = omega (arith, are.each (begun - 1) (omega arith));

@@ -14,7 +14,8 @@ use Rattle.tsn_schedule.proofs.Meaning.{entry_is_at, runnable}
 use Rattle.tsn_schedule.proofs.Recur.{open_some}
 
 -- The list of what runs is not empty.
-runs_filled : {E : Type 0} (kept : Kept E) (acts : List (Act E)) (t : ℕ) (schedule : Schedule E) (start : ℕ) → StandsFor kept acts → kept.last ≤ t → runs_by kept t ≡ Some (schedule, start) → schedule.list ≢ []
+runs_filled : {E : Type 0} (kept : Kept E) (acts : List (Act E)) (t : ℕ) (schedule : Schedule E) (start : ℕ) → StandsFor kept acts
+    → kept.last ≤ t → runs_by kept t ≡ Some (schedule, start) → schedule.list ≢ []
 runs_filled kept acts t schedule start s h e =
     elim (in_force acts t) as (λ o. in_force acts t ≡ o → option_map (run_of t) o ≡ Some (schedule, start) → schedule.list ≢ []) [
       | None ↦ λ i j. absurd (cc)
@@ -29,5 +30,6 @@ no_entry : {E : Type 0} (interval : E → ℕ) (list : List E) (offset : ℕ) �
 no_entry interval list offset e = rw e at (entry_is_at interval list offset)
 
 -- So there is no instant at which a list runs and has no entry.
-pub has_entry : {E : Type 0} (interval : E → ℕ) (kept : Kept E) (acts : List (Act E)) (t : ℕ) (schedule : Schedule E) (start offset : ℕ) → StandsFor kept acts → kept.last ≤ t → Some (schedule, start) ≡ runs_by kept t → None ≡ entry_at interval schedule.list offset → ⊥
+pub has_entry : {E : Type 0} (interval : E → ℕ) (kept : Kept E) (acts : List (Act E)) (t : ℕ) (schedule : Schedule E) (start offset : ℕ)
+    → StandsFor kept acts → kept.last ≤ t → Some (schedule, start) ≡ runs_by kept t → None ≡ entry_at interval schedule.list offset → ⊥
 has_entry interval kept acts t schedule start offset s h runs none = grind (arith, runs_filled, no_entry)

@@ -26,8 +26,10 @@ change_is_least base y a p = grind (arith, mul_comm, reached, least)
 
 -- The entry at an offset: the sum of the earlier intervals is no more than the offset, and with its own more, or it is the last.
 one_on : {E : Type 0} (interval : E → ℕ) (x : E) (rest : List E) (offset : ℕ) → interval x ≤ offset → 0 < length rest → (o : Option E)
-    → MatchOption o (rest ≡ []) (λ entry. IsEntryAt interval rest (offset - interval x) (earlier_at interval rest (offset - interval x)) entry)
-    → MatchOption o (x ∷ rest ≡ []) (λ entry. IsEntryAt interval (x ∷ rest) offset (interval x + earlier_at interval rest (offset - interval x)) entry)
+    → MatchOption o (rest ≡ []) (λ entry. IsEntryAt interval rest (offset - interval x) (earlier_at interval rest (offset - interval x))
+    entry)
+    → MatchOption o (x ∷ rest ≡ [])
+    (λ entry. IsEntryAt interval (x ∷ rest) offset (interval x + earlier_at interval rest (offset - interval x)) entry)
 one_on interval x rest offset ge some None none = absurd (omega (arith, ap length none))
 one_on interval x rest offset ge some (Some entry) r =
     record {
@@ -38,13 +40,18 @@ one_on interval x rest offset ge some (Some entry) r =
       to = elim r.to [ inl lt ↦ inl (omega arith) | inr last ↦ inr (ap suc last) ];
     }
 
-pub entry_is_at : {E : Type 0} (interval : E → ℕ) (list : List E) (offset : ℕ) → MatchOption (entry_at interval list offset) (list ≡ []) (λ entry. IsEntryAt interval list offset (earlier_at interval list offset) entry)
+pub entry_is_at : {E : Type 0} (interval : E → ℕ) (list : List E) (offset : ℕ)
+    → MatchOption (entry_at interval list offset) (list ≡ [])
+    (λ entry. IsEntryAt interval list offset (earlier_at interval list offset) entry)
 entry_is_at interval [] offset = refl
 entry_is_at interval (x ∷ []) offset = record { place = 0; is_there = refl; sums = refl; from = omega arith; to = inr refl }
 entry_is_at interval (x ∷ y ∷ list) offset =
     elim (cases_lt offset (interval x)) [
-      | inl lt ↦ rw (lt-ltb offset (interval x) lt) (record { place = 0; is_there = refl; sums = refl; from = omega arith; to = inl (omega arith) })
-      | inr ge ↦ rw (le-ltb offset (interval x) ge) (one_on interval x (y ∷ list) offset ge (omega arith) (entry_at interval (y ∷ list) (offset - interval x)) (entry_is_at interval (y ∷ list) (offset - interval x)))
+      | inl lt ↦ rw (lt-ltb offset (interval x) lt)
+          (record { place = 0; is_there = refl; sums = refl; from = omega arith; to = inl (omega arith) })
+      | inr ge ↦ rw (le-ltb offset (interval x) ge)
+          (one_on interval x (y ∷ list) offset ge (omega arith) (entry_at interval (y ∷ list) (offset - interval x))
+          (entry_is_at interval (y ∷ list) (offset - interval x)))
     ]
 
 -- A start that isn't void has no apply after it before its change time, so its first cycle start takes place by the rule too.
@@ -67,9 +74,17 @@ record IsLatest {E : Type 0} (start : Start E) (k n : ℕ) : Type 0 where
 
 latest_is : {E : Type 0} (start : Start E) (k : ℕ) → is_void start ≡ false → IsLatest start k (latest_of start k)
 latest_is start zero valid =
-    record { number = 0; up_to = omega arith; nominal_is = omega arith; took_place = first_takes_place start valid; others = λ i l m. absurd (omega arith) }
+    record {
+      number = 0;
+      up_to = omega arith;
+      nominal_is = omega arith;
+      took_place = first_takes_place start valid;
+      others = λ i l m. absurd (omega arith);
+    }
 latest_is start (suc k) valid =
-    let f = elim (is_held_back start (nominal start (suc k))) as (λ b. is_held_back start (nominal start (suc k)) ≡ b → IsLatest start (suc k) (cond b (latest_of start k) (nominal start (suc k)))) [
+    let f = elim (is_held_back start (nominal start (suc k))) as
+    (λ b. is_held_back start (nominal start (suc k)) ≡ b
+    → IsLatest start (suc k) (cond b (latest_of start k) (nominal start (suc k)))) [
       | true ↦ λ e.
           let r : IsLatest start k (latest_of start k) = latest_is start k valid in
           record {
@@ -79,13 +94,21 @@ latest_is start (suc k) valid =
             took_place = r.took_place;
             others = λ i l m. elim (cases_lt k i) [ inl gt ↦ (let z : i ≡ suc k = omega arith in rw z e) | inr le ↦ r.others i l le ];
           }
-      | false ↦ λ e. record { number = suc k; up_to = omega arith; nominal_is = refl; took_place = e; others = λ i l m. absurd (omega arith) }
+      | false ↦ λ e. record {
+        number = suc k;
+        up_to = omega arith;
+        nominal_is = refl;
+        took_place = e;
+        others = λ i l m. absurd (omega arith);
+      }
     ] in f refl
 
 -- The same by instants.
-latest_by : {E : Type 0} (start : Start E) (t : ℕ) → 0 < start.schedule.cycle → is_void start ≡ false → start.change ≤ t → IsLatestStart start t (cycle_start start t)
+latest_by : {E : Type 0} (start : Start E) (t : ℕ) → 0 < start.schedule.cycle → is_void start ≡ false → start.change ≤ t
+    → IsLatestStart start t (cycle_start start t)
 latest_by start t some valid began =
-    let r : IsLatest start ((t - start.change) / start.schedule.cycle) (cycle_start start t) = latest_is start ((t - start.change) / start.schedule.cycle) valid in
+    let r : IsLatest start ((t - start.change) / start.schedule.cycle) (cycle_start start t) = latest_is start
+    ((t - start.change) / start.schedule.cycle) valid in
     record {
       cycles = r.number;
       on_grid = r.nominal_is;
@@ -95,7 +118,8 @@ latest_by start t some valid began =
           r.others k
           (elim (cases_lt r.number k) [
             | inl lt ↦ lt
-            | inr le ↦ let back : nominal start k ≤ nominal start r.number = nominal_le start.change start.schedule.cycle k r.number le in absurd (omega (arith, r.nominal_is))
+            | inr le ↦ let back : nominal start k ≤ nominal start r.number =
+                nominal_le start.change start.schedule.cycle k r.number le in absurd (omega (arith, r.nominal_is))
           ])
           (elim (cases_lt ((t - start.change) / start.schedule.cycle) k) [
             | inl lt ↦ let late : t < nominal start k = past start.change k start.schedule.cycle t some began lt in absurd (omega arith)
@@ -112,22 +136,27 @@ runnable_followed : {E : Type 0} (act : Act E) (all : List (Start E)) (p : Start
     → ((q : Start E → Bool) (s : Start E) → find q all ≡ Some s → IsRunnable s.schedule)
     → find p (map (followed_by act) all) ≡ Some start → IsRunnable start.schedule
 runnable_followed act all p start earlier e =
-    let f = elim (find (λ s. p (followed_by act s)) all) as (λ o. find (λ s. p (followed_by act s)) all ≡ o → option_map (followed_by act) o ≡ Some start → IsRunnable start.schedule) [
+    let f = elim (find (λ s. p (followed_by act s)) all) as
+    (λ o. find (λ s. p (followed_by act s)) all ≡ o → option_map (followed_by act) o ≡ Some start → IsRunnable start.schedule) [
       | None ↦ λ g i. cc
       | Some s ↦ λ g i. let same : s.schedule ≡ start.schedule = cc in rw (← same) (earlier (λ s. p (followed_by act s)) s g)
     ] in f refl (sym (find-map (followed_by act) p (λ s. p (followed_by act s)) (λ s. refl) all) ∙ e)
 
 runnable_more : {E : Type 0} (act : Act E) (all : List (Start E)) (o : Option (Start E)) (p : Start E → Bool) (start : Start E)
-    → ((q : Start E → Bool) (s : Start E) → find q all ≡ Some s → IsRunnable s.schedule) → ((s : Start E) → o ≡ Some s → IsRunnable s.schedule)
+    → ((q : Start E → Bool) (s : Start E) → find q all ≡ Some s → IsRunnable s.schedule)
+    → ((s : Start E) → o ≡ Some s → IsRunnable s.schedule)
     → find p (option_to_list o ++ map (followed_by act) all) ≡ Some start → IsRunnable start.schedule
 runnable_more act all o p start earlier new e = grind (arith, runnable_followed)
 
-pub runnable : {E : Type 0} (acts : List (Act E)) → IsHistory acts → (p : Start E → Bool) (start : Start E) → find p (starts acts) ≡ Some start → IsRunnable start.schedule
+pub runnable : {E : Type 0} (acts : List (Act E)) → IsHistory acts → (p : Start E → Bool) (start : Start E)
+    → find p (starts acts) ≡ Some start → IsRunnable start.schedule
 runnable [] h p start e = cc
 runnable (Enable a ∷ acts) h p start e =
     runnable_more (Enable a) (starts acts) (begun (Enable a) (starts acts)) p start (runnable acts h.2)
     (λ s i.
-    let f = elim (find (took_place a) (starts acts)) as (λ o. find (took_place a) (starts acts) ≡ o → option_map (λ (start : Start _). start_of a start.schedule) o ≡ Some s → IsRunnable s.schedule) [
+    let f = elim (find (took_place a) (starts acts)) as
+    (λ o. find (took_place a) (starts acts) ≡ o → option_map (λ (start : Start _). start_of a start.schedule) o ≡ Some s
+    → IsRunnable s.schedule) [
       | None ↦ λ g j. cc
       | Some held ↦ λ g j. let same : held.schedule ≡ s.schedule = cc in rw (← same) (runnable acts h.2 (took_place a) held g)
     ] in f refl i)
@@ -138,13 +167,17 @@ runnable (Apply schedule a ∷ acts) h p start e =
     (λ s i. let same : schedule ≡ s.schedule = cc in rw (← same) (h.1.1, h.1.2)) e
 
 -- The latest cycle start of the list in force is the latest that took place.
-pub cycle_start_is_latest : {E : Type 0} (acts : List (Act E)) (t : ℕ) (start : Start E) → IsHistory acts → in_force acts t ≡ Some start → IsLatestStart start t (cycle_start start t)
+pub cycle_start_is_latest : {E : Type 0} (acts : List (Act E)) (t : ℕ) (start : Start E) → IsHistory acts → in_force acts t ≡ Some start
+    → IsLatestStart start t (cycle_start start t)
 cycle_start_is_latest acts t start h e =
     let there : find (took_place t) (starts acts) ≡ Some start = open_some (find (took_place t) (starts acts)) start e in
-    let took : (not (is_void start) ≡ true) × (leb start.change t ≡ true) = and_parts (not (is_void start)) (leb start.change t) (found (took_place t) (starts acts) start there) in
+    let took : (not (is_void start) ≡ true)
+    × (leb start.change t ≡ true) =
+    and_parts (not (is_void start)) (leb start.change t) (found (took_place t) (starts acts) start there) in
     latest_by start t (runnable acts h (took_place t) start there).1 (not-true (is_void start) took.0) (leb-true start.change t took.1)
 
-pub errors_stay : {E : Type 0} (act : Act E) (acts : List (Act E)) → errors_in acts ≡ greatest_count → errors_in (act ∷ acts) ≡ greatest_count
+pub errors_stay : {E : Type 0} (act : Act E) (acts : List (Act E)) → errors_in acts ≡ greatest_count
+    → errors_in (act ∷ acts) ≡ greatest_count
 errors_stay act acts h = grind arith
 
 -- Where no change is pending, the change time that is told is that of the list in force.
@@ -169,7 +202,8 @@ told_again acts a t h off None now =
     ) refl
 told_again acts a t h off (Some start) now = grind arith
 
-pub told : {E : Type 0} (acts : List (Act E)) (t : ℕ) → IsHistory acts → is_pending acts t ≡ false → change_in acts ≡ option_map (λ (start : Start E). start.change) (in_force acts t)
+pub told : {E : Type 0} (acts : List (Act E)) (t : ℕ) → IsHistory acts → is_pending acts t ≡ false
+    → change_in acts ≡ option_map (λ (start : Start E). start.change) (in_force acts t)
 told [] t h now = refl
 told (Enable a ∷ acts) t h now = told_again acts a t h.2 h.1 (find (took_place a) (starts acts)) now
 told (Disable a ∷ acts) t h now = grind (arith, ended_none)

@@ -29,7 +29,8 @@ pub nominal_le : (c y i k : ℕ) → i ≤ k → c + i * y ≤ c + k * y
 nominal_le c y i k le = grind arith
 
 -- Up to the next point of the grid.
-pub round_up : (base y now : ℕ) → 0 < y → base ≤ now → 0 < (now - base) % y → now + (y - (now - base) % y) ≡ base + y * ((now - base + (y - 1)) / y)
+pub round_up : (base y now : ℕ) → 0 < y → base ≤ now → 0 < (now - base) % y
+    → now + (y - (now - base) % y) ≡ base + y * ((now - base + (y - 1)) / y)
 round_up base y now p h over = grind arith
 
 -- A change comes no earlier than its act.

@@ -68,7 +68,8 @@ enabled a = Enable 7100 ∷ disabled a
 -- the list of a stream gate
 abbrev pub gate_list : List GateEntry
 gate_list =
-    record { is_open = true; ipv = Some 5; interval = 1000; octets = Some 150 } ∷ record { is_open = false; ipv = None; interval = 1000; octets = None } ∷ []
+    record { is_open = true; ipv = Some 5; interval = 1000; octets = Some 150 }
+    ∷ record { is_open = false; ipv = None; interval = 1000; octets = None } ∷ []
 
 abbrev pub gate_acts : List (Act GateEntry)
 gate_acts = Apply (record { list = gate_list; cycle = 2000; extension = 0; base = 0 }) 0 ∷ Enable 0 ∷ []

@@ -24,12 +24,14 @@ fresh = record { enabled = false; last = 0; errors = 0; held = None; running = N
 
 abbrev pub pending_code : {E : Type 0} → Coded E → Coded (Pending E)
 pending_code {E = E} e =
-    code_by (Schedule E × ℕ) (coded× (schedule_code e) coded_ℕ) (λ p. (p.schedule, p.change)) (λ p. record { schedule = p.0; change = p.1 }) (λ _. refl)
+    code_by (Schedule E × ℕ) (coded× (schedule_code e) coded_ℕ) (λ p. (p.schedule, p.change)) (λ p. record { schedule = p.0; change = p.1 })
+    (λ _. refl)
 
 abbrev pub kept_code : {E : Type 0} → Coded E → Coded (Kept E)
 kept_code {E = E} e =
     code_by (Bool × (ℕ × (ℕ × (Option (Schedule E) × (Option ℕ × Option (Pending E))))))
-    (coded× coded_bool (coded× coded_ℕ (coded× coded_ℕ (coded× (coded_option (schedule_code e)) (coded× (coded_option coded_ℕ) (coded_option (pending_code e)))))))
+    (coded× coded_bool (coded× coded_ℕ
+    (coded× coded_ℕ (coded× (coded_option (schedule_code e)) (coded× (coded_option coded_ℕ) (coded_option (pending_code e)))))))
     (λ k. (k.enabled, (k.last, (k.errors, (k.held, (k.running, k.pending))))))
     (λ p. record { enabled = p.0; last = p.1.0; errors = p.1.1.0; held = p.1.1.1.0; running = p.1.1.1.1.0; pending = p.1.1.1.1.1 })
     (λ _. refl)

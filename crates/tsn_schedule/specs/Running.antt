@@ -53,7 +53,14 @@ change_by kept = change_with kept.running kept.pending
 -- What a runner keeps at a, once its pending schedule is taken over where that has come.
 abbrev pub settled : {E : Type 0} → Kept E → ℕ → Kept E
 settled kept a =
-    record { enabled = kept.enabled; last = a; errors = kept.errors; held = held_by kept a; running = option_map (λ p. p.1) (runs_by kept a); pending = None }
+    record {
+      enabled = kept.enabled;
+      last = a;
+      errors = kept.errors;
+      held = held_by kept a;
+      running = option_map (λ p. p.1) (runs_by kept a);
+      pending = None;
+    }
 
 -- The change time of a schedule held, if any, that starts again at a.
 abbrev pub restart : {E : Type 0} → ℕ → Option (Schedule E) → Option ℕ
@@ -68,7 +75,10 @@ abbrev pub kept_after : {E : Type 0} → Act E → Kept E → Kept E
 kept_after (Enable a) kept = record (settled kept a) { enabled = true; running = restart a (held_by kept a) }
 kept_after (Disable a) kept = record (settled kept a) { enabled = false; running = None }
 kept_after (Apply schedule a) kept =
-    record (settled kept a) { errors = counted kept schedule.base a; pending = Some (record { schedule = schedule; change = change_of schedule.base schedule.cycle a }) }
+    record (settled kept a) {
+      errors = counted kept schedule.base a;
+      pending = Some (record { schedule = schedule; change = change_of schedule.base schedule.cycle a });
+    }
 
 -- the ranges of what a runner keeps
 pub record IsInRange {E : Type 0} (instant : ℕ) (start : Option ℕ) (coming : Option (Pending E)) : Type 0 where

@@ -283,7 +283,8 @@ impl<E: Timed + Drop> Runner<E> {
         requires last { self.old.last ≤ now }
         ensures last { self.new.last ≤ now }
         ensures change { IfOk result (λ change. change ≡ change_of schedule.now.base schedule.now.cycle now) }
-        ensures stands { OnOk result ((acts : List (Act E)) → StandsFor self.old acts → StandsFor self.new (with_act (Apply schedule.now now) acts)) }
+        ensures stands { OnOk result ((acts : List (Act E)) → StandsFor self.old acts
+            → StandsFor self.new (with_act (Apply schedule.now now) acts)) }
         ensures err { OnErr result (self.new ≡ self.old) }
         ensures cause { (acts : List (Act E)) → StandsFor self.old acts →
             MatchResult result
@@ -304,12 +305,13 @@ impl<E: Timed + Drop> Runner<E> {
 }
 
 impl<E: Timed> Runner<E> {
-    /// The entry that gives the state at `t`, and when its interval began; none where the admin states stand. Past before
-    /// the last act.
+    /// The entry that gives the state at `t`, and when its interval began; none where the admin states stand. Past
+    /// before the last act.
     pub fn current_at(&self, t: Instant) -> Result<Option<Current<'_, E>>, Past>
         ensures { (acts : List (Act E)) → StandsFor self.now acts →
             MatchResult result
-            (λ current. (last_instant acts ≤ t) × (option_map (λ c. c.entry.now) current ≡ state_in E.interval acts t) × (option_map (λ c. c.began) current ≡ began_in E.interval acts t))
+            (λ current. (last_instant acts ≤ t) × (option_map (λ c. c.entry.now) current ≡ state_in E.interval acts t)
+            × (option_map (λ c. c.began) current ≡ began_in E.interval acts t))
             (λ _. t < last_instant acts) }
     {
         if self.is_past(t) {

@@ -1,5 +1,5 @@
-//! Random histories of acts. Each read of a runner is compared with a plain evaluation of the rules in words, which walks
-//! all the acts and then all the cycle starts.
+//! Random histories of acts. Each read of a runner is compared with a plain evaluation of the rules in words, which
+//! walks all the acts and then all the cycle starts.
 ghost use Rattle.std.specs.Prelude.{◌≡◌, ◌<◌, ◌≤◌, ◌^◌, IfOk};
 
 use crate::comparing::same;
@@ -147,7 +147,8 @@ fn change_in(acts: &[Act], starts: &[Start]) -> Option<u64> {
         .map(|start| start.change)
 }
 
-/// Whether the latest apply before the cycle start, coming after the start, has its change within the extension after it.
+/// Whether the latest apply before the cycle start, coming after the start, has its change within the extension after
+/// it.
 fn is_held_back(acts: &[Act], start: Start, cycle_start: u64) -> bool {
     let mut change = None;
     for act in acts.iter().skip(start.act.saturating_add(1)) {

@@ -1,5 +1,5 @@
-//! Worked examples as calls of the runner, the entry at an offset, and the largest list. What holds at the edges of lists is
-//! seen through the program too (`examples/tables/lists-edges.txt`).
+//! Worked examples as calls of the runner, the entry at an offset, and the largest list. What holds at the edges of
+//! lists is seen through the program too (`examples/tables/lists-edges.txt`).
 ghost use Rattle.std.specs.Prelude.{◌≡◌, ◌<◌, ◌≤◌, ◌^◌, IfOk};
 
 use crate::comparing::same;

@@ -12,22 +12,29 @@ use Rattle.tsn_serve.specs.Rows.{IsRow}
 use Rattle.tsn_serve.proofs.Running.{fed_whole, fed_as, broken_whole, broken_more, broken_as}
 
 -- a line that lies whole in front, and was read
-pub row_of : (bytes line : List ℕ) (r : ReadLine) → take (length line + 1) bytes ≡ line ++ line_feed ∷ [] → HasNoLineFeed line → length line ≤ longest_line → r.count ≡ length line + 1 → MayRead (Some line) r.read → IsRow bytes (r ∷ []) (drop r.count bytes)
+pub row_of : (bytes line : List ℕ) (r : ReadLine) → take (length line + 1) bytes ≡ line ++ line_feed ∷ [] → HasNoLineFeed line
+    → length line ≤ longest_line → r.count ≡ length line + 1 → MayRead (Some line) r.read → IsRow bytes (r ∷ []) (drop r.count bytes)
 row_of bytes line r front one short count read =
     let behind = drop (length line + 1) bytes in
-    let whole : bytes ≡ line ++ line_feed ∷ behind = sym (take-append-drop (length line + 1) bytes) ∙ (ap (λ t. t ++ behind) front ∙ append_assoc line (line_feed ∷ []) behind) in
+    let whole : bytes ≡ line ++ line_feed ∷ behind = sym (take-append-drop (length line + 1) bytes)
+    ∙ (ap (λ t. t ++ behind) front ∙ append_assoc line (line_feed ∷ []) behind) in
     (line, behind, whole, one, short, count, read, ap (λ n. drop n bytes) (sym count))
 
 -- one line more at the end of a row
-pub row_more : (bytes : List ℕ) (rs : List ReadLine) (mid : List ℕ) (r : ReadLine) (rest : List ℕ) → IsRow bytes rs mid → IsRow mid (r ∷ []) rest → IsRow bytes (rs ++ r ∷ []) rest
+pub row_more : (bytes : List ℕ) (rs : List ReadLine) (mid : List ℕ) (r : ReadLine) (rest : List ℕ) → IsRow bytes rs mid
+    → IsRow mid (r ∷ []) rest → IsRow bytes (rs ++ r ∷ []) rest
 row_more bytes [] mid r rest h one = subst (λ b. IsRow b (r ∷ []) rest) (sym h) one
 row_more bytes (q ∷ qs) mid r rest h one = (h.0, h.1, h.2, h.3, h.4, h.5, h.6, row_more h.1 qs mid r rest h.7 one)
 
 -- one line more that was read, behind those of a row
-pub row_read : (bytes : List ℕ) (done : ℕ) (rs : List ReadLine) (r : ReadLine) → IsRow bytes rs (drop done bytes) → IsRow (take (length bytes - done) (drop done bytes)) (r ∷ []) (drop r.count (take (length bytes - done) (drop done bytes))) → IsRow bytes (rs ++ r ∷ []) (drop (done + r.count) bytes)
+pub row_read : (bytes : List ℕ) (done : ℕ) (rs : List ReadLine) (r : ReadLine) → IsRow bytes rs (drop done bytes)
+    → IsRow (take (length bytes - done) (drop done bytes)) (r ∷ []) (drop r.count (take (length bytes - done) (drop done bytes)))
+    → IsRow bytes (rs ++ r ∷ []) (drop (done + r.count) bytes)
 row_read bytes done rs r row one =
-    let here : IsRow (drop done bytes) (r ∷ []) (drop r.count (drop done bytes)) = subst (λ b. IsRow b (r ∷ []) (drop r.count b)) (take_rest bytes done) one in
-    subst (λ b. IsRow bytes (rs ++ r ∷ []) b) (drop-drop r.count done bytes) (row_more bytes rs (drop done bytes) r (drop r.count (drop done bytes)) row here)
+    let here : IsRow (drop done bytes) (r ∷ []) (drop r.count (drop done bytes)) = subst (λ b. IsRow b (r ∷ []) (drop r.count b))
+    (take_rest bytes done) one in
+    subst (λ b. IsRow bytes (rs ++ r ∷ []) b) (drop-drop r.count done bytes)
+    (row_more bytes rs (drop done bytes) r (drop r.count (drop done bytes)) row here)
 
 -- ---- the front of a row
 
@@ -60,15 +67,22 @@ module _ (bytes : List ℕ) (r : ReadLine) (rs : List ReadLine) (rest : List ℕ
   row_behind = subst (λ b. IsRow b rs rest) (sym behind_is) h.7
 
   -- an answer to what was read is one to the line
-  pub fed_front : {S : Type 0} (answers : Answering S) (old : S) (text : List ℕ) (new : S) → ((l : Option (List ℕ)) → MayRead l r.read → answers old l text new) → Feeds answers old (Some []) (take r.count bytes) text new (Some [])
-  fed_front answers old text new all = fed_as answers old new (Some []) (Some []) line (take r.count bytes) text (sym front_is) (fed_whole answers old (Some []) h.0 text new refl h.3 h.4 (all (Some h.0) h.6))
+  pub fed_front : {S : Type 0} (answers : Answering S) (old : S) (text : List ℕ) (new : S)
+      → ((l : Option (List ℕ)) → MayRead l r.read → answers old l text new)
+      → Feeds answers old (Some []) (take r.count bytes) text new (Some [])
+  fed_front answers old text new all =
+      fed_as answers old new (Some []) (Some []) line (take r.count bytes) text (sym front_is)
+      (fed_whole answers old (Some []) h.0 text new refl h.3 h.4 (all (Some h.0) h.6))
 
   -- and one that breaks off
-  pub broken_front : {S : Type 0} (answers : Answering S) (breaks : Breaking S) (fault : Fault) (old : S) (part : List ℕ) (new : S) → ((l : Option (List ℕ)) → MayRead l r.read → breaks old l fault part new) → Breaks answers breaks fault old (Some []) bytes part new
+  pub broken_front : {S : Type 0} (answers : Answering S) (breaks : Breaking S) (fault : Fault) (old : S) (part : List ℕ) (new : S)
+      → ((l : Option (List ℕ)) → MayRead l r.read → breaks old l fault part new) → Breaks answers breaks fault old (Some []) bytes part new
   broken_front answers breaks fault old part new all =
       broken_as answers breaks fault old new (Some []) (line ++ h.1) bytes part (sym whole)
-      (broken_more answers breaks fault old new (Some []) line h.1 part (broken_whole answers breaks fault old (Some []) h.0 part new refl h.3 h.4 (all (Some h.0) h.6)))
+      (broken_more answers breaks fault old new (Some []) line h.1 part
+      (broken_whole answers breaks fault old (Some []) h.0 part new refl h.3 h.4 (all (Some h.0) h.6)))
 
 -- the row behind a line further on
-pub row_on : (bytes : List ℕ) (done : ℕ) (r : ReadLine) (rs : List ReadLine) (rest : List ℕ) → IsRow (drop done bytes) (r ∷ rs) rest → IsRow (drop (done + r.count) bytes) rs rest
+pub row_on : (bytes : List ℕ) (done : ℕ) (r : ReadLine) (rs : List ReadLine) (rest : List ℕ) → IsRow (drop done bytes) (r ∷ rs) rest
+    → IsRow (drop (done + r.count) bytes) rs rest
 row_on bytes done r rs rest h = subst (λ b. IsRow b rs rest) (drop-drop r.count done bytes) (row_behind (drop done bytes) r rs rest h)

@@ -29,7 +29,8 @@ counts_more before m made after f g fits =
     omega arith
 
 -- before the first read
-pub begun : {S : Type 0} (answers : Answering S) (now : Moment S) (kept : Option (List ℕ)) → kept ≡ Some [] → Underway answers now now kept 0
+pub begun : {S : Type 0} (answers : Answering S) (now : Moment S) (kept : Option (List ℕ)) → kept ≡ Some []
+    → Underway answers now now kept 0
 begun answers now kept e = record {
   input = [];
   text = [];
@@ -41,7 +42,8 @@ begun answers now kept e = record {
 }
 
 -- a flush failed before a read, or after the last of them
-pub flush_failed : {S : Type 0} (answers : Answering S) (breaks : Breaking S) (reads : ℕ) (old now new : Moment S) (kept : Option (List ℕ)) (made : ℕ)
+pub flush_failed : {S : Type 0} (answers : Answering S) (breaks : Breaking S) (reads : ℕ) (old now new : Moment S) (kept : Option (List ℕ))
+    (made : ℕ)
     → Underway answers old now kept made → made ≤ reads
     → new.state ≡ now.state → new.left ≡ now.left → new.calls ≡ now.calls → new.reader_failed ≡ now.reader_failed
     → Keeps now.taken new.taken → new.writer_failed ≡ true
@@ -58,7 +60,15 @@ flush_failed answers breaks reads old now new kept made u few state left calls r
   };
   few = few;
   ended = λ e. absurd (let f : false ≡ true = e in cc);
-  script = inr (refl, (u.going.lines, u.going.rest, u.going.splits, subst (λ s. Run answers old.state u.going.lines u.text s) (sym state) u.going.run));
+  script = inr (
+    refl,
+    (
+      u.going.lines,
+      u.going.rest,
+      u.going.splits,
+      subst (λ s. Run answers old.state u.going.lines u.text s) (sym state) u.going.run,
+    ),
+  );
   reader_worked = reader ∙ u.reader_worked;
   writer_failed = λ _. failed;
   writer_worked = λ other. absurd (other refl);
@@ -109,7 +119,8 @@ bound_reached answers reads old now new kept made u all state left calls took ou
 }
 
 -- a piece was read and answered
-pub fed : {S : Type 0} (answers : Answering S) (old now new : Moment S) (kept kept' : Option (List ℕ)) (made : ℕ) (piece text : List ℕ) (flushed : Option (List ℕ))
+pub fed : {S : Type 0} (answers : Answering S) (old now new : Moment S) (kept kept' : Option (List ℕ)) (made : ℕ) (piece text : List ℕ)
+    (flushed : Option (List ℕ))
     → Underway answers old now kept made → 0 < length piece
     → Consumes now.left new.left piece → Counts now.calls new.calls 1 → new.reader_failed ≡ now.reader_failed
     → Keeps now.taken flushed → Appends flushed new.taken text → new.writer_failed ≡ now.writer_failed
@@ -130,111 +141,130 @@ fed answers old now new kept kept' made piece text flushed u some left calls rea
 }
 
 -- in a piece an answer broke off
-pub feed_broke : {S : Type 0} (answers : Answering S) (breaks : Breaking S) (reads : ℕ) (fault : Fault) (old now new : Moment S) (kept : Option (List ℕ)) (made : ℕ) (piece written : List ℕ) (flushed : Option (List ℕ))
+pub feed_broke : {S : Type 0} (answers : Answering S) (breaks : Breaking S) (reads : ℕ) (fault : Fault) (old now new : Moment S)
+    (kept : Option (List ℕ)) (made : ℕ) (piece written : List ℕ) (flushed : Option (List ℕ))
     → Underway answers old now kept made → made < reads
     → Consumes now.left new.left piece → Counts now.calls new.calls 1 → new.reader_failed ≡ now.reader_failed
     → Keeps now.taken flushed → Appends flushed new.taken written
     → (fault ≡ Write → new.writer_failed ≡ true) → (fault ≢ Write → new.writer_failed ≡ now.writer_failed)
     → Breaks answers breaks fault now.state kept piece written new.state
     → IsBroken answers breaks reads fault old new
-feed_broke answers breaks reads fault old now new kept made piece written flushed u few left calls reader took wrote failed worked broken = record {
-  input = u.input ++ piece;
-  written = u.text ++ written;
-  made = made + 1;
-  at_end = false;
-  moves = record {
-    read = Consumes-trans _ _ _ _ _ u.moves.read left;
-    counts = counts_more old.calls now.calls made new.calls u.moves.counts calls;
-    wrote = Appends-trans _ _ _ _ _ (Appends-kept _ _ _ _ u.moves.wrote took) wrote;
-  };
-  few = omega arith;
-  ended = λ e. absurd (let f : false ≡ true = e in cc);
-  script = inl (broken old.state u.input u.text u.going);
-  reader_worked = reader ∙ u.reader_worked;
-  writer_failed = failed;
-  writer_worked = λ other. worked other ∙ u.writer_worked;
-}
+feed_broke answers breaks reads fault old now new kept made piece written flushed u few left calls reader took wrote failed worked broken =
+    record {
+      input = u.input ++ piece;
+      written = u.text ++ written;
+      made = made + 1;
+      at_end = false;
+      moves = record {
+        read = Consumes-trans _ _ _ _ _ u.moves.read left;
+        counts = counts_more old.calls now.calls made new.calls u.moves.counts calls;
+        wrote = Appends-trans _ _ _ _ _ (Appends-kept _ _ _ _ u.moves.wrote took) wrote;
+      };
+      few = omega arith;
+      ended = λ e. absurd (let f : false ≡ true = e in cc);
+      script = inl (broken old.state u.input u.text u.going);
+      reader_worked = reader ∙ u.reader_worked;
+      writer_failed = failed;
+      writer_worked = λ other. worked other ∙ u.writer_worked;
+    }
 
 -- at the end of the input the last answer broke off
-pub finish_broke : {S : Type 0} (answers : Answering S) (breaks : Breaking S) (reads : ℕ) (fault : Fault) (old now new : Moment S) (kept : Option (List ℕ)) (made : ℕ) (written : List ℕ) (flushed : Option (List ℕ))
+pub finish_broke : {S : Type 0} (answers : Answering S) (breaks : Breaking S) (reads : ℕ) (fault : Fault) (old now new : Moment S)
+    (kept : Option (List ℕ)) (made : ℕ) (written : List ℕ) (flushed : Option (List ℕ))
     → Underway answers old now kept made → made < reads
     → Consumes now.left new.left [] → IsAtEnd new.left → Counts now.calls new.calls 1 → new.reader_failed ≡ now.reader_failed
     → Keeps now.taken flushed → Appends flushed new.taken written
     → (fault ≡ Write → new.writer_failed ≡ true) → (fault ≢ Write → new.writer_failed ≡ now.writer_failed)
     → EndBreaks answers breaks fault now.state kept written new.state
     → IsBroken answers breaks reads fault old new
-finish_broke answers breaks reads fault old now new kept made written flushed u few left at_end calls reader took wrote failed worked broken = record {
-  input = u.input;
-  written = u.text ++ written;
-  made = made + 1;
-  at_end = true;
-  moves = record {
-    read = subst (λ l. Consumes old.left new.left l) (append-nil u.input) (Consumes-trans _ _ _ _ _ u.moves.read left);
-    counts = counts_more old.calls now.calls made new.calls u.moves.counts calls;
-    wrote = Appends-trans _ _ _ _ _ (Appends-kept _ _ _ _ u.moves.wrote took) wrote;
-  };
-  few = omega arith;
-  ended = λ _. at_end;
-  script = inl (broken old.state u.input u.text u.going);
-  reader_worked = reader ∙ u.reader_worked;
-  writer_failed = failed;
-  writer_worked = λ other. worked other ∙ u.writer_worked;
-}
+finish_broke answers breaks reads fault old now new kept made written flushed u few left at_end calls reader took wrote failed worked
+    broken =
+    record {
+      input = u.input;
+      written = u.text ++ written;
+      made = made + 1;
+      at_end = true;
+      moves = record {
+        read = subst (λ l. Consumes old.left new.left l) (append-nil u.input) (Consumes-trans _ _ _ _ _ u.moves.read left);
+        counts = counts_more old.calls now.calls made new.calls u.moves.counts calls;
+        wrote = Appends-trans _ _ _ _ _ (Appends-kept _ _ _ _ u.moves.wrote took) wrote;
+      };
+      few = omega arith;
+      ended = λ _. at_end;
+      script = inl (broken old.state u.input u.text u.going);
+      reader_worked = reader ∙ u.reader_worked;
+      writer_failed = failed;
+      writer_worked = λ other. worked other ∙ u.writer_worked;
+    }
 
 -- all lines were answered, and the last flush failed
-pub last_flush_failed : {S : Type 0} (answers : Answering S) (breaks : Breaking S) (reads : ℕ) (old now new : Moment S) (kept : Option (List ℕ)) (made : ℕ) (text : List ℕ) (flushed taken : Option (List ℕ))
+pub last_flush_failed : {S : Type 0} (answers : Answering S) (breaks : Breaking S) (reads : ℕ) (old now new : Moment S)
+    (kept : Option (List ℕ)) (made : ℕ) (text : List ℕ) (flushed taken : Option (List ℕ))
     → Underway answers old now kept made → made < reads
     → Consumes now.left new.left [] → IsAtEnd new.left → Counts now.calls new.calls 1 → new.reader_failed ≡ now.reader_failed
     → Keeps now.taken flushed → Appends flushed taken text → Keeps taken new.taken → new.writer_failed ≡ true
     → Ends answers now.state kept text new.state
     → IsBroken answers breaks reads Write old new
-last_flush_failed answers breaks reads old now new kept made text flushed taken u few left at_end calls reader took wrote kept_on failed ends = record {
-  input = u.input;
-  written = u.text ++ text;
-  made = made + 1;
-  at_end = true;
-  moves = record {
-    read = subst (λ l. Consumes old.left new.left l) (append-nil u.input) (Consumes-trans _ _ _ _ _ u.moves.read left);
-    counts = counts_more old.calls now.calls made new.calls u.moves.counts calls;
-    wrote = Appends-kept _ _ _ _ (Appends-trans _ _ _ _ _ (Appends-kept _ _ _ _ u.moves.wrote took) wrote) kept_on;
-  };
-  few = omega arith;
-  ended = λ _. at_end;
-  script = inr (refl, ends old.state u.input u.text u.going);
-  reader_worked = reader ∙ u.reader_worked;
-  writer_failed = λ _. failed;
-  writer_worked = λ other. absurd (other refl);
-}
+last_flush_failed answers breaks reads old now new kept made text flushed taken u few left at_end calls reader took wrote kept_on failed
+    ends =
+    record {
+      input = u.input;
+      written = u.text ++ text;
+      made = made + 1;
+      at_end = true;
+      moves = record {
+        read = subst (λ l. Consumes old.left new.left l) (append-nil u.input) (Consumes-trans _ _ _ _ _ u.moves.read left);
+        counts = counts_more old.calls now.calls made new.calls u.moves.counts calls;
+        wrote = Appends-kept _ _ _ _ (Appends-trans _ _ _ _ _ (Appends-kept _ _ _ _ u.moves.wrote took) wrote) kept_on;
+      };
+      few = omega arith;
+      ended = λ _. at_end;
+      script = inr (refl, ends old.state u.input u.text u.going);
+      reader_worked = reader ∙ u.reader_worked;
+      writer_failed = λ _. failed;
+      writer_worked = λ other. absurd (other refl);
+    }
 
 -- all lines were answered, and nothing is held back
-pub completed : {S : Type 0} (answers : Answering S) (reads : ℕ) (old now new : Moment S) (kept : Option (List ℕ)) (made : ℕ) (text : List ℕ) (flushed taken : Option (List ℕ))
+pub completed : {S : Type 0} (answers : Answering S) (reads : ℕ) (old now new : Moment S) (kept : Option (List ℕ)) (made : ℕ)
+    (text : List ℕ) (flushed taken : Option (List ℕ))
     → Underway answers old now kept made → made < reads
     → Consumes now.left new.left [] → IsAtEnd new.left → Counts now.calls new.calls 1 → new.reader_failed ≡ now.reader_failed
-    → Keeps now.taken flushed → Appends flushed taken text → Keeps taken new.taken → new.held_back ≡ [] → new.writer_failed ≡ now.writer_failed
+    → Keeps now.taken flushed → Appends flushed taken text → Keeps taken new.taken → new.held_back ≡ []
+    → new.writer_failed ≡ now.writer_failed
     → Ends answers now.state kept text new.state
     → Completes answers reads old new
-completed answers reads old now new kept made text flushed taken u few left at_end calls reader took wrote kept_on out writer ends = record {
-  input = u.input;
-  text = u.text ++ text;
-  made = made + 1;
-  moves = record {
-    read = subst (λ l. Consumes old.left new.left l) (append-nil u.input) (Consumes-trans _ _ _ _ _ u.moves.read left);
-    counts = counts_more old.calls now.calls made new.calls u.moves.counts calls;
-    wrote = Appends-kept _ _ _ _ (Appends-trans _ _ _ _ _ (Appends-kept _ _ _ _ u.moves.wrote took) wrote) kept_on;
-  };
-  few = omega arith;
-  at_end = at_end;
-  script = ends old.state u.input u.text u.going;
-  handed_on = out;
-  reader_worked = reader ∙ u.reader_worked;
-  writer_worked = writer ∙ u.writer_worked;
-}
+completed answers reads old now new kept made text flushed taken u few left at_end calls reader took wrote kept_on out writer ends =
+    record {
+      input = u.input;
+      text = u.text ++ text;
+      made = made + 1;
+      moves = record {
+        read = subst (λ l. Consumes old.left new.left l) (append-nil u.input) (Consumes-trans _ _ _ _ _ u.moves.read left);
+        counts = counts_more old.calls now.calls made new.calls u.moves.counts calls;
+        wrote = Appends-kept _ _ _ _ (Appends-trans _ _ _ _ _ (Appends-kept _ _ _ _ u.moves.wrote took) wrote) kept_on;
+      };
+      few = omega arith;
+      at_end = at_end;
+      script = ends old.state u.input u.text u.going;
+      handed_on = out;
+      reader_worked = reader ∙ u.reader_worked;
+      writer_worked = writer ∙ u.writer_worked;
+    }
 
 -- an answer that broke off ends the run, by its own fault
-pub broken_by : {S : Type 0} (answers : Answering S) (breaks : Breaking S) (reads : ℕ) (fault : Fault) (old new : Moment S) → (fault ≡ Write) ⊎ (fault ≡ Exhausted) → IsBroken answers breaks reads fault old new → Outcome answers breaks reads old new (Err fault)
-broken_by answers breaks reads fault old new (inl write) b = subst (λ f. Outcome answers breaks reads old new (Err f)) (sym write) (subst (λ f. IsBroken answers breaks reads f old new) write b)
-broken_by answers breaks reads fault old new (inr exhausted) b = subst (λ f. Outcome answers breaks reads old new (Err f)) (sym exhausted) (subst (λ f. IsBroken answers breaks reads f old new) exhausted b)
+pub broken_by : {S : Type 0} (answers : Answering S) (breaks : Breaking S) (reads : ℕ) (fault : Fault) (old new : Moment S)
+    → (fault ≡ Write) ⊎ (fault ≡ Exhausted) → IsBroken answers breaks reads fault old new → Outcome answers breaks reads old new (Err fault)
+broken_by answers breaks reads fault old new (inl write) b =
+    subst (λ f. Outcome answers breaks reads old new (Err f)) (sym write) (subst (λ f. IsBroken answers breaks reads f old new) write b)
+broken_by answers breaks reads fault old new (inr exhausted) b =
+    subst (λ f. Outcome answers breaks reads old new (Err f)) (sym exhausted)
+    (subst (λ f. IsBroken answers breaks reads f old new) exhausted b)
 
 -- a run told of states that equal its own
-pub outcome_as : {S : Type 0} (answers : Answering S) (breaks : Breaking S) (reads : ℕ) (old new : Moment S) (x y : S) (r : Result (Unit {0}) Fault) → old.state ≡ x → new.state ≡ y → Outcome answers breaks reads old new r → Outcome answers breaks reads (record old { state = x }) (record new { state = y }) r
-outcome_as answers breaks reads old new x y r e f o = subst (λ s. Outcome answers breaks reads (record old { state = s }) (record new { state = y }) r) e (subst (λ s. Outcome answers breaks reads old (record new { state = s }) r) f o)
+pub outcome_as : {S : Type 0} (answers : Answering S) (breaks : Breaking S) (reads : ℕ) (old new : Moment S) (x y : S)
+    (r : Result (Unit {0}) Fault) → old.state ≡ x → new.state ≡ y → Outcome answers breaks reads old new r → Outcome answers breaks reads
+    (record old { state = x }) (record new { state = y }) r
+outcome_as answers breaks reads old new x y r e f o =
+    subst (λ s. Outcome answers breaks reads (record old { state = s }) (record new { state = y }) r) e
+    (subst (λ s. Outcome answers breaks reads old (record new { state = s }) r) f o)

@@ -28,7 +28,8 @@ record IsTold (old : Caller) (line : Option (List ℕ)) (reply : Reply) (new : C
   own : call_of old.number asked reply ≢ [] → calls_by new.number new.seen ≡ new.made
 
 -- a line that is refused with no call
-told_refused : (old : Caller) (line : Option (List ℕ)) (reply : Reply) (new : Caller) (why : Refusal) → reply ≡ replies.Refused why → IsRefusedFor old.latest line why → new ≡ old → IsTold old line reply new
+told_refused : (old : Caller) (line : Option (List ℕ)) (reply : Reply) (new : Caller) (why : Refusal) → reply ≡ replies.Refused why
+    → IsRefusedFor old.latest line why → new ≡ old → IsTold old line reply new
 told_refused old line reply new why is for same = record {
   asked = None;
   exchanged = (why, is, for);
@@ -40,7 +41,8 @@ told_refused old line reply new why is for same = record {
 }
 
 -- a line that a call answers
-told_call : (old : Caller) (text : List ℕ) (ask : Ask) (reply : Reply) (new : Caller) → line_of text ≡ Ok ask → MayAsk old.latest ask → Calls old ask reply new → IsTold old (Some text) reply new
+told_call : (old : Caller) (text : List ℕ) (ask : Ask) (reply : Reply) (new : Caller) → line_of text ≡ Ok ask → MayAsk old.latest ask
+    → Calls old ask reply new → IsTold old (Some text) reply new
 told_call old text ask reply new reads may c =
     let goes = calls_goes old ask reply new c in record {
       asked = Some ask;
@@ -52,7 +54,8 @@ told_call old text ask reply new reads may c =
       own = λ _. subst (λ n. calls_by n new.seen ≡ new.made) (sym goes.number) c.all_own;
     }
 
-told_read : (old : Caller) (text : List ℕ) (what : Result Ask Refusal) (reply : Reply) (new : Caller) → line_of text ≡ what → Replies Asks old what reply new → IsTold old (Some text) reply new
+told_read : (old : Caller) (text : List ℕ) (what : Result Ask Refusal) (reply : Reply) (new : Caller) → line_of text ≡ what
+    → Replies Asks old what reply new → IsTold old (Some text) reply new
 told_read old text (Ok ask) reply new reads h = elim h [
   | inl p ↦ told_call old text ask reply new reads p.0 p.1
   | inr r ↦ told_refused old (Some text) reply new refusals.NoSession r.1 (inr (inr (refl, (ask, reads, r.0)))) r.2
@@ -76,27 +79,37 @@ some_of [] ys h = inr h
 some_of (x ∷ xs) ys h = inl (λ e. cc)
 
 -- what holds after a line goes on over the lines behind it, whose calls tell it anew
-legal_on : (mid new : Caller) (first rest : List (Entry Ask Reply)) → Goes mid new → (first ≢ [] → IsLegal Turns mid.first mid.seen) → (rest ≢ [] → IsLegal Turns new.first new.seen) → first ++ rest ≢ [] → IsLegal Turns new.first new.seen
+legal_on : (mid new : Caller) (first rest : List (Entry Ask Reply)) → Goes mid new → (first ≢ [] → IsLegal Turns mid.first mid.seen)
+    → (rest ≢ [] → IsLegal Turns new.first new.seen) → first ++ rest ≢ [] → IsLegal Turns new.first new.seen
 legal_on mid new first rest goes one more some = elim (some_of first rest some) [ inl f ↦ goes.legal (one f) | inr r ↦ more r ]
 
-own_on : (mid new : Caller) (first rest : List (Entry Ask Reply)) → Goes mid new → (first ≢ [] → calls_by mid.number mid.seen ≡ mid.made) → (rest ≢ [] → calls_by new.number new.seen ≡ new.made) → first ++ rest ≢ [] → calls_by new.number new.seen ≡ new.made
+own_on : (mid new : Caller) (first rest : List (Entry Ask Reply)) → Goes mid new → (first ≢ [] → calls_by mid.number mid.seen ≡ mid.made)
+    → (rest ≢ [] → calls_by new.number new.seen ≡ new.made) → first ++ rest ≢ [] → calls_by new.number new.seen ≡ new.made
 own_on mid new first rest goes one more some = elim (some_of first rest some) [ inl f ↦ goes.own (one f) | inr r ↦ more r ]
 
 -- a line in front of others
-served_more : (old mid new : Caller) (line : List ℕ) (lines : List (List ℕ)) (reply : Reply) (more text : List ℕ) → IsTold old (short_line line) reply mid → IsServed mid lines more new → text ≡ reply_text reply ++ more → IsServed old (line ∷ lines) text new
+served_more : (old mid new : Caller) (line : List ℕ) (lines : List (List ℕ)) (reply : Reply) (more text : List ℕ)
+    → IsTold old (short_line line) reply mid → IsServed mid lines more new → text ≡ reply_text reply ++ more
+    → IsServed old (line ∷ lines) text new
 served_more old mid new line lines reply more text t s whole =
-    let under : calls_of old.number s.exchanges ≡ calls_of mid.number s.exchanges = ap (λ n. calls_of n s.exchanges) (sym t.goes.number) in record {
+    let under : calls_of old.number s.exchanges ≡ calls_of mid.number s.exchanges = ap (λ n. calls_of n s.exchanges) (sym t.goes.number) in
+    record {
       exchanges = record { line = short_line line; asked = t.asked; reply = reply } ∷ s.exchanges;
       each_line = ap (λ ls. short_line line ∷ ls) s.each_line;
       each = (t.exchanged, subst (λ l. AreExchanged l s.exchanges new.latest) t.latest s.each);
       text_is = whole ∙ ap (λ w. reply_text reply ++ w) s.text_is;
-      calls = s.calls ∙ (ap (λ l. l ++ calls_of mid.number s.exchanges) t.made ∙ (append_assoc old.made (call_of old.number t.asked reply) (calls_of mid.number s.exchanges) ∙ ap (λ l. old.made ++ (call_of old.number t.asked reply ++ l)) (sym under)));
+      calls = s.calls ∙ (ap (λ l. l ++ calls_of mid.number s.exchanges) t.made
+          ∙ (append_assoc old.made (call_of old.number t.asked reply) (calls_of mid.number s.exchanges)
+          ∙ ap (λ l. old.made ++ (call_of old.number t.asked reply ++ l)) (sym under)));
       goes = on old mid new t.goes s.goes;
-      legal = λ some. legal_on mid new (call_of old.number t.asked reply) (calls_of old.number s.exchanges) s.goes t.legal (λ r. s.legal (λ e. r (under ∙ e))) some;
-      own = λ some. own_on mid new (call_of old.number t.asked reply) (calls_of old.number s.exchanges) s.goes t.own (λ r. s.own (λ e. r (under ∙ e))) some;
+      legal = λ some. legal_on mid new (call_of old.number t.asked reply) (calls_of old.number s.exchanges) s.goes t.legal
+          (λ r. s.legal (λ e. r (under ∙ e))) some;
+      own = λ some. own_on mid new (call_of old.number t.asked reply) (calls_of old.number s.exchanges) s.goes t.own
+          (λ r. s.own (λ e. r (under ∙ e))) some;
     }
 
-pub served : (old : Caller) (lines : List (List ℕ)) (text : List ℕ) (new : Caller) → Run Talks old lines text new → IsServed old lines text new
+pub served : (old : Caller) (lines : List (List ℕ)) (text : List ℕ) (new : Caller) → Run Talks old lines text new
+    → IsServed old lines text new
 served old [] text new h = record {
   exchanges = [];
   each_line = refl;
@@ -109,4 +122,5 @@ served old [] text new h = record {
 }
 served old (line ∷ lines) text new h =
     let says = h.3 in
-    served_more old h.0 new line lines says.0 h.2 text (told old (short_line line) says.0 h.0 says.1) (served h.0 lines h.2 new h.4) (h.5 ∙ ap (λ w. w ++ h.2) says.2)
+    served_more old h.0 new line lines says.0 h.2 text (told old (short_line line) says.0 h.0 says.1) (served h.0 lines h.2 new h.4)
+    (h.5 ∙ ap (λ w. w ++ h.2) says.2)

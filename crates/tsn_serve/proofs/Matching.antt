@@ -3,7 +3,8 @@ use Rattle.std.proofs.lemmas.List.{get_or-map, length-map}
 use Rattle.std.proofs.Common.{All, map, subst, arith, Result, Ok, Err, IfOk, ◌≡◌, ℕ, suc, List, [], ◌∷◌, length, slice_get, Some, refl}
 use Rattle.tsn_serve.specs.Serving.{Matched}
 
-pub matched : {X Y : Type 0} (R : X → Y → Type 0) (xs : List X) (ys : List Y) → length ys ≡ length xs → ((k : ℕ) (x : X) (y : Y) → slice_get xs k ≡ Some x → slice_get ys k ≡ Some y → R x y) → Matched R xs ys
+pub matched : {X Y : Type 0} (R : X → Y → Type 0) (xs : List X) (ys : List Y) → length ys ≡ length xs
+    → ((k : ℕ) (x : X) (y : Y) → slice_get xs k ≡ Some x → slice_get ys k ≡ Some y → R x y) → Matched R xs ys
 matched R [] [] len each = tt
 matched R [] (y ∷ ys) len each = cc
 matched R (x ∷ xs) [] len each = cc

@@ -15,7 +15,8 @@ use Rattle.tsn_serve.specs.Talk.{Caller, Asks, BreaksTalk}
 use Rattle.tsn_serve.specs.Outcomes.{Moment, Outcome}
 
 -- a reply that was cut off
-pub broke_in_writing : {S T : Type 0} (replying : Replying S) (r : Result T Fault) (old : S) (line : Option (List ℕ)) (reply : Reply) (new : S) (taken taken' : Option (List ℕ))
+pub broke_in_writing : {S T : Type 0} (replying : Replying S) (r : Result T Fault) (old : S) (line : Option (List ℕ)) (reply : Reply)
+    (new : S) (taken taken' : Option (List ℕ))
     → Says replying old line reply new → IfErr r (λ e. e ≡ Write) → OnErr r (IsCut taken taken' (reply_text reply))
     → IfErr r (λ e. (part : List ℕ) × CutsText replying old line e part new × Appends taken taken' part)
 broke_in_writing replying (Ok x) old line reply new taken taken' says write cut = tt
@@ -23,7 +24,8 @@ broke_in_writing replying (Err e) old line reply new taken taken' says write cut
     (take cut.0 (reply_text reply), (write, (reply_text reply, (reply, says, refl), (cut.0, cut.1, refl))), cut.2)
 
 -- the same of a reply of a connection
-pub broke_in_talking : {T : Type 0} (r : Result T Fault) (old : Caller) (line : Option (List ℕ)) (reply : Reply) (new : Caller) (taken taken' : Option (List ℕ))
+pub broke_in_talking : {T : Type 0} (r : Result T Fault) (old : Caller) (line : Option (List ℕ)) (reply : Reply) (new : Caller)
+    (taken taken' : Option (List ℕ))
     → Says Asks old line reply new → IfErr r (λ e. e ≡ Write) → OnErr r (IsCut taken taken' (reply_text reply))
     → IfErr r (λ e. (part : List ℕ) × BreaksTalk old line e part new × Appends taken taken' part)
 broke_in_talking (Ok x) old line reply new taken taken' says write cut = tt
@@ -31,15 +33,21 @@ broke_in_talking (Err e) old line reply new taken taken' says write cut =
     let h = broke_in_writing {T = Unit {0}} Asks (Err e) old line reply new taken taken' says write cut in (h.0, inl h.1, h.2)
 
 -- the same of whatever line was read so
-pub cut_for_each : {T : Type 0} (r : Result T Fault) (old : Caller) (read : Result Ask Refusal) (reply : Reply) (new : Caller) (taken taken' : Option (List ℕ))
+pub cut_for_each : {T : Type 0} (r : Result T Fault) (old : Caller) (read : Result Ask Refusal) (reply : Reply) (new : Caller)
+    (taken taken' : Option (List ℕ))
     → Replies Asks old read reply new → IfErr r (λ e. e ≡ Write) → OnErr r (IsCut taken taken' (reply_text reply))
-    → IfErr r (λ e. (part : List ℕ) × ((line : Option (List ℕ)) → MayRead line read → BreaksTalk old line e part new) × Appends taken taken' part)
+    → IfErr r (λ e. (part : List ℕ) × ((line : Option (List ℕ)) → MayRead line read → BreaksTalk old line e part new)
+    × Appends taken taken' part)
 cut_for_each (Ok x) old read reply new taken taken' replies write cut = tt
-cut_for_each (Err e) old read reply new taken taken' replies write cut =
-    (take cut.0 (reply_text reply), (λ line may. inl (write, (reply_text reply, (reply, (read, may, replies), refl), (cut.0, cut.1, refl)))), cut.2)
+cut_for_each (Err e) old read reply new taken taken' replies write cut = (
+  take cut.0 (reply_text reply),
+  (λ line may. inl (write, (reply_text reply, (reply, (read, may, replies), refl), (cut.0, cut.1, refl)))),
+  cut.2,
+)
 
 -- a bridge is never exhausted
-pub never_exhausted : (reads : ℕ) (old new : Moment State) (r : Result (Unit {0}) Fault) → Outcome Answers BreaksInWriting reads old new r → r ≢ Err Exhausted
+pub never_exhausted : (reads : ℕ) (old new : Moment State) (r : Result (Unit {0}) Fault) → Outcome Answers BreaksInWriting reads old new r
+    → r ≢ Err Exhausted
 never_exhausted reads old new (Ok u) o e = cc
 never_exhausted reads old new (Err Read) o e = cc
 never_exhausted reads old new (Err Write) o e = cc

@@ -43,7 +43,16 @@ call_code =
 abbrev pub caller_code : Coded Caller
 caller_code =
     code_by (DeskId × (State × (ℕ × (List (Entry Ask Reply) × (List (Entry Ask Reply) × (ℕ × Option ℕ))))))
-    (coded× table_id_coded (coded× state_code (coded× coded_ℕ (coded× (coded_list call_code) (coded× (coded_list call_code) (coded× coded_ℕ (coded_option coded_ℕ)))))))
+    (coded× table_id_coded (coded× state_code
+    (coded× coded_ℕ (coded× (coded_list call_code) (coded× (coded_list call_code) (coded× coded_ℕ (coded_option coded_ℕ)))))))
     (λ c. (c.desk, (c.first, (c.number, (c.seen, (c.made, (c.tickets, c.latest)))))))
-    (λ p. record { desk = p.0; first = p.1.0; number = p.1.1.0; seen = p.1.1.1.0; made = p.1.1.1.1.0; tickets = p.1.1.1.1.1.0; latest = p.1.1.1.1.1.1 })
+    (λ p. record {
+      desk = p.0;
+      first = p.1.0;
+      number = p.1.1.0;
+      seen = p.1.1.1.0;
+      made = p.1.1.1.1.0;
+      tickets = p.1.1.1.1.1.0;
+      latest = p.1.1.1.1.1.1;
+    })
     (λ _. refl)

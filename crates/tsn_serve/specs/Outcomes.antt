@@ -22,7 +22,8 @@ pub record Moment (S : Type 0) : Type 0 where
   pub writer_failed : Bool
 
 -- The moment of a state, a reader and a writer, by what reader and writer tell of themselves.
-abbrev pub moment : {S R W : Type 0} → (R → Option (List ℕ)) → (R → ℕ) → (R → Bool) → (W → Option (List ℕ)) → (W → List ℕ) → (W → Bool) → S → R → W → Moment S
+abbrev pub moment : {S R W : Type 0} → (R → Option (List ℕ)) → (R → ℕ) → (R → Bool) → (W → Option (List ℕ)) → (W → List ℕ) → (W → Bool) → S
+    → R → W → Moment S
 moment remaining calls reader_failed taken pending writer_failed s r w = record {
   state = s;
   left = remaining r;
@@ -68,19 +69,20 @@ pub record BreaksOff {S : Type 0} (answers : Answering S) (reads : ℕ) (old new
 
 -- By this fault the answer broke off to one of the lines that ended, by a line feed or by the end of the input; or the
 -- writer took all replies to these lines, and failed to hand on what it held back.
-pub record IsBroken {S : Type 0} (answers : Answering S) (breaks : Breaking S) (reads : ℕ) (fault : Fault) (old new : Moment S) : Type 0 where
-  pub input : List ℕ
-  pub written : List ℕ
-  pub made : ℕ
-  pub at_end : Bool
-  pub moves : Moves old new input written made
-  pub few : made ≤ reads
-  pub ended : at_end ≡ true → IsAtEnd new.left
-  pub script : BrokenScript answers breaks fault at_end old.state input written new.state
-      ⊎ ((fault ≡ Write) × AllAnswered answers at_end old.state input written new.state)
-  pub reader_worked : new.reader_failed ≡ old.reader_failed
-  pub writer_failed : fault ≡ Write → new.writer_failed ≡ true
-  pub writer_worked : fault ≢ Write → new.writer_failed ≡ old.writer_failed
+pub record IsBroken {S : Type 0} (answers : Answering S) (breaks : Breaking S) (reads : ℕ) (fault : Fault) (old new : Moment S) : Type 0
+  where
+    pub input : List ℕ
+    pub written : List ℕ
+    pub made : ℕ
+    pub at_end : Bool
+    pub moves : Moves old new input written made
+    pub few : made ≤ reads
+    pub ended : at_end ≡ true → IsAtEnd new.left
+    pub script : BrokenScript answers breaks fault at_end old.state input written new.state
+        ⊎ ((fault ≡ Write) × AllAnswered answers at_end old.state input written new.state)
+    pub reader_worked : new.reader_failed ≡ old.reader_failed
+    pub writer_failed : fault ≡ Write → new.writer_failed ≡ true
+    pub writer_worked : fault ≢ Write → new.writer_failed ≡ old.writer_failed
 
 -- How a run with so many reads at most ends. Where memory was wanting, nothing was read, written or changed.
 abbrev pub Outcome : {S : Type 0} → Answering S → Breaking S → ℕ → Moment S → Moment S → Result (Unit {0}) Fault → Type 0

@@ -5,7 +5,8 @@ use Rattle.tsn_bytes.specs.declared.bytes.Fault.{Fault}
 use Rattle.tsn_serve.specs.Script.{Answering, Breaking, Run, IsScript, BrokenScript}
 
 -- The input so far is whole lines, which were answered, and a rest, of which this is held.
-pub record Going {S : Type 0} (answers : Answering S) (opening : S) (input : List ℕ) (kept : Option (List ℕ)) (text : List ℕ) (now : S) : Type 0 where
+pub record Going {S : Type 0} (answers : Answering S) (opening : S) (input : List ℕ) (kept : Option (List ℕ)) (text : List ℕ)
+    (now : S) : Type 0 where
   pub lines : List (List ℕ)
   pub rest : List ℕ
   pub splits : Splits input lines rest

@@ -23,7 +23,8 @@ IsRow bytes (r ∷ rs) rest =
 
 -- Where nothing is kept of a line: so many bytes in front are whole lines, one at least, which were answered; or an answer to one of the
 -- lines broke off by this fault. What was written is the text of the answers, as far as it goes.
-abbrev pub AnswersFront : {S : Type 0} → Answering S → Breaking S → S → List ℕ → Option (List ℕ) → Option (List ℕ) → Result ℕ Fault → S → Type 0
+abbrev pub AnswersFront : {S : Type 0} → Answering S → Breaking S → S → List ℕ → Option (List ℕ) → Option (List ℕ) → Result ℕ Fault → S
+    → Type 0
 AnswersFront answers breaks old bytes taken taken' (Ok n) new =
     (0 < n) × (n ≤ length bytes)
     × ((text : List ℕ) × Feeds answers old (Some []) (take n bytes) text new (Some []) × Appends taken taken' text)

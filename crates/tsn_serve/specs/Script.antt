@@ -55,7 +55,8 @@ AreFirst at_end input lines line =
 
 -- The text of a script that broke off in an answer: a run over the first lines, of which each reply went out, and
 -- then a line whose answer broke off. The state is that after this line.
-pub record BrokenScript {S : Type 0} (answers : Answering S) (breaks : Breaking S) (fault : Fault) (at_end : Bool) (opening : S) (input written : List ℕ) (now : S) : Type 0 where
+pub record BrokenScript {S : Type 0} (answers : Answering S) (breaks : Breaking S) (fault : Fault) (at_end : Bool) (opening : S)
+    (input written : List ℕ) (now : S) : Type 0 where
   pub lines : List (List ℕ)
   pub line : List ℕ
   pub text : List ℕ

@@ -18,7 +18,8 @@ Matched R (x ∷ xs) (y ∷ ys) = R x y × Matched R xs ys
 
 -- Each seat goes on as itself, and is back in its place. The last ones went to the probes: each stands beside its worker, in
 -- the order of the probes.
-pub record HasProbed (desk : Desk State Ask Reply) (olds : List BridgeSeat) (asked : List (ℕ × ℕ)) (served : List BridgeSeat) (probed : List (BridgeSeat × PortWorker)) : Type 0 where
+pub record HasProbed (desk : Desk State Ask Reply) (olds : List BridgeSeat) (asked : List (ℕ × ℕ)) (served : List BridgeSeat)
+    (probed : List (BridgeSeat × PortWorker)) : Type 0 where
   pub firsts : List BridgeSeat
   pub probes : List Probe
   pub olds_are : olds ≡ firsts ++ map (λ p. p.seat) probes
@@ -27,7 +28,8 @@ pub record HasProbed (desk : Desk State Ask Reply) (olds : List BridgeSeat) (ask
   pub last_ones : Matched (λ probe pair. IsProbed desk probe pair) probes probed
 
 -- The same with all seats in their first order, and the workers apart.
-pub record HasServed (desk : Desk State Ask Reply) (olds : List BridgeSeat) (asked : List (ℕ × ℕ)) (news : List BridgeSeat) (workers : List PortWorker) : Type 0 where
+pub record HasServed (desk : Desk State Ask Reply) (olds : List BridgeSeat) (asked : List (ℕ × ℕ)) (news : List BridgeSeat)
+    (workers : List PortWorker) : Type 0 where
   pub served : List BridgeSeat
   pub probed : List (BridgeSeat × PortWorker)
   pub each : HasProbed desk olds asked served probed

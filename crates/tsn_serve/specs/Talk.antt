@@ -86,7 +86,8 @@ IsMarked marks (Err why) reply (Some mark) = ⊥
 -- A line has this reply, and the witness says this of the call for it; nothing only where there was no call.
 abbrev pub Told : {K : Type 0} → (Ask → Reply → K → Type 0) → Caller → Option (List ℕ) → Reply → Option K → Caller → Type 0
 Told marks old line reply mark new =
-    (read : Result Ask Refusal) × MayRead line read × Replies Asks old read reply new × IsMarked marks read reply mark × IfNone mark (new ≡ old)
+    (read : Result Ask Refusal) × MayRead line read × Replies Asks old read reply new × IsMarked marks read reply mark
+    × IfNone mark (new ≡ old)
 
 -- What may be written for a line of the connection.
 abbrev pub Talks : Answering Caller

@@ -44,8 +44,8 @@ fn takes_up(command: &Command) -> bool
     matches!(command, Command::Hello { .. } | Command::Resume)
 }
 
-/// One end of a connection, which answers lines by turns of its seat, each attended by the witness. A contract sees what a caller
-/// can tell of it.
+/// One end of a connection, which answers lines by turns of its seat, each attended by the witness. A contract sees
+/// what a caller can tell of it.
 pub struct Connection<'a, R: Wait, G: Gate, W: Witness<Bridge>> {
     rt: &'a R,
     desk: &'a Desk<Bridge>,
@@ -148,7 +148,8 @@ impl<'a, R: Wait, G: Gate, W: Witness<Bridge> + Drop> Connection<'a, R, G, W> {
         Ok((reply, mark))
     }
 
-    // The reply to what a line was read as, and what the witness says of the call for it: none where it is refused with no call.
+    // The reply to what a line was read as, and what the witness says of the call for it: none where it is refused with
+    // no call.
     fn reply_to(&mut self, read: Result<Ask, Refusal>) -> Result<(Reply, Option<W::Mark>), Fault>
         ensures ok { IfOk result (λ r. Replies Asks self.old read r.0 self.new) }
         ensures mark { IfOk result (λ r. IsMarked W.marks read r.0 r.1) }
@@ -167,8 +168,8 @@ impl<'a, R: Wait, G: Gate, W: Witness<Bridge> + Drop> Connection<'a, R, G, W> {
         Ok((reply, Some(mark)))
     }
 
-    /// The reply to a line, none being one that is too long, and what the witness says of the call for it: none where it is
-    /// refused with no call.
+    /// The reply to a line, none being one that is too long, and what the witness says of the call for it: none where
+    /// it is refused with no call.
     pub fn reply(
         &mut self,
         alloc: Global,
@@ -176,7 +177,8 @@ impl<'a, R: Wait, G: Gate, W: Witness<Bridge> + Drop> Connection<'a, R, G, W> {
     ) -> Result<(Reply, Option<W::Mark>), Fault>
         ensures ok { IfOk result (λ r. Told W.marks self.old (option_map (λ s. s.now) line.entry) r.0 r.1 self.new) }
         ensures fault { IfErr result (λ e. e ≡ Exhausted) }
-        ensures tired { OnErr result ((read : Result AnyAsk AnyRefusal) × MayRead (option_map (λ s. s.now) line.entry) read × Tires self.old read self.new) }
+        ensures tired { OnErr result ((read : Result AnyAsk AnyRefusal) × MayRead (option_map (λ s. s.now) line.entry) read
+            × Tires self.old read self.new) }
     {
         self.reply_to(read_line(alloc, line))
     }
@@ -236,8 +238,8 @@ impl<'a, R: Wait, G: Gate, W: Witness<Bridge> + Drop> Connection<'a, R, G, W> {
         }
     }
 
-    // Answers the lines of a row, one behind the other, and says how many bytes they have. Where one may have a long reply the door
-    // is opened first.
+    // Answers the lines of a row, one behind the other, and says how many bytes they have. Where one may have a long
+    // reply the door is opened first.
     fn answer_each<O: ByteOut>(
         &mut self,
         row: Vec<ReadLine>,
@@ -284,8 +286,8 @@ impl<'a, R: Wait, G: Gate, W: Witness<Bridge> + Drop> Connection<'a, R, G, W> {
         answered
     }
 
-    // Answers the first line of these bytes, and the lines that lie whole behind it where their replies are short and nothing in between
-    // may wait.
+    // Answers the first line of these bytes, and the lines that lie whole behind it where their replies are short and
+    // nothing in between may wait.
     fn answer_from<O: ByteOut>(
         &mut self,
         alloc: Global,
@@ -347,9 +349,12 @@ impl<'a, R: Wait, G: Gate, W: Witness<Bridge> + Drop> Responder for Connection<'
     }
 }
 
-/// Answers each line that the reader gives, with at most 2^32 reads: by a call of the seat, which waits for its turn, or
-/// by a refusal in reading with no call. Refusal 5 is answered with no call where the line is no hello and no resume and
-/// its session is not that of the connection's latest one. The seat makes no other call. On `Ok` all bytes were read, and what was
+/// Answers each line that the reader gives, with at most 2^32 reads: by a call of the seat, which waits for its turn,
+/// or
+/// by a refusal in reading with no call. Refusal 5 is answered with no call where the line is no hello and no resume
+/// and
+/// its session is not that of the connection's latest one. The seat makes no other call. On `Ok` all bytes were read,
+/// and what was
 /// written is the text of the replies to their lines, in order, and nothing else. A fault is as that of a script, or
 /// `Exhausted` where no ticket was left for the call of a line: then the lines before it were answered. The gate is told
 /// of this connection ahead of each turn and after each reply.

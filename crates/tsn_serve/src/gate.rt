@@ -8,8 +8,8 @@ pub trait Gate {
     /// After each reply of this connection, once the writer took it.
     fn answered(&self, connection: u32);
 
-    /// Whether a call of it may wait. If not, the turns for lines that a connection has at hand follow each other, and others wait
-    /// meanwhile.
+    /// Whether a call of it may wait. If not, the turns for lines that a connection has at hand follow each other, and
+    /// others wait meanwhile.
     fn may_wait(&self) -> bool {
         true
     }

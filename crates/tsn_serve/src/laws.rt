@@ -22,9 +22,10 @@ pub fn example_cuts()
     ensures too_long { (line : List ℕ) → longest_line < length line → short_line line ≡ None }
 {}
 
-/// What a connection does with its lines, as `session` tells it line by line, is told outright: there is an exchange for
-/// each line, the text is that of their replies, and the calls are all the new calls of the seat, one for each line that
-/// may ask and each once; the history then seen is legal and has just these and the earlier ones under the seat's number.
+/// What a connection does with its lines, as `session` tells it line by line, is told outright: there is an exchange
+/// for each line, the text is that of their replies, and the calls are all the new calls of the seat, one for each line
+/// that may ask and each once; the history then seen is legal and has just these and the earlier ones under the seat's
+/// number.
 pub fn served()
     ensures { (old new : Caller) (lines : List (List ℕ)) (text : List ℕ) →
         Run Talks old lines text new → IsServed old lines text new }

@@ -109,7 +109,8 @@ fn probe_each<R: Wait + Threads + Sync, H: Host + Sync>(
     requires own { All (λ p. IsSeatOf desk.now p.seat) probes.items }
     requires opened { IsReached (first_of desk.now) }
     ensures len { IfOk result (λ v. length v.items ≡ length probes.items) }
-    ensures each { IfOk result (λ v. (k : ℕ) (p r : _) → slice_get probes.items k ≡ Some p → slice_get v.items k ≡ Some r → IfOk r (λ q. IsProbed desk.now p q)) }
+    ensures each { IfOk result (λ v. (k : ℕ) (p r : _) → slice_get probes.items k ≡ Some p → slice_get v.items k ≡ Some r
+        → IfOk r (λ q. IsProbed desk.now p q)) }
 {
     let ask = |probe: Probe| -> Result<Probed, RoundFault>
         requires { IsSeatOf desk.now probe.seat × IsReached (first_of desk.now) }
@@ -129,7 +130,8 @@ pub(crate) fn probe_seats<R: Wait + Threads + Sync, H: Host + Sync>(
     requires own { All (λ p. IsSeatOf desk.now p.seat) probes.items }
     requires opened { IsReached (first_of desk.now) }
     ensures len { IfOk result (λ v. length v.items ≡ length probes.items) }
-    ensures each { IfOk result (λ v. (k : ℕ) (p q : _) → slice_get probes.items k ≡ Some p → slice_get v.items k ≡ Some q → IsProbed desk.now p q) }
+    ensures each { IfOk result (λ v. (k : ℕ) (p q : _) → slice_get probes.items k ≡ Some p → slice_get v.items k ≡ Some q
+        → IsProbed desk.now p q) }
 {
     let Ok(results) = probe_each(rt, alloc, desk, probes, host) else {
         return Err(ServeFault::Memory);

@@ -47,8 +47,8 @@ pub trait Responder {
             × breaks self.old (option_map (λ s. s.now) line.entry) e part self.new
             × Appends (W.taken writer.old) (W.taken writer.new) part) };
 
-    /// Answers one line or more of those that lie whole in front of the bytes, where nothing is kept of a line, and says how many bytes
-    /// these have; or none of them. The faults are those of an answer.
+    /// Answers one line or more of those that lie whole in front of the bytes, where nothing is kept of a line, and
+    /// says how many bytes these have; or none of them. The faults are those of an answer.
     fn answer_front<W: ByteOut>(
         &mut self,
         _alloc: Global,
@@ -56,8 +56,10 @@ pub trait Responder {
         _writer: &mut W,
     ) -> Result<Option<usize>, Fault>
         ensures none { result ≡ Ok None → (self.new ≡ self.old) × (_writer.new ≡ _writer.old) }
-        ensures front { IfOk result (λ count. IfSome count (λ n. AnswersFront answers breaks self.old _bytes.now (W.taken _writer.old) (W.taken _writer.new) (Ok n) self.new)) }
-        ensures broken { IfErr result (λ e. AnswersFront answers breaks self.old _bytes.now (W.taken _writer.old) (W.taken _writer.new) (Err e) self.new) }
+        ensures front { IfOk result (λ count.
+            IfSome count (λ n. AnswersFront answers breaks self.old _bytes.now (W.taken _writer.old) (W.taken _writer.new) (Ok n) self.new)) }
+        ensures broken { IfErr result (λ e. AnswersFront answers breaks self.old _bytes.now (W.taken _writer.old) (W.taken _writer.new)
+            (Err e) self.new) }
         ensures worked { result ≢ Err Write → W.has_failed _writer.new ≡ W.has_failed _writer.old }
         ensures failed { IsErrOf result Write → W.has_failed _writer.new ≡ true }
     {

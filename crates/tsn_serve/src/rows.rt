@@ -75,8 +75,8 @@ pub(crate) fn read_front(alloc: Global, bytes: &[u8]) -> Option<ReadLine>
     })
 }
 
-/// Reads the lines behind the first one too: all that lie whole there, up to one whose reply may be long, and so many at most. For
-/// want of memory the first one comes back.
+/// Reads the lines behind the first one too: all that lie whole there, up to one whose reply may be long, and so many
+/// at most. For want of memory the first one comes back.
 pub(crate) fn read_row(
     alloc: Global,
     first: ReadLine,

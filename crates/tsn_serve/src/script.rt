@@ -48,11 +48,13 @@ fn answer_show<W: ByteOut>(
     key: Key,
     writer: &mut W,
 ) -> Result<(), Fault>
-    ensures ok { OnOk result (SaysOf machine.Answers bridge.now (asked session (Show key)) (λ text. Appends (W.taken writer.old) (W.taken writer.new) text)) }
+    ensures ok { OnOk result (SaysOf machine.Answers bridge.now (asked session (Show key))
+        (λ text. Appends (W.taken writer.old) (W.taken writer.new) text)) }
     ensures worked { OnOk result (W.has_failed writer.new ≡ W.has_failed writer.old) }
     ensures fault { IfErr result (λ e. e ≡ Write) }
     ensures failed { OnErr result (W.has_failed writer.new ≡ true) }
-    ensures cut { OnErr result (SaysOf machine.Answers bridge.now (asked session (Show key)) (λ text. IsCut (W.taken writer.old) (W.taken writer.new) text)) }
+    ensures cut { OnErr result (SaysOf machine.Answers bridge.now (asked session (Show key))
+        (λ text. IsCut (W.taken writer.old) (W.taken writer.new) text)) }
 {
     match bridge.lent_record(session, &key) {
         Ok(found) => write_lent(writer, key, found),
@@ -67,11 +69,13 @@ fn answer_since<W: ByteOut>(
     after: u32,
     writer: &mut W,
 ) -> Result<(), Fault>
-    ensures ok { OnOk result (SaysOf machine.Answers bridge.now (asked session (Since after)) (λ text. Appends (W.taken writer.old) (W.taken writer.new) text)) }
+    ensures ok { OnOk result (SaysOf machine.Answers bridge.now (asked session (Since after))
+        (λ text. Appends (W.taken writer.old) (W.taken writer.new) text)) }
     ensures worked { OnOk result (W.has_failed writer.new ≡ W.has_failed writer.old) }
     ensures fault { IfErr result (λ e. e ≡ Write) }
     ensures failed { OnErr result (W.has_failed writer.new ≡ true) }
-    ensures cut { OnErr result (SaysOf machine.Answers bridge.now (asked session (Since after)) (λ text. IsCut (W.taken writer.old) (W.taken writer.new) text)) }
+    ensures cut { OnErr result (SaysOf machine.Answers bridge.now (asked session (Since after))
+        (λ text. IsCut (W.taken writer.old) (W.taken writer.new) text)) }
 {
     match bridge.kept_since(session, after) {
         Ok(kept) => write_kept(writer, kept),

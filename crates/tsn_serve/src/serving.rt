@@ -1,5 +1,5 @@
-//! Many connections at once over one bridge, each served by the seat of one of several threads, and port workers beside them.
-//! It relies on a host for a connection, on a source for where they come from, and on probes for the workers.
+//! Many connections at once over one bridge, each served by the seat of one of several threads, and port workers beside
+//! them. It relies on a host for a connection, on a source for where they come from, and on probes for the workers.
 ghost use Rattle.std.specs.Prelude.{◌≡◌, ◌<◌, ◌++◌, ℕ, Some, IfOk, length, map, All, slice_get, vec_len};
 ghost use Rattle.tsn_desk.specs.Desks.{IsSeatOf, first_of};
 ghost use Rattle.tsn_bridge.specs.Reached.{IsReached};
@@ -64,7 +64,8 @@ pub fn serve_seats<R: Wait + Threads + Sync, S: Source + Sync, H: Host + Sync>(
 ) -> Result<Vec<Seat<Bridge>>, AllocError>
     requires { All (λ s. IsSeatOf desk.now s) seats.items }
     ensures len { IfOk result (λ v. length v.items ≡ length seats.items) }
-    ensures each { IfOk result (λ v. (k : ℕ) (s t : _) → slice_get seats.items k ≡ Some s → slice_get v.items k ≡ Some t → GoesOn desk.now s t) }
+    ensures each { IfOk result (λ v. (k : ℕ) (s t : _) → slice_get seats.items k ≡ Some s → slice_get v.items k ≡ Some t
+        → GoesOn desk.now s t) }
 {
     let serve = |seat: Seat<Bridge>| -> Seat<Bridge>
         requires { IsSeatOf desk.now seat }
@@ -148,9 +149,9 @@ fn all_served(
 
 /// Serves connections with the first seats, a thread for each, until none is left; the last seats are those of the
 /// probes, in their order: a thread for each starts a worker of its port and makes 100 rounds at its instant. A
-/// connection's fault ends that connection alone, and what a round answers is passed over. The first seats are back, and
-/// each of the others beside its worker. After a fault the seats are gone, so the desk can only be dropped: memory was
-/// wanting, or a worker did not start.
+/// connection's fault ends that connection alone, and what a round answers is passed over. The first seats are back,
+/// and each of the others beside its worker. After a fault the seats are gone, so the desk can only be dropped: memory
+/// was wanting, or a worker did not start.
 pub fn serve_beside<R: Wait + Threads + Sync, S: Source + Sync, H: Host + Sync>(
     rt: &R,
     alloc: Global,

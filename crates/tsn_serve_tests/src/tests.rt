@@ -1,7 +1,6 @@
-//! How input is cut into lines, in whatever pieces it comes, and how a run ends where a call fails. How lines are cut and
-//! answered is seen through the program too (`examples/tables`).
-//! One function makes a run and owns its reader and its writer, and another goes over the cases: so a proof meets the
-//! ends of the owned at few places.
+//! How input is cut into lines, in whatever pieces it comes, and how a run ends where a call fails. How lines are cut
+//! and answered is seen through the program too (`examples/tables`). One function makes a run and owns its reader and
+//! its writer, and another goes over the cases: so a proof meets the ends of the owned at few places.
 ghost use Rattle.std.specs.Prelude.{◌≤◌};
 
 mod fakes;

@@ -16,28 +16,38 @@ use Rattle.tsn_server.specs.Serving.{IsSo, ReportsEnd, ReportsPorts, ports_to}
 
 module _ (desk : Desk State Ask Reply) where
   -- a line behind the others
-  pub one_more : (at : ℕ) (pairs : List (BridgeSeat × PortWorker)) (text : List ℕ) (pair : BridgeSeat × PortWorker) (line : List ℕ) → Reports desk at pairs text → IsToldOf desk at pair line → Reports desk at (pairs ++ pair ∷ []) (text ++ line)
+  pub one_more : (at : ℕ) (pairs : List (BridgeSeat × PortWorker)) (text : List ℕ) (pair : BridgeSeat × PortWorker) (line : List ℕ)
+      → Reports desk at pairs text → IsToldOf desk at pair line → Reports desk at (pairs ++ pair ∷ []) (text ++ line)
   one_more at [] text pair line none told = (line, [], told, refl, subst (λ t. t ++ line ≡ line ++ []) (sym none) (sym (append-nil line)))
-  one_more at (first ∷ pairs) text pair line (head, more, is, rest, whole) told =
-      (head, more ++ line, is, one_more at pairs more pair line rest told, subst (λ t. t ++ line ≡ head ++ (more ++ line)) (sym whole) (append_assoc head more line))
+  one_more at (first ∷ pairs) text pair line (head, more, is, rest, whole) told = (
+    head,
+    more ++ line,
+    is,
+    one_more at pairs more pair line rest told,
+    subst (λ t. t ++ line ≡ head ++ (more ++ line)) (sym whole) (append_assoc head more line),
+  )
 
-  told_so : (at : ℕ) (pair : BridgeSeat × PortWorker) (line : List ℕ) → IsToldOf desk at pair line → IsSo (first_of desk) at (port_of pair.1) line
+  told_so : (at : ℕ) (pair : BridgeSeat × PortWorker) (line : List ℕ) → IsToldOf desk at pair line
+      → IsSo (first_of desk) at (port_of pair.1) line
   told_so at pair line (told, (history, begins, ends), is) = (told, (history, (history, refl), ends), is)
 
   -- what is told of workers is so of their ports
-  pub of_ports : (at : ℕ) (pairs : List (BridgeSeat × PortWorker)) (text : List ℕ) → Reports desk at pairs text → ReportsPorts (first_of desk) at (map (λ p. port_of p.1) pairs) text
+  pub of_ports : (at : ℕ) (pairs : List (BridgeSeat × PortWorker)) (text : List ℕ) → Reports desk at pairs text
+      → ReportsPorts (first_of desk) at (map (λ p. port_of p.1) pairs) text
   of_ports at [] text none = none
   of_ports at (pair ∷ pairs) text (line, more, is, rest, whole) = (line, more, told_so at pair line is, of_ports at pairs more rest, whole)
 
   -- workers that were probes
-  pub rested : (probes : List Probe) (pairs : List (BridgeSeat × PortWorker)) → Matched (λ probe pair. IsProbed desk probe pair) probes pairs → All (λ p. IsRested desk p) pairs
+  pub rested : (probes : List Probe) (pairs : List (BridgeSeat × PortWorker))
+      → Matched (λ probe pair. IsProbed desk probe pair) probes pairs → All (λ p. IsRested desk p) pairs
   rested probes [] m k d within = absurd (omega (arith, within))
   rested [] (pair ∷ pairs) m k d within = absurd m
   rested (probe ∷ probes) (pair ∷ pairs) m zero d within = record { own = m.0.goes.own; worker = m.0.worker; last = m.0.last }
   rested (probe ∷ probes) (pair ∷ pairs) m (suc k) d within = rested probes pairs m.1 k d (omega (arith, within))
 
   -- their ports are the probes'
-  pub ports : (probes : List Probe) (pairs : List (BridgeSeat × PortWorker)) → Matched (λ probe pair. IsProbed desk probe pair) probes pairs → map (λ p. port_of p.1) pairs ≡ map (λ p. p.port) probes
+  pub ports : (probes : List Probe) (pairs : List (BridgeSeat × PortWorker)) → Matched (λ probe pair. IsProbed desk probe pair) probes pairs
+      → map (λ p. port_of p.1) pairs ≡ map (λ p. p.port) probes
   ports [] [] m = refl
   ports [] (pair ∷ pairs) m = absurd m
   ports (probe ∷ probes) [] m = absurd m
@@ -48,14 +58,18 @@ module _ (desk : Desk State Ask Reply) where
   asked_ports (probe ∷ probes) = ap (λ ps. probe.port ∷ ps) (asked_ports probes)
 
   -- and so those that were asked for
-  pub served_ports : (olds : List BridgeSeat) (asked : List (ℕ × ℕ)) (served : List BridgeSeat) (pairs : List (BridgeSeat × PortWorker)) → HasProbed desk olds asked served pairs → map (λ p. port_of p.1) pairs ≡ map (λ (p : ℕ × ℕ). p.0) asked
-  served_ports olds asked served pairs h = ports h.probes pairs h.last_ones ∙ (sym (asked_ports h.probes) ∙ sym (ap (λ l. map (λ (p : ℕ × ℕ). p.0) l) h.asked_are))
+  pub served_ports : (olds : List BridgeSeat) (asked : List (ℕ × ℕ)) (served : List BridgeSeat) (pairs : List (BridgeSeat × PortWorker))
+      → HasProbed desk olds asked served pairs → map (λ p. port_of p.1) pairs ≡ map (λ (p : ℕ × ℕ). p.0) asked
+  served_ports olds asked served pairs h =
+      ports h.probes pairs h.last_ones ∙ (sym (asked_ports h.probes) ∙ sym (ap (λ l. map (λ (p : ℕ × ℕ). p.0) l) h.asked_are))
 
-  pub served_rest : (olds : List BridgeSeat) (asked : List (ℕ × ℕ)) (served : List BridgeSeat) (pairs : List (BridgeSeat × PortWorker)) → HasProbed desk olds asked served pairs → All (λ p. IsRested desk p) pairs
+  pub served_rest : (olds : List BridgeSeat) (asked : List (ℕ × ℕ)) (served : List BridgeSeat) (pairs : List (BridgeSeat × PortWorker))
+      → HasProbed desk olds asked served pairs → All (λ p. IsRested desk p) pairs
   served_rest olds asked served pairs h = rested h.probes pairs h.last_ones
 
 -- two texts appended, one after the other
-pub appends_both : (old mid new : Option (List ℕ)) (first second : List ℕ) → Appends old mid first → Appends mid new second → Appends old new (first ++ second)
+pub appends_both : (old mid new : Option (List ℕ)) (first second : List ℕ) → Appends old mid first → Appends mid new second
+    → Appends old new (first ++ second)
 appends_both None mid new first second p q = tt
 appends_both (Some a) None new first second p q = absurd p
 appends_both (Some a) (Some b) None first second p q = absurd q
@@ -72,7 +86,8 @@ module _ (first : State) (old new : Option (List ℕ)) where
   TellsEnd at = (text : List ℕ) × ReportsEnd first at text × Appends old new text
 
   -- what was told where an instant is given
-  pub told_at : (asked : Option ℕ) (at : ℕ) → asked ≡ Some at → (text : List ℕ) × ReportsPorts first at (ports_to first.book.limits.ports) text × Appends old new text → TellsEnd asked
+  pub told_at : (asked : Option ℕ) (at : ℕ) → asked ≡ Some at
+      → (text : List ℕ) × ReportsPorts first at (ports_to first.book.limits.ports) text × Appends old new text → TellsEnd asked
   told_at asked at is told = subst TellsEnd (sym is) told
 
   -- and where none is

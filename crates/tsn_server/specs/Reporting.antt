@@ -33,7 +33,8 @@ Shows first seen port at told = (history : List (Call Ask Reply)) × Begins seen
 
 -- the line tells of a worker's port, after what its seat has seen
 abbrev pub IsToldOf : Desk State Ask Reply → ℕ → BridgeSeat × PortWorker → List ℕ → Type 0
-IsToldOf desk at pair line = (told : Option ℕ) × Shows (first_of desk) (seen pair.0) (port_of pair.1) at told × (line ≡ report_line (port_of pair.1) told)
+IsToldOf desk at pair line =
+    (told : Option ℕ) × Shows (first_of desk) (seen pair.0) (port_of pair.1) at told × (line ≡ report_line (port_of pair.1) told)
 
 -- a line for each of them, in order
 abbrev pub Reports : Desk State Ask Reply → ℕ → List (BridgeSeat × PortWorker) → List ℕ → Type 0

@@ -24,7 +24,8 @@ const PAUSE: u64 = 100;
 /// A connection: its number, its reader and its writer.
 pub(crate) type Ends<'a, L> = (u32, StdIo<TcpStream>, LoggedWriter<'a, StdIo<TcpStream>, L>);
 
-/// Connections that a listener takes, so many at most or without end, numbered from 1. Where there is a log, it is told of each.
+/// Connections that a listener takes, so many at most or without end, numbered from 1. Where there is a log, it is told
+/// of each.
 #[derive(Drop)]
 pub struct SocketSource<'a, R: Clock, L: Log> {
     rt: &'a R,
@@ -40,8 +41,8 @@ pub struct SocketSource<'a, R: Clock, L: Log> {
 }
 
 impl<'a, R: Clock, L: Log> SocketSource<'a, R, L> {
-    /// So many connections of the listener, 65,535 at most, or all that come. One from which nothing comes for so many seconds,
-    /// or that takes nothing for so many, 1 to 86,400, ends as by a fault of its own.
+    /// So many connections of the listener, 65,535 at most, or all that come. One from which nothing comes for so many
+    /// seconds, or that takes nothing for so many, 1 to 86,400, ends as by a fault of its own.
     pub fn new(
         rt: &'a R,
         listener: Listener,
@@ -95,8 +96,8 @@ impl<'a, R: Clock, L: Log> SocketSource<'a, R, L> {
         self.is_closed.store(true, Ordering::SeqCst);
     }
 
-    /// Both ends of a connection, for its reader and its writer; none where no descriptor is left for both, or its times can't be
-    /// limited.
+    /// Both ends of a connection, for its reader and its writer; none where no descriptor is left for both, or its
+    /// times can't be limited.
     pub(crate) fn ends_of(&self, number: u32, stream: TcpStream) -> Option<Ends<'a, L>> {
         if self.idle.is_some() {
             stream.set_read_timeout(self.idle).ok()?;
@@ -123,9 +124,9 @@ impl<'a, R: Wait + Clock, L: Log> SocketSource<'a, R, L> {
         self.accept().map(Some)
     }
 
-    /// The next connection, with its number. A peer that is gone before its connection is taken costs that connection alone.
-    /// Where none can be taken for another reason, no descriptor left say, the thread that asks waits and tries again with the
-    /// next number.
+    /// The next connection, with its number. A peer that is gone before its connection is taken costs that connection
+    /// alone. Where none can be taken for another reason, no descriptor left say, the thread that asks waits and tries
+    /// again with the next number.
     pub(crate) fn next_stream(&self) -> Option<(u32, TcpStream)> {
         'numbers: for _ in 0..TRIES {
             let number = self.next_number()?;

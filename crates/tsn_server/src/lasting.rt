@@ -1,4 +1,5 @@
-//! A bridge behind a desk whose work lasts: as `serve_bridge`, with a clerk for each connection, and replies behind the journal.
+//! A bridge behind a desk whose work lasts: as `serve_bridge`, with a clerk for each connection, and replies behind the
+//! journal.
 ghost use Rattle.std.specs.Prelude.{◌≡◌, ◌<◌, ◌≤◌, ℕ, List, [], true, All, IfOk, OnOk, length, map, vec_len};
 ghost use Rattle.std.specs.Io.KnownBytes.{Appends, Keeps};
 ghost use Rattle.tsn_desk.specs.Desks.{IsSeatOf, first_of};
@@ -55,7 +56,8 @@ fn serve_desk<
     requires own { All (λ s. IsSeatOf desk.now s) seats.items }
     requires more { length probes.now < vec_len seats }
     requires reached { IsReached (first_of desk.now) }
-    ensures lines { OnOk result ((text : List ℕ) × ReportsPorts (first_of desk.now) at (map (λ p. p.0) probes.now) text × Appends (O.taken writer.old) (O.taken writer.new) text) }
+    ensures lines { OnOk result ((text : List ℕ) × ReportsPorts (first_of desk.now) at (map (λ p. p.0) probes.now) text
+        × Appends (O.taken writer.old) (O.taken writer.new) text) }
     ensures handed_on { OnOk result (O.pending writer.new ≡ []) }
 {
     let served = served(rt, alloc, desk, seats, source, host, probes);
@@ -93,7 +95,8 @@ fn serve_beside_ports<
 ) -> Result<(), LastingServerFault>
     requires reached { IsReached bridge }
     requires some { 0 < workers }
-    ensures lines { OnOk result ((text : List ℕ) × ReportsPorts bridge at (ports_to bridge.book.limits.ports) text × Appends (O.taken writer.old) (O.taken writer.new) text) }
+    ensures lines { OnOk result ((text : List ℕ) × ReportsPorts bridge at (ports_to bridge.book.limits.ports) text
+        × Appends (O.taken writer.old) (O.taken writer.new) text) }
     ensures handed_on { OnOk result (O.pending writer.new ≡ []) }
 {
     let ports = bridge.config().limits().ports();
@@ -156,9 +159,9 @@ fn serve_alone<
     }
 }
 
-/// Serves the source's connections on the bridge as `serve_bridge` does, and has the keeper keep all that is recorded of it:
-/// a reply goes out only once all that was recorded up to it is kept, also that of a look. Where the journal fails, the
-/// service is stopped. The lines of the last rounds are told once all is kept.
+/// Serves the source's connections on the bridge as `serve_bridge` does, and has the keeper keep all that is recorded
+/// of it: a reply goes out only once all that was recorded up to it is kept, also that of a look. Where the journal
+/// fails, the service is stopped. The lines of the last rounds are told once all is kept.
 #[tactic(auto, using(crate::proofs::Lines::told_at, crate::proofs::Lines::told_nothing))]
 pub fn serve_lasting<
     W: Wait + Threads + Sync,

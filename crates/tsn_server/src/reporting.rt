@@ -54,9 +54,9 @@ fn last_round<R: Wait>(
     }
 }
 
-/// One last round of each worker at the instant, with the seat beside it, and a line for each, in order: `port P gates G`
-/// or `port P past`. The lines are handed on. It ends at the first fault: `Memory` or `Exhausted` of a round, or `Write`;
-/// the lines before it were written.
+/// One last round of each worker at the instant, with the seat beside it, and a line for each, in order: `port P gates
+/// G` or `port P past`. The lines are handed on. It ends at the first fault: `Memory` or `Exhausted` of a round, or
+/// `Write`; the lines before it were written.
 pub fn report<R: Wait, W: ByteOut>(
     rt: &R,
     desk: &Desk<Bridge>,
@@ -65,7 +65,8 @@ pub fn report<R: Wait, W: ByteOut>(
     writer: &mut W,
 ) -> Result<(), Fault>
     requires { All (λ p. IsRested desk.now p) workers.items }
-    ensures lines { OnOk result ((text : List ℕ) × Reports desk.now at workers.items text × Appends (W.taken writer.old) (W.taken writer.new) text) }
+    ensures lines { OnOk result ((text : List ℕ) × Reports desk.now at workers.items text
+        × Appends (W.taken writer.old) (W.taken writer.new) text) }
     ensures handed_on { OnOk result (W.pending writer.new ≡ []) }
     ensures fault { IfErr result (λ e. (e ≡ Write) ⊎ ((e ≡ Memory) ⊎ (e ≡ Exhausted))) }
     ensures failed { IsErrOf result Write → W.has_failed writer.new ≡ true }

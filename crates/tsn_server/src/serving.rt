@@ -85,7 +85,8 @@ fn serve_desk<R: Wait + Threads + Sync, S: Source + Sync, H: Host + Sync, W: Byt
     requires own { All (λ s. IsSeatOf desk.now s) seats.items }
     requires more { length probes.now < vec_len seats }
     requires opened { IsReached (first_of desk.now) }
-    ensures lines { OnOk result ((text : List ℕ) × ReportsPorts (first_of desk.now) at (map (λ p. p.0) probes.now) text × Appends (W.taken writer.old) (W.taken writer.new) text) }
+    ensures lines { OnOk result ((text : List ℕ) × ReportsPorts (first_of desk.now) at (map (λ p. p.0) probes.now) text
+        × Appends (W.taken writer.old) (W.taken writer.new) text) }
     ensures handed_on { OnOk result (W.pending writer.new ≡ []) }
     ensures failed { IsErrOf result (FaultOf Write) → W.has_failed writer.new ≡ true }
     ensures read { IfErr result (λ e. e ≢ FaultOf Read) }
@@ -125,7 +126,8 @@ fn serve_beside_ports<R: Wait + Threads + Sync, S: Source + Sync, H: Host + Sync
 ) -> Result<(), ServerFault>
     requires opened { IsReached bridge }
     requires some { 0 < workers }
-    ensures lines { OnOk result ((text : List ℕ) × ReportsPorts bridge at (ports_to bridge.book.limits.ports) text × Appends (W.taken writer.old) (W.taken writer.new) text) }
+    ensures lines { OnOk result ((text : List ℕ) × ReportsPorts bridge at (ports_to bridge.book.limits.ports) text
+        × Appends (W.taken writer.old) (W.taken writer.new) text) }
     ensures handed_on { OnOk result (W.pending writer.new ≡ []) }
     ensures failed { IsErrOf result (FaultOf Write) → W.has_failed writer.new ≡ true }
     ensures read { IfErr result (λ e. e ≢ FaultOf Read) }
@@ -178,14 +180,14 @@ fn serve_alone<R: Wait + Threads + Sync, S: Source + Sync, H: Host + Sync, W: By
     }
 }
 
-/// Serves the source's connections on the bridge, so many at once, 1 to 1,000, until none is left. Each is a session of one
-/// seat of a desk. With an instant a worker follows each port meanwhile, and where there would be more than 1,024 of these
-/// and of connections, fewer connections are served at once. Then each port's worker makes a last round at the instant, and
-/// its line is written, in the order of the ports: `port P gates G`, the gates in decimal, or `port P past` where the
-/// instant comes before the last act on the port. Each line tells where one legal history of the bridge ends. The lines
-/// are handed on. With no instant no port is followed, and nothing is written. A connection's fault ends that connection
-/// alone. Serving itself ends where memory was wanting, no ticket was left or the writer failed; or by the refusal of a
-/// worker's start, and then nothing was written.
+/// Serves the source's connections on the bridge, so many at once, 1 to 1,000, until none is left. Each is a session of
+/// one seat of a desk. With an instant a worker follows each port meanwhile, and where there would be more than 1,024
+/// of these and of connections, fewer connections are served at once. Then each port's worker makes a last round at the
+/// instant, and its line is written, in the order of the ports: `port P gates G`, the gates in decimal, or `port P
+/// past` where the instant comes before the last act on the port. Each line tells where one legal history of the bridge
+/// ends. The lines are handed on. With no instant no port is followed, and nothing is written. A connection's fault
+/// ends that connection alone. Serving itself ends where memory was wanting, no ticket was left or the writer failed;
+/// or by the refusal of a worker's start, and then nothing was written.
 #[tactic(auto, using(crate::proofs::Lines::told_at, crate::proofs::Lines::told_nothing))]
 pub fn serve_bridge<R: Wait + Threads + Sync, S: Source + Sync, H: Host + Sync, W: ByteOut>(
     rt: &R,

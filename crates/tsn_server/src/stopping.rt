@@ -10,7 +10,8 @@ use tsn_clerk::Stop;
 use tsn_serve::Source;
 use tsn_sockets::{Log, LoggedWriter, Place};
 
-/// How long a connection of the service's own may take, in milliseconds, with which it wakes the thread that waits for one.
+/// How long a connection of the service's own may take, in milliseconds, with which it wakes the thread that waits for
+/// one.
 const LONGEST_CALL: u64 = 100;
 
 /// How often it is tried, where no descriptor is left for it.
@@ -109,7 +110,8 @@ impl<'a, R: Wait + Clock + Net<Listener = TcpListener, Stream = TcpStream>, L: L
         }
     }
 
-    // Wakes the thread that waits for a connection, by one of the service's own. Connections that end leave a descriptor for it.
+    // Wakes the thread that waits for a connection, by one of the service's own. Connections that end leave a
+    // descriptor for it.
     fn wake(&self) {
         'calls: for _ in 0..CALLS {
             if self.call() {

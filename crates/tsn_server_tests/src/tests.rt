@@ -1,4 +1,5 @@
-//! A bridge that is served to a client of the same process: what the client is replied, and what is told of its ports then.
+//! A bridge that is served to a client of the same process: what the client is replied, and what is told of its ports
+//! then.
 ghost use Rattle.std.specs.Prelude.{◌≤◌, ◌^◌, IfOk};
 ghost use Rattle.tsn_bridge.specs.Beginning.{IsOpened};
 

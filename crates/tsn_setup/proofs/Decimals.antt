@@ -24,7 +24,8 @@ digits_test = search rules
 own : IsNumeralModel (λ ds. list_all is_ascii_digit ds ≡ true) (digits_value 10)
 own = numerals_by_value (λ ds. list_all is_ascii_digit ds ≡ true) digits_test
 
-run_at : (b : Bool) (p : ℕ → Bool) (x : ℕ) (xs : List ℕ) → p x ≡ b → list_all p (take (prefix_len p xs) xs) ≡ true → list_all p (take (cond b (1 + prefix_len p xs) 0) (x ∷ xs)) ≡ true
+run_at : (b : Bool) (p : ℕ → Bool) (x : ℕ) (xs : List ℕ) → p x ≡ b → list_all p (take (prefix_len p xs) xs) ≡ true
+    → list_all p (take (cond b (1 + prefix_len p xs) 0) (x ∷ xs)) ≡ true
 run_at true p x xs is more =
     let n = prefix_len p xs in
     let step : 1 + n ≡ suc n = omega arith in
@@ -41,9 +42,11 @@ parsed n v k (Ok x) is h = (h.0.1, (let e : Ok x ≡ Ok n = is in let same : x �
 parsed n v k (Err e) is h = cc
 
 -- the digits at the front, where they parse as a number
-pub spelled : (text : List ℕ) (count n : ℕ) {E : Type 0} (r : Result ℕ E) → count ≡ prefix_len is_ascii_digit text → 0 < count → (get_or text 0 0 ≡ 48 → count ≡ 1) → ParsesUnsigned 64 10 (take count text) r → r ≡ Ok n → decimal n ≡ take count text
+pub spelled : (text : List ℕ) (count n : ℕ) {E : Type 0} (r : Result ℕ E) → count ≡ prefix_len is_ascii_digit text → 0 < count
+    → (get_or text 0 0 ≡ 48 → count ≡ 1) → ParsesUnsigned 64 10 (take count text) r → r ≡ Ok n → decimal n ≡ take count text
 spelled text count n r is some lead parses ok =
-    let digits : list_all is_ascii_digit (take count text) ≡ true = ap (λ k. list_all is_ascii_digit (take k text)) is ∙ run_passes is_ascii_digit text in
+    let digits : list_all is_ascii_digit (take count text) ≡ true = ap (λ k. list_all is_ascii_digit (take k text)) is
+    ∙ run_passes is_ascii_digit text in
     let size : length (take count text) ≡ count = ap (λ k. length (take k text)) is ∙ length-prefix_len is_ascii_digit text ∙ sym is in
     let value = parsed n _ _ r ok (parse_digits own 64 (take count text) r parses digits) in
     let first = get_or-take count text 0 0 some in
@@ -54,7 +57,8 @@ word_front [] rest some all = absurd (omega arith)
 word_front (c ∷ cs) rest some all = (and_parts (is_word c) (list_all is_word cs) all).0
 
 -- such digits are a number of TOML
-pub number_alone : (n : ℕ) (text rest : List ℕ) → n < 2 ^ 63 → EndsWord rest → text ≡ decimal n ++ rest → (m : ℕ) → val m text ≡ Some (integer (pos n), rest)
+pub number_alone : (n : ℕ) (text rest : List ℕ) → n < 2 ^ 63 → EndsWord rest → text ≡ decimal n ++ rest → (m : ℕ)
+    → val m text ≡ Some (integer (pos n), rest)
 unfolding atom
 number_alone n text rest small ends is m =
     let word = IsWord-pos n small in
@@ -63,7 +67,8 @@ number_alone n text rest small ends is m =
     let a : (first all == 91) ≡ false = grind (arith, nat_tests) in
     let b : (first all == 123) ≡ false = grind (arith, nat_tests) in
     let neither : starts_string all ≡ false = grind (arith, nat_tests) in
-    ap (val m) is ∙ val_atom m all a b ∙ rw (neither, unquoted-word (decimal n) rest (Integer (pos n)) word.some word.all ends word.value) refl
+    ap (val m) is ∙ val_atom m all a b ∙ rw (neither, unquoted-word (decimal n) rest (Integer (pos n)) word.some word.all ends word.value)
+    refl
 
 pub was_ok : {A E : Type 0} (r : Result A E) (x : A) → result_ok r ≡ Some x → r ≡ Ok x
 was_ok (Ok y) x is = (let e : Some y ≡ Some x = is in cc)

@@ -35,7 +35,8 @@ unequal false k l is other = refl
 differ : (k l : List ℕ) → (k ≡ l → ⊥) → same_key k l ≡ false
 differ k l other = is_eq-slice_cmp k l ∙ unequal (bytes_eq k l) k l refl other
 
-insert_other_at : (o : Ordering) (l k m : List ℕ) (x y : Node) (ns : Nodes) → order k m ≡ o → (l ≡ k → ⊥) → get_node l (insert k x ns) ≡ get_node l ns
+insert_other_at : (o : Ordering) (l k m : List ℕ) (x y : Node) (ns : Nodes) → order k m ≡ o → (l ≡ k → ⊥)
+    → get_node l (insert k x ns) ≡ get_node l ns
     → get_node l (match_ordering o (node k x (node m y ns)) (node m x ns) (node m y (insert k x ns))) ≡ get_node l (node m y ns)
 insert_other_at Less l k m x y ns is other later = rw (differ l k other) refl
 insert_other_at Equal l k m x y ns is other later =
@@ -47,7 +48,8 @@ pub insert_other : (l k : List ℕ) (x : Node) (ns : Nodes) → (l ≡ k → ⊥
 insert_other l k x no_nodes other = rw (differ l k other) refl
 insert_other l k x (node m y ns) other = insert_other_at (order k m) l k m x y ns refl other (insert_other l k x ns other)
 
-replace_other_at : (b : Bool) (l k m : List ℕ) (x y : Node) (ns : Nodes) → same_key k m ≡ b → (l ≡ k → ⊥) → get_node l (replace k x ns) ≡ get_node l ns
+replace_other_at : (b : Bool) (l k m : List ℕ) (x y : Node) (ns : Nodes) → same_key k m ≡ b → (l ≡ k → ⊥)
+    → get_node l (replace k x ns) ≡ get_node l ns
     → get_node l (cond b (node m x ns) (node m y (replace k x ns))) ≡ get_node l (node m y ns)
 replace_other_at true l k m x y ns is other later =
     let same : k ≡ m = same_text k m (sym (is_eq-slice_cmp k m) ∙ is) in
@@ -72,7 +74,8 @@ inserted k x ns = record {
   others = λ l other. closed_at l (insert k x ns) ∙ ap (option_map close_node) (insert_other l k x ns other) ∙ sym (closed_at l ns);
 }
 
-pub replaced : (k : List ℕ) (x y : Node) (ns : Nodes) → get_node k ns ≡ Some y → Changes k (close_node x) (close ns) (close (replace k x ns))
+pub replaced : (k : List ℕ) (x y : Node) (ns : Nodes) → get_node k ns ≡ Some y
+    → Changes k (close_node x) (close ns) (close (replace k x ns))
 replaced k x y ns there = record {
   here = closed_at k (replace k x ns) ∙ ap (option_map close_node) (get_node-replace k x ns y there);
   others = λ l other. closed_at l (replace k x ns) ∙ ap (option_map close_node) (replace_other l k x ns other) ∙ sym (closed_at l ns);
@@ -80,7 +83,8 @@ replaced k x y ns there = record {
 
 -- ---- what the slots say of them
 
-slot_told : (b : Bool) (k l : List ℕ) (s filled : Slot) (d : Data) (before after : Members) → bytes_eq k l ≡ b → Changes k d before after → Stands filled (Some d) → Stands s (get_member l before)
+slot_told : (b : Bool) (k l : List ℕ) (s filled : Slot) (d : Data) (before after : Members) → bytes_eq k l ≡ b → Changes k d before after
+    → Stands filled (Some d) → Stands s (get_member l before)
     → Stands (if b then filled else s) (get_member l after)
 slot_told true k l s filled d before after is change full told =
     let same = same_text k l is in
@@ -89,16 +93,20 @@ slot_told false k l s filled d before after is change full told =
     let apart : l ≡ k → ⊥ = λ same. let equal = same_bytes k l (sym same) in cc in
     subst (Stands s) (sym (change.others l apart)) told
 
-tells_changed : (slots : Slots) (k : List ℕ) (filled : Slot) (d : Data) (before after : Members) → Changes k d before after → Stands filled (Some d) → Tells before slots → Tells after (put_slot k filled slots)
+tells_changed : (slots : Slots) (k : List ℕ) (filled : Slot) (d : Data) (before after : Members) → Changes k d before after
+    → Stands filled (Some d) → Tells before slots → Tells after (put_slot k filled slots)
 tells_changed [] k filled d before after change full told = tt
-tells_changed (s ∷ slots) k filled d before after change full told =
-    (slot_told (bytes_eq k s.0) k s.0 s.1 filled d before after refl change full told.0, tells_changed slots k filled d before after change full told.1)
+tells_changed (s ∷ slots) k filled d before after change full told = (
+  slot_told (bytes_eq k s.0) k s.0 s.1 filled d before after refl change full told.0,
+  tells_changed slots k filled d before after change full told.1,
+)
 
 names_put : (slots : Slots) (k : List ℕ) (filled : Slot) → names (put_slot k filled slots) ≡ names slots
 names_put [] k filled = refl
 names_put (s ∷ slots) k filled = ap (λ ns. s.0 ∷ ns) (names_put slots k filled)
 
-known_first : (b : Bool) (k l : List ℕ) (s t : Slot) (slots : Slots) → bytes_eq k l ≡ b → (if b then Some t else slot_at k slots) ≡ Some s → (slot_at k slots ≡ Some s → is_among (names slots) k ≡ true)
+known_first : (b : Bool) (k l : List ℕ) (s t : Slot) (slots : Slots) → bytes_eq k l ≡ b → (if b then Some t else slot_at k slots) ≡ Some s
+    → (slot_at k slots ≡ Some s → is_among (names slots) k ≡ true)
     → is_among (l ∷ names slots) k ≡ true
 known_first true k l s t slots is at later = rw (same_bytes l k (sym (same_text k l is))) refl
 known_first false k l s t slots is at later = rw (later at) (grind rules)
@@ -107,7 +115,8 @@ known_name : (slots : Slots) (k : List ℕ) (s : Slot) → slot_at k slots ≡ S
 known_name [] k s at = cc
 known_name (t ∷ slots) k s at = known_first (bytes_eq k t.0) k t.0 s t.1 slots refl at (known_name slots k s)
 
-still_known : (b : Bool) (ns : List (List ℕ)) (k l : List ℕ) (d : Data) (before after : Members) → bytes_eq l k ≡ b → is_among ns k ≡ true → Changes k d before after → are_among ns before ≡ true → IsSome (get_member l after)
+still_known : (b : Bool) (ns : List (List ℕ)) (k l : List ℕ) (d : Data) (before after : Members) → bytes_eq l k ≡ b → is_among ns k ≡ true
+    → Changes k d before after → are_among ns before ≡ true → IsSome (get_member l after)
     → is_among ns l ≡ true
 still_known true ns k l d before after is known change only there = subst (λ n. is_among ns n ≡ true) (sym (same_text l k is)) known
 still_known false ns k l d before after is known change only there =
@@ -115,11 +124,13 @@ still_known false ns k l d before after is known change only there =
     known_at (is_among ns l) ns before l refl only (subst IsSome (change.others l apart) there)
 
 -- the slots say the members after the change, too
-pub told_after : (slots : Slots) (k : List ℕ) (s filled : Slot) (d : Data) (before after : Members) → Changes k d before after → slot_at k slots ≡ Some s → Stands filled (Some d) → TellsAll before slots
+pub told_after : (slots : Slots) (k : List ℕ) (s filled : Slot) (d : Data) (before after : Members) → Changes k d before after
+    → slot_at k slots ≡ Some s → Stands filled (Some d) → TellsAll before slots
     → TellsAll after (put_slot k filled slots)
 told_after slots k s filled d before after change at full told =
     let known = known_name slots k s at in
-    let only : are_among (names slots) after ≡ true = all_among (names slots) after (λ l there. still_known (bytes_eq l k) (names slots) k l d before after refl known change told.only there) in
+    let only : are_among (names slots) after ≡ true = all_among (names slots) after
+    (λ l there. still_known (bytes_eq l k) (names slots) k l d before after refl known change told.only there) in
     record {
       tells = tells_changed slots k filled d before after change full told.tells;
       only = rw (names_put slots k filled) only;
@@ -143,11 +154,15 @@ pub not_there : (s : Slot) (o : Option Data) → IsOpen s → Stands s o → o �
 not_there s None unread stands = refl
 not_there (number n) (Some d) unread stands = absurd (unfilled _ (stands ∙ ap Ok unread))
 not_there (flag b) (Some d) unread stands = absurd (unfilled _ (stands ∙ ap Ok unread))
-not_there (port_list es) (Some d) unread stands = absurd (unlisted (as_array d) (λ items. each (port_entry_shape as_toml) (items_list items)) (stands ∙ ap Ok unread))
-not_there (gate_list es) (Some d) unread stands = absurd (unlisted (as_array d) (λ items. each (gate_entry_shape as_toml) (items_list items)) (stands ∙ ap Ok unread))
+not_there (port_list es) (Some d) unread stands =
+    absurd (unlisted (as_array d) (λ items. each (port_entry_shape as_toml) (items_list items)) (stands ∙ ap Ok unread))
+not_there (gate_list es) (Some d) unread stands =
+    absurd (unlisted (as_array d) (λ items. each (gate_entry_shape as_toml) (items_list items)) (stands ∙ ap Ok unread))
 not_there (tables kind ts) (Some d) unread stands = absurd unread
 
-told_slot_at : (b : Bool) (k l : List ℕ) (s t : Slot) (slots : Slots) (ms : Members) → bytes_eq k l ≡ b → (if b then Some t else slot_at k slots) ≡ Some s → Stands t (get_member l ms) → (slot_at k slots ≡ Some s → Stands s (get_member k ms))
+told_slot_at : (b : Bool) (k l : List ℕ) (s t : Slot) (slots : Slots) (ms : Members) → bytes_eq k l ≡ b
+    → (if b then Some t else slot_at k slots) ≡ Some s → Stands t (get_member l ms)
+    → (slot_at k slots ≡ Some s → Stands s (get_member k ms))
     → Stands s (get_member k ms)
 told_slot_at true k l s t slots ms is at told later =
     let same = same_text k l is in
@@ -157,12 +172,15 @@ told_slot_at true k l s t slots ms is at told later =
 told_slot_at false k l s t slots ms is at told later = later at
 
 -- what stands at a name is what its slot says
-pub told_slot : (slots : Slots) (k : List ℕ) (s : Slot) (ms : Members) → slot_at k slots ≡ Some s → Tells ms slots → Stands s (get_member k ms)
+pub told_slot : (slots : Slots) (k : List ℕ) (s : Slot) (ms : Members) → slot_at k slots ≡ Some s → Tells ms slots
+    → Stands s (get_member k ms)
 told_slot [] k s ms at told = cc
-told_slot (t ∷ slots) k s ms at told = told_slot_at (bytes_eq k t.0) k t.0 s t.1 slots ms refl at told.0 (λ later. told_slot slots k s ms later told.1)
+told_slot (t ∷ slots) k s ms at told =
+    told_slot_at (bytes_eq k t.0) k t.0 s t.1 slots ms refl at told.0 (λ later. told_slot slots k s ms later told.1)
 
 -- an open slot's name has no member
-pub nothing_yet : (slots : Slots) (k : List ℕ) (s : Slot) (ms : Members) → slot_at k slots ≡ Some s → IsOpen s → Tells ms slots → get_member k ms ≡ None
+pub nothing_yet : (slots : Slots) (k : List ℕ) (s : Slot) (ms : Members) → slot_at k slots ≡ Some s → IsOpen s → Tells ms slots
+    → get_member k ms ≡ None
 nothing_yet slots k s ms at unread told = not_there s (get_member k ms) unread (told_slot slots k s ms at told)
 
 pub no_node : (o : Option Node) → option_map close_node o ≡ None → o ≡ None

@@ -44,13 +44,15 @@ not_id (Err e) k h = cc
 one_pair : {A B : Type 0} (a c : A) (b d : B) → a ≡ c → b ≡ d → ◌≡◌ {A = A × B} (a, b) (c, d)
 one_pair {A} {B} a c b d p q = ap₂ (λ (x : A) (y : B). let both : A × B = (x, y) in both) p q
 
-record_read : (q : Kind) (d : Data) (id : ℕ) (value : RecordDraft) (k : Key) (r : Record) → IsOrdered d → number_at (codes "id") d ≡ Ok id → record_shape as_toml q d ≡ Ok value
+record_read : (q : Kind) (d : Data) (id : ℕ) (value : RecordDraft) (k : Key) (r : Record) → IsOrdered d → number_at (codes "id") d ≡ Ok id
+    → record_shape as_toml q d ≡ Ok value
     → or_id (key_of_kind (kind_of_draft value) id) ≡ Ok k → record_of value ≡ Ok r → IsRead q d (k, r)
 record_read kinds.Port d id value k r ordered id_is shape key_is range =
     steps (port_shape as_toml d) _ value shape (λ x x_is x_next.
     let same = only (Ok (drafts.Port x)) (drafts.Port x) value refl x_next in
     steps (port x) _ r (ap record_of same ∙ range) (λ found found_is found_next.
-    steps (within fields.Key 1 most_ports id) _ k (not_id _ k (ap (λ v. or_id (key_of_kind (kind_of_draft v) id)) same ∙ key_is)) (λ number number_is number_next.
+    steps (within fields.Key 1 most_ports id) _ k (not_id _ k (ap (λ v. or_id (key_of_kind (kind_of_draft v) id)) same ∙ key_is))
+    (λ number number_is number_next.
     let fits = port_passed x found found_is in
     let id_fits = passed fields.Key 1 most_ports id number number_is in
     let read : IsRead kinds.Port d (keys.Port number, records.Port found) = record {
@@ -58,12 +60,15 @@ record_read kinds.Port d id value k r ordered id_is shape key_is range =
       range = (id_fits.1, fits.1);
       kind_is = refl;
     } in
-    subst (IsRead kinds.Port d) (one_pair (keys.Port number) k (records.Port found) r (only (Ok (keys.Port number)) (keys.Port number) k refl number_next) (only (Ok (records.Port found)) (records.Port found) r refl found_next)) read)))
+    subst (IsRead kinds.Port d) (one_pair (keys.Port number) k (records.Port found) r
+    (only (Ok (keys.Port number)) (keys.Port number) k refl number_next)
+    (only (Ok (records.Port found)) (records.Port found) r refl found_next)) read)))
 record_read kinds.Filter d id value k r ordered id_is shape key_is range =
     steps (filter_shape as_toml d) _ value shape (λ x x_is x_next.
     let same = only (Ok (drafts.Filter x)) (drafts.Filter x) value refl x_next in
     steps (filter x) _ r (ap record_of same ∙ range) (λ found found_is found_next.
-    steps (within fields.Key 0 greatest_instance id) _ k (not_id _ k (ap (λ v. or_id (key_of_kind (kind_of_draft v) id)) same ∙ key_is)) (λ number number_is number_next.
+    steps (within fields.Key 0 greatest_instance id) _ k (not_id _ k (ap (λ v. or_id (key_of_kind (kind_of_draft v) id)) same ∙ key_is))
+    (λ number number_is number_next.
     let fits = filter_passed x found found_is in
     let id_fits = at_most fields.Key greatest_instance id number number_is in
     let read : IsRead kinds.Filter d (keys.Filter number, records.Filter found) = record {
@@ -71,12 +76,15 @@ record_read kinds.Filter d id value k r ordered id_is shape key_is range =
       range = (id_fits.1, fits.1);
       kind_is = refl;
     } in
-    subst (IsRead kinds.Filter d) (one_pair (keys.Filter number) k (records.Filter found) r (only (Ok (keys.Filter number)) (keys.Filter number) k refl number_next) (only (Ok (records.Filter found)) (records.Filter found) r refl found_next)) read)))
+    subst (IsRead kinds.Filter d) (one_pair (keys.Filter number) k (records.Filter found) r
+    (only (Ok (keys.Filter number)) (keys.Filter number) k refl number_next)
+    (only (Ok (records.Filter found)) (records.Filter found) r refl found_next)) read)))
 record_read kinds.Gate d id value k r ordered id_is shape key_is range =
     steps (gate_shape as_toml d) _ value shape (λ x x_is x_next.
     let same = only (Ok (drafts.Gate x)) (drafts.Gate x) value refl x_next in
     steps (gate x) _ r (ap record_of same ∙ range) (λ found found_is found_next.
-    steps (within fields.Key 0 greatest_instance id) _ k (not_id _ k (ap (λ v. or_id (key_of_kind (kind_of_draft v) id)) same ∙ key_is)) (λ number number_is number_next.
+    steps (within fields.Key 0 greatest_instance id) _ k (not_id _ k (ap (λ v. or_id (key_of_kind (kind_of_draft v) id)) same ∙ key_is))
+    (λ number number_is number_next.
     let fits = gate_passed x found found_is in
     let id_fits = at_most fields.Key greatest_instance id number number_is in
     let read : IsRead kinds.Gate d (keys.Gate number, records.Gate found) = record {
@@ -84,12 +92,15 @@ record_read kinds.Gate d id value k r ordered id_is shape key_is range =
       range = (id_fits.1, fits.1);
       kind_is = refl;
     } in
-    subst (IsRead kinds.Gate d) (one_pair (keys.Gate number) k (records.Gate found) r (only (Ok (keys.Gate number)) (keys.Gate number) k refl number_next) (only (Ok (records.Gate found)) (records.Gate found) r refl found_next)) read)))
+    subst (IsRead kinds.Gate d) (one_pair (keys.Gate number) k (records.Gate found) r
+    (only (Ok (keys.Gate number)) (keys.Gate number) k refl number_next)
+    (only (Ok (records.Gate found)) (records.Gate found) r refl found_next)) read)))
 record_read kinds.Meter d id value k r ordered id_is shape key_is range =
     steps (meter_shape as_toml d) _ value shape (λ x x_is x_next.
     let same = only (Ok (drafts.Meter x)) (drafts.Meter x) value refl x_next in
     steps (meter x) _ r (ap record_of same ∙ range) (λ found found_is found_next.
-    steps (within fields.Key 0 greatest_instance id) _ k (not_id _ k (ap (λ v. or_id (key_of_kind (kind_of_draft v) id)) same ∙ key_is)) (λ number number_is number_next.
+    steps (within fields.Key 0 greatest_instance id) _ k (not_id _ k (ap (λ v. or_id (key_of_kind (kind_of_draft v) id)) same ∙ key_is))
+    (λ number number_is number_next.
     let fits = meter_passed x found found_is in
     let id_fits = at_most fields.Key greatest_instance id number number_is in
     let read : IsRead kinds.Meter d (keys.Meter number, records.Meter found) = record {
@@ -97,15 +108,19 @@ record_read kinds.Meter d id value k r ordered id_is shape key_is range =
       range = (id_fits.1, fits.1);
       kind_is = refl;
     } in
-    subst (IsRead kinds.Meter d) (one_pair (keys.Meter number) k (records.Meter found) r (only (Ok (keys.Meter number)) (keys.Meter number) k refl number_next) (only (Ok (records.Meter found)) (records.Meter found) r refl found_next)) read)))
+    subst (IsRead kinds.Meter d) (one_pair (keys.Meter number) k (records.Meter found) r
+    (only (Ok (keys.Meter number)) (keys.Meter number) k refl number_next)
+    (only (Ok (records.Meter found)) (records.Meter found) r refl found_next)) read)))
 
-table_parts : (q : Kind) (d : Data) (t : TableDraft) → table_shape q d ≡ Ok t → (number_at (codes "id") d ≡ Ok t.id) × (record_shape as_toml q d ≡ Ok t.value)
+table_parts : (q : Kind) (d : Data) (t : TableDraft) → table_shape q d ≡ Ok t
+    → (number_at (codes "id") d ≡ Ok t.id) × (record_shape as_toml q d ≡ Ok t.value)
 unfolding table_shape
 table_parts q d t h =
     steps (number_at (codes "id") d) _ t h (λ id id_is id_next.
     steps (record_shape as_toml q d) _ t id_next (λ value value_is value_next.
     let draft : TableDraft = record { id = id; value = value } in
-    subst (λ (x : TableDraft). (number_at (codes "id") d ≡ Ok x.id) × (record_shape as_toml q d ≡ Ok x.value)) (only (Ok draft) draft t refl value_next) (id_is, value_is)))
+    subst (λ (x : TableDraft). (number_at (codes "id") d ≡ Ok x.id) × (record_shape as_toml q d ≡ Ok x.value))
+    (only (Ok draft) draft t refl value_next) (id_is, value_is)))
 
 keyed_parts : (t : TableDraft) (e : Key × Record) → keyed_record t ≡ Ok e → (key t ≡ Ok e.0) × (record_of t.value ≡ Ok e.1)
 unfolding keyed_record
@@ -114,7 +129,8 @@ keyed_parts t e h =
     steps (record_of t.value) _ e k_next (λ r r_is r_next.
     subst (λ (x : Key × Record). (key t ≡ Ok x.0) × (record_of t.value ≡ Ok x.1)) (only (Ok (k, r)) (k, r) e refl r_next) (k_is, r_is)))
 
-table_read : (q : Kind) (d : Data) (t : TableDraft) (e : Key × Record) → IsOrdered d → table_shape q d ≡ Ok t → keyed_record t ≡ Ok e → IsRead q d e
+table_read : (q : Kind) (d : Data) (t : TableDraft) (e : Key × Record) → IsOrdered d → table_shape q d ≡ Ok t → keyed_record t ≡ Ok e
+    → IsRead q d e
 table_read q d t e ordered shape range =
     let parts = table_parts q d t shape in
     let keyed = keyed_parts t e range in
@@ -126,20 +142,23 @@ pub record AreRead (q : Kind) (ds : Items) (es : List (Key × Record)) : Type 0 
   pub ranges : AllByRecursion (λ e. KeyedInRange e.0 e.1) es
   pub kinds_are : AllByRecursion (λ e. kind e.0 ≡ q) es
 
-some_read : (q : Kind) (d : Data) (e : Key × Record) (ds : Items) (es : List (Key × Record)) → IsRead q d e → AreRead q ds es → AreRead q (item d ds) (e ∷ es)
+some_read : (q : Kind) (d : Data) (e : Key × Record) (ds : Items) (es : List (Key × Record)) → IsRead q d e → AreRead q ds es
+    → AreRead q (item d ds) (e ∷ es)
 some_read q d e ds es here later =
     let whole : array ds ≡ tables_of keyed_rows es = later.value in
     let rest : ds ≡ items_of (map (λ x. table_with (keyed_rows x)) es) = cc in
     record { value = ap array (ap₂ item here.value rest); ranges = (here.range, later.ranges); kinds_are = (here.kind_is, later.kinds_are) }
 
-pub tables_read : (q : Kind) (ds : Items) (ts : List TableDraft) (es : List (Key × Record)) → EachOrdered ds → each (table_shape q) (items_list ds) ≡ Ok ts → each keyed_record ts ≡ Ok es → AreRead q ds es
+pub tables_read : (q : Kind) (ds : Items) (ts : List TableDraft) (es : List (Key × Record)) → EachOrdered ds
+    → each (table_shape q) (items_list ds) ≡ Ok ts → each keyed_record ts ≡ Ok es → AreRead q ds es
 tables_read q no_items ts es ordered shapes ranges =
     let none : each keyed_record [] ≡ Ok es = ap (each keyed_record) (only (Ok []) [] ts refl shapes) ∙ ranges in
     subst (AreRead q no_items) (only (Ok []) [] es refl none) (record { value = refl; ranges = tt; kinds_are = tt })
 tables_read q (item d ds) ts es ordered shapes ranges =
     steps (table_shape q d) _ ts shapes (λ t t_is t_next.
     steps (each (table_shape q) (items_list ds)) _ ts t_next (λ more more_is more_next.
-    let split : each keyed_record (t ∷ more) ≡ Ok es = ap (each keyed_record) (only (Ok (t ∷ more)) (t ∷ more) ts refl more_next) ∙ ranges in
+    let split : each keyed_record (t ∷ more) ≡ Ok es = ap (each keyed_record) (only (Ok (t ∷ more)) (t ∷ more) ts refl more_next)
+    ∙ ranges in
     steps (keyed_record t) _ es split (λ e e_is e_next.
     steps (each keyed_record more) _ es e_next (λ rest rest_is rest_next.
     subst (AreRead q (item d ds)) (only (Ok (e ∷ rest)) (e ∷ rest) es refl rest_next)
@@ -156,7 +175,8 @@ record_draft (records.Meter r) = drafts.Meter (meter_draft r)
 abbrev pub keyed_draft : Key × Record → TableDraft
 keyed_draft e = record { id = number_of e.0; value = record_draft e.1 }
 
-id_read : (q : Kind) (d : Data) (id : ℕ) (value : RecordDraft) → number_at (codes "id") d ≡ Ok id → record_shape as_toml q d ≡ Ok value → table_shape q d ≡ Ok (record { id = id; value = value })
+id_read : (q : Kind) (d : Data) (id : ℕ) (value : RecordDraft) → number_at (codes "id") d ≡ Ok id → record_shape as_toml q d ≡ Ok value
+    → table_shape q d ≡ Ok (record { id = id; value = value })
 unfolding table_shape
 id_read q d id value id_is value_is = rw (id_is, value_is)
 
@@ -164,10 +184,16 @@ shape_ok : {A B : Type 0} (x : Result A Unread) (a : A) (f : A → B) → x ≡ 
 shape_ok x a f h = rw h
 
 table_shaped : (k : Key) (r : Record) → KeyedInRange k r → table_shape (kind k) (table_with (keyed_rows (k, r))) ≡ Ok (keyed_draft (k, r))
-table_shaped (keys.Port n) (records.Port r) fits = id_read kinds.Port _ n _ (number_got (codes "id") (port_rows n r) n refl refl) (shape_ok _ (port_draft r) drafts.Port (port_shaped n r))
-table_shaped (keys.Filter n) (records.Filter r) fits = id_read kinds.Filter _ n _ (number_got (codes "id") (filter_rows n r) n refl refl) (shape_ok _ (filter_draft r) drafts.Filter (filter_shaped n r))
-table_shaped (keys.Gate n) (records.Gate r) fits = id_read kinds.Gate _ n _ (number_got (codes "id") (gate_rows n r) n refl refl) (shape_ok _ (gate_draft r) drafts.Gate (gate_shaped n r))
-table_shaped (keys.Meter n) (records.Meter r) fits = id_read kinds.Meter _ n _ (number_got (codes "id") (meter_rows n r) n refl refl) (shape_ok _ (meter_draft r) drafts.Meter (meter_shaped n r))
+table_shaped (keys.Port n) (records.Port r) fits =
+    id_read kinds.Port _ n _ (number_got (codes "id") (port_rows n r) n refl refl) (shape_ok _ (port_draft r) drafts.Port (port_shaped n r))
+table_shaped (keys.Filter n) (records.Filter r) fits =
+    id_read kinds.Filter _ n _ (number_got (codes "id") (filter_rows n r) n refl refl)
+    (shape_ok _ (filter_draft r) drafts.Filter (filter_shaped n r))
+table_shaped (keys.Gate n) (records.Gate r) fits =
+    id_read kinds.Gate _ n _ (number_got (codes "id") (gate_rows n r) n refl refl) (shape_ok _ (gate_draft r) drafts.Gate (gate_shaped n r))
+table_shaped (keys.Meter n) (records.Meter r) fits =
+    id_read kinds.Meter _ n _ (number_got (codes "id") (meter_rows n r) n refl refl)
+    (shape_ok _ (meter_draft r) drafts.Meter (meter_shaped n r))
 table_shaped k r fits = absurd fits
 
 keyed_back : (k : Key) (r : Record) → KeyedInRange k r → keyed_record (keyed_draft (k, r)) ≡ Ok (k, r)
@@ -178,13 +204,16 @@ keyed_back (keys.Gate n) (records.Gate r) fits = rw (at_most_ok fields.Key great
 keyed_back (keys.Meter n) (records.Meter r) fits = rw (at_most_ok fields.Key greatest_instance n fits.0, meter_back r fits.1)
 keyed_back k r fits = absurd fits
 
-pub tables_shaped : (q : Kind) (es : List (Key × Record)) → AllByRecursion (λ e. KeyedInRange e.0 e.1) es → AllByRecursion (λ e. kind e.0 ≡ q) es
+pub tables_shaped : (q : Kind) (es : List (Key × Record)) → AllByRecursion (λ e. KeyedInRange e.0 e.1) es
+    → AllByRecursion (λ e. kind e.0 ≡ q) es
     → each (table_shape q) (items_list (items_of (map (λ e. table_with (keyed_rows e)) es))) ≡ Ok (map keyed_draft es)
 tables_shaped q [] fits are = refl
 tables_shaped q (e ∷ es) fits are =
-    let here : table_shape q (table_with (keyed_rows e)) ≡ Ok (keyed_draft e) = subst (λ p. table_shape p (table_with (keyed_rows e)) ≡ Ok (keyed_draft e)) are.0 (table_shaped e.0 e.1 fits.0) in
+    let here : table_shape q (table_with (keyed_rows e)) ≡ Ok (keyed_draft e) = subst
+    (λ p. table_shape p (table_with (keyed_rows e)) ≡ Ok (keyed_draft e)) are.0 (table_shaped e.0 e.1 fits.0) in
     rw (here, tables_shaped q es fits.1 are.1)
 
-pub records_back : (es : List (Key × Record)) → AllByRecursion (λ e. KeyedInRange e.0 e.1) es → each keyed_record (map keyed_draft es) ≡ Ok es
+pub records_back : (es : List (Key × Record)) → AllByRecursion (λ e. KeyedInRange e.0 e.1) es
+    → each keyed_record (map keyed_draft es) ≡ Ok es
 records_back [] fits = refl
 records_back (e ∷ es) fits = rw (keyed_back e.0 e.1 fits.0, records_back es fits.1)

@@ -84,7 +84,8 @@ is_of_kind kinds.Meter (keys.Meter n) = refl
 is_of_kind q k = refl
 
 pub others : (q p : Kind) (es : List (Key × Record)) → same_kind q p ≡ false → AllOf p es → of_kind q es ≡ []
-others q p es apart h = none_of q es (all_from (λ e. kind e.0 ≡ p) (λ e. is_of q e.0 ≡ false) es (λ e is. is_of_kind q e.0 ∙ ap (same_kind q) is ∙ apart) h)
+others q p es apart h =
+    none_of q es (all_from (λ e. kind e.0 ≡ p) (λ e. is_of q e.0 ≡ false) es (λ e is. is_of_kind q e.0 ∙ ap (same_kind q) is ∙ apart) h)
 
 joined_at : (b : Bool) (e : Key × Record) (xs ys : List (Key × Record)) → cond b (e ∷ (xs ++ ys)) (xs ++ ys) ≡ cond b (e ∷ xs) xs ++ ys
 joined_at true e xs ys = refl
@@ -92,13 +93,15 @@ joined_at false e xs ys = refl
 
 pub of_joined : (q : Kind) (xs ys : List (Key × Record)) → of_kind q (xs ++ ys) ≡ of_kind q xs ++ of_kind q ys
 of_joined q [] ys = refl
-of_joined q (x ∷ xs) ys = ap (λ l. cond (is_of q x.0) (x ∷ l) l) (of_joined q xs ys) ∙ joined_at (is_of q x.0) x (of_kind q xs) (of_kind q ys)
+of_joined q (x ∷ xs) ys =
+    ap (λ l. cond (is_of q x.0) (x ∷ l) l) (of_joined q xs ys) ∙ joined_at (is_of q x.0) x (of_kind q xs) (of_kind q ys)
 
 pub nothing_more : {A : Type 0} (xs : List A) → xs ++ [] ≡ xs
 nothing_more [] = refl
 nothing_more (x ∷ xs) = ap (λ l. x ∷ l) (nothing_more xs)
 
-kept_at : {A : Type 0} (P : A → Type 0) (b : Bool) (x : A) (xs : List A) → (b ≡ true → P x) → AllByRecursion P xs → AllByRecursion P (cond b (x ∷ xs) xs)
+kept_at : {A : Type 0} (P : A → Type 0) (b : Bool) (x : A) (xs : List A) → (b ≡ true → P x) → AllByRecursion P xs
+    → AllByRecursion P (cond b (x ∷ xs) xs)
 kept_at P true x xs here h = (here refl, h)
 kept_at P false x xs here h = h
 
@@ -118,37 +121,51 @@ pub record KindThere (q : Kind) (d : Data) (es : List (Key × Record)) : Type 0 
   pub ranges : InRange es
   pub kinds_are : AllOf q es
 
-items_known : (q : Kind) (d : Data) (o : Option Items) (es : List (Key × Record)) → get (kind_text q) d ≡ option_map array o → ((ds : Items) → o ≡ Some ds → EachOrdered ds)
+items_known : (q : Kind) (d : Data) (o : Option Items) (es : List (Key × Record)) → get (kind_text q) d ≡ option_map array o
+    → ((ds : Items) → o ≡ Some ds → EachOrdered ds)
     → (ts : List TableDraft) → each (table_shape q) (items_given o) ≡ Ok ts → each keyed_record ts ≡ Ok es → KindThere q d es
 items_known q d None es there ordered ts shapes ranges =
     let read : AreRead q no_items es = tables_read q no_items ts es tt shapes ranges in
-    record { value = ap (λ (x : Option Data). unwrap_or x (array no_items)) there ∙ read.value; ranges = read.ranges; kinds_are = read.kinds_are }
+    record {
+      value = ap (λ (x : Option Data). unwrap_or x (array no_items)) there ∙ read.value;
+      ranges = read.ranges;
+      kinds_are = read.kinds_are;
+    }
 items_known q d (Some ds) es there ordered ts shapes ranges =
     let read : AreRead q ds es = tables_read q ds ts es (ordered ds refl) shapes ranges in
-    record { value = ap (λ (x : Option Data). unwrap_or x (array no_items)) there ∙ read.value; ranges = read.ranges; kinds_are = read.kinds_are }
+    record {
+      value = ap (λ (x : Option Data). unwrap_or x (array no_items)) there ∙ read.value;
+      ranges = read.ranges;
+      kinds_are = read.kinds_are;
+    }
 
-pub kind_there : (q : Kind) (d : Data) (ts : List TableDraft) (es : List (Key × Record)) → IsOrdered d → tables_of_kind q d ≡ Ok ts → each keyed_record ts ≡ Ok es → KindThere q d es
+pub kind_there : (q : Kind) (d : Data) (ts : List TableDraft) (es : List (Key × Record)) → IsOrdered d → tables_of_kind q d ≡ Ok ts
+    → each keyed_record ts ≡ Ok es → KindThere q d es
 unfolding tables_of_kind
 kind_there q d ts es ordered shapes ranges =
     steps (items_or_none_at (kind_text q) d) _ ts shapes (λ o o_is o_next.
     let there = items_or_none_there (get (kind_text q) d) o o_is in
-    items_known q d o es there (λ ds is. inner_ordered (kind_text q) d (array ds) ordered (there ∙ ap (option_map array) is)) ts o_next ranges)
+    items_known q d o es there (λ ds is. inner_ordered (kind_text q) d (array ds) ordered (there ∙ ap (option_map array) is)) ts o_next
+    ranges)
 
 abbrev KindRead : Kind → Data → List (Key × Record) → Type 0
 KindRead q d es = tables_of_kind q d ≡ Ok (map keyed_draft es)
 
-kind_from : (q : Kind) (d : Data) (o : Option Items) (es : List (Key × Record)) → items_or_none_at (kind_text q) d ≡ Ok o → each (table_shape q) (items_given o) ≡ Ok (map keyed_draft es) → KindRead q d es
+kind_from : (q : Kind) (d : Data) (o : Option Items) (es : List (Key × Record)) → items_or_none_at (kind_text q) d ≡ Ok o
+    → each (table_shape q) (items_given o) ≡ Ok (map keyed_draft es) → KindRead q d es
 unfolding tables_of_kind
 kind_from q d o es found shapes = rw (found, shapes)
 
-kind_read_at : (q : Kind) (d : Data) (o : Option Data) (es : List (Key × Record)) → get (kind_text q) d ≡ o → unwrap_or o (array no_items) ≡ tables_of keyed_rows es → InRange es → AllOf q es → KindRead q d es
+kind_read_at : (q : Kind) (d : Data) (o : Option Data) (es : List (Key × Record)) → get (kind_text q) d ≡ o
+    → unwrap_or o (array no_items) ≡ tables_of keyed_rows es → InRange es → AllOf q es → KindRead q d es
 kind_read_at q d None [] is value fits are = kind_from q d None [] (ap (if_given as_array) is) refl
 kind_read_at q d None (e ∷ es) is value fits are = cc
 kind_read_at q d (Some x) es is value fits are =
     let ds : Items = items_of (map (λ (e : Key × Record). table_with (keyed_rows e)) es) in
     kind_from q d (Some ds) es (ap (if_given as_array) (is ∙ ap Some value)) (tables_shaped q es fits are)
 
-pub kind_read : (q : Kind) (d : Data) (es : List (Key × Record)) → given_or (array no_items) (kind_text q) d ≡ tables_of keyed_rows es → InRange es → AllOf q es → KindRead q d es
+pub kind_read : (q : Kind) (d : Data) (es : List (Key × Record)) → given_or (array no_items) (kind_text q) d ≡ tables_of keyed_rows es
+    → InRange es → AllOf q es → KindRead q d es
 kind_read q d es value fits are = kind_read_at q d (get (kind_text q) d) es refl value fits are
 
 -- ---- answers of all

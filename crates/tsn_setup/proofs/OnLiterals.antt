@@ -9,5 +9,7 @@ use Rattle.tsn_records.specs.Records.{port_shape, filter_shape, gate_shape, mete
 use Rattle.tsn_setup.specs.Tables.{limits_shape, tables_shape, tables_of_kind, table_shape}
 
 unfoldable pub setups_on_literals : ⊤
-unfolding toml_on_literals is_utf8 chars setup_shape setup_of_draft limits_shape tables_shape tables_of_kind table_shape port_shape filter_shape gate_shape meter_shape schedule_shape list_shape port_entry_shape gate_entry_shape limits keyed_record port filter gate meter schedule port_entry gate_entry
+unfolding toml_on_literals is_utf8 chars setup_shape setup_of_draft limits_shape tables_shape tables_of_kind table_shape port_shape
+    filter_shape gate_shape meter_shape schedule_shape list_shape port_entry_shape gate_entry_shape limits keyed_record port filter gate
+    meter schedule port_entry gate_entry
 setups_on_literals = tt

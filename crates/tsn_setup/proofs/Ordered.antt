@@ -55,11 +55,13 @@ pushed (item d ds) e h x = (h.0, pushed ds e h.1 x)
 
 -- ---- answers that may be none
 
-if_map : {A B : Type 0} (P : A → Type 0) (Q : B → Type 0) (f : A → B) → ((a : A) → P a → Q (f a)) → (o : Option A) → IfSome o P → IfSome (option_map f o) Q
+if_map : {A B : Type 0} (P : A → Type 0) (Q : B → Type 0) (f : A → B) → ((a : A) → P a → Q (f a)) → (o : Option A) → IfSome o P
+    → IfSome (option_map f o) Q
 if_map P Q f more None h = tt
 if_map P Q f more (Some a) h = more a h
 
-if_and_then : {A B : Type 0} (P : A → Type 0) (Q : B → Type 0) (f : A → Option B) → ((a : A) → P a → IfSome (f a) Q) → (o : Option A) → IfSome o P → IfSome (option_and_then f o) Q
+if_and_then : {A B : Type 0} (P : A → Type 0) (Q : B → Type 0) (f : A → Option B) → ((a : A) → P a → IfSome (f a) Q) → (o : Option A)
+    → IfSome o P → IfSome (option_and_then f o) Q
 if_and_then P Q f more None h = tt
 if_and_then P Q f more (Some a) h = more a h
 
@@ -105,7 +107,8 @@ mutual
   closed no_nodes h = tt
   closed (node k x ns) h = (closed_above k ns h.0, (node_closed x h.1.0, closed ns h.1.1))
 
-above_inserted_at : (o : Ordering) (l k m : List ℕ) (x y : Node) (ns : Nodes) → order l k ≡ Less → NodesAbove l (node m y ns) → NodesAbove l (insert k x ns)
+above_inserted_at : (o : Ordering) (l k m : List ℕ) (x y : Node) (ns : Nodes) → order l k ≡ Less → NodesAbove l (node m y ns)
+    → NodesAbove l (insert k x ns)
     → NodesAbove l (match_ordering o (node k x (node m y ns)) (node m x ns) (node m y (insert k x ns)))
 above_inserted_at Less l k m x y ns less h later = (less, h)
 above_inserted_at Equal l k m x y ns less h later = h
@@ -115,7 +118,8 @@ above_inserted : (l k : List ℕ) (x : Node) (ns : Nodes) → order l k ≡ Less
 above_inserted l k x no_nodes less h = (less, tt)
 above_inserted l k x (node m y ns) less h = above_inserted_at (order k m) l k m x y ns less h (above_inserted l k x ns less h.1)
 
-inserted_at : (o : Ordering) (k l : List ℕ) (x y : Node) (ns : Nodes) → order k l ≡ o → NodeOrdered x → NodesOrdered (node l y ns) → NodesOrdered (insert k x ns)
+inserted_at : (o : Ordering) (k l : List ℕ) (x y : Node) (ns : Nodes) → order k l ≡ o → NodeOrdered x → NodesOrdered (node l y ns)
+    → NodesOrdered (insert k x ns)
     → NodesOrdered (match_ordering o (node k x (node l y ns)) (node l x ns) (node l y (insert k x ns)))
 inserted_at Less k l x y ns is fits h later = ((is, nodes_above_below k l ns is h.0), (fits, h))
 inserted_at Equal k l x y ns is fits h later = (h.0, (fits, h.1.1))
@@ -125,7 +129,8 @@ inserted : (k : List ℕ) (x : Node) (ns : Nodes) → NodeOrdered x → NodesOrd
 inserted k x no_nodes fits h = (tt, (fits, tt))
 inserted k x (node l y ns) fits h = inserted_at (order k l) k l x y ns refl fits h (inserted k x ns fits h.1.1)
 
-above_replaced_at : (b : Bool) (l k m : List ℕ) (x y : Node) (ns : Nodes) → NodesAbove l (node m y ns) → NodesAbove l (replace k x ns) → NodesAbove l (cond b (node m x ns) (node m y (replace k x ns)))
+above_replaced_at : (b : Bool) (l k m : List ℕ) (x y : Node) (ns : Nodes) → NodesAbove l (node m y ns) → NodesAbove l (replace k x ns)
+    → NodesAbove l (cond b (node m x ns) (node m y (replace k x ns)))
 above_replaced_at true l k m x y ns h later = h
 above_replaced_at false l k m x y ns h later = (h.0, later)
 
@@ -133,7 +138,8 @@ above_replaced : (l k : List ℕ) (x : Node) (ns : Nodes) → NodesAbove l ns �
 above_replaced l k x no_nodes h = tt
 above_replaced l k x (node m y ns) h = above_replaced_at (same_key k m) l k m x y ns h (above_replaced l k x ns h.1)
 
-replaced_at : (b : Bool) (k l : List ℕ) (x y : Node) (ns : Nodes) → NodeOrdered x → NodesOrdered (node l y ns) → NodesOrdered (replace k x ns) → NodesOrdered (cond b (node l x ns) (node l y (replace k x ns)))
+replaced_at : (b : Bool) (k l : List ℕ) (x y : Node) (ns : Nodes) → NodeOrdered x → NodesOrdered (node l y ns)
+    → NodesOrdered (replace k x ns) → NodesOrdered (cond b (node l x ns) (node l y (replace k x ns)))
 replaced_at true k l x y ns fits h later = (h.0, (fits, h.1.1))
 replaced_at false k l x y ns fits h later = (above_replaced l k x ns h.0, (h.1.0, later))
 
@@ -156,33 +162,48 @@ Keeps edit = (ns : Nodes) → NodesOrdered ns → IfSome (edit ns) NodesOrdered
 
 header_kept : (edit : Edit) → Keeps edit → (x : Node) → NodeOrdered x → IfSome (header_node edit x) NodeOrdered
 header_kept edit keeps (value d) h = tt
-header_kept edit keeps (open_table origin ns) h = if_map NodesOrdered NodeOrdered (open_table origin) (λ a fits. fits) (edit ns) (keeps ns h)
-header_kept edit keeps (open_array done ns) h = if_map NodesOrdered NodeOrdered (open_array done) (λ a fits. (h.0, fits)) (edit ns) (keeps ns h.1)
+header_kept edit keeps (open_table origin ns) h =
+    if_map NodesOrdered NodeOrdered (open_table origin) (λ a fits. fits) (edit ns) (keeps ns h)
+header_kept edit keeps (open_array done ns) h =
+    if_map NodesOrdered NodeOrdered (open_array done) (λ a fits. (h.0, fits)) (edit ns) (keeps ns h.1)
 
 dots_kept : (edit : Edit) → Keeps edit → (x : Node) → NodeOrdered x → IfSome (dot_node edit x) NodeOrdered
 dots_kept edit keeps (value d) h = tt
 dots_kept edit keeps (open_table header ns) h = tt
-dots_kept edit keeps (open_table implicit ns) h = if_map NodesOrdered NodeOrdered (open_table dotted) (λ a fits. fits) (edit ns) (keeps ns h)
+dots_kept edit keeps (open_table implicit ns) h =
+    if_map NodesOrdered NodeOrdered (open_table dotted) (λ a fits. fits) (edit ns) (keeps ns h)
 dots_kept edit keeps (open_table dotted ns) h = if_map NodesOrdered NodeOrdered (open_table dotted) (λ a fits. fits) (edit ns) (keeps ns h)
 dots_kept edit keeps (open_array done ns) h = tt
 
-by_header_kept : (k : List ℕ) (edit : Edit) (ns : Nodes) (o : Option Node) → Keeps edit → NodesOrdered ns → IfSome o NodeOrdered → IfSome (by_header k edit ns o) NodesOrdered
-by_header_kept k edit ns None keeps h there = if_map NodesOrdered NodesOrdered (λ new. insert k (open_table implicit new) ns) (λ a fits. inserted k (open_table implicit a) ns fits h) (edit no_nodes) (keeps no_nodes tt)
-by_header_kept k edit ns (Some x) keeps h there = if_map NodeOrdered NodesOrdered (λ new. replace k new ns) (λ a fits. replaced k a ns fits h) (header_node edit x) (header_kept edit keeps x there)
+by_header_kept : (k : List ℕ) (edit : Edit) (ns : Nodes) (o : Option Node) → Keeps edit → NodesOrdered ns → IfSome o NodeOrdered
+    → IfSome (by_header k edit ns o) NodesOrdered
+by_header_kept k edit ns None keeps h there =
+    if_map NodesOrdered NodesOrdered (λ new. insert k (open_table implicit new) ns) (λ a fits. inserted k (open_table implicit a) ns fits h)
+    (edit no_nodes) (keeps no_nodes tt)
+by_header_kept k edit ns (Some x) keeps h there =
+    if_map NodeOrdered NodesOrdered (λ new. replace k new ns) (λ a fits. replaced k a ns fits h) (header_node edit x)
+    (header_kept edit keeps x there)
 
-by_dot_kept : (k : List ℕ) (edit : Edit) (ns : Nodes) (o : Option Node) → Keeps edit → NodesOrdered ns → IfSome o NodeOrdered → IfSome (by_dot k edit ns o) NodesOrdered
-by_dot_kept k edit ns None keeps h there = if_map NodesOrdered NodesOrdered (λ new. insert k (open_table dotted new) ns) (λ a fits. inserted k (open_table dotted a) ns fits h) (edit no_nodes) (keeps no_nodes tt)
-by_dot_kept k edit ns (Some x) keeps h there = if_map NodeOrdered NodesOrdered (λ new. replace k new ns) (λ a fits. replaced k a ns fits h) (dot_node edit x) (dots_kept edit keeps x there)
+by_dot_kept : (k : List ℕ) (edit : Edit) (ns : Nodes) (o : Option Node) → Keeps edit → NodesOrdered ns → IfSome o NodeOrdered
+    → IfSome (by_dot k edit ns o) NodesOrdered
+by_dot_kept k edit ns None keeps h there =
+    if_map NodesOrdered NodesOrdered (λ new. insert k (open_table dotted new) ns) (λ a fits. inserted k (open_table dotted a) ns fits h)
+    (edit no_nodes) (keeps no_nodes tt)
+by_dot_kept k edit ns (Some x) keeps h there =
+    if_map NodeOrdered NodesOrdered (λ new. replace k new ns) (λ a fits. replaced k a ns fits h) (dot_node edit x)
+    (dots_kept edit keeps x there)
 
 along_header_kept : (path : List (List ℕ)) (edit : Edit) → Keeps edit → Keeps (along_header path edit)
 unfolding along_header
 along_header_kept [] edit keeps ns h = keeps ns h
-along_header_kept (k ∷ path) edit keeps ns h = by_header_kept k (along_header path edit) ns (get_node k ns) (along_header_kept path edit keeps) h (got k ns h)
+along_header_kept (k ∷ path) edit keeps ns h =
+    by_header_kept k (along_header path edit) ns (get_node k ns) (along_header_kept path edit keeps) h (got k ns h)
 
 along_dots_kept : (path : List (List ℕ)) (edit : Edit) → Keeps edit → Keeps (along_dots path edit)
 unfolding along_dots
 along_dots_kept [] edit keeps ns h = keeps ns h
-along_dots_kept (k ∷ path) edit keeps ns h = by_dot_kept k (along_dots path edit) ns (get_node k ns) (along_dots_kept path edit keeps) h (got k ns h)
+along_dots_kept (k ∷ path) edit keeps ns h =
+    by_dot_kept k (along_dots path edit) ns (get_node k ns) (along_dots_kept path edit keeps) h (got k ns h)
 
 abbrev DefinesOrdered : Definition → Type 0
 DefinesOrdered (key_value d) = IsOrdered d
@@ -199,9 +220,11 @@ redefined std_table (open_table implicit ns) h = h
 redefined array_table (open_array done ns) h = (pushed done (table (close ns)) h.0 (closed ns h.1), tt)
 redefined _ _ h = tt
 
-found_kept : (k : List ℕ) (what : Definition) (ns : Nodes) (o : Option Node) → DefinesOrdered what → NodesOrdered ns → IfSome o NodeOrdered → IfSome (at_found k what ns o) NodesOrdered
+found_kept : (k : List ℕ) (what : Definition) (ns : Nodes) (o : Option Node) → DefinesOrdered what → NodesOrdered ns → IfSome o NodeOrdered
+    → IfSome (at_found k what ns o) NodesOrdered
 found_kept k what ns None defines h there = inserted k (new_node what) ns (new_ordered what defines) h
-found_kept k what ns (Some x) defines h there = if_map NodeOrdered NodesOrdered (λ y. replace k y ns) (λ a fits. replaced k a ns fits h) (redefine what x) (redefined what x there)
+found_kept k what ns (Some x) defines h there =
+    if_map NodeOrdered NodesOrdered (λ y. replace k y ns) (λ a fits. replaced k a ns fits h) (redefine what x) (redefined what x there)
 
 at_key_kept : (k : List ℕ) (what : Definition) → DefinesOrdered what → Keeps (at_key k what)
 unfolding at_key
@@ -218,22 +241,28 @@ First P p = P p.0
 abbrev ReadsOrdered : (List ℕ → Read Data) → Type 0
 ReadsOrdered reads = (text : List ℕ) → IfSome (reads text) (First IsOrdered)
 
-pair_ordered : (reads : List ℕ → Read Data) → ReadsOrdered reads → (text : List ℕ) → IfSome (keyval reads text) (λ (p : (Key × Data) × List ℕ). IsOrdered p.0.1)
+pair_ordered : (reads : List ℕ → Read Data) → ReadsOrdered reads → (text : List ℕ)
+    → IfSome (keyval reads text) (λ (p : (Key × Data) × List ℕ). IsOrdered p.0.1)
 pair_ordered reads ordered text =
     if_and_then (λ _. ⊤) (λ (p : (Key × Data) × List ℕ). IsOrdered p.0.1) _ (λ k _.
-    if_map (First IsOrdered) (λ (p : (Key × Data) × List ℕ). IsOrdered p.0.1) _ (λ a fits. fits) (reads k.1) (ordered k.1)) (key_equals text) (any (key_equals text))
+    if_map (First IsOrdered) (λ (p : (Key × Data) × List ℕ). IsOrdered p.0.1) _ (λ a fits. fits) (reads k.1) (ordered k.1))
+    (key_equals text) (any (key_equals text))
 
-items_ordered : (reads : List ℕ → Read Data) → ReadsOrdered reads → (n : ℕ) (found : Items) (text : List ℕ) → EachOrdered found → IfSome (items reads n found text) (First EachOrdered)
+items_ordered : (reads : List ℕ → Read Data) → ReadsOrdered reads → (n : ℕ) (found : Items) (text : List ℕ) → EachOrdered found
+    → IfSome (items reads n found text) (First EachOrdered)
 unfolding items
 items_ordered reads ordered zero found text h = tt
 items_ordered reads ordered (suc n) found text h =
     let start = skip_blank text in
     if_cond (First EachOrdered) (first start == right_bracket) _ _ h (
     if_and_then (First IsOrdered) (First EachOrdered) _ (λ v fits.
-    if_and_then (λ _. ⊤) (First EachOrdered) (items reads n (push_item found v.0)) (λ rest _. items_ordered reads ordered n (push_item found v.0) rest (pushed found v.0 h fits)) (after_element right_bracket v.1) (any (after_element right_bracket v.1)))
+    if_and_then (λ _. ⊤) (First EachOrdered) (items reads n (push_item found v.0))
+    (λ rest _. items_ordered reads ordered n (push_item found v.0) rest (pushed found v.0 h fits)) (after_element right_bracket v.1)
+    (any (after_element right_bracket v.1)))
     (reads start) (ordered start))
 
-members_ordered : (reads : List ℕ → Read Data) → ReadsOrdered reads → (n : ℕ) (found : Nodes) (text : List ℕ) → NodesOrdered found → IfSome (members reads n found text) (First AreOrdered)
+members_ordered : (reads : List ℕ → Read Data) → ReadsOrdered reads → (n : ℕ) (found : Nodes) (text : List ℕ) → NodesOrdered found
+    → IfSome (members reads n found text) (First AreOrdered)
 unfolding members
 members_ordered reads ordered zero found text h = tt
 members_ordered reads ordered (suc n) found text h =
@@ -241,7 +270,8 @@ members_ordered reads ordered (suc n) found text h =
     if_cond (First AreOrdered) (first start == right_brace) _ _ (closed found h) (
     if_and_then (λ (p : (Key × Data) × List ℕ). IsOrdered p.0.1) (First AreOrdered) _ (λ e fits.
     if_and_then NodesOrdered (First AreOrdered) _ (λ more kept.
-    if_and_then (λ _. ⊤) (First AreOrdered) (members reads n more) (λ rest _. members_ordered reads ordered n more rest kept) (after_element right_brace e.1) (any (after_element right_brace e.1)))
+    if_and_then (λ _. ⊤) (First AreOrdered) (members reads n more) (λ rest _. members_ordered reads ordered n more rest kept)
+    (after_element right_brace e.1) (any (after_element right_brace e.1)))
     (put e.0.0 e.0.1 found) (put_kept e.0.0 e.0.1 fits found h))
     (keyval reads start) (pair_ordered reads ordered start))
 
@@ -263,9 +293,11 @@ unfolding val
 val_ordered zero text = atom_ordered text
 val_ordered (suc depth) text =
     if_cond (First IsOrdered) (first text == left_bracket) _ _
-    (if_map (First EachOrdered) (First IsOrdered) _ (λ a fits. fits) (items (val depth) (length text) no_items (drop 1 text)) (items_ordered (val depth) (val_ordered depth) (length text) no_items (drop 1 text) tt))
+    (if_map (First EachOrdered) (First IsOrdered) _ (λ a fits. fits) (items (val depth) (length text) no_items (drop 1 text))
+    (items_ordered (val depth) (val_ordered depth) (length text) no_items (drop 1 text) tt))
     (if_cond (First IsOrdered) (first text == left_brace) _ _
-    (if_map (First AreOrdered) (First IsOrdered) _ (λ a fits. fits) (members (val depth) (length text) no_nodes (drop 1 text)) (members_ordered (val depth) (val_ordered depth) (length text) no_nodes (drop 1 text) tt))
+    (if_map (First AreOrdered) (First IsOrdered) _ (λ a fits. fits) (members (val depth) (length text) no_nodes (drop 1 text))
+    (members_ordered (val depth) (val_ordered depth) (length text) no_nodes (drop 1 text) tt))
     (atom_ordered text))
 
 -- ---- documents
@@ -277,25 +309,36 @@ expression_ordered : (text : List ℕ) → IfSome (expression text) SaysOrdered
 unfolding expression
 expression_ordered text =
     if_cond SaysOrdered (first text == left_bracket && slice_index text 1 == left_bracket) _ _
-    (if_and_then (λ _. ⊤) SaysOrdered _ (λ k _. if_map (λ _. ⊤) SaysOrdered _ (λ a _. tt) (after_byte right_bracket k.1) (any (after_byte right_bracket k.1))) (header_key (drop 2 text)) (any (header_key (drop 2 text))))
+    (if_and_then (λ _. ⊤) SaysOrdered _
+    (λ k _. if_map (λ _. ⊤) SaysOrdered _ (λ a _. tt) (after_byte right_bracket k.1) (any (after_byte right_bracket k.1)))
+    (header_key (drop 2 text)) (any (header_key (drop 2 text))))
     (if_cond SaysOrdered (first text == left_bracket) _ _
     (if_map (λ _. ⊤) SaysOrdered _ (λ a _. tt) (header_key (drop 1 text)) (any (header_key (drop 1 text))))
-    (if_map (λ (p : (Key × Data) × List ℕ). IsOrdered p.0.1) SaysOrdered _ (λ a fits. fits) (keyval (val recursion_limit) text) (pair_ordered (val recursion_limit) (val_ordered recursion_limit) text)))
+    (if_map (λ (p : (Key × Data) × List ℕ). IsOrdered p.0.1) SaysOrdered _ (λ a fits. fits) (keyval (val recursion_limit) text)
+    (pair_ordered (val recursion_limit) (val_ordered recursion_limit) text)))
 
 line_ordered : (text : List ℕ) → IfSome (line text) SaysOrdered
 unfolding line
-line_ordered text = if_and_then SaysOrdered SaysOrdered _ (λ e fits. if_cond SaysOrdered (ends_line (skip_ws e.1)) (Some e) None fits tt) (expression text) (expression_ordered text)
+line_ordered text = if_and_then SaysOrdered SaysOrdered _ (λ e fits. if_cond SaysOrdered (ends_line (skip_ws e.1)) (Some e) None fits tt)
+    (expression text) (expression_ordered text)
 
 abbrev RootOrdered : Document → Type 0
 RootOrdered doc = NodesOrdered doc.0
 
-header_defined : (doc : Document) (k : Key) (what : Definition) → RootOrdered doc → DefinesOrdered what → IfSome (along_header k.0 (at_key k.1 what) doc.0) NodesOrdered
+header_defined : (doc : Document) (k : Key) (what : Definition) → RootOrdered doc → DefinesOrdered what
+    → IfSome (along_header k.0 (at_key k.1 what) doc.0) NodesOrdered
 header_defined doc k what h defines = along_header_kept k.0 (at_key k.1 what) (at_key_kept k.1 what defines) doc.0 h
 
-defined_as : (doc : Document) (k : Key) (what : Definition) → RootOrdered doc → DefinesOrdered what → IfSome (define_as doc k what) RootOrdered
-defined_as doc k (key_value d) h fits = if_map NodesOrdered RootOrdered _ (λ a kept. kept) (along_header doc.1 (put k d) doc.0) (along_header_kept doc.1 (put k d) (put_kept k d fits) doc.0 h)
-defined_as doc k std_table h fits = if_map NodesOrdered RootOrdered _ (λ a kept. kept) (along_header k.0 (at_key k.1 std_table) doc.0) (header_defined doc k std_table h tt)
-defined_as doc k array_table h fits = if_map NodesOrdered RootOrdered _ (λ a kept. kept) (along_header k.0 (at_key k.1 array_table) doc.0) (header_defined doc k array_table h tt)
+defined_as : (doc : Document) (k : Key) (what : Definition) → RootOrdered doc → DefinesOrdered what
+    → IfSome (define_as doc k what) RootOrdered
+defined_as doc k (key_value d) h fits =
+    if_map NodesOrdered RootOrdered _ (λ a kept. kept) (along_header doc.1 (put k d) doc.0)
+    (along_header_kept doc.1 (put k d) (put_kept k d fits) doc.0 h)
+defined_as doc k std_table h fits =
+    if_map NodesOrdered RootOrdered _ (λ a kept. kept) (along_header k.0 (at_key k.1 std_table) doc.0) (header_defined doc k std_table h tt)
+defined_as doc k array_table h fits =
+    if_map NodesOrdered RootOrdered _ (λ a kept. kept) (along_header k.0 (at_key k.1 array_table) doc.0)
+    (header_defined doc k array_table h tt)
 
 defined : (doc : Document) (e : Expression) → RootOrdered doc → DefinesOrdered e.1 → IfSome (define doc e) RootOrdered
 unfolding define
@@ -318,7 +361,8 @@ parsed_ordered text =
     if_map RootOrdered AreOrdered _ (λ doc h. closed doc.0 h) found (lines_ordered (suc (length text)) (no_nodes, []) (skip_bom text) tt)
 
 document_ordered : (text : List ℕ) → IfSome (document_of text) IsOrdered
-document_ordered text = if_cond IsOrdered (is_utf8 text) _ None (if_map AreOrdered IsOrdered table (λ ms h. h) (parse_document text) (parsed_ordered text)) tt
+document_ordered text =
+    if_cond IsOrdered (is_utf8 text) _ None (if_map AreOrdered IsOrdered table (λ ms h. h) (parse_document text) (parsed_ordered text)) tt
 
 -- a text is read as an ordered value
 pub text_ordered : (text : List ℕ) (d : Data) → document_of text ≡ Some d → IsOrdered d

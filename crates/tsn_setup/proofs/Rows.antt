@@ -92,18 +92,22 @@ below_first : (k l : List ℕ) (e : Data) (es : Members) → order k l ≡ Less 
 below_first k l e es less above = absent k (member l e es) (less, above_below k l es less above)
 
 -- the rest agrees where the first names are one
-rest_agrees_at : (o : Ordering) (j k : List ℕ) (d e : Data) (ms es : Members) → order j k ≡ o → Above k ms → Above k es → match_ordering o (get_member j ms) (Some d) (get_member j ms) ≡ match_ordering o (get_member j es) (Some e) (get_member j es) → get_member j ms ≡ get_member j es
+rest_agrees_at : (o : Ordering) (j k : List ℕ) (d e : Data) (ms es : Members) → order j k ≡ o → Above k ms → Above k es
+    → match_ordering o (get_member j ms) (Some d) (get_member j ms) ≡ match_ordering o (get_member j es) (Some e) (get_member j es)
+    → get_member j ms ≡ get_member j es
 rest_agrees_at Less j k d e ms es is a b h = h
 rest_agrees_at Equal j k d e ms es is a b h =
     let same = same_name j k is in
     absent j ms (subst (λ n. Above n ms) (sym same) a) ∙ sym (absent j es (subst (λ n. Above n es) (sym same) b))
 rest_agrees_at Greater j k d e ms es is a b h = h
 
-same_members_at : (k l : List ℕ) (d e : Data) (ms es : Members) → k ≡ l → Above k ms → Above l es → Agree (member k d ms) (member l e es) → (Agree ms es → ms ≡ es) → member k d ms ≡ member l e es
+same_members_at : (k l : List ℕ) (d e : Data) (ms es : Members) → k ≡ l → Above k ms → Above l es → Agree (member k d ms) (member l e es)
+    → (Agree ms es → ms ≡ es) → member k d ms ≡ member l e es
 same_members_at k l d e ms es same a b h rest =
     let value : Some d ≡ Some e = sym (first_found k d ms) ∙ h k ∙ ap (λ n. get_member n (member l e es)) same ∙ first_found l e es in
     let above : Above k es = subst (λ n. Above n es) (sym same) b in
-    let agrees : Agree ms es = λ j. rest_agrees_at (order j k) j k d e ms es refl a above (h j ∙ ap (λ n. get_member j (member n e es)) (sym same)) in
+    let agrees : Agree ms es = λ j.
+    rest_agrees_at (order j k) j k d e ms es refl a above (h j ∙ ap (λ n. get_member j (member n e es)) (sym same)) in
     let others : ms ≡ es = rest agrees in
     cc
 
@@ -146,11 +150,14 @@ members_above k ((l, Some d) ∷ rest) h = (h.0, members_above k rest h.1)
 members_ascend : (rows : Rows) → is_rising rows ≡ true → Ascend (given rows)
 members_ascend [] h = tt
 members_ascend ((l, None) ∷ rest) h = members_ascend rest (rest_rises (l, None) rest h)
-members_ascend ((l, Some d) ∷ rest) h = (members_above l rest (rows_above (l, Some d) rest h), members_ascend rest (rest_rises (l, Some d) rest h))
+members_ascend ((l, Some d) ∷ rest) h =
+    (members_above l rest (rows_above (l, Some d) rest h), members_ascend rest (rest_rises (l, Some d) rest h))
 
-left_out_at : (o : Ordering) (k l : List ℕ) (rest : Rows) → order k l ≡ o → AboveRows l rest → get_member k (given rest) ≡ looked_up k rest → get_member k (given rest) ≡ match_ordering o (looked_up k rest) None (looked_up k rest)
+left_out_at : (o : Ordering) (k l : List ℕ) (rest : Rows) → order k l ≡ o → AboveRows l rest → get_member k (given rest) ≡ looked_up k rest
+    → get_member k (given rest) ≡ match_ordering o (looked_up k rest) None (looked_up k rest)
 left_out_at Less k l rest is above h = h
-left_out_at Equal k l rest is above h = absent k (given rest) (subst (λ n. Above n (given rest)) (sym (same_name k l is)) (members_above l rest above))
+left_out_at Equal k l rest is above h =
+    absent k (given rest) (subst (λ n. Above n (given rest)) (sym (same_name k l is)) (members_above l rest above))
 left_out_at Greater k l rest is above h = h
 
 -- a table of rows has at each name what the rows have
@@ -164,18 +171,22 @@ at_name k rows o h is = got k rows h ∙ is
 
 -- ---- no others
 
-other_at : (o : Ordering) (names : List (List ℕ)) (k l : List ℕ) (x y : Option Data) → order k l ≡ o → is_among names l ≡ true → is_among names k ≡ false → y ≡ None → match_ordering o y x y ≡ None
+other_at : (o : Ordering) (names : List (List ℕ)) (k l : List ℕ) (x y : Option Data) → order k l ≡ o → is_among names l ≡ true
+    → is_among names k ≡ false → y ≡ None → match_ordering o y x y ≡ None
 other_at Less names k l x y is known unknown h = h
-other_at Equal names k l x y is known unknown h = let never : false ≡ true = sym unknown ∙ ap (λ n. is_among names n) (same_name k l is) ∙ known in cc
+other_at Equal names k l x y is known unknown h =
+    let never : false ≡ true = sym unknown ∙ ap (λ n. is_among names n) (same_name k l is) ∙ known in cc
 other_at Greater names k l x y is known unknown h = h
 
-pub other_member : (names : List (List ℕ)) (ms : Members) (k : List ℕ) → are_among names ms ≡ true → is_among names k ≡ false → get_member k ms ≡ None
+pub other_member : (names : List (List ℕ)) (ms : Members) (k : List ℕ) → are_among names ms ≡ true → is_among names k ≡ false
+    → get_member k ms ≡ None
 other_member names no_members k h unknown = refl
 other_member names (member l d ms) k h unknown =
     let parts = and_parts (is_among names l) (are_among names ms) h in
     other_at (order k l) names k l (Some d) (get_member k ms) refl parts.0 unknown (other_member names ms k parts.1 unknown)
 
-other_row : (names : List (List ℕ)) (rows : Rows) (k : List ℕ) → rows_among names rows ≡ true → is_among names k ≡ false → looked_up k rows ≡ None
+other_row : (names : List (List ℕ)) (rows : Rows) (k : List ℕ) → rows_among names rows ≡ true → is_among names k ≡ false
+    → looked_up k rows ≡ None
 other_row names [] k h unknown = refl
 other_row names (row ∷ rest) k h unknown =
     let parts = and_parts (is_among names row.0) (rows_among names rest) h in
@@ -187,11 +198,13 @@ only_among true u h = refl
 only_among false u h = cc
 
 -- a value with a member at a name has only known names
-pub known_at : (b : Bool) (names : List (List ℕ)) (ms : Members) (k : List ℕ) → is_among names k ≡ b → are_among names ms ≡ true → IsSome (get_member k ms) → b ≡ true
+pub known_at : (b : Bool) (names : List (List ℕ)) (ms : Members) (k : List ℕ) → is_among names k ≡ b → are_among names ms ≡ true
+    → IsSome (get_member k ms) → b ≡ true
 known_at true names ms k is h there = refl
 known_at false names ms k is h there = let none : IsSome {T = Data} None = subst IsSome (other_member names ms k h is) there in cc
 
-pub members_have : (names : List (List ℕ)) (d : Data) (u : Unit {0}) → has_only names d ≡ Ok u → (k : List ℕ) → IsSome (get k d) → is_among names k ≡ true
+pub members_have : (names : List (List ℕ)) (d : Data) (u : Unit {0}) → has_only names d ≡ Ok u → (k : List ℕ) → IsSome (get k d)
+    → is_among names k ≡ true
 members_have names (string s) u h k there = cc
 members_have names (integer z) u h k there = cc
 members_have names (float x) u h k there = cc
@@ -206,28 +219,33 @@ later_at Equal d x h = refl
 later_at Greater d x h = h
 
 -- members of known names alone
-pub all_among : (names : List (List ℕ)) (ms : Members) → ((k : List ℕ) → IsSome (get_member k ms) → is_among names k ≡ true) → are_among names ms ≡ true
+pub all_among : (names : List (List ℕ)) (ms : Members) → ((k : List ℕ) → IsSome (get_member k ms) → is_among names k ≡ true)
+    → are_among names ms ≡ true
 all_among names no_members h = refl
 all_among names (member l d ms) h =
     let first = h l (subst IsSome (sym (first_found l d ms)) refl) in
     rw (first, all_among names ms (λ k there. h k (later_at (order k l) d (get_member k ms) there)))
 
 -- what holds of each of these names
-of_each_at : (b : Bool) (P : List ℕ → Type 0) (name k : List ℕ) (more : Bool) → bytes_eq name k ≡ b → b || more ≡ true → P name → (more ≡ true → P k) → P k
+of_each_at : (b : Bool) (P : List ℕ → Type 0) (name k : List ℕ) (more : Bool) → bytes_eq name k ≡ b → b || more ≡ true → P name
+    → (more ≡ true → P k) → P k
 of_each_at true P name k more is h here later = subst P (same_text name k is) here
 of_each_at false P name k more is h here later = later h
 
 pub of_each : (P : List ℕ → Type 0) (names : List (List ℕ)) (k : List ℕ) → is_among names k ≡ true → AllByRecursion P names → P k
 of_each P [] k h all = cc
-of_each P (name ∷ names) k h all = of_each_at (bytes_eq name k) P name k (is_among names k) refl h all.0 (λ later. of_each P names k later all.1)
+of_each P (name ∷ names) k h all =
+    of_each_at (bytes_eq name k) P name k (is_among names k) refl h all.0 (λ later. of_each P names k later all.1)
 
-agree_at : (b : Bool) (names : List (List ℕ)) (k : List ℕ) (ms : Members) (rows : Rows) → is_among names k ≡ b → are_among names ms ≡ true → rows_among names rows ≡ true
+agree_at : (b : Bool) (names : List (List ℕ)) (k : List ℕ) (ms : Members) (rows : Rows) → is_among names k ≡ b → are_among names ms ≡ true
+    → rows_among names rows ≡ true
     → AllByRecursion (λ name. get_member name ms ≡ looked_up name rows) names → get_member k ms ≡ looked_up k rows
 agree_at true names k ms rows is only among held = of_each (λ name. get_member name ms ≡ looked_up name rows) names k is held
 agree_at false names k ms rows is only among held = other_member names ms k only is ∙ sym (other_row names rows k among is)
 
 -- a table with what the rows have at each name, and with no other names, is theirs
-pub whole_table : (names : List (List ℕ)) (d : Data) (rows : Rows) (u : Unit {0}) → IsOrdered d → has_only names d ≡ Ok u → is_rising rows ≡ true → rows_among names rows ≡ true
+pub whole_table : (names : List (List ℕ)) (d : Data) (rows : Rows) (u : Unit {0}) → IsOrdered d → has_only names d ≡ Ok u
+    → is_rising rows ≡ true → rows_among names rows ≡ true
     → AllByRecursion (λ name. get name d ≡ looked_up name rows) names → d ≡ table_with rows
 whole_table names (string s) rows u ordered only rise among held = cc
 whole_table names (integer z) rows u ordered only rise among held = cc

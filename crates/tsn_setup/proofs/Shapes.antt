@@ -54,14 +54,17 @@ array_is (array es) ds h = ap array (only (Ok es) es ds refl h)
 array_is (table ms) ds h = cc
 
 -- what there is, and of which value it is
-there : {A : Type 0} (f : Data → Option A) (value : A → Data) → ((d : Data) (a : A) → or_shape (f d) ≡ Ok a → d ≡ value a) → (o : Option Data) (a : A) → or_shape (option_and_then f o) ≡ Ok a → o ≡ Some (value a)
+there : {A : Type 0} (f : Data → Option A) (value : A → Data) → ((d : Data) (a : A) → or_shape (f d) ≡ Ok a → d ≡ value a)
+    → (o : Option Data) (a : A) → or_shape (option_and_then f o) ≡ Ok a → o ≡ Some (value a)
 there f value is None a h = cc
 there f value is (Some d) a h = ap Some (is d a h)
 
-given_there : {A : Type 0} (f : Data → Option A) (value : A → Data) → ((d : Data) (a : A) → or_shape (f d) ≡ Ok a → d ≡ value a) → (o : Option Data) (x : Option A) → if_given f o ≡ Ok x → o ≡ option_map value x
+given_there : {A : Type 0} (f : Data → Option A) (value : A → Data) → ((d : Data) (a : A) → or_shape (f d) ≡ Ok a → d ≡ value a)
+    → (o : Option Data) (x : Option A) → if_given f o ≡ Ok x → o ≡ option_map value x
 given_there f value is None x h = ap (option_map value) (only (Ok None) None x refl h)
 given_there f value is (Some d) x h =
-    steps (or_shape (f d)) _ x h (λ a a_is a_next. ap Some (is d a a_is) ∙ ap (option_map value) (only (Ok (Some a)) (Some a) x refl a_next))
+    steps (or_shape (f d)) _ x h (λ a a_is a_next. ap Some (is d a a_is)
+    ∙ ap (option_map value) (only (Ok (Some a)) (Some a) x refl a_next))
 
 pub number_there : (o : Option Data) (n : ℕ) → or_shape (option_and_then whole o) ≡ Ok n → o ≡ number n
 number_there = there whole (λ n. integer (pos n)) whole_is
@@ -75,33 +78,41 @@ flag_there = there as_bool boolean flag_is
 items_there : (o : Option Data) (ds : Items) → or_shape (option_and_then as_array o) ≡ Ok ds → o ≡ Some (array ds)
 items_there = there as_array array array_is
 
-list_there : (o : Option Data) (ds : List Data) → or_shape (option_map items_list (option_and_then as_array o)) ≡ Ok ds → (items : Items) × (o ≡ Some (array items)) × (items_list items ≡ ds)
-list_there o ds h = let found = mapped_there items_list (option_and_then as_array o) ds h in (found.0, items_there o found.0 (ap or_shape found.1), found.2)
+list_there : (o : Option Data) (ds : List Data) → or_shape (option_map items_list (option_and_then as_array o)) ≡ Ok ds
+    → (items : Items) × (o ≡ Some (array items)) × (items_list items ≡ ds)
+list_there o ds h =
+    let found = mapped_there items_list (option_and_then as_array o) ds h in (found.0, items_there o found.0 (ap or_shape found.1), found.2)
 
 pub items_or_none_there : (o : Option Data) (ds : Option Items) → if_given as_array o ≡ Ok ds → o ≡ option_map array ds
 items_or_none_there = given_there as_array array array_is
 
 -- ---- what rows have at a name
 
-pub number_got : (name : List ℕ) (rows : Rows) (n : ℕ) → is_rising rows ≡ true → looked_up name rows ≡ number n → number_at name (table_with rows) ≡ Ok n
+pub number_got : (name : List ℕ) (rows : Rows) (n : ℕ) → is_rising rows ≡ true → looked_up name rows ≡ number n
+    → number_at name (table_with rows) ≡ Ok n
 number_got name rows n rise is = ap (λ o. or_shape (option_and_then whole o)) (at_name name rows (number n) rise is)
 
 given_back : (o : Option ℕ) → if_given whole (number_or_none o) ≡ Ok o
 given_back None = refl
 given_back (Some n) = refl
 
-number_or_none_got : (name : List ℕ) (rows : Rows) (o : Option ℕ) → is_rising rows ≡ true → looked_up name rows ≡ number_or_none o → if_given whole (get name (table_with rows)) ≡ Ok o
+number_or_none_got : (name : List ℕ) (rows : Rows) (o : Option ℕ) → is_rising rows ≡ true → looked_up name rows ≡ number_or_none o
+    → if_given whole (get name (table_with rows)) ≡ Ok o
 number_or_none_got name rows o rise is = ap (if_given whole) (at_name name rows (number_or_none o) rise is) ∙ given_back o
 
-flag_got : (name : List ℕ) (rows : Rows) (b : Bool) → is_rising rows ≡ true → looked_up name rows ≡ flag b → or_shape (option_and_then as_bool (get name (table_with rows))) ≡ Ok b
+flag_got : (name : List ℕ) (rows : Rows) (b : Bool) → is_rising rows ≡ true → looked_up name rows ≡ flag b
+    → or_shape (option_and_then as_bool (get name (table_with rows))) ≡ Ok b
 flag_got name rows b rise is = ap (λ o. or_shape (option_and_then as_bool o)) (at_name name rows (flag b) rise is)
 
-items_got : (name : List ℕ) (rows : Rows) (ds : Items) → is_rising rows ≡ true → looked_up name rows ≡ Some (array ds) → or_shape (option_map items_list (option_and_then as_array (get name (table_with rows)))) ≡ Ok (items_list ds)
-items_got name rows ds rise is = ap (λ o. or_shape (option_map items_list (option_and_then as_array o))) (at_name name rows (Some (array ds)) rise is)
+items_got : (name : List ℕ) (rows : Rows) (ds : Items) → is_rising rows ≡ true → looked_up name rows ≡ Some (array ds)
+    → or_shape (option_map items_list (option_and_then as_array (get name (table_with rows)))) ≡ Ok (items_list ds)
+items_got name rows ds rise is =
+    ap (λ o. or_shape (option_map items_list (option_and_then as_array o))) (at_name name rows (Some (array ds)) rise is)
 
 -- ---- a member of what is ordered is ordered
 
-member_ordered_at : (o : Ordering) (e : Data) (found : Option Data) → IsOrdered e → IfSome found IsOrdered → IfSome (match_ordering o found (Some e) found) IsOrdered
+member_ordered_at : (o : Ordering) (e : Data) (found : Option Data) → IsOrdered e → IfSome found IsOrdered
+    → IfSome (match_ordering o found (Some e) found) IsOrdered
 member_ordered_at Less e found here later = later
 member_ordered_at Equal e found here later = here
 member_ordered_at Greater e found here later = later
@@ -124,13 +135,15 @@ inner_ordered k d e h is = subst (λ o. IfSome o IsOrdered) is (got_ordered k d 
 
 -- ---- tables of an accepted shape
 
-port_entry_is : (d : Data) (e : PortEntry) → IsOrdered d → port_entry_shape as_toml d ≡ Ok (port_entry_draft e) → d ≡ table_with (port_entry_rows e)
+port_entry_is : (d : Data) (e : PortEntry) → IsOrdered d → port_entry_shape as_toml d ≡ Ok (port_entry_draft e)
+    → d ≡ table_with (port_entry_rows e)
 port_entry_is d e ordered h =
     let has = port_entry_has as_toml d (port_entry_draft e) h in
     whole_table (entry_names_of kinds.Port) d (port_entry_rows e) tt ordered has.only refl refl
     (number_there _ _ has.gates & number_there _ _ has.interval & tt)
 
-gate_entry_is : (d : Data) (e : GateEntry) → IsOrdered d → gate_entry_shape as_toml d ≡ Ok (gate_entry_draft e) → d ≡ table_with (gate_entry_rows e)
+gate_entry_is : (d : Data) (e : GateEntry) → IsOrdered d → gate_entry_shape as_toml d ≡ Ok (gate_entry_draft e)
+    → d ≡ table_with (gate_entry_rows e)
 gate_entry_is d e ordered h =
     let has = gate_entry_has as_toml d (gate_entry_draft e) h in
     whole_table (entry_names_of kinds.Gate) d (gate_entry_rows e) tt ordered has.only refl refl
@@ -145,7 +158,8 @@ each_is : {D R : Type 0} (shape : Data → Result D Unread) (draft : R → D) (r
     → (ds : Items) (rs : List R) → EachOrdered ds → each shape (items_list ds) ≡ Ok (map draft rs) → array ds ≡ tables_of rows rs
 each_is shape draft rows one no_items [] ordered h = refl
 each_is shape draft rows one no_items (r ∷ rs) ordered h = cc
-each_is shape draft rows one (item d ds) [] ordered h = steps (shape d) _ _ h (λ first _ next. steps (each shape (items_list ds)) _ _ next (λ rest _ last. cc))
+each_is shape draft rows one (item d ds) [] ordered h =
+    steps (shape d) _ _ h (λ first _ next. steps (each shape (items_list ds)) _ _ next (λ rest _ last. cc))
 each_is {D} {R} shape draft rows one (item d ds) (r ∷ rs) ordered h =
     steps (shape d) _ _ h (λ first first_is first_next.
     steps (each shape (items_list ds)) _ _ first_next (λ rest rest_is rest_next.
@@ -170,20 +184,23 @@ schedule_is shape draft rows one d s ordered h =
     let here = list_there _ has.entries has.items in
     let listed = ap (each shape) here.2 ∙ has.list in
     record {
-      list = here.1 ∙ ap Some (each_is shape draft rows one here.0 s.list (inner_ordered (codes "list") d (array here.0) ordered here.1) listed);
+      list = here.1 ∙ ap Some (each_is shape draft rows one here.0 s.list (inner_ordered (codes "list") d (array here.0) ordered here.1)
+          listed);
       cycle = number_there _ _ has.cycle;
       extension = number_there _ _ has.extension;
       base = number_there _ _ has.base;
     }
 
-pub port_is : (d : Data) (id : ℕ) (r : PortGates) → IsOrdered d → number_at (codes "id") d ≡ Ok id → port_shape as_toml d ≡ Ok (port_draft r) → d ≡ table_with (port_rows id r)
+pub port_is : (d : Data) (id : ℕ) (r : PortGates) → IsOrdered d → number_at (codes "id") d ≡ Ok id
+    → port_shape as_toml d ≡ Ok (port_draft r) → d ≡ table_with (port_rows id r)
 port_is d id r ordered id_is h =
     let has = port_has as_toml d (port_draft r) h in
     let times = schedule_is (port_entry_shape as_toml) port_entry_draft port_entry_rows port_entry_is d r.admin ordered has.admin in
     whole_table (names_of kinds.Port) d (port_rows id r) tt ordered has.only refl refl
     (number_there _ id id_is & number_there _ _ has.gates & times.list & times.cycle & times.extension & times.base & tt)
 
-pub gate_is : (d : Data) (id : ℕ) (r : StreamGate) → IsOrdered d → number_at (codes "id") d ≡ Ok id → gate_shape as_toml d ≡ Ok (gate_draft r) → d ≡ table_with (gate_rows id r)
+pub gate_is : (d : Data) (id : ℕ) (r : StreamGate) → IsOrdered d → number_at (codes "id") d ≡ Ok id
+    → gate_shape as_toml d ≡ Ok (gate_draft r) → d ≡ table_with (gate_rows id r)
 gate_is d id r ordered id_is h =
     let has = gate_has as_toml d (gate_draft r) h in
     let times = schedule_is (gate_entry_shape as_toml) gate_entry_draft gate_entry_rows gate_entry_is d r.admin ordered has.admin in
@@ -191,14 +208,16 @@ gate_is d id r ordered id_is h =
     (number_there _ id id_is & flag_there _ _ has.is_open & number_or_none_there _ _ has.ipv & times.list & times.cycle &
     times.extension & times.base & flag_there _ _ has.invalid_rx & flag_there _ _ has.octets_exceeded & tt)
 
-pub filter_is : (d : Data) (id : ℕ) (r : StreamFilter) → IsOrdered d → number_at (codes "id") d ≡ Ok id → filter_shape as_toml d ≡ Ok (filter_draft r) → d ≡ table_with (filter_rows id r)
+pub filter_is : (d : Data) (id : ℕ) (r : StreamFilter) → IsOrdered d → number_at (codes "id") d ≡ Ok id
+    → filter_shape as_toml d ≡ Ok (filter_draft r) → d ≡ table_with (filter_rows id r)
 filter_is d id r ordered id_is h =
     let has = filter_has as_toml d (filter_draft r) h in
     whole_table (names_of kinds.Filter) d (filter_rows id r) tt ordered has.only refl refl
     (number_there _ id id_is & number_or_none_there _ _ has.handle & number_or_none_there _ _ has.priority & number_there _ _ has.gate &
     number_or_none_there _ _ has.max_sdu & number_or_none_there _ _ has.meter & flag_there _ _ has.oversize & tt)
 
-pub meter_is : (d : Data) (id : ℕ) (r : FlowMeter) → IsOrdered d → number_at (codes "id") d ≡ Ok id → meter_shape as_toml d ≡ Ok (meter_draft r) → d ≡ table_with (meter_rows id r)
+pub meter_is : (d : Data) (id : ℕ) (r : FlowMeter) → IsOrdered d → number_at (codes "id") d ≡ Ok id
+    → meter_shape as_toml d ≡ Ok (meter_draft r) → d ≡ table_with (meter_rows id r)
 meter_is d id r ordered id_is h =
     let has = meter_has as_toml d (meter_draft r) h in
     whole_table (names_of kinds.Meter) d (meter_rows id r) tt ordered has.only refl refl
@@ -228,12 +247,16 @@ gate_entry_shaped r =
       octets = number_or_none_got (codes "octets") rows r.octets refl refl;
     })
 
-each_shaped : {E R : Type 0} (shape : Data → Result E Unread) (draft : R → E) (rows : R → Rows) (xs : List R) → ((x : R) → shape (table_with (rows x)) ≡ Ok (draft x)) → each shape (items_list (items_of (map (λ x. table_with (rows x)) xs))) ≡ Ok (map draft xs)
+each_shaped : {E R : Type 0} (shape : Data → Result E Unread) (draft : R → E) (rows : R → Rows) (xs : List R)
+    → ((x : R) → shape (table_with (rows x)) ≡ Ok (draft x))
+    → each shape (items_list (items_of (map (λ x. table_with (rows x)) xs))) ≡ Ok (map draft xs)
 each_shaped shape draft rows [] one = refl
 each_shaped shape draft rows (x ∷ xs) one = rw (one x, each_shaped shape draft rows xs one)
 
-schedule_shaped : {E R : Type 0} (shape : Data → Result E Unread) (draft : R → E) (rows : R → Rows) → ((e : R) → shape (table_with (rows e)) ≡ Ok (draft e)) → (whole : Rows) (s : Schedule R) → is_rising whole ≡ true
-    → looked_up (codes "list") whole ≡ Some (tables_of rows s.list) → looked_up (codes "cycle") whole ≡ number s.cycle → looked_up (codes "extension") whole ≡ number s.extension → looked_up (codes "base") whole ≡ number s.base
+schedule_shaped : {E R : Type 0} (shape : Data → Result E Unread) (draft : R → E) (rows : R → Rows)
+    → ((e : R) → shape (table_with (rows e)) ≡ Ok (draft e)) → (whole : Rows) (s : Schedule R) → is_rising whole ≡ true
+    → looked_up (codes "list") whole ≡ Some (tables_of rows s.list) → looked_up (codes "cycle") whole ≡ number s.cycle
+    → looked_up (codes "extension") whole ≡ number s.extension → looked_up (codes "base") whole ≡ number s.base
     → schedule_shape as_toml shape (table_with whole) ≡ Ok (schedule_draft draft s)
 schedule_shaped {E} {R} shape draft rows one whole s rise list cycle extension base =
     let items : Items = items_of (map (λ (x : R). table_with (rows x)) s.list) in
@@ -252,7 +275,8 @@ port_shaped id r =
     port_of as_toml (table_with rows) (port_draft r) (record {
       only = only_these (names_of kinds.Port) rows refl;
       gates = number_got (codes "gates") rows r.gates refl refl;
-      admin = schedule_shaped (port_entry_shape as_toml) port_entry_draft port_entry_rows port_entry_shaped rows r.admin refl refl refl refl refl;
+      admin = schedule_shaped (port_entry_shape as_toml) port_entry_draft port_entry_rows port_entry_shaped rows r.admin refl refl refl refl
+          refl;
     })
 
 pub gate_shaped : (id : ℕ) (r : StreamGate) → gate_shape as_toml (table_with (gate_rows id r)) ≡ Ok (gate_draft r)
@@ -262,7 +286,8 @@ gate_shaped id r =
       only = only_these (names_of kinds.Gate) rows refl;
       is_open = flag_got (codes "open") rows r.is_open refl refl;
       ipv = number_or_none_got (codes "ipv") rows r.ipv refl refl;
-      admin = schedule_shaped (gate_entry_shape as_toml) gate_entry_draft gate_entry_rows gate_entry_shaped rows r.admin refl refl refl refl refl;
+      admin = schedule_shaped (gate_entry_shape as_toml) gate_entry_draft gate_entry_rows gate_entry_shaped rows r.admin refl refl refl refl
+          refl;
       invalid_rx = flag_got (codes "invalid_rx") rows r.invalid_rx refl refl;
       octets_exceeded = flag_got (codes "octets_exceeded") rows r.octets_exceeded refl refl;
     })

@@ -22,11 +22,13 @@ use Rattle.tsn_setup.specs.declared.plain_tables.FilterMembers.{FilterMembers}
 use Rattle.tsn_setup.specs.declared.plain_tables.MeterMembers.{MeterMembers}
 
 -- a member that is given is there
-there_at : {A : Type 0} (f : Data → Option A) (d : Data) (o : Option A) (a : A) → f d ≡ o → or_shape o >>= (λ y. Ok (Some y)) ≡ Ok (Some a) → or_shape (f d) ≡ Ok a
+there_at : {A : Type 0} (f : Data → Option A) (d : Data) (o : Option A) (a : A) → f d ≡ o → or_shape o >>= (λ y. Ok (Some y)) ≡ Ok (Some a)
+    → or_shape (f d) ≡ Ok a
 there_at f d None a is h = cc
 there_at f d (Some x) a is h = let e : Some x ≡ Some a = (let e2 : Ok (Some x) ≡ Ok (Some a) = h in cc) in ap or_shape is ∙ ap or_shape e
 
-there : {A : Type 0} (f : Data → Option A) (found : Option Data) (a : A) → if_given f found ≡ Ok (Some a) → or_shape (option_and_then f found) ≡ Ok a
+there : {A : Type 0} (f : Data → Option A) (found : Option Data) (a : A) → if_given f found ≡ Ok (Some a)
+    → or_shape (option_and_then f found) ≡ Ok a
 there f None a h = cc
 there f (Some d) a h = there_at f d (f d) a refl h
 
@@ -34,7 +36,8 @@ there f (Some d) a h = there_at f d (f d) a refl h
 pub only : (names : List (List ℕ)) (ms : Members) → are_among names ms ≡ true → has_only names (table ms) ≡ Ok tt
 only names ms h = rw h refl
 
-pub port_entry_told : (text rest : List ℕ) (m : PortEntryMembers) (gates interval : ℕ) → ReadsTable text (port_entry_slots m) rest → m.gates ≡ Some gates → m.interval ≡ Some interval
+pub port_entry_told : (text rest : List ℕ) (m : PortEntryMembers) (gates interval : ℕ) → ReadsTable text (port_entry_slots m) rest
+    → m.gates ≡ Some gates → m.interval ≡ Some interval
     → ReadsEntry (port_entry_shape as_toml) text (record { gates = gates; interval = interval }) rest
 unfolding port_entry_shape
 port_entry_told text rest m gates interval read g i = record {
@@ -49,7 +52,8 @@ port_entry_told text rest m gates interval read g i = record {
       ) refl;
 }
 
-pub gate_entry_told : (text rest : List ℕ) (m : GateEntryMembers) (is_open : Bool) (interval : ℕ) → ReadsTable text (gate_entry_slots m) rest → m.open ≡ Some is_open → m.interval ≡ Some interval
+pub gate_entry_told : (text rest : List ℕ) (m : GateEntryMembers) (is_open : Bool) (interval : ℕ)
+    → ReadsTable text (gate_entry_slots m) rest → m.open ≡ Some is_open → m.interval ≡ Some interval
     → ReadsEntry (gate_entry_shape as_toml) text (record { is_open = is_open; ipv = m.ipv; interval = interval; octets = m.octets }) rest
 unfolding gate_entry_shape
 gate_entry_told text rest m is_open interval read o i = record {
@@ -68,10 +72,12 @@ gate_entry_told text rest m is_open interval read o i = record {
 
 -- ---- tables that have lines
 
-number : (name : List ℕ) (ms : Members) (o : Option ℕ) (n : ℕ) → if_given whole (get_member name ms) ≡ Ok o → o ≡ Some n → or_shape (option_and_then whole (get_member name ms)) ≡ Ok n
+number : (name : List ℕ) (ms : Members) (o : Option ℕ) (n : ℕ) → if_given whole (get_member name ms) ≡ Ok o → o ≡ Some n
+    → or_shape (option_and_then whole (get_member name ms)) ≡ Ok n
 number name ms o n told is = there whole (get_member name ms) n (told ∙ ap Ok is)
 
-flag : (name : List ℕ) (ms : Members) (o : Option Bool) (b : Bool) → if_given as_bool (get_member name ms) ≡ Ok o → o ≡ Some b → or_shape (option_and_then as_bool (get_member name ms)) ≡ Ok b
+flag : (name : List ℕ) (ms : Members) (o : Option Bool) (b : Bool) → if_given as_bool (get_member name ms) ≡ Ok o → o ≡ Some b
+    → or_shape (option_and_then as_bool (get_member name ms)) ≡ Ok b
 flag name ms o b told is = there as_bool (get_member name ms) b (told ∙ ap Ok is)
 
 same_some : {A : Type 0} (a b : A) → Some a ≡ Some b → a ≡ b
@@ -81,19 +87,26 @@ list_in : {E : Type 0} (r : Result (List E) Unread) (es : List E) → r >>= (λ 
 list_in (Ok xs) es h = (let e : Ok (Some xs) ≡ Ok (Some es) = h in let f : xs ≡ es = cc in ap Ok f)
 list_in (Err e) es h = cc
 
-list_at : {E : Type 0} (entry : Data → Result E Unread) (o : Option Items) (es : List E) → or_shape o >>= (λ items. each entry (items_list items) >>= λ xs. Ok (Some xs)) ≡ Ok (Some es)
+list_at : {E : Type 0} (entry : Data → Result E Unread) (o : Option Items) (es : List E)
+    → or_shape o >>= (λ items. each entry (items_list items) >>= λ xs. Ok (Some xs)) ≡ Ok (Some es)
     → or_shape (option_map items_list o) >>= each entry ≡ Ok es
 list_at entry None es h = cc
 list_at entry (Some items) es h = list_in (each entry (items_list items)) es h
 
-list_told : {E : Type 0} (entry : Data → Result E Unread) (found : Option Data) (o : Option (List E)) (es : List E) → list_given entry found ≡ Ok o → o ≡ Some es
+list_told : {E : Type 0} (entry : Data → Result E Unread) (found : Option Data) (o : Option (List E)) (es : List E)
+    → list_given entry found ≡ Ok o → o ≡ Some es
     → or_shape (option_map items_list (option_and_then as_array found)) >>= each entry ≡ Ok es
 list_told entry None o es told is = let none : Ok None ≡ Ok (Some es) = told ∙ ap Ok is in cc
 list_told entry (Some d) o es told is = list_at entry (as_array d) es (told ∙ ap Ok is)
 
-pub port_told : (text rest : List ℕ) (m : PortMembers) (id gates : ℕ) (list : List PortEntryDraft) (cycle extension base : ℕ) → ReadsLines text (port_slots m) rest
+pub port_told : (text rest : List ℕ) (m : PortMembers) (id gates : ℕ) (list : List PortEntryDraft) (cycle extension base : ℕ)
+    → ReadsLines text (port_slots m) rest
     → m.id ≡ Some id → m.gates ≡ Some gates → m.list ≡ Some list → m.cycle ≡ Some cycle → m.extension ≡ Some extension → m.base ≡ Some base
-    → ReadsTableOf kinds.Port text (record { id = id; value = records.Port (record { gates = gates; admin = record { list = list; cycle = cycle; extension = extension; base = base } }) }) rest
+    → ReadsTableOf kinds.Port text (record {
+      id = id;
+      value = records.Port
+          (record { gates = gates; admin = record { list = list; cycle = cycle; extension = extension; base = base } });
+    }) rest
 unfolding table_shape port_shape schedule_shape list_shape
 port_told text rest m id gates list cycle extension base read i g l c e b = record {
   found = read.found;
@@ -112,8 +125,15 @@ port_told text rest m id gates list cycle extension base read i g l c e b = reco
       ) refl;
 }
 
-pub filter_told : (text rest : List ℕ) (m : FilterMembers) (id gate : ℕ) (oversize : Bool) → ReadsLines text (filter_slots m) rest → m.id ≡ Some id → m.gate ≡ Some gate → m.oversize ≡ Some oversize
-    → ReadsTableOf kinds.Filter text (record { id = id; value = records.Filter (record { handle = m.handle; priority = m.priority; gate = gate; max_sdu = m.max_sdu; meter = m.meter; oversize = oversize }) }) rest
+pub filter_told : (text rest : List ℕ) (m : FilterMembers) (id gate : ℕ) (oversize : Bool) → ReadsLines text (filter_slots m) rest
+    → m.id ≡ Some id → m.gate ≡ Some gate → m.oversize ≡ Some oversize
+    → ReadsTableOf kinds.Filter text
+    (record {
+      id = id;
+      value = records.Filter
+          (record { handle = m.handle; priority = m.priority; gate = gate; max_sdu = m.max_sdu; meter = m.meter; oversize = oversize });
+    })
+    rest
 unfolding table_shape filter_shape
 filter_told text rest m id gate oversize read i g o = record {
   found = read.found;
@@ -133,11 +153,19 @@ filter_told text rest m id gate oversize read i g o = record {
       ) refl;
 }
 
-pub gate_told : (text rest : List ℕ) (m : GateMembers) (id : ℕ) (is_open : Bool) (list : List GateEntryDraft) (cycle extension base : ℕ) (invalid_rx octets_exceeded : Bool) → ReadsLines text (gate_slots m) rest
-    → m.id ≡ Some id → m.open ≡ Some is_open → m.list ≡ Some list → m.cycle ≡ Some cycle → m.extension ≡ Some extension → m.base ≡ Some base → m.invalid_rx ≡ Some invalid_rx → m.octets_exceeded ≡ Some octets_exceeded
+pub gate_told : (text rest : List ℕ) (m : GateMembers) (id : ℕ) (is_open : Bool) (list : List GateEntryDraft) (cycle extension base : ℕ)
+    (invalid_rx octets_exceeded : Bool) → ReadsLines text (gate_slots m) rest
+    → m.id ≡ Some id → m.open ≡ Some is_open → m.list ≡ Some list → m.cycle ≡ Some cycle → m.extension ≡ Some extension → m.base ≡ Some base
+    → m.invalid_rx ≡ Some invalid_rx → m.octets_exceeded ≡ Some octets_exceeded
     → ReadsTableOf kinds.Gate text (record {
       id = id;
-      value = records.Gate (record { is_open = is_open; ipv = m.ipv; admin = record { list = list; cycle = cycle; extension = extension; base = base }; invalid_rx = invalid_rx; octets_exceeded = octets_exceeded });
+      value = records.Gate (record {
+        is_open = is_open;
+        ipv = m.ipv;
+        admin = record { list = list; cycle = cycle; extension = extension; base = base };
+        invalid_rx = invalid_rx;
+        octets_exceeded = octets_exceeded;
+      });
     }) rest
 unfolding table_shape gate_shape schedule_shape list_shape
 gate_told text rest m id is_open list cycle extension base invalid_rx octets_exceeded read i o l c e b v x = record {
@@ -160,9 +188,17 @@ gate_told text rest m id is_open list cycle extension base invalid_rx octets_exc
       ) refl;
 }
 
-pub meter_told : (text rest : List ℕ) (m : MeterMembers) (id cir cbs eir ebs : ℕ) (cf aware drop_yellow all_red : Bool) → ReadsLines text (meter_slots m) rest
-    → m.id ≡ Some id → m.cir ≡ Some cir → m.cbs ≡ Some cbs → m.eir ≡ Some eir → m.ebs ≡ Some ebs → m.cf ≡ Some cf → m.aware ≡ Some aware → m.drop_yellow ≡ Some drop_yellow → m.all_red ≡ Some all_red
-    → ReadsTableOf kinds.Meter text (record { id = id; value = records.Meter (record { cir = cir; cbs = cbs; eir = eir; ebs = ebs; cf = cf; aware = aware; drop_yellow = drop_yellow; all_red = all_red }) }) rest
+pub meter_told : (text rest : List ℕ) (m : MeterMembers) (id cir cbs eir ebs : ℕ) (cf aware drop_yellow all_red : Bool)
+    → ReadsLines text (meter_slots m) rest
+    → m.id ≡ Some id → m.cir ≡ Some cir → m.cbs ≡ Some cbs → m.eir ≡ Some eir → m.ebs ≡ Some ebs → m.cf ≡ Some cf → m.aware ≡ Some aware
+    → m.drop_yellow ≡ Some drop_yellow → m.all_red ≡ Some all_red
+    → ReadsTableOf kinds.Meter text
+    (record {
+      id = id;
+      value = records.Meter
+          (record { cir = cir; cbs = cbs; eir = eir; ebs = ebs; cf = cf; aware = aware; drop_yellow = drop_yellow; all_red = all_red });
+    })
+    rest
 unfolding table_shape meter_shape
 meter_told text rest m id cir cbs eir ebs cf aware drop_yellow all_red read i a b c d e f g h = record {
   found = read.found;

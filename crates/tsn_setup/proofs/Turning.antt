@@ -26,7 +26,8 @@ table_begun text slots unread = record {
   tells = nothing_told slots unread;
 }
 
-pub table_ended : (text : List ℕ) (slots : Slots) (rest : List ℕ) → TableSoFar text slots rest → (first (skip_blank rest) == 125) ≡ true → ReadsTable text slots (drop 1 (skip_blank rest))
+pub table_ended : (text : List ℕ) (slots : Slots) (rest : List ℕ) → TableSoFar text slots rest → (first (skip_blank rest) == 125) ≡ true
+    → ReadsTable text slots (drop 1 (skip_blank rest))
 table_ended text slots rest so ends = record {
   found = close so.found;
   reads = λ m n room.
@@ -35,7 +36,8 @@ table_ended text slots rest so ends = record {
   tells = so.tells;
 }
 
-pub table_more : (text : List ℕ) (slots later : Slots) (rest after next : List ℕ) → TableSoFar text slots rest → (first (skip_blank rest) == 125) ≡ false → ReadsMember 0 (skip_blank rest) slots later after
+pub table_more : (text : List ℕ) (slots later : Slots) (rest after next : List ℕ) → TableSoFar text slots rest
+    → (first (skip_blank rest) == 125) ≡ false → ReadsMember 0 (skip_blank rest) slots later after
     → after_element 125 after ≡ Some next → length next < length rest → TableSoFar text later next
 table_more text slots later rest after next so goes member element shorter =
     let none = nothing_yet slots member.name member.slot (close so.found) member.known member.empty so.tells.tells in
@@ -43,10 +45,12 @@ table_more text slots later rest after next so goes member element shorter =
       found = insert member.name (value member.value) so.found;
       reads = λ m n room.
           let (k, more) = so.reads m n room in
-          let step = members_more (val m) k so.found _ rest ([], member.name) member.value after next (omega (arith, more.0)) goes (member.reads m (omega arith)) (put_new member.name member.value so.found none) element in
+          let step = members_more (val m) k so.found _ rest ([], member.name) member.value after next (omega (arith, more.0)) goes
+          (member.reads m (omega arith)) (put_new member.name member.value so.found none) element in
           (k - 1, (omega (arith, more.0, shorter), more.1 ∙ step));
       tells =
-          let told = told_after slots member.name member.slot member.filled member.value (close so.found) _ (inserted member.name (value member.value) so.found) member.known member.full so.tells in
+          let told = told_after slots member.name member.slot member.filled member.value (close so.found) _
+          (inserted member.name (value member.value) so.found) member.known member.full so.tells in
           subst (TellsAll (close (insert member.name (value member.value) so.found))) (sym member.put) told;
     }
 
@@ -59,18 +63,22 @@ lines_begun text slots unread = record {
   tells = nothing_told slots unread;
 }
 
-pair_line : (n : ℕ) (start name after : List ℕ) (d : Data) → n ≤ 80 → (first start == 91) ≡ false → ((m : ℕ) → n ≤ m → keyval (val m) start ≡ Some ((([], name), d), after)) → ends_line (skip_ws after) ≡ true
+pair_line : (n : ℕ) (start name after : List ℕ) (d : Data) → n ≤ 80 → (first start == 91) ≡ false
+    → ((m : ℕ) → n ≤ m → keyval (val m) start ≡ Some ((([], name), d), after)) → ends_line (skip_ws after) ≡ true
     → line start ≡ Some ((([], name), key_value d), after)
 unfolding line expression
 pair_line n start name after d low goes reads ends = rw (goes, reads recursion_limit low, ends) refl
 
-framed : (path : List (List ℕ)) (frame : Nodes → Nodes) (name : List ℕ) (d : Data) (ns more : Nodes) → Frames path frame → put ([], name) d ns ≡ Some more
+framed : (path : List (List ℕ)) (frame : Nodes → Nodes) (name : List ℕ) (d : Data) (ns more : Nodes) → Frames path frame
+    → put ([], name) d ns ≡ Some more
     → define (frame ns, path) (([], name), key_value d) ≡ Some (frame more, path)
 unfolding define
 framed path frame name d ns more frames step = rw (frames (put ([], name) d) ns, step) refl
 
-pub line_more : (n : ℕ) (text : List ℕ) (slots later : Slots) (rest after : List ℕ) → n ≤ 80 → ReadsLines text slots rest → (length (skip_blank rest) == 0) ≡ false → (first (skip_blank rest) == 91) ≡ false
-    → ReadsMember n (skip_blank rest) slots later after → ends_line (skip_ws after) ≡ true → length after < length rest → ReadsLines text later after
+pub line_more : (n : ℕ) (text : List ℕ) (slots later : Slots) (rest after : List ℕ) → n ≤ 80 → ReadsLines text slots rest
+    → (length (skip_blank rest) == 0) ≡ false → (first (skip_blank rest) == 91) ≡ false
+    → ReadsMember n (skip_blank rest) slots later after → ends_line (skip_ws after) ≡ true → length after < length rest
+    → ReadsLines text later after
 line_more n text slots later rest after low so some goes member ends shorter =
     let none = nothing_yet slots member.name member.slot (close so.found) member.known member.empty so.tells.tells in
     let this = pair_line n (skip_blank rest) member.name after member.value low goes member.reads ends in
@@ -85,7 +93,8 @@ line_more n text slots later rest after low so some goes member ends shorter =
             same = lead.same ∙ lines_more lead.turns (frame so.found, path) _ rest _ after (omega (arith, lead.room)) some this step;
           };
       tells =
-          let told = told_after slots member.name member.slot member.filled member.value (close so.found) _ (inserted member.name (value member.value) so.found) member.known member.full so.tells in
+          let told = told_after slots member.name member.slot member.filled member.value (close so.found) _
+          (inserted member.name (value member.value) so.found) member.known member.full so.tells in
           subst (TellsAll (close (insert member.name (value member.value) so.found))) (sym member.put) told;
     }
 
@@ -94,8 +103,10 @@ ends_again : (inside : Bool) (c next : ℕ) → skip_turn true inside c next ≡
 ends_again true c next none = grind (arith, nat_tests)
 ends_again false c next none = none
 
-blank_once_at : (o : Option Bool) (inside : Bool) (c : ℕ) (cs : List ℕ) → skip_turn true inside c (first cs) ≡ o → ((b : Bool) → skip_from true false (skip_from true b cs) ≡ skip_from true b cs)
-    → skip_from true false (cond (is_some o) (skip_from true (unwrap_or o false) cs) (c ∷ cs)) ≡ cond (is_some o) (skip_from true (unwrap_or o false) cs) (c ∷ cs)
+blank_once_at : (o : Option Bool) (inside : Bool) (c : ℕ) (cs : List ℕ) → skip_turn true inside c (first cs) ≡ o
+    → ((b : Bool) → skip_from true false (skip_from true b cs) ≡ skip_from true b cs)
+    → skip_from true false (cond (is_some o) (skip_from true (unwrap_or o false) cs) (c ∷ cs)) ≡ cond (is_some o)
+    (skip_from true (unwrap_or o false) cs) (c ∷ cs)
 unfolding skip_from
 blank_once_at (Some b) inside c cs is later = later b
 blank_once_at None inside c cs is later = rw (ends_again inside c (first cs) is) refl
@@ -111,7 +122,8 @@ lines_blank zero doc text = refl
 lines_blank (suc m) doc text = rw (blank_once_from text false) refl
 
 -- the blanks behind the lines are passed, too
-pub lines_trimmed : (text : List ℕ) (slots : Slots) (rest : List ℕ) → ReadsLines text slots rest → length (skip_blank rest) ≤ length rest → ReadsLines text slots (skip_blank rest)
+pub lines_trimmed : (text : List ℕ) (slots : Slots) (rest : List ℕ) → ReadsLines text slots rest → length (skip_blank rest) ≤ length rest
+    → ReadsLines text slots (skip_blank rest)
 lines_trimmed text slots rest so within = record {
   found = so.found;
   leads = λ path frame frames n room.
@@ -133,7 +145,8 @@ entries_begun shape text = record {
   shaped = refl;
 }
 
-pub entries_ended : {E : Type 0} (shape : Data → Result E Unread) (text : List ℕ) (list : List E) (rest : List ℕ) → EntriesSoFar shape text list rest → (first (skip_blank rest) == 93) ≡ true
+pub entries_ended : {E : Type 0} (shape : Data → Result E Unread) (text : List ℕ) (list : List E) (rest : List ℕ)
+    → EntriesSoFar shape text list rest → (first (skip_blank rest) == 93) ≡ true
     → ReadsEntries shape text list (drop 1 (skip_blank rest))
 entries_ended shape text list rest so ends = record {
   found = so.found;
@@ -144,17 +157,20 @@ entries_ended shape text list rest so ends = record {
 }
 
 -- the last answer after the others
-answered_last : {A B : Type 0} (f : A → Result B Unread) (x : A) (y : B) (rs : Result (List B) Unread) (ys : List B) → rs ≡ Ok ys → f x ≡ Ok y → (r : Result B Unread) (z : B) → r ≡ Ok z
+answered_last : {A B : Type 0} (f : A → Result B Unread) (x : A) (y : B) (rs : Result (List B) Unread) (ys : List B) → rs ≡ Ok ys
+    → f x ≡ Ok y → (r : Result B Unread) (z : B) → r ≡ Ok z
     → (r >>= λ z. rs >>= λ zs. Ok (z ∷ zs)) ≡ Ok (z ∷ ys)
 answered_last f x y rs ys others last r z is = rw (is, others) refl
 
-first_of : {A B : Type 0} (f : A → Result B Unread) (x : A) (xs : List A) (rest : Result (List B) Unread) (r : Result B Unread) (ys : List B) (P : Type 0) → f x ≡ r → (r >>= λ z. rest >>= λ zs. Ok (z ∷ zs)) ≡ Ok ys
+first_of : {A B : Type 0} (f : A → Result B Unread) (x : A) (xs : List A) (rest : Result (List B) Unread) (r : Result B Unread)
+    (ys : List B) (P : Type 0) → f x ≡ r → (r >>= λ z. rest >>= λ zs. Ok (z ∷ zs)) ≡ Ok ys
     → ((z : B) (zs : List B) → r ≡ Ok z → rest ≡ Ok zs → ys ≡ z ∷ zs → P) → P
 first_of f x xs (Ok zs) (Ok z) ys P is h more = more z zs refl refl (let e : Ok (z ∷ zs) ≡ Ok ys = h in cc)
 first_of f x xs (Err e) (Ok z) ys P is h more = cc
 first_of f x xs rest (Err e) ys P is h more = cc
 
-pub each_last : {A B : Type 0} (f : A → Result B Unread) (xs : List A) (ys : List B) (x : A) (y : B) → each f xs ≡ Ok ys → f x ≡ Ok y → each f (xs ++ x ∷ []) ≡ Ok (ys ++ y ∷ [])
+pub each_last : {A B : Type 0} (f : A → Result B Unread) (xs : List A) (ys : List B) (x : A) (y : B) → each f xs ≡ Ok ys → f x ≡ Ok y
+    → each f (xs ++ x ∷ []) ≡ Ok (ys ++ y ∷ [])
 each_last f [] ys x y others last = let none : Ok [] ≡ Ok ys = others in rw last (ap (λ zs. Ok (zs ++ y ∷ [])) (let e : [] ≡ ys = cc in e))
 each_last f (w ∷ ws) ys x y others last =
     first_of f w ws (each f ws) (f w) ys _ refl others (λ z zs first rest same.
@@ -164,14 +180,24 @@ pub items_pushed : (found : Items) (d : Data) → items_list (push_item found d)
 items_pushed no_items d = refl
 items_pushed (item e es) d = ap (λ ds. e ∷ ds) (items_pushed es d)
 
-pub entries_more : {E : Type 0} (shape : Data → Result E Unread) (text : List ℕ) (list : List E) (entry : E) (rest after next : List ℕ) → EntriesSoFar shape text list rest
-    → (first (skip_blank rest) == 93) ≡ false → (first (skip_blank rest) == 91) ≡ false → (first (skip_blank rest) == 123) ≡ true → length (drop 1 (skip_blank rest)) < length (skip_blank rest)
-    → ReadsEntry shape (drop 1 (skip_blank rest)) entry after → after_element 93 after ≡ Some next → length next < length rest → EntriesSoFar shape text (list ++ entry ∷ []) next
+pub entries_more : {E : Type 0} (shape : Data → Result E Unread) (text : List ℕ) (list : List E) (entry : E) (rest after next : List ℕ)
+    → EntriesSoFar shape text list rest
+    → (first (skip_blank rest) == 93) ≡ false → (first (skip_blank rest) == 91) ≡ false → (first (skip_blank rest) == 123) ≡ true
+    → length (drop 1 (skip_blank rest)) < length (skip_blank rest)
+    → ReadsEntry shape (drop 1 (skip_blank rest)) entry after → after_element 93 after ≡ Some next → length next < length rest
+    → EntriesSoFar shape text (list ++ entry ∷ []) next
 entries_more shape text list entry rest after next so goes no_array opens inside read element shorter = record {
   found = push_item so.found (table read.found);
   reads = λ m n room.
       let (k, more) = so.reads m n room in
-      let this : val (suc m) (skip_blank rest) ≡ Some (table read.found, after) = val_table m (skip_blank rest) no_array opens ∙ ap (read_map table) (read.reads m (length (skip_blank rest)) inside) in
-      (k - 1, (omega (arith, more.0, shorter), more.1 ∙ items_more (val (suc m)) k so.found rest (table read.found) after next (omega (arith, more.0)) goes this element));
-  shaped = rw (items_pushed so.found (table read.found)) (each_last shape (items_list so.found) list (table read.found) entry so.shaped read.shaped);
+      let this : val (suc m) (skip_blank rest) ≡ Some (table read.found, after) = val_table m (skip_blank rest) no_array opens
+      ∙ ap (read_map table) (read.reads m (length (skip_blank rest)) inside) in (
+        k - 1,
+        (
+          omega (arith, more.0, shorter),
+          more.1 ∙ items_more (val (suc m)) k so.found rest (table read.found) after next (omega (arith, more.0)) goes this element,
+        ),
+      );
+  shaped = rw (items_pushed so.found (table read.found))
+      (each_last shape (items_list so.found) list (table read.found) entry so.shaped read.shaped);
 }

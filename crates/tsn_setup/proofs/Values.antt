@@ -11,7 +11,8 @@ use Rattle.tsn_records.specs.Records.{port_entry_shape, gate_entry_shape}
 use Rattle.tsn_setup.specs.Toml.{natural, as_toml}
 use Rattle.tsn_setup.specs.Plain.{Slot, number, flag, port_list, gate_list, Slots, slot_at, put_slot, IsOpen, ReadsValue, Fills, ReadsMember, ReadsEntries}
 
-pub number_read : (n : ℕ) (z : ℤ) (text rest : List ℕ) → ((m : ℕ) → val m text ≡ Some (integer z, rest)) → natural z ≡ Some n → ReadsValue 0 text (number (Some n)) rest
+pub number_read : (n : ℕ) (z : ℤ) (text rest : List ℕ) → ((m : ℕ) → val m text ≡ Some (integer z, rest)) → natural z ≡ Some n
+    → ReadsValue 0 text (number (Some n)) rest
 number_read n z text rest reads is = record {
   value = integer z;
   reads = λ m low. reads m;
@@ -25,20 +26,23 @@ flag_read b text rest reads = record {
   stands = refl;
 }
 
-array_read : (text rest : List ℕ) (found : Items) → (first text == 91) ≡ true → length (drop 1 text) < length text → ((m n : ℕ) → length (drop 1 text) < n → items (val (suc m)) n no_items (drop 1 text) ≡ Some (found, rest))
+array_read : (text rest : List ℕ) (found : Items) → (first text == 91) ≡ true → length (drop 1 text) < length text
+    → ((m n : ℕ) → length (drop 1 text) < n → items (val (suc m)) n no_items (drop 1 text) ≡ Some (found, rest))
     → (m : ℕ) → 2 ≤ m → val m text ≡ Some (array found, rest)
 array_read text rest found opens shorter reads m low =
     let less : m - 1 ≡ suc (m - 2) = omega arith in
     val_open_array m text (omega arith) opens ∙ rw less (ap (read_map array) (reads (m - 2) (length text) shorter))
 
-pub port_list_read : (list : List PortEntryDraft) (text rest : List ℕ) → (first text == 91) ≡ true → length (drop 1 text) < length text → ReadsEntries (port_entry_shape as_toml) (drop 1 text) list rest → ReadsValue 2 text (port_list (Some list)) rest
+pub port_list_read : (list : List PortEntryDraft) (text rest : List ℕ) → (first text == 91) ≡ true → length (drop 1 text) < length text
+    → ReadsEntries (port_entry_shape as_toml) (drop 1 text) list rest → ReadsValue 2 text (port_list (Some list)) rest
 port_list_read list text rest opens shorter read = record {
   value = array read.found;
   reads = array_read text rest read.found opens shorter read.reads;
   stands = ap (λ r. r >>= (λ es. Ok (Some es))) read.shaped;
 }
 
-pub gate_list_read : (list : List GateEntryDraft) (text rest : List ℕ) → (first text == 91) ≡ true → length (drop 1 text) < length text → ReadsEntries (gate_entry_shape as_toml) (drop 1 text) list rest → ReadsValue 2 text (gate_list (Some list)) rest
+pub gate_list_read : (list : List GateEntryDraft) (text rest : List ℕ) → (first text == 91) ≡ true → length (drop 1 text) < length text
+    → ReadsEntries (gate_entry_shape as_toml) (drop 1 text) list rest → ReadsValue 2 text (gate_list (Some list)) rest
 gate_list_read list text rest opens shorter read = record {
   value = array read.found;
   reads = array_read text rest read.found opens shorter read.reads;
@@ -46,7 +50,8 @@ gate_list_read list text rest opens shorter read = record {
 }
 
 -- a name and a value fill a slot
-pub filled : (n : ℕ) (text name behind : List ℕ) (before after : Slot) (rest : List ℕ) → key_equals text ≡ Some (([], name), behind) → ReadsValue n behind after rest → IsOpen before → Fills n text name before after rest
+pub filled : (n : ℕ) (text name behind : List ℕ) (before after : Slot) (rest : List ℕ) → key_equals text ≡ Some (([], name), behind)
+    → ReadsValue n behind after rest → IsOpen before → Fills n text name before after rest
 filled n text name behind before after rest named read unread = record {
   value = read.value;
   reads = λ m low. keyval_ok (val m) text behind rest ([], name) read.value named (read.reads m low);
@@ -55,7 +60,8 @@ filled n text name behind before after rest named read unread = record {
 }
 
 -- what fills a slot is a member that may come
-pub slot_filled : (m n : ℕ) (text name : List ℕ) (before after : Slot) (slots later : Slots) (rest : List ℕ) → m ≤ n → Fills m text name before after rest → slot_at name slots ≡ Some before → later ≡ put_slot name after slots
+pub slot_filled : (m n : ℕ) (text name : List ℕ) (before after : Slot) (slots later : Slots) (rest : List ℕ) → m ≤ n
+    → Fills m text name before after rest → slot_at name slots ≡ Some before → later ≡ put_slot name after slots
     → ReadsMember n text slots later rest
 slot_filled m n text name before after slots later rest low f at put = record {
   name = name;

@@ -40,7 +40,8 @@ framed_at k root done ns (Some m) = ap Some (replace-replace k (open_array done 
 around_frames : (k : List ℕ) (root : Nodes) (done : Items) (x : Node) → get_node k root ≡ Some x → Frames (k ∷ []) (around k root done)
 unfolding along_header
 around_frames k root done x there edit ns =
-    along_found k [] edit (around k root done ns) (open_array done ns) (get_node-replace k (open_array done ns) root x there) ∙ framed_at k root done ns (edit ns)
+    along_found k [] edit (around k root done ns) (open_array done ns) (get_node-replace k (open_array done ns) root x there)
+    ∙ framed_at k root done ns (edit ns)
 
 -- the array that a header opens, where there was one or none
 pub record Opens (kind : Kind) (root : Nodes) (ts : List TableDraft) : Type 0 where
@@ -51,7 +52,8 @@ pub record Opens (kind : Kind) (root : Nodes) (ts : List TableDraft) : Type 0 wh
   pub others : (l : List ℕ) → (l ≡ kind_text kind → ⊥) → get_node l opened ≡ get_node l root
   pub shaped : each (table_shape kind) (items_list done) ≡ Ok ts
 
-opening_at : (kind : Kind) (root : Nodes) (ts : List TableDraft) (o : Option Node) → get_node (kind_text kind) root ≡ o → IsArray o → tables_given kind (option_map close_node o) ≡ Ok ts → Opens kind root ts
+opening_at : (kind : Kind) (root : Nodes) (ts : List TableDraft) (o : Option Node) → get_node (kind_text kind) root ≡ o → IsArray o
+    → tables_given kind (option_map close_node o) ≡ Ok ts → Opens kind root ts
 unfolding at_key
 opening_at kind root ts None is may told = record {
   opened = insert (kind_text kind) (open_array no_items no_nodes) root;
@@ -74,54 +76,70 @@ opening_at kind root ts (Some (open_array done last)) is may told =
       shaped = told;
     }
 
-opening : (kind : Kind) (root : Nodes) (ts : List TableDraft) → IsArray (get_node (kind_text kind) root) → tables_given kind (get_member (kind_text kind) (close root)) ≡ Ok ts → Opens kind root ts
-opening kind root ts may told = opening_at kind root ts (get_node (kind_text kind) root) refl may (ap (tables_given kind) (sym (closed_at (kind_text kind) root)) ∙ told)
+opening : (kind : Kind) (root : Nodes) (ts : List TableDraft) → IsArray (get_node (kind_text kind) root)
+    → tables_given kind (get_member (kind_text kind) (close root)) ≡ Ok ts → Opens kind root ts
+opening kind root ts may told =
+    opening_at kind root ts (get_node (kind_text kind) root) refl may
+    (ap (tables_given kind) (sym (closed_at (kind_text kind) root)) ∙ told)
 
 -- ---- one table more
 
-header_defined : (k : List ℕ) (root opened : Nodes) (path : List (List ℕ)) → at_key k array_table root ≡ Some opened → define (root, path) (([], k), array_table) ≡ Some (opened, k ∷ [])
+header_defined : (k : List ℕ) (root opened : Nodes) (path : List (List ℕ)) → at_key k array_table root ≡ Some opened
+    → define (root, path) (([], k), array_table) ≡ Some (opened, k ∷ [])
 unfolding define along_header
 header_defined k root opened path step = rw step refl
 
 -- the members around one table more of a kind
 around_changes : (kind : Kind) (root : Nodes) (ts : List TableDraft) (o : Opens kind root ts) (found : Nodes)
-    → Changes (kind_text kind) (array (push_item o.done (table (close found)))) (close root) (close (around (kind_text kind) o.opened o.done found))
+    → Changes (kind_text kind) (array (push_item o.done (table (close found)))) (close root)
+    (close (around (kind_text kind) o.opened o.done found))
 around_changes kind root ts o found =
     let change = replaced (kind_text kind) (open_array o.done found) (open_array o.done no_nodes) o.opened o.here in
     record {
       here = change.here;
-      others = λ l other. change.others l other ∙ closed_at l o.opened ∙ ap (option_map close_node) (o.others l other) ∙ sym (closed_at l root);
+      others =
+          λ l other. change.others l other ∙ closed_at l o.opened ∙ ap (option_map close_node) (o.others l other) ∙ sym (closed_at l root);
     }
 
-array_still : (b : Bool) (k l : List ℕ) (root opened : Nodes) (done : Items) (found : Nodes) (x : Node) → bytes_eq l k ≡ b → get_node k opened ≡ Some x → ((m : List ℕ) → (m ≡ k → ⊥) → get_node m opened ≡ get_node m root) → IsArray (get_node l root)
+array_still : (b : Bool) (k l : List ℕ) (root opened : Nodes) (done : Items) (found : Nodes) (x : Node) → bytes_eq l k ≡ b
+    → get_node k opened ≡ Some x → ((m : List ℕ) → (m ≡ k → ⊥) → get_node m opened ≡ get_node m root) → IsArray (get_node l root)
     → IsArray (get_node l (around k opened done found))
 array_still true k l root opened done found x is here others may =
     let same = same_text l k is in
-    subst (λ n. IsArray (get_node n (around k opened done found))) (sym same) (subst IsArray (sym (get_node-replace k (open_array done found) opened x here)) tt)
+    subst (λ n. IsArray (get_node n (around k opened done found))) (sym same)
+    (subst IsArray (sym (get_node-replace k (open_array done found) opened x here)) tt)
 array_still false k l root opened done found x is here others may =
     let apart : l ≡ k → ⊥ = λ same. let equal = same_bytes l k same in cc in
     subst IsArray (sym (replace_other l k (open_array done found) opened apart ∙ others l apart)) may
 
-pub table_added : (text : List ℕ) (slots : Slots) (rest behind after : List ℕ) (kind : Kind) (ts : List TableDraft) (draft : TableDraft) → ReadsDocument text slots rest → (length (skip_blank rest) == 0) ≡ false
-    → line (skip_blank rest) ≡ Some ((([], kind_text kind), array_table), behind) → length behind < length rest → ReadsTableOf kind behind draft after → slot_at (kind_text kind) slots ≡ Some (tables kind ts)
+pub table_added : (text : List ℕ) (slots : Slots) (rest behind after : List ℕ) (kind : Kind) (ts : List TableDraft) (draft : TableDraft)
+    → ReadsDocument text slots rest → (length (skip_blank rest) == 0) ≡ false
+    → line (skip_blank rest) ≡ Some ((([], kind_text kind), array_table), behind) → length behind < length rest
+    → ReadsTableOf kind behind draft after → slot_at (kind_text kind) slots ≡ Some (tables kind ts)
     → ReadsDocument text (put_slot (kind_text kind) (tables kind (ts ++ draft ∷ [])) slots) after
 table_added text slots rest behind after kind ts draft so some head shorter t at =
     let k = kind_text kind in
     let told = told_slot slots k (tables kind ts) (close so.root) at so.tells.tells in
     let o : Opens kind so.root ts = opening kind so.root ts (so.arrays kind) told in
     let lead = so.leads in
-    let step = lines_more lead.turns (so.root, so.path) _ rest _ behind (omega (arith, lead.room)) some head (header_defined k so.root o.opened so.path o.step) in
-    let inner = t.leads (k ∷ []) (around k o.opened o.done) (around_frames k o.opened o.done (open_array o.done no_nodes) o.here) (lead.turns - 1) (omega (arith, lead.room, shorter)) in
-    let begins : lines (lead.turns - 1) (o.opened, k ∷ []) behind ≡ lines (lead.turns - 1) (around k o.opened o.done no_nodes, k ∷ []) behind =
+    let step = lines_more lead.turns (so.root, so.path) _ rest _ behind (omega (arith, lead.room)) some head
+    (header_defined k so.root o.opened so.path o.step) in
+    let inner = t.leads (k ∷ []) (around k o.opened o.done) (around_frames k o.opened o.done (open_array o.done no_nodes) o.here)
+    (lead.turns - 1) (omega (arith, lead.room, shorter)) in
+    let begins : lines (lead.turns - 1) (o.opened, k ∷ []) behind ≡ lines (lead.turns - 1) (around k o.opened o.done no_nodes, k ∷ [])
+    behind =
     ap (λ ns. lines (lead.turns - 1) (ns, k ∷ []) behind) (sym (replace-self k (open_array o.done no_nodes) o.opened o.here)) in
     let full : tables_given kind (Some (array (push_item o.done (table (close t.found))))) ≡ Ok (ts ++ draft ∷ []) =
-    ap (each (table_shape kind)) (items_pushed o.done (table (close t.found))) ∙ each_last (table_shape kind) (items_list o.done) ts (table (close t.found)) draft o.shaped t.shaped in
+    ap (each (table_shape kind)) (items_pushed o.done (table (close t.found)))
+    ∙ each_last (table_shape kind) (items_list o.done) ts (table (close t.found)) draft o.shaped t.shaped in
     record {
       root = around k o.opened o.done t.found;
       path = k ∷ [];
       leads = record { turns = inner.turns; room = inner.room; same = lead.same ∙ step ∙ begins ∙ inner.same };
-      tells = told_after slots k (tables kind ts) (tables kind (ts ++ draft ∷ [])) _ (close so.root) _ (around_changes kind so.root ts o t.found) at full so.tells;
-      arrays = λ other. array_still (bytes_eq (kind_text other) k) k (kind_text other) so.root o.opened o.done t.found _ refl o.here o.others (so.arrays other);
+      tells = told_after slots k (tables kind ts) (tables kind (ts ++ draft ∷ [])) _ (close so.root) _
+          (around_changes kind so.root ts o t.found) at full so.tells;
+      arrays = λ other. array_still (bytes_eq (kind_text other) k) k (kind_text other) so.root o.opened o.done t.found _ refl o.here
+          o.others (so.arrays other);
     }
 
 -- ---- the beginning and the end
@@ -185,10 +203,12 @@ no_mark : (text : List ℕ) → (first text == 0xEF) ≡ false → skip_bom text
 unfolding skip_bom
 no_mark text other = rw other refl
 
-pub document_ended : (text : List ℕ) (slots : Slots) (rest : List ℕ) → ReadsDocument text slots rest → length (skip_blank rest) ≡ 0 → (first text == 0xEF) ≡ false → ReadsWhole text slots
+pub document_ended : (text : List ℕ) (slots : Slots) (rest : List ℕ) → ReadsDocument text slots rest → length (skip_blank rest) ≡ 0
+    → (first text == 0xEF) ≡ false → ReadsWhole text slots
 document_ended text slots rest so ends other =
     let lead = so.leads in
-    let all : lines (suc (length text)) (no_nodes, []) text ≡ Some (so.root, so.path) = lead.same ∙ lines_end lead.turns (so.root, so.path) rest (omega (arith, lead.room)) ends in
+    let all : lines (suc (length text)) (no_nodes, []) text ≡ Some (so.root, so.path) = lead.same
+    ∙ lines_end lead.turns (so.root, so.path) rest (omega (arith, lead.room)) ends in
     record {
       found = close so.root;
       reads = document_some text (so.root, so.path) (ap (lines (suc (length text)) (no_nodes, [])) (no_mark text other) ∙ all);

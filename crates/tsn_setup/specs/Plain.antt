@@ -126,7 +126,8 @@ pub record Leads (n : ℕ) (before : Document) (text : List ℕ) (after : Docume
 -- The text begins with the lines of a table, and the slots say its members.
 pub record ReadsLines (text : List ℕ) (slots : Slots) (rest : List ℕ) : Type 0 where
   pub found : Nodes
-  pub leads : (path : List (List ℕ)) (frame : Nodes → Nodes) → Frames path frame → (n : ℕ) → length text < n → Leads n (frame no_nodes, path) text (frame found, path) rest
+  pub leads : (path : List (List ℕ)) (frame : Nodes → Nodes) → Frames path frame → (n : ℕ) → length text < n
+      → Leads n (frame no_nodes, path) text (frame found, path) rest
   pub tells : TellsAll (close found) slots
 
 -- a name of letters, digits, dashes and underscores
@@ -169,13 +170,15 @@ pub record TableSoFar (text : List ℕ) (slots : Slots) (rest : List ℕ) : Type
 -- The same of items that go on.
 pub record EntriesSoFar {E : Type 0} (shape : Data → Result E Unread) (text : List ℕ) (entries : List E) (rest : List ℕ) : Type 0 where
   pub found : Items
-  pub reads : (m n : ℕ) → length text < n → (k : ℕ) × ((length rest < k) × (items (val (suc m)) n no_items text ≡ items (val (suc m)) k found rest))
+  pub reads : (m n : ℕ) → length text < n
+      → (k : ℕ) × ((length rest < k) × (items (val (suc m)) n no_items text ≡ items (val (suc m)) k found rest))
   pub shaped : each shape (items_list found) ≡ Ok entries
 
 -- The text begins with the lines of a table of that kind, which the draft tells.
 pub record ReadsTableOf (kind : Kind) (text : List ℕ) (draft : TableDraft) (rest : List ℕ) : Type 0 where
   pub found : Nodes
-  pub leads : (path : List (List ℕ)) (frame : Nodes → Nodes) → Frames path frame → (n : ℕ) → length text < n → Leads n (frame no_nodes, path) text (frame found, path) rest
+  pub leads : (path : List (List ℕ)) (frame : Nodes → Nodes) → Frames path frame → (n : ℕ) → length text < n
+      → Leads n (frame no_nodes, path) text (frame found, path) rest
   pub shaped : table_shape kind (table (close found)) ≡ Ok draft
 
 -- The text is a document, and the slots say its members.

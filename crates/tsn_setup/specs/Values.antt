@@ -149,7 +149,8 @@ pub record IsDocumentOf (s : Setup) (d : Data) : Type 0 where
 pub record MayBeGiven (s : Setup) : Type 0 where
   pub limits : AreInRange s.limits
   pub records : AllByRecursion (λ e. KeyedInRange e.0 e.1) s.records
-  pub order : s.records ≡ of_kind kinds.Port s.records ++ of_kind kinds.Filter s.records ++ of_kind kinds.Gate s.records ++ of_kind kinds.Meter s.records
+  pub order : s.records ≡ of_kind kinds.Port s.records ++ of_kind kinds.Filter s.records ++ of_kind kinds.Gate s.records
+      ++ of_kind kinds.Meter s.records
 
 -- A text is accepted as a setup exactly where that may be given and the text is a document of it, short enough.
 abbrev pub AcceptsValues : Type 0

@@ -14,8 +14,8 @@ pub trait Gathered: Default + Drop {
     // how many brackets a value may have in one another
     ghost nesting: { ℕ };
 
-    /// Reads the next member. None where it is none that may come, came before or is spelled in another way, and where memory
-    /// is refused.
+    /// Reads the next member. None where it is none that may come, came before or is spelled in another way, and where
+    /// memory is refused.
     fn member<'a>(&mut self, alloc: Global, text: &'a str) -> Option<&'a str>
         ensures member { IfSome result (λ rest. ReadsMember nesting text.now (slots self.old) (slots self.new) rest.now) }
         ensures shorter { IfSome result (λ rest. length rest.now < length text.now) };

@@ -23,8 +23,8 @@ pub trait Given: Drop {
     // how many brackets the value may have in one another
     ghost nesting: { ℕ };
 
-    /// Reads the value that the text begins with. None where it is no such value or is spelled in another way, and where memory
-    /// is refused.
+    /// Reads the value that the text begins with. None where it is no such value or is spelled in another way, and
+    /// where memory is refused.
     fn given(alloc: Global, text: &str) -> Option<(Self, &str)>
         ensures value { IfSome result (λ p. ReadsValue nesting text.now (slot (Some p.0)) p.1.now) }
         ensures open { IsOpen (slot None) }

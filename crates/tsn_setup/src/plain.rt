@@ -1,5 +1,5 @@
-//! Steps over a document in the plain spelling, which take no memory: bare names, the ends of lines and of elements, and
-//! headers in double brackets. What is spelled otherwise is left to `toml`.
+//! Steps over a document in the plain spelling, which take no memory: bare names, the ends of lines and of elements,
+//! and headers in double brackets. What is spelled otherwise is left to `toml`.
 ghost use Rattle.std.specs.Prelude.{◌≡◌, ◌<◌, ◌≤◌, [], true, length, Some, IfSome};
 ghost use Rattle.toml_parser.specs.Lexical.{skip_ws};
 ghost use Rattle.toml_parser.specs.Strings.{key};

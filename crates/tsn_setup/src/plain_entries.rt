@@ -20,8 +20,8 @@ use tsn_types::lists::ControlList;
 pub trait PlainEntry: Drop {
     ghost shape: { Data → Result Self Unread };
 
-    /// The entry that the text begins with, behind its opening brace. None where it is no such entry or is spelled in another
-    /// way, and where memory is refused.
+    /// The entry that the text begins with, behind its opening brace. None where it is no such entry or is spelled in
+    /// another way, and where memory is refused.
     fn entry(alloc: Global, text: &str) -> Option<(Self, &str)>
         ensures value { IfSome result (λ p. ReadsEntry shape text.now p.0 p.1.now) }
         ensures shorter { IfSome result (λ p. length p.1.now < length text.now) };

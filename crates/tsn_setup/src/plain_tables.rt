@@ -275,8 +275,8 @@ fn meter_table(alloc: Global, text: &str) -> Option<(TableDraft, &str)>
     Some((TableDraft { id, value }, rest))
 }
 
-/// A table of that kind, behind its header. None where a member is missing, comes twice, is none of its kind or is spelled in
-/// another way, and where memory is refused.
+/// A table of that kind, behind its header. None where a member is missing, comes twice, is none of its kind or is
+/// spelled in another way, and where memory is refused.
 pub fn plain_table(alloc: Global, kind: Kind, text: &str) -> Option<(TableDraft, &str)>
     ensures table { IfSome result (λ p. ReadsTableOf kind text.now p.0 p.1.now) }
     ensures within { IfSome result (λ p. length p.1.now ≤ length text.now) }

@@ -1,5 +1,6 @@
-//! The sockets of a server: where it listens, at an IP address and port or at a path of the file system; who may connect there;
-//! and who is told of connections. It relies on `tsn_bytes` for writers. `tsn_server` takes connections from a listener of it.
+//! The sockets of a server: where it listens, at an IP address and port or at a path of the file system; who may
+//! connect there; and who is told of connections. It relies on `tsn_bytes` for writers. `tsn_server` takes connections
+//! from a listener of it.
 #![tactic(auto)]
 
 mod listening;

@@ -71,8 +71,8 @@ pub enum Listener {
 }
 
 impl Listener {
-    /// The next connection. One over a path is read, written, timed and shut down by the same calls of the system as one over
-    /// TCP, so it is handed on as such a one.
+    /// The next connection. One over a path is read, written, timed and shut down by the same calls of the system as
+    /// one over TCP, so it is handed on as such a one.
     pub fn accept(&self) -> io::Result<TcpStream> {
         match self {
             Listener::Tcp(listener) => {
@@ -104,8 +104,8 @@ fn listen_at<R: Files + Net>(
     Ok((Listener::Unix(listener), Place::Path(name)))
 }
 
-/// A listener at the place, an IP address and port as in `127.0.0.1:7000` or a path as in `unix:/run/tsnd.socket`, and where
-/// it listens: a port of 0 is one that the system chooses.
+/// A listener at the place, an IP address and port as in `127.0.0.1:7000` or a path as in `unix:/run/tsnd.socket`, and
+/// where it listens: a port of 0 is one that the system chooses.
 pub fn listen_on<R: Files + Net<Listener = TcpListener, Stream = TcpStream>>(
     rt: &R,
     alloc: Global,

@@ -14,8 +14,8 @@ pub trait Log {
     fn ends(&self, number: u32, told: Told);
 }
 
-/// The writer of a connection. Where there is a log, it looks at the replies that are given to it, and tells of the end as it
-/// is let go.
+/// The writer of a connection. Where there is a log, it looks at the replies that are given to it, and tells of the end
+/// as it is let go.
 pub struct LoggedWriter<'a, O: ByteOut + Drop, L: Log> {
     inner: O,
     log: Option<&'a L>,

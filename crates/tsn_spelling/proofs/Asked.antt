@@ -33,7 +33,8 @@ number_or_null : (n : ℕ) (P : ℕ → Type 0) (o : Option ℕ) → ((a : ℕ) 
 number_or_null n P None fits h = tt
 number_or_null n P (Some a) fits h = fits a h
 
-items_plain : {I : Type 0} (n : ℕ) (P : I → Type 0) (f : I → Data) → ((x : I) → P x → IsPlain n (f x)) → (xs : List I) → AllByRecursion P xs → ItemsArePlain n (items_of (map f xs))
+items_plain : {I : Type 0} (n : ℕ) (P : I → Type 0) (f : I → Data) → ((x : I) → P x → IsPlain n (f x)) → (xs : List I) → AllByRecursion P xs
+    → ItemsArePlain n (items_of (map f xs))
 items_plain n P f each [] h = tt
 items_plain n P f each (x ∷ xs) h = (each x h.0, items_plain n P f each xs h.1)
 
@@ -41,7 +42,13 @@ port_entry_plain : (n : ℕ) (e : PortEntry) → PortEntryInRange e → IsPlain 
 port_entry_plain n e h = (omega (arith, h.gates), (omega (arith, h.interval.1), tt))
 
 gate_entry_plain : (n : ℕ) (e : GateEntry) → GateEntryInRange e → IsPlain (suc n) (gate_entry_data e)
-gate_entry_plain n e h = (tt, (number_or_null n _ e.ipv (λ a k. omega arith) h.ipv, (omega (arith, h.interval.1), (number_or_null n _ e.octets (λ a k. omega arith) h.octets, tt))))
+gate_entry_plain n e h = (
+  tt,
+  (
+    number_or_null n _ e.ipv (λ a k. omega arith) h.ipv,
+    (omega (arith, h.interval.1), (number_or_null n _ e.octets (λ a k. omega arith) h.octets, tt)),
+  ),
+)
 
 port_plain : (n : ℕ) (r : PortGates) → PortInRange r → IsPlain (suc (suc (suc n))) (port_data r)
 port_plain n r h = (
@@ -70,7 +77,10 @@ filter_plain n r h = (
       number_or_null n _ r.handle (λ a k. omega arith) h.handle,
       (
         number_or_null n _ r.max_sdu (λ a k. omega (arith, k.1)) h.max_sdu,
-        (number_or_null n _ r.meter (λ a k. omega arith) h.meter, (tt, (number_or_null n _ r.priority (λ a k. omega arith) h.priority, tt))),
+        (
+          number_or_null n _ r.meter (λ a k. omega arith) h.meter,
+          (tt, (number_or_null n _ r.priority (λ a k. omega arith) h.priority, tt)),
+        ),
       ),
     ),
   ),
@@ -98,7 +108,8 @@ gate_plain n r h = (
 )
 
 meter_plain : (n : ℕ) (r : FlowMeter) → MeterInRange r → IsPlain (suc n) (meter_data r)
-meter_plain n r h = (refl, (tt, (tt, (omega (arith, h.cbs), (tt, (omega (arith, h.cir), (tt, (omega (arith, h.ebs), (omega (arith, h.eir), tt)))))))))
+meter_plain n r h =
+    (refl, (tt, (tt, (omega (arith, h.cbs), (tt, (omega (arith, h.cir), (tt, (omega (arith, h.ebs), (omega (arith, h.eir), tt)))))))))
 
 record_plain : (n : ℕ) (r : Record) → RecordInRange r → IsPlain (suc (suc (suc n))) (record_data r)
 record_plain n (records.Port r) h = port_plain n r h
@@ -144,8 +155,16 @@ value_plain s (commands.Settle upto) h = (refl, (tt, (omega (arith, h.0.1), (ome
 value_plain s (commands.Enable k now) h = (refl, (tt, (tt, (omega (arith, h.1.instant), (omega (arith, h.0.1), tt)))))
 value_plain s (commands.Disable k now) h = (refl, (tt, (tt, (omega (arith, h.1.instant), (omega (arith, h.0.1), tt)))))
 value_plain s (commands.Apply k now) h = (refl, (tt, (tt, (omega (arith, h.1.instant), (omega (arith, h.0.1), tt)))))
-value_plain s (commands.Frame f now) h =
-    (refl, (tt, (omega (arith, h.1.handle), (omega (arith, h.1.now), (omega (arith, h.1.octets), (omega (arith, h.1.priority), (omega (arith, h.0.1), (tt, tt))))))))
+value_plain s (commands.Frame f now) h = (
+  refl,
+  (
+    tt,
+    (
+      omega (arith, h.1.handle),
+      (omega (arith, h.1.now), (omega (arith, h.1.octets), (omega (arith, h.1.priority), (omega (arith, h.0.1), (tt, tt))))),
+    ),
+  ),
+)
 value_plain s (commands.States k at) h = (refl, (omega (arith, h.1.instant), (tt, (tt, (omega (arith, h.0.1), tt)))))
 value_plain s (commands.Counters k) h = (refl, (tt, (tt, (omega (arith, h.0.1), tt))))
 value_plain s (commands.Show k) h = (refl, (tt, (tt, (omega (arith, h.0.1), tt))))
@@ -172,10 +191,38 @@ gate_entry_shown : (e : GateEntry) → IsShown (gate_entry_data e)
 gate_entry_shown e = (tt, (or_null_shown e.ipv, (tt, (or_null_shown e.octets, tt))))
 
 record_shown : (r : Record) → IsShown (record_data r)
-record_shown (records.Port r) = (refl, tt, (refl, tt, (refl, tt, (refl, tt, (refl, items_shown port_entry_data port_entry_shown r.admin.list, tt)))))
-record_shown (records.Filter r) = (refl, tt, (refl, or_null_shown r.handle, (refl, or_null_shown r.max_sdu, (refl, or_null_shown r.meter, (refl, tt, (refl, or_null_shown r.priority, tt))))))
-record_shown (records.Gate r) =
-    (refl, tt, (refl, tt, (refl, tt, (refl, tt, (refl, or_null_shown r.ipv, (refl, items_shown gate_entry_data gate_entry_shown r.admin.list, (refl, tt, (refl, tt, tt))))))))
+record_shown (records.Port r) =
+    (refl, tt, (refl, tt, (refl, tt, (refl, tt, (refl, items_shown port_entry_data port_entry_shown r.admin.list, tt)))))
+record_shown (records.Filter r) = (
+  refl,
+  tt,
+  (
+    refl,
+    or_null_shown r.handle,
+    (refl, or_null_shown r.max_sdu, (refl, or_null_shown r.meter, (refl, tt, (refl, or_null_shown r.priority, tt)))),
+  ),
+)
+record_shown (records.Gate r) = (
+  refl,
+  tt,
+  (
+    refl,
+    tt,
+    (
+      refl,
+      tt,
+      (
+        refl,
+        tt,
+        (
+          refl,
+          or_null_shown r.ipv,
+          (refl, items_shown gate_entry_data gate_entry_shown r.admin.list, (refl, tt, (refl, tt, tt))),
+        ),
+      ),
+    ),
+  ),
+)
 record_shown (records.Meter r) = (refl, tt, (refl, tt, (refl, tt, (refl, tt, (refl, tt, (refl, tt, (refl, tt, (refl, tt, tt))))))))
 
 key_shown : (k : Key) → are_plain (key_text k) ≡ true
@@ -225,6 +272,7 @@ value_shown s commands.Sessions h = (refl, refl, (refl, tt, tt))
 value_shown s commands.Setup h = (refl, refl, (refl, tt, tt))
 
 -- what holds of hellos by a name and of all others holds of each
-pub by_name : (P : Command → Type 0) → ((name : List ℕ) → P (commands.Hello (Some name))) → ((c : Command) → IsUnnamed c → P c) → (c : Command) → P c
+pub by_name : (P : Command → Type 0) → ((name : List ℕ) → P (commands.Hello (Some name))) → ((c : Command) → IsUnnamed c → P c)
+    → (c : Command) → P c
 by_name P named other (commands.Hello (Some name)) = named name
 by_name P named other c = other c tt

@@ -114,7 +114,8 @@ mutual
 -- the text reads as the value
 pub read_back : (n : ℕ) (d : Data) → n ≤ max_depth → IsPlain n d → read (compact_text d) ≡ Some d
 read_back n d within h =
-    let whole : tokens (compact_text d) ≡ tree.json_tokens (outline d) = ap tokens (sym (print-outline d)) ∙ tokens-print _ (ArePrintable-json_tokens (outline d) (prints n d h)) in
+    let whole : tokens (compact_text d) ≡ tree.json_tokens (outline d) = ap tokens (sym (print-outline d))
+    ∙ tokens-print _ (ArePrintable-json_tokens (outline d) (prints n d h)) in
     let nests : tree.depth (outline d) ≤ max_depth = omega (arith, shallow n d h) in
     ap (λ o. option_and_then of_json (option_and_then (λ p. json.if_last p.0 p.1) o))
     (ap (json.value max_depth) (whole ∙ sym (append-nil _)) ∙ value-json_tokens (outline d) max_depth [] nests)

@@ -44,7 +44,8 @@ named_no_feed : (name : List ℕ) → All IsNoFeed (compact_text (hello_data (So
 named_no_feed name =
     let front = codes "{\"do\":\"hello\",\"name\":" in
     subst (All IsNoFeed) (sym (named_text name))
-    (All-append IsNoFeed front (quoted name ++ codes "}") (no_feed front refl) (All-append IsNoFeed (quoted name) (codes "}") (quoted_no_feed name) (no_feed (codes "}") refl)))
+    (All-append IsNoFeed front (quoted name ++ codes "}") (no_feed front refl)
+    (All-append IsNoFeed (quoted name) (codes "}") (quoted_no_feed name) (no_feed (codes "}") refl)))
 
 line_no_feed : (s : ℕ) (c : Command) → All IsNoFeed (compact_text (value_of s c))
 line_no_feed s = by_name (λ c. All IsNoFeed (compact_text (value_of s c))) named_no_feed
@@ -52,7 +53,8 @@ line_no_feed s = by_name (λ c. All IsNoFeed (compact_text (value_of s c))) name
 
 -- its numbers are whole
 value_whole : (s : ℕ) (c : Command) → AreWhole (value_of s c)
-value_whole s = by_name (λ c. AreWhole (value_of s c)) (λ name. (tt, (tt, tt))) (λ c other. shown_whole (value_of s c) (value_shown s c other))
+value_whole s =
+    by_name (λ c. AreWhole (value_of s c)) (λ name. (tt, (tt, tt))) (λ c other. shown_whole (value_of s c) (value_shown s c other))
 
 value_read : (s : ℕ) (c : Command) → MayBeAsked s c → data_of (compact_text (value_of s c)) ≡ Some (value_of s c)
 value_read s c h =
@@ -79,7 +81,8 @@ as_read false o d e = absurd (cc)
 pub is_no_longer : IsNoLonger
 is_no_longer line ask e =
     let value = value_of ask.session ask.command in
-    no_longer line value (as_read (is_utf8 line) (read line) value ((accepts_values line ask.session ask.command).0 e).1) (value_whole ask.session ask.command)
+    no_longer line value (as_read (is_utf8 line) (read line) value ((accepts_values line ask.session ask.command).0 e).1)
+    (value_whole ask.session ask.command)
 
 pub acts_may_be_asked : ActsMayBeAsked
 acts_may_be_asked = (

@@ -18,11 +18,16 @@ use Rattle.tsn_spelling.proofs.Growing.{none_more, grows_on, pushed, goes_on, mo
 -- ---- records
 
 port_of : (base cycle extension gates items : List ℕ)
-    → (codes "{\"base\":" ++ (base ++ (codes ",\"cycle\":" ++ (cycle ++ (codes ",\"extension\":" ++ (extension ++ (codes ",\"gates\":" ++ (gates ++ codes ",\"list\":[")))))))) ++ (items ++ codes "}")
-    ≡ codes "{\"base\":" ++ (base ++ (codes ",\"cycle\":" ++ (cycle ++ (codes ",\"extension\":" ++ (extension ++ (codes ",\"gates\":" ++ (gates ++ (codes ",\"list\":[" ++ (items ++ codes "}")))))))))
+    → (codes "{\"base\":" ++ (base ++
+    (codes ",\"cycle\":" ++ (cycle ++
+    (codes ",\"extension\":" ++ (extension ++ (codes ",\"gates\":" ++ (gates ++ codes ",\"list\":[")))))))) ++ (items ++ codes "}")
+    ≡ codes "{\"base\":" ++ (base ++
+    (codes ",\"cycle\":" ++ (cycle ++
+    (codes ",\"extension\":" ++ (extension ++ (codes ",\"gates\":" ++ (gates ++ (codes ",\"list\":[" ++ (items ++ codes "}")))))))))
 port_of base cycle extension gates items = simp append_assoc
 
-port_text : (r : PortGates) → port_front r ++ (items_text false (items_of (map port_entry_data r.admin.list)) ++ codes "}") ≡ compact_text (port_data r)
+port_text : (r : PortGates) → port_front r ++ (items_text false (items_of (map port_entry_data r.admin.list)) ++ codes "}") ≡ compact_text
+    (port_data r)
 unfolding escape_byte
 port_text r = port_of _ _ _ _ (items_text false (items_of (map port_entry_data r.admin.list)))
 
@@ -37,21 +42,30 @@ port_pieces r es l0 t0 t1 l2 t2 t3 e e1 e2 e3 =
     (goes_on l0 t0 l0 t1 l2 t3 _ _ (pushed l0 t0 t1 _ e1) (goes_on l0 t1 l2 t2 l2 t3 _ _ e2 (pushed l2 t2 t3 _ e3)))
 
 gate_of : (base cycle extension invalid_rx ipv items octets_exceeded is_open : List ℕ)
-    → (codes "{\"base\":" ++ (base ++ (codes ",\"cycle\":" ++ (cycle ++ (codes ",\"extension\":" ++ (extension ++ (codes ",\"invalid_rx\":" ++ (invalid_rx ++ (codes ",\"ipv\":" ++ (ipv ++ codes ",\"list\":["))))))))))
+    → (codes "{\"base\":" ++ (base ++
+    (codes ",\"cycle\":" ++ (cycle ++
+    (codes ",\"extension\":" ++ (extension
+    ++ (codes ",\"invalid_rx\":" ++ (invalid_rx ++ (codes ",\"ipv\":" ++ (ipv ++ codes ",\"list\":["))))))))))
     ++ (items ++ (codes ",\"octets_exceeded\":" ++ (octets_exceeded ++ (codes ",\"open\":" ++ (is_open ++ codes "}")))))
-    ≡ codes "{\"base\":" ++ (base ++ (codes ",\"cycle\":" ++ (cycle ++ (codes ",\"extension\":" ++ (extension ++ (codes ",\"invalid_rx\":" ++ (invalid_rx ++ (codes ",\"ipv\":" ++ (ipv ++ (codes ",\"list\":["
+    ≡ codes "{\"base\":" ++ (base ++
+    (codes ",\"cycle\":" ++ (cycle ++
+    (codes ",\"extension\":" ++ (extension
+    ++ (codes ",\"invalid_rx\":" ++ (invalid_rx ++ (codes ",\"ipv\":" ++ (ipv ++ (codes ",\"list\":["
     ++ (items ++ (codes ",\"octets_exceeded\":" ++ (octets_exceeded ++ (codes ",\"open\":" ++ (is_open ++ codes "}")))))))))))))))
 gate_of base cycle extension invalid_rx ipv items octets_exceeded is_open = simp append_assoc
 
 -- what stands behind the list of a gate
 abbrev gate_end : StreamGate → List ℕ
-gate_end r = codes ",\"octets_exceeded\":" ++ (compact_text (boolean r.octets_exceeded) ++ (codes ",\"open\":" ++ (compact_text (boolean r.is_open) ++ codes "}")))
+gate_end r = codes ",\"octets_exceeded\":"
+    ++ (compact_text (boolean r.octets_exceeded) ++ (codes ",\"open\":" ++ (compact_text (boolean r.is_open) ++ codes "}")))
 
-gate_text : (r : StreamGate) → gate_front r ++ (items_text false (items_of (map gate_entry_data r.admin.list)) ++ gate_end r) ≡ compact_text (gate_data r)
+gate_text : (r : StreamGate) → gate_front r ++ (items_text false (items_of (map gate_entry_data r.admin.list)) ++ gate_end r) ≡ compact_text
+    (gate_data r)
 unfolding escape_byte
 gate_text r = gate_of _ _ _ _ _ (items_text false (items_of (map gate_entry_data r.admin.list))) _ _
 
-gate_end_of : (a b t2 t3 t4 t5 : List ℕ) → t3 ≡ t2 ++ (codes ",\"octets_exceeded\":" ++ a) → t4 ≡ t3 ++ (codes ",\"open\":" ++ b) → t5 ≡ t4 ++ codes "}"
+gate_end_of : (a b t2 t3 t4 t5 : List ℕ) → t3 ≡ t2 ++ (codes ",\"octets_exceeded\":" ++ a) → t4 ≡ t3 ++ (codes ",\"open\":" ++ b)
+    → t5 ≡ t4 ++ codes "}"
     → t5 ≡ t2 ++ (codes ",\"octets_exceeded\":" ++ (a ++ (codes ",\"open\":" ++ (b ++ codes "}"))))
 gate_end_of a b t2 t3 t4 t5 e3 e4 e5 = rw (e5, e4, e3) (simp append_assoc)
 
@@ -66,14 +80,17 @@ pub gate_pieces : (r : StreamGate) (es : List GateEntry) (l0 t0 t1 l2 t2 t3 t4 t
 gate_pieces r es l0 t0 t1 l2 t2 t3 t4 t5 e e1 e2 e3 e4 e5 =
     as_piece l0 t0 l2 t5 _ _ (ap (λ x. gate_front r ++ (items_text false (items_of (map gate_entry_data x)) ++ gate_end r)) e ∙ gate_text r)
     (goes_on l0 t0 l0 t1 l2 t5 _ _ (pushed l0 t0 t1 _ e1) (goes_on l0 t1 l2 t2 l2 t5 _ _ e2
-    (pushed l2 t2 t5 (gate_end r) (gate_end_of (compact_text (boolean r.octets_exceeded)) (compact_text (boolean r.is_open)) t2 t3 t4 t5 e3 e4 e5))))
+    (pushed l2 t2 t5 (gate_end r) (gate_end_of (compact_text (boolean r.octets_exceeded)) (compact_text (boolean r.is_open)) t2 t3 t4 t5 e3
+    e4 e5))))
 
 -- ---- items
 
 -- no item: room was made, and the bracket is closed
-pub no_items : {I : Type 0} (f : I → Data) (l0 t0 l1 t1 t2 : List ℕ) (xs : List I) → xs ≡ [] → l1 ++ t1 ≡ l0 ++ t0 → t2 ≡ t1 ++ codes "]" → GoesOn l0 t0 l1 t2 (items_text false (items_of (map f xs)))
+pub no_items : {I : Type 0} (f : I → Data) (l0 t0 l1 t1 t2 : List ℕ) (xs : List I) → xs ≡ [] → l1 ++ t1 ≡ l0 ++ t0 → t2 ≡ t1 ++ codes "]"
+    → GoesOn l0 t0 l1 t2 (items_text false (items_of (map f xs)))
 no_items f l0 t0 l1 t1 t2 xs e e1 e2 =
-    as_piece l0 t0 l1 t2 (codes "]") _ (ap (λ x. items_text false (items_of (map f x))) (sym e)) (moved l0 t0 l1 t1 l1 t2 _ e1 (pushed l1 t1 t2 _ e2))
+    as_piece l0 t0 l1 t2 (codes "]") _ (ap (λ x. items_text false (items_of (map f x))) (sym e))
+    (moved l0 t0 l1 t1 l1 t2 _ e1 (pushed l1 t1 t2 _ e2))
 
 -- so far so many items with a comma before each, behind the first
 pub record SoFar {I : Type 0} (f : I → Data) (others : List I) (n : ℕ) (l0 t0 l t : List ℕ) : Type 0 where
@@ -102,7 +119,8 @@ one_more f x d others n l0 t0 l1 t1 l2 t2 t3 l4 t4 within is h e2 g2 e3 e4 g4 =
     ap (behind f) (take_more others n d within ∙ ap (λ y. take n others ++ y ∷ []) (sym is)) ∙ behind_more f (take n others) x in
     record {
       goes = as_piece l0 t0 l4 t4 _ _ (sym more)
-          (goes_on l0 t0 l1 t1 l4 t4 (behind f (take n others)) piece h.goes (moved l1 t1 l2 t2 l4 t4 piece e2 (goes_on l2 t2 l2 t3 l4 t4 (codes ",") _ (pushed l2 t2 t3 _ e3) e4)));
+          (goes_on l0 t0 l1 t1 l4 t4 (behind f (take n others)) piece h.goes
+          (moved l1 t1 l2 t2 l4 t4 piece e2 (goes_on l2 t2 l2 t3 l4 t4 (codes ",") _ (pushed l2 t2 t3 _ e3) e4)));
       grows = grows_on l0 l1 l4 h.grows (grows_on l1 l2 l4 g2 g4);
     }
 
@@ -121,4 +139,5 @@ all_items f first items others n l0 t0 l1 t1 l2 t2 l3 t3 l4 t4 t5 e all e1 e2 h 
     ∙ ap (λ l. compact_text (f first) ++ l) (sym (behind_closed f others))
     ∙ ap (λ xs. items_text false (items_of (map f xs))) (sym e) in
     as_piece l0 t0 l4 t5 _ _ whole
-    (moved l0 t0 l1 t1 l4 t5 _ e1 (goes_on l1 t1 l2 t2 l4 t5 _ _ e2 (goes_on l2 t2 l3 t3 l4 t5 _ _ h.goes (moved l3 t3 l4 t4 l4 t5 _ e4 (pushed l4 t4 t5 _ e5)))))
+    (moved l0 t0 l1 t1 l4 t5 _ e1 (goes_on l1 t1 l2 t2 l4 t5 _ _ e2
+    (goes_on l2 t2 l3 t3 l4 t5 _ _ h.goes (moved l3 t3 l4 t4 l4 t5 _ e4 (pushed l4 t4 t5 _ e5)))))

@@ -18,10 +18,12 @@ use Rattle.tsn_wire.specs.Values.{bare_data, keyed_data, edit_data, put_data, re
 two : (a1 x1 rest t0 t1 t2 : List ℕ) → t0 ≡ [] → t1 ≡ t0 ++ (a1 ++ x1) → t2 ≡ t1 ++ rest → t2 ≡ a1 ++ (x1 ++ rest)
 two a1 x1 rest t0 t1 t2 e0 e1 e2 = rw (e2, e1, e0) (simp append_assoc)
 
-three : (a1 x1 a2 x2 rest t0 t1 t2 t3 : List ℕ) → t0 ≡ [] → t1 ≡ t0 ++ (a1 ++ x1) → t2 ≡ t1 ++ (a2 ++ x2) → t3 ≡ t2 ++ rest → t3 ≡ a1 ++ (x1 ++ (a2 ++ (x2 ++ rest)))
+three : (a1 x1 a2 x2 rest t0 t1 t2 t3 : List ℕ) → t0 ≡ [] → t1 ≡ t0 ++ (a1 ++ x1) → t2 ≡ t1 ++ (a2 ++ x2) → t3 ≡ t2 ++ rest
+    → t3 ≡ a1 ++ (x1 ++ (a2 ++ (x2 ++ rest)))
 three a1 x1 a2 x2 rest t0 t1 t2 t3 e0 e1 e2 e3 = rw (e3, e2, e1, e0) (simp append_assoc)
 
-four : (a1 x1 a2 x2 a3 x3 rest t0 t1 t2 t3 t4 : List ℕ) → t0 ≡ [] → t1 ≡ t0 ++ (a1 ++ x1) → t2 ≡ t1 ++ (a2 ++ x2) → t3 ≡ t2 ++ (a3 ++ x3) → t4 ≡ t3 ++ rest
+four : (a1 x1 a2 x2 a3 x3 rest t0 t1 t2 t3 t4 : List ℕ) → t0 ≡ [] → t1 ≡ t0 ++ (a1 ++ x1) → t2 ≡ t1 ++ (a2 ++ x2) → t3 ≡ t2 ++ (a3 ++ x3)
+    → t4 ≡ t3 ++ rest
     → t4 ≡ a1 ++ (x1 ++ (a2 ++ (x2 ++ (a3 ++ (x3 ++ rest)))))
 four a1 x1 a2 x2 a3 x3 rest t0 t1 t2 t3 t4 e0 e1 e2 e3 e4 = rw (e4, e3, e2, e1, e0) (simp append_assoc)
 
@@ -35,7 +37,8 @@ seven : (a1 x1 a2 x2 a3 x3 a4 x4 a5 x5 a6 x6 rest t0 t1 t2 t3 t4 t5 t6 t7 : List
     → t6 ≡ t5 ++ (a6 ++ x6)
     → t7 ≡ t6 ++ rest
     → t7 ≡ a1 ++ (x1 ++ (a2 ++ (x2 ++ (a3 ++ (x3 ++ (a4 ++ (x4 ++ (a5 ++ (x5 ++ (a6 ++ (x6 ++ rest)))))))))))
-seven a1 x1 a2 x2 a3 x3 a4 x4 a5 x5 a6 x6 rest t0 t1 t2 t3 t4 t5 t6 t7 e0 e1 e2 e3 e4 e5 e6 e7 = rw (e7, e6, e5, e4, e3, e2, e1, e0) (simp append_assoc)
+seven a1 x1 a2 x2 a3 x3 a4 x4 a5 x5 a6 x6 rest t0 t1 t2 t3 t4 t5 t6 t7 e0 e1 e2 e3 e4 e5 e6 e7 =
+    rw (e7, e6, e5, e4, e3, e2, e1, e0) (simp append_assoc)
 
 -- ---- commands with no record
 
@@ -66,7 +69,8 @@ pub act_line : (word : List ℕ) (s : ℕ) (key : List ℕ) (now : ℕ) (t0 t1 t
     → t4 ≡ compact_text (act_data word s key now)
 unfolding escape_byte
 act_line word s key now t0 t1 t2 t3 t4 e0 e1 e2 e3 e4 =
-    four (codes "{\"do\":") (quoted word) (codes ",\"key\":") (quoted key) (codes ",\"now\":") (decimal now) (session_end (decimal s)) t0 t1 t2 t3 t4 e0 e1 e2 e3 e4
+    four (codes "{\"do\":") (quoted word) (codes ",\"key\":") (quoted key) (codes ",\"now\":") (decimal now) (session_end (decimal s)) t0 t1
+    t2 t3 t4 e0 e1 e2 e3 e4
 
 pub states_line : (s : ℕ) (key : List ℕ) (at : ℕ) (t0 t1 t2 t3 : List ℕ)
     → t0 ≡ []
@@ -76,7 +80,8 @@ pub states_line : (s : ℕ) (key : List ℕ) (at : ℕ) (t0 t1 t2 t3 : List ℕ)
     → t3 ≡ compact_text (states_data s key at)
 unfolding escape_byte
 states_line s key at t0 t1 t2 t3 e0 e1 e2 e3 =
-    three (codes "{\"at\":") (decimal at) (codes ",\"do\":\"states\",\"key\":") (quoted key) (session_end (decimal s)) t0 t1 t2 t3 e0 e1 e2 e3
+    three (codes "{\"at\":") (decimal at) (codes ",\"do\":\"states\",\"key\":") (quoted key) (session_end (decimal s)) t0 t1 t2 t3 e0 e1 e2
+    e3
 
 pub hello_line : (t0 t1 : List ℕ) → t0 ≡ [] → t1 ≡ t0 ++ codes "{\"do\":\"hello\"}" → t1 ≡ compact_text (hello_data None)
 unfolding escape_byte
@@ -87,9 +92,11 @@ pub named_text : (name : List ℕ) → compact_text (hello_data (Some name)) ≡
 unfolding escape_byte
 named_text name = refl
 
-pub named_line : (name t0 t1 t2 t3 : List ℕ) → t0 ≡ [] → t1 ≡ t0 ++ codes "{\"do\":\"hello\",\"name\":" → t2 ≡ t1 ++ quoted name → t3 ≡ t2 ++ codes "}"
+pub named_line : (name t0 t1 t2 t3 : List ℕ) → t0 ≡ [] → t1 ≡ t0 ++ codes "{\"do\":\"hello\",\"name\":" → t2 ≡ t1 ++ quoted name
+    → t3 ≡ t2 ++ codes "}"
     → t3 ≡ compact_text (hello_data (Some name))
-named_line name t0 t1 t2 t3 e0 e1 e2 e3 = rw (e3, e2, e1, e0) (append_assoc (codes "{\"do\":\"hello\",\"name\":") (quoted name) (codes "}")) ∙ sym (named_text name)
+named_line name t0 t1 t2 t3 e0 e1 e2 e3 =
+    rw (e3, e2, e1, e0) (append_assoc (codes "{\"do\":\"hello\",\"name\":") (quoted name) (codes "}")) ∙ sym (named_text name)
 
 pub frame_line : (s : ℕ) (f : Frame) (now : ℕ) (t0 t1 t2 t3 t4 t5 t6 t7 : List ℕ)
     → t0 ≡ []
@@ -103,8 +110,10 @@ pub frame_line : (s : ℕ) (f : Frame) (now : ℕ) (t0 t1 t2 t3 t4 t5 t6 t7 : Li
     → t7 ≡ compact_text (frame_data s f now)
 unfolding escape_byte
 frame_line s f now t0 t1 t2 t3 t4 t5 t6 t7 e0 e1 e2 e3 e4 e5 e6 e7 =
-    seven (codes "{\"do\":\"frame\",\"handle\":") (decimal f.handle) (codes ",\"now\":") (decimal now) (codes ",\"octets\":") (decimal f.octets) (codes ",\"priority\":") (decimal f.priority)
-    (codes ",\"s\":") (decimal s) (codes ",\"yellow\":") (compact_text (boolean f.yellow)) (codes "}") t0 t1 t2 t3 t4 t5 t6 t7 e0 e1 e2 e3 e4 e5 e6 e7
+    seven (codes "{\"do\":\"frame\",\"handle\":") (decimal f.handle) (codes ",\"now\":") (decimal now) (codes ",\"octets\":")
+    (decimal f.octets) (codes ",\"priority\":") (decimal f.priority)
+    (codes ",\"s\":") (decimal s) (codes ",\"yellow\":") (compact_text (boolean f.yellow)) (codes "}") t0 t1 t2 t3 t4 t5 t6 t7 e0 e1 e2 e3
+    e4 e5 e6 e7
 
 pub settle_line : (s upto : ℕ) (t0 t1 t2 t3 : List ℕ)
     → t0 ≡ []
@@ -137,7 +146,8 @@ list_text s kinds.Filter = refl
 list_text s kinds.Gate = refl
 list_text s kinds.Meter = refl
 
-pub list_line : (s : ℕ) (k : Kind) (t0 t1 t2 : List ℕ) → t0 ≡ [] → t1 ≡ t0 ++ list_front k → t2 ≡ t1 ++ session_end (decimal s) → t2 ≡ compact_text (listed_data s (kind_text k))
+pub list_line : (s : ℕ) (k : Kind) (t0 t1 t2 : List ℕ) → t0 ≡ [] → t1 ≡ t0 ++ list_front k → t2 ≡ t1 ++ session_end (decimal s)
+    → t2 ≡ compact_text (listed_data s (kind_text k))
 list_line s k t0 t1 t2 e0 e1 e2 = list_of (list_front k) t0 t1 t2 (session_end (decimal s)) e0 e1 e2 ∙ list_text s k
 
 -- ---- edits
@@ -157,20 +167,27 @@ put_of : (word key value : List ℕ)
     ≡ codes "{\"do\":" ++ (word ++ (codes ",\"key\":" ++ (key ++ (codes ",\"record\":" ++ (value ++ codes "}")))))
 put_of word key value = simp append_assoc
 
-pub put_text : (word : List ℕ) (k : Key) (value : Data) → (edit_front word k ++ compact_text value) ++ codes "}" ≡ compact_text (put_data word (key_text k) value)
+pub put_text : (word : List ℕ) (k : Key) (value : Data)
+    → (edit_front word k ++ compact_text value) ++ codes "}" ≡ compact_text (put_data word (key_text k) value)
 unfolding escape_byte
 put_text word k value = put_of (quoted word) (quoted (key_text k)) (compact_text value)
 
-removal_of : (key t0 t1 t2 : List ℕ) → t1 ≡ t0 ++ (codes "{\"do\":\"remove\",\"key\":" ++ key) → t2 ≡ t1 ++ codes "}" → t2 ≡ t0 ++ (codes "{\"do\":\"remove\",\"key\":" ++ (key ++ codes "}"))
+removal_of : (key t0 t1 t2 : List ℕ) → t1 ≡ t0 ++ (codes "{\"do\":\"remove\",\"key\":" ++ key) → t2 ≡ t1 ++ codes "}"
+    → t2 ≡ t0 ++ (codes "{\"do\":\"remove\",\"key\":" ++ (key ++ codes "}"))
 removal_of key t0 t1 t2 e1 e2 = rw (e2, e1) (simp append_assoc)
 
-pub removal_text : (key t0 t1 t2 : List ℕ) → t1 ≡ t0 ++ (codes "{\"do\":\"remove\",\"key\":" ++ quoted key) → t2 ≡ t1 ++ codes "}" → t2 ≡ t0 ++ compact_text (removal_data key)
+pub removal_text : (key t0 t1 t2 : List ℕ) → t1 ≡ t0 ++ (codes "{\"do\":\"remove\",\"key\":" ++ quoted key) → t2 ≡ t1 ++ codes "}"
+    → t2 ≡ t0 ++ compact_text (removal_data key)
 unfolding escape_byte
 removal_text key t0 t1 t2 e1 e2 = removal_of (quoted key) t0 t1 t2 e1 e2
 
-batch_of : (items digits : List ℕ) → (codes "{\"do\":\"batch\",\"edits\":[" ++ items) ++ session_end digits ≡ codes "{\"do\":\"batch\",\"edits\":[" ++ (items ++ session_end digits)
+batch_of : (items digits : List ℕ)
+    → (codes "{\"do\":\"batch\",\"edits\":[" ++ items) ++ session_end digits ≡ codes "{\"do\":\"batch\",\"edits\":["
+    ++ (items ++ session_end digits)
 batch_of items digits = append_assoc (codes "{\"do\":\"batch\",\"edits\":[") items (session_end digits)
 
-pub batch_text : (s : ℕ) (b : List Edit) → (codes "{\"do\":\"batch\",\"edits\":[" ++ items_text false (items_of (map edit_value b))) ++ session_end (decimal s) ≡ compact_text (batch_data s b)
+pub batch_text : (s : ℕ) (b : List Edit)
+    → (codes "{\"do\":\"batch\",\"edits\":[" ++ items_text false (items_of (map edit_value b)))
+    ++ session_end (decimal s) ≡ compact_text (batch_data s b)
 unfolding escape_byte
 batch_text s b = batch_of (items_text false (items_of (map edit_value b))) (decimal s)

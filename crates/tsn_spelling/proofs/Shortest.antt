@@ -51,17 +51,21 @@ no_comma after_value e = cc
 no_comma after_comma e = refl
 no_comma after_key e = cc
 
-allowed : (after b : Bool) (t : Token) (k : Place → List Token) (next : Place) (n : ℕ) → (b ≡ true → one_if (begins_value t && after) + token_weight t + cost (ends t) (k next) ≤ n) → cost after (if_allowed b t k next) ≤ n
+allowed : (after b : Bool) (t : Token) (k : Place → List Token) (next : Place) (n : ℕ)
+    → (b ≡ true → one_if (begins_value t && after) + token_weight t + cost (ends t) (k next) ≤ n) → cost after (if_allowed b t k next) ≤ n
 allowed after true t k next n h = h refl
 allowed after false t k next n h = omega arith
 
-begun : (p : Place) (t : Token) (k : Place → List Token) (next : Place) (n : ℕ) → begins_value t ≡ true → token_weight t + cost (ends t) (k next) ≤ n → cost (is_after p) (if_allowed (may_begin p) t k next) ≤ n
+begun : (p : Place) (t : Token) (k : Place → List Token) (next : Place) (n : ℕ) → begins_value t ≡ true
+    → token_weight t + cost (ends t) (k next) ≤ n → cost (is_after p) (if_allowed (may_begin p) t k next) ≤ n
 begun p t k next n e h = allowed (is_after p) (may_begin p) t k next n (λ may. rw (e, no_comma p may) (omega (arith, h)))
 
-closed : (p : Place) (t : Token) (k : Place → List Token) (next : Place) (n : ℕ) → begins_value t ≡ false → token_weight t + cost (ends t) (k next) ≤ n → cost (is_after p) (if_allowed (may_close p) t k next) ≤ n
+closed : (p : Place) (t : Token) (k : Place → List Token) (next : Place) (n : ℕ) → begins_value t ≡ false
+    → token_weight t + cost (ends t) (k next) ≤ n → cost (is_after p) (if_allowed (may_close p) t k next) ≤ n
 closed p t k next n e h = allowed (is_after p) (may_close p) t k next n (λ may. rw e (omega (arith, h)))
 
-placed : (p : Place) (t : Token) (before : Bool) (k : Place → List Token) (w : ℕ) → cost false (k fresh) ≤ w → cost true (k after_value) ≤ w → (before ≡ true → cost false (k after_key) + 1 ≤ w)
+placed : (p : Place) (t : Token) (before : Bool) (k : Place → List Token) (w : ℕ) → cost false (k fresh) ≤ w → cost true (k after_value) ≤ w
+    → (before ≡ true → cost false (k after_key) + 1 ≤ w)
     → cost (is_after p) (place_token p t before k) ≤ token_weight t + w
 placed p begin_object before k w a b c = begun p begin_object k fresh _ refl (omega arith)
 placed p end_object before k w a b c = closed p end_object k after_value _ refl (omega arith)
@@ -79,7 +83,8 @@ comma_more : (ts : List Token) → cost true ts ≤ 1 + cost false ts
 comma_more [] = omega arith
 comma_more (t ∷ ts) = more (begins_value t)
   where
-    more : (b : Bool) → one_if (b && true) + token_weight t + cost (ends t) ts ≤ 1 + (one_if (b && false) + token_weight t + cost (ends t) ts)
+    more : (b : Bool) → one_if (b && true) + token_weight t + cost (ends t) ts
+        ≤ 1 + (one_if (b && false) + token_weight t + cost (ends t) ts)
     more true = omega arith
     more false = omega arith
 
@@ -88,19 +93,22 @@ mutual
 
   fresh_cost : (ls : List Lexeme) → cost false (punctuate fresh ls) ≤ weight ls
   fresh_cost [] = omega arith
-  fresh_cost (token t ∷ ls) = placed fresh t (begins_colon ls) (λ next. punctuate next ls) (weight ls) (fresh_cost ls) (value_cost ls) (key_cost ls)
+  fresh_cost (token t ∷ ls) =
+      placed fresh t (begins_colon ls) (λ next. punctuate next ls) (weight ls) (fresh_cost ls) (value_cost ls) (key_cost ls)
   fresh_cost (comma ∷ ls) = omega arith
   fresh_cost (colon ∷ ls) = omega arith
 
   value_cost : (ls : List Lexeme) → cost true (punctuate after_value ls) ≤ weight ls
   value_cost [] = omega arith
-  value_cost (token t ∷ ls) = placed after_value t (begins_colon ls) (λ next. punctuate next ls) (weight ls) (fresh_cost ls) (value_cost ls) (key_cost ls)
+  value_cost (token t ∷ ls) =
+      placed after_value t (begins_colon ls) (λ next. punctuate next ls) (weight ls) (fresh_cost ls) (value_cost ls) (key_cost ls)
   value_cost (comma ∷ ls) = omega (arith, comma_more (punctuate after_comma ls), comma_cost ls)
   value_cost (colon ∷ ls) = omega arith
 
   comma_cost : (ls : List Lexeme) → cost false (punctuate after_comma ls) ≤ weight ls
   comma_cost [] = omega arith
-  comma_cost (token t ∷ ls) = placed after_comma t (begins_colon ls) (λ next. punctuate next ls) (weight ls) (fresh_cost ls) (value_cost ls) (key_cost ls)
+  comma_cost (token t ∷ ls) =
+      placed after_comma t (begins_colon ls) (λ next. punctuate next ls) (weight ls) (fresh_cost ls) (value_cost ls) (key_cost ls)
   comma_cost (comma ∷ ls) = omega arith
   comma_cost (colon ∷ ls) = omega arith
 
@@ -130,7 +138,8 @@ abbrev mutual
   members_weight later (json.member k j ms) = one_if later + (length (escape k) + 3) + json_weight j + members_weight true ms
 
 mutual
-  json_cost : (after : Bool) (j : json.Json) (ts : List Token) → cost after (json_tokens j ++ ts) ≡ one_if after + json_weight j + cost true ts
+  json_cost : (after : Bool) (j : json.Json) (ts : List Token)
+      → cost after (json_tokens j ++ ts) ≡ one_if after + json_weight j + cost true ts
   json_cost after json.null ts = refl
   json_cost after (json.boolean b) ts = refl
   json_cost after (json.number s) ts = refl
@@ -138,15 +147,27 @@ mutual
   json_cost after (json.array js) ts = omega (arith, items_cost false js ts)
   json_cost after (json.object ms) ts = omega (arith, members_cost false ms ts)
 
-  items_cost : (later : Bool) (js : json.Items) (ts : List Token) → cost later (items_tokens js ++ ts) ≡ items_weight later js + cost true ts
+  items_cost : (later : Bool) (js : json.Items) (ts : List Token)
+      → cost later (items_tokens js ++ ts) ≡ items_weight later js + cost true ts
   items_cost later json.no_items ts = refl
   items_cost later (json.item j js) ts =
-      omega (arith, ap (cost later) (append_assoc (json_tokens j) (items_tokens js) ts), json_cost later j (items_tokens js ++ ts), items_cost true js ts)
+      omega (
+        arith,
+        ap (cost later) (append_assoc (json_tokens j) (items_tokens js) ts),
+        json_cost later j (items_tokens js ++ ts),
+        items_cost true js ts,
+      )
 
-  members_cost : (later : Bool) (ms : json.Members) (ts : List Token) → cost later (members_tokens ms ++ ts) ≡ members_weight later ms + cost true ts
+  members_cost : (later : Bool) (ms : json.Members) (ts : List Token)
+      → cost later (members_tokens ms ++ ts) ≡ members_weight later ms + cost true ts
   members_cost later json.no_members ts = refl
   members_cost later (json.member k j ms) ts =
-      omega (arith, ap (cost false) (append_assoc (json_tokens j) (members_tokens ms) ts), json_cost false j (members_tokens ms ++ ts), members_cost true ms ts)
+      omega (
+        arith,
+        ap (cost false) (append_assoc (json_tokens j) (members_tokens ms) ts),
+        json_cost false j (members_tokens ms ++ ts),
+        members_cost true ms ts,
+      )
 
 -- ---- what its value takes
 
@@ -177,7 +198,8 @@ json_total json.no_members = 0
 json_total (json.member k j ms) = length (escape k) + 4 + json_weight j + json_total ms
 
 put_step : (o : Ordering) (k l : List ℕ) (d e : Data) (ms more : Members) → total more ≤ total ms + (length (escape k) + 4 + data_weight d)
-    → total (match_ordering o (member k d (member l e ms)) (member l d ms) (member l e more)) ≤ total (member l e ms) + (length (escape k) + 4 + data_weight d)
+    → total (match_ordering o (member k d (member l e ms)) (member l d ms) (member l e more)) ≤ total (member l e ms)
+    + (length (escape k) + 4 + data_weight d)
 put_step Less k l d e ms more h = omega arith
 put_step Equal k l d e ms more h = omega arith
 put_step Greater k l d e ms more h = omega arith
@@ -207,11 +229,13 @@ abbrev AtMost : {A : Type 0} → (A → ℕ) → ℕ → Option A → Type 0
 AtMost f n None = Unit {0}
 AtMost f n (Some a) = f a ≤ n
 
-mapped : {A B : Type 0} (f : A → ℕ) (g : B → ℕ) (m n : ℕ) (h : A → B) → ((a : A) → f a ≤ m → g (h a) ≤ n) → (o : Option A) → AtMost f m o → AtMost g n (option_map h o)
+mapped : {A B : Type 0} (f : A → ℕ) (g : B → ℕ) (m n : ℕ) (h : A → B) → ((a : A) → f a ≤ m → g (h a) ≤ n) → (o : Option A) → AtMost f m o
+    → AtMost g n (option_map h o)
 mapped f g m n h k None x = tt
 mapped f g m n h k (Some a) x = k a x
 
-and_then : {A B : Type 0} (f : A → ℕ) (g : B → ℕ) (m n : ℕ) (h : A → Option B) → ((a : A) → f a ≤ m → AtMost g n (h a)) → (o : Option A) → AtMost f m o → AtMost g n (option_and_then h o)
+and_then : {A B : Type 0} (f : A → ℕ) (g : B → ℕ) (m n : ℕ) (h : A → Option B) → ((a : A) → f a ≤ m → AtMost g n (h a)) → (o : Option A)
+    → AtMost f m o → AtMost g n (option_and_then h o)
 and_then f g m n h k None x = tt
 and_then f g m n h k (Some a) x = k a x
 
@@ -227,24 +251,32 @@ mutual
   of_json_weight : (j : json.Json) → AtMost data_weight (json_weight j) (of_json j)
   of_json_weight json.null = omega arith
   of_json_weight (json.boolean b) = omega arith
-  of_json_weight (json.number s) = mapped (λ x. whole_weight (Some x)) data_weight (whole_weight (number_of s)) _ values.number (λ x h. h) (number_of s) (itself (number_of s))
+  of_json_weight (json.number s) =
+      mapped (λ x. whole_weight (Some x)) data_weight (whole_weight (number_of s)) _ values.number (λ x h. h) (number_of s)
+      (itself (number_of s))
   of_json_weight (json.string s) = omega arith
-  of_json_weight (json.array js) = mapped (list_weight false) data_weight (items_weight false js) _ values.array (λ x h. omega arith) _ (of_items_weight false js)
+  of_json_weight (json.array js) =
+      mapped (list_weight false) data_weight (items_weight false js) _ values.array (λ x h. omega arith) _ (of_items_weight false js)
   of_json_weight (json.object ms) =
-      mapped total data_weight (json_total ms) _ values.object (λ x h. let p = json_first ms in omega (arith, first_total x (members_weight false ms) (omega (arith, p.0)) p.1)) _
+      mapped total data_weight (json_total ms) _ values.object (λ x h. let p = json_first ms in
+      omega (arith, first_total x (members_weight false ms) (omega (arith, p.0)) p.1)) _
       (fewer total (0 + json_total ms) (json_total ms) _ (of_members_weight ms no_members 0 (omega arith)) (omega arith))
 
   of_items_weight : (later : Bool) (js : json.Items) → AtMost (list_weight later) (items_weight later js) (of_items js)
   of_items_weight later json.no_items = omega arith
   of_items_weight later (json.item j js) =
       and_then data_weight (list_weight later) (json_weight j) _ _
-      (λ d h. mapped (list_weight true) (list_weight later) (items_weight true js) _ (item d) (λ ds k. omega arith) _ (of_items_weight true js)) _ (of_json_weight j)
+      (λ d h. mapped (list_weight true) (list_weight later) (items_weight true js) _ (item d) (λ ds k. omega arith) _
+      (of_items_weight true js)) _ (of_json_weight j)
 
-  of_members_weight : (ms : json.Members) (found : Members) (n : ℕ) → total found ≤ n → AtMost total (n + json_total ms) (of_members ms found)
+  of_members_weight : (ms : json.Members) (found : Members) (n : ℕ) → total found ≤ n
+      → AtMost total (n + json_total ms) (of_members ms found)
   of_members_weight json.no_members found n h = omega arith
   of_members_weight (json.member k j ms) found n h =
       and_then data_weight total (json_weight j) _ _
-      (λ d x. fewer total (n + (length (escape k) + 4 + json_weight j) + json_total ms) _ _ (of_members_weight ms (put k d found) (n + (length (escape k) + 4 + json_weight j)) (omega (arith, put_total k d found))) (omega arith)) _ (of_json_weight j)
+      (λ d x. fewer total (n + (length (escape k) + 4 + json_weight j) + json_total ms) _ _
+      (of_members_weight ms (put k d found) (n + (length (escape k) + 4 + json_weight j)) (omega (arith, put_total k d found)))
+      (omega arith)) _ (of_json_weight j)
 
 -- ---- its text takes just that
 
@@ -311,7 +343,14 @@ mutual
   items_long : (later : Bool) (ds : Items) → ItemsAreWhole ds → length (items_text later ds) ≡ list_weight later ds
   items_long later no_items h = refl
   items_long later (item d ds) h =
-      omega (arith, length-append (comma_if later) (compact_text d ++ items_text true ds), length-append (compact_text d) (items_text true ds), comma_long later, text_long d h.0, items_long true ds h.1)
+      omega (
+        arith,
+        length-append (comma_if later) (compact_text d ++ items_text true ds),
+        length-append (compact_text d) (items_text true ds),
+        comma_long later,
+        text_long d h.0,
+        items_long true ds h.1,
+      )
 
   members_long : (later : Bool) (ms : Members) → MembersAreWhole ms → length (members_text later ms) ≡ object_weight later ms
   members_long later no_members h = refl
@@ -333,7 +372,9 @@ mutual
 some_weight : {A : Type 0} (f : A → ℕ) (n : ℕ) (o : Option A) (a : A) → o ≡ Some a → AtMost f n o → f a ≤ n
 some_weight f n o a e h = subst (AtMost f n) e h
 
-tree_of : (o : Option (json.Json × List Token)) (d : Data) → option_and_then of_json (option_and_then (λ p. json.if_last p.0 p.1) o) ≡ Some d → (j : json.Json) × (o ≡ Some (j, [])) × (of_json j ≡ Some d)
+tree_of : (o : Option (json.Json × List Token)) (d : Data)
+    → option_and_then of_json (option_and_then (λ p. json.if_last p.0 p.1) o) ≡ Some d → (j : json.Json) × (o ≡ Some (j, []))
+    × (of_json j ≡ Some d)
 tree_of None d e = absurd (cc)
 tree_of (Some (j, [])) d e = (j, refl, e)
 tree_of (Some (j, t ∷ r)) d e = absurd (cc)
@@ -342,4 +383,12 @@ pub no_longer : (text : List ℕ) (d : Data) → read text ≡ Some d → AreWho
 no_longer text d e h =
     let tree = tree_of (json.value max_depth (tokens text)) d e in
     let spelled : tokens text ≡ json_tokens tree.0 ++ [] = value-json_tokens_back max_depth (tokens text) [] tree.0 tree.1 in
-    omega (arith, text_long d h, some_weight data_weight (json_weight tree.0) (of_json tree.0) d tree.2 (of_json_weight tree.0), json_cost false tree.0 [], ap (cost false) spelled, fresh_cost (lex between text), between_fits text)
+    omega (
+      arith,
+      text_long d h,
+      some_weight data_weight (json_weight tree.0) (of_json tree.0) d tree.2 (of_json_weight tree.0),
+      json_cost false tree.0 [],
+      ap (cost false) spelled,
+      fresh_cost (lex between text),
+      between_fits text,
+    )

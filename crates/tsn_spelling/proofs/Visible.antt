@@ -102,7 +102,8 @@ escape_plain (x ∷ xs) h =
     let q = and_parts (is_visible x) _ p.0 in
     let r = and_parts (not (x == 34)) _ q.1 in
     let low : 32 ≤ x = leb-true _ _ (and_parts (nat_le 32 x) _ q.0).0 in
-    ap (λ l. l ++ escape xs) (escape_byte_plain x (eqb-false x 34 (not-true (x == 34) r.0)) (eqb-false x 92 (not-true (x == 92) r.1)) low) ∙ ap (λ l. x ∷ l) (escape_plain xs p.1)
+    ap (λ l. l ++ escape xs) (escape_byte_plain x (eqb-false x 34 (not-true (x == 34) r.0)) (eqb-false x 92 (not-true (x == 92) r.1)) low)
+    ∙ ap (λ l. x ∷ l) (escape_plain xs p.1)
 
 plain_visible : (s : List ℕ) → are_plain s ≡ true → are_visible s ≡ true
 plain_visible [] h = refl
@@ -133,13 +134,15 @@ mutual
   items_visible : (later : Bool) (ds : Items) → ItemsAreShown ds → are_visible (items_text later ds) ≡ true
   items_visible later no_items h = refl
   items_visible later (item d ds) h =
-      visible_both (comma_if later) _ (comma_visible later) (visible_both (compact_text d) _ (text_visible d h.0) (items_visible true ds h.1))
+      visible_both (comma_if later) _ (comma_visible later)
+      (visible_both (compact_text d) _ (text_visible d h.0) (items_visible true ds h.1))
 
   members_visible : (later : Bool) (ms : Members) → MembersAreShown ms → are_visible (members_text later ms) ≡ true
   members_visible later no_members h = refl
   members_visible later (member k d ms) h =
       visible_both (comma_if later) _ (comma_visible later)
-      (visible_both (quoted k) _ (quoted_visible k h.0) (visible_both (compact_text d) _ (text_visible d h.1) (members_visible true ms h.2)))
+      (visible_both (quoted k) _ (quoted_visible k h.0)
+      (visible_both (compact_text d) _ (text_visible d h.1) (members_visible true ms h.2)))
 
 -- ---- what that means
 
@@ -153,7 +156,8 @@ no_feed xs h k d l e = omega (arith, (byte_is xs h k d l).0, e)
 
 below_128 : (xs : List ℕ) → are_visible xs ≡ true → (i : ℕ) → get_or xs i 0 < 128
 below_128 [] h i = omega arith
-below_128 (x ∷ xs) h zero = let small : x < 127 = ltb-true x 127 (and_parts (nat_le 32 x) _ (and_parts (is_visible x) _ h).0).1 in omega arith
+below_128 (x ∷ xs) h zero =
+    let small : x < 127 = ltb-true x 127 (and_parts (nat_le 32 x) _ (and_parts (is_visible x) _ h).0).1 in omega arith
 below_128 (x ∷ xs) h (suc i) = below_128 xs (and_parts _ _ h).1 i
 
 pub visible_utf8 : (xs : List ℕ) → are_visible xs ≡ true → is_utf8 xs ≡ true

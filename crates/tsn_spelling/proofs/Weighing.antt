@@ -67,7 +67,9 @@ pub span : List ℕ → ℕ
 span [] = 0
 span (x ∷ xs) = span_of (class x) (span xs)
 
-operator_weight : (a b c d e : Bool) → lexeme_weight (cond a (token begin_object) (cond b (token end_object) (cond c (token begin_array) (cond d (token end_array) (cond e comma colon))))) ≤ 1
+operator_weight : (a b c d e : Bool)
+    → lexeme_weight (cond a (token begin_object)
+    (cond b (token end_object) (cond c (token begin_array) (cond d (token end_array) (cond e comma colon))))) ≤ 1
 operator_weight true b c d e = omega arith
 operator_weight false true c d e = omega arith
 operator_weight false false true d e = omega arith
@@ -110,7 +112,8 @@ digits_span (x ∷ xs) = digits_step (is_ascii_digit x) (class x) (prefix_len is
 digits_taken : (k : ℕ) (t : List ℕ) → prefix_len is_ascii_digit (take k t) ≤ prefix_len is_ascii_digit t
 digits_taken zero t = omega arith
 digits_taken (suc k) [] = omega arith
-digits_taken (suc k) (x ∷ xs) = taken_step (is_ascii_digit x) (prefix_len is_ascii_digit (take k xs)) (prefix_len is_ascii_digit xs) (digits_taken k xs)
+digits_taken (suc k) (x ∷ xs) =
+    taken_step (is_ascii_digit x) (prefix_len is_ascii_digit (take k xs)) (prefix_len is_ascii_digit xs) (digits_taken k xs)
   where
     taken_step : (b : Bool) (n m : ℕ) → n ≤ m → cond b (1 + n) 0 ≤ cond b (1 + m) 0
     taken_step true n m h = omega arith
@@ -154,12 +157,22 @@ high_escaped x h = escape_byte_plain x (λ e. omega (arith, h, e)) (λ e. omega 
 
 by_length : (a b c : Bool) (u : ℕ)
     → length (escape (cond a (u ∷ []) (cond b ((192 + u / 64) ∷ (128 + u % 64) ∷ [])
-    (cond c ((224 + u / 4096) ∷ (128 + u / 64 % 64) ∷ (128 + u % 64) ∷ []) ((240 + u / 262144) ∷ (128 + u / 4096 % 64) ∷ (128 + u / 64 % 64) ∷ (128 + u % 64) ∷ []))))) ≤ 6
+    (cond c ((224 + u / 4096) ∷ (128 + u / 64 % 64) ∷ (128 + u % 64) ∷ [])
+    ((240 + u / 262144) ∷ (128 + u / 4096 % 64) ∷ (128 + u / 64 % 64) ∷ (128 + u % 64) ∷ []))))) ≤ 6
 by_length true b c u = omega (arith, one_escaped u, byte_within u)
 by_length false true c u = rw (high_escaped (192 + u / 64) (omega arith), high_escaped (128 + u % 64) (omega arith)) (omega arith)
-by_length false false true u = rw (high_escaped (224 + u / 4096) (omega arith), high_escaped (128 + u / 64 % 64) (omega arith), high_escaped (128 + u % 64) (omega arith)) (omega arith)
+by_length false false true u = rw (
+  high_escaped (224 + u / 4096) (omega arith),
+  high_escaped (128 + u / 64 % 64) (omega arith),
+  high_escaped (128 + u % 64) (omega arith),
+) (omega arith)
 by_length false false false u =
-    rw (high_escaped (240 + u / 262144) (omega arith), high_escaped (128 + u / 4096 % 64) (omega arith), high_escaped (128 + u / 64 % 64) (omega arith), high_escaped (128 + u % 64) (omega arith)) (omega arith)
+    rw (
+      high_escaped (240 + u / 262144) (omega arith),
+      high_escaped (128 + u / 4096 % 64) (omega arith),
+      high_escaped (128 + u / 64 % 64) (omega arith),
+      high_escaped (128 + u % 64) (omega arith),
+    ) (omega arith)
 
 encoded : (u : ℕ) → length (escape (encode_utf8 u)) ≤ 6
 unfolding encode_utf8
@@ -170,22 +183,30 @@ shown_alone : (x : ℕ) → ((x == 34) || (x == 92) || (x == 47)) ≡ true → n
 shown_alone x h = grind (arith, nat_tests, h)
 
 by_letter : (a b f n r t : Bool) (x c : ℕ) → (a ≡ true → length (escape_byte x) ≤ 2)
-    → cond a (Some x) (cond b (Some 8) (cond f (Some 12) (cond n (Some 10) (cond r (Some 13) (cond t (Some 9) None))))) ≡ Some c → length (escape_byte c) ≤ 2
+    → cond a (Some x) (cond b (Some 8) (cond f (Some 12) (cond n (Some 10) (cond r (Some 13) (cond t (Some 9) None))))) ≡ Some c
+    → length (escape_byte c) ≤ 2
 unfolding escape_byte
 by_letter true b f n r t x c h is = let same : x ≡ c = (cc) in subst (λ y. length (escape_byte y) ≤ 2) same (h refl)
 by_letter false true f n r t x c h is = let same : 8 ≡ c = (cc) in subst (λ y. length (escape_byte y) ≤ 2) same (omega arith)
 by_letter false false true n r t x c h is = let same : 12 ≡ c = (cc) in subst (λ y. length (escape_byte y) ≤ 2) same (omega arith)
 by_letter false false false true r t x c h is = let same : 10 ≡ c = (cc) in subst (λ y. length (escape_byte y) ≤ 2) same (omega arith)
 by_letter false false false false true t x c h is = let same : 13 ≡ c = (cc) in subst (λ y. length (escape_byte y) ≤ 2) same (omega arith)
-by_letter false false false false false true x c h is = let same : 9 ≡ c = (cc) in subst (λ y. length (escape_byte y) ≤ 2) same (omega arith)
+by_letter false false false false false true x c h is =
+    let same : 9 ≡ c = (cc) in subst (λ y. length (escape_byte y) ≤ 2) same (omega arith)
 by_letter false false false false false false x c h is = absurd (cc)
 
 short_escaped : (x c : ℕ) → short_escape x ≡ Some c → length (escape (c ∷ [])) ≤ 2
 unfolding short_escape
 short_escaped x c is =
-    omega (arith, one_escaped c, by_letter ((x == 34) || (x == 92) || (x == 47)) (x == 98) (x == 102) (x == 110) (x == 114) (x == 116) x c (λ h. byte_short x (shown_alone x h)) is)
+    omega (
+      arith,
+      one_escaped c,
+      by_letter ((x == 34) || (x == 92) || (x == 47)) (x == 98) (x == 102) (x == 110) (x == 114) (x == 116) x c
+          (λ h. byte_short x (shown_alone x h)) is,
+    )
 
-in_any_class : (o s : Bool) (x : ℕ) (xs : List ℕ) (k : Mode → List Lexeme) → lex_byte in_string (cond o operator (cond s space other)) x xs k ≡ k in_string
+in_any_class : (o s : Bool) (x : ℕ) (xs : List ℕ) (k : Mode → List Lexeme)
+    → lex_byte in_string (cond o operator (cond s space other)) x xs k ≡ k in_string
 in_any_class true s x xs k = refl
 in_any_class false true x xs k = refl
 in_any_class false false x xs k = refl
@@ -237,7 +258,8 @@ is_digit_value x h =
     let high : x ≤ 57 = leb-true _ _ p.1 in
     grind arith
 
-front_step : (b : Bool) (x n : ℕ) (xs : List ℕ) → (b ≡ true → digit_value x < 10) → AllDigits 10 (take n xs) → AllDigits 10 (take (cond b (1 + n) 0) (x ∷ xs))
+front_step : (b : Bool) (x n : ℕ) (xs : List ℕ) → (b ≡ true → digit_value x < 10) → AllDigits 10 (take n xs)
+    → AllDigits 10 (take (cond b (1 + n) 0) (x ∷ xs))
 front_step true x n xs h k = let e : 1 + n ≡ suc n = omega arith in rw e (h refl, k)
 front_step false x n xs h k = tt
 
@@ -245,7 +267,8 @@ front_digits : (s : List ℕ) → AllDigits 10 (take (prefix_len is_ascii_digit 
 front_digits [] = tt
 front_digits (x ∷ xs) = front_step (is_ascii_digit x) x (prefix_len is_ascii_digit xs) xs (is_digit_value x) (front_digits xs)
 
-whole_digits : (ds : List ℕ) (k : ℕ) → AllDigits 10 ds → 0 < length ds → length ds ≤ k → digits_value 10 ds < 2 ^ 64 → length (decimal (digits_value 10 ds)) ≤ k
+whole_digits : (ds : List ℕ) (k : ℕ) → AllDigits 10 ds → 0 < length ds → length ds ≤ k → digits_value 10 ds < 2 ^ 64
+    → length (decimal (digits_value 10 ds)) ≤ k
 whole_digits ds k h some le fits =
     let low : digits_value 10 ds < 10 ^ length ds = digits_value-lt 10 ds h in
     let short : length (decimal (digits_value 10 ds)) ≤ length ds = length-decimal-le (length ds) (digits_value 10 ds) some low fits in
@@ -263,16 +286,20 @@ either_weight true x y n h k = h refl
 either_weight false x y n h k = k
 
 signed_weight : (p : Parts) (n : ℕ) → whole_weight (number_from true p) ≤ n
-signed_weight p n = either_weight (is_integer p && nat_lt 0 (numeral_digits p) && nat_le (numeral_digits p) (2 ^ 63)) (Some (negative (neg_ℤ (pos (numeral_digits p))))) (float_of true p) n (λ e. omega arith) (float_weight true p n)
+signed_weight p n = either_weight (is_integer p && nat_lt 0 (numeral_digits p) && nat_le (numeral_digits p) (2 ^ 63))
+    (Some (negative (neg_ℤ (pos (numeral_digits p))))) (float_of true p) n (λ e. omega arith) (float_weight true p n)
 
-unsigned_weight : (p : Parts) (n : ℕ) → (is_integer p ≡ true → numeral_digits p < 2 ^ 64 → length (decimal (numeral_digits p)) ≤ n) → whole_weight (number_from false p) ≤ n
-unsigned_weight p n h = either_weight (is_integer p && nat_lt (numeral_digits p) (2 ^ 64)) (Some (unsigned (numeral_digits p))) (float_of false p) n (λ e. let q = and_parts (is_integer p) _ e in h q.0 (ltb-true _ _ q.1)) (float_weight false p n)
+unsigned_weight : (p : Parts) (n : ℕ) → (is_integer p ≡ true → numeral_digits p < 2 ^ 64 → length (decimal (numeral_digits p)) ≤ n)
+    → whole_weight (number_from false p) ≤ n
+unsigned_weight p n h = either_weight (is_integer p && nat_lt (numeral_digits p) (2 ^ 64)) (Some (unsigned (numeral_digits p)))
+    (float_of false p) n (λ e. let q = and_parts (is_integer p) _ e in h q.0 (ltb-true _ _ q.1)) (float_weight false p n)
 
 is_false : (b : Bool) → not b ≡ true → b ≡ false
 is_false true e = absurd (false≢true e)
 is_false false e = refl
 
-no_fraction : (p : Parts) (k : ℕ) → (p.point ≡ false → p.fraction ≡ []) → AllDigits 10 p.whole → length p.whole ≤ k → is_integer p ≡ true → numeral_digits p < 2 ^ 64 → length (decimal (numeral_digits p)) ≤ k
+no_fraction : (p : Parts) (k : ℕ) → (p.point ≡ false → p.fraction ≡ []) → AllDigits 10 p.whole → length p.whole ≤ k → is_integer p ≡ true
+    → numeral_digits p < 2 ^ 64 → length (decimal (numeral_digits p)) ≤ k
 no_fraction p k none digits le h fits =
     let a = and_parts (nat_lt 0 (length p.whole) && not p.point) _ h in
     let b = and_parts (nat_lt 0 (length p.whole)) (not p.point) a.0 in
@@ -280,7 +307,8 @@ no_fraction p k none digits le h fits =
     let within : digits_value 10 p.whole < 2 ^ 64 = subst (λ l. digits_value 10 l < 2 ^ 64) same fits in
     subst (λ l. length (decimal (digits_value 10 l)) ≤ k) (sym same) (whole_digits p.whole k digits (ltb-true _ _ b.0) le within)
 
-scanned : (s : List ℕ) → is_integer (scan_numeral s) ≡ true → numeral_digits (scan_numeral s) < 2 ^ 64 → length (decimal (numeral_digits (scan_numeral s))) ≤ prefix_len is_ascii_digit s
+scanned : (s : List ℕ) → is_integer (scan_numeral s) ≡ true → numeral_digits (scan_numeral s) < 2 ^ 64
+    → length (decimal (numeral_digits (scan_numeral s))) ≤ prefix_len is_ascii_digit s
 unfolding scan_numeral
 scanned s =
     let n = prefix_len is_ascii_digit s in
@@ -290,8 +318,10 @@ scanned s =
 number_weight : (s : List ℕ) → whole_weight (number_of s) ≤ prefix_len is_ascii_digit s
 unfolding number_of
 number_weight s =
-    either_weight (get_or s 0 0 == 45) (number_from true (scan_numeral (drop 1 s))) (number_from false (scan_numeral s)) (prefix_len is_ascii_digit s)
-    (λ e. signed_weight (scan_numeral (drop 1 s)) (prefix_len is_ascii_digit s)) (unsigned_weight (scan_numeral s) (prefix_len is_ascii_digit s) (scanned s))
+    either_weight (get_or s 0 0 == 45) (number_from true (scan_numeral (drop 1 s))) (number_from false (scan_numeral s))
+    (prefix_len is_ascii_digit s)
+    (λ e. signed_weight (scan_numeral (drop 1 s)) (prefix_len is_ascii_digit s))
+    (unsigned_weight (scan_numeral s) (prefix_len is_ascii_digit s) (scanned s))
 
 word_other : (x c : ℕ) (h : (c == x) ≡ true) → class c ≡ other → class x ≡ other
 word_other x c h e = ap class (sym (eqb-true c x h)) ∙ e
@@ -310,7 +340,9 @@ name_span (c ∷ cs) (x ∷ xs) h e =
     rw (word_other x c p.0 h.0) (omega (arith, name_span cs xs h.1 p.1))
 
 literal_weight : (name t : List ℕ) (u : Token) → AreLetters name → token_weight u ≤ length name → token_weight (literal name u t) ≤ span t
-literal_weight name t u letters le = chosen _ (λ e. let p = and_parts (starts_with nat_eq t name) _ e in let long : length name ≤ span t = name_span name t letters p.0 in omega (arith, le))
+literal_weight name t u letters le =
+    chosen _ (λ e. let p = and_parts (starts_with nat_eq t name) _ e in let long : length name ≤ span t = name_span name t letters p.0 in
+    omega (arith, le))
   where
     chosen : (b : Bool) → (b ≡ true → token_weight u ≤ span t) → token_weight (cond b u bad) ≤ span t
     chosen true h = h refl
@@ -333,10 +365,13 @@ unfolding word
 word_weight t =
     let numeral = number_before t (after_number t) in
     let nothing = cond (head t == 110) (literal null_text null t) numeral in
-    one_word (head t == 116) (literal true_text (boolean true) t) (cond (head t == 102) (literal false_text (boolean false) t) nothing) (span t)
+    one_word (head t == 116) (literal true_text (boolean true) t) (cond (head t == 102) (literal false_text (boolean false) t) nothing)
+    (span t)
     (literal_weight true_text t (boolean true) (refl, (refl, (refl, (refl, tt)))) (omega arith))
-    (one_word (head t == 102) (literal false_text (boolean false) t) nothing (span t) (literal_weight false_text t (boolean false) (refl, (refl, (refl, (refl, (refl, tt))))) (omega arith))
-    (one_word (head t == 110) (literal null_text null t) numeral (span t) (literal_weight null_text t null (refl, (refl, (refl, (refl, tt)))) (omega arith)) (before_weight t (after_number t))))
+    (one_word (head t == 102) (literal false_text (boolean false) t) nothing (span t)
+    (literal_weight false_text t (boolean false) (refl, (refl, (refl, (refl, (refl, tt))))) (omega arith))
+    (one_word (head t == 110) (literal null_text null t) numeral (span t)
+    (literal_weight null_text t null (refl, (refl, (refl, (refl, tt)))) (omega arith)) (before_weight t (after_number t))))
 
 -- ---- lexemes
 
@@ -347,8 +382,10 @@ quoted_fits (Some s) w n h k = omega arith
 abbrev goes_on_from : List ℕ → Mode → List Lexeme
 goes_on_from xs m = lex m xs
 
-byte_between : (c : Class) (x : ℕ) (xs : List ℕ) → Fits (weight (lex in_string xs)) (length xs) (content plain xs) → weight (lex in_string xs) ≤ length xs → weight (lex in_word xs) + span xs ≤ length xs
-    → weight (lex between xs) ≤ length xs → token_weight (word (x ∷ xs)) ≤ span_of c (span xs) → weight (lex_byte between c x xs (λ next. lex next xs)) ≤ suc (length xs)
+byte_between : (c : Class) (x : ℕ) (xs : List ℕ) → Fits (weight (lex in_string xs)) (length xs) (content plain xs)
+    → weight (lex in_string xs) ≤ length xs → weight (lex in_word xs) + span xs ≤ length xs
+    → weight (lex between xs) ≤ length xs → token_weight (word (x ∷ xs)) ≤ span_of c (span xs)
+    → weight (lex_byte between c x xs (λ next. lex next xs)) ≤ suc (length xs)
 byte_between quote x xs text closed worded plainly named = quoted_fits (content plain xs) _ _ text closed
 byte_between backslash x xs text closed worded plainly named = omega arith
 byte_between operator x xs text closed worded plainly named = omega (arith, one_operator x)
@@ -363,7 +400,8 @@ byte_in_word operator x xs worded plainly = omega (arith, one_operator x)
 byte_in_word space x xs worded plainly = omega arith
 byte_in_word other x xs worded plainly = omega arith
 
-byte_in_string : (c : Class) (x : ℕ) (xs : List ℕ) → weight (lex in_string xs) ≤ length xs → weight (lex in_escape xs) ≤ length xs → weight (lex between xs) ≤ length xs
+byte_in_string : (c : Class) (x : ℕ) (xs : List ℕ) → weight (lex in_string xs) ≤ length xs → weight (lex in_escape xs) ≤ length xs
+    → weight (lex between xs) ≤ length xs
     → weight (lex_byte in_string c x xs (λ next. lex next xs)) ≤ suc (length xs)
 byte_in_string quote x xs closed escaped plainly = omega arith
 byte_in_string backslash x xs closed escaped plainly = omega arith
@@ -389,7 +427,8 @@ mutual
 
   pub between_fits : (xs : List ℕ) → weight (lex between xs) ≤ length xs
   between_fits [] = omega arith
-  between_fits (x ∷ xs) = byte_between (class x) x xs (content_fits plain xs (length xs) (omega arith)) (string_fits xs) (word_fits xs) (between_fits xs) (word_weight (x ∷ xs))
+  between_fits (x ∷ xs) = byte_between (class x) x xs (content_fits plain xs (length xs) (omega arith)) (string_fits xs) (word_fits xs)
+      (between_fits xs) (word_weight (x ∷ xs))
 
   word_fits : (xs : List ℕ) → weight (lex in_word xs) + span xs ≤ length xs
   word_fits [] = omega arith
@@ -407,13 +446,18 @@ mutual
   content_fits plain [] n e = tt
   content_fits plain (x ∷ xs) n e =
       both _ n (x == 34) _ _ (λ q. let k = string_ends x xs q in omega (arith, ap weight k, between_fits xs, e))
-      (λ q. both _ n (x == 92) _ _ (λ b. same_weight _ _ n _ (ap weight (escape_begins x xs b)) (content_fits after_backslash xs n (omega (arith, e))))
+      (λ q. both _ n (x == 92) _ _ (λ b.
+      same_weight _ _ n _ (ap weight (escape_begins x xs b)) (content_fits after_backslash xs n (omega (arith, e))))
       (λ b. both _ n (nat_lt x 32) _ _ (λ l. tt)
-      (λ l. same_weight _ _ n _ (ap weight (string_byte x xs q b)) (longer _ (length xs) n (x ∷ []) _ (content_fits plain xs (length xs) (omega arith)) (omega (arith, e, one_escaped x, itself_escaped x q b l))))))
+      (λ l. same_weight _ _ n _ (ap weight (string_byte x xs q b))
+      (longer _ (length xs) n (x ∷ []) _ (content_fits plain xs (length xs) (omega arith))
+      (omega (arith, e, one_escaped x, itself_escaped x q b l))))))
   content_fits after_backslash [] n e = tt
   content_fits after_backslash (x ∷ xs) n e =
       both _ n (x == 117) _ _ (λ u. content_fits after_u xs n (omega (arith, e)))
-      (λ u. then _ n _ (short_escape x) (λ c f. longer _ (length xs) n (c ∷ []) _ (content_fits plain xs (length xs) (omega arith)) (omega (arith, e, short_escaped x c f))))
+      (λ u. then _ n _ (short_escape x)
+      (λ c f. longer _ (length xs) n (c ∷ []) _ (content_fits plain xs (length xs) (omega arith))
+      (omega (arith, e, short_escaped x c f))))
   content_fits after_u [] n e = tt
   content_fits after_u (a ∷ []) n e = tt
   content_fits after_u (a ∷ b ∷ []) n e = tt
@@ -421,7 +465,8 @@ mutual
   content_fits after_u (a ∷ b ∷ c ∷ d ∷ xs) n e =
       then _ n _ (code_unit a b c d) (λ u f. same_weight _ _ n _ (ap weight (four_hex a b c d u xs f))
       (both _ n (is_high_surrogate u) _ _ (λ h. content_fits (after_high u) xs n (omega (arith, e)))
-      (λ h. both _ n (is_low_surrogate u) _ _ (λ l. tt) (λ l. longer _ (length xs) n (encode_utf8 u) _ (content_fits plain xs (length xs) (omega arith)) (omega (arith, e, encoded u))))))
+      (λ h. both _ n (is_low_surrogate u) _ _ (λ l. tt)
+      (λ l. longer _ (length xs) n (encode_utf8 u) _ (content_fits plain xs (length xs) (omega arith)) (omega (arith, e, encoded u))))))
   content_fits (after_high h) [] n e = tt
   content_fits (after_high h) (s ∷ []) n e = tt
   content_fits (after_high h) (s ∷ u ∷ []) n e = tt
@@ -430,6 +475,11 @@ mutual
   content_fits (after_high h) (s ∷ u ∷ a ∷ b ∷ c ∷ []) n e = tt
   content_fits (after_high h) (s ∷ u ∷ a ∷ b ∷ c ∷ d ∷ xs) n e =
       both _ n ((s == 92) && (u == 117)) _ _
-      (λ p. then _ n _ (code_unit a b c d) (λ l f. same_weight _ _ n _ (ap weight (escape_begins s (u ∷ a ∷ b ∷ c ∷ d ∷ xs) (and_parts (s == 92) _ p).0 ∙ escaped_byte u (a ∷ b ∷ c ∷ d ∷ xs) ∙ four_hex a b c d l xs f))
-      (both _ n (is_low_surrogate l) _ _ (λ y. longer _ (length xs) n (encode_utf8 (surrogate_pair h l)) _ (content_fits plain xs (length xs) (omega arith)) (omega (arith, e, encoded (surrogate_pair h l)))) (λ y. tt))))
+      (λ p. then _ n _ (code_unit a b c d)
+      (λ l f. same_weight _ _ n _ (ap weight
+      (escape_begins s (u ∷ a ∷ b ∷ c ∷ d ∷ xs) (and_parts (s == 92) _ p).0 ∙ escaped_byte u (a ∷ b ∷ c ∷ d ∷ xs)
+      ∙ four_hex a b c d l xs f))
+      (both _ n (is_low_surrogate l) _ _
+      (λ y. longer _ (length xs) n (encode_utf8 (surrogate_pair h l)) _ (content_fits plain xs (length xs) (omega arith))
+      (omega (arith, e, encoded (surrogate_pair h l)))) (λ y. tt))))
       (λ p. tt)

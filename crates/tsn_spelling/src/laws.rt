@@ -31,7 +31,8 @@ pub fn no_longer()
     ensures { IsNoLonger }
 {}
 
-/// A hello may be asked, of session 0, by a name or none, and an act that may be asked at one instant at each other one.
+/// A hello may be asked, of session 0, by a name or none, and an act that may be asked at one instant at each other
+/// one.
 pub fn others_may_be_asked()
     ensures hello { HelloMayBeAsked }
     ensures acts { ActsMayBeAsked }

@@ -44,8 +44,8 @@ fn put_line(ask: &Ask, line: &mut Vec<u8>, text: &mut ShortText) -> Result<(), A
     }
 }
 
-/// Puts the line of the ask, with no line feed, behind the text. Only want of memory refuses it, and the text then stays
-/// as it was.
+/// Puts the line of the ask, with no line feed, behind the text. Only want of memory refuses it, and the text then
+/// stays as it was.
 pub fn spell(ask: &Ask, text: &mut Vec<u8>) -> Result<(), AllocError>
     ensures ok { OnOk result (text.new.items ≡ text.old.items ++ line_text ask.now) }
     ensures err { OnErr result (text.new.items ≡ text.old.items) }

@@ -1,5 +1,5 @@
-//! Each line that is compact, with its members in ascending order, is the line of what it asks: one of each command, and
-//! lists and batches of the greatest length, whose line is handed on piece by piece.
+//! Each line that is compact, with its members in ascending order, is the line of what it asks: one of each command,
+//! and lists and batches of the greatest length, whose line is handed on piece by piece.
 use std::alloc::{AllocError, Global};
 use std::process::Abort;
 use std::test::Fail;

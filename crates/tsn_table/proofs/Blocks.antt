@@ -30,31 +30,46 @@ module _ (x : ℕ) where
   abbrev Below : List ℕ → ℕ → Type 0
   Below xs at = (k : ℕ) → k < at → get_or xs k 0 < x
 
-  first_at : (xs : List ℕ) (at : ℕ) → Below xs at → (at < length xs → x ≤ get_or xs at 0) → at ≤ length xs → first_from x xs ≡ slice_get xs at
+  first_at : (xs : List ℕ) (at : ℕ) → Below xs at → (at < length xs → x ≤ get_or xs at 0) → at ≤ length xs
+      → first_from x xs ≡ slice_get xs at
   first_at [] at b f le = refl
   first_at (y ∷ ys) zero b f le = rw (le-ltb y x (f (omega arith))) refl
-  first_at (y ∷ ys) (suc at) b f le = rw (lt-ltb y x (b 0 (omega arith))) (first_at ys at (λ k lt. b (suc k) (omega (arith, lt))) (λ lt. f (omega (arith, lt))) (omega (arith, le)))
+  first_at (y ∷ ys) (suc at) b f le =
+      rw (lt-ltb y x (b 0 (omega arith)))
+      (first_at ys at (λ k lt. b (suc k) (omega (arith, lt))) (λ lt. f (omega (arith, lt))) (omega (arith, le)))
 
   put_at : (xs : List ℕ) (at : ℕ) → Below xs at → (at < length xs → x < get_or xs at 0) → at ≤ length xs → put_number x xs ≡ insert xs at x
   put_at [] zero b f le = refl
   put_at [] (suc at) b f le = absurd (omega (arith, le))
   put_at (y ∷ ys) zero b f le = rw (lt-ltb x y (f (omega arith))) refl
-  put_at (y ∷ ys) (suc at) b f le = put_later x y ys (b 0 (omega arith)) ∙ ap (λ z. y ∷ z) (put_at ys at (λ k lt. b (suc k) (omega (arith, lt))) (λ lt. f (omega (arith, lt))) (omega (arith, le)))
+  put_at (y ∷ ys) (suc at) b f le =
+      put_later x y ys (b 0 (omega arith))
+      ∙ ap (λ z. y ∷ z) (put_at ys at (λ k lt. b (suc k) (omega (arith, lt))) (λ lt. f (omega (arith, lt))) (omega (arith, le)))
 
-  without_at : (xs : List ℕ) (at : ℕ) → Below xs at → IsRising xs → (at < length xs → x < get_or xs at 0) → at ≤ length xs → without_number x xs ≡ xs
+  without_at : (xs : List ℕ) (at : ℕ) → Below xs at → IsRising xs → (at < length xs → x < get_or xs at 0) → at ≤ length xs
+      → without_number x xs ≡ xs
   without_at [] at b s f le = refl
-  without_at (y ∷ ys) zero b s f le = let less : x < y = f (omega arith) in without_above x (y ∷ ys) (less, all_weaker (λ z. y < z) (λ z. x < z) (λ z r. omega arith) ys s.0)
-  without_at (y ∷ ys) (suc at) b s f le = without_later x y ys (b 0 (omega arith)) ∙ ap (λ z. y ∷ z) (without_at ys at (λ k lt. b (suc k) (omega (arith, lt))) s.1 (λ lt. f (omega (arith, lt))) (omega (arith, le)))
+  without_at (y ∷ ys) zero b s f le =
+      let less : x < y = f (omega arith) in
+      without_above x (y ∷ ys) (less, all_weaker (λ z. y < z) (λ z. x < z) (λ z r. omega arith) ys s.0)
+  without_at (y ∷ ys) (suc at) b s f le =
+      without_later x y ys (b 0 (omega arith))
+      ∙ ap (λ z. y ∷ z) (without_at ys at (λ k lt. b (suc k) (omega (arith, lt))) s.1 (λ lt. f (omega (arith, lt))) (omega (arith, le)))
 
   put_there : (xs : List ℕ) (at : ℕ) → Below xs at → IsRising xs → at < length xs → get_or xs at 0 ≡ x → put_number x xs ≡ xs
   put_there [] at b s lt e = absurd (omega arith)
   put_there (y ∷ ys) zero b s lt e = put_middle x y [] ys (sym e) s
-  put_there (y ∷ ys) (suc at) b s lt e = put_later x y ys (b 0 (omega arith)) ∙ ap (λ z. y ∷ z) (put_there ys at (λ k lt. b (suc k) (omega (arith, lt))) s.1 (omega (arith, lt)) e)
+  put_there (y ∷ ys) (suc at) b s lt e =
+      put_later x y ys (b 0 (omega arith))
+      ∙ ap (λ z. y ∷ z) (put_there ys at (λ k lt. b (suc k) (omega (arith, lt))) s.1 (omega (arith, lt)) e)
 
-  without_there : (xs : List ℕ) (at : ℕ) → Below xs at → IsRising xs → at < length xs → get_or xs at 0 ≡ x → without_number x xs ≡ remove xs at
+  without_there : (xs : List ℕ) (at : ℕ) → Below xs at → IsRising xs → at < length xs → get_or xs at 0 ≡ x
+      → without_number x xs ≡ remove xs at
   without_there [] at b s lt e = absurd (omega arith)
   without_there (y ∷ ys) zero b s lt e = without_middle x y [] ys (sym e) s
-  without_there (y ∷ ys) (suc at) b s lt e = without_later x y ys (b 0 (omega arith)) ∙ ap (λ z. y ∷ z) (without_there ys at (λ k lt. b (suc k) (omega (arith, lt))) s.1 (omega (arith, lt)) e)
+  without_there (y ∷ ys) (suc at) b s lt e =
+      without_later x y ys (b 0 (omega arith))
+      ∙ ap (λ z. y ∷ z) (without_there ys at (λ k lt. b (suc k) (omega (arith, lt))) s.1 (omega (arith, lt)) e)
 
   -- some as a search has it
   some_at : (xs : List ℕ) (at : ℕ) → at < length xs → get_or xs at 0 ≡ x → slice_get xs at ≡ Some x
@@ -68,7 +83,8 @@ module _ (x : ℕ) where
       grind (arith, nat_tests))
 
   -- a binary search ends at the number, or at the gap for it
-  pub searched : (xs : List ℕ) (r : Result ℕ ℕ) → IsRising xs → IsSearchInRange r (length xs) → IsBinarySearchResult (λ y. nat_cmp y x) xs r → Places x xs r
+  pub searched : (xs : List ℕ) (r : Result ℕ ℕ) → IsRising xs → IsSearchInRange r (length xs) → IsBinarySearchResult (λ y. nat_cmp y x) xs r
+      → Places x xs r
   searched xs (Ok at) s in_range equal =
       let same : get_or xs at 0 ≡ x = ranked _ x _ (sym (equal 0)) in
       let below : Below xs at = λ k lt. omega (arith, rises xs k at s lt in_range, same) in
@@ -87,7 +103,8 @@ module _ (x : ℕ) where
         first = first_at xs at below (λ lt. omega (arith, above lt)) in_range;
       }
 
-pub ends : (x y : ℕ) (ys : List ℕ) (at last : ℕ) → IsRising (y ∷ ys) → length ys ≤ suc at → slice_get ys at ≡ Some last → ltb last x ≡ is_none (first_from x (y ∷ ys))
+pub ends : (x y : ℕ) (ys : List ℕ) (at last : ℕ) → IsRising (y ∷ ys) → length ys ≤ suc at → slice_get ys at ≡ Some last
+    → ltb last x ≡ is_none (first_from x (y ∷ ys))
 ends x y [] at last s le e = absurd (cc)
 ends x y (z ∷ []) (suc at) last s le e = absurd (cc)
 ends x y (z ∷ []) zero last s le e = grind arith
@@ -95,7 +112,8 @@ ends x y (z ∷ w ∷ ws) zero last s le e = absurd (omega (arith, le))
 ends x y (z ∷ w ∷ ws) (suc at) last s le e = grind (arith, (ends x z (w ∷ ws) at last s.1 (omega (arith, le)) e))
 
 -- the least number of a block goes, and the next one comes in its place
-pub least_goes : (x least next : ℕ) (xs rest : List ℕ) → x ≡ least → IsRising (least ∷ xs) → 0 < length xs → next ≡ get_or xs 0 next → rest ≡ remove xs 0 → next ∷ rest ≡ without_number x (least ∷ xs)
+pub least_goes : (x least next : ℕ) (xs rest : List ℕ) → x ≡ least → IsRising (least ∷ xs) → 0 < length xs → next ≡ get_or xs 0 next
+    → rest ≡ remove xs 0 → next ∷ rest ≡ without_number x (least ∷ xs)
 least_goes x least next [] rest e s lt n r = absurd (omega arith)
 least_goes x least next (y ∷ ys) rest e s lt n r = ap (λ z. z ∷ rest) n ∙ ap (λ z. y ∷ z) r ∙ sym (without_middle x least [] (y ∷ ys) e s)
 
@@ -103,5 +121,6 @@ pub not_there : (x least : ℕ) (xs : List ℕ) → x ≤ least → x ≢ least 
 not_there x least xs le other s = grind (arith, without_above, all_weaker)
 
 -- a put into a block with a place leaves what it should
-pub put_fits : (x : ℕ) (old new : Block) (r : Put) → Puts x old new r → length old.more.items < most_more → numbers_in new ≡ put_number x (numbers_in old)
+pub put_fits : (x : ℕ) (old new : Block) (r : Put) → Puts x old new r → length old.more.items < most_more
+    → numbers_in new ≡ put_number x (numbers_in old)
 put_fits x old new r is few = grind arith

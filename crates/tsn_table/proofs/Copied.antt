@@ -16,10 +16,13 @@ flipped : (q k : ℕ) → nat_eq k q ≡ nat_eq q k
 flipped q k = grind (arith, nat_tests)
 
 module _ {X A : Type 0} (shows : A → ℕ × X) where
-  lookup_more : (q : ℕ) (xs : List A) (y : A) → is_some (lookup (nat_eq q) (map shows (xs ++ y ∷ []))) ≡ cond (nat_eq q (shows y).0) true (is_some (lookup (nat_eq q) (map shows xs)))
+  lookup_more : (q : ℕ) (xs : List A) (y : A)
+      → is_some (lookup (nat_eq q) (map shows (xs ++ y ∷ []))) ≡ cond (nat_eq q (shows y).0) true
+      (is_some (lookup (nat_eq q) (map shows xs)))
   lookup_more q [] y = by_bool (nat_eq q (shows y).0) (λ e. rw e refl) (λ e. rw e refl)
   lookup_more q (x ∷ xs) y = grind (arith, (lookup_more q xs y))
 
   pub copied_more : (xs : List A) (y : A) (q : ℕ) (v : X) (before found after : Option X) → before ≡ among (map shows xs) q found →
-      ((shows y).0 ≡ q → found ≡ Some v) → after ≡ cond (nat_eq (shows y).0 q) (Some v) before → after ≡ among (map shows (xs ++ y ∷ [])) q found
+      ((shows y).0 ≡ q → found ≡ Some v) → after ≡ cond (nat_eq (shows y).0 q) (Some v) before
+      → after ≡ among (map shows (xs ++ y ∷ [])) q found
   copied_more xs y q v before found after b is a = grind (arith, lookup_more, equal_is, flipped)

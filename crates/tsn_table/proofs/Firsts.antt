@@ -25,10 +25,12 @@ module _ {X : Type 0} (p : X → Bool) where
   find_below k x [] le h = refl
   find_below k x (e ∷ es) le h = grind (arith, (find_below k x es le ((and_parts (is_lt (nat_cmp x e.0)) _ h).1)))
 
-  pub missed : (b : Bool) (e : ℕ × X) (o : Option X) → p e.1 ≡ false → ((q : X) → o ≡ Some q → p q ≡ false) → (q : X) → cond b (Some e.1) o ≡ Some q → p q ≡ false
+  pub missed : (b : Bool) (e : ℕ × X) (o : Option X) → p e.1 ≡ false → ((q : X) → o ≡ Some q → p q ≡ false) → (q : X)
+      → cond b (Some e.1) o ≡ Some q → p q ≡ false
   missed b e o f rest q is = grind arith
 
-  later : (e : ℕ × X) (es : List (ℕ × X)) → p e.1 ≡ false → below_all nat_cmp e.0 es ≡ true → (o : Option ℕ) → LeastIn es o → LeastIn (e ∷ es) o
+  later : (e : ℕ × X) (es : List (ℕ × X)) → p e.1 ≡ false → below_all nat_cmp e.0 es ≡ true → (o : Option ℕ) → LeastIn es o
+      → LeastIn (e ∷ es) o
   later e es f b o all = grind (arith, missed, cases_lt, is_greater, lt-ltb, not_some, find_below)
 
   none_before : (e : ℕ × X) (es : List (ℕ × X)) → below_all nat_cmp e.0 es ≡ true → (k : ℕ) → k < e.0 → MissesIn k (e ∷ es)
@@ -49,14 +51,16 @@ module _ {X : Type 0} (p : X → Bool) where
   first_is es s o l = only es o (first_id p es) l (least_in es s)
 
 -- of two tests the first row that passes either is the lesser of the first ones
-first_above : {X : Type 0} (p : X → Bool) (x : ℕ) (es : List (ℕ × X)) → below_all nat_cmp x es ≡ true → lesser (Some x) (first_id p es) ≡ Some x
+first_above : {X : Type 0} (p : X → Bool) (x : ℕ) (es : List (ℕ × X)) → below_all nat_cmp x es ≡ true
+    → lesser (Some x) (first_id p es) ≡ Some x
 first_above p x [] h = refl
 first_above p x (e ∷ es) h = grind (arith, (first_above p x es ((and_parts (is_lt (nat_cmp x e.0)) _ h).1)))
 
 turned : (o r : Option ℕ) → lesser o r ≡ lesser r o
 turned o r = grind arith
 
-pub first_either : {X : Type 0} (p q : X → Bool) (es : List (ℕ × X)) → is_sorted nat_cmp es ≡ true → first_id (λ x. p x || q x) es ≡ lesser (first_id p es) (first_id q es)
+pub first_either : {X : Type 0} (p q : X → Bool) (es : List (ℕ × X)) → is_sorted nat_cmp es ≡ true
+    → first_id (λ x. p x || q x) es ≡ lesser (first_id p es) (first_id q es)
 first_either p q [] s = refl
 first_either p q (e ∷ es) s =
     grind (arith, and_parts, first_above, turned, (first_either p q es ((and_parts (below_all nat_cmp e.0 es) _ s).1)))

@@ -62,14 +62,19 @@ has : (q : ℕ) (ks : List ℕ) → is_some (find nat_cmp q (map row_of ks)) ≡
 has q ks = is_some-find nat_cmp q (map row_of ks) ∙ ap (list_any (eq_by_cmp nat_cmp q)) (numbers ks)
 
 -- two rising lists with the same numbers are equal
-same_numbers : (ks ns : List ℕ) → IsStrictlySortedBy nat_cmp ks → IsStrictlySortedBy nat_cmp ns → ((q : ℕ) → list_any (eq_by_cmp nat_cmp q) ks ≡ list_any (eq_by_cmp nat_cmp q) ns) → ks ≡ ns
+same_numbers : (ks ns : List ℕ) → IsStrictlySortedBy nat_cmp ks → IsStrictlySortedBy nat_cmp ns
+    → ((q : ℕ) → list_any (eq_by_cmp nat_cmp q) ks ≡ list_any (eq_by_cmp nat_cmp q) ns) → ks ≡ ns
 same_numbers ks ns s t same =
-    let rows = same_entries nat_cmp nat_cmp_total nat_cmp-IsAntisymmetric (map row_of ks) (map row_of ns) (rising ks s) (rising ns t) (λ q. no_more _ _ (has q ks ∙ same q ∙ sym (has q ns))) in
+    let rows = same_entries nat_cmp nat_cmp_total nat_cmp-IsAntisymmetric (map row_of ks) (map row_of ns) (rising ks s) (rising ns t)
+    (λ q. no_more _ _ (has q ks ∙ same q ∙ sym (has q ns))) in
     sym (numbers ks) ∙ ap (map (λ e. e.0)) rows ∙ numbers ns
 
-pub sorted_numbers : {X : Type 0} (es : List (ℕ × X)) (m : FinMap nat_cmp X) (ids : List ℕ) → from_entries es ≡ m → IsDistinct nat_eq (keys_of es) → IsPermutation (keys_of es) ids → IsSorted nat_cmp ids → ids ≡ keys m
+pub sorted_numbers : {X : Type 0} (es : List (ℕ × X)) (m : FinMap nat_cmp X) (ids : List ℕ) → from_entries es ≡ m
+    → IsDistinct nat_eq (keys_of es) → IsPermutation (keys_of es) ids → IsSorted nat_cmp ids → ids ≡ keys m
 sorted_numbers es m ids is d moved sorted =
     let distinct = IsDistinct-IsPermutation nat_eq turned (keys_of es) ids moved d in
-    let rise = sorted_from_strictly_increasing ids (IsStrictlyIncreasing-from_distinct ids (IsNonDecreasingBy-from_sort (λ x. x) ids sorted) distinct) in
+    let rise = sorted_from_strictly_increasing ids
+    (IsStrictlyIncreasing-from_distinct ids (IsNonDecreasingBy-from_sort (λ x. x) ids sorted) distinct) in
     same_numbers ids (keys m) rise (rises (entries m) (entries_sorted m)) (λ q.
-    sym (list_any-IsPermutation (eq_by_cmp nat_cmp q) (keys_of es) ids moved) ∙ sym (is_some-find nat_cmp q es) ∙ ap is_some (sym (lookup_is q es) ∙ found es m is q) ∙ contains_key-keys m q)
+    sym (list_any-IsPermutation (eq_by_cmp nat_cmp q) (keys_of es) ids moved) ∙ sym (is_some-find nat_cmp q es)
+    ∙ ap is_some (sym (lookup_is q es) ∙ found es m is q) ∙ contains_key-keys m q)

@@ -35,14 +35,16 @@ all_put : (P : ℕ → Type 0) (x : ℕ) (ys : List ℕ) → P x → AllNumbers 
 all_put P x [] p a = (p, tt)
 all_put P x (y ∷ ys) p a = grind (arith, (all_put P x ys p a.1))
 
-rising_put_by : (x y : ℕ) (ys : List ℕ) (a b : Bool) → ltb x y ≡ a → ltb y x ≡ b → IsRising (y ∷ ys) → IsRising (put_number x ys) → IsRising (cond a (x ∷ y ∷ ys) (y ∷ cond b (put_number x ys) ys))
+rising_put_by : (x y : ℕ) (ys : List ℕ) (a b : Bool) → ltb x y ≡ a → ltb y x ≡ b → IsRising (y ∷ ys) → IsRising (put_number x ys)
+    → IsRising (cond a (x ∷ y ∷ ys) (y ∷ cond b (put_number x ys) ys))
 rising_put_by x y ys a b p q s u = grind (arith, ltb-true, all_weaker, all_put)
 
 pub rising_put : (x : ℕ) (ys : List ℕ) → IsRising ys → IsRising (put_number x ys)
 rising_put x [] s = (tt, tt)
 rising_put x (y ∷ ys) s = rising_put_by x y ys (ltb x y) (ltb y x) refl refl s (rising_put x ys s.1)
 
-pub put_by : (a b : Bool) (x y : ℕ) (ys us m vs : List ℕ) → vs ≡ us ++ m → cond a (x ∷ y ∷ (ys ++ m)) (y ∷ cond b vs (ys ++ m)) ≡ cond a (x ∷ y ∷ ys) (y ∷ cond b us ys) ++ m
+pub put_by : (a b : Bool) (x y : ℕ) (ys us m vs : List ℕ) → vs ≡ us ++ m
+    → cond a (x ∷ y ∷ (ys ++ m)) (y ∷ cond b vs (ys ++ m)) ≡ cond a (x ∷ y ∷ ys) (y ∷ cond b us ys) ++ m
 put_by a b x y ys us m vs e = grind arith
 
 pub put_left : (x k : ℕ) (l r : List ℕ) → x < k → put_number x (l ++ k ∷ r) ≡ put_number x l ++ k ∷ r
@@ -108,10 +110,12 @@ first_right x k (y ∷ ys) r p s =
     rw (lt-ltb y x (omega arith)) (first_right x k ys r p s.1)
 
 -- a search that goes on in one side finds what it would find in the whole
-pub finds_right : (x k : ℕ) (all l r : List ℕ) (above found : Option ℕ) → all ≡ l ++ k ∷ r → k < x → IsRising all → option_or (first_from x all) above ≡ found → option_or (first_from x r) above ≡ found
+pub finds_right : (x k : ℕ) (all l r : List ℕ) (above found : Option ℕ) → all ≡ l ++ k ∷ r → k < x → IsRising all
+    → option_or (first_from x all) above ≡ found → option_or (first_from x r) above ≡ found
 finds_right x k all l r above found is p s same = grind (arith, first_right)
 
-pub finds_left : (x k : ℕ) (all l r : List ℕ) (above found : Option ℕ) → all ≡ l ++ k ∷ r → x ≤ k → option_or (first_from x all) above ≡ found → option_or (first_from x l) (Some k) ≡ found
+pub finds_left : (x k : ℕ) (all l r : List ℕ) (above found : Option ℕ) → all ≡ l ++ k ∷ r → x ≤ k
+    → option_or (first_from x all) above ≡ found → option_or (first_from x l) (Some k) ≡ found
 finds_left x k all l r above found is p same = grind (arith, or_taken, first_left)
 
 -- what stands before k, where other numbers stand before all
@@ -183,18 +187,20 @@ first_there from [] = tt
 first_there from (y ∷ ys) = grind (arith, (first_there from ys))
 
 -- and no lesser one is
-first_least : (from id : ℕ) (xs : List ℕ) → IsRising xs → from ≤ id → IsSome (there id xs) → MatchOption (first_from from xs) ⊥ (λ least. least ≤ id)
+first_least : (from id : ℕ) (xs : List ℕ) → IsRising xs → from ≤ id → IsSome (there id xs)
+    → MatchOption (first_from from xs) ⊥ (λ least. least ≤ id)
 first_least from id [] s by h = absurd (cc)
-first_least from id (y ∷ ys) s by h = elim (ltb y from) as (λ b. ltb y from ≡ b → MatchOption (cond b (first_from from ys) (Some y)) ⊥ (λ least. least ≤ id)) [
-  | true ↦ λ e. elim (some_there id y ys h) [
-    | inl same ↦ let less : y < from = ltb-true y from e in absurd (omega arith)
-    | inr i ↦ first_least from id ys s.1 by i
-  ]
-  | false ↦ λ e. elim (some_there id y ys h) [
-    | inl same ↦ omega arith
-    | inr i ↦ let less : y < id = there_above y id ys s.0 i in omega arith
-  ]
-] refl
+first_least from id (y ∷ ys) s by h =
+    elim (ltb y from) as (λ b. ltb y from ≡ b → MatchOption (cond b (first_from from ys) (Some y)) ⊥ (λ least. least ≤ id)) [
+      | true ↦ λ e. elim (some_there id y ys h) [
+        | inl same ↦ let less : y < from = ltb-true y from e in absurd (omega arith)
+        | inr i ↦ first_least from id ys s.1 by i
+      ]
+      | false ↦ λ e. elim (some_there id y ys h) [
+        | inl same ↦ omega arith
+        | inr i ↦ let less : y < id = there_above y id ys s.0 i in omega arith
+      ]
+    ] refl
   where
     there_above : (y id : ℕ) (ys : List ℕ) → AllNumbers (λ z. y < z) ys → IsSome (there id ys) → y < id
     there_above y id [] a i = absurd (cc)
@@ -204,15 +210,19 @@ first_least from id (y ∷ ys) s by h = elim (ltb y from) as (λ b. ltb y from �
     ]
 
 -- the same of a map and of an answer that are known by equations
-pub there_in : (from : ℕ) (xs : List ℕ) (m : FinMap nat_cmp (Unit {0})) (o : Option ℕ) → map_of xs ≡ m → o ≡ option_or (first_from from xs) None
+pub there_in : (from : ℕ) (xs : List ℕ) (m : FinMap nat_cmp (Unit {0})) (o : Option ℕ) → map_of xs ≡ m
+    → o ≡ option_or (first_from from xs) None
     → IfSome o (λ id. (from ≤ id) × IsSome (get m id))
-there_in from xs m o is answer = subst (λ p. IfSome p (λ id. (from ≤ id) × IsSome (get m id))) (sym (answer ∙ or_none (first_from from xs))) (by (first_from from xs) (first_there from xs))
+there_in from xs m o is answer =
+    subst (λ p. IfSome p (λ id. (from ≤ id) × IsSome (get m id))) (sym (answer ∙ or_none (first_from from xs)))
+    (by (first_from from xs) (first_there from xs))
   where
     by : (p : Option ℕ) → IfSome p (λ id. (from ≤ id) × IsSome (there id xs)) → IfSome p (λ id. (from ≤ id) × IsSome (get m id))
     by None h = tt
     by (Some id) h = (h.0, subst IsSome (sym (get_map xs id) ∙ ap (λ (n : FinMap nat_cmp (Unit {0})). get n id) is) h.1)
 
-pub least_in : (from id : ℕ) (xs : List ℕ) (m : FinMap nat_cmp (Unit {0})) (o : Option ℕ) → map_of xs ≡ m → o ≡ option_or (first_from from xs) None
+pub least_in : (from id : ℕ) (xs : List ℕ) (m : FinMap nat_cmp (Unit {0})) (o : Option ℕ) → map_of xs ≡ m
+    → o ≡ option_or (first_from from xs) None
     → IsRising xs → from ≤ id → IsSome (get m id) → MatchOption o ⊥ (λ least. least ≤ id)
 least_in from id xs m o is answer s by h = grind (arith, or_none, first_least, get_map)
 
@@ -220,7 +230,8 @@ least_in from id xs m o is answer s by h = grind (arith, or_none, first_least, g
 pub put_is : (x : ℕ) (xs ys : List ℕ) (m : FinMap nat_cmp (Unit {0})) → map_of xs ≡ m → ys ≡ put_number x xs → map_of ys ≡ insert m x tt
 put_is x xs ys m before is = ap map_of is ∙ map_put x xs ∙ ap (λ (n : FinMap nat_cmp (Unit {0})). insert n x tt) before
 
-pub without_is : (x : ℕ) (xs ys : List ℕ) (m : FinMap nat_cmp (Unit {0})) → map_of xs ≡ m → ys ≡ without_number x xs → map_of ys ≡ remove m x
+pub without_is : (x : ℕ) (xs ys : List ℕ) (m : FinMap nat_cmp (Unit {0})) → map_of xs ≡ m → ys ≡ without_number x xs
+    → map_of ys ≡ remove m x
 without_is x xs ys m before is = ap map_of is ∙ map_without x xs ∙ ap (λ (n : FinMap nat_cmp (Unit {0})). remove n x) before
 
 pub rising_put_is : (x : ℕ) (xs ys : List ℕ) → ys ≡ put_number x xs → IsRising xs → IsRising ys
@@ -236,13 +247,15 @@ without_few x (y ∷ ys) = grind (arith, (without_few x ys))
 
 without_there : (x : ℕ) (xs : List ℕ) → IsSome (there x xs) → length (without_number x xs) < length xs
 without_there x [] h = absurd (cc)
-without_there x (y ∷ ys) h = elim (eqb x y) as (λ b. eqb x y ≡ b → length (cond b (without_number x ys) (y ∷ without_number x ys)) < length (y ∷ ys)) [
-  | true ↦ λ e. omega (arith, without_few x ys)
-  | false ↦ λ e. elim (some_there x y ys h) [
-    | inl same ↦ let is : eqb x y ≡ true = eq-eqb x y same in absurd (cc)
-    | inr i ↦ omega (arith, without_there x ys i)
-  ]
-] refl
+without_there x (y ∷ ys) h =
+    elim (eqb x y) as (λ b. eqb x y ≡ b → length (cond b (without_number x ys) (y ∷ without_number x ys)) < length (y ∷ ys)) [
+      | true ↦ λ e. omega (arith, without_few x ys)
+      | false ↦ λ e. elim (some_there x y ys h) [
+        | inl same ↦ let is : eqb x y ≡ true = eq-eqb x y same in absurd (cc)
+        | inr i ↦ omega (arith, without_there x ys i)
+      ]
+    ] refl
 
-pub was_not_there : (x : ℕ) (xs ys : List ℕ) (m : FinMap nat_cmp (Unit {0})) → map_of xs ≡ m → ys ≡ without_number x xs → length xs ≡ length ys → IsSome (get m x) → ⊥
+pub was_not_there : (x : ℕ) (xs ys : List ℕ) (m : FinMap nat_cmp (Unit {0})) → map_of xs ≡ m → ys ≡ without_number x xs
+    → length xs ≡ length ys → IsSome (get m x) → ⊥
 was_not_there x xs ys m is left same h = grind (arith, get_map, without_there)

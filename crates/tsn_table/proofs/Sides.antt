@@ -57,7 +57,8 @@ put_before x [] (y ∷ r) a = rw (lt-ltb x y a.0) refl
 put_before x (y ∷ b) r a = put_by (ltb x y) (ltb y x) x y b (put_number x b) r _ (put_before x b r a)
 
 -- a put among numbers of which a part begins with u
-put_upper : (x : ℕ) (l : List ℕ) (u : ℕ) (m : List ℕ) → u ≤ x → IsRising (l ++ u ∷ m) → put_number x (l ++ u ∷ m) ≡ l ++ put_number x (u ∷ m)
+put_upper : (x : ℕ) (l : List ℕ) (u : ℕ) (m : List ℕ) → u ≤ x → IsRising (l ++ u ∷ m)
+    → put_number x (l ++ u ∷ m) ≡ l ++ put_number x (u ∷ m)
 put_upper x l u m le s = put_after x l (u ∷ m) (left_below x l u m le s)
 
 -- the same of a number that is taken out
@@ -76,12 +77,15 @@ belongs_left x l k m r less s = grind (arith, put_left, without_left, rising_fro
 pub belongs_here : (x : ℕ) (l b r : List ℕ) → AllBelow x l → AllAbove x r → IsRising (l ++ (b ++ r)) → BelongsHere x l b r
 belongs_here x l b r below above s = grind (arith, put_after, put_before, without_after, without_before, rising_block)
 
-pub belongs_right : (x : ℕ) (l : List ℕ) (k : ℕ) (m r : List ℕ) → k ≤ x → is_none (first_from x (k ∷ m)) ≡ true → IsRising (l ++ ((k ∷ m) ++ r)) → BelongsRight x l (k ∷ m) r
+pub belongs_right : (x : ℕ) (l : List ℕ) (k : ℕ) (m r : List ℕ) → k ≤ x → is_none (first_from x (k ∷ m)) ≡ true
+    → IsRising (l ++ ((k ∷ m) ++ r)) → BelongsRight x l (k ∷ m) r
 belongs_right x l k m r le n s = grind (arith, left_below, block_below, put_after, without_after, rising_back, length-append)
 
 -- the same of a part that is known by an equation, and of what a put leaves there
-pub in_lower : (x : ℕ) (all l : List ℕ) (u : ℕ) (m new : List ℕ) → all ≡ l ++ u ∷ m → x < u → new ≡ put_number x l → new ++ u ∷ m ≡ put_number x all
+pub in_lower : (x : ℕ) (all l : List ℕ) (u : ℕ) (m new : List ℕ) → all ≡ l ++ u ∷ m → x < u → new ≡ put_number x l
+    → new ++ u ∷ m ≡ put_number x all
 in_lower x all l u m new is less n = ap (λ z. z ++ u ∷ m) n ∙ sym (put_left x u l m less) ∙ ap (put_number x) (sym is)
 
-pub in_upper : (x : ℕ) (all l : List ℕ) (u : ℕ) (m new : List ℕ) → all ≡ l ++ u ∷ m → u ≤ x → IsRising all → new ≡ put_number x (u ∷ m) → l ++ new ≡ put_number x all
+pub in_upper : (x : ℕ) (all l : List ℕ) (u : ℕ) (m new : List ℕ) → all ≡ l ++ u ∷ m → u ≤ x → IsRising all → new ≡ put_number x (u ∷ m)
+    → l ++ new ≡ put_number x all
 in_upper x all l u m new is le s n = ap (λ z. l ++ z) n ∙ sym (put_upper x l u m le (subst IsRising is s)) ∙ ap (put_number x) (sym is)

@@ -15,18 +15,23 @@ not_nothing : (l : List ℕ) (k : ℕ) (m : List ℕ) → l ++ k ∷ m ≡ [] �
 not_nothing [] k m is = absurd (cc)
 not_nothing (x ∷ l) k m is = absurd (cc)
 
-pub empty_nodes : (tree : Tree) (first : Option ℕ) → first ≡ option_or (first_from 0 (numbers_of tree)) None → IfNone first (nodes_of tree ≡ 0)
+pub empty_nodes : (tree : Tree) (first : Option ℕ) → first ≡ option_or (first_from 0 (numbers_of tree)) None
+    → IfNone first (nodes_of tree ≡ 0)
 empty_nodes Empty None is = refl
 empty_nodes Empty (Some n) is = tt
-empty_nodes (Fork' place block left_height right_height left right) None is = absurd (not_nothing (numbers_of left) block.least _ (no_next _ (sym is)))
+empty_nodes (Fork' place block left_height right_height left right) None is =
+    absurd (not_nothing (numbers_of left) block.least _ (no_next _ (sym is)))
 empty_nodes (Fork' place block left_height right_height left right) (Some n) is = tt
 
-pub empty_height : (tree : Tree) (first : Option ℕ) → first ≡ option_or (first_from 0 (numbers_of tree)) None → IfNone first (height_of tree ≡ 0)
+pub empty_height : (tree : Tree) (first : Option ℕ) → first ≡ option_or (first_from 0 (numbers_of tree)) None
+    → IfNone first (height_of tree ≡ 0)
 empty_height Empty None is = refl
 empty_height Empty (Some n) is = tt
-empty_height (Fork' place block left_height right_height left right) None is = absurd (not_nothing (numbers_of left) block.least _ (no_next _ (sym is)))
+empty_height (Fork' place block left_height right_height left right) None is =
+    absurd (not_nothing (numbers_of left) block.least _ (no_next _ (sym is)))
 empty_height (Fork' place block left_height right_height left right) (Some n) is = tt
 
 -- where none is behind the only number of a block, there is one more with it than before it
-pub one_more : (l b r : List ℕ) (x : ℕ) (first : Option ℕ) → b ≡ x ∷ [] → first ≡ option_or (first_from 0 r) None → IfNone first (length (l ++ (b ++ r)) ≡ length l + 1)
+pub one_more : (l b r : List ℕ) (x : ℕ) (first : Option ℕ) → b ≡ x ∷ [] → first ≡ option_or (first_from 0 r) None
+    → IfNone first (length (l ++ (b ++ r)) ≡ length l + 1)
 one_more l b r x first only is = grind (arith, length-append, no_next)

@@ -37,5 +37,7 @@ Places x xs r = MatchResult r (IsPlaceOf x xs) (IsGapFor x xs)
 -- what a put of x makes of a block: as many numbers where x is there, one more where it comes in, and none where it is full without x
 abbrev pub Puts : ℕ → Block → Block → Put → Type 0
 Puts x old new There = (numbers_in new ≡ put_number x (numbers_in old)) × (length (numbers_in new) ≡ length (numbers_in old))
-Puts x old new Came = (numbers_in new ≡ put_number x (numbers_in old)) × (length (numbers_in new) ≡ length (numbers_in old) + 1) × (length old.more.items < most_more)
-Puts x old new Full = (new ≡ old) × (length (put_number x (numbers_in old)) ≡ length (numbers_in old) + 1) × (length old.more.items ≡ most_more)
+Puts x old new Came = (numbers_in new ≡ put_number x (numbers_in old)) × (length (numbers_in new) ≡ length (numbers_in old) + 1)
+    × (length old.more.items < most_more)
+Puts x old new Full =
+    (new ≡ old) × (length (put_number x (numbers_in old)) ≡ length (numbers_in old) + 1) × (length old.more.items ≡ most_more)

@@ -17,18 +17,21 @@ height_below node = max (height_of node.left) (height_of node.right) + 1
 abbrev pub IsLevel : Tree → Type 0
 IsLevel Empty = Unit {0}
 IsLevel (Fork' place block left_height right_height left right) =
-    (left_height ≡ height_of left) × (right_height ≡ height_of right) × (left_height ≤ right_height + 1) × (right_height ≤ left_height + 1) × IsLevel left × IsLevel right
+    (left_height ≡ height_of left) × (right_height ≡ height_of right) × (left_height ≤ right_height + 1) × (right_height ≤ left_height + 1)
+    × IsLevel left × IsLevel right
 
 -- the sides of a node are level, it tells their heights, and these differ by so much at most
 abbrev pub Differs : ℕ → Node → Type 0
 Differs most node =
-    (node.left_height ≡ height_of node.left) × (node.right_height ≡ height_of node.right) × (node.left_height ≤ node.right_height + most) × (node.right_height ≤ node.left_height + most) × IsLevel node.left × IsLevel node.right
+    (node.left_height ≡ height_of node.left) × (node.right_height ≡ height_of node.right) × (node.left_height ≤ node.right_height + most)
+    × (node.right_height ≤ node.left_height + most) × IsLevel node.left × IsLevel node.right
 
 -- the same of the root, if there is one
 abbrev pub MayDiffer : ℕ → Tree → Type 0
 MayDiffer most Empty = Unit {0}
 MayDiffer most (Fork' place block left_height right_height left right) =
-    (left_height ≡ height_of left) × (right_height ≡ height_of right) × (left_height ≤ right_height + most) × (right_height ≤ left_height + most) × IsLevel left × IsLevel right
+    (left_height ≡ height_of left) × (right_height ≡ height_of right) × (left_height ≤ right_height + most)
+    × (right_height ≤ left_height + most) × IsLevel left × IsLevel right
 
 -- the root's sides are as high as each other
 abbrev pub IsEven : Tree → Type 0
@@ -42,7 +45,9 @@ Rises old new _ = Differs 1 new × (height_below new ≡ height_below old)
 
 -- and one from which a removal came back: one side is lower, and was not as high as the other, or all is as high as it was
 abbrev pub Falls : Node → Node → Bool → Type 0
-Falls old new true = Differs 2 new × (((height_of new.left ≡ height_of new.right) × (height_below new + 1 ≡ height_below old)) ⊎ ((height_of new.left ≢ height_of new.right) × (height_below new ≡ height_below old)))
+Falls old new true = Differs 2 new
+    × (((height_of new.left ≡ height_of new.right) × (height_below new + 1 ≡ height_below old))
+    ⊎ ((height_of new.left ≢ height_of new.right) × (height_below new ≡ height_below old)))
 Falls old new _ = Differs 1 new × (height_below new ≡ height_below old)
 
 -- one of the root's sides is higher than the other by two

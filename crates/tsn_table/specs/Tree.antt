@@ -32,7 +32,8 @@ IsRow (Fork' place block left_height right_height left right) = (left ≡ Empty)
 abbrev pub IsPacked : Tree → Type 0
 IsPacked Empty = Unit {0}
 IsPacked (Fork' place block left_height right_height left right) =
-    64 * (nodes_of left + nodes_of right + 1) + length (numbers_in block) ≤ 2 * length (numbers_of left ++ (numbers_in block ++ numbers_of right)) + 64
+    64 * (nodes_of left + nodes_of right + 1) + length (numbers_in block)
+    ≤ 2 * length (numbers_of left ++ (numbers_in block ++ numbers_of right)) + 64
 
 -- how many numbers a set has for each of its nodes but one, if it has all that it has room for
 abbrev pub share : ℕ

@@ -1,7 +1,7 @@
 //! Guesses at which place among a table's rows that of a number lies.
 //!
-//! Nothing is promised of a guess. Whoever uses one looks whose row lies there, and hashes the number where it is another's, so
-//! that a wrong guess costs time and nothing else.
+//! Nothing is promised of a guess. Whoever uses one looks whose row lies there, and hashes the number where it is
+//! another's, so that a wrong guess costs time and nothing else.
 use indexmap::IndexMap;
 use std::alloc::Global;
 
@@ -62,8 +62,8 @@ impl Hints {
         self.places.len() < self.wanted
     }
 
-    /// Makes as many as are wanted, unless the rows are too few for them, or memory is wanting. There are twice as many as
-    /// before at least, so all rows are noted anew seldom.
+    /// Makes as many as are wanted, unless the rows are too few for them, or memory is wanting. There are twice as many
+    /// as before at least, so all rows are noted anew seldom.
     #[inline(never)]
     pub(crate) fn make<R>(&mut self, rows: &IndexMap<u64, R>) {
         if self.wanted > OF_FEW && self.wanted / FOR_EACH_ROW > rows.len() {

@@ -1,9 +1,9 @@
 //! Tables of numbered rows, and sets of numbers in their order.
 //!
-//! A `Table` is a hash map that its users see as a finite map from numbers to rows, and beside it the number of rows that it
-//! surely has room for. A look-up, a new row and a removal cost the same wherever they fall: no row but the last one moves. Where
-//! a small number's row may lie is guessed first; the guess is tested, and the number hashed where it fails. A `Numbers` is a
-//! search tree that its users see as a set.
+//! A `Table` is a hash map that its users see as a finite map from numbers to rows, and beside it the number of rows
+//! that it surely has room for. A look-up, a new row and a removal cost the same wherever they fall: no row but the
+//! last one moves. Where a small number's row may lie is guessed first; the guess is tested, and the number hashed
+//! where it fails. A `Numbers` is a search tree that its users see as a set.
 #![tactic(auto)]
 
 ghost use Rattle.std.specs.Prelude.{◌≡◌, ℕ, Bool, ◌+◌, ◌<◌, ◌≤◌, ◌⊎◌, IsOk, IsSome, IsTrue, IfOk, OnOk, OnErr, Some, None, MatchOption, cond, length, nat_eq};
@@ -30,8 +30,8 @@ mod tree;
 
 pub use numbers::Numbers;
 
-/// A finite map from numbers to rows. `map` is the map, and `spare` a number of rows of new numbers that can come in with no
-/// more memory.
+/// A finite map from numbers to rows. `map` is the map, and `spare` a number of rows of new numbers that can come in
+/// with no more memory.
 #[derive(Debug)]
 pub struct Table<R> {
     alloc: Global,

@@ -1,12 +1,12 @@
 //! Sets of numbers, kept in their order.
 //!
-//! A `Numbers` is a search tree of blocks of numbers that its users see as a finite map from its numbers to nothing, and
-//! beside it the number of new numbers that it still has room for. To put a number in or to take one out costs the
+//! A `Numbers` is a search tree of blocks of numbers that its users see as a finite map from its numbers to nothing,
+//! and beside it the number of new numbers that it still has room for. To put a number in or to take one out costs the
 //! logarithm of how many there are.
 //!
-//! A set has at least a node for each 24 of the numbers that it has and has room for, and one more, whatever the order in which they
-//! come and go: room that a number leaves serves any other one. Where no node waits, blocks that stand side by side are packed
-//! together, which gives back a quarter of the nodes.
+//! A set has at least a node for each 24 of the numbers that it has and has room for, and one more, whatever the order
+//! in which they come and go: room that a number leaves serves any other one. Where no node waits, blocks that stand
+//! side by side are packed together, which gives back a quarter of the nodes.
 ghost use Rattle.std.specs.Prelude.{◌≡◌, ℕ, ◌+◌, ◌*◌, ◌^◌, ◌<◌, ◌≤◌, ◌⊎◌, IsOk, IsSome, IfOk, IfSome, OnOk, OnErr, MatchOption};
 ghost use Rattle.std.specs.FinMap as map;
 ghost use Rattle.std.specs.Vec.{vec_capacity, vec_len};
@@ -120,8 +120,8 @@ impl Numbers {
         first_in(&self.tree, from, None)
     }
 
-    /// Makes room for at least `count` new numbers. It is refused only for want of memory, and never where there is that
-    /// room already; refused, it leaves the set as it was.
+    /// Makes room for at least `count` new numbers. It is refused only for want of memory, and never where there is
+    /// that room already; refused, it leaves the set as it was.
     pub fn reserve(&mut self, count: usize) -> Result<(), AllocError>
         ensures map { self.new.map ≡ self.old.map }
         ensures ok { OnOk result (count ≤ self.new.spare) }
@@ -181,8 +181,8 @@ impl Numbers {
         }
     }
 
-    // Lets a node go where the others are enough for the room that is kept. Where no node waits, and half of them would be enough,
-    // the tree is packed, so that later ones can go.
+    // Lets a node go where the others are enough for the room that is kept. Where no node waits, and half of them would
+    // be enough, the tree is packed, so that later ones can go.
     fn let_go(&mut self)
         ensures map { self.new.map ≡ self.old.map }
         ensures spare { self.new.spare ≡ self.old.spare }

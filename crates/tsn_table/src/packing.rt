@@ -1,8 +1,8 @@
 //! A tree packed into few nodes.
 //!
-//! The nodes of the tree are put in a row from the right, and where the numbers of one go into the block of the next, they do, and a
-//! node goes to the pool. Then the row is made a tree again whose sides are as high as each other, or differ by one. All nodes are
-//! touched once, and no memory is taken.
+//! The nodes of the tree are put in a row from the right, and where the numbers of one go into the block of the next,
+//! they do, and a node goes to the pool. Then the row is made a tree again whose sides are as high as each other, or
+//! differ by one. All nodes are touched once, and no memory is taken.
 ghost use Rattle.std.specs.Prelude.{◌≡◌, ◌+◌, ◌*◌, ◌<◌, ◌≤◌, ◌++◌, length};
 ghost use Rattle.std.specs.Vec.{vec_capacity, vec_len};
 ghost use Rattle.tsn_table.specs.Blocks.{numbers_in, one_if};
@@ -13,8 +13,8 @@ ghost use Rattle.tsn_table.specs.Tree.{nodes_below, nodes_of, numbers_below, num
 use crate::tree::{Node, Tree, put_among};
 use std::mem;
 
-/// Packs the blocks of a tree, which has so many nodes with those of the pool. Where it has fewer than 24 numbers for each of its
-/// nodes but one, a quarter of them at least goes to the pool.
+/// Packs the blocks of a tree, which has so many nodes with those of the pool. Where it has fewer than 24 numbers for
+/// each of its nodes but one, a quarter of them at least goes to the pool.
 pub(crate) fn pack(tree: &mut Tree, pool: &mut Vec<Box<Node>>, nodes: usize)
     requires nodes { nodes ≡ nodes_of tree.old + vec_len pool.old }
     requires place { nodes ≤ vec_capacity pool.old }
@@ -22,7 +22,8 @@ pub(crate) fn pack(tree: &mut Tree, pool: &mut Vec<Box<Node>>, nodes: usize)
     ensures nodes { nodes_of tree.new + vec_len pool.new ≡ nodes_of tree.old + vec_len pool.old }
     ensures capacity { vec_capacity pool.new ≡ vec_capacity pool.old }
     ensures level { IsLevel tree.new }
-    ensures quarter { length (numbers_of tree.old) + share < share * nodes_of tree.old → nodes_of tree.old + 4 * vec_len pool.old ≤ 4 * vec_len pool.new }
+    ensures quarter { length (numbers_of tree.old) + share < share * nodes_of tree.old
+        → nodes_of tree.old + 4 * vec_len pool.old ≤ 4 * vec_len pool.new }
 {
     let mut row = row_of(mem::replace(tree, Tree::Empty), Tree::Empty, pool);
     *tree = raised(&mut row, nodes - pool.len());

@@ -1,9 +1,9 @@
 //! A search tree of blocks of numbers.
 //!
-//! What is promised of a tree is said of its numbers in their order, of how many nodes it has, and of its heights: each node tells
-//! the heights of its sides, and they differ by one at most (Adelson-Velsky and Landis). So a way down is short, and so is the row
-//! of calls that goes down it: a tree is at most twice as high as its nodes' count has digits in base two, and one more
-//! (proofs/Levels.antt).
+//! What is promised of a tree is said of its numbers in their order, of how many nodes it has, and of its heights: each
+//! node tells the heights of its sides, and they differ by one at most (Adelson-Velsky and Landis). So a way down is
+//! short, and so is the row of calls that goes down it: a tree is at most twice as high as its nodes' count has digits
+//! in base two, and one more (proofs/Levels.antt).
 ghost use Rattle.std.specs.Prelude.{◌≡◌, ◌≢◌, max, ◌⊎◌, ◌+◌, ◌<◌, ◌≤◌, ◌++◌, ◌∷◌, [], false, true, IfNone, IfOk, MatchOption, OnOk, length};
 ghost use Rattle.std.specs.Option.{option_or};
 ghost use Rattle.std.specs.Vec.{vec_capacity, vec_len};
@@ -76,7 +76,8 @@ fn left_rises(node: &mut Box<Node>) -> bool
     ensures numbers { numbers_below node.new.value ≡ numbers_below node.old.value }
     ensures nodes { nodes_below node.new.value ≡ nodes_below node.old.value }
     ensures height { node.new.value.left_height ≡ node.old.value.left_height + 1 }
-    ensures others { (node.new.value.right_height ≡ node.old.value.right_height) × (node.new.value.left ≡ node.old.value.left) × (node.new.value.right ≡ node.old.value.right) }
+    ensures others { (node.new.value.right_height ≡ node.old.value.right_height) × (node.new.value.left ≡ node.old.value.left)
+        × (node.new.value.right ≡ node.old.value.right) }
     ensures higher { result ≡ true → node.new.value.right_height < node.new.value.left_height }
     ensures lower { result ≡ false → node.new.value.left_height ≤ node.new.value.right_height }
 {
@@ -91,7 +92,8 @@ fn right_rises(node: &mut Box<Node>) -> bool
     ensures numbers { numbers_below node.new.value ≡ numbers_below node.old.value }
     ensures nodes { nodes_below node.new.value ≡ nodes_below node.old.value }
     ensures height { node.new.value.right_height ≡ node.old.value.right_height + 1 }
-    ensures others { (node.new.value.left_height ≡ node.old.value.left_height) × (node.new.value.left ≡ node.old.value.left) × (node.new.value.right ≡ node.old.value.right) }
+    ensures others { (node.new.value.left_height ≡ node.old.value.left_height) × (node.new.value.left ≡ node.old.value.left)
+        × (node.new.value.right ≡ node.old.value.right) }
     ensures higher { result ≡ true → node.new.value.left_height < node.new.value.right_height }
     ensures lower { result ≡ false → node.new.value.right_height ≤ node.new.value.left_height }
 {
@@ -106,7 +108,8 @@ fn left_falls(node: &mut Box<Node>) -> bool
     ensures numbers { numbers_below node.new.value ≡ numbers_below node.old.value }
     ensures nodes { nodes_below node.new.value ≡ nodes_below node.old.value }
     ensures height { node.new.value.left_height + 1 ≡ node.old.value.left_height }
-    ensures others { (node.new.value.right_height ≡ node.old.value.right_height) × (node.new.value.left ≡ node.old.value.left) × (node.new.value.right ≡ node.old.value.right) }
+    ensures others { (node.new.value.right_height ≡ node.old.value.right_height) × (node.new.value.left ≡ node.old.value.left)
+        × (node.new.value.right ≡ node.old.value.right) }
     ensures other { result ≡ true → node.old.value.left_height ≢ node.old.value.right_height }
     ensures even { result ≡ false → node.old.value.left_height ≡ node.old.value.right_height }
 {
@@ -122,7 +125,8 @@ fn right_falls(node: &mut Box<Node>) -> bool
     ensures numbers { numbers_below node.new.value ≡ numbers_below node.old.value }
     ensures nodes { nodes_below node.new.value ≡ nodes_below node.old.value }
     ensures height { node.new.value.right_height + 1 ≡ node.old.value.right_height }
-    ensures others { (node.new.value.left_height ≡ node.old.value.left_height) × (node.new.value.left ≡ node.old.value.left) × (node.new.value.right ≡ node.old.value.right) }
+    ensures others { (node.new.value.left_height ≡ node.old.value.left_height) × (node.new.value.left ≡ node.old.value.left)
+        × (node.new.value.right ≡ node.old.value.right) }
     ensures other { result ≡ true → node.old.value.right_height ≢ node.old.value.left_height }
     ensures even { result ≡ false → node.old.value.right_height ≡ node.old.value.left_height }
 {
@@ -135,13 +139,16 @@ fn right_falls(node: &mut Box<Node>) -> bool
 fn turned_right(mut node: Box<Node>, mut left: Box<Node>) -> Box<Node>
     requires left { Differs 2 left.value }
     requires right { (node.value.right_height ≡ height_of node.value.right) × IsLevel node.value.right }
-    requires near { (height_of left.value.right ≤ height_of node.value.right + 1) × (height_of node.value.right ≤ height_of left.value.right + 1) }
+    requires near { (height_of left.value.right ≤ height_of node.value.right + 1)
+        × (height_of node.value.right ≤ height_of left.value.right + 1) }
     requires low { (height_of left.value.right < 250) × (height_of node.value.right < 250) }
-    ensures numbers { numbers_below result.value ≡ numbers_below left.value ++ (numbers_in node.value.block ++ numbers_of node.value.right) }
+    ensures numbers { numbers_below result.value ≡ numbers_below left.value
+        ++ (numbers_in node.value.block ++ numbers_of node.value.right) }
     ensures nodes { nodes_below result.value ≡ nodes_below left.value + nodes_of node.value.right + 1 }
     ensures left { (result.value.left ≡ left.value.left) × (result.value.left_height ≡ left.value.left_height) }
     ensures level { IsLevel result.value.right }
-    ensures right { (result.value.right_height ≡ height_of result.value.right) × (height_of result.value.right ≡ max (height_of left.value.right) (height_of node.value.right) + 1) }
+    ensures right { (result.value.right_height ≡ height_of result.value.right)
+        × (height_of result.value.right ≡ max (height_of left.value.right) (height_of node.value.right) + 1) }
 {
     node.left_height = left.right_height;
     node.left = mem::replace(&mut left.right, Tree::Empty);
@@ -154,13 +161,16 @@ fn turned_right(mut node: Box<Node>, mut left: Box<Node>) -> Box<Node>
 fn turned_left(mut node: Box<Node>, mut right: Box<Node>) -> Box<Node>
     requires right { Differs 2 right.value }
     requires left { (node.value.left_height ≡ height_of node.value.left) × IsLevel node.value.left }
-    requires near { (height_of right.value.left ≤ height_of node.value.left + 1) × (height_of node.value.left ≤ height_of right.value.left + 1) }
+    requires near { (height_of right.value.left ≤ height_of node.value.left + 1)
+        × (height_of node.value.left ≤ height_of right.value.left + 1) }
     requires low { (height_of right.value.left < 250) × (height_of node.value.left < 250) }
-    ensures numbers { numbers_below result.value ≡ numbers_of node.value.left ++ (numbers_in node.value.block ++ numbers_below right.value) }
+    ensures numbers { numbers_below result.value ≡ numbers_of node.value.left
+        ++ (numbers_in node.value.block ++ numbers_below right.value) }
     ensures nodes { nodes_below result.value ≡ nodes_of node.value.left + nodes_below right.value + 1 }
     ensures right { (result.value.right ≡ right.value.right) × (result.value.right_height ≡ right.value.right_height) }
     ensures level { IsLevel result.value.left }
-    ensures left { (result.value.left_height ≡ height_of result.value.left) × (height_of result.value.left ≡ max (height_of node.value.left) (height_of right.value.left) + 1) }
+    ensures left { (result.value.left_height ≡ height_of result.value.left)
+        × (height_of result.value.left ≡ max (height_of node.value.left) (height_of right.value.left) + 1) }
 {
     node.right_height = right.left_height;
     node.right = mem::replace(&mut right.left, Tree::Empty);
@@ -320,7 +330,8 @@ fn side_of(node: &Node, id: u64) -> Side
 fn put_before(tree: &mut Tree, first: Box<Node>) -> bool
     requires level { IsLevel tree.old }
     requires low { height_of tree.old < 240 }
-    requires sole { (first.value.left ≡ Tree.Empty) × (first.value.right ≡ Tree.Empty) × (first.value.left_height ≡ 0) × (first.value.right_height ≡ 0) }
+    requires sole { (first.value.left ≡ Tree.Empty) × (first.value.right ≡ Tree.Empty) × (first.value.left_height ≡ 0)
+        × (first.value.right_height ≡ 0) }
     ensures numbers { numbers_of tree.new ≡ numbers_below first.value ++ numbers_of tree.old }
     ensures nodes { nodes_of tree.new ≡ nodes_below first.value + nodes_of tree.old }
     ensures level { IsLevel tree.new }
@@ -340,7 +351,8 @@ fn put_before(tree: &mut Tree, first: Box<Node>) -> bool
 fn put_before_below(node: &mut Box<Node>, first: Box<Node>) -> bool
     requires level { Differs 1 node.old.value }
     requires low { height_below node.old.value < 240 }
-    requires sole { (first.value.left ≡ Tree.Empty) × (first.value.right ≡ Tree.Empty) × (first.value.left_height ≡ 0) × (first.value.right_height ≡ 0) }
+    requires sole { (first.value.left ≡ Tree.Empty) × (first.value.right ≡ Tree.Empty) × (first.value.left_height ≡ 0)
+        × (first.value.right_height ≡ 0) }
     ensures numbers { numbers_below node.new.value ≡ numbers_below first.value ++ numbers_below node.old.value }
     ensures nodes { nodes_below node.new.value ≡ nodes_below first.value + nodes_below node.old.value }
     ensures rises { Rises node.old.value node.new.value result }
@@ -356,7 +368,8 @@ fn split(node: &mut Box<Node>, id: u64, mut upper: Box<Node>) -> bool
     requires rising { IsRising (numbers_in node.old.value.block) }
     requires full { length node.old.value.block.more.items ≡ most_more }
     requires new { length (put_number id (numbers_in node.old.value.block)) ≡ length (numbers_in node.old.value.block) + 1 }
-    ensures numbers { numbers_below node.new.value ≡ numbers_of node.old.value.left ++ (put_number id (numbers_in node.old.value.block) ++ numbers_of node.old.value.right) }
+    ensures numbers { numbers_below node.new.value ≡ numbers_of node.old.value.left
+        ++ (put_number id (numbers_in node.old.value.block) ++ numbers_of node.old.value.right) }
     ensures longer { length (numbers_below node.new.value) ≡ length (numbers_below node.old.value) + 1 }
     ensures nodes { nodes_below node.new.value ≡ nodes_below node.old.value + 1 }
     ensures rises { Rises node.old.value node.new.value result }
@@ -369,14 +382,15 @@ fn split(node: &mut Box<Node>, id: u64, mut upper: Box<Node>) -> bool
     put_before(&mut node.right, upper) && right_rises(node)
 }
 
-// Puts a number into the block of a node, or else into one half of it. It tells whether the right side is the higher one, and
-// higher than it was.
+// Puts a number into the block of a node, or else into one half of it. It tells whether the right side is the higher
+// one, and higher than it was.
 fn put_here(node: &mut Box<Node>, id: u64, pool: &mut Vec<Box<Node>>, came: &mut bool) -> bool
     requires level { Differs 1 node.old.value }
     requires low { height_below node.old.value < 240 }
     requires rising { IsRising (numbers_in node.old.value.block) }
     requires pool { 0 < vec_len pool.old }
-    ensures numbers { numbers_below node.new.value ≡ numbers_of node.old.value.left ++ (put_number id (numbers_in node.old.value.block) ++ numbers_of node.old.value.right) }
+    ensures numbers { numbers_below node.new.value ≡ numbers_of node.old.value.left
+        ++ (put_number id (numbers_in node.old.value.block) ++ numbers_of node.old.value.right) }
     ensures longer { length (numbers_below node.new.value) ≡ length (numbers_below node.old.value) + one_if came.new }
     ensures nodes { nodes_below node.new.value + vec_len pool.new ≡ nodes_below node.old.value + vec_len pool.old }
     ensures capacity { vec_capacity pool.new ≡ vec_capacity pool.old }
@@ -401,8 +415,8 @@ fn put_here(node: &mut Box<Node>, id: u64, pool: &mut Vec<Box<Node>>, came: &mut
     }
 }
 
-/// Puts a number into a tree, and says whether it came in. It takes a node of the pool, which has one, where the tree is empty or
-/// the block that the number belongs to is full.
+/// Puts a number into a tree, and says whether it came in. It takes a node of the pool, which has one, where the tree
+/// is empty or the block that the number belongs to is full.
 pub(crate) fn put_among(tree: &mut Tree, id: u64, pool: &mut Vec<Box<Node>>, came: &mut bool)
     requires level { IsLevel tree.old }
     requires low { height_of tree.old < 240 }
@@ -490,12 +504,14 @@ fn next_after(node: &Node, id: u64) -> Option<u64>
     ensures flat { IfNone result (height_of node.now.right ≡ 0) }
     ensures alone { IfNone result (length (numbers_below node.now) ≡ length (numbers_of node.now.left) + 1) }
     ensures rest { MatchOption result (without_number id (numbers_below node.now) ≡ numbers_of node.now.left)
-        (λ next. without_number id (numbers_below node.now) ≡ numbers_of node.now.left ++ (next ∷ without_number next (numbers_of node.now.right))) }
+        (λ next. without_number id (numbers_below node.now) ≡ numbers_of node.now.left
+        ++ (next ∷ without_number next (numbers_of node.now.right))) }
 {
     first_in(&node.right, 0, None)
 }
 
-/// Takes a number out of a tree, where it is there, and says whether it was. A node that has no number left goes to the pool.
+/// Takes a number out of a tree, where it is there, and says whether it was. A node that has no number left goes to the
+/// pool.
 pub(crate) fn take_out(tree: &mut Tree, id: u64, pool: &mut Vec<Box<Node>>, gone: &mut bool)
     requires level { IsLevel tree.old }
     requires low { height_of tree.old < 240 }
@@ -574,7 +590,8 @@ fn take_next(node: &mut Box<Node>, next: u64, pool: &mut Vec<Box<Node>>, gone: &
     requires rising { IsRising (numbers_of node.old.value.right) }
     requires place { nodes_below node.old.value + vec_len pool.old ≤ vec_capacity pool.old }
     requires only { length node.old.value.block.more.items ≡ 0 }
-    ensures numbers { numbers_below node.new.value ≡ numbers_of node.old.value.left ++ (next ∷ without_number next (numbers_of node.old.value.right)) }
+    ensures numbers { numbers_below node.new.value ≡ numbers_of node.old.value.left
+        ++ (next ∷ without_number next (numbers_of node.old.value.right)) }
     ensures shorter { length (numbers_below node.old.value) ≡ length (numbers_below node.new.value) + one_if gone.new }
     ensures nodes { nodes_below node.new.value + vec_len pool.new ≡ nodes_below node.old.value + vec_len pool.old }
     ensures capacity { vec_capacity pool.new ≡ vec_capacity pool.old }
@@ -608,11 +625,12 @@ pub(crate) fn copy_in(tree: &Tree, alloc: Global) -> Result<Tree, AllocError>
     }
 }
 
-// More nodes than these are made only where memory for eight bytes a number is there, so that absurd room is refused at once.
+// More nodes than these are made only where memory for eight bytes a number is there, so that absurd room is refused at
+// once.
 const FEW: usize = 64;
 
-/// Puts more nodes into the pool, beside which the tree has the others of so many, until there are as many as are wanted for so
-/// much room; and makes a place for each of them all. Refused only for want of memory.
+/// Puts more nodes into the pool, beside which the tree has the others of so many, until there are as many as are
+/// wanted for so much room; and makes a place for each of them all. Refused only for want of memory.
 pub(crate) fn fill_pool(
     pool: &mut Vec<Box<Node>>,
     nodes: usize,

@@ -196,7 +196,8 @@ fn absurd_room_is_refused_at_once(rt: HostRuntime) -> Result<(), Fail> {
     Ok(())
 }
 
-// Of many numbers one in so many stays, and then as many come in again, elsewhere: the nodes of those that went serve them.
+// Of many numbers one in so many stays, and then as many come in again, elsewhere: the nodes of those that went serve
+// them.
 #[test]
 fn numbers_that_thin_out(rt: HostRuntime) -> Result<(), Fail> {
     for apart in [2, 7, 33, 64, 1_000] {

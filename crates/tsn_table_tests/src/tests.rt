@@ -129,8 +129,8 @@ fn a_reserve_of_10000_rows_keeps_the_rows(rt: HostRuntime) -> Result<(), Fail> {
     Ok(())
 }
 
-// For how many places an undo of all asks that takes back 131,072 entries of 16 parts: two of a session for each entry, and three
-// for each part.
+// For how many places an undo of all asks that takes back 131,072 entries of 16 parts: two of a session for each entry,
+// and three for each part.
 const GREATEST: usize = 131_072 * (2 + 3 * 16);
 
 #[test]
@@ -181,8 +181,8 @@ fn great_and_small_numbers_keep_their_rows(rt: HostRuntime) -> Result<(), Fail> 
     Ok(())
 }
 
-// As many rows as the largest table of a bridge has, each where it is guessed to; then a half of them is taken out again, and
-// each of the others is still there.
+// As many rows as the largest table of a bridge has, each where it is guessed to; then a half of them is taken out
+// again, and each of the others is still there.
 #[test]
 fn the_largest_table_is_listed_and_copied(rt: HostRuntime) -> Result<(), Fail> {
     let mut table = Table::new(rt.alloc());

@@ -74,7 +74,8 @@ pub first-most : (n k : ℕ) (os : List (ℕ × Option Refusal)) → IsOrdered k
 first-most n k [] ordered h = tt
 first-most n k (o ∷ os) ordered h = most_either n o.0 o.1 (first_cause (causes_of os)) h.0 ordered.1 (first-most n o.0 os ordered.2 h.1)
 
-pub least-before : (n : ℕ) (o : Option Refusal) (b : Bool) (why : Refusal) → AtMost n o → n ≤ rank_of why → least (o ∷ unless b why ∷ []) ≡ option_or o (unless b why)
+pub least-before : (n : ℕ) (o : Option Refusal) (b : Bool) (why : Refusal) → AtMost n o → n ≤ rank_of why
+    → least (o ∷ unless b why ∷ []) ≡ option_or o (unless b why)
 least-before n o b why h le = grind (arith, not_less)
 
 -- ---- the least of two lists

@@ -19,4 +19,6 @@ longest_list = 4096
 
 -- each limit is from 1 to the most that there may be
 abbrev pub AreInRange : Bounds → Type 0
-AreInRange l = Within 1 most_ports l.ports × (Within 1 most_instances l.filters × (Within 1 most_instances l.gates × (Within 1 most_instances l.meters × Within 1 longest_list l.list)))
+AreInRange l = Within 1 most_ports l.ports
+    × (Within 1 most_instances l.filters
+    × (Within 1 most_instances l.gates × (Within 1 most_instances l.meters × Within 1 longest_list l.list)))

@@ -51,7 +51,8 @@ impl Limits {
         meters: u64,
         list: u64,
     ) -> Result<Limits, Range>
-        ensures in_range { IsOk result ↔ AreInRange (record { ports = ports; filters = filters; gates = gates; meters = meters; list = list }) }
+        ensures in_range { IsOk result ↔ AreInRange
+            (record { ports = ports; filters = filters; gates = gates; meters = meters; list = list }) }
         ensures same { IfOk result (λ l. l ≡ record { ports = ports; filters = filters; gates = gates; meters = meters; list = list }) }
     {
         let is_size = |n: u64| 1 <= n && n <= MOST_INSTANCES;

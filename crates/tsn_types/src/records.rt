@@ -179,7 +179,8 @@ pub struct Refs {
 }
 
 impl Record {
-    /// What the record refers to: a filter first to its gate and second, if given, to its meter; any other record to nothing.
+    /// What the record refers to: a filter first to its gate and second, if given, to its meter; any other record to
+    /// nothing.
     pub fn refs(&self) -> Refs
         ensures keys { keys_of_refs result ≡ refs self.now }
         ensures first { result.first ≡ first_ref self.now }

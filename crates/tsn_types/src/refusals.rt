@@ -6,7 +6,8 @@ ghost use Rattle.tsn_types.specs.declared.refusals.Refusal.TheVariants.{Memory};
 use crate::keys::Key;
 use std::alloc::{AllocError, AllocFailed};
 
-/// A member of a command, a record or a setup whose number is outside its range or its limit, or whose text may not be a name.
+/// A member of a command, a record or a setup whose number is outside its range or its limit, or whose text may not be
+/// a name.
 #[derive(Clone, Copy, Debug, PartialEq, Eq)]
 pub enum Field {
     /// The member `s`, the session that gives a command.

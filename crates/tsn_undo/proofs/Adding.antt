@@ -26,32 +26,39 @@ next es s w = record { number = length es + 1; session = s; what = w }
 abbrev one : List Entry → ℕ → Option Change → List Applied
 one es s o = cons_option (option_map (λ c. record { number = length es + 1; session = s; change = c }) o) []
 
-pub applied_push : (es : List Entry) (s : ℕ) (w : What) (e : Change) → applies w ≡ Some e → changes (collect applies (with_entry es s w)) ≡ changes (collect applies es) ++ e ∷ []
+pub applied_push : (es : List Entry) (s : ℕ) (w : What) (e : Change) → applies w ≡ Some e
+    → changes (collect applies (with_entry es s w)) ≡ changes (collect applies es) ++ e ∷ []
 applied_push es s w e apply = grind (arith, collect_push, changes-append)
 
-pub nothing_push : (es : List Entry) (s : ℕ) (w : What) → applies w ≡ None → changes (collect applies (with_entry es s w)) ≡ changes (collect applies es)
+pub nothing_push : (es : List Entry) (s : ℕ) (w : What) → applies w ≡ None
+    → changes (collect applies (with_entry es s w)) ≡ changes (collect applies es)
 nothing_push es s w none = grind (arith, collect_push, append_nil)
 
-pub configuration_push : (opening : Configuration) (es : List Entry) (s : ℕ) (w : What) (e : Change) → applies w ≡ Some e → configuration opening (with_entry es s w) ≡ after_change (configuration opening es) e
-configuration_push opening es s w e apply = ap (run opening) (applied_push es s w e apply) ∙ run-append opening (changes (collect applies es)) (e ∷ [])
+pub configuration_push : (opening : Configuration) (es : List Entry) (s : ℕ) (w : What) (e : Change) → applies w ≡ Some e
+    → configuration opening (with_entry es s w) ≡ after_change (configuration opening es) e
+configuration_push opening es s w e apply =
+    ap (run opening) (applied_push es s w e apply) ∙ run-append opening (changes (collect applies es)) (e ∷ [])
 
 -- ---- an entry that stands
 
 module _ (es : List Entry) (s : ℕ) (w : What) (takes_none : (n : ℕ) → undoes_number w n ≡ false) where
   all_stay : (xs : List Applied) → filter (λ x. not (undoes_number w x.number)) xs ≡ xs
   all_stay [] = refl
-  all_stay (x ∷ xs) = ap (λ b. cond (not b) (x ∷ filter (λ x. not (undoes_number w x.number)) xs) (filter (λ x. not (undoes_number w x.number)) xs)) (takes_none x.number) ∙ ap (λ ys. x ∷ ys) (all_stay xs)
+  all_stay (x ∷ xs) = ap (λ b. cond (not b) (x ∷ filter (λ x. not (undoes_number w x.number)) xs)
+      (filter (λ x. not (undoes_number w x.number)) xs)) (takes_none x.number) ∙ ap (λ ys. x ∷ ys) (all_stay xs)
 
   pub standing_kept : standing (with_entry es s w) ≡ standing es ++ one es s (adds w)
   standing_kept = standing_push es (next es s w) ∙ ap (λ xs. xs ++ one es s (adds w)) (all_stay (standing es))
 
-  pub standing_added : (e : Change) → adds w ≡ Some e → standing (with_entry es s w) ≡ standing es ++ record { number = length es + 1; session = s; change = e } ∷ []
+  pub standing_added : (e : Change) → adds w ≡ Some e → standing (with_entry es s w) ≡ standing es
+      ++ record { number = length es + 1; session = s; change = e } ∷ []
   standing_added e add = standing_kept ∙ ap (λ o. standing es ++ one es s o) add
 
 -- ---- the base
 
 -- an entry that settles none leaves it
-pub base_kept : (opening : Configuration) (es : List Entry) (s : ℕ) (w : What) → IsNoSettle w → base opening (with_entry es s w) ≡ base opening es
+pub base_kept : (opening : Configuration) (es : List Entry) (s : ℕ) (w : What) → IsNoSettle w
+    → base opening (with_entry es s w) ≡ base opening es
 base_kept opening es s w plain = ap (λ xs. run opening (changes xs)) (settled_kept es (next es s w) plain)
 
 -- the base of a sound journal is well kept
@@ -60,7 +67,8 @@ kept_base l opening es sound = end_kept l opening (changes (settled_edits es)) s
 
 -- ---- entries that take none back
 
-module _ (l : Limits) (opening : Configuration) (es : List Entry) (s : ℕ) (w : What) (sound : IsSound l opening es) (plain : IsNoSettle w) (takes_none : (n : ℕ) → undoes_number w n ≡ false) where
+module _ (l : Limits) (opening : Configuration) (es : List Entry) (s : ℕ) (w : What) (sound : IsSound l opening es) (plain : IsNoSettle w)
+    (takes_none : (n : ℕ) → undoes_number w n ≡ false) where
   abbrev from : Configuration
   from = base opening es
 
@@ -68,19 +76,25 @@ module _ (l : Limits) (opening : Configuration) (es : List Entry) (s : ℕ) (w :
   same_base = base_kept opening es s w plain
 
   -- an entry that stands, by a change that fits
-  pub sound_added : (e : Change) → adds w ≡ Some e → applies w ≡ Some e → Fits l (configuration opening es) e → IsSound l opening (with_entry es s w)
+  pub sound_added : (e : Change) → adds w ≡ Some e → applies w ≡ Some e → Fits l (configuration opening es) e
+      → IsSound l opening (with_entry es s w)
   sound_added e add apply fits =
       let log = applied_push es s w e apply in
       let stands : changes (standing (with_entry es s w)) ≡ changes (standing es) ++ e ∷ [] =
-      ap changes (standing_added es s w takes_none e add) ∙ changes-append (standing es) (record { number = length es + 1; session = s; change = e } ∷ []) in
+      ap changes (standing_added es s w takes_none e add)
+      ∙ changes-append (standing es) (record { number = length es + 1; session = s; change = e } ∷ []) in
       record {
         numbered = IsNumbered-with_entry es s w sound.numbered;
         kept = sound.kept;
-        replays = subst (IsGood l opening) (sym log) (good-append l opening (changes (collect applies es)) (e ∷ []) sound.replays (fits, tt));
+        replays =
+            subst (IsGood l opening) (sym log) (good-append l opening (changes (collect applies es)) (e ∷ []) sound.replays (fits, tt));
         settled = subst (λ xs. IsGood l opening (changes xs)) (sym (settled_kept es (next es s w) plain)) sound.settled;
         good = subst (λ (c : Configuration). IsGood l c (changes (standing (with_entry es s w)))) (sym same_base)
-            (subst (IsGood l from) (sym stands) (good-append l from (changes (standing es)) (e ∷ []) sound.good (subst (λ (m : Configuration). Fits l m e) (sym sound.same) fits, tt)));
-        same = (λ i. run (same_base i) (stands i)) ∙ run-append from (changes (standing es)) (e ∷ []) ∙ ap (λ (m : Configuration). after_change m e) sound.same
+            (subst (IsGood l from) (sym stands)
+            (good-append l from (changes (standing es)) (e ∷ []) sound.good
+            (subst (λ (m : Configuration). Fits l m e) (sym sound.same) fits, tt)));
+        same = (λ i. run (same_base i) (stands i)) ∙ run-append from (changes (standing es)) (e ∷ [])
+            ∙ ap (λ (m : Configuration). after_change m e) sound.same
             ∙ sym (run-append opening (changes (collect applies es)) (e ∷ [])) ∙ sym (ap (run opening) log);
       }
 
@@ -95,7 +109,8 @@ module _ (l : Limits) (opening : Configuration) (es : List Entry) (s : ℕ) (w :
         kept = sound.kept;
         replays = subst (IsGood l opening) (sym log) sound.replays;
         settled = subst (λ xs. IsGood l opening (changes xs)) (sym (settled_kept es (next es s w) plain)) sound.settled;
-        good = subst (λ (c : Configuration). IsGood l c (changes (standing (with_entry es s w)))) (sym same_base) (subst (IsGood l from) (sym stands) sound.good);
+        good = subst (λ (c : Configuration). IsGood l c (changes (standing (with_entry es s w)))) (sym same_base)
+            (subst (IsGood l from) (sym stands) sound.good);
         same = (λ i. run (same_base i) (stands i)) ∙ sound.same ∙ sym (ap (run opening) log);
       }
 
@@ -119,7 +134,8 @@ module _ (l : Limits) (opening : Configuration) (es : List Entry) (s upto : ℕ)
 
   -- the base is where the edits that were settled lead
   pub base_settled : base opening (with_entry es s (Settled upto)) ≡ run (base opening es) (changes final)
-  base_settled = ap (λ xs. run opening (changes xs)) settled_now ∙ ap (run opening) (changes-append (settled_edits es) final) ∙ run-append opening (changes (settled_edits es)) (changes final)
+  base_settled = ap (λ xs. run opening (changes xs)) settled_now ∙ ap (run opening) (changes-append (settled_edits es) final)
+      ∙ run-append opening (changes (settled_edits es)) (changes final)
 
   pub sound_settled : IsSound l opening (with_entry es s (Settled upto))
   sound_settled =
@@ -131,8 +147,11 @@ module _ (l : Limits) (opening : Configuration) (es : List Entry) (s upto : ℕ)
         kept = sound.kept;
         replays = subst (IsGood l opening) (sym log) sound.replays;
         settled = subst (IsGood l opening) (sym (changes-append (settled_edits es) final) ∙ sym (ap changes settled_now))
-            (good-append l opening (changes (settled_edits es)) (changes final) sound.settled (good_front l from (changes final) (changes left) all));
+            (good-append l opening (changes (settled_edits es)) (changes final) sound.settled
+            (good_front l from (changes final) (changes left) all));
         good = subst (λ (c : Configuration). IsGood l c (changes (standing (with_entry es s (Settled upto))))) (sym base_settled)
-            (subst (λ xs. IsGood l (run from (changes final)) (changes xs)) (sym left_now) (good_rest l from (changes final) (changes left) all));
-        same = (λ i. run (base_settled i) (changes (left_now i))) ∙ sym (run-append from (changes final) (changes left)) ∙ ap (run from) (sym both) ∙ sound.same ∙ sym (ap (run opening) log);
+            (subst (λ xs. IsGood l (run from (changes final)) (changes xs)) (sym left_now)
+            (good_rest l from (changes final) (changes left) all));
+        same = (λ i. run (base_settled i) (changes (left_now i))) ∙ sym (run-append from (changes final) (changes left))
+            ∙ ap (run from) (sym both) ∙ sound.same ∙ sym (ap (run opening) log);
       }

@@ -25,12 +25,14 @@ use Rattle.tsn_undo.proofs.Making.{kept_now}
 abbrev newest_of : Ledger → ℕ → List Edit → Applied
 newest_of before session batch = record { number = length before.entries + 1; session = session; change = change_of (present before) batch }
 
-module _ (before edited : Ledger) (session : ℕ) (batch : List Edit) (entry : ℕ) (sound : IsSound before.limits before.opening before.entries) (made' : Edits before session batch entry edited) where
+module _ (before edited : Ledger) (session : ℕ) (batch : List Edit) (entry : ℕ)
+    (sound : IsSound before.limits before.opening before.entries) (made' : Edits before session batch entry edited) where
   after_made : edited.entries ≡ (enter before session (Made (change_of (present before) batch))).entries
   after_made = ap (λ (b : Ledger). b.entries) made'.after
 
   stands_last : standing edited.entries ≡ standing before.entries ++ newest_of before session batch ∷ []
-  stands_last = ap standing after_made ∙ standing_added before.entries session (Made (change_of (present before) batch)) (λ n. refl) (change_of (present before) batch) refl
+  stands_last = ap standing after_made ∙ standing_added before.entries session (Made (change_of (present before) batch)) (λ n. refl)
+      (change_of (present before) batch) refl
 
   -- it is what the session takes back next
   newest_made : last_of edited.entries session ≡ Some (newest_of before session batch)
@@ -41,14 +43,18 @@ module _ (before edited : Ledger) (session : ℕ) (batch : List Edit) (entry : �
   no_conflict =
       let x = newest_of before session batch in
       let rises : Rises 1 (standing before.entries ++ x ∷ []) =
-      subst (Rises 1) stands_last (rises_standing edited.entries (subst (λ es. IsNumbered 1 es) (sym after_made) (IsNumbered-with_entry before.entries session (Made (change_of (present before) batch)) sound.numbered))) in
+      subst (Rises 1) stands_last (rises_standing edited.entries
+      (subst (λ es. IsNumbered 1 es) (sym after_made)
+      (IsNumbered-with_entry before.entries session (Made (change_of (present before) batch)) sound.numbered))) in
       ap (λ xs. last_where (λ f. conflicts f.change x.change) (later_than x.number xs)) stands_last
       ∙ ap (last_where (λ f. conflicts f.change x.change)) (later_than_rest 1 (standing before.entries) x [] rises)
 
   pub free_at_once : undo_refusal edited session ≡ no_room edited.entries 1
   free_at_once = grind (arith, undo_refusal-first, newest_made, no_conflict)
 
-pub undone_at_once : (before edited after : Ledger) (session : ℕ) (batch : List Edit) (entry number of : ℕ) → IsSound before.limits before.opening before.entries → Edits before session batch entry edited → TakesBack edited session number of after
+pub undone_at_once : (before edited after : Ledger) (session : ℕ) (batch : List Edit) (entry number of : ℕ)
+    → IsSound before.limits before.opening before.entries → Edits before session batch entry edited
+    → TakesBack edited session number of after
     → (of ≡ entry) × (present after ≡ present before)
 undone_at_once before edited after session batch entry number of sound made' back =
     let e = change_of (present before) batch in
@@ -58,6 +64,7 @@ undone_at_once before edited after session batch entry number of sound made' bac
       back.of_is ∙ ap (λ (x : Applied). x.number) (sym is) ∙ sym made'.number_is,
       back.map
           ∙ (λ i. after_change (ap present made'.after i) (inverse (sym is i).change))
-          ∙ ap (λ (m : Configuration). after_change m (inverse e)) (configuration_push before.opening before.entries session (Made e) e refl)
+          ∙ ap (λ (m : Configuration). after_change m (inverse e))
+          (configuration_push before.opening before.entries session (Made e) e refl)
           ∙ (taken_back before.limits (present before) e (kept_now before sound) made'.fits).same,
     )

@@ -17,28 +17,37 @@ use Rattle.tsn_journal.specs.Entries.{Applied, changes}
 use Rattle.tsn_journal.proofs.Numbers.{append_nil}
 use Rattle.tsn_undo.specs.Commuting.{Commutes, IsClosed, first_on, in_set, left, value_before}
 
-apart_from_closed : (out : Applied → Bool) (x y : Applied) → (IsTrue (conflicts y.change x.change) → IsTrue (out y)) → out y ≡ false → Apart (parts y.change) (parts x.change)
+apart_from_closed : (out : Applied → Bool) (x y : Applied) → (IsTrue (conflicts y.change x.change) → IsTrue (out y)) → out y ≡ false
+    → Apart (parts y.change) (parts x.change)
 apart_from_closed out x y closed outside =
     Apart-from_test (parts y.change) (parts x.change)
     (by_bool (conflicts y.change x.change) (λ h. let in' : out y ≡ true = closed h in (cc)) (λ h. h))
 
 pub record IsLeft (l : Limits) (c d : Configuration) (t : List Part) (out : Applied → Bool) (xs : List Applied) : Type 0 where
   pub good : IsGood l d (changes (left out xs))
-  pub ends : (k : Key) → get (run d (changes (left out xs))) k ≡ before_or (part_on k (t ++ flat_map parts (changes (in_set out xs)))) (get (run c (changes xs)) k)
+  pub ends : (k : Key) → get (run d (changes (left out xs))) k ≡ before_or (part_on k (t ++ flat_map parts (changes (in_set out xs))))
+      (get (run c (changes xs)) k)
 
-pub left_from : (l : Limits) (out : Applied → Bool) (xs : List Applied) (c d : Configuration) (t : List Part) → Agrees l c d t → AllByRecursion (λ y. out y ≡ false → Apart (parts y.change) t) xs → IsClosed out xs → IsGood l c (changes xs) → IsLeft l c d t out xs
-left_from l out [] c d t a apart closed good = record { good = tt; ends = λ k. a.agree k ∙ ap (λ u. before_or (part_on k u) (get c k)) (sym (append_nil t)) }
+pub left_from : (l : Limits) (out : Applied → Bool) (xs : List Applied) (c d : Configuration) (t : List Part) → Agrees l c d t
+    → AllByRecursion (λ y. out y ≡ false → Apart (parts y.change) t) xs → IsClosed out xs → IsGood l c (changes xs) → IsLeft l c d t out xs
+left_from l out [] c d t a apart closed good =
+    record { good = tt; ends = λ k. a.agree k ∙ ap (λ u. before_or (part_on k u) (get c k)) (sym (append_nil t)) }
 left_from l out (x ∷ xs) c d t a apart closed good =
     let goes : List Applied → List Applied → Type 0 = λ gone kept.
-    IsGood l d (changes kept) × ((k : Key) → get (run d (changes kept)) k ≡ before_or (part_on k (t ++ flat_map parts (changes gone))) (get (run c (changes (x ∷ xs))) k)) in
+    IsGood l d (changes kept) × ((k : Key)
+    → get (run d (changes kept)) k ≡ before_or (part_on k (t ++ flat_map parts (changes gone))) (get (run c (changes (x ∷ xs))) k)) in
     let both : goes (in_set out (x ∷ xs)) (left out (x ∷ xs)) =
     elim (out x) as (λ b. out x ≡ b → goes (cond b (x ∷ in_set out xs) (in_set out xs)) (cond (not b) (x ∷ left out xs) (left out xs))) [
       | true ↦ λ in'.
           let rest = left_from l out xs (after_change c x.change) d (t ++ parts x.change)
           (agrees_taken l c d t x.change a good.0)
-          (each_both _ _ _ (λ y p q outside. Apart-append (parts y.change) t (parts x.change) (p outside) (apart_from_closed out x y q outside)) xs apart.1 (closed.0 in'))
-          closed.1 good.1 in
-          (rest.good, λ k. rest.ends k ∙ ap (λ u. before_or (part_on k u) (get (run c (changes (x ∷ xs))) k)) (append_assoc t (parts x.change) (flat_map parts (changes (in_set out xs)))))
+          (each_both _ _ _ (λ y p q outside. Apart-append (parts y.change) t (parts x.change) (p outside)
+          (apart_from_closed out x y q outside)) xs apart.1 (closed.0 in'))
+          closed.1 good.1 in (
+            rest.good,
+            λ k. rest.ends k ∙ ap (λ u. before_or (part_on k u) (get (run c (changes (x ∷ xs))) k))
+                (append_assoc t (parts x.change) (flat_map parts (changes (in_set out xs)))),
+          )
       | false ↦ λ outside.
           let f = x.change in
           let rest = left_from l out xs (after_change c f) (after_change d f) t
@@ -55,7 +64,8 @@ same_value : (o : Option Part) (v : Option Record) → before_or o v ≡ value_b
 same_value o v = (cc)
 
 -- the law
-pub commutation : (l : Limits) (opening : Configuration) (xs : List Applied) (out : Applied → Bool) → IsWellKept l opening → IsGood l opening (changes xs) → IsClosed out xs → Commutes l opening out xs
+pub commutation : (l : Limits) (opening : Configuration) (xs : List Applied) (out : Applied → Bool) → IsWellKept l opening
+    → IsGood l opening (changes xs) → IsClosed out xs → Commutes l opening out xs
 unfolding part_on
 commutation l opening xs out kept good closed =
     let begins : Agrees l opening opening [] = record { all_kept = kept; left_kept = kept; agree = begin_agrees opening } in

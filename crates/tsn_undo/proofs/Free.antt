@@ -23,27 +23,34 @@ at_most_more o h = grind arith
 
 -- ---- a cause, and then a full journal
 
-pub edit_refusal-first : (b : Ledger) (batch : List Edit) → edit_refusal b batch ≡ option_or (refusal b.limits (present b) batch) (no_room b.entries 1)
-edit_refusal-first b batch = least-before 17 (refusal b.limits (present b) batch) (nat_le (length b.entries + 1) most_entries) JournalFull (at_most_more _ (batch_refusal-most b.limits (present b) batch)) (omega arith)
+pub edit_refusal-first : (b : Ledger) (batch : List Edit)
+    → edit_refusal b batch ≡ option_or (refusal b.limits (present b) batch) (no_room b.entries 1)
+edit_refusal-first b batch = least-before 17 (refusal b.limits (present b) batch) (nat_le (length b.entries + 1) most_entries) JournalFull
+    (at_most_more _ (batch_refusal-most b.limits (present b) batch)) (omega arith)
 
 -- what the configuration says of a batch comes before a full journal
-pub batch_first : (l : Limits) (c : Configuration) (batch : List Edit) → (refusal l c batch ≡ refusal l c batch) × AtMost 9 (refusal l c batch)
+pub batch_first : (l : Limits) (c : Configuration) (batch : List Edit)
+    → (refusal l c batch ≡ refusal l c batch) × AtMost 9 (refusal l c batch)
 batch_first l c batch = (refl, batch_refusal-most l c batch)
 
 undo_cause-most : (es : List Entry) (o : Option Applied) → AtMost 17 (undo_cause es o)
 undo_cause-most es o = grind arith
 
-pub undo_refusal-first : (b : Ledger) (s : ℕ) → undo_refusal b s ≡ option_or (undo_cause b.entries (last_of b.entries s)) (no_room b.entries 1)
-undo_refusal-first b s = least-before 17 (undo_cause b.entries (last_of b.entries s)) (nat_le (length b.entries + 1) most_entries) JournalFull (undo_cause-most b.entries (last_of b.entries s)) (omega arith)
+pub undo_refusal-first : (b : Ledger) (s : ℕ)
+    → undo_refusal b s ≡ option_or (undo_cause b.entries (last_of b.entries s)) (no_room b.entries 1)
+undo_refusal-first b s = least-before 17 (undo_cause b.entries (last_of b.entries s)) (nat_le (length b.entries + 1) most_entries)
+    JournalFull (undo_cause-most b.entries (last_of b.entries s)) (omega arith)
 
 pub or_none : (o p : Option Refusal) → option_or o p ≡ None → (o ≡ None) × (p ≡ None)
 or_none o p h = grind arith
 
-pub edit_admitted : (b : Ledger) (batch : List Edit) → edit_refusal b batch ≡ None → (refusal b.limits (present b) batch ≡ None) × (no_room b.entries 1 ≡ None)
+pub edit_admitted : (b : Ledger) (batch : List Edit) → edit_refusal b batch ≡ None
+    → (refusal b.limits (present b) batch ≡ None) × (no_room b.entries 1 ≡ None)
 edit_admitted b batch h = or_none _ _ (sym (edit_refusal-first b batch) ∙ h)
 
 -- nothing conflicts with what is free, and there is room
-pub undo_free : (b : Ledger) (s : ℕ) (x : Applied) → last_of b.entries s ≡ Some x → undo_refusal b s ≡ None → (find_conflict b.entries x ≡ None) × (no_room b.entries 1 ≡ None)
+pub undo_free : (b : Ledger) (s : ℕ) (x : Applied) → last_of b.entries s ≡ Some x → undo_refusal b s ≡ None
+    → (find_conflict b.entries x ≡ None) × (no_room b.entries 1 ≡ None)
 undo_free b s x last free = grind arith
 
 -- ---- a standing entry that a finder names, by its number
@@ -53,7 +60,8 @@ number_of o = option_map (λ (x : Applied). x.number) o
 
 -- the last standing entry that passes a test is the standing entry of its number
 pub found_stands : (test : Applied → Bool) (es : List Entry) → IsNumbered 1 es
-    → (last_where test (standing es) ≡ last_where test (standing es)) × IfSome (last_where test (standing es)) (λ x. standing_entry es x.number ≡ Some x)
+    → (last_where test (standing es) ≡ last_where test (standing es))
+    × IfSome (last_where test (standing es)) (λ x. standing_entry es x.number ≡ Some x)
 found_stands test es numbered = grind (arith, standing_found)
 
 -- ---- looking up what is taken back
@@ -74,8 +82,10 @@ pub some_copied : {A : Type 0} (o : Option (Bor A)) → is_some (option_copied o
 some_copied o h = sym (copied o) ∙ h
 
 pub free_stands : (b : Ledger) (s of : ℕ) → IsNumbered 1 b.entries → (free : IsFree b s of) → standing_entry b.entries of ≡ Some free.newest
-free_stands b s of numbered free = ap (standing_entry b.entries) free.of_is ∙ standing_found b.entries (λ x. x.session == s) free.newest numbered free.newest_is
+free_stands b s of numbered free =
+    ap (standing_entry b.entries) free.of_is ∙ standing_found b.entries (λ x. x.session == s) free.newest numbered free.newest_is
 
 -- what is free to be taken back, by the change of the entry of its number
-pub free_change : (b : Ledger) (s of : ℕ) → IsNumbered 1 b.entries → (free : IsFree b s of) → change_at b.entries of ≡ Some free.newest.change
+pub free_change : (b : Ledger) (s of : ℕ) → IsNumbered 1 b.entries → (free : IsFree b s of)
+    → change_at b.entries of ≡ Some free.newest.change
 free_change b s of numbered free = standing_change b.entries of free.newest numbered (free_stands b s of numbered free)

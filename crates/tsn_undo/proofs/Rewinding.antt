@@ -24,10 +24,12 @@ present_kept l m es book = end_kept l (opening_of m es) (changes (collect applie
 abbrev pub seen : Limits → Configuration → List Entry → Ledger
 seen l m es = record { limits = l; opening = opening_of m es; entries = es }
 
-module _ (l : Limits) (m : Configuration) (es : List Entry) (now : Ledger) (view : seen l m es ≡ now) (book : IsBook l m es) (s : ℕ) (w : What) (sound : IsSound now.limits now.opening (with_entry now.entries s w))
+module _ (l : Limits) (m : Configuration) (es : List Entry) (now : Ledger) (view : seen l m es ≡ now) (book : IsBook l m es) (s : ℕ)
+    (w : What) (sound : IsSound now.limits now.opening (with_entry now.entries s w))
     (l' : Limits) (m' : Configuration) (es' : List Entry) (limits : l' ≡ l) (entries : es' ≡ with_entry es s w) where
   -- where the opening and the end are as they should be
-  book_of : (n : Configuration) → m' ≡ n → opening_of n (with_entry es s w) ≡ opening_of m es → configuration (opening_of m es) (with_entry es s w) ≡ n → IsBook l' m' es'
+  book_of : (n : Configuration) → m' ≡ n → opening_of n (with_entry es s w) ≡ opening_of m es
+      → configuration (opening_of m es) (with_entry es s w) ≡ n → IsBook l' m' es'
   book_of n is opened ends = grind arith
 
   ledger_of : (n : Configuration) → m' ≡ n → opening_of n (with_entry es s w) ≡ opening_of m es → seen l' m' es' ≡ enter now s w
@@ -49,7 +51,8 @@ module _ (l : Limits) (m : Configuration) (es : List Entry) (now : Ledger) (view
         ∙ ap (λ (c : Configuration). rewound c (changes (collect applies es))) (taken_back l m e kept fits_here).same
 
     pub changed_book : IsBook l' m' es'
-    changed_book = book_of (after_change m e) map' opened (configuration_push (opening_of m es) es s w e apply ∙ ap (λ (c : Configuration). after_change c e) book.is)
+    changed_book = book_of (after_change m e) map' opened
+        (configuration_push (opening_of m es) es s w e apply ∙ ap (λ (c : Configuration). after_change c e) book.is)
 
     pub changed_ledger : seen l' m' es' ≡ enter now s w
     changed_ledger = ledger_of (after_change m e) map' opened
@@ -58,7 +61,8 @@ module _ (l : Limits) (m : Configuration) (es : List Entry) (now : Ledger) (view
 
   module _ (apply : applies w ≡ None) (map' : m' ≡ m) where
     pub quiet_book : IsBook l' m' es'
-    quiet_book = book_of m map' (ap (rewound m) (nothing_push es s w apply)) (ap (run (opening_of m es)) (nothing_push es s w apply) ∙ book.is)
+    quiet_book =
+        book_of m map' (ap (rewound m) (nothing_push es s w apply)) (ap (run (opening_of m es)) (nothing_push es s w apply) ∙ book.is)
 
     pub quiet_ledger : seen l' m' es' ≡ enter now s w
     quiet_ledger = ledger_of m map' (ap (rewound m) (nothing_push es s w apply))

@@ -10,15 +10,19 @@ use Rattle.tsn_undo.specs.UndoAll.{room_left, undo_all_refusal}
 
 pub room_left-last : (xs : List TakingBack) (x : TakingBack) → room_left (xs ++ x ∷ []) ≡ room_left xs + room_of x.applied
 room_left-last [] x = omega arith
-room_left-last (y ∷ xs) x = ap (λ n. room_of y.applied + n) (room_left-last xs x) ∙ sym (add_assoc (room_of y.applied) (room_left xs) (room_of x.applied))
+room_left-last (y ∷ xs) x =
+    ap (λ n. room_of y.applied + n) (room_left-last xs x) ∙ sym (add_assoc (room_of y.applied) (room_left xs) (room_of x.applied))
 
 -- the same, with the list first
-pub room_split : (xs : List TakingBack) (x : TakingBack) → (xs ++ x ∷ [] ≡ xs ++ x ∷ []) × (room_left (xs ++ x ∷ []) ≡ room_left xs + room_of x.applied)
+pub room_split : (xs : List TakingBack) (x : TakingBack)
+    → (xs ++ x ∷ [] ≡ xs ++ x ∷ []) × (room_left (xs ++ x ∷ []) ≡ room_left xs + room_of x.applied)
 room_split xs x = (refl, room_left-last xs x)
 
 -- what a change and more take, an element at a time
-pub room_left-more : (xs : List TakingBack) (i : ℕ) (x : TakingBack) → i < length xs → x ≡ get_or xs i x → room_left (take (i + 1) xs) ≡ room_left (take i xs) + room_of x.applied
-room_left-more xs i x short is = ap room_left (take_more xs i x short) ∙ room_left-last (take i xs) (get_or xs i x) ∙ ap (λ (y : TakingBack). room_left (take i xs) + room_of y.applied) (sym is)
+pub room_left-more : (xs : List TakingBack) (i : ℕ) (x : TakingBack) → i < length xs → x ≡ get_or xs i x
+    → room_left (take (i + 1) xs) ≡ room_left (take i xs) + room_of x.applied
+room_left-more xs i x short is = ap room_left (take_more xs i x short) ∙ room_left-last (take i xs) (get_or xs i x)
+    ∙ ap (λ (y : TakingBack). room_left (take i xs) + room_of y.applied) (sym is)
 
 -- ---- the room that a journal has where an undo of all is not refused
 

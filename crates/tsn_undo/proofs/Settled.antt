@@ -28,6 +28,7 @@ module _ (b : Ledger) (s upto : ℕ) (sound : SoundLedger b) (free : settle_refu
   above_settled : settled b.entries < upto
   above_settled = ltb-true _ _ (unless-None _ _ (each_none (settle_causes b upto) (sym (settle_refusal-first b upto) ∙ free)).1.0)
 
-  pub makes_settle : (number : ℕ) (new : Ledger) → number ≡ length b.entries + 1 → new ≡ enter b s (Settled upto) → Settles b s upto number new
+  pub makes_settle : (number : ℕ) (new : Ledger) → number ≡ length b.entries + 1 → new ≡ enter b s (Settled upto)
+      → Settles b s upto number new
   makes_settle number new number_is after =
       grind (arith, nothing_push, settled_push, next, above_settled, left_now, left_later, base_settled)

@@ -57,15 +57,18 @@ same_number a b h = grind (arith, nat_tests)
 none_of : {A : Type 0} (o : Option A) → is_some o ≡ false → o ≡ None
 none_of o h = grind arith
 
-closed_from : (es : List Entry) (s : ℕ) (front xs : List Applied) → IsNumbered 1 es → standing es ≡ front ++ xs → AllByRecursion (λ x. (own s x && is_some (find_conflict_of_others es x)) ≡ false) xs → IsClosed (own s) xs
+closed_from : (es : List Entry) (s : ℕ) (front xs : List Applied) → IsNumbered 1 es → standing es ≡ front ++ xs
+    → AllByRecursion (λ x. (own s x && is_some (find_conflict_of_others es x)) ≡ false) xs → IsClosed (own s) xs
 closed_from es s front [] numbered is h = tt
 closed_from es s front (x ∷ xs) numbered is h = (
   (λ mine.
       let none : find_conflict_of_others es x ≡ None = none_of _ (and_off (own s x) _ mine h.0) in
       let rises : Rises 1 (front ++ x ∷ xs) = subst (Rises 1) is (rises_standing es numbered) in
       let later : later_than x.number (standing es) ≡ xs = ap (later_than x.number) is ∙ later_than_rest 1 front x xs rises in
-      let all = last_where_none (λ f. not (f.session == x.session) && conflicts f.change x.change) (later_than x.number (standing es)) none in
-      each_weaker (λ f. (not (f.session == x.session) && conflicts f.change x.change) ≡ false) (λ f. IsTrue (conflicts f.change x.change) → IsTrue (own s f))
+      let all = last_where_none (λ f. not (f.session == x.session) && conflicts f.change x.change) (later_than x.number (standing es))
+      none in
+      each_weaker (λ f. (not (f.session == x.session) && conflicts f.change x.change) ≡ false)
+      (λ f. IsTrue (conflicts f.change x.change) → IsTrue (own s f))
       (λ f no_other conflict.
       let same : (f.session == x.session) ≡ true = not_both _ _ no_other conflict in
       ap (λ n. f.session == n) (sym (same_number x.session s mine)) ∙ same) xs
@@ -74,11 +77,14 @@ closed_from es s front (x ∷ xs) numbered is h = (
 )
 
 pub own_closed : (es : List Entry) (s : ℕ) → IsNumbered 1 es → find_own_in_conflict es s ≡ None → IsClosed (own s) (standing es)
-own_closed es s numbered none = closed_from es s [] (standing es) numbered refl (last_where_none (λ x. own s x && is_some (find_conflict_of_others es x)) (standing es) none)
+own_closed es s numbered none =
+    closed_from es s [] (standing es) numbered refl
+    (last_where_none (λ x. own s x && is_some (find_conflict_of_others es x)) (standing es) none)
 
 -- ---- the newest of a closed set is free to be taken back, and leaves it closed
 
-closed_at : (out : Applied → Bool) (front : List Applied) (x : Applied) (rest : List Applied) → IsClosed out (front ++ x ∷ rest) → IsTrue (out x) → AllByRecursion (λ y. IsTrue (conflicts y.change x.change) → IsTrue (out y)) rest
+closed_at : (out : Applied → Bool) (front : List Applied) (x : Applied) (rest : List Applied) → IsClosed out (front ++ x ∷ rest)
+    → IsTrue (out x) → AllByRecursion (λ y. IsTrue (conflicts y.change x.change) → IsTrue (out y)) rest
 closed_at out [] x rest c h = c.0 h
 closed_at out (y ∷ front) x rest c h = closed_at out front x rest c.1 h
 
@@ -102,7 +108,8 @@ pub record IsNext (es : List Entry) (s : ℕ) (x : Applied) : Type 0 where
   -- x is the newest own entry
   pub mine : own_standing es s ≡ filter (own s) (without x (standing es)) ++ x ∷ []
 
-pub next_undo : (es : List Entry) (s : ℕ) (x : Applied) → IsNumbered 1 es → IsClosed (own s) (standing es) → last_of es s ≡ Some x → IsNext es s x
+pub next_undo : (es : List Entry) (s : ℕ) (x : Applied) → IsNumbered 1 es → IsClosed (own s) (standing es) → last_of es s ≡ Some x
+    → IsNext es s x
 next_undo es s x numbered closed last =
     let found = last_where_some (own s) (standing es) x last in
     let front = found.front in
@@ -112,21 +119,27 @@ next_undo es s x numbered closed last =
     let gone : without x (standing es) ≡ front ++ rest = ap (without x) is ∙ left_one 1 front x rest rises in
     let at_x = closed_at (own s) front x rest (subst (IsClosed (own s)) is closed) found.passes in
     let free : AllByRecursion (λ y. conflicts y.change x.change ≡ false) rest =
-    each_both (λ y. IsTrue (conflicts y.change x.change) → IsTrue (own s y)) (λ y. own s y ≡ false) (λ y. conflicts y.change x.change ≡ false)
-    (λ y c other. by_bool (conflicts y.change x.change) (λ h. let mine : own s y ≡ true = c h in (cc)) (λ h. h)) rest at_x found.none_later in
+    each_both (λ y. IsTrue (conflicts y.change x.change) → IsTrue (own s y)) (λ y. own s y ≡ false)
+    (λ y. conflicts y.change x.change ≡ false)
+    (λ y c other. by_bool (conflicts y.change x.change) (λ h. let mine : own s y ≡ true = c h in (cc)) (λ h. h)) rest at_x
+    found.none_later in
     let rest_none : filter (own s) rest ≡ [] = filter_none (own s) rest found.none_later in
     record {
       place = record { front = front; rest = rest; is = is };
-      free = ap (last_where (λ f. conflicts f.change x.change)) (ap (later_than x.number) is ∙ later_than_rest 1 front x rest rises) ∙ nowhere (λ f. conflicts f.change x.change) rest free;
+      free = ap (last_where (λ f. conflicts f.change x.change)) (ap (later_than x.number) is ∙ later_than_rest 1 front x rest rises)
+          ∙ nowhere (λ f. conflicts f.change x.change) rest free;
       closed = closed_filter (own s) (λ y. not (x.number == y.number)) (standing es) closed;
       others =
           ap (filter (others s)) gone ∙ filter-append (others s) front rest
-          ∙ sym (ap (filter (others s)) is ∙ filter-append (others s) front (x ∷ rest) ∙ ap (λ b. filter (others s) front ++ cond (not b) (x ∷ filter (others s) rest) (filter (others s) rest)) found.passes);
+          ∙ sym (ap (filter (others s)) is ∙ filter-append (others s) front (x ∷ rest)
+          ∙ ap (λ b. filter (others s) front ++ cond (not b) (x ∷ filter (others s) rest) (filter (others s) rest)) found.passes);
       mine =
           ap (filter (own s)) is ∙ filter-append (own s) front (x ∷ rest)
           ∙ ap (λ b. filter (own s) front ++ cond b (x ∷ filter (own s) rest) (filter (own s) rest)) found.passes
           ∙ ap (λ zs. filter (own s) front ++ x ∷ zs) rest_none
-          ∙ sym (ap (λ zs. filter (own s) zs ++ x ∷ []) gone ∙ ap (λ zs. zs ++ x ∷ []) (filter-append (own s) front rest ∙ ap (λ zs. filter (own s) front ++ zs) rest_none ∙ append_nil (filter (own s) front)));
+          ∙ sym (ap (λ zs. filter (own s) zs ++ x ∷ []) gone
+          ∙ ap (λ zs. zs ++ x ∷ []) (filter-append (own s) front rest ∙ ap (λ zs. filter (own s) front ++ zs) rest_none
+          ∙ append_nil (filter (own s) front)));
     }
 
 -- ---- the entries after some were taken back, the last ones first
@@ -143,17 +156,20 @@ pub record IsTaken (l : Limits) (opening : Configuration) (es : List Entry) (s :
   pub others : others_standing (with_undone es s ys) s ≡ others_standing es s
 
 -- the one that is taken back next
-pub record IsNextTaken (l : Limits) (opening : Configuration) (es : List Entry) (s : ℕ) (xs : List Applied) (x : Applied) (ys : List Applied) : Type 0 where
+pub record IsNextTaken (l : Limits) (opening : Configuration) (es : List Entry) (s : ℕ) (xs : List Applied) (x : Applied)
+    (ys : List Applied) : Type 0 where
   pub step : IsUndoStep l opening (with_undone es s ys) s x
   pub taken : IsTaken l opening es s xs (x ∷ ys)
 
-newest_own : (es : List Entry) (s : ℕ) (xs : List Applied) (x : Applied) → own_standing es s ≡ xs ++ x ∷ [] → (y : Applied) → IsNext es s y → (xs ≡ filter (own s) (without y (standing es))) × (x ≡ y)
+newest_own : (es : List Entry) (s : ℕ) (xs : List Applied) (x : Applied) → own_standing es s ≡ xs ++ x ∷ [] → (y : Applied) → IsNext es s y
+    → (xs ≡ filter (own s) (without y (standing es))) × (x ≡ y)
 newest_own es s xs x is y next = same_from_push xs (filter (own s) (without y (standing es))) x y (sym is ∙ next.mine)
 
 no_end : {A : Type 0} (xs : List A) (x : A) → xs ++ x ∷ [] ≡ [] → ⊥
 no_end xs x h = grind (arith, common_steps)
 
-pub next_taken : (l : Limits) (opening : Configuration) (es : List Entry) (s : ℕ) (xs : List Applied) (x : Applied) (ys : List Applied) → IsTaken l opening es s (xs ++ x ∷ []) ys → IsNextTaken l opening es s xs x ys
+pub next_taken : (l : Limits) (opening : Configuration) (es : List Entry) (s : ℕ) (xs : List Applied) (x : Applied) (ys : List Applied)
+    → IsTaken l opening es s (xs ++ x ∷ []) ys → IsNextTaken l opening es s xs x ys
 next_taken l opening es s xs x ys t =
     let now = with_undone es s ys in
     by_option (last_of now s)
@@ -173,17 +189,23 @@ next_taken l opening es s xs x ys t =
       };
     })
 
-pub begin_taken : (l : Limits) (opening : Configuration) (es : List Entry) (s : ℕ) → IsSound l opening es → find_own_in_conflict es s ≡ None → IsTaken l opening es s (own_standing es s) []
+pub begin_taken : (l : Limits) (opening : Configuration) (es : List Entry) (s : ℕ) → IsSound l opening es → find_own_in_conflict es s ≡ None
+    → IsTaken l opening es s (own_standing es s) []
 begin_taken l opening es s sound none = record { sound = sound; closed = own_closed es s sound.numbered none; mine = refl; others = refl }
 
-pub taken_to : (l : Limits) (opening : Configuration) (es : List Entry) (s : ℕ) (xs ys : List Applied) → IsTaken l opening es s (xs ++ ys) [] → IsTaken l opening es s xs ys
+pub taken_to : (l : Limits) (opening : Configuration) (es : List Entry) (s : ℕ) (xs ys : List Applied)
+    → IsTaken l opening es s (xs ++ ys) [] → IsTaken l opening es s xs ys
 taken_to l opening es s xs [] t = subst (λ zs. IsTaken l opening es s zs []) (append_nil xs) t
 taken_to l opening es s xs (y ∷ ys) t =
-    (next_taken l opening es s xs y ys (taken_to l opening es s (xs ++ y ∷ []) ys (subst (λ zs. IsTaken l opening es s zs []) (sym (append_assoc xs (y ∷ []) ys)) t))).taken
+    (next_taken l opening es s xs y ys
+    (taken_to l opening es s (xs ++ y ∷ []) ys
+    (subst (λ zs. IsTaken l opening es s zs []) (sym (append_assoc xs (y ∷ []) ys)) t))).taken
 
 -- ---- why an undo of all is refused
 
-pub undo_all_refusal-first : (b : Ledger) (s : ℕ) → undo_all_refusal b s ≡ option_or (undo_all_cause b.entries s (own_standing b.entries s)) (no_room b.entries (length (own_standing b.entries s)))
+pub undo_all_refusal-first : (b : Ledger) (s : ℕ)
+    → undo_all_refusal b s ≡ option_or (undo_all_cause b.entries s (own_standing b.entries s))
+    (no_room b.entries (length (own_standing b.entries s)))
 undo_all_refusal-first b s = grind arith
 
 -- ---- what an undo of all leaves
@@ -208,7 +230,8 @@ no_own_conflict es s free = by_option (find_own_in_conflict es s)
     (λ none. none)
     (λ e some.
     let found = last_where_some (λ x. (x.session == s) && is_some (find_conflict_of_others es x)) (standing es) e some in
-    absurd (some_named e.number (find_conflict_of_others es e) (on_right (e.session == s) _ found.passes) (sym (ap (conflict_with_others es) some) ∙ free)))
+    absurd (some_named e.number (find_conflict_of_others es e) (on_right (e.session == s) _ found.passes)
+    (sym (ap (conflict_with_others es) some) ∙ free)))
 
 cause_none : (es : List Entry) (s : ℕ) (xs : List Applied) → undo_all_cause es s xs ≡ None → find_own_in_conflict es s ≡ None
 cause_none es s xs h = grind (arith, no_own_conflict)
@@ -229,7 +252,8 @@ module _ (b : Ledger) (s : ℕ) (sound : SoundLedger b) (free : undo_all_refusal
   all = with_undone b.entries s (own_standing b.entries s)
 
   pub all_taken : IsTaken b.limits b.opening b.entries s [] (own_standing b.entries s)
-  all_taken = taken_to b.limits b.opening b.entries s [] (own_standing b.entries s) (begin_taken b.limits b.opening b.entries s sound (free_of_all b s free).none)
+  all_taken = taken_to b.limits b.opening b.entries s [] (own_standing b.entries s)
+      (begin_taken b.limits b.opening b.entries s sound (free_of_all b s free).none)
 
   stands_now : standing all ≡ others_standing b.entries s
   stands_now = sym (filter_both s (standing all) all_taken.mine) ∙ all_taken.others
@@ -238,21 +262,24 @@ module _ (b : Ledger) (s : ℕ) (sound : SoundLedger b) (free : undo_all_refusal
   same_base : base b.opening all ≡ base b.opening b.entries
   same_base = base_taken b.opening b.entries s (own_standing b.entries s)
 
-  pub makes_all : (count last : ℕ) (new : Ledger) → count ≡ length (own_standing b.entries s) → last ≡ length all → new ≡ record b { entries = all } → TakesAllBack b s count last new
+  pub makes_all : (count last : ℕ) (new : Ledger) → count ≡ length (own_standing b.entries s) → last ≡ length all
+      → new ≡ record b { entries = all } → TakesAllBack b s count last new
   makes_all count last new count_is last_is after = record {
     free = free;
     count_is = count_is;
     last_is = last_is ∙ length-taken b.entries s (own_standing b.entries s) ∙ ap (λ n. length b.entries + n) (sym count_is);
     after = after;
     stands = ap (λ (l : Ledger). standing l.entries) after ∙ stands_now;
-    good = subst (λ (c : Configuration). IsGood b.limits c (changes (others_standing b.entries s))) same_base (subst (λ xs. IsGood b.limits (base b.opening all) (changes xs)) stands_now (all_taken.sound).good);
+    good = subst (λ (c : Configuration). IsGood b.limits c (changes (others_standing b.entries s))) same_base
+        (subst (λ xs. IsGood b.limits (base b.opening all) (changes xs)) stands_now (all_taken.sound).good);
     map = ap present after ∙ sym (all_taken.sound).same ∙ (λ i. run (same_base i) (changes (stands_now i)));
   }
 
 -- ---- the standing entry of a session at a place
 
 -- an element of a filtered list stands in the list
-pub in_filter : (p : Applied → Bool) (xs front : List Applied) (x : Applied) (rest : List Applied) → filter p xs ≡ front ++ x ∷ rest → IsSplit xs x
+pub in_filter : (p : Applied → Bool) (xs front : List Applied) (x : Applied) (rest : List Applied) → filter p xs ≡ front ++ x ∷ rest
+    → IsSplit xs x
 in_filter p [] [] x rest h = (cc)
 in_filter p [] (f ∷ front) x rest h = (cc)
 in_filter p (y ∷ xs) front x rest h = by_bool (p y)
@@ -261,7 +288,8 @@ in_filter p (y ∷ xs) front x rest h = by_bool (p y)
     let s = in_filter p xs front x rest (sym (ap (λ b. cond b (y ∷ filter p xs) (filter p xs)) off) ∙ h) in
     record { front = y ∷ s.front; rest = s.rest; is = ap (λ zs. y ∷ zs) s.is })
   where
-    first : ((front : List Applied) → filter p xs ≡ front ++ x ∷ rest → IsSplit xs x) → (front : List Applied) → y ∷ filter p xs ≡ front ++ x ∷ rest → IsSplit (y ∷ xs) x
+    first : ((front : List Applied) → filter p xs ≡ front ++ x ∷ rest → IsSplit xs x) → (front : List Applied)
+        → y ∷ filter p xs ≡ front ++ x ∷ rest → IsSplit (y ∷ xs) x
     first later [] h = let same : y ≡ x = (cc) in record { front = []; rest = xs; is = ap (λ z. z ∷ xs) same }
     first later (f ∷ front) h =
         let more : filter p xs ≡ front ++ x ∷ rest = (cc) in
@@ -274,7 +302,8 @@ pub record IsAt (xs : List Applied) (i number : ℕ) : Type 0 where
   pub rest : drop i xs ≡ entry ∷ drop (i + 1) xs
   pub is_number : entry.number ≡ number
 
-at_place : (xs : List Applied) (numbers : List ℕ) (i : ℕ) → numbers ≡ map (λ (x : Applied). x.number) xs → i < length numbers → IsAt xs i (slice_index_or numbers i 0)
+at_place : (xs : List Applied) (numbers : List ℕ) (i : ℕ) → numbers ≡ map (λ (x : Applied). x.number) xs → i < length numbers
+    → IsAt xs i (slice_index_or numbers i 0)
 at_place [] [] i h within = absurd (omega arith)
 at_place [] (n ∷ numbers) i h within = (cc)
 at_place (x ∷ xs) [] i h within = absurd (omega arith)
@@ -282,7 +311,11 @@ at_place (x ∷ xs) (n ∷ numbers) zero h within = let same : n ≡ x.number = 
 at_place (x ∷ xs) (n ∷ numbers) (suc i) h within =
     let more : numbers ≡ map (λ (x : Applied). x.number) xs = (cc) in
     let at = at_place xs numbers i more (omega arith) in
-    record { entry = at.entry; rest = at.rest ∙ ap (λ k. at.entry ∷ drop k (x ∷ xs)) (let e : suc (i + 1) ≡ suc i + 1 = omega arith in e); is_number = at.is_number }
+    record {
+      entry = at.entry;
+      rest = at.rest ∙ ap (λ k. at.entry ∷ drop k (x ∷ xs)) (let e : suc (i + 1) ≡ suc i + 1 = omega arith in e);
+      is_number = at.is_number;
+    }
 
 pub record IsOwnAt (es : List Entry) (s i number : ℕ) : Type 0 where
   pub entry : Applied
@@ -290,7 +323,8 @@ pub record IsOwnAt (es : List Entry) (s i number : ℕ) : Type 0 where
   pub is_number : entry.number ≡ number
   pub change : change_at es number ≡ Some entry.change
 
-pub own_at : (es : List Entry) (s : ℕ) (numbers : List ℕ) (i : ℕ) → IsNumbered 1 es → numbers ≡ map (λ (x : Applied). x.number) (own_standing es s) → i < length numbers → IsOwnAt es s i (slice_index_or numbers i 0)
+pub own_at : (es : List Entry) (s : ℕ) (numbers : List ℕ) (i : ℕ) → IsNumbered 1 es
+    → numbers ≡ map (λ (x : Applied). x.number) (own_standing es s) → i < length numbers → IsOwnAt es s i (slice_index_or numbers i 0)
 own_at es s numbers i numbered is within =
     let at = at_place (own_standing es s) numbers i is within in
     let x = at.entry in
@@ -300,7 +334,8 @@ own_at es s numbers i numbered is within =
       entry = x;
       rest = at.rest;
       is_number = at.is_number;
-      change = ap (change_at es) (sym at.is_number) ∙ standing_change es x.number x numbered (standing_placed es split.front x split.rest numbered split.is);
+      change = ap (change_at es) (sym at.is_number)
+          ∙ standing_change es x.number x numbered (standing_placed es split.front x split.rest numbered split.is);
     }
 
 -- ---- what takes the entries back, one by one
@@ -313,10 +348,12 @@ record IsLastMapped (xs : List Applied) (front : List TakingBack) (back : Taking
   front_is : front ≡ map taking_back init
   back_is : back ≡ taking_back end
 
-last_mapped : (xs : List Applied) (front : List TakingBack) (back : TakingBack) → front ++ back ∷ [] ≡ map taking_back xs → IsLastMapped xs front back
+last_mapped : (xs : List Applied) (front : List TakingBack) (back : TakingBack) → front ++ back ∷ [] ≡ map taking_back xs
+    → IsLastMapped xs front back
 last_mapped [] [] back h = (cc)
 last_mapped [] (f ∷ front) back h = (cc)
-last_mapped (x ∷ []) [] back h = let same : back ≡ taking_back x = (cc) in record { init = []; end = x; is = refl; front_is = refl; back_is = same }
+last_mapped (x ∷ []) [] back h =
+    let same : back ≡ taking_back x = (cc) in record { init = []; end = x; is = refl; front_is = refl; back_is = same }
 last_mapped (x ∷ y ∷ xs) [] back h = (cc)
 last_mapped (x ∷ xs) (f ∷ front) back h =
     let here : f ≡ taking_back x = (cc) in
@@ -324,7 +361,8 @@ last_mapped (x ∷ xs) (f ∷ front) back h =
     let m = last_mapped xs front back rest in
     record { init = x ∷ m.init; end = m.end; is = ap (λ zs. x ∷ zs) m.is; front_is = (λ i. here i ∷ m.front_is i); back_is = m.back_is }
 
-with_undone-last : (es : List Entry) (s : ℕ) (xs : List Applied) (x : Applied) → with_undone (with_entry es s (undone x)) s xs ≡ with_undone es s (xs ++ x ∷ [])
+with_undone-last : (es : List Entry) (s : ℕ) (xs : List Applied) (x : Applied)
+    → with_undone (with_entry es s (undone x)) s xs ≡ with_undone es s (xs ++ x ∷ [])
 with_undone-last es s [] x = refl
 with_undone-last es s (y ∷ xs) x = ap (λ zs. with_entry zs s (undone y)) (with_undone-last es s xs x)
 
@@ -337,7 +375,8 @@ pub record IsLastUndone (b : Ledger) (s : ℕ) (rest : List TakingBack) (back : 
   pub closed : IsClosed (own s) (standing (with_entry b.entries s (Undone back.of back.applied)))
   pub all : all_undone (enter b s (Undone back.of back.applied)) s ≡ all_undone b s
 
-pub last_undone : (b : Ledger) (s : ℕ) (rest : List TakingBack) (back : TakingBack) → SoundLedger b → IsClosed (own s) (standing b.entries) → rest ++ back ∷ [] ≡ map taking_back (own_standing b.entries s)
+pub last_undone : (b : Ledger) (s : ℕ) (rest : List TakingBack) (back : TakingBack) → SoundLedger b → IsClosed (own s) (standing b.entries)
+    → rest ++ back ∷ [] ≡ map taking_back (own_standing b.entries s)
     → IsLastUndone b s rest back
 last_undone b s rest back sound closed is =
     let es = b.entries in
@@ -349,8 +388,11 @@ last_undone b s rest back sound closed is =
       same = (λ i. (m.back_is i).entered) ∙ sym (λ i. (m.back_is i).applied);
       fits = subst (λ (e : Change). Fits b.limits (present b) e) (λ i. (sym m.back_is i).applied) t.step.fits;
       sound = subst (λ (w : What). IsSound b.limits b.opening (with_entry es s w)) what t.step.sound;
-      left = subst (λ (w : What). rest ≡ map taking_back (own_standing (with_entry es s w) s)) what (m.front_is ∙ ap (map taking_back) (sym t.taken.mine));
+      left = subst (λ (w : What). rest ≡ map taking_back (own_standing (with_entry es s w) s)) what
+          (m.front_is ∙ ap (map taking_back) (sym t.taken.mine));
       closed = subst (λ (w : What). IsClosed (own s) (standing (with_entry es s w))) what t.taken.closed;
       all = subst (λ (w : What). all_undone (enter b s w) s ≡ all_undone b s) what
-          (ap (λ zs. record b { entries = zs }) (ap (with_undone (with_entry es s (undone x)) s) t.taken.mine ∙ with_undone-last es s m.init x ∙ ap (with_undone es s) (sym m.is)));
+          (ap (λ zs. record b { entries = zs })
+          (ap (with_undone (with_entry es s (undone x)) s) t.taken.mine ∙ with_undone-last es s m.init x
+          ∙ ap (with_undone es s) (sym m.is)));
     }

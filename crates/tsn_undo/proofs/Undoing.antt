@@ -27,7 +27,8 @@ pub record IsPlace (es : List Entry) (x : Applied) : Type 0 where
   pub rest : List Applied
   pub is : standing es ≡ front ++ x ∷ rest
 
-none_conflicts : (l : Limits) (opening : Configuration) (es : List Entry) (x : Applied) → IsSound l opening es → (p : IsPlace es x) → find_conflict es x ≡ None → AllByRecursion (λ e. conflicts e x.change ≡ false) (changes p.rest)
+none_conflicts : (l : Limits) (opening : Configuration) (es : List Entry) (x : Applied) → IsSound l opening es → (p : IsPlace es x)
+    → find_conflict es x ≡ None → AllByRecursion (λ e. conflicts e x.change ≡ false) (changes p.rest)
 none_conflicts l opening es x sound p none =
     let rises : Rises 1 (p.front ++ x ∷ p.rest) = subst (Rises 1) p.is (rises_standing es sound.numbered) in
     let later : later_than x.number (standing es) ≡ p.rest = ap (later_than x.number) p.is ∙ later_than_rest 1 p.front x p.rest rises in
@@ -41,10 +42,12 @@ pub record IsUndoStep (l : Limits) (opening : Configuration) (es : List Entry) (
   pub stands : standing (with_entry es s (undone x)) ≡ filter (λ y. not (x.number == y.number)) (standing es)
   pub sound : IsSound l opening (with_entry es s (undone x))
 
-pub undo_step : (l : Limits) (opening : Configuration) (es : List Entry) (s : ℕ) (x : Applied) → IsSound l opening es → IsPlace es x → find_conflict es x ≡ None → IsUndoStep l opening es s x
+pub undo_step : (l : Limits) (opening : Configuration) (es : List Entry) (s : ℕ) (x : Applied) → IsSound l opening es → IsPlace es x
+    → find_conflict es x ≡ None → IsUndoStep l opening es s x
 undo_step l opening es s x sound p none =
     let rises : Rises 1 (p.front ++ x ∷ p.rest) = subst (Rises 1) p.is (rises_standing es sound.numbered) in
-    let split : changes (standing es) ≡ changes p.front ++ x.change ∷ changes p.rest = ap changes p.is ∙ changes-append p.front (x ∷ p.rest) in
+    let split : changes (standing es) ≡ changes p.front ++ x.change ∷ changes p.rest = ap changes p.is
+    ∙ changes-append p.front (x ∷ p.rest) in
     let from = base opening es in
     let from_now : base opening (with_entry es s (undone x)) ≡ from = base_kept opening es s (undone x) tt in
     let good : IsGood l from (changes p.front ++ x.change ∷ changes p.rest) = subst (IsGood l from) split sound.good in
@@ -56,13 +59,15 @@ undo_step l opening es s x sound p none =
     (none_conflicts l opening es x sound p none) in
     let now : run c (x.change ∷ changes p.rest) ≡ configuration opening es =
     sym (run-append from (changes p.front) (x.change ∷ changes p.rest)) ∙ ap (run from) (sym split) ∙ sound.same in
-    let fits : Fits l (configuration opening es) (inverse x.change) = subst (λ (m : Configuration). Fits l m (inverse x.change)) now u_is.fits in
+    let fits : Fits l (configuration opening es) (inverse x.change) = subst (λ (m : Configuration). Fits l m (inverse x.change)) now
+    u_is.fits in
     let log = applied_push es s (undone x) (inverse x.change) refl in
     let after = configuration_push opening es s (undone x) (inverse x.change) refl in
     let stands : standing (with_entry es s (undone x)) ≡ filter (λ y. not (x.number == y.number)) (standing es) =
     standing_push es (next es s (undone x)) ∙ append_nil (filter (λ y. not (x.number == y.number)) (standing es)) in
     let rest_is : changes (standing (with_entry es s (undone x))) ≡ changes p.front ++ changes p.rest =
-    ap changes (stands ∙ ap (filter (λ y. not (x.number == y.number))) p.is ∙ left_one 1 p.front x p.rest rises) ∙ changes-append p.front p.rest in
+    ap changes (stands ∙ ap (filter (λ y. not (x.number == y.number))) p.is ∙ left_one 1 p.front x p.rest rises)
+    ∙ changes-append p.front p.rest in
     record {
       fits = fits;
       after = after;
@@ -70,10 +75,12 @@ undo_step l opening es s x sound p none =
       sound = record {
         numbered = IsNumbered-with_entry es s (undone x) sound.numbered;
         kept = sound.kept;
-        replays = subst (IsGood l opening) (sym log) (good-append l opening (changes (collect applies es)) (inverse x.change ∷ []) sound.replays (fits, tt));
+        replays = subst (IsGood l opening) (sym log)
+            (good-append l opening (changes (collect applies es)) (inverse x.change ∷ []) sound.replays (fits, tt));
         settled = subst (λ ys. IsGood l opening (changes ys)) (sym (settled_kept es (next es s (undone x)) tt)) sound.settled;
         good = subst (λ (b : Configuration). IsGood l b (changes (standing (with_entry es s (undone x))))) (sym from_now)
             (subst (IsGood l from) (sym rest_is) (good-append l from (changes p.front) (changes p.rest) front_good u_is.good));
-        same = (λ i. run (from_now i) (rest_is i)) ∙ run-append from (changes p.front) (changes p.rest) ∙ sym u_is.same ∙ ap (λ (m : Configuration). after_change m (inverse x.change)) now ∙ sym after;
+        same = (λ i. run (from_now i) (rest_is i)) ∙ run-append from (changes p.front) (changes p.rest) ∙ sym u_is.same
+            ∙ ap (λ (m : Configuration). after_change m (inverse x.change)) now ∙ sym after;
       };
     }

@@ -33,7 +33,9 @@ abbrev pub IsClosed : (Applied → Bool) → List Applied → Type 0
 IsClosed out [] = Unit {0}
 IsClosed out (x ∷ xs) = (IsTrue (out x) → AllByRecursion (λ y. IsTrue (conflicts y.change x.change) → IsTrue (out y)) xs) × IsClosed out xs
 
--- the run without the set is good, and ends at each key of the set in the value before its earliest change of that key, and elsewhere as the run of all
+-- the run without the set is good, and ends at each key of the set in the value before its earliest change of that key, and elsewhere as
+-- the run of all
 pub record Commutes (l : Limits) (from : Configuration) (out : Applied → Bool) (xs : List Applied) : Type 0 where
   pub good : IsGood l from (changes (left out xs))
-  pub ends : (k : Key) → get (run from (changes (left out xs))) k ≡ value_before (first_on (changes (in_set out xs)) k) (get (run from (changes xs)) k)
+  pub ends : (k : Key) → get (run from (changes (left out xs))) k ≡ value_before (first_on (changes (in_set out xs)) k)
+      (get (run from (changes xs)) k)

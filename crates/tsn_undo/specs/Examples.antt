@@ -1,4 +1,5 @@
--- Journals of worked examples, by hand: the first run of a script, an undo that a colleague's removal blocks, an undo of all or of nothing, a redo in conflict, and a settle.
+-- Journals of worked examples, by hand: the first run of a script, an undo that a colleague's removal blocks, an undo of all or of nothing,
+-- a redo in conflict, and a settle.
 use Rattle.std.specs.Prelude.{ℕ, List, [], ◌∷◌, Option, Some, None, true, false}
 use Rattle.std.specs.List.{fold}
 use Rattle.tsn_types.specs.declared.keys.Key.{Key}
@@ -12,7 +13,13 @@ use Rattle.tsn_journal.specs.Entries.{Applied, undone, with_entry}
 
 -- an open gate with an empty list
 abbrev pub gate : Record
-gate = GateRecord (record { is_open = true; ipv = None; invalid_rx = false; octets_exceeded = false; admin = record { list = []; cycle = 1000000; extension = 0; base = 0 } })
+gate = GateRecord (record {
+  is_open = true;
+  ipv = None;
+  invalid_rx = false;
+  octets_exceeded = false;
+  admin = record { list = []; cycle = 1000000; extension = 0; base = 0 };
+})
 
 -- a filter of stream handle 7 on a gate, with no meter
 abbrev pub filter : ℕ → Record
@@ -30,7 +37,8 @@ edits cs = fold (λ es c. with_entry es c.0 (Made c.1)) [] cs
 
 -- create gate 0, create filter 3, remove filter 3
 abbrev pub first_run : List Entry
-first_run = edits ((1, change (Gate 0) None (Some gate)) ∷ (1, change (Filter 3) None (Some (filter 0))) ∷ (1, change (Filter 3) (Some (filter 0)) None) ∷ [])
+first_run = edits ((1, change (Gate 0) None (Some gate)) ∷ (1, change (Filter 3) None (Some (filter 0)))
+    ∷ (1, change (Filter 3) (Some (filter 0)) None) ∷ [])
 
 abbrev pub removal : Applied
 removal = applied 3 1 (change (Filter 3) (Some (filter 0)) None)
@@ -56,7 +64,8 @@ others_removal = applied 5 2 (change (Gate 0) (Some gate) None)
 
 -- a blind meter of 8 Mbit/s and this committed burst size
 abbrev pub meter : ℕ → Record
-meter cbs = MeterRecord (record { cir = 8000000; cbs = cbs; eir = 0; ebs = 0; cf = false; aware = false; drop_yellow = false; all_red = false })
+meter cbs =
+    MeterRecord (record { cir = 8000000; cbs = cbs; eir = 0; ebs = 0; cf = false; aware = false; drop_yellow = false; all_red = false })
 
 -- a filter of stream handle 7 on gate 0 and a meter
 abbrev pub metered : ℕ → Record
@@ -74,7 +83,9 @@ or_nothing =
 -- session 2 creates meter 2, session 1 replaces it, and both take that back, session 1 first
 abbrev pub both_undone : List Entry
 both_undone =
-    with_entry (with_entry (edits ((2, change (Meter 2) None (Some (meter 1500))) ∷ (1, change (Meter 2) (Some (meter 1500)) (Some (meter 900))) ∷ [])) 1 (undone (applied 2 1 (change (Meter 2) (Some (meter 1500)) (Some (meter 900))))))
+    with_entry (with_entry (edits ((2, change (Meter 2) None (Some (meter 1500)))
+    ∷ (1, change (Meter 2) (Some (meter 1500)) (Some (meter 900))) ∷ [])) 1
+    (undone (applied 2 1 (change (Meter 2) (Some (meter 1500)) (Some (meter 900))))))
     2 (undone (applied 1 2 (change (Meter 2) None (Some (meter 1500)))))
 
 -- the two takings back
@@ -87,7 +98,9 @@ created_back = applied 4 2 (change (Meter 2) (Some (meter 1500)) None)
 -- session 1 creates meter 2; session 2 replaces it and takes that back; session 1 creates gate 1; the first two are settled
 abbrev pub two_settled : List Entry
 two_settled =
-    with_entry (with_entry (with_entry (edits ((1, change (Meter 2) None (Some (meter 1500))) ∷ (2, change (Meter 2) (Some (meter 1500)) (Some (meter 900))) ∷ [])) 2 (undone (applied 2 2 (change (Meter 2) (Some (meter 1500)) (Some (meter 900))))))
+    with_entry (with_entry (with_entry
+    (edits ((1, change (Meter 2) None (Some (meter 1500))) ∷ (2, change (Meter 2) (Some (meter 1500)) (Some (meter 900))) ∷ [])) 2
+    (undone (applied 2 2 (change (Meter 2) (Some (meter 1500)) (Some (meter 900))))))
     1 (Made (change (Gate 1) None (Some gate)))) 3 (Settled 2)
 
 -- what is final, what stands, and what session 2 may redo

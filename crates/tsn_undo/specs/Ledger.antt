@@ -39,13 +39,17 @@ Takes old entries parts new = (old.entries ≤ new.entries + entries) × (old.pa
 
 abbrev pub ledger_code : Coded Ledger
 ledger_code =
-    code_by (Limits × (Configuration × List Entry)) (coded× limits_row.the_row.coded (coded× (code key_row.the_row.coded record_row.the_row.coded) (coded_list entry_row.the_row.coded))) (λ s. (s.limits, (s.opening, s.entries))) (λ p. record { limits = p.0; opening = p.1.0; entries = p.1.1 }) (λ _. refl)
+    code_by (Limits × (Configuration × List Entry))
+    (coded× limits_row.the_row.coded
+    (coded× (code key_row.the_row.coded record_row.the_row.coded) (coded_list entry_row.the_row.coded)))
+    (λ s. (s.limits, (s.opening, s.entries))) (λ p. record { limits = p.0; opening = p.1.0; entries = p.1.1 }) (λ _. refl)
 
 abbrev pub room_code : Coded Room
 room_code = code_by (ℕ × ℕ) (coded× coded_ℕ coded_ℕ) (λ r. (r.entries, r.parts)) (λ p. record { entries = p.0; parts = p.1 }) (λ _. refl)
 
 abbrev pub ledger_with_room_code : Coded LedgerWithRoom
-ledger_with_room_code = code_by (Ledger × Room) (coded× ledger_code room_code) (λ s. (s.ledger, s.room)) (λ p. record { ledger = p.0; room = p.1 }) (λ _. refl)
+ledger_with_room_code =
+    code_by (Ledger × Room) (coded× ledger_code room_code) (λ s. (s.ledger, s.room)) (λ p. record { ledger = p.0; room = p.1 }) (λ _. refl)
 
 -- the configuration to which the entries have led
 abbrev pub present : Ledger → Configuration

@@ -14,7 +14,8 @@ use Rattle.tsn_undo.specs.Ledger.{Ledger, base_of, enter, present}
 -- why a settle is refused: there is no entry of the number, the entries up to it are settled already, a full journal
 abbrev pub settle_causes : Ledger → ℕ → List (Option Refusal)
 settle_causes b upto =
-    unless (nat_le upto (length b.entries)) (Range Upto) ∷ unless (nat_lt (settled b.entries) upto) (SettledAlready (settled b.entries)) ∷ no_room b.entries 1 ∷ []
+    unless (nat_le upto (length b.entries)) (Range Upto) ∷ unless (nat_lt (settled b.entries) upto) (SettledAlready (settled b.entries))
+    ∷ no_room b.entries 1 ∷ []
 
 abbrev pub settle_refusal : Ledger → ℕ → Option Refusal
 settle_refusal b upto = least (settle_causes b upto)

@@ -55,7 +55,11 @@ impl Model for Book {
 
     ghost coded = { ledger_with_room_code };
 
-    ghost view = { λ a. record { ledger = record { limits = a.config.limits; opening = opening_of a.config.map a.journal.entries; entries = a.journal.entries }; room = record { entries = a.journal.spare; parts = min a.journal.parts a.config.spare } } };
+    ghost view = { λ a. record {
+      ledger = record
+          { limits = a.config.limits; opening = opening_of a.config.map a.journal.entries; entries = a.journal.entries };
+      room = record { entries = a.journal.spare; parts = min a.journal.parts a.config.spare };
+    } };
 
     ghost invariant = { λ a. IsBook a.config.limits a.config.map a.journal.entries };
 }
@@ -96,8 +100,8 @@ impl Book {
         &self.journal
     }
 
-    /// Makes room for at least `count` entries more, such as acts make. It is refused 17 where the journal never holds so
-    /// many, then 18, and never where there is that room already. The ledger stays, and the room never falls.
+    /// Makes room for at least `count` entries more, such as acts make. It is refused 17 where the journal never holds
+    /// so many, then 18, and never where there is that room already. The ledger stays, and the room never falls.
     pub fn reserve(&mut self, count: usize) -> Result<(), Refusal>
         ensures ledger { self.new.ledger ≡ self.old.ledger }
         ensures free { OnOk result (no_room self.old.ledger.entries count ≡ None) }
@@ -302,7 +306,8 @@ impl Book {
         requires room { Holds self.old.room 1 (room_of back.applied) }
         requires same { back.entered ≡ back.applied }
         requires fits { Fits self.old.ledger.limits (present self.old.ledger) back.applied }
-        requires sound { IsSound self.old.ledger.limits self.old.ledger.opening (with_entry self.old.ledger.entries session (Undone back.of back.applied)) }
+        requires sound { IsSound self.old.ledger.limits self.old.ledger.opening
+            (with_entry self.old.ledger.entries session (Undone back.of back.applied)) }
         ensures number { result ≡ length self.old.ledger.entries + 1 }
         ensures after { self.new.ledger ≡ enter self.old.ledger session (Undone back.of back.applied) }
         ensures room { Takes self.old.room 1 (room_of back.applied) self.new.room }
@@ -335,8 +340,8 @@ impl Book {
         self.append(session, What::Acted { act, key, now }, None)
     }
 
-    /// Applies what the entry applies, if it applies a change, and enters it, in room for both. The change fits, and the
-    /// entries stay sound.
+    /// Applies what the entry applies, if it applies a change, and enters it, in room for both. The change fits, and
+    /// the entries stay sound.
     pub(crate) fn append(&mut self, session: u32, what: What, change: Option<Change>) -> u64
         requires room { Holds self.old.room 1 (option_map_or room_of change 0) }
         requires applies { applies what ≡ change }

@@ -53,8 +53,8 @@ pub fn undos_by_hand()
     ensures redone { redo_of (with_entry both_undone 2 (redone created_back)) 1 ≡ Some replaced_back }
 {}
 
-/// A worked example of a settle: what was undone by then is not final, what stood is, what comes later stands, and an undo
-/// is redone just where it is above the number, wherever the edit that it took back lies.
+/// A worked example of a settle: what was undone by then is not final, what stood is, what comes later stands, and an
+/// undo is redone just where it is above the number, wherever the edit that it took back lies.
 pub fn settles_by_hand()
     ensures number { settled two_settled ≡ 2 }
     ensures base { settled_edits two_settled ≡ final_creation ∷ [] }
@@ -66,8 +66,8 @@ pub fn settles_by_hand()
     ensures same { settled_edits (with_entry two_settled 1 (Settled 3)) ≡ final_creation ∷ [] }
 {}
 
-/// Any set of standing entries that has, with each of its entries, every later standing entry in conflict with it, may be
-/// taken out of the run: the run of the others is good, and it ends, at each key of the set, in the value before the
+/// Any set of standing entries that has, with each of its entries, every later standing entry in conflict with it, may
+/// be taken out of the run: the run of the others is good, and it ends, at each key of the set, in the value before the
 /// set's earliest change of that key, and at every other key as the run of all standing entries does. The opening is
 /// well kept, as every book's is.
 pub fn commutation_under_references()

@@ -62,8 +62,8 @@ impl Book {
     }
 
     /// Where the inverse of the change that the session may redo does not fit the configuration, the refusal that names
-    /// the latest later entry in conflict with it. The number is that of what may be redone; only the proof looks at the
-    /// session.
+    /// the latest later entry in conflict with it. The number is that of what may be redone; only the proof looks at
+    /// the session.
     #[tactic(auto, using(crate::proofs::Redone::undone_there))]
     fn redo_conflict(&self, session: u32, of: u64) -> Option<Refusal>
         requires { option_map (λ x. x.number) (redo_of self.now.ledger.entries session) ≡ Some of }

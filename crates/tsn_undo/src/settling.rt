@@ -10,10 +10,10 @@ use tsn_journal::entries::What;
 use tsn_types::refusals::{Field, Refusal};
 
 impl Book {
-    /// Makes the entries up to the number final: those that stood are taken back no more, and stand in nobody's way. The
-    /// answer is the number of the entry that this makes; no record changes. It is refused 4 (field `upto`) where there
-    /// is no entry of the number, then 19 where the entries up to it are settled already, then 17 and 18; refused, it has
-    /// changed nothing.
+    /// Makes the entries up to the number final: those that stood are taken back no more, and stand in nobody's way.
+    /// The answer is the number of the entry that this makes; no record changes. It is refused 4 (field `upto`) where
+    /// there is no entry of the number, then 19 where the entries up to it are settled already, then 17 and 18;
+    /// refused, it has changed nothing.
     pub fn settle(&mut self, session: u32, upto: u64) -> Result<u64, Refusal>
         ensures ok { IfOk result (λ number. Settles self.old.ledger session upto number self.new.ledger) }
         ensures refused { IfErr result (λ why. IsLeastOrMemory (settle_refusal self.old.ledger upto) why) }

@@ -31,7 +31,8 @@ impl Book {
         self.try_undo_all(session)
     }
 
-    /// Takes back all standing entries of the session, as `undo_all` does, where it is known that no conflict blocks it, which
+    /// Takes back all standing entries of the session, as `undo_all` does, where it is known that no conflict blocks
+    /// it, which
     /// `refuse_blocked` tells, and how many entries of the session stand. It is refused 10 where none does, then 17 where the journal
     /// never holds so many entries more, then 18; refused, it has changed nothing.
     pub fn undo_all_free(&mut self, session: u32, count: usize) -> Result<(u64, u64), Refusal>
@@ -72,8 +73,8 @@ impl Book {
         self.refuse_entries(count)
     }
 
-    /// Why an undo of all of the session is blocked, if it is: the refusal 11 that it would have. It takes no memory, and
-    /// counts nothing.
+    /// Why an undo of all of the session is blocked, if it is: the refusal 11 that it would have. It takes no memory,
+    /// and counts nothing.
     pub fn refuse_blocked(&self, session: u32) -> Option<Refusal>
         ensures conflict { result ≡ conflict_with_others self.now.ledger.entries (find_own_in_conflict self.now.ledger.entries session) }
         ensures refused { IfSome result (λ why. undo_all_refusal self.now.ledger session ≡ Some why) }
@@ -135,8 +136,8 @@ impl Book {
         }
     }
 
-    /// Applies and enters what takes back the last of the session's standing entries, in room for it. What takes back the
-    /// others is `rest`, at which only the proof looks.
+    /// Applies and enters what takes back the last of the session's standing entries, in room for it. What takes back
+    /// the others is `rest`, at which only the proof looks.
     fn enter_last_undone(&mut self, session: u32, back: TakingBack, rest: &[TakingBack])
         requires last { rest.now ++ back ∷ [] ≡ map taking_back (own_standing self.old.ledger.entries session) }
         requires closed { IsClosed (λ x. x.session == session) (standing self.old.ledger.entries) }

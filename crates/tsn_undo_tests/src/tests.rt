@@ -165,8 +165,8 @@ fn use_the_last_entry(rt: &impl Abort, book: &mut Book) {
     undoes(rt, book, 1, 262_144, 262_143);
 }
 
-/// In a full journal nothing is entered; that nothing stands, that something is in conflict and that a settle has nothing
-/// to settle is told first.
+/// In a full journal nothing is entered; that nothing stands, that something is in conflict and that a settle has
+/// nothing to settle is told first.
 fn is_full(rt: &impl Abort, book: &mut Book) {
     same(
         rt,

@@ -1,6 +1,7 @@
 //! Where a command line is at fault.
 //!
-//! It goes through the members of a command by one table, and through those of a record by the table that setups have too.
+//! It goes through the members of a command by one table, and through those of a record by the table that setups have
+//! too.
 use crate::told::{as_told, is_plain};
 use serde_json::Value;
 use std::alloc::{AllocError, Global};
@@ -64,7 +65,8 @@ const COMMANDS: &str =
     "hello, create, replace, remove, batch, undo, undo_all, redo, settle, enable, disable, apply, frame, \
 states, counters, show, list, since, resume, sessions and setup";
 
-// The members of a command beside `do`, where a hello that has more than that has a name; none where there is no such command.
+// The members of a command beside `do`, where a hello that has more than that has a name; none where there is no such
+// command.
 fn parts_of(word: &str, has_more: bool) -> Option<&'static [Part]> {
     match word {
         "hello" if has_more => Some(&[NAME]),

@@ -4,8 +4,8 @@ use toml::value::Array;
 use tsn_records::allowed::{Allowed, KINDS, Member, entry_members_of, members_of, name_of};
 use tsn_types::keys::Kind;
 
-/// What is looked for: a member that is not as it should be, whatever its number; or a number of this name that is outside
-/// its range.
+/// What is looked for: a member that is not as it should be, whatever its number; or a number of this name that is
+/// outside its range.
 #[derive(Clone, Copy)]
 pub enum Sought<'a> {
     Shape,

@@ -254,8 +254,8 @@ fn line_of(alloc: Global, text: &[u8], why: Refusal) -> Result<Option<String>, A
     }
 }
 
-/// A line that tells where the text of a setup is at fault, for the refusal that it met. It is empty where nothing is found,
-/// and where memory is wanting.
+/// A line that tells where the text of a setup is at fault, for the refusal that it met. It is empty where nothing is
+/// found, and where memory is wanting.
 pub fn fault_line(alloc: Global, text: &[u8], why: Refusal) -> String {
     match line_of(alloc, text, why) {
         Ok(Some(line)) => line,

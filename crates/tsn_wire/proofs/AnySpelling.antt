@@ -50,7 +50,8 @@ no_colon_members (json.member k j ms) rest = refl
 mutual
   unfolding punctuate
 
-  value_punctuated : (later : Bool) (j : json.Json) (rest : List Lexeme) → begins_colon rest ≡ false → punctuate (place later) (value_lexemes j ++ rest) ≡ json_tokens j ++ punctuate after_value rest
+  value_punctuated : (later : Bool) (j : json.Json) (rest : List Lexeme) → begins_colon rest ≡ false
+      → punctuate (place later) (value_lexemes j ++ rest) ≡ json_tokens j ++ punctuate after_value rest
   value_punctuated true json.null rest h = refl
   value_punctuated false json.null rest h = refl
   value_punctuated true (json.boolean b) rest h = refl
@@ -64,30 +65,38 @@ mutual
   value_punctuated true (json.object ms) rest h = ap (λ l. Token.begin_object ∷ l) (first_members ms rest)
   value_punctuated false (json.object ms) rest h = ap (λ l. Token.begin_object ∷ l) (first_members ms rest)
 
-  first_items : (js : json.Items) (rest : List Lexeme) → punctuate fresh (items_lexemes false js ++ rest) ≡ items_tokens js ++ punctuate after_value rest
+  first_items : (js : json.Items) (rest : List Lexeme)
+      → punctuate fresh (items_lexemes false js ++ rest) ≡ items_tokens js ++ punctuate after_value rest
   first_items json.no_items rest = refl
   first_items (json.item j js) rest =
-      ap (punctuate fresh) (append_assoc (value_lexemes j) (items_lexemes true js) rest) ∙ value_punctuated false j (items_lexemes true js ++ rest) (no_colon_items js rest)
+      ap (punctuate fresh) (append_assoc (value_lexemes j) (items_lexemes true js) rest)
+      ∙ value_punctuated false j (items_lexemes true js ++ rest) (no_colon_items js rest)
       ∙ ap (λ l. json_tokens j ++ l) (later_items js rest) ∙ sym (append_assoc (json_tokens j) (items_tokens js) _)
 
-  later_items : (js : json.Items) (rest : List Lexeme) → punctuate after_value (items_lexemes true js ++ rest) ≡ items_tokens js ++ punctuate after_value rest
+  later_items : (js : json.Items) (rest : List Lexeme)
+      → punctuate after_value (items_lexemes true js ++ rest) ≡ items_tokens js ++ punctuate after_value rest
   later_items json.no_items rest = refl
   later_items (json.item j js) rest =
-      ap (punctuate after_comma) (append_assoc (value_lexemes j) (items_lexemes true js) rest) ∙ value_punctuated true j (items_lexemes true js ++ rest) (no_colon_items js rest)
+      ap (punctuate after_comma) (append_assoc (value_lexemes j) (items_lexemes true js) rest)
+      ∙ value_punctuated true j (items_lexemes true js ++ rest) (no_colon_items js rest)
       ∙ ap (λ l. json_tokens j ++ l) (later_items js rest) ∙ sym (append_assoc (json_tokens j) (items_tokens js) _)
 
-  first_members : (ms : json.Members) (rest : List Lexeme) → punctuate fresh (members_lexemes false ms ++ rest) ≡ members_tokens ms ++ punctuate after_value rest
+  first_members : (ms : json.Members) (rest : List Lexeme)
+      → punctuate fresh (members_lexemes false ms ++ rest) ≡ members_tokens ms ++ punctuate after_value rest
   first_members json.no_members rest = refl
   first_members (json.member k j ms) rest =
       ap (λ l. Token.key k ∷ l)
-      (ap (punctuate fresh) (append_assoc (value_lexemes j) (members_lexemes true ms) rest) ∙ value_punctuated false j (members_lexemes true ms ++ rest) (no_colon_members ms rest)
+      (ap (punctuate fresh) (append_assoc (value_lexemes j) (members_lexemes true ms) rest)
+      ∙ value_punctuated false j (members_lexemes true ms ++ rest) (no_colon_members ms rest)
       ∙ ap (λ l. json_tokens j ++ l) (later_members ms rest) ∙ sym (append_assoc (json_tokens j) (members_tokens ms) _))
 
-  later_members : (ms : json.Members) (rest : List Lexeme) → punctuate after_value (members_lexemes true ms ++ rest) ≡ members_tokens ms ++ punctuate after_value rest
+  later_members : (ms : json.Members) (rest : List Lexeme)
+      → punctuate after_value (members_lexemes true ms ++ rest) ≡ members_tokens ms ++ punctuate after_value rest
   later_members json.no_members rest = refl
   later_members (json.member k j ms) rest =
       ap (λ l. Token.key k ∷ l)
-      (ap (punctuate fresh) (append_assoc (value_lexemes j) (members_lexemes true ms) rest) ∙ value_punctuated false j (members_lexemes true ms ++ rest) (no_colon_members ms rest)
+      (ap (punctuate fresh) (append_assoc (value_lexemes j) (members_lexemes true ms) rest)
+      ∙ value_punctuated false j (members_lexemes true ms ++ rest) (no_colon_members ms rest)
       ∙ ap (λ l. json_tokens j ++ l) (later_members ms rest) ∙ sym (append_assoc (json_tokens j) (members_tokens ms) _))
 
 value_tokens : (line : List ℕ) (j : json.Json) → lexed line ≡ value_lexemes j ++ [] → tokens line ≡ json_tokens j ++ []
@@ -107,37 +116,50 @@ record_kept kinds.Gate (records.Gate r) of = rw (gate_shaped r)
 record_kept kinds.Meter (records.Meter r) of = rw (meter_shaped r)
 record_kept k r of = absurd of
 
-now_shaped : (word : List ℕ) (s : ℕ) (k : Kind) (n now : ℕ) → IsInstanceId n → MayHaveList k → listed_at (codes "now") (object (act_members word s (record { kind = k; number = n }) now)) ≡ Ok (record { kind = k; number = n }, now)
+now_shaped : (word : List ℕ) (s : ℕ) (k : Kind) (n now : ℕ) → IsInstanceId n → MayHaveList k
+    → listed_at (codes "now") (object (act_members word s (record { kind = k; number = n }) now))
+    ≡ Ok (record { kind = k; number = n }, now)
 unfolding listed_at
 now_shaped word s kinds.Port n now small has = rw (decimal_back n small) refl
 now_shaped word s kinds.Filter n now small has = absurd has
 now_shaped word s kinds.Gate n now small has = rw (decimal_back n small) refl
 now_shaped word s kinds.Meter n now small has = absurd has
 
-at_shaped : (s : ℕ) (k : Kind) (n at : ℕ) → IsInstanceId n → MayHaveList k → listed_at (codes "at") (object (states_members s (record { kind = k; number = n }) at)) ≡ Ok (record { kind = k; number = n }, at)
+at_shaped : (s : ℕ) (k : Kind) (n at : ℕ) → IsInstanceId n → MayHaveList k
+    → listed_at (codes "at") (object (states_members s (record { kind = k; number = n }) at)) ≡ Ok (record { kind = k; number = n }, at)
 unfolding listed_at
 at_shaped s kinds.Port n at small has = rw (decimal_back n small) refl
 at_shaped s kinds.Filter n at small has = absurd has
 at_shaped s kinds.Gate n at small has = rw (decimal_back n small) refl
 at_shaped s kinds.Meter n at small has = absurd has
 
-enable_shaped : (s : ℕ) (k : Kind) (n now : ℕ) → IsInstanceId n → MayHaveList k → line_shape (object (act_members (codes "enable") s (record { kind = k; number = n }) now)) ≡ Ok (Session s (Enable (record { kind = k; number = n }) now))
+enable_shaped : (s : ℕ) (k : Kind) (n now : ℕ) → IsInstanceId n → MayHaveList k
+    → line_shape (object (act_members (codes "enable") s (record { kind = k; number = n }) now))
+    ≡ Ok (Session s (Enable (record { kind = k; number = n }) now))
 unfolding line_shape command_shape enable_shape
 enable_shaped s k n now small has = rw (now_shaped (codes "enable") s k n now small has) refl
 
-disable_shaped : (s : ℕ) (k : Kind) (n now : ℕ) → IsInstanceId n → MayHaveList k → line_shape (object (act_members (codes "disable") s (record { kind = k; number = n }) now)) ≡ Ok (Session s (Disable (record { kind = k; number = n }) now))
+disable_shaped : (s : ℕ) (k : Kind) (n now : ℕ) → IsInstanceId n → MayHaveList k
+    → line_shape (object (act_members (codes "disable") s (record { kind = k; number = n }) now))
+    ≡ Ok (Session s (Disable (record { kind = k; number = n }) now))
 unfolding line_shape command_shape disable_shape
 disable_shaped s k n now small has = rw (now_shaped (codes "disable") s k n now small has) refl
 
-apply_shaped : (s : ℕ) (k : Kind) (n now : ℕ) → IsInstanceId n → MayHaveList k → line_shape (object (act_members (codes "apply") s (record { kind = k; number = n }) now)) ≡ Ok (Session s (Apply (record { kind = k; number = n }) now))
+apply_shaped : (s : ℕ) (k : Kind) (n now : ℕ) → IsInstanceId n → MayHaveList k
+    → line_shape (object (act_members (codes "apply") s (record { kind = k; number = n }) now))
+    ≡ Ok (Session s (Apply (record { kind = k; number = n }) now))
 unfolding line_shape command_shape apply_shape
 apply_shaped s k n now small has = rw (now_shaped (codes "apply") s k n now small has) refl
 
-states_shaped : (s : ℕ) (k : Kind) (n at : ℕ) → IsInstanceId n → MayHaveList k → line_shape (object (states_members s (record { kind = k; number = n }) at)) ≡ Ok (Session s (States (record { kind = k; number = n }) at))
+states_shaped : (s : ℕ) (k : Kind) (n at : ℕ) → IsInstanceId n → MayHaveList k
+    → line_shape (object (states_members s (record { kind = k; number = n }) at))
+    ≡ Ok (Session s (States (record { kind = k; number = n }) at))
 unfolding line_shape command_shape states_shape
 states_shaped s k n at small has = rw (at_shaped s k n at small has) refl
 
-counters_shaped : (s : ℕ) (k : Kind) (n : ℕ) → IsInstanceId n → line_shape (object (keyed_members (codes "counters") s (record { kind = k; number = n }))) ≡ Ok (Session s (Counters (record { kind = k; number = n })))
+counters_shaped : (s : ℕ) (k : Kind) (n : ℕ) → IsInstanceId n
+    → line_shape (object (keyed_members (codes "counters") s (record { kind = k; number = n })))
+    ≡ Ok (Session s (Counters (record { kind = k; number = n })))
 unfolding line_shape command_shape counters_shape
 counters_shaped s kinds.Port n small = rw (decimal_back n small) refl
 counters_shaped s kinds.Filter n small = rw (decimal_back n small) refl
@@ -202,9 +224,12 @@ rises (Session s Setup) = (refl, tt)
 
 -- ---- the line
 
-pub any_says : (line rest now : List ℕ) (rows : Rows) (count : ℕ) (draft : LineDraft) → ReadsMembers 3 (lexed line) rows count (lexed rest) → lexed now ≡ lexed rest → now ≡ [] → IsLine rows count draft → IsUtf8 line → reading line ≡ line_of_draft draft
+pub any_says : (line rest now : List ℕ) (rows : Rows) (count : ℕ) (draft : LineDraft) → ReadsMembers 3 (lexed line) rows count (lexed rest)
+    → lexed now ≡ lexed rest → now ≡ [] → IsLine rows count draft → IsUtf8 line → reading line ≡ line_of_draft draft
 any_says line rest now rows count draft m passed none l utf8 =
     let (j, is, same, low) = object_read 3 (lexed line) (lexed rest) rows count (line_members draft) m l.told (rises draft) l.len in
-    let text : tokens line ≡ json_tokens j ++ [] = value_tokens line j (is ∙ ap (λ x. value_lexemes j ++ x) (nothing_left rest now passed none)) in
-    let found : read line ≡ Some (object (line_members draft)) = ap whole (ap (json.value max_depth) text ∙ value-json_tokens j max_depth [] (omega (arith, low))) ∙ same in
+    let text : tokens line ≡ json_tokens j
+    ++ [] = value_tokens line j (is ∙ ap (λ x. value_lexemes j ++ x) (nothing_left rest now passed none)) in
+    let found : read line ≡ Some (object (line_members draft)) = ap whole
+    (ap (json.value max_depth) text ∙ value-json_tokens j max_depth [] (omega (arith, low))) ∙ same in
     reading_of line (object (line_members draft)) draft (data_of_read line (object (line_members draft)) utf8 found) (shaped draft l.sound)

@@ -43,7 +43,8 @@ use Rattle.tsn_wire.proofs.Objects.{IsOrdered, ItemsAreOrdered, inside, inner_or
 abbrev IsEdit : Data → Edit → Type 0
 IsEdit d x = (d ≡ edit_value x) × EditMayBeAsked x
 
-put_known : (word : List ℕ) (d : Data) (p : KeyDraft × RecordDraft) (k : Key) (r : Record) → IsOrdered d → get (codes "do") d ≡ Some (string word) → keyed_record 3 d ≡ Ok p → key p.0 ≡ Ok k → record_of p.1 ≡ Ok r
+put_known : (word : List ℕ) (d : Data) (p : KeyDraft × RecordDraft) (k : Key) (r : Record) → IsOrdered d
+    → get (codes "do") d ≡ Some (string word) → keyed_record 3 d ≡ Ok p → key p.0 ≡ Ok k → record_of p.1 ≡ Ok r
     → (d ≡ put_data word (key_text k) (record_data r)) × KeyedInRange k r
 unfolding keyed_record
 put_known word d p k r ordered there shape range ranges =
@@ -54,24 +55,31 @@ put_known word d p k r ordered there shape range ranges =
     let both = only (Ok (q, v)) (q, v) p refl v_next in
     let named = key_there d q k q_is (ap (λ x. key x.0) both ∙ range) in
     let held = value_there (get (codes "record") d) e e_is in
-    let known = record_known k e v r (inner_ordered (codes "record") d e ordered held) named.2 (ap (λ x. record_shape as_json x e) (sym named.1) ∙ v_is) (ap (λ x. record_of x.1) both ∙ ranges) in
-    (whole_object 2 d (inside (put_data word (key_text k) (record_data r))) u ordered count_is refl (refl, (refl, tt)) (there, (named.0, (held ∙ ap Some known.0, tt))), known.1)))))
+    let known = record_known k e v r (inner_ordered (codes "record") d e ordered held) named.2
+    (ap (λ x. record_shape as_json x e) (sym named.1) ∙ v_is) (ap (λ x. record_of x.1) both ∙ ranges) in (
+      whole_object 2 d (inside (put_data word (key_text k) (record_data r))) u ordered count_is refl (refl, (refl, tt))
+          (there, (named.0, (held ∙ ap Some known.0, tt))),
+      known.1,
+    )))))
 
-create_known : (d : Data) (p : KeyDraft × RecordDraft) (x : Edit) → IsOrdered d → get (codes "do") d ≡ Some (string (codes "create")) → keyed_record 3 d ≡ Ok p → edit_of_draft (drafts.Create p.0 p.1) ≡ Ok x → IsEdit d x
+create_known : (d : Data) (p : KeyDraft × RecordDraft) (x : Edit) → IsOrdered d → get (codes "do") d ≡ Some (string (codes "create"))
+    → keyed_record 3 d ≡ Ok p → edit_of_draft (drafts.Create p.0 p.1) ≡ Ok x → IsEdit d x
 create_known d p x ordered there shape range =
     steps (key p.0) _ x range (λ k k_is k_next.
     steps (record_of p.1) _ x k_next (λ r r_is r_next.
     let found = edits.Create k r in
     subst (IsEdit d) (only (Ok found) found x refl r_next) (put_known (codes "create") d p k r ordered there shape k_is r_is)))
 
-replace_known : (d : Data) (p : KeyDraft × RecordDraft) (x : Edit) → IsOrdered d → get (codes "do") d ≡ Some (string (codes "replace")) → keyed_record 3 d ≡ Ok p → edit_of_draft (drafts.Replace p.0 p.1) ≡ Ok x → IsEdit d x
+replace_known : (d : Data) (p : KeyDraft × RecordDraft) (x : Edit) → IsOrdered d → get (codes "do") d ≡ Some (string (codes "replace"))
+    → keyed_record 3 d ≡ Ok p → edit_of_draft (drafts.Replace p.0 p.1) ≡ Ok x → IsEdit d x
 replace_known d p x ordered there shape range =
     steps (key p.0) _ x range (λ k k_is k_next.
     steps (record_of p.1) _ x k_next (λ r r_is r_next.
     let found = edits.Replace k r in
     subst (IsEdit d) (only (Ok found) found x refl r_next) (put_known (codes "replace") d p k r ordered there shape k_is r_is)))
 
-remove_known : (d : Data) (p : KeyDraft) (x : Edit) → IsOrdered d → get (codes "do") d ≡ Some (string (codes "remove")) → removed_key 2 d ≡ Ok p → edit_of_draft (drafts.Remove p) ≡ Ok x → IsEdit d x
+remove_known : (d : Data) (p : KeyDraft) (x : Edit) → IsOrdered d → get (codes "do") d ≡ Some (string (codes "remove"))
+    → removed_key 2 d ≡ Ok p → edit_of_draft (drafts.Remove p) ≡ Ok x → IsEdit d x
 unfolding removed_key
 remove_known d p x ordered there shape range =
     steps (has_members 2 d) _ p shape (λ u count_is count_next.
@@ -80,8 +88,10 @@ remove_known d p x ordered there shape range =
     steps (key p) _ x range (λ k k_is k_next.
     let named = key_there d q k q_is (ap key may.0 ∙ k_is) in
     let found = edits.Remove k in
-    subst (IsEdit d) (only (Ok found) found x refl k_next)
-    (whole_object 1 d (inside (removal_data (key_text k))) u ordered count_is refl (refl, tt) (there, (named.0, tt)), (named.2, subst IsNoPort named.1 may.1)))))
+    subst (IsEdit d) (only (Ok found) found x refl k_next) (
+      whole_object 1 d (inside (removal_data (key_text k))) u ordered count_is refl (refl, tt) (there, (named.0, tt)),
+      (named.2, subst IsNoPort named.1 may.1),
+    ))))
 
 edit_known : (d : Data) (e : EditDraft) (x : Edit) → IsOrdered d → edit_shape d ≡ Ok e → edit_of_draft e ≡ Ok x → IsEdit d x
 unfolding edit_shape
@@ -91,40 +101,47 @@ edit_known d e x ordered shape range =
     by_test _ _ _ _ word_next
     (λ t h. steps (keyed_record 3 d) _ e h (λ p p_is p_next.
     let whole = drafts.Create p.0 p.1 in
-    create_known d p x ordered (there ∙ ap (λ l. Some (string l)) (same_text word _ t)) p_is (ap edit_of_draft (only (Ok whole) whole e refl p_next) ∙ range)))
+    create_known d p x ordered (there ∙ ap (λ l. Some (string l)) (same_text word _ t)) p_is
+    (ap edit_of_draft (only (Ok whole) whole e refl p_next) ∙ range)))
     (λ _ h1. by_test _ _ _ _ h1
     (λ t h. steps (keyed_record 3 d) _ e h (λ p p_is p_next.
     let whole = drafts.Replace p.0 p.1 in
-    replace_known d p x ordered (there ∙ ap (λ l. Some (string l)) (same_text word _ t)) p_is (ap edit_of_draft (only (Ok whole) whole e refl p_next) ∙ range)))
+    replace_known d p x ordered (there ∙ ap (λ l. Some (string l)) (same_text word _ t)) p_is
+    (ap edit_of_draft (only (Ok whole) whole e refl p_next) ∙ range)))
     (λ _ h2. by_test _ _ _ _ h2
     (λ t h. steps (removed_key 2 d) _ e h (λ p p_is p_next.
     let whole = drafts.Remove p in
-    remove_known d p x ordered (there ∙ ap (λ l. Some (string l)) (same_text word _ t)) p_is (ap edit_of_draft (only (Ok whole) whole e refl p_next) ∙ range)))
+    remove_known d p x ordered (there ∙ ap (λ l. Some (string l)) (same_text word _ t)) p_is
+    (ap edit_of_draft (only (Ok whole) whole e refl p_next) ∙ range)))
     (λ _ h3. cc))))
 
 -- the items are the values of these edits
 abbrev AreEditsOf : Items → List Edit → Type 0
 AreEditsOf ds b = (ds ≡ items_of (map edit_value b)) × AllByRecursion EditMayBeAsked b
 
-edits_known : (ds : Items) (es : List EditDraft) (b : List Edit) → ItemsAreOrdered ds → each edit_shape (items_list ds) ≡ Ok es → each edit_of_draft es ≡ Ok b → AreEditsOf ds b
+edits_known : (ds : Items) (es : List EditDraft) (b : List Edit) → ItemsAreOrdered ds → each edit_shape (items_list ds) ≡ Ok es
+    → each edit_of_draft es ≡ Ok b → AreEditsOf ds b
 edits_known no_items es b ordered shape range =
     let none : Ok [] ≡ Ok b = ap (each edit_of_draft) (only (Ok []) [] es refl shape) ∙ range in
     subst (AreEditsOf no_items) (only (Ok []) [] b refl none) (refl, tt)
 edits_known (item d ds) es b ordered shape range =
     steps (edit_shape d) _ es shape (λ e e_is e_next.
     steps (each edit_shape (items_list ds)) _ es e_next (λ rest rest_is rest_next.
-    let ranges : each edit_of_draft (e ∷ rest) ≡ Ok b = ap (each edit_of_draft) (only (Ok (e ∷ rest)) (e ∷ rest) es refl rest_next) ∙ range in
+    let ranges : each edit_of_draft (e ∷ rest) ≡ Ok b = ap (each edit_of_draft) (only (Ok (e ∷ rest)) (e ∷ rest) es refl rest_next)
+    ∙ range in
     steps (edit_of_draft e) _ b ranges (λ x x_is x_next.
     steps (each edit_of_draft rest) _ b x_next (λ xs xs_is xs_next.
     let first = edit_known d e x ordered.0 e_is x_is in
     let others = edits_known ds rest xs ordered.1 rest_is xs_is in
     subst (AreEditsOf (item d ds)) (only (Ok (x ∷ xs)) (x ∷ xs) b refl xs_next) (ap₂ item first.0 others.0, (first.1, others.1))))))
 
-kept_at : (t : Bool) (es batch : List EditDraft) → is_batch_draft es ≡ t → batch_of es ≡ Ok batch → (es ≡ batch) × (is_batch_draft es ≡ true)
+kept_at : (t : Bool) (es batch : List EditDraft) → is_batch_draft es ≡ t → batch_of es ≡ Ok batch
+    → (es ≡ batch) × (is_batch_draft es ≡ true)
 kept_at true es batch e h = (only (Ok es) es batch refl (sym (rw e refl) ∙ h), e)
 kept_at false es batch e h = let never = (rw e at h) in cc
 
-pub batch_known : (s : ℕ) (d : Data) (draft : CommandDraft) (c : Command) → IsOrdered d → get (codes "do") d ≡ Some (string (codes "batch")) → get (codes "s") d ≡ Some (whole_data s) → IsSession s → batch_shape d ≡ Ok draft → command_of_draft draft ≡ Ok c
+pub batch_known : (s : ℕ) (d : Data) (draft : CommandDraft) (c : Command) → IsOrdered d → get (codes "do") d ≡ Some (string (codes "batch"))
+    → get (codes "s") d ≡ Some (whole_data s) → IsSession s → batch_shape d ≡ Ok draft → command_of_draft draft ≡ Ok c
     → MayBeAsked s c × (d ≡ value_of s c)
 unfolding batch_shape
 batch_known s d draft c ordered there session_there session shape range =
@@ -141,7 +158,8 @@ batch_known s d draft c ordered there session_there session shape range =
     let found = commands.Batch b in
     subst (λ x. MayBeAsked s x × (d ≡ value_of s x)) (only (Ok found) found c refl b_next) (
       (session, tested b (sym (batch_passes es b ranges) ∙ kept.1), known.1),
-      whole_object 2 d (inside (batch_data s b)) u ordered count_is refl (refl, (refl, tt)) (there, (held ∙ ap (λ l. Some (array l)) known.0, (session_there, tt))),
+      whole_object 2 d (inside (batch_data s b)) u ordered count_is refl (refl, (refl, tt))
+          (there, (held ∙ ap (λ l. Some (array l)) known.0, (session_there, tt))),
     ))))))
 
 -- ---- a value is read
@@ -176,8 +194,10 @@ pub edits_back : (b : List Edit) → AllByRecursion EditMayBeAsked b → each ed
 edits_back [] may = refl
 edits_back (x ∷ b) may = rw (edit_back x may.0, edits_back b may.1) refl
 
-pub batch_shaped : (s : ℕ) (b : List Edit) → IsBatch b → AllByRecursion EditMayBeAsked b → line_shape (batch_data s b) ≡ Ok (Session s (wanted.Batch (map edit_draft b)))
+pub batch_shaped : (s : ℕ) (b : List Edit) → IsBatch b → AllByRecursion EditMayBeAsked b
+    → line_shape (batch_data s b) ≡ Ok (Session s (wanted.Batch (map edit_draft b)))
 batch_shaped s b batch may =
     let passes : is_batch_draft (map edit_draft b) ≡ true = batch_passes (map edit_draft b) b (edits_back b may) ∙ test_of b batch in
-    ap (λ ds. line_shape (object (member (codes "do") (string (codes "batch")) (member (codes "edits") (array ds) (member (codes "s") (whole_data s) no_members))))) (sym (values_drafted b))
+    ap (λ ds. line_shape (object (member (codes "do") (string (codes "batch"))
+    (member (codes "edits") (array ds) (member (codes "s") (whole_data s) no_members))))) (sym (values_drafted b))
     ∙ batch_kept s (map edit_draft b) passes (drafts_kept b may)

@@ -67,7 +67,8 @@ distinct_drafts : (ks : List Key) → drafts_are_distinct (map key_draft ks) ≡
 distinct_drafts [] = refl
 distinct_drafts (k ∷ ks) = ap₂ (λ a b. not a && b) (has_drafts ks k) (distinct_drafts ks)
 
-pub batch_same : (es : List EditDraft) (b : List Edit) → length es ≡ length b → drafted_keys es ≡ map key_draft (edited_keys b) → is_batch_draft es ≡ is_batch b
+pub batch_same : (es : List EditDraft) (b : List Edit) → length es ≡ length b → drafted_keys es ≡ map key_draft (edited_keys b)
+    → is_batch_draft es ≡ is_batch b
 batch_same es b len same = rw (len, same, distinct_drafts (edited_keys b)) refl
 
 -- ---- edits that pass

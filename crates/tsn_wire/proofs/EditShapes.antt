@@ -28,14 +28,18 @@ IsKept (drafts.Replace key v) = IsKey key × (record_shape as_json key.kind (rec
 IsKept (drafts.Remove key) = IsKey key × IsNoPort key.kind
 
 put_kept : (word : List ℕ) (k : Kind) (n : ℕ) (v : RecordDraft) → IsInstanceId n → record_shape as_json k (record_value v) ≡ Ok v
-    → keyed_record 3 (object (member (codes "do") (string word) (member (codes "key") (string (spelled_key k n)) (member (codes "record") (record_value v) no_members)))) ≡ Ok (record { kind = k; number = n }, v)
+    → keyed_record 3 (object (member (codes "do") (string word)
+    (member (codes "key") (string (spelled_key k n)) (member (codes "record") (record_value v) no_members))))
+    ≡ Ok (record { kind = k; number = n }, v)
 unfolding keyed_record
 put_kept word kinds.Port n v small e = rw (decimal_back n small, e) refl
 put_kept word kinds.Filter n v small e = rw (decimal_back n small, e) refl
 put_kept word kinds.Gate n v small e = rw (decimal_back n small, e) refl
 put_kept word kinds.Meter n v small e = rw (decimal_back n small, e) refl
 
-removal_kept : (k : Kind) (n : ℕ) → IsInstanceId n → IsNoPort k → removed_key 2 (object (member (codes "do") (string (codes "remove")) (member (codes "key") (string (spelled_key k n)) no_members))) ≡ Ok (record { kind = k; number = n })
+removal_kept : (k : Kind) (n : ℕ) → IsInstanceId n → IsNoPort k
+    → removed_key 2 (object (member (codes "do") (string (codes "remove")) (member (codes "key") (string (spelled_key k n)) no_members)))
+    ≡ Ok (record { kind = k; number = n })
 unfolding removed_key
 removal_kept kinds.Port n small other = absurd other
 removal_kept kinds.Filter n small other = rw (decimal_back n small) refl
@@ -52,6 +56,7 @@ edits_kept : (es : List EditDraft) → AllByRecursion IsKept es → each edit_sh
 edits_kept [] kept = refl
 edits_kept (e ∷ es) kept = rw (edit_kept e kept.0, edits_kept es kept.1) refl
 
-pub batch_kept : (s : ℕ) (es : List EditDraft) → is_batch_draft es ≡ true → AllByRecursion IsKept es → line_shape (object (batch_members s es)) ≡ Ok (Session s (wanted.Batch es))
+pub batch_kept : (s : ℕ) (es : List EditDraft) → is_batch_draft es ≡ true → AllByRecursion IsKept es
+    → line_shape (object (batch_members s es)) ≡ Ok (Session s (wanted.Batch es))
 unfolding line_shape command_shape batch_shape
 batch_kept s es batch kept = rw (edits_kept es kept, batch) refl

@@ -67,7 +67,8 @@ array_is (array es) ds h = ap array (only (Ok es) es ds refl h)
 array_is (object ms) ds h = cc
 
 -- what there is, and of which value it is
-there : {A : Type 0} (f : Data → Option A) (value : A → Data) → ((d : Data) (a : A) → or_shape (f d) ≡ Ok a → d ≡ value a) → (o : Option Data) (a : A) → or_shape (option_and_then f o) ≡ Ok a → o ≡ Some (value a)
+there : {A : Type 0} (f : Data → Option A) (value : A → Data) → ((d : Data) (a : A) → or_shape (f d) ≡ Ok a → d ≡ value a)
+    → (o : Option Data) (a : A) → or_shape (option_and_then f o) ≡ Ok a → o ≡ Some (value a)
 there f value is None a h = cc
 there f value is (Some d) a h = ap Some (is d a h)
 
@@ -86,8 +87,10 @@ text_there = there as_str string text_is
 pub items_there : (o : Option Data) (ds : Items) → or_shape (option_and_then as_array o) ≡ Ok ds → o ≡ Some (array ds)
 items_there = there as_array array array_is
 
-list_there : (o : Option Data) (ds : List Data) → or_shape (option_map items_list (option_and_then as_array o)) ≡ Ok ds → (items : Items) × (o ≡ Some (array items)) × (items_list items ≡ ds)
-list_there o ds h = let found = mapped_there items_list (option_and_then as_array o) ds h in (found.0, items_there o found.0 (ap or_shape found.1), found.2)
+list_there : (o : Option Data) (ds : List Data) → or_shape (option_map items_list (option_and_then as_array o)) ≡ Ok ds
+    → (items : Items) × (o ≡ Some (array items)) × (items_list items ≡ ds)
+list_there o ds h =
+    let found = mapped_there items_list (option_and_then as_array o) ds h in (found.0, items_there o found.0 (ap or_shape found.1), found.2)
 
 pub value_there : {A : Type 0} (o : Option A) (a : A) → or_shape o ≡ Ok a → o ≡ Some a
 value_there None a h = cc
@@ -110,7 +113,8 @@ two (item x no_items) a b len e0 e1 = absurd (omega arith)
 two (item x (item y no_items)) a b len e0 e1 = cc
 two (item x (item y (item z ds))) a b len e0 e1 = absurd (omega arith)
 
-four : (ds : Items) (a b c d : Data) → items_len ds ≡ 4 → get_item 0 ds ≡ Some a → get_item 1 ds ≡ Some b → get_item 2 ds ≡ Some c → get_item 3 ds ≡ Some d → ds ≡ item a (item b (item c (item d no_items)))
+four : (ds : Items) (a b c d : Data) → items_len ds ≡ 4 → get_item 0 ds ≡ Some a → get_item 1 ds ≡ Some b → get_item 2 ds ≡ Some c
+    → get_item 3 ds ≡ Some d → ds ≡ item a (item b (item c (item d no_items)))
 four no_items a b c d len e0 e1 e2 e3 = absurd (omega arith)
 four (item x no_items) a b c d len e0 e1 e2 e3 = absurd (omega arith)
 four (item x (item y no_items)) a b c d len e0 e1 e2 e3 = absurd (omega arith)
@@ -136,12 +140,14 @@ gate_entry_known d e h =
     let fourth : get_item 3 items.0 ≡ Some (or_null e.octets) = ap (at 3) (sym items.1) ∙ or_null_there _ _ has.octets in
     items.1 ∙ ap array (four items.0 _ _ _ _ items.2 first second third fourth)
 
-each_known : {E : Type 0} (shape : Data → Result E Unread) (value : E → Data) → ((d : Data) (e : E) → shape d ≡ Ok e → d ≡ value e) → (ds : Items) (es : List E) → each shape (items_list ds) ≡ Ok es → ds ≡ items_of (map value es)
+each_known : {E : Type 0} (shape : Data → Result E Unread) (value : E → Data) → ((d : Data) (e : E) → shape d ≡ Ok e → d ≡ value e)
+    → (ds : Items) (es : List E) → each shape (items_list ds) ≡ Ok es → ds ≡ items_of (map value es)
 each_known shape value one no_items es h = ap (λ l. items_of (map value l)) (only (Ok []) [] es refl h)
 each_known shape value one (item d ds) es h =
     steps (shape d) _ es h (λ first first_is first_next.
     steps (each shape (items_list ds)) _ es first_next (λ rest rest_is rest_next.
-    ap₂ item (one d first first_is) (each_known shape value one ds rest rest_is) ∙ ap (λ l. items_of (map value l)) (only (Ok (first ∷ rest)) (first ∷ rest) es refl rest_next)))
+    ap₂ item (one d first first_is) (each_known shape value one ds rest rest_is)
+    ∙ ap (λ l. items_of (map value l)) (only (Ok (first ∷ rest)) (first ∷ rest) es refl rest_next)))
 
 -- ---- records
 
@@ -152,7 +158,8 @@ record ScheduleThere {E : Type 0} (value : E → Data) (d : Data) (s : ScheduleD
   extension : get (codes "extension") d ≡ Some (whole_data s.extension)
   base : get (codes "base") d ≡ Some (whole_data s.base)
 
-schedule_known : {E : Type 0} (shape : Data → Result E Unread) (value : E → Data) → ((d : Data) (e : E) → shape d ≡ Ok e → d ≡ value e) → (d : Data) (s : ScheduleDraft E) → schedule_shape as_json shape d ≡ Ok s → ScheduleThere value d s
+schedule_known : {E : Type 0} (shape : Data → Result E Unread) (value : E → Data) → ((d : Data) (e : E) → shape d ≡ Ok e → d ≡ value e)
+    → (d : Data) (s : ScheduleDraft E) → schedule_shape as_json shape d ≡ Ok s → ScheduleThere value d s
 schedule_known shape value one d s h =
     let has = schedule_has as_json shape d s h in
     let here = list_there _ has.entries has.items in

@@ -44,7 +44,8 @@ get_same : (k : List ℕ) (d : Data) (ms : Members) → get_member k (put k d ms
 get_same k d no_members = rw (same_order k) refl
 get_same k d (member m e ms) = same_at (order k m) k m d e ms refl (get_same k d ms)
 
-other_at : (o : Ordering) (l k m : List ℕ) (d e : Data) (ms : Members) → order k m ≡ o → (l ≡ k → ⊥) → get_member l (put k d ms) ≡ get_member l ms
+other_at : (o : Ordering) (l k m : List ℕ) (d e : Data) (ms : Members) → order k m ≡ o → (l ≡ k → ⊥)
+    → get_member l (put k d ms) ≡ get_member l ms
     → get_member l (match_ordering o (member k d (member m e ms)) (member m d ms) (member m e (put k d ms))) ≡ get_member l (member m e ms)
 other_at Less l k m d e ms is other later = differ l k (get_member l (member m e ms)) (Some d) other
 other_at Equal l k m d e ms is other later =
@@ -56,7 +57,8 @@ get_other : (l k : List ℕ) (d : Data) (ms : Members) → (l ≡ k → ⊥) →
 get_other l k d no_members other = differ l k None (Some d) other
 get_other l k d (member m e ms) other = other_at (order k m) l k m d e ms refl other (get_other l k d ms other)
 
-len_at : (o : Ordering) (k m : List ℕ) (d e : Data) (ms : Members) → order k m ≡ o → match_ordering o (get_member k ms) (Some e) (get_member k ms) ≡ None
+len_at : (o : Ordering) (k m : List ℕ) (d e : Data) (ms : Members) → order k m ≡ o
+    → match_ordering o (get_member k ms) (Some e) (get_member k ms) ≡ None
     → (get_member k ms ≡ None → members_len (put k d ms) ≡ suc (members_len ms))
     → members_len (match_ordering o (member k d (member m e ms)) (member m d ms) (member m e (put k d ms))) ≡ suc (suc (members_len ms))
 len_at Less k m d e ms is none later = refl
@@ -70,17 +72,21 @@ len_put k d (member m e ms) none = len_at (order k m) k m d e ms refl none (len_
 
 -- ---- rows
 
-put_told : (b : Bool) (k l : List ℕ) (d : Data) (o : Option Data) (ms : Members) → bytes_eq k l ≡ b → get_member l ms ≡ o → get_member l (put k d ms) ≡ (if b then Some d else o)
-put_told true k l d o ms is told = let same = (bytes_eq-Decides k l).0 is in subst (λ n. get_member n (put k d ms) ≡ Some d) same (get_same k d ms)
+put_told : (b : Bool) (k l : List ℕ) (d : Data) (o : Option Data) (ms : Members) → bytes_eq k l ≡ b → get_member l ms ≡ o
+    → get_member l (put k d ms) ≡ (if b then Some d else o)
+put_told true k l d o ms is told =
+    let same = (bytes_eq-Decides k l).0 is in subst (λ n. get_member n (put k d ms) ≡ Some d) same (get_same k d ms)
 put_told false k l d o ms is told = get_other l k d ms (λ same. let equal = (bytes_eq-Decides k l).1 (sym same) in cc) ∙ told
 
 tells_put : (rows : Rows) (k : List ℕ) (d : Data) (ms : Members) → Tells ms rows → Tells (put k d ms) (put_row k d rows)
 tells_put [] k d ms told = tt
 tells_put (r ∷ rows) k d ms told = (put_told (bytes_eq k r.0) k r.0 d r.1 ms refl told.0, tells_put rows k d ms told.1)
 
-told_at_name : (b : Bool) (k : List ℕ) (r : List ℕ × Option Data) (rows : Rows) (o : Option Data) (ms : Members) → bytes_eq k r.0 ≡ b → get_member r.0 ms ≡ r.1
+told_at_name : (b : Bool) (k : List ℕ) (r : List ℕ × Option Data) (rows : Rows) (o : Option Data) (ms : Members) → bytes_eq k r.0 ≡ b
+    → get_member r.0 ms ≡ r.1
     → (row_at k rows ≡ Some o → get_member k ms ≡ o) → (if b then Some r.1 else row_at k rows) ≡ Some o → get_member k ms ≡ o
-told_at_name true k r rows o ms is told later at = let same = (bytes_eq-Decides k r.0).0 is in subst (λ n. get_member n ms ≡ r.1) (sym same) told ∙ (let e : Some r.1 ≡ Some o = at in cc)
+told_at_name true k r rows o ms is told later at =
+    let same = (bytes_eq-Decides k r.0).0 is in subst (λ n. get_member n ms ≡ r.1) (sym same) told ∙ (let e : Some r.1 ≡ Some o = at in cc)
 told_at_name false k r rows o ms is told later at = later at
 
 -- what a row says is so
@@ -103,7 +109,8 @@ abbrev so_far : json.Members → List Lexeme
 so_far json.no_members = []
 so_far (json.member k j ms) = token (Token.string k) ∷ (colon ∷ (value_lexemes j ++ comma ∷ so_far ms))
 
-so_far_push : (ms : json.Members) (k : List ℕ) (j : json.Json) (rest : List Lexeme) → so_far (push ms k j) ++ rest ≡ so_far ms ++ (token (Token.string k) ∷ (colon ∷ (value_lexemes j ++ comma ∷ rest)))
+so_far_push : (ms : json.Members) (k : List ℕ) (j : json.Json) (rest : List Lexeme)
+    → so_far (push ms k j) ++ rest ≡ so_far ms ++ (token (Token.string k) ∷ (colon ∷ (value_lexemes j ++ comma ∷ rest)))
 so_far_push json.no_members k j rest = ap (λ l. token (Token.string k) ∷ (colon ∷ l)) (append_assoc (value_lexemes j) (comma ∷ []) rest)
 so_far_push (json.member l i ms) k j rest =
     ap (λ x. token (Token.string l) ∷ (colon ∷ x))
@@ -112,7 +119,8 @@ so_far_push (json.member l i ms) k j rest =
 
 -- the last member, and the bracket
 closed : (later : Bool) (ms : json.Members) (k : List ℕ) (j : json.Json) (rest : List Lexeme)
-    → members_lexemes later (push ms k j) ++ rest ≡ comma_if later ++ (so_far ms ++ (token (Token.string k) ∷ (colon ∷ (value_lexemes j ++ token Token.end_object ∷ rest))))
+    → members_lexemes later (push ms k j) ++ rest ≡ comma_if later
+    ++ (so_far ms ++ (token (Token.string k) ∷ (colon ∷ (value_lexemes j ++ token Token.end_object ∷ rest))))
 closed later json.no_members k j rest = simp append_assoc
 closed later (json.member l i ms) k j rest =
     append_assoc (comma_if later) _ rest
@@ -122,16 +130,19 @@ closed later (json.member l i ms) k j rest =
 
 read_push_at : (o : Option Data) (ms : json.Members) (l k : List ℕ) (j : json.Json) (d : Data) (before found : Members)
     → ((old : Members) → of_members ms old ≡ Some found → of_members (push ms k j) old ≡ Some (put k d found))
-    → option_and_then (λ e. of_members ms (put l e before)) o ≡ Some found → option_and_then (λ e. of_members (push ms k j) (put l e before)) o ≡ Some (put k d found)
+    → option_and_then (λ e. of_members ms (put l e before)) o ≡ Some found
+    → option_and_then (λ e. of_members (push ms k j) (put l e before)) o ≡ Some (put k d found)
 read_push_at None ms l k j d before found later is = absurd (cc)
 read_push_at (Some e) ms l k j d before found later is = later (put l e before) is
 
-read_push : (ms : json.Members) (k : List ℕ) (j : json.Json) (d : Data) (before found : Members) → of_json j ≡ Some d → of_members ms before ≡ Some found → of_members (push ms k j) before ≡ Some (put k d found)
+read_push : (ms : json.Members) (k : List ℕ) (j : json.Json) (d : Data) (before found : Members) → of_json j ≡ Some d
+    → of_members ms before ≡ Some found → of_members (push ms k j) before ≡ Some (put k d found)
 read_push json.no_members k j d before found value is = rw value (ap (λ o. option_map (put k d) o) is)
 read_push (json.member l i ms) k j d before found value is =
     read_push_at (of_json i) ms l k j d before found (λ old h. read_push ms k j d old found value h) is
 
-shallow_push : (n : ℕ) (ms : json.Members) (k : List ℕ) (j : json.Json) → members_depth ms ≤ n → depth j ≤ n → members_depth (push ms k j) ≤ n
+shallow_push : (n : ℕ) (ms : json.Members) (k : List ℕ) (j : json.Json) → members_depth ms ≤ n → depth j ≤ n
+    → members_depth (push ms k j) ≤ n
 shallow_push n json.no_members k j low here = omega (arith, here)
 shallow_push n (json.member l i ms) k j low here =
     let rest = shallow_push n ms k j (omega (arith, low)) here in
@@ -150,29 +161,44 @@ pub record Gathers (n : ℕ) (start : List Lexeme) (rows : Rows) (count : ℕ) (
   pub shallow : members_depth members ≤ n
 
 pub none_yet : (n : ℕ) (start : List Lexeme) (rows : Rows) → AreOpen rows → Gathers n start rows 0 start
-none_yet n start rows h = record { members = json.no_members; found = no_members; lexemes = refl; reads = refl; tells = open_told rows h; counted = refl; shallow = omega arith }
+none_yet n start rows h = record {
+  members = json.no_members;
+  found = no_members;
+  lexemes = refl;
+  reads = refl;
+  tells = open_told rows h;
+  counted = refl;
+  shallow = omega arith;
+}
 
-pub one_more : (n : ℕ) (start now behind rest : List Lexeme) (rows after : Rows) (count : ℕ) → Gathers n start rows count now → ReadsMember n now rows after behind → behind ≡ comma ∷ rest → Gathers n start after (count + 1) rest
+pub one_more : (n : ℕ) (start now behind rest : List Lexeme) (rows after : Rows) (count : ℕ) → Gathers n start rows count now
+    → ReadsMember n now rows after behind → behind ≡ comma ∷ rest → Gathers n start after (count + 1) rest
 one_more n start now behind rest rows after count g m next =
     let (j, is, same, low) = m.reads in
     record {
       members = push g.members m.name j;
       found = put m.name m.value g.found;
-      lexemes = g.lexemes ∙ ap (λ l. so_far g.members ++ l) (m.named ∙ ap (λ l. token (Token.string m.name) ∷ (colon ∷ l)) (is ∙ ap (λ l. value_lexemes j ++ l) next)) ∙ sym (so_far_push g.members m.name j rest);
+      lexemes = g.lexemes ∙ ap (λ l. so_far g.members ++ l)
+          (m.named ∙ ap (λ l. token (Token.string m.name) ∷ (colon ∷ l)) (is ∙ ap (λ l. value_lexemes j ++ l) next))
+          ∙ sym (so_far_push g.members m.name j rest);
       reads = read_push g.members m.name j m.value no_members g.found same g.reads;
       tells = subst (Tells (put m.name m.value g.found)) (sym m.full) (tells_put rows m.name m.value g.found g.tells);
       counted = len_put m.name m.value g.found (told_at rows m.name None g.found g.tells m.empty) ∙ omega (arith, g.counted);
       shallow = shallow_push n g.members m.name j g.shallow low;
     }
 
-pub all_gathered : (n : ℕ) (text start now behind rest : List Lexeme) (rows after : Rows) (count : ℕ) → text ≡ token Token.begin_object ∷ start → Gathers n start rows count now → ReadsMember n now rows after behind → behind ≡ token Token.end_object ∷ rest → ReadsMembers n text after (count + 1) rest
+pub all_gathered : (n : ℕ) (text start now behind rest : List Lexeme) (rows after : Rows) (count : ℕ)
+    → text ≡ token Token.begin_object ∷ start → Gathers n start rows count now → ReadsMember n now rows after behind
+    → behind ≡ token Token.end_object ∷ rest → ReadsMembers n text after (count + 1) rest
 all_gathered n text start now behind rest rows after count begin g m next =
     let (j, is, same, low) = m.reads in
     record {
       members = push g.members m.name j;
       found = put m.name m.value g.found;
       lexemes = begin ∙ ap (λ l. token Token.begin_object ∷ l)
-          (g.lexemes ∙ ap (λ l. so_far g.members ++ l) (m.named ∙ ap (λ l. token (Token.string m.name) ∷ (colon ∷ l)) (is ∙ ap (λ l. value_lexemes j ++ l) next)) ∙ sym (closed false g.members m.name j rest));
+          (g.lexemes ∙ ap (λ l. so_far g.members ++ l)
+          (m.named ∙ ap (λ l. token (Token.string m.name) ∷ (colon ∷ l)) (is ∙ ap (λ l. value_lexemes j ++ l) next))
+          ∙ sym (closed false g.members m.name j rest));
       reads = read_push g.members m.name j m.value no_members g.found same g.reads;
       tells = subst (Tells (put m.name m.value g.found)) (sym m.full) (tells_put rows m.name m.value g.found g.tells);
       counted = len_put m.name m.value g.found (told_at rows m.name None g.found g.tells m.empty) ∙ omega (arith, g.counted);
@@ -180,7 +206,8 @@ all_gathered n text start now behind rest rows after count begin g m next =
     }
 
 -- what fills a row is a member that may come
-pub row_filled : (m n : ℕ) (text : List Lexeme) (name : List ℕ) (before after : Option Data) (rows later : Rows) (rest : List Lexeme) → m ≤ n → Fills m text name before after rest
+pub row_filled : (m n : ℕ) (text : List Lexeme) (name : List ℕ) (before after : Option Data) (rows later : Rows) (rest : List Lexeme)
+    → m ≤ n → Fills m text name before after rest
     → row_at name rows ≡ Some before → ((d : Data) → after ≡ Some d → later ≡ put_row name d rows) → ReadsMember n text rows later rest
 row_filled m n text name before after rows later rest low f at put = record {
   name = name;
@@ -199,7 +226,8 @@ all_held_here found no_members rows told all = tt
 all_held_here found (member k d es) rows told all = (told_at rows k (Some d) found told all.0, all_held_here found es rows told all.1)
 
 -- an object with as many members as these, each of which it has
-pub object_read : (n : ℕ) (text rest : List Lexeme) (rows : Rows) (count : ℕ) (es : Members) → ReadsMembers n text rows count rest → AllTold rows es → Rise es → count ≡ members_len es → ReadsValue (n + 1) text (object es) rest
+pub object_read : (n : ℕ) (text rest : List Lexeme) (rows : Rows) (count : ℕ) (es : Members) → ReadsMembers n text rows count rest
+    → AllTold rows es → Rise es → count ≡ members_len es → ReadsValue (n + 1) text (object es) rest
 object_read n text rest rows count es m all rise len =
     let read : of_json (json.object m.members) ≡ Some (object m.found) = ap (option_map object) m.reads in
     let ordered : IsOrdered (object m.found) = subst (λ o. IfSome o IsOrdered) read (of_json_ordered (json.object m.members)) in
@@ -212,17 +240,27 @@ record IsWhole (count : ℕ) (d : Data) : Type 0 where
   rise : Rise (members_of d)
   len : count ≡ members_len (members_of d)
 
-record_read : (n : ℕ) (text rest : List Lexeme) (rows : Rows) (count : ℕ) (d : Data) → IsWhole count d → ReadsMembers n text rows count rest → AllTold rows (members_of d) → ReadsValue (n + 1) text d rest
-record_read n text rest rows count d w m all = subst (λ e. ReadsValue (n + 1) text e rest) w.same (object_read n text rest rows count (members_of d) m all w.rise w.len)
+record_read : (n : ℕ) (text rest : List Lexeme) (rows : Rows) (count : ℕ) (d : Data) → IsWhole count d → ReadsMembers n text rows count rest
+    → AllTold rows (members_of d) → ReadsValue (n + 1) text d rest
+record_read n text rest rows count d w m all =
+    subst (λ e. ReadsValue (n + 1) text e rest) w.same (object_read n text rest rows count (members_of d) m all w.rise w.len)
 
-pub port_read : (text rest : List Lexeme) (rows : Rows) (r : PortDraft) → ReadsMembers 2 text rows 5 rest → AllTold rows (members_of (port_value r)) → ReadsValue 3 text (port_value r) rest
-port_read text rest rows r = record_read 2 text rest rows 5 (port_value r) (record { same = refl; rise = (refl, (refl, (refl, (refl, tt)))); len = refl })
+pub port_read : (text rest : List Lexeme) (rows : Rows) (r : PortDraft) → ReadsMembers 2 text rows 5 rest
+    → AllTold rows (members_of (port_value r)) → ReadsValue 3 text (port_value r) rest
+port_read text rest rows r =
+    record_read 2 text rest rows 5 (port_value r) (record { same = refl; rise = (refl, (refl, (refl, (refl, tt)))); len = refl })
 
-pub filter_read : (text rest : List Lexeme) (rows : Rows) (r : FilterDraft) → ReadsMembers 2 text rows 6 rest → AllTold rows (members_of (filter_value r)) → ReadsValue 3 text (filter_value r) rest
-filter_read text rest rows r = record_read 2 text rest rows 6 (filter_value r) (record { same = refl; rise = (refl, (refl, (refl, (refl, (refl, tt))))); len = refl })
+pub filter_read : (text rest : List Lexeme) (rows : Rows) (r : FilterDraft) → ReadsMembers 2 text rows 6 rest
+    → AllTold rows (members_of (filter_value r)) → ReadsValue 3 text (filter_value r) rest
+filter_read text rest rows r =
+    record_read 2 text rest rows 6 (filter_value r) (record { same = refl; rise = (refl, (refl, (refl, (refl, (refl, tt))))); len = refl })
 
-pub gate_read : (text rest : List Lexeme) (rows : Rows) (r : GateDraft) → ReadsMembers 2 text rows 8 rest → AllTold rows (members_of (gate_value r)) → ReadsValue 3 text (gate_value r) rest
-gate_read text rest rows r = record_read 2 text rest rows 8 (gate_value r) (record { same = refl; rise = (refl, (refl, (refl, (refl, (refl, (refl, (refl, tt))))))); len = refl })
+pub gate_read : (text rest : List Lexeme) (rows : Rows) (r : GateDraft) → ReadsMembers 2 text rows 8 rest
+    → AllTold rows (members_of (gate_value r)) → ReadsValue 3 text (gate_value r) rest
+gate_read text rest rows r = record_read 2 text rest rows 8 (gate_value r)
+    (record { same = refl; rise = (refl, (refl, (refl, (refl, (refl, (refl, (refl, tt))))))); len = refl })
 
-pub meter_read : (text rest : List Lexeme) (rows : Rows) (r : MeterDraft) → ReadsMembers 2 text rows 8 rest → AllTold rows (members_of (meter_value r)) → ReadsValue 3 text (meter_value r) rest
-meter_read text rest rows r = record_read 2 text rest rows 8 (meter_value r) (record { same = refl; rise = (refl, (refl, (refl, (refl, (refl, (refl, (refl, tt))))))); len = refl })
+pub meter_read : (text rest : List Lexeme) (rows : Rows) (r : MeterDraft) → ReadsMembers 2 text rows 8 rest
+    → AllTold rows (members_of (meter_value r)) → ReadsValue 3 text (meter_value r) rest
+meter_read text rest rows r = record_read 2 text rest rows 8 (meter_value r)
+    (record { same = refl; rise = (refl, (refl, (refl, (refl, (refl, (refl, (refl, tt))))))); len = refl })

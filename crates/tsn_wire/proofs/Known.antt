@@ -67,7 +67,8 @@ decimal_known ds n h =
     let few = and_parts _ _ more.1 in
     let ten : length ds ≤ 10 = leb-true _ _ few.0 in
     let small = digits_value_short own ds 10 digits.0 ten in
-    sym (decimal-digits_value own ds digits.0 (ltb-true _ _ more.0) (λ e. eqb-true _ _ (zero_alone _ _ few.1 e)) (omega (arith, small))) ∙ ap decimal test.1
+    sym (decimal-digits_value own ds digits.0 (ltb-true _ _ more.0) (λ e. eqb-true _ _ (zero_alone _ _ few.1 e)) (omega (arith, small)))
+    ∙ ap decimal test.1
 
 mapped : {A B P : Type 0} (f : A → B) (o : Option A) (b : B) → option_map f o ≡ Some b → ((a : A) → o ≡ Some a → f a ≡ b → P) → P
 mapped f None b h next = cc
@@ -75,13 +76,15 @@ mapped f (Some a) b h next = next a refl (some (f a) b h)
 
 numbered_known : (q : Kind) (ds : List ℕ) (k : KeyDraft) → numbered q ds ≡ Some k → (q ≡ k.kind) × (ds ≡ decimal k.number)
 numbered_known q ds k h =
-    mapped _ (decimal_of ds) k h (λ n found is. (ap (λ (x : KeyDraft). x.kind) is, decimal_known ds n found ∙ ap (λ (x : KeyDraft). decimal x.number) is))
+    mapped _ (decimal_of ds) k h (λ n found is.
+    (ap (λ (x : KeyDraft). x.kind) is, decimal_known ds n found ∙ ap (λ (x : KeyDraft). decimal x.number) is))
 
 begins : (text piece : List ℕ) → starts_with nat_eq text piece ≡ true → text ≡ piece ++ drop (length piece) text
 begins text piece e = (starts_is Decides-eqb text piece _ refl).0 e
 
 -- a kind's name and a space, and its number
-spelled_of : (text piece : List ℕ) (q : Kind) (k : KeyDraft) → starts_with nat_eq text piece ≡ true → numbered q (drop (length piece) text) ≡ Some k → ((n : ℕ) → piece ++ decimal n ≡ spelled_key q n) → text ≡ spelled_key k.kind k.number
+spelled_of : (text piece : List ℕ) (q : Kind) (k : KeyDraft) → starts_with nat_eq text piece ≡ true
+    → numbered q (drop (length piece) text) ≡ Some k → ((n : ℕ) → piece ++ decimal n ≡ spelled_key q n) → text ≡ spelled_key k.kind k.number
 spelled_of text piece q k first number spells =
     let known = numbered_known q (drop (length piece) text) k number in
     begins text piece first ∙ ap (λ l. piece ++ l) known.1 ∙ spells k.number ∙ ap (λ x. spelled_key x k.number) known.0
@@ -105,22 +108,27 @@ pub key_passed_at : (q : Kind) (n : ℕ) (k : Key) → key_of_kind q n ≡ Ok k 
 key_passed_at kinds.Port n k h =
     steps (within fields.Key 1 most_ports n) _ k h (λ number number_is number_next.
     let known = passed fields.Key 1 most_ports n number number_is in
-    subst (λ x. (kinds.Port ≡ kind x) × (n ≡ number_of x) × KeyInRange x) (only (Ok (keys.Port number)) (keys.Port number) k refl number_next) (refl, known.0, known.1))
+    subst (λ x. (kinds.Port ≡ kind x) × (n ≡ number_of x) × KeyInRange x)
+    (only (Ok (keys.Port number)) (keys.Port number) k refl number_next) (refl, known.0, known.1))
 key_passed_at kinds.Filter n k h =
     steps (within fields.Key 0 greatest_instance n) _ k h (λ number number_is number_next.
     let known = at_most fields.Key greatest_instance n number number_is in
-    subst (λ x. (kinds.Filter ≡ kind x) × (n ≡ number_of x) × KeyInRange x) (only (Ok (keys.Filter number)) (keys.Filter number) k refl number_next) (refl, known.0, known.1))
+    subst (λ x. (kinds.Filter ≡ kind x) × (n ≡ number_of x) × KeyInRange x)
+    (only (Ok (keys.Filter number)) (keys.Filter number) k refl number_next) (refl, known.0, known.1))
 key_passed_at kinds.Gate n k h =
     steps (within fields.Key 0 greatest_instance n) _ k h (λ number number_is number_next.
     let known = at_most fields.Key greatest_instance n number number_is in
-    subst (λ x. (kinds.Gate ≡ kind x) × (n ≡ number_of x) × KeyInRange x) (only (Ok (keys.Gate number)) (keys.Gate number) k refl number_next) (refl, known.0, known.1))
+    subst (λ x. (kinds.Gate ≡ kind x) × (n ≡ number_of x) × KeyInRange x)
+    (only (Ok (keys.Gate number)) (keys.Gate number) k refl number_next) (refl, known.0, known.1))
 key_passed_at kinds.Meter n k h =
     steps (within fields.Key 0 greatest_instance n) _ k h (λ number number_is number_next.
     let known = at_most fields.Key greatest_instance n number number_is in
-    subst (λ x. (kinds.Meter ≡ kind x) × (n ≡ number_of x) × KeyInRange x) (only (Ok (keys.Meter number)) (keys.Meter number) k refl number_next) (refl, known.0, known.1))
+    subst (λ x. (kinds.Meter ≡ kind x) × (n ≡ number_of x) × KeyInRange x)
+    (only (Ok (keys.Meter number)) (keys.Meter number) k refl number_next) (refl, known.0, known.1))
 
 -- the member `key` of a value
-pub key_there : (d : Data) (q : KeyDraft) (k : Key) → key_at d ≡ Ok q → key q ≡ Ok k → (get (codes "key") d ≡ Some (string (key_text k))) × (q.kind ≡ kind k) × KeyInRange k
+pub key_there : (d : Data) (q : KeyDraft) (k : Key) → key_at d ≡ Ok q → key q ≡ Ok k
+    → (get (codes "key") d ≡ Some (string (key_text k))) × (q.kind ≡ kind k) × KeyInRange k
 key_there d q k at_key range =
     steps (text_at (codes "key") d) _ q at_key (λ text text_is text_next.
     let known = key_passed_at q.kind q.number k range in
@@ -137,7 +145,8 @@ removable_known q p kinds.Meter h = (only (Ok q) q p refl h, tt)
 
 -- ---- records
 
-entries_same : {A B : Type 0} (value : B → Data) (draft : A → B) (shown : A → Data) → ((e : A) → value (draft e) ≡ shown e) → (es : List A) → map value (map draft es) ≡ map shown es
+entries_same : {A B : Type 0} (value : B → Data) (draft : A → B) (shown : A → Data) → ((e : A) → value (draft e) ≡ shown e) → (es : List A)
+    → map value (map draft es) ≡ map shown es
 entries_same value draft shown one [] = refl
 entries_same value draft shown one (e ∷ es) = ap₂ ◌∷◌ (one e) (entries_same value draft shown one es)
 
@@ -160,30 +169,37 @@ record_same (records.Gate r) = gate_same r
 record_same (records.Meter r) = refl
 
 -- a value that is read as a record of the key's kind is the record's
-pub record_known : (k : Key) (d : Data) (draft : RecordDraft) (r : Record) → IsOrdered d → KeyInRange k → record_shape as_json (kind k) d ≡ Ok draft → record_of draft ≡ Ok r → (d ≡ record_data r) × KeyedInRange k r
+pub record_known : (k : Key) (d : Data) (draft : RecordDraft) (r : Record) → IsOrdered d → KeyInRange k
+    → record_shape as_json (kind k) d ≡ Ok draft → record_of draft ≡ Ok r → (d ≡ record_data r) × KeyedInRange k r
 record_known (keys.Port n) d draft r ordered fits shape range =
     steps (port_shape as_json d) _ draft shape (λ shaped shaped_is shaped_next.
-    steps (port shaped) _ r (ap record_of (only (Ok (drafts.Port shaped)) (drafts.Port shaped) draft refl shaped_next) ∙ range) (λ found found_is found_next.
+    steps (port shaped) _ r (ap record_of (only (Ok (drafts.Port shaped)) (drafts.Port shaped) draft refl shaped_next) ∙ range)
+    (λ found found_is found_next.
     let known = port_passed shaped found found_is in
     subst (λ x. (d ≡ record_data x) × KeyedInRange (keys.Port n) x) (only (Ok (records.Port found)) (records.Port found) r refl found_next)
     (port_known d shaped ordered shaped_is ∙ ap port_value known.0 ∙ port_same found, (fits, known.1))))
 record_known (keys.Filter n) d draft r ordered fits shape range =
     steps (filter_shape as_json d) _ draft shape (λ shaped shaped_is shaped_next.
-    steps (filter shaped) _ r (ap record_of (only (Ok (drafts.Filter shaped)) (drafts.Filter shaped) draft refl shaped_next) ∙ range) (λ found found_is found_next.
+    steps (filter shaped) _ r (ap record_of (only (Ok (drafts.Filter shaped)) (drafts.Filter shaped) draft refl shaped_next) ∙ range)
+    (λ found found_is found_next.
     let known = filter_passed shaped found found_is in
-    subst (λ x. (d ≡ record_data x) × KeyedInRange (keys.Filter n) x) (only (Ok (records.Filter found)) (records.Filter found) r refl found_next)
+    subst (λ x. (d ≡ record_data x) × KeyedInRange (keys.Filter n) x)
+    (only (Ok (records.Filter found)) (records.Filter found) r refl found_next)
     (filter_known d shaped ordered shaped_is ∙ ap filter_value known.0, (fits, known.1))))
 record_known (keys.Gate n) d draft r ordered fits shape range =
     steps (gate_shape as_json d) _ draft shape (λ shaped shaped_is shaped_next.
-    steps (gate shaped) _ r (ap record_of (only (Ok (drafts.Gate shaped)) (drafts.Gate shaped) draft refl shaped_next) ∙ range) (λ found found_is found_next.
+    steps (gate shaped) _ r (ap record_of (only (Ok (drafts.Gate shaped)) (drafts.Gate shaped) draft refl shaped_next) ∙ range)
+    (λ found found_is found_next.
     let known = gate_passed shaped found found_is in
     subst (λ x. (d ≡ record_data x) × KeyedInRange (keys.Gate n) x) (only (Ok (records.Gate found)) (records.Gate found) r refl found_next)
     (gate_known d shaped ordered shaped_is ∙ ap gate_value known.0 ∙ gate_same found, (fits, known.1))))
 record_known (keys.Meter n) d draft r ordered fits shape range =
     steps (meter_shape as_json d) _ draft shape (λ shaped shaped_is shaped_next.
-    steps (meter shaped) _ r (ap record_of (only (Ok (drafts.Meter shaped)) (drafts.Meter shaped) draft refl shaped_next) ∙ range) (λ found found_is found_next.
+    steps (meter shaped) _ r (ap record_of (only (Ok (drafts.Meter shaped)) (drafts.Meter shaped) draft refl shaped_next) ∙ range)
+    (λ found found_is found_next.
     let known = meter_passed shaped found found_is in
-    subst (λ x. (d ≡ record_data x) × KeyedInRange (keys.Meter n) x) (only (Ok (records.Meter found)) (records.Meter found) r refl found_next)
+    subst (λ x. (d ≡ record_data x) × KeyedInRange (keys.Meter n) x)
+    (only (Ok (records.Meter found)) (records.Meter found) r refl found_next)
     (meter_known d shaped ordered shaped_is ∙ ap meter_value known.0, (fits, known.1))))
 
 -- ---- back
@@ -211,8 +227,12 @@ pub record IsReadBack (k : Key) (r : Record) : Type 0 where
   pub range : record_of (record_draft r) ≡ Ok r
 
 pub read_back : (k : Key) (r : Record) → KeyedInRange k r → IsReadBack k r
-read_back (keys.Port n) (records.Port r) fits = record { in_range = fits.0; shape = rw (port_shaped (port_draft r)); range = rw (port_back r fits.1) }
-read_back (keys.Filter n) (records.Filter r) fits = record { in_range = fits.0; shape = rw (filter_shaped (filter_draft r)); range = rw (filter_back r fits.1) }
-read_back (keys.Gate n) (records.Gate r) fits = record { in_range = fits.0; shape = rw (gate_shaped (gate_draft r)); range = rw (gate_back r fits.1) }
-read_back (keys.Meter n) (records.Meter r) fits = record { in_range = fits.0; shape = rw (meter_shaped (meter_draft r)); range = rw (meter_back r fits.1) }
+read_back (keys.Port n) (records.Port r) fits =
+    record { in_range = fits.0; shape = rw (port_shaped (port_draft r)); range = rw (port_back r fits.1) }
+read_back (keys.Filter n) (records.Filter r) fits =
+    record { in_range = fits.0; shape = rw (filter_shaped (filter_draft r)); range = rw (filter_back r fits.1) }
+read_back (keys.Gate n) (records.Gate r) fits =
+    record { in_range = fits.0; shape = rw (gate_shaped (gate_draft r)); range = rw (gate_back r fits.1) }
+read_back (keys.Meter n) (records.Meter r) fits =
+    record { in_range = fits.0; shape = rw (meter_shaped (meter_draft r)); range = rw (meter_back r fits.1) }
 read_back k r fits = absurd fits

@@ -66,7 +66,8 @@ same_order k = own_reverse (order k k) (nat_list_cmp_total.antisymm k k)
 
 -- ---- what was read is ordered
 
-above_put_at : (o : Ordering) (l k m : List ℕ) (d e : Data) (ms : Members) → order l k ≡ Less → Above l (member m e ms) → Above l (put k d ms)
+above_put_at : (o : Ordering) (l k m : List ℕ) (d e : Data) (ms : Members) → order l k ≡ Less → Above l (member m e ms)
+    → Above l (put k d ms)
     → Above l (match_ordering o (member k d (member m e ms)) (member m d ms) (member m e (put k d ms)))
 above_put_at Less l k m d e ms less h later = (less, h)
 above_put_at Equal l k m d e ms less h later = h
@@ -76,7 +77,8 @@ above_put : (l k : List ℕ) (d : Data) (ms : Members) → order l k ≡ Less �
 above_put l k d no_members less h = (less, tt)
 above_put l k d (member m e ms) less h = above_put_at (order k m) l k m d e ms less h (above_put l k d ms less h.1)
 
-ordered_put_at : (o : Ordering) (k l : List ℕ) (d e : Data) (ms : Members) → order k l ≡ o → IsOrdered d → AreOrdered (member l e ms) → AreOrdered (put k d ms)
+ordered_put_at : (o : Ordering) (k l : List ℕ) (d e : Data) (ms : Members) → order k l ≡ o → IsOrdered d → AreOrdered (member l e ms)
+    → AreOrdered (put k d ms)
     → AreOrdered (match_ordering o (member k d (member l e ms)) (member l d ms) (member l e (put k d ms)))
 ordered_put_at Less k l d e ms is x h later = ((is, above_below k l ms is h.0), (x, h))
 ordered_put_at Equal k l d e ms is x h later = (h.0, (x, h.1.1))
@@ -86,11 +88,13 @@ ordered_put : (k : List ℕ) (d : Data) (ms : Members) → IsOrdered d → AreOr
 ordered_put k d no_members x h = (tt, (x, tt))
 ordered_put k d (member l e ms) x h = ordered_put_at (order k l) k l d e ms refl x h (ordered_put k d ms x h.1.1)
 
-if_map : {A B : Type 0} (P : A → Type 0) (Q : B → Type 0) (f : A → B) → ((a : A) → P a → Q (f a)) → (o : Option A) → IfSome o P → IfSome (option_map f o) Q
+if_map : {A B : Type 0} (P : A → Type 0) (Q : B → Type 0) (f : A → B) → ((a : A) → P a → Q (f a)) → (o : Option A) → IfSome o P
+    → IfSome (option_map f o) Q
 if_map P Q f more None h = tt
 if_map P Q f more (Some a) h = more a h
 
-if_and_then : {A B : Type 0} (P : A → Type 0) (Q : B → Type 0) (f : A → Option B) → ((a : A) → P a → IfSome (f a) Q) → (o : Option A) → IfSome o P → IfSome (option_and_then f o) Q
+if_and_then : {A B : Type 0} (P : A → Type 0) (Q : B → Type 0) (f : A → Option B) → ((a : A) → P a → IfSome (f a) Q) → (o : Option A)
+    → IfSome o P → IfSome (option_and_then f o) Q
 if_and_then P Q f more None h = tt
 if_and_then P Q f more (Some a) h = more a h
 
@@ -105,17 +109,21 @@ mutual
   of_json_ordered (json.number s) = if_map (λ _. ⊤) IsOrdered number (λ a x. tt) (number_of s) (any (number_of s))
   of_json_ordered (json.string s) = tt
   of_json_ordered (json.array js) = if_map ItemsAreOrdered IsOrdered array (λ a x. x) (of_items js) (of_items_ordered js)
-  of_json_ordered (json.object ms) = if_map AreOrdered IsOrdered object (λ a x. x) (of_members ms no_members) (of_members_ordered ms no_members tt)
+  of_json_ordered (json.object ms) =
+      if_map AreOrdered IsOrdered object (λ a x. x) (of_members ms no_members) (of_members_ordered ms no_members tt)
 
   of_items_ordered : (js : json.Items) → IfSome (of_items js) ItemsAreOrdered
   of_items_ordered json.no_items = tt
   of_items_ordered (json.item j js) =
-      if_and_then IsOrdered ItemsAreOrdered (λ d. option_map (item d) (of_items js)) (λ d x. if_map ItemsAreOrdered ItemsAreOrdered (item d) (λ ds y. (x, y)) (of_items js) (of_items_ordered js)) (of_json j) (of_json_ordered j)
+      if_and_then IsOrdered ItemsAreOrdered (λ d. option_map (item d) (of_items js))
+      (λ d x. if_map ItemsAreOrdered ItemsAreOrdered (item d) (λ ds y. (x, y)) (of_items js) (of_items_ordered js)) (of_json j)
+      (of_json_ordered j)
 
   of_members_ordered : (ms : json.Members) (found : Members) → AreOrdered found → IfSome (of_members ms found) AreOrdered
   of_members_ordered json.no_members found h = h
   of_members_ordered (json.member k j ms) found h =
-      if_and_then IsOrdered AreOrdered (λ d. of_members ms (put k d found)) (λ d x. of_members_ordered ms (put k d found) (ordered_put k d found x h)) (of_json j) (of_json_ordered j)
+      if_and_then IsOrdered AreOrdered (λ d. of_members ms (put k d found))
+      (λ d x. of_members_ordered ms (put k d found) (ordered_put k d found x h)) (of_json j) (of_json_ordered j)
 
 -- ---- ordered members that are held, and no more, are all
 
@@ -154,7 +162,8 @@ more_than : (l : List ℕ) (e : Data) (ms es : Members) → members_len es ≤ m
 more_than l e ms es h = (omega arith, λ same. absurd (omega arith))
 
 -- the first names beside each other, where the rest is known
-all_held_at : (o : Ordering) (k l : List ℕ) (d e : Data) (ms es : Members) → order k l ≡ o → Above l ms → Rise (member k d es) → Holds (object (member l e ms)) (member k d es)
+all_held_at : (o : Ordering) (k l : List ℕ) (d e : Data) (ms es : Members) → order k l ≡ o → Above l ms → Rise (member k d es)
+    → Holds (object (member l e ms)) (member k d es)
     → ((fs : Members) → Rise fs → Holds (object ms) fs → IsAllOf ms fs) → IsAllOf (member l e ms) (member k d es)
 all_held_at Less k l d e ms es is ordered rise h rest =
     let missing : get_member k ms ≡ None = absent k ms (above_below k l ms is ordered) in
@@ -176,7 +185,8 @@ all_held : (ms es : Members) → AreOrdered ms → Rise es → Holds (object ms)
 all_held no_members no_members ordered rise h = (omega arith, λ same. refl)
 all_held no_members (member k d es) ordered rise h = let none : None ≡ Some d = h.0 in cc
 all_held (member l e ms) no_members ordered rise h = (omega arith, λ same. absurd (omega arith))
-all_held (member l e ms) (member k d es) ordered rise h = all_held_at (order k l) k l d e ms es refl ordered.0 rise h (λ fs r x. all_held ms fs ordered.1.1 r x)
+all_held (member l e ms) (member k d es) ordered rise h =
+    all_held_at (order k l) k l d e ms es refl ordered.0 rise h (λ fs r x. all_held ms fs ordered.1.1 r x)
 
 -- ordered members that hold these, and are as many, are these
 pub only_these : (ms es : Members) → AreOrdered ms → Rise es → Holds (object ms) es → members_len ms ≡ members_len es → ms ≡ es
@@ -202,16 +212,19 @@ inside (array ds) = no_members
 inside (object ms) = ms
 
 -- an object with so many members, and with each of these, has these alone
-pub whole_object : (n : ℕ) (d : Data) (es : Members) (u : Unit {0}) → IsOrdered d → has_members (suc n) d ≡ Ok u → members_len es ≡ suc n → Rise es → Holds d es → d ≡ object es
+pub whole_object : (n : ℕ) (d : Data) (es : Members) (u : Unit {0}) → IsOrdered d → has_members (suc n) d ≡ Ok u → members_len es ≡ suc n
+    → Rise es → Holds d es → d ≡ object es
 whole_object n null es u ordered count len rise h = some_counted n u count
 whole_object n (boolean b) es u ordered count len rise h = some_counted n u count
 whole_object n (number x) es u ordered count len rise h = some_counted n u count
 whole_object n (string s) es u ordered count len rise h = some_counted n u count
 whole_object n (array ds) es u ordered count len rise h = some_counted n u count
-whole_object n (object ms) es u ordered count len rise h = ap object ((all_held ms es ordered rise h).1 (counted (members_len ms) (suc n) u count ∙ sym len))
+whole_object n (object ms) es u ordered count len rise h =
+    ap object ((all_held ms es ordered rise h).1 (counted (members_len ms) (suc n) u count ∙ sym len))
 
 -- a member of what is ordered is ordered
-member_ordered_at : (o : Ordering) (e : Data) (found : Option Data) → IsOrdered e → IfSome found IsOrdered → IfSome (match_ordering o found (Some e) found) IsOrdered
+member_ordered_at : (o : Ordering) (e : Data) (found : Option Data) → IsOrdered e → IfSome found IsOrdered
+    → IfSome (match_ordering o found (Some e) found) IsOrdered
 member_ordered_at Less e found here later = later
 member_ordered_at Equal e found here later = here
 member_ordered_at Greater e found here later = later

@@ -43,7 +43,8 @@ is_decimal_back zero small = zero_is_decimal
 is_decimal_back (suc m) small =
     let fits : suc m < 2 ^ 64 = omega arith in
     let ten : suc m < 10 ^ 10 = omega arith in
-    all_hold _ _ _ _ (digits_decimal own (suc m) fits) (lt-ltb _ _ (decimal_nonempty (suc m) fits)) (le-leb _ _ (length-decimal-le 10 (suc m) (omega arith) ten fits)) (no_zero_first (suc m) (omega arith) fits)
+    all_hold _ _ _ _ (digits_decimal own (suc m) fits) (lt-ltb _ _ (decimal_nonempty (suc m) fits))
+    (le-leb _ _ (length-decimal-le 10 (suc m) (omega arith) ten fits)) (no_zero_first (suc m) (omega arith) fits)
 
 pub decimal_back : (n : ℕ) → IsInstanceId n → decimal_of (decimal n) ≡ Some n
 decimal_back n small =
@@ -51,5 +52,7 @@ decimal_back n small =
     ap (λ b. cond b (Some (digits_value 10 (decimal n))) None) (is_decimal_back n small) ∙ ap Some (digits_value-decimal own n fits)
 
 -- the shape, and then the ranges
-pub in_steps : (line : List ℕ) (d : Data) (draft : LineDraft) (found : Ask) → data_of line ≡ Some d → line_shape d ≡ Ok draft → line_of_draft draft ≡ Ok found → line_of line ≡ Ok found
-in_steps line d draft found read shape ranges = ap refused (then (or_syntax (data_of line)) _ d _ (ap or_syntax read) (then (line_shape d) _ draft _ shape ranges))
+pub in_steps : (line : List ℕ) (d : Data) (draft : LineDraft) (found : Ask) → data_of line ≡ Some d → line_shape d ≡ Ok draft
+    → line_of_draft draft ≡ Ok found → line_of line ≡ Ok found
+in_steps line d draft found read shape ranges =
+    ap refused (then (or_syntax (data_of line)) _ d _ (ap or_syntax read) (then (line_shape d) _ draft _ shape ranges))

@@ -10,35 +10,49 @@ use Rattle.tsn_wire.specs.declared.drafts.EditDraft.TheVariants as drafts
 use Rattle.tsn_wire.proofs.OwnSpelling.{quoted_key}
 
 -- the braces round a key and a record, and what comes behind them
-put_of : (front key value rest : List ℕ) → front ++ ((key ++ codes "\"") ++ (codes ",\"record\":" ++ (value ++ (codes "}" ++ rest)))) ≡ (front ++ ((key ++ codes "\"") ++ (codes ",\"record\":" ++ (value ++ codes "}")))) ++ rest
+put_of : (front key value rest : List ℕ)
+    → front ++ ((key ++ codes "\"") ++ (codes ",\"record\":" ++ (value ++ (codes "}" ++ rest))))
+    ≡ (front ++ ((key ++ codes "\"") ++ (codes ",\"record\":" ++ (value ++ codes "}")))) ++ rest
 put_of front key value rest = simp append_assoc
 
-removal_of : (front key rest : List ℕ) → front ++ ((key ++ codes "\"") ++ (codes "}" ++ rest)) ≡ (front ++ ((key ++ codes "\"") ++ codes "}")) ++ rest
+removal_of : (front key rest : List ℕ)
+    → front ++ ((key ++ codes "\"") ++ (codes "}" ++ rest)) ≡ (front ++ ((key ++ codes "\"") ++ codes "}")) ++ rest
 removal_of front key rest = simp append_assoc
 
-pub create_edit : (key : KeyDraft) (v : RecordDraft) (t0 t1 t2 t3 t4 : List ℕ) → t0 ≡ codes "{\"do\":\"" ++ t1 → t1 ≡ codes "create\",\"key\":\"" ++ t2 → SpellsRecord t2 key v t3 → t3 ≡ codes "}" ++ t4 → SpellsEdit t0 (drafts.Create key v) t4
+pub create_edit : (key : KeyDraft) (v : RecordDraft) (t0 t1 t2 t3 t4 : List ℕ) → t0 ≡ codes "{\"do\":\"" ++ t1
+    → t1 ≡ codes "create\",\"key\":\"" ++ t2 → SpellsRecord t2 key v t3 → t3 ≡ codes "}" ++ t4 → SpellsEdit t0 (drafts.Create key v) t4
 unfolding escape_byte
 create_edit key v t0 t1 t2 t3 t4 e0 e1 (k, small, is) e3 = (
   (k, small),
-  e0 ∙ ap (λ l. codes "{\"do\":\"" ++ l) (e1 ∙ ap (λ l. codes "create\",\"key\":\"" ++ l) (is ∙ ap (λ l. spelled_key key.kind key.number ++ (codes "\",\"record\":" ++ (compact_text (record_value v) ++ l))) e3))
-      ∙ quoted_key (codes "{\"do\":\"create\",\"key\":\"") (codes ",\"record\":" ++ (compact_text (record_value v) ++ (codes "}" ++ t4))) key.kind key.number k
+  e0 ∙ ap (λ l. codes "{\"do\":\"" ++ l)
+      (e1 ∙ ap (λ l. codes "create\",\"key\":\"" ++ l)
+      (is ∙ ap (λ l. spelled_key key.kind key.number ++ (codes "\",\"record\":" ++ (compact_text (record_value v) ++ l))) e3))
+      ∙ quoted_key (codes "{\"do\":\"create\",\"key\":\"") (codes ",\"record\":" ++ (compact_text (record_value v) ++ (codes "}" ++ t4)))
+      key.kind key.number k
       ∙ put_of (codes "{\"do\":\"create\",\"key\":\"") (escape (spelled_key key.kind key.number)) (compact_text (record_value v)) t4,
 )
 
-pub replace_edit : (key : KeyDraft) (v : RecordDraft) (t0 t1 t2 t3 t4 : List ℕ) → t0 ≡ codes "{\"do\":\"" ++ t1 → t1 ≡ codes "replace\",\"key\":\"" ++ t2 → SpellsRecord t2 key v t3 → t3 ≡ codes "}" ++ t4 → SpellsEdit t0 (drafts.Replace key v) t4
+pub replace_edit : (key : KeyDraft) (v : RecordDraft) (t0 t1 t2 t3 t4 : List ℕ) → t0 ≡ codes "{\"do\":\"" ++ t1
+    → t1 ≡ codes "replace\",\"key\":\"" ++ t2 → SpellsRecord t2 key v t3 → t3 ≡ codes "}" ++ t4 → SpellsEdit t0 (drafts.Replace key v) t4
 unfolding escape_byte
 replace_edit key v t0 t1 t2 t3 t4 e0 e1 (k, small, is) e3 = (
   (k, small),
-  e0 ∙ ap (λ l. codes "{\"do\":\"" ++ l) (e1 ∙ ap (λ l. codes "replace\",\"key\":\"" ++ l) (is ∙ ap (λ l. spelled_key key.kind key.number ++ (codes "\",\"record\":" ++ (compact_text (record_value v) ++ l))) e3))
-      ∙ quoted_key (codes "{\"do\":\"replace\",\"key\":\"") (codes ",\"record\":" ++ (compact_text (record_value v) ++ (codes "}" ++ t4))) key.kind key.number k
+  e0 ∙ ap (λ l. codes "{\"do\":\"" ++ l)
+      (e1 ∙ ap (λ l. codes "replace\",\"key\":\"" ++ l)
+      (is ∙ ap (λ l. spelled_key key.kind key.number ++ (codes "\",\"record\":" ++ (compact_text (record_value v) ++ l))) e3))
+      ∙ quoted_key (codes "{\"do\":\"replace\",\"key\":\"") (codes ",\"record\":" ++ (compact_text (record_value v) ++ (codes "}" ++ t4)))
+      key.kind key.number k
       ∙ put_of (codes "{\"do\":\"replace\",\"key\":\"") (escape (spelled_key key.kind key.number)) (compact_text (record_value v)) t4,
 )
 
-pub remove_edit : (key : KeyDraft) (t0 t1 t2 t3 t4 : List ℕ) → t0 ≡ codes "{\"do\":\"" ++ t1 → t1 ≡ codes "remove\",\"key\":\"" ++ t2 → IsKey key → t2 ≡ spelled_key key.kind key.number ++ t3 → IsNoPort key.kind → t3 ≡ codes "\"}" ++ t4 → SpellsEdit t0 (drafts.Remove key) t4
+pub remove_edit : (key : KeyDraft) (t0 t1 t2 t3 t4 : List ℕ) → t0 ≡ codes "{\"do\":\"" ++ t1 → t1 ≡ codes "remove\",\"key\":\"" ++ t2
+    → IsKey key → t2 ≡ spelled_key key.kind key.number ++ t3 → IsNoPort key.kind → t3 ≡ codes "\"}" ++ t4
+    → SpellsEdit t0 (drafts.Remove key) t4
 unfolding escape_byte
 remove_edit key t0 t1 t2 t3 t4 e0 e1 k e2 other e3 = (
   (k, other),
-  e0 ∙ ap (λ l. codes "{\"do\":\"" ++ l) (e1 ∙ ap (λ l. codes "remove\",\"key\":\"" ++ l) (e2 ∙ ap (λ l. spelled_key key.kind key.number ++ l) e3))
+  e0 ∙ ap (λ l. codes "{\"do\":\"" ++ l)
+      (e1 ∙ ap (λ l. codes "remove\",\"key\":\"" ++ l) (e2 ∙ ap (λ l. spelled_key key.kind key.number ++ l) e3))
       ∙ quoted_key (codes "{\"do\":\"remove\",\"key\":\"") (codes "}" ++ t4) key.kind key.number k
       ∙ removal_of (codes "{\"do\":\"remove\",\"key\":\"") (escape (spelled_key key.kind key.number)) t4,
 )

@@ -34,10 +34,14 @@ batched edits = Ok (record { session = 1; command = Batch edits })
 -- as many edits as a batch may have, and one more
 abbrev pub sixteen_removals : List ℕ
 sixteen_removals =
-    removal_text (codes "gate 0") ++ codes "," ++ removal_text (codes "gate 1") ++ codes "," ++ removal_text (codes "gate 2") ++ codes "," ++ removal_text (codes "gate 3")
-    ++ codes "," ++ removal_text (codes "gate 4") ++ codes "," ++ removal_text (codes "gate 5") ++ codes "," ++ removal_text (codes "gate 6") ++ codes "," ++ removal_text (codes "gate 7")
-    ++ codes "," ++ removal_text (codes "meter 0") ++ codes "," ++ removal_text (codes "meter 1") ++ codes "," ++ removal_text (codes "meter 2") ++ codes "," ++ removal_text (codes "meter 3")
-    ++ codes "," ++ removal_text (codes "meter 4") ++ codes "," ++ removal_text (codes "meter 5") ++ codes "," ++ removal_text (codes "meter 6") ++ codes "," ++ removal_text (codes "meter 7")
+    removal_text (codes "gate 0") ++ codes "," ++ removal_text (codes "gate 1") ++ codes "," ++ removal_text (codes "gate 2") ++ codes ","
+    ++ removal_text (codes "gate 3")
+    ++ codes "," ++ removal_text (codes "gate 4") ++ codes "," ++ removal_text (codes "gate 5") ++ codes ","
+    ++ removal_text (codes "gate 6") ++ codes "," ++ removal_text (codes "gate 7")
+    ++ codes "," ++ removal_text (codes "meter 0") ++ codes "," ++ removal_text (codes "meter 1") ++ codes ","
+    ++ removal_text (codes "meter 2") ++ codes "," ++ removal_text (codes "meter 3")
+    ++ codes "," ++ removal_text (codes "meter 4") ++ codes "," ++ removal_text (codes "meter 5") ++ codes ","
+    ++ removal_text (codes "meter 6") ++ codes "," ++ removal_text (codes "meter 7")
 
 abbrev pub seventeen_removals : List ℕ
 seventeen_removals = sixteen_removals ++ codes "," ++ removal_text (codes "filter 0")
@@ -55,7 +59,8 @@ no_flag_text = codes "{\"base\":0,\"cycle\":0,\"extension\":0,\"invalid_rx\":fal
 -- the line that hands in a frame of that length, priority and drop eligibility, in session 1
 abbrev pub frame_line : List ℕ → List ℕ → List ℕ → List ℕ
 frame_line octets priority yellow =
-    codes "{\"do\":\"frame\",\"handle\":7,\"now\":1000,\"octets\":" ++ octets ++ codes ",\"priority\":" ++ priority ++ codes ",\"s\":1,\"yellow\":" ++ yellow ++ codes "}"
+    codes "{\"do\":\"frame\",\"handle\":7,\"now\":1000,\"octets\":" ++ octets ++ codes ",\"priority\":" ++ priority
+    ++ codes ",\"s\":1,\"yellow\":" ++ yellow ++ codes "}"
 
 abbrev pub a_frame : Frame
 a_frame = record { handle = 7; priority = 5; octets = 1500; yellow = true }

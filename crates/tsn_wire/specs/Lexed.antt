@@ -38,7 +38,8 @@ abbrev mutual
 
   pub members_lexemes : Bool → json.Members → List Lexeme
   members_lexemes later json.no_members = token Token.end_object ∷ []
-  members_lexemes later (json.member k j ms) = comma_if later ++ (token (Token.string k) ∷ (colon ∷ (value_lexemes j ++ members_lexemes true ms)))
+  members_lexemes later (json.member k j ms) =
+      comma_if later ++ (token (Token.string k) ∷ (colon ∷ (value_lexemes j ++ members_lexemes true ms)))
 
 -- The lexemes begin with those of a value, which is d and has no more than n brackets in one another; the rest comes after it.
 abbrev pub ReadsValue : ℕ → List Lexeme → Data → List Lexeme → Type 0

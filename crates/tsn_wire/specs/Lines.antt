@@ -51,19 +51,24 @@ abbrev pub bare_members : List ℕ → ℕ → Members
 bare_members word s = member (codes "do") (string word) (member (codes "s") (whole_data s) no_members)
 
 abbrev pub keyed_members : List ℕ → ℕ → KeyDraft → Members
-keyed_members word s key = member (codes "do") (string word) (member (codes "key") (key_value key) (member (codes "s") (whole_data s) no_members))
+keyed_members word s key =
+    member (codes "do") (string word) (member (codes "key") (key_value key) (member (codes "s") (whole_data s) no_members))
 
 abbrev pub edit_members : List ℕ → ℕ → KeyDraft → RecordDraft → Members
 edit_members word s key value =
-    member (codes "do") (string word) (member (codes "key") (key_value key) (member (codes "record") (record_value value) (member (codes "s") (whole_data s) no_members)))
+    member (codes "do") (string word)
+    (member (codes "key") (key_value key) (member (codes "record") (record_value value) (member (codes "s") (whole_data s) no_members)))
 
 abbrev pub act_members : List ℕ → ℕ → KeyDraft → ℕ → Members
 act_members word s key now =
-    member (codes "do") (string word) (member (codes "key") (key_value key) (member (codes "now") (whole_data now) (member (codes "s") (whole_data s) no_members)))
+    member (codes "do") (string word)
+    (member (codes "key") (key_value key) (member (codes "now") (whole_data now) (member (codes "s") (whole_data s) no_members)))
 
 abbrev pub states_members : ℕ → KeyDraft → ℕ → Members
 states_members s key at =
-    member (codes "at") (whole_data at) (member (codes "do") (string (codes "states")) (member (codes "key") (key_value key) (member (codes "s") (whole_data s) no_members)))
+    member (codes "at") (whole_data at)
+    (member (codes "do") (string (codes "states"))
+    (member (codes "key") (key_value key) (member (codes "s") (whole_data s) no_members)))
 
 abbrev pub frame_members : ℕ → FrameDraft → ℕ → Members
 frame_members s frame now =
@@ -76,16 +81,20 @@ frame_members s frame now =
     (member (codes "yellow") (boolean frame.yellow) no_members))))))
 
 abbrev pub batch_members : ℕ → List EditDraft → Members
-batch_members s batch = member (codes "do") (string (codes "batch")) (member (codes "edits") (batch_value batch) (member (codes "s") (whole_data s) no_members))
+batch_members s batch =
+    member (codes "do") (string (codes "batch")) (member (codes "edits") (batch_value batch) (member (codes "s") (whole_data s) no_members))
 
 abbrev pub list_members : ℕ → Kind → Members
-list_members s kind = member (codes "do") (string (codes "list")) (member (codes "kind") (string (kind_text kind)) (member (codes "s") (whole_data s) no_members))
+list_members s kind = member (codes "do") (string (codes "list"))
+    (member (codes "kind") (string (kind_text kind)) (member (codes "s") (whole_data s) no_members))
 
 abbrev pub since_members : ℕ → ℕ → Members
-since_members s after = member (codes "after") (whole_data after) (member (codes "do") (string (codes "since")) (member (codes "s") (whole_data s) no_members))
+since_members s after =
+    member (codes "after") (whole_data after) (member (codes "do") (string (codes "since")) (member (codes "s") (whole_data s) no_members))
 
 abbrev pub settle_members : ℕ → ℕ → Members
-settle_members s upto = member (codes "do") (string (codes "settle")) (member (codes "s") (whole_data s) (member (codes "upto") (whole_data upto) no_members))
+settle_members s upto =
+    member (codes "do") (string (codes "settle")) (member (codes "s") (whole_data s) (member (codes "upto") (whole_data upto) no_members))
 
 abbrev pub command_members : ℕ → CommandDraft → Members
 command_members s (Create key value) = edit_members (codes "create") s key value

@@ -51,7 +51,8 @@ command_of_draft (wanted.Settle n) = within fields.Upto 0 greatest_after n >>= �
 command_of_draft (wanted.Enable k n) = key k >>= λ named. within fields.Now 0 greatest_instant n >>= λ now. Ok (commands.Enable named now)
 command_of_draft (wanted.Disable k n) = key k >>= λ named. within fields.Now 0 greatest_instant n >>= λ now. Ok (commands.Disable named now)
 command_of_draft (wanted.Apply k n) = key k >>= λ named. within fields.Now 0 greatest_instant n >>= λ now. Ok (commands.Apply named now)
-command_of_draft (wanted.Frame f n) = frame_of_draft f >>= λ frame. within fields.Now 0 greatest_instant n >>= λ now. Ok (commands.Frame frame now)
+command_of_draft (wanted.Frame f n) =
+    frame_of_draft f >>= λ frame. within fields.Now 0 greatest_instant n >>= λ now. Ok (commands.Frame frame now)
 command_of_draft (wanted.States k n) = key k >>= λ named. within fields.At 0 greatest_instant n >>= λ at. Ok (commands.States named at)
 command_of_draft (wanted.Counters k) = key k >>= λ named. Ok (commands.Counters named)
 command_of_draft (wanted.Show k) = key k >>= λ named. Ok (commands.Show named)

@@ -33,7 +33,8 @@ abbrev pub line_of_draft : LineDraft → Result Ask Unread
 line_of_draft Hello = Ok (record { session = 0; command = commands.Hello None })
 line_of_draft (Named name) = name_of_draft name >>= λ text. Ok (record { session = 0; command = commands.Hello (Some text) })
 line_of_draft (Session s wanted) =
-    within fields.S 1 most_sessions s >>= λ session. command_of_draft wanted >>= λ command. Ok (record { session = session; command = command })
+    within fields.S 1 most_sessions s >>= λ session. command_of_draft wanted >>= λ command.
+    Ok (record { session = session; command = command })
 
 -- syntax first, then the whole shape, then the ranges
 abbrev pub reading : List ℕ → Result Ask Unread

@@ -53,7 +53,8 @@ filter_value r = filter_object r.gate r.handle r.max_sdu r.meter r.oversize r.pr
 
 abbrev pub gate_value : GateDraft → Data
 gate_value r =
-    gate_object r.admin.base r.admin.cycle r.admin.extension r.invalid_rx r.ipv (list_array gate_entry_value r.admin.list) r.octets_exceeded r.is_open
+    gate_object r.admin.base r.admin.cycle r.admin.extension r.invalid_rx r.ipv (list_array gate_entry_value r.admin.list) r.octets_exceeded
+    r.is_open
 
 abbrev pub meter_value : MeterDraft → Data
 meter_value r = meter_object r.all_red r.aware r.cbs r.cf r.cir r.drop_yellow r.ebs r.eir
@@ -70,8 +71,12 @@ key_value k = string (spelled_key k.kind k.number)
 
 -- an edit of a batch
 abbrev pub edit_value : EditDraft → Data
-edit_value (edits.Create key value) = object (member (codes "do") (string (codes "create")) (member (codes "key") (key_value key) (member (codes "record") (record_value value) no_members)))
-edit_value (edits.Replace key value) = object (member (codes "do") (string (codes "replace")) (member (codes "key") (key_value key) (member (codes "record") (record_value value) no_members)))
+edit_value (edits.Create key value) =
+    object (member (codes "do") (string (codes "create"))
+    (member (codes "key") (key_value key) (member (codes "record") (record_value value) no_members)))
+edit_value (edits.Replace key value) =
+    object (member (codes "do") (string (codes "replace"))
+    (member (codes "key") (key_value key) (member (codes "record") (record_value value) no_members)))
 edit_value (edits.Remove key) = object (member (codes "do") (string (codes "remove")) (member (codes "key") (key_value key) no_members))
 
 abbrev pub batch_value : List EditDraft → Data
@@ -141,10 +146,14 @@ SpellsRecord text key value rest =
 -- The text begins with what follows `{"do":"` in a command's line, up to `,"s":`, and the rest comes after it. Lines that
 -- settle or act on a list are not read so, those that hand in a frame elsewhere, and those that look at states begin otherwise.
 abbrev pub Spells : List ℕ → CommandDraft → List ℕ → Type 0
-Spells text (Create key value) rest = (behind : List ℕ) × (text ≡ codes "create\",\"key\":\"" ++ behind) × SpellsRecord behind key value rest
-Spells text (Replace key value) rest = (behind : List ℕ) × (text ≡ codes "replace\",\"key\":\"" ++ behind) × SpellsRecord behind key value rest
-Spells text (Remove key) rest = IsKey key × IsNoPort key.kind × (text ≡ codes "remove\",\"key\":\"" ++ (spelled_key key.kind key.number ++ (codes "\"" ++ rest)))
-Spells text (Batch batch) rest = (is_batch_draft batch ≡ true) × AllByRecursion EditIsSmall batch × (text ≡ codes "batch\",\"edits\":" ++ (compact_text (batch_value batch) ++ rest))
+Spells text (Create key value) rest =
+    (behind : List ℕ) × (text ≡ codes "create\",\"key\":\"" ++ behind) × SpellsRecord behind key value rest
+Spells text (Replace key value) rest =
+    (behind : List ℕ) × (text ≡ codes "replace\",\"key\":\"" ++ behind) × SpellsRecord behind key value rest
+Spells text (Remove key) rest =
+    IsKey key × IsNoPort key.kind × (text ≡ codes "remove\",\"key\":\"" ++ (spelled_key key.kind key.number ++ (codes "\"" ++ rest)))
+Spells text (Batch batch) rest = (is_batch_draft batch ≡ true) × AllByRecursion EditIsSmall batch
+    × (text ≡ codes "batch\",\"edits\":" ++ (compact_text (batch_value batch) ++ rest))
 Spells text Undo rest = text ≡ codes "undo\"" ++ rest
 Spells text UndoAll rest = text ≡ codes "undo_all\"" ++ rest
 Spells text Redo rest = text ≡ codes "redo\"" ++ rest
@@ -154,7 +163,8 @@ Spells text (Disable key now) rest = ⊥
 Spells text (Apply key now) rest = ⊥
 Spells text (Frame frame now) rest = ⊥
 Spells text (States key at) rest = ⊥
-Spells text (Counters key) rest = IsKey key × (text ≡ codes "counters\",\"key\":\"" ++ (spelled_key key.kind key.number ++ (codes "\"" ++ rest)))
+Spells text (Counters key) rest =
+    IsKey key × (text ≡ codes "counters\",\"key\":\"" ++ (spelled_key key.kind key.number ++ (codes "\"" ++ rest)))
 Spells text (Show key) rest = IsKey key × (text ≡ codes "show\",\"key\":\"" ++ (spelled_key key.kind key.number ++ (codes "\"" ++ rest)))
 Spells text (ListKind kind) rest = text ≡ codes "list\",\"kind\":\"" ++ (kind_text kind ++ (codes "\"" ++ rest))
 Spells text (Since after) rest = ⊥

@@ -17,6 +17,7 @@ SpellsStates text command rest =
 -- since `after`, and of any other command `do`.
 abbrev pub SpellsFront : List ℕ → CommandDraft → List ℕ → Type 0
 SpellsFront line command rest =
-    ((after : ℕ) × (command ≡ Since after) × IsSmall after × (line ≡ codes "{\"after\":" ++ (decimal after ++ (codes ",\"do\":\"since\"" ++ rest))))
+    ((after : ℕ) × (command ≡ Since after) × IsSmall after
+    × (line ≡ codes "{\"after\":" ++ (decimal after ++ (codes ",\"do\":\"since\"" ++ rest))))
     ⊎ (((text : List ℕ) × (line ≡ codes "{\"at\":" ++ text) × SpellsStates text command rest)
     ⊎ ((text : List ℕ) × (line ≡ codes "{\"do\":\"" ++ text) × Spells text command rest))

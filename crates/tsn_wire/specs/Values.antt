@@ -31,7 +31,8 @@ bare_data word s = object (member (codes "do") (string word) (member (codes "s")
 
 -- `{"do":WORD,"key":K,"s":S}`
 abbrev pub keyed_data : List ℕ → ℕ → List ℕ → Data
-keyed_data word s key = object (member (codes "do") (string word) (member (codes "key") (string key) (member (codes "s") (whole_data s) no_members)))
+keyed_data word s key =
+    object (member (codes "do") (string word) (member (codes "key") (string key) (member (codes "s") (whole_data s) no_members)))
 
 -- `{"do":WORD,"key":K,"record":R,"s":S}`
 abbrev pub edit_data : List ℕ → ℕ → List ℕ → Data → Data
@@ -43,7 +44,8 @@ edit_data word s key value =
 
 -- `{"do":WORD,"key":K,"record":R}` and `{"do":"remove","key":K}`
 abbrev pub put_data : List ℕ → List ℕ → Data → Data
-put_data word key value = object (member (codes "do") (string word) (member (codes "key") (string key) (member (codes "record") value no_members)))
+put_data word key value =
+    object (member (codes "do") (string word) (member (codes "key") (string key) (member (codes "record") value no_members)))
 
 abbrev pub removal_data : List ℕ → Data
 removal_data key = object (member (codes "do") (string (codes "remove")) (member (codes "key") (string key) no_members))
@@ -90,15 +92,18 @@ states_data s key at =
 
 -- `{"do":"list","kind":N,"s":S}`
 abbrev pub listed_data : ℕ → List ℕ → Data
-listed_data s name = object (member (codes "do") (string (codes "list")) (member (codes "kind") (string name) (member (codes "s") (whole_data s) no_members)))
+listed_data s name = object (member (codes "do") (string (codes "list"))
+    (member (codes "kind") (string name) (member (codes "s") (whole_data s) no_members)))
 
 -- `{"after":N,"do":"since","s":S}`
 abbrev pub asked_data : ℕ → ℕ → Data
-asked_data s after = object (member (codes "after") (whole_data after) (member (codes "do") (string (codes "since")) (member (codes "s") (whole_data s) no_members)))
+asked_data s after = object (member (codes "after") (whole_data after)
+    (member (codes "do") (string (codes "since")) (member (codes "s") (whole_data s) no_members)))
 
 -- `{"do":"settle","s":S,"upto":U}`
 abbrev pub settle_data : ℕ → ℕ → Data
-settle_data s upto = object (member (codes "do") (string (codes "settle")) (member (codes "s") (whole_data s) (member (codes "upto") (whole_data upto) no_members)))
+settle_data s upto = object (member (codes "do") (string (codes "settle"))
+    (member (codes "s") (whole_data s) (member (codes "upto") (whole_data upto) no_members)))
 
 -- `{"do":"hello"}`, and `{"do":"hello","name":N}`
 abbrev pub hello_data : Option (List ℕ) → Data
@@ -166,8 +171,8 @@ EditMayBeAsked (edits.Create k r) = KeyedInRange k r
 EditMayBeAsked (edits.Replace k r) = KeyedInRange k r
 EditMayBeAsked (edits.Remove k) = KeyInRange k × IsNoPort (kind k)
 
--- what may be asked: every number in its range, a record of its key's kind, a port never removed, an act or a
--- look only at what has a list, a batch of 1 to 16 edits on distinct keys, a name that may be one; a hello has no session, which is written 0
+-- what may be asked: every number in its range, a record of its key's kind, a port never removed, an act or a look only at what has a list,
+-- a batch of 1 to 16 edits on distinct keys, a name that may be one; a hello has no session, which is written 0
 abbrev pub MayBeAsked : ℕ → Command → Type 0
 MayBeAsked s (Hello None) = s ≡ 0
 MayBeAsked s (Hello (Some name)) = (s ≡ 0) × (is_name name ≡ true)

@@ -35,8 +35,8 @@ pub struct LineMembers {
     pub yellow: Option<bool>,
 }
 
-// The kind whose records alone have a member of the name with these letters, the first, the second and the fifth; none for the four
-// names that ports and gates share.
+// The kind whose records alone have a member of the name with these letters, the first, the second and the fifth; none
+// for the four names that ports and gates share.
 fn kind_named(letters: (u8, u8, u8)) -> Option<Kind> {
     match letters {
         (b'b', _, _) | (b'c', b'y', _) | (b'e', b'x', _) | (b'l', _, _) => None,
@@ -47,8 +47,8 @@ fn kind_named(letters: (u8, u8, u8)) -> Option<Kind> {
     }
 }
 
-// The kind of the record that the text begins with, guessed from the first of its names that one kind alone has. In a record just the
-// names stand in quotes. A wrong guess costs another way to read the line, and nothing else.
+// The kind of the record that the text begins with, guessed from the first of its names that one kind alone has. In a
+// record just the names stand in quotes. A wrong guess costs another way to read the line, and nothing else.
 fn guessed(text: &[u8]) -> Kind {
     let mut is_name = false;
     for (place, byte) in text.iter().enumerate() {
@@ -445,8 +445,9 @@ fn line_draft(found: LineMembers, count: u32) -> Option<LineDraft>
 }
 
 /// The draft that a line is, whatever the order of its members and the white space between; none, for instance, of a
-/// batch and of a settle, where a member is missing, unknown or given twice, where a text has an escape, where the kind of a record ahead
-/// of its key is not the one that its members let guess, where a key's number is over 65,535, or where memory is wanting.
+/// batch and of a settle, where a member is missing, unknown or given twice, where a text has an escape, where the kind
+/// of a record ahead of its key is not the one that its members let guess, where a key's number is over 65,535, or
+/// where memory is wanting.
 pub fn any_draft(alloc: Global, line: &[u8]) -> Option<LineDraft>
     ensures { IfSome result (λ draft. reading line.now ≡ line_of_draft draft) }
 {

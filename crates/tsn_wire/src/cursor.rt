@@ -69,8 +69,8 @@ fn leading_space(text: &[u8]) -> usize
     count
 }
 
-// Whether the text begins with the piece. It goes byte by byte: where the piece is written out at the call, the compiler leaves no
-// loop of it.
+// Whether the text begins with the piece. It goes byte by byte: where the piece is written out at the call, the
+// compiler leaves no loop of it.
 #[inline(always)]
 #[tactic(auto, using(crate::proofs::Places::one_more, crate::proofs::Places::mismatch, crate::proofs::Places::too_short))]
 fn begins_with(text: &[u8], piece: &[u8]) -> bool

@@ -58,8 +58,8 @@ impl Model for BatchDraft {
 }
 
 impl BatchDraft {
-    /// The batch of these edits; a fault of shape where there is none, where there are more than 16, or where a key stands
-    /// twice.
+    /// The batch of these edits; a fault of shape where there is none, where there are more than 16, or where a key
+    /// stands twice.
     pub fn new(edits: Vec<EditDraft>) -> Result<BatchDraft, Unread>
         ensures { result ≡ batch_of edits.items }
     {

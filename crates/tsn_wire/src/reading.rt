@@ -90,9 +90,9 @@ fn reading(alloc: Global, line: &[u8]) -> Result<Ask, Unread>
     line_of_draft(alloc, &draft)
 }
 
-/// What a line without its line feed asks, of session 0 where it is a hello, which has none: refusal 2 where it is no JSON value, 3 where it has
-/// other members than a command, 4 where a number is outside its range or a name may not be one, 18 in place of any of these where memory is
-/// refused.
+/// What a line without its line feed asks, of session 0 where it is a hello, which has none: refusal 2 where it is no
+/// JSON value, 3 where it has other members than a command, 4 where a number is outside its range or a name may not be
+/// one, 18 in place of any of these where memory is refused.
 pub fn command_of(alloc: Global, line: &[u8]) -> Result<Ask, Refusal>
     ensures { IsOrMemory result (line_of line.now) }
 {

@@ -121,7 +121,8 @@ fn states(text: &mut Cursor<'_>) -> Option<CommandDraft>
     Some(CommandDraft::States { key, at })
 }
 
-// What comes before the session. A look at states begins with the member `at`, a since with `after`, any other command with
+// What comes before the session. A look at states begins with the member `at`, a since with `after`, any other command
+// with
 // `do`.
 fn front(alloc: Global, text: &mut Cursor<'_>) -> Option<CommandDraft>
     ensures { IfSome result (λ command. SpellsFront text.old command text.new) }

@@ -1,6 +1,6 @@
 //! Which lines are read with no tree: those of each command, compact, with their members in ascending order and in the
-//! order of `docs/formats.md`, and the same with a space behind each comma and each colon; of a batch the first of these
-//! alone; and a record ahead of its key.
+//! order of `docs/formats.md`, and the same with a space behind each comma and each colon; of a batch the first of
+//! these alone; and a record ahead of its key.
 use std::alloc::{AllocError, Global};
 use std::process::Abort;
 use std::test::Fail;

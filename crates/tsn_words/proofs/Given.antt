@@ -49,7 +49,8 @@ flag_steps c waiting word h (waits id) = tt
 flag_steps c waiting word h plain = plain_steps c waiting word h
 flag_steps c waiting word h refused = plain_steps c waiting word h
 
-other_steps : (c : List Rule) (waiting : Waiting) (word : Text) (h : Held) (o : Option (Text × Option Text)) → StepsWell (long_or_other c waiting word o h).1
+other_steps : (c : List Rule) (waiting : Waiting) (word : Text) (h : Held) (o : Option (Text × Option Text))
+    → StepsWell (long_or_other c waiting word o h).1
 other_steps c waiting word h (Some p) = flag_steps c waiting word _ (long_met c (arg_by_long c p.0) p.1 h).1
 other_steps c waiting word h None = go (short_of word)
   where
@@ -60,13 +61,15 @@ other_steps c waiting word h None = go (short_of word)
 module _ (s : Shape) (names : Names) (helps : s.disable_help_subcommand ≡ false) where
   named_well : (name word : Text) (h : Held) → other_fault s (Some name) word h ≡ [] → IsNoHelp name
   unfolding IsNoHelp
-  named_well name word h none = go (bytes_eq name (codes "help")) (ap (λ b. cond (bytes_eq name (codes "help") && not b) (DisplayHelp ∷ InvalidSubcommand ∷ []) []) (sym helps) ∙ none)
+  named_well name word h none = go (bytes_eq name (codes "help"))
+      (ap (λ b. cond (bytes_eq name (codes "help") && not b) (DisplayHelp ∷ InvalidSubcommand ∷ []) []) (sym helps) ∙ none)
     where
       go : (b : Bool) → cond (b && true) (DisplayHelp ∷ InvalidSubcommand ∷ []) [] ≡ [] → b ≡ false
       go true never = (cc)
       go false none = refl
 
-  met_well : (is_trailing : Bool) (waiting : Waiting) (position : ℕ) (word : Text) (h : Held) → word_fault s names is_trailing waiting word h ≡ [] → StepsWell (word_met s.rules names is_trailing waiting position word h).1
+  met_well : (is_trailing : Bool) (waiting : Waiting) (position : ℕ) (word : Text) (h : Held)
+      → word_fault s names is_trailing waiting word h ≡ [] → StepsWell (word_met s.rules names is_trailing waiting position word h).1
   unfolding StepsWell
   met_well true waiting position word h none = tt
   met_well false waiting position word h none = go (subcommand_met names waiting word) none
@@ -79,7 +82,8 @@ module _ (s : Shape) (names : Names) (helps : s.disable_help_subcommand ≡ fals
       go (Some name) none = named_well name word h none
       go None none = dashes (bytes_eq word (45 ∷ 45 ∷ []))
 
-  step_well : (word : Text) (w : Walk) (h : Held) (step : Step) → StepsWell step → StopsWell w.stopped → StopsWell (after_step s.rules word w h step).stopped
+  step_well : (word : Text) (w : Walk) (h : Held) (step : Step) → StepsWell step → StopsWell w.stopped
+      → StopsWell (after_step s.rules word w h step).stopped
   unfolding StepsWell StopsWell
   step_well word w h (next waiting) well before = before
   step_well word w h (trailing position) well before = before
@@ -91,7 +95,9 @@ module _ (s : Shape) (names : Names) (helps : s.disable_help_subcommand ≡ fals
       go (Some a) = tt
 
   turn_well : (o : Option (Text × List Text)) (w : Walk) (word : Text) → StopsWell o → StopsWell w.stopped
-      → cond (is_some o) [] (or_else (word_fault s names w.is_trailing w.waiting word w.held) (step_fault s w.position (word_met s.rules names w.is_trailing w.waiting w.position word w.held).0 (word_met s.rules names w.is_trailing w.waiting w.position word w.held).1)) ≡ []
+      → cond (is_some o) [] (or_else (word_fault s names w.is_trailing w.waiting word w.held)
+      (step_fault s w.position (word_met s.rules names w.is_trailing w.waiting w.position word w.held).0
+      (word_met s.rules names w.is_trailing w.waiting w.position word w.held).1)) ≡ []
       → StopsWell (walked_from s.rules names o w word).stopped
   unfolding StopsWell
   turn_well (Some p) w word well before none = well
@@ -100,7 +106,8 @@ module _ (s : Shape) (names : Names) (helps : s.disable_help_subcommand ≡ fals
       let steps = no_kind (word_fault s names w.is_trailing w.waiting word w.held) (step_fault s w.position met.0 met.1) none in
       step_well word w met.0 met.1 (met_well w.is_trailing w.waiting w.position word w.held steps.0) before
 
-  walk_well : (words : List Text) (w : Walk) → walk_fault s names w words ≡ [] → StopsWell w.stopped → StopsWell (fold (walked s.rules names) w words).stopped
+  walk_well : (words : List Text) (w : Walk) → walk_fault s names w words ≡ [] → StopsWell w.stopped
+      → StopsWell (fold (walked s.rules names) w words).stopped
   unfolding walk_fault walked
   walk_well [] w none before = before
   walk_well (word ∷ rest) w none before =
@@ -115,7 +122,8 @@ record Level (s : Shape) (names : Names) (words : List Text) (has : Bool) (below
   settles : settle_fault s.rules s.args_override_self (walk s.rules names nothing_held words).held ≡ []
   checks : check_fault s (rows_after s.rules names words) has ≡ []
 
-level : (s : Shape) (names : Names) (words : List Text) (has : Bool) (below : Kinds) → level_fault s names nothing_held words has below ≡ [] → Level s names words has below
+level : (s : Shape) (names : Names) (words : List Text) (has : Bool) (below : Kinds) → level_fault s names nothing_held words has below ≡ []
+    → Level s names words has below
 level s names words has below none =
     let first = no_kind (walk_fault s names (walk_from nothing_held) words) _ none in
     let second = no_kind below _ first.1 in
@@ -129,13 +137,17 @@ checked false true argument e = (cc)
 checked false false true e = (cc)
 checked false false false e = (refl, refl)
 
-checks : (s : Shape) (rows : List Row) (has : Bool) → check_fault s rows has ≡ [] → ((not has && s.subcommand_required) ≡ false) × ((not (s.subcommand_negates_reqs && has) && list_any (λ (a : Rule). a.required && not (is_given a.id rows)) s.rules) ≡ false)
+checks : (s : Shape) (rows : List Row) (has : Bool) → check_fault s rows has ≡ []
+    → ((not has && s.subcommand_required) ≡ false)
+    × ((not (s.subcommand_negates_reqs && has) && list_any (λ (a : Rule). a.required && not (is_given a.id rows)) s.rules) ≡ false)
 checks s rows has e =
-    checked (not has && (s.arg_required_else_help && not (list_any (λ (r : Row). explicit_source r.source) rows))) (not has && s.subcommand_required)
+    checked (not has && (s.arg_required_else_help && not (list_any (λ (r : Row). explicit_source r.source) rows)))
+    (not has && s.subcommand_required)
     (not (s.subcommand_negates_reqs && has) && list_any (λ (a : Rule). a.required && not (is_given a.id rows)) s.rules) e
 
 -- what no test misses is given
-all_given : (a b c d e : Bool) → ((true && not a) || ((true && not b) || ((true && not c) || ((true && not d) || ((true && not e) || false))))) ≡ false
+all_given : (a b c d e : Bool) →
+    ((true && not a) || ((true && not b) || ((true && not c) || ((true && not d) || ((true && not e) || false))))) ≡ false
     → (a ≡ true) × (b ≡ true) × (c ≡ true) × (d ≡ true) × (e ≡ true)
 all_given false b c d e h = (cc)
 all_given true false c d e h = (cc)
@@ -147,24 +159,29 @@ all_given true true true true true h = (refl, refl, refl, refl, refl)
 -- ---- an argument that is wanted
 
 module _ (accepted : Text → Text → Bool) where
-  one : (a : Rule) → a.defaults ≡ [] → action_of a ≡ Set → ◌≡◌ {A = ValueRange} (unwrap_or_range a.range) (record { start_inclusive = 1; end_inclusive = 1 })
+  one : (a : Rule) → a.defaults ≡ [] → action_of a ≡ Set → ◌≡◌ {A = ValueRange} (unwrap_or_range a.range)
+      (record { start_inclusive = 1; end_inclusive = 1 })
       → ((v : Text) → accepts a.ignore_case (parser_of_value a.parser) v ≡ true → accepted a.id v ≡ true) → RuleFits accepted a
-  one a none action range passes = (subst (DefaultsFit accepted a.id) (sym none) tt, inr (inl (record { action = action; range = range; passes = passes })))
+  one a none action range passes =
+      (subst (DefaultsFit accepted a.id) (sym none) tt, inr (inl (record { action = action; range = range; passes = passes })))
 
   text_given : (sub name : Text) (rows : List Row) → RowsFit accepted rows → is_given name rows ≡ true → HasText (Some (sub, rows)) name
   text_given sub name rows fit given =
       let found = given_value accepted name rows fit given in
       (found.0, found.1)
 
-  number_given : (sub name : Text) (least most : ℕ) (rows : List Row) → ((v : Text) → accepted name v ≡ true → is_unsigned_in least most v ≡ true) → RowsFit accepted rows → is_given name rows ≡ true
+  number_given : (sub name : Text) (least most : ℕ) (rows : List Row)
+      → ((v : Text) → accepted name v ≡ true → is_unsigned_in least most v ≡ true) → RowsFit accepted rows → is_given name rows ≡ true
       → HasNumber (Some (sub, rows)) name least most
   number_given sub name least most rows passes fit given =
       let found = given_value accepted name rows fit given in
       (found.0, found.1, accepts-Accepts false (Unsigned least most) found.0 (passes found.0 found.2))
 
-  number_fits : (sub name : Text) (least most : ℕ) (rows : List Row) → ((v : Text) → accepted name v ≡ true → is_unsigned_in least most v ≡ true) → RowsFit accepted rows
+  number_fits : (sub name : Text) (least most : ℕ) (rows : List Row)
+      → ((v : Text) → accepted name v ≡ true → is_unsigned_in least most v ≡ true) → RowsFit accepted rows
       → MayHaveNumber (Some (sub, rows)) name least most
-  number_fits sub name least most rows passes fit v is = accepts-Accepts false (Unsigned least most) v (passes v (value_fits accepted name rows fit v is))
+  number_fits sub name least most rows passes fit v is =
+      accepts-Accepts false (Unsigned least most) v (passes v (value_fits accepted name rows fit v is))
 
 -- ---- the commands as they are built
 
@@ -206,16 +223,27 @@ states_built = second (built program).subs
 
 states_fit : RulesFit accepted states_built.rules
 unfolding accepted second states_built
-states_fit = (one accepted _ refl refl refl (λ v e. refl), (one accepted _ refl refl refl (λ v e. e), (one accepted _ refl refl refl (λ v e. e), (one accepted _ refl refl refl (λ v e. e), (one accepted _ refl refl refl (λ v e. e), ((tt, inl refl), tt))))))
+states_fit = (
+  one accepted _ refl refl refl (λ v e. refl),
+  (
+    one accepted _ refl refl refl (λ v e. e),
+    (
+      one accepted _ refl refl refl (λ v e. e),
+      (one accepted _ refl refl refl (λ v e. e), (one accepted _ refl refl refl (λ v e. e), ((tt, inl refl), tt))),
+    ),
+  ),
+)
 
-states_given : (words : List Text) → level_fault states_built [] nothing_held words false [] ≡ [] → HasStates (Some (rows_at states_built words))
+states_given : (words : List Text) → level_fault states_built [] nothing_held words false [] ≡ []
+    → HasStates (Some (rows_at states_built words))
 unfolding accepted second states_built
 states_given words none =
     let parts = level states_built [] words false [] none in
     let rows = rows_after states_built.rules [] words in
     let fit = after_fit accepted states_built [] refl states_fit words parts.walks parts.settles in
     let wanted = (checks states_built rows false parts.checks).1 in
-    let each = all_given (is_given (codes "FILE") rows) (is_given (codes "port") rows) (is_given (codes "from") rows) (is_given (codes "step") rows) (is_given (codes "count") rows) wanted in
+    let each = all_given (is_given (codes "FILE") rows) (is_given (codes "port") rows) (is_given (codes "from") rows)
+    (is_given (codes "step") rows) (is_given (codes "count") rows) wanted in
     record {
       named = refl;
       file = text_given accepted (codes "states") (codes "FILE") rows fit each.0;
@@ -265,7 +293,8 @@ serve_fit = (
   ),
 )
 
-serve_given : (words : List Text) → level_fault serve_built [] nothing_held words false [] ≡ [] → HasServe (Some (rows_at serve_built words))
+serve_given : (words : List Text) → level_fault serve_built [] nothing_held words false [] ≡ []
+    → HasServe (Some (rows_at serve_built words))
 unfolding served third serve_built
 serve_given words none =
     let parts = level serve_built [] words false [] none in
@@ -319,7 +348,8 @@ journal_fit = (
   ),
 )
 
-journal_given : (words : List Text) → level_fault journal_built [] nothing_held words false [] ≡ [] → HasJournal (Some (rows_at journal_built words))
+journal_given : (words : List Text) → level_fault journal_built [] nothing_held words false [] ≡ []
+    → HasJournal (Some (rows_at journal_built words))
 unfolding kept fifth journal_built
 journal_given words none =
     let parts = level journal_built [] words false [] none in
@@ -335,10 +365,13 @@ journal_given words none =
 
 -- ---- the program
 
-by_stop : (stop : Option (Text × List Text)) → StopsWell stop → entered_fault (built program) stop ≡ [] → is_some (entered (built program) stop) ≡ true → IsComplete (entered (built program) stop)
+by_stop : (stop : Option (Text × List Text)) → StopsWell stop → entered_fault (built program) stop ≡ []
+    → is_some (entered (built program) stop) ≡ true → IsComplete (entered (built program) stop)
 unfolding StopsWell IsNoHelp first second third fourth fifth sixth states_built serve_built check_built journal_built
 by_stop None well none some = (cc)
-by_stop (Some p) well none some = go (bytes_eq (codes "script") p.0) (bytes_eq (codes "states") p.0) (bytes_eq (codes "serve") p.0) (bytes_eq (codes "check") p.0) (bytes_eq (codes "journal") p.0) (bytes_eq (codes "help") p.0) refl none some
+by_stop (Some p) well none some =
+    go (bytes_eq (codes "script") p.0) (bytes_eq (codes "states") p.0) (bytes_eq (codes "serve") p.0) (bytes_eq (codes "check") p.0)
+    (bytes_eq (codes "journal") p.0) (bytes_eq (codes "help") p.0) refl none some
   where
     no_help : bytes_eq (codes "help") p.0 ≡ true → ⊥
     no_help is =
@@ -347,12 +380,15 @@ by_stop (Some p) well none some = go (bytes_eq (codes "script") p.0) (bytes_eq (
         (cc)
 
     shape : Bool → Bool → Bool → Bool → Bool → Bool → Option Shape
-    shape a b c d e f = cond (a || false) (Some (first (built program).subs)) (cond (b || false) (Some states_built) (cond (c || false) (Some serve_built)
-        (cond (d || false) (Some check_built) (cond (e || false) (Some journal_built) (cond (f || false) (Some (sixth (built program).subs)) None)))))
+    shape a b c d e f =
+        cond (a || false) (Some (first (built program).subs)) (cond (b || false) (Some states_built) (cond (c || false) (Some serve_built)
+        (cond (d || false) (Some check_built)
+        (cond (e || false) (Some journal_built) (cond (f || false) (Some (sixth (built program).subs)) None)))))
 
     go : (a b c d e f : Bool) → bytes_eq (codes "help") p.0 ≡ f
         → option_map_or (λ (s : Shape). level_fault s [] nothing_held p.1 false []) (shape a b c d e f) [] ≡ []
-        → is_some (option_map (λ (s : Shape). rows_at s p.1) (shape a b c d e f)) ≡ true → IsComplete (option_map (λ (s : Shape). rows_at s p.1) (shape a b c d e f))
+        → is_some (option_map (λ (s : Shape). rows_at s p.1) (shape a b c d e f)) ≡ true
+        → IsComplete (option_map (λ (s : Shape). rows_at s p.1) (shape a b c d e f))
     go true b c d e f is none some = inl refl
     go false true c d e f is none some = inr (inl (states_given p.1 none))
     go false false true d e f is none some = inr (inr (inl (serve_given p.1 none)))
@@ -369,7 +405,8 @@ complete words none =
     let stop = (walk app.top.rules (names_of app) nothing_held args).stopped in
     let parts = level app.top (names_of app) args (is_some (entered app stop)) (entered_fault app stop) none in
     let wanted = (checks app.top (rows_after app.top.rules (names_of app) args) (is_some (entered app stop)) parts.checks).0 in
-    by_stop stop (walk_well app.top (names_of app) refl args (walk_from nothing_held) parts.walks tt) parts.deeper (entered_of (is_some (entered app stop)) wanted)
+    by_stop stop (walk_well app.top (names_of app) refl args (walk_from nothing_held) parts.walks tt) parts.deeper
+    (entered_of (is_some (entered app stop)) wanted)
   where
     entered_of : (b : Bool) → (not b && true) ≡ false → b ≡ true
     entered_of true e = refl

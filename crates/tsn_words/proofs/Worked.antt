@@ -42,7 +42,8 @@ unfolding clap_on_literals
 script name = refl
 
 -- so a parse of that fails only for want of memory
-pub script_parsed : {T : Type 0} (r : Result T Error) (words : List (List ℕ)) → FailsBy (fault_of program words) r → (name : List ℕ) → words ≡ name ∷ codes "script" ∷ [] → IfErr r (λ e. kind_of e ≡ OutOfMemory)
+pub script_parsed : {T : Type 0} (r : Result T Error) (words : List (List ℕ)) → FailsBy (fault_of program words) r → (name : List ℕ)
+    → words ≡ name ∷ codes "script" ∷ [] → IfErr r (λ e. kind_of e ≡ OutOfMemory)
 script_parsed (Ok x) words fails name is = tt
 script_parsed (Err e) words fails name is =
     elim fails [
@@ -61,13 +62,15 @@ nothing name = refl
 
 -- a port's states, with the numbers in another order than the options have, and an option's value in its word
 abbrev listed : List ℕ → List (List ℕ)
-listed name = name ∷ codes "states" ∷ codes "--step" ∷ codes "400" ∷ codes "cell.toml" ∷ codes "--port=1" ∷ codes "--from" ∷ codes "2500" ∷ codes "--count" ∷ codes "+3" ∷ []
+listed name = name ∷ codes "states" ∷ codes "--step" ∷ codes "400" ∷ codes "cell.toml" ∷ codes "--port=1" ∷ codes "--from" ∷ codes "2500"
+    ∷ codes "--count" ∷ codes "+3" ∷ []
 
 listed_faultless : (name : List ℕ) → fault_of program (listed name) ≡ []
 unfolding clap_on_literals
 listed_faultless name = refl
 
-listed_given : (name : List ℕ) → map (text_given (subcommand_of program (listed name))) (codes "FILE" ∷ codes "port" ∷ codes "from" ∷ codes "step" ∷ codes "count" ∷ [])
+listed_given : (name : List ℕ) → map (text_given (subcommand_of program (listed name)))
+    (codes "FILE" ∷ codes "port" ∷ codes "from" ∷ codes "step" ∷ codes "count" ∷ [])
     ≡ Some (codes "cell.toml") ∷ Some (codes "1") ∷ Some (codes "2500") ∷ Some (codes "400") ∷ Some (codes "+3") ∷ []
 unfolding clap_on_literals
 listed_given name = refl
@@ -77,25 +80,33 @@ listed_count = refl
 
 -- a server, with an address that has no meaning yet, and its numbers at the ends of their ranges
 abbrev served : List ℕ → List (List ℕ)
-served name = name ∷ codes "serve" ∷ codes "--probe=4611686018427387904" ∷ codes "--listen" ∷ codes "anywhere" ∷ codes "--workers" ∷ codes "1000" ∷ codes "cell.toml" ∷ codes "--connections" ∷ codes "65535" ∷ []
+served name = name ∷ codes "serve" ∷ codes "--probe=4611686018427387904" ∷ codes "--listen" ∷ codes "anywhere" ∷ codes "--workers"
+    ∷ codes "1000" ∷ codes "cell.toml" ∷ codes "--connections" ∷ codes "65535" ∷ []
 
 served_faultless : (name : List ℕ) → fault_of program (served name) ≡ []
 unfolding clap_on_literals
 served_faultless name = refl
 
-served_given : (name : List ℕ) → map (text_given (subcommand_of program (served name))) (codes "FILE" ∷ codes "listen" ∷ codes "workers" ∷ codes "connections" ∷ codes "probe" ∷ [])
-    ≡ Some (codes "cell.toml") ∷ Some (codes "anywhere") ∷ Some (codes "1000") ∷ Some (codes "65535") ∷ Some (codes "4611686018427387904") ∷ []
+served_given : (name : List ℕ) → map (text_given (subcommand_of program (served name)))
+    (codes "FILE" ∷ codes "listen" ∷ codes "workers" ∷ codes "connections" ∷ codes "probe" ∷ [])
+    ≡ Some (codes "cell.toml") ∷ Some (codes "anywhere") ∷ Some (codes "1000") ∷ Some (codes "65535") ∷ Some (codes "4611686018427387904")
+    ∷ []
 unfolding clap_on_literals
 served_given name = refl
 
 -- a server with a journal that is not synced, whose setup's file is left out
-served_kept : (name : List ℕ) → map (text_given (subcommand_of program (name ∷ codes "serve" ∷ codes "--listen" ∷ codes "l" ∷ codes "--workers" ∷ codes "1" ∷ codes "--connections" ∷ codes "2" ∷ codes "--probe" ∷ codes "0" ∷ codes "--journal=j" ∷ codes "--sync=none" ∷ []))) (codes "FILE" ∷ codes "journal" ∷ codes "sync" ∷ [])
+served_kept : (name : List ℕ) → map
+    (text_given (subcommand_of program
+    (name ∷ codes "serve" ∷ codes "--listen" ∷ codes "l" ∷ codes "--workers" ∷ codes "1" ∷ codes "--connections" ∷ codes "2"
+    ∷ codes "--probe" ∷ codes "0" ∷ codes "--journal=j" ∷ codes "--sync=none" ∷ []))) (codes "FILE" ∷ codes "journal" ∷ codes "sync" ∷ [])
     ≡ None ∷ Some (codes "j") ∷ Some (codes "none") ∷ []
 unfolding clap_on_literals
 served_kept name = refl
 
 -- a server whose connections may be idle for a day, and are told of
-served_loudly : (name : List ℕ) → map (text_given (subcommand_of program (name ∷ codes "serve" ∷ codes "--log" ∷ codes "--idle" ∷ codes "86400" ∷ []))) (codes "idle" ∷ codes "log" ∷ [])
+served_loudly : (name : List ℕ)
+    → map (text_given (subcommand_of program (name ∷ codes "serve" ∷ codes "--log" ∷ codes "--idle" ∷ codes "86400" ∷ [])))
+    (codes "idle" ∷ codes "log" ∷ [])
     ≡ Some (codes "86400") ∷ Some (codes "true") ∷ []
 unfolding clap_on_literals
 served_loudly name = refl
@@ -111,7 +122,9 @@ unfolding clap_on_literals
 served_plainly name = refl
 
 -- one worker more than there may be is no number of them
-crowded : (name : List ℕ) → fault_of program (name ∷ codes "serve" ∷ codes "cell.toml" ∷ codes "--listen" ∷ codes "anywhere" ∷ codes "--workers" ∷ codes "1001" ∷ codes "--connections" ∷ codes "1" ∷ codes "--probe" ∷ codes "0" ∷ []) ≡ ValueValidation ∷ []
+crowded : (name : List ℕ) → fault_of program
+    (name ∷ codes "serve" ∷ codes "cell.toml" ∷ codes "--listen" ∷ codes "anywhere" ∷ codes "--workers" ∷ codes "1001"
+    ∷ codes "--connections" ∷ codes "1" ∷ codes "--probe" ∷ codes "0" ∷ []) ≡ ValueValidation ∷ []
 unfolding clap_on_literals
 crowded name = refl
 
@@ -121,12 +134,15 @@ unfolding clap_on_literals
 checked_faultless name = refl
 
 -- or at command lines
-lines_looked_at : (name : List ℕ) → map (text_given (subcommand_of program (name ∷ codes "check" ∷ codes "--lines" ∷ []))) (codes "FILE" ∷ codes "lines" ∷ []) ≡ None ∷ Some (codes "true") ∷ []
+lines_looked_at : (name : List ℕ)
+    → map (text_given (subcommand_of program (name ∷ codes "check" ∷ codes "--lines" ∷ []))) (codes "FILE" ∷ codes "lines" ∷ []) ≡ None
+    ∷ Some (codes "true") ∷ []
 unfolding clap_on_literals
 lines_looked_at name = refl
 
 -- a script with a journal, whose setup's file is left out
-kept : (name : List ℕ) → map (text_given (subcommand_of program (name ∷ codes "script" ∷ codes "--journal" ∷ codes "j" ∷ []))) (codes "FILE" ∷ codes "journal" ∷ codes "sync" ∷ [])
+kept : (name : List ℕ) → map (text_given (subcommand_of program (name ∷ codes "script" ∷ codes "--journal" ∷ codes "j" ∷ [])))
+    (codes "FILE" ∷ codes "journal" ∷ codes "sync" ∷ [])
     ≡ None ∷ Some (codes "j") ∷ None ∷ []
 unfolding clap_on_literals
 kept name = refl
@@ -140,23 +156,28 @@ whole : (name : List ℕ) → looked_at name [] ≡ Some (codes "j") ∷ None �
 unfolding clap_on_literals
 whole name = refl
 
-since : (name : List ℕ) → looked_at name (codes "--since=0" ∷ []) ≡ Some (codes "j") ∷ Some (codes "0") ∷ None ∷ Some (codes "false") ∷ None ∷ Some (codes "false") ∷ []
+since : (name : List ℕ) → looked_at name (codes "--since=0" ∷ []) ≡ Some (codes "j") ∷ Some (codes "0") ∷ None ∷ Some (codes "false") ∷ None
+    ∷ Some (codes "false") ∷ []
 unfolding clap_on_literals
 since name = refl
 
-diff : (name : List ℕ) → looked_at name (codes "--diff" ∷ codes "4294967295" ∷ []) ≡ Some (codes "j") ∷ None ∷ Some (codes "4294967295") ∷ Some (codes "false") ∷ None ∷ Some (codes "false") ∷ []
+diff : (name : List ℕ) → looked_at name (codes "--diff" ∷ codes "4294967295" ∷ []) ≡ Some (codes "j") ∷ None ∷ Some (codes "4294967295")
+    ∷ Some (codes "false") ∷ None ∷ Some (codes "false") ∷ []
 unfolding clap_on_literals
 diff name = refl
 
-mended : (name : List ℕ) → looked_at name (codes "--mend" ∷ []) ≡ Some (codes "j") ∷ None ∷ None ∷ Some (codes "false") ∷ None ∷ Some (codes "true") ∷ []
+mended : (name : List ℕ) → looked_at name (codes "--mend" ∷ []) ≡ Some (codes "j") ∷ None ∷ None ∷ Some (codes "false") ∷ None
+    ∷ Some (codes "true") ∷ []
 unfolding clap_on_literals
 mended name = refl
 
-exported : (name : List ℕ) → looked_at name (codes "--setup" ∷ []) ≡ Some (codes "j") ∷ None ∷ None ∷ Some (codes "true") ∷ None ∷ Some (codes "false") ∷ []
+exported : (name : List ℕ) → looked_at name (codes "--setup" ∷ []) ≡ Some (codes "j") ∷ None ∷ None ∷ Some (codes "true") ∷ None
+    ∷ Some (codes "false") ∷ []
 unfolding clap_on_literals
 exported name = refl
 
-begun : (name : List ℕ) → looked_at name (codes "--begin=n" ∷ []) ≡ Some (codes "j") ∷ None ∷ None ∷ Some (codes "false") ∷ Some (codes "n") ∷ Some (codes "false") ∷ []
+begun : (name : List ℕ) → looked_at name (codes "--begin=n" ∷ []) ≡ Some (codes "j") ∷ None ∷ None ∷ Some (codes "false") ∷ Some (codes "n")
+    ∷ Some (codes "false") ∷ []
 unfolding clap_on_literals
 begun name = refl
 
@@ -165,7 +186,8 @@ no_entry : (name : List ℕ) → fault_of program (name ∷ codes "journal" ∷ 
 unfolding clap_on_literals
 no_entry name = refl
 
-late_entry : (name : List ℕ) → fault_of program (name ∷ codes "journal" ∷ codes "j" ∷ codes "--since" ∷ codes "4294967296" ∷ []) ≡ ValueValidation ∷ []
+late_entry : (name : List ℕ) → fault_of program (name ∷ codes "journal" ∷ codes "j" ∷ codes "--since" ∷ codes "4294967296" ∷ [])
+    ≡ ValueValidation ∷ []
 unfolding clap_on_literals
 late_entry name = refl
 
@@ -193,20 +215,23 @@ pub some_text : (o : Option (Bor (List ℕ))) (text : List ℕ) → option_map (
 some_text None text e = (cc)
 some_text (Some s) text e = refl
 
-pub same_text : (o : Option (Bor (List ℕ))) (s : Bor (List ℕ)) (text : List ℕ) → o ≡ Some s → option_map (λ s. s.now) o ≡ Some text → s.now ≡ text
+pub same_text : (o : Option (Bor (List ℕ))) (s : Bor (List ℕ)) (text : List ℕ) → o ≡ Some s → option_map (λ s. s.now) o ≡ Some text
+    → s.now ≡ text
 same_text o s text is e =
     let both : Some s.now ≡ Some text = sym (ap (option_map (λ (x : Bor (List ℕ)). x.now)) is) ∙ e in
     ap (λ x. unwrap_or x text) both
 
 -- whether the text that is there is `true`
-pub flag_read : (text : List ℕ) (b : Bool) {got : Option (List ℕ)} → got ≡ Some text → b ≡ bytes_eq text (codes "true") → (b ≡ true) ↔ (got ≡ Some (codes "true"))
+pub flag_read : (text : List ℕ) (b : Bool) {got : Option (List ℕ)} → got ≡ Some text → b ≡ bytes_eq text (codes "true")
+    → (b ≡ true) ↔ (got ≡ Some (codes "true"))
 flag_read text b has is = (
   λ yes. has ∙ ap Some ((bytes_eq-Decides text (codes "true")).0 (sym is ∙ yes)),
   λ e. is ∙ (bytes_eq-Decides text (codes "true")).1 (ap (λ x. unwrap_or x text) (sym has ∙ e)),
 )
 
 -- a text that is there is one of something
-pub never_none : {X : Type 0} (f : X → List ℕ) (o : Option X) {got : Option (List ℕ)} (text : List ℕ) → got ≡ option_map f o → got ≡ Some text → o ≡ None → ⊥
+pub never_none : {X : Type 0} (f : X → List ℕ) (o : Option X) {got : Option (List ℕ)} (text : List ℕ) → got ≡ option_map f o
+    → got ≡ Some text → o ≡ None → ⊥
 never_none f o text same e none =
     let bad : Some text ≡ None = sym e ∙ same ∙ ap (option_map f) none in
     (cc)
@@ -223,9 +248,11 @@ read_number text (Err e) n h is = (cc)
 -- ---- which subcommand is met
 
 -- it is the one of this name, with these rows
-pub named_rows : {B : Type 0} (f : B → List ℕ × List Row) (o : Option B) (name : List ℕ) (rows : List Row) → Some name ≡ option_map (λ b. (f b).0) o → Some rows ≡ option_map (λ p. p.1) (option_map f o) → option_map f o ≡ Some (name, rows)
+pub named_rows : {B : Type 0} (f : B → List ℕ × List Row) (o : Option B) (name : List ℕ) (rows : List Row)
+    → Some name ≡ option_map (λ b. (f b).0) o → Some rows ≡ option_map (λ p. p.1) (option_map f o) → option_map f o ≡ Some (name, rows)
 named_rows f None name rows is has = (cc)
-named_rows f (Some b) name rows is has = ap₂ (λ n r. Some (n, r)) (sym (ap (λ x. unwrap_or x name) is)) (sym (ap (λ x. unwrap_or x rows) has))
+named_rows f (Some b) name rows is has =
+    ap₂ (λ n r. Some (n, r)) (sym (ap (λ x. unwrap_or x name) is)) (sym (ap (λ x. unwrap_or x rows) has))
 
 -- one name is no other
 never_named : (name other : List ℕ) → bytes_eq name other ≡ false → bytes_eq name name ≡ true → Some name ≡ Some other → ⊥
@@ -280,7 +307,8 @@ check_named given (inl neither) = neither.named
 check_named given (inr both) = both.1.named
 
 -- `script` alone asks for no look at a journal and says no word on syncs, so what it asks for is done
-pub script_works : (name : List ℕ) (words : List (List ℕ)) (given : Given) (asked : Asked) → given ≡ subcommand_of program words → words ≡ name ∷ codes "script" ∷ [] → AsksFor given asked → IsWork asked
+pub script_works : (name : List ℕ) (words : List (List ℕ)) (given : Given) (asked : Asked) → given ≡ subcommand_of program words
+    → words ≡ name ∷ codes "script" ∷ [] → AsksFor given asked → IsWork asked
 script_works name words given (Script file kept) is same asks = tt
 script_works name words given (States file listing) is same asks = tt
 script_works name words given (Serve file listen serving kept) is same asks = tt
@@ -291,9 +319,12 @@ script_works name words given (Shown text) is same asks = asks
 script_works name words given (Refused text) is same asks =
     let named : given ≡ Some (codes "script", []) = is ∙ ap (subcommand_of program) same ∙ script_named name in
     elim asks [
-      | inl much ↦ absurd (never_named (codes "script") (codes "journal") refl refl (sym (ap (option_map (λ (p : List ℕ × List Row). p.0)) named) ∙ much.named))
-      | inr (inl wrong) ↦ absurd (no_syncs (text_given given (codes "journal")) (text_given given (codes "sync")) (ap (λ (g : Given). text_given g (codes "sync")) named) wrong.wrong)
-      | inr (inr wrong) ↦ absurd (never_named (codes "script") (codes "check") refl refl (sym (ap (option_map (λ (p : List ℕ × List Row). p.0)) named) ∙ check_named given wrong))
+      | inl much ↦ absurd (never_named (codes "script") (codes "journal") refl refl
+          (sym (ap (option_map (λ (p : List ℕ × List Row). p.0)) named) ∙ much.named))
+      | inr (inl wrong) ↦ absurd (no_syncs (text_given given (codes "journal")) (text_given given (codes "sync"))
+          (ap (λ (g : Given). text_given g (codes "sync")) named) wrong.wrong)
+      | inr (inr wrong) ↦ absurd (never_named (codes "script") (codes "check") refl refl
+          (sym (ap (option_map (λ (p : List ℕ × List Row). p.0)) named) ∙ check_named given wrong))
     ]
 
 -- what is said of the words that are there
@@ -301,13 +332,15 @@ pub some_same : {X Y : Type 0} (f : X → Y) (o : Option X) (x : X) (y : Y) → 
 some_same f o x y is e = ap (λ z. unwrap_or z (f x)) (sym (ap (option_map f) is) ∙ e)
 
 -- an `Err` that is told otherwise leaves the `Ok` as it was
-pub mapped : {X E D : Type 0} (r : Result X E) (m : Result X D) (P : X → Type 0) (Q : E → Type 0) → MatchResult r (λ x. m ≡ Ok x) Q → is_ok m ≡ is_ok r → IfOk r P → IfOk m P
+pub mapped : {X E D : Type 0} (r : Result X E) (m : Result X D) (P : X → Type 0) (Q : E → Type 0) → MatchResult r (λ x. m ≡ Ok x) Q
+    → is_ok m ≡ is_ok r → IfOk r P → IfOk m P
 mapped (Ok x) m P Q cases same p = subst (λ s. IfOk s P) (sym cases) p
 mapped (Err e) (Ok y) P Q cases same p = (cc)
 mapped (Err e) (Err d) P Q cases same p = tt
 
 -- the text that is read is that of the rows
-pub given_in_rows : (name : List ℕ) (found : Found) (key : List ℕ) (text : Option (List ℕ)) → first_value found key ≡ text → text_given (Some (name, rows_of found)) key ≡ text
+pub given_in_rows : (name : List ℕ) (found : Found) (key : List ℕ) (text : Option (List ℕ)) → first_value found key ≡ text
+    → text_given (Some (name, rows_of found)) key ≡ text
 given_in_rows name found key text is = sym (first_value-rows found key) ∙ is
 
 -- what is read of a journal is what the rows have
@@ -315,18 +348,21 @@ module _ (name : List ℕ) (found : Found) where
   abbrev given : Given
   given = Some (name, rows_of found)
 
-  pub kept_in_rows : (kept : Option Kept) → GivesKept (first_value found (codes "journal")) (first_value found (codes "sync")) kept → GivesKept (text_given given (codes "journal")) (text_given given (codes "sync")) kept
+  pub kept_in_rows : (kept : Option Kept) → GivesKept (first_value found (codes "journal")) (first_value found (codes "sync")) kept
+      → GivesKept (text_given given (codes "journal")) (text_given given (codes "sync")) kept
   kept_in_rows kept gives =
       subst (λ j. GivesKept j (text_given given (codes "sync")) kept) (first_value-rows found (codes "journal"))
       (subst (λ s. GivesKept (first_value found (codes "journal")) s kept) (first_value-rows found (codes "sync")) gives)
 
-  pub misgiven_in_rows : Misgives (first_value found (codes "journal")) (first_value found (codes "sync")) → Misgives (text_given given (codes "journal")) (text_given given (codes "sync"))
+  pub misgiven_in_rows : Misgives (first_value found (codes "journal")) (first_value found (codes "sync"))
+      → Misgives (text_given given (codes "journal")) (text_given given (codes "sync"))
   misgiven_in_rows wrong =
       subst (λ j. Misgives j (text_given given (codes "sync"))) (first_value-rows found (codes "journal"))
       (subst (λ s. Misgives (first_value found (codes "journal")) s) (first_value-rows found (codes "sync")) wrong)
 
 -- what a refusal asks for, where it is right
-pub refused_asks : (given : Given) (asked : Asked) → IsRefusal asked → GivesTooMuch given ⊎ (GivesWrongSyncs given ⊎ GivesNoCheck given) → AsksFor given asked
+pub refused_asks : (given : Given) (asked : Asked) → IsRefusal asked → GivesTooMuch given ⊎ (GivesWrongSyncs given ⊎ GivesNoCheck given)
+    → AsksFor given asked
 refused_asks given (Script file kept) is wrong = absurd is
 refused_asks given (States file listing) is wrong = absurd is
 refused_asks given (Serve file listen serving kept) is wrong = absurd is
@@ -337,16 +373,20 @@ refused_asks given (Shown text) is wrong = absurd is
 refused_asks given (Refused text) is wrong = wrong
 
 -- what is read of a check is what the rows have
-pub check_in_rows : (found : Found) (file : Option (List ℕ)) (is_lines : Bool) → first_value found (codes "FILE") ≡ file → ((is_lines ≡ true) ↔ IsFlagged (Some (codes "check", rows_of found)) (codes "lines"))
+pub check_in_rows : (found : Found) (file : Option (List ℕ)) (is_lines : Bool) → first_value found (codes "FILE") ≡ file
+    → ((is_lines ≡ true) ↔ IsFlagged (Some (codes "check", rows_of found)) (codes "lines"))
     → GivesCheck (Some (codes "check", rows_of found)) file is_lines
-check_in_rows found file is_lines is flagged = record { named = refl; setup = given_in_rows (codes "check") found (codes "FILE") file is; lines = flagged }
+check_in_rows found file is_lines is flagged =
+    record { named = refl; setup = given_in_rows (codes "check") found (codes "FILE") file is; lines = flagged }
 
 -- a check that may not be given so is refused
-pub both_refused : {E : Type 0} (found : Found) (file : List ℕ) (r : Result Asked E) → GivesCheck (Some (codes "check", rows_of found)) (Some file) true → IfOk r (λ asked. IsRefusal asked × TellsSomething asked)
+pub both_refused : {E : Type 0} (found : Found) (file : List ℕ) (r : Result Asked E)
+    → GivesCheck (Some (codes "check", rows_of found)) (Some file) true → IfOk r (λ asked. IsRefusal asked × TellsSomething asked)
     → IfOk r (AsksFor (Some (codes "check", rows_of found)))
 both_refused found file r gives refused = IfOk-weaker r _ _ (λ asked h. refused_asks _ asked h.0 (inr (inr (inr (file, gives))))) refused
 
-pub neither_refused : {E : Type 0} (found : Found) (r : Result Asked E) → GivesCheck (Some (codes "check", rows_of found)) None false → IfOk r (λ asked. IsRefusal asked × TellsSomething asked)
+pub neither_refused : {E : Type 0} (found : Found) (r : Result Asked E) → GivesCheck (Some (codes "check", rows_of found)) None false
+    → IfOk r (λ asked. IsRefusal asked × TellsSomething asked)
     → IfOk r (AsksFor (Some (codes "check", rows_of found)))
 neither_refused found r gives refused = IfOk-weaker r _ _ (λ asked h. refused_asks _ asked h.0 (inr (inr (inl gives)))) refused
 
@@ -361,6 +401,7 @@ begin_alone given text is few =
     let one : bit (has_text given (codes "begin")) ≡ 1 = ap (λ o. bit (is_some o)) is in
     omega (arith, one, few)
 
-pub none_given : (given : Given) → text_given given (codes "since") ≡ None → text_given given (codes "diff") ≡ None → text_given given (codes "begin") ≡ None → is_flagged given (codes "setup") ≡ false → is_flagged given (codes "mend") ≡ false
+pub none_given : (given : Given) → text_given given (codes "since") ≡ None → text_given given (codes "diff") ≡ None
+    → text_given given (codes "begin") ≡ None → is_flagged given (codes "setup") ≡ false → is_flagged given (codes "mend") ≡ false
     → looks given ≡ 0
 none_given given since diff begin setup mend = rw (since, diff, begin, setup, mend) refl

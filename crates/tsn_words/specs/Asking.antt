@@ -69,7 +69,8 @@ optional argument = record argument { required = false }
 
 -- `script`, which may be given a setup's file, a journal's, and which syncs of that are made.
 abbrev pub script : App
-script = with_rule (with_rule (with_rule (new_app (codes "script")) (setup_file false)) (optional (any_text (codes "journal")))) (optional (any_text (codes "sync")))
+script = with_rule (with_rule (with_rule (new_app (codes "script")) (setup_file false)) (optional (any_text (codes "journal"))))
+    (optional (any_text (codes "sync")))
 
 -- An option of this name, which wants a number in its range.
 abbrev pub number : List ℕ → ℕ → ℕ → Rule
@@ -220,7 +221,8 @@ MayHaveNumber given name least most = (text : List ℕ) → text_given given nam
 
 -- This number is given for a name, from the least to the most.
 abbrev pub GivesNumber : Given → List ℕ → ℕ → ℕ → ℕ → Type 0
-GivesNumber given name least most n = (text : List ℕ) × (text_given given name ≡ Some text) × IsUnsignedIn least most text × (n ≡ number_of text)
+GivesNumber given name least most n =
+    (text : List ℕ) × (text_given given name ≡ Some text) × IsUnsignedIn least most text × (n ≡ number_of text)
 
 -- This number is given for a name, or this one stands for it where none is.
 abbrev pub GivesNumberOr : Given → List ℕ → ℕ → ℕ → ℕ → ℕ → Type 0

@@ -106,8 +106,8 @@ pub struct Listing {
 /// What a command line asks for.
 #[derive(Drop)]
 pub enum Asked {
-    /// Answer the script on standard input, from the setup of this file or from the standard one, and keep what the sessions
-    /// do in this journal, if one is named.
+    /// Answer the script on standard input, from the setup of this file or from the standard one, and keep what the
+    /// sessions do in this journal, if one is named.
     Script {
         file: Option<String>,
         kept: Option<Kept>,
@@ -117,8 +117,8 @@ pub enum Asked {
         file: String,
         listing: Listing,
     },
-    /// Serve connections where this says, an IP address and port that is read later, from the setup of this file or from the
-    /// standard one, and keep what the sessions do in this journal, if one is named.
+    /// Serve connections where this says, an IP address and port that is read later, from the setup of this file or
+    /// from the standard one, and keep what the sessions do in this journal, if one is named.
     Serve {
         file: Option<String>,
         listen: String,
@@ -472,7 +472,8 @@ fn states_of(alloc: Global, given: &ArgMatches<'_>) -> Result<Asked, AllocError>
 
 // The journal that is given, if one is; or the words are refused.
 fn kept_of(alloc: Global, given: &ArgMatches<'_>) -> Result<Result<Option<Kept>, Asked>, AllocError>
-    ensures { IfOk result (KeepsOrRefuses (first_value (found_of given.now) (codes "journal")) (first_value (found_of given.now) (codes "sync"))) }
+    ensures { IfOk result (KeepsOrRefuses (first_value (found_of given.now) (codes "journal"))
+        (first_value (found_of given.now) (codes "sync"))) }
 {
     match keeping_of(alloc, given)? {
         Keeping::Given(kept) => Ok(Ok(kept)),
@@ -572,7 +573,8 @@ fn asked_of(alloc: Global, matches: &ArgMatches<'_>) -> Result<Asked, AllocError
     }
 }
 
-// What an error says. Where `clap` gave it no text, which its contracts don't rule out, it says how the program is called.
+// What an error says. Where `clap` gave it no text, which its contracts don't rule out, it says how the program is
+// called.
 fn saying_of(alloc: Global, error: &Error) -> Result<String, AllocError>
     ensures { IfOk result (λ text. string_bytes text ≢ []) }
 {
@@ -611,8 +613,8 @@ fn refused_as_no_text(alloc: Global) -> Result<Asked, Fault>
     Ok(Asked::Refused(reason))
 }
 
-/// What the words ask for, the program's name first, or none where a word is no UTF-8. A text to show or to refuse by is not
-/// empty. It is refused only for want of memory.
+/// What the words ask for, the program's name first, or none where a word is no UTF-8. A text to show or to refuse by
+/// is not empty. It is refused only for want of memory.
 pub fn read_words(alloc: Global, words: Option<&[String]>) -> Result<Asked, Fault>
     ensures ok { IfOk result (Asks (option_map (λ w. map string_bytes w.now) words.entry)) }
     ensures script { (name : List ℕ)

@@ -48,7 +48,8 @@ fn syncs_of(given: &ArgMatches<'_>) -> Option<Syncs>
 
 // What is given of a journal.
 pub(crate) fn keeping_of(alloc: Global, given: &ArgMatches<'_>) -> Result<Keeping, AllocError>
-    ensures { IfOk result (GivesKeeping (first_value (found_of given.now) (codes "journal")) (first_value (found_of given.now) (codes "sync"))) }
+    ensures { IfOk result (GivesKeeping (first_value (found_of given.now) (codes "journal"))
+        (first_value (found_of given.now) (codes "sync"))) }
 {
     let Some(syncs) = syncs_of(given) else {
         return Ok(Keeping::OtherSyncs);

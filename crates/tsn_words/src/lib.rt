@@ -1,5 +1,5 @@
-//! What the words of a command line ask for: to answer a script, to print the states of a port, to serve connections, to
-//! look at a setup or at a journal, or to show or refuse by a text.
+//! What the words of a command line ask for: to answer a script, to print the states of a port, to serve connections,
+//! to look at a setup or at a journal, or to show or refuse by a text.
 #![tactic(auto)]
 
 mod arguments;

@@ -8,8 +8,8 @@ use clap::ArgMatches;
 /// How many connections a server serves at a time where no number is given.
 const STANDARD_WORKERS: u64 = 64;
 
-/// How many connections a server serves at a time and in all, how long one may be idle, and the instant that it tells of at the
-/// end.
+/// How many connections a server serves at a time and in all, how long one may be idle, and the instant that it tells
+/// of at the end.
 #[derive(Clone, Copy, Debug, PartialEq, Eq)]
 pub struct Serving {
     /// How many connections at a time, each by a worker, 1 to 1,000.

@@ -32,7 +32,8 @@ pub(crate) fn number_if_given(given: &ArgMatches<'_>, name: &str) -> Option<u64>
 // The option is given, which takes no value.
 pub(crate) fn is_flagged(given: &ArgMatches<'_>, name: &str) -> bool
     ensures given { IsTrue result ↔ (first_of name.now (rows_of (found_of given.now)) ≡ Some (codes "true")) }
-    ensures is { result ≡ unwrap_or (option_map (λ text. bytes_eq text (codes "true")) (first_of name.now (rows_of (found_of given.now)))) false }
+    ensures is { result ≡ unwrap_or (option_map (λ text. bytes_eq text (codes "true")) (first_of name.now (rows_of (found_of given.now))))
+        false }
 {
     match given.get_str(name) {
         Some(text) => text == "true",

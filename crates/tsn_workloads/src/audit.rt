@@ -1,7 +1,7 @@
-//! A bridge is audited. Its setup has records of odd values, and eight sessions edit it, by records in all spellings, single
-//! and in batches, and take a part back, while lists are put in force and frames come. Behind the setup, behind the edits and
-//! at the end all instances are shown, listed, counted and asked for their states, and at last the whole journal is told. So
-//! a member of any record that is read, kept or put back wrong is seen in the replies.
+//! A bridge is audited. Its setup has records of odd values, and eight sessions edit it, by records in all spellings,
+//! single and in batches, and take a part back, while lists are put in force and frames come. Behind the setup, behind
+//! the edits and at the end all instances are shown, listed, counted and asked for their states, and at last the whole
+//! journal is told. So a member of any record that is read, kept or put back wrong is seen in the replies.
 
 use crate::hand::Hand;
 use crate::numbers::Random;
@@ -132,8 +132,8 @@ impl Audit {
         text.put("}\n");
     }
 
-    // An edit with a record, which in the service's own spelling has its members in order. The record may come ahead of its
-    // key. In a batch an edit has no session.
+    // An edit with a record, which in the service's own spelling has its members in order. The record may come ahead of
+    // its key. In a batch an edit has no session.
     fn put_edit(
         &mut self,
         text: &mut Text,
@@ -406,7 +406,8 @@ impl Audit {
         self.three(text, stream.made, stream.session);
     }
 
-    // All that was replaced is replaced in one batch, and its lists are put in force. Half of the time that is taken back.
+    // All that was replaced is replaced in one batch, and its lists are put in force. Half of the time that is taken
+    // back.
     fn replace_all(&mut self, text: &mut Text, stream: &Stream) {
         let edits = [
             (stream.set_up, self.meter()),
@@ -492,7 +493,8 @@ impl Audit {
         text.put("}\n");
     }
 
-    // A step back, or now and then forth. At last two sessions take back all that they may, and one brings a part again.
+    // A step back, or now and then forth. At last two sessions take back all that they may, and one brings a part
+    // again.
     fn take_back(&mut self, text: &mut Text, turn: u64) {
         let session = 1 + self.random.below(PARTIES);
         let number = self.random.below(self.sizes.instances.wrapping_mul(2));

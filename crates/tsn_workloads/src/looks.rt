@@ -1,6 +1,6 @@
-//! Someone looks: a dashboard asks for records, counters, states and lists of thousands of instances, and a mirror for the
-//! entries behind the last one that it has. Ahead of every sixteen looks a colleague edits and a frame comes, so no look
-//! finds what another of the same words found.
+//! Someone looks: a dashboard asks for records, counters, states and lists of thousands of instances, and a mirror for
+//! the entries behind the last one that it has. Ahead of every sixteen looks a colleague edits and a frame comes, so no
+//! look finds what another of the same words found.
 
 use crate::numbers::Random;
 use crate::pool::Pool;
@@ -110,8 +110,8 @@ impl Looks {
         text.put(",\"s\":1,\"yellow\":false}\n");
     }
 
-    // The look at this place behind an edit, which looks at another instance than the others behind it. The last one may
-    // also be one at all instances of a kind, or at the journal.
+    // The look at this place behind an edit, which looks at another instance than the others behind it. The last one
+    // may also be one at all instances of a kind, or at the journal.
     fn look(&mut self, text: &mut Text, place: u64) {
         let step = (self.instances / LOOKS).max(1);
         let number = self.edited.wrapping_add(place.wrapping_mul(step)) % self.instances.max(1);

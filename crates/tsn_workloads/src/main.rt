@@ -1,8 +1,9 @@
-//! Does a job that a user of the service waits for, on lines made from a seed, and prints a digest of all that was replied.
+//! Does a job that a user of the service waits for, on lines made from a seed, and prints a digest of all that was
+//! replied.
 //!
 //! Words: JOB SEED ROUNDS SIZE, as `plan 1 30 2000`, or JOB SEED ROUNDS SIZE replies, which prints the replies
-//! themselves; audit SEED ROUNDS SIZE lines prints the setup and the lines of the first round. With no words each job is
-//! done once, small.
+//! themselves; audit SEED ROUNDS SIZE lines prints the setup and the lines of the first round. With no words each job
+//! is done once, small.
 #![tactic(auto)]
 
 mod audit;

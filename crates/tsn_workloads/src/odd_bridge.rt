@@ -15,7 +15,8 @@ pub const PARTIES: u64 = 8;
 /// How large the bridge is.
 #[derive(Clone, Copy)]
 pub struct Sizes {
-    /// So many filters, gates and meters stand in the setup. This is the first number of each kind too; those below are free.
+    /// So many filters, gates and meters stand in the setup. This is the first number of each kind too; those below are
+    /// free.
     pub instances: u64,
     pub ports: u64,
     /// The limits.
@@ -48,8 +49,8 @@ impl Sizes {
         self.instances.wrapping_add(place).wrapping_add(party)
     }
 
-    /// A filter of this number, with two handles of its own, of which it matches one. Some of the last ones of the setup
-    /// match any handle, with a priority, and the very last one, it may be, any frame.
+    /// A filter of this number, with two handles of its own, of which it matches one. Some of the last ones of the
+    /// setup match any handle, with a priority, and the very last one, it may be, any frame.
     pub fn filter(
         &self,
         random: &mut Random,

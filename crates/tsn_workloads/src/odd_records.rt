@@ -1,5 +1,5 @@
-//! Records of which each member has a value of its own, of few digits or many, and as often none where it may have none. Half
-//! of the values are small enough to tell on frames.
+//! Records of which each member has a value of its own, of few digits or many, and as often none where it may have
+//! none. Half of the values are small enough to tell on frames.
 ghost use Rattle.std.specs.Prelude.{◌≤◌};
 
 use crate::hand::Hand;

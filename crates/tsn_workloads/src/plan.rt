@@ -1,5 +1,5 @@
-//! A computed plan goes in: one script sets the gate control lists of all ports and of as many stream gates, of 64 to 4,096
-//! entries, puts each in force, and then makes streams, each a gate, a meter and a filter in one batch.
+//! A computed plan goes in: one script sets the gate control lists of all ports and of as many stream gates, of 64 to
+//! 4,096 entries, puts each in force, and then makes streams, each a gate, a meter and a filter in one batch.
 
 use crate::numbers::Random;
 use crate::pool::Pool;

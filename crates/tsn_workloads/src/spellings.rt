@@ -1,5 +1,5 @@
-//! Lines that no program of the service wrote: Python's `json.dumps`, with spaces, members in any order, the record before
-//! its key and escapes; and lines that are refused 1 to 8, 12 and 14.
+//! Lines that no program of the service wrote: Python's `json.dumps`, with spaces, members in any order, the record
+//! before its key and escapes; and lines that are refused 1 to 8, 12 and 14.
 
 use crate::numbers::Random;
 use crate::script::Job;

@@ -1,5 +1,5 @@
-//! Traffic is tried on a plan: frames in time order through stream filters, gates whose lists run and meters that mark; the
-//! counters are read at the end.
+//! Traffic is tried on a plan: frames in time order through stream filters, gates whose lists run and meters that mark;
+//! the counters are read at the end.
 
 use crate::numbers::Random;
 use crate::records::{

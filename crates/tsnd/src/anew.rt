@@ -1,8 +1,8 @@
 //! The text of a new journal whose bridge has the configuration of another one.
 //!
-//! A configuration that is a setup is that of the first line. One that is longer than a setup may be begins with its limits and
-//! ports there. The rest comes in by commands of a first session, which creates it, what is referred to first, and settles that:
-//! so nothing of it can be taken back.
+//! A configuration that is a setup is that of the first line. One that is longer than a setup may be begins with its
+//! limits and ports there. The rest comes in by commands of a first session, which creates it, what is referred to
+//! first, and settles that: so nothing of it can be taken back.
 use crate::journal::{JournalFault, NO_MEMORY};
 use crate::lines::NewText;
 use std::alloc::{AllocError, Global};
@@ -30,7 +30,8 @@ const CREATED: [Kind; 3] = [Kind::Gate, Kind::Meter, Kind::Filter];
 /// What the line of a batch has beside its edits is less, counted with each edit as its own line is.
 const AROUND_EDITS: usize = 32;
 
-/// The bytes that the edits of a batch have at most, each counted as its own line is: then the batch's line is none too long.
+/// The bytes that the edits of a batch have at most, each counted as its own line is: then the batch's line is none too
+/// long.
 const MOST_GATHERED: usize = LONGEST_COMMAND - AROUND_EDITS;
 
 /// A new journal's text, and how many entries it makes.
@@ -211,8 +212,8 @@ fn by_creations<R: time::Clock>(
     Ok(creator.anew)
 }
 
-/// The text of a new journal whose bridge has this configuration. Refused where its ports alone are longer than a setup may be,
-/// or where a record that is no port's is longer than a line may be.
+/// The text of a new journal whose bridge has this configuration. Refused where its ports alone are longer than a setup
+/// may be, or where a record that is no port's is longer than a line may be.
 pub(crate) fn text_of<R: time::Clock>(
     rt: &R,
     alloc: Global,

@@ -27,8 +27,8 @@ struct Done {
     record: Record,
 }
 
-/// Keeps, of each port and stream gate that is enabled, the acts that made its list what it is: its enable, and the applies
-/// behind that, since an earlier list may be in force until a later one's change time.
+/// Keeps, of each port and stream gate that is enabled, the acts that made its list what it is: its enable, and the
+/// applies behind that, since an earlier list may be in force until a later one's change time.
 #[derive(Drop)]
 struct Acts {
     done: Vec<Done>,
@@ -147,8 +147,8 @@ fn put_record(
     put(text, session, Command::Replace { key, value })
 }
 
-// Puts the commands behind the text that bring an act about again where the key has this record at last: it has the other one
-// for the while of the act.
+// Puts the commands behind the text that bring an act about again where the key has this record at last: it has the
+// other one for the while of the act.
 fn put_act(text: &mut Vec<u8>, session: u32, done: &Done, last: &Record) -> Result<(), AllocError> {
     let is_other = done.record != *last;
     if is_other {
@@ -243,8 +243,9 @@ fn tell<E: ByteOut>(alloc: Global, path: &str, new: &str, begun: &Beginning, err
     }
 }
 
-/// Makes a new journal that begins with the configuration at the end of the one at the path, and gives the status. What does
-/// not come along it tells: how many sessions, on standard error, and the commands that bring acts about again, on the output.
+/// Makes a new journal that begins with the configuration at the end of the one at the path, and gives the status. What
+/// does not come along it tells: how many sessions, on standard error, and the commands that bring acts about again, on
+/// the output.
 pub(crate) fn begin<R: Files<File = File> + AllocGlobal + time::Clock, O: ByteOut, E: ByteOut>(
     rt: &R,
     path: &str,

@@ -12,8 +12,8 @@ use tsn_server::SocketSource;
 use tsn_sockets::{ListenFault, Place, listen_on};
 use tsn_words::Serving;
 
-// Says where connections are taken, in one line. Refused where there is no memory for that line; where standard error takes
-// none, nothing is left to do.
+// Says where connections are taken, in one line. Refused where there is no memory for that line; where standard error
+// takes none, nothing is left to do.
 pub(crate) fn say_where<E: ByteOut>(
     alloc: Global,
     errors: &mut E,

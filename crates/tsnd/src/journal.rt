@@ -1,7 +1,7 @@
 //! A journal file and what a process has beside it: files, the wall time, and standard error.
 //!
-//! What a start does with each end of a file stands here: it goes on from a whole one, moves an unfinished line out of the
-//! way, and leaves a damaged file alone. What is read, kept and told is for the crates below.
+//! What a start does with each end of a file stands here: it goes on from a whole one, moves an unfinished line out of
+//! the way, and leaves a damaged file alone. What is read, kept and told is for the crates below.
 ghost use Rattle.std.specs.Prelude.{IfOk};
 ghost use Rattle.tsn_bridge.specs.Reached.{IsReached};
 
@@ -353,8 +353,8 @@ fn answer<D: DeviceOverFile + Drop, R: time::Clock, I: ByteIn, O: ByteOut + Drop
     }
 }
 
-/// Answers the script on the reader over the journal, whose file is made where it is not there, and gives the status. With a
-/// setup the journal must have just that one.
+/// Answers the script on the reader over the journal, whose file is made where it is not there, and gives the status.
+/// With a setup the journal must have just that one.
 pub(crate) fn script_over<
     R: Files<File = File> + AllocGlobal + time::Clock,
     I: ByteIn,

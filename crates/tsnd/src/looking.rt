@@ -1,5 +1,5 @@
-//! A look at a journal file: what is in it, its entries with their times, what one of them changed, the configuration at its end;
-//! and the mending of one.
+//! A look at a journal file: what is in it, its entries with their times, what one of them changed, the configuration
+//! at its end; and the mending of one.
 use crate::beginning::begin;
 use crate::journal::{JournalFault, NO_MEMORY, fail_over, resume_from};
 use std::alloc::{AllocError, Global};

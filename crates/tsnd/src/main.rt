@@ -1,10 +1,13 @@
 //! `tsnd`: the configuration service of one time-aware bridge.
 //!
 //! `tsnd script` answers a script of command lines on standard input with one reply line each on standard output, from a
-//! setup in a file or from the standard one. `tsnd serve` answers the lines of many connections over TCP, on one bridge, and then
-//! tells the gates of each port. With a journal file, what the sessions of either do outlasts it, and `tsnd journal` says what is
+//! setup in a file or from the standard one. `tsnd serve` answers the lines of many connections over TCP, on one
+//! bridge, and then
+//! tells the gates of each port. With a journal file, what the sessions of either do outlasts it, and `tsnd journal`
+//! says what is
 //! in one. `tsnd states` prints the gate states of a port at even steps. `tsnd check` says what is in
-//! a setup, or where it is at fault, or which of the command lines on standard input can't be asked. The status is 0, or 1 after a line on standard error that says why, or 2 for a command line
+//! a setup, or where it is at fault, or which of the command lines on standard input can't be asked. The status is 0,
+//! or 1 after a line on standard error that says why, or 2 for a command line
 //! that is refused.
 #![tactic(auto)]
 
@@ -60,8 +63,8 @@ fn asked_for<R: Env + AllocGlobal>(rt: &R) -> Result<Asked, Fault> {
     read_words(rt.alloc(), words.as_ref().map(Vec::as_slice))
 }
 
-/// Hands the process to what its words ask for, with the text of the setup that they name, its standard input, its standard
-/// output behind a buffer, and its standard error.
+/// Hands the process to what its words ask for, with the text of the setup that they name, its standard input, its
+/// standard output behind a buffer, and its standard error.
 fn main(rt: HostRuntime) -> ExitCode {
     let mut errors = StdIo::new(rt.stderr());
     let asked = match asked_for(&rt) {

@@ -24,8 +24,8 @@ use tsn_sockets::{ListenFault, listen_on};
 use tsn_types::refusals::{Field, Refusal};
 use tsn_words::{Kept, Serving, Syncs};
 
-/// A file device that leaves word of why a call of it failed, for when it is gone: the number of the system's error, and 0
-/// as long as there is none.
+/// A file device that leaves word of why a call of it failed, for when it is gone: the number of the system's error,
+/// and 0 as long as there is none.
 #[derive(Drop)]
 struct TellingDevice<'a, D: Device> {
     device: D,
@@ -195,8 +195,8 @@ fn serve_from<
 }
 
 /// Serves connections at the place over the journal, whose file is made where it is not there, and gives the status.
-/// With a setup the journal must have just that one. The journal is opened before the place, and both before anything is
-/// served.
+/// With a setup the journal must have just that one. The journal is opened before the place, and both before anything
+/// is served.
 pub(crate) fn serve_over<
     R: Files<File = File>
         + AllocGlobal

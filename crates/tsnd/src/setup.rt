@@ -8,7 +8,8 @@ use tsn_bytes::{ByteOut, Fault, StdIo};
 use tsn_program::{Failure, Undone, fail, fail_start, read_setup};
 use tsn_words::Asked;
 
-/// A reader that leaves word of why a call of it failed: the number of the system's error, and 0 as long as there is none.
+/// A reader that leaves word of why a call of it failed: the number of the system's error, and 0 as long as there is
+/// none.
 #[derive(Drop)]
 struct TellingReader<'a, I> {
     inner: I,

@@ -1,5 +1,5 @@
-//! The least filter with a stream handle and a priority or the wildcard, beside the least with each of the two, over filters
-//! that are made, replaced and removed.
+//! The least filter with a stream handle and a priority or the wildcard, beside the least with each of the two, over
+//! filters that are made, replaced and removed.
 ghost use Rattle.std.specs.Prelude.{◌<◌, ◌≤◌};
 
 use super::literals::{create_filter, create_gate, filter, filter_key, gate, make, on_a_config};

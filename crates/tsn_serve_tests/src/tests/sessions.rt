@@ -1,4 +1,5 @@
-//! Sessions over a shared bridge: one in memory whose replies are compared with a text, and two that are served at once.
+//! Sessions over a shared bridge: one in memory whose replies are compared with a text, and two that are served at
+//! once.
 ghost use Rattle.std.specs.Prelude.{◌≡◌, ◌≤◌, ◌<◌, IfOk, All, vec_len};
 ghost use Rattle.tsn_desk.specs.Desks.{IsSeatOf, first_of};
 ghost use Rattle.tsn_bridge.specs.Beginning.{IsOpened};
@@ -39,8 +40,8 @@ fn opened(alloc: Global, seats: usize) -> Result<(Desk<Bridge>, Vec<Seat<Bridge>
     }
 }
 
-/// A line before any hello; edits, of which one is of the session before the latest hello; a key over its limit, of that
-/// session too; an empty line, one that is too long, and one without its end.
+/// A line before any hello; edits, of which one is of the session before the latest hello; a key over its limit, of
+/// that session too; an empty line, one that is too long, and one without its end.
 fn lines(alloc: Global) -> Result<Vec<u8>, Fail> {
     let mut input = Vec::from_slice(
         alloc,

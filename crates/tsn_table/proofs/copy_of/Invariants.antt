@@ -6,4 +6,5 @@ use Rattle.tsn_table.proofs.copy_of.Given as goal
 
 -- the rows so far are copied, and there is room for all others
 abbrev pub invariant-loop-id : goal.invariant-loop-id
-invariant-loop-id g l = ((q : ℕ) → hash.get nat_eq l.copy q ≡ among (map deref_pair l.yielded) q (hash.get nat_eq l.rows q)) × (length l.rows.entries ≤ hash.spare l.copy + length l.yielded)
+invariant-loop-id g l = ((q : ℕ) → hash.get nat_eq l.copy q ≡ among (map deref_pair l.yielded) q (hash.get nat_eq l.rows q))
+    × (length l.rows.entries ≤ hash.spare l.copy + length l.yielded)

@@ -1,4 +1,5 @@
-//! What blocks an undo of all, beside a walk through the whole journal, over edits that several sessions make and take back.
+//! What blocks an undo of all, beside a walk through the whole journal, over edits that several sessions make and take
+//! back.
 ghost use Rattle.std.specs.Prelude.{◌<◌};
 
 use super::literals::{create, meter_key, meter_of, on_a_book, remove, replace_at};

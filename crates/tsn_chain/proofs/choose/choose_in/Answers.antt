@@ -10,18 +10,21 @@ use Rattle.tsn_chain.proofs.Least.{chosen_of_four, least}
 use Rattle.tsn_chain.proofs.choose.choose_in.Goals as goal
 
 -- the lesser of the two answers, each of which is the lesser of two
-told : (c : goal.After-lesser) (fs : FinMap nat_cmp StreamFilter) → AreFilters fs c.args.config.now.map → c.lesser.result ≡ chosen c.args.handle c.args.priority fs
+told : (c : goal.After-lesser) (fs : FinMap nat_cmp StreamFilter) → AreFilters fs c.args.config.now.map
+    → c.lesser.result ≡ chosen c.args.handle c.args.priority fs
 told c fs are =
     let handle = c.args.handle in
     let priority = Some c.args.priority in
     c.lesser.ensures
     ∙ lesser_by-nat_cmp c.first_with_either-own.result c.first_with_either-any.result
     ∙ ap (λ o. lesser o c.first_with_either-any.result) (c.first_with_either-own.ensures fs are)
-    ∙ ap (lesser (lesser (first_id (specifies (Some handle) priority) (entries fs)) (first_id (specifies (Some handle) None) (entries fs)))) (c.first_with_either-any.ensures fs are)
+    ∙ ap (lesser (lesser (first_id (specifies (Some handle) priority) (entries fs)) (first_id (specifies (Some handle) None) (entries fs))))
+    (c.first_with_either-any.ensures fs are)
     ∙ sym (chosen_of_four c.args.handle c.args.priority fs)
 
 pub returns-clause-chosen : goal.returns-clause-chosen
 returns-clause-chosen c = λ fs are. told c fs are
 
 pub returns-clause-least : goal.returns-clause-least
-returns-clause-least c = λ fs are. subst (λ o. IsLeast c.args.handle c.args.priority fs o) (sym (told c fs are)) (least c.args.handle c.args.priority fs)
+returns-clause-least c =
+    λ fs are. subst (λ o. IsLeast c.args.handle c.args.priority fs o) (sym (told c fs are)) (least c.args.handle c.args.priority fs)

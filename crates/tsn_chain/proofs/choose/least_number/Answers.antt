@@ -7,5 +7,7 @@ use Rattle.tsn_chain.proofs.choose.least_number.Goals as goal
 pub returns-clause-least : goal.returns-clause-least
 returns-clause-least c =
     let p : StreamFilter → Bool = is_matching c.args.handle c.args.priority in
-    let is : c.first_where.result ≡ chosen c.args.handle c.args.priority c.args.filters.now.map = c.first_where.ensures p (λ x b h. search rules) in
-    subst (λ o. IsLeast c.args.handle c.args.priority c.args.filters.now.map o) (sym is) (least c.args.handle c.args.priority c.args.filters.now.map)
+    let is : c.first_where.result ≡ chosen c.args.handle c.args.priority c.args.filters.now.map = c.first_where.ensures p
+    (λ x b h. search rules) in
+    subst (λ o. IsLeast c.args.handle c.args.priority c.args.filters.now.map o) (sym is)
+    (least c.args.handle c.args.priority c.args.filters.now.map)

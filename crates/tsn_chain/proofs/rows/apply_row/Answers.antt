@@ -10,17 +10,20 @@ put-requires-in-Some g c = inl (has_row c.args.table.now.map c.put.new.self.map 
 pub returns-clause-acts : goal.returns-clause-acts
 returns-clause-acts g c =
     on_ok_weaker c.apply-answer.result
-    (acts_on c.args.table.now.map c.put.new.self.map c.put-in-Some.new.self.map c.args.id c.new.result c.in-Some.runner c.apply-answer.new.self c.in-Some.ensures.before c.put.ensures.map c.put-in-Some.ensures.map
+    (acts_on c.args.table.now.map c.put.new.self.map c.put-in-Some.new.self.map c.args.id c.new.result c.in-Some.runner
+    c.apply-answer.new.self c.in-Some.ensures.before c.put.ensures.map c.put-in-Some.ensures.map
     (Apply c.args.schedule.now c.args.now))
     c.apply-answer.ensures.stands
 
 pub returns-clause-err : goal.returns-clause-err
 returns-clause-err g c =
     on_err_weaker c.apply-answer.result
-    (put_back c.args.table.now.map c.put.new.self.map c.put-in-Some.new.self.map c.args.id c.new.result c.in-Some.runner c.apply-answer.new.self c.in-Some.ensures.before c.put.ensures.map c.put-in-Some.ensures.map)
+    (put_back c.args.table.now.map c.put.new.self.map c.put-in-Some.new.self.map c.args.id c.new.result c.in-Some.runner
+    c.apply-answer.new.self c.in-Some.ensures.before c.put.ensures.map c.put-in-Some.ensures.map)
     c.apply-answer.ensures.err
 
 pub returns-clause-by : goal.returns-clause-by
 returns-clause-by g c =
-    still_by c.args.table.now.map c.put.new.self.map c.put-in-Some.new.self.map c.args.id c.new.result c.in-Some.runner c.apply-answer.new.self c.in-Some.ensures.before c.put.ensures.map c.put-in-Some.ensures.map
+    still_by c.args.table.now.map c.put.new.self.map c.put-in-Some.new.self.map c.args.id c.new.result c.in-Some.runner
+    c.apply-answer.new.self c.in-Some.ensures.before c.put.ensures.map c.put-in-Some.ensures.map
     c.args.now c.requires.by c.apply-answer.ensures.last

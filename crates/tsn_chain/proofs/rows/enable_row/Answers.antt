@@ -8,10 +8,12 @@ put-requires-in-Some g c = inl (has_row c.args.table.now.map c.put.new.self.map 
 
 pub returns-clause-acts : goal.returns-clause-acts
 returns-clause-acts g c =
-    acts_on c.args.table.now.map c.put.new.self.map c.put-in-Some.new.self.map c.args.id c.new.result c.in-Some.runner c.enable-change.new.self c.in-Some.ensures.before c.put.ensures.map c.put-in-Some.ensures.map
+    acts_on c.args.table.now.map c.put.new.self.map c.put-in-Some.new.self.map c.args.id c.new.result c.in-Some.runner
+    c.enable-change.new.self c.in-Some.ensures.before c.put.ensures.map c.put-in-Some.ensures.map
     (Enable c.args.now) c.enable-change.ensures.stands
 
 pub returns-clause-by : goal.returns-clause-by
 returns-clause-by g c =
-    still_by c.args.table.now.map c.put.new.self.map c.put-in-Some.new.self.map c.args.id c.new.result c.in-Some.runner c.enable-change.new.self c.in-Some.ensures.before c.put.ensures.map c.put-in-Some.ensures.map
+    still_by c.args.table.now.map c.put.new.self.map c.put-in-Some.new.self.map c.args.id c.new.result c.in-Some.runner
+    c.enable-change.new.self c.in-Some.ensures.before c.put.ensures.map c.put-in-Some.ensures.map
     c.args.now c.requires.by c.enable-change.ensures.last

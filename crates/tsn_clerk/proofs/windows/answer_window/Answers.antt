@@ -11,11 +11,14 @@ returns-then-is_err-clause-goes g c =
 pub returns-clause-goes : goal.returns-clause-goes
 returns-clause-goes g c =
     let (text, feeds, appended) = ok_of c.feed.result c.if-is_err.ensures.value c.feed.ensures.ok in
-    let went = fed g.O.ByteOut.taken c.args.talk.now c.feed.new.responder c.args.line.now c.feed.new.line c.args.piece.now text c.requires feeds in
-    with_caller g.O.ByteOut.taken c.args.talk.now c.feed.new.responder c.settle.new.self went.0 (settle_stays g.O.ByteOut.taken c.settle.result c.feed.new.responder c.settle.new.self c.settle.ensures.ok c.settle.ensures.err)
+    let went = fed g.O.ByteOut.taken c.args.talk.now c.feed.new.responder c.args.line.now c.feed.new.line c.args.piece.now text c.requires
+    feeds in
+    with_caller g.O.ByteOut.taken c.args.talk.now c.feed.new.responder c.settle.new.self went.0
+    (settle_stays g.O.ByteOut.taken c.settle.result c.feed.new.responder c.settle.new.self c.settle.ensures.ok c.settle.ensures.err)
 
 pub returns-clause-held : goal.returns-clause-held
 returns-clause-held g c =
     let (text, feeds, appended) = ok_of c.feed.result c.if-is_err.ensures.value c.feed.ensures.ok in
-    let went = fed g.O.ByteOut.taken c.args.talk.now c.feed.new.responder c.args.line.now c.feed.new.line c.args.piece.now text c.requires feeds in
+    let went = fed g.O.ByteOut.taken c.args.talk.now c.feed.new.responder c.args.line.now c.feed.new.line c.args.piece.now text c.requires
+    feeds in
     ok_weaker c.settle.result (λ _. went.1) c.settle.ensures.ok

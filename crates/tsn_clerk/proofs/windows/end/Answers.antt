@@ -12,4 +12,5 @@ pub returns : goal.returns
 returns g c =
     let (text, ends, appended) = ok_of c.finish.result c.if-is_err.ensures.value c.finish.ensures.ok in
     let went = ended g.O.ByteOut.taken c.args.talk.now c.finish.new.responder c.args.line.now text c.requires ends in
-    with_caller g.O.ByteOut.taken c.args.talk.now c.finish.new.responder c.settle.new.self went (settle_stays g.O.ByteOut.taken c.settle.result c.finish.new.responder c.settle.new.self c.settle.ensures.ok c.settle.ensures.err)
+    with_caller g.O.ByteOut.taken c.args.talk.now c.finish.new.responder c.settle.new.self went
+    (settle_stays g.O.ByteOut.taken c.settle.result c.finish.new.responder c.settle.new.self c.settle.ensures.ok c.settle.ensures.err)

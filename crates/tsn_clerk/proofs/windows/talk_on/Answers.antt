@@ -8,7 +8,11 @@ pub reads-init : goal.reads-init
 reads-init g c = (stays c.args.talk.now.caller, c.requires)
 
 pub reads-preserved : goal.reads-preserved
-reads-preserved g c = (on c.args.talk.now.caller c.reads.talk.caller c.answer_window.new.talk.caller c.reads.invariant.0 c.in_default-answer_window.ensures.goes, c.in_default-answer_window.ensures.held)
+reads-preserved g c = (
+  on c.args.talk.now.caller c.reads.talk.caller c.answer_window.new.talk.caller c.reads.invariant.0
+      c.in_default-answer_window.ensures.goes,
+  c.in_default-answer_window.ensures.held,
+)
 
 pub returns-then-count-eq0 : goal.returns-then-count-eq0
 returns-then-count-eq0 g c = on c.args.talk.now.caller c.reads.talk.caller c.end.new.talk.caller c.reads.invariant.0 c.end.ensures

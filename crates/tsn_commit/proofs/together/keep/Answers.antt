@@ -13,4 +13,5 @@ returns-in-Ok g c =
     let line = c.args.line.now in
     let P : Option (List (List ℕ)) → Type 0 = λ o. IfSome o (λ kept. Contains kept line) in
     subst P (sym c.ok.ensures.value)
-    (some_of_ok c.settle.result _ (λ kept. Contains kept line) (λ kept b. has_end kept c.in-Ok.mine c.recorded-last.result line b c.in-Ok.ensures) c.settle.ensures)
+    (some_of_ok c.settle.result _ (λ kept. Contains kept line)
+    (λ kept b. has_end kept c.in-Ok.mine c.recorded-last.result line b c.in-Ok.ensures) c.settle.ensures)

@@ -13,7 +13,8 @@ pub returns : goal.returns
 returns c =
     let now = c.args.self.now in
     let es = c.edits-edits.result.now in
-    sym (ap (λ xs. lesser c.loop-edit.least (least (map (λ e. own_cause now.limits now.map es e) xs))) (drop_of_length-le es c.loop-edit-test.false)
+    sym (ap (λ xs. lesser c.loop-edit.least (least (map (λ e. own_cause now.limits now.map es e) xs)))
+    (drop_of_length-le es c.loop-edit-test.false)
     ∙ lesser-none c.loop-edit.least)
     ∙ c.loop-edit.invariant
     ∙ ap (λ b. least (map (λ e. own_cause now.limits now.map b e) b)) c.edits-edits.ensures.edits

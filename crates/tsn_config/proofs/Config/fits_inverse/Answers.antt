@@ -7,4 +7,5 @@ use Rattle.tsn_config.proofs.Config.fits_inverse.Goals as goal
 pub returns-in_default : goal.returns-in_default
 returns-in_default c =
     let now = c.args.self.now in
-    subst (λ (e : Change). Decides c.fit_together.result (Fits now.limits now.map e)) (ap inverse c.parts.ensures.parts) c.fit_together.ensures
+    subst (λ (e : Change). Decides c.fit_together.result (Fits now.limits now.map e)) (ap inverse c.parts.ensures.parts)
+    c.fit_together.ensures

@@ -14,7 +14,8 @@ returns-then-not-is_left_out g c = λ ks answers.
     sym (ap (λ (s : ConfigView). referrer_beside ks s.map c.args.key.now) (sym c.self.view_is)
     ∙ one_beside i.limits i.rows.map c.self.invariant ks c.args.key.now c.in-Some.number c.in-Some.ensures.there.1
     (ap (λ n. has ks (Filter n)) (sym number) ∙ sym (answers _ _ c.is_left_out.ensures) ∙ c.if-not-is_left_out.true)
-    (below_next i.rows.map ks c.args.key.now c.loop-number.from c.in-Some.number (c.loop-number.invariant.below ks answers) c.in-Some.ensures.least)
+    (below_next i.rows.map ks c.args.key.now c.loop-number.from c.in-Some.number (c.loop-number.invariant.below ks answers)
+    c.in-Some.ensures.least)
     ∙ ap (λ n. Some (Referred (Filter n))) (sym number))
 
 pub returns : goal.returns

@@ -10,7 +10,8 @@ use Rattle.tsn_config.proofs.Config.referrer_but.Given as goal
 -- each lesser filter that refers to the key is left out
 abbrev pub invariant-loop-number : goal.invariant-loop-number
 invariant-loop-number g l = record {
-  below : (ks : List Key) → AnswersAs g.F.Fn (has ks) l.is_left_out → (n : ℕ) → n < l.from → refers (get l.self-inside.rows.map (Filter n)) l.key ≡ true → has ks (Filter n) ≡ true;
+  below : (ks : List Key) → AnswersAs g.F.Fn (has ks) l.is_left_out → (n : ℕ) → n < l.from
+      → refers (get l.self-inside.rows.map (Filter n)) l.key ≡ true → has ks (Filter n) ≡ true;
   small : l.from ≤ 65536;
 }
 

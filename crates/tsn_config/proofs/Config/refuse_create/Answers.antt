@@ -17,4 +17,6 @@ returns-in-Some c =
     let r = c.args.value.now in
     let late = unless (is_none (get now.map k)) (Exists k) ∷ dangling (result now.map c.args.edits.now) r ∷ [] in
     sym (first_cause-append (limit_causes now.limits k r) late
-    ∙ ap (λ o. option_or o (first_cause late)) (ap (λ (s : ConfigView). first_cause (limit_causes s.limits k r)) (sym c.self.view_is) ∙ sym c.refuse_limits.ensures ∙ c.in-Some.is))
+    ∙ ap (λ o. option_or o (first_cause late))
+    (ap (λ (s : ConfigView). first_cause (limit_causes s.limits k r)) (sym c.self.view_is) ∙ sym c.refuse_limits.ensures
+    ∙ c.in-Some.is))

@@ -13,4 +13,5 @@ pub returns-clause-kinds : goal.returns-clause-kinds
 returns-clause-kinds c =
     let now = c.args.self.now in
     let kept : IsWellKept now.limits now.map = subst (λ (s : ConfigView). IsWellKept s.limits s.map) c.self.view_is c.self.invariant in
-    after_kinds now.limits now.map kept (change_of now.map c.args.batch.now) (batch_fits now.limits now.map kept c.args.batch.now c.tell_ranges.ensures.batch c.tell_ranges.ensures.ranges c.requires)
+    after_kinds now.limits now.map kept (change_of now.map c.args.batch.now)
+    (batch_fits now.limits now.map kept c.args.batch.now c.tell_ranges.ensures.batch c.tell_ranges.ensures.ranges c.requires)

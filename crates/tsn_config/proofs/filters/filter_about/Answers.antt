@@ -11,4 +11,5 @@ returns-in_err-found-clause-least c = λ index what fs p is indexes small tests.
 pub returns-clause-least : goal.returns-clause-least
 returns-clause-least c = λ index what fs p is indexes small tests.
     let first = subst (IsFirst index (c.args.about * 65536)) c.in_ok-found.was is in
-    least_own what fs p index c.args.about indexes small tests c.in_ok-found.found first.there.0 first.there.1 first.least c.own_filter.result c.own_filter.ensures.own
+    least_own what fs p index c.args.about indexes small tests c.in_ok-found.found first.there.0 first.there.1 first.least
+    c.own_filter.result c.own_filter.ensures.own

@@ -7,4 +7,5 @@ use Rattle.tsn_config.proofs.opening.add_ports.Given as goal
 
 -- the ports up to the index are there
 abbrev pub invariant-loop-index : goal.invariant-loop-index
-invariant-loop-index l = (es : List (Key × Record)) → l.fn.rows.map ≡ from_entries es → l.rows.map ≡ from_entries (es ++ default_ports l.index)
+invariant-loop-index l =
+    (es : List (Key × Record)) → l.fn.rows.map ≡ from_entries es → l.rows.map ≡ from_entries (es ++ default_ports l.index)

@@ -14,11 +14,15 @@ loop-part-preserved c =
     record {
       free = λ i e le at.
           ap (λ (ps : Change). crosses (Some ps) c.args.session e) (take_next c.args.parts.now j p (omega arith) c.part-item.is)
-          ∙ both_cross (take j c.args.parts.now) (p ∷ []) c.args.session e (c.loop-part.invariant.free i e (omega arith) at) (c.crossed_by_part-crossed.ensures.free i e le at);
+          ∙ both_cross (take j c.args.parts.now) (p ∷ []) c.args.session e (c.loop-part.invariant.free i e (omega arith) at)
+          (c.crossed_by_part-crossed.ensures.free i e le at);
       rises = omega (arith, c.loop-part.invariant.rises);
       own = λ le.
           ap (λ (ps : Change). is_on_referred (Some ps)) (take_next c.args.parts.now j p (omega arith) c.part-item.is)
-          ∙ both_referred (take j c.args.parts.now) (p ∷ []) (c.loop-part.invariant.own (omega arith)) (one_referred p (c.crossed_by_part-crossed.ensures.own le));
-      raised = subst (λ (ps : Change). IsRaised c.args.number c.crossed_by_part-crossed.result c.args.marked.now c.args.session (Some ps)) (sym (take_next c.args.parts.now j p (omega arith) c.part-item.is))
-          (raised_then c.args.number c.loop-part.crossed c.crossed_by_part-crossed.result c.args.session c.args.marked.now (take j c.args.parts.now) (p ∷ []) c.loop-part.invariant.raised c.crossed_by_part-crossed.ensures.raised);
+          ∙ both_referred (take j c.args.parts.now) (p ∷ []) (c.loop-part.invariant.own (omega arith))
+          (one_referred p (c.crossed_by_part-crossed.ensures.own le));
+      raised = subst (λ (ps : Change). IsRaised c.args.number c.crossed_by_part-crossed.result c.args.marked.now c.args.session (Some ps))
+          (sym (take_next c.args.parts.now j p (omega arith) c.part-item.is))
+          (raised_then c.args.number c.loop-part.crossed c.crossed_by_part-crossed.result c.args.session c.args.marked.now
+          (take j c.args.parts.now) (p ∷ []) c.loop-part.invariant.raised c.crossed_by_part-crossed.ensures.raised);
     }

@@ -18,7 +18,8 @@ returns-in-Some-clause-none c = λ i e le at.
     let left : m.entry.number ≤ max m.entry.number n = le-max_left m.entry.number n in
     let right : n ≤ max m.entry.number n = le-max_right m.entry.number n in
     after_last (belongs_to_others (On c.args.key.now) c.args.session) 0 n c.args.marked.now m.entry.number c.requires.numbered
-    (λ y some. let same : m ≡ y = same_Some m y (sym (ap option_copied c.in-Some.is) ∙ c.last_of_others.ensures ∙ some) in let number : m.entry.number ≡ y.entry.number = ap (λ (z : MarkedEntry). z.entry.number) same in omega arith)
+    (λ y some. let same : m ≡ y = same_Some m y (sym (ap option_copied c.in-Some.is) ∙ c.last_of_others.ensures ∙ some) in
+    let number : m.entry.number ≡ y.entry.number = ap (λ (z : MarkedEntry). z.entry.number) same in omega arith)
     i e (omega arith) (omega arith) at
 
 pub returns-in-None-clause-none : goal.returns-in-None-clause-none
@@ -28,4 +29,6 @@ returns-in-None-clause-none c = λ i e le at.
     i e le (omega arith) at
 
 pub returns-in-Some-clause-raised : goal.returns-in-Some-clause-raised
-returns-in-Some-clause-raised c = found_on c.args.session c.max.result c.args.number c.args.key.now c.args.marked.now c.in-Some.found.now c.requires.numbered (sym (sym (ap option_copied c.in-Some.is) ∙ c.last_of_others.ensures)) c.max.ensures
+returns-in-Some-clause-raised c =
+    found_on c.args.session c.max.result c.args.number c.args.key.now c.args.marked.now c.in-Some.found.now c.requires.numbered
+    (sym (sym (ap option_copied c.in-Some.is) ∙ c.last_of_others.ensures)) c.max.ensures

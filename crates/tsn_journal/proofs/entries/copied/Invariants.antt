@@ -5,4 +5,5 @@ use Rattle.tsn_journal.proofs.entries.copied.Given as goal
 
 -- the entries so far are copied, into room for all of them
 abbrev pub invariant-loop-row : goal.invariant-loop-row
-invariant-loop-row l = (l.copies.items ≡ entries_of (take l.row-index l.marked)) × ((vec_len l.copies ≡ l.row-index) × (length l.marked ≤ vec_capacity l.copies))
+invariant-loop-row l = (l.copies.items ≡ entries_of (take l.row-index l.marked))
+    × ((vec_len l.copies ≡ l.row-index) × (length l.marked ≤ vec_capacity l.copies))

@@ -13,5 +13,8 @@ loop-part-preserved c =
     let same = c.parts-part-items.ensures.parts in
     let i = c.loop-part.part-index in
     let p = c.part-item.result in
-    sought_next (λ m. is_some (stands m) && is_sought c.args.but m) (1 + c.args.after) (drop c.args.after c.args.marked.now) c.args.change.now i p c.loop-part.latest c.conflict_with_part-with_part.result c.later_of-latest.result (numbered_after 1 c.args.after c.args.marked.now c.requires.numbered)
-    (omega (arith, ap length same)) (c.part-item.is ∙ ap (λ xs. get_or xs i p) same) c.loop-part.invariant c.conflict_with_part-with_part.ensures c.later_of-latest.ensures
+    sought_next (λ m. is_some (stands m) && is_sought c.args.but m) (1 + c.args.after) (drop c.args.after c.args.marked.now)
+    c.args.change.now i p c.loop-part.latest c.conflict_with_part-with_part.result c.later_of-latest.result
+    (numbered_after 1 c.args.after c.args.marked.now c.requires.numbered)
+    (omega (arith, ap length same)) (c.part-item.is ∙ ap (λ xs. get_or xs i p) same) c.loop-part.invariant
+    c.conflict_with_part-with_part.ensures c.later_of-latest.ensures

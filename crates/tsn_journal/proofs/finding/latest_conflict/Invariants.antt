@@ -8,4 +8,6 @@ use Rattle.tsn_journal.proofs.finding.latest_conflict.Given as goal
 
 -- the latest so far is in conflict with the parts so far
 abbrev pub invariant-loop-part : goal.invariant-loop-part
-invariant-loop-part l = l.latest ≡ option_map (λ m. m.entry.number) (last_where (λ m. (is_some (stands m) && is_sought l.but m) && is_in_conflict (applies m.entry.what) (take l.part-index l.change)) (drop l.after l.marked))
+invariant-loop-part l = l.latest ≡ option_map (λ m. m.entry.number)
+    (last_where (λ m. (is_some (stands m) && is_sought l.but m) && is_in_conflict (applies m.entry.what) (take l.part-index l.change))
+    (drop l.after l.marked))

@@ -17,7 +17,8 @@ loop-place-preserved c =
       indexed = c.leave.ensures.index;
       newest = λ g had. c.leave.ensures.newest.kept g (c.loop-place.invariant.newest g had);
       settled = λ i m low high at. elim (where_at c.loop-place.place i) [
-        | inl less ↦ mends_after ms (groups_of m.entry) old mid new (c.loop-place.invariant.settled i m low (omega arith) at) c.leave.ensures.newest.kept
+        | inl less ↦ mends_after ms (groups_of m.entry) old mid new (c.loop-place.invariant.settled i m low (omega arith) at)
+            c.leave.ensures.newest.kept
         | inr rest ↦ grind (arith, slice_get_read, same_Some, mends_before)
       ];
       tells = grind arith;

@@ -11,12 +11,15 @@ each-preserved c =
     let d = c.index-marked-place.result in
     let one_more : suc i ≡ i + 1 = omega arith in
     record {
-      off = subst (λ n. AreOff n (set ms i (record { entry = (slice_index_or ms i d).entry; is_open = false }))) one_more (one_off i ms (slice_index_or ms i d) c.each.invariant.off);
-      same = off_there i c.args.upto ms d c.each.invariant.numbered (omega (arith, c.each-test.true)) c.index-marked-place.is ∙ c.each.invariant.same;
+      off = subst (λ n. AreOff n (set ms i (record { entry = (slice_index_or ms i d).entry; is_open = false }))) one_more
+          (one_off i ms (slice_index_or ms i d) c.each.invariant.off);
+      same = off_there i c.args.upto ms d c.each.invariant.numbered (omega (arith, c.each-test.true)) c.index-marked-place.is
+          ∙ c.each.invariant.same;
       numbered = numbered_set i ms d c.index-marked-place.is c.each.invariant.numbered;
       len = length-set ms i _ ∙ c.each.invariant.len;
     }
 
 pub returns : goal.returns
 returns c =
-    sym (all_off 1 c.each.place c.args.upto c.each.marked c.each.invariant.numbered c.each.invariant.off (omega (arith, c.each-test.false))) ∙ c.each.invariant.same
+    sym (all_off 1 c.each.place c.args.upto c.each.marked c.each.invariant.numbered c.each.invariant.off (omega (arith, c.each-test.false)))
+    ∙ c.each.invariant.same

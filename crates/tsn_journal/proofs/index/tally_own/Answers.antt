@@ -13,14 +13,17 @@ loop-entry-preserved c =
     let i = c.loop-entry.entry-index in
     let x = c.entry-item.result in
     let t : MarkedEntry → Bool = belongs (Of c.args.session) in
-    let more : filter t (take (i + 1) xs) ≡ filter t (take i xs) ++ cond (t x) (x ∷ []) [] = taken_more t xs i x (omega arith) c.entry-item.is in
+    let more : filter t (take (i + 1) xs) ≡ filter t (take i xs)
+    ++ cond (t x) (x ∷ []) [] = taken_more t xs i x (omega arith) c.entry-item.is in
     let none : IsTally 0 0 [] = record { count = refl; added = refl } in
     elim c.if-is_own.branch [
       | then-is_own w ↦
           let here = both_told c.loop-entry.entries c.loop-entry.parts _ _ (filter t (take i xs)) _ c.loop-entry.invariant.tally
-          (one_told 0 0 [] (t x) x w.added_parts-parts.result none (sym c.is_own.ensures ∙ w.if-is_own.true) w.added_parts-parts.ensures.parts) in
+          (one_told 0 0 [] (t x) x w.added_parts-parts.result none (sym c.is_own.ensures ∙ w.if-is_own.true)
+          w.added_parts-parts.ensures.parts) in
           grind arith
       | else-is_own w ↦
-          let here = both_told c.loop-entry.entries c.loop-entry.parts _ _ (filter t (take i xs)) _ c.loop-entry.invariant.tally (none_told 0 0 [] (t x) x none (sym c.is_own.ensures ∙ w.if-is_own.false)) in
+          let here = both_told c.loop-entry.entries c.loop-entry.parts _ _ (filter t (take i xs)) _ c.loop-entry.invariant.tally
+          (none_told 0 0 [] (t x) x none (sym c.is_own.ensures ∙ w.if-is_own.false)) in
           grind arith
     ]

@@ -15,5 +15,6 @@ returns c =
     let is : option_copied c.args.undone ≡ Some e = ap option_copied c.in_ok-undone.was in
     let changed : applies e.what ≡ Some d = sym c.change.ensures ∙ ap option_copied c.in_ok-change.was in
     let later : c.args.index.now.stray < e.number = omega (arith, c.if-undone-from.false) in
-    let can : CanTell ms c.args.index.now e = record { tells = c.requires.tells; numbered = c.requires.numbered; there = c.requires.there e is; later = later } in
+    let can : CanTell ms c.args.index.now e = record
+    { tells = c.requires.tells; numbered = c.requires.numbered; there = c.requires.there e is; later = later } in
     grind (arith, later_last)

@@ -14,4 +14,5 @@ enter-requires-clause-recorded g c =
 pub returns-clause-ok : goal.returns-clause-ok
 returns-clause-ok g c =
     let word : IsStamp c.bytes.result.now = subst IsStamp (sym c.bytes.ensures.bytes) c.bytes.ensures.stamp in
-    on_ok_weaker c.enter.result (λ entered t is line. enter_one c.args.keeper.now c.enter.new.self c.bytes.result.now c.args.text.now t (no_length c.args.text.now c.if-is_empty.ensures) is word line entered) c.enter.ensures.ok
+    on_ok_weaker c.enter.result (λ entered t is line. enter_one c.args.keeper.now c.enter.new.self c.bytes.result.now c.args.text.now t
+    (no_length c.args.text.now c.if-is_empty.ensures) is word line entered) c.enter.ensures.ok

@@ -11,11 +11,15 @@ returns-then-is_err-clause-broken g c = λ s0 input goes.
 pub returns-clause-goes : goal.returns-clause-goes
 returns-clause-goes g c =
     let (text, feeds, appended) = ok_of c.feed.result c.if-is_err.ensures.value c.feed.ensures.ok in
-    ok_weaker c.settle.result (λ hands s0 input goes. window_settled g.W.ByteOut.taken s0 (input ++ c.args.piece.now) c.feed.new.line c.feed.new.responder c.settle.new.self
-    (fed g.W.ByteOut.taken s0 input c.args.line.now c.args.lasting.now goes c.args.piece.now text c.feed.new.responder c.feed.new.line feeds) hands) c.settle.ensures.ok
+    ok_weaker c.settle.result (λ hands s0 input goes. window_settled g.W.ByteOut.taken s0 (input ++ c.args.piece.now) c.feed.new.line
+    c.feed.new.responder c.settle.new.self
+    (fed g.W.ByteOut.taken s0 input c.args.line.now c.args.lasting.now goes c.args.piece.now text c.feed.new.responder c.feed.new.line
+    feeds) hands) c.settle.ensures.ok
 
 pub returns-clause-broken : goal.returns-clause-broken
 returns-clause-broken g c =
     let (text, feeds, appended) = ok_of c.feed.result c.if-is_err.ensures.value c.feed.ensures.ok in
-    err_weaker c.settle.result (λ breaks s0 input goes. window_broke g.W.ByteOut.taken s0 (input ++ c.args.piece.now) c.feed.new.line c.feed.new.responder c.settle.new.self
-    (fed g.W.ByteOut.taken s0 input c.args.line.now c.args.lasting.now goes c.args.piece.now text c.feed.new.responder c.feed.new.line feeds) breaks) c.settle.ensures.err
+    err_weaker c.settle.result (λ breaks s0 input goes. window_broke g.W.ByteOut.taken s0 (input ++ c.args.piece.now) c.feed.new.line
+    c.feed.new.responder c.settle.new.self
+    (fed g.W.ByteOut.taken s0 input c.args.line.now c.args.lasting.now goes c.args.piece.now text c.feed.new.responder c.feed.new.line
+    feeds) breaks) c.settle.ensures.err

@@ -8,7 +8,8 @@ use Rattle.tsn_lasting.proofs.running.run_lasting.Goals as goal
 pub returns-in_default-clause-broken : goal.returns-in_default-clause-broken
 returns-in_default-clause-broken g c =
     let left = g.R.ByteIn.remaining c.args.reader.now in
-    under_way_breaks g.W.ByteOut.taken (standing g.W.ByteOut.taken c.args.lasting.now) left left left (Some []) c.args.lasting.now (first_under_way (standing g.W.ByteOut.taken c.args.lasting.now) left c.requires.rest) (keeps_itself left)
+    under_way_breaks g.W.ByteOut.taken (standing g.W.ByteOut.taken c.args.lasting.now) left left left (Some []) c.args.lasting.now
+    (first_under_way (standing g.W.ByteOut.taken c.args.lasting.now) left c.requires.rest) (keeps_itself left)
 
 pub reads-init : goal.reads-init
 reads-init g c =
@@ -18,29 +19,41 @@ reads-init g c =
 
 pub returns-in_default-pull-clause-broken : goal.returns-in_default-pull-clause-broken
 returns-in_default-pull-clause-broken g c =
-    under_way_breaks g.W.ByteOut.taken (standing g.W.ByteOut.taken c.args.lasting.now) (g.R.ByteIn.remaining c.args.reader.now) (g.R.ByteIn.remaining c.reads.reader) (g.R.ByteIn.remaining c.pull.new.self) c.reads.line c.reads.lasting c.reads.invariant c.in_default-pull.ensures.err
+    under_way_breaks g.W.ByteOut.taken (standing g.W.ByteOut.taken c.args.lasting.now) (g.R.ByteIn.remaining c.args.reader.now)
+    (g.R.ByteIn.remaining c.reads.reader) (g.R.ByteIn.remaining c.pull.new.self) c.reads.line c.reads.lasting c.reads.invariant
+    c.in_default-pull.ensures.err
 
 pub returns-then-count-eq0-clause-ok : goal.returns-then-count-eq0-clause-ok
 returns-then-count-eq0-clause-ok g c =
     ok_both c.end.result
-    (λ h r. all_ended g.W.ByteOut.taken (standing g.W.ByteOut.taken c.args.lasting.now) (g.R.ByteIn.remaining c.args.reader.now) (g.R.ByteIn.remaining c.reads.reader) (g.R.ByteIn.remaining c.pull.new.self) c.reads.line c.reads.lasting c.end.new.lasting c.in-Ok-pull.count c.pull.new.buffer c.reads.invariant c.in-Ok-pull.ensures.bytes c.if-count-eq0.true (c.in-Ok-pull.ensures.end c.if-count-eq0.true (omega (arith, c.pull.auto.buffer))) h r)
+    (λ h r. all_ended g.W.ByteOut.taken (standing g.W.ByteOut.taken c.args.lasting.now) (g.R.ByteIn.remaining c.args.reader.now)
+    (g.R.ByteIn.remaining c.reads.reader) (g.R.ByteIn.remaining c.pull.new.self) c.reads.line c.reads.lasting c.end.new.lasting
+    c.in-Ok-pull.count c.pull.new.buffer c.reads.invariant c.in-Ok-pull.ensures.bytes c.if-count-eq0.true
+    (c.in-Ok-pull.ensures.end c.if-count-eq0.true (omega (arith, c.pull.auto.buffer))) h r)
     c.end.ensures.whole c.end.ensures.rests
 
 pub returns-then-count-eq0-clause-broken : goal.returns-then-count-eq0-clause-broken
 returns-then-count-eq0-clause-broken g c =
     err_weaker c.end.result
-    (λ h. end_breaks g.W.ByteOut.taken (standing g.W.ByteOut.taken c.args.lasting.now) (g.R.ByteIn.remaining c.args.reader.now) (g.R.ByteIn.remaining c.reads.reader) (g.R.ByteIn.remaining c.pull.new.self) c.reads.line c.reads.lasting c.end.new.lasting c.in-Ok-pull.count c.pull.new.buffer c.reads.invariant c.in-Ok-pull.ensures.bytes c.if-count-eq0.true h)
+    (λ h. end_breaks g.W.ByteOut.taken (standing g.W.ByteOut.taken c.args.lasting.now) (g.R.ByteIn.remaining c.args.reader.now)
+    (g.R.ByteIn.remaining c.reads.reader) (g.R.ByteIn.remaining c.pull.new.self) c.reads.line c.reads.lasting c.end.new.lasting
+    c.in-Ok-pull.count c.pull.new.buffer c.reads.invariant c.in-Ok-pull.ensures.bytes c.if-count-eq0.true h)
     c.end.ensures.broken
 
 pub returns-in-Err-clause-broken : goal.returns-in-Err-clause-broken
 returns-in-Err-clause-broken g c =
-    window_breaks g.W.ByteOut.taken (standing g.W.ByteOut.taken c.args.lasting.now) (g.R.ByteIn.remaining c.args.reader.now) (g.R.ByteIn.remaining c.reads.reader) (g.R.ByteIn.remaining c.pull.new.self) c.reads.line c.reads.lasting c.answer_window.new.lasting c.in-Ok-pull.count c.pull.new.buffer c.reads.invariant c.in-Ok-pull.ensures.bytes
+    window_breaks g.W.ByteOut.taken (standing g.W.ByteOut.taken c.args.lasting.now) (g.R.ByteIn.remaining c.args.reader.now)
+    (g.R.ByteIn.remaining c.reads.reader) (g.R.ByteIn.remaining c.pull.new.self) c.reads.line c.reads.lasting
+    c.answer_window.new.lasting c.in-Ok-pull.count c.pull.new.buffer c.reads.invariant c.in-Ok-pull.ensures.bytes
     (take c.in-Ok-pull.count c.pull.new.buffer) refl c.in-Err.ensures.broken
 
 pub reads-preserved : goal.reads-preserved
 reads-preserved g c =
-    window_more g.W.ByteOut.taken (standing g.W.ByteOut.taken c.args.lasting.now) (g.R.ByteIn.remaining c.args.reader.now) (g.R.ByteIn.remaining c.reads.reader) (g.R.ByteIn.remaining c.pull.new.self) c.reads.line c.reads.lasting c.answer_window.new.lasting c.in-Ok-pull.count c.pull.new.buffer c.reads.invariant c.in-Ok-pull.ensures.bytes
-    (take c.in-Ok-pull.count c.pull.new.buffer) c.answer_window.new.line refl c.in_default-answer_window.ensures.goes c.in_default-answer_window.ensures.rests
+    window_more g.W.ByteOut.taken (standing g.W.ByteOut.taken c.args.lasting.now) (g.R.ByteIn.remaining c.args.reader.now)
+    (g.R.ByteIn.remaining c.reads.reader) (g.R.ByteIn.remaining c.pull.new.self) c.reads.line c.reads.lasting
+    c.answer_window.new.lasting c.in-Ok-pull.count c.pull.new.buffer c.reads.invariant c.in-Ok-pull.ensures.bytes
+    (take c.in-Ok-pull.count c.pull.new.buffer) c.answer_window.new.line refl c.in_default-answer_window.ensures.goes
+    c.in_default-answer_window.ensures.rests
 
 pub returns-clause-broken : goal.returns-clause-broken
 returns-clause-broken g c =

@@ -9,4 +9,5 @@ session_in-requires g c =
 pub returns-in-Ok-session_in-clause-said : goal.returns-in-Ok-session_in-clause-said
 returns-in-Ok-session_in-clause-said g c =
     let turned = rw c.in-Ok.is at c.ask-seat.ensures.turned in
-    said_hello c.args.desk.now c.args.seat c.ask-seat.result.0 c.in-Ok.turn.place c.in-Ok.turn.reply c.requires.1 c.args.name c.in-Ok-session_in.session c.in-Ok-session_in.ensures.ok turned
+    said_hello c.args.desk.now c.args.seat c.ask-seat.result.0 c.in-Ok.turn.place c.in-Ok.turn.reply c.requires.1 c.args.name
+    c.in-Ok-session_in.session c.in-Ok-session_in.ensures.ok turned

@@ -19,11 +19,13 @@ returns-in-Ok-apply_listed-clause-ok c = (
   c.take-2.new.bridge,
   c.in-Ok.ensures.ok,
   c.in-Ok-take.ensures.ok,
-  subst (λ (b : Bool). Applies b c.take-2.new.bridge c.args.port c.args.now c.apply_listed.new.bridge) c.has_list-is_listed.ensures c.in-Ok-apply_listed.ensures.ok,
+  subst (λ (b : Bool). Applies b c.take-2.new.bridge c.args.port c.args.now c.apply_listed.new.bridge) c.has_list-is_listed.ensures
+      c.in-Ok-apply_listed.ensures.ok,
 )
 
 pub returns-in-Ok-apply_listed-clause-seen : goal.returns-in-Ok-apply_listed-clause-seen
 returns-in-Ok-apply_listed-clause-seen c =
     let new = greeted c.args.bridge.now c.take.new.bridge c.requires c.in-Ok.ensures.ok in
     let on = enabled c.take.new.bridge c.take-2.new.bridge c.args.port c.args.now new c.in-Ok-take.ensures.ok in
-    applied c.has_list-is_listed.result c.take-2.new.bridge c.apply_listed.new.bridge c.args.port c.args.now on.1 on.0 c.in-Ok-apply_listed.ensures.ok
+    applied c.has_list-is_listed.result c.take-2.new.bridge c.apply_listed.new.bridge c.args.port c.args.now on.1 on.0
+    c.in-Ok-apply_listed.ensures.ok

@@ -13,10 +13,12 @@ returns-in-Some-clause-sought c =
     let first = found line_feed (drop sought bytes) _ (take_rest bytes sought) _ c.memchr.ensures count c.in-Some.is in
     let inside = first.inside in
     let size = length-drop sought bytes in
-    sought_on bytes c.args.from sought c.requires count (omega (arith, inside, size)) (free_front line_feed (drop sought bytes) count first.before)
+    sought_on bytes c.args.from sought c.requires count (omega (arith, inside, size))
+    (free_front line_feed (drop sought bytes) count first.before)
 
 pub returns-in-None-clause-sought : goal.returns-in-None-clause-sought
 returns-in-None-clause-sought c =
     let bytes = c.args.bytes.now in
     let sought = c.args.sought in
-    sought_all bytes c.args.from sought c.requires (missing line_feed (drop sought bytes) _ (take_rest bytes sought) _ c.memchr.ensures c.in-None.is)
+    sought_all bytes c.args.from sought c.requires
+    (missing line_feed (drop sought bytes) _ (take_rest bytes sought) _ c.memchr.ensures c.in-None.is)

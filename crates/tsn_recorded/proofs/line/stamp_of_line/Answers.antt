@@ -26,7 +26,8 @@ returns-then-not-is_same-clause-none c r is e =
     let chain = c.args.chain.now in
     let own = own_digest chain line r e in
     let body = take (length line - 33) (drop 33 line) in
-    let same = c.digest_of_body-digest.ensures ∙ ap (λ d. digest_after d body) c.last.ensures ∙ ap (digest_after chain) (take_rest line 33) ∙ own in
+    let same = c.digest_of_body-digest.ensures ∙ ap (λ d. digest_after d body) c.last.ensures ∙ ap (digest_after chain) (take_rest line 33)
+    ∙ own in
     false≢true (sym c.if-not-is_same.true ∙ c.is_same.ensures.1 same)
 
 -- it is the line of the record that it says
@@ -37,7 +38,8 @@ verified c =
     let first = found space (drop 33 line) _ (take_rest line 33) _ c.memchr.ensures c.in-Some.stamp c.in-Some.is in
     let body = take (length line - 33) (drop 33 line) in
     let own : digest_after chain (drop 33 line) ≡ take 32 line =
-    sym (c.digest_of_body-digest.ensures ∙ ap (λ d. digest_after d body) c.last.ensures ∙ ap (digest_after chain) (take_rest line 33)) ∙ c.is_same.ensures.0 c.if-not-is_same.false in
+    sym (c.digest_of_body-digest.ensures ∙ ap (λ d. digest_after d body) c.last.ensures ∙ ap (digest_after chain) (take_rest line 33))
+    ∙ c.is_same.ensures.0 c.if-not-is_same.false in
     is_line chain line c.in-Some.stamp c.if-line-le-DIGITS.false c.if-line-ne32.false first.inside first.here own
 
 pub returns-clause-line : goal.returns-clause-line

@@ -18,16 +18,19 @@ bytes-preserved g c = (
 pub returns-in_err-make_room-clause-cut : goal.returns-in_err-make_room-clause-cut
 returns-in_err-make_room-clause-cut g c =
     let front = c.push.ensures.text ∙ ap (λ l. l ++ codes "{\"setup\":\"") c.requires in
-    at_err c.from_residual.result (setup_cut _ _ _ c.args.setup.now c.push.new.self c.bytes.text c.bytes.byte-index front c.bytes.invariant.1 c.in_err-make_room.ensures.cut)
+    at_err c.from_residual.result (setup_cut _ _ _ c.args.setup.now c.push.new.self c.bytes.text c.bytes.byte-index front
+    c.bytes.invariant.1 c.in_err-make_room.ensures.cut)
 
 pub returns-clause-ok : goal.returns-clause-ok
 returns-clause-ok g c =
     let front = c.push.ensures.text ∙ ap (λ l. l ++ codes "{\"setup\":\"") c.requires in
-    let end = setup_ended _ _ c.args.setup.now c.push.new.self c.bytes.text c.as_slice.result.now c.bytes.byte-index front c.bytes-test.false c.bytes.invariant.1 (c.as_slice.ensures ∙ c.push-2.ensures.text) in
+    let end = setup_ended _ _ c.args.setup.now c.push.new.self c.bytes.text c.as_slice.result.now c.bytes.byte-index front
+    c.bytes-test.false c.bytes.invariant.1 (c.as_slice.ensures ∙ c.push-2.ensures.text) in
     on_ok_weaker c.put_all.result (goes_out _ _ _ _ _ end) c.put_all.ensures.ok
 
 pub returns-clause-cut : goal.returns-clause-cut
 returns-clause-cut g c =
     let front = c.push.ensures.text ∙ ap (λ l. l ++ codes "{\"setup\":\"") c.requires in
-    let end = setup_ended _ _ c.args.setup.now c.push.new.self c.bytes.text c.as_slice.result.now c.bytes.byte-index front c.bytes-test.false c.bytes.invariant.1 (c.as_slice.ensures ∙ c.push-2.ensures.text) in
+    let end = setup_ended _ _ c.args.setup.now c.push.new.self c.bytes.text c.as_slice.result.now c.bytes.byte-index front
+    c.bytes-test.false c.bytes.invariant.1 (c.as_slice.ensures ∙ c.push-2.ensures.text) in
     on_err_weaker c.put_all.result (cut_end _ _ _ _ _ end) c.put_all.ensures.cut

@@ -8,5 +8,6 @@ use Rattle.tsn_replies.proofs.setup.write_setup.Given as goal
 abbrev pub invariant-bytes : goal.invariant-bytes
 invariant-bytes g l =
     (length l.text ≤ MOST_BEFORE_ITEM + LONGEST_ESCAPE)
-    × TakesFront (g.W.ByteOut.taken l.initial.writer) (g.W.ByteOut.taken l.writer) (l.initial.text ++ escape (take l.byte-index l.setup)) l.text
+    × TakesFront (g.W.ByteOut.taken l.initial.writer) (g.W.ByteOut.taken l.writer) (l.initial.text ++ escape (take l.byte-index l.setup))
+    l.text
     × (g.W.ByteOut.has_failed l.writer ≡ g.W.ByteOut.has_failed l.initial.writer)

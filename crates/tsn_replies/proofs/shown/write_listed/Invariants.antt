@@ -7,5 +7,6 @@ use Rattle.tsn_replies.proofs.shown.write_listed.Given as goal
 abbrev pub invariant-others : goal.invariant-others
 invariant-others g l =
     (length l.text ≤ MOST_BEFORE_ITEM + 1 + LONGEST_ITEM)
-    × TakesFront (g.W.ByteOut.taken l.initial.writer) (g.W.ByteOut.taken l.writer) (l.initial.text ++ behind g.I.ShownItem.shown (take l.item-index l.others)) l.text
+    × TakesFront (g.W.ByteOut.taken l.initial.writer) (g.W.ByteOut.taken l.writer)
+    (l.initial.text ++ behind g.I.ShownItem.shown (take l.item-index l.others)) l.text
     × (g.W.ByteOut.has_failed l.writer ≡ g.W.ByteOut.has_failed l.initial.writer)

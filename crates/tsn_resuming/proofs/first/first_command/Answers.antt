@@ -8,4 +8,5 @@ returns-in_default c = inl (sym (no_text c.args.setup.now c.in_default.ensures.c
 
 pub returns : goal.returns
 returns c =
-    inl (ap Ok (ap (λ v. v.items) c.into_bytes.ensures.value ∙ c.in_ok-text.ensures ∙ ap first_text c.in-Ok.ensures.cases.0) ∙ sym (is_text c.args.setup.now c.in-Ok.ensures.cases.1))
+    inl (ap Ok (ap (λ v. v.items) c.into_bytes.ensures.value ∙ c.in_ok-text.ensures ∙ ap first_text c.in-Ok.ensures.cases.0)
+    ∙ sym (is_text c.args.setup.now c.in-Ok.ensures.cases.1))

@@ -10,7 +10,9 @@ pub returns-in-Ok-true-clause-begun : goal.returns-in-Ok-true-clause-begun
 returns-in-Ok-true-clause-begun g c = λ before fed.
     let given = option_map (λ own. own.now) c.args.given in
     if_ok c.begin.result _ _
-    (λ bridge begins. has_begun before _ given c.find_first.new.reader bridge (at_true {A = IsFed before _ (c.find_first.new.reader.latest ∷ []) c.find_first.new.reader} _ c.in-Ok-true.field-0-test (c.in-Ok-true.ensures.found before fed))
+    (λ bridge begins. has_begun before _ given c.find_first.new.reader bridge
+    (at_true {A = IsFed before _ (c.find_first.new.reader.latest ∷ []) c.find_first.new.reader} _ c.in-Ok-true.field-0-test
+    (c.in-Ok-true.ensures.found before fed))
     (subst (λ command. Begins given command bridge) c.command.ensures begins))
     c.begin.ensures.begun
 
@@ -18,6 +20,8 @@ pub returns-in-Ok-true-clause-fault : goal.returns-in-Ok-true-clause-fault
 returns-in-Ok-true-clause-fault g c = λ before fed.
     let given = option_map (λ own. own.now) c.args.given in
     if_err c.begin.result _ _
-    (λ why none. not_begun before _ _ given c.find_first.new.reader why (at_true {A = IsFed before _ (c.find_first.new.reader.latest ∷ []) c.find_first.new.reader} _ c.in-Ok-true.field-0-test (c.in-Ok-true.ensures.found before fed))
+    (λ why none. not_begun before _ _ given c.find_first.new.reader why
+    (at_true {A = IsFed before _ (c.find_first.new.reader.latest ∷ []) c.find_first.new.reader} _ c.in-Ok-true.field-0-test
+    (c.in-Ok-true.ensures.found before fed))
     (subst (λ command. OpensNone given command why) c.command.ensures none))
     c.begin.ensures.fault

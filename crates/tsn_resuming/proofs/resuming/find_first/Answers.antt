@@ -10,6 +10,7 @@ returns-in-Ok-false-clause-none g c = λ before fed.
 
 pub loop-made-preserved : goal.loop-made-preserved
 loop-made-preserved g c = (
-  λ before fed. c.in-Ok-true.ensures.fed before [] (stays_fed before _ [] _ _ c.if-advance.ensures.stays (c.loop-made.invariant.0 before fed)),
+  λ before fed. c.in-Ok-true.ensures.fed before []
+      (stays_fed before _ [] _ _ c.if-advance.ensures.stays (c.loop-made.invariant.0 before fed)),
   c.in-Ok-true.ensures.worked ∙ c.loop-made.invariant.1,
 )

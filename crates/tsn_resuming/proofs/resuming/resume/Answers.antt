@@ -10,7 +10,8 @@ returns-in-Ok-step_all-clause-goes_on g c =
     let file = g.R.ByteIn.remaining c.args.file.now in
     let begun = c.in-Ok-begin_reading.ensures.begun file (begins_fed file c.new-reader.result c.new-reader.ensures) in
     let through = c.in-Ok-step_all.ensures.through file begun.setup begun.way in
-    resumed file _ _ begun.setup c.step_all.new.reader _ through.1 begun.own c.chain.ensures c.lines.ensures c.good.ensures c.end.ensures through.0
+    resumed file _ _ begun.setup c.step_all.new.reader _ through.1 begun.own c.chain.ensures c.lines.ensures c.good.ensures c.end.ensures
+    through.0
 
 pub returns-clause-fault : goal.returns-clause-fault
 returns-clause-fault g c =

@@ -9,32 +9,38 @@ reads-init g c = begun _ _ _ c.in-Ok.ensures
 
 pub returns-in_default-flush-clause-outcome : goal.returns-in_default-flush-clause-outcome
 returns-in_default-flush-clause-outcome g c =
-    flush_failed _ _ _ _ _ _ _ c.reads.counter c.reads.invariant c.reads.auto.counter-end refl refl refl refl c.in_default-flush.ensures.bytes c.in_default-flush.ensures.failed
+    flush_failed _ _ _ _ _ _ _ c.reads.counter c.reads.invariant c.reads.auto.counter-end refl refl refl refl
+    c.in_default-flush.ensures.bytes c.in_default-flush.ensures.failed
 
 pub returns-in_default-pull-clause-outcome : goal.returns-in_default-pull-clause-outcome
 returns-in_default-pull-clause-outcome g c =
-    read_failed _ _ _ _ _ _ c.reads.counter c.reads.invariant c.reads-test.true refl c.in_default-pull.ensures.err c.pull.ensures.calls c.in_default-pull.ensures.failed c.in-Ok-flush.ensures.bytes c.in-Ok-flush.ensures.ok c.in-Ok-flush.ensures.worked
+    read_failed _ _ _ _ _ _ c.reads.counter c.reads.invariant c.reads-test.true refl c.in_default-pull.ensures.err c.pull.ensures.calls
+    c.in_default-pull.ensures.failed c.in-Ok-flush.ensures.bytes c.in-Ok-flush.ensures.ok c.in-Ok-flush.ensures.worked
 
 pub returns-in-Err-clause-outcome : goal.returns-in-Err-clause-outcome
 returns-in-Err-clause-outcome g c =
     let broken = c.in-Err.ensures.broken in
     broken_by _ _ _ c.in-Err.fault _ _ c.in-Err.ensures.fault
     (finish_broke _ _ _ c.in-Err.fault _ _ _ _ c.reads.counter broken.0 _ c.reads.invariant c.reads-test.true
-    (rw c.if-count-eq0.true at c.in-Ok-pull.ensures.bytes) (c.in-Ok-pull.ensures.end c.if-count-eq0.true (omega (arith, c.pull.auto.piece))) c.pull.ensures.calls c.in-Ok-pull.ensures.worked
-    c.in-Ok-flush.ensures.bytes broken.2 (λ e. c.in-Err.ensures.failed (cc)) (λ other. c.in-Err.ensures.worked (λ e. other (let f : c.in-Err.fault ≡ Write = cc in f)) ∙ c.in-Ok-flush.ensures.worked) broken.1)
+    (rw c.if-count-eq0.true at c.in-Ok-pull.ensures.bytes) (c.in-Ok-pull.ensures.end c.if-count-eq0.true (omega (arith, c.pull.auto.piece)))
+    c.pull.ensures.calls c.in-Ok-pull.ensures.worked
+    c.in-Ok-flush.ensures.bytes broken.2 (λ e. c.in-Err.ensures.failed (cc))
+    (λ other. c.in-Err.ensures.worked (λ e. other (let f : c.in-Err.fault ≡ Write = cc in f)) ∙ c.in-Ok-flush.ensures.worked) broken.1)
 
 pub returns-in_default-flush-2-clause-outcome : goal.returns-in_default-flush-2-clause-outcome
 returns-in_default-flush-2-clause-outcome g c =
     let ok = c.in_default-finish.ensures.ok in
     last_flush_failed _ _ _ _ _ _ _ c.reads.counter ok.0 _ _ c.reads.invariant c.reads-test.true
-    (rw c.if-count-eq0.true at c.in-Ok-pull.ensures.bytes) (c.in-Ok-pull.ensures.end c.if-count-eq0.true (omega (arith, c.pull.auto.piece))) c.pull.ensures.calls c.in-Ok-pull.ensures.worked
+    (rw c.if-count-eq0.true at c.in-Ok-pull.ensures.bytes) (c.in-Ok-pull.ensures.end c.if-count-eq0.true (omega (arith, c.pull.auto.piece)))
+    c.pull.ensures.calls c.in-Ok-pull.ensures.worked
     c.in-Ok-flush.ensures.bytes ok.2 c.in_default-flush-2.ensures.bytes c.in_default-flush-2.ensures.failed ok.1
 
 pub returns-then-count-eq0-clause-outcome : goal.returns-then-count-eq0-clause-outcome
 returns-then-count-eq0-clause-outcome g c =
     let ok = c.in_default-finish.ensures.ok in
     completed _ _ _ _ _ _ c.reads.counter ok.0 _ _ c.reads.invariant c.reads-test.true
-    (rw c.if-count-eq0.true at c.in-Ok-pull.ensures.bytes) (c.in-Ok-pull.ensures.end c.if-count-eq0.true (omega (arith, c.pull.auto.piece))) c.pull.ensures.calls c.in-Ok-pull.ensures.worked
+    (rw c.if-count-eq0.true at c.in-Ok-pull.ensures.bytes) (c.in-Ok-pull.ensures.end c.if-count-eq0.true (omega (arith, c.pull.auto.piece)))
+    c.pull.ensures.calls c.in-Ok-pull.ensures.worked
     c.in-Ok-flush.ensures.bytes ok.2 c.in-Ok-flush-2.ensures.bytes c.in-Ok-flush-2.ensures.ok
     (c.in-Ok-flush-2.ensures.worked ∙ (c.in_default-finish.ensures.worked (λ e. cc) ∙ c.in-Ok-flush.ensures.worked)) ok.1
 
@@ -44,7 +50,9 @@ returns-in-Err-feed-clause-outcome g c =
     broken_by _ _ _ c.in-Err-feed.fault _ _ c.in-Err-feed.ensures.fault
     (feed_broke _ _ _ c.in-Err-feed.fault _ _ _ _ c.reads.counter _ broken.0 _ c.reads.invariant c.reads-test.true
     c.in-Ok-pull.ensures.bytes c.pull.ensures.calls c.in-Ok-pull.ensures.worked
-    c.in-Ok-flush.ensures.bytes broken.2 (λ e. c.in-Err-feed.ensures.failed (cc)) (λ other. c.in-Err-feed.ensures.worked (λ e. other (let f : c.in-Err-feed.fault ≡ Write = cc in f)) ∙ c.in-Ok-flush.ensures.worked) broken.1)
+    c.in-Ok-flush.ensures.bytes broken.2 (λ e. c.in-Err-feed.ensures.failed (cc))
+    (λ other. c.in-Err-feed.ensures.worked (λ e. other (let f : c.in-Err-feed.fault ≡ Write = cc in f)) ∙ c.in-Ok-flush.ensures.worked)
+    broken.1)
 
 pub reads-preserved : goal.reads-preserved
 reads-preserved g c =
@@ -59,4 +67,5 @@ reads-preserved g c =
 
 pub returns-in_default-flush-3-clause-outcome : goal.returns-in_default-flush-3-clause-outcome
 returns-in_default-flush-3-clause-outcome g c =
-    flush_failed _ _ _ _ _ _ _ c.reads.counter c.reads.invariant c.reads.auto.counter-end refl refl refl refl c.in_default-flush-3.ensures.bytes c.in_default-flush-3.ensures.failed
+    flush_failed _ _ _ _ _ _ _ c.reads.counter c.reads.invariant c.reads.auto.counter-end refl refl refl refl
+    c.in_default-flush-3.ensures.bytes c.in_default-flush-3.ensures.failed

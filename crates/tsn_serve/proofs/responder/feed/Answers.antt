@@ -17,9 +17,11 @@ bytes-preserved g c =
     let n = c.in-Ok.count in
     let fits : n ≤ length piece - i = simp length-drop at (rw (take_rest piece i) at c.in-Ok.ensures.count.1) in (
       before.0 ++ ok.0,
-      fed_as g.A.Responder.answers c.args.responder.now c.feed_front.new.responder c.args.line.now c.feed_front.new.line _ (take (i + n) piece) (before.0 ++ ok.0)
+      fed_as g.A.Responder.answers c.args.responder.now c.feed_front.new.responder c.args.line.now c.feed_front.new.line _
+          (take (i + n) piece) (before.0 ++ ok.0)
           (ap (λ l. take i piece ++ take n l) (take_rest piece i) ∙ sym (take-add i n piece))
-          (fed_more g.A.Responder.answers c.args.responder.now c.bytes.responder c.feed_front.new.responder c.args.line.now c.bytes.line c.feed_front.new.line (take i piece) _ before.0 ok.0 before.1 ok.1),
+          (fed_more g.A.Responder.answers c.args.responder.now c.bytes.responder c.feed_front.new.responder c.args.line.now c.bytes.line
+          c.feed_front.new.line (take i piece) _ before.0 ok.0 before.1 ok.1),
       Appends-trans _ _ _ _ _ before.2 ok.2,
       c.in-Ok.ensures.worked (λ e. cc) ∙ before.3,
       omega (arith, fits, before.4),
@@ -32,8 +34,10 @@ returns-in-Err-clause-broken g c =
     let piece = c.args.piece.now in
     let i = c.bytes.done in (
       before.0 ++ broken.0,
-      broken_as g.A.Responder.answers g.A.Responder.breaks c.in-Err.fault c.args.responder.now c.feed_front.new.responder c.args.line.now _ piece (before.0 ++ broken.0)
+      broken_as g.A.Responder.answers g.A.Responder.breaks c.in-Err.fault c.args.responder.now c.feed_front.new.responder c.args.line.now _
+          piece (before.0 ++ broken.0)
           (ap (λ l. take i piece ++ l) (take_rest piece i) ∙ take-append-drop i piece)
-          (broken_after g.A.Responder.answers g.A.Responder.breaks c.in-Err.fault c.args.responder.now c.bytes.responder c.feed_front.new.responder c.args.line.now c.bytes.line (take i piece) _ before.0 broken.0 before.1 broken.1),
+          (broken_after g.A.Responder.answers g.A.Responder.breaks c.in-Err.fault c.args.responder.now c.bytes.responder
+          c.feed_front.new.responder c.args.line.now c.bytes.line (take i piece) _ before.0 broken.0 before.1 broken.1),
       Appends-trans _ _ _ _ _ before.2 broken.2,
     )

@@ -8,9 +8,11 @@ returns-in-Ok-clause-ok g c =
     let ok = c.in-Ok.ensures.ok in
     let whole = c.in-Some.whole.now in (
       ok.0,
-      fed_as g.A.Responder.answers c.args.responder.now c.answer.new.self c.args.line.now c.args.line.now (whole ++ line_feed ∷ []) (take (length whole + 1) c.args.bytes.now) ok.0
+      fed_as g.A.Responder.answers c.args.responder.now c.answer.new.self c.args.line.now c.args.line.now (whole ++ line_feed ∷ [])
+          (take (length whole + 1) c.args.bytes.now) ok.0
           (sym c.in-Some.ensures.bytes.1)
-          (fed_whole g.A.Responder.answers c.args.responder.now c.args.line.now whole ok.0 c.answer.new.self c.in-Some.ensures.fresh c.in-Some.ensures.one c.in-Some.ensures.short ok.1),
+          (fed_whole g.A.Responder.answers c.args.responder.now c.args.line.now whole ok.0 c.answer.new.self c.in-Some.ensures.fresh
+          c.in-Some.ensures.one c.in-Some.ensures.short ok.1),
       ok.2,
     )
 
@@ -21,10 +23,14 @@ returns-in-Err-clause-broken g c =
     let bytes = c.args.bytes.now in
     let answers = g.A.Responder.answers in
     let breaks = g.A.Responder.breaks in
-    let one = broken_whole answers breaks c.in-Err.fault c.args.responder.now c.args.line.now whole broken.0 c.answer.new.self c.in-Some.ensures.fresh c.in-Some.ensures.one c.in-Some.ensures.short broken.1 in
-    let front = broken_as answers breaks c.in-Err.fault c.args.responder.now c.answer.new.self c.args.line.now (whole ++ line_feed ∷ []) (take (length whole + 1) bytes) broken.0 (sym c.in-Some.ensures.bytes.1) one in (
+    let one = broken_whole answers breaks c.in-Err.fault c.args.responder.now c.args.line.now whole broken.0 c.answer.new.self
+    c.in-Some.ensures.fresh c.in-Some.ensures.one c.in-Some.ensures.short broken.1 in
+    let front = broken_as answers breaks c.in-Err.fault c.args.responder.now c.answer.new.self c.args.line.now (whole ++ line_feed ∷ [])
+    (take (length whole + 1) bytes) broken.0 (sym c.in-Some.ensures.bytes.1) one in (
       broken.0,
-      broken_as answers breaks c.in-Err.fault c.args.responder.now c.answer.new.self c.args.line.now _ bytes broken.0 (take-append-drop (length whole + 1) bytes)
-          (broken_more answers breaks c.in-Err.fault c.args.responder.now c.answer.new.self c.args.line.now (take (length whole + 1) bytes) (drop (length whole + 1) bytes) broken.0 front),
+      broken_as answers breaks c.in-Err.fault c.args.responder.now c.answer.new.self c.args.line.now _ bytes broken.0
+          (take-append-drop (length whole + 1) bytes)
+          (broken_more answers breaks c.in-Err.fault c.args.responder.now c.answer.new.self c.args.line.now (take (length whole + 1) bytes)
+          (drop (length whole + 1) bytes) broken.0 front),
       broken.2,
     )

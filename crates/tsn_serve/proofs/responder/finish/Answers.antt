@@ -13,7 +13,8 @@ returns-clause-ok g c =
     IfOk-weaker c.answer.result _ _
     (λ _ ok. (
       ok.0,
-      ended_with g.A.Responder.answers c.args.responder.now c.args.line.now ok.0 c.answer.new.self (λ e. let t : false ≡ true = c.if-is_empty.ensures.1 e in cc)
+      ended_with g.A.Responder.answers c.args.responder.now c.args.line.now ok.0 c.answer.new.self
+          (λ e. let t : false ≡ true = c.if-is_empty.ensures.1 e in cc)
           (subst (λ k. g.A.Responder.answers c.args.responder.now k ok.0 c.answer.new.self) c.get.ensures ok.1),
       ok.2,
     ))
@@ -24,7 +25,8 @@ returns-clause-broken g c =
     IfErr-weaker c.answer.result _ _
     (λ fault broken. (
       broken.0,
-      broken_at_end g.A.Responder.answers g.A.Responder.breaks fault c.args.responder.now c.args.line.now broken.0 c.answer.new.self (λ e. let t : false ≡ true = c.if-is_empty.ensures.1 e in cc)
+      broken_at_end g.A.Responder.answers g.A.Responder.breaks fault c.args.responder.now c.args.line.now broken.0 c.answer.new.self
+          (λ e. let t : false ≡ true = c.if-is_empty.ensures.1 e in cc)
           (subst (λ k. g.A.Responder.breaks c.args.responder.now k fault broken.0 c.answer.new.self) c.get.ensures broken.1),
       broken.2,
     ))

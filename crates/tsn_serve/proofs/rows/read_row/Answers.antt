@@ -7,15 +7,19 @@ use Rattle.tsn_serve.proofs.rows.read_row.Goals as goal
 pub returns-then-not-is_brief-clause-row : goal.returns-then-not-is_brief-clause-row
 returns-then-not-is_brief-clause-row c =
     let bytes = c.args.bytes.now in
-    let behind : List ℕ = drop (c.lines.done + c.in-Some.line.count) bytes in
-    (behind, subst (λ rs. IsRow bytes rs behind) (sym c.push_reserved-in-lines.ensures.items) (row_read bytes c.lines.done c.lines.row.items c.in-Some.line c.lines.invariant.0 c.in-Some.ensures.read))
+    let behind : List ℕ = drop (c.lines.done + c.in-Some.line.count) bytes in (
+      behind,
+      subst (λ rs. IsRow bytes rs behind) (sym c.push_reserved-in-lines.ensures.items)
+          (row_read bytes c.lines.done c.lines.row.items c.in-Some.line c.lines.invariant.0 c.in-Some.ensures.read),
+    )
 
 pub lines-preserved : goal.lines-preserved
 lines-preserved c =
     let bytes = c.args.bytes.now in
     let done = c.lines.done in
     let fits : c.in-Some.line.count ≤ length bytes - done = simp length-drop at (rw (take_rest bytes done) at c.in-Some.ensures.count.1) in (
-      subst (λ rs. IsRow bytes rs (drop (done + c.in-Some.line.count) bytes)) (sym c.push_reserved-in-lines.ensures.items) (row_read bytes done c.lines.row.items c.in-Some.line c.lines.invariant.0 c.in-Some.ensures.read),
+      subst (λ rs. IsRow bytes rs (drop (done + c.in-Some.line.count) bytes)) (sym c.push_reserved-in-lines.ensures.items)
+          (row_read bytes done c.lines.row.items c.in-Some.line c.lines.invariant.0 c.in-Some.ensures.read),
       omega (arith, fits, c.lines.invariant.1),
       omega (arith, c.push_reserved-in-lines.ensures.len),
       omega (arith, c.push_reserved-in-lines.ensures.capacity, c.lines.invariant.3),

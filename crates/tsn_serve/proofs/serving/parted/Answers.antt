@@ -10,5 +10,7 @@ pub returns-clause-own : goal.returns-clause-own
 returns-clause-own c =
     let P : BridgeSeat → Type 0 = λ s. IsSeatOf c.args.desk.now s in (
       subst (λ l. All P l) (sym c.in-Ok.ensures.items) (All-take P _ c.args.seats.items c.requires.own),
-      of_images P (λ (p : Probe). p.seat) c.in_ok-probes.probes.items (subst (λ l. All P l) (sym (c.in_ok-probes.ensures.seats ∙ c.in-Ok.ensures.tail)) (All-drop P _ c.args.seats.items c.requires.own)),
+      of_images P (λ (p : Probe). p.seat) c.in_ok-probes.probes.items
+          (subst (λ l. All P l) (sym (c.in_ok-probes.ensures.seats ∙ c.in-Ok.ensures.tail))
+          (All-drop P _ c.args.seats.items c.requires.own)),
     )

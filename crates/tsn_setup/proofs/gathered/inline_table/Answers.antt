@@ -23,5 +23,10 @@ members-preserved g c =
     let member = rw (start_is, c.requires) at c.in_ok-after.ensures.member in
     let before = c.skip_blank-start.ensures.within in
     let shorter = c.in_ok-after.ensures.shorter in
-    let within = c.in_ok-rest.ensures.within in
-    (search rules, (omega (arith, c.members.invariant.1.0), table_more c.args.text.now _ _ rest _ _ c.members.invariant.1.1 goes member c.in_ok-rest.ensures.value (omega arith)))
+    let within = c.in_ok-rest.ensures.within in (
+      search rules,
+      (
+        omega (arith, c.members.invariant.1.0),
+        table_more c.args.text.now _ _ rest _ _ c.members.invariant.1.1 goes member c.in_ok-rest.ensures.value (omega arith),
+      ),
+    )

@@ -17,8 +17,13 @@ lines-preserved g c =
     let member = rw start_is at c.in_ok-after.ensures.member in
     let ends : ends_line (skip_ws c.in_ok-after.after.now) ≡ true = grind (arith, common_steps) in
     let before = c.skip_blank-start.ensures.within in
-    let shorter = c.in_ok-after.ensures.shorter in
-    (search rules, (omega (arith, c.lines.invariant.1.0), line_more _ c.args.text.now _ _ rest _ c.requires c.lines.invariant.1.1 some goes member ends (omega arith)))
+    let shorter = c.in_ok-after.ensures.shorter in (
+      search rules,
+      (
+        omega (arith, c.lines.invariant.1.0),
+        line_more _ c.args.text.now _ _ rest _ c.requires c.lines.invariant.1.1 some goes member ends (omega arith),
+      ),
+    )
 
 pub returns-then-is_empty-clause-table : goal.returns-then-is_empty-clause-table
 returns-then-is_empty-clause-table g c =

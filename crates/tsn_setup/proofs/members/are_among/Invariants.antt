@@ -7,4 +7,5 @@ abbrev pub invariant-rows : goal.invariant-rows
 invariant-rows l =
     (goal.iterator-rows).can_next l.name-iterator ×
     (goal.iterator-rows).is_finite l.name-iterator ×
-    (are_among (map (λ member. member.0.now) l.members) (members_view l.name-iterator) ≡ are_among (map (λ member. member.0.now) l.members) (members_view l.table.entries))
+    (are_among (map (λ member. member.0.now) l.members) (members_view l.name-iterator) ≡ are_among (map (λ member. member.0.now) l.members)
+    (members_view l.table.entries))

@@ -33,5 +33,6 @@ tables-preserved c =
     let head = rw start_is at c.in_ok-kind.ensures.line in
     let before = c.skip_blank-start.ensures.within in
     let shorter = c.in_ok-kind.ensures.shorter in
-    let added = table_added c.args.text.now _ rest _ c.in_ok-draft.after.now kind (tables_of kind all) c.in_ok-draft.draft c.tables.invariant.1 some head (omega arith) c.in_ok-draft.ensures.table (own_slot kind limits (λ kind. tables_of kind all)) in
+    let added = table_added c.args.text.now _ rest _ c.in_ok-draft.after.now kind (tables_of kind all) c.in_ok-draft.draft
+    c.tables.invariant.1 some head (omega arith) c.in_ok-draft.ensures.table (own_slot kind limits (λ kind. tables_of kind all)) in
     (search rules, subst (λ s. ReadsDocument c.args.text.now s c.in_ok-draft.after.now) (sym (c.in_ok-push.ensures limits)) added)

@@ -6,7 +6,14 @@ use Rattle.tsn_setup.proofs.Turning.{entries_begun, entries_ended, entries_more}
 use Rattle.tsn_setup.proofs.plain_entries.entries.Goals as goal
 
 pub entries-init : goal.entries-init
-entries-init g c = (search rules, (le_refl _, subst (λ l. EntriesSoFar g.E.PlainEntry.shape c.args.text.now l c.args.text.now) (sym c.new-list.ensures) (entries_begun g.E.PlainEntry.shape c.args.text.now)))
+entries-init g c = (
+  search rules,
+  (
+    le_refl _,
+    subst (λ l. EntriesSoFar g.E.PlainEntry.shape c.args.text.now l c.args.text.now) (sym c.new-list.ensures)
+        (entries_begun g.E.PlainEntry.shape c.args.text.now),
+  ),
+)
 
 pub returns-then-first-eq93-clause-value : goal.returns-then-first-eq93-clause-value
 returns-then-first-eq93-clause-value g c =
@@ -24,12 +31,19 @@ entries-preserved g c =
     let no_array : (first (skip_blank rest) == 91) ≡ false = grind (arith, common_steps) in
     let opens : (first (skip_blank rest) == 123) ≡ true = grind (arith, common_steps) in
     let behind : c.skip-in-entries.result.now ≡ drop 1 (skip_blank rest) = rw start_is at c.skip-in-entries.ensures.rest in
-    let inside : length (drop 1 (skip_blank rest)) < length (skip_blank rest) = rw (behind, start_is) at c.skip-in-entries.ensures.shorter in
+    let inside : length (drop 1 (skip_blank rest)) < length (skip_blank rest) = rw (behind, start_is) at
+    c.skip-in-entries.ensures.shorter in
     let read = rw behind at c.in_ok-entry.ensures.value in
     let before = c.skip_blank-start.ensures.within in
     let shorter = c.in_ok-entry.ensures.shorter in
     let within = c.in_ok-rest.ensures.within in
     let inner = c.skip-in-entries.ensures.shorter in
     let next = c.in_ok-rest.rest.now in
-    let more = entries_more g.E.PlainEntry.shape c.args.text.now c.entries.list c.in_ok-entry.entry rest c.in_ok-entry.after.now next c.entries.invariant.1.1 goes no_array opens inside read c.in_ok-rest.ensures.value (omega arith) in
-    (search rules, (omega (arith, c.entries.invariant.1.0), subst (λ l. EntriesSoFar g.E.PlainEntry.shape c.args.text.now l next) (sym c.in-Ok.ensures.ok) more))
+    let more = entries_more g.E.PlainEntry.shape c.args.text.now c.entries.list c.in_ok-entry.entry rest c.in_ok-entry.after.now next
+    c.entries.invariant.1.1 goes no_array opens inside read c.in_ok-rest.ensures.value (omega arith) in (
+      search rules,
+      (
+        omega (arith, c.entries.invariant.1.0),
+        subst (λ l. EntriesSoFar g.E.PlainEntry.shape c.args.text.now l next) (sym c.in-Ok.ensures.ok) more,
+      ),
+    )

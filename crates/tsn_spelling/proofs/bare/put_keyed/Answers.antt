@@ -5,4 +5,6 @@ use Rattle.tsn_spelling.proofs.Shapes.{keyed_line}
 use Rattle.tsn_spelling.proofs.bare.put_keyed.Goals as goal
 
 pub returns-clause-ok : goal.returns-clause-ok
-returns-clause-ok c = on_ok_weaker c.hand_on.result (whole_line _ _ _ _ (keyed_line c.args.word.now c.args.session (key_text c.args.key) _ _ _ _ c.requires.empty c.push_word.ensures.text c.push_key_text.ensures.text c.push_session.ensures)) c.hand_on.ensures.ok
+returns-clause-ok c = on_ok_weaker c.hand_on.result
+    (whole_line _ _ _ _ (keyed_line c.args.word.now c.args.session (key_text c.args.key) _ _ _ _ c.requires.empty c.push_word.ensures.text
+    c.push_key_text.ensures.text c.push_session.ensures)) c.hand_on.ensures.ok

@@ -5,4 +5,6 @@ use Rattle.tsn_spelling.proofs.Shapes.{states_line}
 use Rattle.tsn_spelling.proofs.bare.put_states.Goals as goal
 
 pub returns-clause-ok : goal.returns-clause-ok
-returns-clause-ok c = on_ok_weaker c.hand_on.result (whole_line _ _ _ _ (states_line c.args.session (key_text c.args.key) c.args.at _ _ _ _ c.requires (rw c.get.ensures.same at c.push_number.ensures.text) c.push_key_text.ensures.text c.push_session.ensures)) c.hand_on.ensures.ok
+returns-clause-ok c = on_ok_weaker c.hand_on.result
+    (whole_line _ _ _ _ (states_line c.args.session (key_text c.args.key) c.args.at _ _ _ _ c.requires
+    (rw c.get.ensures.same at c.push_number.ensures.text) c.push_key_text.ensures.text c.push_session.ensures)) c.hand_on.ensures.ok

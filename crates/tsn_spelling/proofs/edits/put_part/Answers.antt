@@ -3,4 +3,5 @@ use Rattle.tsn_spelling.proofs.Changes.{part_pieces}
 use Rattle.tsn_spelling.proofs.edits.put_part.Goals as goal
 
 pub returns-clause-ok : goal.returns-clause-ok
-returns-clause-ok c = part_pieces c.args.word.now c.args.key (record_data c.args.value.now) _ _ _ _ _ c.in_ok-put_change.ensures.ok c.push.ensures.text
+returns-clause-ok c =
+    part_pieces c.args.word.now c.args.key (record_data c.args.value.now) _ _ _ _ _ c.in_ok-put_change.ensures.ok c.push.ensures.text

@@ -15,7 +15,8 @@ loop-tree-preserved-then-least-from c =
     let is = around before _ left least more right (ap numbers_of c.in-Fork.is) in
     rw (c.more-before.ensures, c.deref-then-least-from.ensures, c.deref-then-least-from-2.ensures) (record {
       rising = (rising_back (before ++ left) (least ∷ (more ++ right)) (subst IsRising is c.loop-tree.invariant.rising)).1;
-      same = finds_right c.args.from least _ (before ++ left) (more ++ right) c.loop-tree.above _ is (rw (c.least.ensures, c.deref.ensures) at c.if-least-from.true) c.loop-tree.invariant.rising c.loop-tree.invariant.same;
+      same = finds_right c.args.from least _ (before ++ left) (more ++ right) c.loop-tree.above _ is
+          (rw (c.least.ensures, c.deref.ensures) at c.if-least-from.true) c.loop-tree.invariant.rising c.loop-tree.invariant.same;
     })
 
 pub loop-tree-preserved : goal.loop-tree-preserved
@@ -29,5 +30,6 @@ loop-tree-preserved c =
     let is = around before _ left least more right (ap numbers_of c.in-Fork.is) in
     rw (c.least-else-least-from.ensures, c.deref-else-least-from.ensures, c.deref-else-least-from-2.ensures) (record {
       rising = rising_front (before ++ left) (least ∷ (more ++ right)) (subst IsRising is c.loop-tree.invariant.rising);
-      same = finds_left c.args.from least _ (before ++ left) (more ++ right) c.loop-tree.above _ is (rw (c.least.ensures, c.deref.ensures) at c.if-least-from.false) c.loop-tree.invariant.same;
+      same = finds_left c.args.from least _ (before ++ left) (more ++ right) c.loop-tree.above _ is
+          (rw (c.least.ensures, c.deref.ensures) at c.if-least-from.false) c.loop-tree.invariant.same;
     })

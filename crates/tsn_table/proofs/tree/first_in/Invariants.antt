@@ -8,5 +8,6 @@ use Rattle.tsn_table.proofs.tree.first_in.Given as goal
 abbrev pub invariant-loop-tree : goal.invariant-loop-tree
 invariant-loop-tree l = record {
   rising : IsRising (l.before ++ numbers_of l.tree);
-  same : option_or (first_from l.from (l.before ++ numbers_of l.tree)) l.above ≡ option_or (first_from l.fn.from (numbers_of l.fn.tree)) l.fn.above;
+  same : option_or (first_from l.from (l.before ++ numbers_of l.tree)) l.above ≡ option_or (first_from l.fn.from (numbers_of l.fn.tree))
+      l.fn.above;
 }

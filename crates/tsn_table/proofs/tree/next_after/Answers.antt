@@ -17,7 +17,8 @@ returns-clause-rising c =
 pub returns-clause-rest : goal.returns-clause-rest
 returns-clause-rest c =
     let node = c.args.node.now in
-    after_only c.args.id (numbers_of node.left) (numbers_in node.block) (numbers_of node.right) c.first_in.result c.requires.only c.requires.rising c.first_in.ensures
+    after_only c.args.id (numbers_of node.left) (numbers_in node.block) (numbers_of node.right) c.first_in.result c.requires.only
+    c.requires.rising c.first_in.ensures
 
 pub returns-clause-none : goal.returns-clause-none
 returns-clause-none c = empty_nodes c.args.node.now.right c.first_in.result c.first_in.ensures
@@ -25,7 +26,8 @@ returns-clause-none c = empty_nodes c.args.node.now.right c.first_in.result c.fi
 pub returns-clause-alone : goal.returns-clause-alone
 returns-clause-alone c =
     let node = c.args.node.now in
-    one_more (numbers_of node.left) (numbers_in node.block) (numbers_of node.right) c.args.id c.first_in.result c.requires.only c.first_in.ensures
+    one_more (numbers_of node.left) (numbers_in node.block) (numbers_of node.right) c.args.id c.first_in.result c.requires.only
+    c.first_in.ensures
 
 pub returns-clause-flat : goal.returns-clause-flat
 returns-clause-flat c = empty_height c.args.node.now.right c.first_in.result c.first_in.ensures

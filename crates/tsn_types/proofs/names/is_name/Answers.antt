@@ -9,4 +9,8 @@ pub returns-then-text-le-LONGEST_NAME : goal.returns-then-text-le-LONGEST_NAME
 returns-then-text-le-LONGEST_NAME c =
     let text = c.args.text.now in
     let control : c.has_control.result ≡ has_control 0 text = c.has_control.ensures ∙ ap (has_control 0) c.as_bytes.ensures.value in
-    ap not control ∙ sym (rw (is_utf8-from_IsUtf8 text c.utf8.text, le-leb 1 (length text) c.if-text-le-LONGEST_NAME.true.0, le-leb (length text) longest_name c.if-text-le-LONGEST_NAME.true.1) refl)
+    ap not control ∙ sym (rw (
+      is_utf8-from_IsUtf8 text c.utf8.text,
+      le-leb 1 (length text) c.if-text-le-LONGEST_NAME.true.0,
+      le-leb (length text) longest_name c.if-text-le-LONGEST_NAME.true.1,
+    ) refl)

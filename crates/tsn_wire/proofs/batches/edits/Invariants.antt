@@ -7,4 +7,5 @@ use Rattle.tsn_wire.specs.Commands.{edit_shape}
 use Rattle.tsn_wire.proofs.batches.edits.Given as goal
 
 abbrev pub invariant-values : goal.invariant-values
-invariant-values l = with_front l.edits.items (each edit_shape (items_list (items_view (drop l.value-index l.values)))) ≡ each edit_shape (items_list (items_view l.values))
+invariant-values l = with_front l.edits.items (each edit_shape (items_list (items_view (drop l.value-index l.values)))) ≡ each edit_shape
+    (items_list (items_view l.values))

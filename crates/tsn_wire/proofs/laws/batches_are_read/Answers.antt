@@ -23,15 +23,18 @@ unfolding serde_json_on_literals is_utf8 chars line_shape command_shape batch_sh
 returns-clause-too_many c = refl
 
 pub returns-clause-twice : goal.returns-clause-twice
-unfolding serde_json_on_literals is_utf8 chars line_shape command_shape batch_shape edit_shape keyed_record gate_shape schedule_shape list_shape removed_key
+unfolding serde_json_on_literals is_utf8 chars line_shape command_shape batch_shape edit_shape keyed_record gate_shape schedule_shape
+    list_shape removed_key
 returns-clause-twice c = refl
 
 pub returns-clause-order : goal.returns-clause-order
-unfolding serde_json_on_literals is_utf8 chars line_shape command_shape batch_shape edit_shape keyed_record gate_shape schedule_shape list_shape removed_key gate schedule
+unfolding serde_json_on_literals is_utf8 chars line_shape command_shape batch_shape edit_shape keyed_record gate_shape schedule_shape
+    list_shape removed_key gate schedule
 returns-clause-order c = refl
 
 pub returns-clause-key : goal.returns-clause-key
-unfolding serde_json_on_literals is_utf8 chars line_shape command_shape batch_shape edit_shape keyed_record gate_shape schedule_shape list_shape removed_key
+unfolding serde_json_on_literals is_utf8 chars line_shape command_shape batch_shape edit_shape keyed_record gate_shape schedule_shape
+    list_shape removed_key
 returns-clause-key c = refl
 
 pub returns-clause-port : goal.returns-clause-port

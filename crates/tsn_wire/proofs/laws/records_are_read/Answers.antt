@@ -15,15 +15,18 @@ unfolding serde_json_on_literals is_utf8 chars line_shape command_shape create_s
 returns-clause-meter c = refl
 
 pub returns-clause-gate : goal.returns-clause-gate
-unfolding serde_json_on_literals is_utf8 chars line_shape command_shape create_shape keyed_record gate_shape schedule_shape list_shape gate_entry_shape gate schedule gate_entry
+unfolding serde_json_on_literals is_utf8 chars line_shape command_shape create_shape keyed_record gate_shape schedule_shape list_shape
+    gate_entry_shape gate schedule gate_entry
 returns-clause-gate c = refl
 
 pub returns-clause-port : goal.returns-clause-port
-unfolding serde_json_on_literals is_utf8 chars line_shape command_shape create_shape keyed_record port_shape schedule_shape list_shape port_entry_shape port schedule port_entry
+unfolding serde_json_on_literals is_utf8 chars line_shape command_shape create_shape keyed_record port_shape schedule_shape list_shape
+    port_entry_shape port schedule port_entry
 returns-clause-port c = refl
 
 pub returns-clause-cycle : goal.returns-clause-cycle
-unfolding serde_json_on_literals is_utf8 chars line_shape command_shape create_shape keyed_record gate_shape schedule_shape list_shape gate schedule
+unfolding serde_json_on_literals is_utf8 chars line_shape command_shape create_shape keyed_record gate_shape schedule_shape list_shape gate
+    schedule
 returns-clause-cycle c = refl
 
 pub returns-clause-order : goal.returns-clause-order

@@ -10,4 +10,5 @@ returns-in-Ok c =
     inl (sym (ap or_syntax (data_of_read c.args.line.now (view c.in-Ok.value) read.0 read.1)))
 
 pub returns-in-Err-2 : goal.returns-in-Err-2
-returns-in-Err-2 c = inl (sym (ap or_syntax (data_of_refused c.args.line.now (c.in-Err.ensures.err (λ m. let t : false ≡ true = c.if-is_memory.ensures.1 m in cc)))))
+returns-in-Err-2 c = inl (sym (ap or_syntax
+    (data_of_refused c.args.line.now (c.in-Err.ensures.err (λ m. let t : false ≡ true = c.if-is_memory.ensures.1 m in cc)))))

@@ -15,10 +15,14 @@ entries-init g c = no_entry g.E.SpelledEntry.value _ _ _ c.new-list.ensures refl
 pub returns-then-mark-2 : goal.returns-then-mark-2
 returns-then-mark-2 g c =
     let begin = c.in_ok-passed.ensures ∙ ap (λ l. Lex.token Token.begin_array ∷ l) (sym (c.mark.ensures.kept c.if-mark.false)) in
-    subst (λ (l : List g.row.E.Denot). ReadsValue 2 (lexed c.args.text.now) (list_array g.E.SpelledEntry.value l) (lexed c.mark-in-entries.new.self)) (sym c.in-Ok.ensures.ok)
-    (all_listed g.E.SpelledEntry.value _ _ _ _ _ c.entries.list c.in_ok-entry.entry begin c.entries.invariant c.in_ok-entry.ensures (c.if-mark-2.ensures.took refl))
+    subst (λ (l : List g.row.E.Denot). ReadsValue 2 (lexed c.args.text.now) (list_array g.E.SpelledEntry.value l)
+    (lexed c.mark-in-entries.new.self)) (sym c.in-Ok.ensures.ok)
+    (all_listed g.E.SpelledEntry.value _ _ _ _ _ c.entries.list c.in_ok-entry.entry begin c.entries.invariant c.in_ok-entry.ensures
+    (c.if-mark-2.ensures.took refl))
 
 pub entries-preserved : goal.entries-preserved
 entries-preserved g c =
-    subst (λ (l : List g.row.E.Denot). Lists g.E.SpelledEntry.value (lexed c.mark.new.self) l (lexed c.passed-in-entries.new.text)) (sym c.in-Ok.ensures.ok)
-    (one_more g.E.SpelledEntry.value _ _ _ _ c.entries.list c.in_ok-entry.entry c.entries.invariant c.in_ok-entry.ensures (sym (c.mark-in-entries.ensures.kept c.if-mark-2.false) ∙ c.in_ok-passed-2.ensures))
+    subst (λ (l : List g.row.E.Denot). Lists g.E.SpelledEntry.value (lexed c.mark.new.self) l (lexed c.passed-in-entries.new.text))
+    (sym c.in-Ok.ensures.ok)
+    (one_more g.E.SpelledEntry.value _ _ _ _ c.entries.list c.in_ok-entry.entry c.entries.invariant c.in_ok-entry.ensures
+    (sym (c.mark-in-entries.ensures.kept c.if-mark-2.false) ∙ c.in_ok-passed-2.ensures))

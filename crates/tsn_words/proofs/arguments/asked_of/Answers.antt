@@ -10,19 +10,22 @@ pub states_of-requires : goal.states_of-requires
 states_of-requires c =
     let rows = rows_of (found_of c.in-Some.given.now) in
     let name = (bytes_eq-Decides c.in-Some.name.now (codes "states")).0 (sym c.eq.ensures ∙ c.if-eq.true) in
-    let given = named_rows _ (out-ArgMatches c.args.matches.now).subcommand c.in-Some.name.now rows c.in-Some.ensures.name c.in-Some.ensures.rows in
+    let given = named_rows _ (out-ArgMatches c.args.matches.now).subcommand c.in-Some.name.now rows c.in-Some.ensures.name
+    c.in-Some.ensures.rows in
     states_given rows (subst IsComplete (given ∙ ap (λ n. Some (n, rows)) name) c.requires)
 
 pub serve_of-requires : goal.serve_of-requires
 serve_of-requires c =
     let rows = rows_of (found_of c.in-Some.given.now) in
     let name = (bytes_eq-Decides c.in-Some.name.now (codes "serve")).0 (sym c.eq-else-eq.ensures ∙ c.if-eq-2.true) in
-    let given = named_rows _ (out-ArgMatches c.args.matches.now).subcommand c.in-Some.name.now rows c.in-Some.ensures.name c.in-Some.ensures.rows in
+    let given = named_rows _ (out-ArgMatches c.args.matches.now).subcommand c.in-Some.name.now rows c.in-Some.ensures.name
+    c.in-Some.ensures.rows in
     serve_given rows (subst IsComplete (given ∙ ap (λ n. Some (n, rows)) name) c.requires)
 
 pub journal_of-requires : goal.journal_of-requires
 journal_of-requires c =
     let rows = rows_of (found_of c.in-Some.given.now) in
     let name = (bytes_eq-Decides c.in-Some.name.now (codes "journal")).0 (sym c.eq-else-eq-3.ensures ∙ c.if-eq-4.true) in
-    let given = named_rows _ (out-ArgMatches c.args.matches.now).subcommand c.in-Some.name.now rows c.in-Some.ensures.name c.in-Some.ensures.rows in
+    let given = named_rows _ (out-ArgMatches c.args.matches.now).subcommand c.in-Some.name.now rows c.in-Some.ensures.name
+    c.in-Some.ensures.rows in
     journal_given rows (subst IsComplete (given ∙ ap (λ n. Some (n, rows)) name) c.requires)

@@ -7,4 +7,5 @@ pub returns : goal.returns
 returns c =
     let begun : app_of c.after_help.result ≡ new_app (codes "check") = search rules in
     let first = c.in_ok-arg.ensures.shape c.setup_file-file.ensures.local ∙ ap₂ with_rule begun c.setup_file-file.ensures.rule in
-    IfOk-weaker c.arg-2.result _ _ (λ r h. h.shape c.flag-lines.ensures.local ∙ ap₂ with_rule first c.flag-lines.ensures.rule) c.arg-2.ensures
+    IfOk-weaker c.arg-2.result _ _ (λ r h. h.shape c.flag-lines.ensures.local ∙ ap₂ with_rule first c.flag-lines.ensures.rule)
+    c.arg-2.ensures

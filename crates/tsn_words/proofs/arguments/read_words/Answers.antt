@@ -14,4 +14,5 @@ pub returns-in-Ok-clause-script : goal.returns-in-Ok-clause-script
 returns-in-Ok-clause-script c name is =
     let same = some_same _ c.args.words c.in-Some.words _ c.in-Some.is is in
     mapped c.asked_of.result c.map_err.result IsWork _ c.map_err.ensures.cases c.map_err.ensures.variant
-    (IfOk-weaker c.asked_of.result _ _ (λ asked h. script_works name (map string_bytes c.in-Some.words.now) _ asked c.in-Ok.ensures.given same h) c.asked_of.ensures.asked)
+    (IfOk-weaker c.asked_of.result _ _
+    (λ asked h. script_works name (map string_bytes c.in-Some.words.now) _ asked c.in-Ok.ensures.given same h) c.asked_of.ensures.asked)

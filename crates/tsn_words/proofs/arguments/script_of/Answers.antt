@@ -9,7 +9,8 @@ pub returns-in-Ok-clause-asked : goal.returns-in-Ok-clause-asked
 returns-in-Ok-clause-asked c = record {
   named = refl;
   setup = given_in_rows (codes "script") (found_of c.args.given.now) (codes "FILE") _ c.in_ok-setup.ensures;
-  journal = kept_in_rows (codes "script") (found_of c.args.given.now) c.in-Ok.kept (subst (KeepsOrRefuses _ _) c.in-Ok.is c.in_ok-kept.ensures);
+  journal =
+      kept_in_rows (codes "script") (found_of c.args.given.now) c.in-Ok.kept (subst (KeepsOrRefuses _ _) c.in-Ok.is c.in_ok-kept.ensures);
 }
 
 pub returns-in-Err-clause-asked : goal.returns-in-Err-clause-asked

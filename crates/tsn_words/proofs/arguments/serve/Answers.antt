@@ -8,9 +8,12 @@ returns c =
     let begun : app_of c.after_help.result ≡ new_app (codes "serve") = search rules in
     let first = c.in_ok-arg.ensures.shape c.setup_file-file.ensures.local ∙ ap₂ with_rule begun c.setup_file-file.ensures.rule in
     let second = c.in_ok-arg-2.ensures.shape c.place-listen.ensures.local ∙ ap₂ with_rule first c.place-listen.ensures.rule in
-    let third = c.in_ok-arg-3.ensures.shape c.number_or_none-workers.ensures.local ∙ ap₂ with_rule second c.number_or_none-workers.ensures.rule in
-    let fourth = c.in_ok-arg-4.ensures.shape c.number_or_none-connections.ensures.local ∙ ap₂ with_rule third c.number_or_none-connections.ensures.rule in
-    let fifth = c.in_ok-arg-5.ensures.shape c.number_or_none-probe.ensures.local ∙ ap₂ with_rule fourth c.number_or_none-probe.ensures.rule in
+    let third = c.in_ok-arg-3.ensures.shape c.number_or_none-workers.ensures.local
+    ∙ ap₂ with_rule second c.number_or_none-workers.ensures.rule in
+    let fourth = c.in_ok-arg-4.ensures.shape c.number_or_none-connections.ensures.local
+    ∙ ap₂ with_rule third c.number_or_none-connections.ensures.rule in
+    let fifth = c.in_ok-arg-5.ensures.shape c.number_or_none-probe.ensures.local
+    ∙ ap₂ with_rule fourth c.number_or_none-probe.ensures.rule in
     let sixth = c.in_ok-arg-6.ensures.shape c.number_or_none-idle.ensures.local ∙ ap₂ with_rule fifth c.number_or_none-idle.ensures.rule in
     let seventh = c.in_ok-arg-7.ensures.shape c.kept.ensures.local ∙ ap₂ with_rule sixth c.kept.ensures.rule in
     let eighth = c.in_ok-arg-8.ensures.shape c.syncs.ensures.local ∙ ap₂ with_rule seventh c.syncs.ensures.rule in

@@ -11,7 +11,8 @@ returns-in-Ok-clause-asked c = record {
   setup = given_in_rows (codes "serve") (found_of c.args.given.now) (codes "FILE") _ c.in_ok-file.ensures;
   place = ap place_of (given_in_rows (codes "serve") (found_of c.args.given.now) (codes "listen") _ refl) ∙ c.in_ok-listen.ensures;
   serving = c.given_in-serving.ensures;
-  journal = kept_in_rows (codes "serve") (found_of c.args.given.now) c.in-Ok.kept (subst (KeepsOrRefuses _ _) c.in-Ok.is c.in_ok-kept.ensures);
+  journal =
+      kept_in_rows (codes "serve") (found_of c.args.given.now) c.in-Ok.kept (subst (KeepsOrRefuses _ _) c.in-Ok.is c.in_ok-kept.ensures);
 }
 
 pub returns-in-Err-clause-asked : goal.returns-in-Err-clause-asked

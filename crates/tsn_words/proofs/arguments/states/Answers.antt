@@ -10,4 +10,5 @@ returns c =
     let second = c.in_ok-arg-2.ensures.shape c.number-port.ensures.local ∙ ap₂ with_rule first c.number-port.ensures.rule in
     let third = c.in_ok-arg-3.ensures.shape c.number-from.ensures.local ∙ ap₂ with_rule second c.number-from.ensures.rule in
     let fourth = c.in_ok-arg-4.ensures.shape c.number-step.ensures.local ∙ ap₂ with_rule third c.number-step.ensures.rule in
-    IfOk-weaker c.arg-5.result _ _ (λ r h. h.shape c.number-count.ensures.local ∙ ap₂ with_rule fourth c.number-count.ensures.rule) c.arg-5.ensures
+    IfOk-weaker c.arg-5.result _ _ (λ r h. h.shape c.number-count.ensures.local ∙ ap₂ with_rule fourth c.number-count.ensures.rule)
+    c.arg-5.ensures

@@ -18,20 +18,26 @@ act-requires-clause-list c =
     let i = c.self.inside in
     let view = ap (λ (p : PairState). seen p i.sessions) c.deref_mut.ensures.value ∙ c.self.view_is in
     let key = c.args.key.now in
-    (there_list (seen c.deref_mut.result.now i.sessions) c.args.session key (ap (λ (s : State). first_cause (list_causes s c.args.session key [])) view ∙ sym c.in_default.ensures)).0
+    (there_list (seen c.deref_mut.result.now i.sessions) c.args.session key
+    (ap (λ (s : State). first_cause (list_causes s c.args.session key [])) view ∙ sym c.in_default.ensures)).0
 
 pub act-requires-clause-there : goal.act-requires-clause-there
 act-requires-clause-there c =
     let i = c.self.inside in
     let view = ap (λ (p : PairState). seen p i.sessions) c.deref_mut.ensures.value ∙ c.self.view_is in
     let key = c.args.key.now in
-    (there_list (seen c.deref_mut.result.now i.sessions) c.args.session key (ap (λ (s : State). first_cause (list_causes s c.args.session key [])) view ∙ sym c.in_default.ensures)).1
+    (there_list (seen c.deref_mut.result.now i.sessions) c.args.session key
+    (ap (λ (s : State). first_cause (list_causes s c.args.session key [])) view ∙ sym c.in_default.ensures)).1
 
 pub returns : goal.returns
 returns c =
     let i = c.self.inside in
     let view = ap (λ (p : PairState). seen p i.sessions) c.deref_mut.ensures.value ∙ c.self.view_is in
     elim c.match-act.branch [
-      | in-Ok w ↦ rw w.result-is (act_done c.deref_mut.result.now c.act.new.self i.sessions c.args.session c.args.act c.args.key.now c.args.now c.args.self.now view (sym c.in_default.ensures) w.in-Ok.done.change w.in-Ok.done.entry w.in-Ok.done.now (ap (λ (d : Done). d.change) w.in-Ok.ensures.done) (ap (λ (d : Done). d.entry) w.in-Ok.ensures.done) (ap (λ (d : Done). d.now) w.in-Ok.ensures.done) w.in-Ok.ensures.free w.in-Ok.ensures.after)
-      | in-Err w ↦ rw w.result-is (act_refused c.deref_mut.result.now c.act.new.self i.sessions c.args.session c.args.act c.args.key.now c.args.now c.args.self.now view (sym c.in_default.ensures) w.in-Err.why w.in-Err.ensures.refused w.in-Err.ensures.unchanged)
+      | in-Ok w ↦ rw w.result-is (act_done c.deref_mut.result.now c.act.new.self i.sessions c.args.session c.args.act c.args.key.now
+          c.args.now c.args.self.now view (sym c.in_default.ensures) w.in-Ok.done.change w.in-Ok.done.entry w.in-Ok.done.now
+          (ap (λ (d : Done). d.change) w.in-Ok.ensures.done) (ap (λ (d : Done). d.entry) w.in-Ok.ensures.done)
+          (ap (λ (d : Done). d.now) w.in-Ok.ensures.done) w.in-Ok.ensures.free w.in-Ok.ensures.after)
+      | in-Err w ↦ rw w.result-is (act_refused c.deref_mut.result.now c.act.new.self i.sessions c.args.session c.args.act c.args.key.now
+          c.args.now c.args.self.now view (sym c.in_default.ensures) w.in-Err.why w.in-Err.ensures.refused w.in-Err.ensures.unchanged)
     ]

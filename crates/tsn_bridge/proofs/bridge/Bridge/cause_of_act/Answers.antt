@@ -12,4 +12,5 @@ returns c =
     let i = c.self.inside in
     let p = c.deref.result.now in
     let view = ap (λ (q : PairState). seen q i.sessions) c.deref.ensures ∙ c.self.view_is in
-    c.cause_of_act.ensures ∙ sym (least_act p p i.sessions c.args.session c.args.act c.args.key.now 0 c.args.self.now view (sym c.in_default.ensures))
+    c.cause_of_act.ensures ∙ sym (least_act p p i.sessions c.args.session c.args.act c.args.key.now 0 c.args.self.now view
+    (sym c.in_default.ensures))

@@ -16,10 +16,12 @@ counters-requires c =
     let i = c.self.inside in
     let view = ap (λ (p : PairState). seen p i.sessions) c.deref.ensures ∙ c.self.view_is in
     let key = c.args.key.now in
-    there_key (seen c.deref.result.now i.sessions) c.args.session key (ap (λ (s : State). first_cause (key_causes s c.args.session key [])) view ∙ sym c.in_default.ensures)
+    there_key (seen c.deref.result.now i.sessions) c.args.session key
+    (ap (λ (s : State). first_cause (key_causes s c.args.session key [])) view ∙ sym c.in_default.ensures)
 
 pub returns : goal.returns
 returns c =
     let i = c.self.inside in
     let view = ap (λ (p : PairState). seen p i.sessions) c.deref.ensures ∙ c.self.view_is in
-    counters_step c.deref.result.now i.sessions c.args.session c.args.key.now c.args.self.now view c.counters.result (sym c.in_default.ensures) c.counters.ensures
+    counters_step c.deref.result.now i.sessions c.args.session c.args.key.now c.args.self.now view c.counters.result
+    (sym c.in_default.ensures) c.counters.ensures

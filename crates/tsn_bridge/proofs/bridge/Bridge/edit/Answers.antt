@@ -11,6 +11,8 @@ returns c =
     let view = ap (λ (p : PairState). seen p i.sessions) c.deref_mut.ensures.value ∙ c.self.view_is in
     let known : is_given c.args.self.now c.args.session ≡ true = sym c.if-not-is_given.ensures in
     elim c.match-edit.branch [
-      | in-Ok w ↦ rw w.result-is (edit_step c.deref_mut.result.now c.edit.new.self i.sessions c.args.self.now c.args.session c.args.batch view known w.in-Ok.entry w.in-Ok.ensures.made w.in-Ok.ensures.follows)
-      | in-Err w ↦ rw w.result-is (edit_refused c.deref_mut.result.now c.edit.new.self i.sessions c.args.self.now c.args.session c.args.batch view known w.in-Err.why w.in-Err.ensures.refused w.in-Err.ensures.unchanged)
+      | in-Ok w ↦ rw w.result-is (edit_step c.deref_mut.result.now c.edit.new.self i.sessions c.args.self.now c.args.session c.args.batch
+          view known w.in-Ok.entry w.in-Ok.ensures.made w.in-Ok.ensures.follows)
+      | in-Err w ↦ rw w.result-is (edit_refused c.deref_mut.result.now c.edit.new.self i.sessions c.args.self.now c.args.session
+          c.args.batch view known w.in-Err.why w.in-Err.ensures.refused w.in-Err.ensures.unchanged)
     ]

@@ -8,4 +8,5 @@ pub returns : goal.returns
 returns c =
     let i = c.self.inside in
     let view = ap (λ (p : PairState). seen p i.sessions) c.deref_mut.ensures.value ∙ c.self.view_is in
-    framed_step c.deref_mut.result.now c.frame.new.self i.sessions c.args.self.now c.args.session c.args.frame c.args.now c.frame.result view (sym c.if-not-is_given.ensures) c.frame.ensures.ledger c.frame.ensures.time c.frame.ensures.framed
+    framed_step c.deref_mut.result.now c.frame.new.self i.sessions c.args.self.now c.args.session c.args.frame c.args.now c.frame.result
+    view (sym c.if-not-is_given.ensures) c.frame.ensures.ledger c.frame.ensures.time c.frame.ensures.framed

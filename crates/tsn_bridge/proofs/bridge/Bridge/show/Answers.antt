@@ -12,6 +12,9 @@ pub returns-in-Err : goal.returns-in-Err
 returns-in-Err c =
     let s = c.args.self.now in
     let k = c.args.key.now in
-    let holds : holds_key s.book.limits k ≡ true = ap (λ (l : Limits). holds_key l k) (sym c.config.ensures.limits ∙ sym c.limits.ensures.limits) ∙ sym c.if-not-holds.ensures in
-    let stands : get (present s.book) k ≡ Some (lent_record c.in-Some.found) = ap (λ (m : Configuration). get m k) (sym c.config-2.ensures.map) ∙ sym c.in-Some.ensures in
-    show_refused s c.args.session k (lent_record c.in-Some.found) c.config.ensures.kept holds (sym c.if-not-is_given.ensures) stands c.in-Err.ensures.memory
+    let holds : holds_key s.book.limits k ≡ true = ap (λ (l : Limits). holds_key l k)
+    (sym c.config.ensures.limits ∙ sym c.limits.ensures.limits) ∙ sym c.if-not-holds.ensures in
+    let stands : get (present s.book) k ≡ Some (lent_record c.in-Some.found) = ap (λ (m : Configuration). get m k)
+    (sym c.config-2.ensures.map) ∙ sym c.in-Some.ensures in
+    show_refused s c.args.session k (lent_record c.in-Some.found) c.config.ensures.kept holds (sym c.if-not-is_given.ensures) stands
+    c.in-Err.ensures.memory

@@ -16,23 +16,27 @@ states_at-requires-clause-list c =
     let i = c.self.inside in
     let view = ap (λ (p : PairState). seen p i.sessions) c.deref.ensures ∙ c.self.view_is in
     let key = c.args.key.now in
-    (there_list (seen c.deref.result.now i.sessions) c.args.session key (ap (λ (s : State). first_cause (list_causes s c.args.session key [])) view ∙ sym c.in_default.ensures)).0
+    (there_list (seen c.deref.result.now i.sessions) c.args.session key
+    (ap (λ (s : State). first_cause (list_causes s c.args.session key [])) view ∙ sym c.in_default.ensures)).0
 
 pub states_at-requires-clause-there : goal.states_at-requires-clause-there
 states_at-requires-clause-there c =
     let i = c.self.inside in
     let view = ap (λ (p : PairState). seen p i.sessions) c.deref.ensures ∙ c.self.view_is in
     let key = c.args.key.now in
-    (there_list (seen c.deref.result.now i.sessions) c.args.session key (ap (λ (s : State). first_cause (list_causes s c.args.session key [])) view ∙ sym c.in_default.ensures)).1
+    (there_list (seen c.deref.result.now i.sessions) c.args.session key
+    (ap (λ (s : State). first_cause (list_causes s c.args.session key [])) view ∙ sym c.in_default.ensures)).1
 
 pub returns-in-Ok : goal.returns-in-Ok
 returns-in-Ok c =
     let i = c.self.inside in
     let view = ap (λ (p : PairState). seen p i.sessions) c.deref.ensures ∙ c.self.view_is in
-    states_step c.deref.result.now i.sessions c.args.session c.args.key.now c.args.self.now view c.args.at c.in-Ok.state (sym c.in_default.ensures) c.in-Ok.ensures.0 c.in-Ok.ensures.1
+    states_step c.deref.result.now i.sessions c.args.session c.args.key.now c.args.self.now view c.args.at c.in-Ok.state
+    (sym c.in_default.ensures) c.in-Ok.ensures.0 c.in-Ok.ensures.1
 
 pub returns-in-Err : goal.returns-in-Err
 returns-in-Err c =
     let i = c.self.inside in
     let view = ap (λ (p : PairState). seen p i.sessions) c.deref.ensures ∙ c.self.view_is in
-    states_past c.deref.result.now i.sessions c.args.session c.args.key.now c.args.self.now view c.args.at (sym c.in_default.ensures) c.in-Err.ensures
+    states_past c.deref.result.now i.sessions c.args.session c.args.key.now c.args.self.now view c.args.at (sym c.in_default.ensures)
+    c.in-Err.ensures

@@ -14,10 +14,12 @@ pub returns-in-Replace : goal.returns-in-Replace
 returns-in-Replace c =
     let s = c.args.self.now in
     subst (λ command. Step s c.args.session command c.edit-in-Replace.result c.edit-in-Replace.new.self) (sym c.in-Replace.is)
-    (subst (λ batch. Allows (edit_rule s c.args.session batch) s c.edit-in-Replace.result c.edit-in-Replace.new.self) c.one-in-Replace.ensures c.edit-in-Replace.ensures)
+    (subst (λ batch. Allows (edit_rule s c.args.session batch) s c.edit-in-Replace.result c.edit-in-Replace.new.self)
+    c.one-in-Replace.ensures c.edit-in-Replace.ensures)
 
 pub returns-in-Remove : goal.returns-in-Remove
 returns-in-Remove c =
     let s = c.args.self.now in
     subst (λ command. Step s c.args.session command c.edit-in-Remove.result c.edit-in-Remove.new.self) (sym c.in-Remove.is)
-    (subst (λ batch. Allows (edit_rule s c.args.session batch) s c.edit-in-Remove.result c.edit-in-Remove.new.self) c.one-in-Remove.ensures c.edit-in-Remove.ensures)
+    (subst (λ batch. Allows (edit_rule s c.args.session batch) s c.edit-in-Remove.result c.edit-in-Remove.new.self) c.one-in-Remove.ensures
+    c.edit-in-Remove.ensures)

@@ -13,4 +13,6 @@ returns c =
     let b = i.book.ledger in
     let key = c.args.key.now in
     let there = ap (λ (p : PairState). is_some (get (present p.ledger) key)) c.self.view_is ∙ c.requires in
-    subst (λ (p : PairState). counted_at p.ledger p.frames p.time key ≡ Some c.counters.result) c.self.view_is (sym (counted_told b i.runtime c.self.invariant key i.runtime.time c.counters.result (data_of b i.runtime c.self.invariant key there) c.counters.ensures))
+    subst (λ (p : PairState). counted_at p.ledger p.frames p.time key ≡ Some c.counters.result) c.self.view_is
+    (sym (counted_told b i.runtime c.self.invariant key i.runtime.time c.counters.result
+    (data_of b i.runtime c.self.invariant key there) c.counters.ensures))

@@ -15,8 +15,10 @@ invariant_of-self-2 c =
     let is = c.in_ok-number.ensures.ok in
     let x = is.redoable.undone in
     let e = inverse x.change in
-    let f = follows_entry i.runtime c.reserve.new.self c.follow.new.runtime c.reserve.ensures.runners c.reserve.ensures.frames c.reserve.ensures.time c.follow.ensures.time
-    b c.redo.new.self.ledger c.args.session (redone x) e c.in_ok-number.number c.journal.result.now.entries refl c.journal.ensures.sound.numbered c.journal.ensures.entries is.after is.number_is c.follow.ensures.runners c.follow.ensures.frames in
+    let f = follows_entry i.runtime c.reserve.new.self c.follow.new.runtime c.reserve.ensures.runners c.reserve.ensures.frames
+    c.reserve.ensures.time c.follow.ensures.time
+    b c.redo.new.self.ledger c.args.session (redone x) e c.in_ok-number.number c.journal.result.now.entries refl
+    c.journal.ensures.sound.numbered c.journal.ensures.entries is.after is.number_is c.follow.ensures.runners c.follow.ensures.frames in
     tied_entry b c.redo.new.self.ledger c.args.session (redone x) e i.runtime c.follow.new.runtime refl f is.redoable.fits c.self.invariant
 
 pub returns-clause-made : goal.returns-clause-made
@@ -26,7 +28,11 @@ returns-clause-made c =
     let is = c.in_ok-number.ensures.ok in
     let x = is.redoable.undone in
     let e = inverse x.change in
-    let f = follows_entry i.runtime c.reserve.new.self c.follow.new.runtime c.reserve.ensures.runners c.reserve.ensures.frames c.reserve.ensures.time c.follow.ensures.time
-    b c.redo.new.self.ledger c.args.session (redone x) e c.in_ok-number.number c.journal.result.now.entries refl c.journal.ensures.sound.numbered c.journal.ensures.entries is.after is.number_is c.follow.ensures.runners c.follow.ensures.frames in
-    let new : PairState = record { ledger = c.redo.new.self.ledger; time = c.follow.new.runtime.time; frames = c.follow.new.runtime.frames } in
-    subst (λ (p : PairState). (is : Redoes p.ledger c.args.session c.in_ok-number.number c.in_ok-number.of new.ledger) × Follows p (inverse is.redoable.undone.change) new) c.self.view_is (is, record { frames = f.frames; time = f.time })
+    let f = follows_entry i.runtime c.reserve.new.self c.follow.new.runtime c.reserve.ensures.runners c.reserve.ensures.frames
+    c.reserve.ensures.time c.follow.ensures.time
+    b c.redo.new.self.ledger c.args.session (redone x) e c.in_ok-number.number c.journal.result.now.entries refl
+    c.journal.ensures.sound.numbered c.journal.ensures.entries is.after is.number_is c.follow.ensures.runners c.follow.ensures.frames in
+    let new : PairState = record { ledger = c.redo.new.self.ledger; time = c.follow.new.runtime.time; frames = c.follow.new.runtime.frames }
+    in
+    subst (λ (p : PairState). (is : Redoes p.ledger c.args.session c.in_ok-number.number c.in_ok-number.of new.ledger)
+    × Follows p (inverse is.redoable.undone.change) new) c.self.view_is (is, record { frames = f.frames; time = f.time })

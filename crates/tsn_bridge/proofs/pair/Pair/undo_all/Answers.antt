@@ -13,27 +13,37 @@ invariant_of-self-2 c =
     let i = c.self.inside in
     let b = i.book.ledger in
     let s = c.args.session in
-    let f = follows_each i.runtime c.reserve.new.self c.follow_each.new.runtime c.reserve.ensures.runners c.reserve.ensures.frames c.reserve.ensures.time c.follow_each.ensures.time
-    b.entries s c.len-first.result c.count_of-own.result (own_standing b.entries s) c.journal-4.result.now.entries (c.journal.ensures.sound).numbered
+    let f = follows_each i.runtime c.reserve.new.self c.follow_each.new.runtime c.reserve.ensures.runners c.reserve.ensures.frames
+    c.reserve.ensures.time c.follow_each.ensures.time
+    b.entries s c.len-first.result c.count_of-own.result (own_standing b.entries s) c.journal-4.result.now.entries
+    (c.journal.ensures.sound).numbered
     (c.journal-4.ensures.entries ∙ ap (λ (l : Ledger). l.entries) (c.in_ok-count.ensures.ok).after)
     (c.len-first.ensures.number ∙ ap (λ es. length es) c.journal.ensures.entries)
     (c.count_of-own.ensures.count ∙ ap (λ es. length (own_standing es s)) c.journal-2.ensures.entries)
     c.follow_each.ensures.runners c.follow_each.ensures.frames in
-    tied_all b c.undo_all_free.new.self.ledger s c.in_ok-count.count c.in_ok-count.last i.runtime c.follow_each.new.runtime c.self.invariant c.journal.ensures.sound c.in_ok-count.ensures.ok f
+    tied_all b c.undo_all_free.new.self.ledger s c.in_ok-count.count c.in_ok-count.last i.runtime c.follow_each.new.runtime c.self.invariant
+    c.journal.ensures.sound c.in_ok-count.ensures.ok f
 
 pub returns-clause-follows : goal.returns-clause-follows
 returns-clause-follows c =
     let i = c.self.inside in
     let b = i.book.ledger in
     let s = c.args.session in
-    let f = follows_each i.runtime c.reserve.new.self c.follow_each.new.runtime c.reserve.ensures.runners c.reserve.ensures.frames c.reserve.ensures.time c.follow_each.ensures.time
-    b.entries s c.len-first.result c.count_of-own.result (own_standing b.entries s) c.journal-4.result.now.entries (c.journal.ensures.sound).numbered
+    let f = follows_each i.runtime c.reserve.new.self c.follow_each.new.runtime c.reserve.ensures.runners c.reserve.ensures.frames
+    c.reserve.ensures.time c.follow_each.ensures.time
+    b.entries s c.len-first.result c.count_of-own.result (own_standing b.entries s) c.journal-4.result.now.entries
+    (c.journal.ensures.sound).numbered
     (c.journal-4.ensures.entries ∙ ap (λ (l : Ledger). l.entries) (c.in_ok-count.ensures.ok).after)
     (c.len-first.ensures.number ∙ ap (λ es. length es) c.journal.ensures.entries)
     (c.count_of-own.ensures.count ∙ ap (λ es. length (own_standing es s)) c.journal-2.ensures.entries)
     c.follow_each.ensures.runners c.follow_each.ensures.frames in
-    let new : PairState = record { ledger = c.undo_all_free.new.self.ledger; time = c.follow_each.new.runtime.time; frames = c.follow_each.new.runtime.frames } in
-    subst (λ (p : PairState). FollowsAll p (own_standing p.ledger.entries s) new) c.self.view_is (record { frames = f.frames; time = f.time })
+    let new : PairState = record {
+      ledger = c.undo_all_free.new.self.ledger;
+      time = c.follow_each.new.runtime.time;
+      frames = c.follow_each.new.runtime.frames;
+    } in
+    subst (λ (p : PairState). FollowsAll p (own_standing p.ledger.entries s) new) c.self.view_is
+    (record { frames = f.frames; time = f.time })
 
 pub follow_each-requires-clause-room : goal.follow_each-requires-clause-room
 follow_each-requires-clause-room c =
@@ -43,7 +53,8 @@ follow_each-requires-clause-room c =
     let now = c.journal-4.ensures.entries ∙ ap (λ (l : Ledger). l.entries) (c.in_ok-count.ensures.ok).after in
     let first = c.len-first.ensures.number ∙ ap (λ es. length es) c.journal.ensures.entries in
     let count = c.count_of-own.ensures.count ∙ ap (λ es. length (own_standing es s)) c.journal-2.ensures.entries in
-    let room : room_behind c.journal-4.result.now.entries c.len-first.result c.count_of-own.result ≡ parts_of_all own = (λ i. room_behind (now i) (first i) (count i)) ∙ behind_undone b.entries s own (c.journal.ensures.sound).numbered in
+    let room : room_behind c.journal-4.result.now.entries c.len-first.result c.count_of-own.result ≡ parts_of_all
+    own = (λ i. room_behind (now i) (first i) (count i)) ∙ behind_undone b.entries s own (c.journal.ensures.sound).numbered in
     let parts = c.parts_of-parts.ensures ∙ ap (λ es. parts_of_all (own_standing es s)) c.journal-3.ensures.entries in
     let enough : c.parts_of-parts.result ≤ c.reserve.new.self.spare = search rules in
     omega (arith, room, parts, enough)

@@ -9,6 +9,7 @@ invariant_of-self-2 c =
     let i = c.self.inside in
     elim c.match-name.branch [
       | in-Some+in_ok-push w ↦ rw w.self-inside-is
-          (subst (λ l. AreWithin 0 l (i.count + 1)) (sym w.in_ok-push.ensures.items) (within_next i.count (Some w.in-Some.name) i.names.items c.self.invariant))
+          (subst (λ l. AreWithin 0 l (i.count + 1)) (sym w.in_ok-push.ensures.items)
+          (within_next i.count (Some w.in-Some.name) i.names.items c.self.invariant))
       | in_default w ↦ rw w.self-inside-is (within_next i.count None i.names.items c.self.invariant)
     ]

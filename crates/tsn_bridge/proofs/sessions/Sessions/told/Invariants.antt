@@ -5,4 +5,5 @@ use Rattle.tsn_bridge.proofs.sessions.Sessions.told.Given as goal
 
 -- the sessions up to the one before this are told, and the names of those behind are left
 abbrev pub invariant-loop-before : goal.invariant-loop-before
-invariant-loop-before l = (l.sessions.items ≡ given_to l.self.names l.journal.entries l.before) × AreLeft l.self.names l.rest l.before l.self.count
+invariant-loop-before l =
+    (l.sessions.items ≡ given_to l.self.names l.journal.entries l.before) × AreLeft l.self.names l.rest l.before l.self.count

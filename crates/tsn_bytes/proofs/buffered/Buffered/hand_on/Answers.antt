@@ -12,5 +12,6 @@ puts-preserved g c =
       omega (arith, count, c.deref.ensures.len),
       c.puts.invariant.1,
       c.in-Ok.ensures.worked (λ none. absurd (omega arith)) ∙ c.puts.invariant.2,
-      handed_on _ _ _ now.bytes.items _ whole now.start c.in-Ok.count c.deref.ensures.value c.puts.invariant.3 (rw (take_rest whole now.start) at c.in-Ok.ensures.bytes),
+      handed_on _ _ _ now.bytes.items _ whole now.start c.in-Ok.count c.deref.ensures.value c.puts.invariant.3
+          (rw (take_rest whole now.start) at c.in-Ok.ensures.bytes),
     )

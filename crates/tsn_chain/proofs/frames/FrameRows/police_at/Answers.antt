@@ -19,7 +19,8 @@ returns-clause-framed c = λ acts stand.
     let gate : gate_of (get c.args.config.now.map (Gate q.gate)) ≡ Some g = search rules in
     let by : c.meter_in-by.result ≡ meter_at c.args.config.now.map q.meter = search rules in
     let found : met_at (frames_in c.args.self.now) c.args.id q c.meter_in-by.result ≡ Some c.in-Some-met.met = search rules in
-    put_together c.args.config.now.map (frames_in c.args.self.now) acts c.args.frame c.args.time c.args.id q g c.meter_in-by.result c.state_of.result c.in-Some-met.met c.pass_through-verdict.new.met c.pass_through-verdict.result (frames_in c.put_back.new.self)
+    put_together c.args.config.now.map (frames_in c.args.self.now) acts c.args.frame c.args.time c.args.id q g c.meter_in-by.result
+    c.state_of.result c.in-Some-met.met c.pass_through-verdict.new.met c.pass_through-verdict.result (frames_in c.put_back.new.self)
     filter gate by found (c.state_of.ensures acts stand) c.pass_through-verdict.ensures c.put_back.ensures
 
 pub returns-clause-keys : goal.returns-clause-keys
@@ -27,4 +28,5 @@ returns-clause-keys c =
     let q : StreamFilter = c.in-Some.filter.now in
     let same : c.requires.ready.filter ≡ q = search rules in
     subst (λ (f : FrameData). HasFrameKeys f c.args.config.now.map) (sym c.put_back.ensures)
-    (met_keys (frames_in c.args.self.now) c.args.id q c.pass_through-verdict.new.met c.args.config.now.map c.requires.ready.keeps_filter (search rules) (search rules) c.requires.keys)
+    (met_keys (frames_in c.args.self.now) c.args.id q c.pass_through-verdict.new.met c.args.config.now.map c.requires.ready.keeps_filter
+    (search rules) (search rules) c.requires.keys)

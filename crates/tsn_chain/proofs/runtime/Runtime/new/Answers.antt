@@ -10,6 +10,7 @@ use Rattle.tsn_chain.proofs.runtime.Runtime.new.Goals as goal
 
 pub invariant_of-result : goal.invariant_of-result
 invariant_of-result c = (
-  subst (λ (t : FinMap nat_cmp (Kept PortEntry)). AreBy c.beginning.result t) (sym (c.reserve.ensures.map ∙ c.new-ports.ensures.map)) (by_empty c.beginning.result),
+  subst (λ (t : FinMap nat_cmp (Kept PortEntry)). AreBy c.beginning.result t) (sym (c.reserve.ensures.map ∙ c.new-ports.ensures.map))
+      (by_empty c.beginning.result),
   subst (λ (t : FinMap nat_cmp (Kept GateEntry)). AreBy c.beginning.result t) (sym c.new.ensures.map) (by_empty c.beginning.result),
 )

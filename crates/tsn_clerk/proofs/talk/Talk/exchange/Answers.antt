@@ -20,7 +20,8 @@ returns-in-Ok-take_note-clause-ok g c =
     let same = c.in-Ok-take_note.ensures.ok.1 in
     replied_as c.args.self.now c.take_note.new.self line c.in-Ok.replied.0 c.in-Ok.replied.1
     (subst (λ (p : Parts _). Told IsRecorded c.args.self.now.caller line c.in-Ok.replied.0 c.in-Ok.replied.1 p.caller) (sym same)
-    (subst (λ (p : Parts _). Told IsRecorded p.caller line c.in-Ok.replied.0 c.in-Ok.replied.1 c.reply.new.self) c.self.view_is c.in-Ok.ensures.ok))
+    (subst (λ (p : Parts _). Told IsRecorded p.caller line c.in-Ok.replied.0 c.in-Ok.replied.1 c.reply.new.self) c.self.view_is
+    c.in-Ok.ensures.ok))
     (subst (λ (p : Parts _). IsDue p.due c.in-Ok.replied.1 c.take_note.new.self.due) c.self.view_is c.in-Ok-take_note.ensures.ok.0)
     (ap (λ (p : Parts _). p.replies) same ∙ ap (λ (p : Parts _). p.replies) c.self.view_is)
     (ap (λ (p : Parts _). p.writer) same ∙ ap (λ (p : Parts _). p.writer) c.self.view_is)

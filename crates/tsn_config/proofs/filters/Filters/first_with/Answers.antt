@@ -11,6 +11,8 @@ use Rattle.tsn_config.proofs.filters.Filters.first_with.Goals as goal
 pub returns-clause-least : goal.returns-clause-least
 returns-clause-least c =
     let i = c.self.inside in
-    c.least_about.ensures.least match_about i.rows.map (specifies c.args.handle c.args.priority) c.self.invariant.matches c.self.invariant.small
-    (λ n r is. specifies_alike c.args.handle c.args.priority r c.specification_of.ensures.narrow (c.self.invariant.narrow n r is) ∙ ap (λ q. is_the q (match_about r)) (sym c.specification_of.ensures.value))
+    c.least_about.ensures.least match_about i.rows.map (specifies c.args.handle c.args.priority) c.self.invariant.matches
+    c.self.invariant.small
+    (λ n r is. specifies_alike c.args.handle c.args.priority r c.specification_of.ensures.narrow (c.self.invariant.narrow n r is)
+    ∙ ap (λ q. is_the q (match_about r)) (sym c.specification_of.ensures.value))
     ∙ ap (λ (t : TableView StreamFilter). first_id (specifies c.args.handle c.args.priority) (entries t.map)) c.self.view_is

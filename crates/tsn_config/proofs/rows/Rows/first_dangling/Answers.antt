@@ -15,7 +15,8 @@ returns-in_err-number c = grind (arith, dangles, dangling_cause-none)
 pub returns-in_err-filter : goal.returns-in_err-filter
 returns-in_err-filter c =
     let i = c.self.inside in
-    let first = c.first_where.ensures (dangles c.args.self.now.map) (λ x b h. search rules) ∙ ap (λ (fs : FinMap nat_cmp StreamFilter). first_id (dangles c.args.self.now.map) (entries fs)) c.rows.ensures in
+    let first = c.first_where.ensures (dangles c.args.self.now.map) (λ x b h. search rules)
+    ∙ ap (λ (fs : FinMap nat_cmp StreamFilter). first_id (dangles c.args.self.now.map) (entries fs)) c.rows.ensures in
     let there =
     first_there i.ports.map i.filters.map i.gates.map i.meters.map c.in_ok-number.number
     (ap (λ (s : RowsView). first_id (dangles s.map) (entries i.filters.map)) c.self.view_is ∙ sym first ∙ c.in_ok-number.was) in

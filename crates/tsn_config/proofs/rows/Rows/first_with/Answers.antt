@@ -13,4 +13,5 @@ returns-clause-least c = λ fs are.
     let i = c.self.inside in
     c.first_with.ensures.least
     ∙ ap (λ (t : FinMap nat_cmp StreamFilter). first_id (specifies c.args.handle c.args.priority) (entries t))
-    (same_filters i.ports.map i.filters.map i.gates.map i.meters.map c.args.self.now.map fs (ap (λ (s : RowsView). s.map) c.self.view_is) are)
+    (same_filters i.ports.map i.filters.map i.gates.map i.meters.map c.args.self.now.map fs (ap (λ (s : RowsView). s.map) c.self.view_is)
+    are)

@@ -15,4 +15,5 @@ returns-clause-least c = λ fs are.
     let any = specifies c.args.handle None in
     c.first_with_either.ensures.least
     ∙ ap (λ (t : FinMap nat_cmp StreamFilter). lesser (first_id own (entries t)) (first_id any (entries t)))
-    (same_filters i.ports.map i.filters.map i.gates.map i.meters.map c.args.self.now.map fs (ap (λ (s : RowsView). s.map) c.self.view_is) are)
+    (same_filters i.ports.map i.filters.map i.gates.map i.meters.map c.args.self.now.map fs (ap (λ (s : RowsView). s.map) c.self.view_is)
+    are)

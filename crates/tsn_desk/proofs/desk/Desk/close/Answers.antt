@@ -40,7 +40,12 @@ gather-requires g c =
     let p = c.pop-in-loop-other.ensures.items ∙ ap (λ o. rest ++ option_to_list o) c.in-Some.is in
     let at = ap (λ l. slice_get l (length rest)) p ∙ slice_get_last rest s in
     let rests = c.into_inner-other.ensures.rests in
-    record { seats = (c.loop-other.invariant.0, record { own = rw c.into_inner-other.ensures.same (c.loop-other.invariant.1 (length rest) s at); empty = rests.0; idle = rests.1 }) }
+    record {
+      seats = (
+        c.loop-other.invariant.0,
+        record { own = rw c.into_inner-other.ensures.same (c.loop-other.invariant.1 (length rest) s at); empty = rests.0; idle = rests.1 },
+      );
+    }
 
 pub loop-other-preserved : goal.loop-other-preserved
 loop-other-preserved g c =
@@ -55,7 +60,8 @@ loop-other-preserved g c =
       (
         o ∷ before.0,
         before.1 ∙ (ap (λ l. map (λ t. t.inner) l ++ before.0) p ∙ (ap (λ l. l ++ before.0) (map-append (λ t. t.inner) rest (s ∷ []))
-            ∙ (ap (λ t. (map (λ t. t.inner) rest ++ t ∷ []) ++ before.0) (sym c.into_inner-other.ensures.same) ∙ append_assoc (map (λ t. t.inner) rest) (o ∷ []) before.0))),
+            ∙ (ap (λ t. (map (λ t. t.inner) rest ++ t ∷ []) ++ before.0) (sym c.into_inner-other.ensures.same)
+            ∙ append_assoc (map (λ t. t.inner) rest) (o ∷ []) before.0))),
         gathered.calls ∙ ap (λ l. o.me.0.calls ++ l) before.2,
         (c.into_inner-other.ensures.rests.2, before.3),
         (gathered.learned, AllBegin-more before.0 (seen c.loop-other.seat) (seen c.gather.new.seat) gathered.kept before.4),
@@ -68,8 +74,10 @@ unreachable-requires g c =
     let none_left = no_length c.loop-other.seats.items (search rules) in
     let whole = inv.2.1 ∙ ap (λ l. map (λ t. t.inner) l ++ inv.2.0) none_left in
     let all : length c.args.seats.items ≡ c.args.self.table.shared.key.seats = omega arith in
-    let count : length inv.2.0 ≡ c.args.self.table.shared.key.seats = sym (ap length whole) ∙ (length-map c.args.seats.items (λ t. t.inner) ∙ all) in
-    let end = closing g.M.Machine.steps (first_of c.args.self.table) c.args.self.table.shared.key.seats _ _ _ _ c.close_with-closed.ensures.values.2 inv.0.idle inv.2.0 inv.2.2 inv.2.3 inv.2.4 count in
+    let count : length inv.2.0 ≡ c.args.self.table.shared.key.seats = sym (ap length whole)
+    ∙ (length-map c.args.seats.items (λ t. t.inner) ∙ all) in
+    let end = closing g.M.Machine.steps (first_of c.args.self.table) c.args.self.table.shared.key.seats _ _ _ _
+    c.close_with-closed.ensures.values.2 inv.0.idle inv.2.0 inv.2.2 inv.2.3 inv.2.4 count in
     None_Some end.0 (sym c.in_default-slot.is ∙ some-injective _ _ (sym c.take-slot.ensures.value ∙ end.1))
 
 pub returns : goal.returns
@@ -78,8 +86,13 @@ returns g c =
     let none_left = no_length c.loop-other.seats.items (search rules) in
     let whole = inv.2.1 ∙ ap (λ l. map (λ t. t.inner) l ++ inv.2.0) none_left in
     let all : length c.args.seats.items ≡ c.args.self.table.shared.key.seats = omega arith in
-    let count : length inv.2.0 ≡ c.args.self.table.shared.key.seats = sym (ap length whole) ∙ (length-map c.args.seats.items (λ t. t.inner) ∙ all) in
-    let end = closing g.M.Machine.steps (first_of c.args.self.table) c.args.self.table.shared.key.seats _ _ _ _ c.close_with-closed.ensures.values.2 inv.0.idle inv.2.0 inv.2.2 inv.2.3 inv.2.4 count in
-    let one = Some_same end.0 c.in-Some-slot.machine (sym (some-injective _ _ (sym c.take-slot.ensures.value ∙ end.1)) ∙ c.in-Some-slot.is) in
-    let F = λ (l : List (Seat (Option g.row.M.Denot) (View g.row.M.Denot g.row.M-Request.Denot g.row.M-Reply.Denot))). Closes g.M.Machine.steps (first_of c.args.self.table) l c.in-Some-slot.machine in
-    closes_seats g.M.Machine.steps (first_of c.args.self.table) c.args.seats.items c.in-Some-slot.machine (subst F (sym whole) (same_machine g.M.Machine.steps (first_of c.args.self.table) end.0 c.in-Some-slot.machine inv.2.0 one end.2))
+    let count : length inv.2.0 ≡ c.args.self.table.shared.key.seats = sym (ap length whole)
+    ∙ (length-map c.args.seats.items (λ t. t.inner) ∙ all) in
+    let end = closing g.M.Machine.steps (first_of c.args.self.table) c.args.self.table.shared.key.seats _ _ _ _
+    c.close_with-closed.ensures.values.2 inv.0.idle inv.2.0 inv.2.2 inv.2.3 inv.2.4 count in
+    let one = Some_same end.0 c.in-Some-slot.machine
+    (sym (some-injective _ _ (sym c.take-slot.ensures.value ∙ end.1)) ∙ c.in-Some-slot.is) in
+    let F = λ (l : List (Seat (Option g.row.M.Denot) (View g.row.M.Denot g.row.M-Request.Denot g.row.M-Reply.Denot))). Closes
+    g.M.Machine.steps (first_of c.args.self.table) l c.in-Some-slot.machine in
+    closes_seats g.M.Machine.steps (first_of c.args.self.table) c.args.seats.items c.in-Some-slot.machine
+    (subst F (sym whole) (same_machine g.M.Machine.steps (first_of c.args.self.table) end.0 c.in-Some-slot.machine inv.2.0 one end.2))

@@ -10,9 +10,12 @@ pub new-requires : goal.new-requires
 new-requires g c =
     let x = c.of.result.value in
     let n = c.args.seats in
-    let items = c.push_reserved.ensures.items ∙ (ap (λ l. l ++ Some c.args.machine ∷ []) c.in-Ok-with_capacity.ensures.items ∙ ap (λ m. Some m ∷ []) (sym c.of.ensures)) in
+    let items = c.push_reserved.ensures.items
+    ∙ (ap (λ l. l ++ Some c.args.machine ∷ []) c.in-Ok-with_capacity.ensures.items ∙ ap (λ m. Some m ∷ []) (sym c.of.ensures)) in
     let F : List (Option g.row.M.Denot) → Type 0 = λ l. Kept g.M.Machine.steps x n (opening (0 ∷ 0 ∷ []) l (opening_view x n)) in
     subst F (sym items) (opens g.M.Machine.steps x n c.requires.1)
 
 pub returns-in-Ok-new-clause-own : goal.returns-in-Ok-new-clause-own
-returns-in-Ok-new-clause-own g c = all_of (λ s. (s.inner.table_id ≡ c.in-Ok-new.table.shared.table_id) × (s.inner.me.0.first ≡ Some (first_of c.in-Ok-new.table))) c.deal-row.result.items (λ k s e. (c.deal-row.ensures.fresh k s e).own)
+returns-in-Ok-new-clause-own g c =
+    all_of (λ s. (s.inner.table_id ≡ c.in-Ok-new.table.shared.table_id) × (s.inner.me.0.first ≡ Some (first_of c.in-Ok-new.table)))
+    c.deal-row.result.items (λ k s e. (c.deal-row.ensures.fresh k s e).own)

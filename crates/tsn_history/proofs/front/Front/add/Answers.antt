@@ -12,7 +12,8 @@ compare_exchange-found-requires g c =
       c.self.invariant.1 ∙ sym (ap (λ w. w.book) h),
       pen.0 ∙ (c.self.invariant.1 ∙ sym (ap (λ w. w.book) h)),
       offer.0,
-      rw (ap (λ w. w.key) h, pen.1, offer.1, offer.3) (adds_moves c.self.inside.seen.log c.args.line.now c.self.inside.lines (sym c.self.invariant.0)),
+      rw (ap (λ w. w.key) h, pen.1, offer.1, offer.3)
+          (adds_moves c.self.inside.seen.log c.args.line.now c.self.inside.lines (sym c.self.invariant.0)),
     )
 
 matched : (b : Bool) (P Q : Type 0) → b ≡ true → MatchBool b P Q → P
@@ -23,5 +24,6 @@ pub returns-then-found-lines : goal.returns-then-found-lines
 returns-then-found-lines g c =
     let log = c.self.inside.seen.log in
     let here : (c.compare_exchange-found.result == c.self.inside.lines) ≡ true = eq-eqb _ _ c.if-found-lines.true in
-    let grown : c.compare_exchange-found.new.seen.log ≡ log ++ c.plain-offer.result.ask ∷ [] = matched _ _ _ here c.compare_exchange-found.ensures.7 in
+    let grown : c.compare_exchange-found.new.seen.log ≡ log ++ c.plain-offer.result.ask
+    ∷ [] = matched _ _ _ here c.compare_exchange-found.ensures.7 in
     λ _. rw (← c.self.view_is) (grown ∙ ap (λ a. log ++ a ∷ []) c.plain-offer.ensures.1)

@@ -6,6 +6,9 @@ use Rattle.tsn_history.proofs.front.Front.covers.Goals as goal
 pub returns-then-other-self : goal.returns-then-other-self
 returns-then-other-self g c =
     let both = c.learn.new.self.log in
-    let this : IsPrefix c.self.inside.seen.log both = subst (λ (l : List (List ℕ)). IsPrefix l both) (ap (λ s. s.log) c.again-both.ensures) c.learn.ensures.2 in
+    let this : IsPrefix c.self.inside.seen.log both = subst (λ (l : List (List ℕ)). IsPrefix l both) (ap (λ s. s.log) c.again-both.ensures)
+    c.learn.ensures.2 in
     let less : length c.other.inside.seen.log ≤ length c.self.inside.seen.log = omega (arith, c.self.invariant.0, c.other.invariant.0) in
-    λ _. rw (← c.self.view_is, ← c.other.view_is) (begins c.other.inside.seen.log c.self.inside.seen.log (prefix_shorter c.other.inside.seen.log c.self.inside.seen.log both c.learn.ensures.3 this less))
+    λ _. rw (← c.self.view_is, ← c.other.view_is)
+    (begins c.other.inside.seen.log c.self.inside.seen.log
+    (prefix_shorter c.other.inside.seen.log c.self.inside.seen.log both c.learn.ensures.3 this less))

@@ -8,7 +8,8 @@ abbrev pub invariant-back : goal.invariant-back
 invariant-back l = record {
   within : l.place ≤ length l.self.places.items;
   group : is_of (Of l.session) (place_at l.self.places.items l.place) ≡ true;
-  so_far : reverse l.found.items ≡ map (λ m. m.entry.number) (filter (belongs (Of l.session)) (drop (number_at l.self.places.items l.place) l.marked));
+  so_far : reverse l.found.items ≡ map (λ m. m.entry.number)
+      (filter (belongs (Of l.session)) (drop (number_at l.self.places.items l.place) l.marked));
 }
 
 abbrev pub decreases-back : goal.decreases-back

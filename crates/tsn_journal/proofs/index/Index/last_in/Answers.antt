@@ -8,38 +8,61 @@ use Rattle.tsn_journal.proofs.index.Index.last_in.Goals as goal
 use Rattle.tsn_journal.proofs.index.Index.last_in.Goals.{else-is_in-via-then-is_in+else-test, else-is_in-via-else-is_in}
 
 pub numbered-entry-requires-clause-some : goal.numbered-entry-requires-clause-some
-numbered-entry-requires-clause-some g c = (the_place c.args.marked.now c.args.self.now.places.items c.args.group.now c.back.place c.index-found.result.now c.back.invariant.group (place_there c.args.self.now.places.items c.back.place c.index-found.result.now c.back-test.true c.back.invariant.within c.index-found.ensures) c.requires.index.places).some
+numbered-entry-requires-clause-some g c =
+    (the_place c.args.marked.now c.args.self.now.places.items c.args.group.now c.back.place c.index-found.result.now c.back.invariant.group
+    (place_there c.args.self.now.places.items c.back.place c.index-found.result.now c.back-test.true c.back.invariant.within
+    c.index-found.ensures) c.requires.index.places).some
 
 pub numbered-entry-requires-clause-within : goal.numbered-entry-requires-clause-within
-numbered-entry-requires-clause-within g c = (the_place c.args.marked.now c.args.self.now.places.items c.args.group.now c.back.place c.index-found.result.now c.back.invariant.group (place_there c.args.self.now.places.items c.back.place c.index-found.result.now c.back-test.true c.back.invariant.within c.index-found.ensures) c.requires.index.places).within
+numbered-entry-requires-clause-within g c =
+    (the_place c.args.marked.now c.args.self.now.places.items c.args.group.now c.back.place c.index-found.result.now c.back.invariant.group
+    (place_there c.args.self.now.places.items c.back.place c.index-found.result.now c.back-test.true c.back.invariant.within
+    c.index-found.ensures) c.requires.index.places).within
 
 pub back-smaller : goal.back-smaller
 back-smaller g c =
-    let at = the_place c.args.marked.now c.args.self.now.places.items c.args.group.now c.back.place c.index-found.result.now c.back.invariant.group (place_there c.args.self.now.places.items c.back.place c.index-found.result.now c.back-test.true c.back.invariant.within c.index-found.ensures) c.requires.index.places in
+    let at = the_place c.args.marked.now c.args.self.now.places.items c.args.group.now c.back.place c.index-found.result.now
+    c.back.invariant.group (place_there c.args.self.now.places.items c.back.place c.index-found.result.now c.back-test.true
+    c.back.invariant.within c.index-found.ensures) c.requires.index.places in
     omega (arith, at.earlier, c.back-test.true)
 
 pub returns-then-test : goal.returns-then-test
 returns-then-test g c = λ p answers.
-    let at = the_place c.args.marked.now c.args.self.now.places.items c.args.group.now c.back.place c.index-found.result.now c.back.invariant.group (place_there c.args.self.now.places.items c.back.place c.index-found.result.now c.back-test.true c.back.invariant.within c.index-found.ensures) c.requires.index.places in
-    let here = (place_there c.args.self.now.places.items c.back.place c.index-found.result.now c.back-test.true c.back.invariant.within c.index-found.ensures) in
-    sym (found_from (λ m. belongs c.args.group.now m && p m) c.args.marked.now c.index-found.result.now.number c.numbered-entry.result.now at.some at.within c.numbered-entry.ensures
-    (λ i m low is. c.back.invariant.none_later p answers i m (subst (λ o. number_of o ≤ i) (sym here) low) (in_list c.args.marked.now i m is) is)
+    let at = the_place c.args.marked.now c.args.self.now.places.items c.args.group.now c.back.place c.index-found.result.now
+    c.back.invariant.group (place_there c.args.self.now.places.items c.back.place c.index-found.result.now c.back-test.true
+    c.back.invariant.within c.index-found.ensures) c.requires.index.places in
+    let here = (place_there c.args.self.now.places.items c.back.place c.index-found.result.now c.back-test.true c.back.invariant.within
+    c.index-found.ensures) in
+    sym (found_from (λ m. belongs c.args.group.now m && p m) c.args.marked.now c.index-found.result.now.number c.numbered-entry.result.now
+    at.some at.within c.numbered-entry.ensures
+    (λ i m low is. c.back.invariant.none_later p answers i m (subst (λ o. number_of o ≤ i) (sym here) low)
+    (in_list c.args.marked.now i m is) is)
     (and_from _ _ (sym c.is_in.ensures ∙ c.if-is_in.true) (sym (answers _ _ c.test.ensures) ∙ c.if-test.true)))
 
 pub back-preserved : goal.back-preserved
 back-preserved g c =
-    let at = the_place c.args.marked.now c.args.self.now.places.items c.args.group.now c.back.place c.index-found.result.now c.back.invariant.group (place_there c.args.self.now.places.items c.back.place c.index-found.result.now c.back-test.true c.back.invariant.within c.index-found.ensures) c.requires.index.places in
+    let at = the_place c.args.marked.now c.args.self.now.places.items c.args.group.now c.back.place c.index-found.result.now
+    c.back.invariant.group (place_there c.args.self.now.places.items c.back.place c.index-found.result.now c.back-test.true
+    c.back.invariant.within c.index-found.ensures) c.requires.index.places in
     record {
       within = at.last.within;
-      group = next_group c.args.marked.now c.args.self.now.places.items c.args.group.now c.back.place c.index-found.result.now c.back.invariant.group (place_there c.args.self.now.places.items c.back.place c.index-found.result.now c.back-test.true c.back.invariant.within c.index-found.ensures) c.requires.index.places;
+      group = next_group c.args.marked.now c.args.self.now.places.items c.args.group.now c.back.place c.index-found.result.now
+          c.back.invariant.group (place_there c.args.self.now.places.items c.back.place c.index-found.result.now c.back-test.true
+          c.back.invariant.within c.index-found.ensures) c.requires.index.places;
       none_later = λ p answers.
           let t : MarkedEntry → Bool = λ m. belongs c.args.group.now m && p m in
-          step_none c.args.marked.now c.args.self.now.places.items c.args.group.now c.back.place c.index-found.result.now c.back.invariant.group (place_there c.args.self.now.places.items c.back.place c.index-found.result.now c.back-test.true c.back.invariant.within c.index-found.ensures) c.requires.index.places
-          t (length c.args.marked.now + 1) (and_out p (belongs c.args.group.now)) (c.back.invariant.none_later p answers) c.numbered-entry.result.now c.numbered-entry.ensures
+          step_none c.args.marked.now c.args.self.now.places.items c.args.group.now c.back.place c.index-found.result.now
+          c.back.invariant.group (place_there c.args.self.now.places.items c.back.place c.index-found.result.now c.back-test.true
+          c.back.invariant.within c.index-found.ensures) c.requires.index.places
+          t (length c.args.marked.now + 1) (and_out p (belongs c.args.group.now)) (c.back.invariant.none_later p answers)
+          c.numbered-entry.result.now c.numbered-entry.ensures
           (grind arith);
     }
 
 pub returns : goal.returns
 returns g c = λ p answers.
     let t : MarkedEntry → Bool = λ m. belongs c.args.group.now m && p m in
-    sym (none_from t c.args.marked.now 0 (λ i m low is. c.back.invariant.none_later p answers i m (subst (λ j. number_at c.args.self.now.places.items j ≤ i) (sym c.back-test.false) (omega arith)) (in_list c.args.marked.now i m is) is))
+    sym (none_from t c.args.marked.now 0
+    (λ i m low is. c.back.invariant.none_later p answers i m
+    (subst (λ j. number_at c.args.self.now.places.items j ≤ i) (sym c.back-test.false) (omega arith)) (in_list c.args.marked.now i m is)
+    is))

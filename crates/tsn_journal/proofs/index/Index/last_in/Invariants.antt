@@ -8,7 +8,8 @@ abbrev pub invariant-back : goal.invariant-back
 invariant-back g l = record {
   within : l.place ≤ length l.self.places.items;
   group : is_of l.group (place_at l.self.places.items l.place) ≡ true;
-  none_later : (p : MarkedEntry → Bool) → Tests g.F.Fn p l.test → NoneBetween (λ m. belongs l.group m && p m) l.marked (number_at l.self.places.items l.place) (length l.marked + 1);
+  none_later : (p : MarkedEntry → Bool) → Tests g.F.Fn p l.test
+      → NoneBetween (λ m. belongs l.group m && p m) l.marked (number_at l.self.places.items l.place) (length l.marked + 1);
 }
 
 abbrev pub decreases-back : goal.decreases-back

@@ -7,44 +7,68 @@ use Rattle.tsn_journal.proofs.Walking.{found_after, none_after, none_from}
 use Rattle.tsn_journal.proofs.index.Index.last_of_others.Goals as goal
 
 pub numbered-entry-requires-clause-within : goal.numbered-entry-requires-clause-within
-numbered-entry-requires-clause-within c = (the_place c.args.marked.now c.args.self.now.places.items c.args.group.now c.back.place c.index-found.result.now c.back.invariant.group (place_there c.args.self.now.places.items c.back.place c.index-found.result.now c.back-test.true c.back.invariant.within c.index-found.ensures) c.requires.index.places).within
+numbered-entry-requires-clause-within c =
+    (the_place c.args.marked.now c.args.self.now.places.items c.args.group.now c.back.place c.index-found.result.now c.back.invariant.group
+    (place_there c.args.self.now.places.items c.back.place c.index-found.result.now c.back-test.true c.back.invariant.within
+    c.index-found.ensures) c.requires.index.places).within
 
 pub back-smaller-then-is_of : goal.back-smaller-then-is_of
 back-smaller-then-is_of c =
-    let at = the_place c.args.marked.now c.args.self.now.places.items c.args.group.now c.back.place c.index-found.result.now c.back.invariant.group (place_there c.args.self.now.places.items c.back.place c.index-found.result.now c.back-test.true c.back.invariant.within c.index-found.ensures) c.requires.index.places in
+    let at = the_place c.args.marked.now c.args.self.now.places.items c.args.group.now c.back.place c.index-found.result.now
+    c.back.invariant.group (place_there c.args.self.now.places.items c.back.place c.index-found.result.now c.back-test.true
+    c.back.invariant.within c.index-found.ensures) c.requires.index.places in
     omega (arith, at.other_earlier, c.back-test.true)
 
 pub back-preserved-then-is_of : goal.back-preserved-then-is_of
 back-preserved-then-is_of c =
-    hop c.args.marked.now c.args.self.now.places.items c.args.group.now c.back.place c.index-found.result.now c.back.invariant.group (place_there c.args.self.now.places.items c.back.place c.index-found.result.now c.back-test.true c.back.invariant.within c.index-found.ensures) c.requires.index.places
-    c.args.session (length c.args.marked.now + 1) c.back.invariant (ap (is_by c.args.session) c.numbered-entry.ensures ∙ sym c.is_of.ensures ∙ c.if-is_of.true)
+    hop c.args.marked.now c.args.self.now.places.items c.args.group.now c.back.place c.index-found.result.now c.back.invariant.group
+    (place_there c.args.self.now.places.items c.back.place c.index-found.result.now c.back-test.true c.back.invariant.within
+    c.index-found.ensures) c.requires.index.places
+    c.args.session (length c.args.marked.now + 1) c.back.invariant
+    (ap (is_by c.args.session) c.numbered-entry.ensures ∙ sym c.is_of.ensures ∙ c.if-is_of.true)
 
 pub returns-then-is_in : goal.returns-then-is_in
 returns-then-is_in c =
-    let at = the_place c.args.marked.now c.args.self.now.places.items c.args.group.now c.back.place c.index-found.result.now c.back.invariant.group (place_there c.args.self.now.places.items c.back.place c.index-found.result.now c.back-test.true c.back.invariant.within c.index-found.ensures) c.requires.index.places in
-    sym (found_after (belongs_to_others c.args.group.now c.args.session) c.args.marked.now c.args.after c.index-found.result.now.number c.numbered-entry.result.now (omega (arith, c.if-from-after.false, c.from.ensures)) at.within c.numbered-entry.ensures
-    (λ i m low is. none_after c.args.group.now (belongs_to_others c.args.group.now c.args.session) c.args.marked.now c.args.self.now.places.items c.back.place c.back.invariant i m (subst (λ o. number_of o ≤ i) (sym (place_there c.args.self.now.places.items c.back.place c.index-found.result.now c.back-test.true c.back.invariant.within c.index-found.ensures)) low) is)
+    let at = the_place c.args.marked.now c.args.self.now.places.items c.args.group.now c.back.place c.index-found.result.now
+    c.back.invariant.group (place_there c.args.self.now.places.items c.back.place c.index-found.result.now c.back-test.true
+    c.back.invariant.within c.index-found.ensures) c.requires.index.places in
+    sym (found_after (belongs_to_others c.args.group.now c.args.session) c.args.marked.now c.args.after c.index-found.result.now.number
+    c.numbered-entry.result.now (omega (arith, c.if-from-after.false, c.from.ensures)) at.within c.numbered-entry.ensures
+    (λ i m low is. none_after c.args.group.now (belongs_to_others c.args.group.now c.args.session) c.args.marked.now
+    c.args.self.now.places.items c.back.place c.back.invariant i m
+    (subst (λ o. number_of o ≤ i) (sym
+    (place_there c.args.self.now.places.items c.back.place c.index-found.result.now c.back-test.true c.back.invariant.within
+    c.index-found.ensures)) low) is)
     (and_from _ _ (sym c.is_in.ensures ∙ c.if-is_in.true) (ap not (sym c.is_of.ensures ∙ c.if-is_of.false))))
 
 pub back-smaller : goal.back-smaller
 back-smaller c =
-    let at = the_place c.args.marked.now c.args.self.now.places.items c.args.group.now c.back.place c.index-found.result.now c.back.invariant.group (place_there c.args.self.now.places.items c.back.place c.index-found.result.now c.back-test.true c.back.invariant.within c.index-found.ensures) c.requires.index.places in
+    let at = the_place c.args.marked.now c.args.self.now.places.items c.args.group.now c.back.place c.index-found.result.now
+    c.back.invariant.group (place_there c.args.self.now.places.items c.back.place c.index-found.result.now c.back-test.true
+    c.back.invariant.within c.index-found.ensures) c.requires.index.places in
     omega (arith, at.earlier, c.back-test.true)
 
 pub back-preserved : goal.back-preserved
 back-preserved c =
-    step c.args.marked.now c.args.self.now.places.items c.args.group.now c.back.place c.index-found.result.now c.back.invariant.group (place_there c.args.self.now.places.items c.back.place c.index-found.result.now c.back-test.true c.back.invariant.within c.index-found.ensures) c.requires.index.places
-    (belongs_to_others c.args.group.now c.args.session) (length c.args.marked.now + 1) (not_of_others c.args.group.now c.args.session) c.back.invariant c.numbered-entry.result.now c.numbered-entry.ensures
+    step c.args.marked.now c.args.self.now.places.items c.args.group.now c.back.place c.index-found.result.now c.back.invariant.group
+    (place_there c.args.self.now.places.items c.back.place c.index-found.result.now c.back-test.true c.back.invariant.within
+    c.index-found.ensures) c.requires.index.places
+    (belongs_to_others c.args.group.now c.args.session) (length c.args.marked.now + 1) (not_of_others c.args.group.now c.args.session)
+    c.back.invariant c.numbered-entry.result.now c.numbered-entry.ensures
     (not_of_others c.args.group.now c.args.session c.numbered-entry.result.now (sym c.is_in.ensures ∙ c.if-is_in.false))
 
 pub returns : goal.returns
 returns c =
     sym (none_from (belongs_to_others c.args.group.now c.args.session) c.args.marked.now c.args.after
-    (λ i m low is. none_after c.args.group.now (belongs_to_others c.args.group.now c.args.session) c.args.marked.now c.args.self.now.places.items c.back.place c.back.invariant i m
+    (λ i m low is. none_after c.args.group.now (belongs_to_others c.args.group.now c.args.session) c.args.marked.now
+    c.args.self.now.places.items c.back.place c.back.invariant i m
     (subst (λ j. number_at c.args.self.now.places.items j ≤ i) (sym c.back-test.false) (omega arith)) is))
 
 pub returns-then-from-after : goal.returns-then-from-after
 returns-then-from-after c =
     sym (none_from (belongs_to_others c.args.group.now c.args.session) c.args.marked.now c.args.after
-    (λ i m low is. none_after c.args.group.now (belongs_to_others c.args.group.now c.args.session) c.args.marked.now c.args.self.now.places.items c.back.place c.back.invariant i m
-    (subst (λ o. number_of o ≤ i) (sym (place_there c.args.self.now.places.items c.back.place c.index-found.result.now c.back-test.true c.back.invariant.within c.index-found.ensures)) (omega (arith, low, c.if-from-after.true, c.from.ensures))) is))
+    (λ i m low is. none_after c.args.group.now (belongs_to_others c.args.group.now c.args.session) c.args.marked.now
+    c.args.self.now.places.items c.back.place c.back.invariant i m
+    (subst (λ o. number_of o ≤ i) (sym
+    (place_there c.args.self.now.places.items c.back.place c.index-found.result.now c.back-test.true c.back.invariant.within
+    c.index-found.ensures)) (omega (arith, low, c.if-from-after.true, c.from.ensures))) is))

@@ -15,56 +15,86 @@ back-init g c =
     let ps = c.args.self.now.places.items in
     let h = Of c.args.session in
     let at : IsLast h (belongs h) c.args.marked.now ps c.session_places-place.result.standing (length c.args.marked.now + 1) =
-    subst (λ j. IsLast h (belongs h) c.args.marked.now ps j (length c.args.marked.now + 1)) (sym c.session_places-place.ensures.standing) (c.requires.index.latest_is h) in
+    subst (λ j. IsLast h (belongs h) c.args.marked.now ps j (length c.args.marked.now + 1)) (sym c.session_places-place.ensures.standing)
+    (c.requires.index.latest_is h) in
     grind arith
 
 pub numbered-entry-requires-clause-some : goal.numbered-entry-requires-clause-some
-numbered-entry-requires-clause-some g c = (the_place c.args.marked.now c.args.self.now.places.items (Of c.args.session) c.back.place c.index-found.result.now c.back.invariant.group (place_there c.args.self.now.places.items c.back.place c.index-found.result.now c.back-test.true c.back.invariant.within c.index-found.ensures) c.requires.index.places).some
+numbered-entry-requires-clause-some g c =
+    (the_place c.args.marked.now c.args.self.now.places.items (Of c.args.session) c.back.place c.index-found.result.now
+    c.back.invariant.group (place_there c.args.self.now.places.items c.back.place c.index-found.result.now c.back-test.true
+    c.back.invariant.within c.index-found.ensures) c.requires.index.places).some
 
 pub numbered-entry-requires-clause-within : goal.numbered-entry-requires-clause-within
-numbered-entry-requires-clause-within g c = (the_place c.args.marked.now c.args.self.now.places.items (Of c.args.session) c.back.place c.index-found.result.now c.back.invariant.group (place_there c.args.self.now.places.items c.back.place c.index-found.result.now c.back-test.true c.back.invariant.within c.index-found.ensures) c.requires.index.places).within
+numbered-entry-requires-clause-within g c =
+    (the_place c.args.marked.now c.args.self.now.places.items (Of c.args.session) c.back.place c.index-found.result.now
+    c.back.invariant.group (place_there c.args.self.now.places.items c.back.place c.index-found.result.now c.back-test.true
+    c.back.invariant.within c.index-found.ensures) c.requires.index.places).within
 
 pub back-smaller : goal.back-smaller
 back-smaller g c =
-    let at = the_place c.args.marked.now c.args.self.now.places.items (Of c.args.session) c.back.place c.index-found.result.now c.back.invariant.group (place_there c.args.self.now.places.items c.back.place c.index-found.result.now c.back-test.true c.back.invariant.within c.index-found.ensures) c.requires.index.places in
+    let at = the_place c.args.marked.now c.args.self.now.places.items (Of c.args.session) c.back.place c.index-found.result.now
+    c.back.invariant.group (place_there c.args.self.now.places.items c.back.place c.index-found.result.now c.back-test.true
+    c.back.invariant.within c.index-found.ensures) c.requires.index.places in
     omega (arith, at.earlier, c.back-test.true)
 
 pub returns-then-test : goal.returns-then-test
 returns-then-test g c = λ p answers above.
-    let at = the_place c.args.marked.now c.args.self.now.places.items (Of c.args.session) c.back.place c.index-found.result.now c.back.invariant.group (place_there c.args.self.now.places.items c.back.place c.index-found.result.now c.back-test.true c.back.invariant.within c.index-found.ensures) c.requires.index.places in
-    let here = (place_there c.args.self.now.places.items c.back.place c.index-found.result.now c.back-test.true c.back.invariant.within c.index-found.ensures) in
-    sym (found_from (λ m. is_own c.args.session m && p m) c.args.marked.now c.index-found.result.now.number c.numbered-entry.result.now at.some at.within c.numbered-entry.ensures
-    (λ i m low is. c.back.invariant.none_later p answers above i m (subst (λ o. number_of o ≤ i) (sym here) low) (in_list c.args.marked.now i m is) is)
+    let at = the_place c.args.marked.now c.args.self.now.places.items (Of c.args.session) c.back.place c.index-found.result.now
+    c.back.invariant.group (place_there c.args.self.now.places.items c.back.place c.index-found.result.now c.back-test.true
+    c.back.invariant.within c.index-found.ensures) c.requires.index.places in
+    let here = (place_there c.args.self.now.places.items c.back.place c.index-found.result.now c.back-test.true c.back.invariant.within
+    c.index-found.ensures) in
+    sym (found_from (λ m. is_own c.args.session m && p m) c.args.marked.now c.index-found.result.now.number c.numbered-entry.result.now
+    at.some at.within c.numbered-entry.ensures
+    (λ i m low is. c.back.invariant.none_later p answers above i m (subst (λ o. number_of o ≤ i) (sym here) low)
+    (in_list c.args.marked.now i m is) is)
     (and_from _ _ (sym c.is_own.ensures ∙ c.if-is_own.true) (sym (answers _ _ c.test.ensures) ∙ c.if-test.true)))
 
 pub back-preserved : goal.back-preserved
 back-preserved g c =
-    let at = the_place c.args.marked.now c.args.self.now.places.items (Of c.args.session) c.back.place c.index-found.result.now c.back.invariant.group (place_there c.args.self.now.places.items c.back.place c.index-found.result.now c.back-test.true c.back.invariant.within c.index-found.ensures) c.requires.index.places in
+    let at = the_place c.args.marked.now c.args.self.now.places.items (Of c.args.session) c.back.place c.index-found.result.now
+    c.back.invariant.group (place_there c.args.self.now.places.items c.back.place c.index-found.result.now c.back-test.true
+    c.back.invariant.within c.index-found.ensures) c.requires.index.places in
     record {
       within = at.last.within;
-      group = next_group c.args.marked.now c.args.self.now.places.items (Of c.args.session) c.back.place c.index-found.result.now c.back.invariant.group (place_there c.args.self.now.places.items c.back.place c.index-found.result.now c.back-test.true c.back.invariant.within c.index-found.ensures) c.requires.index.places;
+      group = next_group c.args.marked.now c.args.self.now.places.items (Of c.args.session) c.back.place c.index-found.result.now
+          c.back.invariant.group (place_there c.args.self.now.places.items c.back.place c.index-found.result.now c.back-test.true
+          c.back.invariant.within c.index-found.ensures) c.requires.index.places;
       none_later = λ p answers above.
           let t : MarkedEntry → Bool = λ m. is_own c.args.session m && p m in
           elim c.if-from-upto.branch [
             | then-from-upto+else-is_own w ↦
-                step_none c.args.marked.now c.args.self.now.places.items (Of c.args.session) c.back.place c.index-found.result.now c.back.invariant.group (place_there c.args.self.now.places.items c.back.place c.index-found.result.now c.back-test.true c.back.invariant.within c.index-found.ensures) c.requires.index.places
-                t (length c.args.marked.now + 1) (and_out p (belongs (Of c.args.session))) (c.back.invariant.none_later p answers above) w.numbered-entry.result.now w.numbered-entry.ensures
+                step_none c.args.marked.now c.args.self.now.places.items (Of c.args.session) c.back.place c.index-found.result.now
+                c.back.invariant.group (place_there c.args.self.now.places.items c.back.place c.index-found.result.now c.back-test.true
+                c.back.invariant.within c.index-found.ensures) c.requires.index.places
+                t (length c.args.marked.now + 1) (and_out p (belongs (Of c.args.session))) (c.back.invariant.none_later p answers above)
+                w.numbered-entry.result.now w.numbered-entry.ensures
                 (grind arith)
             | else-from-upto+else-passed-upto w ↦
-                step_beyond c.args.marked.now c.args.self.now.places.items (Of c.args.session) c.back.place c.index-found.result.now c.back.invariant.group (place_there c.args.self.now.places.items c.back.place c.index-found.result.now c.back-test.true c.back.invariant.within c.index-found.ensures) c.requires.index.places
-                t (length c.args.marked.now + 1) (and_out p (belongs (Of c.args.session))) c.args.upto (omega (arith, w.if-from-upto.false, c.from.ensures)) above
+                step_beyond c.args.marked.now c.args.self.now.places.items (Of c.args.session) c.back.place c.index-found.result.now
+                c.back.invariant.group (place_there c.args.self.now.places.items c.back.place c.index-found.result.now c.back-test.true
+                c.back.invariant.within c.index-found.ensures) c.requires.index.places
+                t (length c.args.marked.now + 1) (and_out p (belongs (Of c.args.session))) c.args.upto
+                (omega (arith, w.if-from-upto.false, c.from.ensures)) above
           ];
     }
 
 pub returns : goal.returns
 returns g c = λ p answers above.
     let t : MarkedEntry → Bool = λ m. is_own c.args.session m && p m in
-    sym (none_from t c.args.marked.now 0 (λ i m low is. c.back.invariant.none_later p answers above i m (subst (λ j. number_at c.args.self.now.places.items j ≤ i) (sym c.back-test.false) (omega arith)) (in_list c.args.marked.now i m is) is))
+    sym (none_from t c.args.marked.now 0
+    (λ i m low is. c.back.invariant.none_later p answers above i m
+    (subst (λ j. number_at c.args.self.now.places.items j ≤ i) (sym c.back-test.false) (omega arith)) (in_list c.args.marked.now i m is)
+    is))
 
 pub slice_bounds-last-end : goal.slice_bounds-last-end
 slice_bounds-last-end g c =
-    let at = the_place c.args.marked.now c.args.self.now.places.items (Of c.args.session) c.back.place c.index-found.result.now c.back.invariant.group (place_there c.args.self.now.places.items c.back.place c.index-found.result.now c.back-test.true c.back.invariant.within c.index-found.ensures) c.requires.index.places in
+    let at = the_place c.args.marked.now c.args.self.now.places.items (Of c.args.session) c.back.place c.index-found.result.now
+    c.back.invariant.group (place_there c.args.self.now.places.items c.back.place c.index-found.result.now c.back-test.true
+    c.back.invariant.within c.index-found.ensures) c.requires.index.places in
     grind (arith, length-take-le)
 
 pub returns-then-passed-upto : goal.returns-then-passed-upto
-returns-then-passed-upto g c = λ p answers above. c.last.ensures (λ m. is_own c.args.session m && p m) (λ x b h. search (rules, answers)) ∙ last_upto (λ m. is_own c.args.session m && p m) c.args.marked.now c.args.upto above
+returns-then-passed-upto g c = λ p answers above. c.last.ensures (λ m. is_own c.args.session m && p m) (λ x b h. search (rules, answers))
+    ∙ last_upto (λ m. is_own c.args.session m && p m) c.args.marked.now c.args.upto above

@@ -10,7 +10,8 @@ abbrev pub invariant-back : goal.invariant-back
 invariant-back g l = record {
   within : l.place ≤ length l.self.places.items;
   group : is_of (Of l.session) (place_at l.self.places.items l.place) ≡ true;
-  none_later : (p : MarkedEntry → Bool) → Tests g.F.Fn p l.test → NoneFrom (λ m. is_own l.session m && p m) l.marked l.upto → NoneBetween (λ m. is_own l.session m && p m) l.marked (number_at l.self.places.items l.place) (length l.marked + 1);
+  none_later : (p : MarkedEntry → Bool) → Tests g.F.Fn p l.test → NoneFrom (λ m. is_own l.session m && p m) l.marked l.upto
+      → NoneBetween (λ m. is_own l.session m && p m) l.marked (number_at l.self.places.items l.place) (length l.marked + 1);
 }
 
 abbrev pub decreases-back : goal.decreases-back

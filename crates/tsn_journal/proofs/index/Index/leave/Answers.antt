@@ -25,9 +25,12 @@ returns-clause-newest c =
     let new = c.lower_session.new.self in
     elim c.match-added.branch [
       | in-Some w ↦
-          let last : MendsNewest ms own w.lower_parts.new.self new = subst (λ (a : Index). MendsNewest ms own a new) w.self-is c.lower_session.ensures.newest in
+          let last : MendsNewest ms own w.lower_parts.new.self new = subst (λ (a : Index). MendsNewest ms own a new) w.self-is
+          c.lower_session.ensures.newest in
           let is : Some (parts w.in-Some.change.now) ≡ adds e.what = ap option_copied (sym w.in-Some.is) ∙ c.added.ensures in
           subst (λ (o : Option Change). MendsNewest ms (groups_added o ++ own) old new) is
-          (mends_then ms _ own old w.lower_parts.new.self new (subst (λ ps. MendsNewest ms (groups_of_parts ps) old w.lower_parts.new.self) w.parts.ensures.parts w.lower_parts.ensures.newest) last)
+          (mends_then ms _ own old w.lower_parts.new.self new
+          (subst (λ ps. MendsNewest ms (groups_of_parts ps) old w.lower_parts.new.self) w.parts.ensures.parts
+          w.lower_parts.ensures.newest) last)
       | in_default w ↦ grind arith
     ]

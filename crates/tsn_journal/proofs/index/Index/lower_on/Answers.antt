@@ -12,7 +12,8 @@ use Rattle.tsn_journal.proofs.index.Index.lower_on.Goals as goal
 pub first_from-on-requires-clause-latest : goal.first_from-on-requires-clause-latest
 first_from-on-requires-clause-latest c =
     let g = On c.args.key.now in
-    subst (λ j. IsLast g (belongs g) c.args.marked.now c.args.self.now.places.items j (length c.args.marked.now + 1)) (sym c.key_places-latest.ensures.on) (c.requires.index.latest_is g)
+    subst (λ j. IsLast g (belongs g) c.args.marked.now c.args.self.now.places.items j (length c.args.marked.now + 1))
+    (sym c.key_places-latest.ensures.on) (c.requires.index.latest_is g)
 
 pub first_from-on-requires-clause-settled : goal.first_from-on-requires-clause-settled
 first_from-on-requires-clause-settled c = none_on c.args.key.now c.args.settled c.args.marked.now c.requires.off
@@ -24,7 +25,13 @@ returns-clause-index c =
     let key = c.args.key.now in
     let l = latest_of c.args.self.now.latest in
     let j = c.first_from-on.result in
-    let row : KeyPlaces = record { on = j; refers = c.key_places-latest.result.refers; touched = c.key_places-latest.result.touched; referred = c.key_places-latest.result.referred } in
+    let row : KeyPlaces = record {
+      on = j;
+      refers = c.key_places-latest.result.refers;
+      touched = c.key_places-latest.result.touched;
+      referred = c.key_places-latest.result.referred;
+    } in
     reindexed ms _ ps (set_at (On key) j l) (latest_of c.set_key.new.self)
-    (set_on c.args.self.now.latest c.set_key.new.self key row c.set_key.ensures.rows c.set_key.ensures.sessions c.key_places-latest.ensures.refers)
+    (set_on c.args.self.now.latest c.set_key.new.self key row c.set_key.ensures.rows c.set_key.ensures.sessions
+    c.key_places-latest.ensures.refers)
     (index_lowered ms ps l (On key) j c.requires.index c.first_from-on.ensures.last)

@@ -12,7 +12,8 @@ use Rattle.tsn_journal.proofs.index.Index.lower_ref.Goals as goal
 pub first_from-refers-requires-clause-latest : goal.first_from-refers-requires-clause-latest
 first_from-refers-requires-clause-latest c =
     let g = RefersTo c.in-Some.key in
-    subst (λ j. IsLast g (belongs g) c.args.marked.now c.args.self.now.places.items j (length c.args.marked.now + 1)) (sym c.key_places-latest.ensures.refers) (c.requires.index.latest_is g)
+    subst (λ j. IsLast g (belongs g) c.args.marked.now c.args.self.now.places.items j (length c.args.marked.now + 1))
+    (sym c.key_places-latest.ensures.refers) (c.requires.index.latest_is g)
 
 pub first_from-refers-requires-clause-settled : goal.first_from-refers-requires-clause-settled
 first_from-refers-requires-clause-settled c = none_refers c.in-Some.key c.args.settled c.args.marked.now c.requires.off
@@ -24,7 +25,13 @@ returns-clause-index c =
     let key = c.in-Some.key in
     let l = latest_of c.args.self.now.latest in
     let j = c.first_from-refers.result in
-    let row : KeyPlaces = record { on = c.key_places-latest.result.on; refers = j; touched = c.key_places-latest.result.touched; referred = c.key_places-latest.result.referred } in
+    let row : KeyPlaces = record {
+      on = c.key_places-latest.result.on;
+      refers = j;
+      touched = c.key_places-latest.result.touched;
+      referred = c.key_places-latest.result.referred;
+    } in
     reindexed ms _ ps (set_at (RefersTo key) j l) (latest_of c.set_key.new.self)
-    (set_refers c.args.self.now.latest c.set_key.new.self key row c.set_key.ensures.rows c.set_key.ensures.sessions c.key_places-latest.ensures.on)
+    (set_refers c.args.self.now.latest c.set_key.new.self key row c.set_key.ensures.rows c.set_key.ensures.sessions
+    c.key_places-latest.ensures.on)
     (index_lowered ms ps l (RefersTo key) j c.requires.index c.first_from-refers.ensures.last)

@@ -12,12 +12,14 @@ use Rattle.tsn_journal.proofs.index.Index.lower_session.Goals as goal
 pub first_from-standing-requires-clause-latest : goal.first_from-standing-requires-clause-latest
 first_from-standing-requires-clause-latest c =
     let g = Of c.args.session in
-    subst (λ j. IsLast g (belongs g) c.args.marked.now c.args.self.now.places.items j (length c.args.marked.now + 1)) (sym c.session_places-latest.ensures.standing) (c.requires.index.latest_is g)
+    subst (λ j. IsLast g (belongs g) c.args.marked.now c.args.self.now.places.items j (length c.args.marked.now + 1))
+    (sym c.session_places-latest.ensures.standing) (c.requires.index.latest_is g)
 
 pub first_from-ends_redo-requires-clause-latest : goal.first_from-ends_redo-requires-clause-latest
 first_from-ends_redo-requires-clause-latest c =
     let g = EndsRedo c.args.session in
-    subst (λ j. IsLast g (belongs g) c.args.marked.now c.args.self.now.places.items j (length c.args.marked.now + 1)) (sym c.session_places-latest.ensures.ends_redo) (c.requires.index.latest_is g)
+    subst (λ j. IsLast g (belongs g) c.args.marked.now c.args.self.now.places.items j (length c.args.marked.now + 1))
+    (sym c.session_places-latest.ensures.ends_redo) (c.requires.index.latest_is g)
 
 pub returns-clause-index : goal.returns-clause-index
 returns-clause-index c =
@@ -28,8 +30,10 @@ returns-clause-index c =
     let j = c.first_from-standing.result in
     let k = c.first_from-ends_redo.result in
     reindexed ms _ ps (set_at (EndsRedo s) k (set_at (Of s) j l)) (latest_of c.set_session.new.self)
-    (set_both c.args.self.now.latest c.set_session.new.self s (record { standing = j; ends_redo = k }) c.set_session.ensures.sessions c.set_session.ensures.keys)
-    (index_lowered ms ps (set_at (Of s) j l) (EndsRedo s) k (index_lowered ms ps l (Of s) j c.requires.index c.first_from-standing.ensures.last) c.first_from-ends_redo.ensures.last)
+    (set_both c.args.self.now.latest c.set_session.new.self s (record { standing = j; ends_redo = k }) c.set_session.ensures.sessions
+    c.set_session.ensures.keys)
+    (index_lowered ms ps (set_at (Of s) j l) (EndsRedo s) k
+    (index_lowered ms ps l (Of s) j c.requires.index c.first_from-standing.ensures.last) c.first_from-ends_redo.ensures.last)
 
 pub first_from-standing-requires-clause-settled : goal.first_from-standing-requires-clause-settled
 first_from-standing-requires-clause-settled c = none_own c.args.session c.args.settled c.args.marked.now c.requires.off
@@ -37,5 +41,7 @@ first_from-standing-requires-clause-settled c = none_own c.args.session c.args.s
 pub returns-clause-newest : goal.returns-clause-newest
 returns-clause-newest c =
     mends_two c.args.marked.now c.args.session c.first_from-standing.result c.first_from-ends_redo.result c.args.self.now _ refl
-    (set_both c.args.self.now.latest c.set_session.new.self c.args.session (record { standing = c.first_from-standing.result; ends_redo = c.first_from-ends_redo.result }) c.set_session.ensures.sessions c.set_session.ensures.keys)
+    (set_both c.args.self.now.latest c.set_session.new.self c.args.session
+    (record { standing = c.first_from-standing.result; ends_redo = c.first_from-ends_redo.result }) c.set_session.ensures.sessions
+    c.set_session.ensures.keys)
     c.first_from-standing.ensures.newest c.first_from-ends_redo.ensures.newest

@@ -14,17 +14,23 @@ back-init c =
     let ps = c.args.self.now.places.items in
     let g = Of c.args.session in
     let at = c.requires.index.latest_is g in
-    let none = none_after g (belongs g) c.args.marked.now ps c.session_places-place.result.standing (subst (λ j. IsLast g (belongs g) c.args.marked.now ps j (length c.args.marked.now + 1)) (sym c.session_places-place.ensures.standing) at) in
+    let none = none_after g (belongs g) c.args.marked.now ps c.session_places-place.result.standing
+    (subst (λ j. IsLast g (belongs g) c.args.marked.now ps j (length c.args.marked.now + 1))
+    (sym c.session_places-place.ensures.standing) at) in
     grind (arith, filter_none)
 
 pub numbered-entry-requires : goal.numbered-entry-requires
 numbered-entry-requires c =
-    let at = the_place c.args.marked.now c.args.self.now.places.items (Of c.args.session) c.back.place c.index-at.result.now c.back.invariant.group (place_there c.args.self.now.places.items c.back.place c.index-at.result.now c.back-test.true c.back.invariant.within c.index-at.ensures) c.requires.index.places in
+    let at = the_place c.args.marked.now c.args.self.now.places.items (Of c.args.session) c.back.place c.index-at.result.now
+    c.back.invariant.group (place_there c.args.self.now.places.items c.back.place c.index-at.result.now c.back-test.true
+    c.back.invariant.within c.index-at.ensures) c.requires.index.places in
     record { some = at.some; within = at.within }
 
 pub back-smaller : goal.back-smaller
 back-smaller c =
-    let at = the_place c.args.marked.now c.args.self.now.places.items (Of c.args.session) c.back.place c.index-at.result.now c.back.invariant.group (place_there c.args.self.now.places.items c.back.place c.index-at.result.now c.back-test.true c.back.invariant.within c.index-at.ensures) c.requires.index.places in
+    let at = the_place c.args.marked.now c.args.self.now.places.items (Of c.args.session) c.back.place c.index-at.result.now
+    c.back.invariant.group (place_there c.args.self.now.places.items c.back.place c.index-at.result.now c.back-test.true
+    c.back.invariant.within c.index-at.ensures) c.requires.index.places in
     omega (arith, at.earlier, c.back-test.true)
 
 pub back-preserved : goal.back-preserved
@@ -35,22 +41,30 @@ back-preserved c =
     let m = c.numbered-entry.result.now in
     let there = place_there ps c.back.place c.index-at.result.now c.back-test.true c.back.invariant.within c.index-at.ensures in
     let at = the_place ms ps g c.back.place c.index-at.result.now c.back.invariant.group there c.requires.index.places in
-    let back = sym (step_back ms ps g c.back.place c.index-at.result.now c.back.invariant.group there c.requires.index.places m c.numbered-entry.ensures) in
+    let back = sym (step_back ms ps g c.back.place c.index-at.result.now c.back.invariant.group there c.requires.index.places m
+    c.numbered-entry.ensures) in
     grind arith
 
 pub returns-then-from-settled : goal.returns-then-from-settled
 returns-then-from-settled c = grind (arith, place_there, none_before)
 
 pub slice_bounds-left-end : goal.slice_bounds-left-end
-slice_bounds-left-end c = (the_place c.args.marked.now c.args.self.now.places.items (Of c.args.session) c.back.place c.index-at.result.now c.back.invariant.group (place_there c.args.self.now.places.items c.back.place c.index-at.result.now c.back-test.true c.back.invariant.within c.index-at.ensures) c.requires.index.places).within
+slice_bounds-left-end c = (the_place c.args.marked.now c.args.self.now.places.items (Of c.args.session) c.back.place c.index-at.result.now
+    c.back.invariant.group (place_there c.args.self.now.places.items c.back.place c.index-at.result.now c.back-test.true
+    c.back.invariant.within c.index-at.ensures) c.requires.index.places).within
 
 pub returns-then-from-settled-2 : goal.returns-then-from-settled-2
 returns-then-from-settled-2 c =
     let ms = c.args.marked.now in
     let n = c.index-at.result.now.number in
-    let number : number_at c.args.self.now.places.items c.back.place ≡ n = ap number_of (place_there c.args.self.now.places.items c.back.place c.index-at.result.now c.back-test.true c.back.invariant.within c.index-at.ensures) in
+    let number : number_at c.args.self.now.places.items c.back.place
+    ≡ n = ap number_of (place_there c.args.self.now.places.items c.back.place c.index-at.result.now c.back-test.true
+    c.back.invariant.within c.index-at.ensures) in
     let t : MarkedEntry → Bool = belongs (Of c.args.session) in
     let first = c.tally_own-first.result in
-    subst (IsTally (c.back.entries + first.entries) (c.back.parts + first.parts)) (own_split c.args.session c.args.settled n ms c.requires.off (omega (arith, c.from.ensures, c.if-from-settled.false)))
-    (both_told first.entries first.parts c.back.entries c.back.parts (filter t (take (n - c.args.settled) (drop c.args.settled ms))) (filter t (drop n ms))
-    c.tally_own-first.ensures.tally (subst (λ k. IsTally c.back.entries c.back.parts (filter t (drop k ms))) number c.back.invariant.so_far))
+    subst (IsTally (c.back.entries + first.entries) (c.back.parts + first.parts))
+    (own_split c.args.session c.args.settled n ms c.requires.off (omega (arith, c.from.ensures, c.if-from-settled.false)))
+    (both_told first.entries first.parts c.back.entries c.back.parts (filter t (take (n - c.args.settled) (drop c.args.settled ms)))
+    (filter t (drop n ms))
+    c.tally_own-first.ensures.tally
+    (subst (λ k. IsTally c.back.entries c.back.parts (filter t (drop k ms))) number c.back.invariant.so_far))

@@ -13,5 +13,8 @@ loop-part-preserved c = λ ms e can is.
     let i = c.loop-part.part-index in
     let p = c.part-item.result in
     let at = c.part-item.is ∙ ap (λ xs. get_or xs i p) same in
-    next_told ms c.args.self.now e can c.args.change.now i p c.loop-part.latest c.told_part-with_part.result c.later_of-latest.result (omega (arith, ap length same)) at
-    (c.loop-part.invariant ms e can is) (c.told_part-with_part.ensures ms e can (on_part c.args.change.now i p e is (omega (arith, ap length same)) at)) c.later_of-latest.ensures
+    next_told ms c.args.self.now e can c.args.change.now i p c.loop-part.latest c.told_part-with_part.result c.later_of-latest.result
+    (omega (arith, ap length same)) at
+    (c.loop-part.invariant ms e can is)
+    (c.told_part-with_part.ensures ms e can (on_part c.args.change.now i p e is (omega (arith, ap length same)) at))
+    c.later_of-latest.ensures

@@ -7,4 +7,5 @@ pub returns : goal.returns
 returns c = λ e is. grind (arith, others_conflict)
 
 pub conflict_of_others-requires-clause-index : goal.conflict_of_others-requires-clause-index
-conflict_of_others-requires-clause-index c = subst (λ xs. IsIndexed xs c.self.inside.index) (sym c.deref.ensures.value) c.self.invariant.indexed
+conflict_of_others-requires-clause-index c =
+    subst (λ xs. IsIndexed xs c.self.inside.index) (sym c.deref.ensures.value) c.self.invariant.indexed

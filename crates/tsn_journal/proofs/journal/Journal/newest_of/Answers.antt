@@ -8,7 +8,8 @@ use Rattle.tsn_journal.proofs.Finders.{last_standing, own_agrees}
 use Rattle.tsn_journal.specs.Index.{IsIndexed}
 use Rattle.tsn_journal.proofs.journal.Journal.newest_of.Goals as goal
 
-looked_for : (s : ℕ) (looked : Option MarkedEntry) (now ms : List MarkedEntry) → IsJournal ms → looked ≡ last_where (is_own s) now → now ≡ ms
+looked_for : (s : ℕ) (looked : Option MarkedEntry) (now ms : List MarkedEntry) → IsJournal ms → looked ≡ last_where (is_own s) now
+    → now ≡ ms
     → option_map (λ (m : MarkedEntry). m.entry.number) looked ≡ option_map (λ (x : Applied). x.number) (last_of (entries_of ms) s)
 looked_for s looked now ms journal is same = grind (arith, last_standing, own_agrees)
 

@@ -17,7 +17,8 @@ use Rattle.tsn_journal.specs.Touched.{NewestTold}
 use Rattle.tsn_journal.proofs.journal.Journal.push.Goals as goal
 
 pub crossed_by-crossed-requires-clause-index : goal.crossed_by-crossed-requires-clause-index
-crossed_by-crossed-requires-clause-index c = subst (λ xs. IsIndexed xs c.self.inside.index) (sym c.deref.ensures.value) c.self.invariant.indexed
+crossed_by-crossed-requires-clause-index c =
+    subst (λ xs. IsIndexed xs c.self.inside.index) (sym c.deref.ensures.value) c.self.invariant.indexed
 
 pub enter-requires-clause-index : goal.enter-requires-clause-index
 enter-requires-clause-index c =
@@ -25,7 +26,8 @@ enter-requires-clause-index c =
     let same = sym (ap length c.deref_mut.ensures.value) ∙ c.deref_mut.ensures.len in
     subst (λ xs. IsIndexedButNewest xs c.self.inside.index) (sym c.deref-2.ensures.value)
     (pushed_index c.args.what c.args.session ms c.push_reserved.new.self.items
-    (pushed_items c.args.what c.args.session c.self.inside.marked.len c.len.result ms (drop (length c.put_off.new.marked) ms) c.put_off.new.marked c.push_reserved.new.self.items same c.len.ensures
+    (pushed_items c.args.what c.args.session c.self.inside.marked.len c.len.result ms (drop (length c.put_off.new.marked) ms)
+    c.put_off.new.marked c.push_reserved.new.self.items same c.len.ensures
     (c.put_off.ensures ∙ ap (map (mark_off c.args.what)) c.deref_mut.ensures.value) c.push_reserved.ensures.items)
     c.self.inside.index c.self.invariant.indexed)
 
@@ -36,11 +38,13 @@ enter-requires-clause-parts c =
     subst (NewestAdds c.deref-2.result.now) (sym c.added_parts-parts.ensures.parts)
     (subst (λ xs. NewestAdds xs (added_parts c.args.what)) (sym c.deref-2.ensures.value)
     (pushed_adds c.args.what c.args.session ms c.push_reserved.new.self.items
-    (pushed_items c.args.what c.args.session c.self.inside.marked.len c.len.result ms (drop (length c.put_off.new.marked) ms) c.put_off.new.marked c.push_reserved.new.self.items same c.len.ensures
+    (pushed_items c.args.what c.args.session c.self.inside.marked.len c.len.result ms (drop (length c.put_off.new.marked) ms)
+    c.put_off.new.marked c.push_reserved.new.self.items same c.len.ensures
     (c.put_off.ensures ∙ ap (map (mark_off c.args.what)) c.deref_mut.ensures.value) c.push_reserved.ensures.items)))
 
 pub leave-requires-clause-index : goal.leave-requires-clause-index
-leave-requires-clause-index c = subst (λ xs. IsIndexed xs c.enter.new.self) (c.deref-2.ensures.value ∙ sym c.deref-3.ensures.value) c.enter.ensures.index
+leave-requires-clause-index c =
+    subst (λ xs. IsIndexed xs c.enter.new.self) (c.deref-2.ensures.value ∙ sym c.deref-3.ensures.value) c.enter.ensures.index
 
 pub leave-requires-clause-numbered : goal.leave-requires-clause-numbered
 leave-requires-clause-numbered c =
@@ -49,7 +53,8 @@ leave-requires-clause-numbered c =
     let room : 1 ≤ c.self.inside.room = subst (λ (l : Log). 1 ≤ l.spare) (sym c.self.view_is) c.requires.room in
     subst (λ xs. IsNumbered 1 (entries_of xs)) (sym c.deref-3.ensures.value)
     (pushed_numbered c.args.what c.args.session ms c.push_reserved.new.self.items
-    (pushed_items c.args.what c.args.session c.self.inside.marked.len c.len.result ms (drop (length c.put_off.new.marked) ms) c.put_off.new.marked c.push_reserved.new.self.items same c.len.ensures
+    (pushed_items c.args.what c.args.session c.self.inside.marked.len c.len.result ms (drop (length c.put_off.new.marked) ms)
+    c.put_off.new.marked c.push_reserved.new.self.items same c.len.ensures
     (c.put_off.ensures ∙ ap (map (mark_off c.args.what)) c.deref_mut.ensures.value) c.push_reserved.ensures.items)
     c.self.invariant.journal (omega (arith, c.self.invariant.few, same, room)))
 
@@ -59,9 +64,11 @@ leave-requires-clause-off c =
     let same = sym (ap length c.deref_mut.ensures.value) ∙ c.deref_mut.ensures.len in
     subst (AreOff c.max-settled.result) (sym c.deref-3.ensures.value)
     (off_more c.args.what c.args.session ms c.push_reserved.new.self.items
-    (pushed_items c.args.what c.args.session c.self.inside.marked.len c.len.result ms (drop (length c.put_off.new.marked) ms) c.put_off.new.marked c.push_reserved.new.self.items same c.len.ensures
+    (pushed_items c.args.what c.args.session c.self.inside.marked.len c.len.result ms (drop (length c.put_off.new.marked) ms)
+    c.put_off.new.marked c.push_reserved.new.self.items same c.len.ensures
     (c.put_off.ensures ∙ ap (map (mark_off c.args.what)) c.deref_mut.ensures.value) c.push_reserved.ensures.items)
-    c.self.inside.settled c.max-settled.result c.self.invariant.journal (omega (arith, c.self.invariant.settled_there, same)) (settles_there c.args.what ms _ _ c.self.view_is refl c.requires.settles)
+    c.self.inside.settled c.max-settled.result c.self.invariant.journal (omega (arith, c.self.invariant.settled_there, same))
+    (settles_there c.args.what ms _ _ c.self.view_is refl c.requires.settles)
     (c.max-settled.ensures ∙ ap (max c.self.inside.settled) c.settles_to.ensures) c.self.invariant.off)
 
 pub invariant_of-self : goal.invariant_of-self
@@ -69,51 +76,76 @@ invariant_of-self c =
     let ms = c.self.inside.marked.items in
     let same = sym (ap length c.deref_mut.ensures.value) ∙ c.deref_mut.ensures.len in
     kept_pushed c.args.what c.args.session ms c.push_reserved.new.self.items
-    (pushed_items c.args.what c.args.session c.self.inside.marked.len c.len.result ms (drop (length c.put_off.new.marked) ms) c.put_off.new.marked c.push_reserved.new.self.items same c.len.ensures
+    (pushed_items c.args.what c.args.session c.self.inside.marked.len c.len.result ms (drop (length c.put_off.new.marked) ms)
+    c.put_off.new.marked c.push_reserved.new.self.items same c.len.ensures
     (c.put_off.ensures ∙ ap (map (mark_off c.args.what)) c.deref_mut.ensures.value) c.push_reserved.ensures.items)
-    (vec_len c.self.inside.marked) (vec_capacity c.self.inside.marked) _ _ c.self.inside.room c.self.inside.parts c.added_parts-parts.result c.self.inside.settled c.max-settled.result c.self.inside.crossed c.crossed_by-crossed.result c.self.inside.index c.leave.new.index
+    (vec_len c.self.inside.marked) (vec_capacity c.self.inside.marked) _ _ c.self.inside.room c.self.inside.parts c.added_parts-parts.result
+    c.self.inside.settled c.max-settled.result c.self.inside.crossed c.crossed_by-crossed.result c.self.inside.index c.leave.new.index
     (subst (λ (l : Log). 1 ≤ l.spare) (sym c.self.view_is) c.requires.room)
-    (subst (λ (l : Log). c.added_parts-parts.result ≤ l.parts) (sym c.self.view_is) (omega (arith, c.added_parts-parts.ensures.parts, c.requires.parts)))
+    (subst (λ (l : Log). c.added_parts-parts.result ≤ l.parts) (sym c.self.view_is)
+    (omega (arith, c.added_parts-parts.ensures.parts, c.requires.parts)))
     c.added_parts-parts.ensures.few c.self.invariant
     (pushed_free c.args.what c.args.session ms c.push_reserved.new.self.items
-    (pushed_items c.args.what c.args.session c.self.inside.marked.len c.len.result ms (drop (length c.put_off.new.marked) ms) c.put_off.new.marked c.push_reserved.new.self.items same c.len.ensures
+    (pushed_items c.args.what c.args.session c.self.inside.marked.len c.len.result ms (drop (length c.put_off.new.marked) ms)
+    c.put_off.new.marked c.push_reserved.new.self.items same c.len.ensures
     (c.put_off.ensures ∙ ap (map (mark_off c.args.what)) c.deref_mut.ensures.value) c.push_reserved.ensures.items)
-    c.self.inside.crossed c.crossed_by-crossed.result c.self.invariant.free (subst (NoneCrossed c.crossed_by-crossed.result (adds c.args.what) c.args.session) c.deref.ensures.value c.crossed_by-crossed.ensures.free) c.crossed_by-crossed.ensures.rises)
+    c.self.inside.crossed c.crossed_by-crossed.result c.self.invariant.free
+    (subst (NoneCrossed c.crossed_by-crossed.result (adds c.args.what) c.args.session) c.deref.ensures.value
+    c.crossed_by-crossed.ensures.free) c.crossed_by-crossed.ensures.rises)
     (pushed_referred c.args.what c.args.session ms c.push_reserved.new.self.items
-    (pushed_items c.args.what c.args.session c.self.inside.marked.len c.len.result ms (drop (length c.put_off.new.marked) ms) c.put_off.new.marked c.push_reserved.new.self.items same c.len.ensures
+    (pushed_items c.args.what c.args.session c.self.inside.marked.len c.len.result ms (drop (length c.put_off.new.marked) ms)
+    c.put_off.new.marked c.push_reserved.new.self.items same c.len.ensures
     (c.put_off.ensures ∙ ap (map (mark_off c.args.what)) c.deref_mut.ensures.value) c.push_reserved.ensures.items)
     c.self.inside.crossed c.crossed_by-crossed.result c.self.invariant.referred c.crossed_by-crossed.ensures.rises
     (λ le. c.crossed_by-crossed.ensures.own (subst (λ xs. c.crossed_by-crossed.result ≤ length xs) (sym c.deref.ensures.value) le)))
-    (subst (λ xs. IsRaised c.self.inside.crossed c.crossed_by-crossed.result xs c.args.session (adds c.args.what)) c.deref.ensures.value c.crossed_by-crossed.ensures.raised)
-    (settles_there c.args.what ms _ _ c.self.view_is refl c.requires.settles) (c.max-settled.ensures ∙ ap (max c.self.inside.settled) c.settles_to.ensures) same c.push_reserved.ensures.len c.push_reserved.ensures.capacity
+    (subst (λ xs. IsRaised c.self.inside.crossed c.crossed_by-crossed.result xs c.args.session (adds c.args.what)) c.deref.ensures.value
+    c.crossed_by-crossed.ensures.raised)
+    (settles_there c.args.what ms _ _ c.self.view_is refl c.requires.settles)
+    (c.max-settled.ensures ∙ ap (max c.self.inside.settled) c.settles_to.ensures) same c.push_reserved.ensures.len
+    c.push_reserved.ensures.capacity
     (subst (λ xs. IsIndexed xs c.leave.new.index) c.deref-3.ensures.value c.leave.ensures.index)
-    (newest_again c.args.what ms (new_entry ms c.args.session c.args.what) c.self.inside.index c.self.invariant.indexed c.self.invariant.journal.numbered c.self.inside.settled c.max-settled.result c.enter.new.self c.leave.new.index c.push_reserved.new.self.items
-    (pushed_items c.args.what c.args.session c.self.inside.marked.len c.len.result ms (drop (length c.put_off.new.marked) ms) c.put_off.new.marked c.push_reserved.new.self.items same c.len.ensures
+    (newest_again c.args.what ms (new_entry ms c.args.session c.args.what) c.self.inside.index c.self.invariant.indexed
+    c.self.invariant.journal.numbered c.self.inside.settled c.max-settled.result c.enter.new.self c.leave.new.index
+    c.push_reserved.new.self.items
+    (pushed_items c.args.what c.args.session c.self.inside.marked.len c.len.result ms (drop (length c.put_off.new.marked) ms)
+    c.put_off.new.marked c.push_reserved.new.self.items same c.len.ensures
     (c.put_off.ensures ∙ ap (map (mark_off c.args.what)) c.deref_mut.ensures.value) c.push_reserved.ensures.items)
     c.self.invariant.off (c.max-settled.ensures ∙ ap (max c.self.inside.settled) c.settles_to.ensures) c.self.invariant.newest
     (subst (λ xs. KeepsNewest xs c.self.inside.index c.enter.new.self) c.deref-2.ensures.value c.enter.ensures.newest)
     (subst (λ xs. KeepsNewest xs c.enter.new.self c.leave.new.index) c.deref-3.ensures.value c.leave.ensures.newest)
-    (λ n m is there. subst (λ xs. MendsNewest xs (groups_of m.entry) c.enter.new.self c.leave.new.index) c.deref-3.ensures.value (c.leave.ensures.named n m (c.names-taken_back.ensures ∙ is) (ap (find (λ (y : MarkedEntry). y.entry.number == n)) c.deref-3.ensures.value ∙ there)))
-    (λ i m low high there. subst (λ xs. MendsNewest xs (groups_of m.entry) c.enter.new.self c.leave.new.index) c.deref-3.ensures.value (c.leave.ensures.settled i m low high (ap (λ xs. slice_get xs i) c.deref-3.ensures.value ∙ there)))
+    (λ n m is there. subst (λ xs. MendsNewest xs (groups_of m.entry) c.enter.new.self c.leave.new.index) c.deref-3.ensures.value
+    (c.leave.ensures.named n m (c.names-taken_back.ensures ∙ is)
+    (ap (find (λ (y : MarkedEntry). y.entry.number == n)) c.deref-3.ensures.value ∙ there)))
+    (λ i m low high there. subst (λ xs. MendsNewest xs (groups_of m.entry) c.enter.new.self c.leave.new.index) c.deref-3.ensures.value
+    (c.leave.ensures.settled i m low high (ap (λ xs. slice_get xs i) c.deref-3.ensures.value ∙ there)))
     (pushed_numbered c.args.what c.args.session ms c.push_reserved.new.self.items
-    (pushed_items c.args.what c.args.session c.self.inside.marked.len c.len.result ms (drop (length c.put_off.new.marked) ms) c.put_off.new.marked c.push_reserved.new.self.items same c.len.ensures
+    (pushed_items c.args.what c.args.session c.self.inside.marked.len c.len.result ms (drop (length c.put_off.new.marked) ms)
+    c.put_off.new.marked c.push_reserved.new.self.items same c.len.ensures
     (c.put_off.ensures ∙ ap (map (mark_off c.args.what)) c.deref_mut.ensures.value) c.push_reserved.ensures.items)
-    c.self.invariant.journal (omega (arith, c.self.invariant.few, same, (let room : 1 ≤ c.self.inside.room = subst (λ (l : Log). 1 ≤ l.spare) (sym c.self.view_is) c.requires.room in room)))))
+    c.self.invariant.journal (omega (
+      arith,
+      c.self.invariant.few,
+      same,
+      (let room : 1 ≤ c.self.inside.room = subst (λ (l : Log). 1 ≤ l.spare) (sym c.self.view_is) c.requires.room in room),
+    ))))
     (tells_same (entries_of c.push_reserved.new.self.items) c.enter.new.self c.leave.new.index c.leave.ensures.tells
     (pushed_tells c.args.what c.args.session ms c.push_reserved.new.self.items
-    (pushed_items c.args.what c.args.session c.self.inside.marked.len c.len.result ms (drop (length c.put_off.new.marked) ms) c.put_off.new.marked c.push_reserved.new.self.items same c.len.ensures
+    (pushed_items c.args.what c.args.session c.self.inside.marked.len c.len.result ms (drop (length c.put_off.new.marked) ms)
+    c.put_off.new.marked c.push_reserved.new.self.items same c.len.ensures
     (c.put_off.ensures ∙ ap (map (mark_off c.args.what)) c.deref_mut.ensures.value) c.push_reserved.ensures.items)
     c.self.inside.index c.enter.new.self c.self.invariant.journal.numbered c.self.invariant.tells
     (subst (λ xs. NewestTold xs (length xs) c.self.inside.index c.enter.new.self) c.deref-2.ensures.value c.enter.ensures.told)))
     (subst (λ n. TakesRoom n c.self.inside.index c.leave.new.index) (add-zero (places_for 1 c.added_parts-parts.result))
-    (takes_more (places_for 1 c.added_parts-parts.result) 0 c.self.inside.index c.enter.new.self c.leave.new.index c.enter.ensures.room c.leave.ensures.room))
+    (takes_more (places_for 1 c.added_parts-parts.result) 0 c.self.inside.index c.enter.new.self c.leave.new.index c.enter.ensures.room
+    c.leave.ensures.room))
 
 pub returns-clause-entries : goal.returns-clause-entries
 returns-clause-entries c =
     let ms = c.self.inside.marked.items in
     let same = sym (ap length c.deref_mut.ensures.value) ∙ c.deref_mut.ensures.len in
     ap entries_of
-    (pushed_items c.args.what c.args.session c.self.inside.marked.len c.len.result ms (drop (length c.put_off.new.marked) ms) c.put_off.new.marked c.push_reserved.new.self.items same c.len.ensures
+    (pushed_items c.args.what c.args.session c.self.inside.marked.len c.len.result ms (drop (length c.put_off.new.marked) ms)
+    c.put_off.new.marked c.push_reserved.new.self.items same c.len.ensures
     (c.put_off.ensures ∙ ap (map (mark_off c.args.what)) c.deref_mut.ensures.value) c.push_reserved.ensures.items)
     ∙ entries_pushed ms c.args.session c.args.what
     ∙ ap (λ (l : Log). with_entry l.entries c.args.session c.args.what) c.self.view_is

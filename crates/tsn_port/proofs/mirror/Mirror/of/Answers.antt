@@ -7,7 +7,8 @@ pub returns-clause-mirrors : goal.returns-clause-mirrors
 returns-clause-mirrors c of_port =
     let es = c.args.entries.now in
     let opening = first_record c.args.port es c.args.shown.now in
-    let first = c.in_ok-first.ensures ∙ c.first_record.ensures ∙ ap (λ xs. first_record c.args.port xs c.args.shown.now) c.as_slice.ensures in
+    let first = c.in_ok-first.ensures ∙ c.first_record.ensures
+    ∙ ap (λ xs. first_record c.args.port xs c.args.shown.now) c.as_slice.ensures in
     let begun = subst (λ q. Mirrors c.new-mirror.result q []) first c.new-mirror.ensures.mirrors in
     let of_mirror = subst (λ n. AreOfPort n (mirrored n opening []) es) (sym c.new-mirror.ensures.port) of_port in
     let taken = c.take.ensures.taken opening [] begun of_mirror in

@@ -9,6 +9,7 @@ each-preserved c =
       c.take_one.ensures.port ∙ port,
       omega (arith, c.in-Ok.ensures.front, c.each.invariant.1),
       λ opening before mirrors of_port.
-          next_taken c.each.self c.take_one.new.self c.args.self.now.port opening before c.as_slice-all.result.now c.each.entry-index c.entry-item.result c.each-test.true c.entry-item.is port c.take_one.ensures.port c.in-Ok.ensures.front c.in-Ok.ensures.shows
+          next_taken c.each.self c.take_one.new.self c.args.self.now.port opening before c.as_slice-all.result.now c.each.entry-index
+          c.entry-item.result c.each-test.true c.entry-item.is port c.take_one.ensures.port c.in-Ok.ensures.front c.in-Ok.ensures.shows
           of_port (was opening before mirrors of_port),
     )

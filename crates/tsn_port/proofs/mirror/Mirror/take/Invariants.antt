@@ -9,4 +9,6 @@ abbrev pub invariant-each : goal.invariant-each
 invariant-each l =
     (l.self.port ≡ l.initial.self.port)
     × (l.self.front ≡ l.initial.self.front + l.entry-index)
-    × ((opening : PortGates) (before : List Entry) → Mirrors l.initial.self opening before → AreOfPort l.initial.self.port (mirrored l.initial.self.port opening before) l.all → Mirrors l.self opening (before ++ take l.entry-index l.all))
+    × ((opening : PortGates) (before : List Entry) → Mirrors l.initial.self opening before
+    → AreOfPort l.initial.self.port (mirrored l.initial.self.port opening before) l.all
+    → Mirrors l.self opening (before ++ take l.entry-index l.all))

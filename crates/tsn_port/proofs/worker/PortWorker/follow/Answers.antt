@@ -9,32 +9,62 @@ use Rattle.tsn_port.proofs.worker.PortWorker.follow.Goals as goal
 
 pub read_behind-seat-requires : goal.read_behind-seat-requires
 read_behind-seat-requires g c =
-    let w = c.requires.1 in
-    (c.requires.0, w.reached, given_on (first_of c.args.desk.now) w.reached (last_seen c.args.self.now) (seen c.args.seat) c.args.self.now.session c.requires.2 w.given)
+    let w = c.requires.1 in (
+      c.requires.0,
+      w.reached,
+      given_on (first_of c.args.desk.now) w.reached (last_seen c.args.self.now) (seen c.args.seat)
+          c.args.self.now.session c.requires.2 w.given,
+    )
 
 pub returns-in-Ok-taken-clause-worker : goal.returns-in-Ok-taken-clause-worker
 returns-in-Ok-taken-clause-worker g c =
-    let w : PortWorker = record { mirror = c.take-taken.new.self; session = c.args.self.now.session; place = c.in-Ok-read.told.1; is_short = c.is_err-self.result; last = c.of.result } in
+    let w : PortWorker = record {
+      mirror = c.take-taken.new.self;
+      session = c.args.self.now.session;
+      place = c.in-Ok-read.told.1;
+      is_short = c.is_err-self.result;
+      last = c.of.result;
+    } in
     let read = rw c.in-Ok-read.is at c.read_behind-seat.ensures.read in
     let after : c.in-Ok.after ≡ c.args.self.now.mirror.front = search rules in
-    let behind : HasRead c.args.desk.now c.args.seat c.args.self.now.session c.args.self.now.mirror.front c.in-Ok-read.told.0 c.in-Ok-read.told.1 c.read_behind-seat.result.0 = rw (sym after) read in
-    let took : TookSome c.args.self.now.mirror c.in-Ok-read.told.0 c.take-taken.new.self = record { port = c.take-taken.ensures.port; more = c.take-taken.ensures.front.0; most = c.take-taken.ensures.front.1; taken = c.take-taken.ensures.taken } in
+    let behind : HasRead c.args.desk.now c.args.seat c.args.self.now.session c.args.self.now.mirror.front c.in-Ok-read.told.0
+    c.in-Ok-read.told.1 c.read_behind-seat.result.0 = rw (sym after) read in
+    let took : TookSome c.args.self.now.mirror c.in-Ok-read.told.0 c.take-taken.new.self = record {
+      port = c.take-taken.ensures.port;
+      more = c.take-taken.ensures.front.0;
+      most = c.take-taken.ensures.front.1;
+      taken = c.take-taken.ensures.taken;
+    } in
     let last : last_seen w ≡ seen c.read_behind-seat.result.0 = ap (λ s. seen s) c.of.ensures in (
-      follows c.args.desk.now c.args.self.now w c.requires.1 c.args.seat c.read_behind-seat.result.0 c.requires.2 c.in-Ok-read.told.0 c.in-Ok-read.told.1 behind took refl refl last (λ _. rw c.in-Ok-taken.is at c.take-taken.ensures.all),
+      follows c.args.desk.now c.args.self.now w c.requires.1 c.args.seat c.read_behind-seat.result.0 c.requires.2 c.in-Ok-read.told.0
+          c.in-Ok-read.told.1 behind took refl refl last (λ _. rw c.in-Ok-taken.is at c.take-taken.ensures.all),
       ([], append-nil (last_seen w) ∙ last),
       c.take-taken.ensures.port,
     )
 
 pub returns-clause-worker : goal.returns-clause-worker
 returns-clause-worker g c =
-    let w : PortWorker = record { mirror = c.take-taken.new.self; session = c.args.self.now.session; place = c.in-Ok-read.told.1; is_short = c.is_err-self.result; last = c.of.result } in
+    let w : PortWorker = record {
+      mirror = c.take-taken.new.self;
+      session = c.args.self.now.session;
+      place = c.in-Ok-read.told.1;
+      is_short = c.is_err-self.result;
+      last = c.of.result;
+    } in
     let read = rw c.in-Ok-read.is at c.read_behind-seat.ensures.read in
     let after : c.in-Ok.after ≡ c.args.self.now.mirror.front = search rules in
-    let behind : HasRead c.args.desk.now c.args.seat c.args.self.now.session c.args.self.now.mirror.front c.in-Ok-read.told.0 c.in-Ok-read.told.1 c.read_behind-seat.result.0 = rw (sym after) read in
-    let took : TookSome c.args.self.now.mirror c.in-Ok-read.told.0 c.take-taken.new.self = record { port = c.take-taken.ensures.port; more = c.take-taken.ensures.front.0; most = c.take-taken.ensures.front.1; taken = c.take-taken.ensures.taken } in
+    let behind : HasRead c.args.desk.now c.args.seat c.args.self.now.session c.args.self.now.mirror.front c.in-Ok-read.told.0
+    c.in-Ok-read.told.1 c.read_behind-seat.result.0 = rw (sym after) read in
+    let took : TookSome c.args.self.now.mirror c.in-Ok-read.told.0 c.take-taken.new.self = record {
+      port = c.take-taken.ensures.port;
+      more = c.take-taken.ensures.front.0;
+      most = c.take-taken.ensures.front.1;
+      taken = c.take-taken.ensures.taken;
+    } in
     let last : last_seen w ≡ seen c.read_behind-seat.result.0 = ap (λ s. seen s) c.of.ensures in
     let short : c.is_err-self.result ≡ true = c.is_err-self.ensures.value ∙ ap is_err c.in-Err-taken.is in (
-      follows c.args.desk.now c.args.self.now w c.requires.1 c.args.seat c.read_behind-seat.result.0 c.requires.2 c.in-Ok-read.told.0 c.in-Ok-read.told.1 behind took refl refl last (λ long. absurd (let never : true ≡ false = sym short ∙ long in (cc))),
+      follows c.args.desk.now c.args.self.now w c.requires.1 c.args.seat c.read_behind-seat.result.0 c.requires.2 c.in-Ok-read.told.0
+          c.in-Ok-read.told.1 behind took refl refl last (λ long. absurd (let never : true ≡ false = sym short ∙ long in (cc))),
       ([], append-nil (last_seen w) ∙ last),
       c.take-taken.ensures.port,
     )

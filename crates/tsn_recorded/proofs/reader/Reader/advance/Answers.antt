@@ -31,7 +31,8 @@ invariant_of-self-in-None-stamp_of_line c =
     record {
       at_hand = omega arith;
       parts = λ some. absurd (omega (arith, some));
-      none = λ is. none_behind c.self.inside.chain c.line_len.new.self c.bytes-2.result.now c.in-Some.count c.in-Some.ensures.line c.bytes-2.ensures c.in-None-stamp_of_line.ensures.none;
+      none = λ is. none_behind c.self.inside.chain c.line_len.new.self c.bytes-2.result.now c.in-Some.count c.in-Some.ensures.line
+          c.bytes-2.ensures c.in-None-stamp_of_line.ensures.none;
       all = λ is. absurd (false≢true (sym is));
       size = omega (arith, at_hand, size, same, rest);
       count = c.self.invariant.count;
@@ -43,7 +44,8 @@ returns-in-None-stamp_of_line-clause-reads c fed rs given =
     let P : Standing → Type 0 = λ s. HasGiven fed rs s in
     let Q : List ℕ → Type 0 = λ t. (more : List ℕ) → BeginsWithNone chain (t ++ more) in
     let none = subst Q (c.line_len.ensures.stays ∙ c.pass.ensures)
-    (none_behind c.self.inside.chain c.line_len.new.self c.bytes-2.result.now c.in-Some.count c.in-Some.ensures.line c.bytes-2.ensures c.in-None-stamp_of_line.ensures.none) in
+    (none_behind c.self.inside.chain c.line_len.new.self c.bytes-2.result.now c.in-Some.count c.in-Some.ensures.line c.bytes-2.ensures
+    c.in-None-stamp_of_line.ensures.none) in
     given_reads fed rs _ (subst P (sym c.self.view_is) given) (λ more size. none more)
 
 pub returns-clause-given : goal.returns-clause-given

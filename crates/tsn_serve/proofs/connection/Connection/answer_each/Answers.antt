@@ -30,13 +30,15 @@ returns-in-Err-clause-front g c =
     let broken = c.in-Err.ensures.broken in
     let row : IsRow (drop done bytes) (r ∷ rs) rest = subst (λ l. IsRow (drop done bytes) l rest) c.in-Some.ensures.steps.0 inv.0.1 in
     let all : (line : Option (List ℕ)) → MayRead line r.read → BreaksTalk c.lines.self line c.in-Err.fault broken.0 new =
-    subst (λ (s : Caller). (line : Option (List ℕ)) → MayRead line r.read → BreaksTalk s line c.in-Err.fault broken.0 new) c.leave_unless.ensures broken.1 in
+    subst (λ (s : Caller). (line : Option (List ℕ)) → MayRead line r.read → BreaksTalk s line c.in-Err.fault broken.0 new)
+    c.leave_unless.ensures broken.1 in
     let here = broken_front (drop done bytes) r rs rest row Talks BreaksTalk c.in-Err.fault c.lines.self broken.0 new all in (
       c.in-Err.ensures.fault,
       (
         inv.3.0 ++ broken.0,
         broken_as Talks BreaksTalk c.in-Err.fault c.args.self.now new (Some []) _ bytes (inv.3.0 ++ broken.0) (take-append-drop done bytes)
-            (broken_after Talks BreaksTalk c.in-Err.fault c.args.self.now c.lines.self new (Some []) (Some []) (take done bytes) (drop done bytes) inv.3.0 broken.0 inv.3.1 here),
+            (broken_after Talks BreaksTalk c.in-Err.fault c.args.self.now c.lines.self new (Some []) (Some []) (take done bytes)
+            (drop done bytes) inv.3.0 broken.0 inv.3.1 here),
         Appends-trans _ _ _ _ _ inv.3.2 broken.2,
       ),
     )
@@ -61,8 +63,10 @@ lines-preserved g c =
       omega (arith, length-append c.lines.yielded (r ∷ []), inv.2, row.5),
       (
         inv.3.0 ++ ok.0,
-        fed_as Talks c.args.self.now new (Some []) (Some []) _ (take (done + r.count) bytes) (inv.3.0 ++ ok.0) (sym (take-add done r.count bytes))
-            (fed_more Talks c.args.self.now c.lines.self new (Some []) (Some []) (Some []) (take done bytes) (take r.count (drop done bytes)) inv.3.0 ok.0 inv.3.1 here),
+        fed_as Talks c.args.self.now new (Some []) (Some []) _ (take (done + r.count) bytes) (inv.3.0 ++ ok.0)
+            (sym (take-add done r.count bytes))
+            (fed_more Talks c.args.self.now c.lines.self new (Some []) (Some []) (Some []) (take done bytes)
+            (take r.count (drop done bytes)) inv.3.0 ok.0 inv.3.1 here),
         Appends-trans _ _ _ _ _ inv.3.2 ok.2,
       ),
       c.in_default.ensures.worked (λ e. cc) ∙ inv.4,

@@ -11,5 +11,6 @@ invariant-lines g l =
     ((rest : List ℕ) × IsRow (drop l.done l._bytes) l.line-iterator.rest.items rest)
     × (l.done ≤ length l._bytes)
     × (length l.yielded ≤ l.done)
-    × ((text : List ℕ) × Feeds Talks l.initial.self (Some []) (take l.done l._bytes) text l.self (Some []) × Appends (g.O.ByteOut.taken l.initial.writer) (g.O.ByteOut.taken l.writer) text)
+    × ((text : List ℕ) × Feeds Talks l.initial.self (Some []) (take l.done l._bytes) text l.self (Some [])
+    × Appends (g.O.ByteOut.taken l.initial.writer) (g.O.ByteOut.taken l.writer) text)
     × (g.O.ByteOut.has_failed l.writer ≡ g.O.ByteOut.has_failed l.initial.writer)

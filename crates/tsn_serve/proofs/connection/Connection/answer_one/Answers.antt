@@ -5,10 +5,24 @@ use Rattle.tsn_serve.proofs.connection.Connection.answer_one.Goals as goal
 
 pub returns-in-Ok-clause-front : goal.returns-in-Ok-clause-front
 returns-in-Ok-clause-front g c =
-    let ok = c.in-Ok.ensures.ok in
-    (c.requires.0, c.requires.1, (ok.0, fed_front c.args._bytes.now c.args.line [] _ c.requires.2 Talks c.args.self.now ok.0 c.answer_read.new.self ok.1, ok.2))
+    let ok = c.in-Ok.ensures.ok in (
+      c.requires.0,
+      c.requires.1,
+      (
+        ok.0,
+        fed_front c.args._bytes.now c.args.line [] _ c.requires.2 Talks c.args.self.now ok.0 c.answer_read.new.self ok.1,
+        ok.2,
+      ),
+    )
 
 pub returns-in-Err-clause-front : goal.returns-in-Err-clause-front
 returns-in-Err-clause-front g c =
-    let broken = c.in-Err.ensures.broken in
-    (c.in-Err.ensures.fault, (broken.0, broken_front c.args._bytes.now c.args.line [] _ c.requires.2 Talks BreaksTalk c.in-Err.fault c.args.self.now broken.0 c.answer_read.new.self broken.1, broken.2))
+    let broken = c.in-Err.ensures.broken in (
+      c.in-Err.ensures.fault,
+      (
+        broken.0,
+        broken_front c.args._bytes.now c.args.line [] _ c.requires.2 Talks BreaksTalk c.in-Err.fault
+            c.args.self.now broken.0 c.answer_read.new.self broken.1,
+        broken.2,
+      ),
+    )

@@ -15,4 +15,5 @@ returns-clause-ok g c =
     let turned : HasTurned {D = ghosts} Turns desk c.in-Some.seat c.args.ask c.in-Ok.turn.place reply new =
     rw c.in-Ok.is at c.turn_from-seat.ensures.turn in
     subst (λ (x : Caller). Calls x c.args.ask reply (caller_of desk new c.latest_after-self-inside.result)) c.self.view_is
-    (turn_calls {D = ghosts} desk c.self.inside.seat c.in-Some.seat new c.args.ask c.in-Ok.turn.place reply c.self.inside.latest c.latest_after-self-inside.result there c.turn_from-seat.ensures.own.1 turned c.latest_after-self-inside.ensures)
+    (turn_calls {D = ghosts} desk c.self.inside.seat c.in-Some.seat new c.args.ask c.in-Ok.turn.place reply c.self.inside.latest
+    c.latest_after-self-inside.result there c.turn_from-seat.ensures.own.1 turned c.latest_after-self-inside.ensures)

@@ -26,4 +26,5 @@ pub returns-else-id-upper : goal.returns-else-id-upper
 returns-else-id-upper c =
     let upper = c.divide.new.upper in
     let put = put_fits c.args.id upper _ _ c.put-else-id-upper.ensures (omega (arith, c.divide.ensures.upper)) in
-    in_upper c.args.id _ (numbers_in c.divide.new.self) upper.least upper.more.items _ c.divide.ensures.numbers c.if-id-upper.false c.requires.rising put
+    in_upper c.args.id _ (numbers_in c.divide.new.self) upper.least upper.more.items _ c.divide.ensures.numbers c.if-id-upper.false
+    c.requires.rising put

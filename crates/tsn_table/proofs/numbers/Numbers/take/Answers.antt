@@ -8,4 +8,5 @@ pub returns-else-gone-clause-back : goal.returns-else-gone-clause-back
 returns-else-gone-clause-back c = λ there.
     let p = c.take_out.ensures in
     let same = rw c.if-gone.false at p.shorter in
-    absurd (was_not_there c.args.id (numbers_of c.self.inside.tree) _ _ (ap (λ (r : TableView _). r.map) c.self.view_is) p.numbers (omega (arith, same)) there)
+    absurd (was_not_there c.args.id (numbers_of c.self.inside.tree) _ _ (ap (λ (r : TableView _). r.map) c.self.view_is) p.numbers
+    (omega (arith, same)) there)

@@ -7,4 +7,5 @@ use Rattle.tsn_undo.proofs.book.Book.config.Goals as goal
 pub returns-clause-kept : goal.returns-clause-kept
 returns-clause-kept c =
     let i = c.self.inside in
-    subst (λ (a : LedgerWithRoom). IsWellKept a.ledger.limits (present a.ledger)) c.self.view_is (present_kept i.config.limits i.config.map i.journal.entries c.self.invariant)
+    subst (λ (a : LedgerWithRoom). IsWellKept a.ledger.limits (present a.ledger)) c.self.view_is
+    (present_kept i.config.limits i.config.map i.journal.entries c.self.invariant)

@@ -15,4 +15,5 @@ append-requires-clause-sound c =
 pub returns-clause-map : goal.returns-clause-map
 returns-clause-map c =
     let b = c.args.self.now.ledger in
-    ap present c.append.ensures.after ∙ ap (run b.opening) (nothing_push b.entries c.args.session (Acted c.args.act c.args.key c.args.now) refl)
+    ap present c.append.ensures.after
+    ∙ ap (run b.opening) (nothing_push b.entries c.args.session (Acted c.args.act c.args.key c.args.now) refl)

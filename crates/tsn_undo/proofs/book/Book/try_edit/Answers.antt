@@ -8,7 +8,8 @@ use Rattle.tsn_undo.proofs.Making.{makes_edit}
 use Rattle.tsn_undo.proofs.book.Book.try_edit.Goals as goal
 
 pub returns-in-Err-clause-memory : goal.returns-in-Err-clause-memory
-returns-in-Err-clause-memory c = is_memory _ c.in-Err.why (edit_admitted c.args.self.now.ledger c.args.batch c.requires).1 c.in-Err.ensures.refused
+returns-in-Err-clause-memory c =
+    is_memory _ c.in-Err.why (edit_admitted c.args.self.now.ledger c.args.batch c.requires).1 c.in-Err.ensures.refused
 
 pub returns-clause-ok : goal.returns-clause-ok
 returns-clause-ok c =

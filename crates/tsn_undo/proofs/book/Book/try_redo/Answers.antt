@@ -30,10 +30,12 @@ append-requires-clause-fits c =
     let b = c.args.self.now.ledger in
     let sound : SoundLedger b = subst (λ (a : LedgerWithRoom). SoundLedger a.ledger) c.self.view_is c.self.invariant.sound in
     let is = c.in_ok-of.ensures c.requires.undone.change (redo_change b c.args.session c.args.of sound c.requires) in
-    subst (λ (t : Ledger × Change). Fits t.0.limits (present t.0) t.1) (λ i. (sym c.reserve_parts.ensures.ledger i, ap (λ (k : TakingBack). k.applied) (sym is) i)) c.requires.fits
+    subst (λ (t : Ledger × Change). Fits t.0.limits (present t.0) t.1)
+    (λ i. (sym c.reserve_parts.ensures.ledger i, ap (λ (k : TakingBack). k.applied) (sym is) i)) c.requires.fits
 
 -- the entry that is made is the one that takes the Undone entry back
-entered : (k : TakingBack) (of n : ℕ) (e : Change) → k ≡ record { of = of; entered = e; applied = e } → of ≡ n → ◌≡◌ {A = What} (Redone k.of k.entered) (Redone n e)
+entered : (k : TakingBack) (of n : ℕ) (e : Change) → k ≡ record { of = of; entered = e; applied = e } → of ≡ n
+    → ◌≡◌ {A = What} (Redone k.of k.entered) (Redone n e)
 entered k of n e is same = λ i. Redone ((ap (λ (k : TakingBack). k.of) is ∙ same) i) (is i).entered
 
 pub append-requires-clause-sound : goal.append-requires-clause-sound
@@ -43,7 +45,8 @@ append-requires-clause-sound c =
     let u = c.requires.undone in
     let is = c.in_ok-of.ensures u.change (redo_change b c.args.session c.args.of sound c.requires) in
     let what = entered c.in_ok-of.field-0 c.args.of u.number (inverse u.change) is c.requires.of_is in
-    subst (λ (t : Ledger × What). IsSound t.0.limits t.0.opening (with_entry t.0.entries c.args.session t.1)) (λ i. (sym c.reserve_parts.ensures.ledger i, sym what i)) (redo_sound b c.args.session c.args.of sound c.requires)
+    subst (λ (t : Ledger × What). IsSound t.0.limits t.0.opening (with_entry t.0.entries c.args.session t.1))
+    (λ i. (sym c.reserve_parts.ensures.ledger i, sym what i)) (redo_sound b c.args.session c.args.of sound c.requires)
 
 pub returns-clause-ok : goal.returns-clause-ok
 returns-clause-ok c =

@@ -10,11 +10,13 @@ use Rattle.tsn_undo.proofs.book.Book.try_settle.Goals as goal
 pub append-requires-clause-sound : goal.append-requires-clause-sound
 append-requires-clause-sound c =
     let b = c.args.self.now.ledger in
-    subst (λ (l : Ledger). IsSound l.limits l.opening (with_entry l.entries c.args.session (Settled c.args.upto))) (sym c.reserve_parts.ensures.ledger)
+    subst (λ (l : Ledger). IsSound l.limits l.opening (with_entry l.entries c.args.session (Settled c.args.upto)))
+    (sym c.reserve_parts.ensures.ledger)
     (sound_settled b.limits b.opening b.entries c.args.session c.args.upto c.journal.ensures.sound)
 
 pub returns-clause-ok : goal.returns-clause-ok
 returns-clause-ok c =
-    makes_settle c.args.self.now.ledger c.args.session c.args.upto c.journal.ensures.sound c.requires c.append.result c.append.new.self.ledger
+    makes_settle c.args.self.now.ledger c.args.session c.args.upto c.journal.ensures.sound c.requires c.append.result
+    c.append.new.self.ledger
     (c.append.ensures.number ∙ ap (λ (l : Ledger). length l.entries + 1) c.reserve_parts.ensures.ledger)
     (c.append.ensures.after ∙ ap (λ (l : Ledger). enter l c.args.session (Settled c.args.upto)) c.reserve_parts.ensures.ledger)

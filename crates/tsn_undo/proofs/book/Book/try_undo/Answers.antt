@@ -32,10 +32,13 @@ enter_undone-requires-clause-fits c =
     let x = c.requires.newest in
     let sound : SoundLedger b = subst (λ (a : LedgerWithRoom). SoundLedger a.ledger) c.self.view_is c.self.invariant.sound in
     let is = c.in_ok-back.ensures x.change (free_change b c.args.session c.args.of sound.numbered c.requires) in
-    subst (λ (t : Ledger × Change). Fits t.0.limits (present t.0) t.1) (λ i. (sym c.reserve_parts.ensures.ledger i, ap (λ (k : TakingBack). k.applied) (sym is) i)) (undo_step_now b c.args.session c.args.of sound c.requires).fits
+    subst (λ (t : Ledger × Change). Fits t.0.limits (present t.0) t.1)
+    (λ i. (sym c.reserve_parts.ensures.ledger i, ap (λ (k : TakingBack). k.applied) (sym is) i))
+    (undo_step_now b c.args.session c.args.of sound c.requires).fits
 
 -- the entry that is made is the one that takes the newest back
-entered : (k : TakingBack) (of n : ℕ) (e : Change) → k ≡ record { of = of; entered = e; applied = e } → of ≡ n → ◌≡◌ {A = What} (Undone k.of k.applied) (Undone n e)
+entered : (k : TakingBack) (of n : ℕ) (e : Change) → k ≡ record { of = of; entered = e; applied = e } → of ≡ n
+    → ◌≡◌ {A = What} (Undone k.of k.applied) (Undone n e)
 entered k of n e is same = λ i. Undone ((ap (λ (k : TakingBack). k.of) is ∙ same) i) (is i).applied
 
 pub enter_undone-requires-clause-sound : goal.enter_undone-requires-clause-sound
@@ -45,7 +48,8 @@ enter_undone-requires-clause-sound c =
     let sound : SoundLedger b = subst (λ (a : LedgerWithRoom). SoundLedger a.ledger) c.self.view_is c.self.invariant.sound in
     let is = c.in_ok-back.ensures x.change (free_change b c.args.session c.args.of sound.numbered c.requires) in
     let what = entered c.in_ok-back.back c.args.of x.number (inverse x.change) is c.requires.of_is in
-    subst (λ (t : Ledger × What). IsSound t.0.limits t.0.opening (with_entry t.0.entries c.args.session t.1)) (λ i. (sym c.reserve_parts.ensures.ledger i, sym what i)) (undo_step_now b c.args.session c.args.of sound c.requires).sound
+    subst (λ (t : Ledger × What). IsSound t.0.limits t.0.opening (with_entry t.0.entries c.args.session t.1))
+    (λ i. (sym c.reserve_parts.ensures.ledger i, sym what i)) (undo_step_now b c.args.session c.args.of sound c.requires).sound
 
 pub returns-clause-ok : goal.returns-clause-ok
 returns-clause-ok c =

@@ -7,4 +7,5 @@ pub returns-clause-took : goal.returns-clause-took
 returns-clause-took c = λ _.
     let text = c.self.inside.text.now in
     let at = c.self.inside.at in
-    sym (ap lexed c.self.view_is) ∙ mark_at text at c.args.mark (omega (arith, c.if-self.false, c.self.invariant)) c.if-self-mark.false c.requires
+    sym (ap lexed c.self.view_is) ∙ mark_at text at c.args.mark (omega (arith, c.if-self.false, c.self.invariant)) c.if-self-mark.false
+    c.requires

@@ -8,6 +8,7 @@ pub invariant_of-self : goal.invariant_of-self
 invariant_of-self c =
     let s = c.args.self.now in
     record {
-      keys = applied_keys c.apply.result s.runtime.runners c.apply.new.self.runners s.runtime.frames c.apply.new.self.frames s.config.map (Gate c.args.id) (get s.config.map (Gate c.args.id)) (max s.runtime.time c.instant.result) s.keys c.apply.ensures.frames
+      keys = applied_keys c.apply.result s.runtime.runners c.apply.new.self.runners s.runtime.frames c.apply.new.self.frames s.config.map
+          (Gate c.args.id) (get s.config.map (Gate c.args.id)) (max s.runtime.time c.instant.result) s.keys c.apply.ensures.frames
           c.apply.ensures.acts c.apply.ensures.kept;
     }

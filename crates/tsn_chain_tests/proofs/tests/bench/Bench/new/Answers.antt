@@ -19,6 +19,10 @@ invariant_of-result c =
       keys = begun p c.in_ok-limits.limits c.in_ok-config.config.map c.follow.new.self.runners c.follow.new.self.frames t
           (ap (λ (l : Limits). l.ports) c.in_ok-limits.ensures.same)
           (c.in_ok-config.ensures.map ∙ ap (opening c.in_ok-limits.limits) c.new-2.ensures)
-          (c.follow.ensures.runners ∙ ap (λ (e : Change). runners_after c.reserve.new.self.runners e) c.of-change.ensures ∙ ap (λ k. runners_after c.reserve.new.self.runners (created k)) c.port_key.ensures ∙ ap (λ (s : Runners). runners_after s (first_port p)) (c.reserve.ensures.runners ∙ c.in_ok-runtime.ensures.runners))
-          (c.follow.ensures.frames ∙ ap (λ (e : Change). frames_after t c.reserve.new.self.frames e) c.of-change.ensures ∙ ap (λ k. frames_after t c.reserve.new.self.frames (created k)) c.port_key.ensures ∙ ap (λ (s : FrameData). frames_after t s (first_port p)) (c.reserve.ensures.frames ∙ c.in_ok-runtime.ensures.frames));
+          (c.follow.ensures.runners ∙ ap (λ (e : Change). runners_after c.reserve.new.self.runners e) c.of-change.ensures
+          ∙ ap (λ k. runners_after c.reserve.new.self.runners (created k)) c.port_key.ensures
+          ∙ ap (λ (s : Runners). runners_after s (first_port p)) (c.reserve.ensures.runners ∙ c.in_ok-runtime.ensures.runners))
+          (c.follow.ensures.frames ∙ ap (λ (e : Change). frames_after t c.reserve.new.self.frames e) c.of-change.ensures
+          ∙ ap (λ k. frames_after t c.reserve.new.self.frames (created k)) c.port_key.ensures
+          ∙ ap (λ (s : FrameData). frames_after t s (first_port p)) (c.reserve.ensures.frames ∙ c.in_ok-runtime.ensures.frames));
     }
