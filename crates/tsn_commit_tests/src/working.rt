@@ -6,6 +6,7 @@ ghost use Rattle.tsn_commit.specs.Resting.{Begins};
 
 use memchr::memchr;
 use std::alloc::{AllocError, Global};
+use std::marker::Brand;
 use std::sync::Wait;
 use std::thread;
 use std::thread::Threads;
@@ -13,7 +14,10 @@ use tsn_commit::{Ahead, Commit};
 use tsn_device::MemoryDevice;
 use tsn_history::{Naming, Opened};
 use tsn_keeping::{Clock, Keeper, Stamp};
-use tsn_recorded::LONGEST_COMMAND;
+use tsn_recorded::{Chain, LONGEST_COMMAND};
+
+// Room for all that a device here is given, so that it never fails for want of memory.
+const ROOM: usize = 3_000_000;
 
 /// A clock that stands still.
 #[derive(Drop)]
@@ -35,8 +39,8 @@ fn is_line(line: &[u8]) -> bool
     memchr(b'\n', line).is_none()
 }
 
-/// Records the line and settles it, twice, and once more settles the first. Says how often that was told to be kept.
-pub fn settle_thrice<R: Naming, K: Naming + Ahead, W: Wait>(
+// Records the line and settles it, twice, and once more settles the first. Says how often that was told to be kept.
+fn settle_thrice<R: Naming, K: Naming + Ahead, W: Wait>(
     rt: &W,
     alloc: Global,
     keeper: Keeper<MemoryDevice>,
@@ -69,8 +73,8 @@ pub fn settle_thrice<R: Naming, K: Naming + Ahead, W: Wait>(
     Ok((one, other, commit.settle(rt, &first).is_ok()))
 }
 
-/// Records the line so often, one behind the other, and settles the last one. What is kept then, if that is told.
-pub fn record_many<R: Naming, K: Naming + Ahead, W: Wait>(
+// Records the line so often, one behind the other, and settles the last one. What is kept then, if that is told.
+fn record_many<R: Naming, K: Naming + Ahead, W: Wait>(
     rt: &W,
     alloc: Global,
     keeper: Keeper<MemoryDevice>,
@@ -144,13 +148,9 @@ fn keep_in_two<R: Naming + Send + Sync, K: Naming + Ahead + Send + Sync, W: Thre
     one && other
 }
 
-/// Four threads record a line each, two of them the first and two the other, so often, and each time wait until it is
-/// kept. What is kept then, if that is told.
-pub fn keep_in_four<
-    R: Naming + Send + Sync,
-    K: Naming + Ahead + Send + Sync,
-    W: Threads + Wait + Sync,
->(
+// Four threads record a line each, two of them the first and two the other, so often, and each time wait until it is
+// kept. What is kept then, if that is told.
+fn keep_in_four<R: Naming + Send + Sync, K: Naming + Ahead + Send + Sync, W: Threads + Wait + Sync>(
     rt: &W,
     alloc: Global,
     keeper: Keeper<MemoryDevice>,
@@ -182,4 +182,53 @@ pub fn keep_in_four<
         Some((keeper, _)) => Ok(Some(keeper)),
         None => Ok(None),
     }
+}
+
+/// What is told where a line is recorded and settled over a new journal, twice, and the first once more. Its device
+/// fails at the call of the number, if one is given, and a crash leaves it that many bytes of what was not kept.
+pub fn settled<W: Wait>(
+    rt: &W,
+    alloc: Global,
+    failing: Option<u64>,
+    torn: usize,
+    line: &[u8],
+) -> Result<(bool, bool, bool), AllocError> {
+    let device = MemoryDevice::new(Vec::with_capacity(alloc, ROOM)?, failing, torn);
+    let keeper = Keeper::new(alloc, device, Chain::new())?;
+    settle_thrice::<Brand, Brand, _>(rt, alloc, keeper, Opened::new(), Opened::new(), line)
+}
+
+/// A new journal in which the line is recorded so often, if all that is told to be kept.
+pub fn recorded<W: Wait>(
+    rt: &W,
+    alloc: Global,
+    failing: Option<u64>,
+    line: &[u8],
+    count: u64,
+) -> Result<Option<Keeper<MemoryDevice>>, AllocError> {
+    let device = MemoryDevice::new(Vec::with_capacity(alloc, ROOM)?, failing, 0);
+    let keeper = Keeper::new(alloc, device, Chain::new())?;
+    record_many::<Brand, Brand, _>(rt, alloc, keeper, Opened::new(), Opened::new(), line, count)
+}
+
+/// A new journal in which two threads record a line each a thousand times and two another one, if all that is told to
+/// be kept.
+pub fn kept_by_four<W: Threads + Wait + Sync>(
+    rt: &W,
+    alloc: Global,
+    failing: Option<u64>,
+    one: &[u8],
+    other: &[u8],
+) -> Result<Option<Keeper<MemoryDevice>>, AllocError> {
+    let device = MemoryDevice::new(Vec::with_capacity(alloc, ROOM)?, failing, 0);
+    let keeper = Keeper::new(alloc, device, Chain::new())?;
+    keep_in_four::<Brand, Brand, _>(
+        rt,
+        alloc,
+        keeper,
+        Opened::new(),
+        Opened::new(),
+        (one, other),
+        1000,
+    )
 }

@@ -1,4 +1,4 @@
-use Rattle.tsn_commit_tests.proofs.tests.all_come_back_where_the_device_fails.Given as goal
+use Rattle.tsn_commit_tests.proofs.working.kept_by_four.Given as goal
 
 -- The texts that were just opened, and the journal of the keeper.
 abbrev pub ghosts-keep_in_four-R-Naming : goal.ghosts-keep_in_four-R-Naming

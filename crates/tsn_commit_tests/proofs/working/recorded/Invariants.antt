@@ -1,4 +1,4 @@
-use Rattle.tsn_commit_tests.proofs.tests.a_record_waits_for_room.Given as goal
+use Rattle.tsn_commit_tests.proofs.working.recorded.Given as goal
 
 -- The texts that were just opened, and the journal of the keeper.
 abbrev pub ghosts-record_many-R-Naming : goal.ghosts-record_many-R-Naming

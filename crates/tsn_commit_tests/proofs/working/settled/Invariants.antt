@@ -1,4 +1,4 @@
-use Rattle.tsn_commit_tests.proofs.tests.nothing_settles_behind_a_failed_call.Given as goal
+use Rattle.tsn_commit_tests.proofs.working.settled.Given as goal
 
 -- The texts that were just opened, and the journal of the keeper.
 abbrev pub ghosts-settle_thrice-R-Naming : goal.ghosts-settle_thrice-R-Naming
