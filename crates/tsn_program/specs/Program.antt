@@ -30,6 +30,15 @@ pub record Output : Type 0 where
   pub held_back : List ℕ
   pub failed : Bool
 
+-- The output of a writer between two moments, by what the writer tells of itself.
+abbrev pub written : {W : Type 0} → (W → Option (List ℕ)) → (W → List ℕ) → (W → Bool) → W → W → Output
+written taken pending has_failed old new = record {
+  old = taken old;
+  new = taken new;
+  held_back = pending new;
+  failed = has_failed new;
+}
+
 -- Nothing was written there.
 abbrev pub IsSilent : Output → Type 0
 IsSilent errors = errors.new ≡ errors.old

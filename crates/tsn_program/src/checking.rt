@@ -1,7 +1,7 @@
 //! A look at a setup: what it has and what is seldom meant in it, or why it opens no bridge, and where it is at fault.
 ghost use Rattle.std.specs.Prelude.{◌≡◌, ◌+◌, ◌≤◌, [], ◌++◌, length, IfOk};
 ghost use Rattle.tsn_program.specs.Checking.{count_of, counted, summary, told};
-ghost use Rattle.tsn_program.specs.Program.{ServesCheck, ShowsSummary, TellsFault};
+ghost use Rattle.tsn_program.specs.Program.{ServesCheck, ShowsSummary, TellsFault, written};
 ghost use Rattle.tsn_replies.specs.declared.text.TheConstants.{CAPACITY};
 
 use crate::failures::Failure;
@@ -69,7 +69,7 @@ fn told(alloc: Global, bridge: &Bridge) -> Result<Vec<u8>, AllocError>
 // Shows what there is, and what is seldom meant in it.
 fn show_summary<W: ByteOut>(alloc: Global, bridge: &Bridge, writer: &mut W) -> Result<(), Failure>
     ensures { ShowsSummary bridge.now
-        (record { old = W.taken writer.old; new = W.taken writer.new; held_back = W.pending writer.new; failed = W.has_failed writer.new })
+        (written W.taken W.pending W.has_failed writer.old writer.new)
         result }
 {
     match told(alloc, bridge) {
@@ -81,7 +81,7 @@ fn show_summary<W: ByteOut>(alloc: Global, bridge: &Bridge, writer: &mut W) -> R
 // Tells why a setup is refused, and then where it is at fault.
 fn fail_at<E: ByteOut>(alloc: Global, setup: &[u8], why: &Refusal, errors: &mut E) -> u8
     ensures { TellsFault why.now result
-        (record { old = E.taken errors.old; new = E.taken errors.new; held_back = E.pending errors.new; failed = E.has_failed errors.new }) }
+        (written E.taken E.pending E.has_failed errors.old errors.new) }
 {
     let status = fail(errors, Failure::Refused(*why));
     let place = fault_line(alloc, setup, *why);
@@ -99,9 +99,9 @@ pub fn check_setup<O: ByteOut, E: ByteOut>(
     errors: &mut E,
 ) -> u8
     ensures { ServesCheck setup.now
-        (record { old = O.taken output.old; new = O.taken output.new; held_back = O.pending output.new; failed = O.has_failed output.new })
+        (written O.taken O.pending O.has_failed output.old output.new)
         result
-        (record { old = E.taken errors.old; new = E.taken errors.new; held_back = E.pending errors.new; failed = E.has_failed errors.new }) }
+        (written E.taken E.pending E.has_failed errors.old errors.new) }
 {
     match bridge_of(alloc, setup) {
         Ok(bridge) => {

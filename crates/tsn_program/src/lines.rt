@@ -2,6 +2,7 @@
 ghost use Rattle.std.specs.Prelude.{◌≡◌, ◌≤◌, ◌++◌, ℕ, List, [], Some, length, option_map};
 ghost use Rattle.tsn_serve.specs.Outcomes.{moment};
 ghost use Rattle.tsn_program.specs.Lines.{BreaksLooking, ChecksLines, IsTold, LooksAt, WhyNot, cause_text};
+ghost use Rattle.tsn_program.specs.Program.{written};
 
 use crate::failures::Failure;
 use crate::program::fail;
@@ -120,7 +121,7 @@ pub fn check_lines<R: ByteIn, O: ByteOut, E: ByteOut>(
         (λ s. moment R.remaining R.calls R.has_failed O.taken O.pending O.has_failed s input.old output.old)
         (λ s. moment R.remaining R.calls R.has_failed O.taken O.pending O.has_failed s input.new output.new)
         result
-        (record { old = E.taken errors.old; new = E.taken errors.new; held_back = E.pending errors.new; failed = E.has_failed errors.new }) }
+        (written E.taken E.pending E.has_failed errors.old errors.new) }
 {
     let mut look = LineLook {
         lines: 0,

@@ -5,7 +5,7 @@ ghost use Rattle.tsn_bytes.specs.declared.bytes.Fault.TheVariants.{Write};
 ghost use Rattle.tsn_serve.specs.Outcomes.{moment};
 ghost use Rattle.tsn_program.specs.Failures.{failure_line};
 ghost use Rattle.tsn_program.specs.Listing.{IsNew};
-ghost use Rattle.tsn_program.specs.Program.{IsAlone, IsFront, PrintsFrom, PrintsStates, RefusesWords, Reports, Serves, ServesScript, ServesStates, ServesText, Tells};
+ghost use Rattle.tsn_program.specs.Program.{IsAlone, IsFront, PrintsFrom, PrintsStates, RefusesWords, Reports, Serves, ServesScript, ServesStates, ServesText, Tells, written};
 ghost use Rattle.tsn_program.specs.declared.failures.Failure.TheVariants as failures;
 
 use crate::checking::check_setup;
@@ -38,13 +38,7 @@ pub(crate) fn show<W: ByteOut>(writer: &mut W, text: &[u8]) -> Result<(), Failur
 
 // Writes the text where it can. Nothing is left to do where it can't.
 pub(crate) fn tell<W: ByteOut>(errors: &mut W, text: &[u8])
-    ensures { Tells (record {
-      old = W.taken errors.old;
-      new = W.taken errors.new;
-      held_back = W.pending errors.new;
-      failed = W.has_failed errors.new;
-    })
-        text.now }
+    ensures { Tells (written W.taken W.pending W.has_failed errors.old errors.new) text.now }
 {
     let _ = show(errors, text);
 }
@@ -52,13 +46,7 @@ pub(crate) fn tell<W: ByteOut>(errors: &mut W, text: &[u8])
 /// Tells of a failure, and gives its status, 1.
 pub fn fail<W: ByteOut>(errors: &mut W, failure: Failure) -> u8
     ensures status { result ≡ 1 }
-    ensures line { Tells (record {
-      old = W.taken errors.old;
-      new = W.taken errors.new;
-      held_back = W.pending errors.new;
-      failed = W.has_failed errors.new;
-    })
-        (failure_line failure) }
+    ensures line { Tells (written W.taken W.pending W.has_failed errors.old errors.new) (failure_line failure) }
 {
     tell(errors, failure_line(&failure).as_slice());
     1
@@ -67,7 +55,7 @@ pub fn fail<W: ByteOut>(errors: &mut W, failure: Failure) -> u8
 // The status of a run that ended so, of which a failure is told.
 pub(crate) fn status_of<W: ByteOut>(errors: &mut W, outcome: Result<(), Failure>) -> u8
     ensures { Reports outcome result
-        (record { old = W.taken errors.old; new = W.taken errors.new; held_back = W.pending errors.new; failed = W.has_failed errors.new }) }
+        (written W.taken W.pending W.has_failed errors.old errors.new) }
 {
     match outcome {
         Ok(()) => 0,
@@ -83,7 +71,7 @@ fn list_states<W: ByteOut>(
 ) -> Result<(), Failure>
     requires { IsNew bridge.old }
     ensures { PrintsFrom (Ok bridge.old) listing.now
-        (record { old = W.taken writer.old; new = W.taken writer.new; held_back = W.pending writer.new; failed = W.has_failed writer.new })
+        (written W.taken W.pending W.has_failed writer.old writer.new)
         result }
 {
     let port = match listed_port(bridge.config().limits(), listing) {
@@ -112,7 +100,7 @@ fn print_states<W: ByteOut>(
     writer: &mut W,
 ) -> Result<(), Failure>
     ensures { PrintsStates setup.now listing.now
-        (record { old = W.taken writer.old; new = W.taken writer.new; held_back = W.pending writer.new; failed = W.has_failed writer.new })
+        (written W.taken W.pending W.has_failed writer.old writer.new)
         result }
 {
     let mut bridge = match bridge_of(alloc, setup) {
@@ -134,7 +122,7 @@ fn serve_script<R: ByteIn, O: ByteOut, E: ByteOut>(
         (λ s. moment R.remaining R.calls R.has_failed O.taken O.pending O.has_failed s input.old output.old)
         (λ s. moment R.remaining R.calls R.has_failed O.taken O.pending O.has_failed s input.new output.new)
         result
-        (record { old = E.taken errors.old; new = E.taken errors.new; held_back = E.pending errors.new; failed = E.has_failed errors.new }) }
+        (written E.taken E.pending E.has_failed errors.old errors.new) }
 {
     let outcome = answer_script(alloc, setup, input, output);
     status_of(errors, outcome)
@@ -149,9 +137,9 @@ fn serve_states<O: ByteOut, E: ByteOut>(
     errors: &mut E,
 ) -> u8
     ensures { ServesStates listing.now setup.now
-        (record { old = O.taken output.old; new = O.taken output.new; held_back = O.pending output.new; failed = O.has_failed output.new })
+        (written O.taken O.pending O.has_failed output.old output.new)
         result
-        (record { old = E.taken errors.old; new = E.taken errors.new; held_back = E.pending errors.new; failed = E.has_failed errors.new }) }
+        (written E.taken E.pending E.has_failed errors.old errors.new) }
 {
     let outcome = print_states(alloc, setup, listing, output);
     status_of(errors, outcome)
@@ -160,9 +148,9 @@ fn serve_states<O: ByteOut, E: ByteOut>(
 // Shows the text, and gives the status.
 fn serve_text<O: ByteOut, E: ByteOut>(text: &[u8], output: &mut O, errors: &mut E) -> u8
     ensures { ServesText text.now
-        (record { old = O.taken output.old; new = O.taken output.new; held_back = O.pending output.new; failed = O.has_failed output.new })
+        (written O.taken O.pending O.has_failed output.old output.new)
         result
-        (record { old = E.taken errors.old; new = E.taken errors.new; held_back = E.pending errors.new; failed = E.has_failed errors.new }) }
+        (written E.taken E.pending E.has_failed errors.old errors.new) }
 {
     let outcome = show(output, text);
     status_of(errors, outcome)
@@ -171,7 +159,7 @@ fn serve_text<O: ByteOut, E: ByteOut>(text: &[u8], output: &mut O, errors: &mut 
 // Tells why the words are refused, and gives the status.
 fn refuse_words<E: ByteOut>(text: &[u8], errors: &mut E) -> u8
     ensures { RefusesWords text.now result
-        (record { old = E.taken errors.old; new = E.taken errors.new; held_back = E.pending errors.new; failed = E.has_failed errors.new }) }
+        (written E.taken E.pending E.has_failed errors.old errors.new) }
 {
     tell(errors, text);
     2
@@ -193,7 +181,7 @@ pub fn run<R: ByteIn, O: ByteOut, E: ByteOut>(
         (λ s. moment R.remaining R.calls R.has_failed O.taken O.pending O.has_failed s input.old output.old)
         (λ s. moment R.remaining R.calls R.has_failed O.taken O.pending O.has_failed s input.new output.new)
         result
-        (record { old = E.taken errors.old; new = E.taken errors.new; held_back = E.pending errors.new; failed = E.has_failed errors.new }) }
+        (written E.taken E.pending E.has_failed errors.old errors.new) }
 {
     match asked {
         Asked::Script { kept: None, .. } => serve_script(alloc, setup, input, output, errors),

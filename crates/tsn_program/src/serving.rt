@@ -2,6 +2,7 @@
 ghost use Rattle.std.specs.Prelude.{◌≡◌};
 ghost use Rattle.tsn_bridge.specs.Beginning.{IsOpened};
 ghost use Rattle.tsn_program.specs.Serving.{EndsServing, ServesConnections};
+ghost use Rattle.tsn_program.specs.Program.{written};
 
 use crate::failures::Failure;
 use crate::program::status_of;
@@ -37,7 +38,7 @@ fn serve_all_of<R: Wait + Threads + Sync, S: Source + Sync, O: ByteOut>(
 ) -> Result<(), Failure>
     requires { IsOpened bridge }
     ensures { EndsServing bridge serving.probe
-        (record { old = O.taken output.old; new = O.taken output.new; held_back = O.pending output.new; failed = O.has_failed output.new })
+        (written O.taken O.pending O.has_failed output.old output.new)
         result }
 {
     let at = last_instant(&serving);
@@ -71,9 +72,9 @@ pub fn serve<R: Wait + Threads + Sync, S: Source + Sync, O: ByteOut, E: ByteOut>
 ) -> u8
     requires { IsOpened bridge }
     ensures { ServesConnections bridge serving.probe
-        (record { old = O.taken output.old; new = O.taken output.new; held_back = O.pending output.new; failed = O.has_failed output.new })
+        (written O.taken O.pending O.has_failed output.old output.new)
         result
-        (record { old = E.taken errors.old; new = E.taken errors.new; held_back = E.pending errors.new; failed = E.has_failed errors.new }) }
+        (written E.taken E.pending E.has_failed errors.old errors.new) }
 {
     let outcome = serve_all_of(rt, alloc, bridge, serving, source, output);
     status_of(errors, outcome)

@@ -2,7 +2,7 @@
 ghost use Rattle.std.specs.Prelude.{◌≡◌, ◌⊎◌, IfOk, string_bytes, codes};
 ghost use Rattle.tsn_bytes.specs.declared.bytes.Fault.TheVariants.{Memory};
 ghost use Rattle.tsn_program.specs.Failures.{fault_line};
-ghost use Rattle.tsn_program.specs.Program.{Tells};
+ghost use Rattle.tsn_program.specs.Program.{Tells, written};
 ghost use Rattle.tsn_program.specs.Starting.{undone_line, undone_text};
 
 use crate::failures::Failure;
@@ -53,19 +53,9 @@ pub fn fail_start<W: ByteOut>(
     reason: &str,
 ) -> u8
     ensures status { result ≡ 1 }
-    ensures line { Tells (record {
-      old = W.taken errors.old;
-      new = W.taken errors.new;
-      held_back = W.pending errors.new;
-      failed = W.has_failed errors.new;
-    })
+    ensures line { Tells (written W.taken W.pending W.has_failed errors.old errors.new)
         (undone_line undone name.now reason.now)
-        ⊎ Tells (record {
-          old = W.taken errors.old;
-          new = W.taken errors.new;
-          held_back = W.pending errors.new;
-          failed = W.has_failed errors.new;
-        })
+        ⊎ Tells (written W.taken W.pending W.has_failed errors.old errors.new)
         (fault_line Memory) }
 {
     let Ok(line) = line_of(alloc, undone, name, reason) else {
