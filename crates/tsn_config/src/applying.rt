@@ -91,8 +91,8 @@ impl Config {
         ensures kept { OnErr result (self.old.spare ≤ self.new.spare) }
     {
         let put = put_of(edit);
-        let copy = put.try_clone()?;
-        let before = self.rows.set(put.key, copy.after);
+        let copy = put.copy_after()?;
+        let before = self.rows.set(put.key, copy);
         Ok(Change::of(Part {
             key: put.key,
             before,

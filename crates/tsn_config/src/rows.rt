@@ -221,6 +221,7 @@ impl Rows {
     }
 
     /// Sets the value of the key, or takes the key out, and gives the value that stood there.
+    #[inline(always)]
     #[tactic(auto, using(crate::proofs::Joined::got_in_tables, crate::proofs::SetRows::set_in_tables))]
     pub(crate) fn set(&mut self, key: Key, value: Option<Record>) -> Option<Record>
         requires kind { IfSome value (λ r. IsTrue (is_of_kind key r)) }
@@ -265,6 +266,7 @@ impl Rows {
 }
 
 /// Sets the row of the number, or takes it out, and gives the one that was there.
+#[inline(always)]
 pub(crate) fn set_row_of<R: Drop>(table: &mut Table<R>, id: u64, row: Option<R>) -> Option<R>
     requires { 1 ≤ table.old.spare }
     ensures before { result ≡ map.get table.old.map id }

@@ -87,7 +87,8 @@ impl<M: Machine> Desk<M> {
         requires { (0 < seats) × (seats ≤ 1024) }
         ensures desk { IfOk result (λ opened. (first_of opened.0 ≡ machine) × (seats_of opened.0 ≡ seats)) }
         ensures seats { IfOk result (λ opened. vec_len opened.1 ≡ seats) }
-        ensures fresh { IfOk result (λ opened. (k : ℕ) (seat : _) → slice_get opened.1.items k ≡ Some seat → IsFresh opened.0 seat (k + 1)) }
+        ensures fresh { IfOk result (λ opened. (k : ℕ) (seat : _) → slice_get opened.1.items k ≡ Some seat
+            → IsFresh opened.0 seat (k + 1)) }
         ensures own { IfOk result (λ opened. All (λ seat. IsSeatOf opened.0 seat) opened.1.items) }
         ensures refused { IfErr result (λ back. back ≡ machine) }
     {
@@ -168,6 +169,7 @@ impl<M: Machine> Desk<M> {
     }
 
     /// The same of a thread that may be inside already, since it locked the door.
+    #[inline(always)]
     pub fn turn_from<R: Wait, W: Witness<M>>(
         &self,
         rt: &R,

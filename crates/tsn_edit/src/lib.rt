@@ -1,9 +1,9 @@
 //! Edits, and the changes that they make.
 //!
-//! An edit is what a session asks for: one whole record created, replaced or removed. A change is what admitted
-//! edits do, in parts: each is a key with its value before and its value after, either of which may be none. Its
-//! inverse takes it back.
-//! The definitions of a configuration, of a change that fits it and of a good run of changes stand in `specs/`.
+//! An edit is what a session asks for: one whole record created, replaced or removed. A change is what admitted edits
+//! do, in parts: each is a key with its value before and its value after, either of which may be none. Its inverse
+//! takes it back. The definitions of a configuration, of a change that fits it and of a good run of changes stand in
+//! `specs/`.
 #![tactic(auto)]
 
 ghost use Rattle.std.specs.Prelude.{◌≡◌, ◌∷◌, [], IfOk, map};
@@ -80,6 +80,13 @@ impl Part {
             before: try_clone_of(&self.before)?,
             after: try_clone_of(&self.after)?,
         })
+    }
+
+    /// A copy that equals the value after.
+    pub fn copy_after(&self) -> Result<Option<Record>, AllocError>
+        ensures { IfOk result (λ copy. copy ≡ self.now.after) }
+    {
+        try_clone_of(&self.after)
     }
 }
 

@@ -107,6 +107,7 @@ impl Journal {
 
     /// Puts an entry of the session at the end, in room for one and for the parts that it adds, and answers its number.
     /// One that settles names an entry that is there, or none. It takes no memory.
+    #[inline(always)]
     pub fn push(&mut self, session: u32, what: What) -> u64
         requires room { 1 ≤ self.old.spare }
         requires parts { added_parts what ≤ self.old.parts }

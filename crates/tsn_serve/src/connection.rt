@@ -126,6 +126,7 @@ impl<'a, R: Wait, G: Gate, W: Witness<Bridge> + Drop> Connection<'a, R, G, W> {
     }
 
     // Makes a call, and gives what the witness says of it. It is refused where no ticket is left.
+    #[inline(always)]
     fn call(&mut self, ask: Ask) -> Result<(Reply, W::Mark), Fault>
         ensures ok { IfOk result (λ r. Calls self.old ask r.0 self.new) }
         ensures mark { IfOk result (λ r. W.marks ask r.0 r.1) }
@@ -150,6 +151,7 @@ impl<'a, R: Wait, G: Gate, W: Witness<Bridge> + Drop> Connection<'a, R, G, W> {
 
     // The reply to what a line was read as, and what the witness says of the call for it: none where it is refused with
     // no call.
+    #[inline(always)]
     fn reply_to(&mut self, read: Result<Ask, Refusal>) -> Result<(Reply, Option<W::Mark>), Fault>
         ensures ok { IfOk result (λ r. Replies Asks self.old read r.0 self.new) }
         ensures mark { IfOk result (λ r. IsMarked W.marks read r.0 r.1) }
@@ -184,6 +186,7 @@ impl<'a, R: Wait, G: Gate, W: Witness<Bridge> + Drop> Connection<'a, R, G, W> {
     }
 
     // Answers what a line was read as.
+    #[inline(always)]
     fn answer_read<O: ByteOut>(
         &mut self,
         read: Result<Ask, Refusal>,
@@ -350,14 +353,11 @@ impl<'a, R: Wait, G: Gate, W: Witness<Bridge> + Drop> Responder for Connection<'
 }
 
 /// Answers each line that the reader gives, with at most 2^32 reads: by a call of the seat, which waits for its turn,
-/// or
-/// by a refusal in reading with no call. Refusal 5 is answered with no call where the line is no hello and no resume
-/// and
-/// its session is not that of the connection's latest one. The seat makes no other call. On `Ok` all bytes were read,
-/// and what was
-/// written is the text of the replies to their lines, in order, and nothing else. A fault is as that of a script, or
-/// `Exhausted` where no ticket was left for the call of a line: then the lines before it were answered. The gate is told
-/// of this connection ahead of each turn and after each reply.
+/// or by a refusal in reading with no call. Refusal 5 is answered with no call where the line is no hello and no resume
+/// and its session is not that of the connection's latest one. The seat makes no other call. On `Ok` all bytes were
+/// read, and what was written is the text of the replies to their lines, in order, and nothing else. A fault is as that
+/// of a script, or `Exhausted` where no ticket was left for the call of a line: then the lines before it were answered.
+/// The gate is told of this connection ahead of each turn and after each reply.
 pub fn session<R: Wait, I: ByteIn, O: ByteOut, G: Gate>(
     rt: &R,
     alloc: Global,
