@@ -34,7 +34,8 @@ pub fn run_act(
         runtime.new.runners) }
     ensures change { IfOk result (λ change. Changes runtime.old.runners act key (map.get config.now.map key) (max runtime.old.time now)
         change) }
-    ensures refused { IfErr result (λ why. (act ≡ asked.Apply) × KeyRefuses runtime.old.runners key (map.get config.now.map key) (Err why)) }
+    ensures refused { IfErr result (λ why.
+        (act ≡ asked.Apply) × KeyRefuses runtime.old.runners key (map.get config.now.map key) (Err why)) }
     ensures kept { OnErr result (runtime.new.runners ≡ runtime.old.runners) }
     ensures still { OnErr result (runtime.new.time ≡ runtime.old.time) }
 {

@@ -75,9 +75,8 @@ pub fn headline()
 /// one. Of each state to which a history of its turns leads, in whatever order the threads made them: it is whole; any
 /// standing entries may be taken out of the run with all that are in conflict with them (commutation under references);
 /// and the headline holds of it. Nothing is asked of the requests: the numbers of each are in their ranges, as a turn
-/// says.
-/// `Desk::close` tells such a history of the bridge that it gives back, and `Desk::turn` and `front` of what a seat has
-/// seen.
+/// says. `Desk::close` tells such a history of the bridge that it gives back, and `Desk::turn` and `front` of what a
+/// seat has seen.
 pub fn headline_at_a_desk()
     ensures whole { (limits : AnyLimits) (records : List (AnyKey × AnyRecord)) (history : List (Call AnyAsk AnyReply)) (now : State) →
         Opens limits records → Runs Turns (begun limits records) history now → IsWhole now }

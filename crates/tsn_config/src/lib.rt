@@ -3,10 +3,9 @@
 //! A `Config` is seen as one finite map from keys to records with its limits (802.1Q-2018, 12.29 and 12.31). Each key
 //! and list is within the limits, each record is of its key's kind, each port is there, and each reference of a filter
 //! is to a key that is there. `check` says why edits are refused, `change_of` what admitted ones do, and `make` does
-//! it;
-//! `apply` makes any change that fits. The definitions of edits and changes are those of `tsn_edit`. Beside the filters
-//! stand indexes of them, so that who refers to a key, and which filter has two specifications, is found without going
-//! along them.
+//! it; `apply` makes any change that fits. The definitions of edits and changes are those of `tsn_edit`. Beside the
+//! filters stand indexes of them, so that who refers to a key, and which filter has two specifications, is found
+//! without going along them.
 #![tactic(auto)]
 
 ghost use Rattle.std.specs.Prelude.{◌≡◌, ℕ, IfOk, None, Some, option_map};

@@ -113,7 +113,8 @@ last_where_none test (x ∷ xs) h =
 pub last_where_some : (test : Applied → Bool) (xs : List Applied) (x : Applied) → last_where test xs ≡ Some x → IsLast test xs x
 last_where_some test [] x h = (cc)
 last_where_some test (z ∷ xs) x h =
-    elim (last_where test xs) as (λ o. last_where test xs ≡ o → option_or o (cond (test z) (Some z) None) ≡ Some x → IsLast test (z ∷ xs) x) [
+    elim (last_where test xs) as (λ o. last_where test xs ≡ o → option_or o (cond (test z) (Some z) None) ≡ Some x
+    → IsLast test (z ∷ xs) x) [
       | None ↦ λ none h.
           elim (test z) as (λ b. test z ≡ b → cond b (Some z) None ≡ Some x → IsLast test (z ∷ xs) x) [
             | true ↦ λ pass h. let is : z ≡ x = (cc) in record {

@@ -2,12 +2,9 @@
 //! and settles them.
 //!
 //! A `Keeper` has a buffer in front of its device, which is given what was entered when the buffer is full, or when it
-//! is to
-//! be settled: one sync then serves all of it. Behind a call that failed no further one may be made. The laws in `laws`
-//! say
-//! which recorded commands a crash leaves: at least all that were settled. A `Stamp` tells when a line was entered, as
-//! a
-//! `Clock` tells it.
+//! is to be settled: one sync then serves all of it. Behind a call that failed no further one may be made. The laws in
+//! `laws` say which recorded commands a crash leaves: at least all that were settled. A `Stamp` tells when a line was
+//! entered, as a `Clock` tells it.
 #![tactic(auto)]
 
 mod buffered;

@@ -107,7 +107,8 @@ pub fn what_is_lost()
         Allows (act_rule again m act k now) again (Acted other number counted) there → counted < at }
     ensures counters { (moment again : State) (m : ℕ) → Resumes moment again →
         counted_at again.book again.frames again.time (Port m) ≡
-        Some (counters.Port (record (list_counters moment.time (port_at moment.book m).acts) { pending = is_pending (port_at moment.book m).acts again.time })) }
+        Some (counters.Port (record (list_counters moment.time (port_at moment.book m).acts)
+        { pending = is_pending (port_at moment.book m).acts again.time })) }
     ensures pending { (moment again : State) (m : ℕ) → Resumes moment again →
         is_pending (port_at moment.book m).acts moment.time ≡ true → is_pending (port_at again.book m).acts again.time ≡ true }
 {}

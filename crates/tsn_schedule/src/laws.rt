@@ -80,7 +80,8 @@ pub fn examples_at_edges()
     ensures act_at_a_cycle_start { (gates_at (third 200 5000) (5000 ∷ []) ≡ Some 128 ∷ [])
         × (gates_at (third 200 4999) (5000 ∷ []) ≡ Some 1 ∷ []) }
     // an act at the change time 6000 finds the new list in force; one before drops it
-    ensures disable_at_the_change_time { (gates_at (enabled 6000) (8000 ∷ []) ≡ Some 255 ∷ []) × (gates_at (enabled 5999) (8000 ∷ []) ≡ Some 1 ∷ []) }
+    ensures disable_at_the_change_time { (gates_at (enabled 6000) (8000 ∷ []) ≡ Some 255 ∷ [])
+        × (gates_at (enabled 5999) (8000 ∷ []) ≡ Some 1 ∷ []) }
     ensures apply_at_the_change_time { (past_bases (Apply (plan open_shut 1000 0 0) 3000 ∷ ahead) ≡ 1)
         × (past_bases (Apply (plan open_shut 1000 0 0) 2999 ∷ ahead) ≡ 0) }
     // a base equal to the instant changes at once, and is no error

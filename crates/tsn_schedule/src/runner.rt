@@ -68,7 +68,14 @@ impl<E: Timed> Model for Runner<E> {
 
     ghost use Rattle.tsn_schedule.specs.Running.{IsInRange};
 
-    ghost view = { λ a. record { enabled = a.enabled; last = a.last; errors = a.errors; held = a.held; running = a.running; pending = a.pending } };
+    ghost view = { λ a. record {
+      enabled = a.enabled;
+      last = a.last;
+      errors = a.errors;
+      held = a.held;
+      running = a.running;
+      pending = a.pending;
+    } };
 
     ghost invariant = { λ a. IsInRange a.last a.running a.pending };
 }

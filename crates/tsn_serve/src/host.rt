@@ -53,8 +53,7 @@ fn port_name(alloc: Global, port: PortId) -> Result<Option<SessionName>, AllocEr
 }
 
 /// Starts a worker of a port, by three turns of the seat: the witness attends the first, its hello. The hello says the
-/// name
-/// `port N`, so that a worker goes on as the session of the worker before it.
+/// name `port N`, so that a worker goes on as the session of the worker before it.
 pub fn start_with<R: Wait, W: Witness<Bridge>>(
     rt: &R,
     alloc: Global,

@@ -1,9 +1,7 @@
 //! Command lines in, reply lines out, over any reader and writer of bytes: the run of a script over a bridge of its
-//! own,
-//! and the session of a connection over a bridge that threads share. It relies on `tsn_bytes` for readers and writers,
-//! on
-//! `tsn_wire` for the reading of a line, on `tsn_replies` for the text of a reply and on `tsn_desk` for the turns of a
-//! shared bridge; beside sessions, on `tsn_port` for workers of its ports.
+//! own, and the session of a connection over a bridge that threads share. It relies on `tsn_bytes` for readers and
+//! writers, on `tsn_wire` for the reading of a line, on `tsn_replies` for the text of a reply and on `tsn_desk` for the
+//! turns of a shared bridge; beside sessions, on `tsn_port` for workers of its ports.
 #![tactic(auto)]
 
 mod connection;

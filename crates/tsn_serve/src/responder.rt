@@ -57,7 +57,8 @@ pub trait Responder {
     ) -> Result<Option<usize>, Fault>
         ensures none { result ≡ Ok None → (self.new ≡ self.old) × (_writer.new ≡ _writer.old) }
         ensures front { IfOk result (λ count.
-            IfSome count (λ n. AnswersFront answers breaks self.old _bytes.now (W.taken _writer.old) (W.taken _writer.new) (Ok n) self.new)) }
+            IfSome count (λ n. AnswersFront answers breaks self.old _bytes.now (W.taken _writer.old) (W.taken _writer.new)
+            (Ok n) self.new)) }
         ensures broken { IfErr result (λ e. AnswersFront answers breaks self.old _bytes.now (W.taken _writer.old) (W.taken _writer.new)
             (Err e) self.new) }
         ensures worked { result ≢ Err Write → W.has_failed _writer.new ≡ W.has_failed _writer.old }

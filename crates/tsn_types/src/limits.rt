@@ -38,7 +38,13 @@ impl Model for Limits {
 
     ghost inverse = { λ b. record { ports = b.ports; filters = b.filters; gates = b.gates; meters = b.meters; list = b.list } };
 
-    ghost invariant = { λ a. AreInRange (record { ports = a.ports; filters = a.filters; gates = a.gates; meters = a.meters; list = a.list }) };
+    ghost invariant = { λ a. AreInRange (record {
+      ports = a.ports;
+      filters = a.filters;
+      gates = a.gates;
+      meters = a.meters;
+      list = a.list;
+    }) };
 }
 
 impl Limits {

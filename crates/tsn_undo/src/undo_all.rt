@@ -32,9 +32,8 @@ impl Book {
     }
 
     /// Takes back all standing entries of the session, as `undo_all` does, where it is known that no conflict blocks
-    /// it, which
-    /// `refuse_blocked` tells, and how many entries of the session stand. It is refused 10 where none does, then 17 where the journal
-    /// never holds so many entries more, then 18; refused, it has changed nothing.
+    /// it, which `refuse_blocked` tells, and how many entries of the session stand. It is refused 10 where none does,
+    /// then 17 where the journal never holds so many entries more, then 18; refused, it has changed nothing.
     pub fn undo_all_free(&mut self, session: u32, count: usize) -> Result<(u64, u64), Refusal>
         requires free { conflict_with_others self.old.ledger.entries (find_own_in_conflict self.old.ledger.entries session) ≡ None }
         requires count { count ≡ length (own_standing self.old.ledger.entries session) }

@@ -26,12 +26,13 @@ pub gate_entry_read : (is_open : Bool) (ipv : Option ℕ) (interval : ℕ) (octe
     → t4 ≡ comma ∷ t5
     → ReadsValue 0 t5 (whole_data interval) t6 → t6 ≡ comma ∷ t7 → ReadsValue 0 t7 (or_null octets) t8 → t8 ≡ token Token.end_array ∷ t9
     → ReadsValue 1 t0 (gate_entry_array is_open ipv interval octets) t9
-gate_entry_read is_open ipv interval octets t0 t1 t2 t3 t4 t5 t6 t7 t8 t9 e0 (i, is_i, same_i, low_i) e2 (j, is_j, same_j, low_j) e4 (k, is_k, same_k, low_k) e6 (l, is_l, same_l, low_l) e8 = (
-  json.array (json.item i (json.item j (json.item k (json.item l json.no_items)))),
-  rw (e0, is_i, e2, is_j, e4, is_k, e6, is_l, e8) (simp append_assoc),
-  rw (same_i, same_j, same_k, same_l) refl,
-  omega (arith, low_i, low_j, low_k, low_l),
-)
+gate_entry_read is_open ipv interval octets t0 t1 t2 t3 t4 t5 t6 t7 t8 t9 e0 (i, is_i, same_i, low_i) e2 (j, is_j, same_j, low_j)
+    e4 (k, is_k, same_k, low_k) e6 (l, is_l, same_l, low_l) e8 = (
+      json.array (json.item i (json.item j (json.item k (json.item l json.no_items)))),
+      rw (e0, is_i, e2, is_j, e4, is_k, e6, is_l, e8) (simp append_assoc),
+      rw (same_i, same_j, same_k, same_l) refl,
+      omega (arith, low_i, low_j, low_k, low_l),
+    )
 
 -- ---- one item more
 

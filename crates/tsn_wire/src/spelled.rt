@@ -122,8 +122,7 @@ fn states(text: &mut Cursor<'_>) -> Option<CommandDraft>
 }
 
 // What comes before the session. A look at states begins with the member `at`, a since with `after`, any other command
-// with
-// `do`.
+// with `do`.
 fn front(alloc: Global, text: &mut Cursor<'_>) -> Option<CommandDraft>
     ensures { IfSome result (λ command. SpellsFront text.old command text.new) }
 {

@@ -1,14 +1,11 @@
 //! `tsnd`: the configuration service of one time-aware bridge.
 //!
-//! `tsnd script` answers a script of command lines on standard input with one reply line each on standard output, from a
-//! setup in a file or from the standard one. `tsnd serve` answers the lines of many connections over TCP, on one
-//! bridge, and then
-//! tells the gates of each port. With a journal file, what the sessions of either do outlasts it, and `tsnd journal`
-//! says what is
-//! in one. `tsnd states` prints the gate states of a port at even steps. `tsnd check` says what is in
-//! a setup, or where it is at fault, or which of the command lines on standard input can't be asked. The status is 0,
-//! or 1 after a line on standard error that says why, or 2 for a command line
-//! that is refused.
+//! `tsnd script` answers a script of command lines on standard input with one reply line each on standard output, from
+//! a setup in a file or from the standard one. `tsnd serve` answers the lines of many connections over TCP, on one
+//! bridge, and then tells the gates of each port. With a journal file, what the sessions of either do outlasts it, and
+//! `tsnd journal` says what is in one. `tsnd states` prints the gate states of a port at even steps. `tsnd check` says
+//! what is in a setup, or where it is at fault, or which of the command lines on standard input can't be asked. The
+//! status is 0, or 1 after a line on standard error that says why, or 2 for a command line that is refused.
 #![tactic(auto)]
 
 mod anew;

@@ -17,7 +17,8 @@ pub lines-preserved : goal.lines-preserved
 lines-preserved c =
     let bytes = c.args.bytes.now in
     let done = c.lines.done in
-    let fits : c.in-Some.line.count ≤ length bytes - done = simp length-drop at (rw (take_rest bytes done) at c.in-Some.ensures.count.1) in (
+    let fits : c.in-Some.line.count ≤ length bytes - done =
+    simp length-drop at (rw (take_rest bytes done) at c.in-Some.ensures.count.1) in (
       subst (λ rs. IsRow bytes rs (drop (done + c.in-Some.line.count) bytes)) (sym c.push_reserved-in-lines.ensures.items)
           (row_read bytes done c.lines.row.items c.in-Some.line c.lines.invariant.0 c.in-Some.ensures.read),
       omega (arith, fits, c.lines.invariant.1),
