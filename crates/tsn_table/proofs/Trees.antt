@@ -10,26 +10,26 @@ use Rattle.tsn_table.specs.declared.tree.Tree.{Tree}
 use Rattle.tsn_table.specs.declared.tree.Tree.TheBlock.{Fork'}
 use Rattle.tsn_table.specs.declared.tree.Tree.TheVariants.{Empty}
 
--- a tree in which no number is the first has no node
 not_nothing : (l : List ℕ) (k : ℕ) (m : List ℕ) → l ++ k ∷ m ≡ [] → ⊥
 not_nothing [] k m is = absurd (cc)
 not_nothing (x ∷ l) k m is = absurd (cc)
 
+-- a tree in which no number is the first is the empty one, of which there is nothing to count
+empty_counts : (count : Tree → ℕ) → count Empty ≡ 0 → (tree : Tree) (first : Option ℕ)
+    → first ≡ option_or (first_from 0 (numbers_of tree)) None → IfNone first (count tree ≡ 0)
+empty_counts count none Empty None is = none
+empty_counts count none Empty (Some n) is = tt
+empty_counts count none (Fork' place block left_height right_height left right) None is =
+    absurd (not_nothing (numbers_of left) block.least _ (no_next _ (sym is)))
+empty_counts count none (Fork' place block left_height right_height left right) (Some n) is = tt
+
 pub empty_nodes : (tree : Tree) (first : Option ℕ) → first ≡ option_or (first_from 0 (numbers_of tree)) None
     → IfNone first (nodes_of tree ≡ 0)
-empty_nodes Empty None is = refl
-empty_nodes Empty (Some n) is = tt
-empty_nodes (Fork' place block left_height right_height left right) None is =
-    absurd (not_nothing (numbers_of left) block.least _ (no_next _ (sym is)))
-empty_nodes (Fork' place block left_height right_height left right) (Some n) is = tt
+empty_nodes = empty_counts nodes_of refl
 
 pub empty_height : (tree : Tree) (first : Option ℕ) → first ≡ option_or (first_from 0 (numbers_of tree)) None
     → IfNone first (height_of tree ≡ 0)
-empty_height Empty None is = refl
-empty_height Empty (Some n) is = tt
-empty_height (Fork' place block left_height right_height left right) None is =
-    absurd (not_nothing (numbers_of left) block.least _ (no_next _ (sym is)))
-empty_height (Fork' place block left_height right_height left right) (Some n) is = tt
+empty_height = empty_counts height_of refl
 
 -- where none is behind the only number of a block, there is one more with it than before it
 pub one_more : (l b r : List ℕ) (x : ℕ) (first : Option ℕ) → b ≡ x ∷ [] → first ≡ option_or (first_from 0 r) None
