@@ -19,29 +19,25 @@ later : {E : Type 0} (interval : E → ℕ) (x : E) (list : List E) (offset i : 
     → IsAt interval list (offset - interval x) i
 later interval x list offset i at = grind (arith, sum_by-cons)
 
+-- it is the entry at the offset, and those ahead of it are the earlier ones
+only : {E : Type 0} (interval : E → ℕ) (list : List E) (offset i : ℕ) → IsAt interval list offset i
+    → (entry_at interval list offset ≡ slice_get list i) × (earlier_at interval list offset ≡ sum_by interval (take i list))
+only interval [] offset i at = absurd (omega (arith, at.within))
+only interval (x ∷ []) offset zero at = (refl, refl)
+only interval (x ∷ []) offset (suc i) at = absurd (omega (arith, at.within))
+only interval (x ∷ y ∷ list) offset zero at = (grind arith, grind arith)
+only interval (x ∷ y ∷ list) offset (suc i) at =
+    let sum = sum_by-cons interval x (take i (y ∷ list)) in
+    let more = only interval (y ∷ list) (offset - interval x) i (later interval x (y ∷ list) offset i at) in
+    rw (le-ltb offset (interval x) (omega (arith, at.from, sum))) (more.0, omega (arith, more.1, sum))
+
 pub only_entry : {E : Type 0} (interval : E → ℕ) (list : List E) (offset i : ℕ) → IsAt interval list offset i
     → entry_at interval list offset ≡ slice_get list i
-only_entry interval [] offset i at = absurd (omega (arith, at.within))
-only_entry interval (x ∷ []) offset zero at = refl
-only_entry interval (x ∷ []) offset (suc i) at = absurd (omega (arith, at.within))
-only_entry interval (x ∷ y ∷ list) offset zero at = grind arith
-only_entry interval (x ∷ y ∷ list) offset (suc i) at =
-    rw (le-ltb offset (interval x) (omega (arith, at.from, sum_by-cons interval x (take i (y ∷ list)))))
-    (only_entry interval (y ∷ list) (offset - interval x) i (later interval x (y ∷ list) offset i at))
+only_entry interval list offset i at = (only interval list offset i at).0
 
 pub only_earlier : {E : Type 0} (interval : E → ℕ) (list : List E) (offset i : ℕ) → IsAt interval list offset i
     → earlier_at interval list offset ≡ sum_by interval (take i list)
-only_earlier interval [] offset i at = absurd (omega (arith, at.within))
-only_earlier interval (x ∷ []) offset zero at = refl
-only_earlier interval (x ∷ []) offset (suc i) at = absurd (omega (arith, at.within))
-only_earlier interval (x ∷ y ∷ list) offset zero at = grind arith
-only_earlier interval (x ∷ y ∷ list) offset (suc i) at =
-    rw (le-ltb offset (interval x) (omega (arith, at.from, sum_by-cons interval x (take i (y ∷ list)))))
-    (omega (
-      arith,
-      only_earlier interval (y ∷ list) (offset - interval x) i (later interval x (y ∷ list) offset i at),
-      sum_by-cons interval x (take i (y ∷ list)),
-    ))
+only_earlier interval list offset i at = (only interval list offset i at).1
 
 -- sums rise
 sums_rise : {E : Type 0} (interval : E → ℕ) (list : List E) (i j : ℕ) → i ≤ j
