@@ -47,6 +47,23 @@ end_after : (t : ℕ) (fs : List Arrival) → IsRising t fs → t ≤ end_of t f
 end_after t [] r = omega arith
 end_after t (f ∷ fs) r = grind (arith, (end_after f.time fs r.1))
 
+-- what the rates bring up to a frame, and on to the last
+record Brings (m : FlowMeter) (b : Tokens) (t : ℕ) (f : Arrival) (fs : List Arrival) : Type 0 where
+  committed : m.cir * (f.time - t) + m.cir * (end_of f.time fs - f.time) ≡ m.cir * (end_of f.time fs - t)
+  excess : m.eir * (f.time - t) + m.eir * (end_of f.time fs - f.time) ≡ m.eir * (end_of f.time fs - t)
+  grows : grown m f.time b ≡ b.committed + m.cir * (f.time - t)
+  earns : m.eir * (f.time - b.last) ≡ m.eir * (f.time - t)
+
+brings : (m : FlowMeter) (b : Tokens) (t : ℕ) (f : Arrival) (fs : List Arrival) → b.last ≡ t → IsRising t (f ∷ fs) → Brings m b t f fs
+brings m b t f fs at r =
+    let ends = end_after f.time fs r.1 in
+    record {
+      committed = spans m.cir t f.time (end_of f.time fs) r.0 ends;
+      excess = spans m.eir t f.time (end_of f.time fs) r.0 ends;
+      grows = ap (λ l. b.committed + m.cir * (f.time - l)) at;
+      earns = ap (λ l. m.eir * (f.time - l)) at;
+    }
+
 -- No count is above its size after a mark or a clip.
 pub within : (b : Tokens) (e : Event) → IsWithin (record_of e) (after b e)
 within b e = grind arith
@@ -65,9 +82,7 @@ green_bound m b t (f ∷ fs) at r =
     * (end_of f.time fs - f.time) = green_bound m (next m b f) f.time fs (next_last m b f) r.1 in
     let pays : paid (is_green (mark_on m b f)) f.octets + (next m b f).committed ≡ min (grown m f.time b)
     (tokens m.cbs) = (mark_pays m b f).green in
-    let both : m.cir * (f.time - t) + m.cir * (end_of f.time fs - f.time) ≡ m.cir * (end_of f.time fs - t) = spans m.cir t f.time
-    (end_of f.time fs) r.0 (end_after f.time fs r.1) in
-    let grows : grown m f.time b ≡ b.committed + m.cir * (f.time - t) = ap (λ l. b.committed + m.cir * (f.time - l)) at in
+    let brought : Brings m b t f fs = brings m b t f fs at r in
     omega arith
 
 passed_bound : (m : FlowMeter) (b : Tokens) (t : ℕ) (fs : List Arrival) → b.last ≡ t → IsRising t fs
@@ -81,13 +96,7 @@ passed_bound m b t (f ∷ fs) at r =
     + (refilled m f.time b).excess = (mark_pays m b f).passed in
     let fills : (refilled m f.time b).committed + (refilled m f.time b).excess ≤ grown m f.time b + (b.excess + m.eir * (f.time - b.last)) =
     coupled m.cf (grown m f.time b) (tokens m.cbs) (b.excess + m.eir * (f.time - b.last)) (tokens m.ebs) in
-    let ends : f.time ≤ end_of f.time fs = end_after f.time fs r.1 in
-    let c : m.cir * (f.time - t) + m.cir * (end_of f.time fs - f.time) ≡ m.cir * (end_of f.time fs - t) = spans m.cir t f.time
-    (end_of f.time fs) r.0 ends in
-    let e : m.eir * (f.time - t) + m.eir * (end_of f.time fs - f.time) ≡ m.eir * (end_of f.time fs - t) = spans m.eir t f.time
-    (end_of f.time fs) r.0 ends in
-    let grows : grown m f.time b ≡ b.committed + m.cir * (f.time - t) = ap (λ l. b.committed + m.cir * (f.time - l)) at in
-    let earns : m.eir * (f.time - b.last) ≡ m.eir * (f.time - t) = ap (λ l. m.eir * (f.time - l)) at in
+    let brought : Brings m b t f fs = brings m b t f fs at r in
     omega arith
 
 -- Of yellow alone, what flows over is no more than what the committed rate brought.
@@ -101,13 +110,7 @@ yellow_bound m b t (f ∷ fs) at full r =
     let pays : paid (is_yellow (mark_on m b f)) f.octets + (next m b f).excess
     ≡ min (b.excess + m.eir * (f.time - b.last) + over m f.time b) (tokens m.ebs) = (mark_pays m b f).yellow in
     let spill : over m f.time b ≤ grown m f.time b - tokens m.cbs = flows m.cf (grown m f.time b) (tokens m.cbs) in
-    let ends : f.time ≤ end_of f.time fs = end_after f.time fs r.1 in
-    let c : m.cir * (f.time - t) + m.cir * (end_of f.time fs - f.time) ≡ m.cir * (end_of f.time fs - t) = spans m.cir t f.time
-    (end_of f.time fs) r.0 ends in
-    let e : m.eir * (f.time - t) + m.eir * (end_of f.time fs - f.time) ≡ m.eir * (end_of f.time fs - t) = spans m.eir t f.time
-    (end_of f.time fs) r.0 ends in
-    let grows : grown m f.time b ≡ b.committed + m.cir * (f.time - t) = ap (λ l. b.committed + m.cir * (f.time - l)) at in
-    let earns : m.eir * (f.time - b.last) ≡ m.eir * (f.time - t) = ap (λ l. m.eir * (f.time - l)) at in
+    let brought : Brings m b t f fs = brings m b t f fs at r in
     omega arith
 
 -- With the time counted from the first frame on, that frame's refill bounds what was there by the sizes.
