@@ -27,7 +27,7 @@ use Rattle.tsn_schedule.specs.Kept.{Kept, fresh}
 use Rattle.tsn_chain.specs.declared.data.FilterData.{FilterData}
 use Rattle.tsn_chain.specs.declared.data.GateData.{GateData}
 use Rattle.tsn_chain.specs.declared.data.MeterData.{MeterData}
-use Rattle.tsn_chain.specs.Begun.{AreFresh, begun_frames, begun_runners, first_change, frames_of_kind, no_frames, no_runners, runners_of_kind}
+use Rattle.tsn_chain.specs.Begun.{AreFresh, begun_frames, begun_runners, first_change, no_frames, no_runners}
 use Rattle.tsn_chain.specs.Following.{frames_after, meter_row_after, new_filter, new_gate, new_meter, row_after, runners_after}
 use Rattle.tsn_chain.specs.Instances.{FrameData, HasKeys, Runners}
 
@@ -77,6 +77,26 @@ remains : {A B : Type 0} (g : A → B) (step : A → ℕ → A) → ((a : A) (n 
 remains g step same [] a = refl
 remains g step same (n ∷ ns) a = remains g step same ns (step a n) ∙ same a n
 
+-- kind after kind, where a part of all moves with the keys of one kind alone
+module _ {A B : Type 0} (c : Configuration) (g : A → B) (step : Kind → A → ℕ → A) (own : B → ℕ → B) where
+  abbrev over : A → List Kind → A
+  over a ks = fold (λ a k. fold (step k) a (ids_of k c)) a ks
+
+  abbrev StaysWith : Kind → Type 0
+  StaysWith k = (a : A) (n : ℕ) → g (step k a n) ≡ g a
+
+  stays_over : (ks : List Kind) (a : A) → AllByRecursion StaysWith ks → g (over a ks) ≡ g a
+  stays_over [] a stays = refl
+  stays_over (k ∷ ks) a stays = stays_over ks (fold (step k) a (ids_of k c)) stays.1 ∙ remains g (step k) stays.0 (ids_of k c) a
+
+  one_moves : (a : A) (before : List Kind) (k : Kind) (behind : List Kind) → ((a : A) (n : ℕ) → g (step k a n) ≡ own (g a) n)
+      → AllByRecursion StaysWith before → AllByRecursion StaysWith behind
+      → g (over (fold (step k) (over a before) (ids_of k c)) behind) ≡ fold own (g a) (ids_of k c)
+  one_moves a before k behind same stays stays_then =
+      stays_over behind (fold (step k) (over a before) (ids_of k c)) stays_then
+      ∙ moves g (step k) own same (ids_of k c) (over a before)
+      ∙ ap (λ b. fold own b (ids_of k c)) (stays_over before a stays)
+
 module _ (c : Configuration) where
   abbrev one : Kind → FrameData → ℕ → FrameData
   one kind d n = frames_after 0 d (first_change c (key_by kind n))
@@ -99,62 +119,30 @@ module _ (c : Configuration) where
   abbrev gate_runs : FinMap nat_cmp (Kept GateEntry) → ℕ → FinMap nat_cmp (Kept GateEntry)
   gate_runs t n = row_after fresh None (get c (Gate n)) t n
 
-  abbrev after_ports : FrameData
-  after_ports = frames_of_kind c no_frames kinds.Port
-
-  abbrev after_filters : FrameData
-  after_filters = frames_of_kind c after_ports kinds.Filter
-
-  abbrev after_gates : FrameData
-  after_gates = frames_of_kind c after_filters kinds.Gate
-
   filters_are : (begun_frames c).filters ≡ fold filter_rows empty (ids_of kinds.Filter c)
   filters_are =
-      remains (λ d. d.filters) (one kinds.Meter) (λ d n. refl) (ids_of kinds.Meter c) after_gates
-      ∙ remains (λ d. d.filters) (one kinds.Gate) (λ d n. refl) (ids_of kinds.Gate c) after_filters
-      ∙ moves (λ d. d.filters) (one kinds.Filter) filter_rows (λ d n. refl) (ids_of kinds.Filter c) after_ports
-      ∙ ap (λ t. fold filter_rows t (ids_of kinds.Filter c))
-      (remains (λ d. d.filters) (one kinds.Port) (λ d n. refl) (ids_of kinds.Port c) no_frames)
+      one_moves c (λ d. d.filters) one filter_rows no_frames (kinds.Port ∷ []) kinds.Filter (kinds.Gate ∷ kinds.Meter ∷ [])
+      (λ d n. refl) ((λ d n. refl), tt) ((λ d n. refl), ((λ d n. refl), tt))
 
   gates_are : (begun_frames c).gates ≡ fold gate_rows empty (ids_of kinds.Gate c)
   gates_are =
-      remains (λ d. d.gates) (one kinds.Meter) (λ d n. refl) (ids_of kinds.Meter c) after_gates
-      ∙ moves (λ d. d.gates) (one kinds.Gate) gate_rows (λ d n. refl) (ids_of kinds.Gate c) after_filters
-      ∙ ap (λ t. fold gate_rows t (ids_of kinds.Gate c))
-      (remains (λ d. d.gates) (one kinds.Filter) (λ d n. refl) (ids_of kinds.Filter c) after_ports
-      ∙ remains (λ d. d.gates) (one kinds.Port) (λ d n. refl) (ids_of kinds.Port c) no_frames)
+      one_moves c (λ d. d.gates) one gate_rows no_frames (kinds.Port ∷ kinds.Filter ∷ []) kinds.Gate (kinds.Meter ∷ [])
+      (λ d n. refl) ((λ d n. refl), ((λ d n. refl), tt)) ((λ d n. refl), tt)
 
   meters_are : (begun_frames c).meters ≡ fold meter_rows empty (ids_of kinds.Meter c)
   meters_are =
-      moves (λ d. d.meters) (one kinds.Meter) meter_rows (λ d n. refl) (ids_of kinds.Meter c) after_gates
-      ∙ ap (λ t. fold meter_rows t (ids_of kinds.Meter c))
-      (remains (λ d. d.meters) (one kinds.Gate) (λ d n. refl) (ids_of kinds.Gate c) after_filters
-      ∙ remains (λ d. d.meters) (one kinds.Filter) (λ d n. refl) (ids_of kinds.Filter c) after_ports
-      ∙ remains (λ d. d.meters) (one kinds.Port) (λ d n. refl) (ids_of kinds.Port c) no_frames)
-
-  abbrev runs_ports : Runners
-  runs_ports = runners_of_kind c no_runners kinds.Port
-
-  abbrev runs_filters : Runners
-  runs_filters = runners_of_kind c runs_ports kinds.Filter
-
-  abbrev runs_gates : Runners
-  runs_gates = runners_of_kind c runs_filters kinds.Gate
+      one_moves c (λ d. d.meters) one meter_rows no_frames (kinds.Port ∷ kinds.Filter ∷ kinds.Gate ∷ []) kinds.Meter []
+      (λ d n. refl) ((λ d n. refl), ((λ d n. refl), ((λ d n. refl), tt))) tt
 
   port_runners_are : (begun_runners c).ports ≡ fold port_runs empty (ids_of kinds.Port c)
   port_runners_are =
-      remains (λ d. d.ports) (runs kinds.Meter) (λ d n. refl) (ids_of kinds.Meter c) runs_gates
-      ∙ remains (λ d. d.ports) (runs kinds.Gate) (λ d n. refl) (ids_of kinds.Gate c) runs_filters
-      ∙ remains (λ d. d.ports) (runs kinds.Filter) (λ d n. refl) (ids_of kinds.Filter c) runs_ports
-      ∙ moves (λ d. d.ports) (runs kinds.Port) port_runs (λ d n. refl) (ids_of kinds.Port c) no_runners
+      one_moves c (λ d. d.ports) runs port_runs no_runners [] kinds.Port (kinds.Filter ∷ kinds.Gate ∷ kinds.Meter ∷ [])
+      (λ d n. refl) tt ((λ d n. refl), ((λ d n. refl), ((λ d n. refl), tt)))
 
   gate_runners_are : (begun_runners c).gates ≡ fold gate_runs empty (ids_of kinds.Gate c)
   gate_runners_are =
-      remains (λ d. d.gates) (runs kinds.Meter) (λ d n. refl) (ids_of kinds.Meter c) runs_gates
-      ∙ moves (λ d. d.gates) (runs kinds.Gate) gate_runs (λ d n. refl) (ids_of kinds.Gate c) runs_filters
-      ∙ ap (λ t. fold gate_runs t (ids_of kinds.Gate c))
-      (remains (λ d. d.gates) (runs kinds.Filter) (λ d n. refl) (ids_of kinds.Filter c) runs_ports
-      ∙ remains (λ d. d.gates) (runs kinds.Port) (λ d n. refl) (ids_of kinds.Port c) no_runners)
+      one_moves c (λ d. d.gates) runs gate_runs no_runners (kinds.Port ∷ kinds.Filter ∷ []) kinds.Gate (kinds.Meter ∷ [])
+      (λ d n. refl) ((λ d n. refl), ((λ d n. refl), tt)) ((λ d n. refl), tt)
 
   meter_there : (l : Limits) → IsWellKept l c → (n : ℕ) → IsSome (get c (Meter n)) → IsSome (meter_of (get c (Meter n)))
   meter_there l kept n there = by_option (get c (Meter n))
