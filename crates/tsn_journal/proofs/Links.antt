@@ -44,6 +44,11 @@ pub place_of : (ms : List MarkedEntry) (ps : List Place) (j : ℕ) (p : Place) �
 place_of ms ps zero p there are = none_some p there
 place_of ms ps (suc i) p there are = let e : i ≡ suc i - 1 = omega arith in subst (λ k. IsPlace ms ps k p) e (are i p there)
 
+-- the same of a place to which a walk came
+pub came_to : {ms : List MarkedEntry} {ps : List Place} {j : ℕ} {p : Place} → (j ≡ 0 → ⊥) → j ≤ length ps → p ≡ get_or ps (j - 1) p
+    → ArePlaces ms ps → IsPlace ms ps (j - 1) p
+came_to {ms} {ps} {j} {p} some within at are = place_of ms ps j p (place_there ps j p some within at) are
+
 -- what does not belong to a group is not of another session in it
 pub not_of_others : (g : Group) (s : ℕ) (m : MarkedEntry) → belongs g m ≡ false → belongs_to_others g s m ≡ false
 not_of_others g s m h = and_left (belongs g m) _ h

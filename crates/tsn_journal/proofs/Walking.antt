@@ -82,6 +82,12 @@ filter_none t (x ∷ xs) zero h = ap (λ b. cond b (x ∷ filter t xs) (filter t
     ∙ filter_none t xs zero (λ i y low at. h (suc i) y (omega arith) at)
 filter_none t (x ∷ xs) (suc n) h = filter_none t xs n (λ i y low at. h (suc i) y (omega arith) at)
 
+-- none of a group is behind its latest place
+pub nothing_behind : {g : Group} {ms : List MarkedEntry} {ps : List Place} {place latest : ℕ} → place ≡ latest
+    → IsLast g (belongs g) ms ps latest (length ms + 1) → filter (belongs g) (drop (number_at ps place) ms) ≡ []
+nothing_behind {g} {ms} {ps} {place} is at =
+    filter_none (belongs g) ms (number_at ps place) (none_after g (belongs g) ms ps place (rw is at))
+
 module _ (ms : List MarkedEntry) (ps : List Place) (g : Group) (j : ℕ) (found : Place) (group : is_of g (place_at ps j) ≡ true)
     (there : place_at ps j ≡ Some found) (are : ArePlaces ms ps) where
   -- a link back: those of the group from there on are those from the place on, and its entry, if it belongs to the group

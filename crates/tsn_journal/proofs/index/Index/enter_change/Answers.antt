@@ -8,6 +8,7 @@ use Rattle.tsn_journal.proofs.Entering.{next_pending, none_pending, of_session, 
 use Rattle.tsn_journal.proofs.Indexing.{but_newest}
 use Rattle.tsn_journal.proofs.Newest.{in_key, in_ref}
 use Rattle.tsn_journal.proofs.Telling.{same_itself', told_more, told_same}
+use Rattle.tsn_journal.proofs.index.Index.enter_change.Goals.{After-enter_on}
 use Rattle.tsn_journal.proofs.index.Index.enter_change.Goals as goal
 
 pub loop-part-init : goal.loop-part-init
@@ -21,35 +22,31 @@ loop-part-init c = record {
   room = takes_none c.args.self.now;
 }
 
+-- the groups that the newest entry still has to come into, once it is entered on the part's key
+entered_on : (c : After-enter_on)
+    → IsIndexedBut (option_map RefersTo c.refs_of-refs.result.first ∷ option_map RefersTo c.refs_of-refs.result.second
+    ∷ (groups_of_parts (drop (c.loop-part.part-index + 1) c.parts-parts.result.now) ++ of_session c.args.session c.args.ends))
+    c.args.marked.now c.enter_on.new.self.places.items (latest_of c.enter_on.new.self.latest)
+entered_on c =
+    c.enter_on.ensures.index _
+    (next_pending c.args.marked.now c.loop-part.self c.parts-parts.result.now c.loop-part.part-index c.args.session c.args.ends
+    c.part-item.result c.refs_of-refs.result c.loop-part-test.true c.part-item.is c.refs_of-refs.ensures c.loop-part.invariant.pending)
+
 pub enter_ref-requires-clause-index : goal.enter_ref-requires-clause-index
 enter_ref-requires-clause-index c =
-    let refs = c.refs_of-refs.result in
-    let rest = groups_of_parts (drop (c.loop-part.part-index + 1) c.parts-parts.result.now) ++ of_session c.args.session c.args.ends in
-    let on = c.enter_on.ensures.index (option_map RefersTo refs.first ∷ option_map RefersTo refs.second ∷ rest)
-    (next_pending c.args.marked.now c.loop-part.self c.parts-parts.result.now c.loop-part.part-index c.args.session c.args.ends
-    c.part-item.result refs c.loop-part-test.true c.part-item.is c.refs_of-refs.ensures c.loop-part.invariant.pending) in
-    but_newest c.args.marked.now _ c.enter_on.new.self on
+    but_newest c.args.marked.now _ c.enter_on.new.self (entered_on (goal.at.enter_ref-requires-clause-index c).After-enter_on)
 
 pub enter_ref-requires-in-loop-part-clause-index : goal.enter_ref-requires-in-loop-part-clause-index
 enter_ref-requires-in-loop-part-clause-index c =
-    let refs = c.refs_of-refs.result in
-    let rest = groups_of_parts (drop (c.loop-part.part-index + 1) c.parts-parts.result.now) ++ of_session c.args.session c.args.ends in
-    let on = c.enter_on.ensures.index (option_map RefersTo refs.first ∷ option_map RefersTo refs.second ∷ rest)
-    (next_pending c.args.marked.now c.loop-part.self c.parts-parts.result.now c.loop-part.part-index c.args.session c.args.ends
-    c.part-item.result refs c.loop-part-test.true c.part-item.is c.refs_of-refs.ensures c.loop-part.invariant.pending) in
-    let first = c.enter_ref.ensures.index (option_map RefersTo refs.second ∷ rest) on in
-    but_newest c.args.marked.now _ c.enter_ref.new.self first
+    but_newest c.args.marked.now _ c.enter_ref.new.self
+    (c.enter_ref.ensures.index _ (entered_on (goal.at.enter_ref-requires-in-loop-part-clause-index c).After-enter_on))
 
 pub loop-part-preserved : goal.loop-part-preserved
 loop-part-preserved c =
     let refs = c.refs_of-refs.result in
-    let rest = groups_of_parts (drop (c.loop-part.part-index + 1) c.parts-parts.result.now) ++ of_session c.args.session c.args.ends in
-    let on = c.enter_on.ensures.index (option_map RefersTo refs.first ∷ option_map RefersTo refs.second ∷ rest)
-    (next_pending c.args.marked.now c.loop-part.self c.parts-parts.result.now c.loop-part.part-index c.args.session c.args.ends
-    c.part-item.result refs c.loop-part-test.true c.part-item.is c.refs_of-refs.ensures c.loop-part.invariant.pending) in
-    let first = c.enter_ref.ensures.index (option_map RefersTo refs.second ∷ rest) on in
+    let first = c.enter_ref.ensures.index _ (entered_on (goal.at.loop-part-preserved c).After-enter_on) in
     record {
-      pending = c.enter_ref-in-loop-part.ensures.index rest first;
+      pending = c.enter_ref-in-loop-part.ensures.index _ first;
       newest = λ g had. c.enter_ref-in-loop-part.ensures.newest g
           (c.enter_ref.ensures.newest g (c.enter_on.ensures.newest g (c.loop-part.invariant.newest g had)));
       told = told_more c.args.number c.loop-part.part-index c.parts-parts.result.now c.part-item.result refs c.args.self.now

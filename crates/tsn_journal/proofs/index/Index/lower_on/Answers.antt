@@ -1,5 +1,4 @@
 use Rattle.std.proofs.Common.{◌+◌, sym, subst, length}
-use Rattle.tsn_journal.specs.declared.latest.KeyPlaces.{KeyPlaces}
 use Rattle.tsn_journal.specs.declared.groups.Group.TheVariants.{On}
 use Rattle.tsn_journal.specs.Index.{IsLast, belongs, set_at}
 use Rattle.tsn_journal.specs.Latest.{latest_of}
@@ -20,18 +19,9 @@ first_from-on-requires-clause-settled c = none_on c.args.key.now c.args.settled 
 
 pub returns-clause-index : goal.returns-clause-index
 returns-clause-index c =
-    let ms = c.args.marked.now in
-    let ps = c.args.self.now.places.items in
     let key = c.args.key.now in
     let l = latest_of c.args.self.now.latest in
-    let j = c.first_from-on.result in
-    let row : KeyPlaces = record {
-      on = j;
-      refers = c.key_places-latest.result.refers;
-      touched = c.key_places-latest.result.touched;
-      referred = c.key_places-latest.result.referred;
-    } in
-    reindexed ms _ ps (set_at (On key) j l) (latest_of c.set_key.new.self)
-    (set_on c.args.self.now.latest c.set_key.new.self key row c.set_key.ensures.rows c.set_key.ensures.sessions
+    reindexed c.args.marked.now _ _ (set_at (On key) c.first_from-on.result l) (latest_of c.set_key.new.self)
+    (set_on c.args.self.now.latest c.set_key.new.self key _ c.set_key.ensures.rows c.set_key.ensures.sessions
     c.key_places-latest.ensures.refers)
-    (index_lowered ms ps l (On key) j c.requires.index c.first_from-on.ensures.last)
+    (index_lowered _ _ l (On key) c.first_from-on.result c.requires.index c.first_from-on.ensures.last)

@@ -1,5 +1,4 @@
 use Rattle.std.proofs.Common.{◌+◌, sym, subst, length}
-use Rattle.tsn_journal.specs.declared.latest.KeyPlaces.{KeyPlaces}
 use Rattle.tsn_journal.specs.declared.groups.Group.TheVariants.{RefersTo}
 use Rattle.tsn_journal.specs.Index.{IsLast, belongs, set_at}
 use Rattle.tsn_journal.specs.Latest.{latest_of}
@@ -20,18 +19,9 @@ first_from-refers-requires-clause-settled c = none_refers c.in-Some.key c.args.s
 
 pub returns-clause-index : goal.returns-clause-index
 returns-clause-index c =
-    let ms = c.args.marked.now in
-    let ps = c.args.self.now.places.items in
     let key = c.in-Some.key in
     let l = latest_of c.args.self.now.latest in
-    let j = c.first_from-refers.result in
-    let row : KeyPlaces = record {
-      on = c.key_places-latest.result.on;
-      refers = j;
-      touched = c.key_places-latest.result.touched;
-      referred = c.key_places-latest.result.referred;
-    } in
-    reindexed ms _ ps (set_at (RefersTo key) j l) (latest_of c.set_key.new.self)
-    (set_refers c.args.self.now.latest c.set_key.new.self key row c.set_key.ensures.rows c.set_key.ensures.sessions
+    reindexed c.args.marked.now _ _ (set_at (RefersTo key) c.first_from-refers.result l) (latest_of c.set_key.new.self)
+    (set_refers c.args.self.now.latest c.set_key.new.self key _ c.set_key.ensures.rows c.set_key.ensures.sessions
     c.key_places-latest.ensures.on)
-    (index_lowered ms ps l (RefersTo key) j c.requires.index c.first_from-refers.ensures.last)
+    (index_lowered _ _ l (RefersTo key) c.first_from-refers.result c.requires.index c.first_from-refers.ensures.last)

@@ -1,37 +1,28 @@
-use Rattle.std.proofs.Common.{◌≡◌, ◌+◌, ◌-◌, Bool, sym, ap, subst, arith, length, drop, take, filter}
+use Rattle.std.proofs.Common.{◌≡◌, ◌+◌, ◌-◌, Bool, sym, ap, subst, arith, drop, take, filter}
 use Rattle.tsn_journal.specs.declared.entries.MarkedEntry.{MarkedEntry}
 use Rattle.tsn_journal.specs.Marks.{IsTally}
-use Rattle.tsn_journal.specs.Index.{IsLast, belongs, number_at, number_of}
+use Rattle.tsn_journal.specs.Index.{belongs, number_at, number_of}
 use Rattle.tsn_journal.specs.declared.groups.Group.TheVariants.{Of}
-use Rattle.tsn_journal.proofs.Links.{place_there, the_place}
+use Rattle.tsn_journal.proofs.Links.{came_to, place_there, the_place}
 use Rattle.tsn_journal.proofs.Off.{none_before, own_split}
-use Rattle.tsn_journal.proofs.Walking.{both_told, filter_none, none_after, step_back}
+use Rattle.tsn_journal.proofs.Walking.{both_told, nothing_behind, step_back}
 use Rattle.tsn_journal.proofs.index.Index.tally_of.Goals as goal
 use Rattle.tsn_journal.proofs.index.Index.tally_of.Goals.{then-is_own, else-is_own}
 
 pub back-init : goal.back-init
 back-init c =
-    let ps = c.args.self.now.places.items in
-    let g = Of c.args.session in
-    let at = c.requires.index.latest_is g in
-    let none = none_after g (belongs g) c.args.marked.now ps c.session_places-place.result.standing
-    (subst (λ j. IsLast g (belongs g) c.args.marked.now ps j (length c.args.marked.now + 1))
-    (sym c.session_places-place.ensures.standing) at) in
-    grind (arith, filter_none)
+    let at = c.requires.index.latest_is (Of c.args.session) in
+    let none = nothing_behind c.session_places-place.ensures.standing at in
+    grind arith
 
 pub numbered-entry-requires : goal.numbered-entry-requires
 numbered-entry-requires c =
-    let at = the_place c.args.marked.now c.args.self.now.places.items (Of c.args.session) c.back.place c.index-at.result.now
-    c.back.invariant.group (place_there c.args.self.now.places.items c.back.place c.index-at.result.now c.back-test.true
-    c.back.invariant.within c.index-at.ensures) c.requires.index.places in
+    let at = came_to c.back-test.true c.back.invariant.within c.index-at.ensures c.requires.index.places in
     record { some = at.some; within = at.within }
 
 pub back-smaller : goal.back-smaller
 back-smaller c =
-    let at = the_place c.args.marked.now c.args.self.now.places.items (Of c.args.session) c.back.place c.index-at.result.now
-    c.back.invariant.group (place_there c.args.self.now.places.items c.back.place c.index-at.result.now c.back-test.true
-    c.back.invariant.within c.index-at.ensures) c.requires.index.places in
-    omega (arith, at.earlier, c.back-test.true)
+    omega (arith, (came_to c.back-test.true c.back.invariant.within c.index-at.ensures c.requires.index.places).earlier)
 
 pub back-preserved : goal.back-preserved
 back-preserved c =
@@ -49,17 +40,14 @@ pub returns-then-from-settled : goal.returns-then-from-settled
 returns-then-from-settled c = grind (arith, place_there, none_before)
 
 pub slice_bounds-left-end : goal.slice_bounds-left-end
-slice_bounds-left-end c = (the_place c.args.marked.now c.args.self.now.places.items (Of c.args.session) c.back.place c.index-at.result.now
-    c.back.invariant.group (place_there c.args.self.now.places.items c.back.place c.index-at.result.now c.back-test.true
-    c.back.invariant.within c.index-at.ensures) c.requires.index.places).within
+slice_bounds-left-end c = (came_to c.back-test.true c.back.invariant.within c.index-at.ensures c.requires.index.places).within
 
 pub returns-then-from-settled-2 : goal.returns-then-from-settled-2
 returns-then-from-settled-2 c =
     let ms = c.args.marked.now in
     let n = c.index-at.result.now.number in
     let number : number_at c.args.self.now.places.items c.back.place
-    ≡ n = ap number_of (place_there c.args.self.now.places.items c.back.place c.index-at.result.now c.back-test.true
-    c.back.invariant.within c.index-at.ensures) in
+    ≡ n = ap number_of (place_there _ _ _ c.back-test.true c.back.invariant.within c.index-at.ensures) in
     let t : MarkedEntry → Bool = belongs (Of c.args.session) in
     let first = c.tally_own-first.result in
     subst (IsTally (c.back.entries + first.entries) (c.back.parts + first.parts))
