@@ -148,28 +148,27 @@ behind_gates e (p ∷ ps) fs gs ms none nor either = absurd (cc)
 behind_gates e [] (f ∷ fs) gs ms none nor either = absurd (cc)
 behind_gates e [] [] (g ∷ gs) ms none nor either = absurd (cc)
 
+abbrev all_kinds : Entries → Entries
+all_kinds es = in_kinds (of_kind kinds.Port es) (of_kind kinds.Filter es) (of_kind kinds.Gate es) (of_kind kinds.Meter es)
+
+-- an entry that is below all others comes first, or behind kinds of which there is none
+in_front : (k : Key) (r : Record) (es : Entries) → below_all key_cmp k es ≡ true → (k, r) ∷ all_kinds es ≡ all_kinds ((k, r) ∷ es)
+unfolding place
+in_front (Port n) r es below = refl
+in_front (Filter n) r es below = behind_ports (Filter n, r) _ _ _ _ (none_above kinds.Port (Filter n) es (omega arith) below)
+in_front (Gate n) r es below =
+    behind_filters (Gate n, r) _ _ _ _ (none_above kinds.Port (Gate n) es (omega arith) below)
+    (none_above kinds.Filter (Gate n) es (omega arith) below)
+in_front (Meter n) r es below =
+    behind_gates (Meter n, r) _ _ _ _ (none_above kinds.Port (Meter n) es (omega arith) below)
+    (none_above kinds.Filter (Meter n) es (omega arith) below) (none_above kinds.Gate (Meter n) es (omega arith) below)
+
 pub by_kinds : (es : Entries) → is_sorted key_cmp es ≡ true
     → es ≡ of_kind kinds.Port es ++ of_kind kinds.Filter es ++ of_kind kinds.Gate es ++ of_kind kinds.Meter es
-unfolding place
 by_kinds [] sorted = refl
-by_kinds ((Port n, r) ∷ es) sorted = ap (λ t. (Port n, r) ∷ t) (by_kinds es (and_parts (below_all key_cmp (Port n) es) _ sorted).1)
-by_kinds ((Filter n, r) ∷ es) sorted =
-    let both = and_parts (below_all key_cmp (Filter n) es) (is_sorted key_cmp es) sorted in
-    ap (λ t. (Filter n, r) ∷ t) (by_kinds es both.1)
-    ∙ behind_ports (Filter n, r) (of_kind kinds.Port es) (of_kind kinds.Filter es) (of_kind kinds.Gate es) (of_kind kinds.Meter es)
-    (none_above kinds.Port (Filter n) es (omega arith) both.0)
-by_kinds ((Gate n, r) ∷ es) sorted =
-    let both = and_parts (below_all key_cmp (Gate n) es) (is_sorted key_cmp es) sorted in
-    ap (λ t. (Gate n, r) ∷ t) (by_kinds es both.1)
-    ∙ behind_filters (Gate n, r) (of_kind kinds.Port es) (of_kind kinds.Filter es) (of_kind kinds.Gate es) (of_kind kinds.Meter es)
-    (none_above kinds.Port (Gate n) es (omega arith) both.0)
-    (none_above kinds.Filter (Gate n) es (omega arith) both.0)
-by_kinds ((Meter n, r) ∷ es) sorted =
-    let both = and_parts (below_all key_cmp (Meter n) es) (is_sorted key_cmp es) sorted in
-    ap (λ t. (Meter n, r) ∷ t) (by_kinds es both.1)
-    ∙ behind_gates (Meter n, r) (of_kind kinds.Port es) (of_kind kinds.Filter es) (of_kind kinds.Gate es) (of_kind kinds.Meter es)
-    (none_above kinds.Port (Meter n) es (omega arith) both.0)
-    (none_above kinds.Filter (Meter n) es (omega arith) both.0) (none_above kinds.Gate (Meter n) es (omega arith) both.0)
+by_kinds (e ∷ es) sorted =
+    let both = and_parts (below_all key_cmp e.0 es) (is_sorted key_cmp es) sorted in
+    ap (λ t. e ∷ t) (by_kinds es both.1) ∙ in_front e.0 e.1 es both.0
 
 -- ---- the named records
 
