@@ -57,6 +57,9 @@ module _ (l : Limits) (m : Configuration) (es : List Entry) (now : Ledger) (view
     pub changed_ledger : seen l' m' es' ≡ enter now s w
     changed_ledger = ledger_of (after_change m e) map' opened
 
+    pub changed : IsBook l' m' es' × (seen l' m' es' ≡ enter now s w)
+    changed = (changed_book, changed_ledger)
+
   -- ---- no change
 
   module _ (apply : applies w ≡ None) (map' : m' ≡ m) where
