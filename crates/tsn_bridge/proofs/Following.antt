@@ -76,23 +76,23 @@ module _ {E : Type 0} (t : FinMap nat_cmp (Kept E)) (m n : ℕ) (o : Object E) (
   row_stands (Some q) (Some r) is = replaced (Some r) (eq_by_cmp nat_cmp n m) is
 
 -- the runner of a port, of a gate, after a change of any key
-port_stands : (key : Key) (before after : Option Record) (r : Runners) (o : Object PortEntry) (n : ℕ) (k : Kept PortEntry)
+port_stands : (n : ℕ) (key : Key) (before after : Option Record) (r : Runners) (o : Object PortEntry) (k : Kept PortEntry)
     → ((k : Kept PortEntry) → get r.ports n ≡ Some k → StandsFor k o.acts)
     → get (runners_at r key before after).ports n ≡ Some k
     → StandsFor k (cond (same_key (Port n) key) (record { value = after; acts = lived before after o.acts }) o).acts
-port_stands (Port m) before after r o n k h is = row_stands r.ports m n o k h before after is
-port_stands (Filter m) before after r o n k h is = h k is
-port_stands (Gate m) before after r o n k h is = h k is
-port_stands (Meter m) before after r o n k h is = h k is
+port_stands n (Port m) before after r o k h is = row_stands r.ports m n o k h before after is
+port_stands n (Filter m) before after r o k h is = h k is
+port_stands n (Gate m) before after r o k h is = h k is
+port_stands n (Meter m) before after r o k h is = h k is
 
-gate_stands : (key : Key) (before after : Option Record) (r : Runners) (o : Object GateEntry) (n : ℕ) (k : Kept GateEntry)
+gate_stands : (n : ℕ) (key : Key) (before after : Option Record) (r : Runners) (o : Object GateEntry) (k : Kept GateEntry)
     → ((k : Kept GateEntry) → get r.gates n ≡ Some k → StandsFor k o.acts)
     → get (runners_at r key before after).gates n ≡ Some k
     → StandsFor k (cond (same_key (Gate n) key) (record { value = after; acts = lived before after o.acts }) o).acts
-gate_stands (Port m) before after r o n k h is = h k is
-gate_stands (Filter m) before after r o n k h is = h k is
-gate_stands (Gate m) before after r o n k h is = row_stands r.gates m n o k h before after is
-gate_stands (Meter m) before after r o n k h is = h k is
+gate_stands n (Port m) before after r o k h is = h k is
+gate_stands n (Filter m) before after r o k h is = h k is
+gate_stands n (Gate m) before after r o k h is = row_stands r.gates m n o k h before after is
+gate_stands n (Meter m) before after r o k h is = h k is
 
 -- the object after a part on its key, which no later part is on
 joined : {E : Type 0} (b : Bool) (o : Object E) (p : Part) (rest : Option Part) → (b ≡ true → rest ≡ None)
@@ -105,30 +105,22 @@ one_part : (p : Part) (ps : List Part) → IsDistinct same_key (keys_of (p ∷ p
 unfolding part_on
 one_part p ps distinct k same = part_on_none k ps (no_other p ps distinct k same)
 
--- the runner of a port, of a gate, after the parts of a change
-ports_stand : (ps : List Part) → IsDistinct same_key (keys_of ps) → (r : Runners) (o : Object PortEntry) (n : ℕ) (k : Kept PortEntry)
-    → ((k : Kept PortEntry) → get r.ports n ≡ Some k → StandsFor k o.acts)
-    → get (runners_after r ps).ports n ≡ Some k → StandsFor k (after_part o (part_of (Port n) ps)).acts
+-- the runner of a key after the parts of a change, as it stands after each
+parts_stand : {E : Type 0} (rows : Runners → FinMap nat_cmp (Kept E)) (at : Key) (n : ℕ)
+    → ((key : Key) (before after : Option Record) (r : Runners) (o : Object E) (k : Kept E)
+    → ((k : Kept E) → get (rows r) n ≡ Some k → StandsFor k o.acts) → get (rows (runners_at r key before after)) n ≡ Some k
+    → StandsFor k (cond (same_key at key) (record { value = after; acts = lived before after o.acts }) o).acts)
+    → (ps : List Part) → IsDistinct same_key (keys_of ps) → (r : Runners) (o : Object E) (k : Kept E)
+    → ((k : Kept E) → get (rows r) n ≡ Some k → StandsFor k o.acts)
+    → get (rows (runners_after r ps)) n ≡ Some k → StandsFor k (after_part o (part_of at ps)).acts
 unfolding IsDistinct
-ports_stand [] distinct r o n k h is = h k is
-ports_stand (p ∷ ps) distinct r o n k h is =
-    let b = same_key (Port n) p.key in
-    let changed : Object PortEntry = record { value = p.after; acts = lived p.before p.after o.acts } in
-    subst (λ (q : Object PortEntry). StandsFor k q.acts) (joined b o p (part_of (Port n) ps) (one_part p ps distinct (Port n)))
-    (ports_stand ps distinct.1 (runners_at r p.key p.before p.after) (cond b changed o) n k
-    (λ k is. port_stands p.key p.before p.after r o n k h is) is)
-
-gates_stand : (ps : List Part) → IsDistinct same_key (keys_of ps) → (r : Runners) (o : Object GateEntry) (n : ℕ) (k : Kept GateEntry)
-    → ((k : Kept GateEntry) → get r.gates n ≡ Some k → StandsFor k o.acts)
-    → get (runners_after r ps).gates n ≡ Some k → StandsFor k (after_part o (part_of (Gate n) ps)).acts
-unfolding IsDistinct
-gates_stand [] distinct r o n k h is = h k is
-gates_stand (p ∷ ps) distinct r o n k h is =
-    let b = same_key (Gate n) p.key in
-    let changed : Object GateEntry = record { value = p.after; acts = lived p.before p.after o.acts } in
-    subst (λ (q : Object GateEntry). StandsFor k q.acts) (joined b o p (part_of (Gate n) ps) (one_part p ps distinct (Gate n)))
-    (gates_stand ps distinct.1 (runners_at r p.key p.before p.after) (cond b changed o) n k
-    (λ k is. gate_stands p.key p.before p.after r o n k h is) is)
+parts_stand rows at n one [] distinct r o k h is = h k is
+parts_stand {E = E} rows at n one (p ∷ ps) distinct r o k h is =
+    let b = same_key at p.key in
+    let changed : Object E = record { value = p.after; acts = lived p.before p.after o.acts } in
+    subst (λ (q : Object E). StandsFor k q.acts) (joined b o p (part_of at ps) (one_part p ps distinct at))
+    (parts_stand rows at n one ps distinct.1 (runners_at r p.key p.before p.after) (cond b changed o) k
+    (λ k is. one p.key p.before p.after r o k h is) is)
 
 module _ (b : Ledger) (s : ℕ) (w : What) (e : Change) (apply : applies w ≡ Some e) where
   acts_of : {E : Type 0} (admin : Option Record → Option (Schedule E)) (k : Key)
@@ -140,9 +132,9 @@ module _ (b : Ledger) (s : ℕ) (w : What) (e : Change) (apply : applies w ≡ S
   runs_on : (r : Runners) → IsDistinct same_key (keys_of (parts e)) → RunsActs b r → RunsActs (enter b s w) (runners_after r e)
   runs_on r distinct h = record {
     ports = λ n k is. subst (λ (o : Object PortEntry). StandsFor k o.acts) (sym (acts_of port_schedule (Port n)))
-        (ports_stand (parts e) distinct r (port_at b n) n k (h.ports n) is);
+        (parts_stand (λ r. r.ports) (Port n) n (port_stands n) (parts e) distinct r (port_at b n) k (h.ports n) is);
     gates = λ n k is. subst (λ (o : Object GateEntry). StandsFor k o.acts) (sym (acts_of gate_schedule (Gate n)))
-        (gates_stand (parts e) distinct r (gate_at b n) n k (h.gates n) is);
+        (parts_stand (λ r. r.gates) (Gate n) n (gate_stands n) (parts e) distinct r (gate_at b n) k (h.gates n) is);
   }
 
   pub followed : (r : Runners) (f : FrameData) (now : ℕ) → IsTied b r f → Fits b.limits (present b) e

@@ -4,11 +4,10 @@ use Rattle.std.specs.Prelude.{◌⊎◌, ◌==◌, nat_lt}
 use Rattle.std.specs.FinMap.{get}
 use Rattle.tsn_types.specs.declared.keys.Key.{Key}
 use Rattle.tsn_types.specs.declared.keys.Key.TheVariants.{Gate, Port}
-use Rattle.tsn_types.specs.declared.records.GateEntry.{GateEntry}
-use Rattle.tsn_types.specs.declared.records.PortEntry.{PortEntry}
 use Rattle.tsn_types.specs.declared.records.PortGates.{PortGates}
 use Rattle.tsn_types.specs.declared.records.Record.{Record}
 use Rattle.tsn_types.specs.declared.records.Record.TheVariants as records
+use Rattle.tsn_types.specs.declared.records.Schedule.{Schedule}
 use Rattle.tsn_types.specs.declared.records.StreamGate.{StreamGate}
 use Rattle.tsn_types.specs.declared.refusals.Refusal.{Refusal}
 use Rattle.tsn_types.specs.declared.refusals.Refusal.TheVariants.{JournalFull, Memory}
@@ -31,10 +30,11 @@ use Rattle.tsn_undo.proofs.Adding.{base_kept, kept_base}
 use Rattle.tsn_undo.proofs.Commutation.{commutation}
 use Rattle.tsn_undo.proofs.UndoAll.{free_of_all, own, own_closed}
 use Rattle.tsn_undo.proofs.Making.{kept_now, makes_undo}
+use Rattle.tsn_chain.specs.declared.state.State.{State as Shown}
 use Rattle.tsn_bridge.specs.declared.command.Command.{Command}
 use Rattle.tsn_bridge.specs.declared.command.Command.TheVariants as commands
 use Rattle.tsn_bridge.specs.declared.reply.Reply.{Reply}
-use Rattle.tsn_bridge.specs.declared.reply.Reply.TheVariants.{Acted, Entry, EntryOf, Refused, TakenBack}
+use Rattle.tsn_bridge.specs.declared.reply.Reply.TheVariants.{Acted, Entry, EntryOf, Refused, States, TakenBack}
 use Rattle.tsn_bridge.specs.Acts.{apply_change, apply_rule, has_entry, instant}
 use Rattle.tsn_bridge.specs.Edits.{edit_rule, next, undo_rule}
 use Rattle.tsn_bridge.specs.Headline.{AtOnceUndone, EditsLast, GateRestored, GateRuns, OthersAlone, OthersLeft, PortRestored, PortRuns, PutsAllBack, PutsBack, RestoredList}
@@ -42,13 +42,13 @@ use Rattle.tsn_bridge.specs.Families.{Editing, Family, family}
 use Rattle.tsn_bridge.specs.Histories.{CommandInRange, StateIsSound, edits_of, batch_of}
 use Rattle.tsn_bridge.specs.Machine.{Step}
 use Rattle.tsn_bridge.specs.Quiet.{SinceQuiet}
-use Rattle.tsn_bridge.specs.Rule.{Allows}
+use Rattle.tsn_bridge.specs.Rule.{Allows, is_given}
 use Rattle.tsn_bridge.specs.State.{State}
 use Rattle.tsn_bridge.proofs.AtOnce.{done_of, free, full, taken, taken_map, undone as undone_at_once, with_room}
 use Rattle.tsn_bridge.proofs.Families.{FamilyInRange, in_range}
 use Rattle.tsn_bridge.proofs.Interleaving.{all_taken_back, follow, follows, made_by, same_edits}
 use Rattle.tsn_bridge.proofs.KeySteps.{applied_finds}
-use Rattle.tsn_bridge.proofs.Restored.{GoesOn, restored_gate, restored_port}
+use Rattle.tsn_bridge.proofs.Restored.{GoesOn, IsListOf, gate_list, port_list, shown_later}
 use Rattle.tsn_bridge.proofs.Stepping.{accepted}
 use Rattle.tsn_bridge.proofs.WhyNotAll.{not_all, surely_blocked}
 
@@ -186,41 +186,44 @@ goes_on s applied later n k now reply sound step quiet =
       kept = kept_now later.book on.sound;
     }
 
+-- a record's list, once applied with its base past, tells the change time and then its own states
+module _ {E : Type 0} (admin : Option Record → Option (Schedule E)) (interval : E → ℕ) (shows : E → Shown) (k : Key) (r : Record)
+    (a : Schedule E) (list : IsListOf admin interval shows k r a) (s : State) (sound : StateIsSound s)
+    (is : get (present s.book) k ≡ Some r) (tells : (x : ℕ) → apply_change (Some r) x ≡ Some (change_of a.base a.cycle x))
+    (some : has_entry (Some r) ≡ has_entries a.list) where
+  list_runs : (applied : State) (session now entry at : ℕ) (change : Option ℕ)
+      → Step s session (commands.Apply k now) (Acted change entry at) applied → a.base ≤ at
+      → (change ≡ Some (change_of a.base a.cycle at))
+      × ((later : State) (asker t : ℕ) (reply : Reply) → SinceQuiet k applied later → change_of a.base a.cycle at ≤ t
+      → is_given later asker ≡ true → Step later asker (commands.States k t) reply later
+      → (e : E) × (entry_at interval a.list ((t - a.base) % a.cycle) ≡ Some e) × (reply ≡ States (shows e)))
+  list_runs applied session now entry at change step past =
+      let done = applied_is s applied session k now entry at change step in
+      let at_is = done.counted in (
+        done.told ∙ ap (λ v. apply_change v (instant s now)) is ∙ tells (instant s now)
+            ∙ ap (λ x. Some (change_of a.base a.cycle x)) at_is,
+        λ later asker t reply quiet after given asked.
+            let e = entry_there interval a.list ((t - a.base) % a.cycle) (sym some ∙ ap has_entry (sym is) ∙ done.some) in (
+              e.0,
+              e.1,
+              shown_later admin interval shows k r a list s applied later session now at entry change is step
+                  (goes_on s applied later session k now (Acted change entry at) sound step quiet)
+                  asker t reply e.0 (subst (λ x. a.base ≤ x) (sym at_is) past)
+                  (subst (λ x. change_of a.base a.cycle x ≤ t) (sym at_is) after) given asked e.1,
+            ),
+      )
+
 pub port_runs : (s : State) (m : ℕ) (p : PortGates) → StateIsSound s → get (present s.book) (Port m) ≡ Some (records.Port p)
     → PortRuns s m p
-port_runs s m p sound is applied session now entry at change step past =
-    let done = applied_is s applied session (Port m) now entry at change step in
-    let at_is = done.counted in (
-      done.told ∙ ap (λ v. apply_change v (instant s now)) is ∙ ap (λ a. Some (change_of p.admin.base p.admin.cycle a)) at_is,
-      λ later asker t reply quiet after given asked.
-          let e = entry_there (λ (y : PortEntry). y.interval) p.admin.list ((t - p.admin.base) % p.admin.cycle)
-          (ap has_entry (sym is) ∙ done.some) in (
-            e.0,
-            e.1,
-            restored_port s applied later session m now at entry change p sound is step
-                (goes_on s applied later session (Port m) now (Acted change entry at) sound step quiet)
-                asker t reply e.0 (subst (λ a. p.admin.base ≤ a) (sym at_is) past)
-                (subst (λ a. change_of p.admin.base p.admin.cycle a ≤ t) (sym at_is) after) given asked e.1,
-          ),
-    )
+port_runs s m p sound is =
+    list_runs _ _ _ _ _ _ (port_list m p ((kept_now s.book sound).in_range (Port m) (records.Port p) is).admin.cycle.0) s sound is
+    (λ x. refl) refl
 
 pub gate_runs : (s : State) (m : ℕ) (g : StreamGate) → StateIsSound s → get (present s.book) (Gate m) ≡ Some (records.Gate g)
     → GateRuns s m g
-gate_runs s m g sound is applied session now entry at change step past =
-    let done = applied_is s applied session (Gate m) now entry at change step in
-    let at_is = done.counted in (
-      done.told ∙ ap (λ v. apply_change v (instant s now)) is ∙ ap (λ a. Some (change_of g.admin.base g.admin.cycle a)) at_is,
-      λ later asker t reply quiet after given asked.
-          let e = entry_there (λ (y : GateEntry). y.interval) g.admin.list ((t - g.admin.base) % g.admin.cycle)
-          (ap has_entry (sym is) ∙ done.some) in (
-            e.0,
-            e.1,
-            restored_gate s applied later session m now at entry change g sound is step
-                (goes_on s applied later session (Gate m) now (Acted change entry at) sound step quiet)
-                asker t reply e.0 (subst (λ a. g.admin.base ≤ a) (sym at_is) past)
-                (subst (λ a. change_of g.admin.base g.admin.cycle a ≤ t) (sym at_is) after) given asked e.1,
-          ),
-    )
+gate_runs s m g sound is =
+    list_runs _ _ _ _ _ _ (gate_list m g ((kept_now s.book sound).in_range (Gate m) (records.Gate g) is).admin.cycle.0) s sound is
+    (λ x. refl) refl
 
 same_entry : (x y : Applied) → Some x ≡ Some y → x ≡ y
 same_entry x y e = (cc)

@@ -33,14 +33,12 @@ use Rattle.tsn_journal.specs.declared.entries.What.{What}
 use Rattle.tsn_journal.specs.declared.entries.What.TheVariants.{Made, Undone, Redone, Acted, Settled}
 use Rattle.tsn_undo.specs.Ledger.{Ledger, present}
 use Rattle.tsn_undo.proofs.Adding.{nothing_push}
-use Rattle.tsn_undo.proofs.Making.{kept_now}
 use Rattle.tsn_chain.specs.declared.state.State.{State as Shown}
 use Rattle.tsn_chain.specs.declared.state.State.TheVariants as states
 use Rattle.tsn_chain.specs.State.{gate_state, port_state}
 use Rattle.tsn_bridge.specs.declared.reply.Reply.{Reply}
 use Rattle.tsn_bridge.specs.declared.reply.Reply.TheVariants as replies
-use Rattle.tsn_bridge.specs.Acts.{acted_state, apply_rule, instant, list_causes}
-use Rattle.tsn_bridge.specs.Histories.{StateIsSound}
+use Rattle.tsn_bridge.specs.Acts.{acted_state, apply_rule, enabled_at, has_list, instant, list_causes}
 use Rattle.tsn_bridge.specs.Looking.{last_at, shown_at, states_rule}
 use Rattle.tsn_bridge.specs.Objects.{Object, after_entry, after_part, gate_at, gate_schedule, lived, object, port_at, port_schedule, with_asked}
 use Rattle.tsn_bridge.specs.Quiet.{IsQuiet, IsReplacement}
@@ -174,20 +172,75 @@ stays_there : (s : State) (n : ℕ) (k : Key) (now : ℕ) (q : Key)
 stays_there s n k now q =
     ap (λ es. get (run s.book.opening es) q) (nothing_push s.book.entries n (Acted asked.Apply k (instant s now)) refl)
 
--- ---- a port
+-- ---- a list, of a port or of a stream gate
 
--- after an apply its acts begin with it
-applied_port : (s : State) (n m now : ℕ) (p : PortGates) → get (present s.book) (Port m) ≡ Some (records.Port p)
-    → (port_at (acted_state s n asked.Apply (Port m) now).book m).acts ≡ Apply p.admin (instant s now) ∷ (port_at s.book m).acts
-applied_port s n m now p is =
-    ap (λ (o : Object PortEntry). o.acts) (object_push port_schedule (Port m) (get s.book.opening (Port m)) s.book.entries _)
-    ∙ ap (λ b. (cond b (record {
-      value = (port_at s.book m).value;
-      acts = with_asked asked.Apply (port_schedule (port_at s.book m).value) (instant s now) (port_at s.book m).acts;
-    })
-    (port_at s.book m)).acts) (same_itself (Port m))
-    ∙ ap (λ v. with_asked asked.Apply (port_schedule v) (instant s now) (port_at s.book m).acts)
-    (value_is port_schedule (Port m) s.book ∙ is)
+-- what is known of the list of a key of a kind, with this record: the schedule in it, the interval of an entry, and what an entry shows
+pub record IsListOf {E : Type 0} (admin : Option Record → Option (Schedule E)) (interval : E → ℕ) (shows : E → Shown) (k : Key) (r : Record)
+    (a : Schedule E) : Type 0 where
+  pub listed : has_list k ≡ true
+  pub scheduled : admin (Some r) ≡ Some a
+  pub cycle : 0 < a.cycle
+  pub enabled : (b : Ledger) → enabled_at b k ≡ is_enabled (object admin k (get b.opening k) b.entries).acts
+  pub last : (b : Ledger) → last_at b k ≡ last_instant (object admin k (get b.opening k) b.entries).acts
+  pub shown : (b : Ledger) (t : ℕ) (v : Option Record) (e : E) → IsSome v → ((q : Record) → v ≡ Some q → HoldsRecord b.limits k q)
+      → state_in interval (object admin k (get b.opening k) b.entries).acts t ≡ Some e → shown_at b k v t ≡ Some (shows e)
+
+module _ {E : Type 0} (admin : Option Record → Option (Schedule E)) (interval : E → ℕ) (shows : E → Shown) (k : Key) (r : Record)
+    (a : Schedule E) (list : IsListOf admin interval shows k r a) where
+  abbrev list_at : Ledger → Object E
+  list_at b = object admin k (get b.opening k) b.entries
+
+  -- after an apply its acts begin with it
+  applied_acts : (s : State) (n now : ℕ) → get (present s.book) k ≡ Some r
+      → (list_at (acted_state s n asked.Apply k now).book).acts ≡ Apply a (instant s now) ∷ (list_at s.book).acts
+  applied_acts s n now is =
+      ap (λ (o : Object E). o.acts) (object_push admin k (get s.book.opening k) s.book.entries _)
+      ∙ ap (λ b. (cond b (record {
+        value = (list_at s.book).value;
+        acts = with_asked asked.Apply (admin (list_at s.book).value) (instant s now) (list_at s.book).acts;
+      })
+      (list_at s.book)).acts) (same_itself k)
+      ∙ ap (λ o. with_asked asked.Apply o (instant s now) (list_at s.book).acts) (ap admin (value_is admin k s.book ∙ is) ∙ list.scheduled)
+
+  module _ (s applied later : State) (n now at entry : ℕ) (change : Option ℕ) (is : get (present s.book) k ≡ Some r)
+      (apply : Allows (apply_rule s n k now) s (replies.Acted change entry at) applied) (on : GoesOn k applied.book later.book)
+    where
+      finds : FindsList s n k
+      finds = applied_finds s n k now (accepted (apply_rule s n k now) s (replies.Acted change entry at) applied (λ why h. (cc)) apply).0
+
+      -- its acts later are those of the apply
+      acts_later : (list_at later.book).acts ≡ Apply a (instant s now) ∷ (list_at s.book).acts
+      acts_later =
+          let first : (list_at applied.book).acts ≡ Apply a (instant s now)
+          ∷ (list_at s.book).acts = ap (λ (z : State). (list_at z.book).acts)
+          (applied_state s applied n k now at entry change apply) ∙ applied_acts s n now is in
+          acts_on admin k applied.book later.book on
+          (ap (λ (acts : List (Act E)). is_enabled acts) first ∙ sym (list.enabled s.book) ∙ finds.enabled) ∙ first
+
+      there : IsSome (get (present later.book) k)
+      there =
+          there_on admin k applied.book later.book on
+          (subst (λ (z : State). IsSome (get (present z.book) k)) (sym (applied_state s applied n k now at entry change apply))
+          (subst (λ v. IsSome v) (sym (stays_there s n k now k ∙ is)) refl))
+
+      pub shown_later : (asker t : ℕ) (reply : Reply) (e : E) → a.base ≤ instant s now
+          → change_of a.base a.cycle (instant s now) ≤ t → is_given later asker ≡ true
+          → Allows (states_rule later asker k t) later reply later
+          → entry_at interval a.list ((t - a.base) % a.cycle) ≡ Some e → reply ≡ replies.States (shows e)
+      shown_later asker t reply e past after given step found =
+          let by : state_in interval (list_at later.book).acts t ≡ Some e =
+          ap (λ xs. state_in interval xs t) acts_later
+          ∙ restored interval a (list_at s.book).acts (instant s now) t list.cycle past after ∙ found in
+          let within = ap (λ l. holds_key l k)
+          (on.limits ∙ ap (λ (z : State). z.book.limits) (applied_state s applied n k now at entry change apply))
+          ∙ within_list s n k finds.none in
+          let last : last_at later.book k ≡ instant s now =
+          list.last later.book ∙ ap (λ (acts : List (Act E)). last_instant acts) acts_later in
+          told later asker k t (shows e) reply (none_of_list later asker k list.listed within given there)
+          (omega (arith, last, after, (change_is_least a.base a.cycle (instant s now) list.cycle).reached))
+          (list.shown later.book t (get (present later.book) k) e there (λ q h. (on.kept.within k q h).1) by) step
+
+-- ---- a port's list, and a gate's
 
 -- what it shows, from its acts: its record is one of a port
 shown_port : (b : Ledger) (m t : ℕ) (v : Option Record) (e : PortEntry) → IsSome v
@@ -195,117 +248,23 @@ shown_port : (b : Ledger) (m t : ℕ) (v : Option Record) (e : PortEntry) → Is
     → shown_at b (Port m) v t ≡ Some (states.Port e.gates)
 shown_port b m t (Some (records.Port q)) e some kind by = ap (λ o. Some (port_state q o)) by
 shown_port b m t None e some kind by = (cc)
-shown_port b m t (Some (records.Filter q)) e some kind by = absurd (kind (records.Filter q) refl)
-shown_port b m t (Some (records.Gate q)) e some kind by = absurd (kind (records.Gate q) refl)
-shown_port b m t (Some (records.Meter q)) e some kind by = absurd (kind (records.Meter q) refl)
+shown_port b m t (Some q) e some kind by = absurd (kind q refl)
 
-module _ (s applied later : State) (n m now at entry : ℕ) (change : Option ℕ) (p : PortGates) (sound : StateIsSound s)
-    (is : get (present s.book) (Port m) ≡ Some (records.Port p))
-    (apply : Allows (apply_rule s n (Port m) now) s (replies.Acted change entry at) applied) (on : GoesOn (Port m) applied.book later.book)
-  where
-    finds_port : FindsList s n (Port m)
-    finds_port = applied_finds s n (Port m) now
-        (accepted (apply_rule s n (Port m) now) s (replies.Acted change entry at) applied (λ why h. (cc)) apply).0
-
-    -- its acts later are those of the apply
-    acts_port : (port_at later.book m).acts ≡ Apply p.admin (instant s now) ∷ (port_at s.book m).acts
-    acts_port =
-        let first : (port_at applied.book m).acts ≡ Apply p.admin (instant s now)
-        ∷ (port_at s.book m).acts = ap (λ (z : State). (port_at z.book m).acts)
-        (applied_state s applied n (Port m) now at entry change apply) ∙ applied_port s n m now p is in
-        acts_on port_schedule (Port m) applied.book later.book on
-        (ap (λ (acts : List (Act PortEntry)). is_enabled acts) first ∙ finds_port.enabled) ∙ first
-
-    there_port : IsSome (get (present later.book) (Port m))
-    there_port =
-        there_on port_schedule (Port m) applied.book later.book on
-        (subst (λ (z : State). IsSome (get (present z.book) (Port m))) (sym (applied_state s applied n (Port m) now at entry change apply))
-        (subst (λ v. IsSome v) (sym (stays_there s n (Port m) now (Port m) ∙ is)) refl))
-
-    cycle_port : 0 < p.admin.cycle
-    cycle_port = ((kept_now s.book sound).in_range (Port m) (records.Port p) is).admin.cycle.0
-
-    pub restored_port : (asker t : ℕ) (reply : Reply) (e : PortEntry) → p.admin.base ≤ instant s now
-        → change_of p.admin.base p.admin.cycle (instant s now) ≤ t → is_given later asker ≡ true
-        → Allows (states_rule later asker (Port m) t) later reply later
-        → entry_at (λ (y : PortEntry). y.interval) p.admin.list ((t - p.admin.base) % p.admin.cycle) ≡ Some e
-        → reply ≡ replies.States (states.Port e.gates)
-    restored_port asker t reply e past after given step found =
-        let by : state_in (λ (y : PortEntry). y.interval) (port_at later.book m).acts t ≡ Some e =
-        ap (λ xs. state_in (λ (y : PortEntry). y.interval) xs t) acts_port
-        ∙ restored (λ (y : PortEntry). y.interval) p.admin (port_at s.book m).acts (instant s now) t cycle_port past after ∙ found in
-        let within = ap (λ l. holds_key l (Port m))
-        (on.limits ∙ ap (λ (z : State). z.book.limits) (applied_state s applied n (Port m) now at entry change apply))
-        ∙ within_list s n (Port m) finds_port.none in
-        let last : last_at later.book (Port m) ≡ instant s now = ap (λ (acts : List (Act PortEntry)). last_instant acts) acts_port in
-        told later asker (Port m) t (states.Port e.gates) reply (none_of_list later asker (Port m) refl within given there_port)
-        (omega (arith, last, after, (change_is_least p.admin.base p.admin.cycle (instant s now) cycle_port).reached))
-        (shown_port later.book m t (get (present later.book) (Port m)) e there_port (λ r h. (on.kept.within (Port m) r h).1) by) step
-
--- ---- a gate
-
--- after an apply its acts begin with it
-applied_gate : (s : State) (n m now : ℕ) (p : StreamGate) → get (present s.book) (Gate m) ≡ Some (records.Gate p)
-    → (gate_at (acted_state s n asked.Apply (Gate m) now).book m).acts ≡ Apply p.admin (instant s now) ∷ (gate_at s.book m).acts
-applied_gate s n m now p is =
-    ap (λ (o : Object GateEntry). o.acts) (object_push gate_schedule (Gate m) (get s.book.opening (Gate m)) s.book.entries _)
-    ∙ ap (λ b. (cond b (record {
-      value = (gate_at s.book m).value;
-      acts = with_asked asked.Apply (gate_schedule (gate_at s.book m).value) (instant s now) (gate_at s.book m).acts;
-    })
-    (gate_at s.book m)).acts) (same_itself (Gate m))
-    ∙ ap (λ v. with_asked asked.Apply (gate_schedule v) (instant s now) (gate_at s.book m).acts)
-    (value_is gate_schedule (Gate m) s.book ∙ is)
-
--- what it shows, from its acts: its record is one of a gate
+-- one of a gate
 shown_gate : (b : Ledger) (m t : ℕ) (v : Option Record) (e : GateEntry) → IsSome v
     → ((r : Record) → v ≡ Some r → HoldsRecord b.limits (Gate m) r) → state_in (λ e. e.interval) (gate_at b m).acts t ≡ Some e
     → shown_at b (Gate m) v t ≡ Some (states.Gate e.is_open e.ipv)
 shown_gate b m t (Some (records.Gate q)) e some kind by = ap (λ o. Some (gate_state q o)) by
 shown_gate b m t None e some kind by = (cc)
-shown_gate b m t (Some (records.Filter q)) e some kind by = absurd (kind (records.Filter q) refl)
-shown_gate b m t (Some (records.Port q)) e some kind by = absurd (kind (records.Port q) refl)
-shown_gate b m t (Some (records.Meter q)) e some kind by = absurd (kind (records.Meter q) refl)
+shown_gate b m t (Some q) e some kind by = absurd (kind q refl)
 
-module _ (s applied later : State) (n m now at entry : ℕ) (change : Option ℕ) (p : StreamGate) (sound : StateIsSound s)
-    (is : get (present s.book) (Gate m) ≡ Some (records.Gate p))
-    (apply : Allows (apply_rule s n (Gate m) now) s (replies.Acted change entry at) applied) (on : GoesOn (Gate m) applied.book later.book)
-  where
-    finds_gate : FindsList s n (Gate m)
-    finds_gate = applied_finds s n (Gate m) now
-        (accepted (apply_rule s n (Gate m) now) s (replies.Acted change entry at) applied (λ why h. (cc)) apply).0
+pub port_list : (m : ℕ) (p : PortGates) → 0 < p.admin.cycle
+    → IsListOf port_schedule (λ (e : PortEntry). e.interval) (λ (e : PortEntry). states.Port e.gates) (Port m) (records.Port p) p.admin
+port_list m p cycle =
+    record { listed = refl; scheduled = refl; cycle = cycle; enabled = λ b. refl; last = λ b. refl; shown = λ b. shown_port b m }
 
-    -- its acts later are those of the apply
-    acts_gate : (gate_at later.book m).acts ≡ Apply p.admin (instant s now) ∷ (gate_at s.book m).acts
-    acts_gate =
-        let first : (gate_at applied.book m).acts ≡ Apply p.admin (instant s now)
-        ∷ (gate_at s.book m).acts = ap (λ (z : State). (gate_at z.book m).acts)
-        (applied_state s applied n (Gate m) now at entry change apply) ∙ applied_gate s n m now p is in
-        acts_on gate_schedule (Gate m) applied.book later.book on
-        (ap (λ (acts : List (Act GateEntry)). is_enabled acts) first ∙ finds_gate.enabled) ∙ first
-
-    there_gate : IsSome (get (present later.book) (Gate m))
-    there_gate =
-        there_on gate_schedule (Gate m) applied.book later.book on
-        (subst (λ (z : State). IsSome (get (present z.book) (Gate m))) (sym (applied_state s applied n (Gate m) now at entry change apply))
-        (subst (λ v. IsSome v) (sym (stays_there s n (Gate m) now (Gate m) ∙ is)) refl))
-
-    cycle_gate : 0 < p.admin.cycle
-    cycle_gate = ((kept_now s.book sound).in_range (Gate m) (records.Gate p) is).admin.cycle.0
-
-    pub restored_gate : (asker t : ℕ) (reply : Reply) (e : GateEntry) → p.admin.base ≤ instant s now
-        → change_of p.admin.base p.admin.cycle (instant s now) ≤ t → is_given later asker ≡ true
-        → Allows (states_rule later asker (Gate m) t) later reply later
-        → entry_at (λ (y : GateEntry). y.interval) p.admin.list ((t - p.admin.base) % p.admin.cycle) ≡ Some e
-        → reply ≡ replies.States (states.Gate e.is_open e.ipv)
-    restored_gate asker t reply e past after given step found =
-        let by : state_in (λ (y : GateEntry). y.interval) (gate_at later.book m).acts t ≡ Some e =
-        ap (λ xs. state_in (λ (y : GateEntry). y.interval) xs t) acts_gate
-        ∙ restored (λ (y : GateEntry). y.interval) p.admin (gate_at s.book m).acts (instant s now) t cycle_gate past after ∙ found in
-        let within = ap (λ l. holds_key l (Gate m))
-        (on.limits ∙ ap (λ (z : State). z.book.limits) (applied_state s applied n (Gate m) now at entry change apply))
-        ∙ within_list s n (Gate m) finds_gate.none in
-        let last : last_at later.book (Gate m) ≡ instant s now = ap (λ (acts : List (Act GateEntry)). last_instant acts) acts_gate in
-        told later asker (Gate m) t (states.Gate e.is_open e.ipv) reply (none_of_list later asker (Gate m) refl within given there_gate)
-        (omega (arith, last, after, (change_is_least p.admin.base p.admin.cycle (instant s now) cycle_gate).reached))
-        (shown_gate later.book m t (get (present later.book) (Gate m)) e there_gate (λ r h. (on.kept.within (Gate m) r h).1) by) step
+pub gate_list : (m : ℕ) (p : StreamGate) → 0 < p.admin.cycle
+    → IsListOf gate_schedule (λ (e : GateEntry). e.interval) (λ (e : GateEntry). states.Gate e.is_open e.ipv) (Gate m) (records.Gate p)
+    p.admin
+gate_list m p cycle =
+    record { listed = refl; scheduled = refl; cycle = cycle; enabled = λ b. refl; last = λ b. refl; shown = λ b. shown_gate b m }
