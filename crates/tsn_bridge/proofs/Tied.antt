@@ -26,9 +26,10 @@ use Rattle.tsn_bridge.proofs.Pushed.{FollowsEntry, FollowsUndone}
 abbrev pub Ties : Ledger → Instances → Type 0
 Ties b t = IsTied b t.runners t.frames
 
-pub tied_entry : (b b' : Ledger) (s : ℕ) (w : What) (e : Change) (t t' : Instances) → applies w ≡ Some e → FollowsEntry b b' s w e t t'
+pub tied_entry : {b b' : Ledger} {s : ℕ} {w : What} {e : Change} {t t' : Instances} → FollowsEntry b b' s w e t t' → applies w ≡ Some e
     → Fits b.limits (present b) e → Ties b t → Ties b' t'
-tied_entry b b' s w e t t' change f fits h = rw (f.after, f.runners, f.frames) (followed b s w e change t.runners t.frames t.time h fits)
+tied_entry {b = b} {s = s} {w = w} {e = e} {t = t} f change fits h =
+    rw (f.after, f.runners, f.frames) (followed b s w e change t.runners t.frames t.time h fits)
 
 -- ---- all that a session has standing is taken back
 

@@ -13,21 +13,14 @@ use Rattle.tsn_bridge.proofs.bridge.Bridge.act.Goals.{in-Ok, in-Err}
 pub returns-in-Some : goal.returns-in-Some
 returns-in-Some c = act_stopped c.args.self.now c.args.session c.args.key.now c.in-Some.why c.args.act c.args.now (sym c.in-Some.ensures)
 
-pub act-requires-clause-list : goal.act-requires-clause-list
-act-requires-clause-list c =
+pub act-requires : goal.act-requires
+act-requires c =
     let i = c.self.inside in
     let view = ap (λ (p : PairState). seen p i.sessions) c.deref_mut.ensures.value ∙ c.self.view_is in
     let key = c.args.key.now in
-    (there_list (seen c.deref_mut.result.now i.sessions) c.args.session key
-    (ap (λ (s : State). first_cause (list_causes s c.args.session key [])) view ∙ sym c.in_default.ensures)).0
-
-pub act-requires-clause-there : goal.act-requires-clause-there
-act-requires-clause-there c =
-    let i = c.self.inside in
-    let view = ap (λ (p : PairState). seen p i.sessions) c.deref_mut.ensures.value ∙ c.self.view_is in
-    let key = c.args.key.now in
-    (there_list (seen c.deref_mut.result.now i.sessions) c.args.session key
-    (ap (λ (s : State). first_cause (list_causes s c.args.session key [])) view ∙ sym c.in_default.ensures)).1
+    let there = there_list (seen c.deref_mut.result.now i.sessions) c.args.session key
+    (ap (λ (s : State). first_cause (list_causes s c.args.session key [])) view ∙ sym c.in_default.ensures) in
+    record { list = there.0; there = there.1 }
 
 pub returns : goal.returns
 returns c =

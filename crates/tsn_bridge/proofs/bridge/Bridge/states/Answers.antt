@@ -11,21 +11,14 @@ use Rattle.tsn_bridge.proofs.bridge.Bridge.states.Goals as goal
 pub returns-in-Some : goal.returns-in-Some
 returns-in-Some c = states_stopped c.args.self.now c.args.session c.args.key.now c.in-Some.why c.args.at (sym c.in-Some.ensures)
 
-pub states_at-requires-clause-list : goal.states_at-requires-clause-list
-states_at-requires-clause-list c =
+pub states_at-requires : goal.states_at-requires
+states_at-requires c =
     let i = c.self.inside in
     let view = ap (λ (p : PairState). seen p i.sessions) c.deref.ensures ∙ c.self.view_is in
     let key = c.args.key.now in
-    (there_list (seen c.deref.result.now i.sessions) c.args.session key
-    (ap (λ (s : State). first_cause (list_causes s c.args.session key [])) view ∙ sym c.in_default.ensures)).0
-
-pub states_at-requires-clause-there : goal.states_at-requires-clause-there
-states_at-requires-clause-there c =
-    let i = c.self.inside in
-    let view = ap (λ (p : PairState). seen p i.sessions) c.deref.ensures ∙ c.self.view_is in
-    let key = c.args.key.now in
-    (there_list (seen c.deref.result.now i.sessions) c.args.session key
-    (ap (λ (s : State). first_cause (list_causes s c.args.session key [])) view ∙ sym c.in_default.ensures)).1
+    let there = there_list (seen c.deref.result.now i.sessions) c.args.session key
+    (ap (λ (s : State). first_cause (list_causes s c.args.session key [])) view ∙ sym c.in_default.ensures) in
+    record { list = there.0; there = there.1 }
 
 pub returns-in-Ok : goal.returns-in-Ok
 returns-in-Ok c =
