@@ -16,6 +16,7 @@ use Rattle.tsn_edit.proofs.KeyFacts.{keys_total, one_key, same_configuration}
 use Rattle.tsn_config.specs.Ids.{ids_of}
 use Rattle.tsn_config.proofs.Listed.{from_sorted_list}
 use Rattle.tsn_schedule.specs.Examples.{gate_acts, gate_list}
+use Rattle.tsn_chain.specs.declared.data.Met.{Met}
 use Rattle.tsn_chain.specs.declared.data.FilterData.{FilterData}
 use Rattle.tsn_chain.specs.declared.data.GateData.{GateData}
 use Rattle.tsn_chain.specs.declared.frame.DropCause.TheVariants.{Closed, Octets}
@@ -151,11 +152,15 @@ module _ (f : FrameData) (d : FilterData) (g : GateData) (has_filter : get f.fil
       ap (option_map {T = Verdict × FrameData} {U = Reply × State} (λ y. (Framed y.0, framed_state (with_rows now f) x.time y.1)))
       (framed_here (record { handle = 7; priority = 2; octets = x.octets; yellow = false }) (max now x.time) (v, new) is)
 
-abbrev left_1 : List Coming
-left_1 = frame_of 10 100 ∷ []
+-- what frames leave of the filter and the gate
+abbrev left : List Coming → Met
+left fs = left_by (filter_0 true gate_acts) no_meter fs
 
-abbrev left_2 : List Coming
-left_2 = frame_of 10 100 ∷ frame_of 20 60 ∷ []
+abbrev left_1 : Met
+left_1 = left (frame_of 10 100 ∷ [])
+
+abbrev left_2 : Met
+left_2 = left (frame_of 10 100 ∷ frame_of 20 60 ∷ [])
 
 pub frame_1 : answers (with_rows 0 rows_new) (frame_of 10 100) ≡ Some (Framed (Passed (Some 0) 10 5 false), with_rows 10 rows_1)
 frame_1 = answered rows_new new_filter new_gate (put_in standard.frames.filters 0 new_filter 0) (put_in standard.frames.gates 0 new_gate 0)
@@ -163,20 +168,16 @@ frame_1 = answered rows_new new_filter new_gate (put_in standard.frames.filters 
 
 pub frame_2 : answers (with_rows 10 rows_1) (frame_of 20 60) ≡ Some (Framed (Dropped 0 20 Octets), with_rows 20 rows_2)
 frame_2 =
-    answered rows_1 (left_by (filter_0 true gate_acts) no_meter left_1).filter (left_by (filter_0 true gate_acts) no_meter left_1).gate
-    (put_in rows_new.filters 0 (left_by (filter_0 true gate_acts) no_meter left_1).filter 0)
-    (put_in rows_new.gates 0 (left_by (filter_0 true gate_acts) no_meter left_1).gate 0) 10 (frame_of 20 60) (Dropped 0 20 Octets)
-    rows_2 refl
+    answered rows_1 left_1.filter left_1.gate (put_in rows_new.filters 0 left_1.filter 0) (put_in rows_new.gates 0 left_1.gate 0)
+    10 (frame_of 20 60) (Dropped 0 20 Octets) rows_2 refl
 
 pub frame_3 : answers (with_rows 20 rows_2) (frame_of 2010 10) ≡ Some (Framed (Dropped 0 2010 Closed), with_rows 2010 rows_3)
 frame_3 =
-    answered rows_2 (left_by (filter_0 true gate_acts) no_meter left_2).filter (left_by (filter_0 true gate_acts) no_meter left_2).gate
-    (put_in rows_1.filters 0 (left_by (filter_0 true gate_acts) no_meter left_2).filter 0)
-    (put_in rows_1.gates 0 (left_by (filter_0 true gate_acts) no_meter left_2).gate 0) 20 (frame_of 2010 10) (Dropped 0 2010 Closed)
-    rows_3 refl
+    answered rows_2 left_2.filter left_2.gate (put_in rows_1.filters 0 left_2.filter 0) (put_in rows_1.gates 0 left_2.gate 0)
+    20 (frame_of 2010 10) (Dropped 0 2010 Closed) rows_3 refl
 
 pub told_3 : counted_at (book_of gate_runs) rows_3 2010 (Gate 0)
     ≡ Some (counters.Gate (record { change_error = 0; change_time = Some 0; enabled = true; pending = false }) false true)
 told_3 =
     ap (option_map (λ (d : GateData). gate_counters 2010 d (acts_held 0)))
-    (put_in rows_2.gates 0 (left_by (filter_0 true gate_acts) no_meter (frame_of 10 100 ∷ frame_of 20 60 ∷ frame_of 2010 10 ∷ [])).gate 0)
+    (put_in rows_2.gates 0 (left (frame_of 10 100 ∷ frame_of 20 60 ∷ frame_of 2010 10 ∷ [])).gate 0)

@@ -33,6 +33,7 @@ use Rattle.tsn_undo.proofs.Adding.{configuration_push, nothing_push}
 use Rattle.tsn_undo.proofs.Free.{or_none}
 use Rattle.tsn_undo.proofs.Making.{kept_now}
 use Rattle.tsn_undo.proofs.UndoAll.{IsTaken, begin_taken, free_of_all, next_taken, taken_to}
+use Rattle.tsn_chain.specs.declared.data.Met.{Met}
 use Rattle.tsn_chain.specs.declared.frame.Frame.{Frame}
 use Rattle.tsn_chain.specs.declared.frame.Verdict.{Verdict}
 use Rattle.tsn_chain.specs.Begun.{begun_runners}
@@ -145,42 +146,23 @@ module _ (l : Limits) (c : Configuration) (f : FrameData) (acts : GateActs) (fra
   abbrev is_back : ℕ → StreamFilter → FrameData → Type 0
   is_back n q new = (x : Case) × (new ≡ with_met f n q (through x).1)
 
-  met_back : {A : Type 0} (n : ℕ) (q : StreamFilter) (case_of : A → Case) → ((k : A) → ((case_of k).number ≡ n) × ((case_of k).filter ≡ q))
-      → (o : Option A) (v : Verdict) (new : FrameData) → gives (option_map case_of o) v new → is_back n q new
-  met_back n q case_of is None v new e = (cc)
-  met_back n q case_of is (Some k) v new e = (
-    case_of k,
-    sym (ap (λ (p : Verdict × FrameData). p.1) (done_of _ _ e))
-        ∙ (λ i. with_met f ((is k).0 i) ((is k).1 i) (through (case_of k)).1),
-  )
+  -- the case of the filter of a number and its gate, by what is kept of them
+  abbrev case_of : ℕ → StreamFilter → StreamGate → Met → Case
+  case_of n q g k = record { number = n; filter = q; gate = g; state = state_at acts q.gate g time; frame = frame; time = time; met = k }
+
+  met_back : (n : ℕ) (q : StreamFilter) (g : StreamGate) (o : Option Met) (v : Verdict) (new : FrameData)
+      → gives (option_map (case_of n q g) o) v new → is_back n q new
+  met_back n q g None v new e = (cc)
+  met_back n q g (Some k) v new e = (case_of n q g k, sym (ap (λ (p : Verdict × FrameData). p.1) (done_of _ _ e)))
 
   gate_back : (n : ℕ) (q : StreamFilter) (o : Option StreamGate) (v : Verdict) (new : FrameData)
-      → gives (option_and_then (λ g. option_map
-      (λ k. record { number = n; filter = q; gate = g; state = state_at acts q.gate g time; frame = frame; time = time; met = k })
-      (met_at f n q (meter_at c q.meter))) o) v new → is_back n q new
+      → gives (option_and_then (λ g. option_map (case_of n q g) (met_at f n q (meter_at c q.meter))) o) v new → is_back n q new
   gate_back n q None v new e = (cc)
-  gate_back n q (Some g) v new e =
-      met_back n q (λ k. record {
-        number = n;
-        filter = q;
-        gate = g;
-        state = state_at acts q.gate g time;
-        frame = frame;
-        time = time;
-        met = k;
-      }) (λ k. (refl, refl)) (met_at f n q (meter_at c q.meter)) v new e
+  gate_back n q (Some g) v new e = met_back n q g (met_at f n q (meter_at c q.meter)) v new e
 
   filter_back : (n : ℕ) (o : Option StreamFilter) (v : Verdict) (new : FrameData)
-      → gives (option_and_then (λ q. option_and_then
-      (λ g. option_map (λ k. record {
-        number = n;
-        filter = q;
-        gate = g;
-        state = state_at acts q.gate g time;
-        frame = frame;
-        time = time;
-        met = k;
-      }) (met_at f n q (meter_at c q.meter))) (gate_of (get c (Gate q.gate)))) o) v new
+      → gives (option_and_then (λ q. option_and_then (λ g. option_map (case_of n q g) (met_at f n q (meter_at c q.meter)))
+      (gate_of (get c (Gate q.gate)))) o) v new
       → (q : StreamFilter) × (o ≡ Some q) × is_back n q new
   filter_back n None v new e = (cc)
   filter_back n (Some q) v new e = (q, refl, gate_back n q (gate_of (get c (Gate q.gate))) v new e)
