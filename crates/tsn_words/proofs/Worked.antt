@@ -363,14 +363,16 @@ module _ (name : List ℕ) (found : Found) where
 -- what a refusal asks for, where it is right
 pub refused_asks : (given : Given) (asked : Asked) → IsRefusal asked → GivesTooMuch given ⊎ (GivesWrongSyncs given ⊎ GivesNoCheck given)
     → AsksFor given asked
-refused_asks given (Script file kept) is wrong = absurd is
-refused_asks given (States file listing) is wrong = absurd is
-refused_asks given (Serve file listen serving kept) is wrong = absurd is
-refused_asks given (Check file) is wrong = absurd is
-refused_asks given Lines is wrong = absurd is
-refused_asks given (Journal file look) is wrong = absurd is
-refused_asks given (Shown text) is wrong = absurd is
 refused_asks given (Refused text) is wrong = wrong
+refused_asks given asked is wrong = absurd is
+
+-- words that give syncs wrong ask for a refusal
+pub misgiven_asks : (name : List ℕ) (found : Found) (asked : Asked)
+    → Names (Some (name, rows_of found)) (codes "script") ⊎ Names (Some (name, rows_of found)) (codes "serve")
+    → Misgives (first_value found (codes "journal")) (first_value found (codes "sync")) × IsRefusal asked × TellsSomething asked
+    → AsksFor (Some (name, rows_of found)) asked
+misgiven_asks name found asked named wrong =
+    refused_asks _ asked wrong.1 (inr (inl (record { named = named; wrong = misgiven_in_rows name found wrong.0 })))
 
 -- what is read of a check is what the rows have
 pub check_in_rows : (found : Found) (file : Option (List ℕ)) (is_lines : Bool) → first_value found (codes "FILE") ≡ file

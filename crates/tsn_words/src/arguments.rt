@@ -177,17 +177,24 @@ fn any_text<'a>(alloc: Global, name: &'a str, help: &'a str) -> Arg<'a>
     Arg::new(alloc, name).long(name).required(true).help(help)
 }
 
+// An option that may be left out, and else wants a text.
+fn text_or_none<'a>(alloc: Global, name: &'a str, help: &'a str) -> Arg<'a>
+    ensures rule { rule_of result ≡ optional (any_text name.entry.now) }
+    ensures local { result.global ≡ false }
+{
+    any_text(alloc, name, help).required(false)
+}
+
 // The journal that may be named.
 fn kept<'a>(alloc: Global) -> Arg<'a>
     ensures rule { rule_of result ≡ optional (any_text (codes "journal")) }
     ensures local { result.global ≡ false }
 {
-    any_text(
+    text_or_none(
         alloc,
         "journal",
         "The journal file that keeps what the sessions do; made where it is not there",
     )
-    .required(false)
 }
 
 // The syncs that may be named.
@@ -195,12 +202,11 @@ fn syncs<'a>(alloc: Global) -> Arg<'a>
     ensures rule { rule_of result ≡ optional (any_text (codes "sync")) }
     ensures local { result.global ≡ false }
 {
-    any_text(
+    text_or_none(
         alloc,
         "sync",
         "none: replies don't wait for the disk, and a loss of power may lose what they told",
     )
-    .required(false)
 }
 
 fn script<'a>(alloc: Global) -> Result<Command<'a>, AllocError>
@@ -253,24 +259,15 @@ fn states<'a>(alloc: Global) -> Result<Command<'a>, AllocError>
         .arg(count)
 }
 
-// The place that may be named.
-fn place<'a>(alloc: Global) -> Arg<'a>
-    ensures rule { rule_of result ≡ optional (any_text (codes "listen")) }
-    ensures local { result.global ≡ false }
-{
-    any_text(
-        alloc,
-        "listen",
-        "Where it listens: an IP address and port, 0 being one that is free, or unix:PATH [127.0.0.1:7000]",
-    )
-    .required(false)
-}
-
 fn serve<'a>(alloc: Global) -> Result<Command<'a>, AllocError>
     ensures { IfOk result (λ c. app_of c ≡ serve) }
 {
     let file = setup_file(alloc, false);
-    let listen = place(alloc);
+    let listen = text_or_none(
+        alloc,
+        "listen",
+        "Where it listens: an IP address and port, 0 being one that is free, or unix:PATH [127.0.0.1:7000]",
+    );
     let workers = number_or_none(
         alloc,
         "workers",
@@ -355,19 +352,6 @@ fn flag<'a>(alloc: Global, name: &'a str, help: &'a str) -> Arg<'a>
         .help(help)
 }
 
-// The file of a new journal, which may be named.
-fn new_journal<'a>(alloc: Global) -> Arg<'a>
-    ensures rule { rule_of result ≡ optional (any_text (codes "begin")) }
-    ensures local { result.global ≡ false }
-{
-    any_text(
-        alloc,
-        "begin",
-        "Makes a new journal of this file, which begins with that configuration",
-    )
-    .required(false)
-}
-
 fn journal<'a>(alloc: Global) -> Result<Command<'a>, AllocError>
     ensures { IfOk result (λ c. app_of c ≡ journal) }
 {
@@ -391,7 +375,11 @@ fn journal<'a>(alloc: Global) -> Result<Command<'a>, AllocError>
         "setup",
         "Tells the configuration at its end, as a setup",
     );
-    let begin = new_journal(alloc);
+    let begin = text_or_none(
+        alloc,
+        "begin",
+        "Makes a new journal of this file, which begins with that configuration",
+    );
     let mend = flag(
         alloc,
         "mend",

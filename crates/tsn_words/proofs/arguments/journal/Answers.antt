@@ -11,5 +11,5 @@ returns c =
     ∙ ap₂ with_rule first c.number_or_none-since.ensures.rule in
     let third = c.in_ok-arg-3.ensures.shape c.number_or_none-diff.ensures.local ∙ ap₂ with_rule second c.number_or_none-diff.ensures.rule in
     let fourth = c.in_ok-arg-4.ensures.shape c.flag-setup.ensures.local ∙ ap₂ with_rule third c.flag-setup.ensures.rule in
-    let fifth = c.in_ok-arg-5.ensures.shape c.new_journal-begin.ensures.local ∙ ap₂ with_rule fourth c.new_journal-begin.ensures.rule in
+    let fifth = c.in_ok-arg-5.ensures.shape c.text_or_none-begin.ensures.local ∙ ap₂ with_rule fourth c.text_or_none-begin.ensures.rule in
     IfOk-weaker c.arg-6.result _ _ (λ r h. h.shape c.flag-mend.ensures.local ∙ ap₂ with_rule fifth c.flag-mend.ensures.rule) c.arg-6.ensures

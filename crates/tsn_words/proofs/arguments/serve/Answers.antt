@@ -7,7 +7,7 @@ pub returns : goal.returns
 returns c =
     let begun : app_of c.after_help.result ≡ new_app (codes "serve") = search rules in
     let first = c.in_ok-arg.ensures.shape c.setup_file-file.ensures.local ∙ ap₂ with_rule begun c.setup_file-file.ensures.rule in
-    let second = c.in_ok-arg-2.ensures.shape c.place-listen.ensures.local ∙ ap₂ with_rule first c.place-listen.ensures.rule in
+    let second = c.in_ok-arg-2.ensures.shape c.text_or_none-listen.ensures.local ∙ ap₂ with_rule first c.text_or_none-listen.ensures.rule in
     let third = c.in_ok-arg-3.ensures.shape c.number_or_none-workers.ensures.local
     ∙ ap₂ with_rule second c.number_or_none-workers.ensures.rule in
     let fourth = c.in_ok-arg-4.ensures.shape c.number_or_none-connections.ensures.local

@@ -1,8 +1,8 @@
-use Rattle.std.proofs.Common.{◌∙◌, ap, inl, inr, refl, subst}
+use Rattle.std.proofs.Common.{◌∙◌, ap, inr, refl, subst}
 use Rattle.std.specs.Prelude.{codes}
 use Rattle.clap.specs.Words.{found_of}
 use Rattle.tsn_words.specs.Asking.{KeepsOrRefuses, place_of}
-use Rattle.tsn_words.proofs.Worked.{given_in_rows, kept_in_rows, misgiven_in_rows, refused_asks}
+use Rattle.tsn_words.proofs.Worked.{given_in_rows, kept_in_rows, misgiven_asks}
 use Rattle.tsn_words.proofs.arguments.serve_of.Goals as goal
 
 pub returns-in-Ok-clause-asked : goal.returns-in-Ok-clause-asked
@@ -17,8 +17,5 @@ returns-in-Ok-clause-asked c = record {
 
 pub returns-in-Err-clause-asked : goal.returns-in-Err-clause-asked
 returns-in-Err-clause-asked c =
-    let wrong = subst (KeepsOrRefuses _ _) c.in-Err.is c.in_ok-kept.ensures in
-    refused_asks _ c.in-Err.refused wrong.1 (inr (inl (record {
-      named = inr refl;
-      wrong = misgiven_in_rows (codes "serve") (found_of c.args.given.now) wrong.0;
-    })))
+    misgiven_asks (codes "serve") (found_of c.args.given.now) c.in-Err.refused (inr refl)
+    (subst (KeepsOrRefuses _ _) c.in-Err.is c.in_ok-kept.ensures)
