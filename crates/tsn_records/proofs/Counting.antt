@@ -1,7 +1,7 @@
 -- How many items or members a value has.
 use Rattle.std.proofs.Common.{◌≡◌, suc, List, [], ◌∷◌, length, Some, refl, ap, sym, String}
 use Rattle.std.specs.declared.alloc.Global.{Global}
-use Rattle.serde_json.specs.Data.{Data, null, boolean, number, string, array, object, Items, Members}
+use Rattle.serde_json.specs.Data.{Data, array, object, Items, Members}
 use Rattle.serde_json.specs.Find.{as_object, as_array}
 use Rattle.serde_json.specs.View.{members_view, items_view}
 use Rattle.serde_json.specs.declared.value.Value.{Value}
@@ -9,19 +9,11 @@ use Rattle.tsn_records.specs.Json.{item_count, member_count, items_len, members_
 
 pub count_of_object : (d : Data) (ms : Members) → Some ms ≡ as_object d → member_count d ≡ members_len ms
 count_of_object (object ns) ms e = let f : ms ≡ ns = cc in ap members_len (sym f)
-count_of_object null ms e = cc
-count_of_object (boolean b) ms e = cc
-count_of_object (number n) ms e = cc
-count_of_object (string s) ms e = cc
-count_of_object (array ds) ms e = cc
+count_of_object d ms e = cc
 
 pub count_of_array : (d : Data) (xs : Items) → Some xs ≡ as_array d → item_count d ≡ items_len xs
 count_of_array (array ys) xs e = let f : xs ≡ ys = cc in ap items_len (sym f)
-count_of_array null ms e = cc
-count_of_array (boolean b) ms e = cc
-count_of_array (number n) ms e = cc
-count_of_array (string s) ms e = cc
-count_of_array (object ds) ms e = cc
+count_of_array d xs e = cc
 
 pub len_of_members : (es : List (String Global × Value)) → members_len (members_view es) ≡ length es
 len_of_members [] = refl

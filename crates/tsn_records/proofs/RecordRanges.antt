@@ -24,7 +24,7 @@ use Rattle.tsn_records.specs.declared.drafts.FilterDraft.{FilterDraft}
 use Rattle.tsn_records.specs.declared.drafts.MeterDraft.{MeterDraft}
 use Rattle.tsn_records.specs.declared.unread.Unread.{Unread}
 use Rattle.tsn_records.specs.declared.unread.Unread.TheVariants.{Range}
-use Rattle.tsn_records.proofs.Steps.{steps, only}
+use Rattle.tsn_records.proofs.Steps.{steps, only, last_step}
 
 -- ---- drafts of records
 
@@ -84,10 +84,8 @@ passed_or_none : (field : Field) (least most : ℕ) (o p : Option ℕ) → withi
     → (o ≡ p) × IfSome p (Within least most)
 passed_or_none field least most None p h = subst (λ q. (None ≡ q) × IfSome q (Within least most)) (only (Ok None) None p refl h) (refl, tt)
 passed_or_none field least most (Some n) p h =
-    steps (within field least most n) _ p h (λ number number_is number_next.
-    let known = passed field least most n number number_is in
-    subst (λ q. (Some n ≡ q) × IfSome q (Within least most)) (only (Ok (Some number)) (Some number) p refl number_next)
-    (rw known.0, known.1))
+    last_step (within field least most n) p (λ q. (Some n ≡ q) × IfSome q (Within least most)) Some h (λ number is.
+    let known = passed field least most n number is in (rw known.0, known.1))
 
 pub at_most : (field : Field) (most n m : ℕ) → within field 0 most n ≡ Ok m → (n ≡ m) × (m ≤ most)
 at_most field most n m h = let known = passed field 0 most n m h in (known.0, known.1.1)
@@ -258,24 +256,28 @@ gate_entry_back e fits = rw (
   at_most_or_none_ok _ most_octets e.octets fits.octets,
 ) refl
 
+schedule_back : {D E : Type 0} (range : D → Result E Unread) (draft : E → D) (P : E → Type 0) → ((e : E) → P e → range (draft e) ≡ Ok e)
+    → (s : Schedule E) → ScheduleInRange P s → schedule range (schedule_draft draft s) ≡ Ok s
+unfolding schedule
+schedule_back range draft P one s fits = rw (
+  entries_back P range draft one s.list fits.list,
+  within_ok _ 1 longest_cycle s.cycle fits.cycle,
+  at_most_ok _ longest_extension s.extension fits.extension,
+  at_most_ok _ greatest_instant s.base fits.base,
+) refl
+
 pub port_back : (r : PortGates) → PortInRange r → port (port_draft r) ≡ Ok r
-unfolding port schedule
+unfolding port
 port_back r fits = rw (
   at_most_ok _ greatest_gate_states r.gates fits.gates,
-  entries_back PortEntryInRange port_entry port_entry_draft port_entry_back r.admin.list fits.admin.list,
-  within_ok _ 1 longest_cycle r.admin.cycle fits.admin.cycle,
-  at_most_ok _ longest_extension r.admin.extension fits.admin.extension,
-  at_most_ok _ greatest_instant r.admin.base fits.admin.base,
+  schedule_back port_entry port_entry_draft PortEntryInRange port_entry_back r.admin fits.admin,
 ) refl
 
 pub gate_back : (r : StreamGate) → GateInRange r → gate (gate_draft r) ≡ Ok r
-unfolding gate schedule
+unfolding gate
 gate_back r fits = rw (
   at_most_or_none_ok _ greatest_priority r.ipv fits.ipv,
-  entries_back GateEntryInRange gate_entry gate_entry_draft gate_entry_back r.admin.list fits.admin.list,
-  within_ok _ 1 longest_cycle r.admin.cycle fits.admin.cycle,
-  at_most_ok _ longest_extension r.admin.extension fits.admin.extension,
-  at_most_ok _ greatest_instant r.admin.base fits.admin.base,
+  schedule_back gate_entry gate_entry_draft GateEntryInRange gate_entry_back r.admin fits.admin,
 ) refl
 
 pub filter_back : (r : StreamFilter) → FilterInRange r → filter (filter_draft r) ≡ Ok r

@@ -1,5 +1,5 @@
 -- Answers in steps, each of which may have none.
-use Rattle.std.proofs.Common.{◌≡◌, Option, Some, None, option_map, Result, Ok, Err, refl, ap, ◌∙◌}
+use Rattle.std.proofs.Common.{◌≡◌, Option, Some, None, option_map, Result, Ok, Err, refl, ap, subst, ◌∙◌}
 use Rattle.tsn_records.specs.Answers.{◌>>=◌, or_shape, or_syntax, refused}
 use Rattle.tsn_records.specs.declared.unread.Unread.{Unread}
 
@@ -16,6 +16,12 @@ steps (Err e) f b h next = cc
 -- one answer
 pub only : {A : Type 0} (x : Result A Unread) (a b : A) → x ≡ Ok a → x ≡ Ok b → a ≡ b
 only x a b p q = cc
+
+-- a last step, whose answer is what is found: what holds of each answer holds of it
+pub last_step : {A B : Type 0} (x : Result A Unread) (b : B) (P : B → Type 0) (found : A → B) → (x >>= λ a. Ok (found a)) ≡ Ok b
+    → ((a : A) → x ≡ Ok a → P (found a)) → P b
+last_step x b P found h holds =
+    steps x _ b h (λ a a_is next. subst P (only (Ok (found a)) (found a) b refl next) (holds a a_is))
 
 pub syntax_there : {A : Type 0} (o : Option A) (a : A) → or_syntax o ≡ Ok a → o ≡ Some a
 syntax_there None a h = cc
