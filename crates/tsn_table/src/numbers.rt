@@ -129,6 +129,9 @@ impl Numbers {
         ensures spare { self.old.spare ≤ self.new.spare }
         ensures enough { count ≤ self.old.spare → IsOk result }
     {
+        if count <= self.room && count < self.kept / 2 {
+            return Ok(());
+        }
         self.kept = self.kept.max(count.saturating_mul(2).saturating_add(2));
         if self.room < count {
             if room_of(self.nodes, self.count) < count {
