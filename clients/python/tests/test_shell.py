@@ -427,8 +427,7 @@ class Terminal(Served):
         self.assertIn("cbs=", self.read(terminal, r"all_red=false\r\n\d+> "))
         os.write(terminal, b"set meter 0 cir=5M\n")
         self.read(terminal, r"entry 1\r\n\d+> ")
-        os.write(terminal, b"\x03")
-        self.read(terminal, r"\d+> ")
+        self.breaks(terminal, r"\d+> ")
         os.write(terminal, b"undo\n")
         self.read(terminal, r"entry 2: 1 is taken back\r\n\d+> ")
         os.write(terminal, b"quit\n")
@@ -473,6 +472,14 @@ class Terminal(Served):
         types("redo", "entry 8: the undo 7 is taken back")
         os.write(terminal, b"quit\n")
         self.assertEqual(os.waitpid(pid, 0)[1], 0)
+
+    def breaks(self, terminal: int, until: str) -> None:
+        """Ctrl-C, until this comes; again where one is lost, since Python sees none that falls between its prompt and its wait."""
+        for _ in range(4):
+            os.write(terminal, b"\x03")
+            if select.select([terminal], [], [], PATIENCE / 4)[0]:
+                break
+        self.read(terminal, until)
 
     def read(self, terminal: int, until: str) -> str:
         """What the terminal shows, until this comes."""
