@@ -2,7 +2,7 @@
 //!
 //! Nothing here knows the limits: a map that is not well kept can stand here while a configuration is opened. It
 //! relies on the tables alone, and each call works in the table of its key's kind.
-ghost use Rattle.std.specs.Prelude.{◌≡◌, ℕ, ◌+◌, ◌<◌, ◌≤◌, IfOk, IfSome, IsOk, IsTrue, MatchOption, None, OnErr, OnOk, Some, is_some, length, option_map};
+ghost use Rattle.std.specs.Prelude.{◌≡◌, ℕ, ◌+◌, ◌<◌, ◌≤◌, IfOk, IfSome, IsOk, IsSome, IsTrue, MatchOption, None, OnErr, OnOk, Some, is_some, length, option_map};
 ghost use Rattle.std.specs.FinMap as map;
 ghost use Rattle.std.specs.FinMap.{FinMap};
 ghost use Rattle.std.specs.Ordering.{nat_cmp};
@@ -24,7 +24,7 @@ use crate::filters::Filters;
 use std::alloc::{AllocError, Global};
 use std::marker::Model;
 use tsn_edit::Part;
-use tsn_table::Table;
+use tsn_table::{Table, sure_after};
 use tsn_types::keys::{Key, Kind};
 use tsn_types::numbers::{Handle, Priority};
 use tsn_types::records::{FlowMeter, PortGates, Record, RecordRef, StreamFilter, StreamGate};
@@ -37,9 +37,12 @@ pub(crate) struct Rows {
     filters: Filters,
     gates: Table<StreamGate>,
     meters: Table<FlowMeter>,
+    /// For how many rows each table surely has room, with nothing left to do there: 0 once a row came in.
+    sure: usize,
 }
 
 impl Model for Rows {
+    ghost use Rattle.std.specs.Prelude.{◌≤◌};
     ghost use Rattle.tsn_config.specs.Views.{RowsView, rows_code, map_of_tables, least_of_four};
 
     ghost Value = { RowsView };
@@ -50,6 +53,8 @@ impl Model for Rows {
       map = map_of_tables a.ports.map a.filters.map a.gates.map a.meters.map;
       spare = least_of_four a.ports.spare a.filters.spare a.gates.spare a.meters.spare;
     } };
+
+    ghost invariant = { λ a. a.sure ≤ least_of_four a.ports.spare a.filters.spare a.gates.spare a.meters.spare };
 }
 
 impl Rows {
@@ -63,6 +68,7 @@ impl Rows {
             filters: Filters::new(alloc),
             gates: Table::new(alloc),
             meters: Table::new(alloc),
+            sure: 0,
         }
     }
 
@@ -126,6 +132,7 @@ impl Rows {
             filters: self.filters.copy()?,
             gates: self.gates.copy(|row| row.try_clone())?,
             meters: self.meters.copy(|row| Ok(*row))?,
+            sure: 0,
         })
     }
 
@@ -214,10 +221,15 @@ impl Rows {
         ensures spare { self.old.spare ≤ self.new.spare }
         ensures enough { count ≤ self.old.spare → IsOk result }
     {
+        if count <= self.sure {
+            return Ok(());
+        }
         self.ports.reserve(count)?;
         self.filters.reserve(count)?;
         self.gates.reserve(count)?;
-        self.meters.reserve(count)
+        self.meters.reserve(count)?;
+        self.sure = count;
+        Ok(())
     }
 
     /// Sets the value of the key, or takes the key out, and gives the value that stood there.
@@ -231,14 +243,25 @@ impl Rows {
         ensures spare { self.old.spare ≤ self.new.spare + 1 }
     {
         match key {
-            Key::Port(id) => port_record(set_row_of(&mut self.ports, id.get(), into_port(value))),
-            Key::Filter(id) => filter_record(self.filters.set(id, value)),
-            Key::Gate(id) => gate_record(set_row_of(&mut self.gates, id.get(), into_gate(value))),
-            Key::Meter(id) => meter_record(set_row_of(
-                &mut self.meters,
-                id.get(),
-                into_meter(value),
-            )),
+            Key::Port(id) => {
+                let before = set_row_of(&mut self.ports, id.get(), into_port(value));
+                self.sure = sure_after(self.sure, before.is_some());
+                port_record(before)
+            }
+            Key::Filter(id) => {
+                self.sure = 0;
+                filter_record(self.filters.set(id, value))
+            }
+            Key::Gate(id) => {
+                let before = set_row_of(&mut self.gates, id.get(), into_gate(value));
+                self.sure = sure_after(self.sure, before.is_some());
+                gate_record(before)
+            }
+            Key::Meter(id) => {
+                let before = set_row_of(&mut self.meters, id.get(), into_meter(value));
+                self.sure = sure_after(self.sure, before.is_some());
+                meter_record(before)
+            }
         }
     }
 
@@ -272,6 +295,7 @@ pub(crate) fn set_row_of<R: Drop>(table: &mut Table<R>, id: u64, row: Option<R>)
     ensures before { result ≡ map.get table.old.map id }
     ensures map { table.new.map ≡ set_row table.old.map id row }
     ensures spare { table.old.spare ≤ table.new.spare + 1 }
+    ensures same { IsSome result → table.old.spare ≤ table.new.spare }
 {
     match row {
         Some(row) => table.put(id, row),

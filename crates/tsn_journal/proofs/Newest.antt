@@ -80,6 +80,11 @@ module _ (ms : List MarkedEntry) (wanted : Bool) (g : Group) (n s before : ℕ) 
 -- ---- a newest place set back
 
 -- both groups of a session
+pub mends_ref : (ms : List MarkedEntry) (k : Key) (j : ℕ) (a b : Index) → b.places.items ≡ a.places.items
+    → ((q : Group) → latest_of b.latest q ≡ set_at (RefersTo k) j (latest_of a.latest) q)
+    → IsIn (RefersTo k) ms a.places.items j → MendsNewest ms (Some (RefersTo k) ∷ []) a b
+mends_ref ms k j a b places is of = grind arith
+
 pub mends_two : (ms : List MarkedEntry) (s j k : ℕ) (a b : Index) → b.places.items ≡ a.places.items
     → ((q : Group) → latest_of b.latest q ≡ set_at (EndsRedo s) k (set_at (Of s) j (latest_of a.latest)) q)
     → IsIn (Of s) ms a.places.items j → IsIn (EndsRedo s) ms a.places.items k → MendsNewest ms (Some (Of s) ∷ Some (EndsRedo s) ∷ []) a b

@@ -12,9 +12,9 @@ use Rattle.tsn_types.specs.Keys.{same_key}
 use Rattle.tsn_edit.proofs.KeyFacts.{one_key}
 use Rattle.tsn_journal.specs.declared.groups.Group.{Group}
 use Rattle.tsn_journal.specs.declared.groups.Group.TheVariants.{On, RefersTo, Of, EndsRedo}
-use Rattle.tsn_journal.specs.declared.latest.Latest.{Latest}
-use Rattle.tsn_journal.specs.declared.latest.KeyPlaces.{KeyPlaces}
-use Rattle.tsn_journal.specs.declared.latest.SessionPlaces.{SessionPlaces}
+use Rattle.tsn_journal.specs.declared.latest_rows.Latest.{Latest}
+use Rattle.tsn_journal.specs.declared.latest_rows.KeyPlaces.{KeyPlaces}
+use Rattle.tsn_journal.specs.declared.latest_rows.SessionPlaces.{SessionPlaces}
 use Rattle.tsn_journal.specs.Latest.{ends_of, key_row, latest_of, on_of, referred_of, refers_of, same_group, session_row, standing_of, touched_of}
 
 -- numbers are told apart by their order

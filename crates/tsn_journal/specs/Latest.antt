@@ -6,9 +6,9 @@ use Rattle.tsn_types.specs.declared.keys.Key.TheVariants.{Port, Filter, Gate, Me
 use Rattle.tsn_types.specs.Keys.{same_key}
 use Rattle.tsn_journal.specs.declared.groups.Group.{Group}
 use Rattle.tsn_journal.specs.declared.groups.Group.TheVariants.{On, RefersTo, Of, EndsRedo}
-use Rattle.tsn_journal.specs.declared.latest.Latest.{Latest}
-use Rattle.tsn_journal.specs.declared.latest.KeyPlaces.{KeyPlaces}
-use Rattle.tsn_journal.specs.declared.latest.SessionPlaces.{SessionPlaces}
+use Rattle.tsn_journal.specs.declared.latest_rows.Latest.{Latest}
+use Rattle.tsn_journal.specs.declared.latest_rows.KeyPlaces.{KeyPlaces}
+use Rattle.tsn_journal.specs.declared.latest_rows.SessionPlaces.{SessionPlaces}
 
 -- whether two groups are the same
 abbrev pub same_group : Group → Group → Bool

@@ -22,7 +22,7 @@ ghost use Rattle.tsn_edit.specs.Parts.{parts};
 
 use crate::entries::{Entry, MarkedEntry, What, last};
 use crate::groups::{Group, refs_of};
-use crate::latest::{KeyPlaces, Latest, SessionPlaces};
+use crate::latest_rows::{KeyPlaces, Latest, SessionPlaces};
 use std::alloc::{AllocError, Global};
 use tsn_edit::{Change, Part};
 use tsn_types::keys::Key;
@@ -146,6 +146,7 @@ impl Index {
 
     /// Gives the newest entry, which made or redid the change, its places. Whether a search for a redo ends at it, the
     /// caller says.
+    #[inline(always)]
     fn enter_change(
         &mut self,
         marked: &[MarkedEntry],
@@ -237,6 +238,7 @@ impl Index {
 
     /// Gives the newest entry its places among the session's standing entries and among those at which a search for a
     /// redo ends, where they are wanted.
+    #[inline(always)]
     fn enter_session(
         &mut self,
         marked: &[MarkedEntry],

@@ -8,23 +8,10 @@ ghost use Rattle.tsn_types.specs.declared.keys.Key.{Key as AnyKey};
 ghost use Rattle.tsn_journal.specs.declared.groups.Group.{Group as AnyGroup};
 ghost use Rattle.tsn_journal.specs.Latest.{HasRows, TakesRows, ends_of, key_row, latest_of, on_of, referred_of, refers_of, session_row, standing_of, touched_of};
 
+use crate::latest_rows::{KeyPlaces, Latest, SessionPlaces};
 use std::alloc::{AllocError, Global};
-use tsn_table::Table;
+use tsn_table::{Table, sure_after};
 use tsn_types::keys::Key;
-
-/// The newest places of a key's two groups, counted from 1, and the numbers of its newest entries of any kind. 0 is
-/// none.
-#[derive(Clone, Copy, Debug)]
-pub(crate) struct KeyPlaces {
-    /// The place of the entries on the key.
-    pub(crate) on: u32,
-    /// The place of those that refer to it.
-    pub(crate) refers: u32,
-    /// The number of the newest entry on the key, whether it stands or not.
-    pub(crate) touched: u32,
-    /// The number of the newest entry of which a value after refers to the key, whether it stands or not.
-    pub(crate) referred: u32,
-}
 
 impl KeyPlaces {
     /// The row of the key with the entry of the number on it.
@@ -48,25 +35,6 @@ impl KeyPlaces {
     }
 }
 
-/// The newest places of a session's two groups, counted from 1, and 0 for none.
-#[derive(Clone, Copy, Debug)]
-pub(crate) struct SessionPlaces {
-    /// Of the session's standing entries.
-    pub(crate) standing: u32,
-    /// Of its entries at which a search for a redo ends.
-    pub(crate) ends_redo: u32,
-}
-
-/// The newest place of each group, by the numbers of keys and sessions.
-#[derive(Debug, Drop)]
-pub(crate) struct Latest {
-    pub(crate) ports: Table<KeyPlaces>,
-    pub(crate) filters: Table<KeyPlaces>,
-    pub(crate) gates: Table<KeyPlaces>,
-    pub(crate) meters: Table<KeyPlaces>,
-    pub(crate) sessions: Table<SessionPlaces>,
-}
-
 impl Latest {
     /// No place in any group. It takes no memory.
     pub(crate) fn new(alloc: Global) -> Latest
@@ -80,6 +48,7 @@ impl Latest {
             gates: Table::new(alloc),
             meters: Table::new(alloc),
             sessions: Table::new(alloc),
+            sure: 0,
         }
     }
 
@@ -90,15 +59,20 @@ impl Latest {
         ensures ok { OnOk result (HasRows count self.new) }
         ensures spare { TakesRows 0 self.old self.new }
     {
+        if count <= self.sure {
+            return Ok(());
+        }
         self.ports.reserve(count)?;
         self.filters.reserve(count)?;
         self.gates.reserve(count)?;
         self.meters.reserve(count)?;
         self.sessions.reserve(count)?;
+        self.sure = count;
         Ok(())
     }
 
     /// What the row of the key tells.
+    #[inline(always)]
     pub(crate) fn key_places(&self, key: Key) -> KeyPlaces
         ensures on { result.on ≡ on_of (key_row self.now key) }
         ensures refers { result.refers ≡ refers_of (key_row self.now key) }
@@ -128,6 +102,7 @@ impl Latest {
     }
 
     /// The newest places of the session.
+    #[inline(always)]
     pub(crate) fn session_places(&self, session: u32) -> SessionPlaces
         ensures standing { result.standing ≡ standing_of (session_row self.now session) }
         ensures ends_redo { result.ends_redo ≡ ends_of (session_row self.now session) }
@@ -152,21 +127,26 @@ impl Latest {
     {
         match key {
             Key::Port(number) => {
-                let _ = self.ports.put(number.get(), row);
+                let before = self.ports.put(number.get(), row);
+                self.sure = sure_after(self.sure, before.is_some());
             }
             Key::Filter(number) => {
-                let _ = self.filters.put(number.get(), row);
+                let before = self.filters.put(number.get(), row);
+                self.sure = sure_after(self.sure, before.is_some());
             }
             Key::Gate(number) => {
-                let _ = self.gates.put(number.get(), row);
+                let before = self.gates.put(number.get(), row);
+                self.sure = sure_after(self.sure, before.is_some());
             }
             Key::Meter(number) => {
-                let _ = self.meters.put(number.get(), row);
+                let before = self.meters.put(number.get(), row);
+                self.sure = sure_after(self.sure, before.is_some());
             }
         }
     }
 
     /// Sets the newest places of the session. A session that has some takes no room, and one that has none takes a row.
+    #[inline(always)]
     pub(crate) fn set_session(&mut self, session: u32, row: SessionPlaces)
         requires { IsSome (session_row self.old session) ⊎ HasRows 1 self.old }
         ensures sessions { self.new.sessions.map ≡ map.insert self.old.sessions.map session row }
@@ -174,6 +154,7 @@ impl Latest {
         ensures room { TakesRows 1 self.old self.new }
         ensures same_room { IsSome (session_row self.old session) → TakesRows 0 self.old self.new }
     {
-        let _ = self.sessions.put(u64::from(session), row);
+        let before = self.sessions.put(u64::from(session), row);
+        self.sure = sure_after(self.sure, before.is_some());
     }
 }

@@ -13,5 +13,6 @@ mod groups;
 mod index;
 pub mod journal;
 mod latest;
+mod latest_rows;
 pub mod laws;
 mod touched;

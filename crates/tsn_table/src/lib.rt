@@ -6,7 +6,7 @@
 //! where it fails. A `Numbers` is a search tree that its users see as a set.
 #![tactic(auto)]
 
-ghost use Rattle.std.specs.Prelude.{◌≡◌, ℕ, Bool, ◌+◌, ◌<◌, ◌≤◌, ◌⊎◌, IsOk, IsSome, IsTrue, IfOk, OnOk, OnErr, Some, None, MatchOption, cond, length, nat_eq};
+ghost use Rattle.std.specs.Prelude.{◌≡◌, ℕ, Bool, false, ◌+◌, ◌<◌, ◌≤◌, ◌⊎◌, IsOk, IsSome, IsTrue, IfOk, OnOk, OnErr, Some, None, MatchOption, cond, length, nat_eq};
 ghost use Rattle.std.specs.Ordering.{nat_cmp, ord_min};
 ghost use Rattle.std.specs.Option.{option_copied};
 ghost use Rattle.std.specs.FinMap as map;
@@ -292,6 +292,15 @@ pub fn lesser<T: Ord + Copy>(left: Option<T>, right: Option<T>) -> Option<T>
         (Some(one), None) => Some(one),
         (None, other) => other,
     }
+}
+
+/// For how many rows there surely is room, with nothing left to do, once a row was set: for none where it is a new one.
+#[inline(always)]
+pub fn sure_after(sure: usize, was_there: bool) -> usize
+    ensures less { result ≤ sure }
+    ensures none { was_there ≡ false → result ≡ 0 }
+{
+    if was_there { sure } else { 0 }
 }
 
 // Sets the row of a number, where there is room for one more.

@@ -1,7 +1,7 @@
 use Rattle.std.proofs.Common.{true, sym, ◌∙◌, ap}
-use Rattle.tsn_journal.specs.declared.latest.KeyPlaces.{KeyPlaces}
+use Rattle.tsn_journal.specs.declared.latest_rows.KeyPlaces.{KeyPlaces}
 use Rattle.tsn_journal.specs.declared.groups.Group.TheVariants.{On}
-use Rattle.tsn_journal.specs.declared.latest.Latest.{Latest}
+use Rattle.tsn_journal.specs.declared.latest_rows.Latest.{Latest}
 use Rattle.tsn_journal.specs.Index.{set_at}
 use Rattle.tsn_journal.specs.Latest.{key_row, latest_of, refers_of}
 use Rattle.tsn_journal.proofs.Indexing.{indexed_if, reindexed}

@@ -1,8 +1,8 @@
 use Rattle.std.proofs.Common.{◌∷◌, true, sym, subst, ◌∙◌, ap}
 use Rattle.std.specs.Prelude.{option_map}
-use Rattle.tsn_journal.specs.declared.latest.KeyPlaces.{KeyPlaces}
+use Rattle.tsn_journal.specs.declared.latest_rows.KeyPlaces.{KeyPlaces}
 use Rattle.tsn_journal.specs.declared.groups.Group.TheVariants.{RefersTo}
-use Rattle.tsn_journal.specs.declared.latest.Latest.{Latest}
+use Rattle.tsn_journal.specs.declared.latest_rows.Latest.{Latest}
 use Rattle.tsn_journal.specs.Index.{IsIndexedBut, set_at}
 use Rattle.tsn_journal.specs.Latest.{key_row, latest_of, on_of}
 use Rattle.tsn_journal.proofs.Indexing.{indexed_if, reindexed}

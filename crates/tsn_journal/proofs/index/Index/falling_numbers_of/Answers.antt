@@ -1,4 +1,4 @@
-use Rattle.std.proofs.Common.{◌+◌, sym, ◌∙◌, ap, arith, map}
+use Rattle.std.proofs.Common.{sym, ◌∙◌, ap, arith, map}
 use Rattle.std.specs.Prelude.{reverse}
 use Rattle.tsn_journal.specs.declared.entries.MarkedEntry.{MarkedEntry}
 use Rattle.tsn_journal.specs.Index.{belongs}

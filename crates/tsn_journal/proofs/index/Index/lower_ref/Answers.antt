@@ -1,9 +1,13 @@
-use Rattle.std.proofs.Common.{◌+◌, sym, subst, length}
+use Rattle.std.proofs.Common.{◌+◌, ◌∷◌, [], Option, option_map, refl, sym, subst, length}
+use Rattle.tsn_types.specs.declared.keys.Key.{Key}
 use Rattle.tsn_journal.specs.declared.groups.Group.TheVariants.{RefersTo}
 use Rattle.tsn_journal.specs.Index.{IsLast, belongs, set_at}
+use Rattle.tsn_journal.specs.declared.index.Index.{Index}
 use Rattle.tsn_journal.specs.Latest.{latest_of}
+use Rattle.tsn_journal.specs.Newest.{MendsNewest}
 use Rattle.tsn_journal.proofs.Indexing.{reindexed}
 use Rattle.tsn_journal.proofs.Lowering.{index_lowered}
+use Rattle.tsn_journal.proofs.Newest.{mends_ref}
 use Rattle.tsn_journal.proofs.Off.{none_refers}
 use Rattle.tsn_journal.proofs.Rows.{set_refers}
 use Rattle.tsn_journal.proofs.index.Index.lower_ref.Goals as goal
@@ -25,3 +29,13 @@ returns-clause-index c =
     (set_refers c.args.self.now.latest c.set_key.new.self key _ c.set_key.ensures.rows c.set_key.ensures.sessions
     c.key_places-latest.ensures.on)
     (index_lowered _ _ l (RefersTo key) c.first_from-refers.result c.requires.index c.first_from-refers.ensures.last)
+
+pub returns-clause-newest : goal.returns-clause-newest
+returns-clause-newest c =
+    let i = c.args.self.now in
+    let key = c.in-Some.key in
+    let after : Index = record { places = i.places; latest = c.set_key.new.self; stray = i.stray } in
+    subst (λ (o : Option Key). MendsNewest c.args.marked.now (option_map RefersTo o ∷ []) i after) (sym c.in-Some.is)
+    (mends_ref c.args.marked.now key c.first_from-refers.result i after refl
+    (set_refers i.latest c.set_key.new.self key _ c.set_key.ensures.rows c.set_key.ensures.sessions c.key_places-latest.ensures.on)
+    c.first_from-refers.ensures.newest)

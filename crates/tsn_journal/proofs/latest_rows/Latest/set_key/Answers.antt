@@ -1,6 +1,6 @@
 use Rattle.std.proofs.Common.{arith}
 use Rattle.tsn_journal.proofs.Rows.{port_put, filter_put, gate_put, meter_put}
-use Rattle.tsn_journal.proofs.latest.Latest.set_key.Goals as goal
+use Rattle.tsn_journal.proofs.latest_rows.Latest.set_key.Goals as goal
 
 pub returns-in-Port-clause-rows : goal.returns-in-Port-clause-rows
 returns-in-Port-clause-rows c = λ q. grind (arith, port_put)
