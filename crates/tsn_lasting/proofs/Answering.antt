@@ -1,5 +1,5 @@
 -- A line is answered, and its reply waits, goes out, or breaks off.
-use Rattle.std.proofs.Common.{◌≡◌, ℕ, inl, inr, List, [], ◌∷◌, ◌++◌, Option, refl, sym, ◌∙◌, ap, subst, map, append_assoc, arith}
+use Rattle.std.proofs.Common.{◌≡◌, ℕ, inl, inr, List, [], ◌∷◌, ◌++◌, Option, sym, ◌∙◌, ap, subst, map, append_assoc, arith}
 use Rattle.std.specs.Prelude.{Result, Ok, Err, IfErr, OnErr, OnOk, Some, is_err, is_ok, false, true, take, drop, length}
 use Rattle.std.specs.Io.KnownBytes.{Appends}
 use Rattle.std.proofs.KnownBytes.{Appends-trans}
@@ -19,7 +19,7 @@ use Rattle.tsn_spelling.specs.Line.{line_text}
 use Rattle.tsn_lasting.specs.Exchanges.{AnswersRead, Exchange, recorded_of}
 use Rattle.tsn_lasting.specs.Parts.{AnswersLine, BreaksLine, BreaksOff, HandsOn, IsCutOff, IsCutShort, Parts, Puts, StepsRead, StepsRecorder, Tells, standing}
 use Rattle.tsn_lasting.specs.Running.{Goes, IsBroken, IsWhole}
-use Rattle.tsn_lasting.specs.Standing.{BeginsWith, HasAnswered, IsAtRest, Lasts, Replies, Standing, Stays, Steps}
+use Rattle.tsn_lasting.specs.Standing.{BeginsWith, HasAnswered, IsAtRest, Lasts, Replies, Standing, Steps}
 use Rattle.tsn_lasting.proofs.GoingOn.{settled, settled_lasts, still_lasts, told, told_lasts, waits}
 use Rattle.tsn_lasting.proofs.Windows.{stopped}
 
@@ -215,60 +215,6 @@ pub cut_back : (old new text : List ℕ) (len : ℕ) → len ≡ length old → 
 cut_back old new text len is (n, few, grown) =
     (λ i. take (is i) (grown i)) ∙ take-append-le (length old) old (take n text) (omega arith) ∙ take_all (length old) old (omega arith)
 
--- a reply found no room: what waits was handed on, and then its own text, or a front of it
-module _ {W : Type 0} (taken : W → Option (List ℕ)) (old a mid : Parts W) (r : Replies) (text : List ℕ) (cut : r.bytes ≡ old.replies.bytes)
-  where
-    abbrev before : Standing
-    before = standing taken (record { bridge = old.bridge; keeper = old.keeper; replies = r; writer = old.writer })
-
-    pub not_settled : (n : Standing) → BreaksOff before n [] → BreaksOff (standing taken old) n text
-    not_settled n (inl off) = inl (record { taken = off.taken; kept = off.kept })
-    not_settled n (inr short) = inr (record {
-      kept = short.kept;
-      front = short.front;
-      took = short.took;
-      begins = (
-        short.begins.0 ++ text,
-        ap (λ b. b ++ text) (sym cut ∙ sym (append-nil r.bytes) ∙ short.begins.1)
-            ∙ append_assoc short.front short.begins.0 text,
-      );
-    })
-
-    module _ (hands : HandsOn before (standing taken mid) []) (same : a ≡ mid) (w : W) where
-      abbrev after : Standing
-      after = standing taken (record { bridge = a.bridge; keeper = a.keeper; replies = a.replies; writer = w })
-
-      took_more : (more : List ℕ) → Appends (taken a.writer) (taken w) more
-          → Appends (taken old.writer) (taken w) (old.replies.bytes ++ more)
-      took_more more appended =
-          subst (λ t. Appends (taken old.writer) (taken w) (t ++ more)) (append-nil r.bytes ∙ cut)
-          (Appends-trans (taken old.writer) (taken mid.writer) (taken w) (r.bytes ++ []) more hands.took
-          (subst (λ (p : Parts W). Appends (taken p.writer) (taken w) more) same appended))
-
-      pub told_directly : Appends (taken a.writer) (taken w) text → HandsOn (standing taken old) after text
-      told_directly appended = record {
-        stays = record {
-          bridge = ap (λ (p : Parts W). p.bridge) same ∙ hands.stays.bridge;
-          last = ap (λ (p : Parts W). p.keeper.last) same ∙ hands.stays.last;
-          entered = ap (λ (p : Parts W). p.keeper.kept ++ p.keeper.unsettled) same ∙ hands.stays.entered;
-        };
-        kept = ap (λ (p : Parts W). p.keeper.kept) same ∙ hands.kept;
-        took = took_more text appended;
-        none = ap (λ (p : Parts W). p.replies.bytes) same ∙ hands.none;
-      }
-
-      pub cut_directly : IsCut (taken a.writer) (taken w) text → IsCutShort (standing taken old) after text
-      cut_directly (n, few, appended) = record {
-        kept = ap (λ (p : Parts W). p.keeper.kept) same ∙ hands.kept;
-        front = old.replies.bytes ++ take n text;
-        took = took_more (take n text) appended;
-        begins = (
-          drop n text,
-          ap (λ t. old.replies.bytes ++ t) (sym (take-append-drop n text))
-              ∙ sym (append_assoc old.replies.bytes (take n text) (drop n text)),
-        );
-      }
-
 -- ---- a view and what it is of
 
 module _ {W : Type 0} (taken : W → Option (List ℕ)) (a b : Parts W) (same : a ≡ b) (n : Standing) where
@@ -284,6 +230,72 @@ module _ {W : Type 0} (taken : W → Option (List ℕ)) (a b : Parts W) (same : 
   pub steps_from : (read : Result Ask Refusal) (reply : Reply) → ((rs : List Recorded) × StepsRead (standing taken a) read reply rs n)
       → (rs : List Recorded) × StepsRead (standing taken b) read reply rs n
   steps_from read reply h = subst (λ p. (rs : List Recorded) × StepsRead (standing taken p) read reply rs n) same h
+
+-- ---- a reply found no room
+
+-- a front of what waits, and of that with the reply behind it
+pub begins_behind : (whole old front text : List ℕ) → whole ≡ old → BeginsWith (whole ++ []) front → BeginsWith (old ++ text) front
+begins_behind whole old front text cut (rest, is) =
+    (rest ++ text, ap (λ b. b ++ text) (sym cut ∙ sym (append-nil whole) ∙ is) ∙ append_assoc front rest text)
+
+-- what waits and a front of the reply
+pub begins_within : (old text : List ℕ) (n : ℕ) → BeginsWith (old ++ text) (old ++ take n text)
+begins_within old text n =
+    (drop n text, ap (λ t. old ++ t) (sym (take-append-drop n text)) ∙ sym (append_assoc old (take n text) (drop n text)))
+
+-- a writer took what waits, and then more
+pub took_behind : (t0 t1 t2 : Option (List ℕ)) (whole old more : List ℕ) → whole ≡ old → Appends t0 t1 (whole ++ []) → Appends t1 t2 more
+    → Appends t0 t2 (old ++ more)
+took_behind t0 t1 t2 whole old more cut first second =
+    subst (λ t. Appends t0 t2 (t ++ more)) (append-nil whole ∙ cut) (Appends-trans t0 t1 t2 (whole ++ []) more first second)
+
+-- What waits was handed on, and then the reply's own text, or a front of it; v is the view of the old parts.
+module _ {W : Type 0} (taken : W → Option (List ℕ)) (old v : Parts W) (view : old ≡ v) (r : Replies) (text : List ℕ)
+    (cut : r.bytes ≡ old.replies.bytes) where
+  abbrev before : Standing
+  before = standing taken (record { bridge = old.bridge; keeper = old.keeper; replies = r; writer = old.writer })
+
+  front_kept : (n : Standing) → BreaksOff before n [] → BreaksOff (standing taken old) n text
+  front_kept n (inl off) = inl (record { taken = off.taken; kept = off.kept })
+  front_kept n (inr short) = inr (record {
+    kept = short.kept;
+    front = short.front;
+    took = short.took;
+    begins = begins_behind r.bytes old.replies.bytes short.front text cut short.begins;
+  })
+
+  pub not_settled : (n : Standing) → BreaksOff before n [] → BreaksOff (standing taken v) n text
+  not_settled n off = breaks_from taken old v view n text (front_kept n off)
+
+  module _ (a mid : Parts W) (hands : HandsOn before (standing taken mid) []) (same : a ≡ mid) (w : W) where
+    abbrev after : Standing
+    after = standing taken (record { bridge = a.bridge; keeper = a.keeper; replies = a.replies; writer = w })
+
+    took_more : (more : List ℕ) → Appends (taken a.writer) (taken w) more
+        → Appends (taken old.writer) (taken w) (old.replies.bytes ++ more)
+    took_more more appended =
+        took_behind (taken old.writer) (taken mid.writer) (taken w) r.bytes old.replies.bytes more cut hands.took
+        (subst (λ (p : Parts W). Appends (taken p.writer) (taken w) more) same appended)
+
+    pub told_directly : Appends (taken a.writer) (taken w) text → Tells (standing taken v) after text
+    told_directly appended = tells_from taken old v view after text (inr (record {
+      stays = record {
+        bridge = ap (λ (p : Parts W). p.bridge) same ∙ hands.stays.bridge;
+        last = ap (λ (p : Parts W). p.keeper.last) same ∙ hands.stays.last;
+        entered = ap (λ (p : Parts W). p.keeper.kept ++ p.keeper.unsettled) same ∙ hands.stays.entered;
+      };
+      kept = ap (λ (p : Parts W). p.keeper.kept) same ∙ hands.kept;
+      took = took_more text appended;
+      none = ap (λ (p : Parts W). p.replies.bytes) same ∙ hands.none;
+    }))
+
+    pub cut_directly : IsCut (taken a.writer) (taken w) text → BreaksOff (standing taken v) after text
+    cut_directly (n, few, appended) = breaks_from taken old v view after text (inr (record {
+      kept = ap (λ (p : Parts W). p.keeper.kept) same ∙ hands.kept;
+      front = old.replies.bytes ++ take n text;
+      took = took_more (take n text) appended;
+      begins = begins_within old.replies.bytes text n;
+    }))
 
 pub breaks_line_to : {W : Type 0} (taken : W → Option (List ℕ)) (old a b : Parts W) (line : Option (List ℕ)) → a ≡ b
     → BreaksLine taken old line a → BreaksLine taken old line b

@@ -1,5 +1,5 @@
 -- What lasts goes on to last, line after line.
-use Rattle.std.proofs.Common.{◌≡◌, ℕ, List, [], ◌∷◌, ◌++◌, Option, refl, sym, ◌∙◌, ap, subst, append_assoc, map}
+use Rattle.std.proofs.Common.{◌≡◌, ℕ, List, [], ◌∷◌, ◌++◌, Option, refl, sym, ◌∙◌, ap, subst, append_assoc}
 use Rattle.std.specs.Io.KnownBytes.{Appends}
 use Rattle.std.proofs.KnownBytes.{Appends-nil, Appends-trans}
 use Rattle.std.proofs.lemmas.List.{append-nil, map-append}
@@ -167,10 +167,11 @@ module _ (s0 : Standing) (ls : List (Option (List ℕ))) (s : Standing) (has : H
       );
     }
 
-    -- its reply waits
-    pub waits : (new : Standing) → Stays mid new → BeginsWith new.kept s.kept → new.taken ≡ s.taken
-        → new.waiting ≡ s.waiting ++ reply_text x.reply → HasAnswered s0 (ls ++ x.line ∷ []) new
-    waits new stays grown taken waiting = record {
+    -- it is answered, whether its reply waits or is told
+    answered : (new : Standing) (handed : List ℕ) → Stays mid new → Appends s0.taken new.taken handed
+        → (has.handed ++ s.waiting) ++ reply_text x.reply ≡ handed ++ new.waiting → Lasts s0 (ls ++ x.line ∷ []) new
+        → HasAnswered s0 (ls ++ x.line ∷ []) new
+    answered new handed stays took told lasts = record {
       exchanges = all;
       lines = more_lines;
       runs = subst (Runs s0.bridge all) (sym stays.bridge) more_runs;
@@ -178,26 +179,25 @@ module _ (s0 : Standing) (ls : List (Option (List ℕ))) (s : Standing) (has : H
       leaves = more_leaves;
       last = stays.last ∙ steps.last ∙ ap (λ d. last_digest d rs) has.last ∙ sym (last_digest-append s0.last has.recorded rs);
       entered = stays.entered ∙ more_entered;
-      handed = has.handed;
-      took = subst (λ t. Appends s0.taken t has.handed) (sym taken) has.took;
-      told = more_told ∙ append_assoc has.handed s.waiting (reply_text x.reply) ∙ ap (λ t. has.handed ++ t) (sym waiting);
-      lasts = still_lasts new (x.line ∷ []) taken grown;
+      handed = handed;
+      took = took;
+      told = more_told ∙ told;
+      lasts = lasts;
     }
+
+    -- its reply waits
+    pub waits : (new : Standing) → Stays mid new → BeginsWith new.kept s.kept → new.taken ≡ s.taken
+        → new.waiting ≡ s.waiting ++ reply_text x.reply → HasAnswered s0 (ls ++ x.line ∷ []) new
+    waits new stays grown taken waiting =
+        answered new has.handed stays (subst (λ t. Appends s0.taken t has.handed) (sym taken) has.took)
+        (append_assoc has.handed s.waiting (reply_text x.reply) ∙ ap (λ t. has.handed ++ t) (sym waiting))
+        (still_lasts new (x.line ∷ []) taken grown)
 
     -- it is told at once, behind what waits
     pub told : (new : Standing) → Stays mid new → new.kept ≡ mid.entered → Appends s.taken new.taken (s.waiting ++ reply_text x.reply)
         → new.waiting ≡ [] → HasAnswered s0 (ls ++ x.line ∷ []) new
-    told new stays kept took none = record {
-      exchanges = all;
-      lines = more_lines;
-      runs = subst (Runs s0.bridge all) (sym stays.bridge) more_runs;
-      recorded = has.recorded ++ rs;
-      leaves = more_leaves;
-      last = stays.last ∙ steps.last ∙ ap (λ d. last_digest d rs) has.last ∙ sym (last_digest-append s0.last has.recorded rs);
-      entered = stays.entered ∙ more_entered;
-      handed = has.handed ++ (s.waiting ++ reply_text x.reply);
-      took = Appends-trans s0.taken s.taken new.taken has.handed (s.waiting ++ reply_text x.reply) has.took took;
-      told = more_told ∙ append_assoc has.handed s.waiting (reply_text x.reply) ∙ sym (append-nil _)
-          ∙ ap (λ t. (has.handed ++ (s.waiting ++ reply_text x.reply)) ++ t) (sym none);
-      lasts = told_lasts new (s.waiting ++ reply_text x.reply) kept took (begins_itself (s.waiting ++ reply_text x.reply));
-    }
+    told new stays kept took none =
+        let all_told = s.waiting ++ reply_text x.reply in
+        answered new (has.handed ++ all_told) stays (Appends-trans s0.taken s.taken new.taken has.handed all_told has.took took)
+        (append_assoc has.handed s.waiting (reply_text x.reply) ∙ sym (append-nil _) ∙ ap (λ t. (has.handed ++ all_told) ++ t) (sym none))
+        (told_lasts new all_told kept took (begins_itself all_told))

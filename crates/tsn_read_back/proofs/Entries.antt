@@ -14,7 +14,7 @@ use Rattle.tsn_types.specs.declared.records.GateEntry.{GateEntry}
 use Rattle.tsn_records.specs.declared.unread.Unread.{Unread}
 use Rattle.tsn_records.specs.Records.{port_entry_shape, gate_entry_shape}
 use Rattle.tsn_records.proofs.RecordRanges.{port_entry_draft, gate_entry_draft}
-use Rattle.tsn_setup.specs.Plain.{Slot, number, flag, port_list, gate_list, IsOpen, Slots, slot_at, put_slot, ReadsMember, ReadsTable, ReadsEntry, ReadsEntries, TableSoFar, EntriesSoFar, is_name}
+use Rattle.tsn_setup.specs.Plain.{Slot, number, flag, port_list, gate_list, IsOpen, Slots, slot_at, put_slot, ReadsMember, ReadsValue, ReadsTable, ReadsEntry, ReadsEntries, TableSoFar, EntriesSoFar, is_name}
 use Rattle.tsn_setup.specs.PlainSlots.{port_entry_slots, gate_entry_slots}
 use Rattle.tsn_setup.specs.Toml.{as_toml}
 use Rattle.tsn_setup.specs.declared.plain_entries.PortEntryMembers.{PortEntryMembers}
@@ -243,24 +243,30 @@ list_read {E} {D} shape line draft InRange one (e ∷ es) more fits =
     } in
     some
 
+-- the list is read into its slot
+list_back : {E D : Type 0} (shape : Data → Result D Unread) (line : E → List ℕ) (draft : E → D) (InRange : E → Type 0)
+    → AreRead shape line draft InRange → (slot : Option (List D) → Slot)
+    → ((list : List D) (text rest : List ℕ) → (first text == 91) ≡ true → length (drop 1 text) < length text
+    → ReadsEntries shape (drop 1 text) list rest → ReadsValue 2 text (slot (Some list)) rest)
+    → IsOpen (slot None) → (text more : List ℕ) (es : List E) (slots : Slots) → AllByRecursion InRange es
+    → slot_at (codes "list") slots ≡ Some (slot None) → Reads text slots (list_lines line es ++ more)
+    → Reads text (put_slot (codes "list") (slot (Some (map draft es))) slots) more
+list_back shape line draft InRange one slot read open_yet text more es slots fits at so =
+    let r = list_read shape line draft InRange one es more fits in
+    let list = map draft es in
+    let value : Spelled 2 (91 ∷ r.inside) (slot (Some list)) (10 ∷ more) =
+    record { starts = refl; read = read list (91 ∷ r.inside) (10 ∷ more) refl (omega arith) r.read } in
+    line_read 2 text (codes "list") (91 ∷ r.inside) more slots (slot None) (slot (Some list)) (omega arith) refl value at open_yet
+    (omega (arith, r.shorter)) (subst (Reads text slots) r.is so)
+
 pub port_list_back : (text more : List ℕ) (es : List PortEntry) (slots : Slots) → AllByRecursion PortEntryInRange es
     → slot_at (codes "list") slots ≡ Some (port_list None) → Reads text slots (list_lines port_entry_line es ++ more)
     → Reads text (put_slot (codes "list") (port_list (Some (map port_entry_draft es))) slots) more
-port_list_back text more es slots fits at so =
-    let r = list_read (port_entry_shape as_toml) port_entry_line port_entry_draft PortEntryInRange port_entry_back es more fits in
-    let list = map port_entry_draft es in
-    let value : Spelled 2 (91 ∷ r.inside) (port_list (Some list)) (10 ∷ more) =
-    record { starts = refl; read = port_list_read list (91 ∷ r.inside) (10 ∷ more) refl (omega arith) r.read } in
-    line_read 2 text (codes "list") (91 ∷ r.inside) more slots (port_list None) (port_list (Some list)) (omega arith) refl value at refl
-    (omega (arith, r.shorter)) (subst (Reads text slots) r.is so)
+port_list_back = list_back (port_entry_shape as_toml) port_entry_line port_entry_draft PortEntryInRange port_entry_back
+    (λ list. port_list list) port_list_read refl
 
 pub gate_list_back : (text more : List ℕ) (es : List GateEntry) (slots : Slots) → AllByRecursion GateEntryInRange es
     → slot_at (codes "list") slots ≡ Some (gate_list None) → Reads text slots (list_lines gate_entry_line es ++ more)
     → Reads text (put_slot (codes "list") (gate_list (Some (map gate_entry_draft es))) slots) more
-gate_list_back text more es slots fits at so =
-    let r = list_read (gate_entry_shape as_toml) gate_entry_line gate_entry_draft GateEntryInRange gate_entry_back es more fits in
-    let list = map gate_entry_draft es in
-    let value : Spelled 2 (91 ∷ r.inside) (gate_list (Some list)) (10 ∷ more) =
-    record { starts = refl; read = gate_list_read list (91 ∷ r.inside) (10 ∷ more) refl (omega arith) r.read } in
-    line_read 2 text (codes "list") (91 ∷ r.inside) more slots (gate_list None) (gate_list (Some list)) (omega arith) refl value at refl
-    (omega (arith, r.shorter)) (subst (Reads text slots) r.is so)
+gate_list_back = list_back (gate_entry_shape as_toml) gate_entry_line gate_entry_draft GateEntryInRange gate_entry_back
+    (λ list. gate_list list) gate_list_read refl

@@ -18,6 +18,11 @@ items_of_values (v ∷ vs) = ap (λ ds. view v ∷ ds) (items_of_values vs)
 pub first : {A : Type 0} (xs : List A) (i : ℕ) (x : A) → i < length xs → x ≡ get_or xs i x → drop i xs ≡ x ∷ drop (i + 1) xs
 first xs i x h e = rw add-one (drop-cons xs i x h ∙ ap (λ y. y ∷ drop (suc i) xs) (sym e))
 
+-- the answers of all, seen in another way ahead of it
+pub each_map : {A B C : Type 0} (f : B → Result C Unread) (g : A → B) (xs : List A) → each f (map g xs) ≡ each (λ x. f (g x)) xs
+each_map f g [] = refl
+each_map f g (x ∷ xs) = ap (λ r. f (g x) >>= λ y. r >>= λ ys. Ok (y ∷ ys)) (each_map f g xs)
+
 front_moves : {B : Type 0} (front : List B) (y : B) (rest : Result (List B) Unread)
     → with_front front (rest >>= λ ys. Ok (y ∷ ys)) ≡ with_front (front ++ y ∷ []) rest
 front_moves front y (Ok ys) = ap (λ l. Ok l) (sym (append_assoc front (y ∷ []) ys))

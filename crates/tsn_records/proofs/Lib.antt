@@ -2,6 +2,9 @@ pub mod Counting
 pub mod Digits
 pub mod Entries
 pub mod Escaping
+pub mod Naming
+pub mod Pairs
 pub mod RecordRanges
+pub mod RecordsRead
 pub mod Shapes
 pub mod Steps

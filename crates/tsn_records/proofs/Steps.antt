@@ -1,5 +1,5 @@
 -- Answers in steps, each of which may have none.
-use Rattle.std.proofs.Common.{◌≡◌, Option, Some, None, option_map, Result, Ok, Err, refl, ap, subst, ◌∙◌}
+use Rattle.std.proofs.Common.{◌≡◌, Option, Some, None, option_map, option_and_then, Result, Ok, Err, refl, ap, subst, ◌∙◌}
 use Rattle.tsn_records.specs.Answers.{◌>>=◌, or_shape, or_syntax, refused}
 use Rattle.tsn_records.specs.declared.unread.Unread.{Unread}
 
@@ -35,3 +35,9 @@ not_refused (Err e) a h = cc
 pub mapped_there : {A B : Type 0} (f : A → B) (o : Option A) (b : B) → or_shape (option_map f o) ≡ Ok b → (a : A) × (o ≡ Some a) × (f a ≡ b)
 mapped_there f None b h = cc
 mapped_there f (Some a) b h = (a, refl, only (Ok (f a)) (f a) b refl h)
+
+-- what there is, and of which value it is
+pub there : {D A : Type 0} (f : D → Option A) (value : A → D) → ((d : D) (a : A) → or_shape (f d) ≡ Ok a → d ≡ value a)
+    → (o : Option D) (a : A) → or_shape (option_and_then f o) ≡ Ok a → o ≡ Some (value a)
+there f value is None a h = cc
+there f value is (Some d) a h = ap Some (is d a h)

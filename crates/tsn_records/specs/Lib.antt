@@ -7,3 +7,4 @@ pub mod Members
 pub mod Ranges
 pub mod Records
 pub mod Shown
+pub mod Values

@@ -1,5 +1,6 @@
 -- The names of members, as the table of members has them.
-use Rattle.std.specs.Prelude.{ℕ, List, [], map}
+use Rattle.std.specs.Prelude.{ℕ, List, [], drop, map}
+use Rattle.tsn_records.specs.declared.allowed.Allowed.{Allowed}
 use Rattle.tsn_types.specs.declared.keys.Kind.{Kind}
 use Rattle.tsn_types.specs.declared.keys.Kind.TheVariants.{Port, Filter, Gate, Meter}
 use Rattle.tsn_records.specs.declared.allowed.TheConstants.{DOCUMENT, PORT, FILTER, GATE, METER, PORT_ENTRY, GATE_ENTRY}
@@ -21,3 +22,10 @@ entry_names_of Meter = []
 -- the members of a setup
 abbrev pub setup_names : List (List ℕ)
 setup_names = map (λ member. member.0.now) DOCUMENT.now
+
+-- the members of a record, each with its name and what it may be: its identifier stands in its key, or ahead of them in a setup
+abbrev pub rows_of : Kind → List (List ℕ × Allowed)
+rows_of Port = map (λ member. (member.0.now, member.1)) (drop 1 PORT.now)
+rows_of Filter = map (λ member. (member.0.now, member.1)) (drop 1 FILTER.now)
+rows_of Gate = map (λ member. (member.0.now, member.1)) (drop 1 GATE.now)
+rows_of Meter = map (λ member. (member.0.now, member.1)) (drop 1 METER.now)

@@ -1,6 +1,6 @@
 -- Records as JSON values, as they are shown.
-use Rattle.std.specs.Prelude.{ℕ, Bool, List, map, Option, Some, None, codes}
-use Rattle.serde_json.specs.Data.{Data, null, boolean, number, unsigned, array, object, no_items, item, no_members, member}
+use Rattle.std.specs.Prelude.{ℕ, Bool, List, [], ◌∷◌, map, Option, Some, None, codes}
+use Rattle.serde_json.specs.Data.{Data, null, boolean, number, unsigned, array, object, no_items, item, Members, no_members, member, put}
 use Rattle.serde_json.specs.View.{items_of}
 use Rattle.tsn_types.specs.declared.records.PortEntry.{PortEntry}
 use Rattle.tsn_types.specs.declared.records.GateEntry.{GateEntry}
@@ -10,6 +10,14 @@ use Rattle.tsn_types.specs.declared.records.StreamFilter.{StreamFilter}
 use Rattle.tsn_types.specs.declared.records.FlowMeter.{FlowMeter}
 use Rattle.tsn_types.specs.declared.records.Record.{Record}
 use Rattle.tsn_types.specs.declared.records.Record.TheVariants.{Port, Filter, Gate, Meter}
+use Rattle.tsn_records.specs.Members.{rows_of}
+use Rattle.tsn_records.specs.Values.{kind_of_draft, values_of}
+use Rattle.tsn_records.specs.declared.allowed.Allowed.{Allowed}
+use Rattle.tsn_records.specs.declared.drafts.GateEntryDraft.{GateEntryDraft}
+use Rattle.tsn_records.specs.declared.drafts.MemberDraft.{MemberDraft}
+use Rattle.tsn_records.specs.declared.drafts.MemberDraft.TheVariants.{Unread, Number, Maybe, Flag, PortList, GateList}
+use Rattle.tsn_records.specs.declared.drafts.PortEntryDraft.{PortEntryDraft}
+use Rattle.tsn_records.specs.declared.drafts.RecordDraft.{RecordDraft}
 
 -- a whole number
 abbrev pub whole_data : ℕ → Data
@@ -98,3 +106,27 @@ record_data (Port r) = port_data r
 record_data (Filter r) = filter_data r
 record_data (Gate r) = gate_data r
 record_data (Meter r) = meter_data r
+
+-- A draft's entries, its members, and the draft itself.
+abbrev pub port_entry_value : PortEntryDraft → Data
+port_entry_value e = port_entry_array e.gates e.interval
+
+abbrev pub gate_entry_value : GateEntryDraft → Data
+gate_entry_value e = gate_entry_array e.is_open e.ipv e.interval e.octets
+
+abbrev pub member_data : MemberDraft → Data
+member_data Unread = null
+member_data (Number n) = whole_data n
+member_data (Maybe o) = or_null o
+member_data (Flag b) = boolean b
+member_data (PortList es) = list_array port_entry_value es
+member_data (GateList es) = list_array gate_entry_value es
+
+-- each member under its name; an object has them in ascending order of their names
+abbrev pub named : List (List ℕ × Allowed) → List MemberDraft → Members
+named [] vs = no_members
+named (row ∷ rows) [] = no_members
+named (row ∷ rows) (v ∷ vs) = put row.0 (member_data v) (named rows vs)
+
+abbrev pub draft_data : RecordDraft → Data
+draft_data r = object (named (rows_of (kind_of_draft r)) (values_of r))

@@ -2,9 +2,10 @@
 //!
 //! A table of a setup has the members of its record, and its identifier ahead of them. An entry of a list that is an
 //! array has its members in this order.
-ghost use Rattle.std.specs.Prelude.{◌≡◌, map};
+ghost use Rattle.std.specs.Prelude.{◌≡◌, ◌≤◌, length, map};
 ghost use Rattle.tsn_records.specs.Keys.{kind_text};
-ghost use Rattle.tsn_records.specs.Members.{names_of, entry_names_of};
+ghost use Rattle.tsn_records.specs.Members.{names_of, entry_names_of, rows_of};
+ghost use Rattle.tsn_records.specs.Values.{most_members};
 
 use tsn_types::keys::Kind;
 use tsn_types::limits::{LONGEST_LIST, MOST_INSTANCES};
@@ -126,6 +127,19 @@ pub fn members_of(kind: Kind) -> &'static [Member]
         Kind::Filter => FILTER,
         Kind::Gate => GATE,
         Kind::Meter => METER,
+    }
+}
+
+/// The members of a record of the kind: those of a table but for its identifier.
+pub fn record_members_of(kind: Kind) -> &'static [Member]
+    ensures rows { map (λ member. (member.0.now, member.1)) result.now ≡ rows_of kind }
+    ensures few { length result.now ≤ most_members }
+{
+    match kind {
+        Kind::Port => &PORT[1..],
+        Kind::Filter => &FILTER[1..],
+        Kind::Gate => &GATE[1..],
+        Kind::Meter => &METER[1..],
     }
 }
 

@@ -30,6 +30,19 @@ pub struct ScheduleDraft<E> {
     pub base: u64,
 }
 
+/// A member of a record, whose number may still be outside its range.
+#[derive(Debug, Drop)]
+pub enum MemberDraft {
+    /// It was not read.
+    Unread,
+    Number(u64),
+    /// A number, or what stands for none.
+    Maybe(Option<u64>),
+    Flag(bool),
+    PortList(ControlList<PortEntryDraft>),
+    GateList(ControlList<GateEntryDraft>),
+}
+
 /// The record of a port.
 #[derive(Debug, Drop)]
 pub struct PortDraft {

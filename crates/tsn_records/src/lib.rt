@@ -14,3 +14,4 @@ pub mod members;
 pub mod ranges;
 pub mod records;
 pub mod unread;
+pub mod values;

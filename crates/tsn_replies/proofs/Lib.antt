@@ -1,4 +1,5 @@
 pub mod Bytes
+pub mod Grown
 pub mod Lines
 pub mod Names
 pub mod Numerals

@@ -1,15 +1,14 @@
 -- The lines of verdicts and counters, piece by piece.
-use Rattle.std.proofs.Common.{◌≡◌, ℕ, Bool, ◌++◌, List, [], Option, codes, decimal, append_assoc}
+use Rattle.std.proofs.Common.{◌≡◌, ℕ, Bool, ◌++◌, List, [], ◌∷◌, Option, codes, decimal, refl, append_assoc}
 use Rattle.json.specs.Print.{escape_byte}
 use Rattle.serde_json.specs.Data.{boolean, string}
 use Rattle.serde_json.specs.Written.{compact_text}
 use Rattle.tsn_chain.specs.declared.data.FilterData.{FilterData}
 use Rattle.tsn_chain.specs.declared.frame.DropCause.{DropCause}
 use Rattle.tsn_chain.specs.declared.state.ListCounters.{ListCounters}
+use Rattle.tsn_replies.proofs.Grown.{line_of}
 use Rattle.tsn_records.specs.Shown.{or_null}
 use Rattle.tsn_replies.specs.Running.{cause_name, pass_data, drop_data, port_counters_data, filter_counters_data, gate_counters_data}
-
--- ---- lines of so many names and values
 
 of_three : (a1 x1 a2 x2 a3 x3 brace feed t0 t1 t2 t3 : List ℕ)
     → t0 ≡ []
@@ -18,46 +17,6 @@ of_three : (a1 x1 a2 x2 a3 x3 brace feed t0 t1 t2 t3 : List ℕ)
     → t3 ≡ t2 ++ (a3 ++ (x3 ++ (brace ++ feed)))
     → t3 ≡ (a1 ++ (x1 ++ (a2 ++ (x2 ++ (a3 ++ (x3 ++ brace)))))) ++ feed
 of_three a1 x1 a2 x2 a3 x3 brace feed t0 t1 t2 t3 e0 e1 e2 e3 = rw (e3, e2, e1, e0) (simp append_assoc)
-
-of_four : (a1 x1 a2 x2 a3 x3 a4 x4 brace feed t0 t1 t2 t3 t4 t5 : List ℕ)
-    → t0 ≡ []
-    → t1 ≡ t0 ++ (a1 ++ x1)
-    → t2 ≡ t1 ++ (a2 ++ x2)
-    → t3 ≡ t2 ++ (a3 ++ x3)
-    → t4 ≡ t3 ++ (a4 ++ x4)
-    → t5 ≡ t4 ++ (brace ++ feed)
-    → t5 ≡ (a1 ++ (x1 ++ (a2 ++ (x2 ++ (a3 ++ (x3 ++ (a4 ++ (x4 ++ brace)))))))) ++ feed
-of_four a1 x1 a2 x2 a3 x3 a4 x4 brace feed t0 t1 t2 t3 t4 t5 e0 e1 e2 e3 e4 e5 =
-    rw (e5, e4, e3, e2, e1, e0) (simp append_assoc)
-
-of_six : (a1 x1 a2 x2 a3 x3 a4 x4 a5 x5 a6 x6 brace feed t0 t1 t2 t3 t4 t5 t6 t7 : List ℕ)
-    → t0 ≡ []
-    → t1 ≡ t0 ++ (a1 ++ x1)
-    → t2 ≡ t1 ++ (a2 ++ x2)
-    → t3 ≡ t2 ++ (a3 ++ x3)
-    → t4 ≡ t3 ++ (a4 ++ x4)
-    → t5 ≡ t4 ++ (a5 ++ x5)
-    → t6 ≡ t5 ++ (a6 ++ x6)
-    → t7 ≡ t6 ++ (brace ++ feed)
-    → t7 ≡ (a1 ++ (x1 ++ (a2 ++ (x2 ++ (a3 ++ (x3 ++ (a4 ++ (x4 ++ (a5 ++ (x5 ++ (a6
-    ++ (x6 ++ brace)))))))))))) ++ feed
-of_six a1 x1 a2 x2 a3 x3 a4 x4 a5 x5 a6 x6 brace feed t0 t1 t2 t3 t4 t5 t6 t7 e0 e1 e2 e3 e4 e5 e6 e7 =
-    rw (e7, e6, e5, e4, e3, e2, e1, e0) (simp append_assoc)
-
-of_seven : (a1 x1 a2 x2 a3 x3 a4 x4 a5 x5 a6 x6 a7 x7 brace feed t0 t1 t2 t3 t4 t5 t6 t7 t8 : List ℕ)
-    → t0 ≡ []
-    → t1 ≡ t0 ++ (a1 ++ x1)
-    → t2 ≡ t1 ++ (a2 ++ x2)
-    → t3 ≡ t2 ++ (a3 ++ x3)
-    → t4 ≡ t3 ++ (a4 ++ x4)
-    → t5 ≡ t4 ++ (a5 ++ x5)
-    → t6 ≡ t5 ++ (a6 ++ x6)
-    → t7 ≡ t6 ++ (a7 ++ x7)
-    → t8 ≡ t7 ++ (brace ++ feed)
-    → t8 ≡ (a1 ++ (x1 ++ (a2 ++ (x2 ++ (a3 ++ (x3 ++ (a4 ++ (x4 ++ (a5 ++ (x5 ++ (a6 ++ (x6 ++ (a7
-    ++ (x7 ++ brace)))))))))))))) ++ feed
-of_seven a1 x1 a2 x2 a3 x3 a4 x4 a5 x5 a6 x6 a7 x7 brace feed t0 t1 t2 t3 t4 t5 t6 t7 t8 e0 e1 e2 e3 e4 e5 e6 e7 e8 =
-    rw (e8, e7, e6, e5, e4, e3, e2, e1, e0) (simp append_assoc)
 
 -- ---- verdicts
 
@@ -71,10 +30,9 @@ pub pass_line : (filter : Option ℕ) (now priority : ℕ) (yellow : Bool) (t0 t
     → t5 ≡ compact_text (pass_data filter now priority yellow) ++ codes "\n"
 unfolding escape_byte
 pass_line filter now priority yellow t0 t1 t2 t3 t4 t5 e0 e1 e2 e3 e4 e5 =
-    of_four (codes "{\"filter\":") (compact_text (or_null filter)) (codes ",\"now\":") (decimal now)
-    (codes ",\"priority\":") (decimal priority) (codes ",\"verdict\":\"pass\",\"yellow\":")
-    (compact_text (boolean yellow))
-    (codes "}") (codes "\n") t0 t1 t2 t3 t4 t5 e0 e1 e2 e3 e4 e5
+    line_of ((codes "{\"filter\":" ++ compact_text (or_null filter)) ∷ (codes ",\"now\":" ++ decimal now)
+    ∷ (codes ",\"priority\":" ++ decimal priority) ∷ (codes ",\"verdict\":\"pass\",\"yellow\":" ++ compact_text (boolean yellow)) ∷ [])
+    t0 t4 t5 (codes "}") (codes "\n") e0 (t1, e1, (t2, e2, (t3, e3, (t4, e4, refl)))) e5
 
 pub drop_line : (filter now : ℕ) (cause : DropCause) (t0 t1 t2 t3 : List ℕ)
     → t0 ≡ []
@@ -100,10 +58,9 @@ pub port_line : (l : ListCounters) (t0 t1 t2 t3 t4 t5 : List ℕ)
     → t5 ≡ compact_text (port_counters_data l) ++ codes "\n"
 unfolding escape_byte
 port_line l t0 t1 t2 t3 t4 t5 e0 e1 e2 e3 e4 e5 =
-    of_four (codes "{\"change_error\":") (decimal l.change_error) (codes ",\"change_time\":")
-    (compact_text (or_null l.change_time)) (codes ",\"enabled\":") (compact_text (boolean l.enabled))
-    (codes ",\"pending\":") (compact_text (boolean l.pending))
-    (codes "}") (codes "\n") t0 t1 t2 t3 t4 t5 e0 e1 e2 e3 e4 e5
+    line_of ((codes "{\"change_error\":" ++ decimal l.change_error) ∷ (codes ",\"change_time\":" ++ compact_text (or_null l.change_time))
+    ∷ (codes ",\"enabled\":" ++ compact_text (boolean l.enabled)) ∷ (codes ",\"pending\":" ++ compact_text (boolean l.pending)) ∷ [])
+    t0 t4 t5 (codes "}") (codes "\n") e0 (t1, e1, (t2, e2, (t3, e3, (t4, e4, refl)))) e5
 
 pub filter_line : (f : FilterData) (t0 t1 t2 t3 t4 t5 t6 t7 t8 : List ℕ)
     → t0 ≡ []
@@ -118,11 +75,11 @@ pub filter_line : (f : FilterData) (t0 t1 t2 t3 t4 t5 t6 t7 t8 : List ℕ)
     → t8 ≡ compact_text (filter_counters_data f) ++ codes "\n"
 unfolding escape_byte
 filter_line f t0 t1 t2 t3 t4 t5 t6 t7 t8 e0 e1 e2 e3 e4 e5 e6 e7 e8 =
-    of_seven (codes "{\"blocked\":") (compact_text (boolean f.blocked)) (codes ",\"matching\":")
-    (decimal f.matching) (codes ",\"not_passing\":") (decimal f.not_passing)
-    (codes ",\"not_passing_sdu\":") (decimal f.not_passing_sdu) (codes ",\"passing\":") (decimal f.passing)
-    (codes ",\"passing_sdu\":") (decimal f.passing_sdu) (codes ",\"red\":") (decimal f.red)
-    (codes "}") (codes "\n") t0 t1 t2 t3 t4 t5 t6 t7 t8 e0 e1 e2 e3 e4 e5 e6 e7 e8
+    line_of ((codes "{\"blocked\":" ++ compact_text (boolean f.blocked)) ∷ (codes ",\"matching\":" ++ decimal f.matching)
+    ∷ (codes ",\"not_passing\":" ++ decimal f.not_passing) ∷ (codes ",\"not_passing_sdu\":" ++ decimal f.not_passing_sdu)
+    ∷ (codes ",\"passing\":" ++ decimal f.passing) ∷ (codes ",\"passing_sdu\":" ++ decimal f.passing_sdu)
+    ∷ (codes ",\"red\":" ++ decimal f.red) ∷ [])
+    t0 t7 t8 (codes "}") (codes "\n") e0 (t1, e1, (t2, e2, (t3, e3, (t4, e4, (t5, e5, (t6, e6, (t7, e7, refl))))))) e8
 
 pub gate_line : (l : ListCounters) (invalid_rx octets_exceeded : Bool) (t0 t1 t2 t3 t4 t5 t6 t7 : List ℕ)
     → t0 ≡ []
@@ -136,8 +93,8 @@ pub gate_line : (l : ListCounters) (invalid_rx octets_exceeded : Bool) (t0 t1 t2
     → t7 ≡ compact_text (gate_counters_data l invalid_rx octets_exceeded) ++ codes "\n"
 unfolding escape_byte
 gate_line l invalid_rx octets_exceeded t0 t1 t2 t3 t4 t5 t6 t7 e0 e1 e2 e3 e4 e5 e6 e7 =
-    of_six (codes "{\"change_error\":") (decimal l.change_error) (codes ",\"change_time\":")
-    (compact_text (or_null l.change_time)) (codes ",\"enabled\":") (compact_text (boolean l.enabled))
-    (codes ",\"invalid_rx\":") (compact_text (boolean invalid_rx)) (codes ",\"octets_exceeded\":")
-    (compact_text (boolean octets_exceeded)) (codes ",\"pending\":") (compact_text (boolean l.pending))
-    (codes "}") (codes "\n") t0 t1 t2 t3 t4 t5 t6 t7 e0 e1 e2 e3 e4 e5 e6 e7
+    line_of ((codes "{\"change_error\":" ++ decimal l.change_error) ∷ (codes ",\"change_time\":" ++ compact_text (or_null l.change_time))
+    ∷ (codes ",\"enabled\":" ++ compact_text (boolean l.enabled)) ∷ (codes ",\"invalid_rx\":" ++ compact_text (boolean invalid_rx))
+    ∷ (codes ",\"octets_exceeded\":" ++ compact_text (boolean octets_exceeded))
+    ∷ (codes ",\"pending\":" ++ compact_text (boolean l.pending)) ∷ [])
+    t0 t6 t7 (codes "}") (codes "\n") e0 (t1, e1, (t2, e2, (t3, e3, (t4, e4, (t5, e5, (t6, e6, refl)))))) e7

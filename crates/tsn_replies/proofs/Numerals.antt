@@ -27,32 +27,26 @@ pairs_at n h =
 
 -- ---- a number is its front and its last digits
 
+-- where so many last digits have a text, so have twice as many: those of the front, and then its own
+twice : (m : ℕ) (text : ℕ → List ℕ) → ((n : ℕ) → m ≤ n → n < 2 ^ 64 → decimal n ≡ decimal (n / m) ++ text (n % m)) → (n q a b : ℕ)
+    → m ≤ n → m ≤ n / m → n < 2 ^ 64 → n / m < 2 ^ 64 → n / m / m ≡ q → n / m % m ≡ a → n % m ≡ b
+    → decimal n ≡ decimal q ++ (text a ++ text b)
+twice m text last n q a b low front_low high front_high front middle back =
+    last n low high ∙ ap (λ l. l ++ text (n % m)) (last (n / m) front_low front_high)
+    ∙ append_assoc (decimal (n / m / m)) (text (n / m % m)) (text (n % m))
+    ∙ (λ i. decimal (front i) ++ (text (middle i) ++ text (back i)))
+
 last_two : (n : ℕ) → 100 ≤ n → n < 2 ^ 64 → decimal n ≡ decimal (n / 100) ++ two_digits (n % 100)
-last_two n low high =
-    let front : n / 10 / 10 ≡ n / 100 = omega arith in
-    let tens : n / 10 % 10 ≡ n % 100 / 10 = omega arith in
-    let ones : n % 10 ≡ n % 100 % 10 = omega arith in
-    decimal_step n (omega arith) high ∙ ap (λ l. l ++ ((48 + n % 10) ∷ [])) (decimal_step (n / 10) (omega arith) (omega arith))
-    ∙ append_assoc (decimal (n / 10 / 10)) ((48 + n / 10 % 10) ∷ []) ((48 + n % 10) ∷ [])
-    ∙ rw (front, tens, ones)
+last_two n low high = twice 10 (λ d. (48 + d) ∷ []) decimal_step n (n / 100) (n % 100 / 10) (n % 100 % 10)
+    (omega arith) (omega arith) high (omega arith) (omega arith) (omega arith) (omega arith)
 
 last_four : (n : ℕ) → 10000 ≤ n → n < 2 ^ 64 → decimal n ≡ decimal (n / 10000) ++ four_digits (n % 10000)
-last_four n low high =
-    let front : n / 100 / 100 ≡ n / 10000 = omega arith in
-    let middle : n / 100 % 100 ≡ n % 10000 / 100 = omega arith in
-    let back : n % 100 ≡ n % 10000 % 100 = omega arith in
-    last_two n (omega arith) high ∙ ap (λ l. l ++ two_digits (n % 100)) (last_two (n / 100) (omega arith) (omega arith))
-    ∙ append_assoc (decimal (n / 100 / 100)) (two_digits (n / 100 % 100)) (two_digits (n % 100))
-    ∙ rw (front, middle, back)
+last_four n low high = twice 100 two_digits last_two n (n / 10000) (n % 10000 / 100) (n % 10000 % 100)
+    (omega arith) (omega arith) high (omega arith) (omega arith) (omega arith) (omega arith)
 
 last_eight : (n : ℕ) → 100000000 ≤ n → n < 2 ^ 64 → decimal n ≡ decimal (n / 100000000) ++ eight_digits (n % 100000000)
-last_eight n low high =
-    let front : n / 10000 / 10000 ≡ n / 100000000 = omega arith in
-    let middle : n / 10000 % 10000 ≡ n % 100000000 / 10000 = omega arith in
-    let back : n % 10000 ≡ n % 100000000 % 10000 = omega arith in
-    last_four n (omega arith) high ∙ ap (λ l. l ++ four_digits (n % 10000)) (last_four (n / 10000) (omega arith) (omega arith))
-    ∙ append_assoc (decimal (n / 10000 / 10000)) (four_digits (n / 10000 % 10000)) (four_digits (n % 10000))
-    ∙ rw (front, middle, back)
+last_eight n low high = twice 10000 four_digits last_four n (n / 100000000) (n % 100000000 / 10000) (n % 100000000 % 10000)
+    (omega arith) (omega arith) high (omega arith) (omega arith) (omega arith) (omega arith)
 
 -- ---- pieces
 

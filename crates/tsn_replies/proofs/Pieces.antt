@@ -23,6 +23,7 @@ use Rattle.tsn_types.specs.declared.records.Record.{Record}
 use Rattle.tsn_types.specs.declared.records.Record.TheVariants as records
 use Rattle.tsn_records.specs.Keys.{key_text}
 use Rattle.tsn_records.specs.Shown.{or_null, port_entry_data, gate_entry_data, port_data, filter_data, gate_data, meter_data, record_data, whole_data}
+use Rattle.tsn_replies.proofs.Grown.{grown}
 use Rattle.tsn_bridge.specs.declared.sessions.GivenSession.{GivenSession}
 use Rattle.tsn_replies.specs.Told.{shown_data, ids_data, session_data, sessions_data}
 use Rattle.tsn_replies.specs.Pieces.{TakesFront, key_front, port_front, gate_front, gate_rest}
@@ -140,19 +141,6 @@ pub port_pieces : (r : PortGates) (t0 t1 t2 t3 t4 t5 : List ℕ)
     → t5 ≡ t0 ++ port_front r
 port_pieces r t0 t1 t2 t3 t4 t5 e1 e2 e3 e4 e5 = rw (e5, e4, e3, e2, e1) (simp append_assoc)
 
-gate_pieces_of : (base cycle extension invalid_rx ipv t0 t1 t2 t3 t4 t5 t6 : List ℕ)
-    → t1 ≡ t0 ++ (codes "{\"base\":" ++ base)
-    → t2 ≡ t1 ++ (codes ",\"cycle\":" ++ cycle)
-    → t3 ≡ t2 ++ (codes ",\"extension\":" ++ extension)
-    → t4 ≡ t3 ++ (codes ",\"invalid_rx\":" ++ invalid_rx)
-    → t5 ≡ t4 ++ (codes ",\"ipv\":" ++ ipv)
-    → t6 ≡ t5 ++ codes ",\"list\":["
-    → t6 ≡ t0 ++ (codes "{\"base\":"
-    ++ (base ++ (codes ",\"cycle\":"
-    ++ (cycle ++ (codes ",\"extension\":"
-    ++ (extension ++ (codes ",\"invalid_rx\":" ++ (invalid_rx ++ (codes ",\"ipv\":" ++ (ipv ++ codes ",\"list\":["))))))))))
-gate_pieces_of base cycle extension invalid_rx ipv t0 t1 t2 t3 t4 t5 t6 e1 e2 e3 e4 e5 e6 = rw (e6, e5, e4, e3, e2, e1) (simp append_assoc)
-
 pub gate_pieces : (r : StreamGate) (t0 t1 t2 t3 t4 t5 t6 : List ℕ)
     → t1 ≡ t0 ++ (codes "{\"base\":" ++ decimal r.admin.base)
     → t2 ≡ t1 ++ (codes ",\"cycle\":" ++ decimal r.admin.cycle)
@@ -161,7 +149,11 @@ pub gate_pieces : (r : StreamGate) (t0 t1 t2 t3 t4 t5 t6 : List ℕ)
     → t5 ≡ t4 ++ (codes ",\"ipv\":" ++ compact_text (or_null r.ipv))
     → t6 ≡ t5 ++ codes ",\"list\":["
     → t6 ≡ t0 ++ gate_front r
-gate_pieces r t0 t1 t2 t3 t4 t5 t6 e1 e2 e3 e4 e5 e6 = gate_pieces_of _ _ _ _ _ t0 t1 t2 t3 t4 t5 t6 e1 e2 e3 e4 e5 e6
+gate_pieces r t0 t1 t2 t3 t4 t5 t6 e1 e2 e3 e4 e5 e6 =
+    grown ((codes "{\"base\":" ++ decimal r.admin.base) ∷ (codes ",\"cycle\":" ++ decimal r.admin.cycle)
+    ∷ (codes ",\"extension\":" ++ decimal r.admin.extension) ∷ (codes ",\"invalid_rx\":" ++ compact_text (boolean r.invalid_rx))
+    ∷ (codes ",\"ipv\":" ++ compact_text (or_null r.ipv)) ∷ [])
+    t0 t5 t6 (codes ",\"list\":[") (t1, e1, (t2, e2, (t3, e3, (t4, e4, (t5, e5, refl))))) e6
 
 -- ---- lines
 

@@ -13,6 +13,7 @@ use Rattle.tsn_journal.specs.declared.entries.MarkedEntry.{MarkedEntry}
 use Rattle.tsn_journal.specs.Marks.{entries_of}
 use Rattle.tsn_types.specs.declared.keys.Key.{Key}
 use Rattle.tsn_types.specs.Keys.{number_of}
+use Rattle.tsn_replies.proofs.Grown.{grown}
 use Rattle.tsn_records.specs.Keys.{key_text}
 use Rattle.tsn_records.specs.Shown.{whole_data}
 use Rattle.tsn_replies.specs.Pieces.{keys_piece, taking_back_front, told_line}
@@ -137,36 +138,26 @@ ending_of : (number keys of session rest t0 t1 t2 : List ℕ)
     → t2 ≡ t0 ++ (codes "{\"entry\":" ++ (number ++ (keys ++ (codes ",\"of\":" ++ (of ++ (codes ",\"session\":" ++ (session ++ rest)))))))
 ending_of number keys of session rest t0 t1 t2 e1 e2 = rw (e2, e1) (simp append_assoc)
 
+-- an entry that takes one back, with what was done
+taken_back : (number session of : ℕ) (ks : List Key) (what t0 t1 t2 : List ℕ) → t1 ≡ t0 ++ taking_back_front number session of ks
+    → t2 ≡ t1 ++ (codes ",\"what\":" ++ (compact_text (string what) ++ codes "}"))
+    → t2 ≡ t0 ++ compact_text (taking_back_data number session of ks what)
+unfolding escape_byte numbered
+taken_back number session of ks what t0 t1 t2 e1 e2 =
+    ending_of (decimal number) (keys_piece ks) (decimal of) (decimal session)
+    (codes ",\"what\":" ++ (compact_text (string what) ++ codes "}")) t0 t1 t2 e1 e2
+    ∙ ap (λ l. t0 ++ l) (numbered_text number ks
+    (member (codes "of") (whole_data of) (member (codes "session") (whole_data session) (member (codes "what") (string what) no_members))))
+
 pub undone_pieces : (number session of : ℕ) (ks : List Key) (t0 t1 t2 : List ℕ) → t1 ≡ t0 ++ taking_back_front number session of ks
     → t2 ≡ t1 ++ codes ",\"what\":\"undone\"}" → t2 ≡ t0 ++ compact_text (taking_back_data number session of ks (codes "undone"))
-unfolding escape_byte numbered
-undone_pieces number session of ks t0 t1 t2 e1 e2 =
-    ending_of (decimal number) (keys_piece ks) (decimal of) (decimal session) (codes ",\"what\":\"undone\"}") t0 t1 t2 e1 e2
-    ∙ ap (λ l. t0 ++ l) (numbered_text number ks
-    (member (codes "of") (whole_data of)
-    (member (codes "session") (whole_data session) (member (codes "what") (string (codes "undone")) no_members))))
+unfolding escape_byte
+undone_pieces number session of ks = taken_back number session of ks (codes "undone")
 
 pub redone_pieces : (number session of : ℕ) (ks : List Key) (t0 t1 t2 : List ℕ) → t1 ≡ t0 ++ taking_back_front number session of ks
     → t2 ≡ t1 ++ codes ",\"what\":\"redone\"}" → t2 ≡ t0 ++ compact_text (taking_back_data number session of ks (codes "redone"))
-unfolding escape_byte numbered
-redone_pieces number session of ks t0 t1 t2 e1 e2 =
-    ending_of (decimal number) (keys_piece ks) (decimal of) (decimal session) (codes ",\"what\":\"redone\"}") t0 t1 t2 e1 e2
-    ∙ ap (λ l. t0 ++ l) (numbered_text number ks
-    (member (codes "of") (whole_data of)
-    (member (codes "session") (whole_data session) (member (codes "what") (string (codes "redone")) no_members))))
-
-acted_of : (act number key now session t0 t1 t2 t3 t4 t5 t6 : List ℕ)
-    → t1 ≡ t0 ++ (codes "{\"act\":" ++ act)
-    → t2 ≡ t1 ++ (codes ",\"entry\":" ++ number)
-    → t3 ≡ t2 ++ (codes ",\"key\":" ++ key)
-    → t4 ≡ t3 ++ (codes ",\"now\":" ++ now)
-    → t5 ≡ t4 ++ (codes ",\"session\":" ++ session)
-    → t6 ≡ t5 ++ codes ",\"what\":\"acted\"}"
-    → t6 ≡ t0 ++ (codes "{\"act\":"
-    ++ (act ++ (codes ",\"entry\":"
-    ++ (number ++ (codes ",\"key\":"
-    ++ (key ++ (codes ",\"now\":" ++ (now ++ (codes ",\"session\":" ++ (session ++ codes ",\"what\":\"acted\"}"))))))))))
-acted_of act number key now session t0 t1 t2 t3 t4 t5 t6 e1 e2 e3 e4 e5 e6 = rw (e6, e5, e4, e3, e2, e1) (simp append_assoc)
+unfolding escape_byte
+redone_pieces number session of ks = taken_back number session of ks (codes "redone")
 
 pub acted_pieces : (number session : ℕ) (act : Act) (k : Key) (now : ℕ) (t0 t1 t2 t3 t4 t5 t6 : List ℕ)
     → t1 ≡ t0 ++ (codes "{\"act\":" ++ compact_text (string (act_name act)))
@@ -178,17 +169,10 @@ pub acted_pieces : (number session : ℕ) (act : Act) (k : Key) (now : ℕ) (t0 
     → t6 ≡ t0 ++ compact_text (acted_data number session act k now)
 unfolding escape_byte
 acted_pieces number session act k now t0 t1 t2 t3 t4 t5 t6 e1 e2 e3 e4 e5 e6 =
-    acted_of (compact_text (string (act_name act))) (decimal number) (compact_text (key_data k)) (decimal now) (decimal session) t0 t1 t2 t3
-    t4 t5 t6 e1 e2 e3 e4 e5 e6
-
-settled_of : (number session upto t0 t1 t2 t3 t4 : List ℕ)
-    → t1 ≡ t0 ++ (codes "{\"entry\":" ++ number)
-    → t2 ≡ t1 ++ (codes ",\"session\":" ++ session)
-    → t3 ≡ t2 ++ (codes ",\"settled\":" ++ upto)
-    → t4 ≡ t3 ++ codes ",\"what\":\"settled\"}"
-    → t4 ≡ t0 ++ (codes "{\"entry\":"
-    ++ (number ++ (codes ",\"session\":" ++ (session ++ (codes ",\"settled\":" ++ (upto ++ codes ",\"what\":\"settled\"}"))))))
-settled_of number session upto t0 t1 t2 t3 t4 e1 e2 e3 e4 = rw (e4, e3, e2, e1) (simp append_assoc)
+    grown ((codes "{\"act\":" ++ compact_text (string (act_name act))) ∷ (codes ",\"entry\":" ++ decimal number)
+    ∷ (codes ",\"key\":" ++ compact_text (key_data k)) ∷ (codes ",\"now\":" ++ decimal now)
+    ∷ (codes ",\"session\":" ++ decimal session) ∷ [])
+    t0 t5 t6 (codes ",\"what\":\"acted\"}") (t1, e1, (t2, e2, (t3, e3, (t4, e4, (t5, e5, refl))))) e6
 
 pub settled_pieces : (number session upto : ℕ) (t0 t1 t2 t3 t4 : List ℕ)
     → t1 ≡ t0 ++ (codes "{\"entry\":" ++ decimal number)
@@ -198,7 +182,9 @@ pub settled_pieces : (number session upto : ℕ) (t0 t1 t2 t3 t4 : List ℕ)
     → t4 ≡ t0 ++ compact_text (settled_data number session upto)
 unfolding escape_byte
 settled_pieces number session upto t0 t1 t2 t3 t4 e1 e2 e3 e4 =
-    settled_of (decimal number) (decimal session) (decimal upto) t0 t1 t2 t3 t4 e1 e2 e3 e4
+    grown ((codes "{\"entry\":" ++ decimal number) ∷ (codes ",\"session\":" ++ decimal session)
+    ∷ (codes ",\"settled\":" ++ decimal upto) ∷ [])
+    t0 t3 t4 (codes ",\"what\":\"settled\"}") (t1, e1, (t2, e2, (t3, e3, refl))) e4
 
 given_of : (name session standing t0 t1 t2 t3 t4 t5 : List ℕ)
     → t1 ≡ t0 ++ codes "{\"name\":"

@@ -1,5 +1,5 @@
 -- A text is accepted as a setup exactly where it is a document of it.
-use Rattle.std.proofs.Common.{◌≡◌, ℕ, zero, suc, ◌<◌, ◌≤◌, ◌||◌, List, [], ◌∷◌, ◌++◌, length, map, slice_index_or, Bool, true, false, nat_le, if◌then◌else◌, Option, Some, None, option_map, Ok, Err, IfSome, bytes_eq, refl, sym, ap, ap₂, subst, ◌∙◌, arith, leb-true, append_assoc}
+use Rattle.std.proofs.Common.{◌≡◌, ℕ, zero, suc, ◌<◌, ◌≤◌, ◌||◌, List, [], ◌∷◌, ◌++◌, length, map, slice_index_or, Bool, true, false, nat_le, cond, if◌then◌else◌, Option, Some, None, option_map, Ok, Err, IfSome, bytes_eq, refl, sym, ap, ap₂, subst, ◌∙◌, arith, leb-true, append_assoc}
 use Rattle.std.specs.Prelude.{Contains, IsSome, IsSomeAnd}
 use Rattle.std.specs.Str.{is_utf8}
 use Rattle.std.proofs.lemmas.Bool.{le-leb}
@@ -24,7 +24,7 @@ use Rattle.tsn_setup.specs.declared.drafts.LimitsDraft.{LimitsDraft}
 use Rattle.tsn_setup.specs.declared.drafts.TableDraft.{TableDraft}
 use Rattle.tsn_setup.proofs.Keyed.{keyed_draft, records_back}
 use Rattle.tsn_setup.proofs.LimitsGiven.{LimitsThere, limits_there, limits_read}
-use Rattle.tsn_setup.proofs.OfKind.{InRange, AllOf, KindThere, kind_there, kind_read, all_joined, all_of, others, of_joined, of_kind_in_range, of_kind_of, nothing_more, each_split, drafts_joined}
+use Rattle.tsn_setup.proofs.OfKind.{InRange, AllOf, KindThere, kind_there, kind_read, all_joined, same_kind, picked, of_joined, of_kind_in_range, of_kind_of, nothing_more, each_split, drafts_joined}
 use Rattle.tsn_setup.proofs.Ordered.{IsOrdered, text_ordered}
 use Rattle.tsn_records.proofs.Steps.{steps, only, syntax_there, not_refused}
 use Rattle.tsn_setup.proofs.Rows.{is_among, same_text, same_bytes, members_have, all_among}
@@ -48,41 +48,16 @@ in_four : (q : Kind) (p f g m : List (Key × Record))
 in_four q p f g m =
     of_joined q p (f ++ (g ++ m)) ∙ ap (λ l. of_kind q p ++ l) (of_joined q f (g ++ m) ∙ ap (λ l. of_kind q f ++ l) (of_joined q g m))
 
-ports_of_four : (p f g m : List (Key × Record)) → FourKinds p f g m → of_kind kinds.Port (p ++ (f ++ (g ++ m))) ≡ p
-ports_of_four p f g m h = in_four kinds.Port p f g m
+of_four : (q : Kind) (p f g m : List (Key × Record)) → FourKinds p f g m → of_kind q (p ++ (f ++ (g ++ m)))
+    ≡ cond (same_kind q kinds.Port) p []
+    ++ (cond (same_kind q kinds.Filter) f [] ++ (cond (same_kind q kinds.Gate) g [] ++ cond (same_kind q kinds.Meter) m []))
+of_four q p f g m h = in_four q p f g m
     ∙ rw (
-      all_of kinds.Port p h.ports_are,
-      others kinds.Port kinds.Filter f refl h.filters_are,
-      others kinds.Port kinds.Gate g refl h.gates_are,
-      others kinds.Port kinds.Meter m refl h.meters_are,
-    ) (nothing_more p)
-
-filters_of_four : (p f g m : List (Key × Record)) → FourKinds p f g m → of_kind kinds.Filter (p ++ (f ++ (g ++ m))) ≡ f
-filters_of_four p f g m h = in_four kinds.Filter p f g m
-    ∙ rw (
-      others kinds.Filter kinds.Port p refl h.ports_are,
-      all_of kinds.Filter f h.filters_are,
-      others kinds.Filter kinds.Gate g refl h.gates_are,
-      others kinds.Filter kinds.Meter m refl h.meters_are,
-    ) (nothing_more f)
-
-gates_of_four : (p f g m : List (Key × Record)) → FourKinds p f g m → of_kind kinds.Gate (p ++ (f ++ (g ++ m))) ≡ g
-gates_of_four p f g m h = in_four kinds.Gate p f g m
-    ∙ rw (
-      others kinds.Gate kinds.Port p refl h.ports_are,
-      others kinds.Gate kinds.Filter f refl h.filters_are,
-      all_of kinds.Gate g h.gates_are,
-      others kinds.Gate kinds.Meter m refl h.meters_are,
-    ) (nothing_more g)
-
-meters_of_four : (p f g m : List (Key × Record)) → FourKinds p f g m → of_kind kinds.Meter (p ++ (f ++ (g ++ m))) ≡ m
-meters_of_four p f g m h = in_four kinds.Meter p f g m
-    ∙ rw (
-      others kinds.Meter kinds.Port p refl h.ports_are,
-      others kinds.Meter kinds.Filter f refl h.filters_are,
-      others kinds.Meter kinds.Gate g refl h.gates_are,
-      all_of kinds.Meter m h.meters_are,
-    )
+      picked q kinds.Port p h.ports_are,
+      picked q kinds.Filter f h.filters_are,
+      picked q kinds.Gate g h.gates_are,
+      picked q kinds.Meter m h.meters_are,
+    ) refl
 
 abbrev HasKind : Data → List (Key × Record) → Kind → Type 0
 HasKind d es q = given_or (array no_items) (kind_text q) d ≡ tables_of keyed_rows (of_kind q es)
@@ -108,10 +83,10 @@ four_there d p f g m ports filters gates meters =
     let whole : List (Key × Record) = p ++ (f ++ (g ++ m)) in
     let four : FourKinds p f g m = record
     { ports_are = ports.kinds_are; filters_are = filters.kinds_are; gates_are = gates.kinds_are; meters_are = meters.kinds_are } in
-    let a : of_kind kinds.Port whole ≡ p = ports_of_four p f g m four in
-    let b : of_kind kinds.Filter whole ≡ f = filters_of_four p f g m four in
-    let c : of_kind kinds.Gate whole ≡ g = gates_of_four p f g m four in
-    let e : of_kind kinds.Meter whole ≡ m = meters_of_four p f g m four in
+    let a : of_kind kinds.Port whole ≡ p = of_four kinds.Port p f g m four ∙ nothing_more p in
+    let b : of_kind kinds.Filter whole ≡ f = of_four kinds.Filter p f g m four ∙ nothing_more f in
+    let c : of_kind kinds.Gate whole ≡ g = of_four kinds.Gate p f g m four ∙ nothing_more g in
+    let e : of_kind kinds.Meter whole ≡ m = of_four kinds.Meter p f g m four in
     record {
       kinds_are = λ q. by_kind (HasKind d whole) (has_kind d whole p kinds.Port ports a) (has_kind d whole f kinds.Filter filters b)
           (has_kind d whole g kinds.Gate gates c) (has_kind d whole m kinds.Meter meters e) q;

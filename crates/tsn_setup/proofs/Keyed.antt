@@ -1,5 +1,5 @@
 -- A table is read as a key of its kind and a record exactly where it is the table of these and they are in range.
-use Rattle.std.proofs.Common.{◌≡◌, ℕ, List, [], ◌∷◌, map, Result, Ok, Err, codes, refl, ap, ap₂, subst, ◌∙◌}
+use Rattle.std.proofs.Common.{◌≡◌, ℕ, ◌≤◌, List, [], ◌∷◌, map, Result, Ok, Err, codes, refl, sym, ap, ap₂, subst, ◌∙◌}
 use Rattle.std.specs.List.{AllByRecursion}
 use Rattle.toml.specs.Data.{Data, array, Items, no_items, item}
 use Rattle.toml.specs.View.{items_of}
@@ -14,20 +14,22 @@ use Rattle.tsn_types.specs.declared.records.Record.{Record}
 use Rattle.tsn_types.specs.declared.records.Record.TheVariants as records
 use Rattle.tsn_types.specs.declared.refusals.Field.TheVariants as fields
 use Rattle.tsn_records.specs.Answers.{◌>>=◌, each}
-use Rattle.tsn_records.specs.Ranges.{within, key_of_kind, record_of, port, filter, gate, meter}
+use Rattle.tsn_records.specs.Ranges.{within, key_of_kind, record_of}
 use Rattle.tsn_records.specs.declared.drafts.RecordDraft.{RecordDraft}
-use Rattle.tsn_records.specs.declared.drafts.RecordDraft.TheVariants as drafts
 use Rattle.tsn_records.specs.declared.unread.Unread.{Unread}
-use Rattle.tsn_setup.specs.Ranges.{kind_of_draft, or_id, key, keyed_record}
-use Rattle.tsn_records.specs.Records.{port_shape, filter_shape, gate_shape, meter_shape, record_shape}
+use Rattle.tsn_setup.specs.Ranges.{or_id, key, keyed_record}
+use Rattle.tsn_records.specs.Records.{record_shape}
+use Rattle.tsn_records.specs.Values.{kind_of_draft}
 use Rattle.tsn_setup.specs.Tables.{table_shape}
 use Rattle.tsn_setup.specs.Toml.{items_list, number_at, as_toml}
-use Rattle.tsn_setup.specs.Values.{table_with, tables_of, port_rows, filter_rows, gate_rows, meter_rows, keyed_rows}
+use Rattle.tsn_setup.specs.Values.{table_with, tables_of, port_rows, filter_rows, gate_rows, meter_rows, record_rows, keyed_rows}
 use Rattle.tsn_setup.specs.declared.drafts.TableDraft.{TableDraft}
 use Rattle.tsn_setup.proofs.Ordered.{IsOrdered, EachOrdered}
-use Rattle.tsn_records.proofs.RecordRanges.{passed, at_most, within_ok, at_most_ok, port_draft, filter_draft, gate_draft, meter_draft, port_passed, filter_passed, gate_passed, meter_passed, port_back, filter_back, gate_back, meter_back}
-use Rattle.tsn_records.proofs.Steps.{steps, only}
-use Rattle.tsn_setup.proofs.Shapes.{number_got, port_is, filter_is, gate_is, meter_is, port_shaped, filter_shaped, gate_shaped, meter_shaped}
+use Rattle.tsn_records.proofs.RecordsRead.{InRangeOf, record_draft, record_read}
+use Rattle.tsn_records.proofs.RecordRanges.{passed, at_most, within_ok, at_most_ok, port_back, filter_back, gate_back, meter_back}
+use Rattle.tsn_records.proofs.Steps.{last_step, only, steps}
+use Rattle.tsn_records.proofs.Shapes.{record_has}
+use Rattle.tsn_setup.proofs.Shapes.{number_got, table_is, table_shaped}
 
 -- ---- a table that is read
 
@@ -41,76 +43,43 @@ not_id : (x : Result Key Unread) (k : Key) → or_id x ≡ Ok k → x ≡ Ok k
 not_id (Ok l) k h = cc
 not_id (Err e) k h = cc
 
-one_pair : {A B : Type 0} (a c : A) (b d : B) → a ≡ c → b ≡ d → ◌≡◌ {A = A × B} (a, b) (c, d)
-one_pair {A} {B} a c b d p q = ap₂ (λ (x : A) (y : B). let both : A × B = (x, y) in both) p q
+-- a key of this kind and identifier, which is in range beside this record
+abbrev IsKeyOf : Kind → ℕ → Record → Key → Type 0
+IsKeyOf q id r k = (id ≡ number_of k) × KeyedInRange k r × (kind k ≡ q)
 
-record_read : (q : Kind) (d : Data) (id : ℕ) (value : RecordDraft) (k : Key) (r : Record) → IsOrdered d → number_at (codes "id") d ≡ Ok id
-    → record_shape as_toml q d ≡ Ok value
-    → or_id (key_of_kind (kind_of_draft value) id) ≡ Ok k → record_of value ≡ Ok r → IsRead q d (k, r)
-record_read kinds.Port d id value k r ordered id_is shape key_is range =
-    steps (port_shape as_toml d) _ value shape (λ x x_is x_next.
-    let same = only (Ok (drafts.Port x)) (drafts.Port x) value refl x_next in
-    steps (port x) _ r (ap record_of same ∙ range) (λ found found_is found_next.
-    steps (within fields.Key 1 most_ports id) _ k (not_id _ k (ap (λ v. or_id (key_of_kind (kind_of_draft v) id)) same ∙ key_is))
-    (λ number number_is number_next.
-    let fits = port_passed x found found_is in
-    let id_fits = passed fields.Key 1 most_ports id number number_is in
-    let read : IsRead kinds.Port d (keys.Port number, records.Port found) = record {
-      value = port_is d id found ordered id_is (x_is ∙ ap (λ y. Ok y) fits.0) ∙ ap (λ n. table_with (port_rows n found)) id_fits.0;
-      range = (id_fits.1, fits.1);
-      kind_is = refl;
-    } in
-    subst (IsRead kinds.Port d) (one_pair (keys.Port number) k (records.Port found) r
-    (only (Ok (keys.Port number)) (keys.Port number) k refl number_next)
-    (only (Ok (records.Port found)) (records.Port found) r refl found_next)) read)))
-record_read kinds.Filter d id value k r ordered id_is shape key_is range =
-    steps (filter_shape as_toml d) _ value shape (λ x x_is x_next.
-    let same = only (Ok (drafts.Filter x)) (drafts.Filter x) value refl x_next in
-    steps (filter x) _ r (ap record_of same ∙ range) (λ found found_is found_next.
-    steps (within fields.Key 0 greatest_instance id) _ k (not_id _ k (ap (λ v. or_id (key_of_kind (kind_of_draft v) id)) same ∙ key_is))
-    (λ number number_is number_next.
-    let fits = filter_passed x found found_is in
-    let id_fits = at_most fields.Key greatest_instance id number number_is in
-    let read : IsRead kinds.Filter d (keys.Filter number, records.Filter found) = record {
-      value = filter_is d id found ordered id_is (x_is ∙ ap (λ y. Ok y) fits.0) ∙ ap (λ n. table_with (filter_rows n found)) id_fits.0;
-      range = (id_fits.1, fits.1);
-      kind_is = refl;
-    } in
-    subst (IsRead kinds.Filter d) (one_pair (keys.Filter number) k (records.Filter found) r
-    (only (Ok (keys.Filter number)) (keys.Filter number) k refl number_next)
-    (only (Ok (records.Filter found)) (records.Filter found) r refl found_next)) read)))
-record_read kinds.Gate d id value k r ordered id_is shape key_is range =
-    steps (gate_shape as_toml d) _ value shape (λ x x_is x_next.
-    let same = only (Ok (drafts.Gate x)) (drafts.Gate x) value refl x_next in
-    steps (gate x) _ r (ap record_of same ∙ range) (λ found found_is found_next.
-    steps (within fields.Key 0 greatest_instance id) _ k (not_id _ k (ap (λ v. or_id (key_of_kind (kind_of_draft v) id)) same ∙ key_is))
-    (λ number number_is number_next.
-    let fits = gate_passed x found found_is in
-    let id_fits = at_most fields.Key greatest_instance id number number_is in
-    let read : IsRead kinds.Gate d (keys.Gate number, records.Gate found) = record {
-      value = gate_is d id found ordered id_is (x_is ∙ ap (λ y. Ok y) fits.0) ∙ ap (λ n. table_with (gate_rows n found)) id_fits.0;
-      range = (id_fits.1, fits.1);
-      kind_is = refl;
-    } in
-    subst (IsRead kinds.Gate d) (one_pair (keys.Gate number) k (records.Gate found) r
-    (only (Ok (keys.Gate number)) (keys.Gate number) k refl number_next)
-    (only (Ok (records.Gate found)) (records.Gate found) r refl found_next)) read)))
-record_read kinds.Meter d id value k r ordered id_is shape key_is range =
-    steps (meter_shape as_toml d) _ value shape (λ x x_is x_next.
-    let same = only (Ok (drafts.Meter x)) (drafts.Meter x) value refl x_next in
-    steps (meter x) _ r (ap record_of same ∙ range) (λ found found_is found_next.
-    steps (within fields.Key 0 greatest_instance id) _ k (not_id _ k (ap (λ v. or_id (key_of_kind (kind_of_draft v) id)) same ∙ key_is))
-    (λ number number_is number_next.
-    let fits = meter_passed x found found_is in
-    let id_fits = at_most fields.Key greatest_instance id number number_is in
-    let read : IsRead kinds.Meter d (keys.Meter number, records.Meter found) = record {
-      value = meter_is d id found ordered id_is (x_is ∙ ap (λ y. Ok y) fits.0) ∙ ap (λ n. table_with (meter_rows n found)) id_fits.0;
-      range = (id_fits.1, fits.1);
-      kind_is = refl;
-    } in
-    subst (IsRead kinds.Meter d) (one_pair (keys.Meter number) k (records.Meter found) r
-    (only (Ok (keys.Meter number)) (keys.Meter number) k refl number_next)
-    (only (Ok (records.Meter found)) (records.Meter found) r refl found_next)) read)))
+instance_read : (id : ℕ) (k : Key) (P : Key → Type 0) (of : ℕ → Key)
+    → (within fields.Key 0 greatest_instance id >>= λ n. Ok (of n)) ≡ Ok k → ((n : ℕ) → id ≡ n → n ≤ greatest_instance → P (of n)) → P k
+instance_read id k P of h holds =
+    last_step (within fields.Key 0 greatest_instance id) k P of h (λ n is.
+    let fits = at_most fields.Key greatest_instance id n is in holds n fits.0 fits.1)
+
+key_read : (q : Kind) (id : ℕ) (k : Key) (r : Record) → InRangeOf q r → key_of_kind q id ≡ Ok k → IsKeyOf q id r k
+key_read kinds.Port id k (records.Port r) held h =
+    last_step (within fields.Key 1 most_ports id) k (IsKeyOf kinds.Port id (records.Port r)) keys.Port h (λ n is.
+    let fits = passed fields.Key 1 most_ports id n is in (fits.0, (fits.1, held), refl))
+key_read kinds.Filter id k (records.Filter r) held h =
+    instance_read id k (IsKeyOf kinds.Filter id (records.Filter r)) keys.Filter h (λ n same fits. (same, (fits, held), refl))
+key_read kinds.Gate id k (records.Gate r) held h =
+    instance_read id k (IsKeyOf kinds.Gate id (records.Gate r)) keys.Gate h (λ n same fits. (same, (fits, held), refl))
+key_read kinds.Meter id k (records.Meter r) held h =
+    instance_read id k (IsKeyOf kinds.Meter id (records.Meter r)) keys.Meter h (λ n same fits. (same, (fits, held), refl))
+key_read q id k r held h = absurd held
+
+entry_read : (q : Kind) (d : Data) (id : ℕ) (value : RecordDraft) (k : Key) (r : Record) → IsOrdered d → number_at (codes "id") d ≡ Ok id
+    → record_shape as_toml q d ≡ Ok value → or_id (key_of_kind (kind_of_draft value) id) ≡ Ok k → record_of value ≡ Ok r → IsRead q d (k, r)
+entry_read q d id value k r ordered id_is shape key_is range =
+    let read = record_read as_toml q d value r shape range in
+    let drafted : q ≡ kind_of_draft value = sym (record_has as_toml q d value shape).of in
+    let named : key_of_kind q id ≡ Ok k = not_id _ k (ap (λ x. or_id (key_of_kind x id)) drafted ∙ key_is) in
+    let of = (record_has as_toml q d (record_draft r) read.0).of in
+    let fits = key_read q id k r read.1 named in
+    record {
+      value =
+          table_is d id r ordered id_is (subst (λ p. record_shape as_toml p d ≡ Ok (record_draft r)) (sym of) read.0)
+          ∙ ap (λ n. table_with (record_rows n r)) fits.0;
+      range = fits.1;
+      kind_is = fits.2;
+    }
 
 table_parts : (q : Kind) (d : Data) (t : TableDraft) → table_shape q d ≡ Ok t
     → (number_at (codes "id") d ≡ Ok t.id) × (record_shape as_toml q d ≡ Ok t.value)
@@ -134,7 +103,7 @@ table_read : (q : Kind) (d : Data) (t : TableDraft) (e : Key × Record) → IsOr
 table_read q d t e ordered shape range =
     let parts = table_parts q d t shape in
     let keyed = keyed_parts t e range in
-    record_read q d t.id t.value e.0 e.1 ordered parts.0 parts.1 keyed.0 keyed.1
+    entry_read q d t.id t.value e.0 e.1 ordered parts.0 parts.1 keyed.0 keyed.1
 
 -- the tables of these records, each in range and of the kind
 pub record AreRead (q : Kind) (ds : Items) (es : List (Key × Record)) : Type 0 where
@@ -166,12 +135,6 @@ tables_read q (item d ds) ts es ordered shapes ranges =
 
 -- ---- the table of a key and a record
 
-abbrev record_draft : Record → RecordDraft
-record_draft (records.Port r) = drafts.Port (port_draft r)
-record_draft (records.Filter r) = drafts.Filter (filter_draft r)
-record_draft (records.Gate r) = drafts.Gate (gate_draft r)
-record_draft (records.Meter r) = drafts.Meter (meter_draft r)
-
 abbrev pub keyed_draft : Key × Record → TableDraft
 keyed_draft e = record { id = number_of e.0; value = record_draft e.1 }
 
@@ -180,21 +143,24 @@ id_read : (q : Kind) (d : Data) (id : ℕ) (value : RecordDraft) → number_at (
 unfolding table_shape
 id_read q d id value id_is value_is = rw (id_is, value_is)
 
-shape_ok : {A B : Type 0} (x : Result A Unread) (a : A) (f : A → B) → x ≡ Ok a → (x >>= λ y. Ok (f y)) ≡ Ok (f a)
-shape_ok x a f h = rw h
+kind_drafted : (k : Key) (r : Record) → KeyedInRange k r → kind_of_draft (record_draft r) ≡ kind k
+kind_drafted (keys.Port n) (records.Port r) fits = refl
+kind_drafted (keys.Filter n) (records.Filter r) fits = refl
+kind_drafted (keys.Gate n) (records.Gate r) fits = refl
+kind_drafted (keys.Meter n) (records.Meter r) fits = refl
+kind_drafted k r fits = absurd fits
 
-table_shaped : (k : Key) (r : Record) → KeyedInRange k r → table_shape (kind k) (table_with (keyed_rows (k, r))) ≡ Ok (keyed_draft (k, r))
-table_shaped (keys.Port n) (records.Port r) fits =
-    id_read kinds.Port _ n _ (number_got (codes "id") (port_rows n r) n refl refl) (shape_ok _ (port_draft r) drafts.Port (port_shaped n r))
-table_shaped (keys.Filter n) (records.Filter r) fits =
-    id_read kinds.Filter _ n _ (number_got (codes "id") (filter_rows n r) n refl refl)
-    (shape_ok _ (filter_draft r) drafts.Filter (filter_shaped n r))
-table_shaped (keys.Gate n) (records.Gate r) fits =
-    id_read kinds.Gate _ n _ (number_got (codes "id") (gate_rows n r) n refl refl) (shape_ok _ (gate_draft r) drafts.Gate (gate_shaped n r))
-table_shaped (keys.Meter n) (records.Meter r) fits =
-    id_read kinds.Meter _ n _ (number_got (codes "id") (meter_rows n r) n refl refl)
-    (shape_ok _ (meter_draft r) drafts.Meter (meter_shaped n r))
-table_shaped k r fits = absurd fits
+id_got : (id : ℕ) (r : Record) → number_at (codes "id") (table_with (record_rows id r)) ≡ Ok id
+id_got id (records.Port r) = number_got (codes "id") (port_rows id r) id refl refl
+id_got id (records.Filter r) = number_got (codes "id") (filter_rows id r) id refl refl
+id_got id (records.Gate r) = number_got (codes "id") (gate_rows id r) id refl refl
+id_got id (records.Meter r) = number_got (codes "id") (meter_rows id r) id refl refl
+
+table_drafted : (k : Key) (r : Record) → KeyedInRange k r → table_shape (kind k) (table_with (keyed_rows (k, r))) ≡ Ok (keyed_draft (k, r))
+table_drafted k r fits =
+    id_read (kind k) _ (number_of k) (record_draft r) (id_got (number_of k) r)
+    (subst (λ p. record_shape as_toml p (table_with (record_rows (number_of k) r)) ≡ Ok (record_draft r)) (kind_drafted k r fits)
+    (table_shaped (number_of k) r))
 
 keyed_back : (k : Key) (r : Record) → KeyedInRange k r → keyed_record (keyed_draft (k, r)) ≡ Ok (k, r)
 unfolding keyed_record
@@ -210,7 +176,7 @@ pub tables_shaped : (q : Kind) (es : List (Key × Record)) → AllByRecursion (�
 tables_shaped q [] fits are = refl
 tables_shaped q (e ∷ es) fits are =
     let here : table_shape q (table_with (keyed_rows e)) ≡ Ok (keyed_draft e) = subst
-    (λ p. table_shape p (table_with (keyed_rows e)) ≡ Ok (keyed_draft e)) are.0 (table_shaped e.0 e.1 fits.0) in
+    (λ p. table_shape p (table_with (keyed_rows e)) ≡ Ok (keyed_draft e)) are.0 (table_drafted e.0 e.1 fits.0) in
     rw (here, tables_shaped q es fits.1 are.1)
 
 pub records_back : (es : List (Key × Record)) → AllByRecursion (λ e. KeyedInRange e.0 e.1) es

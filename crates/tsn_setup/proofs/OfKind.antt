@@ -69,7 +69,7 @@ all_from P Q [] more h = tt
 all_from P Q (x ∷ xs) more h = (more x h.0, all_from P Q xs more h.1)
 
 -- the kind of a key tells which kinds it is not of
-abbrev same_kind : Kind → Kind → Bool
+abbrev pub same_kind : Kind → Kind → Bool
 same_kind kinds.Port kinds.Port = true
 same_kind kinds.Filter kinds.Filter = true
 same_kind kinds.Gate kinds.Gate = true
@@ -83,9 +83,17 @@ is_of_kind kinds.Gate (keys.Gate n) = refl
 is_of_kind kinds.Meter (keys.Meter n) = refl
 is_of_kind q k = refl
 
-pub others : (q p : Kind) (es : List (Key × Record)) → same_kind q p ≡ false → AllOf p es → of_kind q es ≡ []
+others : (q p : Kind) (es : List (Key × Record)) → same_kind q p ≡ false → AllOf p es → of_kind q es ≡ []
 others q p es apart h =
     none_of q es (all_from (λ e. kind e.0 ≡ p) (λ e. is_of q e.0 ≡ false) es (λ e is. is_of_kind q e.0 ∙ ap (same_kind q) is ∙ apart) h)
+
+-- of a list of one kind, that kind has all and any other none
+pub picked : (q p : Kind) (es : List (Key × Record)) → AllOf p es → of_kind q es ≡ cond (same_kind q p) es []
+picked kinds.Port kinds.Port es h = all_of kinds.Port es h
+picked kinds.Filter kinds.Filter es h = all_of kinds.Filter es h
+picked kinds.Gate kinds.Gate es h = all_of kinds.Gate es h
+picked kinds.Meter kinds.Meter es h = all_of kinds.Meter es h
+picked q p es h = others q p es refl h
 
 joined_at : (b : Bool) (e : Key × Record) (xs ys : List (Key × Record)) → cond b (e ∷ (xs ++ ys)) (xs ++ ys) ≡ cond b (e ∷ xs) xs ++ ys
 joined_at true e xs ys = refl

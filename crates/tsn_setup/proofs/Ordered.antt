@@ -10,7 +10,7 @@ use Rattle.toml_parser.specs.Strings.{Key, quoted, starts_string, recursion_limi
 use Rattle.toml_parser.specs.Numbers.{unquoted}
 use Rattle.toml_parser.specs.declared.scalar.Scalar.{Scalar}
 use Rattle.toml_parser.specs.declared.scalar.Scalar.TheVariants.{Boolean, Integer, Float, Datetime}
-use Rattle.toml.specs.Data.{Data, string, integer, float, boolean, datetime, array, table, Items, no_items, item, Members, no_members, member, same_key, push_item}
+use Rattle.toml.specs.Data.{Data, array, table, Items, no_items, item, Members, no_members, member, same_key, push_item}
 use Rattle.toml.specs.Parse.{after_byte, after_element, key_equals, keyval, items, members, scalar_data, atom, val, header_key, expression, ends_line, line, lines, skip_bom, parse_document}
 use Rattle.toml.specs.Tables.{implicit, dotted, header, Node, value, open_table, open_array, Nodes, no_nodes, node, get_node, insert, replace, close_node, close, Edit, header_node, dot_node, by_header, by_dot, along_header, along_dots, Definition, key_value, std_table, array_table, Expression, new_node, redefine, at_found, at_key, put, Document, define_as, define}
 use Rattle.tsn_setup.specs.Setups.{document_of}
@@ -26,13 +26,9 @@ Above k (member l e ms) = (order k l ≡ Less) × Above k ms
 -- each name is below those after it, also in the tables inside
 abbrev mutual
   pub IsOrdered : Data → Type 0
-  IsOrdered (string s) = ⊤
-  IsOrdered (integer z) = ⊤
-  IsOrdered (float x) = ⊤
-  IsOrdered (boolean b) = ⊤
-  IsOrdered (datetime t) = ⊤
   IsOrdered (array ds) = EachOrdered ds
   IsOrdered (table ms) = AreOrdered ms
+  IsOrdered d = ⊤
 
   pub EachOrdered : Items → Type 0
   EachOrdered no_items = ⊤

@@ -7,16 +7,11 @@ use Rattle.std.proofs.lemmas.Bool.{and_parts}
 use Rattle.std.proofs.lemmas.Cmp.{nat_list_cmp_total}
 use Rattle.std.proofs.lemmas.Map.Text.{is_eq-slice_cmp}
 use Rattle.std.proofs.lemmas.Slice.Eq.{bytes_eq-Decides}
-use Rattle.toml.specs.Data.{Data, string, integer, float, boolean, datetime, array, table, Members, no_members, member, get, get_member}
+use Rattle.toml.specs.Data.{Data, table, Members, no_members, member, get, get_member}
 use Rattle.tsn_records.specs.declared.unread.Unread.TheVariants.{Shape}
 use Rattle.tsn_setup.specs.Toml.{are_among, has_only}
 use Rattle.tsn_setup.specs.Values.{Rows, given, table_with}
 use Rattle.tsn_setup.proofs.Ordered.{order, Above, IsOrdered, AreOrdered, above_below, turned}
-
--- facts one behind another
-infixr 4 ◌&◌
-pub ◌&◌ : {A B : Type 0} → A → B → A × B
-a & b = (a, b)
 
 abbrev Row : Type 0
 Row = List ℕ × Option Data
@@ -205,13 +200,8 @@ known_at false names ms k is h there = let none : IsSome {T = Data} None = subst
 
 pub members_have : (names : List (List ℕ)) (d : Data) (u : Unit {0}) → has_only names d ≡ Ok u → (k : List ℕ) → IsSome (get k d)
     → is_among names k ≡ true
-members_have names (string s) u h k there = cc
-members_have names (integer z) u h k there = cc
-members_have names (float x) u h k there = cc
-members_have names (boolean b) u h k there = cc
-members_have names (datetime t) u h k there = cc
-members_have names (array ds) u h k there = cc
 members_have names (table ms) u h k there = known_at (is_among names k) names ms k refl (only_among (are_among names ms) u h) there
+members_have names d u h k there = cc
 
 later_at : (o : Ordering) (d : Data) (x : Option Data) → IsSome x → IsSome (match_ordering o x (Some d) x)
 later_at Less d x h = h
@@ -247,15 +237,10 @@ agree_at false names k ms rows is only among held = other_member names ms k only
 pub whole_table : (names : List (List ℕ)) (d : Data) (rows : Rows) (u : Unit {0}) → IsOrdered d → has_only names d ≡ Ok u
     → is_rising rows ≡ true → rows_among names rows ≡ true
     → AllByRecursion (λ name. get name d ≡ looked_up name rows) names → d ≡ table_with rows
-whole_table names (string s) rows u ordered only rise among held = cc
-whole_table names (integer z) rows u ordered only rise among held = cc
-whole_table names (float x) rows u ordered only rise among held = cc
-whole_table names (boolean b) rows u ordered only rise among held = cc
-whole_table names (datetime t) rows u ordered only rise among held = cc
-whole_table names (array ds) rows u ordered only rise among held = cc
 whole_table names (table ms) rows u ordered only rise among held =
     ap table (same_members ms (given rows) (ascending ms ordered) (members_ascend rows rise)
     (λ k. agree_at (is_among names k) names k ms rows refl (only_among (are_among names ms) u only) among held ∙ sym (got k rows rise)))
+whole_table names d rows u ordered only rise among held = cc
 
 members_among : (names : List (List ℕ)) (rows : Rows) → rows_among names rows ≡ true → are_among names (given rows) ≡ true
 members_among names [] h = refl

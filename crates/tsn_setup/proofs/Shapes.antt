@@ -1,64 +1,52 @@
 -- A table of an accepted shape is the table of its draft, and the table of a record has the shape of its draft.
-use Rattle.std.proofs.Common.{◌≡◌, ℕ, pos, negsuc, List, [], ◌∷◌, map, Bool, true, Option, Some, None, option_map, option_and_then, Result, Ok, IfSome, Ordering, Less, Equal, Greater, codes, refl, ap, ap₂, subst, ◌∙◌}
+use Rattle.std.proofs.Common.{◌≡◌, ℕ, pos, List, [], ◌∷◌, map, Bool, true, Option, Some, None, option_map, option_and_then, Result, Ok, IfSome, Ordering, Less, Equal, Greater, codes, refl, sym, ap, ap₂, subst, ◌∙◌}
 use Rattle.std.specs.Ordering.{match_ordering}
-use Rattle.toml.specs.Data.{Data, string, integer, float, boolean, datetime, array, table, Items, no_items, item, Members, no_members, member, get, get_member, as_bool, as_array}
+use Rattle.toml.specs.Data.{Data, integer, boolean, array, table, Items, no_items, item, Members, no_members, member, get, get_member, as_bool, as_array}
 use Rattle.toml.specs.View.{items_of}
+use Rattle.std.specs.Prelude.{⊤}
+use Rattle.tsn_types.specs.declared.keys.Kind.{Kind}
 use Rattle.tsn_types.specs.declared.keys.Kind.TheVariants as kinds
+use Rattle.tsn_types.specs.declared.records.Record.{Record}
+use Rattle.tsn_types.specs.declared.records.Record.TheVariants as records
 use Rattle.tsn_types.specs.declared.records.PortEntry.{PortEntry}
 use Rattle.tsn_types.specs.declared.records.GateEntry.{GateEntry}
-use Rattle.tsn_types.specs.declared.records.Schedule.{Schedule}
-use Rattle.tsn_types.specs.declared.records.PortGates.{PortGates}
-use Rattle.tsn_types.specs.declared.records.StreamGate.{StreamGate}
-use Rattle.tsn_types.specs.declared.records.StreamFilter.{StreamFilter}
-use Rattle.tsn_types.specs.declared.records.FlowMeter.{FlowMeter}
 use Rattle.tsn_records.specs.Answers.{each, or_shape}
-use Rattle.tsn_records.specs.Members.{names_of, entry_names_of}
-use Rattle.tsn_records.specs.Records.{port_entry_shape, gate_entry_shape, schedule_shape, port_shape, gate_shape, filter_shape, meter_shape}
+use Rattle.tsn_records.specs.Members.{names_of, entry_names_of, rows_of}
+use Rattle.tsn_records.specs.Records.{port_entry_shape, gate_entry_shape, list_shape, member_shape, record_shape}
+use Rattle.tsn_records.specs.Values.{AllFit, Fits, kind_of_draft, values_of}
+use Rattle.tsn_records.specs.declared.allowed.Allowed.{Allowed}
+use Rattle.tsn_records.specs.declared.allowed.Allowed.TheVariants as allowed
+use Rattle.tsn_records.specs.declared.drafts.GateEntryDraft.{GateEntryDraft}
+use Rattle.tsn_records.specs.declared.drafts.MemberDraft.{MemberDraft}
+use Rattle.tsn_records.specs.declared.drafts.MemberDraft.TheVariants as values
+use Rattle.tsn_records.specs.declared.drafts.MemberDraft.TheVariants.{Number, Maybe, Flag, PortList, GateList}
+use Rattle.tsn_records.specs.declared.drafts.PortEntryDraft.{PortEntryDraft}
 use Rattle.tsn_records.specs.declared.unread.Unread.{Unread}
-use Rattle.tsn_setup.specs.Toml.{whole, if_given, number_at, items_list, as_toml}
-use Rattle.tsn_setup.specs.Values.{number, number_or_none, flag, Rows, table_with, tables_of, port_entry_rows, gate_entry_rows, port_rows, filter_rows, gate_rows, meter_rows}
+use Rattle.tsn_setup.specs.Toml.{has_only, whole, if_given, number_at, items_list, as_toml}
+use Rattle.tsn_setup.specs.Values.{number, number_or_none, flag, Rows, table_with, tables_of, port_entry_rows, gate_entry_rows, port_rows, filter_rows, gate_rows, meter_rows, record_rows}
 use Rattle.tsn_setup.proofs.Ordered.{order, IsOrdered, EachOrdered, AreOrdered}
-use Rattle.tsn_records.proofs.RecordRanges.{port_entry_draft, gate_entry_draft, schedule_draft, port_draft, gate_draft, filter_draft, meter_draft}
-use Rattle.tsn_records.proofs.Shapes.{port_entry_has, gate_entry_has, schedule_has, port_has, gate_has, filter_has, meter_has, port_entry_of, gate_entry_of, schedule_of, port_of, gate_of, filter_of, meter_of}
-use Rattle.tsn_records.proofs.Steps.{mapped_there, steps, only}
-use Rattle.tsn_setup.proofs.Rows.{◌&◌, looked_up, is_rising, at_name, only_these, whole_table}
+use Rattle.tsn_records.proofs.RecordRanges.{port_entry_draft, gate_entry_draft}
+use Rattle.tsn_records.proofs.RecordsRead.{record_draft}
+use Rattle.tsn_records.proofs.Shapes.{port_entry_has, gate_entry_has, port_entry_of, gate_entry_of, record_has, record_shaped, values_fit}
+use Rattle.tsn_records.proofs.Steps.{last_step, mapped_there, only, steps, there}
+use Rattle.tsn_records.proofs.Pairs.{◌&◌}
+use Rattle.tsn_setup.proofs.Rows.{looked_up, is_rising, at_name, only_these, whole_table}
 
 -- ---- what is at a name
 
 whole_is : (d : Data) (n : ℕ) → or_shape (whole d) ≡ Ok n → d ≡ integer (pos n)
-whole_is (string s) n h = cc
 whole_is (integer (pos m)) n h = ap (λ k. integer (pos k)) (only (Ok m) m n refl h)
-whole_is (integer (negsuc m)) n h = cc
-whole_is (float x) n h = cc
-whole_is (boolean b) n h = cc
-whole_is (datetime t) n h = cc
-whole_is (array ds) n h = cc
-whole_is (table ms) n h = cc
+whole_is d n h = cc
 
 flag_is : (d : Data) (b : Bool) → or_shape (as_bool d) ≡ Ok b → d ≡ boolean b
-flag_is (string s) b h = cc
-flag_is (integer z) b h = cc
-flag_is (float x) b h = cc
 flag_is (boolean c) b h = ap boolean (only (Ok c) c b refl h)
-flag_is (datetime t) b h = cc
-flag_is (array ds) b h = cc
-flag_is (table ms) b h = cc
+flag_is d b h = cc
 
 array_is : (d : Data) (ds : Items) → or_shape (as_array d) ≡ Ok ds → d ≡ array ds
-array_is (string s) ds h = cc
-array_is (integer z) ds h = cc
-array_is (float x) ds h = cc
-array_is (boolean b) ds h = cc
-array_is (datetime t) ds h = cc
 array_is (array es) ds h = ap array (only (Ok es) es ds refl h)
-array_is (table ms) ds h = cc
+array_is d ds h = cc
 
--- what there is, and of which value it is
-there : {A : Type 0} (f : Data → Option A) (value : A → Data) → ((d : Data) (a : A) → or_shape (f d) ≡ Ok a → d ≡ value a)
-    → (o : Option Data) (a : A) → or_shape (option_and_then f o) ≡ Ok a → o ≡ Some (value a)
-there f value is None a h = cc
-there f value is (Some d) a h = ap Some (is d a h)
-
+-- what there is, or none, and of which value it is
 given_there : {A : Type 0} (f : Data → Option A) (value : A → Data) → ((d : Data) (a : A) → or_shape (f d) ≡ Ok a → d ≡ value a)
     → (o : Option Data) (x : Option A) → if_given f o ≡ Ok x → o ≡ option_map value x
 given_there f value is None x h = ap (option_map value) (only (Ok None) None x refl h)
@@ -122,200 +110,227 @@ member_ordered k no_members h = tt
 member_ordered k (member l e ms) h = member_ordered_at (order k l) e (get_member k ms) h.1.0 (member_ordered k ms h.1.1)
 
 got_ordered : (k : List ℕ) (d : Data) → IsOrdered d → IfSome (get k d) IsOrdered
-got_ordered k (string s) h = tt
-got_ordered k (integer z) h = tt
-got_ordered k (float x) h = tt
-got_ordered k (boolean b) h = tt
-got_ordered k (datetime t) h = tt
-got_ordered k (array ds) h = tt
 got_ordered k (table ms) h = member_ordered k ms h
+got_ordered k d h = tt
 
 pub inner_ordered : (k : List ℕ) (d e : Data) → IsOrdered d → get k d ≡ Some e → IsOrdered e
 inner_ordered k d e h is = subst (λ o. IfSome o IsOrdered) is (got_ordered k d h)
 
--- ---- tables of an accepted shape
+-- ---- entries of an accepted shape
 
-port_entry_is : (d : Data) (e : PortEntry) → IsOrdered d → port_entry_shape as_toml d ≡ Ok (port_entry_draft e)
-    → d ≡ table_with (port_entry_rows e)
+-- the members of an entry as a draft has them
+abbrev port_draft_rows : PortEntryDraft → Rows
+port_draft_rows e = (codes "gates", number e.gates) ∷ (codes "interval", number e.interval) ∷ []
+
+abbrev gate_draft_rows : GateEntryDraft → Rows
+gate_draft_rows e =
+    (codes "interval", number e.interval)
+    ∷ (codes "ipv", number_or_none e.ipv)
+    ∷ (codes "octets", number_or_none e.octets)
+    ∷ (codes "open", flag e.is_open)
+    ∷ []
+
+port_entry_is : (d : Data) (e : PortEntryDraft) → IsOrdered d → port_entry_shape as_toml d ≡ Ok e → d ≡ table_with (port_draft_rows e)
 port_entry_is d e ordered h =
-    let has = port_entry_has as_toml d (port_entry_draft e) h in
-    whole_table (entry_names_of kinds.Port) d (port_entry_rows e) tt ordered has.only refl refl
+    let has = port_entry_has as_toml d e h in
+    whole_table (entry_names_of kinds.Port) d (port_draft_rows e) tt ordered has.only refl refl
     (number_there _ _ has.gates & number_there _ _ has.interval & tt)
 
-gate_entry_is : (d : Data) (e : GateEntry) → IsOrdered d → gate_entry_shape as_toml d ≡ Ok (gate_entry_draft e)
-    → d ≡ table_with (gate_entry_rows e)
+gate_entry_is : (d : Data) (e : GateEntryDraft) → IsOrdered d → gate_entry_shape as_toml d ≡ Ok e → d ≡ table_with (gate_draft_rows e)
 gate_entry_is d e ordered h =
-    let has = gate_entry_has as_toml d (gate_entry_draft e) h in
-    whole_table (entry_names_of kinds.Gate) d (gate_entry_rows e) tt ordered has.only refl refl
+    let has = gate_entry_has as_toml d e h in
+    whole_table (entry_names_of kinds.Gate) d (gate_draft_rows e) tt ordered has.only refl refl
     (flag_there _ _ has.is_open & number_or_none_there _ _ has.ipv & number_there _ _ has.interval &
     number_or_none_there _ _ has.octets & tt)
 
--- the tables of a list are those of the records whose drafts they are
-abbrev AreTables : {D R : Type 0} (shape : Data → Result D Unread) (draft : R → D) (rows : R → Rows) → Type 0
-AreTables {D} {R} shape draft rows = (d : Data) (r : R) → IsOrdered d → shape d ≡ Ok (draft r) → d ≡ table_with (rows r)
+-- the tables of a list are those of its entries
+abbrev AreTables : {E : Type 0} (shape : Data → Result E Unread) (rows : E → Rows) → Type 0
+AreTables {E} shape rows = (d : Data) (e : E) → IsOrdered d → shape d ≡ Ok e → d ≡ table_with (rows e)
 
-each_is : {D R : Type 0} (shape : Data → Result D Unread) (draft : R → D) (rows : R → Rows) → AreTables shape draft rows
-    → (ds : Items) (rs : List R) → EachOrdered ds → each shape (items_list ds) ≡ Ok (map draft rs) → array ds ≡ tables_of rows rs
-each_is shape draft rows one no_items [] ordered h = refl
-each_is shape draft rows one no_items (r ∷ rs) ordered h = cc
-each_is shape draft rows one (item d ds) [] ordered h =
-    steps (shape d) _ _ h (λ first _ next. steps (each shape (items_list ds)) _ _ next (λ rest _ last. cc))
-each_is {D} {R} shape draft rows one (item d ds) (r ∷ rs) ordered h =
-    steps (shape d) _ _ h (λ first first_is first_next.
-    steps (each shape (items_list ds)) _ _ first_next (λ rest rest_is rest_next.
-    let all : (first ∷ rest) ≡ (draft r ∷ map draft rs) = only (Ok (first ∷ rest)) (first ∷ rest) (draft r ∷ map draft rs) refl rest_next in
-    let here : first ≡ draft r = cc in
-    let later : rest ≡ map draft rs = cc in
-    let others : array ds ≡ tables_of rows rs = each_is shape draft rows one ds rs ordered.1 (rest_is ∙ ap (λ l. Ok l) later) in
-    let items : ds ≡ items_of (map (λ (x : R). table_with (rows x)) rs) = cc in
-    ap array (ap₂ item (one d r ordered.0 (first_is ∙ ap (λ x. Ok x) here)) items)))
+each_is : {E : Type 0} (shape : Data → Result E Unread) (rows : E → Rows) → AreTables shape rows
+    → (ds : Items) (es : List E) → EachOrdered ds → each shape (items_list ds) ≡ Ok es → ds ≡ items_of (map (λ e. table_with (rows e)) es)
+each_is shape rows one no_items es ordered h = ap (λ l. items_of (map (λ e. table_with (rows e)) l)) (only (Ok []) [] es refl h)
+each_is shape rows one (item d ds) es ordered h =
+    steps (shape d) _ es h (λ first first_is first_next.
+    last_step (each shape (items_list ds)) es (λ l. item d ds ≡ items_of (map (λ e. table_with (rows e)) l))
+    (λ rest. first ∷ rest) first_next
+    (λ rest rest_is. ap₂ item (one d first ordered.0 first_is) (each_is shape rows one ds rest ordered.1 rest_is)))
 
--- the members that a port and a stream gate share
-record ScheduleThere {R : Type 0} (rows : R → Rows) (d : Data) (s : Schedule R) : Type 0 where
-  list : get (codes "list") d ≡ Some (tables_of rows s.list)
-  cycle : get (codes "cycle") d ≡ number s.cycle
-  extension : get (codes "extension") d ≡ number s.extension
-  base : get (codes "base") d ≡ number s.base
+-- ---- the members of a record
 
-schedule_is : {D R : Type 0} (shape : Data → Result D Unread) (draft : R → D) (rows : R → Rows) → AreTables shape draft rows
-    → (d : Data) (s : Schedule R) → IsOrdered d → schedule_shape as_toml shape d ≡ Ok (schedule_draft draft s) → ScheduleThere rows d s
-schedule_is shape draft rows one d s ordered h =
-    let has = schedule_has as_toml shape d (schedule_draft draft s) h in
-    let here = list_there _ has.entries has.items in
-    let listed = ap (each shape) here.2 ∙ has.list in
-    record {
-      list = here.1 ∙ ap Some (each_is shape draft rows one here.0 s.list (inner_ordered (codes "list") d (array here.0) ordered here.1)
-          listed);
-      cycle = number_there _ _ has.cycle;
-      extension = number_there _ _ has.extension;
-      base = number_there _ _ has.base;
-    }
+-- what a table has where a member is such
+abbrev pub toml_value : MemberDraft → Option Data
+toml_value values.Unread = None
+toml_value (Number n) = number n
+toml_value (Maybe o) = number_or_none o
+toml_value (Flag b) = flag b
+toml_value (PortList es) = Some (tables_of port_draft_rows es)
+toml_value (GateList es) = Some (tables_of gate_draft_rows es)
 
-pub port_is : (d : Data) (id : ℕ) (r : PortGates) → IsOrdered d → number_at (codes "id") d ≡ Ok id
-    → port_shape as_toml d ≡ Ok (port_draft r) → d ≡ table_with (port_rows id r)
-port_is d id r ordered id_is h =
-    let has = port_has as_toml d (port_draft r) h in
-    let times = schedule_is (port_entry_shape as_toml) port_entry_draft port_entry_rows port_entry_is d r.admin ordered has.admin in
-    whole_table (names_of kinds.Port) d (port_rows id r) tt ordered has.only refl refl
-    (number_there _ id id_is & number_there _ _ has.gates & times.list & times.cycle & times.extension & times.base & tt)
+-- the members that are read stand under their names
+abbrev AreGiven : Data → List (List ℕ × Allowed) → List MemberDraft → Type 0
+AreGiven d [] vs = ⊤
+AreGiven d (row ∷ rows) [] = ⊤
+AreGiven d (row ∷ rows) (v ∷ vs) = (get row.0 d ≡ toml_value v) × AreGiven d rows vs
 
-pub gate_is : (d : Data) (id : ℕ) (r : StreamGate) → IsOrdered d → number_at (codes "id") d ≡ Ok id
-    → gate_shape as_toml d ≡ Ok (gate_draft r) → d ≡ table_with (gate_rows id r)
-gate_is d id r ordered id_is h =
-    let has = gate_has as_toml d (gate_draft r) h in
-    let times = schedule_is (gate_entry_shape as_toml) gate_entry_draft gate_entry_rows gate_entry_is d r.admin ordered has.admin in
-    whole_table (names_of kinds.Gate) d (gate_rows id r) tt ordered has.only refl refl
-    (number_there _ id id_is & flag_there _ _ has.is_open & number_or_none_there _ _ has.ipv & times.list & times.cycle &
-    times.extension & times.base & flag_there _ _ has.invalid_rx & flag_there _ _ has.octets_exceeded & tt)
+list_given : {E : Type 0} (shape : Data → Result E Unread) (rows : E → Rows) → AreTables shape rows → (found : Option Data) (es : List E)
+    → IfSome found IsOrdered → list_shape as_toml shape found ≡ Ok es → found ≡ Some (tables_of rows es)
+list_given shape rows one found es ordered h =
+    steps (as_toml.items found) _ es h (λ ds ds_is ds_next.
+    let here = list_there found ds ds_is in
+    let inner : IsOrdered (array here.0) = subst (λ o. IfSome o IsOrdered) here.1 ordered in
+    here.1 ∙ ap (λ l. Some (array l)) (each_is shape rows one here.0 es inner (ap (each shape) here.2 ∙ ds_next)))
 
-pub filter_is : (d : Data) (id : ℕ) (r : StreamFilter) → IsOrdered d → number_at (codes "id") d ≡ Ok id
-    → filter_shape as_toml d ≡ Ok (filter_draft r) → d ≡ table_with (filter_rows id r)
-filter_is d id r ordered id_is h =
-    let has = filter_has as_toml d (filter_draft r) h in
-    whole_table (names_of kinds.Filter) d (filter_rows id r) tt ordered has.only refl refl
-    (number_there _ id id_is & number_or_none_there _ _ has.handle & number_or_none_there _ _ has.priority & number_there _ _ has.gate &
-    number_or_none_there _ _ has.max_sdu & number_or_none_there _ _ has.meter & flag_there _ _ has.oversize & tt)
+member_given : (kind : Kind) (row : Allowed) (found : Option Data) (v : MemberDraft) → IfSome found IsOrdered
+    → member_shape as_toml kind row found ≡ Ok v → found ≡ toml_value v
+unfolding member_shape
+member_given kind (allowed.Number least most) found v ordered h =
+    last_step (as_toml.number found) v (λ x. found ≡ toml_value x) Number h (λ n is. number_there found n is)
+member_given kind (allowed.NumberOrNone least most) found v ordered h =
+    last_step (as_toml.number_or_none found) v (λ x. found ≡ toml_value x) Maybe h (λ o is. number_or_none_there found o is)
+member_given kind allowed.Flag found v ordered h =
+    last_step (as_toml.flag found) v (λ x. found ≡ toml_value x) Flag h (λ b is. flag_there found b is)
+member_given kinds.Port (allowed.List most) found v ordered h =
+    last_step (list_shape as_toml (port_entry_shape as_toml) found) v (λ x. found ≡ toml_value x) PortList h
+    (λ es is. list_given (port_entry_shape as_toml) port_draft_rows port_entry_is found es ordered is)
+member_given kinds.Gate (allowed.List most) found v ordered h =
+    last_step (list_shape as_toml (gate_entry_shape as_toml) found) v (λ x. found ≡ toml_value x) GateList h
+    (λ es is. list_given (gate_entry_shape as_toml) gate_draft_rows gate_entry_is found es ordered is)
+member_given kind row found v ordered h = cc
 
-pub meter_is : (d : Data) (id : ℕ) (r : FlowMeter) → IsOrdered d → number_at (codes "id") d ≡ Ok id
-    → meter_shape as_toml d ≡ Ok (meter_draft r) → d ≡ table_with (meter_rows id r)
-meter_is d id r ordered id_is h =
-    let has = meter_has as_toml d (meter_draft r) h in
-    whole_table (names_of kinds.Meter) d (meter_rows id r) tt ordered has.only refl refl
-    (number_there _ id id_is & number_there _ _ has.cir & number_there _ _ has.cbs & number_there _ _ has.eir &
-    number_there _ _ has.ebs & flag_there _ _ has.cf & flag_there _ _ has.aware & flag_there _ _ has.drop_yellow &
-    flag_there _ _ has.all_red & tt)
+members_given : (kind : Kind) (d : Data) (rows : List (List ℕ × Allowed)) (vs : List MemberDraft) → IsOrdered d
+    → each (λ row. member_shape as_toml kind row.1 (get row.0 d)) rows ≡ Ok vs → AreGiven d rows vs
+members_given kind d [] vs ordered h = tt
+members_given kind d (row ∷ rows) vs ordered h =
+    steps (member_shape as_toml kind row.1 (get row.0 d)) _ vs h (λ v v_is v_next.
+    last_step (each (λ r. member_shape as_toml kind r.1 (get r.0 d)) rows) vs (AreGiven d (row ∷ rows)) (λ ws. v ∷ ws) v_next
+    (λ ws ws_is. (member_given kind row.1 (get row.0 d) v (got_ordered row.0 d ordered) v_is, members_given kind d rows ws ordered ws_is)))
+
+-- the tables of a record's entries are those of its draft's
+entries_same : {E R : Type 0} (draft : R → E) (drafted : E → Rows) (rows : R → Rows) → ((r : R) → drafted (draft r) ≡ rows r)
+    → (rs : List R) → tables_of drafted (map draft rs) ≡ tables_of rows rs
+entries_same {R = R} draft drafted rows one rs = ap array (all rs)
+  where
+    all : (rs : List R) → items_of (map (λ e. table_with (drafted e)) (map draft rs)) ≡ items_of (map (λ r. table_with (rows r)) rs)
+    all [] = refl
+    all (r ∷ rs) = ap₂ item (ap table_with (one r)) (all rs)
+
+port_entries_same : (es : List PortEntry) → tables_of port_draft_rows (map port_entry_draft es) ≡ tables_of port_entry_rows es
+port_entries_same es = entries_same port_entry_draft port_draft_rows port_entry_rows (λ _. refl) es
+
+gate_entries_same : (es : List GateEntry) → tables_of gate_draft_rows (map gate_entry_draft es) ≡ tables_of gate_entry_rows es
+gate_entries_same es = entries_same gate_entry_draft gate_draft_rows gate_entry_rows (λ _. refl) es
+
+-- what a table of the shape of a record's draft has
+abbrev HasAll : Data → Record → Type 0
+HasAll d r = (has_only (names_of (kind_of_draft (record_draft r))) d ≡ Ok tt)
+    × AreGiven d (rows_of (kind_of_draft (record_draft r))) (values_of (record_draft r))
+
+all_there : (d : Data) (r : Record) → IsOrdered d → record_shape as_toml (kind_of_draft (record_draft r)) d ≡ Ok (record_draft r)
+    → HasAll d r
+all_there d r ordered h =
+    let q = kind_of_draft (record_draft r) in
+    let has = record_has as_toml q d (record_draft r) h in
+    (has.only, members_given q d (rows_of q) (values_of (record_draft r)) ordered has.members)
+
+-- the table of a record has the members of its draft
+pub table_is : (d : Data) (id : ℕ) (r : Record) → IsOrdered d → number_at (codes "id") d ≡ Ok id
+    → record_shape as_toml (kind_of_draft (record_draft r)) d ≡ Ok (record_draft r) → d ≡ table_with (record_rows id r)
+table_is d id (records.Port r) ordered id_is h =
+    let (known, (gates, (list, rest))) = all_there d (records.Port r) ordered h in
+    whole_table (names_of kinds.Port) d (port_rows id r) tt ordered known refl refl
+    (number_there _ id id_is, (gates, (list ∙ ap Some (port_entries_same r.admin.list), rest)))
+table_is d id (records.Filter r) ordered id_is h =
+    let has = all_there d (records.Filter r) ordered h in
+    whole_table (names_of kinds.Filter) d (filter_rows id r) tt ordered has.0 refl refl (number_there _ id id_is, has.1)
+table_is d id (records.Gate r) ordered id_is h =
+    let (known, (is_open, (ipv, (list, rest)))) = all_there d (records.Gate r) ordered h in
+    whole_table (names_of kinds.Gate) d (gate_rows id r) tt ordered known refl refl
+    (number_there _ id id_is, (is_open, (ipv, (list ∙ ap Some (gate_entries_same r.admin.list), rest))))
+table_is d id (records.Meter r) ordered id_is h =
+    let has = all_there d (records.Meter r) ordered h in
+    whole_table (names_of kinds.Meter) d (meter_rows id r) tt ordered has.0 refl refl (number_there _ id id_is, has.1)
 
 -- ---- the shape of a record's table
 
-port_entry_shaped : (r : PortEntry) → port_entry_shape as_toml (table_with (port_entry_rows r)) ≡ Ok (port_entry_draft r)
-port_entry_shaped r =
-    let rows = port_entry_rows r in
-    port_entry_of as_toml (table_with rows) (port_entry_draft r) (record {
+port_entry_shaped : (e : PortEntryDraft) → port_entry_shape as_toml (table_with (port_draft_rows e)) ≡ Ok e
+port_entry_shaped e =
+    let rows = port_draft_rows e in
+    port_entry_of as_toml (table_with rows) e (record {
       only = only_these (entry_names_of kinds.Port) rows refl;
-      gates = number_got (codes "gates") rows r.gates refl refl;
-      interval = number_got (codes "interval") rows r.interval refl refl;
+      gates = number_got (codes "gates") rows e.gates refl refl;
+      interval = number_got (codes "interval") rows e.interval refl refl;
     })
 
-gate_entry_shaped : (r : GateEntry) → gate_entry_shape as_toml (table_with (gate_entry_rows r)) ≡ Ok (gate_entry_draft r)
-gate_entry_shaped r =
-    let rows = gate_entry_rows r in
-    gate_entry_of as_toml (table_with rows) (gate_entry_draft r) (record {
+gate_entry_shaped : (e : GateEntryDraft) → gate_entry_shape as_toml (table_with (gate_draft_rows e)) ≡ Ok e
+gate_entry_shaped e =
+    let rows = gate_draft_rows e in
+    gate_entry_of as_toml (table_with rows) e (record {
       only = only_these (entry_names_of kinds.Gate) rows refl;
-      is_open = flag_got (codes "open") rows r.is_open refl refl;
-      ipv = number_or_none_got (codes "ipv") rows r.ipv refl refl;
-      interval = number_got (codes "interval") rows r.interval refl refl;
-      octets = number_or_none_got (codes "octets") rows r.octets refl refl;
+      is_open = flag_got (codes "open") rows e.is_open refl refl;
+      ipv = number_or_none_got (codes "ipv") rows e.ipv refl refl;
+      interval = number_got (codes "interval") rows e.interval refl refl;
+      octets = number_or_none_got (codes "octets") rows e.octets refl refl;
     })
 
-each_shaped : {E R : Type 0} (shape : Data → Result E Unread) (draft : R → E) (rows : R → Rows) (xs : List R)
-    → ((x : R) → shape (table_with (rows x)) ≡ Ok (draft x))
-    → each shape (items_list (items_of (map (λ x. table_with (rows x)) xs))) ≡ Ok (map draft xs)
-each_shaped shape draft rows [] one = refl
-each_shaped shape draft rows (x ∷ xs) one = rw (one x, each_shaped shape draft rows xs one)
+each_shaped : {E : Type 0} (shape : Data → Result E Unread) (rows : E → Rows) → ((e : E) → shape (table_with (rows e)) ≡ Ok e)
+    → (es : List E) → each shape (items_list (items_of (map (λ e. table_with (rows e)) es))) ≡ Ok es
+each_shaped shape rows one [] = refl
+each_shaped shape rows one (e ∷ es) = rw (one e, each_shaped shape rows one es) refl
 
-schedule_shaped : {E R : Type 0} (shape : Data → Result E Unread) (draft : R → E) (rows : R → Rows)
-    → ((e : R) → shape (table_with (rows e)) ≡ Ok (draft e)) → (whole : Rows) (s : Schedule R) → is_rising whole ≡ true
-    → looked_up (codes "list") whole ≡ Some (tables_of rows s.list) → looked_up (codes "cycle") whole ≡ number s.cycle
-    → looked_up (codes "extension") whole ≡ number s.extension → looked_up (codes "base") whole ≡ number s.base
-    → schedule_shape as_toml shape (table_with whole) ≡ Ok (schedule_draft draft s)
-schedule_shaped {E} {R} shape draft rows one whole s rise list cycle extension base =
-    let items : Items = items_of (map (λ (x : R). table_with (rows x)) s.list) in
-    schedule_of as_toml shape (table_with whole) (schedule_draft draft s) (record {
-      entries = items_list items;
-      items = items_got (codes "list") whole items rise list;
-      list = each_shaped shape draft rows s.list one;
-      cycle = number_got (codes "cycle") whole s.cycle rise cycle;
-      extension = number_got (codes "extension") whole s.extension rise extension;
-      base = number_got (codes "base") whole s.base rise base;
+member_got : (kind : Kind) (row : Allowed) (v : MemberDraft) → Fits kind row v → member_shape as_toml kind row (toml_value v) ≡ Ok v
+unfolding member_shape
+member_got kind (allowed.Number least most) (Number n) fits = refl
+member_got kind (allowed.NumberOrNone least most) (Maybe o) fits = rw (given_back o) refl
+member_got kind allowed.Flag (Flag b) fits = refl
+member_got kinds.Port (allowed.List most) (PortList es) fits =
+    rw (each_shaped (port_entry_shape as_toml) port_draft_rows port_entry_shaped es) refl
+member_got kinds.Gate (allowed.List most) (GateList es) fits =
+    rw (each_shaped (gate_entry_shape as_toml) gate_draft_rows gate_entry_shaped es) refl
+member_got kind row v fits = absurd fits
+
+-- the rows have these members
+abbrev Have : Rows → List (List ℕ × Allowed) → List MemberDraft → Type 0
+Have whole [] vs = ⊤
+Have whole (row ∷ rows) [] = ⊤
+Have whole (row ∷ rows) (v ∷ vs) = (looked_up row.0 whole ≡ toml_value v) × Have whole rows vs
+
+members_got : (kind : Kind) (whole : Rows) (rows : List (List ℕ × Allowed)) (vs : List MemberDraft) → is_rising whole ≡ true
+    → Have whole rows vs → AllFit kind rows vs → each (λ row. member_shape as_toml kind row.1 (get row.0 (table_with whole))) rows ≡ Ok vs
+members_got kind whole [] [] rise have fits = refl
+members_got kind whole [] (v ∷ vs) rise have fits = absurd fits
+members_got kind whole (row ∷ rows) [] rise have fits = absurd fits
+members_got kind whole (row ∷ rows) (v ∷ vs) rise have fits =
+    rw (
+      at_name row.0 whole (toml_value v) rise have.0,
+      member_got kind row.1 v fits.0,
+      members_got kind whole rows vs rise have.1 fits.1,
+    ) refl
+
+shaped_of : (id : ℕ) (r : Record) → is_rising (record_rows id r) ≡ true
+    → has_only (names_of (kind_of_draft (record_draft r))) (table_with (record_rows id r)) ≡ Ok tt
+    → Have (record_rows id r) (rows_of (kind_of_draft (record_draft r))) (values_of (record_draft r))
+    → record_shape as_toml (kind_of_draft (record_draft r)) (table_with (record_rows id r)) ≡ Ok (record_draft r)
+shaped_of id r rise known have =
+    let v = record_draft r in
+    let q = kind_of_draft v in
+    record_shaped as_toml q (table_with (record_rows id r)) v (record {
+      only = known;
+      of = refl;
+      members = members_got q (record_rows id r) (rows_of q) (values_of v) rise have (values_fit v);
     })
 
-pub port_shaped : (id : ℕ) (r : PortGates) → port_shape as_toml (table_with (port_rows id r)) ≡ Ok (port_draft r)
-port_shaped id r =
-    let rows = port_rows id r in
-    port_of as_toml (table_with rows) (port_draft r) (record {
-      only = only_these (names_of kinds.Port) rows refl;
-      gates = number_got (codes "gates") rows r.gates refl refl;
-      admin = schedule_shaped (port_entry_shape as_toml) port_entry_draft port_entry_rows port_entry_shaped rows r.admin refl refl refl refl
-          refl;
-    })
-
-pub gate_shaped : (id : ℕ) (r : StreamGate) → gate_shape as_toml (table_with (gate_rows id r)) ≡ Ok (gate_draft r)
-gate_shaped id r =
-    let rows = gate_rows id r in
-    gate_of as_toml (table_with rows) (gate_draft r) (record {
-      only = only_these (names_of kinds.Gate) rows refl;
-      is_open = flag_got (codes "open") rows r.is_open refl refl;
-      ipv = number_or_none_got (codes "ipv") rows r.ipv refl refl;
-      admin = schedule_shaped (gate_entry_shape as_toml) gate_entry_draft gate_entry_rows gate_entry_shaped rows r.admin refl refl refl refl
-          refl;
-      invalid_rx = flag_got (codes "invalid_rx") rows r.invalid_rx refl refl;
-      octets_exceeded = flag_got (codes "octets_exceeded") rows r.octets_exceeded refl refl;
-    })
-
-pub filter_shaped : (id : ℕ) (r : StreamFilter) → filter_shape as_toml (table_with (filter_rows id r)) ≡ Ok (filter_draft r)
-filter_shaped id r =
-    let rows = filter_rows id r in
-    filter_of as_toml (table_with rows) (filter_draft r) (record {
-      only = only_these (names_of kinds.Filter) rows refl;
-      handle = number_or_none_got (codes "handle") rows r.handle refl refl;
-      priority = number_or_none_got (codes "priority") rows r.priority refl refl;
-      gate = number_got (codes "gate") rows r.gate refl refl;
-      max_sdu = number_or_none_got (codes "max_sdu") rows r.max_sdu refl refl;
-      meter = number_or_none_got (codes "meter") rows r.meter refl refl;
-      oversize = flag_got (codes "oversize") rows r.oversize refl refl;
-    })
-
-pub meter_shaped : (id : ℕ) (r : FlowMeter) → meter_shape as_toml (table_with (meter_rows id r)) ≡ Ok (meter_draft r)
-meter_shaped id r =
-    let rows = meter_rows id r in
-    meter_of as_toml (table_with rows) (meter_draft r) (record {
-      only = only_these (names_of kinds.Meter) rows refl;
-      cir = number_got (codes "cir") rows r.cir refl refl;
-      cbs = number_got (codes "cbs") rows r.cbs refl refl;
-      eir = number_got (codes "eir") rows r.eir refl refl;
-      ebs = number_got (codes "ebs") rows r.ebs refl refl;
-      cf = flag_got (codes "cf") rows r.cf refl refl;
-      aware = flag_got (codes "aware") rows r.aware refl refl;
-      drop_yellow = flag_got (codes "drop_yellow") rows r.drop_yellow refl refl;
-      all_red = flag_got (codes "all_red") rows r.all_red refl refl;
-    })
+pub table_shaped : (id : ℕ) (r : Record)
+    → record_shape as_toml (kind_of_draft (record_draft r)) (table_with (record_rows id r)) ≡ Ok (record_draft r)
+table_shaped id (records.Port r) =
+    shaped_of id (records.Port r) refl (only_these (names_of kinds.Port) (port_rows id r) refl)
+    (refl, (ap Some (sym (port_entries_same r.admin.list)), (refl, (refl, (refl, tt)))))
+table_shaped id (records.Filter r) =
+    shaped_of id (records.Filter r) refl (only_these (names_of kinds.Filter) (filter_rows id r) refl)
+    (refl, (refl, (refl, (refl, (refl, (refl, tt))))))
+table_shaped id (records.Gate r) =
+    shaped_of id (records.Gate r) refl (only_these (names_of kinds.Gate) (gate_rows id r) refl)
+    (refl, (refl, (ap Some (sym (gate_entries_same r.admin.list)), (refl, (refl, (refl, (refl, (refl, tt))))))))
+table_shaped id (records.Meter r) =
+    shaped_of id (records.Meter r) refl (only_these (names_of kinds.Meter) (meter_rows id r) refl)
+    (refl, (refl, (refl, (refl, (refl, (refl, (refl, (refl, tt))))))))

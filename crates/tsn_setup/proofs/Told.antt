@@ -9,7 +9,8 @@ use Rattle.tsn_records.specs.declared.drafts.RecordDraft.TheVariants as records
 use Rattle.tsn_records.specs.declared.drafts.PortEntryDraft.{PortEntryDraft}
 use Rattle.tsn_records.specs.declared.drafts.GateEntryDraft.{GateEntryDraft}
 use Rattle.tsn_records.specs.declared.unread.Unread.{Unread}
-use Rattle.tsn_records.specs.Records.{port_entry_shape, gate_entry_shape, list_shape, schedule_shape, port_shape, gate_shape, filter_shape, meter_shape}
+use Rattle.tsn_records.specs.Records.{port_entry_shape, gate_entry_shape, member_shape, record_shape}
+use Rattle.tsn_records.specs.Values.{typed}
 use Rattle.tsn_setup.specs.Tables.{table_shape}
 use Rattle.tsn_setup.specs.Toml.{are_among, has_only, if_given, items_list, as_toml, whole}
 use Rattle.tsn_setup.specs.Plain.{list_given, names, ReadsTable, ReadsEntry, ReadsLines, ReadsTableOf}
@@ -107,7 +108,7 @@ pub port_told : (text rest : List ℕ) (m : PortMembers) (id gates : ℕ) (list 
       value = records.Port
           (record { gates = gates; admin = record { list = list; cycle = cycle; extension = extension; base = base } });
     }) rest
-unfolding table_shape port_shape schedule_shape list_shape
+unfolding table_shape record_shape member_shape typed
 port_told text rest m id gates list cycle extension base read i g l c e b = record {
   found = read.found;
   leads = read.leads;
@@ -134,7 +135,7 @@ pub filter_told : (text rest : List ℕ) (m : FilterMembers) (id gate : ℕ) (ov
           (record { handle = m.handle; priority = m.priority; gate = gate; max_sdu = m.max_sdu; meter = m.meter; oversize = oversize });
     })
     rest
-unfolding table_shape filter_shape
+unfolding table_shape record_shape member_shape typed
 filter_told text rest m id gate oversize read i g o = record {
   found = read.found;
   leads = read.leads;
@@ -167,7 +168,7 @@ pub gate_told : (text rest : List ℕ) (m : GateMembers) (id : ℕ) (is_open : B
         octets_exceeded = octets_exceeded;
       });
     }) rest
-unfolding table_shape gate_shape schedule_shape list_shape
+unfolding table_shape record_shape member_shape typed
 gate_told text rest m id is_open list cycle extension base invalid_rx octets_exceeded read i o l c e b v x = record {
   found = read.found;
   leads = read.leads;
@@ -199,7 +200,7 @@ pub meter_told : (text rest : List ℕ) (m : MeterMembers) (id cir cbs eir ebs :
           (record { cir = cir; cbs = cbs; eir = eir; ebs = ebs; cf = cf; aware = aware; drop_yellow = drop_yellow; all_red = all_red });
     })
     rest
-unfolding table_shape meter_shape
+unfolding table_shape record_shape member_shape typed
 meter_told text rest m id cir cbs eir ebs cf aware drop_yellow all_red read i a b c d e f g h = record {
   found = read.found;
   leads = read.leads;

@@ -3,8 +3,6 @@ use Rattle.std.specs.Prelude.{ℕ, Option, Some, None, Result, Ok, Err}
 use Rattle.tsn_types.specs.Bounds.{longest_list, most_instances}
 use Rattle.tsn_types.specs.Numbers.{most_ports}
 use Rattle.tsn_types.specs.declared.keys.Key.{Key}
-use Rattle.tsn_types.specs.declared.keys.Kind.{Kind}
-use Rattle.tsn_types.specs.declared.keys.Kind.TheVariants as kinds
 use Rattle.tsn_types.specs.declared.limits.Limits.{Limits}
 use Rattle.tsn_types.specs.declared.records.Record.{Record}
 use Rattle.tsn_types.specs.declared.refusals.Field.{Field}
@@ -12,8 +10,7 @@ use Rattle.tsn_types.specs.declared.refusals.Field.TheVariants as fields
 use Rattle.tsn_bridge.specs.Beginning.{standard_limits}
 use Rattle.tsn_records.specs.Answers.{◌>>=◌}
 use Rattle.tsn_records.specs.Ranges.{within, key_of_kind, record_of}
-use Rattle.tsn_records.specs.declared.drafts.RecordDraft.{RecordDraft}
-use Rattle.tsn_records.specs.declared.drafts.RecordDraft.TheVariants as drafts
+use Rattle.tsn_records.specs.Values.{kind_of_draft}
 use Rattle.tsn_records.specs.declared.unread.Unread.{Unread}
 use Rattle.tsn_records.specs.declared.unread.Unread.TheVariants.{Range}
 use Rattle.tsn_setup.specs.declared.drafts.LimitsDraft.{LimitsDraft}
@@ -32,12 +29,6 @@ limits l = do
   meters ← limit fields.MaxMeters most_instances standard_limits.meters l.max_meters
   list ← limit fields.ListMax longest_list standard_limits.list l.list_max
   Ok (record { ports = ports; filters = filters; gates = gates; meters = meters; list = list })
-
-abbrev pub kind_of_draft : RecordDraft → Kind
-kind_of_draft (drafts.Port p) = kinds.Port
-kind_of_draft (drafts.Filter f) = kinds.Filter
-kind_of_draft (drafts.Gate g) = kinds.Gate
-kind_of_draft (drafts.Meter m) = kinds.Meter
 
 -- an identifier out of the range of its kind is told as the member `id`
 abbrev pub or_id : Result Key Unread → Result Key Unread

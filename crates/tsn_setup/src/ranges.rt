@@ -6,7 +6,8 @@ ghost use Rattle.std.specs.Prelude.{◌≡◌, IfOk, IsTrue};
 ghost use Rattle.tsn_types.specs.Numbers.{Within};
 ghost use Rattle.tsn_edit.specs.Edits.{is_of_kind};
 ghost use Rattle.tsn_records.specs.Answers.{Reads, each};
-ghost use Rattle.tsn_setup.specs.Ranges.{limit, limits, kind_of_draft, key, keyed_record};
+ghost use Rattle.tsn_records.specs.Values.{kind_of_draft};
+ghost use Rattle.tsn_setup.specs.Ranges.{limit, limits, key, keyed_record};
 
 use crate::drafts::{LimitsDraft, TableDraft};
 use std::alloc::Global;

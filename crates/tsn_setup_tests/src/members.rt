@@ -32,15 +32,10 @@ pub fn reads(
 }
 
 /// The refusal of the document with these changes: the same in both orders of the members.
-fn refusal(
-    alloc: Global,
-    header: &str,
-    rows: &[Row],
-    changes: &[(usize, &str)],
-) -> Result<Option<Refusal>, Fail> {
-    let text = members_text(alloc, header, rows, changes)?;
+fn refusal(alloc: Global, kind: &Kind, changes: &[(usize, &str)]) -> Result<Option<Refusal>, Fail> {
+    let text = members_text(alloc, kind, changes)?;
     let found = refusal_of(alloc, text.as_bytes())?;
-    let text = members_backwards(alloc, header, rows, changes)?;
+    let text = members_backwards(alloc, kind, changes)?;
     if refusal_of(alloc, text.as_bytes())? != found {
         return Err(Fail::from("in another order it is read otherwise"));
     }
@@ -51,12 +46,12 @@ fn refusal(
 fn gives(
     rt: &impl Abort,
     alloc: Global,
-    header: &str,
-    rows: &[Row],
+    kind: &Kind,
     changes: &[(usize, &str)],
     want: Option<Refusal>,
 ) -> Result<(), Fail> {
-    let found = refusal(alloc, header, rows, changes)?;
+    let found = refusal(alloc, kind, changes)?;
+    let (header, _rows) = *kind;
     assert_eq!(rt; found, want, "{header} with {changes:?}");
     Ok(())
 }
@@ -65,14 +60,13 @@ fn gives(
 fn with_each_text(
     rt: &impl Abort,
     alloc: Global,
-    header: &str,
-    rows: &[Row],
+    kind: &Kind,
     index: usize,
     texts: &str,
     want: &Option<Refusal>,
 ) -> Result<(), Fail> {
     for text in texts.split(' ') {
-        gives(rt, alloc, header, rows, &[(index, text)], *want)?;
+        gives(rt, alloc, kind, &[(index, text)], *want)?;
     }
     Ok(())
 }
@@ -81,32 +75,22 @@ fn with_each_text(
 fn with_each_value(
     rt: &impl Abort,
     alloc: Global,
-    header: &str,
-    rows: &[Row],
+    kind: &Kind,
     index: usize,
     row: &Row,
 ) -> Result<(), Fail> {
     if !row.out.is_empty() {
         let want = Some(Refusal::Range(row.field));
-        with_each_text(rt, alloc, header, rows, index, row.out, &want)?;
+        with_each_text(rt, alloc, kind, index, row.out, &want)?;
     }
-    with_each_text(
-        rt,
-        alloc,
-        header,
-        rows,
-        index,
-        row.wrong,
-        &Some(Refusal::Shape),
-    )
+    with_each_text(rt, alloc, kind, index, row.wrong, &Some(Refusal::Shape))
 }
 
 /// One member left out, and of a value that has more bits than a number may.
 fn without(
     rt: &impl Abort,
     alloc: Global,
-    header: &str,
-    rows: &[Row],
+    kind: &Kind,
     index: usize,
     row: &Row,
 ) -> Result<(), Fail> {
@@ -115,9 +99,9 @@ fn without(
     } else {
         Some(Refusal::Shape)
     };
-    gives(rt, alloc, header, rows, &[(index, "")], want)?;
+    gives(rt, alloc, kind, &[(index, "")], want)?;
     let longer = &[(index, "9223372036854775808")];
-    gives(rt, alloc, header, rows, longer, Some(Refusal::Syntax))
+    gives(rt, alloc, kind, longer, Some(Refusal::Syntax))
 }
 
 /// A value out of range, or the empty text.
@@ -129,29 +113,22 @@ fn out_of(row: &Row) -> &'static str {
 fn with_each_other(
     rt: &impl Abort,
     alloc: Global,
-    header: &str,
-    rows: &[Row],
+    kind: &Kind,
     first: usize,
     row: &Row,
 ) -> Result<(), Fail> {
     let out = out_of(row);
+    let (_header, rows) = *kind;
     for (second, other) in rows.iter().enumerate() {
         let later = out_of(other);
         if first < second && !later.is_empty() {
             let want = Some(Refusal::Range(row.field));
-            gives(
-                rt,
-                alloc,
-                header,
-                rows,
-                &[(first, out), (second, later)],
-                want,
-            )?;
+            gives(rt, alloc, kind, &[(first, out), (second, later)], want)?;
         }
         if first != second {
             let wrong = other.wrong.split(' ').next().unwrap_or("");
             let changes = &[(first, out), (second, wrong)];
-            gives(rt, alloc, header, rows, changes, Some(Refusal::Shape))?;
+            gives(rt, alloc, kind, changes, Some(Refusal::Shape))?;
         }
     }
     Ok(())
@@ -160,23 +137,22 @@ fn with_each_other(
 fn tests_member(
     rt: &impl Abort,
     alloc: Global,
-    header: &str,
-    rows: &[Row],
+    kind: &Kind,
     index: usize,
     row: &Row,
 ) -> Result<(), Fail> {
-    with_each_value(rt, alloc, header, rows, index, row)?;
-    without(rt, alloc, header, rows, index, row)?;
+    with_each_value(rt, alloc, kind, index, row)?;
+    without(rt, alloc, kind, index, row)?;
     if !out_of(row).is_empty() {
-        with_each_other(rt, alloc, header, rows, index, row)?;
+        with_each_other(rt, alloc, kind, index, row)?;
     }
     Ok(())
 }
 
 fn tests_members(rt: &impl Abort, alloc: Global, kind: &Kind) -> Result<(), Fail> {
-    let (header, rows) = *kind;
+    let (_header, rows) = *kind;
     for (index, row) in rows.iter().enumerate() {
-        tests_member(rt, alloc, header, rows, index, row)?;
+        tests_member(rt, alloc, kind, index, row)?;
     }
     Ok(())
 }

@@ -240,23 +240,35 @@ fn text_of<'a>(index: usize, row: &Row, changes: &[(usize, &'a str)]) -> &'a str
     text
 }
 
+/// Puts a member with what stands behind its name and behind its value, unless it is left out.
+fn push_member(
+    text: &mut String,
+    index: usize,
+    row: &Row,
+    changes: &[(usize, &str)],
+    equals: &str,
+    end: &str,
+) -> Result<(), AllocError> {
+    let value = text_of(index, row, changes);
+    if value.is_empty() {
+        return Ok(());
+    }
+    text.push_str(row.name)?;
+    text.push_str(equals)?;
+    text.push_str(value)?;
+    text.push_str(end)
+}
+
 /// The members with these changes, one in a line. The empty text leaves a member out.
 pub fn members_text(
     alloc: Global,
-    header: &str,
-    rows: &[Row],
+    kind: &Kind,
     changes: &[(usize, &str)],
 ) -> Result<String, AllocError> {
+    let (header, rows) = *kind;
     let mut text = String::from_str(alloc, header)?;
     for (index, row) in rows.iter().enumerate() {
-        let value = text_of(index, row, changes);
-        if value.is_empty() {
-            continue;
-        }
-        text.push_str(row.name)?;
-        text.push_str(" = ")?;
-        text.push_str(value)?;
-        text.push_str("\n")?;
+        push_member(&mut text, index, row, changes, " = ", "\n")?;
     }
     Ok(text)
 }
@@ -264,20 +276,13 @@ pub fn members_text(
 /// The same members, from the last to the first.
 pub fn members_backwards(
     alloc: Global,
-    header: &str,
-    rows: &[Row],
+    kind: &Kind,
     changes: &[(usize, &str)],
 ) -> Result<String, AllocError> {
+    let (header, rows) = *kind;
     let mut text = String::from_str(alloc, header)?;
     for (index, row) in rows.iter().enumerate().rev() {
-        let value = text_of(index, row, changes);
-        if value.is_empty() {
-            continue;
-        }
-        text.push_str(row.name)?;
-        text.push_str("=")?;
-        text.push_str(value)?;
-        text.push_str("\r\n")?;
+        push_member(&mut text, index, row, changes, "=", "\r\n")?;
     }
     Ok(text)
 }

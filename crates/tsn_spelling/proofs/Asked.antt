@@ -8,6 +8,7 @@ use Rattle.tsn_bridge.specs.declared.command.Command.{Command}
 use Rattle.tsn_bridge.specs.declared.command.Command.TheVariants as commands
 use Rattle.tsn_edit.specs.declared.Edit.{Edit}
 use Rattle.tsn_edit.specs.declared.Edit.TheVariants as edits
+use Rattle.tsn_records.proofs.Pairs.{◌&◌}
 use Rattle.tsn_records.specs.Keys.{key_text, kind_text}
 use Rattle.tsn_records.specs.Shown.{or_null, port_entry_data, gate_entry_data, port_data, filter_data, gate_data, meter_data, record_data}
 use Rattle.tsn_types.specs.declared.keys.Key.{Key}
@@ -42,70 +43,26 @@ port_entry_plain : (n : ℕ) (e : PortEntry) → PortEntryInRange e → IsPlain 
 port_entry_plain n e h = (omega (arith, h.gates), (omega (arith, h.interval.1), tt))
 
 gate_entry_plain : (n : ℕ) (e : GateEntry) → GateEntryInRange e → IsPlain (suc n) (gate_entry_data e)
-gate_entry_plain n e h = (
-  tt,
-  (
-    number_or_null n _ e.ipv (λ a k. omega arith) h.ipv,
-    (omega (arith, h.interval.1), (number_or_null n _ e.octets (λ a k. omega arith) h.octets, tt)),
-  ),
-)
+gate_entry_plain n e h =
+    tt & number_or_null n _ e.ipv (λ a k. omega arith) h.ipv & omega (arith, h.interval.1) &
+    number_or_null n _ e.octets (λ a k. omega arith) h.octets & tt
 
 port_plain : (n : ℕ) (r : PortGates) → PortInRange r → IsPlain (suc (suc (suc n))) (port_data r)
-port_plain n r h = (
-  refl,
-  (
-    omega (arith, h.admin.base),
-    (
-      omega (arith, h.admin.cycle.1),
-      (
-        omega (arith, h.admin.extension),
-        (
-          omega (arith, h.gates),
-          (items_plain (suc n) PortEntryInRange port_entry_data (port_entry_plain n) r.admin.list h.admin.list, tt),
-        ),
-      ),
-    ),
-  ),
-)
+port_plain n r h =
+    refl & omega (arith, h.admin.base) & omega (arith, h.admin.cycle.1) & omega (arith, h.admin.extension) & omega (arith, h.gates) &
+    items_plain (suc n) PortEntryInRange port_entry_data (port_entry_plain n) r.admin.list h.admin.list & tt
 
 filter_plain : (n : ℕ) (r : StreamFilter) → FilterInRange r → IsPlain (suc n) (filter_data r)
-filter_plain n r h = (
-  refl,
-  (
-    omega (arith, h.gate),
-    (
-      number_or_null n _ r.handle (λ a k. omega arith) h.handle,
-      (
-        number_or_null n _ r.max_sdu (λ a k. omega (arith, k.1)) h.max_sdu,
-        (
-          number_or_null n _ r.meter (λ a k. omega arith) h.meter,
-          (tt, (number_or_null n _ r.priority (λ a k. omega arith) h.priority, tt)),
-        ),
-      ),
-    ),
-  ),
-)
+filter_plain n r h =
+    refl & omega (arith, h.gate) & number_or_null n _ r.handle (λ a k. omega arith) h.handle &
+    number_or_null n _ r.max_sdu (λ a k. omega (arith, k.1)) h.max_sdu & number_or_null n _ r.meter (λ a k. omega arith) h.meter & tt &
+    number_or_null n _ r.priority (λ a k. omega arith) h.priority & tt
 
 gate_plain : (n : ℕ) (r : StreamGate) → GateInRange r → IsPlain (suc (suc (suc n))) (gate_data r)
-gate_plain n r h = (
-  refl,
-  (
-    omega (arith, h.admin.base),
-    (
-      omega (arith, h.admin.cycle.1),
-      (
-        omega (arith, h.admin.extension),
-        (
-          tt,
-          (
-            number_or_null (suc (suc n)) _ r.ipv (λ a k. omega arith) h.ipv,
-            (items_plain (suc n) GateEntryInRange gate_entry_data (gate_entry_plain n) r.admin.list h.admin.list, (tt, (tt, tt))),
-          ),
-        ),
-      ),
-    ),
-  ),
-)
+gate_plain n r h =
+    refl & omega (arith, h.admin.base) & omega (arith, h.admin.cycle.1) & omega (arith, h.admin.extension) & tt &
+    number_or_null (suc (suc n)) _ r.ipv (λ a k. omega arith) h.ipv &
+    items_plain (suc n) GateEntryInRange gate_entry_data (gate_entry_plain n) r.admin.list h.admin.list & tt & tt & tt
 
 meter_plain : (n : ℕ) (r : FlowMeter) → MeterInRange r → IsPlain (suc n) (meter_data r)
 meter_plain n r h =
@@ -119,21 +76,10 @@ record_plain n (records.Meter r) h = meter_plain (suc (suc n)) r h
 
 keyed : (k : Key) (r : Record) → KeyedInRange k r → RecordInRange r
 keyed (keys.Port n) (records.Port r) h = h.1
-keyed (keys.Port n) (records.Filter r) h = absurd h
-keyed (keys.Port n) (records.Gate r) h = absurd h
-keyed (keys.Port n) (records.Meter r) h = absurd h
-keyed (keys.Filter n) (records.Port r) h = absurd h
 keyed (keys.Filter n) (records.Filter r) h = h.1
-keyed (keys.Filter n) (records.Gate r) h = absurd h
-keyed (keys.Filter n) (records.Meter r) h = absurd h
-keyed (keys.Gate n) (records.Port r) h = absurd h
-keyed (keys.Gate n) (records.Filter r) h = absurd h
 keyed (keys.Gate n) (records.Gate r) h = h.1
-keyed (keys.Gate n) (records.Meter r) h = absurd h
-keyed (keys.Meter n) (records.Port r) h = absurd h
-keyed (keys.Meter n) (records.Filter r) h = absurd h
-keyed (keys.Meter n) (records.Gate r) h = absurd h
 keyed (keys.Meter n) (records.Meter r) h = h.1
+keyed k r h = absurd h
 
 edit_plain : (e : Edit) → EditMayBeAsked e → IsPlain 4 (edit_value e)
 edit_plain (edits.Create k r) h = (refl, (tt, (tt, (record_plain 0 r (keyed k r h), tt))))

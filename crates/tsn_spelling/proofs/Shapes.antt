@@ -152,25 +152,20 @@ list_line s k t0 t1 t2 e0 e1 e2 = list_of (list_front k) t0 t1 t2 (session_end (
 
 -- ---- edits
 
-edit_of : (word key value digits : List ℕ)
-    → ((codes "{\"do\":" ++ (word ++ (codes ",\"key\":" ++ (key ++ codes ",\"record\":")))) ++ value) ++ session_end digits
-    ≡ codes "{\"do\":" ++ (word ++ (codes ",\"key\":" ++ (key ++ (codes ",\"record\":" ++ (value ++ session_end digits)))))
-edit_of word key value digits = simp append_assoc
+edit_of : (word key value rest : List ℕ)
+    → ((codes "{\"do\":" ++ (word ++ (codes ",\"key\":" ++ (key ++ codes ",\"record\":")))) ++ value) ++ rest
+    ≡ codes "{\"do\":" ++ (word ++ (codes ",\"key\":" ++ (key ++ (codes ",\"record\":" ++ (value ++ rest)))))
+edit_of word key value rest = simp append_assoc
 
 pub edit_text : (word : List ℕ) (k : Key) (value : Data) (s : ℕ)
     → (edit_front word k ++ compact_text value) ++ session_end (decimal s) ≡ compact_text (edit_data word s (key_text k) value)
 unfolding escape_byte
-edit_text word k value s = edit_of (quoted word) (quoted (key_text k)) (compact_text value) (decimal s)
-
-put_of : (word key value : List ℕ)
-    → ((codes "{\"do\":" ++ (word ++ (codes ",\"key\":" ++ (key ++ codes ",\"record\":")))) ++ value) ++ codes "}"
-    ≡ codes "{\"do\":" ++ (word ++ (codes ",\"key\":" ++ (key ++ (codes ",\"record\":" ++ (value ++ codes "}")))))
-put_of word key value = simp append_assoc
+edit_text word k value s = edit_of (quoted word) (quoted (key_text k)) (compact_text value) (session_end (decimal s))
 
 pub put_text : (word : List ℕ) (k : Key) (value : Data)
     → (edit_front word k ++ compact_text value) ++ codes "}" ≡ compact_text (put_data word (key_text k) value)
 unfolding escape_byte
-put_text word k value = put_of (quoted word) (quoted (key_text k)) (compact_text value)
+put_text word k value = edit_of (quoted word) (quoted (key_text k)) (compact_text value) (codes "}")
 
 removal_of : (key t0 t1 t2 : List ℕ) → t1 ≡ t0 ++ (codes "{\"do\":\"remove\",\"key\":" ++ key) → t2 ≡ t1 ++ codes "}"
     → t2 ≡ t0 ++ (codes "{\"do\":\"remove\",\"key\":" ++ (key ++ codes "}"))

@@ -1,5 +1,5 @@
 -- The compact text of a value is no longer than any text that reads as it.
-use Rattle.std.proofs.Common.{◌≡◌, ℕ, ◌+◌, ◌≤◌, Bool, true, false, cond, ◌&&◌, List, [], ◌∷◌, ◌++◌, length, Option, Some, None, option_map, option_and_then, Ordering, Less, Equal, Greater, refl, ap, ◌∙◌, subst, arith, append_assoc, length-append}
+use Rattle.std.proofs.Common.{◌≡◌, ℕ, ◌+◌, ◌≤◌, Bool, true, false, cond, ◌&&◌, List, [], ◌∷◌, ◌++◌, length, Option, Some, None, option_map, option_and_then, Ordering, Less, Equal, Greater, refl, ap, subst, arith, append_assoc, length-append}
 use Rattle.std.specs.Prelude.{⊤}
 use Rattle.std.specs.Ordering.{match_ordering, nat_cmp}
 use Rattle.std.specs.Cmp.Lexicographic.{slice_cmp}
@@ -92,31 +92,24 @@ mutual
   unfolding punctuate
 
   fresh_cost : (ls : List Lexeme) → cost false (punctuate fresh ls) ≤ weight ls
-  fresh_cost [] = omega arith
   fresh_cost (token t ∷ ls) =
       placed fresh t (begins_colon ls) (λ next. punctuate next ls) (weight ls) (fresh_cost ls) (value_cost ls) (key_cost ls)
-  fresh_cost (comma ∷ ls) = omega arith
-  fresh_cost (colon ∷ ls) = omega arith
+  fresh_cost ls = omega arith
 
   value_cost : (ls : List Lexeme) → cost true (punctuate after_value ls) ≤ weight ls
-  value_cost [] = omega arith
   value_cost (token t ∷ ls) =
       placed after_value t (begins_colon ls) (λ next. punctuate next ls) (weight ls) (fresh_cost ls) (value_cost ls) (key_cost ls)
   value_cost (comma ∷ ls) = omega (arith, comma_more (punctuate after_comma ls), comma_cost ls)
-  value_cost (colon ∷ ls) = omega arith
+  value_cost ls = omega arith
 
   comma_cost : (ls : List Lexeme) → cost false (punctuate after_comma ls) ≤ weight ls
-  comma_cost [] = omega arith
   comma_cost (token t ∷ ls) =
       placed after_comma t (begins_colon ls) (λ next. punctuate next ls) (weight ls) (fresh_cost ls) (value_cost ls) (key_cost ls)
-  comma_cost (comma ∷ ls) = omega arith
-  comma_cost (colon ∷ ls) = omega arith
+  comma_cost ls = omega arith
 
   key_cost : (ls : List Lexeme) → begins_colon ls ≡ true → cost false (punctuate after_key ls) + 1 ≤ weight ls
-  key_cost [] e = absurd (cc)
-  key_cost (token t ∷ ls) e = absurd (cc)
-  key_cost (comma ∷ ls) e = absurd (cc)
   key_cost (colon ∷ ls) e = omega (arith, fresh_cost ls)
+  key_cost ls e = absurd (cc)
 
 -- ---- what a JSON tree takes
 

@@ -1,17 +1,25 @@
 -- What each command has of a line's members.
-use Rattle.std.proofs.Common.{◌≡◌, ℕ, Bool, Option, Some, option_map, ap}
+use Rattle.std.proofs.Common.{◌≡◌, ℕ, List, Bool, true, Option, Some, option_map, ap, refl, sym, subst, ◌∙◌}
+use Rattle.std.specs.List.{AllByRecursion}
 use Rattle.serde_json.specs.Data.{Data, boolean, string}
 use Rattle.tsn_types.specs.declared.keys.Kind.{Kind}
 use Rattle.tsn_records.specs.Keys.{kind_text}
-use Rattle.tsn_records.specs.Shown.{whole_data}
+use Rattle.tsn_records.specs.Shown.{draft_data, whole_data}
 use Rattle.tsn_records.specs.declared.drafts.KeyDraft.{KeyDraft}
 use Rattle.tsn_records.specs.declared.drafts.RecordDraft.{RecordDraft}
-use Rattle.tsn_wire.specs.Lines.{line_rows, IsOf, IsLine}
-use Rattle.tsn_wire.specs.Spelled.{key_value, record_value, IsKey, IsNoPort}
+use Rattle.tsn_records.specs.Json.{members_len}
+use Rattle.tsn_wire.specs.Batches.{is_batch_draft}
+use Rattle.tsn_wire.specs.Lines.{edit_rows, line_rows, IsBare, IsEdit, IsOf, IsLine, IsSoundEdit}
+use Rattle.tsn_wire.specs.Rows.{AllTold}
+use Rattle.tsn_wire.specs.Spelled.{batch_value, key_value, IsKey, IsNoPort}
 use Rattle.tsn_wire.specs.Values.{MayHaveList}
 use Rattle.tsn_wire.specs.Words.{word_text}
+use Rattle.tsn_wire.specs.declared.any_edits.EditMembers.{EditMembers}
 use Rattle.tsn_wire.specs.declared.any_line.LineMembers.{LineMembers}
+use Rattle.tsn_wire.specs.declared.drafts.CommandDraft.{CommandDraft}
 use Rattle.tsn_wire.specs.declared.drafts.CommandDraft.TheVariants as wanted
+use Rattle.tsn_wire.specs.declared.drafts.EditDraft.{EditDraft}
+use Rattle.tsn_wire.specs.declared.drafts.EditDraft.TheVariants as drafts
 use Rattle.tsn_wire.specs.declared.drafts.LineDraft.TheVariants.{Hello, Session}
 use Rattle.tsn_wire.specs.declared.values.Word.{Word}
 use Rattle.tsn_wire.specs.declared.values.Word.TheVariants as words
@@ -20,9 +28,12 @@ use Rattle.tsn_wire.specs.declared.values.Word.TheVariants as words
 row_is : {A : Type 0} (value : A → Data) (o : Option A) (a : A) → o ≡ Some a → Some (option_map value o) ≡ Some (Some (value a))
 row_is value o a is = ap (λ x. Some (option_map value x)) is
 
+word_is : (o : Option Word) (w : Word) → o ≡ Some w → Some (option_map (λ v. string (word_text v)) o) ≡ Some (Some (string (word_text w)))
+word_is o w is = row_is (λ v. string (word_text v)) o w is
+
 word_row : (m : LineMembers) (w : Word) → m.word ≡ Some w
     → Some (option_map (λ v. string (word_text v)) m.word) ≡ Some (Some (string (word_text w)))
-word_row m w is = row_is (λ v. string (word_text v)) m.word w is
+word_row m w is = word_is m.word w is
 
 session_row : (m : LineMembers) (s : ℕ) → m.session ≡ Some s → Some (option_map whole_data m.session) ≡ Some (Some (whole_data s))
 session_row m s is = row_is whole_data m.session s is
@@ -30,32 +41,39 @@ session_row m s is = row_is whole_data m.session s is
 key_row : (m : LineMembers) (key : KeyDraft) → m.key ≡ Some key → Some (option_map key_value m.key) ≡ Some (Some (key_value key))
 key_row m key is = row_is key_value m.key key is
 
-pub undo_line : (m : LineMembers) (count s : ℕ) → m.word ≡ Some words.Undo → m.session ≡ Some s → count ≡ 2
-    → IsLine (line_rows m) count (Session s wanted.Undo)
-undo_line m count s w e len = record { told = (word_row m words.Undo w, (session_row m s e, tt)); len = len; sound = tt }
+pub bare_undo : IsBare words.Undo wanted.Undo
+bare_undo = record { members = λ s. refl; sound = tt }
 
-pub undo_all_line : (m : LineMembers) (count s : ℕ) → m.word ≡ Some words.UndoAll → m.session ≡ Some s → count ≡ 2
-    → IsLine (line_rows m) count (Session s wanted.UndoAll)
-undo_all_line m count s w e len = record { told = (word_row m words.UndoAll w, (session_row m s e, tt)); len = len; sound = tt }
+pub bare_undo_all : IsBare words.UndoAll wanted.UndoAll
+bare_undo_all = record { members = λ s. refl; sound = tt }
 
-pub redo_line : (m : LineMembers) (count s : ℕ) → m.word ≡ Some words.Redo → m.session ≡ Some s → count ≡ 2
-    → IsLine (line_rows m) count (Session s wanted.Redo)
-redo_line m count s w e len = record { told = (word_row m words.Redo w, (session_row m s e, tt)); len = len; sound = tt }
+pub bare_redo : IsBare words.Redo wanted.Redo
+bare_redo = record { members = λ s. refl; sound = tt }
 
-pub resume_line : (m : LineMembers) (count s : ℕ) → m.word ≡ Some words.Resume → m.session ≡ Some s → count ≡ 2
-    → IsLine (line_rows m) count (Session s wanted.Resume)
-resume_line m count s w e len = record { told = (word_row m words.Resume w, (session_row m s e, tt)); len = len; sound = tt }
+pub bare_resume : IsBare words.Resume wanted.Resume
+bare_resume = record { members = λ s. refl; sound = tt }
 
-pub sessions_line : (m : LineMembers) (count s : ℕ) → m.word ≡ Some words.Sessions → m.session ≡ Some s → count ≡ 2
-    → IsLine (line_rows m) count (Session s wanted.Sessions)
-sessions_line m count s w e len = record { told = (word_row m words.Sessions w, (session_row m s e, tt)); len = len; sound = tt }
+pub bare_sessions : IsBare words.Sessions wanted.Sessions
+bare_sessions = record { members = λ s. refl; sound = tt }
+
+pub bare_setup : IsBare words.Setup wanted.Setup
+bare_setup = record { members = λ s. refl; sound = tt }
+
+-- a command that names nothing
+pub bare_line : (m : LineMembers) (count s : ℕ) (w : Word) (command : CommandDraft) → IsBare w command → m.word ≡ Some w
+    → m.session ≡ Some s → count ≡ 2 → IsLine (line_rows m) count (Session s command)
+bare_line m count s w command bare read e len = record {
+  told = subst (AllTold (line_rows m)) (sym (bare.members s)) (word_row m w read, (session_row m s e, tt));
+  len = len ∙ ap members_len (sym (bare.members s));
+  sound = bare.sound;
+}
 
 pub create_line : (m : LineMembers) (count s : ℕ) (key : KeyDraft) (value : RecordDraft) → m.word ≡ Some words.Create → m.session ≡ Some s
     → IsKey key → IsOf key.kind value → m.key ≡ Some key → m.record ≡ Some value → count ≡ 4
     → IsLine (line_rows m) count (Session s (wanted.Create key value))
 create_line m count s key value w e k r x y len =
     record {
-      told = (word_row m words.Create w, (key_row m key x, (row_is record_value m.record value y, (session_row m s e, tt))));
+      told = (word_row m words.Create w, (key_row m key x, (row_is draft_data m.record value y, (session_row m s e, tt))));
       len = len;
       sound = (k, r);
     }
@@ -65,10 +83,41 @@ pub replace_line : (m : LineMembers) (count s : ℕ) (key : KeyDraft) (value : R
     → IsLine (line_rows m) count (Session s (wanted.Replace key value))
 replace_line m count s key value w e k r x y len =
     record {
-      told = (word_row m words.Replace w, (key_row m key x, (row_is record_value m.record value y, (session_row m s e, tt))));
+      told = (word_row m words.Replace w, (key_row m key x, (row_is draft_data m.record value y, (session_row m s e, tt))));
       len = len;
       sound = (k, r);
     }
+
+pub batch_line : (m : LineMembers) (count s : ℕ) (batch : List EditDraft) → m.word ≡ Some words.Batch → m.session ≡ Some s
+    → is_batch_draft batch ≡ true → AllByRecursion IsSoundEdit batch → m.edits ≡ Some batch → count ≡ 3
+    → IsLine (line_rows m) count (Session s (wanted.Batch batch))
+batch_line m count s batch w e is sound x len =
+    record {
+      told = (word_row m words.Batch w, (row_is batch_value m.edits batch x, (session_row m s e, tt)));
+      len = len;
+      sound = (is, sound);
+    }
+
+pub create_edit : (m : EditMembers) (count : ℕ) (key : KeyDraft) (value : RecordDraft) → m.word ≡ Some words.Create → m.key ≡ Some key
+    → m.record ≡ Some value → count ≡ 3 → IsEdit (edit_rows m) count (drafts.Create key value)
+create_edit m count key value w x y len = record {
+  told = (word_is m.word words.Create w, (row_is key_value m.key key x, (row_is draft_data m.record value y, tt)));
+  len = len;
+}
+
+pub replace_edit : (m : EditMembers) (count : ℕ) (key : KeyDraft) (value : RecordDraft) → m.word ≡ Some words.Replace → m.key ≡ Some key
+    → m.record ≡ Some value → count ≡ 3 → IsEdit (edit_rows m) count (drafts.Replace key value)
+replace_edit m count key value w x y len = record {
+  told = (word_is m.word words.Replace w, (row_is key_value m.key key x, (row_is draft_data m.record value y, tt)));
+  len = len;
+}
+
+pub remove_edit : (m : EditMembers) (count : ℕ) (key : KeyDraft) → m.word ≡ Some words.Remove → m.key ≡ Some key → count ≡ 2
+    → IsEdit (edit_rows m) count (drafts.Remove key)
+remove_edit m count key w x len = record {
+  told = (word_is m.word words.Remove w, (row_is key_value m.key key x, tt));
+  len = len;
+}
 
 pub remove_line : (m : LineMembers) (count s : ℕ) (key : KeyDraft) → m.word ≡ Some words.Remove → m.session ≡ Some s → IsKey key
     → IsNoPort key.kind → m.key ≡ Some key → count ≡ 3 → IsLine (line_rows m) count (Session s (wanted.Remove key))
@@ -160,6 +209,11 @@ pub since_line : (m : LineMembers) (count s : ℕ) (after : ℕ) → m.word ≡ 
     → count ≡ 3 → IsLine (line_rows m) count (Session s (wanted.Since after))
 since_line m count s after w e x len =
     record { told = (row_is whole_data m.after after x, (word_row m words.Since w, (session_row m s e, tt))); len = len; sound = tt }
+
+pub settle_line : (m : LineMembers) (count s : ℕ) (upto : ℕ) → m.word ≡ Some words.Settle → m.session ≡ Some s → m.upto ≡ Some upto
+    → count ≡ 3 → IsLine (line_rows m) count (Session s (wanted.Settle upto))
+settle_line m count s upto w e x len =
+    record { told = (word_row m words.Settle w, (session_row m s e, (row_is whole_data m.upto upto x, tt))); len = len; sound = tt }
 
 pub hello_line : (m : LineMembers) (count : ℕ) → m.word ≡ Some words.Hello → count ≡ 1 → IsLine (line_rows m) count Hello
 hello_line m count w len = record { told = (word_row m words.Hello w, tt); len = len; sound = tt }

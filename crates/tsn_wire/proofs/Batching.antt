@@ -1,5 +1,5 @@
 -- A batch is read exactly where it is the value of its edits.
-use Rattle.std.proofs.Common.{◌≡◌, ℕ, List, [], ◌∷◌, map, Bool, true, false, Some, Ok, codes, refl, sym, ap, ap₂, subst, ◌∙◌}
+use Rattle.std.proofs.Common.{◌≡◌, ℕ, List, [], ◌∷◌, map, Bool, true, false, Some, Ok, codes, bytes_eq, refl, sym, ap, ap₂, subst, ◌∙◌}
 use Rattle.std.specs.List.{AllByRecursion}
 use Rattle.serde_json.specs.Data.{Data, string, array, object, Items, no_items, item, member, no_members}
 use Rattle.serde_json.specs.Find.{get}
@@ -11,19 +11,18 @@ use Rattle.tsn_edit.specs.declared.Edit.TheVariants as edits
 use Rattle.tsn_edit.specs.Batches.{IsBatch}
 use Rattle.tsn_types.specs.declared.keys.Key.{Key}
 use Rattle.tsn_types.specs.declared.records.Record.{Record}
-use Rattle.tsn_types.specs.InRange.{KeyedInRange}
 use Rattle.tsn_records.specs.Answers.{each}
-use Rattle.tsn_records.specs.Json.{has_members, items_at, items_list, as_json, text_at, value_at}
+use Rattle.tsn_records.specs.Json.{has_members, items_at, items_list, text_at}
 use Rattle.tsn_records.specs.Keys.{key_text}
-use Rattle.tsn_records.specs.Ranges.{key, record_of}
-use Rattle.tsn_records.specs.Records.{record_shape}
+use Rattle.tsn_records.specs.Ranges.{key}
 use Rattle.tsn_records.specs.Shown.{whole_data, record_data}
 use Rattle.tsn_records.specs.declared.drafts.KeyDraft.{KeyDraft}
-use Rattle.tsn_records.specs.declared.drafts.RecordDraft.{RecordDraft}
-use Rattle.tsn_records.proofs.Steps.{only, steps}
+use Rattle.tsn_records.proofs.RecordsRead.{record_draft}
+use Rattle.tsn_records.proofs.Steps.{last_step, only, steps}
 use Rattle.tsn_wire.specs.Batches.{batch_of, is_batch_draft}
-use Rattle.tsn_wire.specs.Commands.{key_at, keyed_record, removed_key, edit_shape, batch_shape, line_shape}
+use Rattle.tsn_wire.specs.Commands.{key_at, removed_key, edit_shape, batch_shape, line_shape}
 use Rattle.tsn_wire.specs.Ranges.{edit_of_draft, command_of_draft}
+use Rattle.tsn_wire.specs.Rows.{members_of}
 use Rattle.tsn_wire.specs.Spelled.{IsNoPort, edit_value as edit_value_of}
 use Rattle.tsn_wire.specs.Values.{put_data, removal_data, edit_value, batch_data, value_of, EditMayBeAsked, IsSession, MayBeAsked}
 use Rattle.tsn_wire.specs.declared.drafts.CommandDraft.{CommandDraft}
@@ -32,10 +31,11 @@ use Rattle.tsn_wire.specs.declared.drafts.EditDraft.{EditDraft}
 use Rattle.tsn_wire.specs.declared.drafts.EditDraft.TheVariants as drafts
 use Rattle.tsn_wire.specs.declared.drafts.LineDraft.TheVariants.{Session}
 use Rattle.tsn_wire.proofs.Drafting.{batch_passes, tested, test_of}
-use Rattle.tsn_wire.proofs.EditShapes.{IsKept, batch_kept}
-use Rattle.tsn_wire.proofs.FromShapes.{items_there, text_there, value_there}
-use Rattle.tsn_wire.proofs.Known.{by_test, same_text, removable_known, key_there, record_same, record_known, record_draft, key_draft, key_back, instance, read_back}
-use Rattle.tsn_wire.proofs.Objects.{IsOrdered, ItemsAreOrdered, inside, inner_ordered, whole_object}
+use Rattle.tsn_wire.specs.Lines.{IsSoundEdit}
+use Rattle.tsn_wire.proofs.Shaping.{batch_kept}
+use Rattle.tsn_wire.proofs.FromShapes.{items_there, text_there}
+use Rattle.tsn_wire.proofs.Known.{by_test, same_text, removable_known, key_there, record_same, IsKeyed, put_known, put_back, key_draft, key_back, instance, read_back}
+use Rattle.tsn_wire.proofs.Objects.{IsOrdered, ItemsAreOrdered, inner_ordered, whole_object}
 
 -- ---- an edit that is read is the value
 
@@ -43,40 +43,11 @@ use Rattle.tsn_wire.proofs.Objects.{IsOrdered, ItemsAreOrdered, inside, inner_or
 abbrev IsEdit : Data → Edit → Type 0
 IsEdit d x = (d ≡ edit_value x) × EditMayBeAsked x
 
-put_known : (word : List ℕ) (d : Data) (p : KeyDraft × RecordDraft) (k : Key) (r : Record) → IsOrdered d
-    → get (codes "do") d ≡ Some (string word) → keyed_record 3 d ≡ Ok p → key p.0 ≡ Ok k → record_of p.1 ≡ Ok r
-    → (d ≡ put_data word (key_text k) (record_data r)) × KeyedInRange k r
-unfolding keyed_record
-put_known word d p k r ordered there shape range ranges =
-    steps (has_members 3 d) _ p shape (λ u count_is count_next.
-    steps (key_at d) _ p count_next (λ q q_is q_next.
-    steps (value_at (codes "record") d) _ p q_next (λ e e_is e_next.
-    steps (record_shape as_json q.kind e) _ p e_next (λ v v_is v_next.
-    let both = only (Ok (q, v)) (q, v) p refl v_next in
-    let named = key_there d q k q_is (ap (λ x. key x.0) both ∙ range) in
-    let held = value_there (get (codes "record") d) e e_is in
-    let known = record_known k e v r (inner_ordered (codes "record") d e ordered held) named.2
-    (ap (λ x. record_shape as_json x e) (sym named.1) ∙ v_is) (ap (λ x. record_of x.1) both ∙ ranges) in (
-      whole_object 2 d (inside (put_data word (key_text k) (record_data r))) u ordered count_is refl (refl, (refl, tt))
-          (there, (named.0, (held ∙ ap Some known.0, tt))),
-      known.1,
-    )))))
-
-create_known : (d : Data) (p : KeyDraft × RecordDraft) (x : Edit) → IsOrdered d → get (codes "do") d ≡ Some (string (codes "create"))
-    → keyed_record 3 d ≡ Ok p → edit_of_draft (drafts.Create p.0 p.1) ≡ Ok x → IsEdit d x
-create_known d p x ordered there shape range =
-    steps (key p.0) _ x range (λ k k_is k_next.
-    steps (record_of p.1) _ x k_next (λ r r_is r_next.
-    let found = edits.Create k r in
-    subst (IsEdit d) (only (Ok found) found x refl r_next) (put_known (codes "create") d p k r ordered there shape k_is r_is)))
-
-replace_known : (d : Data) (p : KeyDraft × RecordDraft) (x : Edit) → IsOrdered d → get (codes "do") d ≡ Some (string (codes "replace"))
-    → keyed_record 3 d ≡ Ok p → edit_of_draft (drafts.Replace p.0 p.1) ≡ Ok x → IsEdit d x
-replace_known d p x ordered there shape range =
-    steps (key p.0) _ x range (λ k k_is k_next.
-    steps (record_of p.1) _ x k_next (λ r r_is r_next.
-    let found = edits.Replace k r in
-    subst (IsEdit d) (only (Ok found) found x refl r_next) (put_known (codes "replace") d p k r ordered there shape k_is r_is)))
+put_is : (word : List ℕ) (d : Data) (k : Key) (r : Record) → IsOrdered d → get (codes "do") d ≡ Some (string word) → IsKeyed 3 d k r
+    → d ≡ put_data word (key_text k) (record_data r)
+put_is word d k r ordered there held =
+    whole_object 2 d (members_of (put_data word (key_text k) (record_data r))) held.unit ordered held.count refl (refl, (refl, tt))
+    (there, (held.key_is, (held.record_is, tt)))
 
 remove_known : (d : Data) (p : KeyDraft) (x : Edit) → IsOrdered d → get (codes "do") d ≡ Some (string (codes "remove"))
     → removed_key 2 d ≡ Ok p → edit_of_draft (drafts.Remove p) ≡ Ok x → IsEdit d x
@@ -85,11 +56,9 @@ remove_known d p x ordered there shape range =
     steps (has_members 2 d) _ p shape (λ u count_is count_next.
     steps (key_at d) _ p count_next (λ q q_is q_next.
     let may = removable_known q p q.kind q_next in
-    steps (key p) _ x range (λ k k_is k_next.
-    let named = key_there d q k q_is (ap key may.0 ∙ k_is) in
-    let found = edits.Remove k in
-    subst (IsEdit d) (only (Ok found) found x refl k_next) (
-      whole_object 1 d (inside (removal_data (key_text k))) u ordered count_is refl (refl, tt) (there, (named.0, tt)),
+    last_step (key p) x (IsEdit d) edits.Remove range (λ k k_is.
+    let named = key_there d q k q_is (ap key may.0 ∙ k_is) in (
+      whole_object 1 d (members_of (removal_data (key_text k))) u ordered count_is refl (refl, tt) (there, (named.0, tt)),
       (named.2, subst IsNoPort named.1 may.1),
     ))))
 
@@ -97,22 +66,18 @@ edit_known : (d : Data) (e : EditDraft) (x : Edit) → IsOrdered d → edit_shap
 unfolding edit_shape
 edit_known d e x ordered shape range =
     steps (text_at (codes "do") d) _ e shape (λ word word_is word_next.
-    let there = text_there _ word word_is in
+    let named : (name : List ℕ) → bytes_eq word name ≡ true → get (codes "do") d ≡ Some (string name) = λ name t.
+    text_there _ word word_is ∙ ap (λ l. Some (string l)) (same_text word name t) in
     by_test _ _ _ _ word_next
-    (λ t h. steps (keyed_record 3 d) _ e h (λ p p_is p_next.
-    let whole = drafts.Create p.0 p.1 in
-    create_known d p x ordered (there ∙ ap (λ l. Some (string l)) (same_text word _ t)) p_is
-    (ap edit_of_draft (only (Ok whole) whole e refl p_next) ∙ range)))
+    (λ t h. put_known 3 drafts.Create edits.Create edit_of_draft d e x (IsEdit d) ordered (λ _ _. refl) h range (λ k r held.
+    (put_is (codes "create") d k r ordered (named (codes "create") t) held, held.fits)))
     (λ _ h1. by_test _ _ _ _ h1
-    (λ t h. steps (keyed_record 3 d) _ e h (λ p p_is p_next.
-    let whole = drafts.Replace p.0 p.1 in
-    replace_known d p x ordered (there ∙ ap (λ l. Some (string l)) (same_text word _ t)) p_is
-    (ap edit_of_draft (only (Ok whole) whole e refl p_next) ∙ range)))
+    (λ t h. put_known 3 drafts.Replace edits.Replace edit_of_draft d e x (IsEdit d) ordered (λ _ _. refl) h range (λ k r held.
+    (put_is (codes "replace") d k r ordered (named (codes "replace") t) held, held.fits)))
     (λ _ h2. by_test _ _ _ _ h2
     (λ t h. steps (removed_key 2 d) _ e h (λ p p_is p_next.
     let whole = drafts.Remove p in
-    remove_known d p x ordered (there ∙ ap (λ l. Some (string l)) (same_text word _ t)) p_is
-    (ap edit_of_draft (only (Ok whole) whole e refl p_next) ∙ range)))
+    remove_known d p x ordered (named (codes "remove") t) p_is (ap edit_of_draft (only (Ok whole) whole e refl p_next) ∙ range)))
     (λ _ h3. cc))))
 
 -- the items are the values of these edits
@@ -158,7 +123,7 @@ batch_known s d draft c ordered there session_there session shape range =
     let found = commands.Batch b in
     subst (λ x. MayBeAsked s x × (d ≡ value_of s x)) (only (Ok found) found c refl b_next) (
       (session, tested b (sym (batch_passes es b ranges) ∙ kept.1), known.1),
-      whole_object 2 d (inside (batch_data s b)) u ordered count_is refl (refl, (refl, tt))
+      whole_object 2 d (members_of (batch_data s b)) u ordered count_is refl (refl, (refl, tt))
           (there, (held ∙ ap (λ l. Some (array l)) known.0, (session_there, tt))),
     ))))))
 
@@ -179,15 +144,15 @@ values_drafted : (b : List Edit) → items_of (map edit_value_of (map edit_draft
 values_drafted [] = refl
 values_drafted (x ∷ b) = ap₂ item (value_drafted x) (values_drafted b)
 
-drafts_kept : (b : List Edit) → AllByRecursion EditMayBeAsked b → AllByRecursion IsKept (map edit_draft b)
+drafts_kept : (b : List Edit) → AllByRecursion EditMayBeAsked b → AllByRecursion IsSoundEdit (map edit_draft b)
 drafts_kept [] may = tt
-drafts_kept (edits.Create k r ∷ b) may = let back = read_back k r may.0 in ((instance k back.in_range, back.shape), drafts_kept b may.1)
-drafts_kept (edits.Replace k r ∷ b) may = let back = read_back k r may.0 in ((instance k back.in_range, back.shape), drafts_kept b may.1)
+drafts_kept (edits.Create k r ∷ b) may = let back = read_back k r may.0 in ((instance k back.in_range, back.of), drafts_kept b may.1)
+drafts_kept (edits.Replace k r ∷ b) may = let back = read_back k r may.0 in ((instance k back.in_range, back.of), drafts_kept b may.1)
 drafts_kept (edits.Remove k ∷ b) may = ((instance k may.0.0, may.0.1), drafts_kept b may.1)
 
 edit_back : (x : Edit) → EditMayBeAsked x → edit_of_draft (edit_draft x) ≡ Ok x
-edit_back (edits.Create k r) may = let back = read_back k r may in rw (key_back k back.in_range, back.range) refl
-edit_back (edits.Replace k r) may = let back = read_back k r may in rw (key_back k back.in_range, back.range) refl
+edit_back (edits.Create k r) may = put_back edits.Create k r may
+edit_back (edits.Replace k r) may = put_back edits.Replace k r may
 edit_back (edits.Remove k) may = rw (key_back k may.0) refl
 
 pub edits_back : (b : List Edit) → AllByRecursion EditMayBeAsked b → each edit_of_draft (map edit_draft b) ≡ Ok b

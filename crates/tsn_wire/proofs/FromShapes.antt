@@ -1,76 +1,54 @@
 -- A value of an accepted shape is the value of its draft.
-use Rattle.std.proofs.Common.{◌≡◌, ℕ, suc, List, [], ◌∷◌, map, Bool, Option, Some, None, option_and_then, option_map, Result, Ok, codes, refl, sym, ap, ap₂, ◌∙◌, arith}
-use Rattle.serde_json.specs.Data.{Data, null, boolean, number, unsigned, negative, float, string, array, object, Items, no_items, item}
+use Rattle.std.proofs.Common.{◌≡◌, ℕ, suc, List, [], ◌∷◌, map, Bool, Option, Some, None, option_and_then, option_map, Result, Ok, Ordering, Less, Equal, Greater, refl, sym, ap, ap₂, subst, ◌∙◌, arith}
+use Rattle.std.specs.Ordering.{match_ordering}
+use Rattle.std.specs.Prelude.{⊤}
+use Rattle.serde_json.specs.Data.{Data, null, boolean, number, unsigned, string, array, Items, no_items, item, Members, no_members, member, put}
 use Rattle.serde_json.specs.Find.{at, get, get_item, as_bool, as_str, as_array}
 use Rattle.serde_json.specs.View.{items_of}
 use Rattle.tsn_records.specs.Answers.{or_shape, each}
 use Rattle.tsn_records.specs.Json.{items_list, items_len, whole, whole_or_null, has_items, as_json}
-use Rattle.tsn_records.specs.Records.{port_entry_shape, gate_entry_shape, schedule_shape, port_shape, gate_shape, filter_shape, meter_shape}
-use Rattle.tsn_records.specs.Shown.{whole_data, or_null, list_array}
-use Rattle.tsn_wire.specs.Spelled.{port_entry_value, gate_entry_value, port_value, filter_value, gate_value, meter_value}
+use Rattle.tsn_records.specs.Members.{rows_of}
+use Rattle.tsn_records.specs.Records.{port_entry_shape, gate_entry_shape, list_shape, member_shape, record_shape}
+use Rattle.tsn_records.specs.Values.{kind_of_draft, values_of}
+use Rattle.tsn_records.specs.Shown.{draft_data, gate_entry_value, list_array, member_data, named, or_null, port_entry_value, whole_data}
+use Rattle.tsn_wire.specs.Rows.{members_of}
+use Rattle.tsn_types.specs.declared.keys.Kind.{Kind}
+use Rattle.tsn_types.specs.declared.keys.Kind.TheVariants as kinds
+use Rattle.tsn_records.specs.declared.allowed.Allowed.{Allowed}
+use Rattle.tsn_records.specs.declared.allowed.Allowed.TheVariants as allowed
+use Rattle.tsn_records.specs.declared.drafts.MemberDraft.{MemberDraft}
+use Rattle.tsn_records.specs.declared.drafts.MemberDraft.TheVariants.{Number, Maybe, Flag, PortList, GateList}
+use Rattle.tsn_records.specs.declared.drafts.RecordDraft.{RecordDraft}
+use Rattle.tsn_records.specs.declared.drafts.RecordDraft.TheVariants as records
 use Rattle.tsn_records.specs.declared.drafts.PortEntryDraft.{PortEntryDraft}
 use Rattle.tsn_records.specs.declared.drafts.GateEntryDraft.{GateEntryDraft}
-use Rattle.tsn_records.specs.declared.drafts.ScheduleDraft.{ScheduleDraft}
-use Rattle.tsn_records.specs.declared.drafts.PortDraft.{PortDraft}
-use Rattle.tsn_records.specs.declared.drafts.GateDraft.{GateDraft}
-use Rattle.tsn_records.specs.declared.drafts.FilterDraft.{FilterDraft}
-use Rattle.tsn_records.specs.declared.drafts.MeterDraft.{MeterDraft}
 use Rattle.tsn_records.specs.declared.unread.Unread.{Unread}
-use Rattle.tsn_records.proofs.Shapes.{port_entry_has, gate_entry_has, schedule_has, port_has, gate_has, filter_has, meter_has}
-use Rattle.tsn_records.proofs.Steps.{mapped_there, only, steps}
-use Rattle.tsn_wire.proofs.Objects.{IsOrdered, counted, inside, whole_object}
+use Rattle.tsn_records.proofs.Shapes.{RecordHas, port_entry_has, gate_entry_has, record_has}
+use Rattle.tsn_records.proofs.Steps.{last_step, mapped_there, only, steps, there}
+use Rattle.tsn_wire.proofs.Objects.{Holds, IsOrdered, Rise, counted, order, same_name, whole_object}
 
 -- ---- members and items of one kind
 
 whole_is : (d : Data) (n : ℕ) → or_shape (whole d) ≡ Ok n → d ≡ whole_data n
-whole_is null n h = cc
-whole_is (boolean b) n h = cc
 whole_is (number (unsigned m)) n h = ap whole_data (only (Ok m) m n refl h)
-whole_is (number (negative z)) n h = cc
-whole_is (number (float x)) n h = cc
-whole_is (string s) n h = cc
-whole_is (array ds) n h = cc
-whole_is (object ms) n h = cc
+whole_is d n h = cc
 
 or_null_is : (d : Data) (o : Option ℕ) → or_shape (whole_or_null d) ≡ Ok o → d ≡ or_null o
 or_null_is null o h = ap or_null (only (Ok None) None o refl h)
-or_null_is (boolean b) o h = cc
 or_null_is (number (unsigned m)) o h = ap or_null (only (Ok (Some m)) (Some m) o refl h)
-or_null_is (number (negative z)) o h = cc
-or_null_is (number (float x)) o h = cc
-or_null_is (string s) o h = cc
-or_null_is (array ds) o h = cc
-or_null_is (object ms) o h = cc
+or_null_is d o h = cc
 
 flag_is : (d : Data) (b : Bool) → or_shape (as_bool d) ≡ Ok b → d ≡ boolean b
-flag_is null b h = cc
 flag_is (boolean c) b h = ap boolean (only (Ok c) c b refl h)
-flag_is (number x) b h = cc
-flag_is (string s) b h = cc
-flag_is (array ds) b h = cc
-flag_is (object ms) b h = cc
+flag_is d b h = cc
 
 text_is : (d : Data) (s : List ℕ) → or_shape (as_str d) ≡ Ok s → d ≡ string s
-text_is null s h = cc
-text_is (boolean b) s h = cc
-text_is (number x) s h = cc
 text_is (string t) s h = ap string (only (Ok t) t s refl h)
-text_is (array ds) s h = cc
-text_is (object ms) s h = cc
+text_is d s h = cc
 
 array_is : (d : Data) (ds : Items) → or_shape (as_array d) ≡ Ok ds → d ≡ array ds
-array_is null ds h = cc
-array_is (boolean b) ds h = cc
-array_is (number x) ds h = cc
-array_is (string s) ds h = cc
 array_is (array es) ds h = ap array (only (Ok es) es ds refl h)
-array_is (object ms) ds h = cc
-
--- what there is, and of which value it is
-there : {A : Type 0} (f : Data → Option A) (value : A → Data) → ((d : Data) (a : A) → or_shape (f d) ≡ Ok a → d ≡ value a)
-    → (o : Option Data) (a : A) → or_shape (option_and_then f o) ≡ Ok a → o ≡ Some (value a)
-there f value is None a h = cc
-there f value is (Some d) a h = ap Some (is d a h)
+array_is d ds h = cc
 
 pub number_there : (o : Option Data) (n : ℕ) → or_shape (option_and_then whole o) ≡ Ok n → o ≡ Some (whole_data n)
 number_there = there whole whole_data whole_is
@@ -100,12 +78,8 @@ value_there (Some b) a h = ap Some (only (Ok b) b a refl h)
 
 -- an array of so many items
 array_of : (n : ℕ) (d : Data) (u : Unit {0}) → has_items (suc n) d ≡ Ok u → (ds : Items) × (d ≡ array ds) × (items_len ds ≡ suc n)
-array_of n null u h = let none = counted 0 (suc n) u h in absurd (omega arith)
-array_of n (boolean b) u h = let none = counted 0 (suc n) u h in absurd (omega arith)
-array_of n (number x) u h = let none = counted 0 (suc n) u h in absurd (omega arith)
-array_of n (string s) u h = let none = counted 0 (suc n) u h in absurd (omega arith)
 array_of n (array ds) u h = (ds, refl, counted (items_len ds) (suc n) u h)
-array_of n (object ms) u h = let none = counted 0 (suc n) u h in absurd (omega arith)
+array_of n d u h = let none = counted 0 (suc n) u h in absurd (omega arith)
 
 two : (ds : Items) (a b : Data) → items_len ds ≡ 2 → get_item 0 ds ≡ Some a → get_item 1 ds ≡ Some b → ds ≡ item a (item b no_items)
 two no_items a b len e0 e1 = absurd (omega arith)
@@ -151,90 +125,84 @@ each_known shape value one (item d ds) es h =
 
 -- ---- records
 
--- the members that a port and a stream gate share
-record ScheduleThere {E : Type 0} (value : E → Data) (d : Data) (s : ScheduleDraft E) : Type 0 where
-  list : get (codes "list") d ≡ Some (list_array value s.list)
-  cycle : get (codes "cycle") d ≡ Some (whole_data s.cycle)
-  extension : get (codes "extension") d ≡ Some (whole_data s.extension)
-  base : get (codes "base") d ≡ Some (whole_data s.base)
+-- the members that are read are held under their names
+abbrev AreHeld : Data → List (List ℕ × Allowed) → List MemberDraft → Type 0
+AreHeld d [] vs = ⊤
+AreHeld d (row ∷ rows) [] = ⊤
+AreHeld d (row ∷ rows) (v ∷ vs) = (get row.0 d ≡ Some (member_data v)) × AreHeld d rows vs
 
-schedule_known : {E : Type 0} (shape : Data → Result E Unread) (value : E → Data) → ((d : Data) (e : E) → shape d ≡ Ok e → d ≡ value e)
-    → (d : Data) (s : ScheduleDraft E) → schedule_shape as_json shape d ≡ Ok s → ScheduleThere value d s
-schedule_known shape value one d s h =
-    let has = schedule_has as_json shape d s h in
-    let here = list_there _ has.entries has.items in
-    let listed : each shape (items_list here.0) ≡ Ok s.list = ap (each shape) here.2 ∙ has.list in
-    record {
-      list = here.1 ∙ ap (λ ds. Some (array ds)) (each_known shape value one here.0 s.list listed);
-      cycle = number_there _ _ has.cycle;
-      extension = number_there _ _ has.extension;
-      base = number_there _ _ has.base;
-    }
+list_known : {E : Type 0} (shape : Data → Result E Unread) (value : E → Data) → ((d : Data) (e : E) → shape d ≡ Ok e → d ≡ value e)
+    → (found : Option Data) (es : List E) → list_shape as_json shape found ≡ Ok es → found ≡ Some (list_array value es)
+list_known shape value one found es h =
+    steps (as_json.items found) _ es h (λ ds ds_is ds_next.
+    let here = list_there found ds ds_is in
+    here.1 ∙ ap (λ l. Some (array l)) (each_known shape value one here.0 es (ap (each shape) here.2 ∙ ds_next)))
 
-pub port_known : (d : Data) (r : PortDraft) → IsOrdered d → port_shape as_json d ≡ Ok r → d ≡ port_value r
-port_known d r ordered h =
-    let has = port_has as_json d r h in
-    let times = schedule_known (port_entry_shape as_json) port_entry_value port_entry_known d r.admin has.admin in
-    whole_object 4 d (inside (port_value r)) tt ordered has.only refl (refl, (refl, (refl, (refl, tt))))
-    (times.base, (times.cycle, (times.extension, (number_there _ _ has.gates, (times.list, tt)))))
+member_known : (kind : Kind) (row : Allowed) (found : Option Data) (v : MemberDraft) → member_shape as_json kind row found ≡ Ok v
+    → found ≡ Some (member_data v)
+unfolding member_shape
+member_known kind (allowed.Number least most) found v h =
+    last_step (as_json.number found) v (λ x. found ≡ Some (member_data x)) Number h (λ n is. number_there found n is)
+member_known kind (allowed.NumberOrNone least most) found v h =
+    last_step (as_json.number_or_none found) v (λ x. found ≡ Some (member_data x)) Maybe h (λ o is. or_null_there found o is)
+member_known kind allowed.Flag found v h =
+    last_step (as_json.flag found) v (λ x. found ≡ Some (member_data x)) Flag h (λ b is. flag_there found b is)
+member_known kinds.Port (allowed.List most) found v h =
+    last_step (list_shape as_json (port_entry_shape as_json) found) v (λ x. found ≡ Some (member_data x)) PortList h
+    (λ es is. list_known (port_entry_shape as_json) port_entry_value port_entry_known found es is)
+member_known kinds.Gate (allowed.List most) found v h =
+    last_step (list_shape as_json (gate_entry_shape as_json) found) v (λ x. found ≡ Some (member_data x)) GateList h
+    (λ es is. list_known (gate_entry_shape as_json) gate_entry_value gate_entry_known found es is)
+member_known kind row found v h = cc
 
-pub gate_known : (d : Data) (r : GateDraft) → IsOrdered d → gate_shape as_json d ≡ Ok r → d ≡ gate_value r
-gate_known d r ordered h =
-    let has = gate_has as_json d r h in
-    let times = schedule_known (gate_entry_shape as_json) gate_entry_value gate_entry_known d r.admin has.admin in
-    whole_object 7 d (inside (gate_value r)) tt ordered has.only refl (refl, (refl, (refl, (refl, (refl, (refl, (refl, tt))))))) (
-      times.base,
-      (
-        times.cycle,
-        (
-          times.extension,
-          (
-            flag_there _ _ has.invalid_rx,
-            (
-              or_null_there _ _ has.ipv,
-              (
-                times.list,
-                (flag_there _ _ has.octets_exceeded, (flag_there _ _ has.is_open, tt)),
-              ),
-            ),
-          ),
-        ),
-      ),
-    )
+members_known : (kind : Kind) (d : Data) (rows : List (List ℕ × Allowed)) (vs : List MemberDraft)
+    → each (λ row. member_shape as_json kind row.1 (get row.0 d)) rows ≡ Ok vs → AreHeld d rows vs
+members_known kind d [] vs h = tt
+members_known kind d (row ∷ rows) vs h =
+    steps (member_shape as_json kind row.1 (get row.0 d)) _ vs h (λ v v_is v_next.
+    last_step (each (λ r. member_shape as_json kind r.1 (get r.0 d)) rows) vs (AreHeld d (row ∷ rows)) (λ ws. v ∷ ws) v_next
+    (λ ws ws_is. (member_known kind row.1 (get row.0 d) v v_is, members_known kind d rows ws ws_is)))
 
-pub filter_known : (d : Data) (r : FilterDraft) → IsOrdered d → filter_shape as_json d ≡ Ok r → d ≡ filter_value r
-filter_known d r ordered h =
-    let has = filter_has as_json d r h in
-    whole_object 5 d (inside (filter_value r)) tt ordered has.only refl (refl, (refl, (refl, (refl, (refl, tt))))) (
-      number_there _ _ has.gate,
-      (
-        or_null_there _ _ has.handle,
-        (
-          or_null_there _ _ has.max_sdu,
-          (
-            or_null_there _ _ has.meter,
-            (flag_there _ _ has.oversize, (or_null_there _ _ has.priority, tt)),
-          ),
-        ),
-      ),
-    )
+-- a member more that is held
+holds_put_at : (o : Ordering) (d : Data) (k l : List ℕ) (e f : Data) (ms : Members) → order k l ≡ o → get k d ≡ Some e
+    → Holds d (member l f ms) → Holds d (put k e ms)
+    → Holds d (match_ordering o (member k e (member l f ms)) (member l e ms) (member l f (put k e ms)))
+holds_put_at Less d k l e f ms is here held later = (here, held)
+holds_put_at Equal d k l e f ms is here held later = (subst (λ n. get n d ≡ Some e) (same_name k l is) here, held.1)
+holds_put_at Greater d k l e f ms is here held later = (held.0, later)
 
-pub meter_known : (d : Data) (r : MeterDraft) → IsOrdered d → meter_shape as_json d ≡ Ok r → d ≡ meter_value r
-meter_known d r ordered h =
-    let has = meter_has as_json d r h in
-    whole_object 7 d (inside (meter_value r)) tt ordered has.only refl (refl, (refl, (refl, (refl, (refl, (refl, (refl, tt))))))) (
-      flag_there _ _ has.all_red,
-      (
-        flag_there _ _ has.aware,
-        (
-          number_there _ _ has.cbs,
-          (
-            flag_there _ _ has.cf,
-            (
-              number_there _ _ has.cir,
-              (flag_there _ _ has.drop_yellow, (number_there _ _ has.ebs, (number_there _ _ has.eir, tt))),
-            ),
-          ),
-        ),
-      ),
-    )
+holds_put : (d : Data) (k : List ℕ) (e : Data) (ms : Members) → get k d ≡ Some e → Holds d ms → Holds d (put k e ms)
+holds_put d k e no_members here held = (here, tt)
+holds_put d k e (member l f ms) here held = holds_put_at (order k l) d k l e f ms refl here held (holds_put d k e ms here held.1)
+
+holds_named : (d : Data) (rows : List (List ℕ × Allowed)) (vs : List MemberDraft) → AreHeld d rows vs → Holds d (named rows vs)
+holds_named d [] vs h = tt
+holds_named d (row ∷ rows) [] h = tt
+holds_named d (row ∷ rows) (v ∷ vs) h = holds_put d row.0 (member_data v) (named rows vs) h.0 (holds_named d rows vs h.1)
+
+-- the members of a record's object rise
+pub record_rises : (r : RecordDraft) → Rise (members_of (draft_data r))
+record_rises (records.Port r) = (refl, (refl, (refl, (refl, tt))))
+record_rises (records.Filter r) = (refl, (refl, (refl, (refl, (refl, tt)))))
+record_rises (records.Gate r) = (refl, (refl, (refl, (refl, (refl, (refl, (refl, tt)))))))
+record_rises (records.Meter r) = (refl, (refl, (refl, (refl, (refl, (refl, (refl, tt)))))))
+
+record_is : (d : Data) (r : RecordDraft) → IsOrdered d → RecordHas as_json (kind_of_draft r) d r
+    → Holds d (members_of (draft_data r)) → d ≡ draft_data r
+record_is d (records.Port r) ordered has held =
+    whole_object 4 d (members_of (draft_data (records.Port r))) tt ordered has.only refl (record_rises (records.Port r)) held
+record_is d (records.Filter r) ordered has held =
+    whole_object 5 d (members_of (draft_data (records.Filter r))) tt ordered has.only refl (record_rises (records.Filter r)) held
+record_is d (records.Gate r) ordered has held =
+    whole_object 7 d (members_of (draft_data (records.Gate r))) tt ordered has.only refl (record_rises (records.Gate r)) held
+record_is d (records.Meter r) ordered has held =
+    whole_object 7 d (members_of (draft_data (records.Meter r))) tt ordered has.only refl (record_rises (records.Meter r)) held
+
+-- a value of the shape of a record is the record's
+pub record_known : (kind : Kind) (d : Data) (r : RecordDraft) → IsOrdered d → record_shape as_json kind d ≡ Ok r → d ≡ draft_data r
+record_known kind d r ordered h =
+    let has = record_has as_json kind d r h in
+    let same : RecordHas as_json (kind_of_draft r) d r = subst (λ k. RecordHas as_json k d r) (sym has.of) has in
+    record_is d r ordered same
+    (holds_named d (rows_of (kind_of_draft r)) (values_of r) (members_known (kind_of_draft r) d (rows_of (kind_of_draft r)) (values_of r)
+    same.members))

@@ -12,14 +12,17 @@ use Rattle.serde_json.specs.Data.{Data, object, Members, no_members, member, put
 use Rattle.serde_json.specs.Find.{get_member}
 use Rattle.serde_json.specs.Read.{of_json, of_members}
 use Rattle.tsn_records.specs.Json.{members_len}
+use Rattle.tsn_records.specs.Shown.{draft_data}
+use Rattle.tsn_records.specs.declared.drafts.RecordDraft.{RecordDraft}
+use Rattle.tsn_records.specs.declared.drafts.RecordDraft.TheVariants as records
 use Rattle.tsn_wire.specs.Lexed.{comma_if, value_lexemes, members_lexemes, ReadsValue}
 use Rattle.tsn_wire.specs.Members.{Rows, row_at, put_row, Tells, AreOpen, Fills, ReadsMember, ReadsMembers}
 use Rattle.tsn_wire.specs.Rows.{AllTold, members_of}
-use Rattle.tsn_wire.specs.Spelled.{port_value, filter_value, gate_value, meter_value}
-use Rattle.tsn_records.specs.declared.drafts.PortDraft.{PortDraft}
-use Rattle.tsn_records.specs.declared.drafts.GateDraft.{GateDraft}
-use Rattle.tsn_records.specs.declared.drafts.FilterDraft.{FilterDraft}
-use Rattle.tsn_records.specs.declared.drafts.MeterDraft.{MeterDraft}
+use Rattle.tsn_wire.specs.Lines.{IsEdit}
+use Rattle.tsn_wire.specs.declared.drafts.EditDraft.{EditDraft}
+use Rattle.tsn_wire.specs.declared.drafts.EditDraft.TheVariants as edits
+use Rattle.tsn_wire.specs.Spelled.{edit_value}
+use Rattle.tsn_wire.proofs.FromShapes.{record_rises}
 use Rattle.tsn_wire.proofs.Objects.{order, same_name, same_order, Holds, Rise, IsOrdered, of_json_ordered, only_these}
 use Rattle.tsn_wire.proofs.Scanning.{deeper}
 
@@ -245,22 +248,28 @@ record_read : (n : ℕ) (text rest : List Lexeme) (rows : Rows) (count : ℕ) (d
 record_read n text rest rows count d w m all =
     subst (λ e. ReadsValue (n + 1) text e rest) w.same (object_read n text rest rows count (members_of d) m all w.rise w.len)
 
-pub port_read : (text rest : List Lexeme) (rows : Rows) (r : PortDraft) → ReadsMembers 2 text rows 5 rest
-    → AllTold rows (members_of (port_value r)) → ReadsValue 3 text (port_value r) rest
-port_read text rest rows r =
-    record_read 2 text rest rows 5 (port_value r) (record { same = refl; rise = (refl, (refl, (refl, (refl, tt)))); len = refl })
+draft_whole : (r : RecordDraft) (count : ℕ) → count ≡ members_len (members_of (draft_data r)) → IsWhole count (draft_data r)
+draft_whole (records.Port r) count len = record { same = refl; rise = record_rises (records.Port r); len = len }
+draft_whole (records.Filter r) count len = record { same = refl; rise = record_rises (records.Filter r); len = len }
+draft_whole (records.Gate r) count len = record { same = refl; rise = record_rises (records.Gate r); len = len }
+draft_whole (records.Meter r) count len = record { same = refl; rise = record_rises (records.Meter r); len = len }
 
-pub filter_read : (text rest : List Lexeme) (rows : Rows) (r : FilterDraft) → ReadsMembers 2 text rows 6 rest
-    → AllTold rows (members_of (filter_value r)) → ReadsValue 3 text (filter_value r) rest
-filter_read text rest rows r =
-    record_read 2 text rest rows 6 (filter_value r) (record { same = refl; rise = (refl, (refl, (refl, (refl, (refl, tt))))); len = refl })
+pub draft_read : (text rest : List Lexeme) (rows : Rows) (count : ℕ) (r : RecordDraft) → ReadsMembers 2 text rows count rest
+    → AllTold rows (members_of (draft_data r)) → count ≡ members_len (members_of (draft_data r)) → ReadsValue 3 text (draft_data r) rest
+draft_read text rest rows count r m all len = record_read 2 text rest rows count (draft_data r) (draft_whole r count len) m all
 
-pub gate_read : (text rest : List Lexeme) (rows : Rows) (r : GateDraft) → ReadsMembers 2 text rows 8 rest
-    → AllTold rows (members_of (gate_value r)) → ReadsValue 3 text (gate_value r) rest
-gate_read text rest rows r = record_read 2 text rest rows 8 (gate_value r)
-    (record { same = refl; rise = (refl, (refl, (refl, (refl, (refl, (refl, (refl, tt))))))); len = refl })
+edit_rises : (e : EditDraft) → Rise (members_of (edit_value e))
+edit_rises (edits.Create key v) = (refl, (refl, tt))
+edit_rises (edits.Replace key v) = (refl, (refl, tt))
+edit_rises (edits.Remove key) = (refl, tt)
 
-pub meter_read : (text rest : List Lexeme) (rows : Rows) (r : MeterDraft) → ReadsMembers 2 text rows 8 rest
-    → AllTold rows (members_of (meter_value r)) → ReadsValue 3 text (meter_value r) rest
-meter_read text rest rows r = record_read 2 text rest rows 8 (meter_value r)
-    (record { same = refl; rise = (refl, (refl, (refl, (refl, (refl, (refl, (refl, tt))))))); len = refl })
+edit_same : (e : EditDraft) → object (members_of (edit_value e)) ≡ edit_value e
+edit_same (edits.Create key v) = refl
+edit_same (edits.Replace key v) = refl
+edit_same (edits.Remove key) = refl
+
+pub edit_read : (text rest : List Lexeme) (rows : Rows) (count : ℕ) (o : Option EditDraft) → ReadsMembers 3 text rows count rest
+    → IfSome o (IsEdit rows count) → IfSome o (λ e. ReadsValue 4 text (edit_value e) rest)
+edit_read text rest rows count None m is = tt
+edit_read text rest rows count (Some e) m is =
+    record_read 3 text rest rows count (edit_value e) (record { same = edit_same e; rise = edit_rises e; len = is.len }) m is.told

@@ -1,5 +1,5 @@
 -- Keys and records that are read: a key and a record that pass are those of the value, and read back from it.
-use Rattle.std.proofs.Common.{◌≡◌, ℕ, ◌≤◌, ◌||◌, ◌==◌, ◌++◌, List, [], ◌∷◌, length, drop, map, Bool, true, false, not, cond, nat_eq, Option, Some, None, option_map, Ok, codes, decimal, bytes_eq, refl, sym, ap, ap₂, subst, ◌∙◌, arith, eqb-true, leb-true, ltb-true}
+use Rattle.std.proofs.Common.{◌≡◌, ℕ, ◌≤◌, ◌||◌, ◌==◌, ◌++◌, List, [], ◌∷◌, length, drop, map, Bool, true, false, not, cond, nat_eq, Option, Some, None, option_map, Result, Ok, codes, decimal, bytes_eq, refl, sym, ap, ap₂, ◌∙◌, arith, eqb-true, leb-true, ltb-true}
 use Rattle.std.specs.List.{starts_with}
 use Rattle.std.specs.Str.Parse.{digits_value}
 use Rattle.std.proofs.lemmas.Bool.Decides.{Decides-eqb}
@@ -12,31 +12,31 @@ use Rattle.tsn_types.specs.declared.keys.Key.{Key}
 use Rattle.tsn_types.specs.declared.keys.Key.TheVariants as keys
 use Rattle.tsn_types.specs.declared.keys.Kind.{Kind}
 use Rattle.tsn_types.specs.declared.keys.Kind.TheVariants as kinds
-use Rattle.tsn_types.specs.declared.records.PortGates.{PortGates}
-use Rattle.tsn_types.specs.declared.records.StreamGate.{StreamGate}
 use Rattle.tsn_types.specs.declared.records.Record.{Record}
 use Rattle.tsn_types.specs.declared.records.Record.TheVariants as records
 use Rattle.tsn_types.specs.declared.refusals.Field.TheVariants as fields
 use Rattle.tsn_types.specs.InRange.{KeyedInRange}
 use Rattle.tsn_types.specs.Keys.{kind, number_of}
 use Rattle.tsn_types.specs.Numbers.{IsInstanceId, greatest_instance, most_ports}
-use Rattle.tsn_wire.specs.Commands.{key_at, removable}
-use Rattle.tsn_records.specs.Json.{as_json, text_at}
+use Rattle.tsn_wire.specs.Commands.{key_at, keyed_record, removable}
+use Rattle.tsn_records.specs.Answers.{◌>>=◌}
+use Rattle.tsn_records.specs.Json.{as_json, has_members, text_at, value_at}
 use Rattle.tsn_records.specs.Keys.{is_decimal, decimal_of, numbered, key_of, kind_of, key_text, kind_text, spelled_key}
-use Rattle.tsn_records.specs.Ranges.{within, port, filter, gate, meter, record_of, key, key_of_kind}
-use Rattle.tsn_records.specs.Records.{port_shape, filter_shape, gate_shape, meter_shape, record_shape}
-use Rattle.tsn_records.specs.Shown.{port_entry_data, gate_entry_data, port_data, gate_data, record_data}
-use Rattle.tsn_wire.specs.Spelled.{IsNoPort, port_entry_value, gate_entry_value, port_value, filter_value, gate_value, meter_value, record_value}
+use Rattle.tsn_records.specs.Ranges.{within, record_of, key, key_of_kind}
+use Rattle.tsn_records.specs.Records.{record_shape}
+use Rattle.tsn_records.specs.Shown.{draft_data, gate_entry_data, gate_entry_value, port_entry_data, port_entry_value, record_data}
+use Rattle.tsn_wire.specs.Lines.{IsOf}
+use Rattle.tsn_wire.specs.Spelled.{IsNoPort}
 use Rattle.tsn_wire.specs.Values.{KeyInRange}
 use Rattle.tsn_records.specs.declared.drafts.KeyDraft.{KeyDraft}
 use Rattle.tsn_records.specs.declared.drafts.RecordDraft.{RecordDraft}
-use Rattle.tsn_records.specs.declared.drafts.RecordDraft.TheVariants as drafts
+use Rattle.tsn_records.specs.declared.unread.Unread.{Unread}
 use Rattle.tsn_records.proofs.Digits.{own, and_parts}
-use Rattle.tsn_records.proofs.RecordRanges.{passed, at_most, port_passed, filter_passed, gate_passed, meter_passed, within_ok, at_most_ok, port_entry_draft, gate_entry_draft, port_draft, gate_draft, filter_draft, meter_draft, port_back, filter_back, gate_back, meter_back}
-use Rattle.tsn_records.proofs.Steps.{only, steps}
-use Rattle.tsn_wire.proofs.FromShapes.{text_there, value_there, port_known, filter_known, gate_known, meter_known}
-use Rattle.tsn_wire.proofs.Objects.{IsOrdered}
-use Rattle.tsn_wire.proofs.OwnSpelling.{port_shaped, filter_shaped, gate_shaped, meter_shaped}
+use Rattle.tsn_records.proofs.RecordsRead.{InRangeOf, record_draft, record_read}
+use Rattle.tsn_records.proofs.RecordRanges.{passed, at_most, within_ok, at_most_ok, port_entry_draft, gate_entry_draft, port_back, filter_back, gate_back, meter_back}
+use Rattle.tsn_records.proofs.Steps.{last_step, only, steps}
+use Rattle.tsn_wire.proofs.FromShapes.{record_known as value_known, text_there, value_there}
+use Rattle.tsn_wire.proofs.Objects.{IsOrdered, inner_ordered}
 
 -- one of two, by a test
 pub by_test : {A P : Type 0} (b : Bool) (x y z : A) → cond b x y ≡ z → (b ≡ true → x ≡ z → P) → (b ≡ false → y ≡ z → P) → P
@@ -103,28 +103,24 @@ kind_known text k h =
     (λ _ h2. by_test _ _ _ _ h2 (λ e n. same_text text _ e ∙ ap kind_text (some kinds.Gate k n))
     (λ _ h3. by_test _ _ _ _ h3 (λ e n. same_text text _ e ∙ ap kind_text (some kinds.Meter k n)) (λ _ h4. cc))))
 
+-- a key of that kind and number
+abbrev IsPassed : Kind → ℕ → Key → Type 0
+IsPassed q n k = (q ≡ kind k) × (n ≡ number_of k) × KeyInRange k
+
+instance_passed : (n : ℕ) (k : Key) (P : Key → Type 0) (of : ℕ → Key) → (within fields.Key 0 greatest_instance n >>= λ m. Ok (of m)) ≡ Ok k
+    → ((m : ℕ) → n ≡ m → m ≤ greatest_instance → P (of m)) → P k
+instance_passed n k P of h holds =
+    last_step (within fields.Key 0 greatest_instance n) k P of h (λ m is.
+    let known = at_most fields.Key greatest_instance n m is in holds m known.0 known.1)
+
 -- a key that passes
-pub key_passed_at : (q : Kind) (n : ℕ) (k : Key) → key_of_kind q n ≡ Ok k → (q ≡ kind k) × (n ≡ number_of k) × KeyInRange k
+pub key_passed_at : (q : Kind) (n : ℕ) (k : Key) → key_of_kind q n ≡ Ok k → IsPassed q n k
 key_passed_at kinds.Port n k h =
-    steps (within fields.Key 1 most_ports n) _ k h (λ number number_is number_next.
-    let known = passed fields.Key 1 most_ports n number number_is in
-    subst (λ x. (kinds.Port ≡ kind x) × (n ≡ number_of x) × KeyInRange x)
-    (only (Ok (keys.Port number)) (keys.Port number) k refl number_next) (refl, known.0, known.1))
-key_passed_at kinds.Filter n k h =
-    steps (within fields.Key 0 greatest_instance n) _ k h (λ number number_is number_next.
-    let known = at_most fields.Key greatest_instance n number number_is in
-    subst (λ x. (kinds.Filter ≡ kind x) × (n ≡ number_of x) × KeyInRange x)
-    (only (Ok (keys.Filter number)) (keys.Filter number) k refl number_next) (refl, known.0, known.1))
-key_passed_at kinds.Gate n k h =
-    steps (within fields.Key 0 greatest_instance n) _ k h (λ number number_is number_next.
-    let known = at_most fields.Key greatest_instance n number number_is in
-    subst (λ x. (kinds.Gate ≡ kind x) × (n ≡ number_of x) × KeyInRange x)
-    (only (Ok (keys.Gate number)) (keys.Gate number) k refl number_next) (refl, known.0, known.1))
-key_passed_at kinds.Meter n k h =
-    steps (within fields.Key 0 greatest_instance n) _ k h (λ number number_is number_next.
-    let known = at_most fields.Key greatest_instance n number number_is in
-    subst (λ x. (kinds.Meter ≡ kind x) × (n ≡ number_of x) × KeyInRange x)
-    (only (Ok (keys.Meter number)) (keys.Meter number) k refl number_next) (refl, known.0, known.1))
+    last_step (within fields.Key 1 most_ports n) k (IsPassed kinds.Port n) keys.Port h (λ m is.
+    let known = passed fields.Key 1 most_ports n m is in (refl, known.0, known.1))
+key_passed_at kinds.Filter n k h = instance_passed n k (IsPassed kinds.Filter n) keys.Filter h (λ m same fits. (refl, same, fits))
+key_passed_at kinds.Gate n k h = instance_passed n k (IsPassed kinds.Gate n) keys.Gate h (λ m same fits. (refl, same, fits))
+key_passed_at kinds.Meter n k h = instance_passed n k (IsPassed kinds.Meter n) keys.Meter h (λ m same fits. (refl, same, fits))
 
 -- the member `key` of a value
 pub key_there : (d : Data) (q : KeyDraft) (k : Key) → key_at d ≡ Ok q → key q ≡ Ok k
@@ -150,57 +146,62 @@ entries_same : {A B : Type 0} (value : B → Data) (draft : A → B) (shown : A 
 entries_same value draft shown one [] = refl
 entries_same value draft shown one (e ∷ es) = ap₂ ◌∷◌ (one e) (entries_same value draft shown one es)
 
-port_same : (r : PortGates) → port_value (port_draft r) ≡ port_data r
-port_same r = rw (entries_same port_entry_value port_entry_draft port_entry_data (λ _. refl) r.admin.list)
-
-gate_same : (r : StreamGate) → gate_value (gate_draft r) ≡ gate_data r
-gate_same r = rw (entries_same gate_entry_value gate_entry_draft gate_entry_data (λ _. refl) r.admin.list)
-
-abbrev pub record_draft : Record → RecordDraft
-record_draft (records.Port r) = drafts.Port (port_draft r)
-record_draft (records.Filter r) = drafts.Filter (filter_draft r)
-record_draft (records.Gate r) = drafts.Gate (gate_draft r)
-record_draft (records.Meter r) = drafts.Meter (meter_draft r)
-
-pub record_same : (r : Record) → record_value (record_draft r) ≡ record_data r
-record_same (records.Port r) = port_same r
+pub record_same : (r : Record) → draft_data (record_draft r) ≡ record_data r
+record_same (records.Port r) = rw (entries_same port_entry_value port_entry_draft port_entry_data (λ _. refl) r.admin.list) refl
 record_same (records.Filter r) = refl
-record_same (records.Gate r) = gate_same r
+record_same (records.Gate r) = rw (entries_same gate_entry_value gate_entry_draft gate_entry_data (λ _. refl) r.admin.list) refl
 record_same (records.Meter r) = refl
 
+-- a key and a record of its kind
+keyed_in_range : (k : Key) (r : Record) → KeyInRange k → InRangeOf (kind k) r → KeyedInRange k r
+keyed_in_range (keys.Port n) (records.Port r) number fits = (number, fits)
+keyed_in_range (keys.Filter n) (records.Filter r) number fits = (number, fits)
+keyed_in_range (keys.Gate n) (records.Gate r) number fits = (number, fits)
+keyed_in_range (keys.Meter n) (records.Meter r) number fits = (number, fits)
+keyed_in_range k r number fits = absurd fits
+
 -- a value that is read as a record of the key's kind is the record's
-pub record_known : (k : Key) (d : Data) (draft : RecordDraft) (r : Record) → IsOrdered d → KeyInRange k
+record_known : (k : Key) (d : Data) (draft : RecordDraft) (r : Record) → IsOrdered d → KeyInRange k
     → record_shape as_json (kind k) d ≡ Ok draft → record_of draft ≡ Ok r → (d ≡ record_data r) × KeyedInRange k r
-record_known (keys.Port n) d draft r ordered fits shape range =
-    steps (port_shape as_json d) _ draft shape (λ shaped shaped_is shaped_next.
-    steps (port shaped) _ r (ap record_of (only (Ok (drafts.Port shaped)) (drafts.Port shaped) draft refl shaped_next) ∙ range)
-    (λ found found_is found_next.
-    let known = port_passed shaped found found_is in
-    subst (λ x. (d ≡ record_data x) × KeyedInRange (keys.Port n) x) (only (Ok (records.Port found)) (records.Port found) r refl found_next)
-    (port_known d shaped ordered shaped_is ∙ ap port_value known.0 ∙ port_same found, (fits, known.1))))
-record_known (keys.Filter n) d draft r ordered fits shape range =
-    steps (filter_shape as_json d) _ draft shape (λ shaped shaped_is shaped_next.
-    steps (filter shaped) _ r (ap record_of (only (Ok (drafts.Filter shaped)) (drafts.Filter shaped) draft refl shaped_next) ∙ range)
-    (λ found found_is found_next.
-    let known = filter_passed shaped found found_is in
-    subst (λ x. (d ≡ record_data x) × KeyedInRange (keys.Filter n) x)
-    (only (Ok (records.Filter found)) (records.Filter found) r refl found_next)
-    (filter_known d shaped ordered shaped_is ∙ ap filter_value known.0, (fits, known.1))))
-record_known (keys.Gate n) d draft r ordered fits shape range =
-    steps (gate_shape as_json d) _ draft shape (λ shaped shaped_is shaped_next.
-    steps (gate shaped) _ r (ap record_of (only (Ok (drafts.Gate shaped)) (drafts.Gate shaped) draft refl shaped_next) ∙ range)
-    (λ found found_is found_next.
-    let known = gate_passed shaped found found_is in
-    subst (λ x. (d ≡ record_data x) × KeyedInRange (keys.Gate n) x) (only (Ok (records.Gate found)) (records.Gate found) r refl found_next)
-    (gate_known d shaped ordered shaped_is ∙ ap gate_value known.0 ∙ gate_same found, (fits, known.1))))
-record_known (keys.Meter n) d draft r ordered fits shape range =
-    steps (meter_shape as_json d) _ draft shape (λ shaped shaped_is shaped_next.
-    steps (meter shaped) _ r (ap record_of (only (Ok (drafts.Meter shaped)) (drafts.Meter shaped) draft refl shaped_next) ∙ range)
-    (λ found found_is found_next.
-    let known = meter_passed shaped found found_is in
-    subst (λ x. (d ≡ record_data x) × KeyedInRange (keys.Meter n) x)
-    (only (Ok (records.Meter found)) (records.Meter found) r refl found_next)
-    (meter_known d shaped ordered shaped_is ∙ ap meter_value known.0, (fits, known.1))))
+record_known k d draft r ordered fits shape range =
+    let read = record_read as_json (kind k) d draft r shape range in
+    (value_known (kind k) d (record_draft r) ordered read.0 ∙ record_same r, keyed_in_range k r fits read.1)
+
+-- the key and the record of a value with so many members
+pub record IsKeyed (n : ℕ) (d : Data) (k : Key) (r : Record) : Type 0 where
+  pub unit : Unit {0}
+  pub count : has_members n d ≡ Ok unit
+  pub key_is : get (codes "key") d ≡ Some (string (key_text k))
+  pub record_is : get (codes "record") d ≡ Some (record_data r)
+  pub fits : KeyedInRange k r
+
+keyed_known : (n : ℕ) (d : Data) (p : KeyDraft × RecordDraft) (k : Key) (r : Record) → IsOrdered d → keyed_record n d ≡ Ok p
+    → key p.0 ≡ Ok k → record_of p.1 ≡ Ok r → IsKeyed n d k r
+unfolding keyed_record
+keyed_known n d p k r ordered shape range ranges =
+    steps (has_members n d) _ p shape (λ u u_is u_next.
+    steps (key_at d) _ p u_next (λ q q_is q_next.
+    steps (value_at (codes "record") d) _ p q_next (λ e e_is e_next.
+    steps (record_shape as_json q.kind e) _ p e_next (λ v v_is v_next.
+    let both = only (Ok (q, v)) (q, v) p refl v_next in
+    let named = key_there d q k q_is (ap (λ x. key x.0) both ∙ range) in
+    let held = value_there (get (codes "record") d) e e_is in
+    let known = record_known k e v r (inner_ordered (codes "record") d e ordered held) named.2
+    (ap (λ x. record_shape as_json x e) (sym named.1) ∙ v_is) (ap (λ x. record_of x.1) both ∙ ranges) in
+    record { unit = u; count = u_is; key_is = named.0; record_is = held ∙ ap Some known.0; fits = known.1 }))))
+
+-- what holds of each key and record that such a value may have holds of what its draft passes as
+pub put_known : {A F : Type 0} (n : ℕ) (asked : KeyDraft → RecordDraft → A) (found : Key → Record → F) (pass : A → Result F Unread)
+    (d : Data) (draft : A) (f : F) (P : F → Type 0) → IsOrdered d
+    → ((q : KeyDraft) (v : RecordDraft) → pass (asked q v) ≡ (key q >>= λ k. record_of v >>= λ r. Ok (found k r)))
+    → (keyed_record n d >>= λ p. Ok (asked p.0 p.1)) ≡ Ok draft → pass draft ≡ Ok f
+    → ((k : Key) (r : Record) → IsKeyed n d k r → P (found k r)) → P f
+put_known n asked found pass d draft f P ordered ranges shape range holds =
+    steps (keyed_record n d) _ draft shape (λ p p_is p_next.
+    let whole = asked p.0 p.1 in
+    let passes = sym (ranges p.0 p.1) ∙ ap pass (only (Ok whole) whole draft refl p_next) ∙ range in
+    steps (key p.0) _ f passes (λ k k_is k_next.
+    last_step (record_of p.1) f P (found k) k_next (λ r r_is. holds k r (keyed_known n d p k r ordered p_is k_is r_is))))
 
 -- ---- back
 
@@ -223,16 +224,17 @@ instance (keys.Meter n) fits = fits
 -- a key and a record of its kind read back
 pub record IsReadBack (k : Key) (r : Record) : Type 0 where
   pub in_range : KeyInRange k
-  pub shape : record_shape as_json (kind k) (record_value (record_draft r)) ≡ Ok (record_draft r)
+  pub of : IsOf (kind k) (record_draft r)
   pub range : record_of (record_draft r) ≡ Ok r
 
 pub read_back : (k : Key) (r : Record) → KeyedInRange k r → IsReadBack k r
-read_back (keys.Port n) (records.Port r) fits =
-    record { in_range = fits.0; shape = rw (port_shaped (port_draft r)); range = rw (port_back r fits.1) }
-read_back (keys.Filter n) (records.Filter r) fits =
-    record { in_range = fits.0; shape = rw (filter_shaped (filter_draft r)); range = rw (filter_back r fits.1) }
-read_back (keys.Gate n) (records.Gate r) fits =
-    record { in_range = fits.0; shape = rw (gate_shaped (gate_draft r)); range = rw (gate_back r fits.1) }
-read_back (keys.Meter n) (records.Meter r) fits =
-    record { in_range = fits.0; shape = rw (meter_shaped (meter_draft r)); range = rw (meter_back r fits.1) }
+read_back (keys.Port n) (records.Port r) fits = record { in_range = fits.0; of = tt; range = rw (port_back r fits.1) }
+read_back (keys.Filter n) (records.Filter r) fits = record { in_range = fits.0; of = tt; range = rw (filter_back r fits.1) }
+read_back (keys.Gate n) (records.Gate r) fits = record { in_range = fits.0; of = tt; range = rw (gate_back r fits.1) }
+read_back (keys.Meter n) (records.Meter r) fits = record { in_range = fits.0; of = tt; range = rw (meter_back r fits.1) }
 read_back k r fits = absurd fits
+
+-- the drafts of a key and a record in range pass as these
+pub put_back : {F : Type 0} (found : Key → Record → F) (k : Key) (r : Record) → KeyedInRange k r
+    → (key (key_draft k) >>= λ named. record_of (record_draft r) >>= λ value. Ok (found named value)) ≡ Ok (found k r)
+put_back found k r fits = let back = read_back k r fits in rw (key_back k back.in_range, back.range) refl

@@ -1,5 +1,5 @@
 -- The lexemes of entries and of lists of them.
-use Rattle.std.proofs.Common.{◌≡◌, ℕ, ◌≤◌, List, [], ◌∷◌, ◌++◌, map, Bool, true, false, Option, Some, None, option_map, option_and_then, refl, sym, ap, ◌∙◌, arith, append_assoc}
+use Rattle.std.proofs.Common.{◌≡◌, ℕ, ◌+◌, ◌≤◌, List, [], ◌∷◌, ◌++◌, map, Bool, true, false, Option, Some, None, option_map, option_and_then, refl, sym, ap, ◌∙◌, arith, append_assoc}
 use Rattle.json.specs.Json as json
 use Rattle.json.specs.Lex.{Lexeme, token, comma}
 use Rattle.json.specs.Token.{Token}
@@ -84,36 +84,37 @@ add_entry : {E : Type 0} (value : E → Data) (es : List E) (e : E)
 add_entry value [] e = refl
 add_entry value (x ∷ es) e = ap (item (value x)) (add_entry value es e)
 
-shallow_push : (js : json.Items) (j : json.Json) → items_depth js ≤ 1 → depth j ≤ 1 → items_depth (push js j) ≤ 1
-shallow_push json.no_items j low here = omega (arith, here)
-shallow_push (json.item i js) j low here = let rest = shallow_push js j (omega (arith, low)) here in omega (arith, low, rest)
+shallow_push : (n : ℕ) (js : json.Items) (j : json.Json) → items_depth js ≤ n → depth j ≤ n → items_depth (push js j) ≤ n
+shallow_push n json.no_items j low here = omega (arith, here)
+shallow_push n (json.item i js) j low here = let rest = shallow_push n js j (omega (arith, low)) here in omega (arith, low, rest)
 
 -- The text behind the opening bracket is these entries' values, each with its comma, and the rest.
-pub record Lists {E : Type 0} (value : E → Data) (start : List Lexeme) (es : List E) (rest : List Lexeme) : Type 0 where
+pub record Lists {E : Type 0} (n : ℕ) (value : E → Data) (start : List Lexeme) (es : List E) (rest : List Lexeme) : Type 0 where
   pub items : json.Items
   pub lexemes : start ≡ so_far items ++ rest
   pub reads : of_items items ≡ Some (items_of (map value es))
-  pub shallow : items_depth items ≤ 1
+  pub shallow : items_depth items ≤ n
 
-pub no_entry : {E : Type 0} (value : E → Data) (start now : List Lexeme) (es : List E) → es ≡ [] → now ≡ start → Lists value start es now
-no_entry value start now es none same =
+pub no_entry : {E : Type 0} (n : ℕ) (value : E → Data) (start now : List Lexeme) (es : List E) → es ≡ [] → now ≡ start
+    → Lists n value start es now
+no_entry n value start now es none same =
     record { items = json.no_items; lexemes = sym same; reads = ap (λ l. Some (items_of (map value l))) (sym none); shallow = omega arith }
 
-pub one_more : {E : Type 0} (value : E → Data) (start now behind rest : List Lexeme) (es : List E) (e : E) → Lists value start es now
-    → ReadsValue 1 now (value e) behind → behind ≡ comma ∷ rest → Lists value start (es ++ e ∷ []) rest
-one_more value start now behind rest es e l (j, is, same, low) next = record {
+pub one_more : {E : Type 0} (n : ℕ) (value : E → Data) (start now behind rest : List Lexeme) (es : List E) (e : E)
+    → Lists n value start es now → ReadsValue n now (value e) behind → behind ≡ comma ∷ rest → Lists n value start (es ++ e ∷ []) rest
+one_more n value start now behind rest es e l (j, is, same, low) next = record {
   items = push l.items j;
   lexemes = l.lexemes ∙ ap (λ x. so_far l.items ++ x) (is ∙ ap (λ x. value_lexemes j ++ x) next) ∙ sym (so_far_push l.items j rest);
   reads = read_push l.items j (items_of (map value es)) (value e) same l.reads ∙ ap Some (add_entry value es e);
-  shallow = shallow_push l.items j l.shallow low;
+  shallow = shallow_push n l.items j l.shallow low;
 }
 
-pub all_listed : {E : Type 0} (value : E → Data) (text start now behind rest : List Lexeme) (es : List E) (e : E)
-    → text ≡ token Token.begin_array ∷ start → Lists value start es now → ReadsValue 1 now (value e) behind
+pub all_listed : {E : Type 0} (n : ℕ) (value : E → Data) (text start now behind rest : List Lexeme) (es : List E) (e : E)
+    → text ≡ token Token.begin_array ∷ start → Lists n value start es now → ReadsValue n now (value e) behind
     → behind ≡ token Token.end_array ∷ rest
-    → ReadsValue 2 text (list_array value (es ++ e ∷ [])) rest
-all_listed value text start now behind rest es e begin l (j, is, same, low) next =
-    let shallow = shallow_push l.items j l.shallow low in (
+    → ReadsValue (n + 1) text (list_array value (es ++ e ∷ [])) rest
+all_listed n value text start now behind rest es e begin l (j, is, same, low) next =
+    let shallow = shallow_push n l.items j l.shallow low in (
       json.array (push l.items j),
       begin ∙ ap (λ x. token Token.begin_array ∷ x)
           (l.lexemes ∙ ap (λ x. so_far l.items ++ x) (is ∙ ap (λ x. value_lexemes j ++ x) next) ∙ sym (closed false l.items j rest)),
@@ -121,7 +122,7 @@ all_listed value text start now behind rest es e begin l (j, is, same, low) next
       omega (arith, shallow),
     )
 
-pub none_listed : {E : Type 0} (value : E → Data) (text start rest : List Lexeme) (es : List E) → es ≡ []
-    → text ≡ token Token.begin_array ∷ start → start ≡ token Token.end_array ∷ rest → ReadsValue 2 text (list_array value es) rest
-none_listed value text start rest es none begin next =
+pub none_listed : {E : Type 0} (n : ℕ) (value : E → Data) (text start rest : List Lexeme) (es : List E) → es ≡ []
+    → text ≡ token Token.begin_array ∷ start → start ≡ token Token.end_array ∷ rest → ReadsValue (n + 1) text (list_array value es) rest
+none_listed n value text start rest es none begin next =
     (json.array json.no_items, begin ∙ ap (λ x. token Token.begin_array ∷ x) next, rw none refl, omega arith)

@@ -10,7 +10,7 @@ use Rattle.std.proofs.lemmas.Map.Text.{is_eq-slice_cmp}
 use Rattle.std.proofs.lemmas.Slice.Eq.{bytes_eq-Decides}
 use Rattle.json.specs.Json as json
 use Rattle.json.specs.Lex.{tokens}
-use Rattle.serde_json.specs.Data.{Data, null, boolean, number, string, array, object, Items, no_items, item, Members, no_members, member, put}
+use Rattle.serde_json.specs.Data.{Data, number, array, object, Items, no_items, item, Members, no_members, member, put}
 use Rattle.serde_json.specs.Find.{get, get_member}
 use Rattle.serde_json.specs.Read.{number_of, of_json, of_items, of_members, read, max_depth}
 use Rattle.tsn_records.specs.Json.{has_members, members_len}
@@ -28,12 +28,9 @@ Above k (member l e ms) = (order k l ≡ Less) × Above k ms
 -- each name is below those after it, also in the arrays and objects inside
 abbrev mutual
   pub IsOrdered : Data → Type 0
-  IsOrdered null = ⊤
-  IsOrdered (boolean b) = ⊤
-  IsOrdered (number n) = ⊤
-  IsOrdered (string s) = ⊤
   IsOrdered (array ds) = ItemsAreOrdered ds
   IsOrdered (object ms) = AreOrdered ms
+  IsOrdered d = ⊤
 
   pub ItemsAreOrdered : Items → Type 0
   ItemsAreOrdered no_items = ⊤
@@ -202,25 +199,12 @@ counted m n u h = eqb-true m n (passed (m == n) u h)
 some_counted : {A : Type 0} (n : ℕ) (u : Unit {0}) → (if 0 == suc n then Ok tt else Err Shape) ≡ Ok u → A
 some_counted n u h = let none : 0 ≡ suc n = counted 0 (suc n) u h in absurd (omega arith)
 
--- the members of an object
-abbrev pub inside : Data → Members
-inside null = no_members
-inside (boolean b) = no_members
-inside (number n) = no_members
-inside (string s) = no_members
-inside (array ds) = no_members
-inside (object ms) = ms
-
 -- an object with so many members, and with each of these, has these alone
 pub whole_object : (n : ℕ) (d : Data) (es : Members) (u : Unit {0}) → IsOrdered d → has_members (suc n) d ≡ Ok u → members_len es ≡ suc n
     → Rise es → Holds d es → d ≡ object es
-whole_object n null es u ordered count len rise h = some_counted n u count
-whole_object n (boolean b) es u ordered count len rise h = some_counted n u count
-whole_object n (number x) es u ordered count len rise h = some_counted n u count
-whole_object n (string s) es u ordered count len rise h = some_counted n u count
-whole_object n (array ds) es u ordered count len rise h = some_counted n u count
 whole_object n (object ms) es u ordered count len rise h =
     ap object ((all_held ms es ordered rise h).1 (counted (members_len ms) (suc n) u count ∙ sym len))
+whole_object n d es u ordered count len rise h = some_counted n u count
 
 -- a member of what is ordered is ordered
 member_ordered_at : (o : Ordering) (e : Data) (found : Option Data) → IsOrdered e → IfSome found IsOrdered
@@ -234,12 +218,8 @@ member_ordered k no_members h = tt
 member_ordered k (member l e ms) h = member_ordered_at (order k l) e (get_member k ms) h.1.0 (member_ordered k ms h.1.1)
 
 got_ordered : (k : List ℕ) (d : Data) → IsOrdered d → IfSome (get k d) IsOrdered
-got_ordered k null h = tt
-got_ordered k (boolean b) h = tt
-got_ordered k (number n) h = tt
-got_ordered k (string s) h = tt
-got_ordered k (array ds) h = tt
 got_ordered k (object ms) h = member_ordered k ms h
+got_ordered k d h = tt
 
 pub inner_ordered : (k : List ℕ) (d e : Data) → IsOrdered d → get k d ≡ Some e → IsOrdered e
 inner_ordered k d e h is = subst (λ o. IfSome o IsOrdered) is (got_ordered k d h)

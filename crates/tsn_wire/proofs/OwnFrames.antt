@@ -1,5 +1,5 @@
 -- A frame's line in the service's own spelling is read as the draft that it spells.
-use Rattle.std.proofs.Common.{◌≡◌, ℕ, ◌++◌, List, [], Bool, true, false, codes, decimal, refl, ap, ◌∙◌, arith}
+use Rattle.std.proofs.Common.{◌≡◌, ℕ, ◌++◌, List, Bool, codes, decimal, refl, ap, ◌∙◌, arith}
 use Rattle.std.specs.Prelude.{IsUtf8}
 use Rattle.json.specs.Print.{escape_byte}
 use Rattle.json.proofs.Printed.Decimals.{IsNumber-decimal}
@@ -12,8 +12,7 @@ use Rattle.tsn_wire.specs.Spelled.{IsSmall}
 use Rattle.tsn_wire.specs.Values.{frame_data}
 use Rattle.tsn_wire.specs.declared.drafts.CommandDraft.TheVariants as wanted
 use Rattle.tsn_wire.specs.declared.drafts.LineDraft.TheVariants.{Session}
-use Rattle.tsn_wire.proofs.Acting.{frame_draft, frame_shaped}
-use Rattle.tsn_wire.proofs.OwnSpelling.{IsPlain, printed_reads, reading_of}
+use Rattle.tsn_wire.proofs.OwnSpelling.{IsPlain, value_says}
 
 frame_plain : (s : ℕ) (f : Frame) (now : ℕ) → IsSmall f.handle → IsSmall now → IsSmall f.octets → IsSmall f.priority → IsSmall s
     → IsPlain 127 (frame_data s f now)
@@ -63,6 +62,5 @@ frame_says line t1 t2 t3 t4 t5 t6 h now o p s y small_h small_now small_o small_
     let by_octets = e2 ∙ ap (λ l. codes ",\"octets\":" ++ (decimal o ++ l)) by_priority in
     let by_now : t1 ≡ behind_handle s f now = e1 ∙ ap (λ l. codes ",\"now\":" ++ (decimal now ++ l)) by_octets in
     let whole_line = e0 ∙ ap (λ l. codes "{\"do\":\"frame\",\"handle\":" ++ (decimal h ++ l)) by_now in
-    reading_of line (frame_data s f now) (Session s (wanted.Frame (frame_draft f) now))
-    (printed_reads line _ (frame_plain s f now small_h small_now small_o small_p small_s) (whole_line ∙ frame_text s f now) utf8)
-    (frame_shaped s f now)
+    value_says line s (wanted.Frame (record { handle = h; priority = p; octets = o; yellow = y }) now) tt
+    (frame_plain s f now small_h small_now small_o small_p small_s) (whole_line ∙ frame_text s f now) utf8

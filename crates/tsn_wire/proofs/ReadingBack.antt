@@ -6,8 +6,13 @@ use Rattle.std.proofs.lemmas.Fmt.{digits_decimal, digits_value-decimal, length-d
 use Rattle.serde_json.specs.Data.{Data}
 use Rattle.tsn_records.specs.Answers.{or_syntax, refused}
 use Rattle.tsn_records.specs.Json.{whole_or_null}
-use Rattle.tsn_records.specs.Keys.{is_decimal, decimal_of}
-use Rattle.tsn_wire.specs.Commands.{line_shape}
+use Rattle.tsn_records.specs.Keys.{is_decimal, decimal_of, key_of, spelled_key}
+use Rattle.tsn_types.specs.declared.keys.Kind.{Kind}
+use Rattle.tsn_types.specs.declared.keys.Kind.TheVariants as kinds
+use Rattle.tsn_records.specs.declared.drafts.KeyDraft.{KeyDraft}
+use Rattle.tsn_wire.specs.Commands.{line_shape, listed, removable}
+use Rattle.tsn_wire.specs.Spelled.{IsKey, IsNoPort}
+use Rattle.tsn_wire.specs.Values.{MayHaveList}
 use Rattle.tsn_wire.specs.Reading.{data_of, line_of_draft, line_of}
 use Rattle.tsn_records.proofs.Digits.{own}
 use Rattle.tsn_types.specs.Numbers.{IsInstanceId}
@@ -50,6 +55,25 @@ pub decimal_back : (n : ℕ) → IsInstanceId n → decimal_of (decimal n) ≡ S
 decimal_back n small =
     let fits : n < 2 ^ 64 = omega arith in
     ap (λ b. cond b (Some (digits_value 10 (decimal n))) None) (is_decimal_back n small) ∙ ap Some (digits_value-decimal own n fits)
+
+spelled : (k : Kind) (n : ℕ) → IsInstanceId n → key_of (spelled_key k n) ≡ Some (record { kind = k; number = n })
+spelled kinds.Port n small = rw (decimal_back n small) refl
+spelled kinds.Filter n small = rw (decimal_back n small) refl
+spelled kinds.Gate n small = rw (decimal_back n small) refl
+spelled kinds.Meter n small = rw (decimal_back n small) refl
+
+pub key_spelled : (key : KeyDraft) → IsKey key → key_of (spelled_key key.kind key.number) ≡ Some key
+key_spelled key small = spelled key.kind key.number small
+
+-- a key of a kind that can be removed, and one of a kind that has a list
+pub removable_back : (key : KeyDraft) (k : Kind) → IsNoPort k → removable key k ≡ Ok key
+removable_back key kinds.Port other = absurd other
+removable_back key k other = refl
+
+pub listed_back : (key : KeyDraft) (k : Kind) → MayHaveList k → listed key k ≡ Ok key
+listed_back key kinds.Port has = refl
+listed_back key kinds.Gate has = refl
+listed_back key k has = absurd has
 
 -- the shape, and then the ranges
 pub in_steps : (line : List ℕ) (d : Data) (draft : LineDraft) (found : Ask) → data_of line ≡ Some d → line_shape d ≡ Ok draft

@@ -43,6 +43,7 @@ word_is_bare words.Hello = refl
 word_is_bare words.Create = refl
 word_is_bare words.Replace = refl
 word_is_bare words.Remove = refl
+word_is_bare words.Batch = refl
 word_is_bare words.Undo = refl
 word_is_bare words.UndoAll = refl
 word_is_bare words.Redo = refl
@@ -55,8 +56,10 @@ word_is_bare words.Counters = refl
 word_is_bare words.Show = refl
 word_is_bare words.List = refl
 word_is_bare words.Since = refl
+word_is_bare words.Settle = refl
 word_is_bare words.Resume = refl
 word_is_bare words.Sessions = refl
+word_is_bare words.Setup = refl
 
 kind_is_bare : (k : Kind) → is_bare (kind_text k) ≡ true
 kind_is_bare kinds.Port = refl
@@ -70,25 +73,22 @@ between_quotes : (inner text now inside behind rest : List ℕ) → lexed now �
 between_quotes inner text now inside behind rest passed e0 e1 e2 =
     sym passed ∙ ap lexed (e0 ∙ ap (λ l. 34 ∷ l) (e1 ∙ ap (λ l. inner ++ l) e2))
 
-pub word_read : (w : Word) (text now inside behind rest : List ℕ) → lexed now ≡ lexed text → now ≡ codes "\"" ++ inside
-    → inside ≡ word_text w ++ behind → behind ≡ codes "\"" ++ rest → ReadsValue 2 (lexed text) (string (word_text w)) (lexed rest)
-word_read w text now inside behind rest passed e0 e1 e2 = (
-  json.string (word_text w),
-  between_quotes (word_text w) text now inside behind rest passed e0 e1 e2
-      ∙ lexed_bare (word_text w) rest (word_is_bare w),
+bare_read : (bare text now inside behind rest : List ℕ) → is_bare bare ≡ true → lexed now ≡ lexed text → now ≡ codes "\"" ++ inside
+    → inside ≡ bare ++ behind → behind ≡ codes "\"" ++ rest → ReadsValue 2 (lexed text) (string bare) (lexed rest)
+bare_read bare text now inside behind rest is passed e0 e1 e2 = (
+  json.string bare,
+  between_quotes bare text now inside behind rest passed e0 e1 e2 ∙ lexed_bare bare rest is,
   refl,
   omega arith,
 )
 
+pub word_read : (w : Word) (text now inside behind rest : List ℕ) → lexed now ≡ lexed text → now ≡ codes "\"" ++ inside
+    → inside ≡ word_text w ++ behind → behind ≡ codes "\"" ++ rest → ReadsValue 2 (lexed text) (string (word_text w)) (lexed rest)
+word_read w text now inside behind rest = bare_read (word_text w) text now inside behind rest (word_is_bare w)
+
 pub kind_read : (k : Kind) (text now inside behind rest : List ℕ) → lexed now ≡ lexed text → now ≡ codes "\"" ++ inside
     → inside ≡ kind_text k ++ behind → behind ≡ codes "\"" ++ rest → ReadsValue 2 (lexed text) (string (kind_text k)) (lexed rest)
-kind_read k text now inside behind rest passed e0 e1 e2 = (
-  json.string (kind_text k),
-  between_quotes (kind_text k) text now inside behind rest passed e0 e1 e2
-      ∙ lexed_bare (kind_text k) rest (kind_is_bare k),
-  refl,
-  omega arith,
-)
+kind_read k text now inside behind rest = bare_read (kind_text k) text now inside behind rest (kind_is_bare k)
 
 pub key_read : (k : Kind) (n : ℕ) (text now inside behind rest : List ℕ) → IsSmall n → lexed now ≡ lexed text → now ≡ codes "\"" ++ inside
     → inside ≡ spelled_key k n ++ behind → behind ≡ codes "\"" ++ rest → ReadsValue 2 (lexed text) (string (spelled_key k n)) (lexed rest)

@@ -5,7 +5,8 @@ use Rattle.serde_json.specs.Written.{compact_text}
 use Rattle.tsn_records.specs.Keys.{spelled_key}
 use Rattle.tsn_records.specs.declared.drafts.KeyDraft.{KeyDraft}
 use Rattle.tsn_records.specs.declared.drafts.RecordDraft.{RecordDraft}
-use Rattle.tsn_wire.specs.Spelled.{record_value, IsKey, IsNoPort, SpellsEdit, SpellsRecord}
+use Rattle.tsn_wire.specs.Spelled.{IsKey, IsNoPort, SpellsEdit, SpellsRecord}
+use Rattle.tsn_records.specs.Shown.{draft_data}
 use Rattle.tsn_wire.specs.declared.drafts.EditDraft.TheVariants as drafts
 use Rattle.tsn_wire.proofs.OwnSpelling.{quoted_key}
 
@@ -19,30 +20,30 @@ removal_of : (front key rest : List ℕ)
     → front ++ ((key ++ codes "\"") ++ (codes "}" ++ rest)) ≡ (front ++ ((key ++ codes "\"") ++ codes "}")) ++ rest
 removal_of front key rest = simp append_assoc
 
+put_text : (front : List ℕ) (key : KeyDraft) (v : RecordDraft) (t0 t2 t3 t4 : List ℕ) → t0 ≡ front ++ t2
+    → SpellsRecord t2 key v t3 → t3 ≡ codes "}" ++ t4
+    → t0 ≡ (front ++ ((escape (spelled_key key.kind key.number) ++ codes "\"")
+    ++ (codes ",\"record\":" ++ (compact_text (draft_data v) ++ codes "}")))) ++ t4
+put_text front key v t0 t2 t3 t4 e0 (k, small, is) e3 =
+    e0 ∙ ap (λ l. front ++ l)
+    (is ∙ ap (λ l. spelled_key key.kind key.number ++ (codes "\",\"record\":" ++ (compact_text (draft_data v) ++ l))) e3)
+    ∙ quoted_key front (codes ",\"record\":" ++ (compact_text (draft_data v) ++ (codes "}" ++ t4))) key.kind key.number k
+    ∙ put_of front (escape (spelled_key key.kind key.number)) (compact_text (draft_data v)) t4
+
 pub create_edit : (key : KeyDraft) (v : RecordDraft) (t0 t1 t2 t3 t4 : List ℕ) → t0 ≡ codes "{\"do\":\"" ++ t1
     → t1 ≡ codes "create\",\"key\":\"" ++ t2 → SpellsRecord t2 key v t3 → t3 ≡ codes "}" ++ t4 → SpellsEdit t0 (drafts.Create key v) t4
 unfolding escape_byte
-create_edit key v t0 t1 t2 t3 t4 e0 e1 (k, small, is) e3 = (
-  (k, small),
-  e0 ∙ ap (λ l. codes "{\"do\":\"" ++ l)
-      (e1 ∙ ap (λ l. codes "create\",\"key\":\"" ++ l)
-      (is ∙ ap (λ l. spelled_key key.kind key.number ++ (codes "\",\"record\":" ++ (compact_text (record_value v) ++ l))) e3))
-      ∙ quoted_key (codes "{\"do\":\"create\",\"key\":\"") (codes ",\"record\":" ++ (compact_text (record_value v) ++ (codes "}" ++ t4)))
-      key.kind key.number k
-      ∙ put_of (codes "{\"do\":\"create\",\"key\":\"") (escape (spelled_key key.kind key.number)) (compact_text (record_value v)) t4,
+create_edit key v t0 t1 t2 t3 t4 e0 e1 spells e3 = (
+  (spells.0, spells.1),
+  put_text (codes "{\"do\":\"create\",\"key\":\"") key v t0 t2 t3 t4 (e0 ∙ ap (λ l. codes "{\"do\":\"" ++ l) e1) spells e3,
 )
 
 pub replace_edit : (key : KeyDraft) (v : RecordDraft) (t0 t1 t2 t3 t4 : List ℕ) → t0 ≡ codes "{\"do\":\"" ++ t1
     → t1 ≡ codes "replace\",\"key\":\"" ++ t2 → SpellsRecord t2 key v t3 → t3 ≡ codes "}" ++ t4 → SpellsEdit t0 (drafts.Replace key v) t4
 unfolding escape_byte
-replace_edit key v t0 t1 t2 t3 t4 e0 e1 (k, small, is) e3 = (
-  (k, small),
-  e0 ∙ ap (λ l. codes "{\"do\":\"" ++ l)
-      (e1 ∙ ap (λ l. codes "replace\",\"key\":\"" ++ l)
-      (is ∙ ap (λ l. spelled_key key.kind key.number ++ (codes "\",\"record\":" ++ (compact_text (record_value v) ++ l))) e3))
-      ∙ quoted_key (codes "{\"do\":\"replace\",\"key\":\"") (codes ",\"record\":" ++ (compact_text (record_value v) ++ (codes "}" ++ t4)))
-      key.kind key.number k
-      ∙ put_of (codes "{\"do\":\"replace\",\"key\":\"") (escape (spelled_key key.kind key.number)) (compact_text (record_value v)) t4,
+replace_edit key v t0 t1 t2 t3 t4 e0 e1 spells e3 = (
+  (spells.0, spells.1),
+  put_text (codes "{\"do\":\"replace\",\"key\":\"") key v t0 t2 t3 t4 (e0 ∙ ap (λ l. codes "{\"do\":\"" ++ l) e1) spells e3,
 )
 
 pub remove_edit : (key : KeyDraft) (t0 t1 t2 t3 t4 : List ℕ) → t0 ≡ codes "{\"do\":\"" ++ t1 → t1 ≡ codes "remove\",\"key\":\"" ++ t2

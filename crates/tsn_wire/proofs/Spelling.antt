@@ -5,10 +5,10 @@ use Rattle.json.specs.Print.{escape_byte}
 use Rattle.serde_json.specs.Data.{Data, boolean, member, no_members}
 use Rattle.serde_json.specs.View.{items_of}
 use Rattle.serde_json.specs.Written.{compact_text, members_text, items_text, comma_if}
-use Rattle.tsn_records.specs.Shown.{or_null, list_array}
-use Rattle.tsn_wire.specs.Spelled.{port_entry_value, gate_entry_value, port_value, filter_value, gate_value, meter_value}
+use Rattle.tsn_records.specs.Shown.{draft_data, gate_entry_value, list_array, or_null, port_entry_value}
 use Rattle.tsn_records.specs.declared.drafts.PortEntryDraft.{PortEntryDraft}
 use Rattle.tsn_records.specs.declared.drafts.GateEntryDraft.{GateEntryDraft}
+use Rattle.tsn_records.specs.declared.drafts.RecordDraft.TheVariants as records
 use Rattle.tsn_records.specs.declared.drafts.PortDraft.{PortDraft}
 use Rattle.tsn_records.specs.declared.drafts.GateDraft.{GateDraft}
 use Rattle.tsn_records.specs.declared.drafts.FilterDraft.{FilterDraft}
@@ -22,7 +22,7 @@ pub filter_text : (r : FilterDraft) (t0 t1 t2 t3 t4 t5 t6 t7 : List ℕ)
     → t4 ≡ codes ",\"oversize\":" ++ (compact_text (boolean r.oversize) ++ t5)
     → t5 ≡ codes ",\"priority\":" ++ (compact_text (or_null r.priority) ++ t6)
     → t6 ≡ codes "}" ++ t7
-    → t0 ≡ compact_text (filter_value r) ++ t7
+    → t0 ≡ compact_text (draft_data (records.Filter r)) ++ t7
 unfolding escape_byte
 filter_text r t0 t1 t2 t3 t4 t5 t6 t7 e0 e1 e2 e3 e4 e5 e6 = rw (e0, e1, e2, e3, e4, e5, e6) (simp append_assoc)
 
@@ -36,7 +36,7 @@ pub meter_text : (r : MeterDraft) (t0 t1 t2 t3 t4 t5 t6 t7 t8 t9 : List ℕ)
     → t6 ≡ codes ",\"ebs\":" ++ (decimal r.ebs ++ t7)
     → t7 ≡ codes ",\"eir\":" ++ (decimal r.eir ++ t8)
     → t8 ≡ codes "}" ++ t9
-    → t0 ≡ compact_text (meter_value r) ++ t9
+    → t0 ≡ compact_text (draft_data (records.Meter r)) ++ t9
 unfolding escape_byte
 meter_text r t0 t1 t2 t3 t4 t5 t6 t7 t8 t9 e0 e1 e2 e3 e4 e5 e6 e7 e8 = rw (e0, e1, e2, e3, e4, e5, e6, e7, e8) (simp append_assoc)
 
@@ -78,7 +78,7 @@ pub gate_text : (r : GateDraft) (t0 t1 t2 t3 t4 t5 t6 t7 t8 t9 : List ℕ)
     → t6 ≡ codes ",\"octets_exceeded\":" ++ (compact_text (boolean r.octets_exceeded) ++ t7)
     → t7 ≡ codes ",\"open\":" ++ (compact_text (boolean r.is_open) ++ t8)
     → t8 ≡ codes "}" ++ t9
-    → t0 ≡ compact_text (gate_value r) ++ t9
+    → t0 ≡ compact_text (draft_data (records.Gate r)) ++ t9
 unfolding escape_byte
 gate_text r t0 t1 t2 t3 t4 t5 t6 t7 t8 t9 e0 e1 e2 e3 e4 e5 e6 e7 e8 =
     gate_front _ _ _ _ _ (compact_text (list_array gate_entry_value r.admin.list)) (gate_rest r) t0 t1 t2 t3 t4 t5 t6 t9 e0 e1 e2 e3 e4 e5
@@ -91,7 +91,7 @@ pub port_text : (r : PortDraft) (t0 t1 t2 t3 t4 t5 t6 : List ℕ)
     → t3 ≡ codes ",\"gates\":" ++ (decimal r.gates ++ t4)
     → t4 ≡ codes ",\"list\":" ++ (compact_text (list_array port_entry_value r.admin.list) ++ t5)
     → t5 ≡ codes "}" ++ t6
-    → t0 ≡ compact_text (port_value r) ++ t6
+    → t0 ≡ compact_text (draft_data (records.Port r)) ++ t6
 unfolding escape_byte
 port_text r t0 t1 t2 t3 t4 t5 t6 e0 e1 e2 e3 e4 e5 = rw (e0, e1, e2, e3, e4, e5) (simp append_assoc)
 

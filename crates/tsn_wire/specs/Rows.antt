@@ -1,9 +1,8 @@
 -- The names of each record's members, with the values that were read.
 use Rattle.std.specs.Prelude.{◌≡◌, [], ◌∷◌, Some, option_map, codes, ⊤}
 use Rattle.serde_json.specs.Data.{Data, null, boolean, number, string, array, object, Members, no_members, member}
-use Rattle.tsn_records.specs.Shown.{whole_data, or_null, list_array}
+use Rattle.tsn_records.specs.Shown.{gate_entry_value, list_array, or_null, port_entry_value, whole_data}
 use Rattle.tsn_wire.specs.Members.{Rows, row_at}
-use Rattle.tsn_wire.specs.Spelled.{port_entry_value, gate_entry_value}
 use Rattle.tsn_wire.specs.declared.any_record.PortMembers.{PortMembers}
 use Rattle.tsn_wire.specs.declared.any_record.FilterMembers.{FilterMembers}
 use Rattle.tsn_wire.specs.declared.any_record.GateMembers.{GateMembers}

@@ -1,6 +1,6 @@
 -- Command lines in the service's own spelling: compact, their members in ascending order of their names. A draft is
 -- seen as the value that such a line is.
-use Rattle.std.specs.Prelude.{◌≡◌, ◌⊎◌, ℕ, ◌^◌, ◌<◌, ◌++◌, List, true, codes, decimal, IfSome, ⊤}
+use Rattle.std.specs.Prelude.{◌≡◌, ℕ, ◌^◌, ◌<◌, ◌++◌, List, true, codes, IfSome, ⊤}
 use Rattle.std.specs.List.{AllByRecursion}
 use Rattle.serde_json.specs.Data.{Data, string, object, member, no_members}
 use Rattle.serde_json.specs.Written.{compact_text}
@@ -8,7 +8,7 @@ use Rattle.tsn_types.specs.declared.keys.Kind.{Kind}
 use Rattle.tsn_types.specs.declared.keys.Kind.TheVariants as kinds
 use Rattle.tsn_types.specs.Numbers.{IsInstanceId}
 use Rattle.tsn_records.specs.Keys.{kind_text, spelled_key}
-use Rattle.tsn_records.specs.Shown.{port_entry_array, gate_entry_array, list_array, port_object, filter_object, gate_object, meter_object}
+use Rattle.tsn_records.specs.Shown.{draft_data, list_array}
 use Rattle.tsn_records.specs.declared.drafts.KeyDraft.{KeyDraft}
 use Rattle.tsn_records.specs.declared.drafts.PortEntryDraft.{PortEntryDraft}
 use Rattle.tsn_records.specs.declared.drafts.GateEntryDraft.{GateEntryDraft}
@@ -38,33 +38,6 @@ IsNoPort kinds.Filter = ⊤
 IsNoPort kinds.Gate = ⊤
 IsNoPort kinds.Meter = ⊤
 
--- a draft as the value of a record with its numbers
-abbrev pub port_entry_value : PortEntryDraft → Data
-port_entry_value e = port_entry_array e.gates e.interval
-
-abbrev pub gate_entry_value : GateEntryDraft → Data
-gate_entry_value e = gate_entry_array e.is_open e.ipv e.interval e.octets
-
-abbrev pub port_value : PortDraft → Data
-port_value r = port_object r.admin.base r.admin.cycle r.admin.extension r.gates (list_array port_entry_value r.admin.list)
-
-abbrev pub filter_value : FilterDraft → Data
-filter_value r = filter_object r.gate r.handle r.max_sdu r.meter r.oversize r.priority
-
-abbrev pub gate_value : GateDraft → Data
-gate_value r =
-    gate_object r.admin.base r.admin.cycle r.admin.extension r.invalid_rx r.ipv (list_array gate_entry_value r.admin.list) r.octets_exceeded
-    r.is_open
-
-abbrev pub meter_value : MeterDraft → Data
-meter_value r = meter_object r.all_red r.aware r.cbs r.cf r.cir r.drop_yellow r.ebs r.eir
-
-abbrev pub record_value : RecordDraft → Data
-record_value (Port r) = port_value r
-record_value (Filter r) = filter_value r
-record_value (Gate r) = gate_value r
-record_value (Meter r) = meter_value r
-
 -- a key as a value
 abbrev pub key_value : KeyDraft → Data
 key_value k = string (spelled_key k.kind k.number)
@@ -73,10 +46,10 @@ key_value k = string (spelled_key k.kind k.number)
 abbrev pub edit_value : EditDraft → Data
 edit_value (edits.Create key value) =
     object (member (codes "do") (string (codes "create"))
-    (member (codes "key") (key_value key) (member (codes "record") (record_value value) no_members)))
+    (member (codes "key") (key_value key) (member (codes "record") (draft_data value) no_members)))
 edit_value (edits.Replace key value) =
     object (member (codes "do") (string (codes "replace"))
-    (member (codes "key") (key_value key) (member (codes "record") (record_value value) no_members)))
+    (member (codes "key") (key_value key) (member (codes "record") (draft_data value) no_members)))
 edit_value (edits.Remove key) = object (member (codes "do") (string (codes "remove")) (member (codes "key") (key_value key) no_members))
 
 abbrev pub batch_value : List EditDraft → Data
@@ -141,7 +114,7 @@ SpellsEdit text e rest = EditIsSmall e × (text ≡ compact_text (edit_value e) 
 abbrev pub SpellsRecord : List ℕ → KeyDraft → RecordDraft → List ℕ → Type 0
 SpellsRecord text key value rest =
     IsKey key × RecordIsSmall key.kind value
-    × (text ≡ spelled_key key.kind key.number ++ (codes "\",\"record\":" ++ (compact_text (record_value value) ++ rest)))
+    × (text ≡ spelled_key key.kind key.number ++ (codes "\",\"record\":" ++ (compact_text (draft_data value) ++ rest)))
 
 -- The text begins with what follows `{"do":"` in a command's line, up to `,"s":`, and the rest comes after it. Lines that
 -- settle or act on a list are not read so, those that hand in a frame elsewhere, and those that look at states begin otherwise.

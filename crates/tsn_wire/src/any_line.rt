@@ -1,22 +1,18 @@
 //! Command lines whose members come in any order, with any white space.
-ghost use Rattle.std.proofs.Common.{rules};
-ghost use Rattle.std.specs.Prelude.{◌≡◌, true, IfSome, IsTrue, Some, codes, option_map};
-ghost use Rattle.tsn_wire.specs.Lexed.{lexed};
-ghost use Rattle.tsn_wire.specs.Lines.{line_rows, IsOf, IsLine};
-ghost use Rattle.tsn_wire.specs.Members.{Fills};
+ghost use Rattle.std.specs.Prelude.{◌≡◌, IfSome, true};
+ghost use Rattle.tsn_wire.specs.Lines.{line_rows, IsBare, IsLine};
 ghost use Rattle.tsn_wire.specs.Reading.{line_of_draft, reading};
-ghost use Rattle.tsn_wire.specs.Spelled.{record_value, IsKey, IsNoPort};
-ghost use Rattle.tsn_wire.specs.Values.{MayHaveList};
 
-use crate::any_record::record;
+use crate::any_edits::{are_sound, edits_slot};
+use crate::any_keys::{keyed_record, listed_key, removable_key, table_key};
 use crate::cursor::Cursor;
-use crate::drafts::{CommandDraft, FrameDraft, LineDraft};
+use crate::drafts::{BatchDraft, CommandDraft, FrameDraft, LineDraft};
+use crate::guess::record_slot;
 use crate::members::{Gathered, members, slot};
 use crate::values::Word;
 use std::alloc::Global;
 use tsn_records::drafts::{KeyDraft, RecordDraft};
 use tsn_types::keys::Kind;
-use tsn_types::numbers::identifiers::GREATEST_INSTANCE;
 
 /// The members of a line, as far as they were read.
 #[derive(Default, Drop)]
@@ -31,77 +27,16 @@ pub struct LineMembers {
     pub octets: Option<u64>,
     pub priority: Option<u64>,
     pub record: Option<RecordDraft>,
+    pub edits: Option<BatchDraft>,
     pub session: Option<u64>,
+    pub upto: Option<u64>,
     pub yellow: Option<bool>,
-}
-
-// The kind whose records alone have a member of the name with these letters, the first, the second and the fifth; none
-// for the four names that ports and gates share.
-fn kind_named(letters: (u8, u8, u8)) -> Option<Kind> {
-    match letters {
-        (b'b', _, _) | (b'c', b'y', _) | (b'e', b'x', _) | (b'l', _, _) => None,
-        (b'g', _, b's') => Some(Kind::Port),
-        (b'i', _, _) | (b'o', b'p', _) | (b'o', b'c', _) => Some(Kind::Gate),
-        (b'a', _, _) | (b'c', _, _) | (b'd', _, _) | (b'e', _, _) => Some(Kind::Meter),
-        _ => Some(Kind::Filter),
-    }
-}
-
-// The kind of the record that the text begins with, guessed from the first of its names that one kind alone has. In a
-// record just the names stand in quotes. A wrong guess costs another way to read the line, and nothing else.
-fn guessed(text: &[u8]) -> Kind {
-    let mut is_name = false;
-    for (place, byte) in text.iter().enumerate() {
-        if *byte == b'"' {
-            is_name = !is_name;
-            if is_name && place + 5 < text.len() {
-                let letters = (text[place + 1], text[place + 2], text[place + 5]);
-                if let Some(kind) = kind_named(letters) {
-                    return kind;
-                }
-            }
-        }
-    }
-    Kind::Port
-}
-
-// The kind of the record that comes next: that of the key, where one was read before.
-fn kind_ahead(key: Option<KeyDraft>, text: &Cursor<'_>) -> Kind {
-    match key {
-        Some(key) => key.kind,
-        None => guessed(text.rest()),
-    }
-}
-
-// The record of a key that was read before it, or of a kind that is guessed where none was.
-fn record_slot(
-    alloc: Global,
-    text: &mut Cursor<'_>,
-    key: Option<KeyDraft>,
-    slot: &mut Option<RecordDraft>,
-) -> Option<()>
-    ensures { IfSome result (λ _. Fills 3 (lexed text.old) (codes "record")
-        (option_map record_value slot.old) (option_map record_value slot.new) (lexed text.new)) }
-{
-    if slot.is_some() {
-        return None;
-    }
-    if !text.quoted("record") {
-        return None;
-    }
-    if !text.mark(b':') {
-        return None;
-    }
-    let kind = kind_ahead(key, text);
-    let value = record(alloc, kind, text)?;
-    *slot = Some(value);
-    Some(())
 }
 
 impl Gathered for LineMembers {
     ghost rows = { line_rows };
 
-    ghost nesting = { 3 };
+    ghost nesting = { 5 };
 
     #[tactic(auto, using(crate::proofs::Gathering::row_filled))]
     fn member(&mut self, alloc: Global, text: &mut Cursor<'_>) -> Option<()> {
@@ -118,104 +53,57 @@ impl Gathered for LineMembers {
             (b'a', b't') => slot(alloc, text, "at", &mut self.at),
             (b'a', _) => slot(alloc, text, "after", &mut self.after),
             (b'k', _) => slot(alloc, text, "kind", &mut self.kind),
+            (b'u', _) => slot(alloc, text, "upto", &mut self.upto),
+            (b'e', _) => edits_slot(alloc, text, &mut self.edits),
             _ => None,
         }
     }
-
-    ghost opens = { λ found h. Prim.search rules };
 }
 
-// A key that some table may have.
-fn table_key(key: Option<KeyDraft>) -> Option<KeyDraft>
-    ensures { IfSome result (λ k. IsKey k × (key ≡ Some k)) }
+// The command of a word that names nothing.
+#[tactic(auto, using(crate::proofs::AnyLine::bare_undo, crate::proofs::AnyLine::bare_undo_all, crate::proofs::AnyLine::bare_redo, crate::proofs::AnyLine::bare_resume, crate::proofs::AnyLine::bare_sessions, crate::proofs::AnyLine::bare_setup))]
+fn bare_command(word: Word) -> Option<CommandDraft>
+    ensures { IfSome result (IsBare word) }
 {
-    let key = key?;
-    if key.number > GREATEST_INSTANCE {
-        return None;
-    }
-    Some(key)
-}
-
-// A key of a kind that has a gate control list.
-fn listed_key(key: Option<KeyDraft>) -> Option<KeyDraft>
-    ensures { IfSome result (λ k. IsKey k × MayHaveList k.kind × (key ≡ Some k)) }
-{
-    let key = table_key(key)?;
-    match key.kind {
-        Kind::Port | Kind::Gate => Some(key),
-        Kind::Filter | Kind::Meter => None,
-    }
-}
-
-// A key of a kind that can be removed.
-fn removable_key(key: Option<KeyDraft>) -> Option<KeyDraft>
-    ensures { IfSome result (λ k. IsKey k × IsNoPort k.kind × (key ≡ Some k)) }
-{
-    let key = table_key(key)?;
-    match key.kind {
-        Kind::Port => None,
-        Kind::Filter | Kind::Gate | Kind::Meter => Some(key),
-    }
-}
-
-fn is_of(value: &RecordDraft, kind: Kind) -> bool
-    ensures { IsTrue result → IsOf kind value.now }
-{
-    match value {
-        RecordDraft::Port(_) => kind == Kind::Port,
-        RecordDraft::Filter(_) => kind == Kind::Filter,
-        RecordDraft::Gate(_) => kind == Kind::Gate,
-        RecordDraft::Meter(_) => kind == Kind::Meter,
-    }
-}
-
-// A key, and a record of its kind.
-fn keyed_record(
-    key: Option<KeyDraft>,
-    value: Option<RecordDraft>,
-) -> Option<(KeyDraft, RecordDraft)>
-    ensures { IfSome result (λ p. IsKey p.0 × IsOf p.0.kind p.1 × (key ≡ Some p.0)
-        × (value ≡ Some p.1)) }
-{
-    let key = table_key(key)?;
-    let value = value?;
-    if is_of(&value, key.kind) {
-        Some((key, value))
-    } else {
-        None
+    match word {
+        Word::Undo => Some(CommandDraft::Undo),
+        Word::UndoAll => Some(CommandDraft::UndoAll),
+        Word::Redo => Some(CommandDraft::Redo),
+        Word::Resume => Some(CommandDraft::Resume),
+        Word::Sessions => Some(CommandDraft::Sessions),
+        Word::Setup => Some(CommandDraft::Setup),
+        _ => None,
     }
 }
 
 // A command that names nothing.
-#[tactic(auto, using(crate::proofs::AnyLine::undo_line, crate::proofs::AnyLine::undo_all_line, crate::proofs::AnyLine::redo_line, crate::proofs::AnyLine::resume_line, crate::proofs::AnyLine::sessions_line))]
+#[tactic(auto, using(crate::proofs::AnyLine::bare_line))]
 fn bare_line(found: &LineMembers, count: u32) -> Option<LineDraft>
     ensures { IfSome result (IsLine (line_rows found.now) count) }
 {
-    let word = found.word?;
     let session = found.session?;
+    let command = bare_command(found.word?)?;
     if count != 2 {
         return None;
     }
+    Some(LineDraft::Session { session, command })
+}
+
+// The edits of a batch.
+#[tactic(auto, using(crate::proofs::AnyLine::batch_line))]
+fn batch_line(found: &mut LineMembers, count: u32) -> Option<LineDraft>
+    ensures { IfSome result (IsLine (line_rows found.old) count) }
+{
+    let word = found.word?;
+    let session = found.session?;
+    let batch = found.edits.take()?;
+    if count != 3 || !are_sound(batch.as_slice()) {
+        return None;
+    }
     match word {
-        Word::Undo => Some(LineDraft::Session {
+        Word::Batch => Some(LineDraft::Session {
             session,
-            command: CommandDraft::Undo,
-        }),
-        Word::UndoAll => Some(LineDraft::Session {
-            session,
-            command: CommandDraft::UndoAll,
-        }),
-        Word::Redo => Some(LineDraft::Session {
-            session,
-            command: CommandDraft::Redo,
-        }),
-        Word::Resume => Some(LineDraft::Session {
-            session,
-            command: CommandDraft::Resume,
-        }),
-        Word::Sessions => Some(LineDraft::Session {
-            session,
-            command: CommandDraft::Sessions,
+            command: CommandDraft::Batch { batch },
         }),
         _ => None,
     }
@@ -223,12 +111,12 @@ fn bare_line(found: &LineMembers, count: u32) -> Option<LineDraft>
 
 // A key and its record.
 #[tactic(auto, using(crate::proofs::AnyLine::create_line, crate::proofs::AnyLine::replace_line))]
-fn edit_line(found: LineMembers, count: u32) -> Option<LineDraft>
-    ensures { IfSome result (IsLine (line_rows found) count) }
+fn edit_line(found: &mut LineMembers, count: u32) -> Option<LineDraft>
+    ensures { IfSome result (IsLine (line_rows found.old) count) }
 {
     let word = found.word?;
     let session = found.session?;
-    let (key, value) = keyed_record(found.key, found.record)?;
+    let (key, value) = keyed_record(found.key, found.record.take())?;
     if count != 4 {
         return None;
     }
@@ -409,6 +297,26 @@ fn since_line(found: &LineMembers, count: u32) -> Option<LineDraft>
     }
 }
 
+// The number up to which entries are settled.
+#[tactic(auto, using(crate::proofs::AnyLine::settle_line))]
+fn settle_line(found: &LineMembers, count: u32) -> Option<LineDraft>
+    ensures { IfSome result (IsLine (line_rows found.now) count) }
+{
+    let word = found.word?;
+    let session = found.session?;
+    let upto = found.upto?;
+    if count != 3 {
+        return None;
+    }
+    match word {
+        Word::Settle => Some(LineDraft::Session {
+            session,
+            command: CommandDraft::Settle { upto },
+        }),
+        _ => None,
+    }
+}
+
 // A hello has no other member.
 #[tactic(auto, using(crate::proofs::AnyLine::hello_line))]
 fn hello_line(found: &LineMembers, count: u32) -> Option<LineDraft>
@@ -424,40 +332,41 @@ fn hello_line(found: &LineMembers, count: u32) -> Option<LineDraft>
     }
 }
 
-fn line_draft(found: LineMembers, count: u32) -> Option<LineDraft>
-    ensures { IfSome result (IsLine (line_rows found) count) }
+fn line_draft(found: &mut LineMembers, count: u32) -> Option<LineDraft>
+    ensures { IfSome result (IsLine (line_rows found.old) count) }
 {
     let word = found.word?;
     match word {
         Word::Create | Word::Replace => edit_line(found, count),
-        Word::Undo | Word::UndoAll | Word::Redo | Word::Resume | Word::Sessions => {
-            bare_line(&found, count)
-        }
-        Word::Frame => frame_line(&found, count),
-        Word::States => states_line(&found, count),
-        Word::Enable | Word::Disable | Word::Apply => act_line(&found, count),
-        Word::Remove => remove_line(&found, count),
-        Word::Counters | Word::Show => look_line(&found, count),
-        Word::List => list_line(&found, count),
-        Word::Since => since_line(&found, count),
-        Word::Hello => hello_line(&found, count),
+        Word::Batch => batch_line(found, count),
+        Word::Undo | Word::UndoAll | Word::Redo | Word::Resume | Word::Sessions | Word::Setup =>
+            bare_line(found, count),
+        Word::Frame => frame_line(found, count),
+        Word::States => states_line(found, count),
+        Word::Enable | Word::Disable | Word::Apply => act_line(found, count),
+        Word::Remove => remove_line(found, count),
+        Word::Counters | Word::Show => look_line(found, count),
+        Word::List => list_line(found, count),
+        Word::Since => since_line(found, count),
+        Word::Settle => settle_line(found, count),
+        Word::Hello => hello_line(found, count),
     }
 }
 
-/// The draft that a line is, whatever the order of its members and the white space between; none, for instance, of a
-/// batch and of a settle, where a member is missing, unknown or given twice, where a text has an escape, where the kind
-/// of a record ahead of its key is not the one that its members let guess, where a key's number is over 65,535, or
-/// where memory is wanting.
+/// The draft that a line is, whatever the order of its members and the white space between; none, for instance, where
+/// a member is missing, unknown or given twice, where a text has an escape, where the kind of a record ahead of its key
+/// is not the one that its members let guess, where a key's number is over 65,535, or where memory is wanting.
+#[inline(never)]
 pub fn any_draft(alloc: Global, line: &[u8]) -> Option<LineDraft>
     ensures { IfSome result (λ draft. reading line.now ≡ line_of_draft draft) }
 {
     let mut text = Cursor::new(line);
-    let (found, count) = members::<LineMembers>(alloc, &mut text)?;
+    let mut found = LineMembers::default();
+    let count = members(alloc, &mut text, &mut found)?;
     text.skip();
     text.end()?;
-    let draft = line_draft(found, count)?;
     match std::str::from_utf8(line) {
-        Ok(_) => Some(draft),
+        Ok(_) => line_draft(&mut found, count),
         Err(_) => None,
     }
 }

@@ -1,11 +1,10 @@
 //! Records whose members come in any order.
-ghost use Rattle.std.proofs.Common.{rules};
 ghost use Rattle.std.specs.Prelude.{◌≡◌, true, IfSome};
-ghost use Rattle.tsn_records.specs.Shown.{list_array};
+ghost use Rattle.tsn_records.specs.Shown.{draft_data, list_array};
+ghost use Rattle.tsn_records.specs.declared.drafts.RecordDraft.TheVariants as records;
 ghost use Rattle.tsn_wire.specs.Lexed.{lexed, ReadsValue};
-ghost use Rattle.tsn_wire.specs.Members.{ReadsMembers};
+ghost use Rattle.tsn_wire.specs.Members.{AreOpen, ReadsMembers};
 ghost use Rattle.tsn_wire.specs.Rows.{port_rows, filter_rows, gate_rows, meter_rows, AllTold, members_of};
-ghost use Rattle.tsn_wire.specs.Spelled.{port_value, filter_value, gate_value, meter_value, record_value};
 
 use crate::cursor::Cursor;
 use crate::members::{Gathered, members, slot};
@@ -43,8 +42,6 @@ impl Gathered for PortMembers {
             _ => None,
         }
     }
-
-    ghost opens = { λ found h. Prim.search rules };
 }
 
 /// The members of a filter's record, as far as they were read.
@@ -75,8 +72,6 @@ impl Gathered for FilterMembers {
             _ => None,
         }
     }
-
-    ghost opens = { λ found h. Prim.search rules };
 }
 
 /// The members of a gate's record, as far as they were read.
@@ -111,8 +106,6 @@ impl Gathered for GateMembers {
             _ => None,
         }
     }
-
-    ghost opens = { λ found h. Prim.search rules };
 }
 
 /// The members of a meter's record, as far as they were read.
@@ -147,12 +140,10 @@ impl Gathered for MeterMembers {
             _ => None,
         }
     }
-
-    ghost opens = { λ found h. Prim.search rules };
 }
 
 fn port_of(found: PortMembers) -> Option<PortDraft>
-    ensures { IfSome result (λ r. AllTold (port_rows found) (members_of (port_value r))) }
+    ensures { IfSome result (λ r. AllTold (port_rows found) (members_of (draft_data (records.Port r)))) }
 {
     let gates = found.gates?;
     let list = found.list?;
@@ -171,7 +162,7 @@ fn port_of(found: PortMembers) -> Option<PortDraft>
 }
 
 fn filter_of(found: FilterMembers) -> Option<FilterDraft>
-    ensures { IfSome result (λ r. AllTold (filter_rows found) (members_of (filter_value r))) }
+    ensures { IfSome result (λ r. AllTold (filter_rows found) (members_of (draft_data (records.Filter r)))) }
 {
     Some(FilterDraft {
         handle: found.handle?,
@@ -184,7 +175,7 @@ fn filter_of(found: FilterMembers) -> Option<FilterDraft>
 }
 
 fn gate_of(found: GateMembers) -> Option<GateDraft>
-    ensures { IfSome result (λ r. AllTold (gate_rows found) (members_of (gate_value r))) }
+    ensures { IfSome result (λ r. AllTold (gate_rows found) (members_of (draft_data (records.Gate r)))) }
 {
     let is_open = found.open?;
     let ipv = found.ipv?;
@@ -209,7 +200,7 @@ fn gate_of(found: GateMembers) -> Option<GateDraft>
 }
 
 fn meter_of(found: MeterMembers) -> Option<MeterDraft>
-    ensures { IfSome result (λ r. AllTold (meter_rows found) (members_of (meter_value r))) }
+    ensures { IfSome result (λ r. AllTold (meter_rows found) (members_of (draft_data (records.Meter r)))) }
 {
     Some(MeterDraft {
         cir: found.cir?,
@@ -224,33 +215,42 @@ fn meter_of(found: MeterMembers) -> Option<MeterDraft>
 }
 
 // An object of so many members.
-fn exactly<M: Gathered>(alloc: Global, count: u32, text: &mut Cursor<'_>) -> Option<M>
-    ensures { IfSome result (λ found. ReadsMembers M.nesting (lexed text.old) (M.rows found) count (lexed text.new)) }
+fn exactly<M: Gathered>(
+    alloc: Global,
+    text: &mut Cursor<'_>,
+    found: &mut M,
+    count: u32,
+) -> Option<()>
+    requires { AreOpen (M.rows found.old) }
+    ensures { IfSome result (λ _. ReadsMembers M.nesting (lexed text.old) (M.rows found.new) count (lexed text.new)) }
 {
-    let (found, read) = members::<M>(alloc, text)?;
-    if read == count { Some(found) } else { None }
+    let read = members(alloc, text, found)?;
+    if read == count { Some(()) } else { None }
 }
 
 /// A record of that kind.
-#[tactic(auto, using(crate::proofs::Gathering::port_read, crate::proofs::Gathering::filter_read, crate::proofs::Gathering::gate_read, crate::proofs::Gathering::meter_read))]
 pub fn record(alloc: Global, kind: Kind, text: &mut Cursor<'_>) -> Option<RecordDraft>
-    ensures { IfSome result (λ r. ReadsValue 3 (lexed text.old) (record_value r) (lexed text.new)) }
+    ensures { IfSome result (λ r. ReadsValue 3 (lexed text.old) (draft_data r) (lexed text.new)) }
 {
     match kind {
         Kind::Port => {
-            let found = exactly::<PortMembers>(alloc, 5, text)?;
+            let mut found = PortMembers::default();
+            exactly(alloc, text, &mut found, 5)?;
             Some(RecordDraft::Port(port_of(found)?))
         }
         Kind::Filter => {
-            let found = exactly::<FilterMembers>(alloc, 6, text)?;
+            let mut found = FilterMembers::default();
+            exactly(alloc, text, &mut found, 6)?;
             Some(RecordDraft::Filter(filter_of(found)?))
         }
         Kind::Gate => {
-            let found = exactly::<GateMembers>(alloc, 8, text)?;
+            let mut found = GateMembers::default();
+            exactly(alloc, text, &mut found, 8)?;
             Some(RecordDraft::Gate(gate_of(found)?))
         }
         Kind::Meter => {
-            let found = exactly::<MeterMembers>(alloc, 8, text)?;
+            let mut found = MeterMembers::default();
+            exactly(alloc, text, &mut found, 8)?;
             Some(RecordDraft::Meter(meter_of(found)?))
         }
     }

@@ -3,9 +3,8 @@ ghost use Rattle.std.specs.Prelude.{◌≡◌, ◌∷◌, ◌++◌, true, IfSome
 ghost use Rattle.json.specs.Lex.{operator_lexeme};
 ghost use Rattle.json.specs.Word.{is_operator};
 ghost use Rattle.serde_json.specs.Data.{Data, boolean, string};
-ghost use Rattle.tsn_records.specs.Shown.{whole_data, or_null};
+ghost use Rattle.tsn_records.specs.Shown.{gate_entry_value, or_null, port_entry_value, whole_data};
 ghost use Rattle.tsn_wire.specs.Lexed.{lexed, ReadsValue};
-ghost use Rattle.tsn_wire.specs.Spelled.{port_entry_value, gate_entry_value};
 
 use crate::cursor::Cursor;
 use tsn_records::drafts::{GateEntryDraft, PortEntryDraft};

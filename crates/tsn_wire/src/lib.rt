@@ -5,15 +5,19 @@
 //! members stand each once, in any order and with any white space between, is read without building that tree.
 #![tactic(auto)]
 
+mod any_edits;
+mod any_keys;
 mod any_line;
 mod any_record;
 mod batches;
 mod commands;
 mod cursor;
 mod drafts;
+mod guess;
 mod keyed;
 pub mod laws;
 mod lexemes;
+mod lists;
 mod members;
 mod ranges;
 mod reading;

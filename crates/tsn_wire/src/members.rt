@@ -8,7 +8,7 @@ use crate::values::Scanned;
 use std::alloc::Global;
 
 /// The members of an object, as far as they were read.
-pub trait Gathered: Default + Drop {
+pub trait Gathered: Drop {
     ghost rows: { Self → Rows };
 
     // how many brackets a value may have in one another
@@ -18,30 +18,27 @@ pub trait Gathered: Default + Drop {
     fn member(&mut self, alloc: Global, text: &mut Cursor<'_>) -> Option<()>
         ensures { IfSome result (λ _. ReadsMember nesting (lexed text.old) (rows self.old)
             (rows self.new) (lexed text.new)) };
-
-    // nothing was read at first
-    ghost opens: { (found : Self) → Self.is_default found → AreOpen (rows found) };
 }
 
 // No object has more members.
 const MOST: u32 = 12;
 
-/// An object, and how many members it has.
-pub fn members<M: Gathered>(alloc: Global, text: &mut Cursor<'_>) -> Option<(M, u32)>
-    ensures { IfSome result (λ p. ReadsMembers M.nesting (lexed text.old) (M.rows p.0) p.1
+/// Reads the members of an object, none of which was read before, and tells how many they are.
+pub fn members<M: Gathered>(alloc: Global, text: &mut Cursor<'_>, found: &mut M) -> Option<u32>
+    requires { AreOpen (M.rows found.old) }
+    ensures { IfSome result (λ count. ReadsMembers M.nesting (lexed text.old) (M.rows found.new) count
         (lexed text.new)) }
 {
     if !text.mark(b'{') {
         return None;
     }
-    let mut found = M::default();
     let mut count: u32 = 0;
     'members: while count < MOST {
         text.skip();
         found.member(alloc, text)?;
         count += 1;
         if text.mark(b'}') {
-            return Some((found, count));
+            return Some(count);
         }
         if !text.mark(b',') {
             return None;

@@ -1,18 +1,18 @@
 //! Lines in the service's own spelling, read with no tree.
 //!
-//! An edit or a batch, an undo or a redo, a frame or a look that is compact and has its members in
-//! ascending order of their names, as the service writes them, is read piece by piece, and only a list and a batch take
-//! memory. Any other line is read from its lexemes by `any_line`, and what that does not read, as any other batch, is
-//! left to `serde_json`.
+//! An edit or a batch, an undo or a redo, a frame or a look that is compact and has its members in ascending order of
+//! their names, as the service writes them, is read piece by piece, and only a list and a batch take memory. Any other
+//! line is read from its lexemes by `any_line`, and what that does not read, as a text with an escape, is left to
+//! `serde_json`.
 ghost use Rattle.std.specs.Prelude.{◌≡◌, ◌++◌, IfSome, codes, decimal};
 ghost use Rattle.std.specs.List.{AllByRecursion};
 ghost use Rattle.serde_json.specs.Data.{Data, boolean};
 ghost use Rattle.serde_json.specs.Written.{compact_text};
 ghost use Rattle.tsn_records.specs.Keys.{kind_text, spelled_key};
 ghost use Rattle.tsn_wire.specs.Reading.{line_of_draft, reading};
-ghost use Rattle.tsn_records.specs.Shown.{or_null, list_array};
+ghost use Rattle.tsn_records.specs.Shown.{draft_data, gate_entry_value, list_array, or_null, port_entry_value};
 ghost use Rattle.tsn_wire.specs.Lexed.{lexed, ReadsValue};
-ghost use Rattle.tsn_wire.specs.Spelled.{port_entry_value, gate_entry_value, port_value, filter_value, gate_value, meter_value, IsSmall, IsKey, PortEntryIsSmall, GateEntryIsSmall, PortIsSmall, GateIsSmall, FilterIsSmall, MeterIsSmall, SpellsRecord, Spells};
+ghost use Rattle.tsn_wire.specs.Spelled.{IsSmall, IsKey, PortEntryIsSmall, GateEntryIsSmall, PortIsSmall, GateIsSmall, FilterIsSmall, MeterIsSmall, SpellsRecord, Spells};
 ghost use Rattle.tsn_wire.specs.SpelledFront.{SpellsFront, SpellsStates};
 
 use crate::any_line::any_draft;
@@ -198,11 +198,13 @@ fn own_frame(line: &[u8]) -> Option<LineDraft>
 pub fn spelled_draft(alloc: Global, line: &[u8]) -> Option<LineDraft>
     ensures { IfSome result (λ draft. reading line.now ≡ line_of_draft draft) }
 {
-    if let Some(draft) = own_frame(line) {
-        return Some(draft);
+    let frame = own_frame(line);
+    if frame.is_some() {
+        return frame;
     }
-    match own_draft(alloc, line) {
-        Some(draft) => Some(draft),
-        None => any_draft(alloc, line),
+    let own = own_draft(alloc, line);
+    if own.is_some() {
+        return own;
     }
+    any_draft(alloc, line)
 }

@@ -3,14 +3,18 @@ ghost use Rattle.std.specs.Prelude.{◌≡◌, ◌++◌, true, IfSome};
 ghost use Rattle.std.specs.List.{AllByRecursion};
 ghost use Rattle.serde_json.specs.Written.{compact_text};
 ghost use Rattle.tsn_wire.specs.Batches.{is_batch_draft};
-ghost use Rattle.tsn_wire.specs.Spelled.{batch_value, EditIsSmall, SpellsEdit};
+ghost use Rattle.tsn_wire.specs.Spelled.{batch_value, edit_value, EditIsSmall, SpellsEdit};
 
+use crate::any_edits::any_edit;
 use crate::cursor::Cursor;
 use crate::drafts::{BatchDraft, EditDraft};
+use crate::lists::{Item, spelled_list};
 use crate::spelled_records::{key, keyed_record};
 use std::alloc::Global;
-use tsn_edit::MOST_PARTS;
 use tsn_types::keys::Kind;
+
+/// The most edits that are read so.
+pub const EDITS: u32 = 16;
 
 // An edit with its braces. Which one it may be is guessed from the second and third letter of its word.
 fn edit(alloc: Global, text: &mut Cursor<'_>) -> Option<EditDraft>
@@ -42,24 +46,20 @@ fn edit(alloc: Global, text: &mut Cursor<'_>) -> Option<EditDraft>
     }
 }
 
-fn edits(alloc: Global, text: &mut Cursor<'_>) -> Option<Vec<EditDraft>>
-    ensures small { IfSome result (λ es. AllByRecursion EditIsSmall es.items) }
-    ensures text { IfSome result
-        (λ es. text.old ≡ compact_text (batch_value es.items) ++ text.new) }
-{
-    text.expect("[")?;
-    let mut edits = Vec::new(alloc);
-    'edits: for _ in 0..MOST_PARTS {
-        let edit = edit(alloc, text)?;
-        let Ok(()) = edits.push(edit) else {
-            return None;
-        };
-        if text.take("]") {
-            return Some(edits);
-        }
-        text.expect(",")?;
+impl Item for EditDraft {
+    ghost value = { edit_value };
+
+    ghost IsFit = { EditIsSmall };
+
+    ghost nesting = { 4 };
+
+    fn spelled(alloc: Global, text: &mut Cursor<'_>) -> Option<EditDraft> {
+        edit(alloc, text)
     }
-    None
+
+    fn scanned(alloc: Global, text: &mut Cursor<'_>) -> Option<EditDraft> {
+        any_edit(alloc, text)
+    }
 }
 
 /// The edits of a batch, with their brackets.
@@ -68,9 +68,6 @@ pub fn batch(alloc: Global, text: &mut Cursor<'_>) -> Option<BatchDraft>
     ensures small { IfSome result (AllByRecursion EditIsSmall) }
     ensures text { IfSome result (λ es. text.old ≡ compact_text (batch_value es) ++ text.new) }
 {
-    let edits = edits(alloc, text)?;
-    match BatchDraft::new(edits) {
-        Ok(batch) => Some(batch),
-        Err(_) => None,
-    }
+    let edits: Vec<EditDraft> = spelled_list(alloc, text, EDITS)?;
+    BatchDraft::new(edits).ok()
 }

@@ -5,19 +5,20 @@ ghost use Rattle.serde_json.specs.Data.{Data, boolean};
 ghost use Rattle.serde_json.specs.Written.{compact_text};
 ghost use Rattle.tsn_records.specs.Keys.{kind_text, spelled_key};
 ghost use Rattle.tsn_wire.specs.Reading.{line_of_draft, reading};
-ghost use Rattle.tsn_records.specs.Shown.{or_null, list_array};
+ghost use Rattle.tsn_records.specs.Shown.{draft_data, gate_entry_value, list_array, or_null, port_entry_value};
+ghost use Rattle.tsn_records.specs.declared.drafts.RecordDraft.TheVariants as RecordOf;
 ghost use Rattle.tsn_wire.specs.Lexed.{lexed, ReadsValue};
-ghost use Rattle.tsn_wire.specs.Spelled.{port_entry_value, gate_entry_value, port_value, filter_value, gate_value, meter_value, IsSmall, IsKey, PortEntryIsSmall, GateEntryIsSmall, PortIsSmall, GateIsSmall, FilterIsSmall, MeterIsSmall, SpellsRecord, Spells};
+ghost use Rattle.tsn_wire.specs.Spelled.{IsSmall, IsKey, PortEntryIsSmall, GateEntryIsSmall, PortIsSmall, GateIsSmall, FilterIsSmall, MeterIsSmall, SpellsRecord, Spells};
 
 use crate::cursor::Cursor;
 use crate::lexemes::{scanned_gate_entry, scanned_port_entry};
+use crate::lists::{Item, spelled_list};
 use std::alloc::Global;
 use tsn_records::drafts::{
     FilterDraft, GateDraft, GateEntryDraft, KeyDraft, MeterDraft, PortDraft, PortEntryDraft,
     RecordDraft, ScheduleDraft,
 };
 use tsn_types::keys::Kind;
-use tsn_types::lists::ControlList;
 use tsn_types::numbers::identifiers::GREATEST_INSTANCE;
 
 #[inline(always)]
@@ -53,42 +54,33 @@ pub fn flag_member(text: &mut Cursor<'_>, name: &str) -> Option<bool>
     Some(false)
 }
 
-/// An entry of a gate control list, in the service's own spelling.
-pub trait SpelledEntry: Drop {
-    ghost value: { Self → Data };
-
-    ghost IsFit: { Self → Type 0 };
-
-    fn spelled(text: &mut Cursor<'_>) -> Option<Self>
-        ensures { IfSome result (λ e. IsFit e × (text.old ≡ compact_text (value e) ++ text.new)) };
-
-    fn scanned(text: &mut Cursor<'_>) -> Option<Self>
-        ensures { IfSome result (λ e. ReadsValue 1 (lexed text.old) (value e) (lexed text.new)) };
-}
-
-impl SpelledEntry for PortEntryDraft {
+impl Item for PortEntryDraft {
     ghost value = { port_entry_value };
 
     ghost IsFit = { PortEntryIsSmall };
 
-    fn spelled(text: &mut Cursor<'_>) -> Option<PortEntryDraft> {
+    ghost nesting = { 1 };
+
+    fn spelled(_alloc: Global, text: &mut Cursor<'_>) -> Option<PortEntryDraft> {
         let gates = number_member(text, "[")?;
         let interval = number_member(text, ",")?;
         text.expect("]")?;
         Some(PortEntryDraft { gates, interval })
     }
 
-    fn scanned(text: &mut Cursor<'_>) -> Option<PortEntryDraft> {
+    fn scanned(_alloc: Global, text: &mut Cursor<'_>) -> Option<PortEntryDraft> {
         scanned_port_entry(text)
     }
 }
 
-impl SpelledEntry for GateEntryDraft {
+impl Item for GateEntryDraft {
     ghost value = { gate_entry_value };
 
     ghost IsFit = { GateEntryIsSmall };
 
-    fn spelled(text: &mut Cursor<'_>) -> Option<GateEntryDraft> {
+    ghost nesting = { 1 };
+
+    fn spelled(_alloc: Global, text: &mut Cursor<'_>) -> Option<GateEntryDraft> {
         let is_open = flag_member(text, "[")?;
         let ipv = optional_member(text, ",")?;
         let interval = number_member(text, ",")?;
@@ -102,7 +94,7 @@ impl SpelledEntry for GateEntryDraft {
         })
     }
 
-    fn scanned(text: &mut Cursor<'_>) -> Option<GateEntryDraft> {
+    fn scanned(_alloc: Global, text: &mut Cursor<'_>) -> Option<GateEntryDraft> {
         scanned_gate_entry(text)
     }
 }
@@ -110,32 +102,9 @@ impl SpelledEntry for GateEntryDraft {
 // The most entries that are read so.
 pub const ENTRIES: u32 = 65_536;
 
-fn entries<E: SpelledEntry>(alloc: Global, text: &mut Cursor<'_>) -> Option<ControlList<E>>
-    ensures small { IfSome result (AllByRecursion E.IsFit) }
-    ensures text { IfSome result
-        (λ es. text.old ≡ compact_text (list_array E.value es) ++ text.new) }
-{
-    text.expect("[")?;
-    let mut list = ControlList::new(alloc);
-    if text.take("]") {
-        return Some(list);
-    }
-    'entries: for _ in 0..ENTRIES {
-        let entry = E::spelled(text)?;
-        let Ok(()) = list.push(entry) else {
-            return None;
-        };
-        if text.take("]") {
-            return Some(list);
-        }
-        text.expect(",")?;
-    }
-    None
-}
-
 fn filter(text: &mut Cursor<'_>) -> Option<FilterDraft>
     ensures small { IfSome result FilterIsSmall }
-    ensures text { IfSome result (λ r. text.old ≡ compact_text (filter_value r) ++ text.new) }
+    ensures text { IfSome result (λ r. text.old ≡ compact_text (draft_data (RecordOf.Filter r)) ++ text.new) }
 {
     let gate = number_member(text, "{\"gate\":")?;
     let handle = optional_member(text, ",\"handle\":")?;
@@ -156,7 +125,7 @@ fn filter(text: &mut Cursor<'_>) -> Option<FilterDraft>
 
 fn meter(text: &mut Cursor<'_>) -> Option<MeterDraft>
     ensures small { IfSome result MeterIsSmall }
-    ensures text { IfSome result (λ r. text.old ≡ compact_text (meter_value r) ++ text.new) }
+    ensures text { IfSome result (λ r. text.old ≡ compact_text (draft_data (RecordOf.Meter r)) ++ text.new) }
 {
     let all_red = flag_member(text, "{\"all_red\":")?;
     let aware = flag_member(text, ",\"aware\":")?;
@@ -181,7 +150,7 @@ fn meter(text: &mut Cursor<'_>) -> Option<MeterDraft>
 
 fn gate(alloc: Global, text: &mut Cursor<'_>) -> Option<GateDraft>
     ensures small { IfSome result GateIsSmall }
-    ensures text { IfSome result (λ r. text.old ≡ compact_text (gate_value r) ++ text.new) }
+    ensures text { IfSome result (λ r. text.old ≡ compact_text (draft_data (RecordOf.Gate r)) ++ text.new) }
 {
     let base = number_member(text, "{\"base\":")?;
     let cycle = number_member(text, ",\"cycle\":")?;
@@ -189,7 +158,7 @@ fn gate(alloc: Global, text: &mut Cursor<'_>) -> Option<GateDraft>
     let invalid_rx = flag_member(text, ",\"invalid_rx\":")?;
     let ipv = optional_member(text, ",\"ipv\":")?;
     text.expect(",\"list\":")?;
-    let list = entries(alloc, text)?;
+    let list = spelled_list(alloc, text, ENTRIES)?;
     let octets_exceeded = flag_member(text, ",\"octets_exceeded\":")?;
     let is_open = flag_member(text, ",\"open\":")?;
     text.expect("}")?;
@@ -209,14 +178,14 @@ fn gate(alloc: Global, text: &mut Cursor<'_>) -> Option<GateDraft>
 
 fn port(alloc: Global, text: &mut Cursor<'_>) -> Option<PortDraft>
     ensures small { IfSome result PortIsSmall }
-    ensures text { IfSome result (λ r. text.old ≡ compact_text (port_value r) ++ text.new) }
+    ensures text { IfSome result (λ r. text.old ≡ compact_text (draft_data (RecordOf.Port r)) ++ text.new) }
 {
     let base = number_member(text, "{\"base\":")?;
     let cycle = number_member(text, ",\"cycle\":")?;
     let extension = number_member(text, ",\"extension\":")?;
     let gates = number_member(text, ",\"gates\":")?;
     text.expect(",\"list\":")?;
-    let list = entries(alloc, text)?;
+    let list = spelled_list(alloc, text, ENTRIES)?;
     text.expect("}")?;
     Some(PortDraft {
         gates,

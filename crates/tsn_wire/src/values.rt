@@ -4,16 +4,17 @@ ghost use Rattle.json.specs.Lex.{operator_lexeme};
 ghost use Rattle.json.specs.Word.{is_operator};
 ghost use Rattle.serde_json.specs.Data.{Data, boolean, string};
 ghost use Rattle.tsn_records.specs.Keys.{kind_text, spelled_key};
-ghost use Rattle.tsn_records.specs.Shown.{whole_data, or_null, list_array};
+ghost use Rattle.tsn_records.specs.Shown.{gate_entry_value, list_array, or_null, port_entry_value, whole_data};
 ghost use Rattle.tsn_wire.specs.Lexed.{lexed, ReadsValue};
-ghost use Rattle.tsn_wire.specs.Spelled.{port_entry_value, gate_entry_value, IsSmall, IsKey};
+ghost use Rattle.tsn_wire.specs.Spelled.{IsSmall, IsKey};
 ghost use Rattle.tsn_wire.specs.Words.{word_text};
 
 use crate::cursor::Cursor;
-use crate::lexemes::{flag, number, number_or_null, passed};
-use crate::spelled_records::{ENTRIES, SpelledEntry, key, kind};
+use crate::lexemes::{flag, number, number_or_null};
+use crate::lists::scanned_list;
+use crate::spelled_records::{ENTRIES, key, kind};
 use std::alloc::Global;
-use tsn_records::drafts::KeyDraft;
+use tsn_records::drafts::{GateEntryDraft, KeyDraft, PortEntryDraft};
 use tsn_types::keys::Kind;
 use tsn_types::lists::ControlList;
 
@@ -24,6 +25,7 @@ pub enum Word {
     Create,
     Replace,
     Remove,
+    Batch,
     Undo,
     UndoAll,
     Redo,
@@ -36,8 +38,10 @@ pub enum Word {
     Show,
     List,
     Since,
+    Settle,
     Resume,
     Sessions,
+    Setup,
 }
 
 /// A value as a member has it.
@@ -46,28 +50,6 @@ pub trait Scanned: Drop {
 
     fn scanned(alloc: Global, text: &mut Cursor<'_>) -> Option<Self>
         ensures { IfSome result (λ v. ReadsValue 2 (lexed text.old) (value v) (lexed text.new)) };
-}
-
-fn entries<E: SpelledEntry>(alloc: Global, text: &mut Cursor<'_>) -> Option<ControlList<E>>
-    ensures { IfSome result (λ es. ReadsValue 2 (lexed text.old) (list_array E.value es)
-        (lexed text.new)) }
-{
-    passed(text, b'[')?;
-    let mut list = ControlList::new(alloc);
-    if text.mark(b']') {
-        return Some(list);
-    }
-    'entries: for _ in 0..ENTRIES {
-        let entry = E::scanned(text)?;
-        let Ok(()) = list.push(entry) else {
-            return None;
-        };
-        if text.mark(b']') {
-            return Some(list);
-        }
-        passed(text, b',')?;
-    }
-    None
 }
 
 // The word must come next.
@@ -91,11 +73,12 @@ fn command_word(text: &mut Cursor<'_>, letters: (u8, u8)) -> Option<Word>
         (b's', b't') => named(text, "states", Word::States),
         (b's', b'h') => named(text, "show", Word::Show),
         (b's', b'i') => named(text, "since", Word::Since),
-        (b's', _) => named(text, "sessions", Word::Sessions),
+        (b's', _) => later_word(text),
         (b'c', _) => named(text, "counters", Word::Counters),
         (b'e', _) => named(text, "enable", Word::Enable),
         (b'd', _) => named(text, "disable", Word::Disable),
         (b'a', _) => named(text, "apply", Word::Apply),
+        (b'b', _) => named(text, "batch", Word::Batch),
         (b'l', _) => named(text, "list", Word::List),
         _ => named(text, "hello", Word::Hello),
     }
@@ -108,6 +91,18 @@ fn undo_word(text: &mut Cursor<'_>) -> Option<Word>
         return Some(Word::UndoAll);
     }
     named(text, "undo", Word::Undo)
+}
+
+fn later_word(text: &mut Cursor<'_>) -> Option<Word>
+    ensures { IfSome result (λ w. text.old ≡ word_text w ++ text.new) }
+{
+    if text.take("setup") {
+        return Some(Word::Setup);
+    }
+    if text.take("settle") {
+        return Some(Word::Settle);
+    }
+    named(text, "sessions", Word::Sessions)
 }
 
 fn other_word(text: &mut Cursor<'_>) -> Option<Word>
@@ -149,11 +144,19 @@ impl Scanned for bool {
     }
 }
 
-impl<E: SpelledEntry> Scanned for ControlList<E> {
-    ghost value = { list_array E.value };
+impl Scanned for ControlList<PortEntryDraft> {
+    ghost value = { list_array port_entry_value };
 
-    fn scanned(alloc: Global, text: &mut Cursor<'_>) -> Option<ControlList<E>> {
-        entries(alloc, text)
+    fn scanned(alloc: Global, text: &mut Cursor<'_>) -> Option<ControlList<PortEntryDraft>> {
+        scanned_list(alloc, text, ENTRIES)
+    }
+}
+
+impl Scanned for ControlList<GateEntryDraft> {
+    ghost value = { list_array gate_entry_value };
+
+    fn scanned(alloc: Global, text: &mut Cursor<'_>) -> Option<ControlList<GateEntryDraft>> {
+        scanned_list(alloc, text, ENTRIES)
     }
 }
 

@@ -1,6 +1,3 @@
-use Rattle.std.proofs.Common.{◌∙◌, ap}
-use Rattle.tsn_wire.specs.Values.{hello_data}
-use Rattle.serde_json.specs.Written.{compact_text}
 use Rattle.tsn_spelling.proofs.Shapes.{hello_line, named_line}
 use Rattle.tsn_spelling.proofs.bare.push_hello.Goals as goal
 

@@ -8,5 +8,5 @@ use Rattle.tsn_wire.proofs.any_line.any_draft.Goals as goal
 pub returns-in-Ok : goal.returns-in-Ok
 returns-in-Ok c =
     any_says c.args.line.now c.members.new.text c.skip.new.self _ _ _
-    (subst (λ l. ReadsMembers 3 (lexed l) (line_rows c.in_ok-found.found) c.in_ok-found.count (lexed c.members.new.text)) c.new-text.ensures
-    c.in_ok-found.ensures) c.skip.ensures c.in_ok-end.ensures c.in_ok-draft.ensures (search rules)
+    (subst (λ l. ReadsMembers 5 (lexed l) (line_rows c.members.new.found) c.in_ok-count.count (lexed c.members.new.text)) c.new-text.ensures
+    c.in_ok-count.ensures) c.skip.ensures c.in_ok-end.ensures c.line_draft.ensures (search rules)

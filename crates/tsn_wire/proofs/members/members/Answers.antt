@@ -5,7 +5,7 @@ use Rattle.tsn_wire.proofs.Gathering.{none_yet, one_more, all_gathered}
 use Rattle.tsn_wire.proofs.members.members.Goals as goal
 
 pub members-init : goal.members-init
-members-init g c = none_yet _ _ _ (g.met.M.Gathered.opens _ c.default-found.ensures)
+members-init g c = none_yet _ _ _ c.requires
 
 pub returns-then-mark : goal.returns-then-mark
 returns-then-mark g c =

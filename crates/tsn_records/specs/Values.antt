@@ -1,0 +1,156 @@
+-- The members of a record as values, in the order of the table of members: which of them is which.
+use Rattle.std.specs.Prelude.{ℕ, List, [], ◌∷◌, Bool, false, Option, Some, None, slice_get, ⊤}
+use Rattle.tsn_records.specs.declared.allowed.Allowed.{Allowed}
+use Rattle.tsn_records.specs.declared.allowed.Allowed.TheVariants as allowed
+use Rattle.tsn_types.specs.declared.keys.Kind.{Kind}
+use Rattle.tsn_types.specs.declared.keys.Kind.TheVariants as kinds
+use Rattle.tsn_records.specs.declared.drafts.GateEntryDraft.{GateEntryDraft}
+use Rattle.tsn_records.specs.declared.drafts.MemberDraft.{MemberDraft}
+use Rattle.tsn_records.specs.declared.drafts.MemberDraft.TheVariants.{Unread, Number, Maybe, Flag, PortList, GateList}
+use Rattle.tsn_records.specs.declared.drafts.PortEntryDraft.{PortEntryDraft}
+use Rattle.tsn_records.specs.declared.drafts.RecordDraft.{RecordDraft}
+use Rattle.tsn_records.specs.declared.drafts.RecordDraft.TheVariants.{Port, Filter, Gate, Meter}
+
+-- how many members a record has at most
+abbrev pub most_members : ℕ
+most_members = 8
+
+-- what a member holds, where it is of the kind that is wanted
+abbrev pub number_in : MemberDraft → ℕ
+number_in (Number n) = n
+number_in v = 0
+
+abbrev pub number_or_none_in : MemberDraft → Option ℕ
+number_or_none_in (Maybe o) = o
+number_or_none_in v = None
+
+abbrev pub flag_in : MemberDraft → Bool
+flag_in (Flag b) = b
+flag_in v = false
+
+abbrev pub entries_of_port : MemberDraft → List PortEntryDraft
+entries_of_port (PortList es) = es
+entries_of_port v = []
+
+abbrev pub entries_of_gate : MemberDraft → List GateEntryDraft
+entries_of_gate (GateList es) = es
+entries_of_gate v = []
+
+-- the member at a place
+abbrev pub or_unread : Option MemberDraft → MemberDraft
+or_unread None = Unread
+or_unread (Some v) = v
+
+abbrev pub value_at : ℕ → List MemberDraft → MemberDraft
+value_at i vs = or_unread (slice_get vs i)
+
+-- the record of a kind that has these members
+unfoldable pub typed : Kind → List MemberDraft → RecordDraft
+typed kinds.Port vs = Port (record {
+  gates = number_in (value_at 0 vs);
+  admin = record {
+    list = entries_of_port (value_at 1 vs);
+    cycle = number_in (value_at 2 vs);
+    extension = number_in (value_at 3 vs);
+    base = number_in (value_at 4 vs);
+  };
+})
+typed kinds.Filter vs = Filter (record {
+  handle = number_or_none_in (value_at 0 vs);
+  priority = number_or_none_in (value_at 1 vs);
+  gate = number_in (value_at 2 vs);
+  max_sdu = number_or_none_in (value_at 3 vs);
+  meter = number_or_none_in (value_at 4 vs);
+  oversize = flag_in (value_at 5 vs);
+})
+typed kinds.Gate vs = Gate (record {
+  is_open = flag_in (value_at 0 vs);
+  ipv = number_or_none_in (value_at 1 vs);
+  admin = record {
+    list = entries_of_gate (value_at 2 vs);
+    cycle = number_in (value_at 3 vs);
+    extension = number_in (value_at 4 vs);
+    base = number_in (value_at 5 vs);
+  };
+  invalid_rx = flag_in (value_at 6 vs);
+  octets_exceeded = flag_in (value_at 7 vs);
+})
+typed kinds.Meter vs = Meter (record {
+  cir = number_in (value_at 0 vs);
+  cbs = number_in (value_at 1 vs);
+  eir = number_in (value_at 2 vs);
+  ebs = number_in (value_at 3 vs);
+  cf = flag_in (value_at 4 vs);
+  aware = flag_in (value_at 5 vs);
+  drop_yellow = flag_in (value_at 6 vs);
+  all_red = flag_in (value_at 7 vs);
+})
+
+-- the kind of a record
+abbrev pub kind_of_draft : RecordDraft → Kind
+kind_of_draft (Port r) = kinds.Port
+kind_of_draft (Filter r) = kinds.Filter
+kind_of_draft (Gate r) = kinds.Gate
+kind_of_draft (Meter r) = kinds.Meter
+
+-- its members, in the order of the table
+abbrev pub values_of : RecordDraft → List MemberDraft
+values_of (Port r) =
+    Number r.gates ∷ PortList r.admin.list ∷ Number r.admin.cycle ∷ Number r.admin.extension ∷ Number r.admin.base ∷ []
+values_of (Filter r) =
+    Maybe r.handle ∷
+    Maybe r.priority ∷
+    Number r.gate ∷
+    Maybe r.max_sdu ∷
+    Maybe r.meter ∷
+    Flag r.oversize ∷ []
+values_of (Gate r) =
+    Flag r.is_open ∷
+    Maybe r.ipv ∷
+    GateList r.admin.list ∷
+    Number r.admin.cycle ∷
+    Number r.admin.extension ∷
+    Number r.admin.base ∷
+    Flag r.invalid_rx ∷
+    Flag r.octets_exceeded ∷ []
+values_of (Meter r) =
+    Number r.cir ∷
+    Number r.cbs ∷
+    Number r.eir ∷
+    Number r.ebs ∷
+    Flag r.cf ∷
+    Flag r.aware ∷
+    Flag r.drop_yellow ∷
+    Flag r.all_red ∷ []
+
+-- a member is a number, a number or none, a flag, or a list of a kind's entries
+abbrev pub IsNumber : MemberDraft → Type 0
+IsNumber (Number n) = ⊤
+IsNumber v = ⊥
+
+abbrev pub IsMaybe : MemberDraft → Type 0
+IsMaybe (Maybe o) = ⊤
+IsMaybe v = ⊥
+
+abbrev pub IsFlag : MemberDraft → Type 0
+IsFlag (Flag b) = ⊤
+IsFlag v = ⊥
+
+abbrev pub IsListOf : Kind → MemberDraft → Type 0
+IsListOf kinds.Port (PortList es) = ⊤
+IsListOf kinds.Gate (GateList es) = ⊤
+IsListOf kind v = ⊥
+
+-- a member is such as its row of the table wants it
+abbrev pub Fits : Kind → Allowed → MemberDraft → Type 0
+Fits kind (allowed.Number least most) v = IsNumber v
+Fits kind (allowed.NumberOrNone least most) v = IsMaybe v
+Fits kind allowed.Flag v = IsFlag v
+Fits kind (allowed.List most) v = IsListOf kind v
+Fits kind allowed.Tables v = ⊥
+
+-- and so are all of them
+abbrev pub AllFit : Kind → List (List ℕ × Allowed) → List MemberDraft → Type 0
+AllFit kind [] [] = ⊤
+AllFit kind (row ∷ rows) (v ∷ vs) = Fits kind row.1 v × AllFit kind rows vs
+AllFit kind rows vs = ⊥
