@@ -39,7 +39,7 @@ def same(found, wanted, text):
 
 
 def line_of(command):
-    """The line of a command, in the service's own spelling."""
+    """The line of a command, in the service's compact spelling."""
     return json.dumps(command, ensure_ascii=False, separators=(",", ":"), sort_keys=True).encode() + b"\n"
 
 

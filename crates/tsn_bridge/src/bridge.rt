@@ -205,7 +205,7 @@ impl Bridge {
         ensures good { IsGood self.now.book.limits (base_of self.now.book) (changes (standing self.now.book.entries)) }
         ensures stands { result.now.map ≡ run (base_of self.now.book) (changes (standing self.now.book.entries)) }
     {
-        self.sessions.tell_order();
+        self.sessions.recall_order();
         self.pair.book().config()
     }
 

@@ -120,7 +120,7 @@ pub fn maps_after_steps()
 /// after it, with no entry between: only sessions may have been given out. Where the undo is answered with an entry, it
 /// took that edit back, and the configuration is the one before the edit: the whole map, every member of every record.
 /// It is refused only where the journal is full or memory was wanting. Every bridge is sound, as `Bridge::config` says;
-/// that a batch's keys are distinct and its numbers are in their ranges is said by `Batch::tell_ranges`.
+/// that a batch's keys are distinct and its numbers are in their ranges is said by `Batch::recall_ranges`.
 pub fn edit_at_once_undone()
     ensures undone { (before edited between after : State) (session : ℕ) (batch : List AnyEdit) (entry number of : ℕ) →
         IsBatch batch →

@@ -10,14 +10,14 @@ use tsn_desk::machine::Machine;
 impl Command {
     /// Tells a proof that the numbers of the command's records are in their ranges, and that its name may be one. It
     /// does nothing else.
-    pub fn tell_ranges(&self)
+    pub fn recall_ranges(&self)
         ensures { CommandInRange self.now }
     {
         match self {
-            Command::Hello { name: Some(name) } => name.tell_range(),
-            Command::Create { key: _, value } => value.tell_ranges(),
-            Command::Replace { key: _, value } => value.tell_ranges(),
-            Command::Batch { batch } => batch.tell_ranges(),
+            Command::Hello { name: Some(name) } => name.recall_range(),
+            Command::Create { key: _, value } => value.recall_ranges(),
+            Command::Replace { key: _, value } => value.recall_ranges(),
+            Command::Batch { batch } => batch.recall_ranges(),
             _ => {}
         }
     }
@@ -33,7 +33,7 @@ impl Machine for Bridge {
 
     fn step(&mut self, ask: Ask) -> Reply {
         let Ask { session, command } = ask;
-        command.tell_ranges();
+        command.recall_ranges();
         Bridge::step(self, session, command)
     }
 }

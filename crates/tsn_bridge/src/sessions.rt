@@ -92,7 +92,7 @@ impl Sessions {
 
     // Tells a proof that the names are of these sessions, in their order. It does nothing else.
     #[inline(always)]
-    pub(crate) fn tell_order(&self)
+    pub(crate) fn recall_order(&self)
         ensures { AreWithin 0 self.now.names self.now.count }
     {
         let _ = &self.count;

@@ -14,23 +14,23 @@ use Rattle.tsn_spelling.specs.Line.{line_text}
 use Rattle.tsn_clerk.specs.declared.clerk.Deed.{Deed}
 use Rattle.tsn_clerk.specs.declared.clerk.Heard.{Heard}
 use Rattle.tsn_clerk.specs.declared.clerk.Heard.TheVariants as heard
-use Rattle.tsn_clerk.specs.declared.clerk.Kind.{Kind}
-use Rattle.tsn_clerk.specs.declared.clerk.Kind.TheVariants.{Act, Hello, Itself, Passing}
-use Rattle.tsn_clerk.specs.Noting.{EndsWith, HasLast, IsHeard, IsRecorded, act_of, kind_of}
+use Rattle.tsn_clerk.specs.declared.clerk.Manner.{Manner}
+use Rattle.tsn_clerk.specs.declared.clerk.Manner.TheVariants.{Act, Hello, Itself, Passing}
+use Rattle.tsn_clerk.specs.Noting.{EndsWith, HasLast, IsHeard, IsRecorded, act_of, manner_of}
 
 -- what is kept of a command of this kind
-abbrev kept_by : ℕ → Command → ℕ → Kind → Option Ask
+abbrev kept_by : ℕ → Command → ℕ → Manner → Option Ask
 kept_by n command at Itself = Some (record { session = n; command = command })
 kept_by n command at Hello = Some (record { session = 0; command = command })
 kept_by n command at (Act deed key) = Some (record { session = n; command = act_of deed key at })
 kept_by n command at Passing = None
 
-kept_is : (n : ℕ) (command : Command) (at : ℕ) → kept n command at ≡ kept_by n command at (kind_of command)
+kept_is : (n : ℕ) (command : Command) (at : ℕ) → kept n command at ≡ kept_by n command at (manner_of command)
 kept_is n (commands.Hello name) at = refl
 kept_is n command at = refl
 
 -- the line of a hello names no session
-hello_line : (n : ℕ) (command : Command) → kind_of command ≡ Hello → line_text (record { session = n; command = command })
+hello_line : (n : ℕ) (command : Command) → manner_of command ≡ Hello → line_text (record { session = n; command = command })
     ≡ line_text (record { session = 0; command = command })
 hello_line n (commands.Hello name) is = refl
 hello_line n command is = absurd (cc)
@@ -39,22 +39,22 @@ pub empty_line : IsLine []
 empty_line = record { free = All-nil _; short = omega arith }
 
 module _ (ask : Ask) (line : List ℕ) where
-  of_kind : (kind : Kind) → kind_of ask.command ≡ kind → (at : ℕ)
+  of_manner : (kind : Manner) → manner_of ask.command ≡ kind → (at : ℕ)
       → kept ask.session ask.command at ≡ kept_by ask.session ask.command at kind
-  of_kind kind is at = kept_is ask.session ask.command at ∙ ap (kept_by ask.session ask.command at) is
+  of_manner kind is at = kept_is ask.session ask.command at ∙ ap (kept_by ask.session ask.command at) is
 
-  pub hears_passing : kind_of ask.command ≡ Passing → IsHeard heard.Passing line ask
-  hears_passing is at = of_kind Passing is at
+  pub hears_passing : manner_of ask.command ≡ Passing → IsHeard heard.Passing line ask
+  hears_passing is at = of_manner Passing is at
 
-  pub hears_act : (deed : Deed) (key : Key) → kind_of ask.command ≡ Act deed key → IsHeard (heard.Act deed key ask.session) line ask
-  hears_act deed key is at = of_kind (Act deed key) is at
+  pub hears_act : (deed : Deed) (key : Key) → manner_of ask.command ≡ Act deed key → IsHeard (heard.Act deed key ask.session) line ask
+  hears_act deed key is at = of_manner (Act deed key) is at
 
-  pub hears_itself : kind_of ask.command ≡ Itself → line ≡ line_text ask → IsHeard heard.Line line ask
-  hears_itself is spelled at = (ask, of_kind Itself is at, spelled)
+  pub hears_itself : manner_of ask.command ≡ Itself → line ≡ line_text ask → IsHeard heard.Line line ask
+  hears_itself is spelled at = (ask, of_manner Itself is at, spelled)
 
-  pub hears_hello : kind_of ask.command ≡ Hello → line ≡ line_text ask → IsHeard heard.Line line ask
+  pub hears_hello : manner_of ask.command ≡ Hello → line ≡ line_text ask → IsHeard heard.Line line ask
   hears_hello is spelled at =
-      (record { session = 0; command = ask.command }, of_kind Hello is at, spelled ∙ hello_line ask.session ask.command is)
+      (record { session = 0; command = ask.command }, of_manner Hello is at, spelled ∙ hello_line ask.session ask.command is)
 
 -- ---- what is recorded
 

@@ -14,8 +14,8 @@ use Rattle.tsn_clerk.specs.declared.clerk.Deed.{Deed}
 use Rattle.tsn_clerk.specs.declared.clerk.Deed.TheVariants.{Enable, Disable, Apply}
 use Rattle.tsn_clerk.specs.declared.clerk.Heard.{Heard}
 use Rattle.tsn_clerk.specs.declared.clerk.Heard.TheVariants as heard
-use Rattle.tsn_clerk.specs.declared.clerk.Kind.{Kind}
-use Rattle.tsn_clerk.specs.declared.clerk.Kind.TheVariants.{Act, Hello, Itself, Passing}
+use Rattle.tsn_clerk.specs.declared.clerk.Manner.{Manner}
+use Rattle.tsn_clerk.specs.declared.clerk.Manner.TheVariants.{Act, Hello, Itself, Passing}
 
 -- an act on a key at an instant
 abbrev pub act_of : Deed → Key → ℕ → Command
@@ -24,18 +24,18 @@ act_of Disable key now = commands.Disable key now
 act_of Apply key now = commands.Apply key now
 
 -- how a command of a family is kept, if it is accepted
-abbrev pub kind_in : Family → Kind
-kind_in (Greeting name) = Hello
-kind_in (Acting asked.Enable k now) = Act Enable k
-kind_in (Acting asked.Disable k now) = Act Disable k
-kind_in (Acting asked.Apply k now) = Act Apply k
-kind_in (Framing frame now) = Passing
-kind_in (Looking look) = Passing
-kind_in (Counting look) = Passing
-kind_in f = Itself
+abbrev pub manner_in : Family → Manner
+manner_in (Greeting name) = Hello
+manner_in (Acting asked.Enable k now) = Act Enable k
+manner_in (Acting asked.Disable k now) = Act Disable k
+manner_in (Acting asked.Apply k now) = Act Apply k
+manner_in (Framing frame now) = Passing
+manner_in (Looking look) = Passing
+manner_in (Counting look) = Passing
+manner_in f = Itself
 
-abbrev pub kind_of : Command → Kind
-kind_of command = kind_in (family command)
+abbrev pub manner_of : Command → Manner
+manner_of command = manner_in (family command)
 
 -- What was heard is of this ask. Of one that passes nothing is ever kept; of one with a line, whatever the reply tells, this line
 -- is; of an act it is one at the instant that the reply tells.

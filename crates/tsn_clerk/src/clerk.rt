@@ -5,7 +5,7 @@ ghost use Rattle.tsn_bridge.specs.declared.command.Ask.{Ask as AnyAsk};
 ghost use Rattle.tsn_bridge.specs.Rule.{may_change};
 ghost use Rattle.tsn_replay.specs.Recording.{instant_told};
 ghost use Rattle.tsn_spelling.specs.Line.{line_text};
-ghost use Rattle.tsn_clerk.specs.Noting.{EndsWith, IsHeard, IsRecorded, act_of, kind_of};
+ghost use Rattle.tsn_clerk.specs.Noting.{EndsWith, IsHeard, IsRecorded, act_of, manner_of};
 
 use crate::line::Line;
 use std::alloc::{AllocError, Global};
@@ -31,7 +31,7 @@ pub enum Deed {
 
 /// How a command is kept, if it is accepted.
 #[derive(Clone, Copy, Debug, PartialEq, Eq)]
-pub enum Kind {
+pub enum Manner {
     /// As it is.
     Itself,
     /// As a hello, which is of no session.
@@ -65,14 +65,14 @@ pub struct Clerk<'a, W: Wait, C: Clock, D: Device, R: Naming, K: Naming + Ahead>
     line: Line,
 }
 
-fn kind_of(command: &Command) -> Kind
-    ensures { result ≡ kind_of command.now }
+fn manner_of(command: &Command) -> Manner
+    ensures { result ≡ manner_of command.now }
 {
     match command {
-        Command::Hello { .. } => Kind::Hello,
-        Command::Enable { key, .. } => Kind::Act(Deed::Enable, *key),
-        Command::Disable { key, .. } => Kind::Act(Deed::Disable, *key),
-        Command::Apply { key, .. } => Kind::Act(Deed::Apply, *key),
+        Command::Hello { .. } => Manner::Hello,
+        Command::Enable { key, .. } => Manner::Act(Deed::Enable, *key),
+        Command::Disable { key, .. } => Manner::Act(Deed::Disable, *key),
+        Command::Apply { key, .. } => Manner::Act(Deed::Apply, *key),
         Command::Create { .. }
         | Command::Replace { .. }
         | Command::Remove { .. }
@@ -80,8 +80,8 @@ fn kind_of(command: &Command) -> Kind
         | Command::Undo
         | Command::UndoAll
         | Command::Redo
-        | Command::Settle { .. } => Kind::Itself,
-        _ => Kind::Passing,
+        | Command::Settle { .. } => Manner::Itself,
+        _ => Manner::Passing,
     }
 }
 
@@ -194,10 +194,10 @@ impl<'a, W: Wait, C: Clock + Drop, D: Device + Drop, R: Naming, K: Naming + Ahea
 
     #[tactic(auto, using(crate::proofs::Noting::hears_passing, crate::proofs::Noting::hears_act, crate::proofs::Noting::hears_itself, crate::proofs::Noting::hears_hello))]
     fn hear(&mut self, ask: &Ask) {
-        self.heard = match kind_of(&ask.command) {
-            Kind::Passing => Heard::Passing,
-            Kind::Act(deed, key) => Heard::Act(deed, key, ask.session),
-            Kind::Hello | Kind::Itself => self.heard_as(ask),
+        self.heard = match manner_of(&ask.command) {
+            Manner::Passing => Heard::Passing,
+            Manner::Act(deed, key) => Heard::Act(deed, key, ask.session),
+            Manner::Hello | Manner::Itself => self.heard_as(ask),
         };
     }
 

@@ -14,7 +14,7 @@ use tsn_desk::desk::{Desk, Seat};
 use tsn_device::Device;
 use tsn_history::Naming;
 use tsn_keeping::Clock;
-use tsn_lasting::Gathered;
+use tsn_lasting::Backlog;
 use tsn_port::worker::{PortWorker, RoundFault};
 use tsn_serve::{Connection, Free, Host, LineBuffer, start_with};
 use tsn_types::numbers::PortId;
@@ -59,7 +59,7 @@ impl<
         requires { IsSeatOf desk.now seat }
         ensures { GoesOn desk.now seat result }
     {
-        let Ok(replies) = Gathered::new(alloc) else {
+        let Ok(replies) = Backlog::new(alloc) else {
             return seat;
         };
         let Ok(mut line) = LineBuffer::new(alloc) else {

@@ -16,7 +16,7 @@ use tsn_commit::{Ahead, Commit};
 use tsn_device::Device;
 use tsn_history::{Front, Naming};
 use tsn_keeping::Clock;
-use tsn_lasting::Gathered;
+use tsn_lasting::Backlog;
 use tsn_replies::write_reply;
 use tsn_serve::{Connection, Free, Responder};
 
@@ -49,7 +49,7 @@ pub struct Talk<
     commit: &'a Commit<C, D, R, K>,
     due: Option<Front<R>>,
     kept: Option<Front<K>>,
-    replies: Gathered,
+    replies: Backlog,
     writer: O,
     fault: TalkFault,
 }
@@ -87,7 +87,7 @@ impl<'a, W: Wait, C: Clock + Drop, D: Device + Drop, R: Naming, K: Naming + Ahea
         end: Connection<'a, W, Free, Clerk<'a, W, C, D, R, K>>,
         rt: &'a W,
         commit: &'a Commit<C, D, R, K>,
-        replies: Gathered,
+        replies: Backlog,
         writer: O,
     ) -> Talk<'a, W, C, D, R, K, O>
         ensures { result ≡ record { caller = end.entry; due = None; kept = None; replies = replies; writer = writer } }

@@ -35,7 +35,7 @@ impl Config {
         ensures map { self.new.map ≡ after_change self.old.map change }
         ensures spare { self.old.spare ≤ self.new.spare + room_of change }
     {
-        self.tell_kinds(&change);
+        self.recall_kinds(&change);
         match change.into_parts() {
             Parts::One(part) => {
                 let _ = self.rows.set(part.key, part.after);
@@ -58,7 +58,7 @@ impl Config {
         ensures spare { self.old.spare ≤ self.new.spare + length batch }
         ensures kept { OnErr result (self.old.spare ≤ self.new.spare) }
     {
-        self.tell_fits(&batch);
+        self.recall_fits(&batch);
         match batch.into_edits() {
             Edits::One(edit) => self.make_one(edit),
             Edits::Many(edits) => self.make_many(edits),
@@ -67,7 +67,7 @@ impl Config {
 
     // The change of admitted edits fits, and its values after are of their keys' kinds. It does nothing as the program
     // runs.
-    fn tell_fits(&self, batch: &Batch)
+    fn recall_fits(&self, batch: &Batch)
         requires { refusal self.now.limits self.now.map batch.now ≡ None }
         ensures batch { IsBatch batch.now }
         ensures fits { Fits self.now.limits self.now.map (change_of self.now.map batch.now) }
@@ -75,7 +75,7 @@ impl Config {
     {
         // The proof needs what the type keeps, which reading a field gives, and the ranges of the records' numbers.
         let _kept = &self.limits;
-        batch.tell_ranges();
+        batch.recall_ranges();
     }
 
     // Makes one edit, with one copy of the value that it puts.
@@ -119,7 +119,7 @@ impl Config {
     }
 
     // The values after of a change that fits are of their keys' kinds. It does nothing as the program runs.
-    fn tell_kinds(&self, change: &Change)
+    fn recall_kinds(&self, change: &Change)
         requires { Fits self.now.limits self.now.map change.now }
         ensures { AreOfKinds change.now }
     {

@@ -60,7 +60,7 @@ impl Config {
     {
         // The proof needs what the type keeps, which reading a field gives, and the ranges of the record's numbers.
         let _kept = &self.limits;
-        tell_ranges(after);
+        recall_ranges(after);
         self.stands(key, before) && self.keeps(key, before, after)
     }
 
@@ -115,7 +115,7 @@ impl Config {
     {
         for part in parts {
             // The proof needs the ranges of the record's numbers.
-            tell_ranges(after_of(part, way));
+            recall_ranges(after_of(part, way));
             if !self.stands(&part.key, before_of(part, way)) {
                 return false;
             }
@@ -246,10 +246,10 @@ fn after_of(part: &Part, way: Way) -> &Option<Record>
 }
 
 // The numbers of a value are in their ranges, by their types. It does nothing as the program runs.
-fn tell_ranges(value: &Option<Record>)
+fn recall_ranges(value: &Option<Record>)
     ensures { IfSome value.now RecordInRange }
 {
     if let Some(whole) = value {
-        whole.tell_ranges();
+        whole.recall_ranges();
     }
 }

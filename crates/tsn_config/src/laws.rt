@@ -22,7 +22,7 @@ pub fn change_and_inverse()
 {}
 
 /// The change of admitted edits fits the well kept configuration in which they were admitted, the numbers of their
-/// records being in their ranges, as they are in every value of the types (`Batch::tell_ranges`).
+/// records being in their ranges, as they are in every value of the types (`Batch::recall_ranges`).
 pub fn admitted_batch_fits()
     ensures { (l : Limits) (c : Configuration) (batch : List Edit) → IsWellKept l c → IsBatch batch → EditsInRange batch
         → refusal l c batch ≡ None → Fits l c (change_of c batch) }

@@ -43,7 +43,7 @@ impl Config {
         ensures beyond { (why : AnyRefusal) → limits_cause limits records ≡ Some why → result ≡ Err why }
     {
         let items = records.into_items();
-        if let Some(why) = refuse_limits(limits, &items) {
+        if let Some(why) = refuse_items(limits, &items) {
             return Err(why);
         }
         let mut rows = rows_of(alloc, items)?;
@@ -56,7 +56,7 @@ impl Config {
 }
 
 // The first cause of the limits in the order of the list.
-fn refuse_limits(limits: Limits, items: &[(Key, Record)]) -> Option<Refusal>
+fn refuse_items(limits: Limits, items: &[(Key, Record)]) -> Option<Refusal>
     ensures { result ≡ limits_cause limits items.now }
 {
     for item in items {

@@ -47,7 +47,7 @@ impl Records {
         ensures ok { OnOk result (self.new ≡ self.old ++ (key, value) ∷ []) }
         ensures err { OnErr result (self.new ≡ self.old) }
     {
-        value.tell_ranges();
+        value.recall_ranges();
         self.items.push((key, value))?;
         Ok(())
     }

@@ -62,7 +62,7 @@ module _ {M Q A T P : Type 0} where
     pub idle : seat.me.0.stage ≡ Idle
 
   -- the seat has seen the whole history, which begins with what it and the other had seen, and has taken in the other's numbers
-  pub record Gathered (steps : M → Q → A → M → Type 0) (table : Table (Option M) (View M Q A) (Opening M) P T)
+  pub record HasGathered (steps : M → Q → A → M → Type 0) (table : Table (Option M) (View M Q A) (Opening M) P T)
       (other old new : Seat (Option M) (View M Q A)) : Type 0 where
     pub rests : IsAtRest table new
     pub calls : new.me.0.calls ≡ other.me.0.calls ++ old.me.0.calls

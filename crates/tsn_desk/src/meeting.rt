@@ -1,6 +1,6 @@
 //! How seats learn from each other, and how one takes in another.
 ghost use Rattle.std.specs.Prelude.{◌≡◌};
-ghost use Rattle.tsn_desk.specs.Seats.{IsAtRest, Gathered, Learned};
+ghost use Rattle.tsn_desk.specs.Seats.{IsAtRest, HasGathered, Learned};
 
 use crate::board::SERVING;
 use crate::desk::{Desk, TableSeat};
@@ -12,7 +12,7 @@ impl<M: Machine> Desk<M> {
     /// begins with what each of the two had seen.
     pub(crate) fn gather(&self, seat: &mut TableSeat<M>, other: TableSeat<M>)
         requires seats { IsAtRest self.now.table seat.old × IsAtRest self.now.table other }
-        ensures { Gathered M.steps self.now.table other seat.old seat.new }
+        ensures { HasGathered M.steps self.now.table other seat.old seat.new }
     {
         self.table.shared.join_seat::<Gather>(seat, other);
         self.table.shared.load::<SeeFront>(seat, SERVING);

@@ -75,11 +75,11 @@ impl Batch {
 
     /// There are 1 to 16 edits on distinct keys, and the numbers of their records are in their ranges: all by their
     /// types. It changes nothing as the program runs.
-    pub fn tell_ranges(&self)
+    pub fn recall_ranges(&self)
         ensures batch { IsBatch self.now }
         ensures ranges { EditsInRange self.now }
     {
-        tell_ranges(self.edits())
+        recall_ranges(self.edits())
     }
 
     /// The edits, taken out.
@@ -132,12 +132,12 @@ fn are_distinct(edits: &[Edit]) -> bool
 }
 
 /// The numbers of each edit's record are in their ranges.
-fn tell_ranges(edits: &[Edit])
+fn recall_ranges(edits: &[Edit])
     ensures { EditsInRange edits.now }
 {
     let mut rest = edits;
     while let [first, others @ ..] = rest {
-        first.tell_ranges();
+        first.recall_ranges();
         rest = others;
     }
 }

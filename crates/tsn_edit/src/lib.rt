@@ -33,12 +33,12 @@ pub enum Edit {
 
 impl Edit {
     /// The numbers of the edit's record are in their ranges, by their types. It does nothing as the program runs.
-    pub fn tell_ranges(&self)
+    pub fn recall_ranges(&self)
         ensures { EditInRange self.now }
     {
         match self {
-            Edit::Create(_, value) => value.tell_ranges(),
-            Edit::Replace(_, value) => value.tell_ranges(),
+            Edit::Create(_, value) => value.recall_ranges(),
+            Edit::Replace(_, value) => value.recall_ranges(),
             Edit::Remove(_) => {}
         }
     }

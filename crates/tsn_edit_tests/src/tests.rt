@@ -118,6 +118,6 @@ fn calls_that_take_one_change(rt: HostRuntime) {
     let back = removed_meter().inverse();
     is_change(&rt, &back, meter_key(2), None, Some(&meter_record()));
     let edit = Edit::Replace(meter_key(2), meter_record());
-    edit.tell_ranges();
+    edit.recall_ranges();
     assert!(rt; matches!(&edit, Edit::Replace(_, _)));
 }

@@ -5,7 +5,7 @@ use Rattle.tsn_journal.specs.declared.entries.What.{What}
 use Rattle.tsn_journal.specs.declared.entries.MarkedEntry.{MarkedEntry}
 use Rattle.tsn_journal.specs.declared.groups.Group.{Group}
 use Rattle.tsn_journal.specs.declared.index.Index.{Index}
-use Rattle.tsn_journal.specs.Index.{ArePlaces, HasRoom, IsIndexed, IsIndexedButNewest, NewestAdds, TakesNoRoom, TakesRoom, places_for}
+use Rattle.tsn_journal.specs.Index.{AreNodes, HasRoom, IsIndexed, IsIndexedButNewest, NewestAdds, TakesNoRoom, TakesRoom, nodes_for}
 use Rattle.tsn_journal.specs.Crossed.{IsFreeAbove, IsNeeded, IsRaised, NoneCrossed, NoneReferred, is_on_referred}
 use Rattle.tsn_journal.specs.Kept.{IsKept}
 use Rattle.tsn_journal.specs.Latest.{latest_of}
@@ -24,35 +24,35 @@ use Rattle.tsn_journal.proofs.Marking.{entries_pushed, entries_stay, journal_pus
 use Rattle.tsn_journal.proofs.Needed.{needed_pushed}
 use Rattle.tsn_journal.proofs.Telling.{tells_more, tells_same}
 
--- the index says the same where it has the same places and the same latest ones
-pub indexed_same : (ms : List MarkedEntry) (a b : Index) → b.places.items ≡ a.places.items
+-- the index says the same where it has the same nodes and the same latest ones
+pub indexed_same : (ms : List MarkedEntry) (a b : Index) → b.nodes.items ≡ a.nodes.items
     → ((g : Group) → latest_of b.latest g ≡ latest_of a.latest g) → IsIndexed ms a → IsIndexed ms b
-indexed_same ms a b places latest is = record {
-  places = subst (ArePlaces ms) (sym places) is.places;
+indexed_same ms a b nodes latest is = record {
+  nodes = subst (AreNodes ms) (sym nodes) is.nodes;
   latest_is = λ g. grind arith;
 }
 
-newest_same : (ms : List MarkedEntry) (a b : Index) → b.places.items ≡ a.places.items
+newest_same : (ms : List MarkedEntry) (a b : Index) → b.nodes.items ≡ a.nodes.items
     → ((g : Group) → latest_of b.latest g ≡ latest_of a.latest g) → (g : Group) → HasNewest ms a g → HasNewest ms b g
-newest_same ms a b places latest g had =
-    subst (λ qs. IsIn g ms qs (latest_of b.latest g)) (sym places) (subst (λ j. IsIn g ms a.places.items j) (sym (latest g)) had)
+newest_same ms a b nodes latest g had =
+    subst (λ qs. IsIn g ms qs (latest_of b.latest g)) (sym nodes) (subst (λ j. IsIn g ms a.nodes.items j) (sym (latest g)) had)
 
 module _ (ms : List MarkedEntry) (len capacity : ℕ) (a : Index) (room parts upto crossed : ℕ)
     (is : IsKept ms len capacity a room parts upto crossed) (ns : List MarkedEntry) (b : Index) (same : ns ≡ ms)
-    (places : b.places.items ≡ a.places.items) (latest : (g : Group) → latest_of b.latest g ≡ latest_of a.latest g) (tells : TellsSame a b)
+    (nodes : b.nodes.items ≡ a.nodes.items) (latest : (g : Group) → latest_of b.latest g ≡ latest_of a.latest g) (tells : TellsSame a b)
   where
     pub kept_reserved : (len' capacity' room' parts' : ℕ) → len' ≡ len → len' + room' ≤ capacity' → len' + room' ≤ 262144 → parts' ≤ 4194304
-        → HasRoom (places_for room' parts') b → IsKept ns len' capacity' b room' parts' upto crossed
-    kept_reserved len' capacity' room' parts' as_many entries few few_parts places' = record {
+        → HasRoom (nodes_for room' parts') b → IsKept ns len' capacity' b room' parts' upto crossed
+    kept_reserved len' capacity' room' parts' as_many entries few few_parts nodes' = record {
       journal = subst IsJournal (sym same) is.journal;
-      indexed = subst (λ xs. IsIndexed xs b) (sym same) (indexed_same ms a b places latest is.indexed);
-      newest = subst (λ xs. AreNewest xs b) (sym same) (λ g. newest_same ms a b places latest g (is.newest g));
+      indexed = subst (λ xs. IsIndexed xs b) (sym same) (indexed_same ms a b nodes latest is.indexed);
+      newest = subst (λ xs. AreNewest xs b) (sym same) (λ g. newest_same ms a b nodes latest g (is.newest g));
       tells = subst (λ xs. Tells (entries_of xs) b) (sym same) (tells_same (entries_of ms) a b tells is.tells);
       entries = entries;
       few = few;
       few_parts = few_parts;
-      few_places = omega (arith, ap length places, is.few_places, as_many);
-      places = places';
+      few_nodes = omega (arith, ap length nodes, is.few_nodes, as_many);
+      nodes = nodes';
       settled = is.settled ∙ ap (λ xs. settled (entries_of xs)) (sym same);
       settled_there = omega (arith, is.settled_there, as_many);
       off = subst (AreOff upto) (sym same) is.off;
@@ -64,8 +64,8 @@ module _ (ms : List MarkedEntry) (len capacity : ℕ) (a : Index) (room parts up
 pub still_room : (n : ℕ) (a b : Index) → TakesNoRoom a b → HasRoom n a → HasRoom n b
 still_room n a b h k = grind arith
 
-pub less_room : (n p k : ℕ) (a b : Index) → 1 ≤ n → k ≤ p → TakesRoom (places_for 1 k) a b → HasRoom (places_for n p) a
-    → HasRoom (places_for (n - 1) (p - k)) b
+pub less_room : (n p k : ℕ) (a b : Index) → 1 ≤ n → k ≤ p → TakesRoom (nodes_for 1 k) a b → HasRoom (nodes_for n p) a
+    → HasRoom (nodes_for (n - 1) (p - k)) b
 less_room n p k a b some fewer h has = grind arith
 
 module _ (w : What) (s : ℕ) (ms ns : List MarkedEntry) (pushed : ns ≡ map (mark_off w) ms ++ new_entry ms s w ∷ []) where
@@ -85,7 +85,7 @@ module _ (w : What) (s : ℕ) (ms ns : List MarkedEntry) (pushed : ns ≡ map (m
       → IsKept ms len capacity a room parts upto crossed → IsFreeAbove more ns → NoneReferred more ns → IsRaised crossed more ms s (adds w)
       → settles_to w ≤ length ms → now ≡ max upto (settles_to w) → length ms ≡ len → len' ≡ len + 1 → capacity' ≡ capacity → IsIndexed ns b
       → AreNewest ns b → Tells (entries_of ns) b
-      → TakesRoom (places_for 1 k) a b → IsKept ns len' capacity' b (room - 1) (parts - k) now more
+      → TakesRoom (nodes_for 1 k) a b → IsKept ns len' capacity' b (room - 1) (parts - k) now more
   kept_pushed len capacity len' capacity' room parts k upto now crossed more a b some fewer wide is free referred raised there now_is count
       longer same indexed newest tells takes =
       record {
@@ -96,8 +96,8 @@ module _ (w : What) (s : ℕ) (ms ns : List MarkedEntry) (pushed : ns ≡ map (m
         entries = omega (arith, is.entries);
         few = omega (arith, is.few);
         few_parts = omega (arith, is.few_parts);
-        few_places = omega (arith, is.few_places, takes.places.items);
-        places = less_room room parts k a b some fewer takes is.places;
+        few_nodes = omega (arith, is.few_nodes, takes.nodes.items);
+        nodes = less_room room parts k a b some fewer takes is.nodes;
         settled = now_is ∙ ap (λ n. max n (settles_to w)) is.settled
             ∙ sym (settled_push (entries_of ms) (record { number = length (entries_of ms) + 1; session = s; what = w }))
             ∙ sym (ap settled (entries_pushed ms s w)) ∙ ap (λ xs. settled (entries_of xs)) (sym pushed);

@@ -1,12 +1,12 @@
--- Places in their list, and what the links back from one say.
+-- Nodes in their list, and what the links back from one say.
 use Rattle.std.proofs.Common.{◌≡◌, ℕ, zero, suc, ◌+◌, ◌-◌, ◌<◌, ◌≤◌, ◌⊎◌, Bool, true, false, List, [], ◌∷◌, ◌++◌, refl, sym, ◌∙◌, ap, subst, Some, None, arith, length, get_or, add-one}
 use Rattle.std.specs.List.{slice_get}
 use Rattle.std.proofs.lemmas.Option.{slice_get_read}
 use Rattle.std.proofs.lemmas.Bool.{and_left}
 use Rattle.tsn_journal.specs.declared.entries.MarkedEntry.{MarkedEntry}
 use Rattle.tsn_journal.specs.declared.groups.Group.{Group}
-use Rattle.tsn_journal.specs.declared.index.Place.{Place}
-use Rattle.tsn_journal.specs.Index.{ArePlaces, IsLast, IsPlace, NoneBetween, NoneFrom, belongs, belongs_to_others, is_by, is_of, number_at, place_at}
+use Rattle.tsn_journal.specs.declared.index.Node.{Node}
+use Rattle.tsn_journal.specs.Index.{AreNodes, IsLast, IsNode, NoneBetween, NoneFrom, belongs, belongs_to_others, is_by, is_of, number_at, node_at}
 use Rattle.tsn_journal.proofs.Grouping.{one_group}
 
 -- ---- lists with one element more
@@ -28,49 +28,49 @@ end_at (y ∷ xs) x (suc i) h = end_at xs x i (omega arith)
 pub where_at : (n i : ℕ) → (i < n) ⊎ ((i ≡ n) ⊎ (n < i))
 where_at n i = grind arith
 
--- ---- places
+-- ---- nodes
 
-pub place_front : (ps qs : List Place) (j : ℕ) → j ≤ length ps → place_at (ps ++ qs) j ≡ place_at ps j
-place_front ps qs j h = grind (arith, front_at)
+pub node_front : (ps qs : List Node) (j : ℕ) → j ≤ length ps → node_at (ps ++ qs) j ≡ node_at ps j
+node_front ps qs j h = grind (arith, front_at)
 
-pub place_end : (ps : List Place) (p : Place) → place_at (ps ++ p ∷ []) (length ps + 1) ≡ Some p
-place_end ps p = ap (place_at (ps ++ p ∷ [])) (add-one (length ps)) ∙ end_at ps p (length ps) refl
+pub node_end : (ps : List Node) (p : Node) → node_at (ps ++ p ∷ []) (length ps + 1) ≡ Some p
+node_end ps p = ap (node_at (ps ++ p ∷ [])) (add-one (length ps)) ∙ end_at ps p (length ps) refl
 
-pub place_there : (ps : List Place) (j : ℕ) (p : Place) → (j ≡ 0 → ⊥) → j ≤ length ps → p ≡ get_or ps (j - 1) p → place_at ps j ≡ Some p
-place_there ps j p some h at = grind (arith, slice_get_read)
+pub node_there : (ps : List Node) (j : ℕ) (p : Node) → (j ≡ 0 → ⊥) → j ≤ length ps → p ≡ get_or ps (j - 1) p → node_at ps j ≡ Some p
+node_there ps j p some h at = grind (arith, slice_get_read)
 
-pub place_of : (ms : List MarkedEntry) (ps : List Place) (j : ℕ) (p : Place) → place_at ps j ≡ Some p → ArePlaces ms ps
-    → IsPlace ms ps (j - 1) p
-place_of ms ps zero p there are = none_some p there
-place_of ms ps (suc i) p there are = let e : i ≡ suc i - 1 = omega arith in subst (λ k. IsPlace ms ps k p) e (are i p there)
+pub node_of : (ms : List MarkedEntry) (ps : List Node) (j : ℕ) (p : Node) → node_at ps j ≡ Some p → AreNodes ms ps
+    → IsNode ms ps (j - 1) p
+node_of ms ps zero p there are = none_some p there
+node_of ms ps (suc i) p there are = let e : i ≡ suc i - 1 = omega arith in subst (λ k. IsNode ms ps k p) e (are i p there)
 
--- the same of a place to which a walk came
-pub came_to : {ms : List MarkedEntry} {ps : List Place} {j : ℕ} {p : Place} → (j ≡ 0 → ⊥) → j ≤ length ps → p ≡ get_or ps (j - 1) p
-    → ArePlaces ms ps → IsPlace ms ps (j - 1) p
-came_to {ms} {ps} {j} {p} some within at are = place_of ms ps j p (place_there ps j p some within at) are
+-- the same of a node to which a walk came
+pub came_to : {ms : List MarkedEntry} {ps : List Node} {j : ℕ} {p : Node} → (j ≡ 0 → ⊥) → j ≤ length ps → p ≡ get_or ps (j - 1) p
+    → AreNodes ms ps → IsNode ms ps (j - 1) p
+came_to {ms} {ps} {j} {p} some within at are = node_of ms ps j p (node_there ps j p some within at) are
 
 -- what does not belong to a group is not of another session in it
 pub not_of_others : (g : Group) (s : ℕ) (m : MarkedEntry) → belongs g m ≡ false → belongs_to_others g s m ≡ false
 not_of_others g s m h = and_left (belongs g m) _ h
 
-module _ (ms : List MarkedEntry) (ps : List Place) (g : Group) (j : ℕ) (p : Place) (group : is_of g (place_at ps j) ≡ true)
-    (there : place_at ps j ≡ Some p) (are : ArePlaces ms ps) where
+module _ (ms : List MarkedEntry) (ps : List Node) (g : Group) (j : ℕ) (p : Node) (group : is_of g (node_at ps j) ≡ true)
+    (there : node_at ps j ≡ Some p) (are : AreNodes ms ps) where
   pub one : p.group ≡ g
   one = one_group p.group g (ap (is_of g) (sym there) ∙ group)
 
-  pub the_place : IsPlace ms ps (j - 1) p
-  the_place = place_of ms ps j p there are
+  pub the_node : IsNode ms ps (j - 1) p
+  the_node = node_of ms ps j p there are
 
-  pub next_group : is_of g (place_at ps p.before) ≡ true
-  next_group = subst (λ h. is_of h (place_at ps p.before) ≡ true) one the_place.last.group
+  pub next_group : is_of g (node_at ps p.before) ≡ true
+  next_group = subst (λ h. is_of h (node_at ps p.before) ≡ true) one the_node.last.group
 
-  -- a link back to the place before
+  -- a link back to the node before
   pub step_none : (t : MarkedEntry → Bool) (limit : ℕ) → ((m : MarkedEntry) → belongs g m ≡ false → t m ≡ false)
       → NoneBetween t ms (number_at ps j) limit
       → (m : MarkedEntry) → slice_get ms (p.number - 1) ≡ Some m → t m ≡ false → NoneBetween t ms (number_at ps p.before) limit
   step_none t limit out none m here fails i x low high at' = grind arith
 
-  -- the same where nothing from a number below the place's on passes
+  -- the same where nothing from a number below the node's on passes
   pub step_beyond : (t : MarkedEntry → Bool) (limit : ℕ) → ((m : MarkedEntry) → belongs g m ≡ false → t m ≡ false) → (n : ℕ) → n < p.number
       → NoneFrom t ms n → NoneBetween t ms (number_at ps p.before) limit
   step_beyond t limit out n below none i x low high at' = grind arith
@@ -78,12 +78,12 @@ module _ (ms : List MarkedEntry) (ps : List Place) (g : Group) (j : ℕ) (p : Pl
   pub step : (t : MarkedEntry → Bool) (limit : ℕ) → ((m : MarkedEntry) → belongs g m ≡ false → t m ≡ false) → IsLast g t ms ps j limit
       → (m : MarkedEntry) → slice_get ms (p.number - 1) ≡ Some m → t m ≡ false → IsLast g t ms ps p.before limit
   step t limit out at m here fails =
-      record { within = the_place.last.within; group = next_group; none_later = step_none t limit out at.none_later m here fails }
+      record { within = the_node.last.within; group = next_group; none_later = step_none t limit out at.none_later m here fails }
 
-  -- a link back to the last place of another session, where this one is of the session itself
+  -- a link back to the last node of another session, where this one is of the session itself
   pub hop : (s limit : ℕ) → IsLast g (belongs_to_others g s) ms ps j limit → is_by s (slice_get ms (p.number - 1)) ≡ true
       → IsLast g (belongs_to_others g s) ms ps p.other limit
   hop s limit at by =
       let other : IsLast g (belongs_to_others g s) ms ps p.other p.number = subst
-      (λ h. IsLast h (belongs_to_others h s) ms ps p.other p.number) one (the_place.other s by) in
+      (λ h. IsLast h (belongs_to_others h s) ms ps p.other p.number) one (the_node.other s by) in
       grind arith

@@ -1,4 +1,4 @@
--- The newest places of groups: with a place more, set back, and with marks off.
+-- The newest nodes of groups: with a node more, set back, and with marks off.
 use Rattle.std.proofs.Common.{◌≡◌, ℕ, zero, suc, ◌+◌, ◌-◌, ◌<◌, ◌≤◌, ◌⊎◌, inl, inr, Bool, true, cond, ◌||◌, List, [], ◌∷◌, ◌++◌, refl, sym, ◌∙◌, ap, subst, Option, Some, None, arith, get_or, length, map, max, take}
 use Rattle.std.proofs.lemmas.Grind.{common_steps}
 use Rattle.std.specs.Prelude.{◌==◌, option_map}
@@ -19,14 +19,14 @@ use Rattle.tsn_journal.specs.declared.entries.What.{What}
 use Rattle.tsn_journal.specs.declared.groups.Group.{Group}
 use Rattle.tsn_journal.specs.declared.groups.Group.TheVariants.{On, RefersTo, Of, EndsRedo}
 use Rattle.tsn_journal.specs.declared.index.Index.{Index}
-use Rattle.tsn_journal.specs.declared.index.Place.{Place}
+use Rattle.tsn_journal.specs.declared.index.Node.{Node}
 use Rattle.tsn_journal.specs.Entries.{IsNumbered, adds, closes, names, settles_to}
-use Rattle.tsn_journal.specs.Index.{Adds, ArePlaces, IsIndexed, IsNewest, belongs, groups_of_parts, is_among, is_on, part_groups, place_at, refers, set_at, standing_change}
+use Rattle.tsn_journal.specs.Index.{Adds, AreNodes, IsIndexed, IsNewest, belongs, groups_of_parts, is_among, is_on, part_groups, node_at, refers, set_at, standing_change}
 use Rattle.tsn_journal.specs.Latest.{latest_of}
 use Rattle.tsn_journal.specs.Marks.{AreOff, entries_of, mark_off}
 use Rattle.tsn_journal.specs.Newest.{AreNewest, HasNewest, IsIn, KeepsNewest, MendsNewest, groups_of}
 use Rattle.tsn_journal.proofs.Grouping.{covers, first_true, is_among-append, one_group}
-use Rattle.tsn_journal.proofs.Links.{front_at, none_some, place_end, place_front, place_of, where_at}
+use Rattle.tsn_journal.proofs.Links.{front_at, none_some, node_end, node_front, node_of, where_at}
 use Rattle.tsn_journal.proofs.Marking.{entry_stays, found_number}
 use Rattle.tsn_journal.proofs.Off.{off_at}
 use Rattle.tsn_journal.proofs.Sought.{take_next}
@@ -48,28 +48,28 @@ found_at : (ms : List MarkedEntry) (i : ℕ) (m : MarkedEntry) (k : ℕ) → IsN
 found_at ms i m k h at is =
     found_number 1 i k ms m h (omega (arith, is)) (slice_get_within ms i m at) (sym (get_or_from_slice_get ms i m m at))
 
--- ---- places
+-- ---- nodes
 
-pub in_place : (g : Group) (ms : List MarkedEntry) (ps : List Place) (j : ℕ) (p : Place) (m : MarkedEntry) → place_at ps j ≡ Some p
+pub in_node : (g : Group) (ms : List MarkedEntry) (ps : List Node) (j : ℕ) (p : Node) (m : MarkedEntry) → node_at ps j ≡ Some p
     → slice_get ms (p.number - 1) ≡ Some m → belongs g m ≡ true → IsIn g ms ps j
-in_place g ms ps j p m there at is = grind arith
+in_node g ms ps j p m there at is = grind arith
 
-in_longer : (g : Group) (ms : List MarkedEntry) (ps qs : List Place) (j : ℕ) → j ≤ length ps → IsIn g ms ps j → IsIn g ms (ps ++ qs) j
-in_longer g ms ps qs j within is = record { belongs = λ p m there at. is.belongs p m (sym (place_front ps qs j within) ∙ there) at }
+in_longer : (g : Group) (ms : List MarkedEntry) (ps qs : List Node) (j : ℕ) → j ≤ length ps → IsIn g ms ps j → IsIn g ms (ps ++ qs) j
+in_longer g ms ps qs j within is = record { belongs = λ p m there at. is.belongs p m (sym (node_front ps qs j within) ∙ there) at }
 
--- ---- a place more
+-- ---- a node more
 
-module _ (ms : List MarkedEntry) (wanted : Bool) (g : Group) (n s before : ℕ) (ps qs : List Place) (j : ℕ) (count : n ≡ length ms)
-    (some : 1 ≤ n) (are : ArePlaces ms ps) (adds' : Adds ms wanted g n s before ps qs j) (in' : wanted ≡ true → (m : MarkedEntry)
+module _ (ms : List MarkedEntry) (wanted : Bool) (g : Group) (n s before : ℕ) (ps qs : List Node) (j : ℕ) (count : n ≡ length ms)
+    (some : 1 ≤ n) (are : AreNodes ms ps) (adds' : Adds ms wanted g n s before ps qs j) (in' : wanted ≡ true → (m : MarkedEntry)
     → slice_get ms (n - 1) ≡ Some m → belongs g m ≡ true) where
-  -- the place that the group has then is of the newest entry, or the one that it had
+  -- the node that the group has then is of the newest entry, or the one that it had
   pub added_in : before ≤ length ps → IsIn g ms ps before → IsIn g ms qs j
-  added_in within old = grind (arith, where_at, same_Some, place_end)
+  added_in within old = grind (arith, where_at, same_Some, node_end)
 
   pub added_other : (q : Group) (k : ℕ) → k ≤ length ps → IsIn q ms ps k → IsIn q ms qs k
   added_other q k within old = grind (arith, where_at, in_longer)
 
-  -- with the group's newest place set there, all others have theirs
+  -- with the group's newest node set there, all others have theirs
   pub added_kept : (l k : Group → ℕ) → before ≡ l g → ((q : Group) → l q ≤ length ps) → ((q : Group) → k q ≡ set_at g j l q) → (q : Group)
       → IsIn q ms ps (l q) → IsIn q ms qs (k q)
   added_kept l k here within is q old = grind (arith, common_steps, one_group, added_in, added_other)
@@ -77,18 +77,18 @@ module _ (ms : List MarkedEntry) (wanted : Bool) (g : Group) (n s before : ℕ) 
   pub added_within : (l : Group → ℕ) → before ≡ l g → ((q : Group) → l q ≤ length ps) → (q : Group) → set_at g j l q ≤ length qs
   added_within l here within q = grind (arith, where_at, length-append)
 
--- ---- a newest place set back
+-- ---- a newest node set back
 
 -- both groups of a session
-pub mends_ref : (ms : List MarkedEntry) (k : Key) (j : ℕ) (a b : Index) → b.places.items ≡ a.places.items
+pub mends_ref : (ms : List MarkedEntry) (k : Key) (j : ℕ) (a b : Index) → b.nodes.items ≡ a.nodes.items
     → ((q : Group) → latest_of b.latest q ≡ set_at (RefersTo k) j (latest_of a.latest) q)
-    → IsIn (RefersTo k) ms a.places.items j → MendsNewest ms (Some (RefersTo k) ∷ []) a b
-mends_ref ms k j a b places is of = grind arith
+    → IsIn (RefersTo k) ms a.nodes.items j → MendsNewest ms (Some (RefersTo k) ∷ []) a b
+mends_ref ms k j a b nodes is of = grind arith
 
-pub mends_two : (ms : List MarkedEntry) (s j k : ℕ) (a b : Index) → b.places.items ≡ a.places.items
+pub mends_two : (ms : List MarkedEntry) (s j k : ℕ) (a b : Index) → b.nodes.items ≡ a.nodes.items
     → ((q : Group) → latest_of b.latest q ≡ set_at (EndsRedo s) k (set_at (Of s) j (latest_of a.latest)) q)
-    → IsIn (Of s) ms a.places.items j → IsIn (EndsRedo s) ms a.places.items k → MendsNewest ms (Some (Of s) ∷ Some (EndsRedo s) ∷ []) a b
-mends_two ms s j k a b places is of ends = grind arith
+    → IsIn (Of s) ms a.nodes.items j → IsIn (EndsRedo s) ms a.nodes.items k → MendsNewest ms (Some (Of s) ∷ Some (EndsRedo s) ∷ []) a b
+mends_two ms s j k a b nodes is of ends = grind arith
 
 pub mends_then : (ms : List MarkedEntry) (gs hs : List (Option Group)) (a b d : Index) → MendsNewest ms gs a b → MendsNewest ms hs b d
     → MendsNewest ms (gs ++ hs) a d
@@ -112,7 +112,7 @@ of_none m g none h = grind arith
 pub may_belong : (m : MarkedEntry) (g : Group) → belongs g m ≡ true → is_among (groups_of m.entry) g ≡ true
 may_belong m g h = grind (arith, of_none, covers, or_left, first_true)
 
--- ---- the newest entry belongs to the groups in which it gets a place
+-- ---- the newest entry belongs to the groups in which it gets a node
 
 pub has_key : (ps : List Part) (i : ℕ) (p : Part) → i < length ps → p ≡ get_or ps i p → has (keys_of ps) p.key ≡ true
 has_key [] i p short is = absurd (omega arith)
@@ -206,19 +206,19 @@ module _ (w : What) (ms : List MarkedEntry) (x : MarkedEntry) (a : Index) (is : 
       pub among : is_among (groups_of entry.entry) g ≡ true
 
     pub newest_or_lost : (g : Group) → HasNewest ms a g → HasNewest then' a g ⊎ IsLost g
-    newest_or_lost g had = by_option (place_at a.places.items (latest_of a.latest g))
+    newest_or_lost g had = by_option (node_at a.nodes.items (latest_of a.latest g))
         (λ none. inl (record { belongs = λ p m there at. none_some p (sym none ∙ there) }))
         (λ p there.
-        let place = place_of ms a.places.items (latest_of a.latest g) p there is.places in
-        let low : 1 ≤ p.number = place.some in
-        let high : p.number ≤ length ms = place.within in
+        let node = node_of ms a.nodes.items (latest_of a.latest g) p there is.nodes in
+        let low : 1 ≤ p.number = node.some in
+        let high : p.number ≤ length ms = node.within in
         by_option (slice_get ms (p.number - 1))
         (λ none. absurd (omega (arith, past_none ms (p.number - 1) none)))
         (λ m at.
         let now : slice_get then' (p.number - 1) ≡ Some (mark_off w m) = front_at (map (mark_off w) ms) (x ∷ []) (p.number - 1)
         (omega (arith, length-map ms (mark_off w))) ∙ slice_get-map (mark_off w) ms (p.number - 1) ∙ ap (option_map (mark_off w)) at in
         let in' : belongs g m ≡ true = had.belongs p m there at in
-        grind (arith, may_belong, in_place)))
+        grind (arith, may_belong, in_node)))
       where
         past_none : {A : Type 0} (xs : List A) (i : ℕ) → slice_get xs i ≡ None → length xs ≤ i
         past_none [] i h = omega arith

@@ -9,7 +9,7 @@ use Rattle.tsn_types.specs.declared.keys.Key.{Key}
 use Rattle.tsn_journal.specs.Entries.{adds}
 use Rattle.tsn_journal.specs.declared.entries.MarkedEntry.{MarkedEntry}
 use Rattle.tsn_journal.specs.declared.groups.Group.TheVariants.{On, RefersTo, Of}
-use Rattle.tsn_journal.specs.declared.index.Place.{Place}
+use Rattle.tsn_journal.specs.declared.index.Node.{Node}
 use Rattle.tsn_journal.specs.Index.{NoneBetween, belongs, is_on, number_at, refers}
 use Rattle.tsn_journal.specs.Marks.{AreOff, is_own}
 use Rattle.tsn_journal.proofs.Walking.{filter_gap}
@@ -29,8 +29,8 @@ none_refers k n ms h i m low lt at = ap (λ b. refers k (cond b (adds m.entry.wh
 pub none_own : (s n : ℕ) (ms : List MarkedEntry) → AreOff n ms → NoneBetween (belongs (Of s)) ms 0 (n + 1)
 none_own s n ms h i m low lt at = ap (λ b. is_own s (record { entry = m.entry; is_open = b })) (off_at n ms h i m (omega arith) at)
 
--- so a walk back along the session's entries may end at the first place up to there
-pub none_before : (s n : ℕ) (ms : List MarkedEntry) (ps : List Place) (j : ℕ) → AreOff n ms → number_at ps j ≤ n
+-- so a walk back along the session's entries may end at the first node up to there
+pub none_before : (s n : ℕ) (ms : List MarkedEntry) (ps : List Node) (j : ℕ) → AreOff n ms → number_at ps j ≤ n
     → filter (belongs (Of s)) (drop (number_at ps j) ms) ≡ filter (belongs (Of s)) ms
 none_before s n ms ps j h le =
     sym (filter_gap (belongs (Of s)) ms 0 (number_at ps j) (omega arith) (λ i x low lt at. none_own s n ms h i x low (omega arith) at))

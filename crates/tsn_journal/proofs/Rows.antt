@@ -1,4 +1,4 @@
--- The newest places of groups when one row of a key or a session is set.
+-- The newest nodes of groups when one row of a key or a session is set.
 use Rattle.std.proofs.Common.{◌≡◌, ℕ, Bool, true, cond, ◌∙◌, ap, Option, Some, None, arith}
 use Rattle.std.proofs.lemmas.Grind.{common_steps}
 use Rattle.std.specs.Prelude.{◌==◌}
@@ -13,8 +13,8 @@ use Rattle.tsn_edit.proofs.KeyFacts.{one_key}
 use Rattle.tsn_journal.specs.declared.groups.Group.{Group}
 use Rattle.tsn_journal.specs.declared.groups.Group.TheVariants.{On, RefersTo, Of, EndsRedo}
 use Rattle.tsn_journal.specs.declared.latest_rows.Latest.{Latest}
-use Rattle.tsn_journal.specs.declared.latest_rows.KeyPlaces.{KeyPlaces}
-use Rattle.tsn_journal.specs.declared.latest_rows.SessionPlaces.{SessionPlaces}
+use Rattle.tsn_journal.specs.declared.latest_rows.KeyNodes.{KeyNodes}
+use Rattle.tsn_journal.specs.declared.latest_rows.SessionNodes.{SessionNodes}
 use Rattle.tsn_journal.specs.Latest.{ends_of, key_row, latest_of, on_of, referred_of, refers_of, same_group, session_row, standing_of, touched_of}
 
 -- numbers are told apart by their order
@@ -27,7 +27,7 @@ kept f b x o = grind arith
 same_either : {A : Type 0} (b : Bool) (x : A) (y : A) → (b ≡ true → x ≡ y) → cond b x y ≡ y
 same_either b x y h = grind arith
 
-module _ (l k : Latest) (key : Key) (row : KeyPlaces) (rows : (q : Key) → key_row k q ≡ cond (same_key q key) (Some row) (key_row l q))
+module _ (l k : Latest) (key : Key) (row : KeyNodes) (rows : (q : Key) → key_row k q ≡ cond (same_key q key) (Some row) (key_row l q))
     (sessions : k.sessions ≡ l.sessions) where
   set_on' : (q : Key) → on_of (key_row k q) ≡ cond (same_key key q) row.on (on_of (key_row l q))
   set_on' q = ap on_of (rows q) ∙ kept on_of (same_key q key) (Some row) (key_row l q)
@@ -47,10 +47,10 @@ module _ (l k : Latest) (key : Key) (row : KeyPlaces) (rows : (q : Key) → key_
       → latest_of k q ≡ cond (same_group (RefersTo key) q) row.refers (latest_of l q)
   set_refers same q = grind (arith, common_steps, set_on', same_either, one_key, set_refers', session_same)
 
-module _ (l k : Latest) (session : ℕ) (row : SessionPlaces) (sessions : k.sessions.map ≡ insert l.sessions.map session row)
+module _ (l k : Latest) (session : ℕ) (row : SessionNodes) (sessions : k.sessions.map ≡ insert l.sessions.map session row)
     (keys : (q : Key) → key_row k q ≡ key_row l q) where
   row_at : (s : ℕ) → session_row k s ≡ cond (session == s) (Some row) (session_row l s)
-  row_at s = ap (λ (m : FinMap nat_cmp SessionPlaces). get m s) sessions ∙ get-insert nat_cmp_total l.sessions.map session row s
+  row_at s = ap (λ (m : FinMap nat_cmp SessionNodes). get m s) sessions ∙ get-insert nat_cmp_total l.sessions.map session row s
       ∙ ap (λ b. cond b (Some row) (session_row l s)) (same_by_order session s)
 
   standing_at : (s : ℕ) → standing_of (session_row k s) ≡ cond (session == s) row.standing (standing_of (session_row l s))
@@ -64,32 +64,32 @@ module _ (l k : Latest) (session : ℕ) (row : SessionPlaces) (sessions : k.sess
   set_both q = grind (arith, standing_at, ends_at)
 
 -- a row set in one of the tables of keys
-module _ (m n : FinMap nat_cmp KeyPlaces) (number : ℕ) (row : KeyPlaces) (put : n ≡ insert m number row) where
+module _ (m n : FinMap nat_cmp KeyNodes) (number : ℕ) (row : KeyNodes) (put : n ≡ insert m number row) where
   pub row_put : (q : ℕ) → get n q ≡ cond (eq_by_cmp nat_cmp q number) (Some row) (get m q)
-  row_put q = ap (λ (t : FinMap nat_cmp KeyPlaces). get t q) put ∙ get-insert nat_cmp_total m number row q
+  row_put q = ap (λ (t : FinMap nat_cmp KeyNodes). get t q) put ∙ get-insert nat_cmp_total m number row q
 
-pub port_put : (l k : Latest) (n : ℕ) (row : KeyPlaces) → k.ports.map ≡ insert l.ports.map n row → k.filters ≡ l.filters → k.gates ≡ l.gates
+pub port_put : (l k : Latest) (n : ℕ) (row : KeyNodes) → k.ports.map ≡ insert l.ports.map n row → k.filters ≡ l.filters → k.gates ≡ l.gates
     → k.meters ≡ l.meters → (q : Key) → key_row k q ≡ cond (same_key q (Port n)) (Some row) (key_row l q)
 port_put l k n row put f g m q = grind (arith, row_put)
 
-pub filter_put : (l k : Latest) (n : ℕ) (row : KeyPlaces) → k.filters.map ≡ insert l.filters.map n row → k.ports ≡ l.ports
+pub filter_put : (l k : Latest) (n : ℕ) (row : KeyNodes) → k.filters.map ≡ insert l.filters.map n row → k.ports ≡ l.ports
     → k.gates ≡ l.gates → k.meters ≡ l.meters → (q : Key) → key_row k q ≡ cond (same_key q (Filter n)) (Some row) (key_row l q)
 filter_put l k n row put p g m q = grind (arith, row_put)
 
-pub gate_put : (l k : Latest) (n : ℕ) (row : KeyPlaces) → k.gates.map ≡ insert l.gates.map n row → k.ports ≡ l.ports → k.filters ≡ l.filters
+pub gate_put : (l k : Latest) (n : ℕ) (row : KeyNodes) → k.gates.map ≡ insert l.gates.map n row → k.ports ≡ l.ports → k.filters ≡ l.filters
     → k.meters ≡ l.meters → (q : Key) → key_row k q ≡ cond (same_key q (Gate n)) (Some row) (key_row l q)
 gate_put l k n row put p f m q = grind (arith, row_put)
 
-pub meter_put : (l k : Latest) (n : ℕ) (row : KeyPlaces) → k.meters.map ≡ insert l.meters.map n row → k.ports ≡ l.ports
+pub meter_put : (l k : Latest) (n : ℕ) (row : KeyNodes) → k.meters.map ≡ insert l.meters.map n row → k.ports ≡ l.ports
     → k.filters ≡ l.filters → k.gates ≡ l.gates → (q : Key) → key_row k q ≡ cond (same_key q (Meter n)) (Some row) (key_row l q)
 meter_put l k n row put p f g q = grind (arith, row_put)
 
--- tables with no row have no place in any group
-no_key_row : (m : FinMap nat_cmp KeyPlaces) (n : ℕ) → m ≡ empty → get m n ≡ None
-no_key_row m n none = ap (λ (t : FinMap nat_cmp KeyPlaces). get t n) none ∙ get-empty nat_cmp n
+-- tables with no row have no node in any group
+no_key_row : (m : FinMap nat_cmp KeyNodes) (n : ℕ) → m ≡ empty → get m n ≡ None
+no_key_row m n none = ap (λ (t : FinMap nat_cmp KeyNodes). get t n) none ∙ get-empty nat_cmp n
 
-no_session_row : (m : FinMap nat_cmp SessionPlaces) (n : ℕ) → m ≡ empty → get m n ≡ None
-no_session_row m n none = ap (λ (t : FinMap nat_cmp SessionPlaces). get t n) none ∙ get-empty nat_cmp n
+no_session_row : (m : FinMap nat_cmp SessionNodes) (n : ℕ) → m ≡ empty → get m n ≡ None
+no_session_row m n none = ap (λ (t : FinMap nat_cmp SessionNodes). get t n) none ∙ get-empty nat_cmp n
 
 pub no_rows : (l : Latest) → l.ports.map ≡ empty → l.filters.map ≡ empty → l.gates.map ≡ empty → l.meters.map ≡ empty
     → l.sessions.map ≡ empty → (g : Group) → latest_of l g ≡ 0

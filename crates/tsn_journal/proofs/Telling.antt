@@ -19,7 +19,7 @@ use Rattle.tsn_journal.specs.declared.index.Index.{Index}
 use Rattle.tsn_journal.specs.Entries.{IsNumbered, applies}
 use Rattle.tsn_journal.specs.Finding.{entry, last_where}
 use Rattle.tsn_journal.specs.Index.{above, is_on, refers}
-use Rattle.tsn_journal.specs.Touched.{KeepsPlaces, Tells, TellsSame, Told, keys_in, mentions, newest, referred, refs_in, some_number, touched, touches}
+use Rattle.tsn_journal.specs.Touched.{KeepsNodes, Tells, TellsSame, Told, keys_in, mentions, newest, referred, refs_in, some_number, touched, touches}
 use Rattle.tsn_journal.proofs.Indexing.{rows_then}
 use Rattle.tsn_journal.proofs.LastWhere.{last_where-append}
 use Rattle.tsn_journal.proofs.Links.{none_some}
@@ -256,8 +256,8 @@ at_its_number es n e there = ap (entry es) (found_number es n e there) ∙ there
 pub tells_same : (es : List Entry) (a b : Index) → TellsSame a b → Tells es a → Tells es b
 tells_same es a b same is = grind arith
 
--- ---- the places stay
+-- ---- the nodes stay
 
-pub keeps_then : (a b c : Index) → KeepsPlaces a b → KeepsPlaces b c → KeepsPlaces a c
+pub keeps_then : (a b c : Index) → KeepsNodes a b → KeepsNodes b c → KeepsNodes a c
 keeps_then a b c h k =
-    record { places = k.places ∙ h.places; latest = λ g. k.latest g ∙ h.latest g; rows = rows_then 0 0 a b c h.rows k.rows }
+    record { nodes = k.nodes ∙ h.nodes; latest = λ g. k.latest g ∙ h.latest g; rows = rows_then 0 0 a b c h.rows k.rows }

@@ -1,4 +1,4 @@
--- Walking back from the latest place of a group, a link at a time.
+-- Walking back from the latest node of a group, a link at a time.
 use Rattle.std.proofs.Common.{◌≡◌, ℕ, zero, suc, ◌+◌, ◌-◌, ◌<◌, ◌≤◌, Bool, true, false, cond, ◌&&◌, List, [], ◌∷◌, refl, sym, ◌∙◌, ap, subst, Some, None, arith, length, get_or, drop, take, filter, map, ◌++◌, add-one}
 use Rattle.std.specs.List.{slice_get}
 use Rattle.std.specs.Prelude.{reverse}
@@ -9,12 +9,12 @@ use Rattle.std.proofs.lemmas.Option.{get_or_from_slice_get, slice_get_within}
 use Rattle.std.proofs.Math.Seq.{drop-cons}
 use Rattle.tsn_journal.specs.declared.entries.MarkedEntry.{MarkedEntry}
 use Rattle.tsn_journal.specs.declared.groups.Group.{Group}
-use Rattle.tsn_journal.specs.declared.index.Place.{Place}
+use Rattle.tsn_journal.specs.declared.index.Node.{Node}
 use Rattle.tsn_journal.specs.Finding.{last_where}
 use Rattle.tsn_journal.specs.Entries.{added_parts}
 use Rattle.tsn_journal.specs.Marks.{IsTally, added_in}
-use Rattle.tsn_journal.specs.Index.{ArePlaces, IsLast, NoneFrom, belongs, is_of, number_at, number_of, place_at}
-use Rattle.tsn_journal.proofs.Links.{one, the_place}
+use Rattle.tsn_journal.specs.Index.{AreNodes, IsLast, NoneFrom, belongs, is_of, number_at, number_of, node_at}
+use Rattle.tsn_journal.proofs.Links.{one, the_node}
 use Rattle.tsn_journal.proofs.LastWhere.{found_here, last_where-append}
 
 pub none_from : {A : Type 0} (t : A → Bool) (xs : List A) (n : ℕ) → NoneFrom t xs n → last_where t (drop n xs) ≡ None
@@ -48,8 +48,8 @@ found_after t (y ∷ xs) (suc k) n x more within at none pass =
 pub in_list : {A : Type 0} (xs : List A) (i : ℕ) (x : A) → slice_get xs i ≡ Some x → i + 1 < length xs + 1
 in_list xs i x h = let in' : i < length xs = slice_get_within xs i x h in omega arith
 
--- nothing that passes comes after the place where a walk stands
-pub none_after : (g : Group) (t : MarkedEntry → Bool) (ms : List MarkedEntry) (ps : List Place) (j : ℕ) → IsLast g t ms ps j (length ms + 1)
+-- nothing that passes comes after the node where a walk stands
+pub none_after : (g : Group) (t : MarkedEntry → Bool) (ms : List MarkedEntry) (ps : List Node) (j : ℕ) → IsLast g t ms ps j (length ms + 1)
     → NoneFrom t ms (number_at ps j)
 none_after g t ms ps j is i m low at = is.none_later i m low (in_list ms i m at) at
 
@@ -82,20 +82,20 @@ filter_none t (x ∷ xs) zero h = ap (λ b. cond b (x ∷ filter t xs) (filter t
     ∙ filter_none t xs zero (λ i y low at. h (suc i) y (omega arith) at)
 filter_none t (x ∷ xs) (suc n) h = filter_none t xs n (λ i y low at. h (suc i) y (omega arith) at)
 
--- none of a group is behind its latest place
-pub nothing_behind : {g : Group} {ms : List MarkedEntry} {ps : List Place} {place latest : ℕ} → place ≡ latest
-    → IsLast g (belongs g) ms ps latest (length ms + 1) → filter (belongs g) (drop (number_at ps place) ms) ≡ []
-nothing_behind {g} {ms} {ps} {place} is at =
-    filter_none (belongs g) ms (number_at ps place) (none_after g (belongs g) ms ps place (rw is at))
+-- none of a group is behind its latest node
+pub nothing_behind : {g : Group} {ms : List MarkedEntry} {ps : List Node} {node latest : ℕ} → node ≡ latest
+    → IsLast g (belongs g) ms ps latest (length ms + 1) → filter (belongs g) (drop (number_at ps node) ms) ≡ []
+nothing_behind {g} {ms} {ps} {node} is at =
+    filter_none (belongs g) ms (number_at ps node) (none_after g (belongs g) ms ps node (rw is at))
 
-module _ (ms : List MarkedEntry) (ps : List Place) (g : Group) (j : ℕ) (found : Place) (group : is_of g (place_at ps j) ≡ true)
-    (there : place_at ps j ≡ Some found) (are : ArePlaces ms ps) where
-  -- a link back: those of the group from there on are those from the place on, and its entry, if it belongs to the group
+module _ (ms : List MarkedEntry) (ps : List Node) (g : Group) (j : ℕ) (found : Node) (group : is_of g (node_at ps j) ≡ true)
+    (there : node_at ps j ≡ Some found) (are : AreNodes ms ps) where
+  -- a link back: those of the group from there on are those from the node on, and its entry, if it belongs to the group
   pub step_back : (m : MarkedEntry) → slice_get ms (found.number - 1) ≡ Some m
       → filter (belongs g) (drop (number_at ps found.before) ms) ≡ cond (belongs g m) (m ∷ filter (belongs g) (drop (number_at ps j) ms))
       (filter (belongs g) (drop (number_at ps j) ms))
   step_back m here =
-      let p = the_place ms ps g j found group there are in
+      let p = the_node ms ps g j found group there are in
       let same = one ms ps g j found group there are in
       let number : found.number ≡ number_at ps j = sym (ap number_of there) in
       let first : 1 ≤ found.number = p.some in

@@ -1,5 +1,5 @@
--- The index of a journal: of each entry a place in each group that it belongs to, linked to the place before it in that group,
--- and to the last place before it there that is of another session.
+-- The index of a journal: of each entry a node in each group that it belongs to, linked to the node before it in that group,
+-- and to the last node before it there that is of another session.
 use Rattle.std.specs.Prelude.{◌≡◌, ℕ, zero, suc, ◌+◌, ◌-◌, ◌*◌, ◌++◌, ◌<◌, ◌≤◌, Bool, true, false, not, ◌&&◌, ◌||◌, List, [], ◌∷◌, Option, Some, None, ◌==◌, flat_map, length, map, nat_lt, if◌then◌else◌}
 use Rattle.std.specs.List.{slice_get}
 use Rattle.std.specs.Vec.{vec_capacity, vec_len}
@@ -11,7 +11,7 @@ use Rattle.tsn_journal.specs.declared.entries.MarkedEntry.{MarkedEntry}
 use Rattle.tsn_journal.specs.declared.groups.Group.{Group}
 use Rattle.tsn_journal.specs.declared.groups.Group.TheVariants.{On, RefersTo, Of, EndsRedo}
 use Rattle.tsn_journal.specs.declared.index.Index.{Index}
-use Rattle.tsn_journal.specs.declared.index.Place.{Place}
+use Rattle.tsn_journal.specs.declared.index.Node.{Node}
 use Rattle.tsn_journal.specs.Latest.{HasRows, TakesRows, latest_of, same_group}
 use Rattle.tsn_journal.specs.Entries.{added_parts, adds, is_made, most_entries}
 use Rattle.tsn_journal.specs.Marks.{ends_redo, is_own}
@@ -59,20 +59,20 @@ is_among [] g = false
 is_among (None ∷ hs) g = is_among hs g
 is_among (Some h ∷ hs) g = same_group h g || is_among hs g
 
--- the place, counted from 1, if there is one
-abbrev pub place_at : List Place → ℕ → Option Place
-place_at ps zero = None
-place_at ps (suc i) = slice_get ps i
+-- the node, counted from 1, if there is one
+abbrev pub node_at : List Node → ℕ → Option Node
+node_at ps zero = None
+node_at ps (suc i) = slice_get ps i
 
-abbrev pub number_of : Option Place → ℕ
+abbrev pub number_of : Option Node → ℕ
 number_of None = 0
 number_of (Some p) = p.number
 
--- the number of the entry at the place, and 0 for none
-abbrev pub number_at : List Place → ℕ → ℕ
-number_at ps j = number_of (place_at ps j)
+-- the number of the entry at the node, and 0 for none
+abbrev pub number_at : List Node → ℕ → ℕ
+number_at ps j = number_of (node_at ps j)
 
-abbrev pub is_of : Group → Option Place → Bool
+abbrev pub is_of : Group → Option Node → Bool
 is_of g None = true
 is_of g (Some p) = same_group p.group g
 
@@ -84,15 +84,15 @@ NoneBetween t ms n limit = (i : ℕ) (m : MarkedEntry) → n ≤ i → i + 1 < l
 abbrev pub NoneFrom : {A : Type 0} → (A → Bool) → List A → ℕ → Type 0
 NoneFrom {A} t xs n = (i : ℕ) (x : A) → n ≤ i → slice_get xs i ≡ Some x → t x ≡ false
 
--- at the place j, or at none, is the last of the entries of the group below the limit that may pass the test
-pub record IsLast (g : Group) (t : MarkedEntry → Bool) (ms : List MarkedEntry) (ps : List Place) (j limit : ℕ) : Type 0 where
+-- at the node j, or at none, is the last of the entries of the group below the limit that may pass the test
+pub record IsLast (g : Group) (t : MarkedEntry → Bool) (ms : List MarkedEntry) (ps : List Node) (j limit : ℕ) : Type 0 where
   pub within : j ≤ length ps
-  pub group : is_of g (place_at ps j) ≡ true
+  pub group : is_of g (node_at ps j) ≡ true
   pub none_later : NoneBetween t ms (number_at ps j) limit
 
--- a place is of an entry, and linked to the last place before it that may belong to its group, and to the last one that may and is of
+-- a node is of an entry, and linked to the last node before it that may belong to its group, and to the last one that may and is of
 -- another session
-pub record IsPlace (ms : List MarkedEntry) (ps : List Place) (i : ℕ) (p : Place) : Type 0 where
+pub record IsNode (ms : List MarkedEntry) (ps : List Node) (i : ℕ) (p : Node) : Type 0 where
   pub some : 1 ≤ p.number
   pub within : p.number ≤ length ms
   pub earlier : p.before ≤ i
@@ -101,22 +101,22 @@ pub record IsPlace (ms : List MarkedEntry) (ps : List Place) (i : ℕ) (p : Plac
   pub other_earlier : p.other ≤ i
   pub other : (s : ℕ) → is_by s (slice_get ms (p.number - 1)) ≡ true → IsLast p.group (belongs_to_others p.group s) ms ps p.other p.number
 
-abbrev pub ArePlaces : List MarkedEntry → List Place → Type 0
-ArePlaces ms ps = (i : ℕ) (p : Place) → slice_get ps i ≡ Some p → IsPlace ms ps i p
+abbrev pub AreNodes : List MarkedEntry → List Node → Type 0
+AreNodes ms ps = (i : ℕ) (p : Node) → slice_get ps i ≡ Some p → IsNode ms ps i p
 
--- places and the newest ones of groups have all entries, but the newest entry in the groups that are pending
-pub record IsIndexedBut (pending : List (Option Group)) (ms : List MarkedEntry) (ps : List Place) (latest : Group → ℕ) : Type 0 where
-  pub places : ArePlaces ms ps
+-- nodes and the newest ones of groups have all entries, but the newest entry in the groups that are pending
+pub record IsIndexedBut (pending : List (Option Group)) (ms : List MarkedEntry) (ps : List Node) (latest : Group → ℕ) : Type 0 where
+  pub nodes : AreNodes ms ps
   pub latest_is : (g : Group) → IsLast g (belongs g) ms ps (latest g) (if is_among pending g then length ms else (length ms + 1))
 
 -- the index has all entries
 abbrev pub IsIndexed : List MarkedEntry → Index → Type 0
-IsIndexed ms a = IsIndexedBut [] ms a.places.items (latest_of a.latest)
+IsIndexed ms a = IsIndexedBut [] ms a.nodes.items (latest_of a.latest)
 
 -- the index has all entries but the newest one
 pub record IsIndexedButNewest (ms : List MarkedEntry) (a : Index) : Type 0 where
-  pub places : ArePlaces ms a.places.items
-  pub latest_is : (g : Group) → IsLast g (belongs g) ms a.places.items (latest_of a.latest g) (length ms)
+  pub nodes : AreNodes ms a.nodes.items
+  pub latest_is : (g : Group) → IsLast g (belongs g) ms a.nodes.items (latest_of a.latest g) (length ms)
 
 -- the newest entry, of the number n, is open, is the session's and made or redid the change; whether it ends a search for a redo
 pub record IsNewest (ms : List MarkedEntry) (n s : ℕ) (c : Change) (ends : Bool) : Type 0 where
@@ -136,64 +136,64 @@ abbrev pub group_if : Bool → Group → Option Group
 group_if true g = Some g
 group_if false g = None
 
--- the newest places, with j for the group
+-- the newest nodes, with j for the group
 abbrev pub set_at : Group → ℕ → (Group → ℕ) → Group → ℕ
 set_at g j latest q = if same_group g q then j else latest q
 
--- how many places a journal may have, and make room for
-abbrev pub most_places : ℕ
-most_places = 100 * most_entries
+-- how many nodes a journal may have, and make room for
+abbrev pub most_nodes : ℕ
+most_nodes = 100 * most_entries
 
--- the places of so many entries that add so many parts: two of its session for each entry, and for each part one on its
+-- the nodes of so many entries that add so many parts: two of its session for each entry, and for each part one on its
 -- key and one for each of two references
-abbrev pub places_for : ℕ → ℕ → ℕ
-places_for entries parts = 2 * entries + 3 * parts
+abbrev pub nodes_for : ℕ → ℕ → ℕ
+nodes_for entries parts = 2 * entries + 3 * parts
 
--- there is room for n places more
-pub record HasPlaces (n : ℕ) (a : Index) : Type 0 where
-  pub capacity : vec_len a.places + n ≤ vec_capacity a.places
-  pub few : length a.places.items + n ≤ most_places
+-- there is room for n nodes more
+pub record HasNodes (n : ℕ) (a : Index) : Type 0 where
+  pub capacity : vec_len a.nodes + n ≤ vec_capacity a.nodes
+  pub few : length a.nodes.items + n ≤ most_nodes
 
--- the index has room for n places more, each of a group of its own
+-- the index has room for n nodes more, each of a group of its own
 pub record HasRoom (n : ℕ) (a : Index) : Type 0 where
-  pub places : HasPlaces n a
+  pub nodes : HasNodes n a
   pub rows : HasRows n a.latest
 
--- b has the room of a but for n places
-pub record TakesPlaces (n : ℕ) (a b : Index) : Type 0 where
-  pub len : vec_len b.places ≤ vec_len a.places + n
-  pub items : length b.places.items ≤ length a.places.items + n
-  pub capacity : vec_capacity b.places ≡ vec_capacity a.places
+-- b has the room of a but for n nodes
+pub record TakesNodes (n : ℕ) (a b : Index) : Type 0 where
+  pub len : vec_len b.nodes ≤ vec_len a.nodes + n
+  pub items : length b.nodes.items ≤ length a.nodes.items + n
+  pub capacity : vec_capacity b.nodes ≡ vec_capacity a.nodes
 
 pub record TakesRoom (n : ℕ) (a b : Index) : Type 0 where
-  pub places : TakesPlaces n a b
+  pub nodes : TakesNodes n a b
   pub rows : TakesRows n a.latest b.latest
 
 -- b has at least the room of a
 pub record TakesNoRoom (a b : Index) : Type 0 where
-  pub places : vec_len b.places ≡ vec_len a.places
-  pub items : b.places.items ≡ a.places.items
-  pub capacity : vec_capacity a.places ≤ vec_capacity b.places
+  pub nodes : vec_len b.nodes ≡ vec_len a.nodes
+  pub items : b.nodes.items ≡ a.nodes.items
+  pub capacity : vec_capacity a.nodes ≤ vec_capacity b.nodes
   pub rows : TakesRows 0 a.latest b.latest
 
--- the place j, or the one that it is linked to of another session, where its entry is the session's
-abbrev pub other_from : List MarkedEntry → ℕ → ℕ → Option Place → ℕ
+-- the node j, or the one that it is linked to of another session, where its entry is the session's
+abbrev pub other_from : List MarkedEntry → ℕ → ℕ → Option Node → ℕ
 other_from ms s j None = 0
 other_from ms s j (Some p) = if is_by s (slice_get ms (p.number - 1)) then p.other else j
 
-abbrev pub other_of : List MarkedEntry → List Place → ℕ → ℕ → ℕ
-other_of ms ps s j = other_from ms s j (place_at ps j)
+abbrev pub other_of : List MarkedEntry → List Node → ℕ → ℕ → ℕ
+other_of ms ps s j = other_from ms s j (node_at ps j)
 
--- the places with one more, of the session's entry of the number in the group, whose newest place was `before`; none more where it is not
--- wanted, or where that place is of the entry
-pub record Adds (ms : List MarkedEntry) (wanted : Bool) (g : Group) (n s before : ℕ) (ps qs : List Place) (j : ℕ) : Type 0 where
-  pub places : wanted ≡ true → number_at ps before < n → qs ≡ ps
+-- the nodes with one more, of the session's entry of the number in the group, whose newest node was `before`; none more where it is not
+-- wanted, or where that node is of the entry
+pub record Adds (ms : List MarkedEntry) (wanted : Bool) (g : Group) (n s before : ℕ) (ps qs : List Node) (j : ℕ) : Type 0 where
+  pub nodes : wanted ≡ true → number_at ps before < n → qs ≡ ps
       ++ record { group = g; number = n; before = before; other = other_of ms ps s before } ∷ []
-  pub place : wanted ≡ true → number_at ps before < n → j ≡ length ps + 1
+  pub node : wanted ≡ true → number_at ps before < n → j ≡ length ps + 1
   pub there : n ≤ number_at ps before → qs ≡ ps
-  pub there_place : n ≤ number_at ps before → j ≡ before
+  pub there_node : n ≤ number_at ps before → j ≡ before
   pub unwanted : wanted ≡ false → qs ≡ ps
-  pub unwanted_place : wanted ≡ false → j ≡ before
+  pub unwanted_node : wanted ≡ false → j ≡ before
 
 -- whose entries are sought: any session's, or those of others than one
 abbrev pub is_sought : Option ℕ → MarkedEntry → Bool

@@ -1,4 +1,4 @@
--- The newest place of each group, and the newest entries of each key, as the rows of keys and sessions say them.
+-- The newest node of each group, and the newest entries of each key, as the rows of keys and sessions say them.
 use Rattle.std.specs.Prelude.{ℕ, ◌+◌, ◌≤◌, Bool, false, Option, Some, None, ◌==◌}
 use Rattle.std.specs.FinMap.{get}
 use Rattle.tsn_types.specs.declared.keys.Key.{Key}
@@ -7,8 +7,8 @@ use Rattle.tsn_types.specs.Keys.{same_key}
 use Rattle.tsn_journal.specs.declared.groups.Group.{Group}
 use Rattle.tsn_journal.specs.declared.groups.Group.TheVariants.{On, RefersTo, Of, EndsRedo}
 use Rattle.tsn_journal.specs.declared.latest_rows.Latest.{Latest}
-use Rattle.tsn_journal.specs.declared.latest_rows.KeyPlaces.{KeyPlaces}
-use Rattle.tsn_journal.specs.declared.latest_rows.SessionPlaces.{SessionPlaces}
+use Rattle.tsn_journal.specs.declared.latest_rows.KeyNodes.{KeyNodes}
+use Rattle.tsn_journal.specs.declared.latest_rows.SessionNodes.{SessionNodes}
 
 -- whether two groups are the same
 abbrev pub same_group : Group → Group → Bool
@@ -19,41 +19,41 @@ same_group (EndsRedo s) (EndsRedo t) = s == t
 same_group a b = false
 
 -- the row of a key, and of a session
-abbrev pub key_row : Latest → Key → Option KeyPlaces
+abbrev pub key_row : Latest → Key → Option KeyNodes
 key_row l (Port n) = get l.ports.map n
 key_row l (Filter n) = get l.filters.map n
 key_row l (Gate n) = get l.gates.map n
 key_row l (Meter n) = get l.meters.map n
 
-abbrev pub session_row : Latest → ℕ → Option SessionPlaces
+abbrev pub session_row : Latest → ℕ → Option SessionNodes
 session_row l s = get l.sessions.map s
 
 -- what a row says, and 0 where there is none
-abbrev pub on_of : Option KeyPlaces → ℕ
+abbrev pub on_of : Option KeyNodes → ℕ
 on_of None = 0
 on_of (Some r) = r.on
 
-abbrev pub refers_of : Option KeyPlaces → ℕ
+abbrev pub refers_of : Option KeyNodes → ℕ
 refers_of None = 0
 refers_of (Some r) = r.refers
 
-abbrev pub touched_of : Option KeyPlaces → ℕ
+abbrev pub touched_of : Option KeyNodes → ℕ
 touched_of None = 0
 touched_of (Some r) = r.touched
 
-abbrev pub referred_of : Option KeyPlaces → ℕ
+abbrev pub referred_of : Option KeyNodes → ℕ
 referred_of None = 0
 referred_of (Some r) = r.referred
 
-abbrev pub standing_of : Option SessionPlaces → ℕ
+abbrev pub standing_of : Option SessionNodes → ℕ
 standing_of None = 0
 standing_of (Some r) = r.standing
 
-abbrev pub ends_of : Option SessionPlaces → ℕ
+abbrev pub ends_of : Option SessionNodes → ℕ
 ends_of None = 0
 ends_of (Some r) = r.ends_redo
 
--- the newest place of the group, from 1, and 0 for none
+-- the newest node of the group, from 1, and 0 for none
 abbrev pub latest_of : Latest → Group → ℕ
 latest_of l (On k) = on_of (key_row l k)
 latest_of l (RefersTo k) = refers_of (key_row l k)

@@ -1,4 +1,4 @@
--- The newest place of a group is of an entry that belongs to it, so that none that has left it stands in the way of who looks.
+-- The newest node of a group is of an entry that belongs to it, so that none that has left it stands in the way of who looks.
 use Rattle.std.specs.Prelude.{◌≡◌, ℕ, ◌-◌, ◌++◌, true, List, [], ◌∷◌, Option, Some, None}
 use Rattle.std.specs.List.{slice_get}
 use Rattle.tsn_edit.specs.Parts.{Change, parts}
@@ -7,18 +7,18 @@ use Rattle.tsn_journal.specs.declared.entries.MarkedEntry.{MarkedEntry}
 use Rattle.tsn_journal.specs.declared.groups.Group.{Group}
 use Rattle.tsn_journal.specs.declared.groups.Group.TheVariants.{Of, EndsRedo}
 use Rattle.tsn_journal.specs.declared.index.Index.{Index}
-use Rattle.tsn_journal.specs.declared.index.Place.{Place}
+use Rattle.tsn_journal.specs.declared.index.Node.{Node}
 use Rattle.tsn_journal.specs.Entries.{adds}
-use Rattle.tsn_journal.specs.Index.{belongs, groups_of_parts, is_among, place_at}
+use Rattle.tsn_journal.specs.Index.{belongs, groups_of_parts, is_among, node_at}
 use Rattle.tsn_journal.specs.Latest.{latest_of}
 
--- the place j is of an entry that belongs to the group, or is none
-pub record IsIn (g : Group) (ms : List MarkedEntry) (ps : List Place) (j : ℕ) : Type 0 where
-  pub belongs : (p : Place) (m : MarkedEntry) → place_at ps j ≡ Some p → slice_get ms (p.number - 1) ≡ Some m → belongs g m ≡ true
+-- the node j is of an entry that belongs to the group, or is none
+pub record IsIn (g : Group) (ms : List MarkedEntry) (ps : List Node) (j : ℕ) : Type 0 where
+  pub belongs : (p : Node) (m : MarkedEntry) → node_at ps j ≡ Some p → slice_get ms (p.number - 1) ≡ Some m → belongs g m ≡ true
 
--- the newest place of the group is of an entry that belongs to it, or there is none
+-- the newest node of the group is of an entry that belongs to it, or there is none
 abbrev pub HasNewest : List MarkedEntry → Index → Group → Type 0
-HasNewest ms a g = IsIn g ms a.places.items (latest_of a.latest g)
+HasNewest ms a g = IsIn g ms a.nodes.items (latest_of a.latest g)
 
 -- so it is of every group
 abbrev pub AreNewest : List MarkedEntry → Index → Type 0

@@ -79,9 +79,9 @@ abbrev pub NewestTold : List MarkedEntry → ℕ → Index → Index → Type 0
 NewestTold ms n a b =
     (m : MarkedEntry) → slice_get ms (n - 1) ≡ Some m → Told n (keys_in (applies m.entry.what)) (refs_in (applies m.entry.what)) a b
 
--- b has the places of a, the newest ones of groups too, and its room
-pub record KeepsPlaces (a b : Index) : Type 0 where
-  pub places : b.places ≡ a.places
+-- b has the nodes of a, the newest ones of groups too, and its room
+pub record KeepsNodes (a b : Index) : Type 0 where
+  pub nodes : b.nodes ≡ a.nodes
   pub latest : (g : Group) → latest_of b.latest g ≡ latest_of a.latest g
   pub rows : TakesRows 0 a.latest b.latest
 

@@ -101,7 +101,7 @@ fn newest_on(index: &Index, marked: &[MarkedEntry], session: u32, key: &Key, num
     ensures rises { number ≤ result }
     ensures raised { IsFoundOn number result marked.now session key.now }
 {
-    let latest = index.latest.key_places(*key).on;
+    let latest = index.latest.key_nodes(*key).on;
     match index.last_of_others(marked, &Group::On(*key), latest, session, number) {
         Some(found) => found.entry.number.max(number),
         None => number,

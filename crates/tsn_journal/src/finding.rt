@@ -95,7 +95,7 @@ fn number_of(found: Option<&MarkedEntry>) -> Option<u64>
     }
 }
 
-/// The number of the last entry of the group, whose newest place this is, of any session, or of others than the one
+/// The number of the last entry of the group, whose newest node this is, of any session, or of others than the one
 /// given, among those after the number `after`.
 fn number_in(
     index: &Index,
@@ -130,7 +130,7 @@ fn number_on(
 {
     match key {
         Some(key) => {
-            let latest = index.latest.key_places(*key).on;
+            let latest = index.latest.key_nodes(*key).on;
             number_in(index, marked, &Group::On(*key), latest, but, after)
         }
         None => None,
@@ -173,7 +173,7 @@ fn conflict_with_part(
         (last_where (λ m. (is_some (stands m) && is_sought but m) && is_in_conflict (applies m.entry.what) (part.now ∷ []))
         (drop after marked.now)) }
 {
-    let latest = index.latest.key_places(part.key);
+    let latest = index.latest.key_nodes(part.key);
     let on_key = number_in(index, marked, &Group::On(part.key), latest.on, but, after);
     let to_key = number_in(
         index,
@@ -339,7 +339,7 @@ fn put_off_one(marked: &mut [MarkedEntry], what: &What)
     }
 }
 
-/// Sets the newest places of groups back where entries have left them: the one of the number, if one was taken back,
+/// Sets the newest nodes of groups back where entries have left them: the one of the number, if one was taken back,
 /// and those behind the first ones, up to the number that was settled, whose marks are off.
 pub(crate) fn leave(
     index: &mut Index,

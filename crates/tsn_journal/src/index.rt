@@ -1,6 +1,6 @@
-//! The index of a journal: of each entry a place in each group that it belongs to.
+//! The index of a journal: of each entry a node in each group that it belongs to.
 //!
-//! Places are only ever added. A link leads back from each to the last place before it in its group, and another to the
+//! Nodes are only ever added. A link leads back from each to the last node before it in its group, and another to the
 //! last one that is of another session, so that a session's own entries are passed in one step; which of the entries
 //! still belong to the group, the marks say.
 ghost use Rattle.std.specs.Prelude.{◌≡◌, ◌&&◌, ◌*◌, ◌+◌, ◌-◌, ◌≤◌, ◌∷◌, [], Bool, IfOk, List, OnOk, Option, Some, drop, filter, length, map, option_map, option_to_list, reverse, slice_get, true};
@@ -11,7 +11,7 @@ ghost use Rattle.tsn_types.specs.declared.keys.Key.{Key as AnyKey};
 ghost use Rattle.tsn_journal.specs.Entries.{most_entries};
 ghost use Rattle.tsn_journal.specs.Finding.{last_where};
 ghost use Rattle.tsn_journal.specs.declared.groups.Group.TheVariants.{EndsRedo, Of, On, RefersTo};
-ghost use Rattle.tsn_journal.specs.Index.{Adds, ArePlaces, HasPlaces, HasRoom, IsIndexed, IsIndexedBut, IsIndexedButNewest, IsLast, IsNewest, NewestAdds, NoneBetween, NoneFrom, TakesNoRoom, TakesPlaces, TakesRoom, belongs, belongs_to_others, group_if, groups_of_parts, is_by, most_places, number_at, other_of, places_for};
+ghost use Rattle.tsn_journal.specs.Index.{Adds, AreNodes, HasNodes, HasRoom, IsIndexed, IsIndexedBut, IsIndexedButNewest, IsLast, IsNewest, NewestAdds, NoneBetween, NoneFrom, TakesNoRoom, TakesNodes, TakesRoom, belongs, belongs_to_others, group_if, groups_of_parts, is_by, most_nodes, number_at, other_of, nodes_for};
 ghost use Rattle.tsn_journal.specs.Latest.{latest_of};
 ghost use Rattle.tsn_journal.specs.Marks.{AreOff, IsTally, is_own};
 ghost use Rattle.tsn_journal.specs.Newest.{HasNewest, IsIn, KeepsNewest, MendsNewest, groups_of};
@@ -22,23 +22,23 @@ ghost use Rattle.tsn_edit.specs.Parts.{parts};
 
 use crate::entries::{Entry, MarkedEntry, What, last};
 use crate::groups::{Group, refs_of};
-use crate::latest_rows::{KeyPlaces, Latest, SessionPlaces};
+use crate::latest_rows::{KeyNodes, Latest, SessionNodes};
 use std::alloc::{AllocError, Global};
 use tsn_edit::{Change, Part};
 use tsn_types::keys::Key;
 
-/// How many entries are looked at in order in the time that one takes that is found by its place.
+/// How many entries are looked at in order in the time that one takes that is found by its node.
 const IN_ORDER: u64 = 4;
 
-/// The place of an entry in a group. Places are counted from 1, and 0 is none.
+/// The node of an entry in a group. Nodes are counted from 1, and 0 is none.
 #[derive(Clone, Copy, Debug)]
-pub(crate) struct Place {
+pub(crate) struct Node {
     pub(crate) group: Group,
     /// The entry's number.
     pub(crate) number: u32,
-    /// The place before it in the group.
+    /// The node before it in the group.
     pub(crate) before: u32,
-    /// The last place before it in the group whose entry is of another session.
+    /// The last node before it in the group whose entry is of another session.
     pub(crate) other: u32,
 }
 
@@ -49,10 +49,10 @@ pub(crate) struct Tally {
     pub(crate) parts: usize,
 }
 
-/// Of each entry a place in each group that it belongs to, and the newest place of each group.
+/// Of each entry a node in each group that it belongs to, and the newest node of each group.
 #[derive(Debug, Drop)]
 pub(crate) struct Index {
-    pub(crate) places: Vec<Place>,
+    pub(crate) nodes: Vec<Node>,
     pub(crate) latest: Latest,
     /// The number of the newest stray entry, 0 for none: an Undone entry on a key that no entry was on before. No undo
     /// makes one, since it takes back an earlier entry on its keys.
@@ -62,71 +62,71 @@ pub(crate) struct Index {
 impl Index {
     /// An index of no entry. It takes no memory and has room for none.
     pub(crate) fn new(alloc: Global) -> Index
-        ensures places { result.places.items ≡ [] }
+        ensures nodes { result.nodes.items ≡ [] }
         ensures latest { (g : AnyGroup) → latest_of result.latest g ≡ 0 }
         ensures tells { Tells [] result }
     {
         Index {
-            places: Vec::new(alloc),
+            nodes: Vec::new(alloc),
             latest: Latest::new(alloc),
             stray: 0,
         }
     }
 
-    /// Makes room for `count` places more. Refused only for want of memory.
+    /// Makes room for `count` nodes more. Refused only for want of memory.
     pub(crate) fn reserve(&mut self, count: usize) -> Result<(), AllocError>
-        requires { length self.old.places.items + count ≤ most_places }
+        requires { length self.old.nodes.items + count ≤ most_nodes }
         ensures latest { (g : AnyGroup) → latest_of self.new.latest g ≡ latest_of self.old.latest g }
         ensures tells { TellsSame self.old self.new }
         ensures ok { OnOk result (HasRoom count self.new) }
         ensures spare { TakesNoRoom self.old self.new }
     {
-        self.places.reserve(count)?;
+        self.nodes.reserve(count)?;
         self.latest.reserve(count)?;
         Ok(())
     }
 
-    /// The number of the entry at the place, and 0 for none.
-    fn number_at(&self, place: u32) -> u32
-        requires { place ≤ length self.now.places.items }
-        ensures { result ≡ number_at self.now.places.items place }
+    /// The number of the entry at the node, and 0 for none.
+    fn number_at(&self, node: u32) -> u32
+        requires { node ≤ length self.now.nodes.items }
+        ensures { result ≡ number_at self.now.nodes.items node }
     {
-        if place == 0 {
+        if node == 0 {
             return 0;
         }
-        self.places[place as usize - 1].number
+        self.nodes[node as usize - 1].number
     }
 
-    /// The place, or the one that it is linked to of another session, where its entry is the session's.
-    fn other_of(&self, marked: &[MarkedEntry], place: u32, session: u32) -> u32
-        requires within { place ≤ length self.now.places.items }
-        requires places { ArePlaces marked.now self.now.places.items }
-        ensures { result ≡ other_of marked.now self.now.places.items session place }
+    /// The node, or the one that it is linked to of another session, where its entry is the session's.
+    fn other_of(&self, marked: &[MarkedEntry], node: u32, session: u32) -> u32
+        requires within { node ≤ length self.now.nodes.items }
+        requires nodes { AreNodes marked.now self.now.nodes.items }
+        ensures { result ≡ other_of marked.now self.now.nodes.items session node }
     {
-        if place == 0 {
+        if node == 0 {
             return 0;
         }
-        let found = &self.places[place as usize - 1];
+        let found = &self.nodes[node as usize - 1];
         if numbered(marked, found.number).is_of(session) {
             found.other
         } else {
-            place
+            node
         }
     }
 
-    /// Gives the newest entry, which adds so many parts to what stands, its places, in room for them, and tells it in
+    /// Gives the newest entry, which adds so many parts to what stands, its nodes, in room for them, and tells it in
     /// the rows of its keys and of what it refers to.
     pub(crate) fn enter(&mut self, marked: &[MarkedEntry], parts: usize)
         requires index { IsIndexedButNewest marked.now self.old }
         requires parts { NewestAdds marked.now parts }
-        requires room { HasRoom (places_for 1 parts) self.old }
+        requires room { HasRoom (nodes_for 1 parts) self.old }
         requires some { 1 ≤ length marked.now }
         requires few { length marked.now ≤ most_entries }
         requires is_open { (m : AnyEntry) → slice_get marked.now (length marked.now - 1) ≡ Some m → m.is_open ≡ true }
         ensures index { IsIndexed marked.now self.new }
         ensures newest { KeepsNewest marked.now self.old self.new }
         ensures told { NewestTold marked.now (length marked.now) self.old self.new }
-        ensures room { TakesRoom (places_for 1 parts) self.old self.new }
+        ensures room { TakesRoom (nodes_for 1 parts) self.old self.new }
     {
         let number = marked.len() as u32;
         let newest = &numbered(marked, number).entry;
@@ -144,7 +144,7 @@ impl Index {
         }
     }
 
-    /// Gives the newest entry, which made or redid the change, its places. Whether a search for a redo ends at it, the
+    /// Gives the newest entry, which made or redid the change, its nodes. Whether a search for a redo ends at it, the
     /// caller says.
     #[inline(always)]
     fn enter_change(
@@ -157,11 +157,11 @@ impl Index {
     )
         requires index { IsIndexedButNewest marked.now self.old }
         requires newest { IsNewest marked.now number session change.now ends }
-        requires room { HasRoom (places_for 1 (length change.now)) self.old }
+        requires room { HasRoom (nodes_for 1 (length change.now)) self.old }
         ensures index { IsIndexed marked.now self.new }
         ensures newest { KeepsNewest marked.now self.old self.new }
         ensures told { Told number (keys_of (parts change.now)) (refs_after (parts change.now)) self.old self.new }
-        ensures room { TakesRoom (places_for 1 (length change.now)) self.old self.new }
+        ensures room { TakesRoom (nodes_for 1 (length change.now)) self.old self.new }
     {
         let parts = change.parts();
         for part in parts {
@@ -173,7 +173,7 @@ impl Index {
         self.enter_session(marked, number, session, true, ends);
     }
 
-    /// Gives the newest entry, which is the session's, its place on the key.
+    /// Gives the newest entry, which is the session's, its node on the key.
     fn enter_on(&mut self, marked: &[MarkedEntry], key: &Key, number: u32, session: u32)
         requires index { IsIndexedButNewest marked.now self.old }
         requires room { HasRoom 1 self.old }
@@ -182,24 +182,24 @@ impl Index {
         requires by { is_by session (slice_get marked.now (number - 1)) ≡ true }
         requires in_group { (m : AnyEntry) → slice_get marked.now (number - 1) ≡ Some m → belongs (On key.now) m ≡ true }
         ensures index { (rest : List (Option AnyGroup))
-            → IsIndexedBut (Some (On key.now) ∷ rest) marked.now self.old.places.items (latest_of self.old.latest)
-            → IsIndexedBut rest marked.now self.new.places.items (latest_of self.new.latest) }
+            → IsIndexedBut (Some (On key.now) ∷ rest) marked.now self.old.nodes.items (latest_of self.old.latest)
+            → IsIndexedBut rest marked.now self.new.nodes.items (latest_of self.new.latest) }
         ensures newest { KeepsNewest marked.now self.old self.new }
         ensures told { Told number (key.now ∷ []) [] self.old self.new }
         ensures room { TakesRoom 1 self.old self.new }
     {
-        let row = self.latest.key_places(*key);
+        let row = self.latest.key_nodes(*key);
         let on = self.add(marked, Group::On(*key), row.on, number, session, true);
         self.latest.set_key(
             *key,
-            KeyPlaces {
+            KeyNodes {
                 on,
                 ..row.touched_by(number)
             },
         );
     }
 
-    /// Gives the newest entry, which is the session's, its place among those that refer to the key, if there is a key.
+    /// Gives the newest entry, which is the session's, its node among those that refer to the key, if there is a key.
     fn enter_ref(&mut self, marked: &[MarkedEntry], key: &Option<Key>, number: u32, session: u32)
         requires index { IsIndexedButNewest marked.now self.old }
         requires room { HasRoom 1 self.old }
@@ -209,8 +209,8 @@ impl Index {
         requires in_group { (k : AnyKey) (m : AnyEntry) → key.now ≡ Some k → slice_get marked.now (number - 1) ≡ Some m
             → belongs (RefersTo k) m ≡ true }
         ensures index { (rest : List (Option AnyGroup))
-            → IsIndexedBut (option_map RefersTo key.now ∷ rest) marked.now self.old.places.items (latest_of self.old.latest)
-            → IsIndexedBut rest marked.now self.new.places.items (latest_of self.new.latest) }
+            → IsIndexedBut (option_map RefersTo key.now ∷ rest) marked.now self.old.nodes.items (latest_of self.old.latest)
+            → IsIndexedBut rest marked.now self.new.nodes.items (latest_of self.new.latest) }
         ensures newest { KeepsNewest marked.now self.old self.new }
         ensures told { Told number [] (option_to_list key.now) self.old self.new }
         ensures room { TakesRoom 1 self.old self.new }
@@ -218,7 +218,7 @@ impl Index {
         let Some(key) = key else {
             return;
         };
-        let row = self.latest.key_places(*key);
+        let row = self.latest.key_nodes(*key);
         let refers = self.add(
             marked,
             Group::RefersTo(*key),
@@ -229,14 +229,14 @@ impl Index {
         );
         self.latest.set_key(
             *key,
-            KeyPlaces {
+            KeyNodes {
                 refers,
                 ..row.referred_by(number)
             },
         );
     }
 
-    /// Gives the newest entry its places among the session's standing entries and among those at which a search for a
+    /// Gives the newest entry its nodes among the session's standing entries and among those at which a search for a
     /// redo ends, where they are wanted.
     #[inline(always)]
     fn enter_session(
@@ -256,17 +256,17 @@ impl Index {
         requires in_ending { (m : AnyEntry) → ends ≡ true → slice_get marked.now (number - 1) ≡ Some m
             → belongs (EndsRedo session) m ≡ true }
         ensures index { (rest : List (Option AnyGroup))
-            → IsIndexedBut (group_if stands (Of session) ∷ group_if ends (EndsRedo session) ∷ rest) marked.now self.old.places.items
+            → IsIndexedBut (group_if stands (Of session) ∷ group_if ends (EndsRedo session) ∷ rest) marked.now self.old.nodes.items
             (latest_of self.old.latest)
-            → IsIndexedBut rest marked.now self.new.places.items (latest_of self.new.latest) }
+            → IsIndexedBut rest marked.now self.new.nodes.items (latest_of self.new.latest) }
         ensures newest { KeepsNewest marked.now self.old self.new }
         ensures tells { TellsSame self.old self.new }
         ensures room { TakesRoom 2 self.old self.new }
     {
-        let SessionPlaces {
+        let SessionNodes {
             standing,
             ends_redo,
-        } = self.latest.session_places(session);
+        } = self.latest.session_nodes(session);
         let standing = self.add(
             marked,
             Group::Of(session),
@@ -285,15 +285,15 @@ impl Index {
         );
         self.latest.set_session(
             session,
-            SessionPlaces {
+            SessionNodes {
                 standing,
                 ends_redo,
             },
         );
     }
 
-    /// Gives the session's entry of the number a place in the group, whose newest place is `before`, where it is wanted
-    /// and that place is not of the entry. The answer is the newest place of the group then.
+    /// Gives the session's entry of the number a node in the group, whose newest node is `before`, where it is wanted
+    /// and that node is not of the entry. The answer is the newest node of the group then.
     fn add(
         &mut self,
         marked: &[MarkedEntry],
@@ -303,17 +303,17 @@ impl Index {
         session: u32,
         wanted: bool,
     ) -> u32
-        requires room { HasPlaces 1 self.old }
+        requires room { HasNodes 1 self.old }
         requires index { IsIndexedButNewest marked.now self.old }
-        requires newest_place { before ≡ latest_of self.old.latest group }
+        requires newest_node { before ≡ latest_of self.old.latest group }
         requires count { number ≡ length marked.now }
         requires some { 1 ≤ number }
         requires by { is_by session (slice_get marked.now (number - 1)) ≡ true }
-        ensures added { Adds marked.now wanted group number session before self.old.places.items self.new.places.items result }
+        ensures added { Adds marked.now wanted group number session before self.old.nodes.items self.new.nodes.items result }
         ensures kept { IsIndexedButNewest marked.now self.new }
         ensures latest { self.new.latest ≡ self.old.latest }
         ensures stray { self.new.stray ≡ self.old.stray }
-        ensures room { TakesPlaces 1 self.old self.new }
+        ensures room { TakesNodes 1 self.old self.new }
     {
         if !wanted {
             return before;
@@ -322,16 +322,16 @@ impl Index {
             return before;
         }
         let other = self.other_of(marked, before, session);
-        self.places.push_reserved(Place {
+        self.nodes.push_reserved(Node {
             group,
             number,
             before,
             other,
         });
-        self.places.as_slice().len() as u32
+        self.nodes.as_slice().len() as u32
     }
 
-    /// Sets the newest places of the groups of an entry that was taken back, or settled, to where their last entries
+    /// Sets the newest nodes of the groups of an entry that was taken back, or settled, to where their last entries
     /// are. The entries up to the number `settled` are off. It takes no room.
     pub(crate) fn leave(&mut self, marked: &[MarkedEntry], taken_back: &Entry, settled: u64)
         requires index { IsIndexed marked.now self.old }
@@ -373,7 +373,7 @@ impl Index {
         ensures tells { TellsSame self.old self.new }
         ensures room { TakesRoom 0 self.old self.new }
     {
-        let latest = self.latest.key_places(*key);
+        let latest = self.latest.key_nodes(*key);
         if latest.on == 0 {
             return;
         }
@@ -381,7 +381,7 @@ impl Index {
         if on == latest.on {
             return;
         }
-        self.latest.set_key(*key, KeyPlaces { on, ..latest });
+        self.latest.set_key(*key, KeyNodes { on, ..latest });
     }
 
     /// The same for the entries that refer to the key, if there is a key.
@@ -396,7 +396,7 @@ impl Index {
         let Some(key) = key else {
             return;
         };
-        let latest = self.latest.key_places(*key);
+        let latest = self.latest.key_nodes(*key);
         if latest.refers == 0 {
             return;
         }
@@ -404,7 +404,7 @@ impl Index {
         if refers == latest.refers {
             return;
         }
-        self.latest.set_key(*key, KeyPlaces { refers, ..latest });
+        self.latest.set_key(*key, KeyNodes { refers, ..latest });
     }
 
     /// The same for the two groups of a session.
@@ -416,7 +416,7 @@ impl Index {
         ensures tells { TellsSame self.old self.new }
         ensures room { TakesRoom 0 self.old self.new }
     {
-        let latest = self.latest.session_places(session);
+        let latest = self.latest.session_nodes(session);
         if latest.standing == 0 && latest.ends_redo == 0 {
             return;
         }
@@ -428,34 +428,34 @@ impl Index {
         }
         self.latest.set_session(
             session,
-            SessionPlaces {
+            SessionNodes {
                 standing,
                 ends_redo,
             },
         );
     }
 
-    /// The first place back from this one, which is the latest, whose entry belongs to the group, from 1, and 0 for
+    /// The first node back from this one, which is the latest, whose entry belongs to the group, from 1, and 0 for
     /// none. It looks at no entry up to the number `settled`, since none of these belongs to it.
     fn first_from(&self, marked: &[MarkedEntry], group: &Group, latest: u32, settled: u64) -> u32
-        requires places { ArePlaces marked.now self.now.places.items }
-        requires latest { IsLast group.now (belongs group.now) marked.now self.now.places.items latest (length marked.now + 1) }
+        requires nodes { AreNodes marked.now self.now.nodes.items }
+        requires latest { IsLast group.now (belongs group.now) marked.now self.now.nodes.items latest (length marked.now + 1) }
         requires settled { NoneBetween (belongs group.now) marked.now 0 (settled + 1) }
-        ensures last { IsLast group.now (belongs group.now) marked.now self.now.places.items result (length marked.now + 1) }
-        ensures newest { IsIn group.now marked.now self.now.places.items result }
+        ensures last { IsLast group.now (belongs group.now) marked.now self.now.nodes.items result (length marked.now + 1) }
+        ensures newest { IsIn group.now marked.now self.now.nodes.items result }
     {
-        let mut place = latest;
-        'back: while place != 0 {
-            let at = &self.places[place as usize - 1];
+        let mut node = latest;
+        'back: while node != 0 {
+            let at = &self.nodes[node as usize - 1];
             if u64::from(at.number) <= settled {
                 return 0;
             }
             if numbered(marked, at.number).is_in(group) {
-                return place;
+                return node;
             }
-            place = at.before;
+            node = at.before;
         }
-        place
+        node
     }
 
     /// How many standing entries the session has, and how many parts their changes have. Those up to the number
@@ -469,9 +469,9 @@ impl Index {
         let mut entries = 0;
         let mut parts = 0;
         let mut passed = 0;
-        let mut place = self.latest.session_places(session).standing;
-        'back: while place != 0 {
-            let at = &self.places[place as usize - 1];
+        let mut node = self.latest.session_nodes(session).standing;
+        'back: while node != 0 {
+            let at = &self.nodes[node as usize - 1];
             if u64::from(at.number) <= settled {
                 break;
             }
@@ -489,7 +489,7 @@ impl Index {
                 entries += 1;
                 parts += entry.entry.what.added_parts();
             }
-            place = at.before;
+            node = at.before;
         }
         Tally { entries, parts }
     }
@@ -526,9 +526,9 @@ impl Index {
         ensures { IfOk result (λ numbers. reverse numbers.items ≡ map (λ m. m.entry.number) (filter (belongs (Of session)) marked.now)) }
     {
         let mut found = Vec::new(alloc);
-        let mut place = self.latest.session_places(session).standing;
-        'back: while place != 0 {
-            let at = &self.places[place as usize - 1];
+        let mut node = self.latest.session_nodes(session).standing;
+        'back: while node != 0 {
+            let at = &self.nodes[node as usize - 1];
             if u64::from(at.number) <= settled {
                 break;
             }
@@ -536,12 +536,12 @@ impl Index {
             if entry.is_own(session) {
                 found.push(entry.entry.number)?;
             }
-            place = at.before;
+            node = at.before;
         }
         Ok(found)
     }
 
-    /// The last entry of the group, whose newest place this is.
+    /// The last entry of the group, whose newest node this is.
     pub(crate) fn latest_in<'a>(
         &self,
         marked: &'a [MarkedEntry],
@@ -555,7 +555,7 @@ impl Index {
         self.last_in(marked, group, latest, &|_entry: &MarkedEntry| { true })
     }
 
-    /// The last entry of the group, whose newest place this is, that passes the test.
+    /// The last entry of the group, whose newest node this is, that passes the test.
     pub(crate) fn last_in<'a, F: Fn(&MarkedEntry) -> bool>(
         &self,
         marked: &'a [MarkedEntry],
@@ -569,20 +569,20 @@ impl Index {
         ensures { (p : AnyEntry → Bool) → Tests F.Fn p test.now
             → option_copied result ≡ last_where (λ m. belongs group.now m && p m) marked.now }
     {
-        let mut place = latest;
-        'back: while place != 0 {
-            let found = &self.places[place as usize - 1];
+        let mut node = latest;
+        'back: while node != 0 {
+            let found = &self.nodes[node as usize - 1];
             let entry = numbered(marked, found.number);
             if entry.is_in(group) && test(entry) {
                 return Some(entry);
             }
-            place = found.before;
+            node = found.before;
         }
         None
     }
 
     /// The session's last standing entry that passes the test, where none above the number `upto` does. At those it
-    /// does not look; once it passed as many places of theirs as there are entries up to the number, it goes back
+    /// does not look; once it passed as many nodes of theirs as there are entries up to the number, it goes back
     /// through these, one by one. That costs at most as much again as what it passed, so a switch is never dearer than
     /// twice the better way.
     pub(crate) fn last_own<'a, F: Fn(&MarkedEntry) -> bool>(
@@ -597,10 +597,10 @@ impl Index {
         ensures { (p : AnyEntry → Bool) → Tests F.Fn p test.now → NoneFrom (λ m. is_own session m && p m) marked.now upto
             → option_copied result ≡ last_where (λ m. is_own session m && p m) marked.now }
     {
-        let mut place = self.latest.session_places(session).standing;
+        let mut node = self.latest.session_nodes(session).standing;
         let mut passed = 0;
-        'back: while place != 0 {
-            let found = &self.places[place as usize - 1];
+        'back: while node != 0 {
+            let found = &self.nodes[node as usize - 1];
             if u64::from(found.number) <= upto {
                 let entry = numbered(marked, found.number);
                 if entry.is_own(session) && test(entry) {
@@ -615,12 +615,12 @@ impl Index {
                 }
                 passed += 1;
             }
-            place = found.before;
+            node = found.before;
         }
         None
     }
 
-    /// The last entry of the group, whose newest place this is, that is of another session than this one, among those
+    /// The last entry of the group, whose newest node this is, that is of another session than this one, among those
     /// after the number `after`. Entries of the session are passed in one step, however many there are, and none up to
     /// that number is looked at.
     pub(crate) fn last_of_others<'a>(
@@ -635,19 +635,19 @@ impl Index {
         requires latest { latest ≡ latest_of self.now.latest group.now }
         ensures { option_copied result ≡ last_where (belongs_to_others group.now session) (drop after marked.now) }
     {
-        let mut place = latest;
-        'back: while place != 0 {
-            let found = &self.places[place as usize - 1];
+        let mut node = latest;
+        'back: while node != 0 {
+            let found = &self.nodes[node as usize - 1];
             if u64::from(found.number) <= after {
                 return None;
             }
             let entry = numbered(marked, found.number);
             if entry.is_of(session) {
-                place = found.other;
+                node = found.other;
             } else if entry.is_in(group) {
                 return Some(entry);
             } else {
-                place = found.before;
+                node = found.before;
             }
         }
         None

@@ -31,7 +31,7 @@ pub struct Journal {
     index: Index,
     /// How many entries more there is room for.
     room: usize,
-    /// For how many parts of their changes there are places.
+    /// For how many parts of their changes there are nodes.
     parts: usize,
     /// Up to which number the entries are settled.
     settled: u64,
@@ -187,7 +187,7 @@ impl Journal {
     fn newest_of(&self, session: u32) -> Option<&MarkedEntry>
         ensures { option_map (λ m. m.entry.number) (option_copied result) ≡ option_map (λ x. x.number) (last_of self.now.entries session) }
     {
-        let latest = self.index.latest.session_places(session).standing;
+        let latest = self.index.latest.session_nodes(session).standing;
         self.index
             .latest_in(&self.marked, &Group::Of(session), latest)
     }
@@ -198,7 +198,7 @@ impl Journal {
         ensures newest { result ≡ option_map (λ x. x.number) (redo_of self.now.entries session) }
         ensures undone { IfSome result (λ n. IsSome (undone_entry self.now.entries n)) }
     {
-        let latest = self.index.latest.session_places(session).ends_redo;
+        let latest = self.index.latest.session_nodes(session).ends_redo;
         match self
             .index
             .latest_in(&self.marked, &Group::EndsRedo(session), latest)

@@ -1,4 +1,4 @@
-//! What the rows of keys and sessions tell: the newest place of each group, and of each key the newest entries of any
+//! What the rows of keys and sessions tell: the newest node of each group, and of each key the newest entries of any
 //! kind.
 ghost use Rattle.std.specs.Prelude.{◌≡◌, ◌⊎◌, IsSome, OnOk, Some, if◌then◌else◌};
 ghost use Rattle.std.specs.FinMap as map;
@@ -8,27 +8,27 @@ ghost use Rattle.tsn_types.specs.declared.keys.Key.{Key as AnyKey};
 ghost use Rattle.tsn_journal.specs.declared.groups.Group.{Group as AnyGroup};
 ghost use Rattle.tsn_journal.specs.Latest.{HasRows, TakesRows, ends_of, key_row, latest_of, on_of, referred_of, refers_of, session_row, standing_of, touched_of};
 
-use crate::latest_rows::{KeyPlaces, Latest, SessionPlaces};
+use crate::latest_rows::{KeyNodes, Latest, SessionNodes};
 use std::alloc::{AllocError, Global};
 use tsn_table::{Table, sure_after};
 use tsn_types::keys::Key;
 
-impl KeyPlaces {
+impl KeyNodes {
     /// The row of the key with the entry of the number on it.
-    pub(crate) fn touched_by(self, number: u32) -> KeyPlaces
+    pub(crate) fn touched_by(self, number: u32) -> KeyNodes
         ensures { result ≡ record self { touched = number } }
     {
-        KeyPlaces {
+        KeyNodes {
             touched: number,
             ..self
         }
     }
 
     /// The row of the key with the entry of the number referring to it.
-    pub(crate) fn referred_by(self, number: u32) -> KeyPlaces
+    pub(crate) fn referred_by(self, number: u32) -> KeyNodes
         ensures { result ≡ record self { referred = number } }
     {
-        KeyPlaces {
+        KeyNodes {
             referred: number,
             ..self
         }
@@ -36,7 +36,7 @@ impl KeyPlaces {
 }
 
 impl Latest {
-    /// No place in any group. It takes no memory.
+    /// No node in any group. It takes no memory.
     pub(crate) fn new(alloc: Global) -> Latest
         ensures latest { (g : AnyGroup) → latest_of result g ≡ 0 }
         ensures touched { (q : AnyKey) → touched_of (key_row result q) ≡ 0 }
@@ -73,7 +73,7 @@ impl Latest {
 
     /// What the row of the key tells.
     #[inline(always)]
-    pub(crate) fn key_places(&self, key: Key) -> KeyPlaces
+    pub(crate) fn key_nodes(&self, key: Key) -> KeyNodes
         ensures on { result.on ≡ on_of (key_row self.now key) }
         ensures refers { result.refers ≡ refers_of (key_row self.now key) }
         ensures touched { result.touched ≡ touched_of (key_row self.now key) }
@@ -81,7 +81,7 @@ impl Latest {
     {
         match self.key_row(key) {
             Some(row) => *row,
-            None => KeyPlaces {
+            None => KeyNodes {
                 on: 0,
                 refers: 0,
                 touched: 0,
@@ -90,7 +90,7 @@ impl Latest {
         }
     }
 
-    fn key_row(&self, key: Key) -> Option<&KeyPlaces>
+    fn key_row(&self, key: Key) -> Option<&KeyNodes>
         ensures { option_copied result ≡ key_row self.now key }
     {
         match key {
@@ -101,15 +101,15 @@ impl Latest {
         }
     }
 
-    /// The newest places of the session.
+    /// The newest nodes of the session.
     #[inline(always)]
-    pub(crate) fn session_places(&self, session: u32) -> SessionPlaces
+    pub(crate) fn session_nodes(&self, session: u32) -> SessionNodes
         ensures standing { result.standing ≡ standing_of (session_row self.now session) }
         ensures ends_redo { result.ends_redo ≡ ends_of (session_row self.now session) }
     {
         match self.sessions.get(u64::from(session)) {
             Some(row) => *row,
-            None => SessionPlaces {
+            None => SessionNodes {
                 standing: 0,
                 ends_redo: 0,
             },
@@ -118,7 +118,7 @@ impl Latest {
 
     /// Sets the row of the key. A key that has one takes no room, and one that has none takes a row of its
     /// kind.
-    pub(crate) fn set_key(&mut self, key: Key, row: KeyPlaces)
+    pub(crate) fn set_key(&mut self, key: Key, row: KeyNodes)
         requires { IsSome (key_row self.old key) ⊎ HasRows 1 self.old }
         ensures rows { (q : AnyKey) → key_row self.new q ≡ (if same_key q key then Some row else key_row self.old q) }
         ensures sessions { self.new.sessions ≡ self.old.sessions }
@@ -145,9 +145,9 @@ impl Latest {
         }
     }
 
-    /// Sets the newest places of the session. A session that has some takes no room, and one that has none takes a row.
+    /// Sets the newest nodes of the session. A session that has some takes no room, and one that has none takes a row.
     #[inline(always)]
-    pub(crate) fn set_session(&mut self, session: u32, row: SessionPlaces)
+    pub(crate) fn set_session(&mut self, session: u32, row: SessionNodes)
         requires { IsSome (session_row self.old session) ⊎ HasRows 1 self.old }
         ensures sessions { self.new.sessions.map ≡ map.insert self.old.sessions.map session row }
         ensures keys { (q : AnyKey) → key_row self.new q ≡ key_row self.old q }

@@ -1,6 +1,6 @@
 //! What blocks a redo: the newest entries of each key, whatever their kind and whether they stand or not.
 //!
-//! The rows of keys tell them. An entry that was made or redone is told as it gets its places, and an Undone entry
+//! The rows of keys tell them. An entry that was made or redone is told as it gets its nodes, and an Undone entry
 //! here.
 ghost use Rattle.std.specs.Prelude.{◌≡◌, ◌≤◌, ◌&&◌, ◌∷◌, [], Bool, List, Some, option_map, option_to_list, true};
 ghost use Rattle.std.specs.Option.{option_and_then, option_copied};
@@ -12,7 +12,7 @@ ghost use Rattle.tsn_journal.specs.Entries.{IsNumbered, applies};
 ghost use Rattle.tsn_journal.specs.Finding.{entry, last_where};
 ghost use Rattle.tsn_journal.specs.Index.{above};
 ghost use Rattle.tsn_journal.specs.Marks.{conflict_after, entries_of, is_in_conflict};
-ghost use Rattle.tsn_journal.specs.Touched.{CanTell, KeepsPlaces, Tells, Told, some_number, told_on, touches};
+ghost use Rattle.tsn_journal.specs.Touched.{CanTell, KeepsNodes, Tells, Told, some_number, told_on, touches};
 
 use crate::entries::{Entry, MarkedEntry};
 use crate::finding::{above, conflict_after, later_of};
@@ -27,7 +27,7 @@ impl Index {
     pub(crate) fn touch_parts(&mut self, parts: &[Part], number: u32)
         requires { 1 ≤ number }
         ensures told { Told number (keys_of parts.now) (refs_after parts.now) self.old self.new }
-        ensures kept { KeepsPlaces self.old self.new }
+        ensures kept { KeepsNodes self.old self.new }
     {
         for part in parts {
             let refs = refs_of(&part.after);
@@ -40,9 +40,9 @@ impl Index {
     /// Tells that the entry is on the key. On a key that no entry was on before it is a stray one.
     fn touch_key(&mut self, key: &Key, number: u32)
         ensures told { Told number (key.now ∷ []) [] self.old self.new }
-        ensures kept { KeepsPlaces self.old self.new }
+        ensures kept { KeepsNodes self.old self.new }
     {
-        let row = self.latest.key_places(*key);
+        let row = self.latest.key_nodes(*key);
         if row.touched == 0 {
             self.stray = number;
             return;
@@ -54,12 +54,12 @@ impl Index {
     /// told.
     fn touch_ref(&mut self, key: &Option<Key>, number: u32)
         ensures told { Told number [] (option_to_list key.now) self.old self.new }
-        ensures kept { KeepsPlaces self.old self.new }
+        ensures kept { KeepsNodes self.old self.new }
     {
         let Some(key) = key else {
             return;
         };
-        let row = self.latest.key_places(*key);
+        let row = self.latest.key_nodes(*key);
         if row.touched == 0 {
             return;
         }
@@ -87,7 +87,7 @@ impl Index {
             → above e.number result ≡ above e.number
             (option_map (λ m. m.entry.number) (last_where (λ m. true && is_in_conflict (applies m.entry.what) (part.now ∷ [])) ms)) }
     {
-        let row = self.latest.key_places(part.key);
+        let row = self.latest.key_nodes(part.key);
         let refs = refs_of(&part.before);
         let by_key = later_of(some_number(row.touched), some_number(row.referred));
         let by_refs = later_of(self.told_on(&refs.first), self.told_on(&refs.second));
@@ -99,7 +99,7 @@ impl Index {
         ensures { result ≡ told_on self.now key.now }
     {
         match key {
-            Some(key) => some_number(self.latest.key_places(*key).touched),
+            Some(key) => some_number(self.latest.key_nodes(*key).touched),
             None => None,
         }
     }

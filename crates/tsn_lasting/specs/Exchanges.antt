@@ -25,7 +25,7 @@ abbrev pub recorded_of : Result Ask Refusal → Reply → Option Answered
 recorded_of (Ok ask) reply = recorded (record { ask = ask; reply = reply })
 recorded_of (Err why) reply = None
 
--- The command that is recorded, in the service's own spelling, if one is.
+-- The command that is recorded, in the service's compact spelling, if one is.
 abbrev pub command_of : Option Answered → List (List ℕ)
 command_of None = []
 command_of (Some t) = line_text t.ask ∷ []

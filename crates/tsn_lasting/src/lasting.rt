@@ -9,7 +9,7 @@ ghost use Rattle.tsn_serve.specs.Lines.{longest_line};
 ghost use Rattle.tsn_spelling.specs.Line.{line_text};
 ghost use Rattle.tsn_lasting.specs.Parts.{Answers, AnswersBreak, AnswersLine, BreaksLine, BreaksOff, HandsOn, IsCutOff, Puts, StepsRead, StepsRecorder, Tells, standing};
 
-use crate::gathered::Gathered;
+use crate::backlog::Backlog;
 use std::alloc::{AllocError, Global};
 use std::marker::Model;
 use tsn_bridge::bridge::Bridge;
@@ -25,7 +25,7 @@ use tsn_serve::{MAX_LINE, Responder, read_line};
 use tsn_spelling::spell;
 use tsn_types::refusals::Refusal;
 
-/// What is recorded is spelled as a command line in the service's own spelling.
+/// What is recorded is spelled as a command line in the service's compact spelling.
 #[derive(Drop)]
 pub struct CommandLine;
 
@@ -62,7 +62,7 @@ pub struct Lasting<C: Clock, D: Device, W: ByteOut> {
     recorder: Recorder<CommandLine>,
     keeper: Keeper<D>,
     clock: C,
-    replies: Gathered,
+    replies: Backlog,
     writer: W,
     fault: Option<LastingFault>,
 }
@@ -105,7 +105,7 @@ impl<C: Clock, D: Device, W: ByteOut> Lasting<C, D, W> {
           writer = writer;
         }) }
     {
-        let replies = Gathered::new(alloc)?;
+        let replies = Backlog::new(alloc)?;
         Ok(Lasting {
             recorder: Recorder::new(alloc, bridge),
             keeper,

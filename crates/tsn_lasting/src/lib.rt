@@ -8,11 +8,11 @@
 //! for the recorder, on `tsn_spelling` for the text of a command, and on `tsn_keeping` for the file.
 #![tactic(auto)]
 
-mod gathered;
+mod backlog;
 mod lasting;
 mod running;
 
-pub use gathered::{Gathered, Nowhere};
+pub use backlog::{Backlog, Nowhere};
 pub use lasting::{CommandLine, Lasting, LastingFault};
 pub use running::run_lasting;
 pub use tsn_keeping::{Clock, Stamp};

@@ -4,7 +4,7 @@ ghost use Rattle.tsn_lasting.specs.Parts.{standing};
 ghost use Rattle.tsn_lasting.specs.Running.{Breaks, Ends, Goes, IsBroken, IsWhole};
 ghost use Rattle.tsn_lasting.specs.Standing.{IsAtRest, Standing};
 
-use crate::gathered::Nowhere;
+use crate::backlog::Nowhere;
 use crate::lasting::{Lasting, LastingFault};
 use std::alloc::Global;
 use tsn_bytes::{ByteIn, ByteOut};

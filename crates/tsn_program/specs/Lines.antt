@@ -30,11 +30,11 @@ why_of (Err why) = Some why
 abbrev pub WhyNot : Option (List ℕ) → Option Refusal → Type 0
 WhyNot line cause = (read : Result Ask Refusal) × MayRead line read × (cause ≡ why_of read)
 
--- Nothing is told of a line that may be asked; of another one, which line it is and why, and behind that words on the place, of
+-- Nothing is told of a line that may be asked; of another one, which line it is and why, and behind that words on the spot, of
 -- which nothing is said here.
 abbrev pub IsTold : ℕ → Option Refusal → List ℕ → Type 0
 IsTold n None text = text ≡ []
-IsTold n (Some why) text = (place : List ℕ) × (text ≡ cause_text n why ++ (place ++ codes "\n"))
+IsTold n (Some why) text = (spot : List ℕ) × (text ≡ cause_text n why ++ (spot ++ codes "\n"))
 
 -- one line more, which may be asked or not
 abbrev pub counted_in : Looked → Option Refusal → Looked

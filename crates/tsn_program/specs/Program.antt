@@ -141,7 +141,7 @@ TellsFault why status errors =
     (told : Output)
     × (told.old ≡ errors.old)
     × Reports (Err (failures.Refused why)) status told
-    × ((place : List ℕ) × Tells (since told errors) place)
+    × ((spot : List ℕ) × Tells (since told errors) spot)
 
 -- Of a bridge that opens it was told what it has.
 abbrev pub ChecksFrom : Result State Refusal → Output → ℕ → Output → Type 0

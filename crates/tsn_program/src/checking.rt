@@ -84,8 +84,8 @@ fn fail_at<E: ByteOut>(alloc: Global, setup: &[u8], why: &Refusal, errors: &mut 
         (written E.taken E.pending E.has_failed errors.old errors.new) }
 {
     let status = fail(errors, Failure::Refused(*why));
-    let place = fault_line(alloc, setup, *why);
-    tell(errors, place.as_bytes());
+    let spot = fault_line(alloc, setup, *why);
+    tell(errors, spot.as_bytes());
     status
 }
 

@@ -12,13 +12,13 @@ use tsn_bytes::{ByteIn, ByteOut, Fault, put_all};
 use tsn_replies::ShortText;
 use tsn_serve::{Responder, answer_lines, read_line};
 use tsn_types::refusals::Refusal;
-use tsn_where::command_place;
+use tsn_where::command_spot;
 
 // The most reads of an input.
 const READS: u64 = 4_294_967_296;
 
-// The most bytes of the words on a place.
-const LONGEST_PLACE: usize = 600;
+// The most bytes of the words on a spot.
+const LONGEST_SPOT: usize = 600;
 
 /// How many lines were looked at, and how many of them can't be asked.
 #[derive(Drop)]
@@ -60,27 +60,27 @@ fn push_cause(text: &mut ShortText, number: u64, why: &Refusal)
     text.push(why.name());
 }
 
-// Puts the words on a place behind the text, where there are some and they are not too long.
-fn push_place(text: &mut ShortText, place: &str)
+// Puts the words on a spot behind the text, where there are some and they are not too long.
+fn push_spot(text: &mut ShortText, spot: &str)
     requires { length text.old ≤ 80 }
     ensures text { (more : List ℕ) × (text.new ≡ text.old ++ more) }
     ensures len { length text.new ≤ 684 }
 {
-    if place.is_empty() || place.len() > LONGEST_PLACE {
+    if spot.is_empty() || spot.len() > LONGEST_SPOT {
         return;
     }
     text.push(": ");
-    text.push_bytes(place.as_bytes());
+    text.push_bytes(spot.as_bytes());
 }
 
 // What is told of a line that can't be asked.
 fn told(alloc: Global, number: u64, line: Option<&[u8]>, why: Refusal) -> ShortText
     ensures { IsTold number (Some why) result }
 {
-    let place = command_place(alloc, line.unwrap_or(b""), why);
+    let spot = command_spot(alloc, line.unwrap_or(b""), why);
     let mut text = ShortText::new();
     push_cause(&mut text, number, &why);
-    push_place(&mut text, place.as_str());
+    push_spot(&mut text, spot.as_str());
     text.push("\n");
     text
 }

@@ -19,8 +19,8 @@ use Rattle.tsn_types.specs.declared.limits.Limits.{Limits}
 use Rattle.tsn_types.specs.declared.records.Record.{Record}
 use Rattle.tsn_types.specs.declared.records.Record.TheVariants as records
 use Rattle.tsn_records.specs.Keys.{kind_text}
-use Rattle.tsn_setup.specs.Plain.{tables, slot_at, put_slot, ReadsDocument}
-use Rattle.tsn_setup.specs.PlainSlots.{limits_slots, whole_slots}
+use Rattle.tsn_setup.specs.Plain.{tables, tray_at, put_tray, ReadsDocument}
+use Rattle.tsn_setup.specs.PlainTrays.{limits_trays, whole_trays}
 use Rattle.tsn_setup.specs.Setups.{document_of, setup_shape}
 use Rattle.tsn_setup.specs.declared.drafts.LimitsDraft.{LimitsDraft}
 use Rattle.tsn_setup.specs.declared.drafts.TableDraft.{TableDraft}
@@ -45,7 +45,7 @@ limits_given l = record {
   list_max = Some l.list;
 }
 
-limits_back : (l : Limits) (more : List ℕ) → AreInRange l → Reads (limits_text l ++ more) (limits_slots (limits_given l)) more
+limits_back : (l : Limits) (more : List ℕ) → AreInRange l → Reads (limits_text l ++ more) (limits_trays (limits_given l)) more
 limits_back l more fits =
     let list = number_line (codes "list_max") l.list ++ more in
     let meters = number_line (codes "max_meters") l.meters ++ list in
@@ -57,9 +57,9 @@ limits_back l more fits =
     in_five (number_line (codes "ports") l.ports) (number_line (codes "max_filters") l.filters) (number_line (codes "max_gates") l.gates)
     (number_line (codes "max_meters") l.meters) (number_line (codes "list_max") l.list) more in
     let none : LimitsDraft = record { ports = None; max_filters = None; max_gates = None; max_meters = None; list_max = None } in
-    let begun = reads_begun text (limits_slots none) (refl, (refl, (refl, (refl, (refl, tt))))) in
+    let begun = reads_begun text (limits_trays none) (refl, (refl, (refl, (refl, (refl, tt))))) in
     let a = number_back text (codes "ports") filters l.ports _ refl (omega (arith, fits.0.1)) refl
-    (subst (Reads text (limits_slots none)) pieces begun) in
+    (subst (Reads text (limits_trays none)) pieces begun) in
     let b = number_back text (codes "max_filters") gates l.filters _ refl (omega (arith, fits.1.0.1)) refl a in
     let c = number_back text (codes "max_gates") meters l.gates _ refl (omega (arith, fits.1.1.0.1)) refl b in
     let d = number_back text (codes "max_meters") list l.meters _ refl (omega (arith, fits.1.1.1.0.1)) refl c in
@@ -79,15 +79,15 @@ with_kind kinds.Gate new ts kinds.Gate = new
 with_kind kinds.Meter new ts kinds.Meter = new
 with_kind which new ts other = ts other
 
-own_slot : (which : Kind) (l : LimitsDraft) (list : List TableDraft) (ts : Tables)
-    → slot_at (kind_text which) (whole_slots l (with_kind which list ts)) ≡ Some (tables which list)
-own_slot kinds.Port l list ts = refl
-own_slot kinds.Filter l list ts = refl
-own_slot kinds.Gate l list ts = refl
-own_slot kinds.Meter l list ts = refl
+own_tray : (which : Kind) (l : LimitsDraft) (list : List TableDraft) (ts : Tables)
+    → tray_at (kind_text which) (whole_trays l (with_kind which list ts)) ≡ Some (tables which list)
+own_tray kinds.Port l list ts = refl
+own_tray kinds.Filter l list ts = refl
+own_tray kinds.Gate l list ts = refl
+own_tray kinds.Meter l list ts = refl
 
 own_put : (which : Kind) (l : LimitsDraft) (list new : List TableDraft) (ts : Tables)
-    → put_slot (kind_text which) (tables which new) (whole_slots l (with_kind which list ts)) ≡ whole_slots l (with_kind which new ts)
+    → put_tray (kind_text which) (tables which new) (whole_trays l (with_kind which list ts)) ≡ whole_trays l (with_kind which new ts)
 own_put kinds.Port l list new ts = refl
 own_put kinds.Filter l list new ts = refl
 own_put kinds.Gate l list new ts = refl
@@ -106,20 +106,20 @@ header_passed kinds.Meter rest = line_passed (codes "[[meter]]\n" ++ rest) refl
 
 -- a table more
 table_back : (text this more : List ℕ) (which : Kind) (draft : TableDraft) (l : LimitsDraft) (list : List TableDraft) (ts : Tables)
-    → TableRead which this draft more → ReadsDocument text (whole_slots l (with_kind which list ts)) (skip_blank this)
-    → ReadsDocument text (whole_slots l (with_kind which (list ++ draft ∷ []) ts)) (skip_blank more)
+    → TableRead which this draft more → ReadsDocument text (whole_trays l (with_kind which list ts)) (skip_blank this)
+    → ReadsDocument text (whole_trays l (with_kind which (list ++ draft ∷ []) ts)) (skip_blank more)
 table_back text this more which draft l list ts t so =
-    let slots = whole_slots l (with_kind which list ts) in
+    let trays = whole_trays l (with_kind which list ts) in
     let all = header which ++ t.lines in
     let turn = header_read which t.lines in
     let passed = header_passed which t.lines ∙ turn.1 in
-    let here : ReadsDocument text slots (skip_blank all) = subst (λ x. ReadsDocument text slots (skip_blank x)) t.is so in
+    let here : ReadsDocument text trays (skip_blank all) = subst (λ x. ReadsDocument text trays (skip_blank x)) t.is so in
     let size : length (skip_blank all) ≡ length turn.0 = ap length turn.1 in
     let some : (length (skip_blank (skip_blank all)) == 0) ≡ false = rw passed (grind (arith, nat_tests, turn.3)) in
     let head : line (skip_blank (skip_blank all)) ≡ Some ((([], kind_text which), array_table), 10 ∷ t.lines) = rw passed turn.2 in
     subst (λ s. ReadsDocument text s (skip_blank more)) (own_put which l list (list ++ draft ∷ []) ts)
-    (table_added text slots (skip_blank all) (10 ∷ t.lines) (skip_blank more) which list draft here some head (omega (arith, size, turn.4))
-    t.read (own_slot which l list ts))
+    (table_added text trays (skip_blank all) (10 ∷ t.lines) (skip_blank more) which list draft here some head (omega (arith, size, turn.4))
+    t.read (own_tray which l list ts))
 
 record_back : (k : Key) (r : Record) (more : List ℕ) → KeyedInRange k r
     → TableRead (kind k) (table_text (k, r) ++ more) (keyed_draft (k, r)) more
@@ -136,18 +136,18 @@ rows es = flat_map table_text es
 -- the records of a kind
 kind_back : (which : Kind) (es : List (Key × Record)) (text more : List ℕ) (l : LimitsDraft) (list : List TableDraft) (ts : Tables)
     → InRange es → AllOf which es
-    → ReadsDocument text (whole_slots l (with_kind which list ts)) (skip_blank (rows es ++ more))
-    → ReadsDocument text (whole_slots l (with_kind which (list ++ map keyed_draft es) ts)) (skip_blank more)
+    → ReadsDocument text (whole_trays l (with_kind which list ts)) (skip_blank (rows es ++ more))
+    → ReadsDocument text (whole_trays l (with_kind which (list ++ map keyed_draft es) ts)) (skip_blank more)
 kind_back which [] text more l list ts fits are so =
-    subst (λ ds. ReadsDocument text (whole_slots l (with_kind which ds ts)) (skip_blank more)) (sym (nothing_more list)) so
+    subst (λ ds. ReadsDocument text (whole_trays l (with_kind which ds ts)) (skip_blank more)) (sym (nothing_more list)) so
 kind_back which (e ∷ es) text more l list ts fits are so =
     let tail = rows es ++ more in
     let this : TableRead which (table_text e ++ tail) (keyed_draft e) tail =
     subst (λ q. TableRead q (table_text e ++ tail) (keyed_draft e) tail) are.0 (record_back e.0 e.1 tail fits.0) in
-    let here = subst (λ x. ReadsDocument text (whole_slots l (with_kind which list ts)) (skip_blank x))
+    let here = subst (λ x. ReadsDocument text (whole_trays l (with_kind which list ts)) (skip_blank x))
     (append_assoc (table_text e) (rows es) more) so in
     let next = table_back text (table_text e ++ tail) tail which (keyed_draft e) l list ts this here in
-    subst (λ ds. ReadsDocument text (whole_slots l (with_kind which ds ts)) (skip_blank more))
+    subst (λ ds. ReadsDocument text (whole_trays l (with_kind which ds ts)) (skip_blank more))
     (append_assoc list (keyed_draft e ∷ []) (map keyed_draft es))
     (kind_back which es text more l (list ++ keyed_draft e ∷ []) ts fits.1 are.1 next)
 
@@ -189,13 +189,13 @@ document_back l p f g m fits four =
     let two : Tables = with_kind kinds.Filter (map keyed_draft f) one in
     let three : Tables = with_kind kinds.Gate (map keyed_draft g) two in
     let all : Tables = with_kind kinds.Meter (map keyed_draft m) three in
-    let start = subst (λ t. ReadsDocument text (whole_slots given none) (skip_blank t)) (in_rows p f g m)
+    let start = subst (λ t. ReadsDocument text (whole_trays given none) (skip_blank t)) (in_rows p f g m)
     (document_begun text (skip_blank tables) given (limits_back l tables fits)) in
     let a = kind_back kinds.Port p text filters given [] none four.ports.1 four.ports.0 start in
     let b = kind_back kinds.Filter f text gates given [] one four.filters.1 four.filters.0 a in
     let c = kind_back kinds.Gate g text meters given [] two four.gates.1 four.gates.0 b in
-    let whole : ReadsDocument text (whole_slots given all) (skip_blank []) =
+    let whole : ReadsDocument text (whole_trays given all) (skip_blank []) =
     kind_back kinds.Meter m text [] given [] three four.meters.1 four.meters.0 c in
     let over : length (skip_blank (skip_blank [])) ≡ 0 = omega (arith, skip_within [], skip_within (skip_blank [])) in
-    let read = document_ended text (whole_slots given all) (skip_blank []) whole over refl in
+    let read = document_ended text (whole_trays given all) (skip_blank []) whole over refl in
     document_shaped text given all (map keyed_draft (p ++ f ++ g ++ m)) (setup_utf8 l (p ++ f ++ g ++ m)) read (all_drafts p f g m)

@@ -14,11 +14,11 @@ use Rattle.tsn_types.specs.declared.records.GateEntry.{GateEntry}
 use Rattle.tsn_records.specs.declared.unread.Unread.{Unread}
 use Rattle.tsn_records.specs.Records.{port_entry_shape, gate_entry_shape}
 use Rattle.tsn_records.proofs.RecordRanges.{port_entry_draft, gate_entry_draft}
-use Rattle.tsn_setup.specs.Plain.{Slot, number, flag, port_list, gate_list, IsOpen, Slots, slot_at, put_slot, ReadsMember, ReadsValue, ReadsTable, ReadsEntry, ReadsEntries, TableSoFar, EntriesSoFar, is_name}
-use Rattle.tsn_setup.specs.PlainSlots.{port_entry_slots, gate_entry_slots}
+use Rattle.tsn_setup.specs.Plain.{Tray, number, flag, port_list, gate_list, IsOpen, Trays, tray_at, put_tray, ReadsMember, ReadsValue, ReadsTable, ReadsEntry, ReadsEntries, TableSoFar, EntriesSoFar, is_name}
+use Rattle.tsn_setup.specs.PlainTrays.{port_entry_trays, gate_entry_trays}
 use Rattle.tsn_setup.specs.Toml.{as_toml}
-use Rattle.tsn_setup.specs.declared.plain_entries.PortEntryMembers.{PortEntryMembers}
-use Rattle.tsn_setup.specs.declared.plain_entries.GateEntryMembers.{GateEntryMembers}
+use Rattle.tsn_setup.specs.declared.plain_entries.PlainPortEntry.{PlainPortEntry}
+use Rattle.tsn_setup.specs.declared.plain_entries.PlainGateEntry.{PlainGateEntry}
 use Rattle.tsn_setup.proofs.OfKind.{nothing_more}
 use Rattle.tsn_setup.proofs.Told.{port_entry_told, gate_entry_told}
 use Rattle.tsn_setup.proofs.Turning.{table_begun, table_more, table_ended, entries_begun, entries_more, entries_ended}
@@ -51,53 +51,53 @@ stripped_at false text = omega arith
 member_end : (text : List ℕ) → ends_member text ≡ true → EndsValue text
 member_end text h = ((grind (arith, nat_tests), grind (arith, nat_tests)), (grind (arith, nat_tests), grind (arith, nat_tests)))
 
-inner_read : (text name at_value after rest : List ℕ) (slots : Slots) (slot full : Slot) → is_name name ≡ true
-    → Spelled 0 at_value full after → slot_at name slots ≡ Some slot → IsOpen slot
+inner_read : (text name at_value after rest : List ℕ) (trays : Trays) (tray full : Tray) → is_name name ≡ true
+    → Spelled 0 at_value full after → tray_at name trays ≡ Some tray → IsOpen tray
     → ends_member after ≡ true → length after ≤ length at_value → skip_blank rest ≡ name ++ (codes " = " ++ at_value)
-    → length (name ++ (codes " = " ++ at_value)) ≤ length rest → TableSoFar text slots rest
-    → TableSoFar text (put_slot name full slots) (strip after)
-inner_read text name at_value after rest slots slot full bare value at unread ends within whole room so =
+    → length (name ++ (codes " = " ++ at_value)) ≤ length rest → TableSoFar text trays rest
+    → TableSoFar text (put_tray name full trays) (strip after)
+inner_read text name at_value after rest trays tray full bare value at unread ends within whole room so =
     let start = name_start name (codes " = " ++ at_value) bare in
     let goes : (first (skip_blank rest) == 125) ≡ false = rw whole (grind (arith, nat_tests)) in
-    let member : ReadsMember 0 (skip_blank rest) slots (put_slot name full slots) after =
-    rw whole (member_read 0 name at_value after slots slot full bare value at unread) in
-    table_more text slots (put_slot name full slots) rest after (strip after) so goes member (next_member after ends)
+    let member : ReadsMember 0 (skip_blank rest) trays (put_tray name full trays) after =
+    rw whole (member_read 0 name at_value after trays tray full bare value at unread) in
+    table_more text trays (put_tray name full trays) rest after (strip after) so goes member (next_member after ends)
     (omega (arith, stripped_at (first after == 44) after, length-append name (codes " = " ++ at_value), within, room))
 
 -- the first member, behind the brace
-first_read : (name at_value after : List ℕ) (slots : Slots) (slot full : Slot) → is_name name ≡ true → Spelled 0 at_value full after
-    → slot_at name slots ≡ Some slot → IsOpen slot
+first_read : (name at_value after : List ℕ) (trays : Trays) (tray full : Tray) → is_name name ≡ true → Spelled 0 at_value full after
+    → tray_at name trays ≡ Some tray → IsOpen tray
     → ends_member after ≡ true → length after ≤ length at_value
-    → TableSoFar (name ++ (codes " = " ++ at_value)) slots (name ++ (codes " = " ++ at_value))
-    → TableSoFar (name ++ (codes " = " ++ at_value)) (put_slot name full slots) (strip after)
-first_read name at_value after slots slot full bare value at unread ends within so =
+    → TableSoFar (name ++ (codes " = " ++ at_value)) trays (name ++ (codes " = " ++ at_value))
+    → TableSoFar (name ++ (codes " = " ++ at_value)) (put_tray name full trays) (strip after)
+first_read name at_value after trays tray full bare value at unread ends within so =
     let s = name ++ (codes " = " ++ at_value) in
     let start = name_start name (codes " = " ++ at_value) bare in
     let begins : starts_value (first s) ≡ true = grind (arith, nat_tests) in
-    inner_read s name at_value after s slots slot full bare value at unread ends within (skip_start s begins) (omega arith) so
+    inner_read s name at_value after s trays tray full bare value at unread ends within (skip_start s begins) (omega arith) so
 
 -- a member behind another
-inner_number_back : (text name more : List ℕ) (n : ℕ) (slots : Slots) → is_name name ≡ true → n < 2 ^ 63
-    → slot_at name slots ≡ Some (number None) → ends_member more ≡ true → TableSoFar text slots (strip (inner_number name n ++ more))
-    → TableSoFar text (put_slot name (number (Some n)) slots) (strip more)
-inner_number_back text name more n slots bare small at ends so =
+inner_number_back : (text name more : List ℕ) (n : ℕ) (trays : Trays) → is_name name ≡ true → n < 2 ^ 63
+    → tray_at name trays ≡ Some (number None) → ends_member more ≡ true → TableSoFar text trays (strip (inner_number name n ++ more))
+    → TableSoFar text (put_tray name (number (Some n)) trays) (strip more)
+inner_number_back text name more n trays bare small at ends so =
     let s = name ++ (codes " = " ++ (decimal n ++ more)) in
     let pieces : inner_number name n ++ more ≡ 44 ∷ 32 ∷ s = simp append_assoc refl in
-    let here : TableSoFar text slots (32 ∷ s) = subst (λ t. TableSoFar text slots (strip t)) pieces so in
+    let here : TableSoFar text trays (32 ∷ s) = subst (λ t. TableSoFar text trays (strip t)) pieces so in
     let start = name_start name (codes " = " ++ (decimal n ++ more)) bare in
     let begins : starts_value (first s) ≡ true = grind (arith, nat_tests) in
-    inner_read text name (decimal n ++ more) more (32 ∷ s) slots (number None) (number (Some n)) bare
+    inner_read text name (decimal n ++ more) more (32 ∷ s) trays (number None) (number (Some n)) bare
     (number_spelled n more small (member_end more ends)) at refl ends
     (omega (arith, length-append (decimal n) more)) (skip_space s ∙ skip_start s begins) (omega arith) here
 
 -- the same of one that may be none
-pub inner_number_or_none_back : (text name more : List ℕ) (o : Option ℕ) (slots : Slots) → is_name name ≡ true → IfSome o (λ n. n < 2 ^ 63)
-    → slot_at name slots ≡ Some (number None) → put_slot name (number None) slots ≡ slots
-    → ends_member more ≡ true → TableSoFar text slots (strip (inner_number_or_none name o ++ more))
-    → TableSoFar text (put_slot name (number o) slots) (strip more)
-inner_number_or_none_back text name more (Some n) slots bare small at same ends so =
-    inner_number_back text name more n slots bare small at ends so
-inner_number_or_none_back text name more None slots bare small at same ends so = subst (λ s. TableSoFar text s (strip more)) (sym same) so
+pub inner_number_or_none_back : (text name more : List ℕ) (o : Option ℕ) (trays : Trays) → is_name name ≡ true → IfSome o (λ n. n < 2 ^ 63)
+    → tray_at name trays ≡ Some (number None) → put_tray name (number None) trays ≡ trays
+    → ends_member more ≡ true → TableSoFar text trays (strip (inner_number_or_none name o ++ more))
+    → TableSoFar text (put_tray name (number o) trays) (strip more)
+inner_number_or_none_back text name more (Some n) trays bare small at same ends so =
+    inner_number_back text name more n trays bare small at ends so
+inner_number_or_none_back text name more None trays bare small at same ends so = subst (λ s. TableSoFar text s (strip more)) (sym same) so
 
 or_none_ends : (name more : List ℕ) (o : Option ℕ) → ends_member more ≡ true → ends_member (inner_number_or_none name o ++ more) ≡ true
 or_none_ends name more (Some n) ends = refl
@@ -112,10 +112,10 @@ pub record EntryRead {E : Type 0} (shape : Data → Result E Unread) (text : Lis
   pub read : ReadsEntry shape inside draft (44 ∷ 10 ∷ more)
   pub shorter : length more < length inside
 
-closed : (text : List ℕ) (slots : Slots) (rest : List ℕ) → TableSoFar text slots (125 ∷ rest) → ReadsTable text slots rest
-closed text slots rest so =
+closed : (text : List ℕ) (trays : Trays) (rest : List ℕ) → TableSoFar text trays (125 ∷ rest) → ReadsTable text trays rest
+closed text trays rest so =
     let whole : skip_blank (125 ∷ rest) ≡ 125 ∷ rest = skip_none (125 ∷ rest) 125 refl refl in
-    subst (λ t. ReadsTable text slots (drop 1 t)) whole (table_ended text slots (125 ∷ rest) so (rw whole refl))
+    subst (λ t. ReadsTable text trays (drop 1 t)) whole (table_ended text trays (125 ∷ rest) so (rw whole refl))
 
 pub port_entry_back : (e : PortEntry) (more : List ℕ) → PortEntryInRange e
     → EntryRead (port_entry_shape as_toml) (port_entry_line e ++ more) (port_entry_draft e) more
@@ -123,17 +123,17 @@ port_entry_back e more fits =
     let end = 125 ∷ 44 ∷ 10 ∷ more in
     let tail = inner_number (codes "interval") e.interval ++ end in
     let inside = codes "gates" ++ (codes " = " ++ (decimal e.gates ++ tail)) in
-    let none : PortEntryMembers = record { gates = None; interval = None } in
-    let all : PortEntryMembers = record { gates = Some e.gates; interval = Some e.interval } in
-    let gates = first_read (codes "gates") (decimal e.gates ++ tail) tail (port_entry_slots none) (number None) (number (Some e.gates)) refl
+    let none : PlainPortEntry = record { gates = None; interval = None } in
+    let all : PlainPortEntry = record { gates = Some e.gates; interval = Some e.interval } in
+    let gates = first_read (codes "gates") (decimal e.gates ++ tail) tail (port_entry_trays none) (number None) (number (Some e.gates)) refl
     (number_spelled e.gates tail (omega (arith, fits.gates)) (member_end tail refl)) refl refl
-    refl (omega (arith, length-append (decimal e.gates) tail)) (table_begun inside (port_entry_slots none) (refl, (refl, tt))) in
-    let interval : TableSoFar inside (port_entry_slots all) end =
+    refl (omega (arith, length-append (decimal e.gates) tail)) (table_begun inside (port_entry_trays none) (refl, (refl, tt))) in
+    let interval : TableSoFar inside (port_entry_trays all) end =
     inner_number_back inside (codes "interval") end e.interval _ refl (omega (arith, fits.interval.1)) refl refl gates in
     record {
       inside = inside;
       is = in_four (codes "  {gates = ") (decimal e.gates) (inner_number (codes "interval") e.interval) (codes "},\n") more;
-      read = port_entry_told inside (44 ∷ 10 ∷ more) all e.gates e.interval (closed inside (port_entry_slots all) (44 ∷ 10 ∷ more) interval)
+      read = port_entry_told inside (44 ∷ 10 ∷ more) all e.gates e.interval (closed inside (port_entry_trays all) (44 ∷ 10 ∷ more) interval)
           refl refl;
       shorter = omega (arith, length-append (decimal e.gates) tail, length-append (inner_number (codes "interval") e.interval) end);
     }
@@ -146,24 +146,24 @@ gate_entry_back e more fits =
     let interval = inner_number (codes "interval") e.interval ++ octets in
     let tail = inner_number_or_none (codes "ipv") e.ipv ++ interval in
     let inside = codes "open" ++ (codes " = " ++ (flag_text e.is_open ++ tail)) in
-    let none : GateEntryMembers = record { «open» = None; ipv = None; interval = None; octets = None } in
-    let all : GateEntryMembers = record { «open» = Some e.is_open; ipv = e.ipv; interval = Some e.interval; octets = e.octets } in
+    let none : PlainGateEntry = record { «open» = None; ipv = None; interval = None; octets = None } in
+    let all : PlainGateEntry = record { «open» = Some e.is_open; ipv = e.ipv; interval = Some e.interval; octets = e.octets } in
     let tail_ends : ends_member tail ≡ true = or_none_ends (codes "ipv") interval e.ipv refl in
     let octets_end : ends_member octets ≡ true = or_none_ends (codes "octets") end e.octets refl in
-    let a = first_read (codes "open") (flag_text e.is_open ++ tail) tail (gate_entry_slots none) (flag None) (flag (Some e.is_open)) refl
+    let a = first_read (codes "open") (flag_text e.is_open ++ tail) tail (gate_entry_trays none) (flag None) (flag (Some e.is_open)) refl
     (flag_spelled e.is_open tail (member_end tail tail_ends)) refl refl
     tail_ends (omega (arith, length-append (flag_text e.is_open) tail))
-    (table_begun inside (gate_entry_slots none) (refl, (refl, (refl, (refl, tt))))) in
+    (table_begun inside (gate_entry_trays none) (refl, (refl, (refl, (refl, tt))))) in
     let b = inner_number_or_none_back inside (codes "ipv") interval e.ipv _ refl (small e.ipv greatest_priority fits.ipv (omega arith)) refl
     refl refl a in
     let c = inner_number_back inside (codes "interval") octets e.interval _ refl (omega (arith, fits.interval.1)) refl octets_end b in
-    let d : TableSoFar inside (gate_entry_slots all) end = inner_number_or_none_back inside (codes "octets") end e.octets _ refl
+    let d : TableSoFar inside (gate_entry_trays all) end = inner_number_or_none_back inside (codes "octets") end e.octets _ refl
     (small e.octets most_octets fits.octets (omega arith)) refl refl refl c in
     record {
       inside = inside;
       is = in_six (codes "  {open = ") (flag_text e.is_open) (inner_number_or_none (codes "ipv") e.ipv)
           (inner_number (codes "interval") e.interval) (inner_number_or_none (codes "octets") e.octets) (codes "},\n") more;
-      read = gate_entry_told inside (44 ∷ 10 ∷ more) all e.is_open e.interval (closed inside (gate_entry_slots all) (44 ∷ 10 ∷ more) d)
+      read = gate_entry_told inside (44 ∷ 10 ∷ more) all e.is_open e.interval (closed inside (gate_entry_trays all) (44 ∷ 10 ∷ more) d)
           refl refl;
       shorter = omega (
         arith,
@@ -243,30 +243,30 @@ list_read {E} {D} shape line draft InRange one (e ∷ es) more fits =
     } in
     some
 
--- the list is read into its slot
+-- the list is read into its tray
 list_back : {E D : Type 0} (shape : Data → Result D Unread) (line : E → List ℕ) (draft : E → D) (InRange : E → Type 0)
-    → AreRead shape line draft InRange → (slot : Option (List D) → Slot)
+    → AreRead shape line draft InRange → (tray : Option (List D) → Tray)
     → ((list : List D) (text rest : List ℕ) → (first text == 91) ≡ true → length (drop 1 text) < length text
-    → ReadsEntries shape (drop 1 text) list rest → ReadsValue 2 text (slot (Some list)) rest)
-    → IsOpen (slot None) → (text more : List ℕ) (es : List E) (slots : Slots) → AllByRecursion InRange es
-    → slot_at (codes "list") slots ≡ Some (slot None) → Reads text slots (list_lines line es ++ more)
-    → Reads text (put_slot (codes "list") (slot (Some (map draft es))) slots) more
-list_back shape line draft InRange one slot read open_yet text more es slots fits at so =
+    → ReadsEntries shape (drop 1 text) list rest → ReadsValue 2 text (tray (Some list)) rest)
+    → IsOpen (tray None) → (text more : List ℕ) (es : List E) (trays : Trays) → AllByRecursion InRange es
+    → tray_at (codes "list") trays ≡ Some (tray None) → Reads text trays (list_lines line es ++ more)
+    → Reads text (put_tray (codes "list") (tray (Some (map draft es))) trays) more
+list_back shape line draft InRange one tray read open_yet text more es trays fits at so =
     let r = list_read shape line draft InRange one es more fits in
     let list = map draft es in
-    let value : Spelled 2 (91 ∷ r.inside) (slot (Some list)) (10 ∷ more) =
+    let value : Spelled 2 (91 ∷ r.inside) (tray (Some list)) (10 ∷ more) =
     record { starts = refl; read = read list (91 ∷ r.inside) (10 ∷ more) refl (omega arith) r.read } in
-    line_read 2 text (codes "list") (91 ∷ r.inside) more slots (slot None) (slot (Some list)) (omega arith) refl value at open_yet
-    (omega (arith, r.shorter)) (subst (Reads text slots) r.is so)
+    line_read 2 text (codes "list") (91 ∷ r.inside) more trays (tray None) (tray (Some list)) (omega arith) refl value at open_yet
+    (omega (arith, r.shorter)) (subst (Reads text trays) r.is so)
 
-pub port_list_back : (text more : List ℕ) (es : List PortEntry) (slots : Slots) → AllByRecursion PortEntryInRange es
-    → slot_at (codes "list") slots ≡ Some (port_list None) → Reads text slots (list_lines port_entry_line es ++ more)
-    → Reads text (put_slot (codes "list") (port_list (Some (map port_entry_draft es))) slots) more
+pub port_list_back : (text more : List ℕ) (es : List PortEntry) (trays : Trays) → AllByRecursion PortEntryInRange es
+    → tray_at (codes "list") trays ≡ Some (port_list None) → Reads text trays (list_lines port_entry_line es ++ more)
+    → Reads text (put_tray (codes "list") (port_list (Some (map port_entry_draft es))) trays) more
 port_list_back = list_back (port_entry_shape as_toml) port_entry_line port_entry_draft PortEntryInRange port_entry_back
     (λ list. port_list list) port_list_read refl
 
-pub gate_list_back : (text more : List ℕ) (es : List GateEntry) (slots : Slots) → AllByRecursion GateEntryInRange es
-    → slot_at (codes "list") slots ≡ Some (gate_list None) → Reads text slots (list_lines gate_entry_line es ++ more)
-    → Reads text (put_slot (codes "list") (gate_list (Some (map gate_entry_draft es))) slots) more
+pub gate_list_back : (text more : List ℕ) (es : List GateEntry) (trays : Trays) → AllByRecursion GateEntryInRange es
+    → tray_at (codes "list") trays ≡ Some (gate_list None) → Reads text trays (list_lines gate_entry_line es ++ more)
+    → Reads text (put_tray (codes "list") (gate_list (Some (map gate_entry_draft es))) trays) more
 gate_list_back = list_back (gate_entry_shape as_toml) gate_entry_line gate_entry_draft GateEntryInRange gate_entry_back
     (λ list. gate_list list) gate_list_read refl

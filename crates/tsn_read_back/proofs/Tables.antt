@@ -16,13 +16,13 @@ use Rattle.tsn_types.specs.declared.records.StreamGate.{StreamGate}
 use Rattle.tsn_records.specs.Keys.{kind_text}
 use Rattle.tsn_records.specs.declared.drafts.RecordDraft.TheVariants as drafts
 use Rattle.tsn_records.proofs.RecordRanges.{port_entry_draft, gate_entry_draft, port_draft, gate_draft, filter_draft, meter_draft}
-use Rattle.tsn_setup.specs.Plain.{Slots, AreOpen, ReadsLines, ReadsTableOf}
-use Rattle.tsn_setup.specs.PlainSlots.{port_slots, filter_slots, gate_slots, meter_slots}
+use Rattle.tsn_setup.specs.Plain.{Trays, AreOpen, ReadsLines, ReadsTableOf}
+use Rattle.tsn_setup.specs.PlainTrays.{port_trays, filter_trays, gate_trays, meter_trays}
 use Rattle.tsn_setup.specs.declared.drafts.TableDraft.{TableDraft}
-use Rattle.tsn_setup.specs.declared.plain_tables.FilterMembers.{FilterMembers}
-use Rattle.tsn_setup.specs.declared.plain_tables.GateMembers.{GateMembers}
-use Rattle.tsn_setup.specs.declared.plain_tables.MeterMembers.{MeterMembers}
-use Rattle.tsn_setup.specs.declared.plain_tables.PortMembers.{PortMembers}
+use Rattle.tsn_setup.specs.declared.plain_tables.PlainFilter.{PlainFilter}
+use Rattle.tsn_setup.specs.declared.plain_tables.PlainGate.{PlainGate}
+use Rattle.tsn_setup.specs.declared.plain_tables.PlainMeter.{PlainMeter}
+use Rattle.tsn_setup.specs.declared.plain_tables.PlainPort.{PlainPort}
 use Rattle.tsn_setup.proofs.Told.{port_told, filter_told, gate_told, meter_told}
 use Rattle.tsn_export.specs.Text.{number_line, number_or_none_line, flag_line, list_lines, port_entry_line, gate_entry_line, port_table, filter_table, gate_table, meter_table}
 use Rattle.tsn_read_back.proofs.Entries.{port_list_back, gate_list_back}
@@ -50,8 +50,8 @@ pub record TableRead (kind : Kind) (text : List ℕ) (draft : TableDraft) (more 
   pub read : ReadsTableOf kind (10 ∷ lines) draft (skip_blank more)
 
 -- behind a header
-table_begun : (lines : List ℕ) (slots : Slots) → AreOpen slots → Reads (10 ∷ lines) slots lines
-table_begun lines slots unread = subst (ReadsLines (10 ∷ lines) slots) (skip_newline lines) (reads_begun (10 ∷ lines) slots unread)
+table_begun : (lines : List ℕ) (trays : Trays) → AreOpen trays → Reads (10 ∷ lines) trays lines
+table_begun lines trays unread = subst (ReadsLines (10 ∷ lines) trays) (skip_newline lines) (reads_begun (10 ∷ lines) trays unread)
 
 at_most : (least most : ℕ) (o : Option ℕ) → IfSome o (λ n. Within least most n) → IfSome o (λ n. n ≤ most)
 at_most least most None fits = tt
@@ -67,8 +67,8 @@ port_back id r more low fits =
     let gates = number_line (codes "gates") r.gates ++ list in
     let lines = number_line (codes "id") id ++ gates in
     let text = 10 ∷ lines in
-    let none : PortMembers = record { id = None; gates = None; list = None; cycle = None; extension = None; base = None } in
-    let all : PortMembers = record {
+    let none : PlainPort = record { id = None; gates = None; list = None; cycle = None; extension = None; base = None } in
+    let all : PlainPort = record {
       id = Some id;
       gates = Some r.gates;
       list = Some (map port_entry_draft r.admin.list);
@@ -76,13 +76,13 @@ port_back id r more low fits =
       extension = Some r.admin.extension;
       base = Some r.admin.base;
     } in
-    let begun = table_begun lines (port_slots none) (refl, (refl, (refl, (refl, (refl, (refl, tt)))))) in
+    let begun = table_begun lines (port_trays none) (refl, (refl, (refl, (refl, (refl, (refl, tt)))))) in
     let a = number_back text (codes "id") gates id _ refl (omega (arith, low)) refl begun in
     let b = number_back text (codes "gates") list r.gates _ refl (omega (arith, fits.gates)) refl a in
     let c = port_list_back text cycle r.admin.list _ fits.admin.list refl b in
     let d = number_back text (codes "cycle") extension r.admin.cycle _ refl (omega (arith, fits.admin.cycle.1)) refl c in
     let e = number_back text (codes "extension") base r.admin.extension _ refl (omega (arith, fits.admin.extension)) refl d in
-    let whole : Reads text (port_slots all) more =
+    let whole : Reads text (port_trays all) more =
     number_back text (codes "base") more r.admin.base _ refl (omega (arith, fits.admin.base)) refl e in
     record {
       lines = lines;
@@ -104,9 +104,9 @@ filter_back id r more low fits =
     let handle = number_or_none_line (codes "handle") r.handle ++ priority in
     let lines = number_line (codes "id") id ++ handle in
     let text = 10 ∷ lines in
-    let none : FilterMembers =
+    let none : PlainFilter =
     record { id = None; handle = None; priority = None; gate = None; max_sdu = None; meter = None; oversize = None } in
-    let all : FilterMembers = record {
+    let all : PlainFilter = record {
       id = Some id;
       handle = r.handle;
       priority = r.priority;
@@ -115,7 +115,7 @@ filter_back id r more low fits =
       meter = r.meter;
       oversize = Some r.oversize;
     } in
-    let begun = table_begun lines (filter_slots none) (refl, (refl, (refl, (refl, (refl, (refl, (refl, tt))))))) in
+    let begun = table_begun lines (filter_trays none) (refl, (refl, (refl, (refl, (refl, (refl, (refl, tt))))))) in
     let a = number_back text (codes "id") handle id _ refl (omega (arith, low)) refl begun in
     let b = number_or_none_back text (codes "handle") priority r.handle _ refl (small r.handle greatest_handle fits.handle (omega arith))
     refl refl a in
@@ -126,7 +126,7 @@ filter_back id r more low fits =
     (small r.max_sdu greatest_max_sdu (at_most 1 greatest_max_sdu r.max_sdu fits.max_sdu) (omega arith)) refl refl d in
     let f = number_or_none_back text (codes "meter") oversize r.meter _ refl (small r.meter greatest_instance fits.meter (omega arith)) refl
     refl e in
-    let whole : Reads text (filter_slots all) more = flag_back text (codes "oversize") more r.oversize _ refl refl f in
+    let whole : Reads text (filter_trays all) more = flag_back text (codes "oversize") more r.oversize _ refl refl f in
     record {
       lines = lines;
       is = in_eight (header kinds.Filter) (number_line (codes "id") id) (number_or_none_line (codes "handle") r.handle)
@@ -149,7 +149,7 @@ gate_back id r more low fits =
     let is_open = flag_line (codes "open") r.is_open ++ ipv in
     let lines = number_line (codes "id") id ++ is_open in
     let text = 10 ∷ lines in
-    let none : GateMembers = record {
+    let none : PlainGate = record {
       id = None;
       «open» = None;
       ipv = None;
@@ -160,7 +160,7 @@ gate_back id r more low fits =
       invalid_rx = None;
       octets_exceeded = None;
     } in
-    let all : GateMembers = record {
+    let all : PlainGate = record {
       id = Some id;
       «open» = Some r.is_open;
       ipv = r.ipv;
@@ -171,7 +171,7 @@ gate_back id r more low fits =
       invalid_rx = Some r.invalid_rx;
       octets_exceeded = Some r.octets_exceeded;
     } in
-    let begun = table_begun lines (gate_slots none) (refl, (refl, (refl, (refl, (refl, (refl, (refl, (refl, (refl, tt))))))))) in
+    let begun = table_begun lines (gate_trays none) (refl, (refl, (refl, (refl, (refl, (refl, (refl, (refl, (refl, tt))))))))) in
     let a = number_back text (codes "id") is_open id _ refl (omega (arith, low)) refl begun in
     let b = flag_back text (codes "open") ipv r.is_open _ refl refl a in
     let c = number_or_none_back text (codes "ipv") list r.ipv _ refl (small r.ipv greatest_priority fits.ipv (omega arith)) refl refl b in
@@ -180,7 +180,7 @@ gate_back id r more low fits =
     let f = number_back text (codes "extension") base r.admin.extension _ refl (omega (arith, fits.admin.extension)) refl e in
     let g = number_back text (codes "base") invalid_rx r.admin.base _ refl (omega (arith, fits.admin.base)) refl f in
     let h = flag_back text (codes "invalid_rx") octets_exceeded r.invalid_rx _ refl refl g in
-    let whole : Reads text (gate_slots all) more = flag_back text (codes "octets_exceeded") more r.octets_exceeded _ refl refl h in
+    let whole : Reads text (gate_trays all) more = flag_back text (codes "octets_exceeded") more r.octets_exceeded _ refl refl h in
     record {
       lines = lines;
       is = in_ten (header kinds.Gate) (number_line (codes "id") id) (flag_line (codes "open") r.is_open)
@@ -204,9 +204,9 @@ meter_back id r more low fits =
     let cir = number_line (codes "cir") r.cir ++ cbs in
     let lines = number_line (codes "id") id ++ cir in
     let text = 10 ∷ lines in
-    let none : MeterMembers =
+    let none : PlainMeter =
     record { id = None; cir = None; cbs = None; eir = None; ebs = None; cf = None; aware = None; drop_yellow = None; all_red = None } in
-    let all : MeterMembers = record {
+    let all : PlainMeter = record {
       id = Some id;
       cir = Some r.cir;
       cbs = Some r.cbs;
@@ -217,7 +217,7 @@ meter_back id r more low fits =
       drop_yellow = Some r.drop_yellow;
       all_red = Some r.all_red;
     } in
-    let begun = table_begun lines (meter_slots none) (refl, (refl, (refl, (refl, (refl, (refl, (refl, (refl, (refl, tt))))))))) in
+    let begun = table_begun lines (meter_trays none) (refl, (refl, (refl, (refl, (refl, (refl, (refl, (refl, (refl, tt))))))))) in
     let a = number_back text (codes "id") cir id _ refl (omega (arith, low)) refl begun in
     let b = number_back text (codes "cir") cbs r.cir _ refl (omega (arith, fits.cir)) refl a in
     let c = number_back text (codes "cbs") eir r.cbs _ refl (omega (arith, fits.cbs)) refl b in
@@ -226,7 +226,7 @@ meter_back id r more low fits =
     let f = flag_back text (codes "cf") aware r.cf _ refl refl e in
     let g = flag_back text (codes "aware") drop_yellow r.aware _ refl refl f in
     let h = flag_back text (codes "drop_yellow") all_red r.drop_yellow _ refl refl g in
-    let whole : Reads text (meter_slots all) more = flag_back text (codes "all_red") more r.all_red _ refl refl h in
+    let whole : Reads text (meter_trays all) more = flag_back text (codes "all_red") more r.all_red _ refl refl h in
     record {
       lines = lines;
       is = in_ten (header kinds.Meter) (number_line (codes "id") id) (number_line (codes "cir") r.cir) (number_line (codes "cbs") r.cbs)

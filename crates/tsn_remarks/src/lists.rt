@@ -7,14 +7,14 @@ use tsn_types::numbers::Interval;
 use tsn_types::records::{GateEntry, PortEntry};
 
 // An entry of a list, of a port or of a stream gate.
-pub(crate) trait Lasting {
+pub(crate) trait TimedEntry {
     ghost interval: { Self → ℕ };
 
     fn interval(&self) -> Interval
         ensures { result ≡ interval self.now };
 }
 
-impl Lasting for PortEntry {
+impl TimedEntry for PortEntry {
     ghost interval = { λ entry. entry.interval };
 
     fn interval(&self) -> Interval {
@@ -23,7 +23,7 @@ impl Lasting for PortEntry {
     }
 }
 
-impl Lasting for GateEntry {
+impl TimedEntry for GateEntry {
     ghost interval = { λ entry. entry.interval };
 
     fn interval(&self) -> Interval {
@@ -33,7 +33,7 @@ impl Lasting for GateEntry {
 }
 
 // The intervals together, in nanoseconds: less than 2^44, as no list is longer than 4,096 entries.
-pub(crate) fn taken<E: Lasting>(entries: &[E]) -> u64
+pub(crate) fn taken<E: TimedEntry>(entries: &[E]) -> u64
     requires { length entries.now ≤ longest_list }
     ensures { result ≡ sum_by E.interval entries.now }
 {

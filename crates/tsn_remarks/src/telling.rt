@@ -8,7 +8,7 @@ ghost use Rattle.tsn_export.specs.Going.{text_of};
 ghost use Rattle.tsn_remarks.specs.Remarks.{is_referred, list_remark, reference_remark, remarks, remarks_of, remarks_on};
 
 use crate::lines::{list_line, reference_line};
-use crate::lists::{Lasting, taken};
+use crate::lists::{TimedEntry, taken};
 use std::alloc::{AllocError, Global};
 use tsn_config::Config;
 use tsn_config::ids::key_of;
@@ -77,7 +77,7 @@ fn push_entry(text: &mut PlainText, config: &Config, key: &Key) -> Result<(), Al
 }
 
 // Puts the line on a list at the end, if there is one.
-fn push_list<E: Lasting>(
+fn push_list<E: TimedEntry>(
     text: &mut PlainText,
     key: &Key,
     admin: &Schedule<E>,

@@ -128,7 +128,7 @@ impl<S: Spell> Machine for Recorder<S> {
     ghost steps = { Records S.line S.MOST };
 
     fn step(&mut self, ask: Ask) -> Reply {
-        ask.command.tell_ranges();
+        ask.command.recall_ranges();
         match form_of(&self.bridge, ask) {
             Form::Passing(ask) => {
                 let Ask { session, command } = ask;

@@ -20,7 +20,7 @@ pub fn replay(bridge: &mut Bridge, ask: Ask) -> Result<(), Refusal>
     ensures reached { IsReached bridge.old → OnOk result (IsReached bridge.new) }
 {
     let Ask { session, command } = ask;
-    command.tell_ranges();
+    command.recall_ranges();
     let reply = bridge.step(session, command);
     if let Reply::Refused(why) = reply {
         return Err(why);

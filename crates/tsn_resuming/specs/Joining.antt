@@ -20,7 +20,7 @@ AreAskable asks = AllByRecursion (λ ask. MayBeAsked ask.session ask.command) as
 abbrev pub command_of : Recorded → List ℕ
 command_of r = r.command
 
--- The file reads as a first command, whose setup opens a bridge, and behind it, in the service's own spelling, what a bridge with
+-- The file reads as a first command, whose setup opens a bridge, and behind it, in the service's compact spelling, what a bridge with
 -- a recorder has written in any number of runs since.
 pub record WasWritten (file : Option (List ℕ)) : Type 0 where
   pub bytes : List ℕ

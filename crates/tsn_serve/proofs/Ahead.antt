@@ -1,44 +1,44 @@
--- Lines that were read ahead: how a row grows, and how its front is answered.
+-- Lines that were read ahead: how a lot grows, and how its front is answered.
 use Rattle.std.proofs.Common.{◌≡◌, ℕ, ◌+◌, ◌-◌, ◌≤◌, ◌++◌, List, [], ◌∷◌, length, take, drop, Option, Some, refl, sym, ap, subst, ◌∙◌, append_assoc, take-append-drop, drop-drop, length-append, arith}
 use Rattle.std.proofs.lemmas.List.{take_rest}
 use Rattle.std.proofs.Math.Seq.{take-append_seam, drop-append_seam}
 use Rattle.tsn_bytes.specs.declared.bytes.Fault.{Fault}
-use Rattle.tsn_serve.specs.declared.rows.ReadLine.{ReadLine}
+use Rattle.tsn_serve.specs.declared.lots.ReadLine.{ReadLine}
 use Rattle.tsn_serve.specs.Lines.{HasNoLineFeed, line_feed, longest_line}
 use Rattle.tsn_serve.specs.Script.{Answering, Breaking}
 use Rattle.tsn_serve.specs.Pieces.{Feeds, Breaks}
 use Rattle.tsn_serve.specs.Answers.{MayRead}
-use Rattle.tsn_serve.specs.Rows.{IsRow}
+use Rattle.tsn_serve.specs.Lots.{IsLot}
 use Rattle.tsn_serve.proofs.Running.{fed_whole, fed_as, broken_whole, broken_more, broken_as}
 
 -- a line that lies whole in front, and was read
-pub row_of : (bytes line : List ℕ) (r : ReadLine) → take (length line + 1) bytes ≡ line ++ line_feed ∷ [] → HasNoLineFeed line
-    → length line ≤ longest_line → r.count ≡ length line + 1 → MayRead (Some line) r.read → IsRow bytes (r ∷ []) (drop r.count bytes)
-row_of bytes line r front one short count read =
+pub lot_of : (bytes line : List ℕ) (r : ReadLine) → take (length line + 1) bytes ≡ line ++ line_feed ∷ [] → HasNoLineFeed line
+    → length line ≤ longest_line → r.count ≡ length line + 1 → MayRead (Some line) r.read → IsLot bytes (r ∷ []) (drop r.count bytes)
+lot_of bytes line r front one short count read =
     let behind = drop (length line + 1) bytes in
     let whole : bytes ≡ line ++ line_feed ∷ behind = sym (take-append-drop (length line + 1) bytes)
     ∙ (ap (λ t. t ++ behind) front ∙ append_assoc line (line_feed ∷ []) behind) in
     (line, behind, whole, one, short, count, read, ap (λ n. drop n bytes) (sym count))
 
--- one line more at the end of a row
-pub row_more : (bytes : List ℕ) (rs : List ReadLine) (mid : List ℕ) (r : ReadLine) (rest : List ℕ) → IsRow bytes rs mid
-    → IsRow mid (r ∷ []) rest → IsRow bytes (rs ++ r ∷ []) rest
-row_more bytes [] mid r rest h one = subst (λ b. IsRow b (r ∷ []) rest) (sym h) one
-row_more bytes (q ∷ qs) mid r rest h one = (h.0, h.1, h.2, h.3, h.4, h.5, h.6, row_more h.1 qs mid r rest h.7 one)
+-- one line more at the end of a lot
+pub lot_more : (bytes : List ℕ) (rs : List ReadLine) (mid : List ℕ) (r : ReadLine) (rest : List ℕ) → IsLot bytes rs mid
+    → IsLot mid (r ∷ []) rest → IsLot bytes (rs ++ r ∷ []) rest
+lot_more bytes [] mid r rest h one = subst (λ b. IsLot b (r ∷ []) rest) (sym h) one
+lot_more bytes (q ∷ qs) mid r rest h one = (h.0, h.1, h.2, h.3, h.4, h.5, h.6, lot_more h.1 qs mid r rest h.7 one)
 
--- one line more that was read, behind those of a row
-pub row_read : (bytes : List ℕ) (done : ℕ) (rs : List ReadLine) (r : ReadLine) → IsRow bytes rs (drop done bytes)
-    → IsRow (take (length bytes - done) (drop done bytes)) (r ∷ []) (drop r.count (take (length bytes - done) (drop done bytes)))
-    → IsRow bytes (rs ++ r ∷ []) (drop (done + r.count) bytes)
-row_read bytes done rs r row one =
-    let here : IsRow (drop done bytes) (r ∷ []) (drop r.count (drop done bytes)) = subst (λ b. IsRow b (r ∷ []) (drop r.count b))
+-- one line more that was read, behind those of a lot
+pub lot_read : (bytes : List ℕ) (done : ℕ) (rs : List ReadLine) (r : ReadLine) → IsLot bytes rs (drop done bytes)
+    → IsLot (take (length bytes - done) (drop done bytes)) (r ∷ []) (drop r.count (take (length bytes - done) (drop done bytes)))
+    → IsLot bytes (rs ++ r ∷ []) (drop (done + r.count) bytes)
+lot_read bytes done rs r lot one =
+    let here : IsLot (drop done bytes) (r ∷ []) (drop r.count (drop done bytes)) = subst (λ b. IsLot b (r ∷ []) (drop r.count b))
     (take_rest bytes done) one in
-    subst (λ b. IsRow bytes (rs ++ r ∷ []) b) (drop-drop r.count done bytes)
-    (row_more bytes rs (drop done bytes) r (drop r.count (drop done bytes)) row here)
+    subst (λ b. IsLot bytes (rs ++ r ∷ []) b) (drop-drop r.count done bytes)
+    (lot_more bytes rs (drop done bytes) r (drop r.count (drop done bytes)) lot here)
 
--- ---- the front of a row
+-- ---- the front of a lot
 
-module _ (bytes : List ℕ) (r : ReadLine) (rs : List ReadLine) (rest : List ℕ) (h : IsRow bytes (r ∷ rs) rest) where
+module _ (bytes : List ℕ) (r : ReadLine) (rs : List ReadLine) (rest : List ℕ) (h : IsLot bytes (r ∷ rs) rest) where
   -- the first line with its line feed
   abbrev pub line : List ℕ
   line = h.0 ++ line_feed ∷ []
@@ -62,9 +62,9 @@ module _ (bytes : List ℕ) (r : ReadLine) (rs : List ReadLine) (rest : List ℕ
       let all = ap length whole ∙ length-append line h.1 in
       omega (arith, all, long)
 
-  -- the row behind the line
-  pub row_behind : IsRow (drop r.count bytes) rs rest
-  row_behind = subst (λ b. IsRow b rs rest) (sym behind_is) h.7
+  -- the lot behind the line
+  pub lot_behind : IsLot (drop r.count bytes) rs rest
+  lot_behind = subst (λ b. IsLot b rs rest) (sym behind_is) h.7
 
   -- an answer to what was read is one to the line
   pub fed_front : {S : Type 0} (answers : Answering S) (old : S) (text : List ℕ) (new : S)
@@ -82,7 +82,7 @@ module _ (bytes : List ℕ) (r : ReadLine) (rs : List ReadLine) (rest : List ℕ
       (broken_more answers breaks fault old new (Some []) line h.1 part
       (broken_whole answers breaks fault old (Some []) h.0 part new refl h.3 h.4 (all (Some h.0) h.6)))
 
--- the row behind a line further on
-pub row_on : (bytes : List ℕ) (done : ℕ) (r : ReadLine) (rs : List ReadLine) (rest : List ℕ) → IsRow (drop done bytes) (r ∷ rs) rest
-    → IsRow (drop (done + r.count) bytes) rs rest
-row_on bytes done r rs rest h = subst (λ b. IsRow b rs rest) (drop-drop r.count done bytes) (row_behind (drop done bytes) r rs rest h)
+-- the lot behind a line further on
+pub lot_on : (bytes : List ℕ) (done : ℕ) (r : ReadLine) (rs : List ReadLine) (rest : List ℕ) → IsLot (drop done bytes) (r ∷ rs) rest
+    → IsLot (drop (done + r.count) bytes) rs rest
+lot_on bytes done r rs rest h = subst (λ b. IsLot b rs rest) (drop-drop r.count done bytes) (lot_behind (drop done bytes) r rs rest h)

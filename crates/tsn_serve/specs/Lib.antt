@@ -3,7 +3,7 @@ pub mod Script
 pub mod Pieces
 pub mod Outcomes
 pub mod Answers
-pub mod Rows
+pub mod Lots
 pub mod Talk
 pub mod Held
 pub mod Served

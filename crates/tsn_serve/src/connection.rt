@@ -8,12 +8,12 @@ ghost use Rattle.tsn_bytes.specs.declared.bytes.Fault.TheVariants.{Write, Memory
 ghost use Rattle.tsn_desk.specs.Desks.{IsSeatOf, id_of, first_of};
 ghost use Rattle.tsn_serve.specs.Answers.{MayRead, Replies};
 ghost use Rattle.tsn_serve.specs.Talk.{MayAsk, Calls, Asks, TakesUp, Tires, Talks, BreaksTalk, Goes, IsMarked, Told, caller_of, latest_after};
-ghost use Rattle.tsn_serve.specs.Rows.{AnswersFront, IsRow};
+ghost use Rattle.tsn_serve.specs.Lots.{AnswersFront, IsLot};
 ghost use Rattle.tsn_serve.specs.Outcomes.{Outcome, moment, most_reads};
 
 use crate::gate::Gate;
+use crate::lots::{MOST_REPLIES, ReadLine, read_front, read_lot};
 use crate::responder::{Responder, answer_lines};
-use crate::rows::{MOST_REPLIES, ReadLine, read_front, read_row};
 use crate::script::{READS, read_line};
 use std::alloc::Global;
 use std::marker::Model;
@@ -220,7 +220,7 @@ impl<'a, R: Wait, G: Gate, W: Witness<Bridge> + Drop> Connection<'a, R, G, W> {
         _bytes: &[u8],
         writer: &mut O,
     ) -> Result<usize, Fault>
-        requires { (0 < line.count) × (line.count ≤ length _bytes.now) × IsRow _bytes.now (line ∷ []) (drop line.count _bytes.now) }
+        requires { (0 < line.count) × (line.count ≤ length _bytes.now) × IsLot _bytes.now (line ∷ []) (drop line.count _bytes.now) }
         ensures front { AnswersFront Talks BreaksTalk self.old _bytes.now (O.taken writer.old) (O.taken writer.new) result self.new }
         ensures worked { result ≢ Err Write → O.has_failed writer.new ≡ O.has_failed writer.old }
         ensures failed { IsErrOf result Write → O.has_failed writer.new ≡ true }
@@ -241,21 +241,21 @@ impl<'a, R: Wait, G: Gate, W: Witness<Bridge> + Drop> Connection<'a, R, G, W> {
         }
     }
 
-    // Answers the lines of a row, one behind the other, and says how many bytes they have. Where one may have a long
+    // Answers the lines of a lot, one behind the other, and says how many bytes they have. Where one may have a long
     // reply the door is opened first.
     fn answer_each<O: ByteOut>(
         &mut self,
-        row: Vec<ReadLine>,
+        lot: Vec<ReadLine>,
         _bytes: &[u8],
         writer: &mut O,
     ) -> Result<usize, Fault>
-        requires { (0 < vec_len row) × ((rest : List ℕ) × IsRow _bytes.now row.items rest) }
+        requires { (0 < vec_len lot) × ((rest : List ℕ) × IsLot _bytes.now lot.items rest) }
         ensures front { AnswersFront Talks BreaksTalk self.old _bytes.now (O.taken writer.old) (O.taken writer.new) result self.new }
         ensures worked { result ≢ Err Write → O.has_failed writer.new ≡ O.has_failed writer.old }
         ensures failed { IsErrOf result Write → O.has_failed writer.new ≡ true }
     {
         let mut done = 0;
-        'lines: for line in row {
+        'lines: for line in lot {
             let ReadLine {
                 read,
                 count,
@@ -271,20 +271,20 @@ impl<'a, R: Wait, G: Gate, W: Witness<Bridge> + Drop> Connection<'a, R, G, W> {
     }
 
     // The same with the door locked, so that the turns follow each other and no other thread's come between.
-    fn answer_row<O: ByteOut>(
+    fn answer_lot<O: ByteOut>(
         &mut self,
-        row: Vec<ReadLine>,
+        lot: Vec<ReadLine>,
         bytes: &[u8],
         writer: &mut O,
     ) -> Result<usize, Fault>
-        requires { (0 < vec_len row) × ((rest : List ℕ) × IsRow bytes.now row.items rest) }
+        requires { (0 < vec_len lot) × ((rest : List ℕ) × IsLot bytes.now lot.items rest) }
         ensures front { AnswersFront Talks BreaksTalk self.old bytes.now (O.taken writer.old) (O.taken writer.new) result self.new }
         ensures worked { result ≢ Err Write → O.has_failed writer.new ≡ O.has_failed writer.old }
         ensures failed { IsErrOf result Write → O.has_failed writer.new ≡ true }
     {
         self.desk.lock_door(self.rt);
         self.standing = Standing::Inside;
-        let answered = self.answer_each(row, bytes, writer);
+        let answered = self.answer_each(lot, bytes, writer);
         self.leave_unless(false);
         answered
     }
@@ -298,7 +298,7 @@ impl<'a, R: Wait, G: Gate, W: Witness<Bridge> + Drop> Connection<'a, R, G, W> {
         bytes: &[u8],
         writer: &mut O,
     ) -> Result<usize, Fault>
-        requires { (0 < first.count) × (first.count ≤ length bytes.now) × IsRow bytes.now (first ∷ []) (drop first.count bytes.now) }
+        requires { (0 < first.count) × (first.count ≤ length bytes.now) × IsLot bytes.now (first ∷ []) (drop first.count bytes.now) }
         ensures front { AnswersFront Talks BreaksTalk self.old bytes.now (O.taken writer.old) (O.taken writer.new) result self.new }
         ensures worked { result ≢ Err Write → O.has_failed writer.new ≡ O.has_failed writer.old }
         ensures failed { IsErrOf result Write → O.has_failed writer.new ≡ true }
@@ -307,8 +307,8 @@ impl<'a, R: Wait, G: Gate, W: Witness<Bridge> + Drop> Connection<'a, R, G, W> {
         if is_alone || self.gate.may_wait() || !writer.has_room(MOST_REPLIES) {
             return self.answer_one(first, bytes, writer);
         }
-        match read_row(alloc, first, bytes) {
-            Ok(row) => self.answer_row(row, bytes, writer),
+        match read_lot(alloc, first, bytes) {
+            Ok(lot) => self.answer_lot(lot, bytes, writer),
             Err(first) => self.answer_one(first, bytes, writer),
         }
     }

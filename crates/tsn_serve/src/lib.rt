@@ -9,9 +9,9 @@ mod gate;
 mod host;
 mod laws;
 mod line_buffer;
+mod lots;
 mod probing;
 mod responder;
-mod rows;
 mod script;
 mod serving;
 

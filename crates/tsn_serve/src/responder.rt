@@ -8,10 +8,10 @@ ghost use Rattle.tsn_bytes.specs.declared.bytes.Fault.TheVariants.{Write, Memory
 ghost use Rattle.tsn_serve.specs.Lines.{HasNoLineFeed, line_feed, longest_line};
 ghost use Rattle.tsn_serve.specs.Pieces.{Feeds, Ends, Breaks, EndBreaks};
 ghost use Rattle.tsn_serve.specs.Outcomes.{Outcome, moment};
-ghost use Rattle.tsn_serve.specs.Rows.{AnswersFront};
+ghost use Rattle.tsn_serve.specs.Lots.{AnswersFront};
 
 use crate::line_buffer::LineBuffer;
-use crate::rows::front_line;
+use crate::lots::front_line;
 use memchr::memchr;
 use std::alloc::Global;
 use tsn_bytes::{ByteIn, ByteOut, Failed, Fault};

@@ -8,7 +8,7 @@ use std::time::{Clock, Duration};
 use tsn_bytes::StdIo;
 use tsn_clerk::Stop;
 use tsn_serve::Source;
-use tsn_sockets::{Log, LoggedWriter, Place};
+use tsn_sockets::{Endpoint, Log, LoggedWriter};
 
 /// How long a connection of the service's own may take, in milliseconds, with which it wakes the thread that waits for
 /// one.
@@ -43,7 +43,7 @@ pub struct StoppableSource<
 > {
     rt: &'a R,
     source: SocketSource<'a, R, L>,
-    place: Place,
+    endpoint: Endpoint,
     open: Mutex<Open>,
 }
 
@@ -57,14 +57,14 @@ impl<'a, R: Wait + Clock + Net<Listener = TcpListener, Stream = TcpStream>, L: L
         alloc: Global,
         rt: &'a R,
         source: SocketSource<'a, R, L>,
-        place: Place,
+        endpoint: Endpoint,
         threads: u64,
     ) -> Result<StoppableSource<'a, R, L>, AllocError> {
         let handles = Vec::with_capacity(alloc, threads as usize)?;
         Ok(StoppableSource {
             rt,
             source,
-            place,
+            endpoint,
             open: Mutex::new(Open {
                 handles,
                 is_stopped: false,
@@ -102,11 +102,11 @@ impl<'a, R: Wait + Clock + Net<Listener = TcpListener, Stream = TcpStream>, L: L
     // Makes a connection to the service, which is given up at once, and says whether it could.
     fn call(&self) -> bool {
         let longest = Duration::from_millis(LONGEST_CALL);
-        match &self.place {
-            Place::Address(address) => {
+        match &self.endpoint {
+            Endpoint::Address(address) => {
                 TcpStream::connect_timeout(self.rt, address, longest).is_ok()
             }
-            Place::Path(path) => UnixStream::connect(self.rt, path.as_str()).is_ok(),
+            Endpoint::Path(path) => UnixStream::connect(self.rt, path.as_str()).is_ok(),
         }
     }
 

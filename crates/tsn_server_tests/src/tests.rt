@@ -19,7 +19,7 @@ use tsn_bytes::{Fault, MemOut};
 use tsn_serve::{Free, Gated};
 use tsn_server::{ServerFault, SocketSource, serve_bridge};
 use tsn_setup::setup_of;
-use tsn_sockets::{Listener, Log, Place, Told, listen_on};
+use tsn_sockets::{Endpoint, Listener, Log, Told, listen_on};
 use tsn_types::numbers::Instant;
 
 /// Port 1 has traffic class 0 alone for 300 ns, and class 7 alone for 700 ns.
@@ -98,7 +98,7 @@ fn tells<
         + Abort
         + Sync,
 >(rt: &R, alloc: Global, at: Option<Instant>, wanted: &[u8]) -> Result<(), Fail> {
-    let Ok((listener, Place::Address(address))) = listen_on(rt, alloc, "127.0.0.1:0") else {
+    let Ok((listener, Endpoint::Address(address))) = listen_on(rt, alloc, "127.0.0.1:0") else {
         return Err(Fail::from("no listener"));
     };
     let (served, replied) = serve_client(rt, alloc, listener, address, at);

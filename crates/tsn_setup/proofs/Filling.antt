@@ -11,7 +11,7 @@ use Rattle.tsn_records.specs.Answers.{each, or_shape, ◌>>=◌}
 use Rattle.tsn_records.specs.declared.unread.Unread.{Unread}
 use Rattle.tsn_records.specs.Records.{port_entry_shape, gate_entry_shape}
 use Rattle.tsn_setup.specs.Toml.{are_among, items_list, as_toml}
-use Rattle.tsn_setup.specs.Plain.{Slot, number, flag, port_list, gate_list, tables, Stands, IsOpen, Slots, slot_at, put_slot, AreOpen, Tells, names, TellsAll}
+use Rattle.tsn_setup.specs.Plain.{Tray, number, flag, port_list, gate_list, tables, Stands, IsOpen, Trays, tray_at, put_tray, AreOpen, Tells, names, TellsAll}
 use Rattle.tsn_setup.proofs.Ordered.{order}
 use Rattle.tsn_setup.proofs.Rows.{is_among, same_name, same_text, same_bytes, known_at, all_among}
 
@@ -81,39 +81,39 @@ replaced k x y ns there = record {
   others = λ l other. closed_at l (replace k x ns) ∙ ap (option_map close_node) (replace_other l k x ns other) ∙ sym (closed_at l ns);
 }
 
--- ---- what the slots say of them
+-- ---- what the trays say of them
 
-slot_told : (b : Bool) (k l : List ℕ) (s filled : Slot) (d : Data) (before after : Members) → bytes_eq k l ≡ b → Changes k d before after
+tray_told : (b : Bool) (k l : List ℕ) (s filled : Tray) (d : Data) (before after : Members) → bytes_eq k l ≡ b → Changes k d before after
     → Stands filled (Some d) → Stands s (get_member l before)
     → Stands (if b then filled else s) (get_member l after)
-slot_told true k l s filled d before after is change full told =
+tray_told true k l s filled d before after is change full told =
     let same = same_text k l is in
     subst (λ n. Stands filled (get_member n after)) same (subst (Stands filled) (sym change.here) full)
-slot_told false k l s filled d before after is change full told =
+tray_told false k l s filled d before after is change full told =
     let apart : l ≡ k → ⊥ = λ same. let equal = same_bytes k l (sym same) in cc in
     subst (Stands s) (sym (change.others l apart)) told
 
-tells_changed : (slots : Slots) (k : List ℕ) (filled : Slot) (d : Data) (before after : Members) → Changes k d before after
-    → Stands filled (Some d) → Tells before slots → Tells after (put_slot k filled slots)
+tells_changed : (trays : Trays) (k : List ℕ) (filled : Tray) (d : Data) (before after : Members) → Changes k d before after
+    → Stands filled (Some d) → Tells before trays → Tells after (put_tray k filled trays)
 tells_changed [] k filled d before after change full told = tt
-tells_changed (s ∷ slots) k filled d before after change full told = (
-  slot_told (bytes_eq k s.0) k s.0 s.1 filled d before after refl change full told.0,
-  tells_changed slots k filled d before after change full told.1,
+tells_changed (s ∷ trays) k filled d before after change full told = (
+  tray_told (bytes_eq k s.0) k s.0 s.1 filled d before after refl change full told.0,
+  tells_changed trays k filled d before after change full told.1,
 )
 
-names_put : (slots : Slots) (k : List ℕ) (filled : Slot) → names (put_slot k filled slots) ≡ names slots
+names_put : (trays : Trays) (k : List ℕ) (filled : Tray) → names (put_tray k filled trays) ≡ names trays
 names_put [] k filled = refl
-names_put (s ∷ slots) k filled = ap (λ ns. s.0 ∷ ns) (names_put slots k filled)
+names_put (s ∷ trays) k filled = ap (λ ns. s.0 ∷ ns) (names_put trays k filled)
 
-known_first : (b : Bool) (k l : List ℕ) (s t : Slot) (slots : Slots) → bytes_eq k l ≡ b → (if b then Some t else slot_at k slots) ≡ Some s
-    → (slot_at k slots ≡ Some s → is_among (names slots) k ≡ true)
-    → is_among (l ∷ names slots) k ≡ true
-known_first true k l s t slots is at later = rw (same_bytes l k (sym (same_text k l is))) refl
-known_first false k l s t slots is at later = rw (later at) (grind rules)
+known_first : (b : Bool) (k l : List ℕ) (s t : Tray) (trays : Trays) → bytes_eq k l ≡ b → (if b then Some t else tray_at k trays) ≡ Some s
+    → (tray_at k trays ≡ Some s → is_among (names trays) k ≡ true)
+    → is_among (l ∷ names trays) k ≡ true
+known_first true k l s t trays is at later = rw (same_bytes l k (sym (same_text k l is))) refl
+known_first false k l s t trays is at later = rw (later at) (grind rules)
 
-known_name : (slots : Slots) (k : List ℕ) (s : Slot) → slot_at k slots ≡ Some s → is_among (names slots) k ≡ true
+known_name : (trays : Trays) (k : List ℕ) (s : Tray) → tray_at k trays ≡ Some s → is_among (names trays) k ≡ true
 known_name [] k s at = cc
-known_name (t ∷ slots) k s at = known_first (bytes_eq k t.0) k t.0 s t.1 slots refl at (known_name slots k s)
+known_name (t ∷ trays) k s at = known_first (bytes_eq k t.0) k t.0 s t.1 trays refl at (known_name trays k s)
 
 still_known : (b : Bool) (ns : List (List ℕ)) (k l : List ℕ) (d : Data) (before after : Members) → bytes_eq l k ≡ b → is_among ns k ≡ true
     → Changes k d before after → are_among ns before ≡ true → IsSome (get_member l after)
@@ -123,20 +123,20 @@ still_known false ns k l d before after is known change only there =
     let apart : l ≡ k → ⊥ = λ same. let equal = same_bytes l k same in cc in
     known_at (is_among ns l) ns before l refl only (subst IsSome (change.others l apart) there)
 
--- the slots say the members after the change, too
-pub told_after : (slots : Slots) (k : List ℕ) (s filled : Slot) (d : Data) (before after : Members) → Changes k d before after
-    → slot_at k slots ≡ Some s → Stands filled (Some d) → TellsAll before slots
-    → TellsAll after (put_slot k filled slots)
-told_after slots k s filled d before after change at full told =
-    let known = known_name slots k s at in
-    let only : are_among (names slots) after ≡ true = all_among (names slots) after
-    (λ l there. still_known (bytes_eq l k) (names slots) k l d before after refl known change told.only there) in
+-- the trays say the members after the change, too
+pub told_after : (trays : Trays) (k : List ℕ) (s filled : Tray) (d : Data) (before after : Members) → Changes k d before after
+    → tray_at k trays ≡ Some s → Stands filled (Some d) → TellsAll before trays
+    → TellsAll after (put_tray k filled trays)
+told_after trays k s filled d before after change at full told =
+    let known = known_name trays k s at in
+    let only : are_among (names trays) after ≡ true = all_among (names trays) after
+    (λ l there. still_known (bytes_eq l k) (names trays) k l d before after refl known change told.only there) in
     record {
-      tells = tells_changed slots k filled d before after change full told.tells;
-      only = rw (names_put slots k filled) only;
+      tells = tells_changed trays k filled d before after change full told.tells;
+      only = rw (names_put trays k filled) only;
     }
 
--- ---- slots that are unread
+-- ---- trays that are unread
 
 unfilled : {A : Type 0} (o : Option A) → or_shape o >>= (λ x. Ok (Some x)) ≡ Ok None → ⊥
 unfilled None h = cc
@@ -150,7 +150,7 @@ unlisted : {A B : Type 0} (o : Option A) (f : A → Result B Unread) → or_shap
 unlisted None f h = cc
 unlisted (Some x) f h = nothing (f x) h
 
-pub not_there : (s : Slot) (o : Option Data) → IsOpen s → Stands s o → o ≡ None
+pub not_there : (s : Tray) (o : Option Data) → IsOpen s → Stands s o → o ≡ None
 not_there s None unread stands = refl
 not_there (number n) (Some d) unread stands = absurd (unfilled _ (stands ∙ ap Ok unread))
 not_there (flag b) (Some d) unread stands = absurd (unfilled _ (stands ∙ ap Ok unread))
@@ -160,28 +160,28 @@ not_there (gate_list es) (Some d) unread stands =
     absurd (unlisted (as_array d) (λ items. each (gate_entry_shape as_toml) (items_list items)) (stands ∙ ap Ok unread))
 not_there (tables kind ts) (Some d) unread stands = absurd unread
 
-told_slot_at : (b : Bool) (k l : List ℕ) (s t : Slot) (slots : Slots) (ms : Members) → bytes_eq k l ≡ b
-    → (if b then Some t else slot_at k slots) ≡ Some s → Stands t (get_member l ms)
-    → (slot_at k slots ≡ Some s → Stands s (get_member k ms))
+told_tray_at : (b : Bool) (k l : List ℕ) (s t : Tray) (trays : Trays) (ms : Members) → bytes_eq k l ≡ b
+    → (if b then Some t else tray_at k trays) ≡ Some s → Stands t (get_member l ms)
+    → (tray_at k trays ≡ Some s → Stands s (get_member k ms))
     → Stands s (get_member k ms)
-told_slot_at true k l s t slots ms is at told later =
+told_tray_at true k l s t trays ms is at told later =
     let same = same_text k l is in
     let e : Some t ≡ Some s = at in
     let this : t ≡ s = cc in
     subst (λ n. Stands s (get_member n ms)) (sym same) (subst (λ u. Stands u (get_member l ms)) this told)
-told_slot_at false k l s t slots ms is at told later = later at
+told_tray_at false k l s t trays ms is at told later = later at
 
--- what stands at a name is what its slot says
-pub told_slot : (slots : Slots) (k : List ℕ) (s : Slot) (ms : Members) → slot_at k slots ≡ Some s → Tells ms slots
+-- what stands at a name is what its tray says
+pub told_tray : (trays : Trays) (k : List ℕ) (s : Tray) (ms : Members) → tray_at k trays ≡ Some s → Tells ms trays
     → Stands s (get_member k ms)
-told_slot [] k s ms at told = cc
-told_slot (t ∷ slots) k s ms at told =
-    told_slot_at (bytes_eq k t.0) k t.0 s t.1 slots ms refl at told.0 (λ later. told_slot slots k s ms later told.1)
+told_tray [] k s ms at told = cc
+told_tray (t ∷ trays) k s ms at told =
+    told_tray_at (bytes_eq k t.0) k t.0 s t.1 trays ms refl at told.0 (λ later. told_tray trays k s ms later told.1)
 
--- an open slot's name has no member
-pub nothing_yet : (slots : Slots) (k : List ℕ) (s : Slot) (ms : Members) → slot_at k slots ≡ Some s → IsOpen s → Tells ms slots
+-- an open tray's name has no member
+pub nothing_yet : (trays : Trays) (k : List ℕ) (s : Tray) (ms : Members) → tray_at k trays ≡ Some s → IsOpen s → Tells ms trays
     → get_member k ms ≡ None
-nothing_yet slots k s ms at unread told = not_there s (get_member k ms) unread (told_slot slots k s ms at told)
+nothing_yet trays k s ms at unread told = not_there s (get_member k ms) unread (told_tray trays k s ms at told)
 
 pub no_node : (o : Option Node) → option_map close_node o ≡ None → o ≡ None
 no_node None h = refl
@@ -194,14 +194,14 @@ put_new k d ns none =
     let missing = no_node (get_node k ns) (sym (closed_at k ns) ∙ none) in
     rw missing refl
 
-empty : (s : Slot) → IsOpen s → Stands s None
+empty : (s : Tray) → IsOpen s → Stands s None
 empty (number n) unread = ap Ok (sym unread)
 empty (flag b) unread = ap Ok (sym unread)
 empty (port_list es) unread = ap Ok (sym unread)
 empty (gate_list es) unread = ap Ok (sym unread)
 empty (tables kind ts) unread = absurd unread
 
--- no member yet, and no slot filled
-pub none_yet : (slots : Slots) → AreOpen slots → Tells (close no_nodes) slots
+-- no member yet, and no tray filled
+pub none_yet : (trays : Trays) → AreOpen trays → Tells (close no_nodes) trays
 none_yet [] unread = tt
-none_yet (s ∷ slots) unread = (empty s.1 unread.0, none_yet slots unread.1)
+none_yet (s ∷ trays) unread = (empty s.1 unread.0, none_yet trays unread.1)

@@ -1,4 +1,4 @@
--- What the slots of a table tell is its shape.
+-- What the trays of a table tell is its shape.
 use Rattle.std.proofs.Common.{◌≡◌, ℕ, List, Bool, true, Option, Some, None, Result, Ok, Err, codes, refl, ap, ◌∙◌}
 use Rattle.std.specs.Prelude.{option_and_then, option_map}
 use Rattle.toml.specs.Data.{Data, Items, Members, table, get_member, as_bool, as_array}
@@ -14,13 +14,13 @@ use Rattle.tsn_records.specs.Values.{typed}
 use Rattle.tsn_setup.specs.Tables.{table_shape}
 use Rattle.tsn_setup.specs.Toml.{are_among, has_only, if_given, items_list, as_toml, whole}
 use Rattle.tsn_setup.specs.Plain.{list_given, names, ReadsTable, ReadsEntry, ReadsLines, ReadsTableOf}
-use Rattle.tsn_setup.specs.PlainSlots.{port_entry_slots, gate_entry_slots, port_slots, gate_slots, filter_slots, meter_slots}
-use Rattle.tsn_setup.specs.declared.plain_entries.PortEntryMembers.{PortEntryMembers}
-use Rattle.tsn_setup.specs.declared.plain_entries.GateEntryMembers.{GateEntryMembers}
-use Rattle.tsn_setup.specs.declared.plain_tables.PortMembers.{PortMembers}
-use Rattle.tsn_setup.specs.declared.plain_tables.GateMembers.{GateMembers}
-use Rattle.tsn_setup.specs.declared.plain_tables.FilterMembers.{FilterMembers}
-use Rattle.tsn_setup.specs.declared.plain_tables.MeterMembers.{MeterMembers}
+use Rattle.tsn_setup.specs.PlainTrays.{port_entry_trays, gate_entry_trays, port_trays, gate_trays, filter_trays, meter_trays}
+use Rattle.tsn_setup.specs.declared.plain_entries.PlainPortEntry.{PlainPortEntry}
+use Rattle.tsn_setup.specs.declared.plain_entries.PlainGateEntry.{PlainGateEntry}
+use Rattle.tsn_setup.specs.declared.plain_tables.PlainPort.{PlainPort}
+use Rattle.tsn_setup.specs.declared.plain_tables.PlainGate.{PlainGate}
+use Rattle.tsn_setup.specs.declared.plain_tables.PlainFilter.{PlainFilter}
+use Rattle.tsn_setup.specs.declared.plain_tables.PlainMeter.{PlainMeter}
 
 -- a member that is given is there
 there_at : {A : Type 0} (f : Data → Option A) (d : Data) (o : Option A) (a : A) → f d ≡ o → or_shape o >>= (λ y. Ok (Some y)) ≡ Ok (Some a)
@@ -37,7 +37,7 @@ there f (Some d) a h = there_at f d (f d) a refl h
 pub only : (names : List (List ℕ)) (ms : Members) → are_among names ms ≡ true → has_only names (table ms) ≡ Ok tt
 only names ms h = rw h refl
 
-pub port_entry_told : (text rest : List ℕ) (m : PortEntryMembers) (gates interval : ℕ) → ReadsTable text (port_entry_slots m) rest
+pub port_entry_told : (text rest : List ℕ) (m : PlainPortEntry) (gates interval : ℕ) → ReadsTable text (port_entry_trays m) rest
     → m.gates ≡ Some gates → m.interval ≡ Some interval
     → ReadsEntry (port_entry_shape as_toml) text (record { gates = gates; interval = interval }) rest
 unfolding port_entry_shape
@@ -47,14 +47,14 @@ port_entry_told text rest m gates interval read g i = record {
   shaped =
       let told = read.tells.tells in
       rw (
-        only (names (port_entry_slots m)) read.found read.tells.only,
+        only (names (port_entry_trays m)) read.found read.tells.only,
         there whole (get_member (codes "gates") read.found) gates (told.0 ∙ ap Ok g),
         there whole (get_member (codes "interval") read.found) interval (told.1.0 ∙ ap Ok i),
       ) refl;
 }
 
-pub gate_entry_told : (text rest : List ℕ) (m : GateEntryMembers) (is_open : Bool) (interval : ℕ)
-    → ReadsTable text (gate_entry_slots m) rest → m.open ≡ Some is_open → m.interval ≡ Some interval
+pub gate_entry_told : (text rest : List ℕ) (m : PlainGateEntry) (is_open : Bool) (interval : ℕ)
+    → ReadsTable text (gate_entry_trays m) rest → m.open ≡ Some is_open → m.interval ≡ Some interval
     → ReadsEntry (gate_entry_shape as_toml) text (record { is_open = is_open; ipv = m.ipv; interval = interval; octets = m.octets }) rest
 unfolding gate_entry_shape
 gate_entry_told text rest m is_open interval read o i = record {
@@ -63,7 +63,7 @@ gate_entry_told text rest m is_open interval read o i = record {
   shaped =
       let told = read.tells.tells in
       rw (
-        only (names (gate_entry_slots m)) read.found read.tells.only,
+        only (names (gate_entry_trays m)) read.found read.tells.only,
         there as_bool (get_member (codes "open") read.found) is_open (told.0 ∙ ap Ok o),
         told.1.0,
         there whole (get_member (codes "interval") read.found) interval (told.1.1.0 ∙ ap Ok i),
@@ -100,8 +100,8 @@ list_told : {E : Type 0} (entry : Data → Result E Unread) (found : Option Data
 list_told entry None o es told is = let none : Ok None ≡ Ok (Some es) = told ∙ ap Ok is in cc
 list_told entry (Some d) o es told is = list_at entry (as_array d) es (told ∙ ap Ok is)
 
-pub port_told : (text rest : List ℕ) (m : PortMembers) (id gates : ℕ) (list : List PortEntryDraft) (cycle extension base : ℕ)
-    → ReadsLines text (port_slots m) rest
+pub port_told : (text rest : List ℕ) (m : PlainPort) (id gates : ℕ) (list : List PortEntryDraft) (cycle extension base : ℕ)
+    → ReadsLines text (port_trays m) rest
     → m.id ≡ Some id → m.gates ≡ Some gates → m.list ≡ Some list → m.cycle ≡ Some cycle → m.extension ≡ Some extension → m.base ≡ Some base
     → ReadsTableOf kinds.Port text (record {
       id = id;
@@ -117,7 +117,7 @@ port_told text rest m id gates list cycle extension base read i g l c e b = reco
       let told = read.tells.tells in
       rw (
         number (codes "id") ms m.id id told.0 i,
-        only (names (port_slots m)) ms read.tells.only,
+        only (names (port_trays m)) ms read.tells.only,
         number (codes "gates") ms m.gates gates told.1.0 g,
         list_told (port_entry_shape as_toml) (get_member (codes "list") ms) m.list list told.1.1.0 l,
         number (codes "cycle") ms m.cycle cycle told.1.1.1.0 c,
@@ -126,7 +126,7 @@ port_told text rest m id gates list cycle extension base read i g l c e b = reco
       ) refl;
 }
 
-pub filter_told : (text rest : List ℕ) (m : FilterMembers) (id gate : ℕ) (oversize : Bool) → ReadsLines text (filter_slots m) rest
+pub filter_told : (text rest : List ℕ) (m : PlainFilter) (id gate : ℕ) (oversize : Bool) → ReadsLines text (filter_trays m) rest
     → m.id ≡ Some id → m.gate ≡ Some gate → m.oversize ≡ Some oversize
     → ReadsTableOf kinds.Filter text
     (record {
@@ -144,7 +144,7 @@ filter_told text rest m id gate oversize read i g o = record {
       let told = read.tells.tells in
       rw (
         number (codes "id") ms m.id id told.0 i,
-        only (names (filter_slots m)) ms read.tells.only,
+        only (names (filter_trays m)) ms read.tells.only,
         told.1.0,
         told.1.1.0,
         number (codes "gate") ms m.gate gate told.1.1.1.0 g,
@@ -154,8 +154,8 @@ filter_told text rest m id gate oversize read i g o = record {
       ) refl;
 }
 
-pub gate_told : (text rest : List ℕ) (m : GateMembers) (id : ℕ) (is_open : Bool) (list : List GateEntryDraft) (cycle extension base : ℕ)
-    (invalid_rx octets_exceeded : Bool) → ReadsLines text (gate_slots m) rest
+pub gate_told : (text rest : List ℕ) (m : PlainGate) (id : ℕ) (is_open : Bool) (list : List GateEntryDraft) (cycle extension base : ℕ)
+    (invalid_rx octets_exceeded : Bool) → ReadsLines text (gate_trays m) rest
     → m.id ≡ Some id → m.open ≡ Some is_open → m.list ≡ Some list → m.cycle ≡ Some cycle → m.extension ≡ Some extension → m.base ≡ Some base
     → m.invalid_rx ≡ Some invalid_rx → m.octets_exceeded ≡ Some octets_exceeded
     → ReadsTableOf kinds.Gate text (record {
@@ -177,7 +177,7 @@ gate_told text rest m id is_open list cycle extension base invalid_rx octets_exc
       let told = read.tells.tells in
       rw (
         number (codes "id") ms m.id id told.0 i,
-        only (names (gate_slots m)) ms read.tells.only,
+        only (names (gate_trays m)) ms read.tells.only,
         flag (codes "open") ms m.open is_open told.1.0 o,
         told.1.1.0,
         list_told (gate_entry_shape as_toml) (get_member (codes "list") ms) m.list list told.1.1.1.0 l,
@@ -189,8 +189,8 @@ gate_told text rest m id is_open list cycle extension base invalid_rx octets_exc
       ) refl;
 }
 
-pub meter_told : (text rest : List ℕ) (m : MeterMembers) (id cir cbs eir ebs : ℕ) (cf aware drop_yellow all_red : Bool)
-    → ReadsLines text (meter_slots m) rest
+pub meter_told : (text rest : List ℕ) (m : PlainMeter) (id cir cbs eir ebs : ℕ) (cf aware drop_yellow all_red : Bool)
+    → ReadsLines text (meter_trays m) rest
     → m.id ≡ Some id → m.cir ≡ Some cir → m.cbs ≡ Some cbs → m.eir ≡ Some eir → m.ebs ≡ Some ebs → m.cf ≡ Some cf → m.aware ≡ Some aware
     → m.drop_yellow ≡ Some drop_yellow → m.all_red ≡ Some all_red
     → ReadsTableOf kinds.Meter text
@@ -209,7 +209,7 @@ meter_told text rest m id cir cbs eir ebs cf aware drop_yellow all_red read i a 
       let told = read.tells.tells in
       rw (
         number (codes "id") ms m.id id told.0 i,
-        only (names (meter_slots m)) ms read.tells.only,
+        only (names (meter_trays m)) ms read.tells.only,
         number (codes "cir") ms m.cir cir told.1.0 a,
         number (codes "cbs") ms m.cbs cbs told.1.1.0 b,
         number (codes "eir") ms m.eir eir told.1.1.1.0 c,

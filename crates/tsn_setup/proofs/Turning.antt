@@ -11,24 +11,24 @@ use Rattle.toml.proofs.Turns.{items_end, items_more, members_end, members_more, 
 use Rattle.tsn_records.specs.Answers.{◌>>=◌, each}
 use Rattle.tsn_records.specs.declared.unread.Unread.{Unread}
 use Rattle.tsn_setup.specs.Toml.{items_list}
-use Rattle.tsn_setup.specs.Plain.{Slots, AreOpen, TellsAll, ReadsMember, ReadsTable, Frames, ReadsLines, ReadsEntry, ReadsEntries, TableSoFar, EntriesSoFar}
+use Rattle.tsn_setup.specs.Plain.{Trays, AreOpen, TellsAll, ReadsMember, ReadsTable, Frames, ReadsLines, ReadsEntry, ReadsEntries, TableSoFar, EntriesSoFar}
 use Rattle.tsn_setup.proofs.Filling.{inserted, told_after, nothing_yet, put_new, none_yet}
 
-nothing_told : (slots : Slots) → AreOpen slots → TellsAll (close no_nodes) slots
-nothing_told slots unread = record { tells = none_yet slots unread; only = refl }
+nothing_told : (trays : Trays) → AreOpen trays → TellsAll (close no_nodes) trays
+nothing_told trays unread = record { tells = none_yet trays unread; only = refl }
 
 -- ---- inline tables
 
-pub table_begun : (text : List ℕ) (slots : Slots) → AreOpen slots → TableSoFar text slots text
-table_begun text slots unread = record {
+pub table_begun : (text : List ℕ) (trays : Trays) → AreOpen trays → TableSoFar text trays text
+table_begun text trays unread = record {
   found = no_nodes;
   reads = λ m n room. (n, (room, refl));
-  tells = nothing_told slots unread;
+  tells = nothing_told trays unread;
 }
 
-pub table_ended : (text : List ℕ) (slots : Slots) (rest : List ℕ) → TableSoFar text slots rest → (first (skip_blank rest) == 125) ≡ true
-    → ReadsTable text slots (drop 1 (skip_blank rest))
-table_ended text slots rest so ends = record {
+pub table_ended : (text : List ℕ) (trays : Trays) (rest : List ℕ) → TableSoFar text trays rest → (first (skip_blank rest) == 125) ≡ true
+    → ReadsTable text trays (drop 1 (skip_blank rest))
+table_ended text trays rest so ends = record {
   found = close so.found;
   reads = λ m n room.
       let (k, more) = so.reads m n room in
@@ -36,11 +36,11 @@ table_ended text slots rest so ends = record {
   tells = so.tells;
 }
 
-pub table_more : (text : List ℕ) (slots later : Slots) (rest after next : List ℕ) → TableSoFar text slots rest
-    → (first (skip_blank rest) == 125) ≡ false → ReadsMember 0 (skip_blank rest) slots later after
+pub table_more : (text : List ℕ) (trays later : Trays) (rest after next : List ℕ) → TableSoFar text trays rest
+    → (first (skip_blank rest) == 125) ≡ false → ReadsMember 0 (skip_blank rest) trays later after
     → after_element 125 after ≡ Some next → length next < length rest → TableSoFar text later next
-table_more text slots later rest after next so goes member element shorter =
-    let none = nothing_yet slots member.name member.slot (close so.found) member.known member.empty so.tells.tells in
+table_more text trays later rest after next so goes member element shorter =
+    let none = nothing_yet trays member.name member.tray (close so.found) member.known member.empty so.tells.tells in
     record {
       found = insert member.name (value member.value) so.found;
       reads = λ m n room.
@@ -49,18 +49,18 @@ table_more text slots later rest after next so goes member element shorter =
           (member.reads m (omega arith)) (put_new member.name member.value so.found none) element in
           (k - 1, (omega (arith, more.0, shorter), more.1 ∙ step));
       tells =
-          let told = told_after slots member.name member.slot member.filled member.value (close so.found) _
+          let told = told_after trays member.name member.tray member.filled member.value (close so.found) _
           (inserted member.name (value member.value) so.found) member.known member.full so.tells in
           subst (TellsAll (close (insert member.name (value member.value) so.found))) (sym member.put) told;
     }
 
 -- ---- lines of a table
 
-pub lines_begun : (text : List ℕ) (slots : Slots) → AreOpen slots → ReadsLines text slots text
-lines_begun text slots unread = record {
+pub lines_begun : (text : List ℕ) (trays : Trays) → AreOpen trays → ReadsLines text trays text
+lines_begun text trays unread = record {
   found = no_nodes;
   leads = λ path frame frames n room. record { turns = n; room = room; same = refl };
-  tells = nothing_told slots unread;
+  tells = nothing_told trays unread;
 }
 
 pair_line : (n : ℕ) (start name after : List ℕ) (d : Data) → n ≤ 80 → (first start == 91) ≡ false
@@ -75,12 +75,12 @@ framed : (path : List (List ℕ)) (frame : Nodes → Nodes) (name : List ℕ) (d
 unfolding define
 framed path frame name d ns more frames step = rw (frames (put ([], name) d) ns, step) refl
 
-pub line_more : (n : ℕ) (text : List ℕ) (slots later : Slots) (rest after : List ℕ) → n ≤ 80 → ReadsLines text slots rest
+pub line_more : (n : ℕ) (text : List ℕ) (trays later : Trays) (rest after : List ℕ) → n ≤ 80 → ReadsLines text trays rest
     → (length (skip_blank rest) == 0) ≡ false → (first (skip_blank rest) == 91) ≡ false
-    → ReadsMember n (skip_blank rest) slots later after → ends_line (skip_ws after) ≡ true → length after < length rest
+    → ReadsMember n (skip_blank rest) trays later after → ends_line (skip_ws after) ≡ true → length after < length rest
     → ReadsLines text later after
-line_more n text slots later rest after low so some goes member ends shorter =
-    let none = nothing_yet slots member.name member.slot (close so.found) member.known member.empty so.tells.tells in
+line_more n text trays later rest after low so some goes member ends shorter =
+    let none = nothing_yet trays member.name member.tray (close so.found) member.known member.empty so.tells.tells in
     let this = pair_line n (skip_blank rest) member.name after member.value low goes member.reads ends in
     record {
       found = insert member.name (value member.value) so.found;
@@ -93,7 +93,7 @@ line_more n text slots later rest after low so some goes member ends shorter =
             same = lead.same ∙ lines_more lead.turns (frame so.found, path) _ rest _ after (omega (arith, lead.room)) some this step;
           };
       tells =
-          let told = told_after slots member.name member.slot member.filled member.value (close so.found) _
+          let told = told_after trays member.name member.tray member.filled member.value (close so.found) _
           (inserted member.name (value member.value) so.found) member.known member.full so.tells in
           subst (TellsAll (close (insert member.name (value member.value) so.found))) (sym member.put) told;
     }
@@ -122,9 +122,9 @@ lines_blank zero doc text = refl
 lines_blank (suc m) doc text = rw (blank_once_from text false) refl
 
 -- the blanks behind the lines are passed, too
-pub lines_trimmed : (text : List ℕ) (slots : Slots) (rest : List ℕ) → ReadsLines text slots rest → length (skip_blank rest) ≤ length rest
-    → ReadsLines text slots (skip_blank rest)
-lines_trimmed text slots rest so within = record {
+pub lines_trimmed : (text : List ℕ) (trays : Trays) (rest : List ℕ) → ReadsLines text trays rest → length (skip_blank rest) ≤ length rest
+    → ReadsLines text trays (skip_blank rest)
+lines_trimmed text trays rest so within = record {
   found = so.found;
   leads = λ path frame frames n room.
       let lead = so.leads path frame frames n room in

@@ -1,4 +1,4 @@
--- What is read of a value, and which slot it fills.
+-- What is read of a value, and which tray it fills.
 use Rattle.std.proofs.Common.{◌≡◌, ℕ, suc, ◌-◌, ◌<◌, ◌≤◌, ℤ, List, [], Bool, true, ◌==◌, length, drop, Some, Ok, refl, ap, ◌∙◌, arith}
 use Rattle.toml_parser.specs.Lexical.{first}
 use Rattle.toml.specs.Data.{integer, boolean, array, Items, no_items}
@@ -9,7 +9,7 @@ use Rattle.tsn_records.specs.declared.drafts.PortEntryDraft.{PortEntryDraft}
 use Rattle.tsn_records.specs.declared.drafts.GateEntryDraft.{GateEntryDraft}
 use Rattle.tsn_records.specs.Records.{port_entry_shape, gate_entry_shape}
 use Rattle.tsn_setup.specs.Toml.{natural, as_toml}
-use Rattle.tsn_setup.specs.Plain.{Slot, number, flag, port_list, gate_list, Slots, slot_at, put_slot, IsOpen, ReadsValue, Fills, ReadsMember, ReadsEntries}
+use Rattle.tsn_setup.specs.Plain.{Tray, number, flag, port_list, gate_list, Trays, tray_at, put_tray, IsOpen, ReadsValue, Fills, ReadsMember, ReadsEntries}
 
 pub number_read : (n : ℕ) (z : ℤ) (text rest : List ℕ) → ((m : ℕ) → val m text ≡ Some (integer z, rest)) → natural z ≡ Some n
     → ReadsValue 0 text (number (Some n)) rest
@@ -49,8 +49,8 @@ gate_list_read list text rest opens shorter read = record {
   stands = ap (λ r. r >>= (λ es. Ok (Some es))) read.shaped;
 }
 
--- a name and a value fill a slot
-pub filled : (n : ℕ) (text name behind : List ℕ) (before after : Slot) (rest : List ℕ) → key_equals text ≡ Some (([], name), behind)
+-- a name and a value fill a tray
+pub filled : (n : ℕ) (text name behind : List ℕ) (before after : Tray) (rest : List ℕ) → key_equals text ≡ Some (([], name), behind)
     → ReadsValue n behind after rest → IsOpen before → Fills n text name before after rest
 filled n text name behind before after rest named read unread = record {
   value = read.value;
@@ -59,14 +59,14 @@ filled n text name behind before after rest named read unread = record {
   full = read.stands;
 }
 
--- what fills a slot is a member that may come
-pub slot_filled : (m n : ℕ) (text name : List ℕ) (before after : Slot) (slots later : Slots) (rest : List ℕ) → m ≤ n
-    → Fills m text name before after rest → slot_at name slots ≡ Some before → later ≡ put_slot name after slots
-    → ReadsMember n text slots later rest
-slot_filled m n text name before after slots later rest low f at put = record {
+-- what fills a tray is a member that may come
+pub tray_filled : (m n : ℕ) (text name : List ℕ) (before after : Tray) (trays later : Trays) (rest : List ℕ) → m ≤ n
+    → Fills m text name before after rest → tray_at name trays ≡ Some before → later ≡ put_tray name after trays
+    → ReadsMember n text trays later rest
+tray_filled m n text name before after trays later rest low f at put = record {
   name = name;
   value = f.value;
-  slot = before;
+  tray = before;
   filled = after;
   reads = λ k high. f.reads k (omega (arith, low, high));
   known = at;

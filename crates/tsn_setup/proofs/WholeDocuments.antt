@@ -16,12 +16,12 @@ use Rattle.tsn_records.specs.Members.{setup_names}
 use Rattle.tsn_setup.specs.Tables.{table_shape, limits_shape, tables_of_kind, tables_shape}
 use Rattle.tsn_setup.specs.Toml.{are_among, items_list}
 use Rattle.tsn_setup.specs.Setups.{document_of, setup_shape}
-use Rattle.tsn_setup.specs.Plain.{tables, tables_given, Slots, slot_at, put_slot, names, Tells, Frames, ReadsLines, IsArray, ReadsDocument, ReadsTableOf, ReadsWhole}
-use Rattle.tsn_setup.specs.PlainSlots.{limits_slots, whole_slots, document_slots}
+use Rattle.tsn_setup.specs.Plain.{tables, tables_given, Trays, tray_at, put_tray, names, Tells, Frames, ReadsLines, IsArray, ReadsDocument, ReadsTableOf, ReadsWhole}
+use Rattle.tsn_setup.specs.PlainTrays.{limits_trays, whole_trays, document_trays}
 use Rattle.tsn_setup.specs.declared.drafts.LimitsDraft.{LimitsDraft}
 use Rattle.tsn_setup.specs.declared.drafts.TableDraft.{TableDraft}
 use Rattle.tsn_setup.specs.declared.plain_documents.DocumentTables.{DocumentTables}
-use Rattle.tsn_setup.proofs.Filling.{closed_at, Changes, replaced, told_after, no_node, insert_other, replace_other, told_slot}
+use Rattle.tsn_setup.proofs.Filling.{closed_at, Changes, replaced, told_after, no_node, insert_other, replace_other, told_tray}
 use Rattle.tsn_records.proofs.Pairs.{◌&◌}
 use Rattle.tsn_setup.proofs.Rows.{is_among, same_text, same_bytes, known_at, other_member, all_among}
 use Rattle.tsn_setup.proofs.Told.{only}
@@ -113,14 +113,14 @@ array_still false k l root opened done found x is here others may =
     let apart : l ≡ k → ⊥ = λ same. let equal = same_bytes l k same in cc in
     subst IsArray (sym (replace_other l k (open_array done found) opened apart ∙ others l apart)) may
 
-pub table_added : (text : List ℕ) (slots : Slots) (rest behind after : List ℕ) (kind : Kind) (ts : List TableDraft) (draft : TableDraft)
-    → ReadsDocument text slots rest → (length (skip_blank rest) == 0) ≡ false
+pub table_added : (text : List ℕ) (trays : Trays) (rest behind after : List ℕ) (kind : Kind) (ts : List TableDraft) (draft : TableDraft)
+    → ReadsDocument text trays rest → (length (skip_blank rest) == 0) ≡ false
     → line (skip_blank rest) ≡ Some ((([], kind_text kind), array_table), behind) → length behind < length rest
-    → ReadsTableOf kind behind draft after → slot_at (kind_text kind) slots ≡ Some (tables kind ts)
-    → ReadsDocument text (put_slot (kind_text kind) (tables kind (ts ++ draft ∷ [])) slots) after
-table_added text slots rest behind after kind ts draft so some head shorter t at =
+    → ReadsTableOf kind behind draft after → tray_at (kind_text kind) trays ≡ Some (tables kind ts)
+    → ReadsDocument text (put_tray (kind_text kind) (tables kind (ts ++ draft ∷ [])) trays) after
+table_added text trays rest behind after kind ts draft so some head shorter t at =
     let k = kind_text kind in
-    let told = told_slot slots k (tables kind ts) (close so.root) at so.tells.tells in
+    let told = told_tray trays k (tables kind ts) (close so.root) at so.tells.tells in
     let o : Opens kind so.root ts = opening kind so.root ts (so.arrays kind) told in
     let lead = so.leads in
     let step = lines_more lead.turns (so.root, so.path) _ rest _ behind (omega (arith, lead.room)) some head
@@ -137,7 +137,7 @@ table_added text slots rest behind after kind ts draft so some head shorter t at
       root = around k o.opened o.done t.found;
       path = k ∷ [];
       leads = record { turns = inner.turns; room = inner.room; same = lead.same ∙ step ∙ begins ∙ inner.same };
-      tells = told_after slots k (tables kind ts) (tables kind (ts ++ draft ∷ [])) _ (close so.root) _
+      tells = told_after trays k (tables kind ts) (tables kind (ts ++ draft ∷ [])) _ (close so.root) _
           (around_changes kind so.root ts o t.found) at full so.tells;
       arrays = λ other. array_still (bytes_eq (kind_text other) k) k (kind_text other) so.root o.opened o.done t.found _ refl o.here
           o.others (so.arrays other);
@@ -153,48 +153,48 @@ whole_frames : Frames [] (λ ns. ns)
 unfolding along_header
 whole_frames edit ns = as_it_is (edit ns)
 
-missing : (l : LimitsDraft) (kind : Kind) (ms : Members) → are_among (names (limits_slots l)) ms ≡ true
+missing : (l : LimitsDraft) (kind : Kind) (ms : Members) → are_among (names (limits_trays l)) ms ≡ true
     → get_member (kind_text kind) ms ≡ None
-missing l kinds.Port ms only = other_member (names (limits_slots l)) ms (kind_text kinds.Port) only refl
-missing l kinds.Filter ms only = other_member (names (limits_slots l)) ms (kind_text kinds.Filter) only refl
-missing l kinds.Gate ms only = other_member (names (limits_slots l)) ms (kind_text kinds.Gate) only refl
-missing l kinds.Meter ms only = other_member (names (limits_slots l)) ms (kind_text kinds.Meter) only refl
+missing l kinds.Port ms only = other_member (names (limits_trays l)) ms (kind_text kinds.Port) only refl
+missing l kinds.Filter ms only = other_member (names (limits_trays l)) ms (kind_text kinds.Filter) only refl
+missing l kinds.Gate ms only = other_member (names (limits_trays l)) ms (kind_text kinds.Gate) only refl
+missing l kinds.Meter ms only = other_member (names (limits_trays l)) ms (kind_text kinds.Meter) only refl
 
 wider : (xs ys : List (List ℕ)) (ms : Members) → are_among xs ms ≡ true → are_among (xs ++ ys) ms ≡ true
 wider xs ys ms only = all_among (xs ++ ys) ms (λ k there.
     list_any-append (λ name. bytes_eq name k) xs ys
     ∙ ap (λ b. b || is_among ys k) (known_at (is_among xs k) xs ms k refl only there))
 
-tells_joined : (ms : Members) (a b : Slots) → Tells ms a → Tells ms b → Tells ms (a ++ b)
+tells_joined : (ms : Members) (a b : Trays) → Tells ms a → Tells ms b → Tells ms (a ++ b)
 tells_joined ms [] b first_ones others = others
 tells_joined ms (s ∷ a) b first_ones others = (first_ones.0, tells_joined ms a b first_ones.1 others)
 
 -- limits, and no tables
-pub document_begun : (text rest : List ℕ) (l : LimitsDraft) → ReadsLines text (limits_slots l) rest
-    → ReadsDocument text (whole_slots l (λ kind. [])) rest
+pub document_begun : (text rest : List ℕ) (l : LimitsDraft) → ReadsLines text (limits_trays l) rest
+    → ReadsDocument text (whole_trays l (λ kind. [])) rest
 document_begun text rest l read =
     let found = close read.found in
     let none = λ (kind : Kind). missing l kind found read.tells.only in
     let no_tables = λ (kind : Kind). ap (tables_given kind) (none kind) in
-    let more : Slots = map (λ kind. (kind_text kind, tables kind [])) (kinds.Port ∷ kinds.Filter ∷ kinds.Gate ∷ kinds.Meter ∷ []) in
+    let more : Trays = map (λ kind. (kind_text kind, tables kind [])) (kinds.Port ∷ kinds.Filter ∷ kinds.Gate ∷ kinds.Meter ∷ []) in
     record {
       root = read.found;
       path = [];
       leads = read.leads [] (λ ns. ns) whole_frames (suc (length text)) (omega arith);
       tells = record {
-        tells = tells_joined found (limits_slots l) more read.tells.tells
+        tells = tells_joined found (limits_trays l) more read.tells.tells
             (no_tables kinds.Port & no_tables kinds.Filter & no_tables kinds.Gate & no_tables kinds.Meter & tt);
-        only = wider (names (limits_slots l)) (names more) found read.tells.only;
+        only = wider (names (limits_trays l)) (names more) found read.tells.only;
       };
       arrays = λ kind.
           let empty = no_node (get_node (kind_text kind) read.found) (sym (closed_at (kind_text kind) read.found) ∙ none kind) in
           subst IsArray (sym empty) tt;
     }
 
--- the slots of what has no tables yet
+-- the trays of what has no tables yet
 pub none_yet : (l : LimitsDraft) (t : DocumentTables) → t.ports.items ≡ [] → t.filters.items ≡ [] → t.gates.items ≡ []
-    → t.meters.items ≡ [] → whole_slots l (λ kind. []) ≡ document_slots l t
-none_yet l t p f g m = λ i. limits_slots l
+    → t.meters.items ≡ [] → whole_trays l (λ kind. []) ≡ document_trays l t
+none_yet l t p f g m = λ i. limits_trays l
     ++ (kind_text kinds.Port, tables kinds.Port (sym p i)) ∷
     (kind_text kinds.Filter, tables kinds.Filter (sym f i)) ∷
     (kind_text kinds.Gate, tables kinds.Gate (sym g i)) ∷
@@ -204,9 +204,9 @@ no_mark : (text : List ℕ) → (first text == 0xEF) ≡ false → skip_bom text
 unfolding skip_bom
 no_mark text other = rw other refl
 
-pub document_ended : (text : List ℕ) (slots : Slots) (rest : List ℕ) → ReadsDocument text slots rest → length (skip_blank rest) ≡ 0
-    → (first text == 0xEF) ≡ false → ReadsWhole text slots
-document_ended text slots rest so ends other =
+pub document_ended : (text : List ℕ) (trays : Trays) (rest : List ℕ) → ReadsDocument text trays rest → length (skip_blank rest) ≡ 0
+    → (first text == 0xEF) ≡ false → ReadsWhole text trays
+document_ended text trays rest so ends other =
     let lead = so.leads in
     let all : lines (suc (length text)) (no_nodes, []) text ≡ Some (so.root, so.path) = lead.same
     ∙ lines_end lead.turns (so.root, so.path) rest (omega (arith, lead.room)) ends in
@@ -219,7 +219,7 @@ document_ended text slots rest so ends other =
 -- ---- the shape of the whole
 
 pub document_shaped : (text : List ℕ) (l : LimitsDraft) (ts : Kind → List TableDraft) (all : List TableDraft) → is_utf8 text ≡ true
-    → ReadsWhole text (whole_slots l ts) → all ≡ ts kinds.Port ++ ts kinds.Filter ++ ts kinds.Gate ++ ts kinds.Meter
+    → ReadsWhole text (whole_trays l ts) → all ≡ ts kinds.Port ++ ts kinds.Filter ++ ts kinds.Gate ++ ts kinds.Meter
     → (d : Data) × ((document_of text ≡ Some d) × (setup_shape d ≡ Ok (l, all)))
 unfolding setup_shape limits_shape tables_shape tables_of_kind
 document_shaped text l ts all utf8 read is =
@@ -243,10 +243,10 @@ document_shaped text l ts all utf8 read is =
       ),
     )
 
--- the slot of a kind
-pub own_slot : (kind : Kind) (l : LimitsDraft) (ts : Kind → List TableDraft)
-    → slot_at (kind_text kind) (whole_slots l ts) ≡ Some (tables kind (ts kind))
-own_slot kinds.Port l ts = refl
-own_slot kinds.Filter l ts = refl
-own_slot kinds.Gate l ts = refl
-own_slot kinds.Meter l ts = refl
+-- the tray of a kind
+pub own_tray : (kind : Kind) (l : LimitsDraft) (ts : Kind → List TableDraft)
+    → tray_at (kind_text kind) (whole_trays l ts) ≡ Some (tables kind (ts kind))
+own_tray kinds.Port l ts = refl
+own_tray kinds.Filter l ts = refl
+own_tray kinds.Gate l ts = refl
+own_tray kinds.Meter l ts = refl

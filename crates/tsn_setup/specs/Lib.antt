@@ -1,7 +1,7 @@
 pub mod Examples
 pub mod Plain
 pub mod PlainNumbers
-pub mod PlainSlots
+pub mod PlainTrays
 pub mod Ranges
 pub mod Setups
 pub mod Tables

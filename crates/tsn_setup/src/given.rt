@@ -5,7 +5,7 @@ ghost use Rattle.std.specs.List.{prefix_len};
 ghost use Rattle.toml.specs.Data.{integer};
 ghost use Rattle.toml.specs.Parse.{scalar_data, val};
 ghost use Rattle.tsn_setup.specs.PlainNumbers.{EndsWord};
-ghost use Rattle.tsn_setup.specs.Plain.{Slot, number, flag, IsOpen, ReadsValue};
+ghost use Rattle.tsn_setup.specs.Plain.{Tray, number, flag, IsOpen, ReadsValue};
 
 use crate::members::natural;
 use std::alloc::Global;
@@ -18,7 +18,7 @@ const GREATEST: u64 = i64::MAX as u64;
 
 /// A value as a member has it.
 pub trait Given: Drop {
-    ghost slot: { Option Self → Slot };
+    ghost tray: { Option Self → Tray };
 
     // how many brackets the value may have in one another
     ghost nesting: { ℕ };
@@ -26,8 +26,8 @@ pub trait Given: Drop {
     /// Reads the value that the text begins with. None where it is no such value or is spelled in another way, and
     /// where memory is refused.
     fn given(alloc: Global, text: &str) -> Option<(Self, &str)>
-        ensures value { IfSome result (λ p. ReadsValue nesting text.now (slot (Some p.0)) p.1.now) }
-        ensures open { IsOpen (slot None) }
+        ensures value { IfSome result (λ p. ReadsValue nesting text.now (tray (Some p.0)) p.1.now) }
+        ensures open { IsOpen (tray None) }
         ensures shorter { IfSome result (λ p. length p.1.now < length text.now) };
 }
 
@@ -97,7 +97,7 @@ fn digits_alone(text: &str) -> Option<(u64, &str)>
 }
 
 impl Given for u64 {
-    ghost slot = { number };
+    ghost tray = { number };
 
     ghost nesting = { 0 };
 
@@ -115,7 +115,7 @@ impl Given for u64 {
 }
 
 impl Given for bool {
-    ghost slot = { flag };
+    ghost tray = { flag };
 
     ghost nesting = { 0 };
 

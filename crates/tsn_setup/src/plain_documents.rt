@@ -5,7 +5,7 @@
 ghost use Rattle.std.specs.Prelude.{◌≡◌, ◌++◌, [], Some, Ok, IfSome};
 ghost use Rattle.toml.specs.Data.{Data};
 ghost use Rattle.tsn_setup.specs.Plain.{ReadsWhole};
-ghost use Rattle.tsn_setup.specs.PlainSlots.{document_slots, HasOneMore};
+ghost use Rattle.tsn_setup.specs.PlainTrays.{document_trays, HasOneMore};
 ghost use Rattle.tsn_setup.specs.Setups.{document_of, setup_shape};
 
 use crate::drafts::{LimitsDraft, TableDraft};
@@ -73,7 +73,7 @@ impl DocumentTables {
 const MARK: u8 = 0xEF;
 
 fn document(alloc: Global, text: &str) -> Option<(LimitsDraft, DocumentTables)>
-    ensures { IfSome result (λ p. ReadsWhole text.now (document_slots p.0 p.1)) }
+    ensures { IfSome result (λ p. ReadsWhole text.now (document_trays p.0 p.1)) }
 {
     if first(text) == MARK {
         return None;

@@ -4,11 +4,11 @@ ghost use Rattle.std.specs.Prelude.{◌≡◌, ◌<◌, Result, length, IfSome};
 ghost use Rattle.toml.specs.Data.{Data};
 ghost use Rattle.tsn_records.specs.declared.unread.Unread.{Unread};
 ghost use Rattle.tsn_setup.specs.Plain.{port_list, gate_list, ReadsEntries, ReadsEntry};
-ghost use Rattle.tsn_setup.specs.PlainSlots.{port_entry_slots, gate_entry_slots};
+ghost use Rattle.tsn_setup.specs.PlainTrays.{port_entry_trays, gate_entry_trays};
 ghost use Rattle.tsn_records.specs.Records.{port_entry_shape, gate_entry_shape};
 ghost use Rattle.tsn_setup.specs.Toml.{as_toml};
 
-use crate::gathered::{Gathered, inline_table, slot};
+use crate::gathered::{PlainTable, inline_table, tray};
 use crate::given::Given;
 use crate::plain::behind_element;
 use std::alloc::Global;
@@ -29,21 +29,21 @@ pub trait PlainEntry: Drop {
 
 /// The members of a port's entry, as far as they were read.
 #[derive(Default, Drop)]
-pub struct PortEntryMembers {
+pub struct PlainPortEntry {
     pub gates: Option<u64>,
     pub interval: Option<u64>,
 }
 
-impl Gathered for PortEntryMembers {
-    ghost slots = { port_entry_slots };
+impl PlainTable for PlainPortEntry {
+    ghost trays = { port_entry_trays };
 
     ghost nesting = { 0 };
 
-    #[tactic(auto, using(crate::proofs::Values::slot_filled))]
+    #[tactic(auto, using(crate::proofs::Values::tray_filled))]
     fn member<'a>(&mut self, alloc: Global, text: &'a str) -> Option<&'a str> {
         match first(text) {
-            b'g' => slot(alloc, text, "gates", &mut self.gates),
-            b'i' => slot(alloc, text, "interval", &mut self.interval),
+            b'g' => tray(alloc, text, "gates", &mut self.gates),
+            b'i' => tray(alloc, text, "interval", &mut self.interval),
             _ => None,
         }
     }
@@ -53,25 +53,25 @@ impl Gathered for PortEntryMembers {
 
 /// The members of a stream gate's entry, as far as they were read.
 #[derive(Default, Drop)]
-pub struct GateEntryMembers {
+pub struct PlainGateEntry {
     pub open: Option<bool>,
     pub ipv: Option<u64>,
     pub interval: Option<u64>,
     pub octets: Option<u64>,
 }
 
-impl Gathered for GateEntryMembers {
-    ghost slots = { gate_entry_slots };
+impl PlainTable for PlainGateEntry {
+    ghost trays = { gate_entry_trays };
 
     ghost nesting = { 0 };
 
-    #[tactic(auto, using(crate::proofs::Values::slot_filled))]
+    #[tactic(auto, using(crate::proofs::Values::tray_filled))]
     fn member<'a>(&mut self, alloc: Global, text: &'a str) -> Option<&'a str> {
         match (first(text), byte_at(text, 1)) {
-            (b'i', b'n') => slot(alloc, text, "interval", &mut self.interval),
-            (b'i', _) => slot(alloc, text, "ipv", &mut self.ipv),
-            (b'o', b'c') => slot(alloc, text, "octets", &mut self.octets),
-            (b'o', _) => slot(alloc, text, "open", &mut self.open),
+            (b'i', b'n') => tray(alloc, text, "interval", &mut self.interval),
+            (b'i', _) => tray(alloc, text, "ipv", &mut self.ipv),
+            (b'o', b'c') => tray(alloc, text, "octets", &mut self.octets),
+            (b'o', _) => tray(alloc, text, "open", &mut self.open),
             _ => None,
         }
     }
@@ -84,7 +84,7 @@ impl PlainEntry for PortEntryDraft {
 
     #[tactic(auto, using(crate::proofs::Told::port_entry_told))]
     fn entry(alloc: Global, text: &str) -> Option<(PortEntryDraft, &str)> {
-        let (found, rest) = inline_table::<PortEntryMembers>(alloc, text)?;
+        let (found, rest) = inline_table::<PlainPortEntry>(alloc, text)?;
         let gates = found.gates?;
         let interval = found.interval?;
         Some((PortEntryDraft { gates, interval }, rest))
@@ -96,7 +96,7 @@ impl PlainEntry for GateEntryDraft {
 
     #[tactic(auto, using(crate::proofs::Told::gate_entry_told))]
     fn entry(alloc: Global, text: &str) -> Option<(GateEntryDraft, &str)> {
-        let (found, rest) = inline_table::<GateEntryMembers>(alloc, text)?;
+        let (found, rest) = inline_table::<PlainGateEntry>(alloc, text)?;
         let is_open = found.open?;
         let interval = found.interval?;
         let entry = GateEntryDraft {
@@ -134,7 +134,7 @@ fn entries<E: PlainEntry>(alloc: Global, text: &str) -> Option<(ControlList<E>, 
 }
 
 impl Given for ControlList<PortEntryDraft> {
-    ghost slot = { port_list };
+    ghost tray = { port_list };
 
     ghost nesting = { 2 };
 
@@ -148,7 +148,7 @@ impl Given for ControlList<PortEntryDraft> {
 }
 
 impl Given for ControlList<GateEntryDraft> {
-    ghost slot = { gate_list };
+    ghost tray = { gate_list };
 
     ghost nesting = { 2 };
 

@@ -3,10 +3,10 @@ ghost use Rattle.std.proofs.Common.{rules};
 ghost use Rattle.std.specs.Prelude.{◌≡◌, ◌≤◌, length, IfSome};
 ghost use Rattle.tsn_types.specs.declared.keys.Kind.TheVariants as kinds;
 ghost use Rattle.tsn_setup.specs.Plain.{ReadsTableOf};
-ghost use Rattle.tsn_setup.specs.PlainSlots.{port_slots, filter_slots, gate_slots, meter_slots, limits_slots};
+ghost use Rattle.tsn_setup.specs.PlainTrays.{port_trays, filter_trays, gate_trays, meter_trays, limits_trays};
 
 use crate::drafts::{LimitsDraft, TableDraft};
-use crate::gathered::{Gathered, slot, table_lines};
+use crate::gathered::{PlainTable, table_lines, tray};
 use std::alloc::Global;
 use toml_parser::text::{byte_at, first};
 use tsn_records::drafts::{
@@ -18,7 +18,7 @@ use tsn_types::lists::ControlList;
 
 /// The members of a port's table, as far as they were read.
 #[derive(Default, Drop)]
-pub struct PortMembers {
+pub struct PlainPort {
     pub id: Option<u64>,
     pub gates: Option<u64>,
     pub list: Option<ControlList<PortEntryDraft>>,
@@ -27,20 +27,20 @@ pub struct PortMembers {
     pub base: Option<u64>,
 }
 
-impl Gathered for PortMembers {
-    ghost slots = { port_slots };
+impl PlainTable for PlainPort {
+    ghost trays = { port_trays };
 
     ghost nesting = { 2 };
 
-    #[tactic(auto, using(crate::proofs::Values::slot_filled))]
+    #[tactic(auto, using(crate::proofs::Values::tray_filled))]
     fn member<'a>(&mut self, alloc: Global, text: &'a str) -> Option<&'a str> {
         match first(text) {
-            b'i' => slot(alloc, text, "id", &mut self.id),
-            b'g' => slot(alloc, text, "gates", &mut self.gates),
-            b'l' => slot(alloc, text, "list", &mut self.list),
-            b'c' => slot(alloc, text, "cycle", &mut self.cycle),
-            b'e' => slot(alloc, text, "extension", &mut self.extension),
-            b'b' => slot(alloc, text, "base", &mut self.base),
+            b'i' => tray(alloc, text, "id", &mut self.id),
+            b'g' => tray(alloc, text, "gates", &mut self.gates),
+            b'l' => tray(alloc, text, "list", &mut self.list),
+            b'c' => tray(alloc, text, "cycle", &mut self.cycle),
+            b'e' => tray(alloc, text, "extension", &mut self.extension),
+            b'b' => tray(alloc, text, "base", &mut self.base),
             _ => None,
         }
     }
@@ -50,7 +50,7 @@ impl Gathered for PortMembers {
 
 /// The members of a filter's table, as far as they were read.
 #[derive(Default, Drop)]
-pub struct FilterMembers {
+pub struct PlainFilter {
     pub id: Option<u64>,
     pub handle: Option<u64>,
     pub priority: Option<u64>,
@@ -60,21 +60,21 @@ pub struct FilterMembers {
     pub oversize: Option<bool>,
 }
 
-impl Gathered for FilterMembers {
-    ghost slots = { filter_slots };
+impl PlainTable for PlainFilter {
+    ghost trays = { filter_trays };
 
     ghost nesting = { 0 };
 
-    #[tactic(auto, using(crate::proofs::Values::slot_filled))]
+    #[tactic(auto, using(crate::proofs::Values::tray_filled))]
     fn member<'a>(&mut self, alloc: Global, text: &'a str) -> Option<&'a str> {
         match (first(text), byte_at(text, 1)) {
-            (b'i', _) => slot(alloc, text, "id", &mut self.id),
-            (b'h', _) => slot(alloc, text, "handle", &mut self.handle),
-            (b'p', _) => slot(alloc, text, "priority", &mut self.priority),
-            (b'g', _) => slot(alloc, text, "gate", &mut self.gate),
-            (b'm', b'a') => slot(alloc, text, "max_sdu", &mut self.max_sdu),
-            (b'm', _) => slot(alloc, text, "meter", &mut self.meter),
-            (b'o', _) => slot(alloc, text, "oversize", &mut self.oversize),
+            (b'i', _) => tray(alloc, text, "id", &mut self.id),
+            (b'h', _) => tray(alloc, text, "handle", &mut self.handle),
+            (b'p', _) => tray(alloc, text, "priority", &mut self.priority),
+            (b'g', _) => tray(alloc, text, "gate", &mut self.gate),
+            (b'm', b'a') => tray(alloc, text, "max_sdu", &mut self.max_sdu),
+            (b'm', _) => tray(alloc, text, "meter", &mut self.meter),
+            (b'o', _) => tray(alloc, text, "oversize", &mut self.oversize),
             _ => None,
         }
     }
@@ -84,7 +84,7 @@ impl Gathered for FilterMembers {
 
 /// The members of a stream gate's table, as far as they were read.
 #[derive(Default, Drop)]
-pub struct GateMembers {
+pub struct PlainGate {
     pub id: Option<u64>,
     pub open: Option<bool>,
     pub ipv: Option<u64>,
@@ -96,23 +96,23 @@ pub struct GateMembers {
     pub octets_exceeded: Option<bool>,
 }
 
-impl Gathered for GateMembers {
-    ghost slots = { gate_slots };
+impl PlainTable for PlainGate {
+    ghost trays = { gate_trays };
 
     ghost nesting = { 2 };
 
-    #[tactic(auto, using(crate::proofs::Values::slot_filled))]
+    #[tactic(auto, using(crate::proofs::Values::tray_filled))]
     fn member<'a>(&mut self, alloc: Global, text: &'a str) -> Option<&'a str> {
         match (first(text), byte_at(text, 1)) {
-            (b'i', b'd') => slot(alloc, text, "id", &mut self.id),
-            (b'i', b'p') => slot(alloc, text, "ipv", &mut self.ipv),
-            (b'i', _) => slot(alloc, text, "invalid_rx", &mut self.invalid_rx),
-            (b'o', b'p') => slot(alloc, text, "open", &mut self.open),
-            (b'o', _) => slot(alloc, text, "octets_exceeded", &mut self.octets_exceeded),
-            (b'l', _) => slot(alloc, text, "list", &mut self.list),
-            (b'c', _) => slot(alloc, text, "cycle", &mut self.cycle),
-            (b'e', _) => slot(alloc, text, "extension", &mut self.extension),
-            (b'b', _) => slot(alloc, text, "base", &mut self.base),
+            (b'i', b'd') => tray(alloc, text, "id", &mut self.id),
+            (b'i', b'p') => tray(alloc, text, "ipv", &mut self.ipv),
+            (b'i', _) => tray(alloc, text, "invalid_rx", &mut self.invalid_rx),
+            (b'o', b'p') => tray(alloc, text, "open", &mut self.open),
+            (b'o', _) => tray(alloc, text, "octets_exceeded", &mut self.octets_exceeded),
+            (b'l', _) => tray(alloc, text, "list", &mut self.list),
+            (b'c', _) => tray(alloc, text, "cycle", &mut self.cycle),
+            (b'e', _) => tray(alloc, text, "extension", &mut self.extension),
+            (b'b', _) => tray(alloc, text, "base", &mut self.base),
             _ => None,
         }
     }
@@ -122,7 +122,7 @@ impl Gathered for GateMembers {
 
 /// The members of a meter's table, as far as they were read.
 #[derive(Default, Drop)]
-pub struct MeterMembers {
+pub struct PlainMeter {
     pub id: Option<u64>,
     pub cir: Option<u64>,
     pub cbs: Option<u64>,
@@ -134,23 +134,23 @@ pub struct MeterMembers {
     pub all_red: Option<bool>,
 }
 
-impl Gathered for MeterMembers {
-    ghost slots = { meter_slots };
+impl PlainTable for PlainMeter {
+    ghost trays = { meter_trays };
 
     ghost nesting = { 0 };
 
-    #[tactic(auto, using(crate::proofs::Values::slot_filled))]
+    #[tactic(auto, using(crate::proofs::Values::tray_filled))]
     fn member<'a>(&mut self, alloc: Global, text: &'a str) -> Option<&'a str> {
         match (first(text), byte_at(text, 1)) {
-            (b'i', _) => slot(alloc, text, "id", &mut self.id),
-            (b'c', b'i') => slot(alloc, text, "cir", &mut self.cir),
-            (b'c', b'b') => slot(alloc, text, "cbs", &mut self.cbs),
-            (b'c', _) => slot(alloc, text, "cf", &mut self.cf),
-            (b'e', b'i') => slot(alloc, text, "eir", &mut self.eir),
-            (b'e', _) => slot(alloc, text, "ebs", &mut self.ebs),
-            (b'a', b'w') => slot(alloc, text, "aware", &mut self.aware),
-            (b'a', _) => slot(alloc, text, "all_red", &mut self.all_red),
-            (b'd', _) => slot(alloc, text, "drop_yellow", &mut self.drop_yellow),
+            (b'i', _) => tray(alloc, text, "id", &mut self.id),
+            (b'c', b'i') => tray(alloc, text, "cir", &mut self.cir),
+            (b'c', b'b') => tray(alloc, text, "cbs", &mut self.cbs),
+            (b'c', _) => tray(alloc, text, "cf", &mut self.cf),
+            (b'e', b'i') => tray(alloc, text, "eir", &mut self.eir),
+            (b'e', _) => tray(alloc, text, "ebs", &mut self.ebs),
+            (b'a', b'w') => tray(alloc, text, "aware", &mut self.aware),
+            (b'a', _) => tray(alloc, text, "all_red", &mut self.all_red),
+            (b'd', _) => tray(alloc, text, "drop_yellow", &mut self.drop_yellow),
             _ => None,
         }
     }
@@ -158,19 +158,19 @@ impl Gathered for MeterMembers {
     ghost opens = { λ found h. Prim.search rules };
 }
 
-impl Gathered for LimitsDraft {
-    ghost slots = { limits_slots };
+impl PlainTable for LimitsDraft {
+    ghost trays = { limits_trays };
 
     ghost nesting = { 0 };
 
-    #[tactic(auto, using(crate::proofs::Values::slot_filled))]
+    #[tactic(auto, using(crate::proofs::Values::tray_filled))]
     fn member<'a>(&mut self, alloc: Global, text: &'a str) -> Option<&'a str> {
         match (first(text), byte_at(text, 4)) {
-            (b'p', _) => slot(alloc, text, "ports", &mut self.ports),
-            (b'm', b'f') => slot(alloc, text, "max_filters", &mut self.max_filters),
-            (b'm', b'g') => slot(alloc, text, "max_gates", &mut self.max_gates),
-            (b'm', _) => slot(alloc, text, "max_meters", &mut self.max_meters),
-            (b'l', _) => slot(alloc, text, "list_max", &mut self.list_max),
+            (b'p', _) => tray(alloc, text, "ports", &mut self.ports),
+            (b'm', b'f') => tray(alloc, text, "max_filters", &mut self.max_filters),
+            (b'm', b'g') => tray(alloc, text, "max_gates", &mut self.max_gates),
+            (b'm', _) => tray(alloc, text, "max_meters", &mut self.max_meters),
+            (b'l', _) => tray(alloc, text, "list_max", &mut self.list_max),
             _ => None,
         }
     }
@@ -182,7 +182,7 @@ fn port_table(alloc: Global, text: &str) -> Option<(TableDraft, &str)>
     ensures table { IfSome result (λ p. ReadsTableOf kinds.Port text.now p.0 p.1.now) }
     ensures within { IfSome result (λ p. length p.1.now ≤ length text.now) }
 {
-    let (found, rest) = table_lines::<PortMembers>(alloc, text)?;
+    let (found, rest) = table_lines::<PlainPort>(alloc, text)?;
     let id = found.id?;
     let gates = found.gates?;
     let list = found.list?;
@@ -203,7 +203,7 @@ fn filter_table(alloc: Global, text: &str) -> Option<(TableDraft, &str)>
     ensures table { IfSome result (λ p. ReadsTableOf kinds.Filter text.now p.0 p.1.now) }
     ensures within { IfSome result (λ p. length p.1.now ≤ length text.now) }
 {
-    let (found, rest) = table_lines::<FilterMembers>(alloc, text)?;
+    let (found, rest) = table_lines::<PlainFilter>(alloc, text)?;
     let id = found.id?;
     let gate = found.gate?;
     let oversize = found.oversize?;
@@ -222,7 +222,7 @@ fn gate_table(alloc: Global, text: &str) -> Option<(TableDraft, &str)>
     ensures table { IfSome result (λ p. ReadsTableOf kinds.Gate text.now p.0 p.1.now) }
     ensures within { IfSome result (λ p. length p.1.now ≤ length text.now) }
 {
-    let (found, rest) = table_lines::<GateMembers>(alloc, text)?;
+    let (found, rest) = table_lines::<PlainGate>(alloc, text)?;
     let id = found.id?;
     let is_open = found.open?;
     let ipv = found.ipv;
@@ -252,7 +252,7 @@ fn meter_table(alloc: Global, text: &str) -> Option<(TableDraft, &str)>
     ensures table { IfSome result (λ p. ReadsTableOf kinds.Meter text.now p.0 p.1.now) }
     ensures within { IfSome result (λ p. length p.1.now ≤ length text.now) }
 {
-    let (found, rest) = table_lines::<MeterMembers>(alloc, text)?;
+    let (found, rest) = table_lines::<PlainMeter>(alloc, text)?;
     let id = found.id?;
     let cir = found.cir?;
     let cbs = found.cbs?;

@@ -8,6 +8,6 @@ mod logging;
 mod path;
 mod tally;
 
-pub use listening::{ListenFault, Listener, Place, listen_on};
+pub use listening::{Endpoint, ListenFault, Listener, listen_on};
 pub use logging::{Log, LoggedWriter};
 pub use tally::Told;

@@ -9,14 +9,14 @@ use std::rt::Files;
 use std::{fmt, io};
 use tsn_bytes::Fault;
 
-/// Begins a place that is a path.
+/// Begins an endpoint that is a path.
 const PATH_MARK: &str = "unix:";
 
-/// Why nothing listens at a place.
+/// Why nothing listens at an endpoint.
 #[derive(Drop)]
 pub enum ListenFault {
     /// The text is neither an IP address and port nor a path behind `unix:`.
-    NoPlace,
+    NoEndpoint,
     /// What stands at the path is no socket.
     NoSocket,
     /// Another server listens at the path.
@@ -37,7 +37,7 @@ impl From<io::Error> for ListenFault {
 impl Display for ListenFault {
     fn fmt<W: Write>(&self, f: &mut Formatter<W>) -> Result<(), fmt::Error> {
         match self {
-            ListenFault::NoPlace => f.write_str("neither an IP address and port nor unix:PATH"),
+            ListenFault::NoEndpoint => f.write_str("neither an IP address and port nor unix:PATH"),
             ListenFault::NoSocket => f.write_str("what is there is no socket"),
             ListenFault::InUse => f.write_str("another server listens there"),
             ListenFault::Memory => write!(f, "{}", Fault::Memory),
@@ -46,24 +46,24 @@ impl Display for ListenFault {
     }
 }
 
-/// A place where a server listens.
+/// An endpoint where a server listens.
 #[derive(Drop)]
-pub enum Place {
+pub enum Endpoint {
     Address(SocketAddr),
     Path(String),
 }
 
 /// As a text it is what `--listen` takes.
-impl Display for Place {
+impl Display for Endpoint {
     fn fmt<W: Write>(&self, f: &mut Formatter<W>) -> Result<(), fmt::Error> {
         match self {
-            Place::Address(address) => write!(f, "{address}"),
-            Place::Path(path) => write!(f, "unix:{path}"),
+            Endpoint::Address(address) => write!(f, "{address}"),
+            Endpoint::Path(path) => write!(f, "unix:{path}"),
         }
     }
 }
 
-/// A listener at a place.
+/// A listener at an endpoint.
 #[derive(Drop)]
 pub enum Listener {
     Tcp(TcpListener),
@@ -92,32 +92,32 @@ fn listen_at<R: Files + Net>(
     rt: &R,
     alloc: Global,
     path: &str,
-) -> Result<(Listener, Place), ListenFault> {
+) -> Result<(Listener, Endpoint), ListenFault> {
     if path.is_empty() {
-        return Err(ListenFault::NoPlace);
+        return Err(ListenFault::NoEndpoint);
     }
     let Ok(name) = String::from_str(alloc, path) else {
         return Err(ListenFault::Memory);
     };
     make_way(rt, path)?;
     let listener = open_for_owner(rt, path)?;
-    Ok((Listener::Unix(listener), Place::Path(name)))
+    Ok((Listener::Unix(listener), Endpoint::Path(name)))
 }
 
-/// A listener at the place, an IP address and port as in `127.0.0.1:7000` or a path as in `unix:/run/tsnd.socket`, and
-/// where it listens: a port of 0 is one that the system chooses.
+/// A listener at the endpoint, an IP address and port as in `127.0.0.1:7000` or a path as in `unix:/run/tsnd.socket`,
+/// and where it listens: a port of 0 is one that the system chooses.
 pub fn listen_on<R: Files + Net<Listener = TcpListener, Stream = TcpStream>>(
     rt: &R,
     alloc: Global,
-    place: &str,
-) -> Result<(Listener, Place), ListenFault> {
-    if let Some(path) = place.strip_prefix(PATH_MARK) {
+    endpoint: &str,
+) -> Result<(Listener, Endpoint), ListenFault> {
+    if let Some(path) = endpoint.strip_prefix(PATH_MARK) {
         return listen_at(rt, alloc, path);
     }
-    let Ok(address) = place.parse::<SocketAddr>() else {
-        return Err(ListenFault::NoPlace);
+    let Ok(address) = endpoint.parse::<SocketAddr>() else {
+        return Err(ListenFault::NoEndpoint);
     };
     let listener = TcpListener::bind(rt, address)?;
     let bound = listener.local_addr()?;
-    Ok((Listener::Tcp(listener), Place::Address(bound)))
+    Ok((Listener::Tcp(listener), Endpoint::Address(bound)))
 }

@@ -1,4 +1,4 @@
--- The line of an ask in the service's own spelling.
+-- The line of an ask in the service's compact spelling.
 use Rattle.std.specs.Prelude.{ℕ, List}
 use Rattle.serde_json.specs.Written.{compact_text}
 use Rattle.tsn_bridge.specs.declared.command.Ask.{Ask}

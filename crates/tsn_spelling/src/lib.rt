@@ -1,5 +1,5 @@
-//! The line of an ask in the service's own spelling, as a journal file keeps it: compact JSON with its members in
-//! ascending order of their names, and no line feed.
+//! The line of an ask in the service's compact spelling, as a journal file keeps it: JSON with no spaces, its
+//! members in ascending order of their names, and no line feed.
 //!
 //! `spell` is the call of the layer above. What it puts reads back as the ask, by `laws::reads_back`, and each ask that
 //! came from a line has such a line, by `laws::was_asked`. It stands on the reader of `tsn_wire`, whose definitions say

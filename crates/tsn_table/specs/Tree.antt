@@ -22,12 +22,12 @@ nodes_of (Fork' place block left_height right_height left right) = nodes_of left
 abbrev pub nodes_below : Node → ℕ
 nodes_below node = nodes_of node.left + nodes_of node.right + 1
 
--- no node has a left side, so the nodes stand in one row
-abbrev pub IsRow : Tree → Type 0
-IsRow Empty = Unit {0}
-IsRow (Fork' place block left_height right_height left right) = (left ≡ Empty) × IsRow right
+-- no node has a left side, so the nodes stand in one vine
+abbrev pub IsVine : Tree → Type 0
+IsVine Empty = Unit {0}
+IsVine (Fork' place block left_height right_height left right) = (left ≡ Empty) × IsVine right
 
--- Two nodes of a row that stand side by side have 64 numbers or more: so its nodes are few. This is what is known of their sum,
+-- Two nodes of a vine that stand side by side have 64 numbers or more: so its nodes are few. This is what is known of their sum,
 -- where the numbers of the first node count twice.
 abbrev pub IsPacked : Tree → Type 0
 IsPacked Empty = Unit {0}

@@ -1,14 +1,14 @@
 //! A tree packed into few nodes.
 //!
-//! The nodes of the tree are put in a row from the right, and where the numbers of one go into the block of the next,
-//! they do, and a node goes to the pool. Then the row is made a tree again whose sides are as high as each other, or
-//! differ by one. All nodes are touched once, and no memory is taken.
+//! The nodes of the tree are put in a vine, a tree with no left sides, from the right, and where the numbers of one go
+//! into the block of the next, they do, and a node goes to the pool. Then the vine is made a tree again whose sides are
+//! as high as each other, or differ by one. All nodes are touched once, and no memory is taken.
 ghost use Rattle.std.specs.Prelude.{◌≡◌, ◌+◌, ◌*◌, ◌<◌, ◌≤◌, ◌++◌, length};
 ghost use Rattle.std.specs.Vec.{vec_capacity, vec_len};
 ghost use Rattle.tsn_table.specs.Blocks.{numbers_in, one_if};
 ghost use Rattle.tsn_table.specs.Levels.{height_of, Differs, IsHeightFor, IsLevel};
 ghost use Rattle.tsn_table.specs.Rising.{IsRising, put_number};
-ghost use Rattle.tsn_table.specs.Tree.{nodes_below, nodes_of, numbers_below, numbers_of, share, IsPacked, IsRow};
+ghost use Rattle.tsn_table.specs.Tree.{nodes_below, nodes_of, numbers_below, numbers_of, share, IsPacked, IsVine};
 
 use crate::tree::{Node, Tree, put_among};
 use std::mem;
@@ -25,8 +25,8 @@ pub(crate) fn pack(tree: &mut Tree, pool: &mut Vec<Box<Node>>, nodes: usize)
     ensures quarter { length (numbers_of tree.old) + share < share * nodes_of tree.old
         → nodes_of tree.old + 4 * vec_len pool.old ≤ 4 * vec_len pool.new }
 {
-    let mut row = row_of(mem::replace(tree, Tree::Empty), Tree::Empty, pool);
-    *tree = raised(&mut row, nodes - pool.len());
+    let mut vine = vine_of(mem::replace(tree, Tree::Empty), Tree::Empty, pool);
+    *tree = raised(&mut vine, nodes - pool.len());
 }
 
 /// Puts a number into a tree, and says whether it came in. The tree is packed first where no node waits.
@@ -55,12 +55,12 @@ pub(crate) fn put_packed(
     put_among(tree, id, pool, came);
 }
 
-// The nodes of a tree in a row, before another row.
-fn row_of(tree: Tree, behind: Tree, pool: &mut Vec<Box<Node>>) -> Tree
-    requires row { IsRow behind }
+// The nodes of a tree in a vine, before another vine.
+fn vine_of(tree: Tree, behind: Tree, pool: &mut Vec<Box<Node>>) -> Tree
+    requires vine { IsVine behind }
     requires packed { IsPacked behind }
     requires place { nodes_of tree + nodes_of behind + vec_len pool.old ≤ vec_capacity pool.old }
-    ensures row { IsRow result }
+    ensures vine { IsVine result }
     ensures packed { IsPacked result }
     ensures numbers { numbers_of result ≡ numbers_of tree ++ numbers_of behind }
     ensures nodes { nodes_of result + vec_len pool.new ≡ nodes_of tree + nodes_of behind + vec_len pool.old }
@@ -71,21 +71,21 @@ fn row_of(tree: Tree, behind: Tree, pool: &mut Vec<Box<Node>>) -> Tree
         Tree::Fork(mut node) => {
             let left = mem::replace(&mut node.left, Tree::Empty);
             let right = mem::replace(&mut node.right, Tree::Empty);
-            let behind = row_of(right, behind, pool);
-            let row = before(node, behind, pool);
-            row_of(left, row, pool)
+            let behind = vine_of(right, behind, pool);
+            let vine = before(node, behind, pool);
+            vine_of(left, vine, pool)
         }
     }
 }
 
-// A node that has no sides before a row, where the block of the row's first node goes into its own one if it can.
+// A node that has no sides before a vine, where the block of the vine's first node goes into its own one if it can.
 fn before(mut node: Box<Node>, behind: Tree, pool: &mut Vec<Box<Node>>) -> Tree
     requires left { nodes_of node.value.left ≡ 0 }
     requires right { nodes_of node.value.right ≡ 0 }
-    requires row { IsRow behind }
+    requires vine { IsVine behind }
     requires packed { IsPacked behind }
     requires place { nodes_of behind + vec_len pool.old < vec_capacity pool.old }
-    ensures row { IsRow result }
+    ensures vine { IsVine result }
     ensures packed { IsPacked result }
     ensures numbers { numbers_of result ≡ numbers_in node.value.block ++ numbers_of behind }
     ensures nodes { nodes_of result + vec_len pool.new ≡ nodes_of behind + 1 + vec_len pool.old }
@@ -98,20 +98,20 @@ fn before(mut node: Box<Node>, behind: Tree, pool: &mut Vec<Box<Node>>) -> Tree
             node.right = mem::replace(&mut next.right, Tree::Empty);
             pool.push_reserved(next);
         }
-        row => node.right = row,
+        vine => node.right = vine,
     }
     Tree::Fork(node)
 }
 
-// The level tree of so many nodes, the first ones of a row.
+// The level tree of so many nodes, the first ones of a vine.
 #[tactic(auto, using(crate::proofs::Levels::joined))]
-fn raised(row: &mut Tree, count: usize) -> Tree
-    requires row { IsRow row.old }
-    requires enough { count ≤ nodes_of row.old }
-    ensures row { IsRow row.new }
-    ensures numbers { numbers_of row.old ≡ numbers_of result ++ numbers_of row.new }
+fn raised(vine: &mut Tree, count: usize) -> Tree
+    requires vine { IsVine vine.old }
+    requires enough { count ≤ nodes_of vine.old }
+    ensures vine { IsVine vine.new }
+    ensures numbers { numbers_of vine.old ≡ numbers_of result ++ numbers_of vine.new }
     ensures count { nodes_of result ≡ count }
-    ensures nodes { nodes_of row.old ≡ count + nodes_of row.new }
+    ensures nodes { nodes_of vine.old ≡ count + nodes_of vine.new }
     ensures level { IsLevel result }
     ensures height { IsHeightFor count (height_of result) }
 {
@@ -119,12 +119,12 @@ fn raised(row: &mut Tree, count: usize) -> Tree
         return Tree::Empty;
     }
     let half = count / 2;
-    let left = raised(row, half);
-    let Tree::Fork(mut node) = mem::replace(row, Tree::Empty) else {
+    let left = raised(vine, half);
+    let Tree::Fork(mut node) = mem::replace(vine, Tree::Empty) else {
         unreachable!();
     };
-    *row = mem::replace(&mut node.right, Tree::Empty);
-    let right = raised(row, count - half - 1);
+    *vine = mem::replace(&mut node.right, Tree::Empty);
+    let right = raised(vine, count - half - 1);
     Tree::Fork(between(node, left, right))
 }
 

@@ -48,7 +48,7 @@ impl SessionName {
     }
 
     /// Tells a proof that the text may be a name. It does nothing else.
-    pub fn tell_range(&self)
+    pub fn recall_range(&self)
         ensures { is_name self.now ≡ true }
     {
         let _ = &self.bytes;

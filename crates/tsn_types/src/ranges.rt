@@ -14,80 +14,80 @@ use crate::records::{
 
 impl Record {
     /// The numbers of the record are in their ranges, by their types. It does nothing as the program runs.
-    pub fn tell_ranges(&self)
+    pub fn recall_ranges(&self)
         ensures { RecordInRange self.now }
     {
         match self {
-            Record::Port(ports) => tell_port(ports),
-            Record::Filter(filter) => tell_filter(filter),
-            Record::Gate(gate) => tell_gate(gate),
-            Record::Meter(meter) => tell_meter(meter),
+            Record::Port(ports) => recall_port(ports),
+            Record::Filter(filter) => recall_filter(filter),
+            Record::Gate(gate) => recall_gate(gate),
+            Record::Meter(meter) => recall_meter(meter),
         }
     }
 }
 
-fn tell_port(ports: &PortGates)
+fn recall_port(ports: &PortGates)
     ensures { PortInRange ports.now }
 {
     let _gates = ports.gates;
     let _cycle = ports.admin.cycle.get();
     let _extension = ports.admin.extension.get();
     let _base = ports.admin.base.get();
-    tell_port_entries(ports.admin.list.as_slice());
+    recall_port_entries(ports.admin.list.as_slice());
 }
 
-fn tell_port_entries(entries: &[PortEntry])
+fn recall_port_entries(entries: &[PortEntry])
     ensures { AllByRecursion PortEntryInRange entries.now }
 {
     for entry in entries {
-        tell_port_entry(entry);
+        recall_port_entry(entry);
     }
 }
 
-fn tell_port_entry(entry: &PortEntry)
+fn recall_port_entry(entry: &PortEntry)
     ensures { PortEntryInRange entry.now }
 {
     let _gates = entry.gates;
     let _interval = entry.interval.get();
 }
 
-fn tell_gate(gate: &StreamGate)
+fn recall_gate(gate: &StreamGate)
     ensures { GateInRange gate.now }
 {
-    tell_priority(gate.ipv);
+    recall_priority(gate.ipv);
     let _cycle = gate.admin.cycle.get();
     let _extension = gate.admin.extension.get();
     let _base = gate.admin.base.get();
-    tell_gate_entries(gate.admin.list.as_slice());
+    recall_gate_entries(gate.admin.list.as_slice());
 }
 
-fn tell_gate_entries(entries: &[GateEntry])
+fn recall_gate_entries(entries: &[GateEntry])
     ensures { AllByRecursion GateEntryInRange entries.now }
 {
     for entry in entries {
-        tell_gate_entry(entry);
+        recall_gate_entry(entry);
     }
 }
 
-fn tell_gate_entry(entry: &GateEntry)
+fn recall_gate_entry(entry: &GateEntry)
     ensures { GateEntryInRange entry.now }
 {
-    tell_priority(entry.ipv);
+    recall_priority(entry.ipv);
     let _interval = entry.interval.get();
-    tell_octets(entry.octets);
+    recall_octets(entry.octets);
 }
 
-fn tell_filter(filter: &StreamFilter)
+fn recall_filter(filter: &StreamFilter)
     ensures { FilterInRange filter.now }
 {
-    tell_handle(filter.handle);
-    tell_priority(filter.priority);
+    recall_handle(filter.handle);
+    recall_priority(filter.priority);
     let _gate = filter.gate.get();
-    tell_max_sdu(filter.max_sdu);
-    tell_meter_id(filter.meter);
+    recall_max_sdu(filter.max_sdu);
+    recall_meter_id(filter.meter);
 }
 
-fn tell_meter(meter: &FlowMeter)
+fn recall_meter(meter: &FlowMeter)
     ensures { MeterInRange meter.now }
 {
     let _cir = meter.cir.get();
@@ -96,7 +96,7 @@ fn tell_meter(meter: &FlowMeter)
     let _ebs = meter.ebs.get();
 }
 
-fn tell_priority(value: Option<Priority>)
+fn recall_priority(value: Option<Priority>)
     ensures { IfSome value IsPriority }
 {
     if let Some(number) = value {
@@ -104,7 +104,7 @@ fn tell_priority(value: Option<Priority>)
     }
 }
 
-fn tell_octets(value: Option<Octets>)
+fn recall_octets(value: Option<Octets>)
     ensures { IfSome value IsOctets }
 {
     if let Some(number) = value {
@@ -112,7 +112,7 @@ fn tell_octets(value: Option<Octets>)
     }
 }
 
-fn tell_handle(value: Option<Handle>)
+fn recall_handle(value: Option<Handle>)
     ensures { IfSome value IsHandle }
 {
     if let Some(number) = value {
@@ -120,7 +120,7 @@ fn tell_handle(value: Option<Handle>)
     }
 }
 
-fn tell_max_sdu(value: Option<MaxSdu>)
+fn recall_max_sdu(value: Option<MaxSdu>)
     ensures { IfSome value IsMaxSdu }
 {
     if let Some(number) = value {
@@ -128,7 +128,7 @@ fn tell_max_sdu(value: Option<MaxSdu>)
     }
 }
 
-fn tell_meter_id(value: Option<MeterId>)
+fn recall_meter_id(value: Option<MeterId>)
     ensures { IfSome value IsInstanceId }
 {
     if let Some(number) = value {

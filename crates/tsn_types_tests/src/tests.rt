@@ -50,7 +50,7 @@ fn is_copied(
     lent: RecordRef,
     other: &Record,
 ) -> Result<(), AllocError> {
-    record.tell_ranges();
+    record.recall_ranges();
     assert!(rt; record.try_clone()? == *record, "{record:?}");
     assert!(rt; *record != *other, "{record:?}");
     assert!(rt; lent.try_clone()? == *record, "{lent:?}");

@@ -32,7 +32,7 @@ fn told(alloc: Global, line: &[u8], why: Refusal) -> Result<Option<String>, Allo
 
 /// Where a command line that was refused for this is at fault, in words. They are empty where nothing is found, and
 /// where memory is wanting.
-pub fn command_place(alloc: Global, line: &[u8], why: Refusal) -> String {
+pub fn command_spot(alloc: Global, line: &[u8], why: Refusal) -> String {
     match told(alloc, line, why) {
         Ok(Some(words)) => words,
         _ => String::new(alloc),

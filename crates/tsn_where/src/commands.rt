@@ -248,15 +248,15 @@ fn is_allowed(value: &Value, allowed: Allowed, by_range: bool) -> bool {
 }
 
 // Tells a member that stands there and may not.
-fn misfit(alloc: Global, place: &str, name: &str, value: &Value, allowed: &str) -> Told {
+fn misfit(alloc: Global, spot: &str, name: &str, value: &Value, allowed: &str) -> Told {
     let found = found_text(alloc, value)?;
-    Ok(Some(format!(in alloc; "{place}{name} is {found}, and {allowed} is allowed")?))
+    Ok(Some(format!(in alloc; "{spot}{name} is {found}, and {allowed} is allowed")?))
 }
 
 // Tells of an entry of a list what is wrong with it.
 fn entry_fault(
     alloc: Global,
-    place: &str,
+    spot: &str,
     entry: &Value,
     members: &[Member],
     by_range: bool,
@@ -264,34 +264,34 @@ fn entry_fault(
     let Some(items) = entry.as_array() else {
         let found = found_text(alloc, entry)?;
         return Ok(Some(format!(in alloc;
-            "{place}it is {found}, and an array of {} is wanted",
+            "{spot}it is {found}, and an array of {} is wanted",
             members.len()
         )?));
     };
     if items.len() != members.len() {
         let (found, wanted) = (items.len(), members.len());
         return Ok(Some(format!(in alloc;
-            "{place}it is an array of {found}, and one of {wanted} is wanted"
+            "{spot}it is an array of {found}, and one of {wanted} is wanted"
         )?));
     }
     for (item, member) in items.iter().zip(members.iter()) {
         if !is_allowed(item, member.1, by_range) {
             let allowed = allowed_text(alloc, member.1)?;
-            return misfit(alloc, place, member.0, item, allowed.as_str());
+            return misfit(alloc, spot, member.0, item, allowed.as_str());
         }
     }
     Ok(None)
 }
 
 // The first fault of the entries of a record's list.
-fn list_fault(alloc: Global, place: &str, record: &Value, kind: Kind, by_range: bool) -> Told {
+fn list_fault(alloc: Global, spot: &str, record: &Value, kind: Kind, by_range: bool) -> Told {
     let Some(entries) = record.get("list").and_then(Value::as_array) else {
         return Ok(None);
     };
     let mut number = 0usize;
     for entry in entries.iter() {
         number = number.saturating_add(1);
-        let at = format!(in alloc; "{place}entry {number} of the list: ")?;
+        let at = format!(in alloc; "{spot}entry {number} of the list: ")?;
         if let Some(told) = entry_fault(
             alloc,
             at.as_str(),
@@ -310,18 +310,18 @@ fn is_member(name: &str, members: &[Member]) -> bool {
 }
 
 // A member of an object that its kind does not have.
-fn unknown(alloc: Global, place: &str, name: &str) -> Told {
+fn unknown(alloc: Global, spot: &str, name: &str) -> Told {
     let name = as_told(alloc, name)?;
-    Ok(Some(format!(in alloc; "{place}there is no member {name}")?))
+    Ok(Some(format!(in alloc; "{spot}there is no member {name}")?))
 }
 
 // What is wrong with the members of a record.
-fn record_fault(alloc: Global, place: &str, record: &Value, kind: Kind, by_range: bool) -> Told {
+fn record_fault(alloc: Global, spot: &str, record: &Value, kind: Kind, by_range: bool) -> Told {
     let members = members_of(kind);
     if let Some(rows) = record.as_object() {
         for (name, _value) in rows.iter() {
             if !is_member(name.as_str(), members) {
-                return unknown(alloc, place, name.as_str());
+                return unknown(alloc, spot, name.as_str());
             }
         }
     }
@@ -331,22 +331,22 @@ fn record_fault(alloc: Global, place: &str, record: &Value, kind: Kind, by_range
         match found {
             _ if member.0 == "id" => {}
             Some(value) if is_allowed(value, member.1, by_range) => {}
-            Some(value) => return misfit(alloc, place, member.0, value, allowed.as_str()),
+            Some(value) => return misfit(alloc, spot, member.0, value, allowed.as_str()),
             None => return Ok(Some(format!(in alloc;
-                "{place}{} is left out, and {allowed} is allowed",
+                "{spot}{} is left out, and {allowed} is allowed",
                 member.0
             )?)),
         }
     }
-    list_fault(alloc, place, record, kind, by_range)
+    list_fault(alloc, spot, record, kind, by_range)
 }
 
 // What is wrong with the members of an object that may have these beside `do`.
-fn parts_fault(alloc: Global, place: &str, value: &Value, parts: &[Part], by_range: bool) -> Told {
+fn parts_fault(alloc: Global, spot: &str, value: &Value, parts: &[Part], by_range: bool) -> Told {
     if let Some(rows) = value.as_object() {
         for (name, _value) in rows.iter() {
             if name.as_str() != "do" && !parts.iter().any(|part| part.0 == name.as_str()) {
-                return unknown(alloc, place, name.as_str());
+                return unknown(alloc, spot, name.as_str());
             }
         }
     }
@@ -355,12 +355,12 @@ fn parts_fault(alloc: Global, place: &str, value: &Value, parts: &[Part], by_ran
             Some(found) if fits(found, part.1, by_range) => {}
             Some(found) => {
                 let wanted = wanted_there(alloc, part.1, found, by_range)?;
-                return misfit(alloc, place, part.0, found, wanted.as_str());
+                return misfit(alloc, spot, part.0, found, wanted.as_str());
             }
             None => {
                 let wanted = wanted_text(alloc, part.1)?;
                 return Ok(Some(format!(in alloc;
-                    "{place}{} is left out, and {wanted} is allowed",
+                    "{spot}{} is left out, and {wanted} is allowed",
                     part.0
                 )?));
             }
@@ -370,17 +370,17 @@ fn parts_fault(alloc: Global, place: &str, value: &Value, parts: &[Part], by_ran
         return Ok(None);
     };
     let name = name_of(key.kind);
-    let inner = format!(in alloc; "{place}record of {name} {}: ", key.number)?;
+    let inner = format!(in alloc; "{spot}record of {name} {}: ", key.number)?;
     record_fault(alloc, inner.as_str(), record, key.kind, by_range)
 }
 
 // What is wrong with one of the edits of a batch.
-fn edit_fault(alloc: Global, place: &str, edit: &Value, by_range: bool) -> Told {
+fn edit_fault(alloc: Global, spot: &str, edit: &Value, by_range: bool) -> Told {
     let word = edit.get("do").and_then(Value::as_str);
     let Some(parts) = word.and_then(edit_parts_of) else {
-        return Ok(Some(format!(in alloc; "{place}do is none of create, replace and remove")?));
+        return Ok(Some(format!(in alloc; "{spot}do is none of create, replace and remove")?));
     };
-    parts_fault(alloc, place, edit, parts, by_range)
+    parts_fault(alloc, spot, edit, parts, by_range)
 }
 
 // Whether an earlier edit has the key.
@@ -402,8 +402,8 @@ fn edits_fault(alloc: Global, value: &Value, by_range: bool) -> Told {
     let mut number = 0usize;
     for edit in edits.iter() {
         number = number.saturating_add(1);
-        let place = format!(in alloc; "edit {number}: ")?;
-        if let Some(told) = edit_fault(alloc, place.as_str(), edit, by_range)? {
+        let spot = format!(in alloc; "edit {number}: ")?;
+        if let Some(told) = edit_fault(alloc, spot.as_str(), edit, by_range)? {
             return Ok(Some(told));
         }
         let key = edit.get("key").and_then(Value::as_str).unwrap_or("");

@@ -28,15 +28,15 @@ pub enum Wrong<'a> {
 /// The table of a fault: its kind, none for the document; its place among those of its kind, from 1; what it has as its
 /// number; and the place of the entry of its list, from 1.
 #[derive(Clone, Copy)]
-pub struct Place<'a> {
+pub struct Spot<'a> {
     pub kind: Option<Kind>,
     pub table: usize,
     pub number: Option<&'a Value>,
     pub entry: Option<usize>,
 }
 
-/// A fault and its place.
-pub type Fault<'a> = (Place<'a>, Wrong<'a>);
+/// A fault and its spot.
+pub type Fault<'a> = (Spot<'a>, Wrong<'a>);
 
 /// The whole number from 0 up that a value is, if it is one.
 pub fn whole(value: &Value) -> Option<u64> {
@@ -191,21 +191,21 @@ pub fn fault_of_kind<'a>(
     sought: Sought<'_>,
 ) -> Option<Fault<'a>> {
     let tables = document.get(name_of(kind))?.as_array()?;
-    let mut place = Place {
+    let mut spot = Spot {
         kind: Some(kind),
         table: 0,
         number: None,
         entry: None,
     };
     for table in tables.iter() {
-        place.table = place.table.saturating_add(1);
-        place.number = table.get("id");
+        spot.table = spot.table.saturating_add(1);
+        spot.number = table.get("id");
         if let Some(wrong) = wrong_table(table, members, sought) {
-            return Some((place, wrong));
+            return Some((spot, wrong));
         }
         if let Some((entry, wrong)) = wrong_entry(table, entry_members_of(kind), sought) {
-            place.entry = Some(entry);
-            return Some((place, wrong));
+            spot.entry = Some(entry);
+            return Some((spot, wrong));
         }
     }
     None

@@ -2,7 +2,7 @@
 //!
 //! `fault_line` looks through the text of a setup that was refused for what the refusal is about, and tells the table,
 //! the member, what stands there and what is allowed; of a text that is no TOML, the line. It decides nothing: whether
-//! a setup is refused, and why, is decided by `tsn_setup` and `tsn_bridge`. `command_place` does the same for a line,
+//! a setup is refused, and why, is decided by `tsn_setup` and `tsn_bridge`. `command_spot` does the same for a line,
 //! of which `tsn_wire` decides. No contract says what it tells, but it is safe, and it ends.
 #![tactic(auto)]
 
@@ -12,5 +12,5 @@ mod faults;
 mod lines;
 mod told;
 
-pub use asking::command_place;
+pub use asking::command_spot;
 pub use lines::fault_line;

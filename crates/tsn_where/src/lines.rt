@@ -1,6 +1,6 @@
 //! The line that tells of a fault.
 use crate::faults::{
-    Fault, Place, Sought, Wrong, fault_of_kind, fault_of_tables, referring, table_of, whole,
+    Fault, Sought, Spot, Wrong, fault_of_kind, fault_of_tables, referring, table_of, whole,
     wrong_table,
 };
 use crate::told::is_plain;
@@ -65,25 +65,25 @@ fn wrong_text(alloc: Global, wrong: Wrong<'_>) -> Result<String, AllocError> {
 }
 
 // The table of a fault, with what parts it from what is wrong; empty for the document.
-fn place_text(alloc: Global, place: Place<'_>) -> Result<String, AllocError> {
-    let Some(kind) = place.kind else {
+fn spot_text(alloc: Global, spot: Spot<'_>) -> Result<String, AllocError> {
+    let Some(kind) = spot.kind else {
         return Ok(String::new(alloc));
     };
     let name = name_of(kind);
-    let table = match place.number.and_then(whole) {
+    let table = match spot.number.and_then(whole) {
         Some(number) => format!(in alloc; "{name} {number}")?,
-        None => format!(in alloc; "[[{name}]] table {}", place.table)?,
+        None => format!(in alloc; "[[{name}]] table {}", spot.table)?,
     };
-    match place.entry {
+    match spot.entry {
         Some(entry) => format!(in alloc; "{table}, entry {entry} of its list: "),
         None => format!(in alloc; "{table}: "),
     }
 }
 
 fn fault_text(alloc: Global, fault: Fault<'_>) -> Result<String, AllocError> {
-    let place = place_text(alloc, fault.0)?;
+    let spot = spot_text(alloc, fault.0)?;
     let wrong = wrong_text(alloc, fault.1)?;
-    format!(in alloc; "tsnd: {place}{wrong}\n")
+    format!(in alloc; "tsnd: {spot}{wrong}\n")
 }
 
 // The line of a fault, if there is one.
@@ -146,8 +146,8 @@ fn range_fault<'a>(document: &'a Value, name: &str) -> Option<Fault<'a>> {
     None
 }
 
-fn whole_document<'a>() -> Place<'a> {
-    Place {
+fn whole_document<'a>() -> Spot<'a> {
+    Spot {
         kind: None,
         table: 0,
         number: None,

@@ -8,7 +8,7 @@ use Rattle.tsn_records.specs.declared.drafts.RecordDraft.{RecordDraft}
 use Rattle.tsn_wire.specs.Spelled.{IsKey, IsNoPort, SpellsEdit, SpellsRecord}
 use Rattle.tsn_records.specs.Shown.{draft_data}
 use Rattle.tsn_wire.specs.declared.drafts.EditDraft.TheVariants as drafts
-use Rattle.tsn_wire.proofs.OwnSpelling.{quoted_key}
+use Rattle.tsn_wire.proofs.CompactSpelling.{quoted_key}
 
 -- the braces round a key and a record, and what comes behind them
 put_of : (front key value rest : List ℕ)

@@ -1,4 +1,4 @@
--- Command lines in the service's own spelling: compact, their members in ascending order of their names. A draft is
+-- Command lines in the service's compact spelling: no spaces, their members in ascending order of their names. A draft is
 -- seen as the value that such a line is.
 use Rattle.std.specs.Prelude.{◌≡◌, ℕ, ◌^◌, ◌<◌, ◌++◌, List, true, codes, IfSome, ⊤}
 use Rattle.std.specs.List.{AllByRecursion}

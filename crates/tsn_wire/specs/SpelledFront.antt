@@ -1,4 +1,4 @@
--- How command lines in the service's own spelling begin.
+-- How command lines in the service's compact spelling begin.
 use Rattle.std.specs.Prelude.{◌≡◌, ◌⊎◌, ℕ, ◌++◌, List, codes, decimal}
 use Rattle.tsn_records.specs.Keys.{spelled_key}
 use Rattle.tsn_records.specs.declared.drafts.KeyDraft.{KeyDraft}

@@ -9,9 +9,9 @@ ghost use Rattle.tsn_wire.specs.Spelled.{batch_value, edit_value};
 use crate::any_keys::{is_of, table_key};
 use crate::cursor::Cursor;
 use crate::drafts::{BatchDraft, EditDraft};
-use crate::guess::record_slot;
+use crate::guess::record_tray;
 use crate::lists::scanned_list;
-use crate::members::{Gathered, members, slot};
+use crate::members::{Gathered, members, tray};
 use crate::spelled_batch::EDITS;
 use crate::values::Word;
 use std::alloc::Global;
@@ -34,9 +34,9 @@ impl Gathered for EditMembers {
     #[tactic(auto, using(crate::proofs::Gathering::row_filled))]
     fn member(&mut self, alloc: Global, text: &mut Cursor<'_>) -> Option<()> {
         match text.letters() {
-            (b'd', _) => slot(alloc, text, "do", &mut self.word),
-            (b'k', _) => slot(alloc, text, "key", &mut self.key),
-            (b'r', _) => record_slot(alloc, text, self.key, &mut self.record),
+            (b'd', _) => tray(alloc, text, "do", &mut self.word),
+            (b'k', _) => tray(alloc, text, "key", &mut self.key),
+            (b'r', _) => record_tray(alloc, text, self.key, &mut self.record),
             _ => None,
         }
     }
@@ -81,11 +81,11 @@ fn edits(alloc: Global, text: &mut Cursor<'_>) -> Option<BatchDraft>
 }
 
 /// Reads the member `edits`, which must come next and for the first time.
-pub fn edits_slot(alloc: Global, text: &mut Cursor<'_>, slot: &mut Option<BatchDraft>) -> Option<()>
+pub fn edits_tray(alloc: Global, text: &mut Cursor<'_>, tray: &mut Option<BatchDraft>) -> Option<()>
     ensures { IfSome result (λ _. Fills 5 (lexed text.old) (codes "edits")
-        (option_map batch_value slot.old) (option_map batch_value slot.new) (lexed text.new)) }
+        (option_map batch_value tray.old) (option_map batch_value tray.new) (lexed text.new)) }
 {
-    if slot.is_some() {
+    if tray.is_some() {
         return None;
     }
     if !text.quoted("edits") {
@@ -95,7 +95,7 @@ pub fn edits_slot(alloc: Global, text: &mut Cursor<'_>, slot: &mut Option<BatchD
         return None;
     }
     let batch = edits(alloc, text)?;
-    *slot = Some(batch);
+    *tray = Some(batch);
     Some(())
 }
 

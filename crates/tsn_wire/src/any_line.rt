@@ -3,12 +3,12 @@ ghost use Rattle.std.specs.Prelude.{◌≡◌, IfSome, true};
 ghost use Rattle.tsn_wire.specs.Lines.{line_rows, IsBare, IsLine};
 ghost use Rattle.tsn_wire.specs.Reading.{line_of_draft, reading};
 
-use crate::any_edits::{are_sound, edits_slot};
+use crate::any_edits::{are_sound, edits_tray};
 use crate::any_keys::{keyed_record, listed_key, removable_key, table_key};
 use crate::cursor::Cursor;
 use crate::drafts::{BatchDraft, CommandDraft, FrameDraft, LineDraft};
-use crate::guess::record_slot;
-use crate::members::{Gathered, members, slot};
+use crate::guess::record_tray;
+use crate::members::{Gathered, members, tray};
 use crate::values::Word;
 use std::alloc::Global;
 use tsn_records::drafts::{KeyDraft, RecordDraft};
@@ -41,20 +41,20 @@ impl Gathered for LineMembers {
     #[tactic(auto, using(crate::proofs::Gathering::row_filled))]
     fn member(&mut self, alloc: Global, text: &mut Cursor<'_>) -> Option<()> {
         match text.letters() {
-            (b'd', _) => slot(alloc, text, "do", &mut self.word),
-            (b's', _) => slot(alloc, text, "s", &mut self.session),
-            (b'k', b'e') => slot(alloc, text, "key", &mut self.key),
-            (b'r', _) => record_slot(alloc, text, self.key, &mut self.record),
-            (b'n', _) => slot(alloc, text, "now", &mut self.instant),
-            (b'h', _) => slot(alloc, text, "handle", &mut self.handle),
-            (b'p', _) => slot(alloc, text, "priority", &mut self.priority),
-            (b'o', _) => slot(alloc, text, "octets", &mut self.octets),
-            (b'y', _) => slot(alloc, text, "yellow", &mut self.yellow),
-            (b'a', b't') => slot(alloc, text, "at", &mut self.at),
-            (b'a', _) => slot(alloc, text, "after", &mut self.after),
-            (b'k', _) => slot(alloc, text, "kind", &mut self.kind),
-            (b'u', _) => slot(alloc, text, "upto", &mut self.upto),
-            (b'e', _) => edits_slot(alloc, text, &mut self.edits),
+            (b'd', _) => tray(alloc, text, "do", &mut self.word),
+            (b's', _) => tray(alloc, text, "s", &mut self.session),
+            (b'k', b'e') => tray(alloc, text, "key", &mut self.key),
+            (b'r', _) => record_tray(alloc, text, self.key, &mut self.record),
+            (b'n', _) => tray(alloc, text, "now", &mut self.instant),
+            (b'h', _) => tray(alloc, text, "handle", &mut self.handle),
+            (b'p', _) => tray(alloc, text, "priority", &mut self.priority),
+            (b'o', _) => tray(alloc, text, "octets", &mut self.octets),
+            (b'y', _) => tray(alloc, text, "yellow", &mut self.yellow),
+            (b'a', b't') => tray(alloc, text, "at", &mut self.at),
+            (b'a', _) => tray(alloc, text, "after", &mut self.after),
+            (b'k', _) => tray(alloc, text, "kind", &mut self.kind),
+            (b'u', _) => tray(alloc, text, "upto", &mut self.upto),
+            (b'e', _) => edits_tray(alloc, text, &mut self.edits),
             _ => None,
         }
     }

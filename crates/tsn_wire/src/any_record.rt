@@ -7,7 +7,7 @@ ghost use Rattle.tsn_wire.specs.Members.{AreOpen, ReadsMembers};
 ghost use Rattle.tsn_wire.specs.Rows.{port_rows, filter_rows, gate_rows, meter_rows, AllTold, members_of};
 
 use crate::cursor::Cursor;
-use crate::members::{Gathered, members, slot};
+use crate::members::{Gathered, members, tray};
 use std::alloc::Global;
 use tsn_records::drafts::{
     FilterDraft, GateDraft, GateEntryDraft, MeterDraft, PortDraft, PortEntryDraft, RecordDraft,
@@ -34,11 +34,11 @@ impl Gathered for PortMembers {
     #[tactic(auto, using(crate::proofs::Gathering::row_filled))]
     fn member(&mut self, alloc: Global, text: &mut Cursor<'_>) -> Option<()> {
         match text.letters() {
-            (b'b', _) => slot(alloc, text, "base", &mut self.base),
-            (b'c', _) => slot(alloc, text, "cycle", &mut self.cycle),
-            (b'e', _) => slot(alloc, text, "extension", &mut self.extension),
-            (b'g', _) => slot(alloc, text, "gates", &mut self.gates),
-            (b'l', _) => slot(alloc, text, "list", &mut self.list),
+            (b'b', _) => tray(alloc, text, "base", &mut self.base),
+            (b'c', _) => tray(alloc, text, "cycle", &mut self.cycle),
+            (b'e', _) => tray(alloc, text, "extension", &mut self.extension),
+            (b'g', _) => tray(alloc, text, "gates", &mut self.gates),
+            (b'l', _) => tray(alloc, text, "list", &mut self.list),
             _ => None,
         }
     }
@@ -63,12 +63,12 @@ impl Gathered for FilterMembers {
     #[tactic(auto, using(crate::proofs::Gathering::row_filled))]
     fn member(&mut self, alloc: Global, text: &mut Cursor<'_>) -> Option<()> {
         match text.letters() {
-            (b'g', _) => slot(alloc, text, "gate", &mut self.gate),
-            (b'h', _) => slot(alloc, text, "handle", &mut self.handle),
-            (b'm', b'a') => slot(alloc, text, "max_sdu", &mut self.max_sdu),
-            (b'm', _) => slot(alloc, text, "meter", &mut self.meter),
-            (b'o', _) => slot(alloc, text, "oversize", &mut self.oversize),
-            (b'p', _) => slot(alloc, text, "priority", &mut self.priority),
+            (b'g', _) => tray(alloc, text, "gate", &mut self.gate),
+            (b'h', _) => tray(alloc, text, "handle", &mut self.handle),
+            (b'm', b'a') => tray(alloc, text, "max_sdu", &mut self.max_sdu),
+            (b'm', _) => tray(alloc, text, "meter", &mut self.meter),
+            (b'o', _) => tray(alloc, text, "oversize", &mut self.oversize),
+            (b'p', _) => tray(alloc, text, "priority", &mut self.priority),
             _ => None,
         }
     }
@@ -95,14 +95,14 @@ impl Gathered for GateMembers {
     #[tactic(auto, using(crate::proofs::Gathering::row_filled))]
     fn member(&mut self, alloc: Global, text: &mut Cursor<'_>) -> Option<()> {
         match text.letters() {
-            (b'b', _) => slot(alloc, text, "base", &mut self.base),
-            (b'c', _) => slot(alloc, text, "cycle", &mut self.cycle),
-            (b'e', _) => slot(alloc, text, "extension", &mut self.extension),
-            (b'i', b'n') => slot(alloc, text, "invalid_rx", &mut self.invalid_rx),
-            (b'i', _) => slot(alloc, text, "ipv", &mut self.ipv),
-            (b'l', _) => slot(alloc, text, "list", &mut self.list),
-            (b'o', b'c') => slot(alloc, text, "octets_exceeded", &mut self.octets_exceeded),
-            (b'o', _) => slot(alloc, text, "open", &mut self.open),
+            (b'b', _) => tray(alloc, text, "base", &mut self.base),
+            (b'c', _) => tray(alloc, text, "cycle", &mut self.cycle),
+            (b'e', _) => tray(alloc, text, "extension", &mut self.extension),
+            (b'i', b'n') => tray(alloc, text, "invalid_rx", &mut self.invalid_rx),
+            (b'i', _) => tray(alloc, text, "ipv", &mut self.ipv),
+            (b'l', _) => tray(alloc, text, "list", &mut self.list),
+            (b'o', b'c') => tray(alloc, text, "octets_exceeded", &mut self.octets_exceeded),
+            (b'o', _) => tray(alloc, text, "open", &mut self.open),
             _ => None,
         }
     }
@@ -129,14 +129,14 @@ impl Gathered for MeterMembers {
     #[tactic(auto, using(crate::proofs::Gathering::row_filled))]
     fn member(&mut self, alloc: Global, text: &mut Cursor<'_>) -> Option<()> {
         match text.letters() {
-            (b'a', b'l') => slot(alloc, text, "all_red", &mut self.all_red),
-            (b'a', _) => slot(alloc, text, "aware", &mut self.aware),
-            (b'c', b'b') => slot(alloc, text, "cbs", &mut self.cbs),
-            (b'c', b'f') => slot(alloc, text, "cf", &mut self.cf),
-            (b'c', _) => slot(alloc, text, "cir", &mut self.cir),
-            (b'd', _) => slot(alloc, text, "drop_yellow", &mut self.drop_yellow),
-            (b'e', b'b') => slot(alloc, text, "ebs", &mut self.ebs),
-            (b'e', _) => slot(alloc, text, "eir", &mut self.eir),
+            (b'a', b'l') => tray(alloc, text, "all_red", &mut self.all_red),
+            (b'a', _) => tray(alloc, text, "aware", &mut self.aware),
+            (b'c', b'b') => tray(alloc, text, "cbs", &mut self.cbs),
+            (b'c', b'f') => tray(alloc, text, "cf", &mut self.cf),
+            (b'c', _) => tray(alloc, text, "cir", &mut self.cir),
+            (b'd', _) => tray(alloc, text, "drop_yellow", &mut self.drop_yellow),
+            (b'e', b'b') => tray(alloc, text, "ebs", &mut self.ebs),
+            (b'e', _) => tray(alloc, text, "eir", &mut self.eir),
             _ => None,
         }
     }

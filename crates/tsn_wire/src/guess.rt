@@ -64,16 +64,16 @@ fn kind_ahead(key: Option<KeyDraft>, text: &Cursor<'_>) -> Kind {
 }
 
 /// The record of a key that was read before it, or of a kind that is guessed where none was.
-pub fn record_slot(
+pub fn record_tray(
     alloc: Global,
     text: &mut Cursor<'_>,
     key: Option<KeyDraft>,
-    slot: &mut Option<RecordDraft>,
+    tray: &mut Option<RecordDraft>,
 ) -> Option<()>
     ensures { IfSome result (λ _. Fills 3 (lexed text.old) (codes "record")
-        (option_map draft_data slot.old) (option_map draft_data slot.new) (lexed text.new)) }
+        (option_map draft_data tray.old) (option_map draft_data tray.new) (lexed text.new)) }
 {
-    if slot.is_some() {
+    if tray.is_some() {
         return None;
     }
     if !text.quoted("record") {
@@ -84,6 +84,6 @@ pub fn record_slot(
     }
     let kind = kind_ahead(key, text);
     let value = record(alloc, kind, text)?;
-    *slot = Some(value);
+    *tray = Some(value);
     Some(())
 }

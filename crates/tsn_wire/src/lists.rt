@@ -1,4 +1,4 @@
-//! Lists of entries and of edits, read with no tree: in the service's own spelling, and from their lexemes.
+//! Lists of entries and of edits, read with no tree: in the service's compact spelling, and from their lexemes.
 ghost use Rattle.std.specs.Prelude.{◌≡◌, ◌+◌, ◌++◌, ◌∷◌, [], ℕ, List, IfSome};
 ghost use Rattle.std.specs.List.{AllByRecursion};
 ghost use Rattle.serde_json.specs.Data.{Data};
@@ -20,7 +20,7 @@ pub trait Item: Drop {
     // how many brackets it may have in one another
     ghost nesting: { ℕ };
 
-    /// Reads one in the service's own spelling.
+    /// Reads one in the service's compact spelling.
     fn spelled(alloc: Global, text: &mut Cursor<'_>) -> Option<Self>
         ensures { IfSome result (λ e. IsFit e × (text.old ≡ compact_text (value e) ++ text.new)) };
 
@@ -72,7 +72,7 @@ impl<E: Item> Items for Vec<E> {
     }
 }
 
-/// A list of so many items at most, in the service's own spelling.
+/// A list of so many items at most, in the service's compact spelling.
 pub fn spelled_list<L: Items>(alloc: Global, text: &mut Cursor<'_>, most: u32) -> Option<L>
     ensures small { IfSome result (λ l. AllByRecursion L.One.IsFit (L.items l)) }
     ensures text { IfSome result

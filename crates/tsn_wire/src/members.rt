@@ -48,17 +48,17 @@ pub fn members<M: Gathered>(alloc: Global, text: &mut Cursor<'_>, found: &mut M)
 }
 
 /// Reads the member of that name, which must come next and for the first time.
-pub fn slot<V: Scanned>(
+pub fn tray<V: Scanned>(
     alloc: Global,
     text: &mut Cursor<'_>,
     name: &str,
-    slot: &mut Option<V>,
+    tray: &mut Option<V>,
 ) -> Option<()>
     requires { is_bare name.now ≡ true }
     ensures { IfSome result (λ _. Fills 2 (lexed text.old) name.now
-        (option_map V.value slot.old) (option_map V.value slot.new) (lexed text.new)) }
+        (option_map V.value tray.old) (option_map V.value tray.new) (lexed text.new)) }
 {
-    if slot.is_some() {
+    if tray.is_some() {
         return None;
     }
     if !text.quoted(name) {
@@ -68,6 +68,6 @@ pub fn slot<V: Scanned>(
         return None;
     }
     let value = V::scanned(alloc, text)?;
-    *slot = Some(value);
+    *tray = Some(value);
     Some(())
 }

@@ -1,4 +1,4 @@
-//! Lines in the service's own spelling, read with no tree.
+//! Lines in the service's compact spelling, read with no tree.
 //!
 //! An edit or a batch, an undo or a redo, a frame or a look that is compact and has its members in ascending order of
 //! their names, as the service writes them, is read piece by piece, and only a list and a batch take memory. Any other
@@ -155,8 +155,8 @@ fn session(text: &mut Cursor<'_>) -> Option<u64>
     Some(number)
 }
 
-// The draft that a line in the service's own spelling is; none of any other line.
-fn own_draft(alloc: Global, line: &[u8]) -> Option<LineDraft>
+// The draft that a line in the service's compact spelling is; none of any other line.
+fn compact_draft(alloc: Global, line: &[u8]) -> Option<LineDraft>
     ensures { IfSome result (λ draft. reading line.now ≡ line_of_draft draft) }
 {
     let mut text = Cursor::new(line);
@@ -168,8 +168,8 @@ fn own_draft(alloc: Global, line: &[u8]) -> Option<LineDraft>
     }
 }
 
-// The frame that a line in the service's own spelling hands in; none of any other line.
-fn own_frame(line: &[u8]) -> Option<LineDraft>
+// The frame that a line in the service's compact spelling hands in; none of any other line.
+fn compact_frame(line: &[u8]) -> Option<LineDraft>
     ensures { IfSome result (λ draft. reading line.now ≡ line_of_draft draft) }
 {
     let mut text = Cursor::new(line);
@@ -193,18 +193,18 @@ fn own_frame(line: &[u8]) -> Option<LineDraft>
     }
 }
 
-/// The draft that a line is, in the service's own spelling or in another that is read with no tree.
+/// The draft that a line is, in the service's compact spelling or in another that is read with no tree.
 /// None says nothing of the line: `command_of` then reads it as a tree.
 pub fn spelled_draft(alloc: Global, line: &[u8]) -> Option<LineDraft>
     ensures { IfSome result (λ draft. reading line.now ≡ line_of_draft draft) }
 {
-    let frame = own_frame(line);
+    let frame = compact_frame(line);
     if frame.is_some() {
         return frame;
     }
-    let own = own_draft(alloc, line);
-    if own.is_some() {
-        return own;
+    let compact = compact_draft(alloc, line);
+    if compact.is_some() {
+        return compact;
     }
     any_draft(alloc, line)
 }

@@ -1,4 +1,4 @@
-//! A batch in the service's own spelling, read with no tree.
+//! A batch in the service's compact spelling, read with no tree.
 ghost use Rattle.std.specs.Prelude.{◌≡◌, ◌++◌, true, IfSome};
 ghost use Rattle.std.specs.List.{AllByRecursion};
 ghost use Rattle.serde_json.specs.Written.{compact_text};

@@ -1,4 +1,4 @@
-//! Keys and records in the service's own spelling, read with no tree.
+//! Keys and records in the service's compact spelling, read with no tree.
 ghost use Rattle.std.specs.Prelude.{◌≡◌, ◌++◌, IfSome, codes, decimal};
 ghost use Rattle.std.specs.List.{AllByRecursion};
 ghost use Rattle.serde_json.specs.Data.{Data, boolean};

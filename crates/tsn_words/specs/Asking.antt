@@ -44,9 +44,9 @@ last_probe = 2 ^ 62
 abbrev pub longest_idle : ℕ
 longest_idle = 86400
 
--- Where `serve` listens where no place is given, and how many connections it then serves at a time where no number is.
-abbrev pub standard_place : List ℕ
-standard_place = codes "127.0.0.1:7000"
+-- Where `serve` listens where no endpoint is given, and how many connections it then serves at a time where no number is.
+abbrev pub standard_endpoint : List ℕ
+standard_endpoint = codes "127.0.0.1:7000"
 
 abbrev pub standard_workers : ℕ
 standard_workers = 64
@@ -323,16 +323,16 @@ pub record GivesServing (given : Given) (x : Serving) : Type 0 where
   pub idle : MayGiveNumber given (codes "idle") 1 longest_idle x.idle
   pub logged : IsTrue x.is_logged ↔ IsFlagged given (codes "log")
 
--- the place that is given to listen at, or the standard one
-abbrev pub place_of : Option (List ℕ) → List ℕ
-place_of None = standard_place
-place_of (Some place) = place
+-- the endpoint that is given to listen at, or the standard one
+abbrev pub endpoint_of : Option (List ℕ) → List ℕ
+endpoint_of None = standard_endpoint
+endpoint_of (Some endpoint) = endpoint
 
 -- `serve` is named, and this setup's file is given to it, or none, where to listen, what to serve, and this journal, or none.
 pub record GivesServe (given : Given) (file : Option (List ℕ)) (listen : List ℕ) (x : Serving) (kept : Option Kept) : Type 0 where
   pub named : Names given (codes "serve")
   pub setup : text_given given (codes "FILE") ≡ file
-  pub place : place_of (text_given given (codes "listen")) ≡ listen
+  pub endpoint : endpoint_of (text_given given (codes "listen")) ≡ listen
   pub serving : GivesServing given x
   pub journal : GivesKept (text_given given (codes "journal")) (text_given given (codes "sync")) kept
 

@@ -4,7 +4,7 @@ ghost use Rattle.clap.specs.Words.{app_of, first_value, found_of, kind_of, rows_
 ghost use Rattle.clap.specs.Kinds.{FailsBy};
 ghost use Rattle.clap.specs.Faults.{fault_of};
 ghost use Rattle.tsn_bytes.specs.declared.bytes.Fault.TheVariants.{Memory};
-ghost use Rattle.tsn_words.specs.Asking.{any_text, bare, check, flag, journal, journal_file, number, optional, place_of, program, script, serve, setup_file, states, Asks, AsksFor, GivesListing, HasJournal, HasServe, HasStates, IsComplete, IsRefusal, IsWork, KeepsOrRefuses, TellsSomething};
+ghost use Rattle.tsn_words.specs.Asking.{any_text, bare, check, flag, journal, journal_file, number, optional, endpoint_of, program, script, serve, setup_file, states, Asks, AsksFor, GivesListing, HasJournal, HasServe, HasStates, IsComplete, IsRefusal, IsWork, KeepsOrRefuses, TellsSomething};
 
 use crate::kept::{Keeping, Kept, keeping_of};
 use crate::look::{Look, look_of};
@@ -22,8 +22,8 @@ const LONGEST_STEP: u64 = 1_000_000_000_000;
 /// The most instants of `states`.
 const MOST_INSTANTS: u64 = 1_000_000;
 
-/// Where a server listens where no place is given.
-const STANDARD_PLACE: &str = "127.0.0.1:7000";
+/// Where a server listens where no endpoint is given.
+const STANDARD_ENDPOINT: &str = "127.0.0.1:7000";
 
 /// The most connections that are served at a time.
 const MOST_WORKERS: u64 = 1000;
@@ -470,24 +470,24 @@ fn kept_of(alloc: Global, given: &ArgMatches<'_>) -> Result<Result<Option<Kept>,
     }
 }
 
-// The place that is given, or the standard one.
-fn place_of(alloc: Global, given: &ArgMatches<'_>) -> Result<String, AllocError>
-    ensures { IfOk result (λ place. place_of (first_value (found_of given.now) (codes "listen")) ≡ string_bytes place) }
+// The endpoint that is given, or the standard one.
+fn endpoint_of(alloc: Global, given: &ArgMatches<'_>) -> Result<String, AllocError>
+    ensures { IfOk result (λ endpoint. endpoint_of (first_value (found_of given.now) (codes "listen")) ≡ string_bytes endpoint) }
 {
     match text_if_given(alloc, given, "listen")? {
-        Some(place) => Ok(place),
-        None => String::from_str(alloc, STANDARD_PLACE),
+        Some(endpoint) => Ok(endpoint),
+        None => String::from_str(alloc, STANDARD_ENDPOINT),
     }
 }
 
-// A server, from the setup, at the place, with the numbers and with the journal that are given.
+// A server, from the setup, at the endpoint, with the numbers and with the journal that are given.
 fn serve_of(alloc: Global, given: &ArgMatches<'_>) -> Result<Asked, AllocError>
     requires { HasServe (Some (codes "serve", rows_of (found_of given.now))) }
     ensures asked { IfOk result (AsksFor (Some (codes "serve", rows_of (found_of given.now)))) }
     ensures told { IfOk result TellsSomething }
 {
     let file = text_if_given(alloc, given, "FILE")?;
-    let listen = place_of(alloc, given)?;
+    let listen = endpoint_of(alloc, given)?;
     let serving = Serving::given_in(given);
     match kept_of(alloc, given)? {
         Ok(kept) => Ok(Asked::Serve {

@@ -78,7 +78,7 @@ impl Audit {
 
     fn hand(&mut self) -> Hand {
         match self.random.below(2) {
-            0 => Hand::Own,
+            0 => Hand::Compact,
             _ => Hand::Spaced,
         }
     }
@@ -132,8 +132,8 @@ impl Audit {
         text.put("}\n");
     }
 
-    // An edit with a record, which in the service's own spelling has its members in order. The record may come ahead of
-    // its key. In a batch an edit has no session.
+    // An edit with a record, which in the service's compact spelling has its members in order. The record may come
+    // ahead of its key. In a batch an edit has no session.
     fn put_edit(
         &mut self,
         text: &mut Text,
@@ -143,7 +143,7 @@ impl Audit {
         record: &Record,
         session: Option<u64>,
     ) {
-        let first = if hand == Hand::Own {
+        let first = if hand == Hand::Compact {
             0
         } else {
             self.random.below(8)

@@ -5,8 +5,8 @@ use crate::text::Text;
 /// A spelling.
 #[derive(Clone, Copy, PartialEq, Eq)]
 pub enum Hand {
-    /// The service's own, with no spaces.
-    Own,
+    /// The compact one of the service, with no spaces.
+    Compact,
     /// With a space behind each colon and comma.
     Spaced,
     /// A line of a setup for each member. One that is none is left out.
@@ -17,7 +17,7 @@ impl Hand {
     /// What stands between two values.
     pub fn comma(self) -> &'static str {
         match self {
-            Hand::Own => ",",
+            Hand::Compact => ",",
             _ => ", ",
         }
     }
@@ -35,7 +35,7 @@ impl Hand {
         }
         text.put("\"");
         text.put(name);
-        text.put(if self == Hand::Own { "\":" } else { "\": " });
+        text.put(if self == Hand::Compact { "\":" } else { "\": " });
     }
 
     pub fn number(self, text: &mut Text, is_first: bool, name: &str, number: u64) {

@@ -1,4 +1,4 @@
-//! Records and commands as text, in the service's own spelling.
+//! Records and commands as text, in the service's compact spelling.
 
 use crate::numbers::Random;
 use crate::text::Text;

@@ -151,7 +151,7 @@ fn serve_on<
     }
 }
 
-// Opens the journal, listens at the place, says where, and serves.
+// Opens the journal, listens at the endpoint, says where, and serves.
 fn serve_from<
     R: Files<File = File>
         + AllocGlobal
@@ -166,7 +166,7 @@ fn serve_from<
     rt: &R,
     setup: Option<&[u8]>,
     kept: &Kept,
-    place: &str,
+    endpoint: &str,
     serving: Serving,
     log: &ErrorLog<'_, R>,
     output: &mut O,
@@ -174,7 +174,7 @@ fn serve_from<
 ) -> Result<(), Ended> {
     let alloc = rt.alloc();
     let started = start(rt, setup, kept.file.as_str(), errors)?;
-    let (listener, bound) = listen_on(rt, alloc, place)?;
+    let (listener, bound) = listen_on(rt, alloc, endpoint)?;
     if say_where(alloc, errors, &bound).is_err() {
         return Err(Ended::Journal(NO_MEMORY));
     }
@@ -194,9 +194,9 @@ fn serve_from<
     Ok(())
 }
 
-/// Serves connections at the place over the journal, whose file is made where it is not there, and gives the status.
-/// With a setup the journal must have just that one. The journal is opened before the place, and both before anything
-/// is served.
+/// Serves connections at the endpoint over the journal, whose file is made where it is not there, and gives the status.
+/// With a setup the journal must have just that one. The journal is opened before the endpoint, and both before
+/// anything is served.
 pub(crate) fn serve_over<
     R: Files<File = File>
         + AllocGlobal
@@ -211,15 +211,15 @@ pub(crate) fn serve_over<
     rt: &R,
     setup: Option<&[u8]>,
     kept: &Kept,
-    place: &str,
+    endpoint: &str,
     serving: Serving,
     log: &ErrorLog<'_, R>,
     output: &mut O,
     errors: &mut E,
 ) -> u8 {
-    match serve_from(rt, setup, kept, place, serving, log, output, errors) {
+    match serve_from(rt, setup, kept, endpoint, serving, log, output, errors) {
         Ok(()) => 0,
         Err(Ended::Journal(fault)) => fail_over(rt.alloc(), errors, kept.file.as_str(), &fault),
-        Err(Ended::Listen(fault)) => fail_to_listen(rt.alloc(), errors, place, &fault),
+        Err(Ended::Listen(fault)) => fail_to_listen(rt.alloc(), errors, endpoint, &fault),
     }
 }

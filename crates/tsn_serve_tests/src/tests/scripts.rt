@@ -108,7 +108,7 @@ fn worked_scripts_in_every_spelling(rt: HostRuntime) -> Result<(), Fail> {
         REDONE.as_slice(),
     ] {
         for spelling in [
-            Spelling::Own,
+            Spelling::Compact,
             Spelling::Spaced,
             Spelling::Reversed,
             Spelling::Escaped,
@@ -137,7 +137,7 @@ const HANDLED: &'static [u8] =
 #[test]
 fn lines_in_pieces_of_every_size(rt: HostRuntime) -> Result<(), Fail> {
     let alloc = rt.alloc();
-    for spelling in [Spelling::Own, Spelling::Spaced] {
+    for spelling in [Spelling::Compact, Spelling::Spaced] {
         let input = input_of(alloc, FIRST_RUN.as_slice(), spelling)?;
         for most in 1..input.len() {
             has_replies(&rt, alloc, input.as_slice(), REPLIES, most)?;

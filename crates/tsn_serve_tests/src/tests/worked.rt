@@ -168,7 +168,7 @@ pub const REDONE: [Exchange; 9] = [
 #[derive(Clone, Copy, Debug, PartialEq, Eq)]
 pub enum Spelling {
     /// Compact, the members in ascending order, as the service writes it.
-    Own,
+    Compact,
     /// With a space behind each comma and each colon.
     Spaced,
     /// The members of the command from the last to the first.
@@ -260,7 +260,7 @@ fn reversed(alloc: Global, line: &[u8]) -> Result<Vec<u8>, AllocError> {
 pub fn spelled(alloc: Global, line: &str, spelling: Spelling) -> Result<Vec<u8>, AllocError> {
     let line = line.as_bytes();
     match spelling {
-        Spelling::Own => Vec::from_slice(alloc, line),
+        Spelling::Compact => Vec::from_slice(alloc, line),
         Spelling::Spaced => spaced(alloc, line),
         Spelling::Reversed => reversed(alloc, line),
         Spelling::Escaped => escaped(alloc, line),

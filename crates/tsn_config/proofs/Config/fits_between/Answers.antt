@@ -11,4 +11,4 @@ returns-then-stands c =
     let kept : IsWellKept now.limits now.map = subst (λ (s : ConfigView). IsWellKept s.limits s.map) c.self.view_is c.self.invariant in
     Decides-at c.keeps.result _ c.keeps.ensures
     (fits_decides now.limits now.map kept (record { key = c.args.key.now; before = c.args.before.now; after = c.args.after.now })
-    c.tell_ranges.ensures (c.stands.ensures.0 c.if-stands.true))
+    c.recall_ranges.ensures (c.stands.ensures.0 c.if-stands.true))

@@ -5,7 +5,7 @@ use Rattle.tsn_setup.proofs.Turning.{table_begun, table_ended, table_more}
 use Rattle.tsn_setup.proofs.gathered.inline_table.Goals as goal
 
 pub members-init : goal.members-init
-members-init g c = (search rules, (le_refl _, table_begun _ _ (g.met.M.Gathered.opens _ c.default-found.ensures)))
+members-init g c = (search rules, (le_refl _, table_begun _ _ (g.met.M.PlainTable.opens _ c.default-found.ensures)))
 
 pub returns-then-first-eq125-clause-table : goal.returns-then-first-eq125-clause-table
 returns-then-first-eq125-clause-table g c =

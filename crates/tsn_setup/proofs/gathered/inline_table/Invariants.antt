@@ -6,4 +6,4 @@ use Rattle.tsn_setup.proofs.gathered.inline_table.Given as goal
 
 abbrev pub invariant-members : goal.invariant-members
 invariant-members g l =
-    shadow (Utf8 l.rest) × ((length l.rest ≤ length l.fn.text) × TableSoFar l.fn.text (g.M.Gathered.slots l.found) l.rest)
+    shadow (Utf8 l.rest) × ((length l.rest ≤ length l.fn.text) × TableSoFar l.fn.text (g.M.PlainTable.trays l.found) l.rest)

@@ -6,7 +6,7 @@ use Rattle.tsn_setup.proofs.Turning.{lines_begun, line_more, lines_trimmed}
 use Rattle.tsn_setup.proofs.gathered.table_lines.Goals as goal
 
 pub lines-init : goal.lines-init
-lines-init g c = (search rules, (le_refl _, lines_begun _ _ (g.met.M.Gathered.opens _ c.default-found.ensures)))
+lines-init g c = (search rules, (le_refl _, lines_begun _ _ (g.met.M.PlainTable.opens _ c.default-found.ensures)))
 
 pub lines-preserved : goal.lines-preserved
 lines-preserved g c =

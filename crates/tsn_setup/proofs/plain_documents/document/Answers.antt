@@ -2,8 +2,8 @@ use Rattle.std.proofs.Common.{◌≡◌, ◌==◌, false, length, rules, arith, 
 use Rattle.std.proofs.lemmas.Grind.{common_steps}
 use Rattle.toml_parser.specs.Lexical.{first, skip_blank}
 use Rattle.tsn_setup.specs.Plain.{ReadsDocument}
-use Rattle.tsn_setup.specs.PlainSlots.{tables_of}
-use Rattle.tsn_setup.proofs.WholeDocuments.{document_begun, document_ended, none_yet, table_added, own_slot}
+use Rattle.tsn_setup.specs.PlainTrays.{tables_of}
+use Rattle.tsn_setup.proofs.WholeDocuments.{document_begun, document_ended, none_yet, table_added, own_tray}
 use Rattle.tsn_setup.proofs.plain_documents.document.Goals as goal
 
 pub tables-init : goal.tables-init
@@ -11,8 +11,8 @@ tables-init c =
     let empty = c.none-all.ensures in
     let limits = c.in_ok-limits.limits in
     let begun = document_begun c.args.text.now c.in_ok-limits.behind.now limits c.in_ok-limits.ensures.table in
-    let slots = none_yet limits c.none-all.result empty.ports empty.filters empty.gates empty.meters in
-    (search rules, subst (λ s. ReadsDocument c.args.text.now s c.in_ok-limits.behind.now) slots begun)
+    let trays = none_yet limits c.none-all.result empty.ports empty.filters empty.gates empty.meters in
+    (search rules, subst (λ s. ReadsDocument c.args.text.now s c.in_ok-limits.behind.now) trays begun)
 
 pub returns-then-is_empty : goal.returns-then-is_empty
 returns-then-is_empty c =
@@ -34,5 +34,5 @@ tables-preserved c =
     let before = c.skip_blank-start.ensures.within in
     let shorter = c.in_ok-kind.ensures.shorter in
     let added = table_added c.args.text.now _ rest _ c.in_ok-draft.after.now kind (tables_of kind all) c.in_ok-draft.draft
-    c.tables.invariant.1 some head (omega arith) c.in_ok-draft.ensures.table (own_slot kind limits (λ kind. tables_of kind all)) in
+    c.tables.invariant.1 some head (omega arith) c.in_ok-draft.ensures.table (own_tray kind limits (λ kind. tables_of kind all)) in
     (search rules, subst (λ s. ReadsDocument c.args.text.now s c.in_ok-draft.after.now) (sym (c.in_ok-push.ensures limits)) added)

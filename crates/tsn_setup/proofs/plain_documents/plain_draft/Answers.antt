@@ -1,5 +1,5 @@
 use Rattle.std.proofs.lemmas.Str.{is_utf8-from_IsUtf8}
-use Rattle.tsn_setup.specs.PlainSlots.{tables_of}
+use Rattle.tsn_setup.specs.PlainTrays.{tables_of}
 use Rattle.tsn_setup.proofs.WholeDocuments.{document_shaped}
 use Rattle.tsn_setup.proofs.plain_documents.plain_draft.Goals as goal
 

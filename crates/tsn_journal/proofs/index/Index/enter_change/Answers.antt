@@ -14,7 +14,7 @@ use Rattle.tsn_journal.proofs.index.Index.enter_change.Goals as goal
 pub loop-part-init : goal.loop-part-init
 loop-part-init c = record {
   pending = subst (λ (ps : List Part). IsIndexedBut (groups_of_parts ps ++ of_session c.args.session c.args.ends) c.args.marked.now
-      c.args.self.now.places.items (latest_of c.args.self.now.latest)) (sym c.parts-parts.ensures.parts)
+      c.args.self.now.nodes.items (latest_of c.args.self.now.latest)) (sym c.parts-parts.ensures.parts)
       (pending_change c.args.marked.now c.args.number c.args.session c.args.change.now c.args.ends c.requires.newest c.args.self.now
       c.requires.index);
   newest = λ g had. had;
@@ -26,7 +26,7 @@ loop-part-init c = record {
 entered_on : (c : After-enter_on)
     → IsIndexedBut (option_map RefersTo c.refs_of-refs.result.first ∷ option_map RefersTo c.refs_of-refs.result.second
     ∷ (groups_of_parts (drop (c.loop-part.part-index + 1) c.parts-parts.result.now) ++ of_session c.args.session c.args.ends))
-    c.args.marked.now c.enter_on.new.self.places.items (latest_of c.enter_on.new.self.latest)
+    c.args.marked.now c.enter_on.new.self.nodes.items (latest_of c.enter_on.new.self.latest)
 entered_on c =
     c.enter_on.ensures.index _
     (next_pending c.args.marked.now c.loop-part.self c.parts-parts.result.now c.loop-part.part-index c.args.session c.args.ends

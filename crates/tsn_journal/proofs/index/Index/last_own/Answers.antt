@@ -5,45 +5,45 @@ use Rattle.tsn_journal.specs.declared.entries.MarkedEntry.{MarkedEntry}
 use Rattle.tsn_journal.specs.declared.groups.Group.TheVariants.{Of}
 use Rattle.tsn_journal.specs.Index.{IsLast, belongs, number_at, number_of}
 use Rattle.tsn_journal.specs.Marks.{is_own}
-use Rattle.tsn_journal.proofs.Links.{next_group, place_there, step_beyond, step_none, the_place}
+use Rattle.tsn_journal.proofs.Links.{next_group, node_there, step_beyond, step_none, the_node}
 use Rattle.tsn_journal.proofs.Walking.{and_out, found_from, in_list, last_upto, none_from}
 use Rattle.tsn_journal.proofs.index.Index.last_own.Goals as goal
 use Rattle.tsn_journal.proofs.index.Index.last_own.Goals.{then-from-upto+else-is_own, else-is_own-via-then-is_own+else-test, else-is_own-via-else-is_own, else-from-upto+else-passed-upto}
 
 pub back-init : goal.back-init
 back-init g c =
-    let ps = c.args.self.now.places.items in
+    let ps = c.args.self.now.nodes.items in
     let h = Of c.args.session in
-    let at : IsLast h (belongs h) c.args.marked.now ps c.session_places-place.result.standing (length c.args.marked.now + 1) =
-    subst (λ j. IsLast h (belongs h) c.args.marked.now ps j (length c.args.marked.now + 1)) (sym c.session_places-place.ensures.standing)
+    let at : IsLast h (belongs h) c.args.marked.now ps c.session_nodes-node.result.standing (length c.args.marked.now + 1) =
+    subst (λ j. IsLast h (belongs h) c.args.marked.now ps j (length c.args.marked.now + 1)) (sym c.session_nodes-node.ensures.standing)
     (c.requires.index.latest_is h) in
     grind arith
 
 pub numbered-entry-requires-clause-some : goal.numbered-entry-requires-clause-some
 numbered-entry-requires-clause-some g c =
-    (the_place c.args.marked.now c.args.self.now.places.items (Of c.args.session) c.back.place c.index-found.result.now
-    c.back.invariant.group (place_there c.args.self.now.places.items c.back.place c.index-found.result.now c.back-test.true
-    c.back.invariant.within c.index-found.ensures) c.requires.index.places).some
+    (the_node c.args.marked.now c.args.self.now.nodes.items (Of c.args.session) c.back.node c.index-found.result.now
+    c.back.invariant.group (node_there c.args.self.now.nodes.items c.back.node c.index-found.result.now c.back-test.true
+    c.back.invariant.within c.index-found.ensures) c.requires.index.nodes).some
 
 pub numbered-entry-requires-clause-within : goal.numbered-entry-requires-clause-within
 numbered-entry-requires-clause-within g c =
-    (the_place c.args.marked.now c.args.self.now.places.items (Of c.args.session) c.back.place c.index-found.result.now
-    c.back.invariant.group (place_there c.args.self.now.places.items c.back.place c.index-found.result.now c.back-test.true
-    c.back.invariant.within c.index-found.ensures) c.requires.index.places).within
+    (the_node c.args.marked.now c.args.self.now.nodes.items (Of c.args.session) c.back.node c.index-found.result.now
+    c.back.invariant.group (node_there c.args.self.now.nodes.items c.back.node c.index-found.result.now c.back-test.true
+    c.back.invariant.within c.index-found.ensures) c.requires.index.nodes).within
 
 pub back-smaller : goal.back-smaller
 back-smaller g c =
-    let at = the_place c.args.marked.now c.args.self.now.places.items (Of c.args.session) c.back.place c.index-found.result.now
-    c.back.invariant.group (place_there c.args.self.now.places.items c.back.place c.index-found.result.now c.back-test.true
-    c.back.invariant.within c.index-found.ensures) c.requires.index.places in
+    let at = the_node c.args.marked.now c.args.self.now.nodes.items (Of c.args.session) c.back.node c.index-found.result.now
+    c.back.invariant.group (node_there c.args.self.now.nodes.items c.back.node c.index-found.result.now c.back-test.true
+    c.back.invariant.within c.index-found.ensures) c.requires.index.nodes in
     omega (arith, at.earlier, c.back-test.true)
 
 pub returns-then-test : goal.returns-then-test
 returns-then-test g c = λ p answers above.
-    let at = the_place c.args.marked.now c.args.self.now.places.items (Of c.args.session) c.back.place c.index-found.result.now
-    c.back.invariant.group (place_there c.args.self.now.places.items c.back.place c.index-found.result.now c.back-test.true
-    c.back.invariant.within c.index-found.ensures) c.requires.index.places in
-    let here = (place_there c.args.self.now.places.items c.back.place c.index-found.result.now c.back-test.true c.back.invariant.within
+    let at = the_node c.args.marked.now c.args.self.now.nodes.items (Of c.args.session) c.back.node c.index-found.result.now
+    c.back.invariant.group (node_there c.args.self.now.nodes.items c.back.node c.index-found.result.now c.back-test.true
+    c.back.invariant.within c.index-found.ensures) c.requires.index.nodes in
+    let here = (node_there c.args.self.now.nodes.items c.back.node c.index-found.result.now c.back-test.true c.back.invariant.within
     c.index-found.ensures) in
     sym (found_from (λ m. is_own c.args.session m && p m) c.args.marked.now c.index-found.result.now.number c.numbered-entry.result.now
     at.some at.within c.numbered-entry.ensures
@@ -53,28 +53,28 @@ returns-then-test g c = λ p answers above.
 
 pub back-preserved : goal.back-preserved
 back-preserved g c =
-    let at = the_place c.args.marked.now c.args.self.now.places.items (Of c.args.session) c.back.place c.index-found.result.now
-    c.back.invariant.group (place_there c.args.self.now.places.items c.back.place c.index-found.result.now c.back-test.true
-    c.back.invariant.within c.index-found.ensures) c.requires.index.places in
+    let at = the_node c.args.marked.now c.args.self.now.nodes.items (Of c.args.session) c.back.node c.index-found.result.now
+    c.back.invariant.group (node_there c.args.self.now.nodes.items c.back.node c.index-found.result.now c.back-test.true
+    c.back.invariant.within c.index-found.ensures) c.requires.index.nodes in
     record {
       within = at.last.within;
-      group = next_group c.args.marked.now c.args.self.now.places.items (Of c.args.session) c.back.place c.index-found.result.now
-          c.back.invariant.group (place_there c.args.self.now.places.items c.back.place c.index-found.result.now c.back-test.true
-          c.back.invariant.within c.index-found.ensures) c.requires.index.places;
+      group = next_group c.args.marked.now c.args.self.now.nodes.items (Of c.args.session) c.back.node c.index-found.result.now
+          c.back.invariant.group (node_there c.args.self.now.nodes.items c.back.node c.index-found.result.now c.back-test.true
+          c.back.invariant.within c.index-found.ensures) c.requires.index.nodes;
       none_later = λ p answers above.
           let t : MarkedEntry → Bool = λ m. is_own c.args.session m && p m in
           elim c.if-from-upto.branch [
             | then-from-upto+else-is_own w ↦
-                step_none c.args.marked.now c.args.self.now.places.items (Of c.args.session) c.back.place c.index-found.result.now
-                c.back.invariant.group (place_there c.args.self.now.places.items c.back.place c.index-found.result.now c.back-test.true
-                c.back.invariant.within c.index-found.ensures) c.requires.index.places
+                step_none c.args.marked.now c.args.self.now.nodes.items (Of c.args.session) c.back.node c.index-found.result.now
+                c.back.invariant.group (node_there c.args.self.now.nodes.items c.back.node c.index-found.result.now c.back-test.true
+                c.back.invariant.within c.index-found.ensures) c.requires.index.nodes
                 t (length c.args.marked.now + 1) (and_out p (belongs (Of c.args.session))) (c.back.invariant.none_later p answers above)
                 w.numbered-entry.result.now w.numbered-entry.ensures
                 (grind arith)
             | else-from-upto+else-passed-upto w ↦
-                step_beyond c.args.marked.now c.args.self.now.places.items (Of c.args.session) c.back.place c.index-found.result.now
-                c.back.invariant.group (place_there c.args.self.now.places.items c.back.place c.index-found.result.now c.back-test.true
-                c.back.invariant.within c.index-found.ensures) c.requires.index.places
+                step_beyond c.args.marked.now c.args.self.now.nodes.items (Of c.args.session) c.back.node c.index-found.result.now
+                c.back.invariant.group (node_there c.args.self.now.nodes.items c.back.node c.index-found.result.now c.back-test.true
+                c.back.invariant.within c.index-found.ensures) c.requires.index.nodes
                 t (length c.args.marked.now + 1) (and_out p (belongs (Of c.args.session))) c.args.upto
                 (omega (arith, w.if-from-upto.false, c.from.ensures)) above
           ];
@@ -85,14 +85,14 @@ returns g c = λ p answers above.
     let t : MarkedEntry → Bool = λ m. is_own c.args.session m && p m in
     sym (none_from t c.args.marked.now 0
     (λ i m low is. c.back.invariant.none_later p answers above i m
-    (subst (λ j. number_at c.args.self.now.places.items j ≤ i) (sym c.back-test.false) (omega arith)) (in_list c.args.marked.now i m is)
+    (subst (λ j. number_at c.args.self.now.nodes.items j ≤ i) (sym c.back-test.false) (omega arith)) (in_list c.args.marked.now i m is)
     is))
 
 pub slice_bounds-last-end : goal.slice_bounds-last-end
 slice_bounds-last-end g c =
-    let at = the_place c.args.marked.now c.args.self.now.places.items (Of c.args.session) c.back.place c.index-found.result.now
-    c.back.invariant.group (place_there c.args.self.now.places.items c.back.place c.index-found.result.now c.back-test.true
-    c.back.invariant.within c.index-found.ensures) c.requires.index.places in
+    let at = the_node c.args.marked.now c.args.self.now.nodes.items (Of c.args.session) c.back.node c.index-found.result.now
+    c.back.invariant.group (node_there c.args.self.now.nodes.items c.back.node c.index-found.result.now c.back-test.true
+    c.back.invariant.within c.index-found.ensures) c.requires.index.nodes in
     grind (arith, length-take-le)
 
 pub returns-then-passed-upto : goal.returns-then-passed-upto

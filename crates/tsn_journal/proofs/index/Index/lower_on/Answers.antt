@@ -11,8 +11,8 @@ use Rattle.tsn_journal.proofs.index.Index.lower_on.Goals as goal
 pub first_from-on-requires-clause-latest : goal.first_from-on-requires-clause-latest
 first_from-on-requires-clause-latest c =
     let g = On c.args.key.now in
-    subst (λ j. IsLast g (belongs g) c.args.marked.now c.args.self.now.places.items j (length c.args.marked.now + 1))
-    (sym c.key_places-latest.ensures.on) (c.requires.index.latest_is g)
+    subst (λ j. IsLast g (belongs g) c.args.marked.now c.args.self.now.nodes.items j (length c.args.marked.now + 1))
+    (sym c.key_nodes-latest.ensures.on) (c.requires.index.latest_is g)
 
 pub first_from-on-requires-clause-settled : goal.first_from-on-requires-clause-settled
 first_from-on-requires-clause-settled c = none_on c.args.key.now c.args.settled c.args.marked.now c.requires.off
@@ -23,5 +23,5 @@ returns-clause-index c =
     let l = latest_of c.args.self.now.latest in
     reindexed c.args.marked.now _ _ (set_at (On key) c.first_from-on.result l) (latest_of c.set_key.new.self)
     (set_on c.args.self.now.latest c.set_key.new.self key _ c.set_key.ensures.rows c.set_key.ensures.sessions
-    c.key_places-latest.ensures.refers)
+    c.key_nodes-latest.ensures.refers)
     (index_lowered _ _ l (On key) c.first_from-on.result c.requires.index c.first_from-on.ensures.last)

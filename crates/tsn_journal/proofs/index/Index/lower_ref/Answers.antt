@@ -15,8 +15,8 @@ use Rattle.tsn_journal.proofs.index.Index.lower_ref.Goals as goal
 pub first_from-refers-requires-clause-latest : goal.first_from-refers-requires-clause-latest
 first_from-refers-requires-clause-latest c =
     let g = RefersTo c.in-Some.key in
-    subst (λ j. IsLast g (belongs g) c.args.marked.now c.args.self.now.places.items j (length c.args.marked.now + 1))
-    (sym c.key_places-latest.ensures.refers) (c.requires.index.latest_is g)
+    subst (λ j. IsLast g (belongs g) c.args.marked.now c.args.self.now.nodes.items j (length c.args.marked.now + 1))
+    (sym c.key_nodes-latest.ensures.refers) (c.requires.index.latest_is g)
 
 pub first_from-refers-requires-clause-settled : goal.first_from-refers-requires-clause-settled
 first_from-refers-requires-clause-settled c = none_refers c.in-Some.key c.args.settled c.args.marked.now c.requires.off
@@ -27,15 +27,15 @@ returns-clause-index c =
     let l = latest_of c.args.self.now.latest in
     reindexed c.args.marked.now _ _ (set_at (RefersTo key) c.first_from-refers.result l) (latest_of c.set_key.new.self)
     (set_refers c.args.self.now.latest c.set_key.new.self key _ c.set_key.ensures.rows c.set_key.ensures.sessions
-    c.key_places-latest.ensures.on)
+    c.key_nodes-latest.ensures.on)
     (index_lowered _ _ l (RefersTo key) c.first_from-refers.result c.requires.index c.first_from-refers.ensures.last)
 
 pub returns-clause-newest : goal.returns-clause-newest
 returns-clause-newest c =
     let i = c.args.self.now in
     let key = c.in-Some.key in
-    let after : Index = record { places = i.places; latest = c.set_key.new.self; stray = i.stray } in
+    let after : Index = record { nodes = i.nodes; latest = c.set_key.new.self; stray = i.stray } in
     subst (λ (o : Option Key). MendsNewest c.args.marked.now (option_map RefersTo o ∷ []) i after) (sym c.in-Some.is)
     (mends_ref c.args.marked.now key c.first_from-refers.result i after refl
-    (set_refers i.latest c.set_key.new.self key _ c.set_key.ensures.rows c.set_key.ensures.sessions c.key_places-latest.ensures.on)
+    (set_refers i.latest c.set_key.new.self key _ c.set_key.ensures.rows c.set_key.ensures.sessions c.key_nodes-latest.ensures.on)
     c.first_from-refers.ensures.newest)

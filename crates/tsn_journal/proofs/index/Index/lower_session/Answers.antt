@@ -12,19 +12,19 @@ use Rattle.tsn_journal.proofs.index.Index.lower_session.Goals as goal
 pub first_from-standing-requires-clause-latest : goal.first_from-standing-requires-clause-latest
 first_from-standing-requires-clause-latest c =
     let g = Of c.args.session in
-    subst (λ j. IsLast g (belongs g) c.args.marked.now c.args.self.now.places.items j (length c.args.marked.now + 1))
-    (sym c.session_places-latest.ensures.standing) (c.requires.index.latest_is g)
+    subst (λ j. IsLast g (belongs g) c.args.marked.now c.args.self.now.nodes.items j (length c.args.marked.now + 1))
+    (sym c.session_nodes-latest.ensures.standing) (c.requires.index.latest_is g)
 
 pub first_from-ends_redo-requires-clause-latest : goal.first_from-ends_redo-requires-clause-latest
 first_from-ends_redo-requires-clause-latest c =
     let g = EndsRedo c.args.session in
-    subst (λ j. IsLast g (belongs g) c.args.marked.now c.args.self.now.places.items j (length c.args.marked.now + 1))
-    (sym c.session_places-latest.ensures.ends_redo) (c.requires.index.latest_is g)
+    subst (λ j. IsLast g (belongs g) c.args.marked.now c.args.self.now.nodes.items j (length c.args.marked.now + 1))
+    (sym c.session_nodes-latest.ensures.ends_redo) (c.requires.index.latest_is g)
 
 pub returns-clause-index : goal.returns-clause-index
 returns-clause-index c =
     let ms = c.args.marked.now in
-    let ps = c.args.self.now.places.items in
+    let ps = c.args.self.now.nodes.items in
     let s = c.args.session in
     let l = latest_of c.args.self.now.latest in
     let j = c.first_from-standing.result in

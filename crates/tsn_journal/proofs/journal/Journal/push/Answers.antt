@@ -1,7 +1,7 @@
 use Rattle.std.proofs.Common.{◌≤◌, refl, sym, ◌∙◌, ap, subst, drop, length, map, add-zero, arith, max}
 use Rattle.tsn_journal.specs.Crossed.{IsRaised, NoneCrossed}
 use Rattle.tsn_journal.specs.Entries.{IsNumbered, added_parts, adds, with_entry}
-use Rattle.tsn_journal.specs.Index.{IsIndexed, IsIndexedButNewest, NewestAdds, TakesRoom, places_for}
+use Rattle.tsn_journal.specs.Index.{IsIndexed, IsIndexedButNewest, NewestAdds, TakesRoom, nodes_for}
 use Rattle.tsn_journal.specs.Marks.{AreOff, Log, entries_of, mark_off}
 use Rattle.std.specs.Prelude.{◌==◌}
 use Rattle.std.specs.List.{find, slice_get}
@@ -135,8 +135,8 @@ invariant_of-self c =
     (c.put_off.ensures ∙ ap (map (mark_off c.args.what)) c.deref_mut.ensures.value) c.push_reserved.ensures.items)
     c.self.inside.index c.enter.new.self c.self.invariant.journal.numbered c.self.invariant.tells
     (subst (λ xs. NewestTold xs (length xs) c.self.inside.index c.enter.new.self) c.deref-2.ensures.value c.enter.ensures.told)))
-    (subst (λ n. TakesRoom n c.self.inside.index c.leave.new.index) (add-zero (places_for 1 c.added_parts-parts.result))
-    (takes_more (places_for 1 c.added_parts-parts.result) 0 c.self.inside.index c.enter.new.self c.leave.new.index c.enter.ensures.room
+    (subst (λ n. TakesRoom n c.self.inside.index c.leave.new.index) (add-zero (nodes_for 1 c.added_parts-parts.result))
+    (takes_more (nodes_for 1 c.added_parts-parts.result) 0 c.self.inside.index c.enter.new.self c.leave.new.index c.enter.ensures.room
     c.leave.ensures.room))
 
 pub returns-clause-entries : goal.returns-clause-entries

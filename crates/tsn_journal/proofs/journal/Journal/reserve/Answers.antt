@@ -8,7 +8,7 @@ invariant_of-self-in_err-reserve-2 c =
     c.reserve-2.ensures.tells _ _ _ _ c.reserve.ensures.len
     (omega (arith, c.self.invariant.entries, c.reserve.ensures.len, c.reserve.ensures.capacity))
     (omega (arith, c.self.invariant.few, c.reserve.ensures.len)) c.self.invariant.few_parts
-    (still_room _ _ _ c.reserve-2.ensures.spare c.self.invariant.places)
+    (still_room _ _ _ c.reserve-2.ensures.spare c.self.invariant.nodes)
 
 pub invariant_of-self-2 : goal.invariant_of-self-2
 invariant_of-self-2 c =

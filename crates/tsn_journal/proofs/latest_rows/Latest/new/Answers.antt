@@ -1,13 +1,13 @@
 use Rattle.std.proofs.Common.{arith}
 use Rattle.tsn_table.specs.View.{TableView}
-use Rattle.tsn_journal.specs.declared.latest_rows.KeyPlaces.{KeyPlaces}
+use Rattle.tsn_journal.specs.declared.latest_rows.KeyNodes.{KeyNodes}
 use Rattle.tsn_journal.specs.declared.latest_rows.Latest.{Latest}
-use Rattle.tsn_journal.specs.declared.latest_rows.SessionPlaces.{SessionPlaces}
+use Rattle.tsn_journal.specs.declared.latest_rows.SessionNodes.{SessionNodes}
 use Rattle.tsn_journal.proofs.Rows.{no_referred, no_rows, no_touched}
 use Rattle.tsn_journal.proofs.latest_rows.Latest.new.Goals as goal
 
 -- these tables, with no room that is sure
-abbrev unsure : (ports filters gates meters : TableView KeyPlaces) → TableView SessionPlaces → Latest
+abbrev unsure : (ports filters gates meters : TableView KeyNodes) → TableView SessionNodes → Latest
 unsure ports filters gates meters sessions = record {
   ports = ports;
   filters = filters;

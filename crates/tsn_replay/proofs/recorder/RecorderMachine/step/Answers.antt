@@ -18,7 +18,7 @@ returns-in-Passing g c =
     let step : Answers s ask reply next = subst (λ (a : Ask). Answers s a reply next) form.0 c.step.ensures in
     let new : Recording = record { bridge = next; text = text } in
     subst (λ (old : Recording). Records g.S.Spell.line g.S.Spell.MOST old ask reply new) c.self.view_is
-    (passing_records g.S.Spell.line g.S.Spell.MOST ask reply c.tell_ranges.ensures (record { bridge = s; text = text }) new form.1 step
+    (passing_records g.S.Spell.line g.S.Spell.MOST ask reply c.recall_ranges.ensures (record { bridge = s; text = text }) new form.1 step
     refl)
 
 pub returns-in-Kept : goal.returns-in-Kept
@@ -26,5 +26,5 @@ returns-in-Kept g c =
     let ask = c.args.ask in
     let form = subst (FormOf c.self.inside.bridge ask) c.in-Kept.is c.form_of.ensures in
     let is = ap (λ (r : Recording). kept_of r.bridge ask) (sym c.self.view_is) ∙ form in
-    kept_records g.S.Spell.line g.S.Spell.MOST ask c.keep.result c.tell_ranges.ensures c.in-Kept.ask c.args.self.now c.keep.new.self is
+    kept_records g.S.Spell.line g.S.Spell.MOST ask c.keep.result c.recall_ranges.ensures c.in-Kept.ask c.args.self.now c.keep.new.self is
     c.keep.ensures

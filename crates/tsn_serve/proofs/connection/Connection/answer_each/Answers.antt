@@ -2,16 +2,16 @@ use Rattle.std.proofs.Common.{◌≡◌, ◌≤◌, ◌-◌, ◌+◌, ◌++◌, 
 use Rattle.std.proofs.KnownBytes.{Appends-nil, Appends-trans}
 use Rattle.std.proofs.Math.Seq.{take-add}
 use Rattle.tsn_serve.specs.Answers.{MayRead}
-use Rattle.tsn_serve.specs.Rows.{IsRow}
+use Rattle.tsn_serve.specs.Lots.{IsLot}
 use Rattle.tsn_serve.specs.Talk.{Caller, Talks, BreaksTalk}
 use Rattle.tsn_serve.proofs.Running.{fed_more, fed_as, fed_nothing, broken_after, broken_as}
-use Rattle.tsn_serve.proofs.Ahead.{front_fits, fed_front, broken_front, row_on}
+use Rattle.tsn_serve.proofs.Ahead.{front_fits, fed_front, broken_front, lot_on}
 use Rattle.tsn_serve.proofs.connection.Connection.answer_each.Goals as goal
 
 pub lines-init : goal.lines-init
 lines-init g c =
-    let all : c.into_iter-line-iterator.result.rest.items ≡ c.args.row.items = c.into_iter-line-iterator.ensures.into_iter_gives.0 in (
-      (c.requires.1.0, subst (λ rs. IsRow c.args._bytes.now rs c.requires.1.0) (sym all) c.requires.1.1),
+    let all : c.into_iter-line-iterator.result.rest.items ≡ c.args.lot.items = c.into_iter-line-iterator.ensures.into_iter_gives.0 in (
+      (c.requires.1.0, subst (λ rs. IsLot c.args._bytes.now rs c.requires.1.0) (sym all) c.requires.1.1),
       omega arith,
       omega arith,
       ([], fed_nothing Talks c.args.self.now (Some []), Appends-nil _),
@@ -28,11 +28,11 @@ returns-in-Err-clause-front g c =
     let rest : List ℕ = inv.0.0 in
     let new = c.answer_read.new.self in
     let broken = c.in-Err.ensures.broken in
-    let row : IsRow (drop done bytes) (r ∷ rs) rest = subst (λ l. IsRow (drop done bytes) l rest) c.in-Some.ensures.steps.0 inv.0.1 in
+    let lot : IsLot (drop done bytes) (r ∷ rs) rest = subst (λ l. IsLot (drop done bytes) l rest) c.in-Some.ensures.steps.0 inv.0.1 in
     let all : (line : Option (List ℕ)) → MayRead line r.read → BreaksTalk c.lines.self line c.in-Err.fault broken.0 new =
     subst (λ (s : Caller). (line : Option (List ℕ)) → MayRead line r.read → BreaksTalk s line c.in-Err.fault broken.0 new)
     c.leave_unless.ensures broken.1 in
-    let here = broken_front (drop done bytes) r rs rest row Talks BreaksTalk c.in-Err.fault c.lines.self broken.0 new all in (
+    let here = broken_front (drop done bytes) r rs rest lot Talks BreaksTalk c.in-Err.fault c.lines.self broken.0 new all in (
       c.in-Err.ensures.fault,
       (
         inv.3.0 ++ broken.0,
@@ -53,14 +53,14 @@ lines-preserved g c =
     let rest : List ℕ = inv.0.0 in
     let new = c.answer_read.new.self in
     let ok = c.in_default.ensures.ok in
-    let row : IsRow (drop done bytes) (r ∷ rs) rest = subst (λ l. IsRow (drop done bytes) l rest) c.in-Some.ensures.steps.0 inv.0.1 in
-    let fits : r.count ≤ length bytes - done = simp length-drop at (front_fits (drop done bytes) r rs rest row) in
+    let lot : IsLot (drop done bytes) (r ∷ rs) rest = subst (λ l. IsLot (drop done bytes) l rest) c.in-Some.ensures.steps.0 inv.0.1 in
+    let fits : r.count ≤ length bytes - done = simp length-drop at (front_fits (drop done bytes) r rs rest lot) in
     let all : (line : Option (List ℕ)) → MayRead line r.read → Talks c.lines.self line ok.0 new =
     subst (λ (s : Caller). (line : Option (List ℕ)) → MayRead line r.read → Talks s line ok.0 new) c.leave_unless.ensures ok.1 in
-    let here = fed_front (drop done bytes) r rs rest row Talks c.lines.self ok.0 new all in (
-      (rest, row_on bytes done r rs rest row),
+    let here = fed_front (drop done bytes) r rs rest lot Talks c.lines.self ok.0 new all in (
+      (rest, lot_on bytes done r rs rest lot),
       omega (arith, fits, inv.1),
-      omega (arith, length-append c.lines.yielded (r ∷ []), inv.2, row.5),
+      omega (arith, length-append c.lines.yielded (r ∷ []), inv.2, lot.5),
       (
         inv.3.0 ++ ok.0,
         fed_as Talks c.args.self.now new (Some []) (Some []) _ (take (done + r.count) bytes) (inv.3.0 ++ ok.0)

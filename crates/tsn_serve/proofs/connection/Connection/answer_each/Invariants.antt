@@ -1,14 +1,14 @@
 use Rattle.std.proofs.Common.{◌≡◌, ◌≤◌, List, ℕ, Some, [], length, take, drop}
 use Rattle.std.specs.Io.KnownBytes.{Appends}
 use Rattle.tsn_serve.specs.Pieces.{Feeds}
-use Rattle.tsn_serve.specs.Rows.{IsRow}
+use Rattle.tsn_serve.specs.Lots.{IsLot}
 use Rattle.tsn_serve.specs.Talk.{Talks}
 use Rattle.tsn_serve.proofs.connection.Connection.answer_each.Given as goal
 
--- the lines to come are a row of the bytes that are not done, and the others were answered
+-- the lines to come are a lot of the bytes that are not done, and the others were answered
 abbrev pub invariant-lines : goal.invariant-lines
 invariant-lines g l =
-    ((rest : List ℕ) × IsRow (drop l.done l._bytes) l.line-iterator.rest.items rest)
+    ((rest : List ℕ) × IsLot (drop l.done l._bytes) l.line-iterator.rest.items rest)
     × (l.done ≤ length l._bytes)
     × (length l.yielded ≤ l.done)
     × ((text : List ℕ) × Feeds Talks l.initial.self (Some []) (take l.done l._bytes) text l.self (Some [])

@@ -1,0 +1,33 @@
+-- Lines that are answered one behind the other: what was read of them ahead, and how much of the bytes in front they are.
+use Rattle.std.specs.Prelude.{◌≡◌, ◌⊎◌, ℕ, ◌+◌, ◌<◌, ◌≤◌, ◌++◌, List, [], ◌∷◌, length, take, Option, Some, Result, Ok, Err}
+use Rattle.std.specs.Io.KnownBytes.{Appends}
+use Rattle.tsn_bytes.specs.declared.bytes.Fault.{Fault}
+use Rattle.tsn_bytes.specs.declared.bytes.Fault.TheVariants.{Write, Exhausted}
+use Rattle.tsn_serve.specs.declared.lots.ReadLine.{ReadLine}
+use Rattle.tsn_serve.specs.Lines.{HasNoLineFeed, line_feed, longest_line}
+use Rattle.tsn_serve.specs.Script.{Answering, Breaking}
+use Rattle.tsn_serve.specs.Pieces.{Feeds, Breaks}
+use Rattle.tsn_serve.specs.Answers.{MayRead}
+
+-- The bytes begin with these lines, each of so many bytes with its line feed and read as its text may be; behind them is this rest.
+abbrev pub IsLot : List ℕ → List ReadLine → List ℕ → Type 0
+IsLot bytes [] rest = bytes ≡ rest
+IsLot bytes (r ∷ rs) rest =
+    (line : List ℕ) × (behind : List ℕ)
+    × (bytes ≡ line ++ line_feed ∷ behind)
+    × HasNoLineFeed line
+    × (length line ≤ longest_line)
+    × (r.count ≡ length line + 1)
+    × MayRead (Some line) r.read
+    × IsLot behind rs rest
+
+-- Where nothing is kept of a line: so many bytes in front are whole lines, one at least, which were answered; or an answer to one of the
+-- lines broke off by this fault. What was written is the text of the answers, as far as it goes.
+abbrev pub AnswersFront : {S : Type 0} → Answering S → Breaking S → S → List ℕ → Option (List ℕ) → Option (List ℕ) → Result ℕ Fault → S
+    → Type 0
+AnswersFront answers breaks old bytes taken taken' (Ok n) new =
+    (0 < n) × (n ≤ length bytes)
+    × ((text : List ℕ) × Feeds answers old (Some []) (take n bytes) text new (Some []) × Appends taken taken' text)
+AnswersFront answers breaks old bytes taken taken' (Err fault) new =
+    ((fault ≡ Write) ⊎ (fault ≡ Exhausted))
+    × ((written : List ℕ) × Breaks answers breaks fault old (Some []) bytes written new × Appends taken taken' written)
