@@ -13,29 +13,13 @@ use tsn_bridge::bridge::{Bridge, Setup};
 use tsn_bridge::command::{Ask, Command};
 use tsn_bridge::reply::Reply;
 use tsn_desk::desk::{Desk, Seat};
+use tsn_samples::gate;
 use tsn_types::keys::Key;
-use tsn_types::lists::ControlList;
-use tsn_types::numbers::{Cycle, Extension, GateId, Instant};
-use tsn_types::records::{Record, Schedule, StreamGate};
+use tsn_types::numbers::GateId;
+use tsn_types::records::{Record, StreamGate};
 
 fn gate_key(number: u32) -> Key {
     Key::Gate(GateId::new(u64::from(number % 16)).unwrap())
-}
-
-/// An open gate with an empty list.
-fn stream_gate(alloc: Global) -> StreamGate {
-    StreamGate {
-        is_open: true,
-        ipv: None,
-        invalid_rx: false,
-        octets_exceeded: false,
-        admin: Schedule {
-            list: ControlList::new(alloc),
-            cycle: Cycle::new(1_000_000).unwrap(),
-            extension: Extension::new(0).unwrap(),
-            base: Instant::new(0).unwrap(),
-        },
-    }
 }
 
 /// The session and the place of a hello.
@@ -95,7 +79,7 @@ fn create_and_remove<R: Wait + Abort>(
 {
     let create = Command::Create {
         key: gate_key(session % 2),
-        value: Record::Gate(stream_gate(alloc)),
+        value: Record::Gate(gate(alloc)),
     };
     let (seat, made) = enter(rt, desk, seat, session, create);
     same(rt, &made.is_some(), &true);
@@ -230,11 +214,11 @@ fn share<R: Wait + Abort>(
     same(rt, &told, &Some((2, 1)));
     let create = Command::Create {
         key: gate_key(0),
-        value: Record::Gate(stream_gate(alloc)),
+        value: Record::Gate(gate(alloc)),
     };
     let (first, made) = enter(rt, desk, first, 1, create);
     same(rt, &made, &Some((1, 2)));
-    let (second, shown) = show(rt, desk, second, 2, gate_key(0), &stream_gate(alloc));
+    let (second, shown) = show(rt, desk, second, 2, gate_key(0), &gate(alloc));
     same(rt, &shown, &Some(3));
     let (third, front) = desk.front(third);
     same(rt, &front, &4);
@@ -262,7 +246,7 @@ fn shared_by_three<R: Wait + Abort>(rt: &R, alloc: Global) -> Result<Bridge, Fai
 #[test]
 fn desk_of_three(rt: HostRuntime) -> Result<(), Fail> {
     let bridge = shared_by_three(&rt, rt.alloc())?;
-    let gate = Record::Gate(stream_gate(rt.alloc()));
+    let gate = Record::Gate(gate(rt.alloc()));
     let kept = match bridge.config().get(gate_key(0)) {
         Some(record) => record.is(&gate),
         None => false,

@@ -15,31 +15,12 @@ use tsn_bridge::command::Command;
 use tsn_bridge::laws;
 use tsn_bridge::reply::Reply;
 use tsn_config::records::Records;
+use tsn_samples::{meter_key, meter_record};
 use tsn_types::keys::Key;
 use tsn_types::limits::Limits;
-use tsn_types::numbers::{BitRate, FilterId, GateId, Instant, MeterId, Octets};
-use tsn_types::records::{FlowMeter, Record, StreamFilter};
+use tsn_types::numbers::{FilterId, GateId, Instant};
+use tsn_types::records::{Record, StreamFilter};
 use tsn_types::refusals::{Field, Refusal};
-
-fn meter_key(number: u64) -> Key
-    requires { number ≤ 65535 }
-{
-    Key::Meter(MeterId::new(number).unwrap())
-}
-
-/// A meter of eight million bits a second.
-fn meter() -> Record {
-    Record::Meter(FlowMeter {
-        cir: BitRate::new(8_000_000).unwrap(),
-        cbs: Octets::new(1500).unwrap(),
-        eir: BitRate::new(0).unwrap(),
-        ebs: Octets::new(0).unwrap(),
-        cf: false,
-        aware: false,
-        drop_yellow: false,
-        all_red: false,
-    })
-}
 
 /// The reply to a command, or an error where memory is refused: a test ends by that, and not by another answer.
 fn step(bridge: &mut Bridge, session: u32, command: Command) -> Result<Reply, Refusal> {
@@ -55,7 +36,7 @@ fn create(bridge: &mut Bridge, session: u32, number: u64) -> Result<Reply, Refus
 {
     let command = Command::Create {
         key: meter_key(number),
-        value: meter(),
+        value: meter_record(),
     };
     step(bridge, session, command)
 }

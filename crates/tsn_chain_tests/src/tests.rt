@@ -5,14 +5,15 @@ mod greatest;
 
 use crate::comparing::same;
 use bench::{
-    Bench, counts, create_filter, dropped, filter, filter_id, gate, gate_id, listed_gate, meter,
-    meter_id, on_a_bench, on_a_gated_bench, on_a_metered_bench, passed, passes,
+    Bench, counts, create_filter, dropped, filter, filter_id, gate_id, listed_gate, meter_id,
+    on_a_bench, on_a_gated_bench, on_a_metered_bench, passed, passes,
 };
 use std::process::Abort;
 use std::test::Fail;
 use tsn_chain::data::FilterData;
 use tsn_chain::frame::DropCause;
 use tsn_chain::state::{Counters, ListCounters};
+use tsn_samples::{gate, meter_of};
 use tsn_types::keys::Key;
 use tsn_types::numbers::MaxSdu;
 use tsn_types::records::{FlowMeter, StreamFilter};
@@ -56,7 +57,7 @@ fn two_frames(rt: &impl Abort, bench: &mut Bench) {
 /// A third frame passes where `all_red` is off, and is red by the flag where it is on.
 #[test]
 fn meter_and_counters(rt: HostRuntime) -> Result<(), Fail> {
-    on_a_metered_bench(rt.alloc(), meter(1500, 0), |bench| {
+    on_a_metered_bench(rt.alloc(), meter_of(1500, 0), |bench| {
         two_frames(&rt, bench);
         passes(&rt, bench, 1000, 500_000, passed(3, 500_000, 2, false));
         has_passed(&rt, bench, 3, 1);
@@ -65,7 +66,7 @@ fn meter_and_counters(rt: HostRuntime) -> Result<(), Fail> {
     })?;
     let by = FlowMeter {
         all_red: true,
-        ..meter(1500, 0)
+        ..meter_of(1500, 0)
     };
     on_a_metered_bench(rt.alloc(), by, |bench| {
         two_frames(&rt, bench);
@@ -90,14 +91,14 @@ fn four_frames(rt: &impl Abort, bench: &mut Bench) {
 fn coupled_buckets(rt: HostRuntime) -> Result<(), Fail> {
     let by = FlowMeter {
         cf: true,
-        ..meter(100, 100)
+        ..meter_of(100, 100)
     };
     on_a_metered_bench(rt.alloc(), by, |bench| {
         four_frames(&rt, bench);
         passes(&rt, bench, 50, 150_000, passed(3, 150_000, 2, true));
         Ok(())
     })?;
-    on_a_metered_bench(rt.alloc(), meter(100, 100), |bench| {
+    on_a_metered_bench(rt.alloc(), meter_of(100, 100), |bench| {
         four_frames(&rt, bench);
         passes(&rt, bench, 50, 150_000, dropped(3, 150_000, DropCause::Red));
         Ok(())

@@ -7,9 +7,8 @@ mod literals;
 
 use crate::comparing::same;
 use literals::{
-    Row, create_filter, create_gate, filter, filter_key, gate, gate_key, gate_with, has_ids,
-    is_default, make, make_first_entries, meter, meter_key, on_a_config, on_a_copy, on_meter, port,
-    port_key, records_of, refused, stands,
+    Row, create_filter, create_gate, gate_with, has_ids, is_default, make, make_first_entries,
+    on_a_config, on_a_copy, on_meter, records_of, refused, stands,
 };
 use std::alloc::Global;
 use std::process::Abort;
@@ -18,6 +17,7 @@ use tsn_config::records::Records;
 use tsn_config::{Config, laws};
 use tsn_edit::batches::Batch;
 use tsn_edit::{Change, Edit, Part};
+use tsn_samples::{filter, filter_key, gate, gate_key, meter, meter_key, port, port_key};
 use tsn_types::keys::{Key, Kind};
 use tsn_types::limits::Limits;
 use tsn_types::numbers::{GateId, MeterId};

@@ -3,9 +3,13 @@
 
 ghost use Rattle.std.specs.Prelude.{◌≡◌, ◌<◌, ◌≤◌};
 
+use std::alloc::Global;
 use tsn_types::keys::Key;
-use tsn_types::numbers::{BitRate, FilterId, GateId, Handle, MaxSdu, MeterId, Octets, PortId};
-use tsn_types::records::{FlowMeter, Record, StreamFilter};
+use tsn_types::lists::ControlList;
+use tsn_types::numbers::{
+    BitRate, Cycle, Extension, FilterId, GateId, Handle, Instant, MaxSdu, MeterId, Octets, PortId,
+};
+use tsn_types::records::{FlowMeter, PortGates, Record, Schedule, StreamFilter, StreamGate};
 
 pub fn port_key(number: u64) -> Key
     requires low { 1 ≤ number }
@@ -74,6 +78,35 @@ pub fn filter(gate: u64, meter: Option<MeterId>) -> StreamFilter
         max_sdu: Some(MaxSdu::new(1500).unwrap()),
         meter,
         oversize: true,
+    }
+}
+
+/// The empty list with a cycle of a millisecond.
+fn schedule<E: Drop>(alloc: Global) -> Schedule<E> {
+    Schedule {
+        list: ControlList::new(alloc),
+        cycle: Cycle::new(1_000_000).unwrap(),
+        extension: Extension::new(0).unwrap(),
+        base: Instant::new(0).unwrap(),
+    }
+}
+
+/// A port of these gates with no list.
+pub fn port(alloc: Global, gates: u8) -> PortGates {
+    PortGates {
+        gates,
+        admin: schedule(alloc),
+    }
+}
+
+/// An open gate with no list.
+pub fn gate(alloc: Global) -> StreamGate {
+    StreamGate {
+        is_open: true,
+        ipv: None,
+        invalid_rx: false,
+        octets_exceeded: false,
+        admin: schedule(alloc),
     }
 }
 

@@ -6,12 +6,12 @@ mod literals;
 
 use crate::comparing::same;
 use literals::{
-    create, enters, fill, meter, meter_key, meter_of, on_a_book, redoes, remove, replace_at,
-    stands, undoes,
+    create, enters, fill, meter_of, on_a_book, redoes, remove, replace_at, stands, undoes,
 };
 use std::process::Abort;
 use std::test::Fail;
 use tsn_journal::entries::Act;
+use tsn_samples::{meter_key, meter_record};
 use tsn_types::numbers::Instant;
 use tsn_types::refusals::{Field, Refusal};
 use tsn_undo::book::Book;
@@ -69,7 +69,7 @@ fn replace_and_redo(rt: &impl Abort, book: &mut Book) {
     redoes(rt, book, 1, 6, 3);
     assert!(rt; stands(book, meter_key(2), &meter_of(900)));
     undoes_all(rt, book, 1, Ok((1, 7)));
-    assert!(rt; stands(book, meter_key(2), &meter()));
+    assert!(rt; stands(book, meter_key(2), &meter_record()));
 }
 
 #[test]
@@ -118,7 +118,7 @@ fn redo_and_settle(rt: &impl Abort, book: &mut Book) {
     is_not_undone(rt, book, 2, &Refusal::NothingToUndo);
     is_not_undone(rt, book, 3, &Refusal::NothingToUndo);
     is_not_redone(rt, book, 1, &Refusal::NothingToRedo);
-    assert!(rt; stands(book, meter_key(2), &meter()));
+    assert!(rt; stands(book, meter_key(2), &meter_record()));
 }
 
 #[test]
@@ -145,7 +145,7 @@ fn make_room(rt: &impl Abort, book: &mut Book) {
     same(rt, &book.journal().len(), &1);
     acts(rt, book, Ok(2));
     same(rt, &book.journal().len(), &2);
-    assert!(rt; stands(book, meter_key(1), &meter()));
+    assert!(rt; stands(book, meter_key(1), &meter_record()));
     undoes(rt, book, 1, 3, 1);
 }
 

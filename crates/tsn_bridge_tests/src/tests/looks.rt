@@ -1,7 +1,7 @@
 //! What a bridge lends to a look, beside what its step answers, between commands of three sessions.
 ghost use Rattle.std.specs.Prelude.{◌<◌, ◌≤◌};
 
-use super::{create, meter_key, on_a_bridge, step};
+use super::{create, on_a_bridge, step};
 use crate::comparing::same;
 use std::alloc::Global;
 use std::process::Abort;
@@ -9,31 +9,15 @@ use std::test::Fail;
 use tsn_bridge::bridge::Bridge;
 use tsn_bridge::command::Command;
 use tsn_bridge::reply::Reply;
+use tsn_samples::{drawn, gate_key, meter_key};
 use tsn_types::keys::Key;
 use tsn_types::lists::ControlList;
-use tsn_types::numbers::{Cycle, Extension, GateId, Instant, Interval, PortId};
+use tsn_types::numbers::{Cycle, Extension, Instant, Interval, PortId};
 use tsn_types::records::{GateEntry, Record, Schedule, StreamGate};
 use tsn_types::refusals::Refusal;
 
 /// How many commands are given.
 const STEPS: u32 = 200;
-
-// The next state of a generator, and a number below `bound` from it.
-fn drawn(seed: u64, bound: u64) -> (u64, u64)
-    requires { 0 < bound }
-    ensures { result.1 < bound }
-{
-    let seed = seed
-        .wrapping_mul(6_364_136_223_846_793_005)
-        .wrapping_add(1_442_695_040_888_963_407);
-    (seed, (seed >> 33) % bound)
-}
-
-fn gate_key(number: u64) -> Key
-    requires { number ≤ 65535 }
-{
-    Key::Gate(GateId::new(number).unwrap())
-}
 
 // A gate whose list has as many entries, each a nanosecond longer than the one before.
 fn gate(alloc: Global, length: u32) -> Result<Record, Refusal>

@@ -13,15 +13,16 @@ use tsn_config::Config;
 use tsn_config::records::Records;
 use tsn_edit::batches::Batch;
 use tsn_edit::{Change, Edit, Part};
+use tsn_samples::{gate, port};
 use tsn_types::keys::Key;
 use tsn_types::limits::Limits;
 use tsn_types::lists::ControlList;
 use tsn_types::numbers::{
-    BitRate, Cycle, Extension, FilterId, GateId, Handle, Instant, Interval, MaxSdu, MeterId,
-    Octets, PortId, Priority,
+    Cycle, Extension, FilterId, GateId, Handle, Instant, Interval, MaxSdu, MeterId, Octets, PortId,
+    Priority,
 };
 use tsn_types::records::{
-    FlowMeter, GateEntry, PortGates, Record, RecordRef, Schedule, StreamFilter, StreamGate,
+    FlowMeter, GateEntry, Record, RecordRef, Schedule, StreamFilter, StreamGate,
 };
 
 /// One port, sixteen instances of each other kind, lists of up to sixteen entries. The runtime has just the keys of the
@@ -42,10 +43,7 @@ impl Bench {
         let change = Change::of(Part {
             key: port_key(),
             before: None,
-            after: Some(Record::Port(PortGates {
-                gates: 255,
-                admin: schedule(alloc),
-            })),
+            after: Some(Record::Port(port(alloc, 255))),
         });
         runtime.follow(&change);
         Ok(Bench { config, runtime })
@@ -161,27 +159,6 @@ pub(super) fn frame(count: u64) -> Frame
     }
 }
 
-/// The empty list with a cycle of a millisecond.
-fn schedule<E: Drop>(alloc: Global) -> Schedule<E> {
-    Schedule {
-        list: ControlList::new(alloc),
-        cycle: Cycle::new(1_000_000).unwrap(),
-        extension: Extension::new(0).unwrap(),
-        base: instant(0),
-    }
-}
-
-/// An open gate with no list and no enable.
-pub(super) fn gate(alloc: Global) -> StreamGate {
-    StreamGate {
-        is_open: true,
-        ipv: None,
-        invalid_rx: false,
-        octets_exceeded: false,
-        admin: schedule(alloc),
-    }
-}
-
 /// A closed gate whose list is open for 1000 ns with priority value 5 and at most 150 octets, and then closed for 1000.
 pub(super) fn listed_gate(alloc: Global, octets_exceeded: bool) -> Result<StreamGate, AllocError> {
     let mut list = ControlList::new(alloc);
@@ -232,23 +209,6 @@ fn metered_filter() -> StreamFilter {
         max_sdu: Some(MaxSdu::new(1500).unwrap()),
         meter: Some(meter_id(0)),
         oversize: true,
-    }
-}
-
-/// A meter with no flag on: a committed rate of 8 Mbit/s, two burst sizes, no excess rate.
-pub(super) fn meter(cbs: u64, ebs: u64) -> FlowMeter
-    requires committed { cbs ≤ 4294967295 }
-    requires excess { ebs ≤ 4294967295 }
-{
-    FlowMeter {
-        cir: BitRate::new(8_000_000).unwrap(),
-        cbs: octets(cbs),
-        eir: BitRate::new(0).unwrap(),
-        ebs: octets(ebs),
-        cf: false,
-        aware: false,
-        drop_yellow: false,
-        all_red: false,
     }
 }
 

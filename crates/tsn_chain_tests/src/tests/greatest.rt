@@ -1,15 +1,14 @@
 //! Counters and octets at their greatest number, which no script reaches.
 ghost use Rattle.std.specs.Prelude.{◌≤◌};
 
-use super::bench::{
-    dropped, filter, filter_id, frame, gate, instant, meter, octets, passed, priority,
-};
+use super::bench::{dropped, filter, filter_id, frame, instant, octets, passed, priority};
 use crate::comparing::same;
 use std::process::Abort;
 use tsn_chain::chain::{Passage, pass_through};
 use tsn_chain::data::{FilterData, GateData, GateState, Met, MeterData, Metered, Running};
 use tsn_chain::frame::{DropCause, Verdict};
 use tsn_meter::bucket::Bucket;
+use tsn_samples::{gate, meter_of};
 use tsn_types::numbers::{MaxSdu, Octets};
 use tsn_types::records::{StreamFilter, StreamGate};
 
@@ -103,7 +102,7 @@ fn sum_stays(rt: &impl Abort, gate: &StreamGate) {
 /// The chain says this of a frame, and leaves every counter at the greatest number. The meter is full, and has 100
 /// octets.
 fn stays(rt: &impl Abort, passage: &Passage<'_>, wanted: Verdict) {
-    let by = meter(100, 0);
+    let by = meter_of(100, 0);
     let bucket = Bucket::full(&by, instant(500));
     let mut met = Met {
         filter: counted(u64::MAX),

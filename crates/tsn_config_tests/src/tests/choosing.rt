@@ -2,7 +2,7 @@
 //! filters that are made, replaced and removed.
 ghost use Rattle.std.specs.Prelude.{◌<◌, ◌≤◌};
 
-use super::literals::{create_filter, create_gate, filter, filter_key, gate, make, on_a_config};
+use super::literals::{create_filter, create_gate, make, on_a_config};
 use crate::comparing::same;
 use std::alloc::{AllocError, Global};
 use std::process::Abort;
@@ -10,23 +10,13 @@ use std::test::Fail;
 use tsn_config::Config;
 use tsn_config::records::Records;
 use tsn_edit::Edit;
+use tsn_samples::{drawn, filter, filter_key, gate};
 use tsn_types::limits::Limits;
 use tsn_types::numbers::{FilterId, Handle, Priority};
 use tsn_types::records::{Record, StreamFilter};
 
 /// How often a filter is made, replaced or removed.
 const STEPS: u32 = 300;
-
-// The next state of a generator, and a number below `bound` from it.
-fn drawn(seed: u64, bound: u64) -> (u64, u64)
-    requires { 0 < bound }
-    ensures { result.1 < bound }
-{
-    let seed = seed
-        .wrapping_mul(6_364_136_223_846_793_005)
-        .wrapping_add(1_442_695_040_888_963_407);
-    (seed, (seed >> 33) % bound)
-}
 
 // The wildcard for 0, and else a stream handle.
 fn handle_of(number: u64) -> Option<Handle>

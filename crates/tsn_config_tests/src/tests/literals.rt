@@ -1,5 +1,5 @@
 //! Keys, records and configurations.
-ghost use Rattle.std.specs.Prelude.{◌≡◌, ◌≤◌};
+ghost use Rattle.std.specs.Prelude.{◌≤◌};
 
 use std::alloc::{AllocError, Global};
 use std::process::Abort;
@@ -8,72 +8,12 @@ use tsn_config::Config;
 use tsn_config::records::Records;
 use tsn_edit::Edit;
 use tsn_edit::batches::Batch;
+use tsn_samples::{filter, filter_key, gate, gate_key, meter, meter_key, port};
 use tsn_types::keys::{Key, Kind};
 use tsn_types::limits::Limits;
-use tsn_types::lists::ControlList;
-use tsn_types::numbers::{
-    BitRate, Cycle, Extension, FilterId, GateId, Handle, Instant, Interval, MaxSdu, MeterId,
-    Octets, PortId, Range,
-};
-use tsn_types::records::{
-    FlowMeter, GateEntry, PortGates, Record, RecordRef, Schedule, StreamFilter, StreamGate,
-};
+use tsn_types::numbers::{FilterId, GateId, Interval, MeterId, PortId, Range};
+use tsn_types::records::{GateEntry, Record, RecordRef, StreamFilter, StreamGate};
 use tsn_types::refusals::Refusal;
-
-pub(super) fn port_key(number: u64) -> Key
-    requires low { 1 ≤ number }
-    requires high { number ≤ 64 }
-    ensures { result ≡ Key.Port number }
-{
-    Key::Port(PortId::new(number).unwrap())
-}
-
-pub(super) fn filter_key(number: u64) -> Key
-    requires { number ≤ 65535 }
-    ensures { result ≡ Key.Filter number }
-{
-    Key::Filter(FilterId::new(number).unwrap())
-}
-
-pub(super) fn gate_key(number: u64) -> Key
-    requires { number ≤ 65535 }
-    ensures { result ≡ Key.Gate number }
-{
-    Key::Gate(GateId::new(number).unwrap())
-}
-
-pub(super) fn meter_key(number: u64) -> Key
-    requires { number ≤ 65535 }
-    ensures { result ≡ Key.Meter number }
-{
-    Key::Meter(MeterId::new(number).unwrap())
-}
-
-fn schedule<E: Drop>(alloc: Global) -> Schedule<E> {
-    Schedule {
-        list: ControlList::new(alloc),
-        cycle: Cycle::new(1_000_000).unwrap(),
-        extension: Extension::new(0).unwrap(),
-        base: Instant::new(0).unwrap(),
-    }
-}
-
-pub(super) fn port(alloc: Global, gates: u8) -> PortGates {
-    PortGates {
-        gates,
-        admin: schedule(alloc),
-    }
-}
-
-pub(super) fn gate(alloc: Global) -> StreamGate {
-    StreamGate {
-        is_open: true,
-        ipv: None,
-        invalid_rx: false,
-        octets_exceeded: false,
-        admin: schedule(alloc),
-    }
-}
 
 // A gate whose list has this many entries.
 pub(super) fn gate_with(alloc: Global, length: usize) -> Result<StreamGate, AllocError> {
@@ -89,36 +29,10 @@ pub(super) fn gate_with(alloc: Global, length: usize) -> Result<StreamGate, Allo
     Ok(gate)
 }
 
-pub(super) fn filter(gate: u64, meter: Option<MeterId>) -> StreamFilter
-    requires { gate ≤ 65535 }
-{
-    StreamFilter {
-        handle: Some(Handle::new(7).unwrap()),
-        priority: None,
-        gate: GateId::new(gate).unwrap(),
-        max_sdu: Some(MaxSdu::new(1500).unwrap()),
-        meter,
-        oversize: true,
-    }
-}
-
 pub(super) fn on_meter(number: u64) -> Option<MeterId>
     requires { number ≤ 65535 }
 {
     Some(MeterId::new(number).unwrap())
-}
-
-pub(super) fn meter() -> FlowMeter {
-    FlowMeter {
-        cir: BitRate::new(8_000_000).unwrap(),
-        cbs: Octets::new(1500).unwrap(),
-        eir: BitRate::new(0).unwrap(),
-        ebs: Octets::new(0).unwrap(),
-        cf: false,
-        aware: false,
-        drop_yellow: false,
-        all_red: false,
-    }
 }
 
 // Checks the edit, and makes its change.

@@ -2,27 +2,17 @@
 //! back.
 ghost use Rattle.std.specs.Prelude.{◌<◌};
 
-use super::literals::{create, meter_key, meter_of, on_a_book, remove, replace_at};
+use super::literals::{create, meter_of, on_a_book, remove, replace_at};
 use crate::comparing::same;
 use std::process::Abort;
 use std::test::Fail;
 use tsn_journal::journal::Journal;
+use tsn_samples::{drawn, meter_key};
 use tsn_types::refusals::Refusal;
 use tsn_undo::book::Book;
 
 /// How many commands are given.
 const STEPS: u32 = 400;
-
-// The next state of a generator, and a number below `bound` from it.
-fn drawn(seed: u64, bound: u64) -> (u64, u64)
-    requires { 0 < bound }
-    ensures { result.1 < bound }
-{
-    let seed = seed
-        .wrapping_mul(6_364_136_223_846_793_005)
-        .wrapping_add(1_442_695_040_888_963_407);
-    (seed, (seed >> 33) % bound)
-}
 
 // Gives a command that is drawn, and passes over its answer.
 fn give(book: &mut Book, session: u32, what: u64, meter: u64)

@@ -9,37 +9,18 @@ use tsn_config::Config;
 use tsn_config::records::Records;
 use tsn_edit::Edit;
 use tsn_edit::batches::Batch;
+use tsn_samples::{meter_key, meter_record};
 use tsn_types::keys::Key;
 use tsn_types::limits::Limits;
-use tsn_types::numbers::{BitRate, MeterId, Octets};
-use tsn_types::records::{FlowMeter, Record};
+use tsn_types::records::Record;
 use tsn_types::refusals::Refusal;
 use tsn_undo::book::Book;
-
-pub(super) fn meter_key(number: u64) -> Key
-    requires { number ≤ 65535 }
-{
-    Key::Meter(MeterId::new(number).unwrap())
-}
 
 /// A meter of this committed burst size.
 pub(super) fn meter_of(cbs: u64) -> Record
     requires { cbs ≤ 1000000 }
 {
-    Record::Meter(FlowMeter {
-        cir: BitRate::new(8_000_000).unwrap(),
-        cbs: Octets::new(cbs).unwrap(),
-        eir: BitRate::new(0).unwrap(),
-        ebs: Octets::new(0).unwrap(),
-        cf: false,
-        aware: false,
-        drop_yellow: false,
-        all_red: false,
-    })
-}
-
-pub(super) fn meter() -> Record {
-    meter_of(1500)
+    Record::Meter(tsn_samples::meter_of(cbs, 0))
 }
 
 pub(super) fn create_at(key: Key, record: Record) -> Batch {
@@ -58,7 +39,7 @@ pub(super) fn remove_at(key: Key) -> Batch {
 pub(super) fn create(number: u64) -> Batch
     requires { number ≤ 65535 }
 {
-    create_at(meter_key(number), meter())
+    create_at(meter_key(number), meter_record())
 }
 
 /// The removal of a meter.
@@ -84,7 +65,7 @@ pub(super) fn on_a_book<F: FnOnce(&mut Book) -> Result<(), Fail>>(
 /// Creates meter 1 and takes that back, so many times.
 pub(super) fn fill(book: &mut Book, pairs: u32) -> Result<(), Refusal> {
     for _ in 0..pairs {
-        let meter_1 = Edit::Create(meter_key(1), meter());
+        let meter_1 = Edit::Create(meter_key(1), meter_record());
         book.edit(1, Batch::one(meter_1))?;
         book.undo(1)?;
     }

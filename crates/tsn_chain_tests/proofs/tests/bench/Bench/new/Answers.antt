@@ -12,7 +12,7 @@ use Rattle.tsn_chain_tests.proofs.tests.bench.Bench.new.Goals as goal
 
 pub invariant_of-result : goal.invariant_of-result
 invariant_of-result c =
-    let p : PortGates = record { gates = 255; admin = c.schedule.result } in
+    let p : PortGates = c.port.result in
     let created : Key → Change = λ k. record { key = k; before = None; after = Some (records.Port p) } ∷ [] in
     let t = c.reserve.new.self.time in
     record {
