@@ -1,12 +1,12 @@
 -- Worked examples: a record of each kind with its text as it stands in a setup, and a configuration of them.
-use Rattle.std.specs.Prelude.{ℕ, true, false, List, [], ◌∷◌, ◌++◌, Some, None, codes}
+use Rattle.std.specs.Prelude.{ℕ, true, false, List, [], ◌∷◌, ◌++◌, Some, codes}
 use Rattle.std.specs.FinMap.{from_entries}
 use Rattle.tsn_types.specs.declared.keys.Key.{Key}
 use Rattle.tsn_types.specs.declared.keys.Key.TheVariants.{Port, Filter, Gate, Meter}
 use Rattle.tsn_types.specs.declared.limits.Limits.{Limits}
-use Rattle.tsn_types.specs.declared.records.GateEntry.{GateEntry}
 use Rattle.tsn_types.specs.declared.records.Record.{Record}
 use Rattle.tsn_types.specs.declared.records.Record.TheVariants as records
+use Rattle.tsn_types.specs.Examples.{a_filter, a_gate, a_port}
 use Rattle.tsn_config.specs.Opening.{default_port}
 use Rattle.tsn_edit.specs.Configuration.{Configuration}
 
@@ -16,50 +16,22 @@ limits = record { ports = 2; filters = 16; gates = 16; meters = 16; list = 16 }
 abbrev pub limits_lines : List ℕ
 limits_lines = codes "ports = 2\nmax_filters = 16\nmax_gates = 16\nmax_meters = 16\nlist_max = 16\n"
 
--- two entries that fill the cycle
 abbrev pub port : Record
-port = records.Port (record {
-  gates = 255;
-  admin = record {
-    list = record { gates = 1; interval = 300 } ∷ record { gates = 128; interval = 700 } ∷ [];
-    cycle = 1000;
-    extension = 0;
-    base = 0;
-  };
-})
+port = records.Port a_port
 
 abbrev pub port_lines : List ℕ
 port_lines = codes "\n[[port]]\nid = 1\ngates = 255\n"
     ++ codes "list = [\n  {gates = 1, interval = 300},\n  {gates = 128, interval = 700},\n]\n"
     ++ codes "cycle = 1000\nextension = 0\nbase = 0\n"
 
--- any priority, and no meter
 abbrev pub filter : Record
-filter = records.Filter (record { handle = Some 7; priority = None; gate = 0; max_sdu = Some 1500; meter = None; oversize = true })
+filter = records.Filter a_filter
 
 abbrev pub filter_lines : List ℕ
 filter_lines = codes "\n[[filter]]\nid = 3\nhandle = 7\ngate = 0\nmax_sdu = 1500\noversize = true\n"
 
-abbrev open_entry : GateEntry
-open_entry = record { is_open = true; ipv = Some 5; interval = 1000; octets = Some 150 }
-
-abbrev closed_entry : GateEntry
-closed_entry = record { is_open = false; ipv = None; interval = 1000; octets = None }
-
--- an open entry with an internal priority and a bound of octets, and a closed one with neither
 abbrev pub gate : Record
-gate = records.Gate (record {
-  is_open = false;
-  ipv = None;
-  invalid_rx = false;
-  octets_exceeded = true;
-  admin = record {
-    list = open_entry ∷ closed_entry ∷ [];
-    cycle = 2000;
-    extension = 0;
-    base = 0;
-  };
-})
+gate = records.Gate a_gate
 
 abbrev pub gate_lines : List ℕ
 gate_lines = codes "\n[[gate]]\nid = 0\nopen = false\n"

@@ -6,7 +6,7 @@ use Rattle.tsn_edit.specs.Parts.{Change, inverse}
 use Rattle.tsn_journal.specs.declared.entries.Act.TheVariants.{Apply}
 use Rattle.tsn_journal.specs.declared.entries.Entry.{Entry}
 use Rattle.tsn_journal.specs.declared.entries.What.TheVariants.{Made, Undone, Redone, Acted, Settled}
-use Rattle.tsn_records.specs.Examples.{a_filter, a_gate, a_meter}
+use Rattle.tsn_types.specs.Examples.{a_filter, a_gate, a_meter}
 use Rattle.tsn_types.specs.declared.keys.Key.TheVariants as keys
 use Rattle.tsn_types.specs.declared.records.Record.TheVariants as records
 

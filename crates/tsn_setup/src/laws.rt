@@ -6,7 +6,7 @@ ghost use Rattle.tsn_types.specs.declared.keys.Key.TheVariants as keys;
 ghost use Rattle.tsn_types.specs.declared.records.Record.TheVariants as records;
 ghost use Rattle.tsn_types.specs.declared.refusals.Field.TheVariants as fields;
 ghost use Rattle.tsn_types.specs.declared.refusals.Refusal.TheVariants as refusals;
-ghost use Rattle.tsn_records.specs.Examples.{a_port, a_filter, a_gate, a_meter};
+ghost use Rattle.tsn_types.specs.Examples.{a_port, a_filter, a_gate, a_meter};
 ghost use Rattle.tsn_setup.specs.Examples.{port_table, filter_table, gate_table, meter_table, sets_up};
 ghost use Rattle.tsn_setup.specs.Setups.{document_of, setup_of};
 ghost use Rattle.tsn_setup.specs.Values.{AcceptsValues, keyed_rows, tables_of};

@@ -6,7 +6,7 @@ use Rattle.tsn_edit.specs.declared.Edit.{Edit}
 use Rattle.tsn_edit.specs.declared.Edit.TheVariants as edits
 use Rattle.tsn_types.specs.declared.keys.Key.TheVariants as keys
 use Rattle.tsn_types.specs.declared.records.Record.TheVariants as records
-use Rattle.tsn_records.specs.Examples.{a_filter, a_meter}
+use Rattle.tsn_types.specs.Examples.{a_filter, a_meter}
 
 -- what session 1 asks
 abbrev pub asked : Command → Ask

@@ -4,7 +4,8 @@ ghost use Rattle.tsn_bridge.specs.declared.command.Command.TheVariants as comman
 ghost use Rattle.tsn_types.specs.declared.keys.Key.TheVariants as keys;
 ghost use Rattle.tsn_types.specs.declared.keys.Kind.TheVariants as kinds;
 ghost use Rattle.tsn_types.specs.declared.records.Record.TheVariants as records;
-ghost use Rattle.tsn_records.specs.Examples.{a_port, port_text, filter_text, a_gate, gate_text, meter_text};
+ghost use Rattle.tsn_types.specs.Examples.{a_port, a_gate};
+ghost use Rattle.tsn_records.specs.Examples.{port_text, filter_text, gate_text, meter_text};
 ghost use Rattle.tsn_wire.specs.Examples.{a_frame, batch_line, create_line, creation_text, frame_line, removal_text};
 ghost use Rattle.tsn_spelling.specs.Examples.{asked, replace_line, replacement_text, three_edits};
 ghost use Rattle.tsn_spelling.specs.Laws.{ActsMayBeAsked, HasNoLineFeed, HelloMayBeAsked, IsAskedAgain, IsNoLonger, ReadsBack, WasAsked};

@@ -1,4 +1,5 @@
 pub mod Bounds
+pub mod Examples
 pub mod InRange
 pub mod Keys
 pub mod Lent
