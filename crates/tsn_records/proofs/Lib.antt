@@ -2,6 +2,7 @@ pub mod Counting
 pub mod Digits
 pub mod Entries
 pub mod Escaping
+pub mod NameOrder
 pub mod Naming
 pub mod Pairs
 pub mod RecordRanges

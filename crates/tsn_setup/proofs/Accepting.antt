@@ -27,7 +27,8 @@ use Rattle.tsn_setup.proofs.LimitsGiven.{LimitsThere, limits_there, limits_read}
 use Rattle.tsn_setup.proofs.OfKind.{InRange, AllOf, KindThere, kind_there, kind_read, all_joined, same_kind, picked, of_joined, of_kind_in_range, of_kind_of, nothing_more, each_split, drafts_joined}
 use Rattle.tsn_setup.proofs.Ordered.{IsOrdered, text_ordered}
 use Rattle.tsn_records.proofs.Steps.{steps, only, syntax_there, not_refused}
-use Rattle.tsn_setup.proofs.Rows.{is_among, same_text, same_bytes, members_have, all_among}
+use Rattle.tsn_records.proofs.NameOrder.{same_bytes, same_text}
+use Rattle.tsn_setup.proofs.Rows.{is_among, members_have, all_among}
 
 -- ---- the tables of a document
 

@@ -12,8 +12,8 @@ use Rattle.tsn_records.specs.declared.unread.Unread.{Unread}
 use Rattle.tsn_records.specs.Records.{port_entry_shape, gate_entry_shape}
 use Rattle.tsn_setup.specs.Toml.{are_among, items_list, as_toml}
 use Rattle.tsn_setup.specs.Plain.{Tray, number, flag, port_list, gate_list, tables, Stands, IsOpen, Trays, tray_at, put_tray, AreOpen, Tells, names, TellsAll}
-use Rattle.tsn_setup.proofs.Ordered.{order}
-use Rattle.tsn_setup.proofs.Rows.{is_among, same_name, same_text, same_bytes, known_at, all_among}
+use Rattle.tsn_records.proofs.NameOrder.{order, same_bytes, same_name, same_text}
+use Rattle.tsn_setup.proofs.Rows.{is_among, known_at, all_among}
 
 -- ---- nodes and the members that they stand for
 

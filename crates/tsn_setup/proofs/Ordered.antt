@@ -1,9 +1,8 @@
 -- What a document is read as holds the members of each table in ascending order of their names.
-use Rattle.std.proofs.Common.{◌≡◌, ℕ, zero, suc, List, [], ◌∷◌, ◌&&◌, ◌==◌, Bool, true, false, cond, Option, Some, None, option_map, option_and_then, IfSome, Ordering, Less, Equal, Greater, nat_cmp, refl, ap, subst, ◌∙◌, drop, length, slice_index}
+use Rattle.std.proofs.Common.{◌≡◌, ℕ, zero, suc, List, [], ◌∷◌, ◌&&◌, ◌==◌, Bool, true, false, cond, Option, Some, None, IfSome, Ordering, Less, Equal, Greater, refl, subst, drop, length, slice_index}
 use Rattle.std.specs.Prelude.{⊤}
 use Rattle.std.specs.Str.{is_utf8}
-use Rattle.std.specs.Cmp.Lexicographic.{slice_cmp}
-use Rattle.std.specs.Ordering.{match_ordering, ordering_reverse}
+use Rattle.std.specs.Ordering.{match_ordering}
 use Rattle.std.proofs.lemmas.Cmp.{nat_list_cmp_total}
 use Rattle.toml_parser.specs.Lexical.{Read, left_bracket, left_brace, right_bracket, right_brace, first, skip_ws, skip_blank}
 use Rattle.toml_parser.specs.Strings.{Key, quoted, starts_string, recursion_limit}
@@ -13,10 +12,8 @@ use Rattle.toml_parser.specs.declared.scalar.Scalar.TheVariants.{Boolean, Intege
 use Rattle.toml.specs.Data.{Data, array, table, Items, no_items, item, Members, no_members, member, same_key, push_item}
 use Rattle.toml.specs.Parse.{after_byte, after_element, key_equals, keyval, items, members, scalar_data, atom, val, header_key, expression, ends_line, line, lines, skip_bom, parse_document}
 use Rattle.toml.specs.Tables.{implicit, dotted, header, Node, value, open_table, open_array, Nodes, no_nodes, node, get_node, insert, replace, close_node, close, Edit, header_node, dot_node, by_header, by_dot, along_header, along_dots, Definition, key_value, std_table, array_table, Expression, new_node, redefine, at_found, at_key, put, Document, define_as, define}
+use Rattle.tsn_records.proofs.NameOrder.{any, if_and_then, if_cond, if_map, order, turned}
 use Rattle.tsn_setup.specs.Setups.{document_of}
-
-abbrev pub order : List ℕ → List ℕ → Ordering
-order = slice_cmp nat_cmp
 
 -- every name is above k
 abbrev pub Above : List ℕ → Members → Type 0
@@ -42,32 +39,9 @@ pub above_below : (k l : List ℕ) (ms : Members) → order k l ≡ Less → Abo
 above_below k l no_members less h = tt
 above_below k l (member m e ms) less h = (nat_list_cmp_total.trans k l m less h.0, above_below k l ms less h.1)
 
-pub turned : (k l : List ℕ) → order k l ≡ Greater → order l k ≡ Less
-turned k l e = nat_list_cmp_total.antisymm l k ∙ ap ordering_reverse e
-
 pushed : (ds : Items) (e : Data) → EachOrdered ds → IsOrdered e → EachOrdered (push_item ds e)
 pushed no_items e h x = (x, tt)
 pushed (item d ds) e h x = (h.0, pushed ds e h.1 x)
-
--- ---- answers that may be none
-
-if_map : {A B : Type 0} (P : A → Type 0) (Q : B → Type 0) (f : A → B) → ((a : A) → P a → Q (f a)) → (o : Option A) → IfSome o P
-    → IfSome (option_map f o) Q
-if_map P Q f more None h = tt
-if_map P Q f more (Some a) h = more a h
-
-if_and_then : {A B : Type 0} (P : A → Type 0) (Q : B → Type 0) (f : A → Option B) → ((a : A) → P a → IfSome (f a) Q) → (o : Option A)
-    → IfSome o P → IfSome (option_and_then f o) Q
-if_and_then P Q f more None h = tt
-if_and_then P Q f more (Some a) h = more a h
-
-if_cond : {A : Type 0} (P : A → Type 0) (b : Bool) (x y : Option A) → IfSome x P → IfSome y P → IfSome (cond b x y) P
-if_cond P true x y h g = h
-if_cond P false x y h g = g
-
-any : {A : Type 0} (o : Option A) → IfSome o (λ _. ⊤)
-any None = tt
-any (Some a) = tt
 
 -- ---- nodes while a text is read
 

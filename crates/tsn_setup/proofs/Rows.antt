@@ -2,16 +2,15 @@
 use Rattle.std.proofs.Common.{◌≡◌, ℕ, List, [], ◌∷◌, ◌&&◌, ◌||◌, Bool, true, false, if◌then◌else◌, Option, Some, None, Ok, Err, Ordering, Less, Equal, Greater, bytes_eq, refl, sym, ap, subst, ◌∙◌}
 use Rattle.std.specs.Prelude.{⊤, IsSome}
 use Rattle.std.specs.List.{AllByRecursion, list_any, list_all}
-use Rattle.std.specs.Ordering.{match_ordering, is_eq, is_lt}
+use Rattle.std.specs.Ordering.{match_ordering, is_lt}
 use Rattle.std.proofs.lemmas.Bool.{and_parts}
 use Rattle.std.proofs.lemmas.Cmp.{nat_list_cmp_total}
-use Rattle.std.proofs.lemmas.Map.Text.{is_eq-slice_cmp}
-use Rattle.std.proofs.lemmas.Slice.Eq.{bytes_eq-Decides}
 use Rattle.toml.specs.Data.{Data, table, Members, no_members, member, get, get_member}
 use Rattle.tsn_records.specs.declared.unread.Unread.TheVariants.{Shape}
 use Rattle.tsn_setup.specs.Toml.{are_among, has_only}
 use Rattle.tsn_setup.specs.Values.{Rows, given, table_with}
-use Rattle.tsn_setup.proofs.Ordered.{order, Above, IsOrdered, AreOrdered, above_below, turned}
+use Rattle.tsn_records.proofs.NameOrder.{order, same_name, same_order, same_text, turned}
+use Rattle.tsn_setup.proofs.Ordered.{Above, IsOrdered, AreOrdered, above_below}
 
 abbrev Row : Type 0
 Row = List ℕ × Option Data
@@ -41,27 +40,10 @@ by_order Less l e g = l refl
 by_order Equal l e g = e refl
 by_order Greater l e g = g refl
 
-pub same_text : (a b : List ℕ) → bytes_eq a b ≡ true → a ≡ b
-same_text a b e = (bytes_eq-Decides a b).0 e
-
-pub same_name : (k l : List ℕ) → order k l ≡ Equal → k ≡ l
-same_name k l e = same_text k l (sym (is_eq-slice_cmp k l) ∙ ap is_eq e)
-
-equal_at : (o : Ordering) → is_eq o ≡ true → o ≡ Equal
-equal_at Less h = cc
-equal_at Equal h = refl
-equal_at Greater h = cc
-
 less_at : (o : Ordering) → is_lt o ≡ true → o ≡ Less
 less_at Less h = refl
 less_at Equal h = cc
 less_at Greater h = cc
-
-pub same_bytes : (a b : List ℕ) → a ≡ b → bytes_eq a b ≡ true
-same_bytes a b e = (bytes_eq-Decides a b).1 e
-
-its_own : (k : List ℕ) → order k k ≡ Equal
-its_own k = equal_at (order k k) (is_eq-slice_cmp k k ∙ (bytes_eq-Decides k k).1 refl)
 
 -- ---- members in order
 
@@ -81,7 +63,7 @@ abbrev Agree : Members → Members → Type 0
 Agree ms es = (k : List ℕ) → get_member k ms ≡ get_member k es
 
 first_found : (k : List ℕ) (d : Data) (ms : Members) → get_member k (member k d ms) ≡ Some d
-first_found k d ms = rw (its_own k)
+first_found k d ms = rw (same_order k)
 
 below_first : (k l : List ℕ) (e : Data) (es : Members) → order k l ≡ Less → Above l es → get_member k (member l e es) ≡ None
 below_first k l e es less above = absent k (member l e es) (less, above_below k l es less above)

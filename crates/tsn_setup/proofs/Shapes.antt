@@ -1,6 +1,5 @@
 -- A table of an accepted shape is the table of its draft, and the table of a record has the shape of its draft.
-use Rattle.std.proofs.Common.{◌≡◌, ℕ, pos, List, [], ◌∷◌, map, Bool, true, Option, Some, None, option_map, option_and_then, Result, Ok, IfSome, Ordering, Less, Equal, Greater, codes, refl, sym, ap, ap₂, subst, ◌∙◌}
-use Rattle.std.specs.Ordering.{match_ordering}
+use Rattle.std.proofs.Common.{◌≡◌, ℕ, pos, List, [], ◌∷◌, map, Bool, true, Option, Some, None, option_map, option_and_then, Result, Ok, IfSome, codes, refl, sym, ap, ap₂, subst, ◌∙◌}
 use Rattle.toml.specs.Data.{Data, integer, boolean, array, table, Items, no_items, item, Members, no_members, member, get, get_member, as_bool, as_array}
 use Rattle.toml.specs.View.{items_of}
 use Rattle.std.specs.Prelude.{⊤}
@@ -24,7 +23,8 @@ use Rattle.tsn_records.specs.declared.drafts.PortEntryDraft.{PortEntryDraft}
 use Rattle.tsn_records.specs.declared.unread.Unread.{Unread}
 use Rattle.tsn_setup.specs.Toml.{has_only, whole, if_given, number_at, items_list, as_toml}
 use Rattle.tsn_setup.specs.Values.{number, number_or_none, flag, Rows, table_with, tables_of, port_entry_rows, gate_entry_rows, port_rows, filter_rows, gate_rows, meter_rows, record_rows}
-use Rattle.tsn_setup.proofs.Ordered.{order, IsOrdered, EachOrdered, AreOrdered}
+use Rattle.tsn_records.proofs.NameOrder.{if_found, order}
+use Rattle.tsn_setup.proofs.Ordered.{IsOrdered, EachOrdered, AreOrdered}
 use Rattle.tsn_records.proofs.RecordRanges.{port_entry_draft, gate_entry_draft}
 use Rattle.tsn_records.proofs.RecordsRead.{record_draft}
 use Rattle.tsn_records.proofs.Shapes.{port_entry_has, gate_entry_has, port_entry_of, gate_entry_of, record_has, record_shaped, values_fit}
@@ -99,15 +99,9 @@ items_got name rows ds rise is =
 
 -- ---- a member of what is ordered is ordered
 
-member_ordered_at : (o : Ordering) (e : Data) (found : Option Data) → IsOrdered e → IfSome found IsOrdered
-    → IfSome (match_ordering o found (Some e) found) IsOrdered
-member_ordered_at Less e found here later = later
-member_ordered_at Equal e found here later = here
-member_ordered_at Greater e found here later = later
-
 member_ordered : (k : List ℕ) (ms : Members) → AreOrdered ms → IfSome (get_member k ms) IsOrdered
 member_ordered k no_members h = tt
-member_ordered k (member l e ms) h = member_ordered_at (order k l) e (get_member k ms) h.1.0 (member_ordered k ms h.1.1)
+member_ordered k (member l e ms) h = if_found IsOrdered (order k l) e (get_member k ms) h.1.0 (member_ordered k ms h.1.1)
 
 got_ordered : (k : List ℕ) (d : Data) → IsOrdered d → IfSome (get k d) IsOrdered
 got_ordered k (table ms) h = member_ordered k ms h

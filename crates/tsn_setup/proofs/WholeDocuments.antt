@@ -23,7 +23,8 @@ use Rattle.tsn_setup.specs.declared.drafts.TableDraft.{TableDraft}
 use Rattle.tsn_setup.specs.declared.plain_documents.DocumentTables.{DocumentTables}
 use Rattle.tsn_setup.proofs.Filling.{closed_at, Changes, replaced, told_after, no_node, insert_other, replace_other, told_tray}
 use Rattle.tsn_records.proofs.Pairs.{◌&◌}
-use Rattle.tsn_setup.proofs.Rows.{is_among, same_text, same_bytes, known_at, other_member, all_among}
+use Rattle.tsn_records.proofs.NameOrder.{same_bytes, same_text}
+use Rattle.tsn_setup.proofs.Rows.{is_among, known_at, other_member, all_among}
 use Rattle.tsn_setup.proofs.Told.{only}
 use Rattle.tsn_setup.proofs.Turning.{each_last, items_pushed}
 

@@ -25,7 +25,8 @@ use Rattle.tsn_records.specs.declared.drafts.GateEntryDraft.{GateEntryDraft}
 use Rattle.tsn_records.specs.declared.unread.Unread.{Unread}
 use Rattle.tsn_records.proofs.Shapes.{RecordHas, port_entry_has, gate_entry_has, record_has}
 use Rattle.tsn_records.proofs.Steps.{last_step, mapped_there, only, steps, there}
-use Rattle.tsn_wire.proofs.Objects.{Holds, IsOrdered, Rise, counted, order, same_name, whole_object}
+use Rattle.tsn_records.proofs.NameOrder.{order, same_name}
+use Rattle.tsn_wire.proofs.Objects.{Holds, IsOrdered, Rise, counted, whole_object}
 
 -- ---- members and items of one kind
 

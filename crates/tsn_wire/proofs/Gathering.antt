@@ -23,7 +23,8 @@ use Rattle.tsn_wire.specs.declared.drafts.EditDraft.{EditDraft}
 use Rattle.tsn_wire.specs.declared.drafts.EditDraft.TheVariants as edits
 use Rattle.tsn_wire.specs.Spelled.{edit_value}
 use Rattle.tsn_wire.proofs.FromShapes.{record_rises}
-use Rattle.tsn_wire.proofs.Objects.{order, same_name, same_order, Holds, Rise, IsOrdered, of_json_ordered, only_these}
+use Rattle.tsn_records.proofs.NameOrder.{order, same_name, same_order}
+use Rattle.tsn_wire.proofs.Objects.{Holds, Rise, IsOrdered, of_json_ordered, only_these}
 use Rattle.tsn_wire.proofs.Scanning.{deeper}
 
 -- ---- what stands at a name once another member was put

@@ -1,24 +1,19 @@
 -- What was read holds its members in ascending order of their names, so the members that it holds at given names are
 -- all of it where it has no more.
-use Rattle.std.proofs.Common.{◌≡◌, ℕ, ◌≤◌, suc, List, Bool, true, false, cond, Ok, Err, Option, Some, None, option_map, option_and_then, IfSome, Ordering, Less, Equal, Greater, nat_cmp, is_eq, refl, sym, ap, subst, ◌∙◌, arith, eqb-true}
+use Rattle.std.proofs.Common.{◌≡◌, ℕ, ◌≤◌, suc, List, Bool, true, false, cond, Ok, Err, Some, None, option_map, option_and_then, IfSome, Ordering, Less, Equal, Greater, refl, sym, ap, subst, ◌∙◌, arith, eqb-true}
 use Rattle.std.specs.Prelude.{⊤, ◌==◌, if◌then◌else◌}
 use Rattle.std.specs.Str.{is_utf8}
-use Rattle.std.specs.Cmp.Lexicographic.{slice_cmp}
-use Rattle.std.specs.Ordering.{match_ordering, ordering_reverse}
+use Rattle.std.specs.Ordering.{match_ordering}
 use Rattle.std.proofs.lemmas.Cmp.{nat_list_cmp_total}
-use Rattle.std.proofs.lemmas.Map.Text.{is_eq-slice_cmp}
-use Rattle.std.proofs.lemmas.Slice.Eq.{bytes_eq-Decides}
 use Rattle.json.specs.Json as json
 use Rattle.json.specs.Lex.{tokens}
 use Rattle.serde_json.specs.Data.{Data, number, array, object, Items, no_items, item, Members, no_members, member, put}
 use Rattle.serde_json.specs.Find.{get, get_member}
 use Rattle.serde_json.specs.Read.{number_of, of_json, of_items, of_members, read, max_depth}
 use Rattle.tsn_records.specs.Json.{has_members, members_len}
+use Rattle.tsn_records.proofs.NameOrder.{any, if_and_then, if_found, if_map, order, same_name, turned, turned_back}
 use Rattle.tsn_wire.specs.Reading.{data_of}
 use Rattle.tsn_records.specs.declared.unread.Unread.TheVariants.{Shape}
-
-abbrev pub order : List ℕ → List ℕ → Ordering
-order = slice_cmp nat_cmp
 
 -- every name is above k
 abbrev pub Above : List ℕ → Members → Type 0
@@ -44,23 +39,6 @@ above_below : (k l : List ℕ) (ms : Members) → order k l ≡ Less → Above l
 above_below k l no_members less h = tt
 above_below k l (member m e ms) less h = (nat_list_cmp_total.trans k l m less h.0, above_below k l ms less h.1)
 
-turned : (k l : List ℕ) → order k l ≡ Greater → order l k ≡ Less
-turned k l e = nat_list_cmp_total.antisymm l k ∙ ap ordering_reverse e
-
-turned_back : (k l : List ℕ) → order k l ≡ Less → order l k ≡ Greater
-turned_back k l e = nat_list_cmp_total.antisymm l k ∙ ap ordering_reverse e
-
-pub same_name : (k l : List ℕ) → order k l ≡ Equal → k ≡ l
-same_name k l e = (bytes_eq-Decides k l).0 (sym (is_eq-slice_cmp k l) ∙ ap is_eq e)
-
-own_reverse : (o : Ordering) → o ≡ ordering_reverse o → o ≡ Equal
-own_reverse Less e = absurd (cc)
-own_reverse Equal e = refl
-own_reverse Greater e = absurd (cc)
-
-pub same_order : (k : List ℕ) → order k k ≡ Equal
-same_order k = own_reverse (order k k) (nat_list_cmp_total.antisymm k k)
-
 -- ---- what was read is ordered
 
 above_put_at : (o : Ordering) (l k m : List ℕ) (d e : Data) (ms : Members) → order l k ≡ Less → Above l (member m e ms)
@@ -84,20 +62,6 @@ ordered_put_at Greater k l d e ms is x h later = (above_put l k d ms (turned k l
 ordered_put : (k : List ℕ) (d : Data) (ms : Members) → IsOrdered d → AreOrdered ms → AreOrdered (put k d ms)
 ordered_put k d no_members x h = (tt, (x, tt))
 ordered_put k d (member l e ms) x h = ordered_put_at (order k l) k l d e ms refl x h (ordered_put k d ms x h.1.1)
-
-if_map : {A B : Type 0} (P : A → Type 0) (Q : B → Type 0) (f : A → B) → ((a : A) → P a → Q (f a)) → (o : Option A) → IfSome o P
-    → IfSome (option_map f o) Q
-if_map P Q f more None h = tt
-if_map P Q f more (Some a) h = more a h
-
-if_and_then : {A B : Type 0} (P : A → Type 0) (Q : B → Type 0) (f : A → Option B) → ((a : A) → P a → IfSome (f a) Q) → (o : Option A)
-    → IfSome o P → IfSome (option_and_then f o) Q
-if_and_then P Q f more None h = tt
-if_and_then P Q f more (Some a) h = more a h
-
-any : {A : Type 0} (o : Option A) → IfSome o (λ _. ⊤)
-any None = tt
-any (Some a) = tt
 
 mutual
   pub of_json_ordered : (j : json.Json) → IfSome (of_json j) IsOrdered
@@ -207,15 +171,9 @@ whole_object n (object ms) es u ordered count len rise h =
 whole_object n d es u ordered count len rise h = some_counted n u count
 
 -- a member of what is ordered is ordered
-member_ordered_at : (o : Ordering) (e : Data) (found : Option Data) → IsOrdered e → IfSome found IsOrdered
-    → IfSome (match_ordering o found (Some e) found) IsOrdered
-member_ordered_at Less e found here later = later
-member_ordered_at Equal e found here later = here
-member_ordered_at Greater e found here later = later
-
 member_ordered : (k : List ℕ) (ms : Members) → AreOrdered ms → IfSome (get_member k ms) IsOrdered
 member_ordered k no_members h = tt
-member_ordered k (member l e ms) h = member_ordered_at (order k l) e (get_member k ms) h.1.0 (member_ordered k ms h.1.1)
+member_ordered k (member l e ms) h = if_found IsOrdered (order k l) e (get_member k ms) h.1.0 (member_ordered k ms h.1.1)
 
 got_ordered : (k : List ℕ) (d : Data) → IsOrdered d → IfSome (get k d) IsOrdered
 got_ordered k (object ms) h = member_ordered k ms h
