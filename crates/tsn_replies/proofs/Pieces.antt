@@ -26,7 +26,7 @@ use Rattle.tsn_records.specs.Shown.{or_null, port_entry_data, gate_entry_data, p
 use Rattle.tsn_replies.proofs.Grown.{grown}
 use Rattle.tsn_bridge.specs.declared.sessions.GivenSession.{GivenSession}
 use Rattle.tsn_replies.specs.Told.{shown_data, ids_data, session_data, sessions_data}
-use Rattle.tsn_replies.specs.Pieces.{TakesFront, key_front, port_front, gate_front, gate_rest}
+use Rattle.tsn_replies.specs.Pieces.{TakesFront, key_front, port_front, gate_front, gate_end, gate_rest}
 use Rattle.tsn_records.proofs.Escaping.{escape_key}
 
 -- ---- what is taken and what is held
@@ -155,6 +155,52 @@ gate_pieces r t0 t1 t2 t3 t4 t5 t6 e1 e2 e3 e4 e5 e6 =
     ∷ (codes ",\"ipv\":" ++ compact_text (or_null r.ipv)) ∷ [])
     t0 t5 t6 (codes ",\"list\":[") (t1, e1, (t2, e2, (t3, e3, (t4, e4, (t5, e5, refl))))) e6
 
+gate_end_of : (a b t0 t1 t2 t3 : List ℕ) → t1 ≡ t0 ++ (codes ",\"octets_exceeded\":" ++ a) → t2 ≡ t1 ++ (codes ",\"open\":" ++ b)
+    → t3 ≡ t2 ++ codes "}"
+    → t3 ≡ t0 ++ (codes ",\"octets_exceeded\":" ++ (a ++ (codes ",\"open\":" ++ (b ++ codes "}"))))
+gate_end_of a b t0 t1 t2 t3 e1 e2 e3 = rw (e3, e2, e1) (simp append_assoc)
+
+pub gate_end_pieces : (r : StreamGate) (t0 t1 t2 t3 : List ℕ)
+    → t1 ≡ t0 ++ (codes ",\"octets_exceeded\":" ++ compact_text (boolean r.octets_exceeded))
+    → t2 ≡ t1 ++ (codes ",\"open\":" ++ compact_text (boolean r.is_open))
+    → t3 ≡ t2 ++ codes "}"
+    → t3 ≡ t0 ++ gate_end r
+gate_end_pieces r = gate_end_of (compact_text (boolean r.octets_exceeded)) (compact_text (boolean r.is_open))
+
+-- a record is its front, its list and its end
+
+port_text_of : (base cycle extension gates items : List ℕ)
+    → (codes "{\"base\":" ++ (base ++
+    (codes ",\"cycle\":" ++ (cycle ++
+    (codes ",\"extension\":" ++ (extension ++ (codes ",\"gates\":" ++ (gates ++ codes ",\"list\":[")))))))) ++ (items ++ codes "}")
+    ≡ codes "{\"base\":" ++ (base ++
+    (codes ",\"cycle\":" ++ (cycle ++
+    (codes ",\"extension\":" ++ (extension ++ (codes ",\"gates\":" ++ (gates ++ (codes ",\"list\":[" ++ (items ++ codes "}")))))))))
+port_text_of base cycle extension gates items = simp append_assoc
+
+pub port_text : (r : PortGates) → port_front r ++ (items_text false (items_of (map port_entry_data r.admin.list)) ++ codes "}")
+    ≡ compact_text (port_data r)
+unfolding escape_byte
+port_text r = port_text_of _ _ _ _ (items_text false (items_of (map port_entry_data r.admin.list)))
+
+gate_text_of : (base cycle extension invalid_rx ipv items octets_exceeded is_open : List ℕ)
+    → (codes "{\"base\":" ++ (base ++
+    (codes ",\"cycle\":" ++ (cycle ++
+    (codes ",\"extension\":" ++ (extension
+    ++ (codes ",\"invalid_rx\":" ++ (invalid_rx ++ (codes ",\"ipv\":" ++ (ipv ++ codes ",\"list\":["))))))))))
+    ++ (items ++ (codes ",\"octets_exceeded\":" ++ (octets_exceeded ++ (codes ",\"open\":" ++ (is_open ++ codes "}")))))
+    ≡ codes "{\"base\":" ++ (base ++
+    (codes ",\"cycle\":" ++ (cycle ++
+    (codes ",\"extension\":" ++ (extension
+    ++ (codes ",\"invalid_rx\":" ++ (invalid_rx ++ (codes ",\"ipv\":" ++ (ipv ++ (codes ",\"list\":["
+    ++ (items ++ (codes ",\"octets_exceeded\":" ++ (octets_exceeded ++ (codes ",\"open\":" ++ (is_open ++ codes "}")))))))))))))))
+gate_text_of base cycle extension invalid_rx ipv items octets_exceeded is_open = simp append_assoc
+
+pub gate_text : (r : StreamGate) → gate_front r ++ (items_text false (items_of (map gate_entry_data r.admin.list)) ++ gate_end r)
+    ≡ compact_text (gate_data r)
+unfolding escape_byte
+gate_text r = gate_text_of _ _ _ _ _ (items_text false (items_of (map gate_entry_data r.admin.list))) _ _
+
 -- ---- lines
 
 line_of_record : (key value : List ℕ)
@@ -174,56 +220,27 @@ flat_line k r t1 t2 t3 e1 e2 e3 =
     e3 ∙ ap (λ l. l ++ codes "}\n") (e2 ∙ ap (λ l. l ++ compact_text (record_data r)) e1)
     ∙ append_assoc (key_front k) (compact_text (record_data r)) (codes "}\n") ∙ shown_line k r
 
-port_text_of : (base cycle extension gates items : List ℕ)
-    → (codes "{\"base\":" ++ (base ++
-    (codes ",\"cycle\":" ++ (cycle ++
-    (codes ",\"extension\":" ++ (extension ++ (codes ",\"gates\":" ++ (gates ++ codes ",\"list\":[")))))))) ++ (items ++ codes "}}\n")
-    ≡ (codes "{\"base\":" ++ (base ++
-    (codes ",\"cycle\":" ++ (cycle ++
-    (codes ",\"extension\":" ++ (extension ++ (codes ",\"gates\":" ++ (gates ++ (codes ",\"list\":[" ++ (items ++ codes "}"))))))))))
-    ++ codes "}\n"
-port_text_of base cycle extension gates items = simp append_assoc
+line_end : (key front items end : List ℕ)
+    → (key ++ front) ++ (items ++ (end ++ codes "}\n")) ≡ key ++ ((front ++ (items ++ end)) ++ codes "}\n")
+line_end key front items end = simp append_assoc
 
-port_text : (r : PortGates) → port_front r ++ (items_text false (items_of (map port_entry_data r.admin.list)) ++ codes "}}\n")
-    ≡ compact_text (port_data r) ++ codes "}\n"
-unfolding escape_byte
-port_text r = port_text_of _ _ _ _ (items_text false (items_of (map port_entry_data r.admin.list)))
-
-gate_text_of : (base cycle extension invalid_rx ipv items octets_exceeded is_open : List ℕ)
-    → (codes "{\"base\":" ++ (base ++
-    (codes ",\"cycle\":" ++ (cycle ++
-    (codes ",\"extension\":" ++ (extension
-    ++ (codes ",\"invalid_rx\":" ++ (invalid_rx ++ (codes ",\"ipv\":" ++ (ipv ++ codes ",\"list\":["))))))))))
-    ++ (items ++ (codes ",\"octets_exceeded\":" ++ (octets_exceeded ++ (codes ",\"open\":" ++ (is_open ++ codes "}}\n")))))
-    ≡ (codes "{\"base\":" ++ (base ++
-    (codes ",\"cycle\":" ++ (cycle ++
-    (codes ",\"extension\":" ++ (extension
-    ++ (codes ",\"invalid_rx\":" ++ (invalid_rx ++ (codes ",\"ipv\":" ++ (ipv ++ (codes ",\"list\":["
-    ++ (items ++ (codes ",\"octets_exceeded\":" ++ (octets_exceeded ++ (codes ",\"open\":" ++ (is_open ++ codes "}"))))))))))))))))
-    ++ codes "}\n"
-gate_text_of base cycle extension invalid_rx ipv items octets_exceeded is_open = simp append_assoc
-
-gate_text : (r : StreamGate) → gate_front r ++ (items_text false (items_of (map gate_entry_data r.admin.list)) ++ gate_rest r)
-    ≡ compact_text (gate_data r) ++ codes "}\n"
-unfolding escape_byte
-gate_text r = gate_text_of _ _ _ _ _ (items_text false (items_of (map gate_entry_data r.admin.list))) _ _
-
-listed_line : (k : Key) (r : Record) (front rest items : List ℕ) → front ++ (items ++ rest) ≡ compact_text (record_data r) ++ codes "}\n"
-    → (key_front k ++ front) ++ (items ++ rest) ≡ compact_text (shown_data k r) ++ codes "\n"
-listed_line k r front rest items e = append_assoc (key_front k) front (items ++ rest) ∙ ap (λ l. key_front k ++ l) e ∙ shown_line k r
+listed_line : (k : Key) (r : Record) (front end items : List ℕ) → front ++ (items ++ end) ≡ compact_text (record_data r)
+    → (key_front k ++ front) ++ (items ++ (end ++ codes "}\n")) ≡ compact_text (shown_data k r) ++ codes "\n"
+listed_line k r front end items e =
+    line_end (key_front k) front items end ∙ ap (λ l. key_front k ++ (l ++ codes "}\n")) e ∙ shown_line k r
 
 pub port_line : (k : Key) (r : PortGates) (t1 t2 rest : List ℕ) (es : List PortEntry) → es ≡ r.admin.list → t1 ≡ key_front k
     → t2 ≡ t1 ++ port_front r → rest ≡ codes "}}\n"
     → t2 ++ (items_text false (items_of (map port_entry_data es)) ++ rest) ≡ compact_text (shown_data k (records.Port r)) ++ codes "\n"
 port_line k r t1 t2 rest es e e1 e2 e3 =
-    rw (e, e2, e1, e3) (listed_line k (records.Port r) (port_front r) (codes "}}\n")
+    rw (e, e2, e1, e3) (listed_line k (records.Port r) (port_front r) (codes "}")
     (items_text false (items_of (map port_entry_data r.admin.list))) (port_text r))
 
 pub gate_line : (k : Key) (r : StreamGate) (t1 t2 rest : List ℕ) (es : List GateEntry) → es ≡ r.admin.list → t1 ≡ key_front k
     → t2 ≡ t1 ++ gate_front r → rest ≡ gate_rest r
     → t2 ++ (items_text false (items_of (map gate_entry_data es)) ++ rest) ≡ compact_text (shown_data k (records.Gate r)) ++ codes "\n"
 gate_line k r t1 t2 rest es e e1 e2 e3 =
-    rw (e, e2, e1, e3) (listed_line k (records.Gate r) (gate_front r) (gate_rest r)
+    rw (e, e2, e1, e3) (listed_line k (records.Gate r) (gate_front r) (gate_end r)
     (items_text false (items_of (map gate_entry_data r.admin.list))) (gate_text r))
 
 ids_text_of : (items : List ℕ) → codes "{\"ids\":[" ++ (items ++ codes "}\n") ≡ (codes "{\"ids\":[" ++ (items ++ codes "}")) ++ codes "\n"

@@ -38,12 +38,16 @@ gate_front r =
     ++ (codes ",\"ipv\":" ++ (compact_text (or_null r.ipv)
     ++ codes ",\"list\":[")))))))))
 
--- what comes behind the closing bracket, with the end of the line
-abbrev pub gate_rest : StreamGate → List ℕ
-gate_rest r =
+-- what comes behind the closing bracket
+abbrev pub gate_end : StreamGate → List ℕ
+gate_end r =
     codes ",\"octets_exceeded\":" ++ (compact_text (boolean r.octets_exceeded)
     ++ (codes ",\"open\":" ++ (compact_text (boolean r.is_open)
-    ++ codes "}}\n")))
+    ++ codes "}")))
+
+-- the same with the end of the line
+abbrev pub gate_rest : StreamGate → List ℕ
+gate_rest r = gate_end r ++ codes "}\n"
 
 -- the member that tells the keys of a change, with a comma before it
 abbrev pub keys_piece : List Key → List ℕ

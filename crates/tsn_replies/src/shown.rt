@@ -16,7 +16,7 @@ ghost use Rattle.tsn_types.specs.Numbers.{greatest_instance};
 ghost use Rattle.tsn_records.specs.Shown.{whole_data, or_null, port_entry_data, gate_entry_data, filter_data, meter_data};
 ghost use Rattle.tsn_replies.specs.Told.{shown_data, ids_data};
 ghost use Rattle.tsn_records.specs.Keys.{key_text};
-ghost use Rattle.tsn_replies.specs.Pieces.{TakesFront, key_front, port_front, gate_front, gate_rest};
+ghost use Rattle.tsn_replies.specs.Pieces.{TakesFront, key_front, port_front, gate_front, gate_end, gate_rest};
 
 use crate::text::{CAPACITY, MOST_DIGITS, ShortText};
 use tsn_bytes::{ByteOut, Fault, put_all};
@@ -202,6 +202,18 @@ pub fn push_gate_front(text: &mut ShortText, gate: &StreamGate)
     text.push(",\"list\":[");
 }
 
+/// Puts what a gate's value has behind its list's bracket at the end. There must be room for 48 bytes.
+pub fn push_gate_end(text: &mut ShortText, gate: &StreamGate)
+    requires { length text.old + 48 ≤ CAPACITY }
+    ensures text { text.new ≡ text.old ++ gate_end gate.now }
+    ensures len { length text.new ≤ length text.old + 48 }
+{
+    push_flag(text, ",\"octets_exceeded\":", gate.octets_exceeded);
+    push_flag(text, ",\"open\":", gate.is_open);
+    text.push("}");
+}
+
+// The same with the end of the line.
 fn gate_rest(gate: &StreamGate) -> &'static [u8]
     ensures text { result.now ≡ gate_rest gate.now }
     ensures len { length result.now ≤ 48 }

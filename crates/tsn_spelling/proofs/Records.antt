@@ -1,87 +1,26 @@
--- The text of each record, and of items with commas between them, piece by piece.
-use Rattle.std.proofs.Common.{◌≡◌, ℕ, ◌+◌, ◌<◌, ◌≤◌, ◌++◌, List, [], ◌∷◌, length, take, get_or, map, false, codes, sym, ap, ◌∙◌, append_assoc, append-nil}
+-- The text of a record with a list, and of items with commas between them, piece by piece.
+use Rattle.std.proofs.Common.{◌≡◌, ℕ, ◌+◌, ◌<◌, ◌≤◌, ◌++◌, List, [], ◌∷◌, length, take, get_or, map, false, codes, sym, ap, ◌∙◌, append-nil}
 use Rattle.std.proofs.lemmas.List.{take_more, take_all}
-use Rattle.json.specs.Print.{escape_byte}
-use Rattle.serde_json.specs.Data.{Data, boolean}
+use Rattle.serde_json.specs.Data.{Data}
 use Rattle.serde_json.specs.View.{items_of}
 use Rattle.serde_json.specs.Written.{compact_text, items_text}
-use Rattle.tsn_records.specs.Shown.{port_entry_data, gate_entry_data, port_data, gate_data}
-use Rattle.tsn_types.specs.declared.records.PortEntry.{PortEntry}
-use Rattle.tsn_types.specs.declared.records.GateEntry.{GateEntry}
-use Rattle.tsn_types.specs.declared.records.PortGates.{PortGates}
-use Rattle.tsn_types.specs.declared.records.StreamGate.{StreamGate}
-use Rattle.tsn_replies.specs.Pieces.{port_front, gate_front}
 use Rattle.tsn_replies.proofs.Pieces.{behind, behind_more, behind_none, behind_closed}
 use Rattle.tsn_spelling.specs.Growing.{Grows, GoesOn}
 use Rattle.tsn_spelling.proofs.Growing.{none_more, grows_on, pushed, goes_on, moved, as_piece}
 
 -- ---- records
 
-port_of : (base cycle extension gates items : List ℕ)
-    → (codes "{\"base\":" ++ (base ++
-    (codes ",\"cycle\":" ++ (cycle ++
-    (codes ",\"extension\":" ++ (extension ++ (codes ",\"gates\":" ++ (gates ++ codes ",\"list\":[")))))))) ++ (items ++ codes "}")
-    ≡ codes "{\"base\":" ++ (base ++
-    (codes ",\"cycle\":" ++ (cycle ++
-    (codes ",\"extension\":" ++ (extension ++ (codes ",\"gates\":" ++ (gates ++ (codes ",\"list\":[" ++ (items ++ codes "}")))))))))
-port_of base cycle extension gates items = simp append_assoc
-
-port_text : (r : PortGates) → port_front r ++ (items_text false (items_of (map port_entry_data r.admin.list)) ++ codes "}") ≡ compact_text
-    (port_data r)
-unfolding escape_byte
-port_text r = port_of _ _ _ _ (items_text false (items_of (map port_entry_data r.admin.list)))
-
-pub port_pieces : (r : PortGates) (es : List PortEntry) (l0 t0 t1 l2 t2 t3 : List ℕ)
-    → es ≡ r.admin.list
-    → t1 ≡ t0 ++ port_front r
-    → GoesOn l0 t1 l2 t2 (items_text false (items_of (map port_entry_data es)))
-    → t3 ≡ t2 ++ codes "}"
-    → GoesOn l0 t0 l2 t3 (compact_text (port_data r))
-port_pieces r es l0 t0 t1 l2 t2 t3 e e1 e2 e3 =
-    as_piece l0 t0 l2 t3 _ _ (ap (λ x. port_front r ++ (items_text false (items_of (map port_entry_data x)) ++ codes "}")) e ∙ port_text r)
+-- a record with a list: its front, the items of the list and what stands behind them
+pub record_pieces : {I : Type 0} (f : I → Data) (front end text : List ℕ) (es list : List I) (l0 t0 t1 l2 t2 t3 : List ℕ)
+    → es ≡ list
+    → front ++ (items_text false (items_of (map f list)) ++ end) ≡ text
+    → t1 ≡ t0 ++ front
+    → GoesOn l0 t1 l2 t2 (items_text false (items_of (map f es)))
+    → t3 ≡ t2 ++ end
+    → GoesOn l0 t0 l2 t3 text
+record_pieces f front end text es list l0 t0 t1 l2 t2 t3 e is e1 e2 e3 =
+    as_piece l0 t0 l2 t3 _ _ (ap (λ x. front ++ (items_text false (items_of (map f x)) ++ end)) e ∙ is)
     (goes_on l0 t0 l0 t1 l2 t3 _ _ (pushed l0 t0 t1 _ e1) (goes_on l0 t1 l2 t2 l2 t3 _ _ e2 (pushed l2 t2 t3 _ e3)))
-
-gate_of : (base cycle extension invalid_rx ipv items octets_exceeded is_open : List ℕ)
-    → (codes "{\"base\":" ++ (base ++
-    (codes ",\"cycle\":" ++ (cycle ++
-    (codes ",\"extension\":" ++ (extension
-    ++ (codes ",\"invalid_rx\":" ++ (invalid_rx ++ (codes ",\"ipv\":" ++ (ipv ++ codes ",\"list\":["))))))))))
-    ++ (items ++ (codes ",\"octets_exceeded\":" ++ (octets_exceeded ++ (codes ",\"open\":" ++ (is_open ++ codes "}")))))
-    ≡ codes "{\"base\":" ++ (base ++
-    (codes ",\"cycle\":" ++ (cycle ++
-    (codes ",\"extension\":" ++ (extension
-    ++ (codes ",\"invalid_rx\":" ++ (invalid_rx ++ (codes ",\"ipv\":" ++ (ipv ++ (codes ",\"list\":["
-    ++ (items ++ (codes ",\"octets_exceeded\":" ++ (octets_exceeded ++ (codes ",\"open\":" ++ (is_open ++ codes "}")))))))))))))))
-gate_of base cycle extension invalid_rx ipv items octets_exceeded is_open = simp append_assoc
-
--- what stands behind the list of a gate
-abbrev gate_end : StreamGate → List ℕ
-gate_end r = codes ",\"octets_exceeded\":"
-    ++ (compact_text (boolean r.octets_exceeded) ++ (codes ",\"open\":" ++ (compact_text (boolean r.is_open) ++ codes "}")))
-
-gate_text : (r : StreamGate) → gate_front r ++ (items_text false (items_of (map gate_entry_data r.admin.list)) ++ gate_end r) ≡ compact_text
-    (gate_data r)
-unfolding escape_byte
-gate_text r = gate_of _ _ _ _ _ (items_text false (items_of (map gate_entry_data r.admin.list))) _ _
-
-gate_end_of : (a b t2 t3 t4 t5 : List ℕ) → t3 ≡ t2 ++ (codes ",\"octets_exceeded\":" ++ a) → t4 ≡ t3 ++ (codes ",\"open\":" ++ b)
-    → t5 ≡ t4 ++ codes "}"
-    → t5 ≡ t2 ++ (codes ",\"octets_exceeded\":" ++ (a ++ (codes ",\"open\":" ++ (b ++ codes "}"))))
-gate_end_of a b t2 t3 t4 t5 e3 e4 e5 = rw (e5, e4, e3) (simp append_assoc)
-
-pub gate_pieces : (r : StreamGate) (es : List GateEntry) (l0 t0 t1 l2 t2 t3 t4 t5 : List ℕ)
-    → es ≡ r.admin.list
-    → t1 ≡ t0 ++ gate_front r
-    → GoesOn l0 t1 l2 t2 (items_text false (items_of (map gate_entry_data es)))
-    → t3 ≡ t2 ++ (codes ",\"octets_exceeded\":" ++ compact_text (boolean r.octets_exceeded))
-    → t4 ≡ t3 ++ (codes ",\"open\":" ++ compact_text (boolean r.is_open))
-    → t5 ≡ t4 ++ codes "}"
-    → GoesOn l0 t0 l2 t5 (compact_text (gate_data r))
-gate_pieces r es l0 t0 t1 l2 t2 t3 t4 t5 e e1 e2 e3 e4 e5 =
-    as_piece l0 t0 l2 t5 _ _ (ap (λ x. gate_front r ++ (items_text false (items_of (map gate_entry_data x)) ++ gate_end r)) e ∙ gate_text r)
-    (goes_on l0 t0 l0 t1 l2 t5 _ _ (pushed l0 t0 t1 _ e1) (goes_on l0 t1 l2 t2 l2 t5 _ _ e2
-    (pushed l2 t2 t5 (gate_end r) (gate_end_of (compact_text (boolean r.octets_exceeded)) (compact_text (boolean r.is_open)) t2 t3 t4 t5 e3
-    e4 e5))))
 
 -- ---- items
 

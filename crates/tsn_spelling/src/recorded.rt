@@ -8,7 +8,7 @@ ghost use Rattle.tsn_spelling.specs.Growing.{GoesOn, Grows};
 use crate::line::{MOST_HELD, make_room};
 use std::alloc::AllocError;
 use tsn_replies::{
-    ShortText, ShownItem, push_filter, push_flag, push_gate_front, push_meter, push_port_front,
+    ShortText, ShownItem, push_filter, push_gate_end, push_gate_front, push_meter, push_port_front,
 };
 use tsn_types::records::{PortGates, Record, StreamGate};
 
@@ -65,9 +65,7 @@ fn put_gate(line: &mut Vec<u8>, text: &mut ShortText, gate: &StreamGate) -> Resu
 {
     push_gate_front(text, gate);
     put_items(line, text, gate.admin.list.as_slice())?;
-    push_flag(text, ",\"octets_exceeded\":", gate.octets_exceeded);
-    push_flag(text, ",\"open\":", gate.is_open);
-    text.push("}");
+    push_gate_end(text, gate);
     Ok(())
 }
 
