@@ -19,8 +19,8 @@ pub use reply::{write_kept, write_lent, write_refusal, write_reply};
 pub use session_names::{LONGEST_NAME_TEXT, push_session_name};
 pub use setup::LONGEST_ESCAPE;
 pub use shown::{
-    LONGEST_ITEM, LONGEST_KEY, ShownItem, push_filter, push_flag, push_gate_end, push_gate_front,
-    push_meter, push_number, push_port_front, write_ids,
+    LONGEST_ITEM, LONGEST_KEY, ShownItem, lent, push_filter, push_flag, push_gate_end,
+    push_gate_front, push_meter, push_number, push_port_front, write_ids,
 };
 pub use text::{CAPACITY, MOST_DIGITS, ShortText};
 pub use told::{push_key_text, write_entries};

@@ -15,7 +15,7 @@ ghost use Rattle.tsn_bytes.specs.declared.bytes.Fault.TheVariants.{Write};
 use crate::running::{push_act, push_counters, push_state, push_verdict};
 use crate::sessions::write_sessions;
 use crate::setup::write_setup;
-use crate::shown::{push_key, write_ids, write_lent_record, write_shown};
+use crate::shown::{lent, push_key, write_ids, write_lent_record};
 use crate::text::{CAPACITY, ShortText};
 use crate::told::{write_entries, write_kept_entries};
 use tsn_bridge::reply::Reply;
@@ -246,7 +246,7 @@ pub fn write_reply<W: ByteOut>(writer: &mut W, reply: &Reply) -> Result<(), Faul
             push_counters(&mut text, counters);
             put_text(writer, &text)
         }
-        Reply::Shown { key, value } => write_shown(writer, &mut text, *key, value),
+        Reply::Shown { key, value } => write_lent_record(writer, &mut text, *key, lent(value)),
         Reply::Ids { ids } => write_ids(writer, &mut text, ids.as_slice()),
         Reply::Entries { entries } => write_entries(writer, &mut text, entries.as_slice()),
         Reply::Sessions { sessions } => write_sessions(writer, &mut text, sessions.as_slice()),

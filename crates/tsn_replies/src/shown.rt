@@ -409,38 +409,20 @@ fn write_gate<W: ByteOut>(
     write_listed(writer, text, gate.admin.list.as_slice(), gate_rest(gate))
 }
 
-/// Writes the line of a key and its record, by way of an empty text. Its one fault is `Write`; what went out is then a
-/// front of the line.
-pub fn write_shown<W: ByteOut>(
-    writer: &mut W,
-    text: &mut ShortText,
-    key: Key,
-    shown: &Record,
-) -> Result<(), Fault>
-    requires { text.old ≡ [] }
-    ensures ok { OnOk result (Appends (W.taken writer.old) (W.taken writer.new)
-        (compact_text (shown_data key shown.now) ++ codes "\n")) }
-    ensures worked { OnOk result (W.has_failed writer.new ≡ W.has_failed writer.old) }
-    ensures fault { IfErr result (λ e. e ≡ Write) }
-    ensures failed { OnErr result (W.has_failed writer.new ≡ true) }
-    ensures cut { OnErr result (IsCut (W.taken writer.old) (W.taken writer.new)
-        (compact_text (shown_data key shown.now) ++ codes "\n")) }
+/// The record, lent.
+pub fn lent(value: &Record) -> RecordRef<'_>
+    ensures { lent_record result ≡ value.now }
 {
-    match shown {
-        Record::Port(port) => write_port(writer, text, key, port),
-        Record::Filter(filter) => {
-            push_filter_line(text, key, filter);
-            put_all(writer, text.as_slice())
-        }
-        Record::Gate(gate) => write_gate(writer, text, key, gate),
-        Record::Meter(meter) => {
-            push_meter_line(text, key, meter);
-            put_all(writer, text.as_slice())
-        }
+    match value {
+        Record::Port(port) => RecordRef::Port(port),
+        Record::Filter(filter) => RecordRef::Filter(filter),
+        Record::Gate(gate) => RecordRef::Gate(gate),
+        Record::Meter(meter) => RecordRef::Meter(meter),
     }
 }
 
-/// Writes the line of a key and a record that is lent, as `write_shown` does that of a record.
+/// Writes the line of a key and a record that is lent, by way of an empty text. Its one fault is `Write`; what went out
+/// is then a front of the line.
 pub fn write_lent_record<W: ByteOut>(
     writer: &mut W,
     text: &mut ShortText,
@@ -470,7 +452,7 @@ pub fn write_lent_record<W: ByteOut>(
     }
 }
 
-/// Writes the line of numbers of instances, in their order, as `write_shown` does that of a record.
+/// Writes the line of numbers of instances, in their order, as `write_lent_record` does that of a record.
 pub fn write_ids<W: ByteOut>(writer: &mut W, text: &mut ShortText, ids: &[u64]) -> Result<(), Fault>
     requires { text.old ≡ [] }
     ensures ok { OnOk result (Appends (W.taken writer.old) (W.taken writer.new)

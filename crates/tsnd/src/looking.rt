@@ -13,9 +13,8 @@ use tsn_edit::Part;
 use tsn_export::{SetupText, export_setup};
 use tsn_program::Failure;
 use tsn_recorded::End;
-use tsn_replies::{write_kept, write_lent};
+use tsn_replies::{lent, write_kept, write_lent};
 use tsn_resuming::{Resumed, Unwatched, Watcher};
-use tsn_types::records::{Record, RecordRef};
 use tsn_words::Look;
 
 /// Tells the entries behind a number, each with the stamp of its line, as they come about.
@@ -139,16 +138,6 @@ fn look_at_entries<R: Files<File = File> + AllocGlobal, W: ByteOut>(
         return Err(JournalFault::Failed(Failure::Fault(Fault::Write)));
     }
     faultless(resumed.end)
-}
-
-// The record, lent.
-fn lent(record: &Record) -> RecordRef<'_> {
-    match record {
-        Record::Port(port) => RecordRef::Port(port),
-        Record::Filter(filter) => RecordRef::Filter(filter),
-        Record::Gate(gate) => RecordRef::Gate(gate),
-        Record::Meter(meter) => RecordRef::Meter(meter),
-    }
 }
 
 // Writes what the parts of a change had before and have after it, a line each.
