@@ -32,7 +32,8 @@ use Rattle.tsn_bridge.proofs.LastActs.{asked_last}
 use Rattle.tsn_bridge.proofs.Following.{object_push}
 use Rattle.tsn_bridge.proofs.Families.{state_of}
 use Rattle.tsn_bridge.proofs.Stepping.{accepted}
-use Rattle.tsn_program.specs.Listing.{Applies, IsNew, IsSeenFrom, Takes, refusal_told}
+use Rattle.tsn_program.specs.Listing.{Applies, IsSeenFrom, Takes, refusal_told}
+use Rattle.tsn_setup.specs.Opening.{IsNew}
 
 -- ---- causes
 

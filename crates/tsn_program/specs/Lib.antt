@@ -2,7 +2,6 @@ pub mod Checking
 pub mod Failures
 pub mod Lines
 pub mod Listing
-pub mod Opening
 pub mod Program
 pub mod Serving
 pub mod Starting

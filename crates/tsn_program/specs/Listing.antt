@@ -98,10 +98,6 @@ EnablesNot s port now why =
     ⊎ ((enabled : State) × Takes greeted 1 (commands.Enable (Port port) now) enabled
     × IsRefused enabled 1 (commands.Apply (Port port) now) why)))
 
--- Nothing was done with the bridge yet.
-abbrev pub IsNew : State → Type 0
-IsNew s = (s.book.entries ≡ []) × (s.time ≡ 0)
-
 -- Nothing refuses session 1 a look at the port from the instant on: both are there, and no act on the port is later.
 pub record IsSeenFrom (s : State) (port from : ℕ) : Type 0 where
   pub within : holds_key s.book.limits (Port port) ≡ true

@@ -11,7 +11,7 @@ use Rattle.tsn_serve.specs.Outcomes.{Moment, Outcome, most_reads}
 use Rattle.tsn_program.specs.Checking.{told}
 use Rattle.tsn_program.specs.Failures.{failure_line}
 use Rattle.tsn_program.specs.Listing.{Enables, EnablesNot, EndsEarly, lines, listing_refusal}
-use Rattle.tsn_program.specs.Opening.{opened}
+use Rattle.tsn_setup.specs.Opening.{opened}
 use Rattle.tsn_words.specs.declared.arguments.Asked.{Asked}
 use Rattle.tsn_words.specs.declared.arguments.Asked.TheVariants.{Script, States, Serve, Check, Lines, Journal, Shown, Refused}
 use Rattle.tsn_words.specs.declared.arguments.Listing.{Listing}

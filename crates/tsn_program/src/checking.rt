@@ -5,13 +5,13 @@ ghost use Rattle.tsn_program.specs.Program.{ServesCheck, ShowsSummary, TellsFaul
 ghost use Rattle.tsn_replies.specs.declared.text.TheConstants.{CAPACITY};
 
 use crate::failures::Failure;
-use crate::opening::bridge_of;
 use crate::program::{fail, show, status_of, tell};
 use std::alloc::{AllocError, Global};
 use tsn_bridge::bridge::Bridge;
 use tsn_bytes::{ByteOut, Fault};
 use tsn_remarks::remarks;
 use tsn_replies::ShortText;
+use tsn_setup::bridge_of;
 use tsn_types::keys::Kind;
 use tsn_types::refusals::Refusal;
 use tsn_where::fault_line;

@@ -4,18 +4,18 @@ ghost use Rattle.std.specs.Io.KnownBytes.{Appends};
 ghost use Rattle.tsn_bytes.specs.declared.bytes.Fault.TheVariants.{Write};
 ghost use Rattle.tsn_serve.specs.Outcomes.{moment};
 ghost use Rattle.tsn_program.specs.Failures.{failure_line};
-ghost use Rattle.tsn_program.specs.Listing.{IsNew};
+ghost use Rattle.tsn_setup.specs.Opening.{IsNew};
 ghost use Rattle.tsn_program.specs.Program.{IsAlone, IsFront, PrintsFrom, PrintsStates, RefusesWords, Reports, Serves, ServesScript, ServesStates, ServesText, Tells, written};
 ghost use Rattle.tsn_program.specs.declared.failures.Failure.TheVariants as failures;
 
 use crate::checking::check_setup;
 use crate::failures::{Failure, failure_line};
-use crate::opening::bridge_of;
 use crate::script::answer_script;
 use crate::states::{enable_at, first_instant, listed_port, write_states};
 use std::alloc::Global;
 use tsn_bridge::bridge::Bridge;
 use tsn_bytes::{ByteIn, ByteOut, Fault, put_all};
+use tsn_setup::bridge_of;
 use tsn_words::{Asked, Listing};
 
 // Writes the text and hands it on.

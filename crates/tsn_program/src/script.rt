@@ -5,11 +5,11 @@ ghost use Rattle.tsn_serve.specs.Outcomes.{moment};
 ghost use Rattle.tsn_program.specs.Program.{AnswersFrom, AnswersScript};
 
 use crate::failures::Failure;
-use crate::opening::bridge_of;
 use std::alloc::Global;
 use tsn_bridge::bridge::Bridge;
 use tsn_bytes::{ByteIn, ByteOut};
 use tsn_serve::run_script;
+use tsn_setup::bridge_of;
 
 // Answers each line of the reader on the writer, from this bridge.
 fn answer_from<R: ByteIn, W: ByteOut>(

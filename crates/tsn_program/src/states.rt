@@ -12,7 +12,8 @@ ghost use Rattle.tsn_bridge.specs.Acts.{has_entry};
 ghost use Rattle.tsn_bridge.specs.declared.command.Command.TheVariants as commands;
 ghost use Rattle.tsn_bytes.specs.Bytes.{IsCut};
 ghost use Rattle.tsn_bytes.specs.declared.bytes.Fault.TheVariants.{Write};
-ghost use Rattle.tsn_program.specs.Listing.{Applies, Enables, EnablesNot, EndsEarly, IsNew, IsRefused, IsSeenFrom, Takes, gates_told, hexadecimal, instant_of, line_at, lines, listing_refusal, refusal_told, shows, state_line};
+ghost use Rattle.tsn_program.specs.Listing.{Applies, Enables, EnablesNot, EndsEarly, IsRefused, IsSeenFrom, Takes, gates_told, hexadecimal, instant_of, line_at, lines, listing_refusal, refusal_told, shows, state_line};
+ghost use Rattle.tsn_setup.specs.Opening.{IsNew};
 
 use tsn_bridge::bridge::Bridge;
 use tsn_bridge::command::Command;

@@ -17,7 +17,7 @@ use Rattle.tsn_spelling.specs.Line.{line_text}
 use Rattle.tsn_spelling.proofs.Holding.{reads_back}
 use Rattle.tsn_wire.specs.Reading.{line_of}
 use Rattle.tsn_resuming.specs.First.{setup_in}
-use Rattle.tsn_resuming.specs.Opening.{opened}
+use Rattle.tsn_setup.specs.Opening.{opened}
 use Rattle.tsn_resuming.specs.Joining.{AreAskable, WasWritten, command_of}
 use Rattle.tsn_resuming.specs.Resuming.{IsRefusedAt}
 use Rattle.tsn_resuming.specs.Standing.{IsRefused, asked, read_as}

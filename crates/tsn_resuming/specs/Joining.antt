@@ -12,7 +12,7 @@ use Rattle.tsn_replay.specs.Replaying.{Life, Lives}
 use Rattle.tsn_spelling.specs.Line.{line_text}
 use Rattle.tsn_wire.specs.Values.{MayBeAsked}
 use Rattle.tsn_resuming.specs.First.{setup_in}
-use Rattle.tsn_resuming.specs.Opening.{opened}
+use Rattle.tsn_setup.specs.Opening.{opened}
 
 abbrev pub AreAskable : List Ask → Type 0
 AreAskable asks = AllByRecursion (λ ask. MayBeAsked ask.session ask.command) asks

@@ -1,5 +1,4 @@
 pub mod First
 pub mod Joining
-pub mod Opening
 pub mod Resuming
 pub mod Standing

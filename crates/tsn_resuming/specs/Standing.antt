@@ -12,7 +12,7 @@ use Rattle.tsn_recorded.specs.Reader.{HasGiven, Standing}
 use Rattle.tsn_replay.specs.Replaying.{Replays}
 use Rattle.tsn_wire.specs.Reading.{line_of}
 use Rattle.tsn_resuming.specs.First.{setup_in}
-use Rattle.tsn_resuming.specs.Opening.{opened}
+use Rattle.tsn_setup.specs.Opening.{opened}
 
 -- what a command asks, or why it does not read as a command
 unfoldable pub asked : List ℕ → Result Ask Refusal

@@ -11,13 +11,13 @@ ghost use Rattle.tsn_resuming.specs.Standing.{IsEnded, IsFed, IsRefused, IsStepp
 ghost use Rattle.tsn_resuming.specs.declared.resuming.StartFault.TheVariants.{Memory, Read, Refused, Setup};
 
 use crate::first::{NoSetup, setup_in};
-use crate::opening::bridge_of;
 use crate::watching::Watcher;
 use std::alloc::{AllocError, Global};
 use tsn_bridge::bridge::Bridge;
 use tsn_bytes::ByteIn;
 use tsn_recorded::{Chain, End, Reader};
 use tsn_replay::replay::replay;
+use tsn_setup::bridge_of;
 use tsn_types::refusals::Refusal;
 use tsn_wire::command_of;
 

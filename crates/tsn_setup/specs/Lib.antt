@@ -1,4 +1,5 @@
 pub mod Examples
+pub mod Opening
 pub mod Plain
 pub mod PlainNumbers
 pub mod PlainTrays

@@ -4,9 +4,9 @@ use std::alloc::Global;
 use std::time;
 use tsn_bridge::command::{Ask, Command};
 use tsn_lasting::Stamp;
-use tsn_program::Failure;
+use tsn_program::{Failure, bridge_of};
 use tsn_recorded::Chain;
-use tsn_resuming::{bridge_of, first_command};
+use tsn_resuming::first_command;
 use tsn_spelling::spell;
 
 /// The text of a new journal. All its lines have one stamp.

@@ -1,5 +1,5 @@
 -- The bridge that a setup's text opens.
-use Rattle.std.specs.Prelude.{ℕ, List, Option, Some, None, Result, Ok, Err}
+use Rattle.std.specs.Prelude.{◌≡◌, ℕ, List, [], Option, Some, None, Result, Ok, Err}
 use Rattle.tsn_types.specs.declared.refusals.Refusal.{Refusal}
 use Rattle.tsn_config.specs.Opening.{opening_refusal}
 use Rattle.tsn_bridge.specs.Beginning.{begun}
@@ -19,3 +19,7 @@ begun_of (Err why) = Err why
 -- the state that the text of a setup opens, or why it is refused
 unfoldable pub opened : List ℕ → Result State Refusal
 opened text = begun_of (setup_of text)
+
+-- nothing was done with the bridge yet
+abbrev pub IsNew : State → Type 0
+IsNew s = (s.book.entries ≡ []) × (s.time ≡ 0)
