@@ -5,6 +5,7 @@ ghost use Rattle.tsn_commit.specs.Lines.{AreLines, IsLine, lines_in, lines_text}
 use memchr::memchr;
 use std::alloc::{AllocError, Global};
 use std::marker::Model;
+use tsn_recorded::append;
 
 /// The bytes for which there is room: those of the lines that wait, each with its line feed.
 pub const CAPACITY: usize = 1_048_576;
@@ -68,18 +69,6 @@ impl Lines {
     {
         self.text.clear();
     }
-}
-
-// Puts the piece behind the bytes, where there is room.
-fn append(bytes: &mut Vec<u8>, piece: &[u8])
-    requires { vec_len bytes.old + length piece.now ≤ vec_capacity bytes.old }
-    ensures items { bytes.new.items ≡ bytes.old.items ++ piece.now }
-    ensures len { vec_len bytes.new ≡ vec_len bytes.old + length piece.now }
-    ensures capacity { vec_capacity bytes.old ≤ vec_capacity bytes.new }
-{
-    let Ok(()) = bytes.extend_from_slice(piece) else {
-        unreachable!()
-    };
 }
 
 /// The first line of a text of lines, and the text behind its line feed; none where there is no line.

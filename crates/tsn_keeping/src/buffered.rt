@@ -5,6 +5,7 @@ ghost use Rattle.std.specs.Bool.{OnTrue, OnFalse};
 use std::alloc::{AllocError, Global};
 use std::marker::Model;
 use tsn_device::{Device, Failed};
+use tsn_recorded::append;
 
 // The most bytes that wait in the buffer.
 const CAPACITY: usize = 65536;
@@ -148,16 +149,4 @@ impl<D: Device> BufferedDevice<D> {
         self.works = synced.is_ok();
         synced
     }
-}
-
-// Puts the piece behind the bytes, where there is room.
-fn append(bytes: &mut Vec<u8>, piece: &[u8])
-    requires { vec_len bytes.old + length piece.now ≤ vec_capacity bytes.old }
-    ensures items { bytes.new.items ≡ bytes.old.items ++ piece.now }
-    ensures len { vec_len bytes.new ≡ vec_len bytes.old + length piece.now }
-    ensures capacity { vec_capacity bytes.old ≤ vec_capacity bytes.new }
-{
-    let Ok(()) = bytes.extend_from_slice(piece) else {
-        unreachable!()
-    };
 }
