@@ -8,13 +8,14 @@ ghost use Rattle.tsn_export.specs.Going.{text_of};
 ghost use Rattle.tsn_remarks.specs.Remarks.{is_referred, list_remark, reference_remark, remarks, remarks_of, remarks_on};
 
 use crate::lines::{list_line, reference_line};
-use crate::lists::{TimedEntry, taken};
+use crate::lists::taken;
 use std::alloc::{AllocError, Global};
 use tsn_config::Config;
 use tsn_config::ids::key_of;
 use tsn_edit::Edit;
 use tsn_edit::batches::Batch;
 use tsn_export::PlainText;
+use tsn_schedule::timed::Timed;
 use tsn_types::keys::{Key, Kind};
 use tsn_types::records::{RecordRef, Schedule};
 
@@ -77,7 +78,7 @@ fn push_entry(text: &mut PlainText, config: &Config, key: &Key) -> Result<(), Al
 }
 
 // Puts the line on a list at the end, if there is one.
-fn push_list<E: TimedEntry>(
+fn push_list<E: Timed>(
     text: &mut PlainText,
     key: &Key,
     admin: &Schedule<E>,
