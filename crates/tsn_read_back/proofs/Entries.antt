@@ -11,9 +11,9 @@ use Rattle.tsn_types.specs.Numbers.{greatest_priority, most_octets}
 use Rattle.tsn_types.specs.InRange.{PortEntryInRange, GateEntryInRange}
 use Rattle.tsn_types.specs.declared.records.PortEntry.{PortEntry}
 use Rattle.tsn_types.specs.declared.records.GateEntry.{GateEntry}
+use Rattle.tsn_records.specs.Values.{port_entry_draft, gate_entry_draft}
 use Rattle.tsn_records.specs.declared.unread.Unread.{Unread}
 use Rattle.tsn_records.specs.Records.{port_entry_shape, gate_entry_shape}
-use Rattle.tsn_records.proofs.RecordRanges.{port_entry_draft, gate_entry_draft}
 use Rattle.tsn_setup.specs.Plain.{Tray, number, flag, port_list, gate_list, IsOpen, Trays, tray_at, put_tray, ReadsMember, ReadsValue, ReadsTable, ReadsEntry, ReadsEntries, TableSoFar, EntriesSoFar, is_name}
 use Rattle.tsn_setup.specs.PlainTrays.{port_entry_trays, gate_entry_trays}
 use Rattle.tsn_setup.specs.Toml.{as_toml}

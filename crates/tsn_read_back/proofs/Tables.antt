@@ -14,8 +14,8 @@ use Rattle.tsn_types.specs.declared.records.PortGates.{PortGates}
 use Rattle.tsn_types.specs.declared.records.StreamFilter.{StreamFilter}
 use Rattle.tsn_types.specs.declared.records.StreamGate.{StreamGate}
 use Rattle.tsn_records.specs.Keys.{kind_text}
+use Rattle.tsn_records.specs.Values.{port_entry_draft, gate_entry_draft, port_draft, gate_draft, filter_draft, meter_draft}
 use Rattle.tsn_records.specs.declared.drafts.RecordDraft.TheVariants as drafts
-use Rattle.tsn_records.proofs.RecordRanges.{port_entry_draft, gate_entry_draft, port_draft, gate_draft, filter_draft, meter_draft}
 use Rattle.tsn_setup.specs.Plain.{Trays, AreOpen, ReadsLines, ReadsTableOf}
 use Rattle.tsn_setup.specs.PlainTrays.{port_trays, filter_trays, gate_trays, meter_trays}
 use Rattle.tsn_setup.specs.declared.drafts.TableDraft.{TableDraft}

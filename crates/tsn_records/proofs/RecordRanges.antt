@@ -15,6 +15,7 @@ use Rattle.tsn_types.specs.InRange.{FilterInRange, GateEntryInRange, GateInRange
 use Rattle.tsn_types.specs.Numbers.{Within, greatest_bit_rate, greatest_gate_states, greatest_handle, greatest_instance, greatest_instant, greatest_max_sdu, greatest_priority, longest_cycle, longest_extension, longest_interval, most_octets}
 use Rattle.tsn_records.specs.Answers.{each}
 use Rattle.tsn_records.specs.Ranges.{within, within_or_none, port_entry, gate_entry, schedule, port, gate, filter, meter}
+use Rattle.tsn_records.specs.Values.{port_entry_draft, gate_entry_draft, schedule_draft, port_draft, gate_draft, filter_draft, meter_draft}
 use Rattle.tsn_records.specs.declared.drafts.PortEntryDraft.{PortEntryDraft}
 use Rattle.tsn_records.specs.declared.drafts.GateEntryDraft.{GateEntryDraft}
 use Rattle.tsn_records.specs.declared.drafts.ScheduleDraft.{ScheduleDraft}
@@ -25,48 +26,6 @@ use Rattle.tsn_records.specs.declared.drafts.MeterDraft.{MeterDraft}
 use Rattle.tsn_records.specs.declared.unread.Unread.{Unread}
 use Rattle.tsn_records.specs.declared.unread.Unread.TheVariants.{Range}
 use Rattle.tsn_records.proofs.Steps.{steps, only, last_step}
-
--- ---- drafts of records
-
-abbrev pub port_entry_draft : PortEntry → PortEntryDraft
-port_entry_draft e = record { gates = e.gates; interval = e.interval }
-
-abbrev pub gate_entry_draft : GateEntry → GateEntryDraft
-gate_entry_draft e = record { is_open = e.is_open; ipv = e.ipv; interval = e.interval; octets = e.octets }
-
-abbrev pub schedule_draft : {D E : Type 0} → (E → D) → Schedule E → ScheduleDraft D
-schedule_draft draft s = record { list = map draft s.list; cycle = s.cycle; extension = s.extension; base = s.base }
-
-abbrev pub port_draft : PortGates → PortDraft
-port_draft r = record {
-  gates = r.gates;
-  admin = record { list = map port_entry_draft r.admin.list; cycle = r.admin.cycle; extension = r.admin.extension; base = r.admin.base };
-}
-
-abbrev pub gate_draft : StreamGate → GateDraft
-gate_draft r = record {
-  is_open = r.is_open;
-  ipv = r.ipv;
-  admin = record { list = map gate_entry_draft r.admin.list; cycle = r.admin.cycle; extension = r.admin.extension; base = r.admin.base };
-  invalid_rx = r.invalid_rx;
-  octets_exceeded = r.octets_exceeded;
-}
-
-abbrev pub filter_draft : StreamFilter → FilterDraft
-filter_draft r =
-    record { handle = r.handle; priority = r.priority; gate = r.gate; max_sdu = r.max_sdu; meter = r.meter; oversize = r.oversize }
-
-abbrev pub meter_draft : FlowMeter → MeterDraft
-meter_draft r = record {
-  cir = r.cir;
-  cbs = r.cbs;
-  eir = r.eir;
-  ebs = r.ebs;
-  cf = r.cf;
-  aware = r.aware;
-  drop_yellow = r.drop_yellow;
-  all_red = r.all_red;
-}
 
 -- ---- numbers that pass
 

@@ -8,19 +8,12 @@ use Rattle.tsn_types.specs.InRange.{FilterInRange, GateInRange, MeterInRange, Po
 use Rattle.tsn_records.specs.Looks.{Look}
 use Rattle.tsn_records.specs.Ranges.{port, filter, gate, meter, record_of}
 use Rattle.tsn_records.specs.Records.{record_shape}
-use Rattle.tsn_records.specs.Values.{kind_of_draft}
+use Rattle.tsn_records.specs.Values.{kind_of_draft, record_draft}
 use Rattle.tsn_records.specs.declared.drafts.RecordDraft.{RecordDraft}
 use Rattle.tsn_records.specs.declared.drafts.RecordDraft.TheVariants as drafts
-use Rattle.tsn_records.proofs.RecordRanges.{port_draft, filter_draft, gate_draft, meter_draft, port_passed, filter_passed, gate_passed, meter_passed}
+use Rattle.tsn_records.proofs.RecordRanges.{port_passed, filter_passed, gate_passed, meter_passed}
 use Rattle.tsn_records.proofs.Shapes.{record_has}
 use Rattle.tsn_records.proofs.Steps.{last_step}
-
--- a record as a text names it
-abbrev pub record_draft : Record → RecordDraft
-record_draft (records.Port r) = drafts.Port (port_draft r)
-record_draft (records.Filter r) = drafts.Filter (filter_draft r)
-record_draft (records.Gate r) = drafts.Gate (gate_draft r)
-record_draft (records.Meter r) = drafts.Meter (meter_draft r)
 
 -- a record of that kind, with every number in its range
 abbrev pub InRangeOf : Kind → Record → Type 0

@@ -1,15 +1,29 @@
 -- The members of a record as values, in the order of the table of members: which of them is which.
-use Rattle.std.specs.Prelude.{ℕ, List, [], ◌∷◌, Bool, false, Option, Some, None, slice_get, ⊤}
+use Rattle.std.specs.Prelude.{ℕ, List, [], ◌∷◌, Bool, false, Option, Some, None, map, slice_get, ⊤}
 use Rattle.tsn_records.specs.declared.allowed.Allowed.{Allowed}
 use Rattle.tsn_records.specs.declared.allowed.Allowed.TheVariants as allowed
 use Rattle.tsn_types.specs.declared.keys.Kind.{Kind}
 use Rattle.tsn_types.specs.declared.keys.Kind.TheVariants as kinds
+use Rattle.tsn_types.specs.declared.records.PortEntry.{PortEntry}
+use Rattle.tsn_types.specs.declared.records.GateEntry.{GateEntry}
+use Rattle.tsn_types.specs.declared.records.Schedule.{Schedule}
+use Rattle.tsn_types.specs.declared.records.PortGates.{PortGates}
+use Rattle.tsn_types.specs.declared.records.StreamGate.{StreamGate}
+use Rattle.tsn_types.specs.declared.records.StreamFilter.{StreamFilter}
+use Rattle.tsn_types.specs.declared.records.FlowMeter.{FlowMeter}
+use Rattle.tsn_types.specs.declared.records.Record.{Record}
+use Rattle.tsn_types.specs.declared.records.Record.TheVariants as records
 use Rattle.tsn_records.specs.declared.drafts.GateEntryDraft.{GateEntryDraft}
 use Rattle.tsn_records.specs.declared.drafts.MemberDraft.{MemberDraft}
 use Rattle.tsn_records.specs.declared.drafts.MemberDraft.TheVariants.{Unread, Number, Maybe, Flag, PortList, GateList}
 use Rattle.tsn_records.specs.declared.drafts.PortEntryDraft.{PortEntryDraft}
 use Rattle.tsn_records.specs.declared.drafts.RecordDraft.{RecordDraft}
 use Rattle.tsn_records.specs.declared.drafts.RecordDraft.TheVariants.{Port, Filter, Gate, Meter}
+use Rattle.tsn_records.specs.declared.drafts.ScheduleDraft.{ScheduleDraft}
+use Rattle.tsn_records.specs.declared.drafts.PortDraft.{PortDraft}
+use Rattle.tsn_records.specs.declared.drafts.GateDraft.{GateDraft}
+use Rattle.tsn_records.specs.declared.drafts.FilterDraft.{FilterDraft}
+use Rattle.tsn_records.specs.declared.drafts.MeterDraft.{MeterDraft}
 
 -- how many members a record has at most
 abbrev pub most_members : ℕ
@@ -154,3 +168,48 @@ abbrev pub AllFit : Kind → List (List ℕ × Allowed) → List MemberDraft →
 AllFit kind [] [] = ⊤
 AllFit kind (row ∷ rows) (v ∷ vs) = Fits kind row.1 v × AllFit kind rows vs
 AllFit kind rows vs = ⊥
+
+-- ---- records as a text names them: the draft of each
+
+abbrev pub port_entry_draft : PortEntry → PortEntryDraft
+port_entry_draft e = record { gates = e.gates; interval = e.interval }
+
+abbrev pub gate_entry_draft : GateEntry → GateEntryDraft
+gate_entry_draft e = record { is_open = e.is_open; ipv = e.ipv; interval = e.interval; octets = e.octets }
+
+abbrev pub schedule_draft : {D E : Type 0} → (E → D) → Schedule E → ScheduleDraft D
+schedule_draft draft s = record { list = map draft s.list; cycle = s.cycle; extension = s.extension; base = s.base }
+
+abbrev pub port_draft : PortGates → PortDraft
+port_draft r = record { gates = r.gates; admin = schedule_draft port_entry_draft r.admin }
+
+abbrev pub gate_draft : StreamGate → GateDraft
+gate_draft r = record {
+  is_open = r.is_open;
+  ipv = r.ipv;
+  admin = schedule_draft gate_entry_draft r.admin;
+  invalid_rx = r.invalid_rx;
+  octets_exceeded = r.octets_exceeded;
+}
+
+abbrev pub filter_draft : StreamFilter → FilterDraft
+filter_draft r =
+    record { handle = r.handle; priority = r.priority; gate = r.gate; max_sdu = r.max_sdu; meter = r.meter; oversize = r.oversize }
+
+abbrev pub meter_draft : FlowMeter → MeterDraft
+meter_draft r = record {
+  cir = r.cir;
+  cbs = r.cbs;
+  eir = r.eir;
+  ebs = r.ebs;
+  cf = r.cf;
+  aware = r.aware;
+  drop_yellow = r.drop_yellow;
+  all_red = r.all_red;
+}
+
+abbrev pub record_draft : Record → RecordDraft
+record_draft (records.Port r) = Port (port_draft r)
+record_draft (records.Filter r) = Filter (filter_draft r)
+record_draft (records.Gate r) = Gate (gate_draft r)
+record_draft (records.Meter r) = Meter (meter_draft r)

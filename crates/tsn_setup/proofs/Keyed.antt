@@ -19,13 +19,13 @@ use Rattle.tsn_records.specs.declared.drafts.RecordDraft.{RecordDraft}
 use Rattle.tsn_records.specs.declared.unread.Unread.{Unread}
 use Rattle.tsn_setup.specs.Ranges.{or_id, key, keyed_record}
 use Rattle.tsn_records.specs.Records.{record_shape}
-use Rattle.tsn_records.specs.Values.{kind_of_draft}
+use Rattle.tsn_records.specs.Values.{kind_of_draft, record_draft}
 use Rattle.tsn_setup.specs.Tables.{table_shape}
 use Rattle.tsn_setup.specs.Toml.{items_list, number_at, as_toml}
-use Rattle.tsn_setup.specs.Values.{table_with, tables_of, port_rows, filter_rows, gate_rows, meter_rows, record_rows, keyed_rows}
+use Rattle.tsn_setup.specs.Values.{table_with, tables_of, record_rows, keyed_rows}
 use Rattle.tsn_setup.specs.declared.drafts.TableDraft.{TableDraft}
 use Rattle.tsn_setup.proofs.Ordered.{IsOrdered, EachOrdered}
-use Rattle.tsn_records.proofs.RecordsRead.{InRangeOf, record_draft, record_read}
+use Rattle.tsn_records.proofs.RecordsRead.{InRangeOf, record_read}
 use Rattle.tsn_records.proofs.RecordRanges.{passed, at_most, within_ok, at_most_ok, port_back, filter_back, gate_back, meter_back}
 use Rattle.tsn_records.proofs.Steps.{last_step, only, steps}
 use Rattle.tsn_records.proofs.Shapes.{record_has}
@@ -151,10 +151,10 @@ kind_drafted (keys.Meter n) (records.Meter r) fits = refl
 kind_drafted k r fits = absurd fits
 
 id_got : (id : ℕ) (r : Record) → number_at (codes "id") (table_with (record_rows id r)) ≡ Ok id
-id_got id (records.Port r) = number_got (codes "id") (port_rows id r) id refl refl
-id_got id (records.Filter r) = number_got (codes "id") (filter_rows id r) id refl refl
-id_got id (records.Gate r) = number_got (codes "id") (gate_rows id r) id refl refl
-id_got id (records.Meter r) = number_got (codes "id") (meter_rows id r) id refl refl
+id_got id (records.Port r) = number_got (codes "id") (record_rows id (records.Port r)) id refl refl
+id_got id (records.Filter r) = number_got (codes "id") (record_rows id (records.Filter r)) id refl refl
+id_got id (records.Gate r) = number_got (codes "id") (record_rows id (records.Gate r)) id refl refl
+id_got id (records.Meter r) = number_got (codes "id") (record_rows id (records.Meter r)) id refl refl
 
 table_drafted : (k : Key) (r : Record) → KeyedInRange k r → table_shape (kind k) (table_with (keyed_rows (k, r))) ≡ Ok (keyed_draft (k, r))
 table_drafted k r fits =

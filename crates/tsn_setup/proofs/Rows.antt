@@ -1,14 +1,14 @@
 -- Tables by their rows: what a table of rows has at a name, and that a table with these rows and no other members is theirs.
-use Rattle.std.proofs.Common.{◌≡◌, ℕ, List, [], ◌∷◌, ◌&&◌, ◌||◌, Bool, true, false, if◌then◌else◌, Option, Some, None, Ok, Err, Ordering, Less, Equal, Greater, bytes_eq, refl, sym, ap, subst, ◌∙◌}
+use Rattle.std.proofs.Common.{◌≡◌, ℕ, List, [], ◌∷◌, ◌&&◌, ◌||◌, Bool, true, false, not, if◌then◌else◌, Option, Some, None, Ok, Err, Ordering, Less, Equal, Greater, bytes_eq, refl, sym, ap, subst, ◌∙◌}
 use Rattle.std.specs.Prelude.{⊤, IsSome}
 use Rattle.std.specs.List.{AllByRecursion, list_any, list_all}
-use Rattle.std.specs.Ordering.{match_ordering, is_lt}
+use Rattle.std.specs.Ordering.{match_ordering, is_eq, is_lt}
 use Rattle.std.proofs.lemmas.Bool.{and_parts}
 use Rattle.std.proofs.lemmas.Cmp.{nat_list_cmp_total}
 use Rattle.toml.specs.Data.{Data, table, Members, no_members, member, get, get_member}
 use Rattle.tsn_records.specs.declared.unread.Unread.TheVariants.{Shape}
 use Rattle.tsn_setup.specs.Toml.{are_among, has_only}
-use Rattle.tsn_setup.specs.Values.{Rows, given, table_with}
+use Rattle.tsn_setup.specs.Values.{Rows, given, put_row, table_with}
 use Rattle.tsn_records.proofs.NameOrder.{order, same_name, same_order, same_text, turned}
 use Rattle.tsn_setup.proofs.Ordered.{Above, IsOrdered, AreOrdered, above_below}
 
@@ -233,3 +233,39 @@ members_among names ((l, Some d) ∷ rest) h =
 
 pub only_these : (names : List (List ℕ)) (rows : Rows) → rows_among names rows ≡ true → has_only names (table_with rows) ≡ Ok tt
 only_these names rows h = rw (members_among names rows h)
+
+-- ---- a row that was put where it belongs
+
+put_found_at : (o : Ordering) (k : List ℕ) (d : Option Data) (row : Row) (rest : Rows) → order k row.0 ≡ o
+    → looked_up k (put_row k d rest) ≡ d
+    → looked_up k (match_ordering o ((k, d) ∷ row ∷ rest) ((k, d) ∷ rest) (row ∷ put_row k d rest)) ≡ d
+put_found_at Less k d row rest is later = rw (same_order k)
+put_found_at Equal k d row rest is later = rw (same_order k)
+put_found_at Greater k d row rest is later = rw is later
+
+pub put_found : (k : List ℕ) (d : Option Data) (rows : Rows) → looked_up k (put_row k d rows) ≡ d
+put_found k d [] = rw (same_order k)
+put_found k d (row ∷ rest) = put_found_at (order k row.0) k d row rest refl (put_found k d rest)
+
+-- names that differ
+abbrev pub differ : List ℕ → List ℕ → Bool
+differ j k = not (is_eq (order j k))
+
+passed_by : (o : Ordering) (x y : Option Data) → not (is_eq o) ≡ true → match_ordering o x y x ≡ x
+passed_by Less x y h = refl
+passed_by Equal x y h = cc
+passed_by Greater x y h = refl
+
+put_other_at : (o : Ordering) (j k : List ℕ) (d : Option Data) (row : Row) (rest : Rows) → order k row.0 ≡ o → differ j k ≡ true
+    → looked_up j (put_row k d rest) ≡ looked_up j rest
+    → looked_up j (match_ordering o ((k, d) ∷ row ∷ rest) ((k, d) ∷ rest) (row ∷ put_row k d rest)) ≡ looked_up j (row ∷ rest)
+put_other_at Less j k d row rest is other later = passed_by (order j k) (looked_up j (row ∷ rest)) d other
+put_other_at Equal j k d row rest is other later =
+    let apart : differ j row.0 ≡ true = subst (λ n. differ j n ≡ true) (same_name k row.0 is) other in
+    passed_by (order j k) (looked_up j rest) d other ∙ sym (passed_by (order j row.0) (looked_up j rest) row.1 apart)
+put_other_at Greater j k d row rest is other later = ap (λ x. match_ordering (order j row.0) x row.1 x) later
+
+-- others are found as before
+pub put_other : (j k : List ℕ) (d : Option Data) (rows : Rows) → differ j k ≡ true → looked_up j (put_row k d rows) ≡ looked_up j rows
+put_other j k d [] other = passed_by (order j k) None d other
+put_other j k d (row ∷ rest) other = put_other_at (order k row.0) j k d row rest refl other (put_other j k d rest other)

@@ -1,5 +1,7 @@
 -- A table of an accepted shape is the table of its draft, and the table of a record has the shape of its draft.
-use Rattle.std.proofs.Common.{◌≡◌, ℕ, pos, List, [], ◌∷◌, map, Bool, true, Option, Some, None, option_map, option_and_then, Result, Ok, IfSome, codes, refl, sym, ap, ap₂, subst, ◌∙◌}
+use Rattle.std.proofs.Common.{◌≡◌, ℕ, pos, List, [], ◌∷◌, ◌&&◌, map, Bool, true, Option, Some, None, option_map, option_and_then, Result, Ok, IfSome, codes, refl, ap, ap₂, subst, ◌∙◌}
+use Rattle.std.specs.List.{list_all}
+use Rattle.std.proofs.lemmas.Bool.{and_parts}
 use Rattle.toml.specs.Data.{Data, integer, boolean, array, table, Items, no_items, item, Members, no_members, member, get, get_member, as_bool, as_array}
 use Rattle.toml.specs.View.{items_of}
 use Rattle.std.specs.Prelude.{⊤}
@@ -7,30 +9,25 @@ use Rattle.tsn_types.specs.declared.keys.Kind.{Kind}
 use Rattle.tsn_types.specs.declared.keys.Kind.TheVariants as kinds
 use Rattle.tsn_types.specs.declared.records.Record.{Record}
 use Rattle.tsn_types.specs.declared.records.Record.TheVariants as records
-use Rattle.tsn_types.specs.declared.records.PortEntry.{PortEntry}
-use Rattle.tsn_types.specs.declared.records.GateEntry.{GateEntry}
 use Rattle.tsn_records.specs.Answers.{each, or_shape}
 use Rattle.tsn_records.specs.Members.{names_of, entry_names_of, rows_of}
 use Rattle.tsn_records.specs.Records.{port_entry_shape, gate_entry_shape, list_shape, member_shape, record_shape}
-use Rattle.tsn_records.specs.Values.{AllFit, Fits, kind_of_draft, values_of}
+use Rattle.tsn_records.specs.Values.{AllFit, Fits, kind_of_draft, values_of, record_draft}
 use Rattle.tsn_records.specs.declared.allowed.Allowed.{Allowed}
 use Rattle.tsn_records.specs.declared.allowed.Allowed.TheVariants as allowed
 use Rattle.tsn_records.specs.declared.drafts.GateEntryDraft.{GateEntryDraft}
 use Rattle.tsn_records.specs.declared.drafts.MemberDraft.{MemberDraft}
-use Rattle.tsn_records.specs.declared.drafts.MemberDraft.TheVariants as values
 use Rattle.tsn_records.specs.declared.drafts.MemberDraft.TheVariants.{Number, Maybe, Flag, PortList, GateList}
 use Rattle.tsn_records.specs.declared.drafts.PortEntryDraft.{PortEntryDraft}
 use Rattle.tsn_records.specs.declared.unread.Unread.{Unread}
 use Rattle.tsn_setup.specs.Toml.{has_only, whole, if_given, number_at, items_list, as_toml}
-use Rattle.tsn_setup.specs.Values.{number, number_or_none, flag, Rows, table_with, tables_of, port_entry_rows, gate_entry_rows, port_rows, filter_rows, gate_rows, meter_rows, record_rows}
+use Rattle.tsn_setup.specs.Values.{number, number_or_none, flag, Rows, table_with, tables_of, port_entry_rows, gate_entry_rows, named_rows, put_row, record_rows, toml_value}
 use Rattle.tsn_records.proofs.NameOrder.{if_found, order}
 use Rattle.tsn_setup.proofs.Ordered.{IsOrdered, EachOrdered, AreOrdered}
-use Rattle.tsn_records.proofs.RecordRanges.{port_entry_draft, gate_entry_draft}
-use Rattle.tsn_records.proofs.RecordsRead.{record_draft}
 use Rattle.tsn_records.proofs.Shapes.{port_entry_has, gate_entry_has, port_entry_of, gate_entry_of, record_has, record_shaped, values_fit}
 use Rattle.tsn_records.proofs.Steps.{last_step, mapped_there, only, steps, there}
 use Rattle.tsn_records.proofs.Pairs.{◌&◌}
-use Rattle.tsn_setup.proofs.Rows.{looked_up, is_rising, at_name, only_these, whole_table}
+use Rattle.tsn_setup.proofs.Rows.{looked_up, is_rising, rows_among, at_name, differ, only_these, put_found, put_other, whole_table}
 
 -- ---- what is at a name
 
@@ -112,28 +109,16 @@ inner_ordered k d e h is = subst (λ o. IfSome o IsOrdered) is (got_ordered k d 
 
 -- ---- entries of an accepted shape
 
--- the members of an entry as a draft has them
-abbrev port_draft_rows : PortEntryDraft → Rows
-port_draft_rows e = (codes "gates", number e.gates) ∷ (codes "interval", number e.interval) ∷ []
-
-abbrev gate_draft_rows : GateEntryDraft → Rows
-gate_draft_rows e =
-    (codes "interval", number e.interval)
-    ∷ (codes "ipv", number_or_none e.ipv)
-    ∷ (codes "octets", number_or_none e.octets)
-    ∷ (codes "open", flag e.is_open)
-    ∷ []
-
-port_entry_is : (d : Data) (e : PortEntryDraft) → IsOrdered d → port_entry_shape as_toml d ≡ Ok e → d ≡ table_with (port_draft_rows e)
+port_entry_is : (d : Data) (e : PortEntryDraft) → IsOrdered d → port_entry_shape as_toml d ≡ Ok e → d ≡ table_with (port_entry_rows e)
 port_entry_is d e ordered h =
     let has = port_entry_has as_toml d e h in
-    whole_table (entry_names_of kinds.Port) d (port_draft_rows e) tt ordered has.only refl refl
+    whole_table (entry_names_of kinds.Port) d (port_entry_rows e) tt ordered has.only refl refl
     (number_there _ _ has.gates & number_there _ _ has.interval & tt)
 
-gate_entry_is : (d : Data) (e : GateEntryDraft) → IsOrdered d → gate_entry_shape as_toml d ≡ Ok e → d ≡ table_with (gate_draft_rows e)
+gate_entry_is : (d : Data) (e : GateEntryDraft) → IsOrdered d → gate_entry_shape as_toml d ≡ Ok e → d ≡ table_with (gate_entry_rows e)
 gate_entry_is d e ordered h =
     let has = gate_entry_has as_toml d e h in
-    whole_table (entry_names_of kinds.Gate) d (gate_draft_rows e) tt ordered has.only refl refl
+    whole_table (entry_names_of kinds.Gate) d (gate_entry_rows e) tt ordered has.only refl refl
     (flag_there _ _ has.is_open & number_or_none_there _ _ has.ipv & number_there _ _ has.interval &
     number_or_none_there _ _ has.octets & tt)
 
@@ -151,15 +136,6 @@ each_is shape rows one (item d ds) es ordered h =
     (λ rest rest_is. ap₂ item (one d first ordered.0 first_is) (each_is shape rows one ds rest ordered.1 rest_is)))
 
 -- ---- the members of a record
-
--- what a table has where a member is such
-abbrev pub toml_value : MemberDraft → Option Data
-toml_value values.Unread = None
-toml_value (Number n) = number n
-toml_value (Maybe o) = number_or_none o
-toml_value (Flag b) = flag b
-toml_value (PortList es) = Some (tables_of port_draft_rows es)
-toml_value (GateList es) = Some (tables_of gate_draft_rows es)
 
 -- the members that are read stand under their names
 abbrev AreGiven : Data → List (List ℕ × Allowed) → List MemberDraft → Type 0
@@ -186,10 +162,10 @@ member_given kind allowed.Flag found v ordered h =
     last_step (as_toml.flag found) v (λ x. found ≡ toml_value x) Flag h (λ b is. flag_there found b is)
 member_given kinds.Port (allowed.List most) found v ordered h =
     last_step (list_shape as_toml (port_entry_shape as_toml) found) v (λ x. found ≡ toml_value x) PortList h
-    (λ es is. list_given (port_entry_shape as_toml) port_draft_rows port_entry_is found es ordered is)
+    (λ es is. list_given (port_entry_shape as_toml) port_entry_rows port_entry_is found es ordered is)
 member_given kinds.Gate (allowed.List most) found v ordered h =
     last_step (list_shape as_toml (gate_entry_shape as_toml) found) v (λ x. found ≡ toml_value x) GateList h
-    (λ es is. list_given (gate_entry_shape as_toml) gate_draft_rows gate_entry_is found es ordered is)
+    (λ es is. list_given (gate_entry_shape as_toml) gate_entry_rows gate_entry_is found es ordered is)
 member_given kind row found v ordered h = cc
 
 members_given : (kind : Kind) (d : Data) (rows : List (List ℕ × Allowed)) (vs : List MemberDraft) → IsOrdered d
@@ -199,21 +175,6 @@ members_given kind d (row ∷ rows) vs ordered h =
     steps (member_shape as_toml kind row.1 (get row.0 d)) _ vs h (λ v v_is v_next.
     last_step (each (λ r. member_shape as_toml kind r.1 (get r.0 d)) rows) vs (AreGiven d (row ∷ rows)) (λ ws. v ∷ ws) v_next
     (λ ws ws_is. (member_given kind row.1 (get row.0 d) v (got_ordered row.0 d ordered) v_is, members_given kind d rows ws ordered ws_is)))
-
--- the tables of a record's entries are those of its draft's
-entries_same : {E R : Type 0} (draft : R → E) (drafted : E → Rows) (rows : R → Rows) → ((r : R) → drafted (draft r) ≡ rows r)
-    → (rs : List R) → tables_of drafted (map draft rs) ≡ tables_of rows rs
-entries_same {R = R} draft drafted rows one rs = ap array (all rs)
-  where
-    all : (rs : List R) → items_of (map (λ e. table_with (drafted e)) (map draft rs)) ≡ items_of (map (λ r. table_with (rows r)) rs)
-    all [] = refl
-    all (r ∷ rs) = ap₂ item (ap table_with (one r)) (all rs)
-
-port_entries_same : (es : List PortEntry) → tables_of port_draft_rows (map port_entry_draft es) ≡ tables_of port_entry_rows es
-port_entries_same es = entries_same port_entry_draft port_draft_rows port_entry_rows (λ _. refl) es
-
-gate_entries_same : (es : List GateEntry) → tables_of gate_draft_rows (map gate_entry_draft es) ≡ tables_of gate_entry_rows es
-gate_entries_same es = entries_same gate_entry_draft gate_draft_rows gate_entry_rows (λ _. refl) es
 
 -- what a table of the shape of a record's draft has
 abbrev HasAll : Data → Record → Type 0
@@ -231,34 +192,32 @@ all_there d r ordered h =
 pub table_is : (d : Data) (id : ℕ) (r : Record) → IsOrdered d → number_at (codes "id") d ≡ Ok id
     → record_shape as_toml (kind_of_draft (record_draft r)) d ≡ Ok (record_draft r) → d ≡ table_with (record_rows id r)
 table_is d id (records.Port r) ordered id_is h =
-    let (known, (gates, (list, rest))) = all_there d (records.Port r) ordered h in
-    whole_table (names_of kinds.Port) d (port_rows id r) tt ordered known refl refl
-    (number_there _ id id_is, (gates, (list ∙ ap Some (port_entries_same r.admin.list), rest)))
+    let has = all_there d (records.Port r) ordered h in
+    whole_table (names_of kinds.Port) d (record_rows id (records.Port r)) tt ordered has.0 refl refl (number_there _ id id_is, has.1)
 table_is d id (records.Filter r) ordered id_is h =
     let has = all_there d (records.Filter r) ordered h in
-    whole_table (names_of kinds.Filter) d (filter_rows id r) tt ordered has.0 refl refl (number_there _ id id_is, has.1)
+    whole_table (names_of kinds.Filter) d (record_rows id (records.Filter r)) tt ordered has.0 refl refl (number_there _ id id_is, has.1)
 table_is d id (records.Gate r) ordered id_is h =
-    let (known, (is_open, (ipv, (list, rest)))) = all_there d (records.Gate r) ordered h in
-    whole_table (names_of kinds.Gate) d (gate_rows id r) tt ordered known refl refl
-    (number_there _ id id_is, (is_open, (ipv, (list ∙ ap Some (gate_entries_same r.admin.list), rest))))
+    let has = all_there d (records.Gate r) ordered h in
+    whole_table (names_of kinds.Gate) d (record_rows id (records.Gate r)) tt ordered has.0 refl refl (number_there _ id id_is, has.1)
 table_is d id (records.Meter r) ordered id_is h =
     let has = all_there d (records.Meter r) ordered h in
-    whole_table (names_of kinds.Meter) d (meter_rows id r) tt ordered has.0 refl refl (number_there _ id id_is, has.1)
+    whole_table (names_of kinds.Meter) d (record_rows id (records.Meter r)) tt ordered has.0 refl refl (number_there _ id id_is, has.1)
 
 -- ---- the shape of a record's table
 
-port_entry_shaped : (e : PortEntryDraft) → port_entry_shape as_toml (table_with (port_draft_rows e)) ≡ Ok e
+port_entry_shaped : (e : PortEntryDraft) → port_entry_shape as_toml (table_with (port_entry_rows e)) ≡ Ok e
 port_entry_shaped e =
-    let rows = port_draft_rows e in
+    let rows = port_entry_rows e in
     port_entry_of as_toml (table_with rows) e (record {
       only = only_these (entry_names_of kinds.Port) rows refl;
       gates = number_got (codes "gates") rows e.gates refl refl;
       interval = number_got (codes "interval") rows e.interval refl refl;
     })
 
-gate_entry_shaped : (e : GateEntryDraft) → gate_entry_shape as_toml (table_with (gate_draft_rows e)) ≡ Ok e
+gate_entry_shaped : (e : GateEntryDraft) → gate_entry_shape as_toml (table_with (gate_entry_rows e)) ≡ Ok e
 gate_entry_shaped e =
-    let rows = gate_draft_rows e in
+    let rows = gate_entry_rows e in
     gate_entry_of as_toml (table_with rows) e (record {
       only = only_these (entry_names_of kinds.Gate) rows refl;
       is_open = flag_got (codes "open") rows e.is_open refl refl;
@@ -278,9 +237,9 @@ member_got kind (allowed.Number least most) (Number n) fits = refl
 member_got kind (allowed.NumberOrNone least most) (Maybe o) fits = rw (given_back o) refl
 member_got kind allowed.Flag (Flag b) fits = refl
 member_got kinds.Port (allowed.List most) (PortList es) fits =
-    rw (each_shaped (port_entry_shape as_toml) port_draft_rows port_entry_shaped es) refl
+    rw (each_shaped (port_entry_shape as_toml) port_entry_rows port_entry_shaped es) refl
 member_got kinds.Gate (allowed.List most) (GateList es) fits =
-    rw (each_shaped (gate_entry_shape as_toml) gate_draft_rows gate_entry_shaped es) refl
+    rw (each_shaped (gate_entry_shape as_toml) gate_entry_rows gate_entry_shaped es) refl
 member_got kind row v fits = absurd fits
 
 -- the rows have these members
@@ -301,30 +260,62 @@ members_got kind whole (row ∷ rows) (v ∷ vs) rise have fits =
       members_got kind whole rows vs rise have.1 fits.1,
     ) refl
 
-shaped_of : (id : ℕ) (r : Record) → is_rising (record_rows id r) ≡ true
-    → has_only (names_of (kind_of_draft (record_draft r))) (table_with (record_rows id r)) ≡ Ok tt
-    → Have (record_rows id r) (rows_of (kind_of_draft (record_draft r))) (values_of (record_draft r))
-    → record_shape as_toml (kind_of_draft (record_draft r)) (table_with (record_rows id r)) ≡ Ok (record_draft r)
-shaped_of id r rise known have =
-    let v = record_draft r in
-    let q = kind_of_draft v in
-    record_shaped as_toml q (table_with (record_rows id r)) v (record {
-      only = known;
-      of = refl;
-      members = members_got q (record_rows id r) (rows_of q) (values_of v) rise have (values_fit v);
-    })
+-- the name is none of these
+abbrev is_apart : List ℕ → List (List ℕ × Allowed) → Bool
+is_apart k rows = list_all (λ row. differ row.0 k) rows
+
+-- no two of the names are one
+abbrev are_apart : List (List ℕ × Allowed) → Bool
+are_apart [] = true
+are_apart (row ∷ rows) = is_apart row.0 rows && are_apart rows
+
+have_behind : (k : List ℕ) (d : Option Data) (whole : Rows) (rows : List (List ℕ × Allowed)) (vs : List MemberDraft)
+    → is_apart k rows ≡ true → Have whole rows vs → Have (put_row k d whole) rows vs
+have_behind k d whole [] vs apart have = tt
+have_behind k d whole (row ∷ rows) [] apart have = tt
+have_behind k d whole (row ∷ rows) (v ∷ vs) apart have =
+    let parts = and_parts (differ row.0 k) (is_apart k rows) apart in
+    (put_other row.0 k d whole parts.0 ∙ have.0, have_behind k d whole rows vs parts.1 have.1)
+
+named_have : (rows : List (List ℕ × Allowed)) (vs : List MemberDraft) → are_apart rows ≡ true → Have (named_rows rows vs) rows vs
+named_have [] vs apart = tt
+named_have (row ∷ rows) [] apart = tt
+named_have (row ∷ rows) (v ∷ vs) apart =
+    let parts = and_parts (is_apart row.0 rows) (are_apart rows) apart in
+    let others = named_have rows vs parts.1 in (
+      put_found row.0 (toml_value v) (named_rows rows vs),
+      have_behind row.0 (toml_value v) (named_rows rows vs) rows vs parts.0 others,
+    )
+
+-- the names of a kind's members are such
+apart : (q : Kind) → is_apart (codes "id") (rows_of q) && are_apart (rows_of q) ≡ true
+apart kinds.Port = refl
+apart kinds.Filter = refl
+apart kinds.Gate = refl
+apart kinds.Meter = refl
+
+rises : (id : ℕ) (r : Record) → is_rising (record_rows id r) ≡ true
+rises id (records.Port r) = refl
+rises id (records.Filter r) = refl
+rises id (records.Gate r) = refl
+rises id (records.Meter r) = refl
+
+among : (id : ℕ) (r : Record) → rows_among (names_of (kind_of_draft (record_draft r))) (record_rows id r) ≡ true
+among id (records.Port r) = refl
+among id (records.Filter r) = refl
+among id (records.Gate r) = refl
+among id (records.Meter r) = refl
 
 pub table_shaped : (id : ℕ) (r : Record)
     → record_shape as_toml (kind_of_draft (record_draft r)) (table_with (record_rows id r)) ≡ Ok (record_draft r)
-table_shaped id (records.Port r) =
-    shaped_of id (records.Port r) refl (only_these (names_of kinds.Port) (port_rows id r) refl)
-    (refl, (ap Some (sym (port_entries_same r.admin.list)), (refl, (refl, (refl, tt)))))
-table_shaped id (records.Filter r) =
-    shaped_of id (records.Filter r) refl (only_these (names_of kinds.Filter) (filter_rows id r) refl)
-    (refl, (refl, (refl, (refl, (refl, (refl, tt))))))
-table_shaped id (records.Gate r) =
-    shaped_of id (records.Gate r) refl (only_these (names_of kinds.Gate) (gate_rows id r) refl)
-    (refl, (refl, (ap Some (sym (gate_entries_same r.admin.list)), (refl, (refl, (refl, (refl, (refl, tt))))))))
-table_shaped id (records.Meter r) =
-    shaped_of id (records.Meter r) refl (only_these (names_of kinds.Meter) (meter_rows id r) refl)
-    (refl, (refl, (refl, (refl, (refl, (refl, (refl, (refl, tt))))))))
+table_shaped id r =
+    let v = record_draft r in
+    let q = kind_of_draft v in
+    let parts = and_parts (is_apart (codes "id") (rows_of q)) (are_apart (rows_of q)) (apart q) in
+    let named = named_have (rows_of q) (values_of v) parts.1 in
+    let have = have_behind (codes "id") (number id) (named_rows (rows_of q) (values_of v)) (rows_of q) (values_of v) parts.0 named in
+    record_shaped as_toml q (table_with (record_rows id r)) v (record {
+      only = only_these (names_of q) (record_rows id r) (among id r);
+      of = refl;
+      members = members_got q (record_rows id r) (rows_of q) (values_of v) (rises id r) have (values_fit v);
+    })

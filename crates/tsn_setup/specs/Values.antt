@@ -1,7 +1,9 @@
 -- The value of a setup: what a document is that gives it. A table of a document holds each name once, in ascending order
 -- of the names, whatever their order in the text; so two tables with the same members are one value.
 use Rattle.std.specs.Prelude.{◌≡◌, ◌↔◌, ℕ, ◌≤◌, pos, Bool, List, [], ◌∷◌, ◌++◌, length, map, filter, Option, Some, None, option_map, unwrap_or, Ok, IsSomeAnd, IsSome, Contains, codes}
+use Rattle.std.specs.Cmp.Lexicographic.{slice_cmp}
 use Rattle.std.specs.List.{AllByRecursion}
+use Rattle.std.specs.Ordering.{match_ordering, nat_cmp}
 use Rattle.toml.specs.Data.{Data, integer, boolean, array, table, no_items, Members, no_members, member, get}
 use Rattle.toml.specs.View.{items_of}
 use Rattle.tsn_types.specs.Bounds.{AreInRange}
@@ -10,19 +12,18 @@ use Rattle.tsn_types.specs.Keys.{number_of}
 use Rattle.tsn_types.specs.declared.keys.Key.{Key}
 use Rattle.tsn_types.specs.declared.keys.Kind.{Kind}
 use Rattle.tsn_types.specs.declared.keys.Kind.TheVariants as kinds
-use Rattle.tsn_types.specs.declared.records.PortEntry.{PortEntry}
-use Rattle.tsn_types.specs.declared.records.GateEntry.{GateEntry}
-use Rattle.tsn_types.specs.declared.records.PortGates.{PortGates}
-use Rattle.tsn_types.specs.declared.records.StreamGate.{StreamGate}
-use Rattle.tsn_types.specs.declared.records.StreamFilter.{StreamFilter}
-use Rattle.tsn_types.specs.declared.records.FlowMeter.{FlowMeter}
 use Rattle.tsn_types.specs.declared.records.Record.{Record}
-use Rattle.tsn_types.specs.declared.records.Record.TheVariants.{Port, Filter, Gate, Meter}
 use Rattle.tsn_config.specs.Ids.{is_of}
 use Rattle.tsn_bridge.specs.Beginning.{standard_limits}
 use Rattle.tsn_bridge.specs.declared.bridge.Setup.{Setup}
 use Rattle.tsn_records.specs.Keys.{kind_text}
-use Rattle.tsn_records.specs.Members.{setup_names}
+use Rattle.tsn_records.specs.Members.{rows_of, setup_names}
+use Rattle.tsn_records.specs.Values.{kind_of_draft, values_of, record_draft}
+use Rattle.tsn_records.specs.declared.allowed.Allowed.{Allowed}
+use Rattle.tsn_records.specs.declared.drafts.GateEntryDraft.{GateEntryDraft}
+use Rattle.tsn_records.specs.declared.drafts.MemberDraft.{MemberDraft}
+use Rattle.tsn_records.specs.declared.drafts.MemberDraft.TheVariants.{Unread, Number, Maybe, Flag, PortList, GateList}
+use Rattle.tsn_records.specs.declared.drafts.PortEntryDraft.{PortEntryDraft}
 use Rattle.tsn_setup.specs.Setups.{document_of, longest_setup, setup_of}
 
 -- What a member is: a number, a number that may be none, true or false.
@@ -52,11 +53,11 @@ abbrev pub tables_of : {A : Type 0} → (A → Rows) → List A → Data
 tables_of rows xs = array (items_of (map (λ x. table_with (rows x)) xs))
 
 -- `{gates = .., interval = ..}`
-abbrev pub port_entry_rows : PortEntry → Rows
+abbrev pub port_entry_rows : PortEntryDraft → Rows
 port_entry_rows e = (codes "gates", number e.gates) ∷ (codes "interval", number e.interval) ∷ []
 
 -- `{open = .., ipv = .., interval = .., octets = ..}`
-abbrev pub gate_entry_rows : GateEntry → Rows
+abbrev pub gate_entry_rows : GateEntryDraft → Rows
 gate_entry_rows e =
     (codes "interval", number e.interval)
     ∷ (codes "ipv", number_or_none e.ipv)
@@ -64,59 +65,32 @@ gate_entry_rows e =
     ∷ (codes "open", flag e.is_open)
     ∷ []
 
--- Each record with its identifier.
-abbrev pub port_rows : ℕ → PortGates → Rows
-port_rows id r =
-    (codes "base", number r.admin.base)
-    ∷ (codes "cycle", number r.admin.cycle)
-    ∷ (codes "extension", number r.admin.extension)
-    ∷ (codes "gates", number r.gates)
-    ∷ (codes "id", number id)
-    ∷ (codes "list", Some (tables_of port_entry_rows r.admin.list))
-    ∷ []
+-- what a table has where a member is such
+abbrev pub toml_value : MemberDraft → Option Data
+toml_value Unread = None
+toml_value (Number n) = number n
+toml_value (Maybe o) = number_or_none o
+toml_value (Flag b) = flag b
+toml_value (PortList es) = Some (tables_of port_entry_rows es)
+toml_value (GateList es) = Some (tables_of gate_entry_rows es)
 
-abbrev pub filter_rows : ℕ → StreamFilter → Rows
-filter_rows id r =
-    (codes "gate", number r.gate)
-    ∷ (codes "handle", number_or_none r.handle)
-    ∷ (codes "id", number id)
-    ∷ (codes "max_sdu", number_or_none r.max_sdu)
-    ∷ (codes "meter", number_or_none r.meter)
-    ∷ (codes "oversize", flag r.oversize)
-    ∷ (codes "priority", number_or_none r.priority)
-    ∷ []
+-- a row where it belongs: the names ascend
+abbrev pub put_row : List ℕ → Option Data → Rows → Rows
+put_row name d [] = (name, d) ∷ []
+put_row name d (row ∷ rows) =
+    match_ordering (slice_cmp nat_cmp name row.0) ((name, d) ∷ row ∷ rows) ((name, d) ∷ rows) (row ∷ put_row name d rows)
 
-abbrev pub gate_rows : ℕ → StreamGate → Rows
-gate_rows id r =
-    (codes "base", number r.admin.base)
-    ∷ (codes "cycle", number r.admin.cycle)
-    ∷ (codes "extension", number r.admin.extension)
-    ∷ (codes "id", number id)
-    ∷ (codes "invalid_rx", flag r.invalid_rx)
-    ∷ (codes "ipv", number_or_none r.ipv)
-    ∷ (codes "list", Some (tables_of gate_entry_rows r.admin.list))
-    ∷ (codes "octets_exceeded", flag r.octets_exceeded)
-    ∷ (codes "open", flag r.is_open)
-    ∷ []
+-- each member under its name
+abbrev pub named_rows : List (List ℕ × Allowed) → List MemberDraft → Rows
+named_rows [] vs = []
+named_rows (m ∷ ms) [] = []
+named_rows (m ∷ ms) (v ∷ vs) = put_row m.0 (toml_value v) (named_rows ms vs)
 
-abbrev pub meter_rows : ℕ → FlowMeter → Rows
-meter_rows id r =
-    (codes "all_red", flag r.all_red)
-    ∷ (codes "aware", flag r.aware)
-    ∷ (codes "cbs", number r.cbs)
-    ∷ (codes "cf", flag r.cf)
-    ∷ (codes "cir", number r.cir)
-    ∷ (codes "drop_yellow", flag r.drop_yellow)
-    ∷ (codes "ebs", number r.ebs)
-    ∷ (codes "eir", number r.eir)
-    ∷ (codes "id", number id)
-    ∷ []
-
+-- a record: its identifier, and the members of its draft by the table of members
 abbrev pub record_rows : ℕ → Record → Rows
-record_rows id (Port r) = port_rows id r
-record_rows id (Filter r) = filter_rows id r
-record_rows id (Gate r) = gate_rows id r
-record_rows id (Meter r) = meter_rows id r
+record_rows id r =
+    let draft = record_draft r in
+    put_row (codes "id") (number id) (named_rows (rows_of (kind_of_draft draft)) (values_of draft))
 
 abbrev pub keyed_rows : Key × Record → Rows
 keyed_rows e = record_rows (number_of e.0) e.1

@@ -26,9 +26,10 @@ use Rattle.tsn_wire.specs.Rows.{members_of}
 use Rattle.tsn_wire.specs.Reading.{data_of, line_of_draft, name_of_draft, reading, line_of}
 use Rattle.tsn_records.specs.Shown.{draft_data, record_data, whole_data}
 use Rattle.tsn_wire.specs.Lines.{command_members, IsOf as IsOfKind, IsSound}
-use Rattle.tsn_wire.specs.Spelled.{IsKey, IsNoPort}
-use Rattle.tsn_wire.specs.Values.{act_data, asked_data, bare_data, frame_data, keyed_data, edit_data, listed_data, hello_data, settle_data, states_data, value_of, KeyInRange, MayHaveList, ListInRange, FrameInRange, IsSession, MayBeAsked, AcceptsValues}
+use Rattle.tsn_wire.specs.Spelled.{IsKey}
+use Rattle.tsn_wire.specs.Values.{act_data, asked_data, bare_data, frame_data, keyed_data, edit_data, listed_data, hello_data, settle_data, states_data, value_of, KeyInRange, MayHaveList, ListInRange, FrameInRange, IsSession, MayBeAsked, AcceptsValues, IsNoPort}
 use Rattle.tsn_wire.specs.ReadingBack.{ReadsBack}
+use Rattle.tsn_records.specs.Values.{record_draft}
 use Rattle.tsn_records.specs.declared.drafts.KeyDraft.{KeyDraft}
 use Rattle.tsn_records.specs.declared.drafts.RecordDraft.{RecordDraft}
 use Rattle.tsn_records.specs.declared.unread.Unread.{Unread}
@@ -39,7 +40,6 @@ use Rattle.tsn_wire.specs.declared.drafts.LineDraft.{LineDraft}
 use Rattle.tsn_wire.specs.declared.drafts.LineDraft.TheVariants.{Hello, Named, Session}
 use Rattle.tsn_wire.specs.declared.drafts.NameDraft.TheVariants.{Fit, Unfit}
 use Rattle.tsn_bridge.specs.declared.command.Ask.{Ask}
-use Rattle.tsn_records.proofs.RecordsRead.{record_draft}
 use Rattle.tsn_records.proofs.RecordRanges.{passed, at_most, within_ok, at_most_ok}
 use Rattle.tsn_records.proofs.Steps.{last_step, only, steps, syntax_there, not_refused}
 use Rattle.tsn_wire.proofs.Batching.{batch_known, batch_shaped, edit_draft, edits_back}

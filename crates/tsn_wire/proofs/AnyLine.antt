@@ -1,5 +1,5 @@
 -- What each command has of a line's members.
-use Rattle.std.proofs.Common.{◌≡◌, ℕ, List, Bool, true, Option, Some, option_map, ap, refl, sym, subst, ◌∙◌}
+use Rattle.std.proofs.Common.{◌≡◌, ℕ, List, true, Option, Some, option_map, ap, refl, sym, subst, ◌∙◌}
 use Rattle.std.specs.List.{AllByRecursion}
 use Rattle.serde_json.specs.Data.{Data, boolean, string}
 use Rattle.tsn_types.specs.declared.keys.Kind.{Kind}
@@ -10,9 +10,9 @@ use Rattle.tsn_records.specs.declared.drafts.RecordDraft.{RecordDraft}
 use Rattle.tsn_records.specs.Json.{members_len}
 use Rattle.tsn_wire.specs.Batches.{is_batch_draft}
 use Rattle.tsn_wire.specs.Lines.{edit_rows, line_rows, IsBare, IsEdit, IsOf, IsLine, IsSoundEdit}
-use Rattle.tsn_wire.specs.Rows.{AllTold}
-use Rattle.tsn_wire.specs.Spelled.{batch_value, key_value, IsKey, IsNoPort}
-use Rattle.tsn_wire.specs.Values.{MayHaveList}
+use Rattle.tsn_wire.specs.Rows.{AllTold, members_of}
+use Rattle.tsn_wire.specs.Spelled.{batch_value, key_value, IsKey, drafted_text}
+use Rattle.tsn_wire.specs.Values.{act_data, edit_data, keyed_data, MayHaveList, IsNoPort}
 use Rattle.tsn_wire.specs.Words.{word_text}
 use Rattle.tsn_wire.specs.declared.any_edits.EditMembers.{EditMembers}
 use Rattle.tsn_wire.specs.declared.any_line.LineMembers.{LineMembers}
@@ -20,6 +20,7 @@ use Rattle.tsn_wire.specs.declared.drafts.CommandDraft.{CommandDraft}
 use Rattle.tsn_wire.specs.declared.drafts.CommandDraft.TheVariants as wanted
 use Rattle.tsn_wire.specs.declared.drafts.EditDraft.{EditDraft}
 use Rattle.tsn_wire.specs.declared.drafts.EditDraft.TheVariants as drafts
+use Rattle.tsn_wire.specs.declared.drafts.FrameDraft.{FrameDraft}
 use Rattle.tsn_wire.specs.declared.drafts.LineDraft.TheVariants.{Hello, Session}
 use Rattle.tsn_wire.specs.declared.values.Word.{Word}
 use Rattle.tsn_wire.specs.declared.values.Word.TheVariants as words
@@ -68,25 +69,32 @@ bare_line m count s w command bare read e len = record {
   sound = bare.sound;
 }
 
+-- the members of lines that several commands have, with a key, with a record, with an instant
+edit_told : (m : LineMembers) (s : ℕ) (word : Word) (key : KeyDraft) (value : RecordDraft) → m.word ≡ Some word → m.session ≡ Some s
+    → m.key ≡ Some key → m.record ≡ Some value
+    → AllTold (line_rows m) (members_of (edit_data (word_text word) s (drafted_text key) (draft_data value)))
+edit_told m s word key value w e x y = (word_row m word w, (key_row m key x, (row_is draft_data m.record value y, (session_row m s e, tt))))
+
+keyed_told : (m : LineMembers) (s : ℕ) (word : Word) (key : KeyDraft) → m.word ≡ Some word → m.session ≡ Some s → m.key ≡ Some key
+    → AllTold (line_rows m) (members_of (keyed_data (word_text word) s (drafted_text key)))
+keyed_told m s word key w e x = (word_row m word w, (key_row m key x, (session_row m s e, tt)))
+
+act_told : (m : LineMembers) (s : ℕ) (word : Word) (key : KeyDraft) (now : ℕ) → m.word ≡ Some word → m.session ≡ Some s
+    → m.key ≡ Some key → m.instant ≡ Some now
+    → AllTold (line_rows m) (members_of (act_data (word_text word) s (drafted_text key) now))
+act_told m s word key now w e x y = (word_row m word w, (key_row m key x, (row_is whole_data m.instant now y, (session_row m s e, tt))))
+
 pub create_line : (m : LineMembers) (count s : ℕ) (key : KeyDraft) (value : RecordDraft) → m.word ≡ Some words.Create → m.session ≡ Some s
     → IsKey key → IsOf key.kind value → m.key ≡ Some key → m.record ≡ Some value → count ≡ 4
     → IsLine (line_rows m) count (Session s (wanted.Create key value))
 create_line m count s key value w e k r x y len =
-    record {
-      told = (word_row m words.Create w, (key_row m key x, (row_is draft_data m.record value y, (session_row m s e, tt))));
-      len = len;
-      sound = (k, r);
-    }
+    record { told = edit_told m s words.Create key value w e x y; len = len; sound = (k, r) }
 
 pub replace_line : (m : LineMembers) (count s : ℕ) (key : KeyDraft) (value : RecordDraft) → m.word ≡ Some words.Replace → m.session ≡ Some s
     → IsKey key → IsOf key.kind value → m.key ≡ Some key → m.record ≡ Some value → count ≡ 4
     → IsLine (line_rows m) count (Session s (wanted.Replace key value))
 replace_line m count s key value w e k r x y len =
-    record {
-      told = (word_row m words.Replace w, (key_row m key x, (row_is draft_data m.record value y, (session_row m s e, tt))));
-      len = len;
-      sound = (k, r);
-    }
+    record { told = edit_told m s words.Replace key value w e x y; len = len; sound = (k, r) }
 
 pub batch_line : (m : LineMembers) (count s : ℕ) (batch : List EditDraft) → m.word ≡ Some words.Batch → m.session ≡ Some s
     → is_batch_draft batch ≡ true → AllByRecursion IsSoundEdit batch → m.edits ≡ Some batch → count ≡ 3
@@ -121,48 +129,33 @@ remove_edit m count key w x len = record {
 
 pub remove_line : (m : LineMembers) (count s : ℕ) (key : KeyDraft) → m.word ≡ Some words.Remove → m.session ≡ Some s → IsKey key
     → IsNoPort key.kind → m.key ≡ Some key → count ≡ 3 → IsLine (line_rows m) count (Session s (wanted.Remove key))
-remove_line m count s key w e k r x len =
-    record { told = (word_row m words.Remove w, (key_row m key x, (session_row m s e, tt))); len = len; sound = (k, r) }
+remove_line m count s key w e k r x len = record { told = keyed_told m s words.Remove key w e x; len = len; sound = (k, r) }
 
 pub counters_line : (m : LineMembers) (count s : ℕ) (key : KeyDraft) → m.word ≡ Some words.Counters → m.session ≡ Some s → IsKey key
     → m.key ≡ Some key → count ≡ 3 → IsLine (line_rows m) count (Session s (wanted.Counters key))
-counters_line m count s key w e k x len =
-    record { told = (word_row m words.Counters w, (key_row m key x, (session_row m s e, tt))); len = len; sound = k }
+counters_line m count s key w e k x len = record { told = keyed_told m s words.Counters key w e x; len = len; sound = k }
 
 pub show_line : (m : LineMembers) (count s : ℕ) (key : KeyDraft) → m.word ≡ Some words.Show → m.session ≡ Some s → IsKey key
     → m.key ≡ Some key → count ≡ 3 → IsLine (line_rows m) count (Session s (wanted.Show key))
-show_line m count s key w e k x len =
-    record { told = (word_row m words.Show w, (key_row m key x, (session_row m s e, tt))); len = len; sound = k }
+show_line m count s key w e k x len = record { told = keyed_told m s words.Show key w e x; len = len; sound = k }
 
 pub enable_line : (m : LineMembers) (count s : ℕ) (key : KeyDraft) (now : ℕ) → m.word ≡ Some words.Enable → m.session ≡ Some s → IsKey key
     → MayHaveList key.kind → m.key ≡ Some key → m.instant ≡ Some now → count ≡ 4
     → IsLine (line_rows m) count (Session s (wanted.Enable key now))
 enable_line m count s key now w e k r x y len =
-    record {
-      told = (word_row m words.Enable w, (key_row m key x, (row_is whole_data m.instant now y, (session_row m s e, tt))));
-      len = len;
-      sound = (k, r);
-    }
+    record { told = act_told m s words.Enable key now w e x y; len = len; sound = (k, r) }
 
 pub disable_line : (m : LineMembers) (count s : ℕ) (key : KeyDraft) (now : ℕ) → m.word ≡ Some words.Disable → m.session ≡ Some s → IsKey key
     → MayHaveList key.kind → m.key ≡ Some key → m.instant ≡ Some now → count ≡ 4
     → IsLine (line_rows m) count (Session s (wanted.Disable key now))
 disable_line m count s key now w e k r x y len =
-    record {
-      told = (word_row m words.Disable w, (key_row m key x, (row_is whole_data m.instant now y, (session_row m s e, tt))));
-      len = len;
-      sound = (k, r);
-    }
+    record { told = act_told m s words.Disable key now w e x y; len = len; sound = (k, r) }
 
 pub apply_line : (m : LineMembers) (count s : ℕ) (key : KeyDraft) (now : ℕ) → m.word ≡ Some words.Apply → m.session ≡ Some s → IsKey key
     → MayHaveList key.kind → m.key ≡ Some key → m.instant ≡ Some now → count ≡ 4
     → IsLine (line_rows m) count (Session s (wanted.Apply key now))
 apply_line m count s key now w e k r x y len =
-    record {
-      told = (word_row m words.Apply w, (key_row m key x, (row_is whole_data m.instant now y, (session_row m s e, tt))));
-      len = len;
-      sound = (k, r);
-    }
+    record { told = act_told m s words.Apply key now w e x y; len = len; sound = (k, r) }
 
 pub states_line : (m : LineMembers) (count s : ℕ) (key : KeyDraft) (at : ℕ) → m.word ≡ Some words.States → m.session ≡ Some s → IsKey key
     → MayHaveList key.kind → m.key ≡ Some key → m.at ≡ Some at → count ≡ 4 → IsLine (line_rows m) count (Session s (wanted.States key at))
@@ -173,21 +166,20 @@ states_line m count s key at w e k r x y len =
       sound = (k, r);
     }
 
-pub frame_line : (m : LineMembers) (count s : ℕ) (handle : ℕ) (priority : ℕ) (octets : ℕ) (yellow : Bool) (now : ℕ)
-    → m.word ≡ Some words.Frame → m.session ≡ Some s → m.handle ≡ Some handle → m.priority ≡ Some priority → m.octets ≡ Some octets
-    → m.yellow ≡ Some yellow → m.instant ≡ Some now → count ≡ 7 → IsLine (line_rows m) count
-    (Session s (wanted.Frame (record { handle = handle; priority = priority; octets = octets; yellow = yellow }) now))
-frame_line m count s handle priority octets yellow now w e h p o y n len =
+pub frame_line : (m : LineMembers) (count s : ℕ) (f : FrameDraft) (now : ℕ) → m.word ≡ Some words.Frame → m.session ≡ Some s
+    → m.handle ≡ Some f.handle → m.priority ≡ Some f.priority → m.octets ≡ Some f.octets → m.yellow ≡ Some f.yellow
+    → m.instant ≡ Some now → count ≡ 7 → IsLine (line_rows m) count (Session s (wanted.Frame f now))
+frame_line m count s f now w e h p o y n len =
     record {
       told = (
         word_row m words.Frame w,
         (
-          row_is whole_data m.handle handle h,
+          row_is whole_data m.handle f.handle h,
           (
             row_is whole_data m.instant now n,
             (
-              row_is whole_data m.octets octets o,
-              (row_is whole_data m.priority priority p, (session_row m s e, (row_is boolean m.yellow yellow y, tt))),
+              row_is whole_data m.octets f.octets o,
+              (row_is whole_data m.priority f.priority p, (session_row m s e, (row_is boolean m.yellow f.yellow y, tt))),
             ),
           ),
         ),

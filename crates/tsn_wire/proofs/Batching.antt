@@ -16,15 +16,15 @@ use Rattle.tsn_records.specs.Json.{has_members, items_at, items_list, text_at}
 use Rattle.tsn_records.specs.Keys.{key_text}
 use Rattle.tsn_records.specs.Ranges.{key}
 use Rattle.tsn_records.specs.Shown.{whole_data, record_data}
+use Rattle.tsn_records.specs.Values.{record_draft}
 use Rattle.tsn_records.specs.declared.drafts.KeyDraft.{KeyDraft}
-use Rattle.tsn_records.proofs.RecordsRead.{record_draft}
 use Rattle.tsn_records.proofs.Steps.{last_step, only, steps}
 use Rattle.tsn_wire.specs.Batches.{batch_of, is_batch_draft}
 use Rattle.tsn_wire.specs.Commands.{key_at, removed_key, edit_shape, batch_shape, line_shape}
 use Rattle.tsn_wire.specs.Ranges.{edit_of_draft, command_of_draft}
 use Rattle.tsn_wire.specs.Rows.{members_of}
-use Rattle.tsn_wire.specs.Spelled.{IsNoPort, edit_value as edit_value_of}
-use Rattle.tsn_wire.specs.Values.{put_data, removal_data, edit_value, batch_data, value_of, EditMayBeAsked, IsSession, MayBeAsked}
+use Rattle.tsn_wire.specs.Spelled.{edit_value as edit_value_of}
+use Rattle.tsn_wire.specs.Values.{put_data, removal_data, edit_value, batch_data, value_of, EditMayBeAsked, IsSession, MayBeAsked, IsNoPort}
 use Rattle.tsn_wire.specs.declared.drafts.CommandDraft.{CommandDraft}
 use Rattle.tsn_wire.specs.declared.drafts.CommandDraft.TheVariants as wanted
 use Rattle.tsn_wire.specs.declared.drafts.EditDraft.{EditDraft}

@@ -24,8 +24,9 @@ use Rattle.tsn_records.specs.Keys.{kind_text, spelled_key}
 use Rattle.tsn_wire.specs.Commands.{line_shape}
 use Rattle.tsn_wire.specs.Reading.{data_of, line_of_draft, reading}
 use Rattle.tsn_records.specs.Shown.{draft_data, gate_entry_value, or_null, port_entry_value}
-use Rattle.tsn_wire.specs.Lines.{bare_members, keyed_members, edit_members, states_members, batch_members, list_members, since_members, command_members, IsOf, IsSound, IsSoundEdit}
-use Rattle.tsn_wire.specs.Spelled.{IsSmall, EditIsSmall, batch_value, edit_value, PortEntryIsSmall, GateEntryIsSmall, PortIsSmall, GateIsSmall, FilterIsSmall, MeterIsSmall, RecordIsSmall, Spells}
+use Rattle.tsn_wire.specs.Lines.{command_members, IsOf, IsSound, IsSoundEdit}
+use Rattle.tsn_wire.specs.Spelled.{IsSmall, EditIsSmall, batch_value, drafted_text, edit_value, PortEntryIsSmall, GateEntryIsSmall, PortIsSmall, GateIsSmall, FilterIsSmall, MeterIsSmall, RecordIsSmall, Spells}
+use Rattle.tsn_wire.specs.Values.{asked_data, bare_data, batched_data, edit_data, keyed_data, listed_data, states_data}
 use Rattle.tsn_wire.specs.SpelledFront.{SpellsFront, SpellsStates}
 use Rattle.tsn_records.specs.declared.drafts.PortEntryDraft.{PortEntryDraft}
 use Rattle.tsn_records.specs.declared.drafts.GateEntryDraft.{GateEntryDraft}
@@ -217,7 +218,7 @@ quoted_key front rest k n small =
     ∙ ap (λ l. front ++ l) (append_assoc (spelled_key k n) (codes "\"") rest))
 
 edit_line_plain : (word : List ℕ) (s : ℕ) (key : KeyDraft) (v : RecordDraft) → IsSmall s → IsPlain 3 (draft_data v)
-    → IsPlain 127 (object (edit_members word s key v))
+    → IsPlain 127 (edit_data word s (drafted_text key) (draft_data v))
 edit_line_plain word s key v small p = record {
   same = rw (p.same, number_of-decimal s small) refl;
   numbers = (tt, (tt, (p.numbers, (IsNumber-decimal s small, tt))));
@@ -232,7 +233,7 @@ is_of kinds.Gate (records.Gate v) small = tt
 is_of kinds.Meter (records.Meter v) small = tt
 is_of k v small = absurd small
 
-keyed_plain : (word : List ℕ) (s : ℕ) (key : KeyDraft) → IsSmall s → IsPlain 127 (object (keyed_members word s key))
+keyed_plain : (word : List ℕ) (s : ℕ) (key : KeyDraft) → IsSmall s → IsPlain 127 (keyed_data word s (drafted_text key))
 keyed_plain word s key small = record {
   same = rw (number_of-decimal s small) refl;
   numbers = (tt, (tt, (IsNumber-decimal s small, tt)));
@@ -254,7 +255,7 @@ edits_shallow : (es : List EditDraft) → AllByRecursion EditIsSmall es → item
 edits_shallow [] all = omega arith
 edits_shallow (e ∷ es) all = let here = (edit_plain e all.0).shallow in let rest = edits_shallow es all.1 in omega (arith, here, rest)
 
-batched_plain : (s : ℕ) (es : List EditDraft) → IsSmall s → AllByRecursion EditIsSmall es → IsPlain 127 (object (batch_members s es))
+batched_plain : (s : ℕ) (es : List EditDraft) → IsSmall s → AllByRecursion EditIsSmall es → IsPlain 127 (batched_data s (batch_value es))
 batched_plain s es small all = record {
   same = rw (items_same EditIsSmall edit_value (λ e x. (edit_plain e x).same) es all, number_of-decimal s small) refl;
   numbers = (tt, (items_numbers EditIsSmall edit_value (λ e x. (edit_plain e x).numbers) es all, (IsNumber-decimal s small, tt)));
@@ -269,12 +270,12 @@ all_kept (edits.Remove key ∷ es) all = (all.0, all_kept es all.1)
 
 -- ---- looks
 
-listed_plain : (s : ℕ) (k : Kind) → IsSmall s → IsPlain 127 (object (list_members s k))
+listed_plain : (s : ℕ) (k : Kind) → IsSmall s → IsPlain 127 (listed_data s (kind_text k))
 listed_plain s k small =
     record { same = rw (number_of-decimal s small) refl; numbers = (tt, (tt, (IsNumber-decimal s small, tt))); shallow = omega arith }
 
 listed_text : (s : ℕ) (k : Kind)
-    → codes "{\"do\":\"list\",\"kind\":\"" ++ (kind_text k ++ (codes "\"" ++ tail s)) ≡ compact_text (object (list_members s k))
+    → codes "{\"do\":\"list\",\"kind\":\"" ++ (kind_text k ++ (codes "\"" ++ tail s)) ≡ compact_text (listed_data s (kind_text k))
 unfolding escape_byte
 listed_text s kinds.Port = refl
 listed_text s kinds.Filter = refl
@@ -282,11 +283,11 @@ listed_text s kinds.Gate = refl
 listed_text s kinds.Meter = refl
 
 -- a command of its word alone
-bare_plain : (word : List ℕ) (s : ℕ) → IsSmall s → IsPlain 127 (object (bare_members word s))
+bare_plain : (word : List ℕ) (s : ℕ) → IsSmall s → IsPlain 127 (bare_data word s)
 bare_plain word s small =
     record { same = rw (number_of-decimal s small) refl; numbers = (tt, (IsNumber-decimal s small, tt)); shallow = omega arith }
 
-since_plain : (s after : ℕ) → IsSmall s → IsSmall after → IsPlain 127 (object (since_members s after))
+since_plain : (s after : ℕ) → IsSmall s → IsSmall after → IsPlain 127 (asked_data s after)
 since_plain s after small small_after = record {
   same = rw (number_of-decimal after small_after, number_of-decimal s small) refl;
   numbers = (IsNumber-decimal after small_after, (tt, (IsNumber-decimal s small, tt)));
@@ -294,7 +295,7 @@ since_plain s after small small_after = record {
 }
 
 -- a look at states
-states_plain : (s : ℕ) (key : KeyDraft) (at : ℕ) → IsSmall s → IsSmall at → IsPlain 127 (object (states_members s key at))
+states_plain : (s : ℕ) (key : KeyDraft) (at : ℕ) → IsSmall s → IsSmall at → IsPlain 127 (states_data s (drafted_text key) at)
 states_plain s key at small small_at = record {
   same = rw (number_of-decimal at small_at, number_of-decimal s small) refl;
   numbers = (IsNumber-decimal at small_at, (tt, (tt, (IsNumber-decimal s small, tt))));
@@ -338,7 +339,7 @@ spelled_says line text rest (Remove key) s first (k, other, is) small last utf8 
     (is ∙ ap (λ l. codes "remove\",\"key\":\"" ++ (spelled_key key.kind key.number ++ (codes "\"" ++ l))) last)
     (quoted_key (codes "{\"do\":\"remove\",\"key\":\"") (tail s) key.kind key.number k) utf8
 spelled_says line text rest (Batch es) s first (batch, all, is) small last utf8 =
-    reading_of line (object (batch_members s es)) (Session s (Batch es))
+    reading_of line (batched_data s (batch_value es)) (Session s (Batch es))
     (printed_reads line _ (batched_plain s es small all) (first ∙ ap (λ l. codes "{\"do\":\"" ++ l)
     (is ∙ ap (λ l. codes "batch\",\"edits\":" ++ (compact_text (batch_value es) ++ l)) last)) utf8)
     (batch_kept s es batch (all_kept es all))

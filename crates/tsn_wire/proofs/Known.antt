@@ -26,14 +26,14 @@ use Rattle.tsn_records.specs.Ranges.{within, record_of, key, key_of_kind}
 use Rattle.tsn_records.specs.Records.{record_shape}
 use Rattle.tsn_records.specs.Shown.{draft_data, gate_entry_data, gate_entry_value, port_entry_data, port_entry_value, record_data}
 use Rattle.tsn_wire.specs.Lines.{IsOf}
-use Rattle.tsn_wire.specs.Spelled.{IsNoPort}
-use Rattle.tsn_wire.specs.Values.{KeyInRange}
+use Rattle.tsn_wire.specs.Values.{KeyInRange, IsNoPort}
+use Rattle.tsn_records.specs.Values.{port_entry_draft, gate_entry_draft, record_draft}
 use Rattle.tsn_records.specs.declared.drafts.KeyDraft.{KeyDraft}
 use Rattle.tsn_records.specs.declared.drafts.RecordDraft.{RecordDraft}
 use Rattle.tsn_records.specs.declared.unread.Unread.{Unread}
 use Rattle.tsn_records.proofs.Digits.{own, and_parts}
-use Rattle.tsn_records.proofs.RecordsRead.{InRangeOf, record_draft, record_read}
-use Rattle.tsn_records.proofs.RecordRanges.{passed, at_most, within_ok, at_most_ok, port_entry_draft, gate_entry_draft, port_back, filter_back, gate_back, meter_back}
+use Rattle.tsn_records.proofs.RecordsRead.{InRangeOf, record_read}
+use Rattle.tsn_records.proofs.RecordRanges.{passed, at_most, within_ok, at_most_ok, port_back, filter_back, gate_back, meter_back}
 use Rattle.tsn_records.proofs.Steps.{last_step, only, steps}
 use Rattle.tsn_wire.proofs.FromShapes.{record_known as value_known, text_there, value_there}
 use Rattle.tsn_wire.proofs.Objects.{IsOrdered, inner_ordered}

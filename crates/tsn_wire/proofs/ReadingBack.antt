@@ -11,8 +11,8 @@ use Rattle.tsn_types.specs.declared.keys.Kind.{Kind}
 use Rattle.tsn_types.specs.declared.keys.Kind.TheVariants as kinds
 use Rattle.tsn_records.specs.declared.drafts.KeyDraft.{KeyDraft}
 use Rattle.tsn_wire.specs.Commands.{line_shape, listed, removable}
-use Rattle.tsn_wire.specs.Spelled.{IsKey, IsNoPort}
-use Rattle.tsn_wire.specs.Values.{MayHaveList}
+use Rattle.tsn_wire.specs.Spelled.{IsKey}
+use Rattle.tsn_wire.specs.Values.{MayHaveList, IsNoPort}
 use Rattle.tsn_wire.specs.Reading.{data_of, line_of_draft, line_of}
 use Rattle.tsn_records.proofs.Digits.{own}
 use Rattle.tsn_types.specs.Numbers.{IsInstanceId}

@@ -1,7 +1,7 @@
 -- The members of a line have the shape of the line's draft.
 use Rattle.std.proofs.Common.{◌≡◌, ℕ, List, [], ◌∷◌, map, true, Result, Some, Ok, codes, refl, subst}
 use Rattle.std.specs.List.{AllByRecursion}
-use Rattle.serde_json.specs.Data.{Data, string, object, member, no_members}
+use Rattle.serde_json.specs.Data.{Data, object}
 use Rattle.serde_json.specs.View.{items_of}
 use Rattle.tsn_types.specs.declared.keys.Kind.{Kind}
 use Rattle.tsn_types.specs.declared.keys.Kind.TheVariants as kinds
@@ -18,10 +18,10 @@ use Rattle.tsn_records.specs.declared.drafts.RecordDraft.TheVariants as records
 use Rattle.tsn_records.specs.declared.unread.Unread.{Unread}
 use Rattle.tsn_wire.specs.Commands.{line_shape, command_shape, listed_at, keyed_record, create_shape, replace_shape, removed_key, remove_shape, edit_shape, batch_shape, bare_shape, enable_shape, disable_shape, apply_shape, frame_members, frame_shape, states_shape, counters_shape, show_shape, list_shape, since_shape, settle_shape}
 use Rattle.tsn_wire.specs.Batches.{is_batch_draft}
-use Rattle.tsn_wire.specs.Lines.{batch_members, edit_members, act_members, states_members, command_members, IsOf, IsSound, IsSoundEdit}
-use Rattle.tsn_wire.specs.Spelled.{IsKey, edit_value, key_value}
+use Rattle.tsn_wire.specs.Lines.{command_members, IsOf, IsSound, IsSoundEdit}
+use Rattle.tsn_wire.specs.Spelled.{IsKey, batch_value, drafted_text, edit_value}
 use Rattle.tsn_records.specs.Shown.{draft_data, gate_entry_value, port_entry_value}
-use Rattle.tsn_wire.specs.Values.{MayHaveList}
+use Rattle.tsn_wire.specs.Values.{act_data, batched_data, edit_data, put_data, states_data, MayHaveList}
 use Rattle.tsn_wire.specs.declared.drafts.CommandDraft.{CommandDraft}
 use Rattle.tsn_wire.specs.declared.drafts.CommandDraft.TheVariants.{Create, Replace, Remove, Batch, Undo, UndoAll, Redo, Settle, Enable, Disable, Apply, Frame, States, Counters, Show, List as ListKind, Since, Resume, Sessions, Setup}
 use Rattle.tsn_wire.specs.declared.drafts.EditDraft.{EditDraft}
@@ -78,17 +78,17 @@ record_kept k r of =
 -- ---- commands
 
 edit_shaped : (word : List ℕ) (s : ℕ) (key : KeyDraft) (v : RecordDraft) → IsKey key → IsOf key.kind v
-    → keyed_record 4 (object (edit_members word s key v)) ≡ Ok (key, v)
+    → keyed_record 4 (edit_data word s (drafted_text key) (draft_data v)) ≡ Ok (key, v)
 unfolding keyed_record
 edit_shaped word s key v k of = rw (key_spelled key k, record_kept key.kind v of) refl
 
 act_shaped : (word : List ℕ) (s : ℕ) (key : KeyDraft) (now : ℕ) → IsKey key → MayHaveList key.kind
-    → listed_at (codes "now") (object (act_members word s key now)) ≡ Ok (key, now)
+    → listed_at (codes "now") (act_data word s (drafted_text key) now) ≡ Ok (key, now)
 unfolding listed_at
 act_shaped word s key now k has = rw (key_spelled key k, listed_back key key.kind has) refl
 
 look_shaped : (s : ℕ) (key : KeyDraft) (at : ℕ) → IsKey key → MayHaveList key.kind
-    → listed_at (codes "at") (object (states_members s key at)) ≡ Ok (key, at)
+    → listed_at (codes "at") (states_data s (drafted_text key) at) ≡ Ok (key, at)
 unfolding listed_at
 look_shaped s key at k has = rw (key_spelled key k, listed_back key key.kind has) refl
 
@@ -99,8 +99,7 @@ kind_spelled kinds.Gate = refl
 kind_spelled kinds.Meter = refl
 
 put_kept : (word : List ℕ) (key : KeyDraft) (v : RecordDraft) → IsKey key → IsOf key.kind v
-    → keyed_record 3 (object (member (codes "do") (string word)
-    (member (codes "key") (key_value key) (member (codes "record") (draft_data v) no_members))))
+    → keyed_record 3 (put_data word (drafted_text key) (draft_data v))
     ≡ Ok (key, v)
 unfolding keyed_record
 put_kept word key v k of = rw (key_spelled key k, record_kept key.kind v of) refl
@@ -116,7 +115,7 @@ edits_kept [] kept = refl
 edits_kept (e ∷ es) kept = rw (edit_kept e kept.0, edits_kept es kept.1) refl
 
 pub batch_kept : (s : ℕ) (es : List EditDraft) → is_batch_draft es ≡ true → AllByRecursion IsSoundEdit es
-    → line_shape (object (batch_members s es)) ≡ Ok (Session s (Batch es))
+    → line_shape (batched_data s (batch_value es)) ≡ Ok (Session s (Batch es))
 unfolding line_shape command_shape batch_shape
 batch_kept s es batch kept = rw (edits_kept es kept, batch) refl
 

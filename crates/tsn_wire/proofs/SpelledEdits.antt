@@ -5,7 +5,8 @@ use Rattle.serde_json.specs.Written.{compact_text}
 use Rattle.tsn_records.specs.Keys.{spelled_key}
 use Rattle.tsn_records.specs.declared.drafts.KeyDraft.{KeyDraft}
 use Rattle.tsn_records.specs.declared.drafts.RecordDraft.{RecordDraft}
-use Rattle.tsn_wire.specs.Spelled.{IsKey, IsNoPort, SpellsEdit, SpellsRecord}
+use Rattle.tsn_wire.specs.Spelled.{IsKey, SpellsEdit, SpellsRecord}
+use Rattle.tsn_wire.specs.Values.{IsNoPort}
 use Rattle.tsn_records.specs.Shown.{draft_data}
 use Rattle.tsn_wire.specs.declared.drafts.EditDraft.TheVariants as drafts
 use Rattle.tsn_wire.proofs.CompactSpelling.{quoted_key}

@@ -1,20 +1,19 @@
 -- The members of command lines.
 use Rattle.std.specs.List.{AllByRecursion}
-use Rattle.std.specs.Prelude.{◌≡◌, ℕ, List, [], ◌∷◌, option_map, codes, true, ⊤}
-use Rattle.serde_json.specs.Data.{boolean, string, Members, no_members, member}
+use Rattle.std.specs.Prelude.{◌≡◌, ℕ, [], ◌∷◌, None, option_map, codes, true, ⊤}
+use Rattle.serde_json.specs.Data.{Data, boolean, string, Members, no_members}
 use Rattle.tsn_types.specs.declared.keys.Kind.{Kind}
 use Rattle.tsn_types.specs.declared.keys.Kind.TheVariants as kinds
 use Rattle.tsn_records.specs.Json.{members_len}
 use Rattle.tsn_records.specs.Keys.{kind_text}
 use Rattle.tsn_records.specs.Shown.{draft_data, whole_data}
-use Rattle.tsn_records.specs.declared.drafts.KeyDraft.{KeyDraft}
 use Rattle.tsn_records.specs.declared.drafts.RecordDraft.{RecordDraft}
 use Rattle.tsn_records.specs.declared.drafts.RecordDraft.TheVariants as records
 use Rattle.tsn_wire.specs.Members.{Rows}
 use Rattle.tsn_wire.specs.Batches.{is_batch_draft}
 use Rattle.tsn_wire.specs.Rows.{AllTold, members_of}
-use Rattle.tsn_wire.specs.Spelled.{batch_value, edit_value, key_value, IsKey, IsNoPort}
-use Rattle.tsn_wire.specs.Values.{MayHaveList}
+use Rattle.tsn_wire.specs.Spelled.{batch_value, drafted_text, edit_value, key_value, IsKey}
+use Rattle.tsn_wire.specs.Values.{act_data, asked_data, bare_data, batched_data, edit_data, framed_data, hello_data, keyed_data, listed_data, settle_data, states_data, IsNoPort, MayHaveList}
 use Rattle.tsn_wire.specs.Words.{word_text}
 use Rattle.tsn_wire.specs.declared.any_edits.EditMembers.{EditMembers}
 use Rattle.tsn_wire.specs.declared.any_line.LineMembers.{LineMembers}
@@ -22,7 +21,6 @@ use Rattle.tsn_wire.specs.declared.drafts.CommandDraft.{CommandDraft}
 use Rattle.tsn_wire.specs.declared.drafts.CommandDraft.TheVariants.{Create, Replace, Remove, Batch, Undo, UndoAll, Redo, Settle, Enable, Disable, Apply, Frame, States, Counters, Show, List as ListKind, Since, Resume, Sessions, Setup}
 use Rattle.tsn_wire.specs.declared.drafts.EditDraft.{EditDraft}
 use Rattle.tsn_wire.specs.declared.drafts.EditDraft.TheVariants as edits
-use Rattle.tsn_wire.specs.declared.drafts.FrameDraft.{FrameDraft}
 use Rattle.tsn_wire.specs.declared.drafts.LineDraft.{LineDraft}
 use Rattle.tsn_wire.specs.declared.drafts.LineDraft.TheVariants.{Hello, Named, Session}
 use Rattle.tsn_wire.specs.declared.values.Word.{Word}
@@ -60,80 +58,35 @@ IsOf kinds.Gate (records.Gate r) = ⊤
 IsOf kinds.Meter (records.Meter r) = ⊤
 IsOf k r = ⊥
 
--- The members of each line in ascending order of their names: `{"do":WORD,"s":S}` and with a key, with a record, with an instant.
-abbrev pub bare_members : List ℕ → ℕ → Members
-bare_members word s = member (codes "do") (string word) (member (codes "s") (whole_data s) no_members)
+-- the value of a session's command, whatever its numbers
+abbrev pub draft_value : ℕ → CommandDraft → Data
+draft_value s (Create key value) = edit_data (codes "create") s (drafted_text key) (draft_data value)
+draft_value s (Replace key value) = edit_data (codes "replace") s (drafted_text key) (draft_data value)
+draft_value s (Remove key) = keyed_data (codes "remove") s (drafted_text key)
+draft_value s (Batch batch) = batched_data s (batch_value batch)
+draft_value s Undo = bare_data (codes "undo") s
+draft_value s UndoAll = bare_data (codes "undo_all") s
+draft_value s Redo = bare_data (codes "redo") s
+draft_value s (Settle upto) = settle_data s upto
+draft_value s (Enable key now) = act_data (codes "enable") s (drafted_text key) now
+draft_value s (Disable key now) = act_data (codes "disable") s (drafted_text key) now
+draft_value s (Apply key now) = act_data (codes "apply") s (drafted_text key) now
+draft_value s (Frame f now) = framed_data s f.handle f.priority f.octets f.yellow now
+draft_value s (States key at) = states_data s (drafted_text key) at
+draft_value s (Counters key) = keyed_data (codes "counters") s (drafted_text key)
+draft_value s (Show key) = keyed_data (codes "show") s (drafted_text key)
+draft_value s (ListKind kind) = listed_data s (kind_text kind)
+draft_value s (Since after) = asked_data s after
+draft_value s Resume = bare_data (codes "resume") s
+draft_value s Sessions = bare_data (codes "sessions") s
+draft_value s Setup = bare_data (codes "setup") s
 
-abbrev pub keyed_members : List ℕ → ℕ → KeyDraft → Members
-keyed_members word s key =
-    member (codes "do") (string word) (member (codes "key") (key_value key) (member (codes "s") (whole_data s) no_members))
-
-abbrev pub edit_members : List ℕ → ℕ → KeyDraft → RecordDraft → Members
-edit_members word s key value =
-    member (codes "do") (string word)
-    (member (codes "key") (key_value key) (member (codes "record") (draft_data value) (member (codes "s") (whole_data s) no_members)))
-
-abbrev pub act_members : List ℕ → ℕ → KeyDraft → ℕ → Members
-act_members word s key now =
-    member (codes "do") (string word)
-    (member (codes "key") (key_value key) (member (codes "now") (whole_data now) (member (codes "s") (whole_data s) no_members)))
-
-abbrev pub states_members : ℕ → KeyDraft → ℕ → Members
-states_members s key at =
-    member (codes "at") (whole_data at)
-    (member (codes "do") (string (codes "states"))
-    (member (codes "key") (key_value key) (member (codes "s") (whole_data s) no_members)))
-
-abbrev pub frame_members : ℕ → FrameDraft → ℕ → Members
-frame_members s frame now =
-    member (codes "do") (string (codes "frame"))
-    (member (codes "handle") (whole_data frame.handle)
-    (member (codes "now") (whole_data now)
-    (member (codes "octets") (whole_data frame.octets)
-    (member (codes "priority") (whole_data frame.priority)
-    (member (codes "s") (whole_data s)
-    (member (codes "yellow") (boolean frame.yellow) no_members))))))
-
-abbrev pub batch_members : ℕ → List EditDraft → Members
-batch_members s batch =
-    member (codes "do") (string (codes "batch")) (member (codes "edits") (batch_value batch) (member (codes "s") (whole_data s) no_members))
-
-abbrev pub list_members : ℕ → Kind → Members
-list_members s kind = member (codes "do") (string (codes "list"))
-    (member (codes "kind") (string (kind_text kind)) (member (codes "s") (whole_data s) no_members))
-
-abbrev pub since_members : ℕ → ℕ → Members
-since_members s after =
-    member (codes "after") (whole_data after) (member (codes "do") (string (codes "since")) (member (codes "s") (whole_data s) no_members))
-
-abbrev pub settle_members : ℕ → ℕ → Members
-settle_members s upto =
-    member (codes "do") (string (codes "settle")) (member (codes "s") (whole_data s) (member (codes "upto") (whole_data upto) no_members))
-
+-- the members of each line in ascending order of their names
 abbrev pub command_members : ℕ → CommandDraft → Members
-command_members s (Create key value) = edit_members (codes "create") s key value
-command_members s (Replace key value) = edit_members (codes "replace") s key value
-command_members s (Remove key) = keyed_members (codes "remove") s key
-command_members s (Batch batch) = batch_members s batch
-command_members s Undo = bare_members (codes "undo") s
-command_members s UndoAll = bare_members (codes "undo_all") s
-command_members s Redo = bare_members (codes "redo") s
-command_members s (Settle upto) = settle_members s upto
-command_members s (Enable key now) = act_members (codes "enable") s key now
-command_members s (Disable key now) = act_members (codes "disable") s key now
-command_members s (Apply key now) = act_members (codes "apply") s key now
-command_members s (Frame frame now) = frame_members s frame now
-command_members s (States key at) = states_members s key at
-command_members s (Counters key) = keyed_members (codes "counters") s key
-command_members s (Show key) = keyed_members (codes "show") s key
-command_members s (ListKind kind) = list_members s kind
-command_members s (Since after) = since_members s after
-command_members s Resume = bare_members (codes "resume") s
-command_members s Sessions = bare_members (codes "sessions") s
-command_members s Setup = bare_members (codes "setup") s
+command_members s command = members_of (draft_value s command)
 
 abbrev pub line_members : LineDraft → Members
-line_members Hello = member (codes "do") (string (codes "hello")) no_members
+line_members Hello = members_of (hello_data None)
 line_members (Named name) = no_members
 line_members (Session s command) = command_members s command
 
@@ -173,7 +126,7 @@ IsSoundLine (Session s command) = IsSound command
 
 -- the command of a word that names nothing
 pub record IsBare (word : Word) (command : CommandDraft) : Type 0 where
-  pub members : (s : ℕ) → command_members s command ≡ bare_members (word_text word) s
+  pub members : (s : ℕ) → command_members s command ≡ members_of (bare_data (word_text word) s)
   pub sound : IsSound command
 
 -- so many members were read, which are just those of this line

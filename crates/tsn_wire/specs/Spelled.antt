@@ -1,8 +1,8 @@
 -- Command lines in the service's compact spelling: no spaces, their members in ascending order of their names. A draft is
 -- seen as the value that such a line is.
-use Rattle.std.specs.Prelude.{◌≡◌, ℕ, ◌^◌, ◌<◌, ◌++◌, List, true, codes, IfSome, ⊤}
+use Rattle.std.specs.Prelude.{◌≡◌, ℕ, ◌^◌, ◌<◌, ◌++◌, List, true, codes, IfSome}
 use Rattle.std.specs.List.{AllByRecursion}
-use Rattle.serde_json.specs.Data.{Data, string, object, member, no_members}
+use Rattle.serde_json.specs.Data.{Data, string}
 use Rattle.serde_json.specs.Written.{compact_text}
 use Rattle.tsn_types.specs.declared.keys.Kind.{Kind}
 use Rattle.tsn_types.specs.declared.keys.Kind.TheVariants as kinds
@@ -19,6 +19,7 @@ use Rattle.tsn_records.specs.declared.drafts.MeterDraft.{MeterDraft}
 use Rattle.tsn_records.specs.declared.drafts.RecordDraft.{RecordDraft}
 use Rattle.tsn_records.specs.declared.drafts.RecordDraft.TheVariants.{Port, Filter, Gate, Meter}
 use Rattle.tsn_wire.specs.Batches.{is_batch_draft}
+use Rattle.tsn_wire.specs.Values.{put_data, removal_data, IsNoPort}
 use Rattle.tsn_wire.specs.declared.drafts.CommandDraft.{CommandDraft}
 use Rattle.tsn_wire.specs.declared.drafts.EditDraft.{EditDraft}
 use Rattle.tsn_wire.specs.declared.drafts.EditDraft.TheVariants as edits
@@ -32,25 +33,18 @@ IsSmall n = n < 2 ^ 64
 abbrev pub IsKey : KeyDraft → Type 0
 IsKey k = IsInstanceId k.number
 
-abbrev pub IsNoPort : Kind → Type 0
-IsNoPort kinds.Port = ⊥
-IsNoPort kinds.Filter = ⊤
-IsNoPort kinds.Gate = ⊤
-IsNoPort kinds.Meter = ⊤
+-- the text of a key, and the key as a value
+abbrev pub drafted_text : KeyDraft → List ℕ
+drafted_text k = spelled_key k.kind k.number
 
--- a key as a value
 abbrev pub key_value : KeyDraft → Data
-key_value k = string (spelled_key k.kind k.number)
+key_value k = string (drafted_text k)
 
 -- an edit of a batch
 abbrev pub edit_value : EditDraft → Data
-edit_value (edits.Create key value) =
-    object (member (codes "do") (string (codes "create"))
-    (member (codes "key") (key_value key) (member (codes "record") (draft_data value) no_members)))
-edit_value (edits.Replace key value) =
-    object (member (codes "do") (string (codes "replace"))
-    (member (codes "key") (key_value key) (member (codes "record") (draft_data value) no_members)))
-edit_value (edits.Remove key) = object (member (codes "do") (string (codes "remove")) (member (codes "key") (key_value key) no_members))
+edit_value (edits.Create key value) = put_data (codes "create") (drafted_text key) (draft_data value)
+edit_value (edits.Replace key value) = put_data (codes "replace") (drafted_text key) (draft_data value)
+edit_value (edits.Remove key) = removal_data (drafted_text key)
 
 abbrev pub batch_value : List EditDraft → Data
 batch_value es = list_array edit_value es

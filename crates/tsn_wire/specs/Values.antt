@@ -1,9 +1,8 @@
 -- The value of a command: what a line is that asks for it. A value holds each member once, in ascending order of the
 -- names, whatever their order in the line; so two lines with the same members, each of the same value, are one value.
-use Rattle.std.specs.Prelude.{◌≡◌, ◌↔◌, ℕ, ◌≤◌, true, List, map, Option, Some, None, Ok, codes, ⊤}
+use Rattle.std.specs.Prelude.{◌≡◌, ◌↔◌, ℕ, ◌≤◌, Bool, true, List, Option, Some, None, Ok, codes, ⊤}
 use Rattle.std.specs.List.{AllByRecursion}
-use Rattle.serde_json.specs.Data.{Data, boolean, string, array, object, member, no_members}
-use Rattle.serde_json.specs.View.{items_of}
+use Rattle.serde_json.specs.Data.{Data, boolean, string, object, member, no_members}
 use Rattle.tsn_bridge.specs.declared.command.Command.{Command}
 use Rattle.tsn_bridge.specs.declared.command.Command.TheVariants.{Hello, Create, Replace, Remove, Batch, Undo, UndoAll, Redo, Settle, Enable, Disable, Apply, Frame as FrameIn, States, Counters, Show, List as ListKind, Since, Resume, Sessions, Setup}
 use Rattle.tsn_bridge.specs.Sessions.{most_sessions}
@@ -22,8 +21,7 @@ use Rattle.tsn_types.specs.Numbers.{Within, IsHandle, IsInstanceId, IsInstant, I
 use Rattle.tsn_records.specs.Keys.{key_text, kind_text}
 use Rattle.tsn_wire.specs.Ranges.{greatest_after, longest_frame}
 use Rattle.tsn_wire.specs.Reading.{data_of, line_of}
-use Rattle.tsn_records.specs.Shown.{whole_data, record_data}
-use Rattle.tsn_wire.specs.Spelled.{IsNoPort}
+use Rattle.tsn_records.specs.Shown.{list_array, whole_data, record_data}
 
 -- `{"do":WORD,"s":S}`
 abbrev pub bare_data : List ℕ → ℕ → Data
@@ -56,12 +54,14 @@ edit_value (edits.Create k r) = put_data (codes "create") (key_text k) (record_d
 edit_value (edits.Replace k r) = put_data (codes "replace") (key_text k) (record_data r)
 edit_value (edits.Remove k) = removal_data (key_text k)
 
--- `{"do":"batch","edits":[..],"s":S}`, the edits in their order
+-- `{"do":"batch","edits":[..],"s":S}`
+abbrev pub batched_data : ℕ → Data → Data
+batched_data s listed =
+    object (member (codes "do") (string (codes "batch")) (member (codes "edits") listed (member (codes "s") (whole_data s) no_members)))
+
+-- the edits in their order
 abbrev pub batch_data : ℕ → List Edit → Data
-batch_data s b =
-    object (member (codes "do") (string (codes "batch"))
-    (member (codes "edits") (array (items_of (map edit_value b)))
-    (member (codes "s") (whole_data s) no_members)))
+batch_data s b = batched_data s (list_array edit_value b)
 
 -- `{"do":WORD,"key":K,"now":A,"s":S}`
 abbrev pub act_data : List ℕ → ℕ → List ℕ → ℕ → Data
@@ -72,15 +72,18 @@ act_data word s key now =
     (member (codes "s") (whole_data s) no_members))))
 
 -- `{"do":"frame","handle":H,"now":A,"octets":O,"priority":Q,"s":S,"yellow":B}`
-abbrev pub frame_data : ℕ → Frame → ℕ → Data
-frame_data s frame now =
+abbrev pub framed_data : ℕ → ℕ → ℕ → ℕ → Bool → ℕ → Data
+framed_data s handle priority octets yellow now =
     object (member (codes "do") (string (codes "frame"))
-    (member (codes "handle") (whole_data frame.handle)
+    (member (codes "handle") (whole_data handle)
     (member (codes "now") (whole_data now)
-    (member (codes "octets") (whole_data frame.octets)
-    (member (codes "priority") (whole_data frame.priority)
+    (member (codes "octets") (whole_data octets)
+    (member (codes "priority") (whole_data priority)
     (member (codes "s") (whole_data s)
-    (member (codes "yellow") (boolean frame.yellow) no_members)))))))
+    (member (codes "yellow") (boolean yellow) no_members)))))))
+
+abbrev pub frame_data : ℕ → Frame → ℕ → Data
+frame_data s frame now = framed_data s frame.handle frame.priority frame.octets frame.yellow now
 
 -- `{"at":A,"do":"states","key":K,"s":S}`
 abbrev pub states_data : ℕ → List ℕ → ℕ → Data
@@ -147,6 +150,13 @@ MayHaveList kinds.Port = ⊤
 MayHaveList kinds.Filter = ⊥
 MayHaveList kinds.Gate = ⊤
 MayHaveList kinds.Meter = ⊥
+
+-- a port is never removed
+abbrev pub IsNoPort : Kind → Type 0
+IsNoPort kinds.Port = ⊥
+IsNoPort kinds.Filter = ⊤
+IsNoPort kinds.Gate = ⊤
+IsNoPort kinds.Meter = ⊤
 
 -- a key of a kind that has a list, and an instant
 pub record ListInRange (k : Key) (a : ℕ) : Type 0 where

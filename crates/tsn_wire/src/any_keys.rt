@@ -1,8 +1,8 @@
 //! What a line with members in any order says of a key, and of the record there.
 ghost use Rattle.std.specs.Prelude.{◌≡◌, IfSome, IsTrue, Some};
 ghost use Rattle.tsn_wire.specs.Lines.{IsOf};
-ghost use Rattle.tsn_wire.specs.Spelled.{IsKey, IsNoPort};
-ghost use Rattle.tsn_wire.specs.Values.{MayHaveList};
+ghost use Rattle.tsn_wire.specs.Spelled.{IsKey};
+ghost use Rattle.tsn_wire.specs.Values.{MayHaveList, IsNoPort};
 
 use tsn_records::drafts::{KeyDraft, RecordDraft};
 use tsn_types::keys::Kind;

@@ -1,7 +1,8 @@
 //! Command lines whose members come in any order, with any white space.
-ghost use Rattle.std.specs.Prelude.{◌≡◌, IfSome, true};
+ghost use Rattle.std.specs.Prelude.{◌≡◌, IfSome, Some};
 ghost use Rattle.tsn_wire.specs.Lines.{line_rows, IsBare, IsLine};
 ghost use Rattle.tsn_wire.specs.Reading.{line_of_draft, reading};
+ghost use Rattle.tsn_wire.specs.declared.drafts.LineDraft.TheVariants.{Session};
 
 use crate::any_edits::{are_sound, edits_tray};
 use crate::any_keys::{keyed_record, listed_key, removable_key, table_key};
@@ -76,281 +77,116 @@ fn bare_command(word: Word) -> Option<CommandDraft>
     }
 }
 
-// A command that names nothing.
-#[tactic(auto, using(crate::proofs::AnyLine::bare_line))]
-fn bare_line(found: &LineMembers, count: u32) -> Option<LineDraft>
-    ensures { IfSome result (IsLine (line_rows found.now) count) }
+// The frame whose members a line has.
+fn frame_draft(found: &LineMembers) -> Option<FrameDraft>
+    ensures { IfSome result (λ frame. (found.now.handle ≡ Some frame.handle) × (found.now.priority ≡ Some frame.priority)
+        × (found.now.octets ≡ Some frame.octets) × (found.now.yellow ≡ Some frame.yellow)) }
 {
-    let session = found.session?;
-    let command = bare_command(found.word?)?;
-    if count != 2 {
-        return None;
-    }
-    Some(LineDraft::Session { session, command })
+    Some(FrameDraft {
+        handle: found.handle?,
+        priority: found.priority?,
+        octets: found.octets?,
+        yellow: found.yellow?,
+    })
 }
 
-// The edits of a batch.
-#[tactic(auto, using(crate::proofs::AnyLine::batch_line))]
-fn batch_line(found: &mut LineMembers, count: u32) -> Option<LineDraft>
-    ensures { IfSome result (IsLine (line_rows found.old) count) }
+// The command of a session whose members a line has.
+#[tactic(auto, using(crate::proofs::AnyLine::create_line, crate::proofs::AnyLine::replace_line, crate::proofs::AnyLine::batch_line))]
+fn command_draft(found: &mut LineMembers, session: u64, count: u32) -> Option<CommandDraft>
+    requires { found.old.session ≡ Some session }
+    ensures { IfSome result (λ command. IsLine (line_rows found.old) count (Session session command)) }
 {
     let word = found.word?;
-    let session = found.session?;
-    let batch = found.edits.take()?;
-    if count != 3 || !are_sound(batch.as_slice()) {
-        return None;
+    match (word, count) {
+        (Word::Batch, 3) => {
+            let batch = found.edits.take()?;
+            if !are_sound(batch.as_slice()) {
+                return None;
+            }
+            Some(CommandDraft::Batch { batch })
+        }
+        (Word::Create, 4) => {
+            let (key, value) = keyed_record(found.key, found.record.take())?;
+            Some(CommandDraft::Create { key, value })
+        }
+        (Word::Replace, 4) => {
+            let (key, value) = keyed_record(found.key, found.record.take())?;
+            Some(CommandDraft::Replace { key, value })
+        }
+        _ => plain_draft(found, session, count),
     }
-    match word {
-        Word::Batch => Some(LineDraft::Session {
-            session,
-            command: CommandDraft::Batch { batch },
+}
+
+// The same of one that hands in no record.
+#[tactic(auto, using(crate::proofs::AnyLine::bare_line, crate::proofs::AnyLine::remove_line, crate::proofs::AnyLine::counters_line, crate::proofs::AnyLine::show_line, crate::proofs::AnyLine::list_line, crate::proofs::AnyLine::since_line, crate::proofs::AnyLine::settle_line))]
+fn plain_draft(found: &LineMembers, session: u64, count: u32) -> Option<CommandDraft>
+    requires { found.now.session ≡ Some session }
+    ensures { IfSome result (λ command. IsLine (line_rows found.now) count (Session session command)) }
+{
+    let word = found.word?;
+    match (word, count) {
+        (Word::Remove, 3) => Some(CommandDraft::Remove {
+            key: removable_key(found.key)?,
+        }),
+        (Word::Counters, 3) => Some(CommandDraft::Counters {
+            key: table_key(found.key)?,
+        }),
+        (Word::Show, 3) => Some(CommandDraft::Show {
+            key: table_key(found.key)?,
+        }),
+        (Word::List, 3) => Some(CommandDraft::List { kind: found.kind? }),
+        (Word::Since, 3) => Some(CommandDraft::Since {
+            after: found.after?,
+        }),
+        (Word::Settle, 3) => Some(CommandDraft::Settle { upto: found.upto? }),
+        (_, 2) => Some(bare_command(word)?),
+        _ => instant_draft(found, session, count),
+    }
+}
+
+// The same of one that names an instant.
+#[tactic(auto, using(crate::proofs::AnyLine::enable_line, crate::proofs::AnyLine::disable_line, crate::proofs::AnyLine::apply_line, crate::proofs::AnyLine::states_line, crate::proofs::AnyLine::frame_line))]
+fn instant_draft(found: &LineMembers, session: u64, count: u32) -> Option<CommandDraft>
+    requires { found.now.session ≡ Some session }
+    ensures { IfSome result (λ command. IsLine (line_rows found.now) count (Session session command)) }
+{
+    let word = found.word?;
+    match (word, count) {
+        (Word::Enable, 4) => Some(CommandDraft::Enable {
+            key: listed_key(found.key)?,
+            now: found.instant?,
+        }),
+        (Word::Disable, 4) => Some(CommandDraft::Disable {
+            key: listed_key(found.key)?,
+            now: found.instant?,
+        }),
+        (Word::Apply, 4) => Some(CommandDraft::Apply {
+            key: listed_key(found.key)?,
+            now: found.instant?,
+        }),
+        (Word::States, 4) => Some(CommandDraft::States {
+            key: listed_key(found.key)?,
+            at: found.at?,
+        }),
+        (Word::Frame, 7) => Some(CommandDraft::Frame {
+            frame: frame_draft(found)?,
+            now: found.instant?,
         }),
         _ => None,
     }
 }
 
-// A key and its record.
-#[tactic(auto, using(crate::proofs::AnyLine::create_line, crate::proofs::AnyLine::replace_line))]
-fn edit_line(found: &mut LineMembers, count: u32) -> Option<LineDraft>
-    ensures { IfSome result (IsLine (line_rows found.old) count) }
-{
-    let word = found.word?;
-    let session = found.session?;
-    let (key, value) = keyed_record(found.key, found.record.take())?;
-    if count != 4 {
-        return None;
-    }
-    match word {
-        Word::Create => Some(LineDraft::Session {
-            session,
-            command: CommandDraft::Create { key, value },
-        }),
-        Word::Replace => Some(LineDraft::Session {
-            session,
-            command: CommandDraft::Replace { key, value },
-        }),
-        _ => None,
-    }
-}
-
-// A key that can be removed.
-#[tactic(auto, using(crate::proofs::AnyLine::remove_line))]
-fn remove_line(found: &LineMembers, count: u32) -> Option<LineDraft>
-    ensures { IfSome result (IsLine (line_rows found.now) count) }
-{
-    let word = found.word?;
-    let session = found.session?;
-    let key = removable_key(found.key)?;
-    if count != 3 {
-        return None;
-    }
-    match word {
-        Word::Remove => Some(LineDraft::Session {
-            session,
-            command: CommandDraft::Remove { key },
-        }),
-        _ => None,
-    }
-}
-
-// A key of any kind.
-#[tactic(auto, using(crate::proofs::AnyLine::counters_line, crate::proofs::AnyLine::show_line))]
-fn look_line(found: &LineMembers, count: u32) -> Option<LineDraft>
-    ensures { IfSome result (IsLine (line_rows found.now) count) }
-{
-    let word = found.word?;
-    let session = found.session?;
-    let key = table_key(found.key)?;
-    if count != 3 {
-        return None;
-    }
-    match word {
-        Word::Counters => Some(LineDraft::Session {
-            session,
-            command: CommandDraft::Counters { key },
-        }),
-        Word::Show => Some(LineDraft::Session {
-            session,
-            command: CommandDraft::Show { key },
-        }),
-        _ => None,
-    }
-}
-
-// A key that has a list, and an instant.
-#[tactic(auto, using(crate::proofs::AnyLine::enable_line, crate::proofs::AnyLine::disable_line, crate::proofs::AnyLine::apply_line))]
-fn act_line(found: &LineMembers, count: u32) -> Option<LineDraft>
-    ensures { IfSome result (IsLine (line_rows found.now) count) }
-{
-    let word = found.word?;
-    let session = found.session?;
-    let key = listed_key(found.key)?;
-    let now = found.instant?;
-    if count != 4 {
-        return None;
-    }
-    match word {
-        Word::Enable => Some(LineDraft::Session {
-            session,
-            command: CommandDraft::Enable { key, now },
-        }),
-        Word::Disable => Some(LineDraft::Session {
-            session,
-            command: CommandDraft::Disable { key, now },
-        }),
-        Word::Apply => Some(LineDraft::Session {
-            session,
-            command: CommandDraft::Apply { key, now },
-        }),
-        _ => None,
-    }
-}
-
-// A key that has a list, and the instant of the look.
-#[tactic(auto, using(crate::proofs::AnyLine::states_line))]
-fn states_line(found: &LineMembers, count: u32) -> Option<LineDraft>
-    ensures { IfSome result (IsLine (line_rows found.now) count) }
-{
-    let word = found.word?;
-    let session = found.session?;
-    let key = listed_key(found.key)?;
-    let at = found.at?;
-    if count != 4 {
-        return None;
-    }
-    match word {
-        Word::States => Some(LineDraft::Session {
-            session,
-            command: CommandDraft::States { key, at },
-        }),
-        _ => None,
-    }
-}
-
-// A frame's members.
-#[tactic(auto, using(crate::proofs::AnyLine::frame_line))]
-fn frame_line(found: &LineMembers, count: u32) -> Option<LineDraft>
-    ensures { IfSome result (IsLine (line_rows found.now) count) }
-{
-    let word = found.word?;
-    let session = found.session?;
-    let handle = found.handle?;
-    let priority = found.priority?;
-    let octets = found.octets?;
-    let yellow = found.yellow?;
-    let now = found.instant?;
-    if count != 7 {
-        return None;
-    }
-    let frame = FrameDraft {
-        handle,
-        priority,
-        octets,
-        yellow,
-    };
-    match word {
-        Word::Frame => Some(LineDraft::Session {
-            session,
-            command: CommandDraft::Frame { frame, now },
-        }),
-        _ => None,
-    }
-}
-
-// A kind of records.
-#[tactic(auto, using(crate::proofs::AnyLine::list_line))]
-fn list_line(found: &LineMembers, count: u32) -> Option<LineDraft>
-    ensures { IfSome result (IsLine (line_rows found.now) count) }
-{
-    let word = found.word?;
-    let session = found.session?;
-    let kind = found.kind?;
-    if count != 3 {
-        return None;
-    }
-    match word {
-        Word::List => Some(LineDraft::Session {
-            session,
-            command: CommandDraft::List { kind },
-        }),
-        _ => None,
-    }
-}
-
-// The number after which entries are asked for.
-#[tactic(auto, using(crate::proofs::AnyLine::since_line))]
-fn since_line(found: &LineMembers, count: u32) -> Option<LineDraft>
-    ensures { IfSome result (IsLine (line_rows found.now) count) }
-{
-    let word = found.word?;
-    let session = found.session?;
-    let after = found.after?;
-    if count != 3 {
-        return None;
-    }
-    match word {
-        Word::Since => Some(LineDraft::Session {
-            session,
-            command: CommandDraft::Since { after },
-        }),
-        _ => None,
-    }
-}
-
-// The number up to which entries are settled.
-#[tactic(auto, using(crate::proofs::AnyLine::settle_line))]
-fn settle_line(found: &LineMembers, count: u32) -> Option<LineDraft>
-    ensures { IfSome result (IsLine (line_rows found.now) count) }
-{
-    let word = found.word?;
-    let session = found.session?;
-    let upto = found.upto?;
-    if count != 3 {
-        return None;
-    }
-    match word {
-        Word::Settle => Some(LineDraft::Session {
-            session,
-            command: CommandDraft::Settle { upto },
-        }),
-        _ => None,
-    }
-}
-
-// A hello has no other member.
 #[tactic(auto, using(crate::proofs::AnyLine::hello_line))]
-fn hello_line(found: &LineMembers, count: u32) -> Option<LineDraft>
-    ensures { IfSome result (IsLine (line_rows found.now) count) }
-{
-    let word = found.word?;
-    if count != 1 {
-        return None;
-    }
-    match word {
-        Word::Hello => Some(LineDraft::Hello),
-        _ => None,
-    }
-}
-
 fn line_draft(found: &mut LineMembers, count: u32) -> Option<LineDraft>
     ensures { IfSome result (IsLine (line_rows found.old) count) }
 {
     let word = found.word?;
-    match word {
-        Word::Create | Word::Replace => edit_line(found, count),
-        Word::Batch => batch_line(found, count),
-        Word::Undo | Word::UndoAll | Word::Redo | Word::Resume | Word::Sessions | Word::Setup =>
-            bare_line(found, count),
-        Word::Frame => frame_line(found, count),
-        Word::States => states_line(found, count),
-        Word::Enable | Word::Disable | Word::Apply => act_line(found, count),
-        Word::Remove => remove_line(found, count),
-        Word::Counters | Word::Show => look_line(found, count),
-        Word::List => list_line(found, count),
-        Word::Since => since_line(found, count),
-        Word::Settle => settle_line(found, count),
-        Word::Hello => hello_line(found, count),
+    if let (Word::Hello, 1) = (word, count) {
+        return Some(LineDraft::Hello);
     }
+    let session = found.session?;
+    let command = command_draft(found, session, count)?;
+    Some(LineDraft::Session { session, command })
 }
 
 /// The draft that a line is, whatever the order of its members and the white space between; none, for instance, where

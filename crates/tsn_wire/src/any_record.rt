@@ -1,6 +1,6 @@
 //! Records whose members come in any order.
-ghost use Rattle.std.specs.Prelude.{◌≡◌, true, IfSome};
-ghost use Rattle.tsn_records.specs.Shown.{draft_data, list_array};
+ghost use Rattle.std.specs.Prelude.{◌≡◌, IfSome};
+ghost use Rattle.tsn_records.specs.Shown.{draft_data};
 ghost use Rattle.tsn_records.specs.declared.drafts.RecordDraft.TheVariants as records;
 ghost use Rattle.tsn_wire.specs.Lexed.{lexed, ReadsValue};
 ghost use Rattle.tsn_wire.specs.Members.{AreOpen, ReadsMembers};

@@ -1,10 +1,10 @@
 //! The shapes of commands: the word in `do`, and the members that it wants.
 //!
 //! A command has exactly its members, in any order. Every fault is one of shape; numbers are tested later.
-ghost use Rattle.std.specs.Prelude.{◌≡◌, Ok, codes, option_and_then};
+ghost use Rattle.std.specs.Prelude.{◌≡◌, Ok};
 ghost use Rattle.serde_json.specs.View.{view};
 ghost use Rattle.tsn_records.specs.Answers.{Reads};
-ghost use Rattle.tsn_records.specs.Json.{has_members, text_at, value_at};
+ghost use Rattle.tsn_records.specs.Json.{has_members, text_at};
 ghost use Rattle.tsn_wire.specs.Commands.{listed, listed_at, create_shape, replace_shape, remove_shape, bare_shape, enable_shape, disable_shape, apply_shape, frame_members, frame_shape, states_shape, counters_shape, show_shape, list_shape, since_shape, settle_shape, command_shape, name_draft, named_shape, bare_or_named, line_shape};
 
 use crate::batches::batch_shape;

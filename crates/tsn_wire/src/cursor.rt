@@ -4,7 +4,6 @@ ghost use Rattle.json.specs.Lex.{operator_lexeme, token};
 ghost use Rattle.json.specs.Token.{Token};
 ghost use Rattle.json.specs.Word.{is_operator, is_space, ends_word};
 ghost use Rattle.tsn_wire.specs.Lexed.{lexed, is_bare};
-ghost use Rattle.tsn_wire.specs.Spelled.{IsSmall};
 
 use std::marker::Model;
 

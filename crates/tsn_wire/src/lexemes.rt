@@ -1,8 +1,8 @@
 //! Numbers, flags and entries of lists, read from their lexemes, whatever white space stands between.
-ghost use Rattle.std.specs.Prelude.{◌≡◌, ◌∷◌, ◌++◌, true, IfSome, codes, decimal};
+ghost use Rattle.std.specs.Prelude.{◌≡◌, ◌∷◌, ◌++◌, true, IfSome};
 ghost use Rattle.json.specs.Lex.{operator_lexeme};
 ghost use Rattle.json.specs.Word.{is_operator};
-ghost use Rattle.serde_json.specs.Data.{Data, boolean, string};
+ghost use Rattle.serde_json.specs.Data.{boolean};
 ghost use Rattle.tsn_records.specs.Shown.{gate_entry_value, or_null, port_entry_value, whole_data};
 ghost use Rattle.tsn_wire.specs.Lexed.{lexed, ReadsValue};
 

@@ -5,14 +5,8 @@
 //! line is read from its lexemes by `any_line`, and what that does not read, as a text with an escape, is left to
 //! `serde_json`.
 ghost use Rattle.std.specs.Prelude.{◌≡◌, ◌++◌, IfSome, codes, decimal};
-ghost use Rattle.std.specs.List.{AllByRecursion};
-ghost use Rattle.serde_json.specs.Data.{Data, boolean};
-ghost use Rattle.serde_json.specs.Written.{compact_text};
-ghost use Rattle.tsn_records.specs.Keys.{kind_text, spelled_key};
 ghost use Rattle.tsn_wire.specs.Reading.{line_of_draft, reading};
-ghost use Rattle.tsn_records.specs.Shown.{draft_data, gate_entry_value, list_array, or_null, port_entry_value};
-ghost use Rattle.tsn_wire.specs.Lexed.{lexed, ReadsValue};
-ghost use Rattle.tsn_wire.specs.Spelled.{IsSmall, IsKey, PortEntryIsSmall, GateEntryIsSmall, PortIsSmall, GateIsSmall, FilterIsSmall, MeterIsSmall, SpellsRecord, Spells};
+ghost use Rattle.tsn_wire.specs.Spelled.{IsSmall, Spells};
 ghost use Rattle.tsn_wire.specs.SpelledFront.{SpellsFront, SpellsStates};
 
 use crate::any_line::any_draft;

@@ -1,14 +1,11 @@
 //! Keys and records in the service's compact spelling, read with no tree.
-ghost use Rattle.std.specs.Prelude.{◌≡◌, ◌++◌, IfSome, codes, decimal};
-ghost use Rattle.std.specs.List.{AllByRecursion};
-ghost use Rattle.serde_json.specs.Data.{Data, boolean};
+ghost use Rattle.std.specs.Prelude.{◌≡◌, ◌++◌, IfSome, decimal};
+ghost use Rattle.serde_json.specs.Data.{boolean};
 ghost use Rattle.serde_json.specs.Written.{compact_text};
 ghost use Rattle.tsn_records.specs.Keys.{kind_text, spelled_key};
-ghost use Rattle.tsn_wire.specs.Reading.{line_of_draft, reading};
-ghost use Rattle.tsn_records.specs.Shown.{draft_data, gate_entry_value, list_array, or_null, port_entry_value};
+ghost use Rattle.tsn_records.specs.Shown.{draft_data, gate_entry_value, or_null, port_entry_value};
 ghost use Rattle.tsn_records.specs.declared.drafts.RecordDraft.TheVariants as RecordOf;
-ghost use Rattle.tsn_wire.specs.Lexed.{lexed, ReadsValue};
-ghost use Rattle.tsn_wire.specs.Spelled.{IsSmall, IsKey, PortEntryIsSmall, GateEntryIsSmall, PortIsSmall, GateIsSmall, FilterIsSmall, MeterIsSmall, SpellsRecord, Spells};
+ghost use Rattle.tsn_wire.specs.Spelled.{IsSmall, IsKey, PortEntryIsSmall, GateEntryIsSmall, PortIsSmall, GateIsSmall, FilterIsSmall, MeterIsSmall, SpellsRecord};
 
 use crate::cursor::Cursor;
 use crate::lexemes::{scanned_gate_entry, scanned_port_entry};

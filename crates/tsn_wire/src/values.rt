@@ -1,12 +1,9 @@
 //! Values that members have, read from their lexemes, whatever white space stands between.
-ghost use Rattle.std.specs.Prelude.{◌≡◌, ◌∷◌, ◌++◌, true, IfSome, codes, decimal};
-ghost use Rattle.json.specs.Lex.{operator_lexeme};
-ghost use Rattle.json.specs.Word.{is_operator};
+ghost use Rattle.std.specs.Prelude.{◌≡◌, ◌∷◌, ◌++◌, IfSome};
 ghost use Rattle.serde_json.specs.Data.{Data, boolean, string};
 ghost use Rattle.tsn_records.specs.Keys.{kind_text, spelled_key};
 ghost use Rattle.tsn_records.specs.Shown.{gate_entry_value, list_array, or_null, port_entry_value, whole_data};
 ghost use Rattle.tsn_wire.specs.Lexed.{lexed, ReadsValue};
-ghost use Rattle.tsn_wire.specs.Spelled.{IsSmall, IsKey};
 ghost use Rattle.tsn_wire.specs.Words.{word_text};
 
 use crate::cursor::Cursor;
