@@ -33,5 +33,9 @@ ended l0 t0 l1 t1 l2 a e h k = k ∙ h.is ∙ ap (λ l. l ++ a) (ap (λ l. l0 ++
 pub as_piece : (l0 t0 l1 t1 a b : List ℕ) → a ≡ b → GoesOn l0 t0 l1 t1 a → GoesOn l0 t0 l1 t1 b
 as_piece l0 t0 l1 t1 a b e h = subst (λ p. GoesOn l0 t0 l1 t1 p) e h
 
-pub whole_line : (old new text piece : List ℕ) → text ≡ piece → new ≡ old ++ text → new ≡ old ++ piece
-whole_line old new text piece e h = h ∙ ap (λ l. old ++ l) e
+-- a line that grew whole, with nothing held; and one that is held whole
+pub in_line : (old new text piece : List ℕ) → new ≡ old ++ piece → text ≡ [] → new ++ text ≡ old ++ piece
+in_line old new text piece e h = ap (λ l. new ++ l) h ∙ append-nil new ∙ e
+
+pub in_text : (line text piece : List ℕ) → text ≡ piece → line ++ text ≡ line ++ piece
+in_text line text piece e = ap (λ l. line ++ l) e

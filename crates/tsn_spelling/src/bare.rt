@@ -1,21 +1,20 @@
-//! The lines of commands that have no record: each is put together in the short text.
-ghost use Rattle.std.specs.Prelude.{◌≡◌, ◌≤◌, ◌++◌, [], length, OnOk};
+//! The lines of commands that have no record: each is put together in a short text, which is empty before.
+ghost use Rattle.std.specs.Prelude.{◌≡◌, ◌≤◌, [], length};
 ghost use Rattle.json.specs.Print.{escape};
 ghost use Rattle.serde_json.specs.Written.{compact_text};
 ghost use Rattle.tsn_records.specs.Keys.{key_text, kind_text};
 ghost use Rattle.tsn_wire.specs.Values.{act_data, asked_data, bare_data, frame_data, hello_data, keyed_data, listed_data, settle_data, states_data};
-ghost use Rattle.tsn_spelling.specs.Growing.{Grows, list_front};
+ghost use Rattle.tsn_spelling.specs.Growing.{list_front};
 
-use crate::line::{LONGEST_WORD, hand_on, push_session, push_word};
-use std::alloc::AllocError;
+use crate::line::{LONGEST_WORD, push_session, push_word};
 use tsn_chain::frame::Frame;
 use tsn_replies::{ShortText, push_flag, push_key_text, push_number, push_session_name};
 use tsn_types::keys::{Key, Kind};
 use tsn_types::names::SessionName;
 use tsn_types::numbers::Instant;
 
-// Puts the line of a hello into an empty text.
-fn push_hello(text: &mut ShortText, name: &Option<SessionName>)
+/// The line of a hello.
+pub fn push_hello(text: &mut ShortText, name: &Option<SessionName>)
     requires { text.old ≡ [] }
     ensures { text.new ≡ compact_text (hello_data name.now) }
 {
@@ -29,93 +28,46 @@ fn push_hello(text: &mut ShortText, name: &Option<SessionName>)
     }
 }
 
-/// The line of a hello.
-pub fn put_hello(
-    line: &mut Vec<u8>,
-    text: &mut ShortText,
-    name: &Option<SessionName>,
-) -> Result<(), AllocError>
-    requires { text.old ≡ [] }
-    ensures ok { OnOk result (line.new.items ≡ line.old.items ++ compact_text (hello_data name.now)) }
-    ensures front { Grows line.old.items line.new.items }
-{
-    push_hello(text, name);
-    hand_on(line, text)
-}
-
 /// The line of a command with no member but its session.
-pub fn put_bare(
-    line: &mut Vec<u8>,
-    text: &mut ShortText,
-    word: &str,
-    session: u32,
-) -> Result<(), AllocError>
+pub fn push_bare(text: &mut ShortText, word: &str, session: u32)
     requires empty { text.old ≡ [] }
     requires short { length word.now ≤ LONGEST_WORD }
     requires plain { escape word.now ≡ word.now }
-    ensures ok { OnOk result (line.new.items ≡ line.old.items ++ compact_text (bare_data word.now session)) }
-    ensures front { Grows line.old.items line.new.items }
+    ensures { text.new ≡ compact_text (bare_data word.now session) }
 {
     push_word(text, word);
     push_session(text, session);
-    hand_on(line, text)
 }
 
 /// The line of a command on a key.
-pub fn put_keyed(
-    line: &mut Vec<u8>,
-    text: &mut ShortText,
-    word: &str,
-    key: Key,
-    session: u32,
-) -> Result<(), AllocError>
+pub fn push_keyed(text: &mut ShortText, word: &str, key: Key, session: u32)
     requires empty { text.old ≡ [] }
     requires short { length word.now ≤ LONGEST_WORD }
     requires plain { escape word.now ≡ word.now }
-    ensures ok { OnOk result (line.new.items
-        ≡ line.old.items ++ compact_text (keyed_data word.now session (key_text key))) }
-    ensures front { Grows line.old.items line.new.items }
+    ensures { text.new ≡ compact_text (keyed_data word.now session (key_text key)) }
 {
     push_word(text, word);
     push_key_text(text, ",\"key\":", key);
     push_session(text, session);
-    hand_on(line, text)
 }
 
 /// The line of an act on a gate list at an instant.
-pub fn put_act(
-    line: &mut Vec<u8>,
-    text: &mut ShortText,
-    word: &str,
-    key: Key,
-    now: Instant,
-    session: u32,
-) -> Result<(), AllocError>
+pub fn push_act(text: &mut ShortText, word: &str, key: Key, now: Instant, session: u32)
     requires empty { text.old ≡ [] }
     requires short { length word.now ≤ LONGEST_WORD }
     requires plain { escape word.now ≡ word.now }
-    ensures ok { OnOk result (line.new.items
-        ≡ line.old.items ++ compact_text (act_data word.now session (key_text key) now)) }
-    ensures front { Grows line.old.items line.new.items }
+    ensures { text.new ≡ compact_text (act_data word.now session (key_text key) now) }
 {
     push_word(text, word);
     push_key_text(text, ",\"key\":", key);
     push_number(text, ",\"now\":", now.get());
     push_session(text, session);
-    hand_on(line, text)
 }
 
 /// The line that hands in a frame at an instant.
-pub fn put_frame(
-    line: &mut Vec<u8>,
-    text: &mut ShortText,
-    frame: &Frame,
-    now: Instant,
-    session: u32,
-) -> Result<(), AllocError>
+pub fn push_frame(text: &mut ShortText, frame: &Frame, now: Instant, session: u32)
     requires { text.old ≡ [] }
-    ensures ok { OnOk result (line.new.items ≡ line.old.items ++ compact_text (frame_data session frame.now now)) }
-    ensures front { Grows line.old.items line.new.items }
+    ensures { text.new ≡ compact_text (frame_data session frame.now now) }
 {
     push_number(text, "{\"do\":\"frame\",\"handle\":", frame.handle.get());
     push_number(text, ",\"now\":", now.get());
@@ -124,60 +76,36 @@ pub fn put_frame(
     push_number(text, ",\"s\":", u64::from(session));
     push_flag(text, ",\"yellow\":", frame.yellow);
     text.push("}");
-    hand_on(line, text)
 }
 
 /// The line that asks for the states at an instant.
-pub fn put_states(
-    line: &mut Vec<u8>,
-    text: &mut ShortText,
-    key: Key,
-    at: Instant,
-    session: u32,
-) -> Result<(), AllocError>
+pub fn push_states(text: &mut ShortText, key: Key, at: Instant, session: u32)
     requires { text.old ≡ [] }
-    ensures ok { OnOk result (line.new.items
-        ≡ line.old.items ++ compact_text (states_data session (key_text key) at)) }
-    ensures front { Grows line.old.items line.new.items }
+    ensures { text.new ≡ compact_text (states_data session (key_text key) at) }
 {
     push_number(text, "{\"at\":", at.get());
     push_key_text(text, ",\"do\":\"states\",\"key\":", key);
     push_session(text, session);
-    hand_on(line, text)
 }
 
 /// The line that settles the entries up to a number.
-pub fn put_settle(
-    line: &mut Vec<u8>,
-    text: &mut ShortText,
-    upto: u32,
-    session: u32,
-) -> Result<(), AllocError>
+pub fn push_settle(text: &mut ShortText, upto: u32, session: u32)
     requires { text.old ≡ [] }
-    ensures ok { OnOk result (line.new.items ≡ line.old.items ++ compact_text (settle_data session upto)) }
-    ensures front { Grows line.old.items line.new.items }
+    ensures { text.new ≡ compact_text (settle_data session upto) }
 {
     push_number(text, "{\"do\":\"settle\",\"s\":", u64::from(session));
     push_number(text, ",\"upto\":", u64::from(upto));
     text.push("}");
-    hand_on(line, text)
 }
 
 /// The line that asks for the entries behind a number.
-pub fn put_since(
-    line: &mut Vec<u8>,
-    text: &mut ShortText,
-    after: u32,
-    session: u32,
-) -> Result<(), AllocError>
+pub fn push_since(text: &mut ShortText, after: u32, session: u32)
     requires { text.old ≡ [] }
-    ensures ok { OnOk result (line.new.items ≡ line.old.items ++ compact_text (asked_data session after)) }
-    ensures front { Grows line.old.items line.new.items }
+    ensures { text.new ≡ compact_text (asked_data session after) }
 {
     push_number(text, "{\"after\":", u64::from(after));
     push_number(text, ",\"do\":\"since\",\"s\":", u64::from(session));
     text.push("}");
-    hand_on(line, text)
 }
 
 // Up to the session.
@@ -194,17 +122,10 @@ fn list_front(kind: Kind) -> &'static [u8]
 }
 
 /// The line that asks for the numbers of the instances of a kind.
-pub fn put_list(
-    line: &mut Vec<u8>,
-    text: &mut ShortText,
-    kind: Kind,
-    session: u32,
-) -> Result<(), AllocError>
+pub fn push_list(text: &mut ShortText, kind: Kind, session: u32)
     requires { text.old ≡ [] }
-    ensures ok { OnOk result (line.new.items ≡ line.old.items ++ compact_text (listed_data session (kind_text kind))) }
-    ensures front { Grows line.old.items line.new.items }
+    ensures { text.new ≡ compact_text (listed_data session (kind_text kind)) }
 {
     text.push_bytes(list_front(kind));
     push_session(text, session);
-    hand_on(line, text)
 }

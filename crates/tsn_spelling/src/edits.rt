@@ -64,6 +64,7 @@ pub fn put_edit(
     requires plain { escape word.now ≡ word.now }
     ensures ok { OnOk result (line.new.items
         ≡ line.old.items ++ compact_text (edit_data word.now session (key_text key) (record_data value.now))) }
+    ensures empty { OnOk result (text.new ≡ []) }
     ensures front { Grows line.old.items line.new.items }
 {
     put_change(line, text, word, key, value)?;
@@ -150,6 +151,7 @@ pub fn put_batch(
 ) -> Result<(), AllocError>
     requires { text.old ≡ [] }
     ensures ok { OnOk result (line.new.items ≡ line.old.items ++ compact_text (batch_data session batch.now)) }
+    ensures empty { OnOk result (text.new ≡ []) }
     ensures front { Grows line.old.items line.new.items }
 {
     text.push("{\"do\":\"batch\",\"edits\":[");
