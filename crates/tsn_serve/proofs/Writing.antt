@@ -23,16 +23,7 @@ broke_in_writing replying (Ok x) old line reply new taken taken' says write cut 
 broke_in_writing replying (Err e) old line reply new taken taken' says write cut =
     (take cut.0 (reply_text reply), (write, (reply_text reply, (reply, says, refl), (cut.0, cut.1, refl))), cut.2)
 
--- the same of a reply of a connection
-pub broke_in_talking : {T : Type 0} (r : Result T Fault) (old : Caller) (line : Option (List ℕ)) (reply : Reply) (new : Caller)
-    (taken taken' : Option (List ℕ))
-    → Says Asks old line reply new → IfErr r (λ e. e ≡ Write) → OnErr r (IsCut taken taken' (reply_text reply))
-    → IfErr r (λ e. (part : List ℕ) × BreaksTalk old line e part new × Appends taken taken' part)
-broke_in_talking (Ok x) old line reply new taken taken' says write cut = tt
-broke_in_talking (Err e) old line reply new taken taken' says write cut =
-    let h = broke_in_writing {T = Unit {0}} Asks (Err e) old line reply new taken taken' says write cut in (h.0, inl h.1, h.2)
-
--- the same of whatever line was read so
+-- the same of a connection, whatever line was read so
 pub cut_for_each : {T : Type 0} (r : Result T Fault) (old : Caller) (read : Result Ask Refusal) (reply : Reply) (new : Caller)
     (taken taken' : Option (List ℕ))
     → Replies Asks old read reply new → IfErr r (λ e. e ≡ Write) → OnErr r (IsCut taken taken' (reply_text reply))

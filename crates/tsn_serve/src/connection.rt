@@ -325,15 +325,7 @@ impl<'a, R: Wait, G: Gate, W: Witness<Bridge> + Drop> Responder for Connection<'
         line: Option<&[u8]>,
         writer: &mut O,
     ) -> Result<(), Fault> {
-        let (reply, _) = match self.reply(alloc, line) {
-            Ok(replied) => replied,
-            Err(fault) => return Err(fault),
-        };
-        let written = write_reply(writer, &reply);
-        if written.is_ok() {
-            self.gate.answered(self.number);
-        }
-        written
+        self.answer_read(read_line(alloc, line), writer)
     }
 
     fn answer_front<O: ByteOut>(

@@ -68,20 +68,6 @@ pub trait Responder {
     }
 }
 
-// The line that lies whole in these bytes, up to their first line feed, where nothing is kept of an earlier one.
-fn whole_line<'p>(line: &LineBuffer, bytes: &'p [u8]) -> Option<&'p [u8]>
-    ensures fresh { IfSome result (λ _. line.now ≡ Some []) }
-    ensures short { IfSome result (λ whole. length whole.now ≤ longest_line) }
-    ensures one { IfSome result (λ whole. HasNoLineFeed whole.now) }
-    ensures bytes { IfSome result (λ whole. (length whole.now < length bytes.now)
-        × (take (length whole.now + 1) bytes.now ≡ whole.now ++ 10 ∷ [])) }
-{
-    if !line.is_empty() {
-        return None;
-    }
-    front_line(bytes)
-}
-
 // The bytes up to the first line feed, all of them where there is none.
 fn up_to_line_feed(bytes: &[u8]) -> &[u8]
     ensures one { HasNoLineFeed result.now }
@@ -152,35 +138,6 @@ fn feed_part<A: Responder, W: ByteOut>(
     Ok(part.len())
 }
 
-// Goes on by the line that lies whole in front, or else by a part of one, and says by how many bytes.
-fn feed_whole<A: Responder, W: ByteOut>(
-    alloc: Global,
-    responder: &mut A,
-    line: &mut LineBuffer,
-    bytes: &[u8],
-    writer: &mut W,
-) -> Result<usize, Fault>
-    requires { 0 < length bytes.now }
-    ensures count { IfOk result (λ n. (0 < n) × (n ≤ length bytes.now)) }
-    ensures ok { IfOk result (λ n. (text : List ℕ)
-        × Feeds A.answers responder.old line.old (take n bytes.now) text responder.new line.new
-        × Appends (W.taken writer.old) (W.taken writer.new) text) }
-    ensures worked { result ≢ Err Write → W.has_failed writer.new ≡ W.has_failed writer.old }
-    ensures fault { IfErr result (λ e. (e ≡ Write) ⊎ (e ≡ Exhausted)) }
-    ensures failed { IsErrOf result Write → W.has_failed writer.new ≡ true }
-    ensures broken { IfErr result (λ e. (written : List ℕ)
-        × Breaks A.answers A.breaks e responder.old line.old bytes.now written responder.new
-        × Appends (W.taken writer.old) (W.taken writer.new) written) }
-{
-    match whole_line(line, bytes) {
-        Some(whole) => match responder.answer(alloc, Some(whole), writer) {
-            Ok(()) => Ok(whole.len() + 1),
-            Err(fault) => Err(fault),
-        },
-        None => feed_part(alloc, responder, line, bytes, writer),
-    }
-}
-
 // Goes on by lines that lie whole in front, or else by a part of one, and says by how many bytes.
 fn feed_front<A: Responder, W: ByteOut>(
     alloc: Global,
@@ -206,7 +163,13 @@ fn feed_front<A: Responder, W: ByteOut>(
     }
     match responder.answer_front(alloc, bytes, writer) {
         Ok(Some(count)) => Ok(count),
-        Ok(None) => feed_whole(alloc, responder, line, bytes, writer),
+        Ok(None) => match front_line(bytes) {
+            Some(whole) => match responder.answer(alloc, Some(whole), writer) {
+                Ok(()) => Ok(whole.len() + 1),
+                Err(fault) => Err(fault),
+            },
+            None => feed_part(alloc, responder, line, bytes, writer),
+        },
         Err(fault) => Err(fault),
     }
 }

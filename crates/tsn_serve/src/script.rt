@@ -24,10 +24,14 @@ use tsn_wire::command_of;
 pub(crate) const READS: u64 = 4_294_967_296;
 
 /// What a line is read as, none being one that is too long. It tests nothing of what the reader answers.
+#[inline(always)]
 pub fn read_line(alloc: Global, line: Option<&[u8]>) -> Result<Ask, Refusal>
     ensures { MayRead (option_map (λ s. s.now) line.entry) result }
 {
-    line.map_or(Err(Refusal::TooLong), |line| command_of(alloc, line))
+    match line {
+        Some(line) => command_of(alloc, line),
+        None => Err(Refusal::TooLong),
+    }
 }
 
 // The reply to what a line was read as: that to the command, or the refusal that reading gave. Only the machine's step

@@ -1,12 +1,11 @@
-use Rattle.std.proofs.Common.{rules, [], inr, refl}
-use Rattle.tsn_serve.proofs.Writing.{broke_in_talking}
+use Rattle.std.proofs.lemmas.Result.{on_ok_weaker, IfErr-weaker}
 use Rattle.tsn_serve.proofs.connection.ConnectionResponder.answer.Goals as goal
+
+-- what holds of whatever line is read so holds of this one
+pub returns-clause-ok : goal.returns-clause-ok
+returns-clause-ok g c =
+    on_ok_weaker c.answer_read.result (λ ok. (ok.0, ok.1 _ c.read_line.ensures, ok.2)) c.answer_read.ensures.ok
 
 pub returns-clause-broken : goal.returns-clause-broken
 returns-clause-broken g c =
-    let told = c.in-Ok.ensures.ok in
-    broke_in_talking c.write_reply-written.result _ _ _ _ _ _ (told.0, told.1, told.2) c.write_reply-written.ensures.fault
-    c.write_reply-written.ensures.cut
-
-pub returns-in-Err-clause-broken : goal.returns-in-Err-clause-broken
-returns-in-Err-clause-broken g c = ([], inr (c.in-Err.ensures.fault, refl, c.in-Err.ensures.tired), search rules)
+    IfErr-weaker c.answer_read.result _ _ (λ _ broken. (broken.0, broken.1 _ c.read_line.ensures, broken.2)) c.answer_read.ensures.broken
