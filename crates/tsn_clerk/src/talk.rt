@@ -175,11 +175,9 @@ impl<'a, W: Wait, C: Clock + Drop, D: Device + Drop, R: Naming, K: Naming + Ahea
         ensures ok { OnOk result (Tells O.taken self.old (reply_text reply.now) self.new) }
         ensures err { OnErr result (BreaksOff O.taken self.old (reply_text reply.now) self.new) }
     {
-        let before = self.replies.len();
-        if write_reply(&mut self.replies, reply).is_ok() {
+        if self.replies.hold(reply) {
             return Ok(());
         }
-        self.replies.cut(before);
         if let Err(fault) = self.settle() {
             return Err(fault);
         }

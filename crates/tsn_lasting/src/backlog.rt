@@ -1,9 +1,12 @@
 //! Replies that wait, in memory that is taken once.
-ghost use Rattle.std.specs.Prelude.{◌≡◌, ◌+◌, ◌≤◌, ◌++◌, [], Some, false, true, length, take, IfOk};
+ghost use Rattle.std.specs.Prelude.{◌≡◌, ◌+◌, ◌≤◌, ◌++◌, [], Some, false, true, length, take, IfOk, IsFalse, IsTrue};
+ghost use Rattle.tsn_replies.specs.Replies.{reply_text};
 
 use std::alloc::{AllocError, Global};
 use std::marker::Model;
+use tsn_bridge::reply::Reply;
 use tsn_bytes::{ByteOut, Failed};
+use tsn_replies::write_reply;
 
 /// The most bytes of replies that wait.
 const CAPACITY: usize = 65_536;
@@ -59,6 +62,19 @@ impl Backlog {
     {
         self.bytes.truncate(len);
         self.has_failed = false;
+    }
+
+    /// Puts a reply behind them, where there is room for all of it, and says whether there was.
+    pub fn hold(&mut self, reply: &Reply) -> bool
+        ensures all { IsTrue result → self.new.bytes ≡ self.old.bytes ++ reply_text reply.now }
+        ensures none { IsFalse result → self.new.bytes ≡ self.old.bytes }
+    {
+        let before = self.len();
+        if write_reply(self, reply).is_ok() {
+            return true;
+        }
+        self.cut(before);
+        false
     }
 
     // Puts the piece behind the bytes, where there is room.

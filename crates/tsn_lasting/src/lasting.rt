@@ -174,11 +174,9 @@ impl<C: Clock, D: Device, W: ByteOut> Lasting<C, D, W> {
         ensures ok { OnOk result (Tells (standing W.taken self.old) (standing W.taken self.new) (reply_text reply.now)) }
         ensures err { OnErr result (BreaksOff (standing W.taken self.old) (standing W.taken self.new) (reply_text reply.now)) }
     {
-        let before = self.replies.len();
-        if write_reply(&mut self.replies, reply).is_ok() {
+        if self.replies.hold(reply) {
             return Ok(());
         }
-        self.replies.cut(before);
         if let Err(fault) = self.settle() {
             return Err(fault);
         }
