@@ -3,6 +3,7 @@
 //! `tsn_serve` for connections and workers and on `tsn_port` for what a round tells.
 #![tactic(auto)]
 
+mod closing;
 mod connections;
 mod faults;
 mod lasting;
@@ -11,8 +12,8 @@ mod serving;
 mod stopping;
 
 pub use connections::SocketSource;
-pub use faults::ServerFault;
-pub use lasting::{LastingServerFault, serve_lasting};
+pub use faults::{LastingServerFault, ServerFault};
+pub use lasting::serve_lasting;
 pub use reporting::report;
 pub use serving::serve_bridge;
 pub use stopping::StoppableSource;

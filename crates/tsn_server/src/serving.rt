@@ -7,10 +7,12 @@ ghost use Rattle.tsn_bridge.specs.Reached.{IsReached};
 ghost use Rattle.tsn_port.specs.Workers.{port_of};
 ghost use Rattle.tsn_server.specs.Reporting.{IsRested};
 ghost use Rattle.tsn_server.specs.Serving.{ReportsEnd, ReportsPorts, ports_to};
+ghost use Rattle.tsn_server.specs.declared.faults.LastingServerFault.TheVariants.{Journal, Server};
 ghost use Rattle.tsn_server.specs.declared.faults.ServerFault.TheVariants.{Fault as FaultOf, Refused};
 ghost use Rattle.tsn_types.specs.declared.refusals.Refusal.{Refusal};
 
-use crate::faults::{ServerFault, serving_failed};
+use crate::closing::{Closing, Nothing};
+use crate::faults::{LastingServerFault, ServerFault, ended_by, serving_failed};
 use crate::reporting::report;
 use std::alloc::Global;
 use std::sync::Wait;
@@ -26,84 +28,92 @@ use tsn_types::numbers::{Instant, PortId};
 const MOST_SEATS: usize = 1024;
 
 // Each of so many ports at the instant, from port 1.
-pub(crate) fn probes_of(
+fn probes_of(
     alloc: Global,
     ports: u64,
     at: Instant,
-) -> Result<Vec<(PortId, Instant)>, ServerFault>
+) -> Result<Vec<(PortId, Instant)>, LastingServerFault>
     requires { ports ≤ 64 }
     ensures ports { IfOk result (λ v. map (λ p. p.0) v.items ≡ ports_to ports) }
     ensures many { IfOk result (λ v. vec_len v ≡ ports) }
-    ensures fault { IfErr result (λ e. e ≡ FaultOf Memory) }
+    ensures fault { IfErr result (λ e. e ≡ Server (FaultOf Memory)) }
 {
     let mut probes = Vec::new(alloc);
     for before in 0..ports {
         let port = PortId::new(before + 1).unwrap();
         if probes.push((port, at)).is_err() {
-            return Err(ServerFault::Fault(Fault::Memory));
+            return Err(ended_by(Fault::Memory));
         }
     }
     Ok(probes)
 }
 
-// Serves connections, and gives the worker of each probe beside its seat, in the order of the probes.
-pub(crate) fn served<R: Wait + Threads + Sync, S: Source + Sync, H: Host + Sync>(
+// Serves connections, closes, and gives the worker of each probe beside its seat, in the order of the probes.
+fn served<R: Wait + Threads + Sync, S: Source + Sync, H: Host + Sync, E: Closing>(
     rt: &R,
     alloc: Global,
     desk: &Desk<Bridge>,
     seats: Vec<Seat<Bridge>>,
     source: &S,
     host: &H,
+    closing: &E,
     probes: &[(PortId, Instant)],
-) -> Result<Vec<(Seat<Bridge>, PortWorker)>, ServerFault>
+) -> Result<Vec<(Seat<Bridge>, PortWorker)>, LastingServerFault>
     requires own { All (λ s. IsSeatOf desk.now s) seats.items }
     requires more { length probes.now < vec_len seats }
     requires opened { IsReached (first_of desk.now) }
     ensures rested { IfOk result (λ v. All (λ p. IsRested desk.now p) v.items) }
     ensures ports { IfOk result (λ v. map (λ p. port_of p.1) v.items ≡ map (λ p. p.0) probes.now) }
-    ensures write { IfErr result (λ e. e ≢ FaultOf Write) }
-    ensures read { IfErr result (λ e. e ≢ FaultOf Read) }
+    ensures write { IfErr result (λ e. e ≢ Server (FaultOf Write)) }
+    ensures read { IfErr result (λ e. e ≢ Server (FaultOf Read)) }
+    ensures journal { IsErrOf result Journal → E.fails }
 {
-    match serve_beside(rt, alloc, desk, seats, source, host, probes) {
+    let served = serve_beside(rt, alloc, desk, seats, source, host, probes);
+    if !closing.close(rt) {
+        return Err(LastingServerFault::Journal);
+    }
+    match served {
         Ok((_seats, workers)) => Ok(workers),
         Err(fault) => Err(serving_failed(fault)),
     }
 }
 
 // Serves connections at a desk, and tells of the last rounds.
-fn serve_desk<R: Wait + Threads + Sync, S: Source + Sync, H: Host + Sync, W: ByteOut>(
+fn serve_desk<R: Wait + Threads + Sync, S: Source + Sync, H: Host + Sync, E: Closing, W: ByteOut>(
     rt: &R,
     alloc: Global,
     desk: &Desk<Bridge>,
     seats: Vec<Seat<Bridge>>,
     source: &S,
     host: &H,
+    closing: &E,
     probes: &[(PortId, Instant)],
     at: Instant,
     writer: &mut W,
-) -> Result<(), ServerFault>
+) -> Result<(), LastingServerFault>
     requires own { All (λ s. IsSeatOf desk.now s) seats.items }
     requires more { length probes.now < vec_len seats }
     requires opened { IsReached (first_of desk.now) }
     ensures lines { OnOk result ((text : List ℕ) × ReportsPorts (first_of desk.now) at (map (λ p. p.0) probes.now) text
         × Appends (W.taken writer.old) (W.taken writer.new) text) }
     ensures handed_on { OnOk result (W.pending writer.new ≡ []) }
-    ensures failed { IsErrOf result (FaultOf Write) → W.has_failed writer.new ≡ true }
-    ensures read { IfErr result (λ e. e ≢ FaultOf Read) }
-    ensures refused { (why : Refusal) → IsErrOf result (Refused why) → writer.new ≡ writer.old }
+    ensures failed { IsErrOf result (Server (FaultOf Write)) → W.has_failed writer.new ≡ true }
+    ensures read { IfErr result (λ e. e ≢ Server (FaultOf Read)) }
+    ensures refused { (why : Refusal) → IsErrOf result (Server (Refused why)) → writer.new ≡ writer.old }
+    ensures journal { IsErrOf result Journal → E.fails }
 {
-    let workers = match served(rt, alloc, desk, seats, source, host, probes) {
+    let workers = match served(rt, alloc, desk, seats, source, host, closing, probes) {
         Ok(workers) => workers,
         Err(fault) => return Err(fault),
     };
     match report(rt, desk, workers, at, writer) {
         Ok(()) => Ok(()),
-        Err(fault) => Err(ServerFault::Fault(fault)),
+        Err(fault) => Err(ended_by(fault)),
     }
 }
 
 // The seats of so many workers and of the ports: 1,024 at most, so that there may be fewer of the workers.
-pub(crate) fn seats_for(workers: usize, ports: usize) -> usize
+fn seats_for(workers: usize, ports: usize) -> usize
     requires some { 0 < workers }
     requires few { ports ≤ 64 }
     ensures some { ports < result }
@@ -114,24 +124,32 @@ pub(crate) fn seats_for(workers: usize, ports: usize) -> usize
 }
 
 // Serves connections with a worker at each port, and tells of the last rounds at the instant.
-fn serve_beside_ports<R: Wait + Threads + Sync, S: Source + Sync, H: Host + Sync, W: ByteOut>(
+fn serve_beside_ports<
+    R: Wait + Threads + Sync,
+    S: Source + Sync,
+    H: Host + Sync,
+    E: Closing,
+    W: ByteOut,
+>(
     rt: &R,
     alloc: Global,
     bridge: Bridge,
     workers: usize,
     source: &S,
     host: &H,
+    closing: &E,
     at: Instant,
     writer: &mut W,
-) -> Result<(), ServerFault>
+) -> Result<(), LastingServerFault>
     requires opened { IsReached bridge }
     requires some { 0 < workers }
     ensures lines { OnOk result ((text : List ℕ) × ReportsPorts bridge at (ports_to bridge.book.limits.ports) text
         × Appends (W.taken writer.old) (W.taken writer.new) text) }
     ensures handed_on { OnOk result (W.pending writer.new ≡ []) }
-    ensures failed { IsErrOf result (FaultOf Write) → W.has_failed writer.new ≡ true }
-    ensures read { IfErr result (λ e. e ≢ FaultOf Read) }
-    ensures refused { (why : Refusal) → IsErrOf result (Refused why) → writer.new ≡ writer.old }
+    ensures failed { IsErrOf result (Server (FaultOf Write)) → W.has_failed writer.new ≡ true }
+    ensures read { IfErr result (λ e. e ≢ Server (FaultOf Read)) }
+    ensures refused { (why : Refusal) → IsErrOf result (Server (Refused why)) → writer.new ≡ writer.old }
+    ensures journal { IsErrOf result Journal → E.fails }
 {
     let probes = probes_of(alloc, bridge.config().limits().ports(), at)?;
     match Desk::new(alloc, bridge, seats_for(workers, probes.len())) {
@@ -142,41 +160,80 @@ fn serve_beside_ports<R: Wait + Threads + Sync, S: Source + Sync, H: Host + Sync
             seats,
             source,
             host,
+            closing,
             probes.as_slice(),
             at,
             writer,
         ),
-        Err(_) => Err(ServerFault::Fault(Fault::Memory)),
+        Err(_) => Err(ended_by(Fault::Memory)),
     }
 }
 
 // Serves connections alone, and writes nothing.
-fn serve_alone<R: Wait + Threads + Sync, S: Source + Sync, H: Host + Sync, W: ByteOut>(
+fn serve_alone<R: Wait + Threads + Sync, S: Source + Sync, H: Host + Sync, E: Closing, W: ByteOut>(
     rt: &R,
     alloc: Global,
     bridge: Bridge,
     workers: usize,
     source: &S,
     host: &H,
+    closing: &E,
     writer: &mut W,
-) -> Result<(), ServerFault>
+) -> Result<(), LastingServerFault>
     requires opened { IsReached bridge }
     requires some { (0 < workers) × (workers ≤ 1000) }
     ensures nothing { OnOk result (Keeps (W.taken writer.old) (W.taken writer.new)) }
     ensures handed_on { OnOk result (W.pending writer.new ≡ []) }
-    ensures failed { IsErrOf result (FaultOf Write) → W.has_failed writer.new ≡ true }
-    ensures read { IfErr result (λ e. e ≢ FaultOf Read) }
-    ensures refused { (why : Refusal) → IsErrOf result (Refused why) → writer.new ≡ writer.old }
+    ensures failed { IsErrOf result (Server (FaultOf Write)) → W.has_failed writer.new ≡ true }
+    ensures read { IfErr result (λ e. e ≢ Server (FaultOf Read)) }
+    ensures refused { (why : Refusal) → IsErrOf result (Server (Refused why)) → writer.new ≡ writer.old }
+    ensures journal { IsErrOf result Journal → E.fails }
 {
     let Ok((desk, seats)) = Desk::new(alloc, bridge, workers) else {
-        return Err(ServerFault::Fault(Fault::Memory));
+        return Err(ended_by(Fault::Memory));
     };
-    if let Err(fault) = served(rt, alloc, &desk, seats, source, host, &[]) {
+    if let Err(fault) = served(rt, alloc, &desk, seats, source, host, closing, &[]) {
         return Err(fault);
     }
     match writer.flush() {
         Ok(()) => Ok(()),
-        Err(_) => Err(ServerFault::Fault(Fault::Write)),
+        Err(_) => Err(ended_by(Fault::Write)),
+    }
+}
+
+// Serves connections, and with an instant the ports; closes; and tells of the last rounds, if there is an instant.
+#[tactic(auto, using(crate::proofs::Lines::told_at, crate::proofs::Lines::told_nothing))]
+pub(crate) fn serve_closing<
+    R: Wait + Threads + Sync,
+    S: Source + Sync,
+    H: Host + Sync,
+    E: Closing,
+    W: ByteOut,
+>(
+    rt: &R,
+    alloc: Global,
+    bridge: Bridge,
+    workers: usize,
+    source: &S,
+    host: &H,
+    closing: &E,
+    at: Option<Instant>,
+    writer: &mut W,
+) -> Result<(), LastingServerFault>
+    requires opened { IsReached bridge }
+    requires some { (0 < workers) × (workers ≤ 1000) }
+    ensures lines { OnOk result ((text : List ℕ) × ReportsEnd bridge at text × Appends (W.taken writer.old) (W.taken writer.new) text) }
+    ensures handed_on { OnOk result (W.pending writer.new ≡ []) }
+    ensures failed { IsErrOf result (Server (FaultOf Write)) → W.has_failed writer.new ≡ true }
+    ensures read { IfErr result (λ e. e ≢ Server (FaultOf Read)) }
+    ensures refused { (why : Refusal) → IsErrOf result (Server (Refused why)) → writer.new ≡ writer.old }
+    ensures journal { IsErrOf result Journal → E.fails }
+{
+    match at {
+        Some(at) => serve_beside_ports(
+            rt, alloc, bridge, workers, source, host, closing, at, writer,
+        ),
+        None => serve_alone(rt, alloc, bridge, workers, source, host, closing, writer),
     }
 }
 
@@ -188,7 +245,6 @@ fn serve_alone<R: Wait + Threads + Sync, S: Source + Sync, H: Host + Sync, W: By
 /// ends. The lines are handed on. With no instant no port is followed, and nothing is written. A connection's fault
 /// ends that connection alone. Serving itself ends where memory was wanting, no ticket was left or the writer failed;
 /// or by the refusal of a worker's start, and then nothing was written.
-#[tactic(auto, using(crate::proofs::Lines::told_at, crate::proofs::Lines::told_nothing))]
 pub fn serve_bridge<R: Wait + Threads + Sync, S: Source + Sync, H: Host + Sync, W: ByteOut>(
     rt: &R,
     alloc: Global,
@@ -207,8 +263,11 @@ pub fn serve_bridge<R: Wait + Threads + Sync, S: Source + Sync, H: Host + Sync, 
     ensures read { IfErr result (λ e. e ≢ FaultOf Read) }
     ensures refused { (why : Refusal) → IsErrOf result (Refused why) → writer.new ≡ writer.old }
 {
-    match at {
-        Some(at) => serve_beside_ports(rt, alloc, bridge, workers, source, host, at, writer),
-        None => serve_alone(rt, alloc, bridge, workers, source, host, writer),
+    match serve_closing(
+        rt, alloc, bridge, workers, source, host, &Nothing, at, writer,
+    ) {
+        Ok(()) => Ok(()),
+        Err(LastingServerFault::Server(fault)) => Err(fault),
+        Err(LastingServerFault::Journal) => unreachable!(),
     }
 }
