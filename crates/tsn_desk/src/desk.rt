@@ -6,11 +6,13 @@ ghost use Rattle.tsn_desk.specs.History.{Begins, calls_by};
 use crate::board::{Opening, SERVING, TICKETS, Turns, View};
 use crate::machine::{Machine, Nobody, Witness};
 use crate::plays::{Draw, SeeFront, SeeTickets};
+use crate::turning::Errand;
 use crate::waiting::Waiting;
 use atomic_table::{Refused, Table};
 use std::alloc::{AllocError, Global};
 use std::snapshot::Snapshot;
 use std::sync::Wait;
+use std::thread;
 
 /// A seat as the table sees it.
 pub(crate) type TableSeat<M> = atomic_table::Seat<
@@ -20,6 +22,9 @@ pub(crate) type TableSeat<M> = atomic_table::Seat<
 
 /// From this ticket on a turn is refused.
 const LAST_TICKET: u64 = 1 << 63;
+
+/// How often a thread that would lock the door lets those go ahead who want one turn.
+const COURTESIES: u32 = 50;
 
 /// A machine that threads take turns at. It may be shared by reference.
 #[derive(Drop)]
@@ -216,9 +221,13 @@ impl<M: Machine> Desk<M> {
     /// there until it is opened. This decides who waits, and never what a turn finds. Whoever locks the door opens it,
     /// and takes turns from inside alone till then.
     pub fn lock_door<R: Wait>(&self, rt: &R) {
+        let mut waits = 0;
         for _ in rt.forever() {
-            self.come_in(rt);
-            if self.waiting.lock() {
+            self.come_in(rt, Errand::Lock);
+            if self.waiting.has_callers() && waits < COURTESIES {
+                waits += 1;
+                thread::yield_now();
+            } else if self.waiting.lock() {
                 return;
             }
         }

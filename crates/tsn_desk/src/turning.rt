@@ -5,6 +5,9 @@
 //! look found, so one that comes late returns at once; and who ends a turn wakes all, if some sleep with a ticket. Who
 //! is about to is counted first and then looks once more, so no wake is lost. No park, wake or count needs a seat or
 //! tells anything, and who was woken looks again.
+//!
+//! While a door is locked, those at it stay awake for a while and let others run: so the next one goes in as soon as it
+//! opens, and not once it has been woken. Who wants one turn goes ahead of those who would lock the door.
 ghost use Rattle.std.specs.Prelude.{◌≡◌, ◌<◌, [], ◌∷◌, length, Some};
 ghost use Rattle.tsn_desk.specs.declared.board.Stage.TheVariants.{Serving, Waiting};
 ghost use Rattle.tsn_desk.specs.Steps.{Ended, HasServed, Took};
@@ -13,13 +16,25 @@ use crate::board::{SERVING, TICKETS};
 use crate::desk::{Desk, Standing, TableSeat};
 use crate::machine::Machine;
 use crate::plays::{End, Look, Said};
-use std::hint;
 use std::marker::Brand;
 use std::snapshot::Snapshot;
 use std::sync::Wait;
+use std::{hint, thread};
 
-/// How often a thread looks whether it may go on before it sleeps.
+/// How often a thread looks whether it may go on before it sleeps or lets others run.
 const LOOKS: u32 = 100;
+
+/// How often a thread at the door lets others run between its looks before it sleeps.
+const YIELDS: u32 = 50;
+
+/// What a thread wants inside.
+#[derive(Clone, Copy, Debug, PartialEq, Eq)]
+pub(crate) enum Errand {
+    /// One turn.
+    Turn,
+    /// To lock the door, for several turns.
+    Lock,
+}
 
 impl<M: Machine> Desk<M> {
     /// Waits until the seat's ticket is served, and takes the machine.
@@ -53,16 +68,10 @@ impl<M: Machine> Desk<M> {
     }
 
     /// Waits at the door until it is not locked and no ticket is out.
-    pub(crate) fn come_in<R: Wait>(&self, rt: &R) {
-        let mut looks = 0;
+    pub(crate) fn come_in<R: Wait>(&self, rt: &R, errand: Errand) {
         for _ in rt.forever() {
-            if self.is_free() {
+            if self.look() || self.stand_by(errand) {
                 return;
-            }
-            if looks < LOOKS {
-                looks += 1;
-                hint::spin_loop();
-                continue;
             }
             self.waiting.come();
             if self.is_free() {
@@ -70,9 +79,47 @@ impl<M: Machine> Desk<M> {
             }
             self.waiting.sleep(rt);
             self.waiting.come();
-            looks = 0;
         }
         unreachable!()
+    }
+
+    /// Looks a while without a break whether the way is free, and says so.
+    fn look(&self) -> bool {
+        for _ in 0..LOOKS {
+            if self.is_free() {
+                return true;
+            }
+            hint::spin_loop();
+        }
+        false
+    }
+
+    /// Stays awake at a locked door, counted where one turn is wanted, and says whether the way is free.
+    fn stand_by(&self, errand: Errand) -> bool {
+        if errand == Errand::Lock {
+            return self.look_on();
+        }
+        if !self.waiting.is_locked() {
+            return false;
+        }
+        self.waiting.step_up();
+        let is_free = self.look_on();
+        self.waiting.step_back();
+        is_free
+    }
+
+    /// Looks a while longer, as long as the door is locked, and lets other threads run in between.
+    fn look_on(&self) -> bool {
+        for _ in 0..YIELDS {
+            if self.is_free() {
+                return true;
+            }
+            if !self.waiting.is_locked() {
+                return false;
+            }
+            thread::yield_now();
+        }
+        false
     }
 
     /// Whether nobody has locked the door and no ticket is out: every turn that was drawn for has ended.
@@ -86,8 +133,8 @@ impl<M: Machine> Desk<M> {
 
     /// Comes in, where the thread is not inside.
     pub(crate) fn come_from<R: Wait>(&self, rt: &R, standing: Standing) {
-        if standing == Standing::AtTheDoor {
-            self.come_in(rt);
+        if standing == Standing::AtTheDoor && !self.is_free() {
+            self.come_in(rt, Errand::Turn);
         }
     }
 

@@ -9,6 +9,9 @@
 //! A thread that has turns to take one behind the other locks the door, and the others stay there. It unlocks it and
 //! looks then whether someone may sleep there; and who says so looks at the lock once more. So either the one finds it
 //! open or the other wakes one.
+//!
+//! A thread that wants one turn is counted while it stands at the door awake. Who would lock the door looks at the
+//! count, and lets those go ahead, some times. No wake hangs on the count.
 use std::sync::Wait;
 use std::sync::atomic::{AtomicU64, Ordering};
 
@@ -24,6 +27,8 @@ pub(crate) struct Waiting {
     door: AtomicU64,
     /// Whether the door is locked.
     lock: AtomicU64,
+    /// How many stand at the door, awake, for one turn.
+    callers: AtomicU64,
     /// How many sleep with a ticket, or are about to.
     sleepers: AtomicU64,
 }
@@ -34,6 +39,7 @@ impl Waiting {
         Waiting {
             door: AtomicU64::new(0),
             lock: AtomicU64::new(0),
+            callers: AtomicU64::new(0),
             sleepers: AtomicU64::new(0),
         }
     }
@@ -69,6 +75,21 @@ impl Waiting {
     /// The door is no longer locked.
     pub(crate) fn unlock(&self) {
         self.lock.store(0, Ordering::SeqCst);
+    }
+
+    /// Counts one more that stands at the door, awake, for one turn.
+    pub(crate) fn step_up(&self) {
+        self.callers.fetch_add(1, Ordering::SeqCst);
+    }
+
+    /// Counts one less.
+    pub(crate) fn step_back(&self) {
+        self.callers.fetch_sub(1, Ordering::SeqCst);
+    }
+
+    /// Whether some stand at the door, awake, for one turn.
+    pub(crate) fn has_callers(&self) -> bool {
+        self.callers.load(Ordering::SeqCst) != 0
     }
 
     /// Counts one more that is about to sleep with a ticket.
