@@ -1,6 +1,6 @@
 //! One connection over a bridge that threads share: its lines are calls of one seat.
 //! It relies on the loop over lines, on the turns of a desk, on the reading of a line and on the text of a reply.
-ghost use Rattle.std.specs.Prelude.{◌≡◌, ◌≢◌, ◌⊎◌, ◌^◌, ◌<◌, ◌≤◌, ◌↔◌, ℕ, List, [], ◌∷◌, Option, None, Result, Err, true, IsTrue, IfOk, IfErr, IfNone, OnOk, OnErr, IsErrOf, option_map, length, drop, vec_len};
+ghost use Rattle.std.specs.Prelude.{◌≡◌, ◌≢◌, ◌⊎◌, ◌^◌, ◌<◌, ◌≤◌, ◌↔◌, ℕ, List, Option, None, Result, Ok, Err, true, IsTrue, IfOk, IfErr, IfNone, OnOk, OnErr, IsErrOf, option_map, vec_len};
 ghost use Rattle.std.specs.Io.KnownBytes.{Appends};
 ghost use Rattle.tsn_types.specs.declared.refusals.Refusal.{Refusal as AnyRefusal};
 ghost use Rattle.tsn_bridge.specs.declared.command.Ask.{Ask as AnyAsk};
@@ -8,11 +8,11 @@ ghost use Rattle.tsn_bytes.specs.declared.bytes.Fault.TheVariants.{Write, Memory
 ghost use Rattle.tsn_desk.specs.Desks.{IsSeatOf, id_of, first_of};
 ghost use Rattle.tsn_serve.specs.Answers.{MayRead, Replies};
 ghost use Rattle.tsn_serve.specs.Talk.{MayAsk, Calls, Asks, TakesUp, Tires, Talks, BreaksTalk, Goes, IsMarked, Told, caller_of, latest_after};
-ghost use Rattle.tsn_serve.specs.Lots.{AnswersFront, IsLot};
+ghost use Rattle.tsn_serve.specs.Lots.{AnswersFront, IsFront, IsLot};
 ghost use Rattle.tsn_serve.specs.Outcomes.{Outcome, moment, most_reads};
 
 use crate::gate::Gate;
-use crate::lots::{MOST_REPLIES, ReadLine, read_front, read_lot};
+use crate::lots::{MOST_REPLIES, ReadLine, front_line, is_brief, read_lot};
 use crate::responder::{Responder, answer_lines};
 use crate::script::{READS, read_line};
 use std::alloc::Global;
@@ -127,9 +127,10 @@ impl<'a, R: Wait, G: Gate, W: Witness<Bridge> + Drop> Connection<'a, R, G, W> {
 
     // Makes a call, and gives what the witness says of it. It is refused where no ticket is left.
     #[inline(always)]
-    fn call(&mut self, ask: Ask) -> Result<(Reply, W::Mark), Fault>
+    fn call(&mut self, ask: Ask) -> Result<(Reply, Option<W::Mark>), Fault>
         ensures ok { IfOk result (λ r. Calls self.old ask r.0 self.new) }
-        ensures mark { IfOk result (λ r. W.marks ask r.0 r.1) }
+        ensures mark { IfOk result (λ r. IsMarked W.marks (Ok ask) r.0 r.1) }
+        ensures no_mark { IfOk result (λ r. IfNone r.1 (self.new ≡ self.old)) }
         ensures fault { IfErr result (λ e. e ≡ Exhausted) }
         ensures tired { OnErr result ((2 ^ 63 ≤ self.new.tickets) × (self.new ≡ record self.old { tickets = self.new.tickets })) }
     {
@@ -141,12 +142,13 @@ impl<'a, R: Wait, G: Gate, W: Witness<Bridge> + Drop> Connection<'a, R, G, W> {
             .desk
             .turn_from(self.rt, self.standing, seat, ask, &mut self.witness);
         self.seat = Some(seat);
-        let Ok((turn, mark)) = turned else {
-            return Err(Fault::Exhausted);
-        };
-        let reply = turn.reply;
-        self.latest = latest_after(self.latest, &reply);
-        Ok((reply, mark))
+        match turned {
+            Ok((turn, mark)) => {
+                self.latest = latest_after(self.latest, &turn.reply);
+                Ok((turn.reply, Some(mark)))
+            }
+            Err(_) => Err(Fault::Exhausted),
+        }
     }
 
     // The reply to what a line was read as, and what the witness says of the call for it: none where it is refused with
@@ -159,15 +161,16 @@ impl<'a, R: Wait, G: Gate, W: Witness<Bridge> + Drop> Connection<'a, R, G, W> {
         ensures fault { IfErr result (λ e. e ≡ Exhausted) }
         ensures tired { OnErr result (Tires self.old read self.new) }
     {
-        let ask = match read {
-            Ok(ask) => ask,
-            Err(refusal) => return Ok((Reply::Refused(refusal), None)),
-        };
-        if !self.may_ask(&ask) {
-            return Ok((Reply::Refused(Refusal::NoSession), None));
+        match read {
+            Ok(ask) => {
+                if self.may_ask(&ask) {
+                    self.call(ask)
+                } else {
+                    Ok((Reply::Refused(Refusal::NoSession), None))
+                }
+            }
+            Err(refusal) => Ok((Reply::Refused(refusal), None)),
         }
-        let (reply, mark) = self.call(ask)?;
-        Ok((reply, Some(mark)))
     }
 
     /// The reply to a line, none being one that is too long, and what the witness says of the call for it: none where
@@ -213,20 +216,22 @@ impl<'a, R: Wait, G: Gate, W: Witness<Bridge> + Drop> Connection<'a, R, G, W> {
         written
     }
 
-    // Answers a line alone, the first of these bytes, and says how many bytes it has.
+    // Answers what the first line of these bytes was read as, and says how many bytes it has.
+    #[inline(always)]
     fn answer_one<O: ByteOut>(
         &mut self,
-        line: ReadLine,
+        read: Result<Ask, Refusal>,
+        count: usize,
         _bytes: &[u8],
         writer: &mut O,
     ) -> Result<usize, Fault>
-        requires { (0 < line.count) × (line.count ≤ length _bytes.now) × IsLot _bytes.now (line ∷ []) (drop line.count _bytes.now) }
+        requires { IsFront _bytes.now count read }
         ensures front { AnswersFront Talks BreaksTalk self.old _bytes.now (O.taken writer.old) (O.taken writer.new) result self.new }
         ensures worked { result ≢ Err Write → O.has_failed writer.new ≡ O.has_failed writer.old }
         ensures failed { IsErrOf result Write → O.has_failed writer.new ≡ true }
     {
-        match self.answer_read(line.read, writer) {
-            Ok(()) => Ok(line.count),
+        match self.answer_read(read, writer) {
+            Ok(()) => Ok(count),
             Err(fault) => Err(fault),
         }
     }
@@ -289,27 +294,35 @@ impl<'a, R: Wait, G: Gate, W: Witness<Bridge> + Drop> Connection<'a, R, G, W> {
         answered
     }
 
-    // Answers the first line of these bytes, and the lines that lie whole behind it where their replies are short and
-    // nothing in between may wait.
+    // Answers what the first line of these bytes was read as, and the lines that lie whole behind it where their
+    // replies are short and nothing in between may wait.
+    #[inline(always)]
     fn answer_from<O: ByteOut>(
         &mut self,
         alloc: Global,
-        first: ReadLine,
+        read: Result<Ask, Refusal>,
+        count: usize,
         bytes: &[u8],
         writer: &mut O,
     ) -> Result<usize, Fault>
-        requires { (0 < first.count) × (first.count ≤ length bytes.now) × IsLot bytes.now (first ∷ []) (drop first.count bytes.now) }
+        requires { IsFront bytes.now count read }
         ensures front { AnswersFront Talks BreaksTalk self.old bytes.now (O.taken writer.old) (O.taken writer.new) result self.new }
         ensures worked { result ≢ Err Write → O.has_failed writer.new ≡ O.has_failed writer.old }
         ensures failed { IsErrOf result Write → O.has_failed writer.new ≡ true }
     {
-        let is_alone = first.count == bytes.len() || !first.is_brief;
+        let is_brief = is_brief(&read);
+        let is_alone = count == bytes.len() || !is_brief;
         if is_alone || self.gate.may_wait() || !writer.has_room(MOST_REPLIES) {
-            return self.answer_one(first, bytes, writer);
+            return self.answer_one(read, count, bytes, writer);
         }
+        let first = ReadLine {
+            read,
+            count,
+            is_brief,
+        };
         match read_lot(alloc, first, bytes) {
             Ok(lot) => self.answer_lot(lot, bytes, writer),
-            Err(first) => self.answer_one(first, bytes, writer),
+            Err(first) => self.answer_one(first.read, first.count, bytes, writer),
         }
     }
 }
@@ -334,10 +347,11 @@ impl<'a, R: Wait, G: Gate, W: Witness<Bridge> + Drop> Responder for Connection<'
         bytes: &[u8],
         writer: &mut O,
     ) -> Result<Option<usize>, Fault> {
-        let Some(first) = read_front(alloc, bytes) else {
+        let Some(line) = front_line(bytes) else {
             return Ok(None);
         };
-        match self.answer_from(alloc, first, bytes, writer) {
+        let read = read_line(alloc, Some(line));
+        match self.answer_from(alloc, read, line.len() + 1, bytes, writer) {
             Ok(count) => Ok(Some(count)),
             Err(fault) => Err(fault),
         }

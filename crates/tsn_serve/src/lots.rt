@@ -1,8 +1,8 @@
 //! Lines that a connection reads ahead, so that the turns for them follow each other.
 //! It relies on the reading of a line.
-ghost use Rattle.std.specs.Prelude.{◌≡◌, ◌<◌, ◌≤◌, ◌+◌, ◌++◌, [], ◌∷◌, ℕ, List, IfSome, IfOk, IfErr, length, take, drop, vec_len};
+ghost use Rattle.std.specs.Prelude.{◌≡◌, ◌<◌, ◌≤◌, ◌+◌, ◌++◌, [], ◌∷◌, ℕ, List, IfSome, IfOk, IfErr, length, take, vec_len};
 ghost use Rattle.tsn_serve.specs.Lines.{HasNoLineFeed, longest_line};
-ghost use Rattle.tsn_serve.specs.Lots.{IsLot};
+ghost use Rattle.tsn_serve.specs.Lots.{IsFront, IsLot};
 
 use crate::line_buffer::MAX_LINE;
 use crate::script::read_line;
@@ -40,8 +40,8 @@ pub(crate) fn front_line(bytes: &[u8]) -> Option<&[u8]>
     Some(&bytes[..end])
 }
 
-// Whether the reply to what was read is short: to an edit, to an act, to a frame or to what can't be asked.
-fn is_brief(read: &Result<Ask, Refusal>) -> bool {
+/// Whether the reply to what was read is short: to an edit, to an act, to a frame or to what can't be asked.
+pub(crate) fn is_brief(read: &Result<Ask, Refusal>) -> bool {
     let Ok(ask) = read else { return true };
     matches!(
         ask.command,
@@ -60,10 +60,10 @@ fn is_brief(read: &Result<Ask, Refusal>) -> bool {
     )
 }
 
-/// Reads the line that lies whole in front of the bytes.
-pub(crate) fn read_front(alloc: Global, bytes: &[u8]) -> Option<ReadLine>
+// Reads the line that lies whole in front of the bytes.
+fn read_front(alloc: Global, bytes: &[u8]) -> Option<ReadLine>
     ensures count { IfSome result (λ line. (0 < line.count) × (line.count ≤ length bytes.now)) }
-    ensures read { IfSome result (λ line. IsLot bytes.now (line ∷ []) (drop line.count bytes.now)) }
+    ensures read { IfSome result (λ line. IsFront bytes.now line.count line.read) }
 {
     let line = front_line(bytes)?;
     let read = read_line(alloc, Some(line));
@@ -82,8 +82,7 @@ pub(crate) fn read_lot(
     first: ReadLine,
     bytes: &[u8],
 ) -> Result<Vec<ReadLine>, ReadLine>
-    requires count { first.count ≤ length bytes.now }
-    requires read { IsLot bytes.now (first ∷ []) (drop first.count bytes.now) }
+    requires { IsFront bytes.now first.count first.read }
     ensures lot { IfOk result (λ lot. (rest : List ℕ) × IsLot bytes.now lot.items rest) }
     ensures some { IfOk result (λ lot. 0 < vec_len lot) }
     ensures back { IfErr result (λ back. back ≡ first) }

@@ -1,8 +1,21 @@
-use Rattle.std.proofs.Common.{◌≤◌, ◌-◌, ◌+◌, ℕ, List, length, length-drop, drop, sym, subst, arith}
+use Rattle.std.proofs.Common.{◌≡◌, ◌≤◌, ◌-◌, ◌+◌, [], ◌∷◌, ◌++◌, ℕ, List, refl, length, length-drop, drop, sym, ap, ◌∙◌, subst, arith}
 use Rattle.std.proofs.lemmas.List.{take_rest}
 use Rattle.tsn_serve.specs.Lots.{IsLot}
-use Rattle.tsn_serve.proofs.Ahead.{lot_read}
+use Rattle.tsn_serve.proofs.Ahead.{front_fits, lot_read}
 use Rattle.tsn_serve.proofs.lots.read_lot.Goals as goal
+
+pub lines-init : goal.lines-init
+lines-init c =
+    let bytes = c.args.bytes.now in
+    let first = c.args.first in
+    let one : IsLot bytes (first ∷ []) (drop first.count bytes) = (c.requires, refl) in
+    let alone : c.push_reserved.new.self.items ≡ first ∷ [] =
+    c.push_reserved.ensures.items ∙ ap (λ rs. rs ++ first ∷ []) c.in-Ok.ensures.items in (
+      subst (λ rs. IsLot bytes rs (drop first.count bytes)) (sym alone) one,
+      front_fits bytes first.count first.read c.requires,
+      omega (arith, c.push_reserved.ensures.len),
+      omega (arith, c.push_reserved.ensures.capacity, c.in-Ok.ensures.capacity),
+    )
 
 pub returns-then-not-is_brief-clause-lot : goal.returns-then-not-is_brief-clause-lot
 returns-then-not-is_brief-clause-lot c =

@@ -32,7 +32,7 @@ returns-in-Err-clause-front g c =
     let all : (line : Option (List ℕ)) → MayRead line r.read → BreaksTalk c.lines.self line c.in-Err.fault broken.0 new =
     subst (λ (s : Caller). (line : Option (List ℕ)) → MayRead line r.read → BreaksTalk s line c.in-Err.fault broken.0 new)
     c.leave_unless.ensures broken.1 in
-    let here = broken_front (drop done bytes) r rs rest lot Talks BreaksTalk c.in-Err.fault c.lines.self broken.0 new all in (
+    let here = broken_front (drop done bytes) r.count r.read lot.0 Talks BreaksTalk c.in-Err.fault c.lines.self broken.0 new all in (
       c.in-Err.ensures.fault,
       (
         inv.3.0 ++ broken.0,
@@ -54,13 +54,13 @@ lines-preserved g c =
     let new = c.answer_read.new.self in
     let ok = c.in_default.ensures.ok in
     let lot : IsLot (drop done bytes) (r ∷ rs) rest = subst (λ l. IsLot (drop done bytes) l rest) c.in-Some.ensures.steps.0 inv.0.1 in
-    let fits : r.count ≤ length bytes - done = simp length-drop at (front_fits (drop done bytes) r rs rest lot) in
+    let fits : r.count ≤ length bytes - done = simp length-drop at (front_fits (drop done bytes) r.count r.read lot.0) in
     let all : (line : Option (List ℕ)) → MayRead line r.read → Talks c.lines.self line ok.0 new =
     subst (λ (s : Caller). (line : Option (List ℕ)) → MayRead line r.read → Talks s line ok.0 new) c.leave_unless.ensures ok.1 in
-    let here = fed_front (drop done bytes) r rs rest lot Talks c.lines.self ok.0 new all in (
+    let here = fed_front (drop done bytes) r.count r.read lot.0 Talks c.lines.self ok.0 new all in (
       (rest, lot_on bytes done r rs rest lot),
       omega (arith, fits, inv.1),
-      omega (arith, length-append c.lines.yielded (r ∷ []), inv.2, lot.5),
+      omega (arith, length-append c.lines.yielded (r ∷ []), inv.2, lot.0.5),
       (
         inv.3.0 ++ ok.0,
         fed_as Talks c.args.self.now new (Some []) (Some []) _ (take (done + r.count) bytes) (inv.3.0 ++ ok.0)

@@ -6,8 +6,8 @@ use Rattle.tsn_serve.specs.Talk.{Caller, Calls, caller_of}
 use Rattle.tsn_serve.proofs.Going.{turn_calls}
 use Rattle.tsn_serve.proofs.connection.Connection.call.Goals as goal
 
-pub returns-clause-ok : goal.returns-clause-ok
-returns-clause-ok g c =
+pub returns-in-Ok-clause-ok : goal.returns-in-Ok-clause-ok
+returns-in-Ok-clause-ok g c =
     let desk = c.self.inside.desk.now in
     let new = c.turn_from-seat.result.0 in
     let reply = c.in-Ok.turn.reply in
