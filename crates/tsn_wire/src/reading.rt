@@ -73,8 +73,10 @@ fn line_of_draft(alloc: Global, draft: &LineDraft) -> Result<Ask, Unread>
             command,
         } => {
             let session = session(*number)?;
-            let command = command_of_draft(alloc, command)?;
-            Ok(Ask { session, command })
+            match command_of_draft(alloc, command) {
+                Ok(command) => Ok(Ask { session, command }),
+                Err(unread) => Err(unread),
+            }
         }
     }
 }
@@ -82,8 +84,9 @@ fn line_of_draft(alloc: Global, draft: &LineDraft) -> Result<Ask, Unread>
 fn reading(alloc: Global, line: &[u8]) -> Result<Ask, Unread>
     ensures { Reads result (reading line.now) }
 {
-    if let Some(draft) = spelled_draft(alloc, line) {
-        return line_of_draft(alloc, &draft);
+    let spelled = spelled_draft(alloc, line);
+    if let Some(draft) = &spelled {
+        return line_of_draft(alloc, draft);
     }
     let value = value_of(alloc, line)?;
     let draft = line_shape(alloc, &value)?;
@@ -96,5 +99,8 @@ fn reading(alloc: Global, line: &[u8]) -> Result<Ask, Unread>
 pub fn command_of(alloc: Global, line: &[u8]) -> Result<Ask, Refusal>
     ensures { IsOrMemory result (line_of line.now) }
 {
-    reading(alloc, line).map_err(Unread::refusal)
+    match reading(alloc, line) {
+        Ok(ask) => Ok(ask),
+        Err(unread) => Err(unread.refusal()),
+    }
 }
