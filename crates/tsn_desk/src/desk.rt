@@ -12,7 +12,6 @@ use atomic_table::{Refused, Table};
 use std::alloc::{AllocError, Global};
 use std::snapshot::Snapshot;
 use std::sync::Wait;
-use std::thread;
 
 /// A seat as the table sees it.
 pub(crate) type TableSeat<M> = atomic_table::Seat<
@@ -22,9 +21,6 @@ pub(crate) type TableSeat<M> = atomic_table::Seat<
 
 /// From this ticket on a turn is refused.
 const LAST_TICKET: u64 = 1 << 63;
-
-/// How often a thread that would lock the door lets those go ahead who want one turn.
-const COURTESIES: u32 = 50;
 
 /// A machine that threads take turns at. It may be shared by reference.
 #[derive(Drop)]
@@ -63,7 +59,7 @@ impl<M: Machine> Seat<M> {
 /// Where a thread begins its turn.
 #[derive(Clone, Copy, Debug, PartialEq, Eq)]
 pub enum Standing {
-    /// At the door, where it waits until no ticket is out and nobody has locked it.
+    /// At the door, where it waits until no ticket is out, or at most one where someone has locked it.
     AtTheDoor,
     /// Inside, since it locked the door itself.
     Inside,
@@ -198,7 +194,7 @@ impl<M: Machine> Desk<M> {
         self.come_from(rt, standing);
         let mut seat = seat.into_inner();
         if self.table.shared.load::<SeeTickets>(&mut seat, TICKETS) >= LAST_TICKET {
-            // No turn ends here that would wake the next one at the door.
+            // No turn ends here that would wake the next one.
             self.wake_from(standing);
             return (Seat { inner: seat }, Err(Exhausted { request }));
         }
@@ -217,17 +213,13 @@ impl<M: Machine> Desk<M> {
         (Seat { inner: seat }, Ok((Turn { place, reply }, mark)))
     }
 
-    /// Locks the door once no ticket is out and nobody else has locked it: threads whose turns begin at the door wait
-    /// there until it is opened. This decides who waits, and never what a turn finds. Whoever locks the door opens it,
-    /// and takes turns from inside alone till then.
+    /// Locks the door once no ticket is out and nobody else has locked it: threads that would lock it too wait there
+    /// until it is opened, and of those whose turns begin at the door one at a time slips in. This decides who waits,
+    /// and never what a turn finds. Whoever locks the door opens it, and takes turns from inside alone till then.
     pub fn lock_door<R: Wait>(&self, rt: &R) {
-        let mut waits = 0;
         for _ in rt.forever() {
             self.come_in(rt, Errand::Lock);
-            if self.waiting.has_callers() && waits < COURTESIES {
-                waits += 1;
-                thread::yield_now();
-            } else if self.waiting.lock() {
+            if self.waiting.lock() {
                 return;
             }
         }

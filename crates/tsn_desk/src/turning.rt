@@ -6,8 +6,9 @@
 //! is about to is counted first and then looks once more, so no wake is lost. No park, wake or count needs a seat or
 //! tells anything, and who was woken looks again.
 //!
-//! While a door is locked, those at it stay awake for a while and let others run: so the next one goes in as soon as it
-//! opens, and not once it has been woken. Who wants one turn goes ahead of those who would lock the door.
+//! While the door is locked, who wants one turn slips in between two of those that are taken from inside: it draws a
+//! ticket as soon as at most one is out, and never waits for all of them. Who wants to lock the door stays awake for a
+//! while and lets others run: so it goes in as soon as the door opens, and not once it has been woken.
 ghost use Rattle.std.specs.Prelude.{◌≡◌, ◌<◌, [], ◌∷◌, length, Some};
 ghost use Rattle.tsn_desk.specs.declared.board.Stage.TheVariants.{Serving, Waiting};
 ghost use Rattle.tsn_desk.specs.Steps.{Ended, HasServed, Took};
@@ -67,14 +68,14 @@ impl<M: Machine> Desk<M> {
         }
     }
 
-    /// Waits at the door until it is not locked and no ticket is out.
+    /// Waits at the door until the way is free.
     pub(crate) fn come_in<R: Wait>(&self, rt: &R, errand: Errand) {
         for _ in rt.forever() {
-            if self.look() || self.stand_by(errand) {
+            if self.look(errand) || self.look_on(errand) {
                 return;
             }
             self.waiting.come();
-            if self.is_free() {
+            if self.is_free(errand) {
                 return;
             }
             self.waiting.sleep(rt);
@@ -84,9 +85,9 @@ impl<M: Machine> Desk<M> {
     }
 
     /// Looks a while without a break whether the way is free, and says so.
-    fn look(&self) -> bool {
+    fn look(&self, errand: Errand) -> bool {
         for _ in 0..LOOKS {
-            if self.is_free() {
+            if self.is_free(errand) {
                 return true;
             }
             hint::spin_loop();
@@ -94,27 +95,13 @@ impl<M: Machine> Desk<M> {
         false
     }
 
-    /// Stays awake at a locked door, counted where one turn is wanted, and says whether the way is free.
-    fn stand_by(&self, errand: Errand) -> bool {
-        if errand == Errand::Lock {
-            return self.look_on();
-        }
-        if !self.waiting.is_locked() {
-            return false;
-        }
-        self.waiting.step_up();
-        let is_free = self.look_on();
-        self.waiting.step_back();
-        is_free
-    }
-
-    /// Looks a while longer, as long as the door is locked, and lets other threads run in between.
-    fn look_on(&self) -> bool {
+    /// Looks a while longer and lets other threads run in between. For one turn it does so at a locked door alone.
+    fn look_on(&self, errand: Errand) -> bool {
         for _ in 0..YIELDS {
-            if self.is_free() {
+            if self.is_free(errand) {
                 return true;
             }
-            if !self.waiting.is_locked() {
+            if errand == Errand::Turn && !self.waiting.is_locked() {
                 return false;
             }
             thread::yield_now();
@@ -122,28 +109,33 @@ impl<M: Machine> Desk<M> {
         false
     }
 
-    /// Whether nobody has locked the door and no ticket is out: every turn that was drawn for has ended.
-    fn is_free(&self) -> bool {
-        if self.waiting.is_locked() {
-            return false;
-        }
+    /// Whether the way is free. To lock the door: nobody has locked it, and every turn that was drawn for has ended.
+    /// For one turn: all have ended, or all but one while the door is locked.
+    fn is_free(&self, errand: Errand) -> bool {
         let tickets = self.table.shared.peek(TICKETS);
-        tickets <= self.table.shared.peek(SERVING)
+        let ended = self.table.shared.peek(SERVING);
+        match errand {
+            Errand::Turn => tickets <= ended || (tickets - ended == 1 && self.waiting.is_locked()),
+            Errand::Lock => tickets <= ended && !self.waiting.is_locked(),
+        }
     }
 
     /// Comes in, where the thread is not inside.
     pub(crate) fn come_from<R: Wait>(&self, rt: &R, standing: Standing) {
-        if standing == Standing::AtTheDoor && !self.is_free() {
+        if standing == Standing::AtTheDoor && !self.is_free(Errand::Turn) {
             self.come_in(rt, Errand::Turn);
         }
     }
 
-    /// Wakes those who sleep with a ticket, and one at the door where it is not locked.
+    /// Wakes those who sleep with a ticket, and one at the door, unless it is locked: who unlocks it wakes that one.
     pub(crate) fn wake_from(&self, standing: Standing) {
         if self.waiting.has_sleepers() {
             self.table.shared.wake_all(SERVING);
         }
-        if standing == Standing::AtTheDoor {
+        if standing == Standing::AtTheDoor
+            && self.waiting.is_crowded()
+            && !self.waiting.is_locked()
+        {
             self.waiting.call_in();
         }
     }

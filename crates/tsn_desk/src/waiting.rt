@@ -1,17 +1,17 @@
 //! Who waits at a desk, and who wakes them. This decides when a thread sleeps, and never what it finds.
 //!
-//! A thread that finds a ticket out stays at the door until none is. So one that draws a ticket is served soon and
-//! seldom sleeps, and who sleeps at the door is not in the way of those who run. The door is a word: 1 while someone
-//! may sleep there. Who ends a turn sets it to 0 and wakes one; who was woken sets it to 1 again, since others may
-//! still sleep. Whoever sets it to 1 looks once more after that: it goes in, and its own turn ends later, or it finds a
-//! ticket out, and the turn of that ends later. Either way one more is woken.
+//! A thread that finds its way not free stays at the door. So one that draws a ticket is served soon and seldom sleeps,
+//! and who sleeps at the door is not in the way of those who run. The door is a word: 1 while someone may sleep there.
+//! Who ends a turn at a door that is not locked sets it to 0 and wakes one, and so does who unlocks it. Who was woken
+//! sets it to 1 again, since others may still sleep.
 //!
-//! A thread that has turns to take one behind the other locks the door, and the others stay there. It unlocks it and
-//! looks then whether someone may sleep there; and who says so looks at the lock once more. So either the one finds it
-//! open or the other wakes one.
+//! A thread that has turns to take one behind the other locks the door. Others that want to lock it stay there, and so
+//! does one that wants a single turn while two tickets are out; else it slips in.
 //!
-//! A thread that wants one turn is counted while it stands at the door awake. Who would lock the door looks at the
-//! count, and lets those go ahead, some times. No wake hangs on the count.
+//! Nobody sleeps on: whoever sets the word to 1 looks once more after that, at the tickets, at the turns that have
+//! ended and at the lock. It goes in; or it finds the door locked, and whoever locked it unlocks it and looks at the
+//! word later; or it finds a ticket out, and whoever ends that turn, or unlocks the door behind it, looks at the word
+//! later, unless the door is locked again by then. Either way one more is woken.
 use std::sync::Wait;
 use std::sync::atomic::{AtomicU64, Ordering};
 
@@ -27,8 +27,6 @@ pub(crate) struct Waiting {
     door: AtomicU64,
     /// Whether the door is locked.
     lock: AtomicU64,
-    /// How many stand at the door, awake, for one turn.
-    callers: AtomicU64,
     /// How many sleep with a ticket, or are about to.
     sleepers: AtomicU64,
 }
@@ -39,7 +37,6 @@ impl Waiting {
         Waiting {
             door: AtomicU64::new(0),
             lock: AtomicU64::new(0),
-            callers: AtomicU64::new(0),
             sleepers: AtomicU64::new(0),
         }
     }
@@ -54,9 +51,14 @@ impl Waiting {
         self.door.park(rt, CROWDED);
     }
 
+    /// Whether someone may sleep at the door.
+    pub(crate) fn is_crowded(&self) -> bool {
+        self.door.load(Ordering::SeqCst) != 0
+    }
+
     /// Wakes one at the door, if someone may sleep there.
     pub(crate) fn call_in(&self) {
-        if self.door.load(Ordering::SeqCst) != 0 {
+        if self.is_crowded() {
             self.door.store(0, Ordering::SeqCst);
             self.door.wake_one();
         }
@@ -75,21 +77,6 @@ impl Waiting {
     /// The door is no longer locked.
     pub(crate) fn unlock(&self) {
         self.lock.store(0, Ordering::SeqCst);
-    }
-
-    /// Counts one more that stands at the door, awake, for one turn.
-    pub(crate) fn step_up(&self) {
-        self.callers.fetch_add(1, Ordering::SeqCst);
-    }
-
-    /// Counts one less.
-    pub(crate) fn step_back(&self) {
-        self.callers.fetch_sub(1, Ordering::SeqCst);
-    }
-
-    /// Whether some stand at the door, awake, for one turn.
-    pub(crate) fn has_callers(&self) -> bool {
-        self.callers.load(Ordering::SeqCst) != 0
     }
 
     /// Counts one more that is about to sleep with a ticket.

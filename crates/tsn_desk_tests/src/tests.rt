@@ -11,7 +11,8 @@ use std::sync::Wait;
 use std::test::Fail;
 use std::thread;
 use std::thread::Threads;
-use tsn_desk::desk::{Desk, Seat};
+use tsn_desk::desk::{Desk, Seat, Standing};
+use tsn_desk::machine::Nobody;
 
 /// Adds 1 so many times. Each reply is the place of its call, since all calls add 1.
 fn count_on<R: Wait + Abort>(
@@ -35,12 +36,55 @@ fn count_on<R: Wait + Abort>(
     seat
 }
 
-/// Lets each seat count in a thread of its own.
+/// The same from inside, behind a door that it has locked.
+fn count_inside<R: Wait + Abort>(
+    rt: &R,
+    desk: &Desk<Tally>,
+    seat: Seat<Tally>,
+    times: u64,
+) -> Seat<Tally>
+    requires { IsSeatOf desk.now seat }
+    ensures { IsSeatOf desk.now result }
+{
+    let mut seat = seat;
+    for _ in 0..times {
+        let (back, turned) = desk.turn_from(rt, Standing::Inside, seat, 1, &mut Nobody);
+        seat = back;
+        match turned {
+            Ok((turn, ())) => same(rt, &turn.reply, &turn.place),
+            Err(_) => same(rt, &false, &true),
+        }
+    }
+    seat
+}
+
+/// Adds 1 four times behind a locked door and once at the door, so many times.
+fn count_in_lots<R: Wait + Abort>(
+    rt: &R,
+    desk: &Desk<Tally>,
+    seat: Seat<Tally>,
+    times: u64,
+) -> Seat<Tally>
+    requires { IsSeatOf desk.now seat }
+    ensures { IsSeatOf desk.now result }
+{
+    let mut seat = seat;
+    for _ in 0..times {
+        desk.lock_door(rt);
+        let inside = count_inside(rt, desk, seat, 4);
+        desk.open_door();
+        seat = count_on(rt, desk, inside, 1);
+    }
+    seat
+}
+
+/// Lets each seat count in a thread of its own, in lots or one by one.
 fn count_together<R: Threads + Wait + Abort + Sync>(
     rt: &R,
     desk: &Desk<Tally>,
     seats: Vec<Seat<Tally>>,
     times: u64,
+    in_lots: bool,
 ) -> Result<Vec<Seat<Tally>>, AllocError>
     requires { All (λ seat. IsSeatOf desk.now seat) seats.items }
     ensures len { IfOk result (λ back. vec_len back ≡ vec_len seats) }
@@ -49,23 +93,30 @@ fn count_together<R: Threads + Wait + Abort + Sync>(
     let count = |seat: Seat<Tally>| -> Seat<Tally>
         requires { IsSeatOf desk.now seat }
         ensures { IsSeatOf desk.entry.now result }
-    { count_on(rt, desk, seat, times) };
+    {
+        if in_lots {
+            count_in_lots(rt, desk, seat, times)
+        } else {
+            count_on(rt, desk, seat, times)
+        }
+    };
     thread::map_vec(rt, seats, &count)
 }
 
-/// The count of a new desk, after so many threads have made so many turns each.
+/// The count of a new desk, after so many threads have made so many turns each, or lots.
 fn count_of<R: Threads + Wait + Abort + Sync>(
     rt: &R,
     alloc: Global,
     seats: usize,
     times: u64,
+    in_lots: bool,
 ) -> Result<u64, AllocError>
     requires { (0 < seats) × (seats ≤ 1024) }
 {
     let Ok((desk, seats)) = Desk::new(alloc, Tally { count: 0 }, seats) else {
         return Err(AllocError);
     };
-    let seats = count_together(rt, &desk, seats, times)?;
+    let seats = count_together(rt, &desk, seats, times, in_lots)?;
     Ok(desk.close(seats).count)
 }
 
@@ -98,12 +149,18 @@ fn seats_meet_and_the_desk_is_closed(rt: HostRuntime) -> Result<(), Fail> {
 
 #[test]
 fn two_threads_count(rt: HostRuntime) -> Result<(), Fail> {
-    same(&rt, &count_of(&rt, rt.alloc(), 2, 100)?, &200);
+    same(&rt, &count_of(&rt, rt.alloc(), 2, 100, false)?, &200);
     Ok(())
 }
 
 #[test]
 fn sixteen_threads_count(rt: HostRuntime) -> Result<(), Fail> {
-    same(&rt, &count_of(&rt, rt.alloc(), 16, 2_000)?, &32_000);
+    same(&rt, &count_of(&rt, rt.alloc(), 16, 2_000, false)?, &32_000);
+    Ok(())
+}
+
+#[test]
+fn sixteen_threads_count_in_lots(rt: HostRuntime) -> Result<(), Fail> {
+    same(&rt, &count_of(&rt, rt.alloc(), 16, 400, true)?, &32_000);
     Ok(())
 }
