@@ -77,8 +77,8 @@ pub trait ByteOut {
         ensures err { OnErr result (Keeps (taken self.old) (taken self.new)) }
         ensures failed { OnErr result (has_failed self.new ≡ true) };
 
-    /// Whether it would take so many bytes with no wait, as far as it knows. Nothing is decided by it but when to
-    /// write.
+    /// Whether it would take so many bytes with no wait, as far as it knows. It decides when to write and who waits
+    /// meanwhile, and never what is written.
     fn has_room(&self, _bytes: usize) -> bool {
         false
     }

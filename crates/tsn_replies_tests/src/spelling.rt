@@ -8,12 +8,13 @@ use std::test::Fail;
 use tsn_bridge::reply::Reply;
 use tsn_bytes::MemOut;
 use tsn_chain::data::FilterData;
+use tsn_chain::frame::{DropCause, Verdict};
 use tsn_chain::state::{Counters, ListCounters};
 use tsn_edit::{Change, MOST_PARTS, Part};
 use tsn_journal::entries::{Act, Entry, What};
-use tsn_replies::{ShortText, write_entries};
+use tsn_replies::{ShortText, write_entries, write_reply};
 use tsn_types::keys::Key;
-use tsn_types::numbers::{FilterId, GateId, Instant, PortId};
+use tsn_types::numbers::{FilterId, GateId, Instant, PortId, Priority};
 use tsn_types::refusals::Refusal;
 
 const GREATEST: u64 = 18_446_744_073_709_551_615;
@@ -217,6 +218,61 @@ fn tells_an_act(rt: &impl Abort, alloc: Global) -> Result<(), Fail> {
     tells(rt, alloc, acted, text)
 }
 
+// The line of the reply has 128 bytes at most.
+fn is_short(rt: &impl Abort, alloc: Global, reply: &Reply) -> Result<(), Fail> {
+    let mut writer = MemOut::new(Vec::with_capacity(alloc, 256)?, 1000, None);
+    write_reply(&mut writer, reply)?;
+    same(rt, &(writer.as_slice().len() <= 128), &true);
+    Ok(())
+}
+
+// The longest verdicts.
+fn verdicts(now: Instant) -> [Verdict; 2] {
+    let filter = FilterId::new(65_535).unwrap();
+    [
+        Verdict::Passed {
+            filter: Some(filter),
+            now,
+            priority: Priority::new(7).unwrap(),
+            yellow: false,
+        },
+        Verdict::Dropped {
+            filter,
+            now,
+            cause: DropCause::Oversize,
+        },
+    ]
+}
+
+// Replies to edits, acts, frames and what is refused are short: who holds back 64 of them looks for so much room.
+fn short_replies_are_short(rt: &impl Abort, alloc: Global) -> Result<(), Fail> {
+    let now = Instant::new(4_611_686_018_427_387_904).unwrap();
+    for refusal in [
+        Refusal::Referred(Key::Filter(FilterId::new(65_535).unwrap())),
+        Refusal::Conflict {
+            own: GREATEST,
+            other: GREATEST,
+        },
+        Refusal::Settled { upto: GREATEST },
+    ] {
+        is_short(rt, alloc, &Reply::Refused(refusal))?;
+    }
+    for verdict in verdicts(now) {
+        is_short(rt, alloc, &Reply::Framed(verdict))?;
+    }
+    let settled = Reply::Settled {
+        entry: GREATEST,
+        settled: GREATEST,
+    };
+    is_short(rt, alloc, &settled)?;
+    let acted = Reply::Acted {
+        change: Some(GREATEST),
+        entry: GREATEST,
+        now,
+    };
+    is_short(rt, alloc, &acted)
+}
+
 #[test]
 fn spells_what_no_script_brings_about(rt: HostRuntime) -> Result<(), Fail> {
     let alloc = rt.alloc();
@@ -228,5 +284,6 @@ fn spells_what_no_script_brings_about(rt: HostRuntime) -> Result<(), Fail> {
     spells_counters_of_filters(&rt, alloc)?;
     tells_changes(&rt, alloc)?;
     tells_a_batch(&rt, alloc)?;
-    tells_an_act(&rt, alloc)
+    tells_an_act(&rt, alloc)?;
+    short_replies_are_short(&rt, alloc)
 }

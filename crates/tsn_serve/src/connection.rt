@@ -275,7 +275,23 @@ impl<'a, R: Wait, G: Gate, W: Witness<Bridge> + Drop> Connection<'a, R, G, W> {
         Ok(done)
     }
 
-    // The same with the door locked, so that the turns follow each other and no other thread's come between.
+    // Whether two of the lines or more take turns, for which the door is worth locking.
+    fn takes_turns(&self, lot: &[ReadLine]) -> bool {
+        let mut takes_one = false;
+        for line in lot {
+            let takes_turn = match &line.read {
+                Ok(ask) => line.is_brief && self.may_ask(ask),
+                Err(_) => false,
+            };
+            if takes_turn && takes_one {
+                return true;
+            }
+            takes_one = takes_one || takes_turn;
+        }
+        false
+    }
+
+    // The same with the door locked where turns follow each other, so that no other connection's lot comes between.
     fn answer_lot<O: ByteOut>(
         &mut self,
         lot: Vec<ReadLine>,
@@ -287,8 +303,10 @@ impl<'a, R: Wait, G: Gate, W: Witness<Bridge> + Drop> Connection<'a, R, G, W> {
         ensures worked { result ≢ Err Write → O.has_failed writer.new ≡ O.has_failed writer.old }
         ensures failed { IsErrOf result Write → O.has_failed writer.new ≡ true }
     {
-        self.desk.lock_door(self.rt);
-        self.standing = Standing::Inside;
+        if self.takes_turns(lot.as_slice()) {
+            self.desk.lock_door(self.rt);
+            self.standing = Standing::Inside;
+        }
         let answered = self.answer_each(lot, bytes, writer);
         self.leave_unless(false);
         answered

@@ -9,7 +9,7 @@ pub trait Gate {
     fn answered(&self, connection: u32);
 
     /// Whether a call of it may wait. If not, the turns for lines that a connection has at hand follow each other, and
-    /// others wait meanwhile.
+    /// other connections' lots wait meanwhile.
     fn may_wait(&self) -> bool {
         true
     }

@@ -14,7 +14,7 @@ use tsn_types::refusals::Refusal;
 /// The most lines of a lot.
 const MOST_LINES: usize = 64;
 
-/// The most bytes of the replies to them, since a short one has 128 at most.
+/// The most bytes of the replies to them, since a short one has 128 at most, as a test of replies shows.
 pub(crate) const MOST_REPLIES: usize = 8_192;
 
 /// A line that was read: what it asks or why it is refused, and how many bytes it has with its line feed.

@@ -14,7 +14,7 @@ use std::thread;
 use std::thread::Threads;
 use std::time::{Clock, Duration};
 use tsn_bridge::bridge::{Bridge, Setup};
-use tsn_bytes::{Fault, MemIn, MemOut};
+use tsn_bytes::{Buffered, Fault, MemIn, MemOut};
 use tsn_desk::desk::{Desk, Seat};
 use tsn_serve::{Free, Gate, Gated, Source, serve_all, session};
 use tsn_types::numbers::{Instant, PortId};
@@ -82,6 +82,32 @@ fn a_session_in_memory(rt: HostRuntime) -> Result<(), Fail> {
     for most in [7usize, 100_000] {
         answers_well(&rt, rt.alloc(), most)?;
     }
+    Ok(())
+}
+
+/// Edits that lie whole one behind the other, and a look between them.
+const EDITS: &'static [u8] = b"{\"do\":\"hello\"}\n\
+    {\"do\":\"create\",\"key\":\"gate 0\",\"record\":{\"base\":0,\"cycle\":1000000,\"extension\":0,\"invalid_rx\":false,\"ipv\":null,\"list\":[],\"octets_exceeded\":false,\"open\":true},\"s\":1}\n\
+    {\"do\":\"undo\",\"s\":1}\n{\"do\":\"undo\",\"s\":1}\n\
+    {\"do\":\"create\",\"key\":\"gate 0\",\"record\":{\"base\":0,\"cycle\":1000000,\"extension\":0,\"invalid_rx\":false,\"ipv\":null,\"list\":[],\"octets_exceeded\":false,\"open\":true},\"s\":1}\n\
+    {\"do\":\"list\",\"kind\":\"gate\",\"s\":1}\n{\"do\":\"undo\",\"s\":1}\n{\"do\":\"undo\",\"s\":2}\n{\"do\":\"undo\",\"s\":1}\n";
+
+const EDITED: &'static [u8] =
+    b"{\"session\":1}\n{\"entry\":1}\n{\"entry\":2,\"of\":1}\n{\"refused\":10,\"why\":\"nothing_to_undo\"}\n\
+    {\"entry\":3}\n{\"ids\":[0]}\n{\"entry\":4,\"of\":3}\n{\"refused\":5,\"why\":\"no_session\"}\n\
+    {\"refused\":10,\"why\":\"nothing_to_undo\"}\n";
+
+/// The same over a writer that holds replies back, so that lines are answered in lots.
+#[test]
+fn a_session_in_lots(rt: HostRuntime) -> Result<(), Fail> {
+    let alloc = rt.alloc();
+    let (desk, mut seats) = opened(alloc, 1)?;
+    let mut reader = MemIn::new(Vec::from_slice(alloc, EDITS)?, 100_000, None);
+    let mut writer = Buffered::new(alloc, MemOut::new(Vec::new(alloc), 100_000, None))?;
+    let seat = seats.pop().unwrap();
+    let (_, ended) = session(&rt, alloc, &desk, seat, 1, &mut reader, &mut writer, &Free);
+    same(&rt, &ended, &Ok(()));
+    assert_eq!(rt; writer.inner().as_slice(), EDITED);
     Ok(())
 }
 
