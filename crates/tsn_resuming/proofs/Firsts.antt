@@ -13,10 +13,10 @@ use Rattle.serde_json.specs.Read.{read}
 use Rattle.serde_json.proofs.OnLiterals.{serde_json_on_literals}
 use Rattle.tsn_setup.specs.Setups.{longest_setup}
 use Rattle.tsn_recorded.specs.Text.{line_feed, longest_first_command}
-use Rattle.tsn_spelling.proofs.Backs.{IsPlain, read_back}
+use Rattle.tsn_wire.proofs.Backs.{IsPlain, read_back}
 use Rattle.tsn_replies.proofs.Escapes.{byte_within}
 use Rattle.tsn_spelling.proofs.Feeds.{IsNoFeed, quoted_no_feed}
-use Rattle.tsn_spelling.proofs.Visible.{no_feed}
+use Rattle.tsn_wire.proofs.Visible.{no_feed}
 use Rattle.tsn_wire.specs.Reading.{data_of}
 use Rattle.tsn_resuming.specs.First.{first_data, first_text, setup_in, setup_of_data, setup_of_read}
 

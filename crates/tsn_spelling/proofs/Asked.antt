@@ -1,20 +1,15 @@
 -- The value of what may be asked: its numbers fit 64 bits, and its texts are plain ASCII.
-use Rattle.std.proofs.Common.{◌≡◌, ℕ, suc, ◌^◌, ◌<◌, List, [], ◌∷◌, map, Option, Some, None, true, refl, arith}
-use Rattle.std.specs.Prelude.{IfSome, ⊤}
-use Rattle.std.specs.List.{AllByRecursion}
-use Rattle.serde_json.specs.Data.{Data}
-use Rattle.serde_json.specs.View.{items_of}
+use Rattle.std.proofs.Common.{◌≡◌, ℕ, suc, List, Some, None, refl, arith}
+use Rattle.std.specs.Prelude.{⊤}
 use Rattle.tsn_bridge.specs.declared.command.Command.{Command}
 use Rattle.tsn_bridge.specs.declared.command.Command.TheVariants as commands
 use Rattle.tsn_edit.specs.declared.Edit.{Edit}
 use Rattle.tsn_edit.specs.declared.Edit.TheVariants as edits
 use Rattle.tsn_records.proofs.Pairs.{◌&◌}
-use Rattle.tsn_records.specs.Keys.{key_text, kind_text}
-use Rattle.tsn_records.specs.Shown.{or_null, port_entry_data, gate_entry_data, port_data, filter_data, gate_data, meter_data, record_data}
+use Rattle.tsn_records.specs.Shown.{list_array, port_entry_data, gate_entry_data, port_data, filter_data, gate_data, meter_data, record_data}
+use Rattle.tsn_types.specs.Keys.{kind, number_of}
 use Rattle.tsn_types.specs.declared.keys.Key.{Key}
 use Rattle.tsn_types.specs.declared.keys.Key.TheVariants as keys
-use Rattle.tsn_types.specs.declared.keys.Kind.{Kind}
-use Rattle.tsn_types.specs.declared.keys.Kind.TheVariants as kinds
 use Rattle.tsn_types.specs.declared.records.PortEntry.{PortEntry}
 use Rattle.tsn_types.specs.declared.records.GateEntry.{GateEntry}
 use Rattle.tsn_types.specs.declared.records.PortGates.{PortGates}
@@ -25,19 +20,10 @@ use Rattle.tsn_types.specs.declared.records.Record.{Record}
 use Rattle.tsn_types.specs.declared.records.Record.TheVariants as records
 use Rattle.tsn_types.specs.InRange.{PortEntryInRange, GateEntryInRange, PortInRange, GateInRange, FilterInRange, MeterInRange, RecordInRange, KeyedInRange}
 use Rattle.tsn_wire.specs.Values.{edit_value, value_of, EditMayBeAsked, MayBeAsked}
-use Rattle.tsn_spelling.proofs.Backs.{IsPlain, ItemsArePlain}
-use Rattle.tsn_spelling.proofs.Visible.{are_plain, IsShown, ItemsAreShown, decimal_plain}
+use Rattle.tsn_wire.proofs.Backs.{IsPlain, items_plain, number_or_null}
+use Rattle.tsn_wire.proofs.Visible.{IsShown, filter_shown, gate_shown, items_shown, key_shown, kind_shown, meter_shown, or_null_shown, port_shown}
 
 -- ---- its numbers fit
-
-number_or_null : (n : ℕ) (P : ℕ → Type 0) (o : Option ℕ) → ((a : ℕ) → P a → a < 2 ^ 64) → IfSome o P → IsPlain n (or_null o)
-number_or_null n P None fits h = tt
-number_or_null n P (Some a) fits h = fits a h
-
-items_plain : {I : Type 0} (n : ℕ) (P : I → Type 0) (f : I → Data) → ((x : I) → P x → IsPlain n (f x)) → (xs : List I) → AllByRecursion P xs
-    → ItemsArePlain n (items_of (map f xs))
-items_plain n P f each [] h = tt
-items_plain n P f each (x ∷ xs) h = (each x h.0, items_plain n P f each xs h.1)
 
 port_entry_plain : (n : ℕ) (e : PortEntry) → PortEntryInRange e → IsPlain (suc n) (port_entry_data e)
 port_entry_plain n e h = (omega (arith, h.gates), (omega (arith, h.interval.1), tt))
@@ -122,14 +108,6 @@ value_plain s commands.Setup h = (refl, (tt, (omega (arith, h.1), tt)))
 
 -- ---- its texts are plain
 
-or_null_shown : (o : Option ℕ) → IsShown (or_null o)
-or_null_shown None = tt
-or_null_shown (Some n) = tt
-
-items_shown : {I : Type 0} (f : I → Data) → ((x : I) → IsShown (f x)) → (xs : List I) → ItemsAreShown (items_of (map f xs))
-items_shown f each [] = tt
-items_shown f each (x ∷ xs) = (each x, items_shown f each xs)
-
 port_entry_shown : (e : PortEntry) → IsShown (port_entry_data e)
 port_entry_shown e = (tt, (tt, tt))
 
@@ -138,55 +116,18 @@ gate_entry_shown e = (tt, (or_null_shown e.ipv, (tt, (or_null_shown e.octets, tt
 
 record_shown : (r : Record) → IsShown (record_data r)
 record_shown (records.Port r) =
-    (refl, tt, (refl, tt, (refl, tt, (refl, tt, (refl, items_shown port_entry_data port_entry_shown r.admin.list, tt)))))
-record_shown (records.Filter r) = (
-  refl,
-  tt,
-  (
-    refl,
-    or_null_shown r.handle,
-    (refl, or_null_shown r.max_sdu, (refl, or_null_shown r.meter, (refl, tt, (refl, or_null_shown r.priority, tt)))),
-  ),
-)
-record_shown (records.Gate r) = (
-  refl,
-  tt,
-  (
-    refl,
-    tt,
-    (
-      refl,
-      tt,
-      (
-        refl,
-        tt,
-        (
-          refl,
-          or_null_shown r.ipv,
-          (refl, items_shown gate_entry_data gate_entry_shown r.admin.list, (refl, tt, (refl, tt, tt))),
-        ),
-      ),
-    ),
-  ),
-)
-record_shown (records.Meter r) = (refl, tt, (refl, tt, (refl, tt, (refl, tt, (refl, tt, (refl, tt, (refl, tt, (refl, tt, tt))))))))
-
-key_shown : (k : Key) → are_plain (key_text k) ≡ true
-key_shown (keys.Port n) = decimal_plain n
-key_shown (keys.Filter n) = decimal_plain n
-key_shown (keys.Gate n) = decimal_plain n
-key_shown (keys.Meter n) = decimal_plain n
-
-kind_shown : (k : Kind) → are_plain (kind_text k) ≡ true
-kind_shown kinds.Port = refl
-kind_shown kinds.Filter = refl
-kind_shown kinds.Gate = refl
-kind_shown kinds.Meter = refl
+    port_shown r.admin.base r.admin.cycle r.admin.extension r.gates (list_array port_entry_data r.admin.list)
+    (items_shown port_entry_data port_entry_shown r.admin.list)
+record_shown (records.Filter r) = filter_shown r.gate r.handle r.max_sdu r.meter r.oversize r.priority
+record_shown (records.Gate r) =
+    gate_shown r.admin.base r.admin.cycle r.admin.extension r.invalid_rx r.ipv (list_array gate_entry_data r.admin.list)
+    r.octets_exceeded r.is_open (items_shown gate_entry_data gate_entry_shown r.admin.list)
+record_shown (records.Meter r) = meter_shown r.all_red r.aware r.cbs r.cf r.cir r.drop_yellow r.ebs r.eir
 
 edit_shown : (e : Edit) → IsShown (edit_value e)
-edit_shown (edits.Create k r) = (refl, refl, (refl, key_shown k, (refl, record_shown r, tt)))
-edit_shown (edits.Replace k r) = (refl, refl, (refl, key_shown k, (refl, record_shown r, tt)))
-edit_shown (edits.Remove k) = (refl, refl, (refl, key_shown k, tt))
+edit_shown (edits.Create k r) = (refl, refl, (refl, key_shown (kind k) (number_of k), (refl, record_shown r, tt)))
+edit_shown (edits.Replace k r) = (refl, refl, (refl, key_shown (kind k) (number_of k), (refl, record_shown r, tt)))
+edit_shown (edits.Remove k) = (refl, refl, (refl, key_shown (kind k) (number_of k), tt))
 
 -- no hello by a name, whose text need not be plain
 abbrev pub IsUnnamed : Command → Type 0
@@ -196,21 +137,21 @@ IsUnnamed c = ⊤
 pub value_shown : (s : ℕ) (c : Command) → IsUnnamed c → IsShown (value_of s c)
 value_shown s (commands.Hello None) h = (refl, refl, tt)
 value_shown s (commands.Hello (Some name)) h = absurd h
-value_shown s (commands.Create k r) h = (refl, refl, (refl, key_shown k, (refl, record_shown r, (refl, tt, tt))))
-value_shown s (commands.Replace k r) h = (refl, refl, (refl, key_shown k, (refl, record_shown r, (refl, tt, tt))))
-value_shown s (commands.Remove k) h = (refl, refl, (refl, key_shown k, (refl, tt, tt)))
+value_shown s (commands.Create k r) h = (refl, refl, (refl, key_shown (kind k) (number_of k), (refl, record_shown r, (refl, tt, tt))))
+value_shown s (commands.Replace k r) h = (refl, refl, (refl, key_shown (kind k) (number_of k), (refl, record_shown r, (refl, tt, tt))))
+value_shown s (commands.Remove k) h = (refl, refl, (refl, key_shown (kind k) (number_of k), (refl, tt, tt)))
 value_shown s (commands.Batch b) h = (refl, refl, (refl, items_shown edit_value edit_shown b, (refl, tt, tt)))
 value_shown s commands.Undo h = (refl, refl, (refl, tt, tt))
 value_shown s commands.UndoAll h = (refl, refl, (refl, tt, tt))
 value_shown s commands.Redo h = (refl, refl, (refl, tt, tt))
 value_shown s (commands.Settle upto) h = (refl, refl, (refl, tt, (refl, tt, tt)))
-value_shown s (commands.Enable k now) h = (refl, refl, (refl, key_shown k, (refl, tt, (refl, tt, tt))))
-value_shown s (commands.Disable k now) h = (refl, refl, (refl, key_shown k, (refl, tt, (refl, tt, tt))))
-value_shown s (commands.Apply k now) h = (refl, refl, (refl, key_shown k, (refl, tt, (refl, tt, tt))))
+value_shown s (commands.Enable k now) h = (refl, refl, (refl, key_shown (kind k) (number_of k), (refl, tt, (refl, tt, tt))))
+value_shown s (commands.Disable k now) h = (refl, refl, (refl, key_shown (kind k) (number_of k), (refl, tt, (refl, tt, tt))))
+value_shown s (commands.Apply k now) h = (refl, refl, (refl, key_shown (kind k) (number_of k), (refl, tt, (refl, tt, tt))))
 value_shown s (commands.Frame f now) h = (refl, refl, (refl, tt, (refl, tt, (refl, tt, (refl, tt, (refl, tt, (refl, tt, tt)))))))
-value_shown s (commands.States k at) h = (refl, tt, (refl, refl, (refl, key_shown k, (refl, tt, tt))))
-value_shown s (commands.Counters k) h = (refl, refl, (refl, key_shown k, (refl, tt, tt)))
-value_shown s (commands.Show k) h = (refl, refl, (refl, key_shown k, (refl, tt, tt)))
+value_shown s (commands.States k at) h = (refl, tt, (refl, refl, (refl, key_shown (kind k) (number_of k), (refl, tt, tt))))
+value_shown s (commands.Counters k) h = (refl, refl, (refl, key_shown (kind k) (number_of k), (refl, tt, tt)))
+value_shown s (commands.Show k) h = (refl, refl, (refl, key_shown (kind k) (number_of k), (refl, tt, tt)))
 value_shown s (commands.List k) h = (refl, refl, (refl, kind_shown k, (refl, tt, tt)))
 value_shown s (commands.Since after) h = (refl, tt, (refl, refl, (refl, tt, tt)))
 value_shown s commands.Resume h = (refl, refl, (refl, tt, tt))

@@ -5,7 +5,7 @@ use Rattle.std.specs.Char.{digit_char}
 use Rattle.std.proofs.lemmas.Bool.{ltb-false}
 use Rattle.std.proofs.lemmas.List.Elements.{All-append, All-cons, All-nil}
 use Rattle.json.specs.Print.{escape, escape_byte, escape_letter, quoted}
-use Rattle.tsn_spelling.proofs.Visible.{no_feed}
+use Rattle.tsn_wire.proofs.Visible.{no_feed}
 
 abbrev pub IsNoFeed : ℕ → Type 0
 IsNoFeed b = b ≢ 10

@@ -18,11 +18,11 @@ use Rattle.tsn_wire.specs.Values.{MayBeAsked, hello_data, value_of}
 use Rattle.tsn_spelling.specs.Laws.{ReadsBack, HasNoLineFeed, WasAsked, IsAskedAgain, IsNoLonger, ActsMayBeAsked, HelloMayBeAsked}
 use Rattle.tsn_spelling.specs.Line.{line_text}
 use Rattle.tsn_spelling.proofs.Asked.{by_name, value_plain, value_shown}
-use Rattle.tsn_spelling.proofs.Backs.{read_back}
+use Rattle.tsn_wire.proofs.Backs.{read_back}
 use Rattle.tsn_spelling.proofs.Feeds.{IsNoFeed, quoted_no_feed}
 use Rattle.tsn_spelling.proofs.Shapes.{named_text}
 use Rattle.tsn_spelling.proofs.Shortest.{AreWhole, no_longer, shown_whole}
-use Rattle.tsn_spelling.proofs.Visible.{text_visible, visible_utf8, no_feed}
+use Rattle.tsn_wire.proofs.Visible.{text_visible, visible_utf8, no_feed}
 
 -- the line is UTF-8: that of a hello by a name, and any other
 named_utf8 : (name : List ℕ) → is_name name ≡ true → is_utf8 (compact_text (hello_data (Some name))) ≡ true

@@ -1,5 +1,4 @@
 pub mod Asked
-pub mod Backs
 pub mod Changes
 pub mod Feeds
 pub mod Growing
@@ -7,5 +6,4 @@ pub mod Holding
 pub mod Records
 pub mod Shapes
 pub mod Shortest
-pub mod Visible
 pub mod Weighing

@@ -13,7 +13,7 @@ use Rattle.serde_json.specs.Data as values
 use Rattle.serde_json.specs.Data.{Num, unsigned, negative, float, Data, Items, no_items, item, Members, no_members, member, put}
 use Rattle.serde_json.specs.Read.{number_of, of_json, of_items, of_members, max_depth, read}
 use Rattle.serde_json.specs.Written.{compact_text, items_text, members_text, comma_if}
-use Rattle.tsn_spelling.proofs.Visible.{IsWhole, IsShown, ItemsAreShown, MembersAreShown}
+use Rattle.tsn_wire.proofs.Visible.{IsWhole, IsShown, ItemsAreShown, MembersAreShown}
 use Rattle.tsn_spelling.proofs.Weighing.{whole_weight, token_weight, weight, between_fits}
 
 -- ---- tokens take no more than their lexemes

@@ -19,7 +19,8 @@ use Rattle.tsn_wire.specs.declared.drafts.LineDraft.TheVariants.{Hello, Named, S
 use Rattle.tsn_wire.proofs.Answering.{data_of_read}
 use Rattle.tsn_wire.proofs.Gathering.{object_read}
 use Rattle.tsn_wire.proofs.Objects.{Rise}
-use Rattle.tsn_wire.proofs.CompactSpelling.{whole, reading_of}
+use Rattle.tsn_wire.proofs.Backs.{whole}
+use Rattle.tsn_wire.proofs.CompactSpelling.{reading_of}
 use Rattle.tsn_wire.proofs.Shaping.{shaped}
 
 -- ---- the lexemes of a value are punctuated as its tokens

@@ -1,38 +1,16 @@
 -- A frame's line in the service's compact spelling is read as the draft that it spells.
-use Rattle.std.proofs.Common.{◌≡◌, ℕ, ◌++◌, List, Bool, codes, decimal, refl, ap, ◌∙◌, arith}
-use Rattle.std.specs.Prelude.{IsUtf8}
+use Rattle.std.proofs.Common.{◌≡◌, ℕ, ◌++◌, List, Bool, codes, decimal, refl, ap, ◌∙◌}
 use Rattle.json.specs.Print.{escape_byte}
-use Rattle.json.proofs.Printed.Decimals.{IsNumber-decimal}
 use Rattle.serde_json.specs.Data.{boolean}
 use Rattle.serde_json.specs.Written.{compact_text}
-use Rattle.serde_json.proofs.Numbers.{number_of-decimal}
 use Rattle.tsn_chain.specs.declared.frame.Frame.{Frame}
 use Rattle.tsn_wire.specs.Reading.{line_of_draft, reading}
 use Rattle.tsn_wire.specs.Spelled.{IsSmall}
 use Rattle.tsn_wire.specs.Values.{frame_data}
 use Rattle.tsn_wire.specs.declared.drafts.CommandDraft.TheVariants as wanted
 use Rattle.tsn_wire.specs.declared.drafts.LineDraft.TheVariants.{Session}
-use Rattle.tsn_wire.proofs.CompactSpelling.{IsPlain, value_says}
-
-frame_plain : (s : ℕ) (f : Frame) (now : ℕ) → IsSmall f.handle → IsSmall now → IsSmall f.octets → IsSmall f.priority → IsSmall s
-    → IsPlain 127 (frame_data s f now)
-frame_plain s f now h n o p small = record {
-  same = rw (
-    number_of-decimal f.handle h,
-    number_of-decimal now n,
-    number_of-decimal f.octets o,
-    number_of-decimal f.priority p,
-    number_of-decimal s small,
-  ) refl;
-  numbers = (
-    tt,
-    (
-      IsNumber-decimal f.handle h,
-      (IsNumber-decimal now n, (IsNumber-decimal f.octets o, (IsNumber-decimal f.priority p, (IsNumber-decimal s small, (tt, tt))))),
-    ),
-  );
-  shallow = omega arith;
-}
+use Rattle.tsn_wire.proofs.CompactSpelling.{value_says}
+use Rattle.tsn_wire.proofs.CompactValues.{framed}
 
 -- what comes behind the handle
 abbrev behind_handle : ℕ → Frame → ℕ → List ℕ
@@ -50,9 +28,9 @@ pub frame_says : (line t1 t2 t3 t4 t5 t6 : List ℕ) (h now o p s : ℕ) (y : Bo
     → IsSmall s → line ≡ codes "{\"do\":\"frame\",\"handle\":" ++ (decimal h ++ t1) → t1 ≡ codes ",\"now\":"
     ++ (decimal now ++ t2) → t2 ≡ codes ",\"octets\":" ++ (decimal o ++ t3) → t3 ≡ codes ",\"priority\":"
     ++ (decimal p ++ t4) → t4 ≡ codes ",\"s\":" ++ (decimal s ++ t5) → t5 ≡ codes ",\"yellow\":"
-    ++ (compact_text (boolean y) ++ t6) → t6 ≡ codes "}" → IsUtf8 line → reading line ≡ line_of_draft
+    ++ (compact_text (boolean y) ++ t6) → t6 ≡ codes "}" → reading line ≡ line_of_draft
     (Session s (wanted.Frame (record { handle = h; priority = p; octets = o; yellow = y }) now))
-frame_says line t1 t2 t3 t4 t5 t6 h now o p s y small_h small_now small_o small_p small_s e0 e1 e2 e3 e4 e5 e6 utf8 =
+frame_says line t1 t2 t3 t4 t5 t6 h now o p s y small_h small_now small_o small_p small_s e0 e1 e2 e3 e4 e5 e6 =
     let f : Frame = record { handle = h; priority = p; octets = o; yellow = y } in
     let flag : t5 ≡ codes ",\"yellow\":" ++ (compact_text (boolean y) ++ codes "}") = e5
     ∙ ap (λ l. codes ",\"yellow\":" ++ (compact_text (boolean y) ++ l)) e6 in
@@ -63,4 +41,4 @@ frame_says line t1 t2 t3 t4 t5 t6 h now o p s y small_h small_now small_o small_
     let by_now : t1 ≡ behind_handle s f now = e1 ∙ ap (λ l. codes ",\"now\":" ++ (decimal now ++ l)) by_octets in
     let whole_line = e0 ∙ ap (λ l. codes "{\"do\":\"frame\",\"handle\":" ++ (decimal h ++ l)) by_now in
     value_says line s (wanted.Frame (record { handle = h; priority = p; octets = o; yellow = y }) now) tt
-    (frame_plain s f now small_h small_now small_o small_p small_s) (whole_line ∙ frame_text s f now) utf8
+    (framed s f now small_h small_now small_o small_p small_s) (whole_line ∙ frame_text s f now)

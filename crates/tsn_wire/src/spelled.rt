@@ -17,6 +17,9 @@ use crate::spelled_records::{flag_member, key, keyed_record, kind, number_member
 use std::alloc::Global;
 use tsn_types::keys::Kind;
 
+// Where the first letter of a command's word stands, behind `{"do":"`.
+const FIRST_LETTER: usize = 7;
+
 // Which command it may be is guessed from its second and third letter.
 fn command(alloc: Global, text: &mut Cursor<'_>) -> Option<CommandDraft>
     ensures { IfSome result (λ command. Spells text.old command text.new) }
@@ -149,17 +152,15 @@ fn session(text: &mut Cursor<'_>) -> Option<u64>
     Some(number)
 }
 
-// The draft that a line in the service's compact spelling is; none of any other line.
+// The draft that a line in the service's compact spelling is; none of any other line. Such a line is ASCII by its
+// spelling, so nothing looks whether it is UTF-8.
 fn compact_draft(alloc: Global, line: &[u8]) -> Option<LineDraft>
     ensures { IfSome result (λ draft. reading line.now ≡ line_of_draft draft) }
 {
     let mut text = Cursor::new(line);
     let command = front(alloc, &mut text)?;
     let session = session(&mut text)?;
-    match std::str::from_utf8(line) {
-        Ok(_) => Some(LineDraft::Session { session, command }),
-        Err(_) => None,
-    }
+    Some(LineDraft::Session { session, command })
 }
 
 // The frame that a line in the service's compact spelling hands in; none of any other line.
@@ -181,10 +182,18 @@ fn compact_frame(line: &[u8]) -> Option<LineDraft>
         yellow,
     };
     let command = CommandDraft::Frame { frame, now };
-    match std::str::from_utf8(line) {
-        Ok(_) => Some(LineDraft::Session { session, command }),
-        Err(_) => None,
+    Some(LineDraft::Session { session, command })
+}
+
+// The draft that a line in the service's compact spelling is, a frame's too; none of any other line. Behind `{"do":"` a
+// frame's alone goes on by an f.
+fn compact(alloc: Global, line: &[u8]) -> Option<LineDraft>
+    ensures { IfSome result (λ draft. reading line.now ≡ line_of_draft draft) }
+{
+    if line.len() > FIRST_LETTER && line[FIRST_LETTER] == b'f' {
+        return compact_frame(line);
     }
+    compact_draft(alloc, line)
 }
 
 /// The draft that a line is, in the service's compact spelling or in another that is read with no tree.
@@ -192,11 +201,7 @@ fn compact_frame(line: &[u8]) -> Option<LineDraft>
 pub fn spelled_draft(alloc: Global, line: &[u8]) -> Option<LineDraft>
     ensures { IfSome result (λ draft. reading line.now ≡ line_of_draft draft) }
 {
-    let frame = compact_frame(line);
-    if frame.is_some() {
-        return frame;
-    }
-    let compact = compact_draft(alloc, line);
+    let compact = compact(alloc, line);
     if compact.is_some() {
         return compact;
     }

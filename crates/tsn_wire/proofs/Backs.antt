@@ -1,7 +1,9 @@
 -- The compact text of a value of whole numbers that fit 64 bits reads back as that value.
-use Rattle.std.proofs.Common.{◌≡◌, ℕ, zero, suc, ◌^◌, ◌<◌, ◌≤◌, [], Some, option_map, option_and_then, refl, sym, ap, ◌∙◌, arith, append-nil}
-use Rattle.std.specs.Prelude.{⊤}
+use Rattle.std.proofs.Common.{◌≡◌, ℕ, zero, suc, ◌^◌, ◌<◌, ◌≤◌, List, [], ◌∷◌, map, Option, Some, None, option_map, option_and_then, refl, sym, ap, ◌∙◌, arith, append-nil}
+use Rattle.std.specs.Prelude.{IfSome, ⊤}
+use Rattle.std.specs.List.{AllByRecursion}
 use Rattle.json.specs.Lex.{tokens}
+use Rattle.json.specs.Token.{Token}
 use Rattle.json.specs.Json as json
 use Rattle.json.specs.Tree as tree
 use Rattle.json.proofs.Printed.Decimals.{IsNumber-decimal}
@@ -9,9 +11,11 @@ use Rattle.json.proofs.Printed.Trees.{value-json_tokens, ArePrintable-json_token
 use Rattle.json.proofs.Printed.Tokens.{tokens-print}
 use Rattle.serde_json.specs.Data.{Num, unsigned, negative, float, Data, null, boolean, number, string, array, object, Items, no_items, item, Members, no_members, member, put}
 use Rattle.serde_json.specs.Read.{of_json, of_items, of_members, read, max_depth}
+use Rattle.serde_json.specs.View.{items_of}
 use Rattle.serde_json.specs.Written.{outline, items_outline, members_outline, compact_text}
 use Rattle.serde_json.proofs.Numbers.{number_of-decimal}
 use Rattle.serde_json.proofs.Texts.{print-outline}
+use Rattle.tsn_records.specs.Shown.{or_null}
 
 -- the members, put in one after another behind those that were found
 abbrev pub puts : Members → Members → Members
@@ -111,12 +115,26 @@ mutual
   members_shallow n no_members h = omega arith
   members_shallow n (member k d ms) h = omega (arith, shallow n d h.0, members_shallow n ms h.1)
 
+-- what the whole of a text is read as
+abbrev pub whole : Option (json.Json × List Token) → Option Data
+whole o = option_and_then of_json (option_and_then (λ p. json.if_last p.0 p.1) o)
+
 -- the text reads as the value
 pub read_back : (n : ℕ) (d : Data) → n ≤ max_depth → IsPlain n d → read (compact_text d) ≡ Some d
 read_back n d within h =
-    let whole : tokens (compact_text d) ≡ tree.json_tokens (outline d) = ap tokens (sym (print-outline d))
+    let lexed : tokens (compact_text d) ≡ tree.json_tokens (outline d) = ap tokens (sym (print-outline d))
     ∙ tokens-print _ (ArePrintable-json_tokens (outline d) (prints n d h)) in
     let nests : tree.depth (outline d) ≤ max_depth = omega (arith, shallow n d h) in
-    ap (λ o. option_and_then of_json (option_and_then (λ p. json.if_last p.0 p.1) o))
-    (ap (json.value max_depth) (whole ∙ sym (append-nil _)) ∙ value-json_tokens (outline d) max_depth [] nests)
+    ap whole (ap (json.value max_depth) (lexed ∙ sym (append-nil _)) ∙ value-json_tokens (outline d) max_depth [] nests)
     ∙ value_back n d h
+
+-- ---- numbers that may be none, and lists
+
+pub number_or_null : (n : ℕ) (P : ℕ → Type 0) (o : Option ℕ) → ((a : ℕ) → P a → a < 2 ^ 64) → IfSome o P → IsPlain n (or_null o)
+number_or_null n P None fits h = tt
+number_or_null n P (Some a) fits h = fits a h
+
+pub items_plain : {I : Type 0} (n : ℕ) (P : I → Type 0) (f : I → Data) → ((x : I) → P x → IsPlain n (f x)) → (xs : List I)
+    → AllByRecursion P xs → ItemsArePlain n (items_of (map f xs))
+items_plain n P f each [] h = tt
+items_plain n P f each (x ∷ xs) h = (each x h.0, items_plain n P f each xs h.1)
