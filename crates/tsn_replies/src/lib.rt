@@ -15,7 +15,7 @@ mod shown;
 mod text;
 mod told;
 
-pub use reply::{write_kept, write_lent, write_refusal, write_reply};
+pub use reply::{write_kept, write_lent, write_refusal, write_reply, write_reply_by};
 pub use session_names::{LONGEST_NAME_TEXT, push_session_name};
 pub use setup::LONGEST_ESCAPE;
 pub use shown::{

@@ -207,53 +207,70 @@ pub fn write_reply<W: ByteOut>(writer: &mut W, reply: &Reply) -> Result<(), Faul
     ensures cut { OnErr result
         (IsCut (W.taken writer.old) (W.taken writer.new) (reply_text reply.now)) }
 {
-    // One text for all: each local text would be cleared at entry.
-    let mut text = ShortText::new();
+    write_reply_by(writer, &mut ShortText::new(), reply)
+}
+
+/// Writes the reply's line as `write_reply` does, by a text that the caller has: to make a new one clears each of its
+/// bytes, which costs who writes many.
+pub fn write_reply_by<W: ByteOut>(
+    writer: &mut W,
+    text: &mut ShortText,
+    reply: &Reply,
+) -> Result<(), Fault>
+    ensures ok { OnOk result
+        (Appends (W.taken writer.old) (W.taken writer.new) (reply_text reply.now)) }
+    ensures worked { OnOk result (W.has_failed writer.new ≡ W.has_failed writer.old) }
+    ensures fault { IfErr result (λ e. e ≡ Write) }
+    ensures failed { OnErr result (W.has_failed writer.new ≡ true) }
+    ensures cut { OnErr result
+        (IsCut (W.taken writer.old) (W.taken writer.new) (reply_text reply.now)) }
+{
+    text.clear();
     match reply {
         Reply::Session { session } | Reply::Known { session } => {
-            push_session(&mut text, *session);
-            put_text(writer, &text)
+            push_session(text, *session);
+            put_text(writer, text)
         }
         Reply::Entry { entry } => {
-            push_entry(&mut text, *entry);
-            put_text(writer, &text)
+            push_entry(text, *entry);
+            put_text(writer, text)
         }
         Reply::EntryOf { entry, of } => {
-            push_entry_of(&mut text, *entry, *of);
-            put_text(writer, &text)
+            push_entry_of(text, *entry, *of);
+            put_text(writer, text)
         }
         Reply::TakenBack { count, entry } => {
-            push_taken_back(&mut text, *count, *entry);
-            put_text(writer, &text)
+            push_taken_back(text, *count, *entry);
+            put_text(writer, text)
         }
         Reply::Settled { entry, settled } => {
-            push_settled(&mut text, *entry, *settled);
-            put_text(writer, &text)
+            push_settled(text, *entry, *settled);
+            put_text(writer, text)
         }
         Reply::Acted { change, entry, now } => {
-            push_act(&mut text, *change, *entry, *now);
-            put_text(writer, &text)
+            push_act(text, *change, *entry, *now);
+            put_text(writer, text)
         }
         Reply::Framed(verdict) => {
-            push_verdict(&mut text, verdict);
-            put_text(writer, &text)
+            push_verdict(text, verdict);
+            put_text(writer, text)
         }
         Reply::States(state) => {
-            push_state(&mut text, state);
-            put_text(writer, &text)
+            push_state(text, state);
+            put_text(writer, text)
         }
         Reply::Counters(counters) => {
-            push_counters(&mut text, counters);
-            put_text(writer, &text)
+            push_counters(text, counters);
+            put_text(writer, text)
         }
-        Reply::Shown { key, value } => write_lent_record(writer, &mut text, *key, lent(value)),
-        Reply::Ids { ids } => write_ids(writer, &mut text, ids.as_slice()),
-        Reply::Entries { entries } => write_entries(writer, &mut text, entries.as_slice()),
-        Reply::Sessions { sessions } => write_sessions(writer, &mut text, sessions.as_slice()),
-        Reply::Setup { text: setup } => write_setup(writer, &mut text, setup.as_bytes()),
+        Reply::Shown { key, value } => write_lent_record(writer, text, *key, lent(value)),
+        Reply::Ids { ids } => write_ids(writer, text, ids.as_slice()),
+        Reply::Entries { entries } => write_entries(writer, text, entries.as_slice()),
+        Reply::Sessions { sessions } => write_sessions(writer, text, sessions.as_slice()),
+        Reply::Setup { text: setup } => write_setup(writer, text, setup.as_bytes()),
         Reply::Refused(refusal) => {
-            push_refusal(&mut text, refusal);
-            put_text(writer, &text)
+            push_refusal(text, refusal);
+            put_text(writer, text)
         }
     }
 }

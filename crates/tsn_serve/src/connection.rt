@@ -24,7 +24,7 @@ use tsn_bridge::reply::Reply;
 use tsn_bytes::{ByteIn, ByteOut, Fault};
 use tsn_desk::desk::{Desk, Seat, Standing};
 use tsn_desk::machine::{Nobody, Witness};
-use tsn_replies::write_reply;
+use tsn_replies::{ShortText, write_reply_by};
 use tsn_types::refusals::Refusal;
 
 // The session of the latest hello or resume, once this reply came.
@@ -58,6 +58,8 @@ pub struct Connection<'a, R: Wait, G: Gate, W: Witness<Bridge>> {
     latest: Option<u32>,
     // Whether it has locked the door.
     standing: Standing,
+    // What a reply is spelled in.
+    text: ShortText,
 }
 
 impl<'a, R: Wait, G: Gate, W: Witness<Bridge>> Model for Connection<'a, R, G, W> {
@@ -95,6 +97,7 @@ impl<'a, R: Wait, G: Gate, W: Witness<Bridge> + Drop> Connection<'a, R, G, W> {
             seat: Some(seat),
             latest: None,
             standing: Standing::AtTheDoor,
+            text: ShortText::new(),
         }
     }
 
@@ -113,6 +116,7 @@ impl<'a, R: Wait, G: Gate, W: Witness<Bridge> + Drop> Connection<'a, R, G, W> {
             seat,
             latest: _,
             standing: _,
+            text: _,
         } = self;
         let Some(seat) = seat else { unreachable!() };
         seat
@@ -209,7 +213,7 @@ impl<'a, R: Wait, G: Gate, W: Witness<Bridge> + Drop> Connection<'a, R, G, W> {
             Ok(replied) => replied,
             Err(fault) => return Err(fault),
         };
-        let written = write_reply(writer, &reply);
+        let written = write_reply_by(writer, &mut self.text, &reply);
         if written.is_ok() {
             self.gate.answered(self.number);
         }
