@@ -1,14 +1,12 @@
 -- Lines that are answered one behind the other: what was read of them ahead, and how much of the bytes in front they are.
-use Rattle.std.specs.Prelude.{◌≡◌, ◌⊎◌, ℕ, ◌+◌, ◌<◌, ◌≤◌, ◌++◌, List, [], ◌∷◌, length, take, drop, Option, Some, Result, Ok, Err}
-use Rattle.std.specs.Io.KnownBytes.{Appends}
+use Rattle.std.specs.Prelude.{◌≡◌, ℕ, ◌+◌, ◌≤◌, ◌++◌, List, [], ◌∷◌, length, drop, Option, Some, Result}
 use Rattle.tsn_types.specs.declared.refusals.Refusal.{Refusal}
 use Rattle.tsn_bridge.specs.declared.command.Ask.{Ask}
 use Rattle.tsn_bytes.specs.declared.bytes.Fault.{Fault}
-use Rattle.tsn_bytes.specs.declared.bytes.Fault.TheVariants.{Write, Exhausted}
 use Rattle.tsn_serve.specs.declared.lots.ReadLine.{ReadLine}
 use Rattle.tsn_serve.specs.Lines.{HasNoLineFeed, line_feed, longest_line}
 use Rattle.tsn_serve.specs.Script.{Answering, Breaking}
-use Rattle.tsn_serve.specs.Pieces.{Feeds, Breaks}
+use Rattle.tsn_serve.specs.Pieces.{FeedsFront}
 use Rattle.tsn_serve.specs.Answers.{MayRead}
 
 -- The bytes begin with a line of so many bytes, its line feed among them, and it is read as its text may be.
@@ -30,9 +28,5 @@ IsLot bytes (r ∷ rs) rest = IsFront bytes r.count r.read × IsLot (drop r.coun
 -- lines broke off by this fault. What was written is the text of the answers, as far as it goes.
 abbrev pub AnswersFront : {S : Type 0} → Answering S → Breaking S → S → List ℕ → Option (List ℕ) → Option (List ℕ) → Result ℕ Fault → S
     → Type 0
-AnswersFront answers breaks old bytes taken taken' (Ok n) new =
-    (0 < n) × (n ≤ length bytes)
-    × ((text : List ℕ) × Feeds answers old (Some []) (take n bytes) text new (Some []) × Appends taken taken' text)
-AnswersFront answers breaks old bytes taken taken' (Err fault) new =
-    ((fault ≡ Write) ⊎ (fault ≡ Exhausted))
-    × ((written : List ℕ) × Breaks answers breaks fault old (Some []) bytes written new × Appends taken taken' written)
+AnswersFront answers breaks old bytes taken taken' result new =
+    FeedsFront answers breaks old (Some []) bytes taken taken' result new (Some [])

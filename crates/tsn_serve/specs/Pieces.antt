@@ -1,7 +1,9 @@
 -- How a script goes on while its input comes in pieces. Each fact says what a piece adds to any input before it.
-use Rattle.std.specs.Prelude.{◌≡◌, ℕ, ◌++◌, List, false, true, Option}
+use Rattle.std.specs.Prelude.{◌≡◌, ◌⊎◌, ℕ, ◌<◌, ◌≤◌, ◌++◌, List, false, true, length, take, Option, Result, Ok, Err}
+use Rattle.std.specs.Io.KnownBytes.{Appends}
 use Rattle.tsn_serve.specs.Lines.{Splits, short_line}
 use Rattle.tsn_bytes.specs.declared.bytes.Fault.{Fault}
+use Rattle.tsn_bytes.specs.declared.bytes.Fault.TheVariants.{Write, Exhausted}
 use Rattle.tsn_serve.specs.Script.{Answering, Breaking, Run, IsScript, BrokenScript}
 
 -- The input so far is whole lines, which were answered, and a rest, of which this is held.
@@ -33,6 +35,17 @@ Breaks {S} answers breaks fault old kept piece written new =
     (opening : S) (input before : List ℕ)
     → Going answers opening input kept before old
     → BrokenScript answers breaks fault false opening (input ++ piece) (before ++ written) new
+
+-- So many bytes in front, one at least, go on with any script; or an answer in the bytes breaks off by this fault. What was written is the
+-- text that this adds, as far as it goes.
+abbrev pub FeedsFront : {S : Type 0} → Answering S → Breaking S → S → Option (List ℕ) → List ℕ → Option (List ℕ) → Option (List ℕ)
+    → Result ℕ Fault → S → Option (List ℕ) → Type 0
+FeedsFront answers breaks old kept bytes taken taken' (Ok n) new kept' =
+    (0 < n) × (n ≤ length bytes)
+    × ((text : List ℕ) × Feeds answers old kept (take n bytes) text new kept' × Appends taken taken' text)
+FeedsFront answers breaks old kept bytes taken taken' (Err fault) new kept' =
+    ((fault ≡ Write) ⊎ (fault ≡ Exhausted))
+    × ((written : List ℕ) × Breaks answers breaks fault old kept bytes written new × Appends taken taken' written)
 
 -- At the end of the input the last answer breaks off, and these bytes of it are written.
 abbrev pub EndBreaks : {S : Type 0} → Answering S → Breaking S → Fault → S → Option (List ℕ) → List ℕ → S → Type 0

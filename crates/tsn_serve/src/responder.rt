@@ -6,7 +6,7 @@ ghost use Rattle.tsn_bytes.specs.Bytes.{Counts};
 ghost use Rattle.tsn_bytes.specs.declared.bytes.Fault.{Fault as AnyFault};
 ghost use Rattle.tsn_bytes.specs.declared.bytes.Fault.TheVariants.{Write, Memory, Exhausted};
 ghost use Rattle.tsn_serve.specs.Lines.{HasNoLineFeed, line_feed, longest_line};
-ghost use Rattle.tsn_serve.specs.Pieces.{Feeds, Ends, Breaks, EndBreaks};
+ghost use Rattle.tsn_serve.specs.Pieces.{Feeds, FeedsFront, Ends, Breaks, EndBreaks};
 ghost use Rattle.tsn_serve.specs.Outcomes.{Outcome, moment};
 ghost use Rattle.tsn_serve.specs.Lots.{AnswersFront};
 
@@ -81,27 +81,24 @@ fn up_to_line_feed(bytes: &[u8]) -> &[u8]
     }
 }
 
-// Ends the line that is kept, at a line feed.
+// Ends the line that is kept, at the line feed that the bytes begin with, and says by how many bytes.
 fn end_line<A: Responder, W: ByteOut>(
     alloc: Global,
     responder: &mut A,
     line: &mut LineBuffer,
+    _bytes: &[u8],
     writer: &mut W,
-) -> Result<(), Fault>
-    ensures ok { OnOk result ((text : List ℕ)
-        × Feeds A.answers responder.old line.old (line_feed ∷ []) text responder.new line.new
-        × Appends (W.taken writer.old) (W.taken writer.new) text) }
+) -> Result<usize, Fault>
+    requires { (0 < length _bytes.now) × (slice_index _bytes.now 0 ≡ line_feed) }
+    ensures front { FeedsFront A.answers A.breaks responder.old line.old _bytes.now (W.taken writer.old) (W.taken writer.new) result
+        responder.new line.new }
     ensures worked { result ≢ Err Write → W.has_failed writer.new ≡ W.has_failed writer.old }
-    ensures fault { IfErr result (λ e. (e ≡ Write) ⊎ (e ≡ Exhausted)) }
     ensures failed { IsErrOf result Write → W.has_failed writer.new ≡ true }
-    ensures broken { IfErr result (λ e. (written : List ℕ)
-        × Breaks A.answers A.breaks e responder.old line.old (line_feed ∷ []) written responder.new
-        × Appends (W.taken writer.old) (W.taken writer.new) written) }
 {
     match responder.answer(alloc, line.get(), writer) {
         Ok(()) => {
             line.clear();
-            Ok(())
+            Ok(1)
         }
         Err(fault) => Err(fault),
     }
@@ -116,22 +113,13 @@ fn feed_part<A: Responder, W: ByteOut>(
     writer: &mut W,
 ) -> Result<usize, Fault>
     requires { 0 < length bytes.now }
-    ensures count { IfOk result (λ n. (0 < n) × (n ≤ length bytes.now)) }
-    ensures ok { IfOk result (λ n. (text : List ℕ)
-        × Feeds A.answers responder.old line.old (take n bytes.now) text responder.new line.new
-        × Appends (W.taken writer.old) (W.taken writer.new) text) }
+    ensures front { FeedsFront A.answers A.breaks responder.old line.old bytes.now (W.taken writer.old) (W.taken writer.new) result
+        responder.new line.new }
     ensures worked { result ≢ Err Write → W.has_failed writer.new ≡ W.has_failed writer.old }
-    ensures fault { IfErr result (λ e. (e ≡ Write) ⊎ (e ≡ Exhausted)) }
     ensures failed { IsErrOf result Write → W.has_failed writer.new ≡ true }
-    ensures broken { IfErr result (λ e. (written : List ℕ)
-        × Breaks A.answers A.breaks e responder.old line.old bytes.now written responder.new
-        × Appends (W.taken writer.old) (W.taken writer.new) written) }
 {
     if bytes[0] == b'\n' {
-        return match end_line(alloc, responder, line, writer) {
-            Ok(()) => Ok(1),
-            Err(fault) => Err(fault),
-        };
+        return end_line(alloc, responder, line, bytes, writer);
     }
     let part = up_to_line_feed(bytes);
     line.push_all(part);
@@ -147,16 +135,10 @@ fn feed_front<A: Responder, W: ByteOut>(
     writer: &mut W,
 ) -> Result<usize, Fault>
     requires { 0 < length bytes.now }
-    ensures count { IfOk result (λ n. (0 < n) × (n ≤ length bytes.now)) }
-    ensures ok { IfOk result (λ n. (text : List ℕ)
-        × Feeds A.answers responder.old line.old (take n bytes.now) text responder.new line.new
-        × Appends (W.taken writer.old) (W.taken writer.new) text) }
+    ensures front { FeedsFront A.answers A.breaks responder.old line.old bytes.now (W.taken writer.old) (W.taken writer.new) result
+        responder.new line.new }
     ensures worked { result ≢ Err Write → W.has_failed writer.new ≡ W.has_failed writer.old }
-    ensures fault { IfErr result (λ e. (e ≡ Write) ⊎ (e ≡ Exhausted)) }
     ensures failed { IsErrOf result Write → W.has_failed writer.new ≡ true }
-    ensures broken { IfErr result (λ e. (written : List ℕ)
-        × Breaks A.answers A.breaks e responder.old line.old bytes.now written responder.new
-        × Appends (W.taken writer.old) (W.taken writer.new) written) }
 {
     if !line.is_empty() {
         return feed_part(alloc, responder, line, bytes, writer);

@@ -1,24 +1,44 @@
-use Rattle.std.proofs.Common.{refl, subst}
+use Rattle.std.proofs.Common.{◌≡◌, ◌++◌, ◌∷◌, [], ◌∙◌, ap, arith, drop, refl, subst, sym, take, take-append-drop}
+use Rattle.std.proofs.lemmas.List.{take_more}
 use Rattle.tsn_serve.specs.Lines.{line_feed}
-use Rattle.tsn_serve.proofs.Running.{fed_line, broken_line}
+use Rattle.tsn_serve.proofs.Running.{fed_as, fed_line, broken_as, broken_line, broken_more}
 use Rattle.tsn_serve.proofs.responder.end_line.Goals as goal
 
-pub returns-in-Ok-clause-ok : goal.returns-in-Ok-clause-ok
-returns-in-Ok-clause-ok g c =
-    let ok = c.in-Ok.ensures.ok in (
-      ok.0,
-      fed_line g.A.Responder.answers c.args.responder.now c.args.line.now line_feed ok.0 c.answer.new.self c.clear.new.self refl
-          c.clear.ensures
-          (subst (λ k. g.A.Responder.answers c.args.responder.now k ok.0 c.answer.new.self) c.get.ensures ok.1),
-      ok.2,
+pub returns-in-Ok-clause-front : goal.returns-in-Ok-clause-front
+returns-in-Ok-clause-front g c =
+    let ok = c.in-Ok.ensures.ok in
+    let bytes = c.args._bytes.now in
+    let first : line_feed ∷ [] ≡ take 1 bytes = sym (take_more bytes 0 0 c.requires.0 ∙ ap (λ b. b ∷ []) c.requires.1) in (
+      omega arith,
+      c.requires.0,
+      (
+        ok.0,
+        fed_as g.A.Responder.answers c.args.responder.now c.answer.new.self c.args.line.now c.clear.new.self (line_feed ∷ []) (take 1 bytes)
+            ok.0 first
+            (fed_line g.A.Responder.answers c.args.responder.now c.args.line.now line_feed ok.0 c.answer.new.self c.clear.new.self refl
+            c.clear.ensures
+            (subst (λ k. g.A.Responder.answers c.args.responder.now k ok.0 c.answer.new.self) c.get.ensures ok.1)),
+        ok.2,
+      ),
     )
 
-pub returns-in-Err-clause-broken : goal.returns-in-Err-clause-broken
-returns-in-Err-clause-broken g c =
-    let broken = c.in-Err.ensures.broken in (
-      broken.0,
-      broken_line g.A.Responder.answers g.A.Responder.breaks c.in-Err.fault c.args.responder.now c.args.line.now line_feed broken.0
-          c.answer.new.self refl
-          (subst (λ k. g.A.Responder.breaks c.args.responder.now k c.in-Err.fault broken.0 c.answer.new.self) c.get.ensures broken.1),
-      broken.2,
+pub returns-in-Err-clause-front : goal.returns-in-Err-clause-front
+returns-in-Err-clause-front g c =
+    let broken = c.in-Err.ensures.broken in
+    let bytes = c.args._bytes.now in
+    let answers = g.A.Responder.answers in
+    let breaks = g.A.Responder.breaks in
+    let fault = c.in-Err.fault in
+    let first : line_feed ∷ [] ≡ take 1 bytes = sym (take_more bytes 0 0 c.requires.0 ∙ ap (λ b. b ∷ []) c.requires.1) in (
+      c.in-Err.ensures.fault,
+      (
+        broken.0,
+        broken_as answers breaks fault c.args.responder.now c.answer.new.self c.args.line.now _ bytes broken.0
+            (ap (λ l. l ++ drop 1 bytes) first ∙ take-append-drop 1 bytes)
+            (broken_more answers breaks fault c.args.responder.now c.answer.new.self c.args.line.now (line_feed ∷ []) (drop 1 bytes)
+            broken.0
+            (broken_line answers breaks fault c.args.responder.now c.args.line.now line_feed broken.0 c.answer.new.self refl
+            (subst (λ k. breaks c.args.responder.now k fault broken.0 c.answer.new.self) c.get.ensures broken.1))),
+        broken.2,
+      ),
     )

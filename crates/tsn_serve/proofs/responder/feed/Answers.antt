@@ -11,11 +11,12 @@ bytes-init g c = ([], fed_nothing g.A.Responder.answers c.args.responder.now c.a
 pub bytes-preserved : goal.bytes-preserved
 bytes-preserved g c =
     let before = c.bytes.invariant in
-    let ok = c.in-Ok.ensures.ok in
+    let front = c.in-Ok.ensures.front in
+    let ok = front.2 in
     let piece = c.args.piece.now in
     let i = c.bytes.done in
     let n = c.in-Ok.count in
-    let fits : n ≤ length piece - i = simp length-drop at (rw (take_rest piece i) at c.in-Ok.ensures.count.1) in (
+    let fits : n ≤ length piece - i = simp length-drop at (rw (take_rest piece i) at front.1) in (
       before.0 ++ ok.0,
       fed_as g.A.Responder.answers c.args.responder.now c.feed_front.new.responder c.args.line.now c.feed_front.new.line _
           (take (i + n) piece) (before.0 ++ ok.0)
@@ -30,7 +31,7 @@ bytes-preserved g c =
 pub returns-in-Err-clause-broken : goal.returns-in-Err-clause-broken
 returns-in-Err-clause-broken g c =
     let before = c.bytes.invariant in
-    let broken = c.in-Err.ensures.broken in
+    let broken = c.in-Err.ensures.front.1 in
     let piece = c.args.piece.now in
     let i = c.bytes.done in (
       before.0 ++ broken.0,
