@@ -110,14 +110,23 @@ impl<M: Machine> Desk<M> {
     }
 
     /// Whether the way is free. To lock the door: nobody has locked it, and every turn that was drawn for has ended.
-    /// For one turn: all have ended, or all but one while the door is locked.
+    /// For one turn: all have ended, or all but one while the door is locked. At a locked door who would lock it looks
+    /// at the lock alone, and not at the words that each turn writes.
     fn is_free(&self, errand: Errand) -> bool {
+        match errand {
+            Errand::Turn => {
+                let out = self.tickets_out();
+                out == 0 || (out == 1 && self.waiting.is_locked())
+            }
+            Errand::Lock => !self.waiting.is_locked() && self.tickets_out() == 0,
+        }
+    }
+
+    /// How many tickets are out.
+    fn tickets_out(&self) -> u64 {
         let tickets = self.table.shared.peek(TICKETS);
         let ended = self.table.shared.peek(SERVING);
-        match errand {
-            Errand::Turn => tickets <= ended || (tickets - ended == 1 && self.waiting.is_locked()),
-            Errand::Lock => tickets <= ended && !self.waiting.is_locked(),
-        }
+        tickets.saturating_sub(ended)
     }
 
     /// Comes in, where the thread is not inside.
