@@ -2,7 +2,7 @@
 ghost use Rattle.std.specs.Prelude.{◌≡◌, ◌↔◌, IsOk, IfOk};
 ghost use Rattle.tsn_types.specs.Numbers.{IsHandle, IsInstanceId, IsPortId, IsPriority};
 
-use super::Range;
+use super::{Range, within};
 use std::marker::Model;
 
 /// The most ports that a bridge may have, which are numbered from 1.
@@ -42,12 +42,8 @@ impl PortId {
         ensures in_range { IsOk result ↔ IsPortId number }
         ensures same { IfOk result (λ n. n ≡ number) }
     {
-        if 1 <= number && number <= MOST_PORTS {
-            let number = number as u8;
-            Ok(PortId { number })
-        } else {
-            Err(Range)
-        }
+        let number = within(number, 1, MOST_PORTS)? as u8;
+        Ok(PortId { number })
     }
 
     /// The number.
@@ -85,12 +81,8 @@ impl FilterId {
         ensures in_range { IsOk result ↔ IsInstanceId number }
         ensures same { IfOk result (λ n. n ≡ number) }
     {
-        if number <= GREATEST_INSTANCE {
-            let number = number as u16;
-            Ok(FilterId { number })
-        } else {
-            Err(Range)
-        }
+        let number = within(number, 0, GREATEST_INSTANCE)? as u16;
+        Ok(FilterId { number })
     }
 
     /// The number.
@@ -128,12 +120,8 @@ impl GateId {
         ensures in_range { IsOk result ↔ IsInstanceId number }
         ensures same { IfOk result (λ n. n ≡ number) }
     {
-        if number <= GREATEST_INSTANCE {
-            let number = number as u16;
-            Ok(GateId { number })
-        } else {
-            Err(Range)
-        }
+        let number = within(number, 0, GREATEST_INSTANCE)? as u16;
+        Ok(GateId { number })
     }
 
     /// The number.
@@ -171,12 +159,8 @@ impl MeterId {
         ensures in_range { IsOk result ↔ IsInstanceId number }
         ensures same { IfOk result (λ n. n ≡ number) }
     {
-        if number <= GREATEST_INSTANCE {
-            let number = number as u16;
-            Ok(MeterId { number })
-        } else {
-            Err(Range)
-        }
+        let number = within(number, 0, GREATEST_INSTANCE)? as u16;
+        Ok(MeterId { number })
     }
 
     /// The number.
@@ -214,12 +198,8 @@ impl Priority {
         ensures in_range { IsOk result ↔ IsPriority number }
         ensures same { IfOk result (λ n. n ≡ number) }
     {
-        if number <= GREATEST_PRIORITY {
-            let number = number as u8;
-            Ok(Priority { number })
-        } else {
-            Err(Range)
-        }
+        let number = within(number, 0, GREATEST_PRIORITY)? as u8;
+        Ok(Priority { number })
     }
 
     /// The number.
@@ -257,12 +237,8 @@ impl Handle {
         ensures in_range { IsOk result ↔ IsHandle number }
         ensures same { IfOk result (λ n. n ≡ number) }
     {
-        if number <= GREATEST_HANDLE {
-            let number = number as u32;
-            Ok(Handle { number })
-        } else {
-            Err(Range)
-        }
+        let number = within(number, 0, GREATEST_HANDLE)? as u32;
+        Ok(Handle { number })
     }
 
     /// The number.

@@ -2,7 +2,7 @@
 ghost use Rattle.std.specs.Prelude.{◌≡◌, ◌↔◌, IsOk, IfOk};
 ghost use Rattle.tsn_types.specs.Numbers.{IsBitRate, IsMaxSdu, IsOctets};
 
-use super::Range;
+use super::{Range, within};
 use std::marker::Model;
 
 /// The greatest number of octets, of 32 bits.
@@ -39,12 +39,8 @@ impl Octets {
         ensures in_range { IsOk result ↔ IsOctets number }
         ensures same { IfOk result (λ n. n ≡ number) }
     {
-        if number <= MOST_OCTETS {
-            let number = number as u32;
-            Ok(Octets { number })
-        } else {
-            Err(Range)
-        }
+        let number = within(number, 0, MOST_OCTETS)? as u32;
+        Ok(Octets { number })
     }
 
     /// The octets.
@@ -82,12 +78,8 @@ impl MaxSdu {
         ensures in_range { IsOk result ↔ IsMaxSdu number }
         ensures same { IfOk result (λ n. n ≡ number) }
     {
-        if 1 <= number && number <= GREATEST_MAX_SDU {
-            let number = number as u16;
-            Ok(MaxSdu { number })
-        } else {
-            Err(Range)
-        }
+        let number = within(number, 1, GREATEST_MAX_SDU)? as u16;
+        Ok(MaxSdu { number })
     }
 
     /// The octets.
@@ -125,11 +117,8 @@ impl BitRate {
         ensures in_range { IsOk result ↔ IsBitRate number }
         ensures same { IfOk result (λ n. n ≡ number) }
     {
-        if number <= GREATEST_BIT_RATE {
-            Ok(BitRate { number })
-        } else {
-            Err(Range)
-        }
+        let number = within(number, 0, GREATEST_BIT_RATE)?;
+        Ok(BitRate { number })
     }
 
     /// The bits per second.

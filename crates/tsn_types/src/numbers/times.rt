@@ -2,7 +2,7 @@
 ghost use Rattle.std.specs.Prelude.{◌≡◌, ◌↔◌, IsOk, IfOk};
 ghost use Rattle.tsn_types.specs.Numbers.{IsCycle, IsExtension, IsInstant, IsInterval};
 
-use super::Range;
+use super::{Range, within};
 use std::marker::Model;
 
 /// The last instant, in nanoseconds.
@@ -42,11 +42,8 @@ impl Instant {
         ensures in_range { IsOk result ↔ IsInstant number }
         ensures same { IfOk result (λ n. n ≡ number) }
     {
-        if number <= GREATEST_INSTANT {
-            Ok(Instant { number })
-        } else {
-            Err(Range)
-        }
+        let number = within(number, 0, GREATEST_INSTANT)?;
+        Ok(Instant { number })
     }
 
     /// The nanoseconds.
@@ -84,11 +81,8 @@ impl Cycle {
         ensures in_range { IsOk result ↔ IsCycle number }
         ensures same { IfOk result (λ n. n ≡ number) }
     {
-        if 1 <= number && number <= LONGEST_CYCLE {
-            Ok(Cycle { number })
-        } else {
-            Err(Range)
-        }
+        let number = within(number, 1, LONGEST_CYCLE)?;
+        Ok(Cycle { number })
     }
 
     /// The nanoseconds.
@@ -126,11 +120,8 @@ impl Extension {
         ensures in_range { IsOk result ↔ IsExtension number }
         ensures same { IfOk result (λ n. n ≡ number) }
     {
-        if number <= LONGEST_EXTENSION {
-            Ok(Extension { number })
-        } else {
-            Err(Range)
-        }
+        let number = within(number, 0, LONGEST_EXTENSION)?;
+        Ok(Extension { number })
     }
 
     /// The nanoseconds.
@@ -168,12 +159,8 @@ impl Interval {
         ensures in_range { IsOk result ↔ IsInterval number }
         ensures same { IfOk result (λ n. n ≡ number) }
     {
-        if 1 <= number && number <= LONGEST_INTERVAL {
-            let number = number as u32;
-            Ok(Interval { number })
-        } else {
-            Err(Range)
-        }
+        let number = within(number, 1, LONGEST_INTERVAL)? as u32;
+        Ok(Interval { number })
     }
 
     /// The nanoseconds.
