@@ -2,9 +2,7 @@
 //!
 //! Contracts see the numbers of a record as plain numbers. Each call here tells the ranges of those that it is given,
 //! for the proofs above, and does nothing as the program runs.
-ghost use Rattle.std.specs.Prelude.{IfSome};
 ghost use Rattle.std.specs.List.{AllByRecursion};
-ghost use Rattle.tsn_types.specs.Numbers.{IsHandle, IsInstanceId, IsMaxSdu, IsOctets, IsPriority};
 ghost use Rattle.tsn_types.specs.InRange.{FilterInRange, GateEntryInRange, GateInRange, MeterInRange, PortEntryInRange, PortInRange, RecordInRange};
 
 use crate::numbers::{Handle, MaxSdu, MeterId, Octets, Priority};
@@ -54,7 +52,7 @@ fn recall_port_entry(entry: &PortEntry)
 fn recall_gate(gate: &StreamGate)
     ensures { GateInRange gate.now }
 {
-    recall_priority(gate.ipv);
+    let _ipv = gate.ipv.map(Priority::get);
     let _cycle = gate.admin.cycle.get();
     let _extension = gate.admin.extension.get();
     let _base = gate.admin.base.get();
@@ -72,19 +70,19 @@ fn recall_gate_entries(entries: &[GateEntry])
 fn recall_gate_entry(entry: &GateEntry)
     ensures { GateEntryInRange entry.now }
 {
-    recall_priority(entry.ipv);
+    let _ipv = entry.ipv.map(Priority::get);
     let _interval = entry.interval.get();
-    recall_octets(entry.octets);
+    let _octets = entry.octets.map(Octets::get);
 }
 
 fn recall_filter(filter: &StreamFilter)
     ensures { FilterInRange filter.now }
 {
-    recall_handle(filter.handle);
-    recall_priority(filter.priority);
+    let _handle = filter.handle.map(Handle::get);
+    let _priority = filter.priority.map(Priority::get);
     let _gate = filter.gate.get();
-    recall_max_sdu(filter.max_sdu);
-    recall_meter_id(filter.meter);
+    let _max_sdu = filter.max_sdu.map(MaxSdu::get);
+    let _meter = filter.meter.map(MeterId::get);
 }
 
 fn recall_meter(meter: &FlowMeter)
@@ -94,44 +92,4 @@ fn recall_meter(meter: &FlowMeter)
     let _cbs = meter.cbs.get();
     let _eir = meter.eir.get();
     let _ebs = meter.ebs.get();
-}
-
-fn recall_priority(value: Option<Priority>)
-    ensures { IfSome value IsPriority }
-{
-    if let Some(number) = value {
-        let _number = number.get();
-    }
-}
-
-fn recall_octets(value: Option<Octets>)
-    ensures { IfSome value IsOctets }
-{
-    if let Some(number) = value {
-        let _number = number.get();
-    }
-}
-
-fn recall_handle(value: Option<Handle>)
-    ensures { IfSome value IsHandle }
-{
-    if let Some(number) = value {
-        let _number = number.get();
-    }
-}
-
-fn recall_max_sdu(value: Option<MaxSdu>)
-    ensures { IfSome value IsMaxSdu }
-{
-    if let Some(number) = value {
-        let _number = number.get();
-    }
-}
-
-fn recall_meter_id(value: Option<MeterId>)
-    ensures { IfSome value IsInstanceId }
-{
-    if let Some(number) = value {
-        let _number = number.get();
-    }
 }
