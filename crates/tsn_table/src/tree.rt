@@ -69,70 +69,29 @@ fn height_at(node: &Node) -> u8
     node.left_height.max(node.right_height) + 1
 }
 
-// The left side is one higher than it was. It tells whether it is the higher side now.
+// A side is one higher than it was. It tells whether it is the higher side now.
 #[inline]
-fn left_rises(node: &mut Box<Node>) -> bool
-    requires low { node.old.value.left_height < 250 }
-    ensures numbers { numbers_below node.new.value ≡ numbers_below node.old.value }
-    ensures nodes { nodes_below node.new.value ≡ nodes_below node.old.value }
-    ensures height { node.new.value.left_height ≡ node.old.value.left_height + 1 }
-    ensures others { (node.new.value.right_height ≡ node.old.value.right_height) × (node.new.value.left ≡ node.old.value.left)
-        × (node.new.value.right ≡ node.old.value.right) }
-    ensures higher { result ≡ true → node.new.value.right_height < node.new.value.left_height }
-    ensures lower { result ≡ false → node.new.value.left_height ≤ node.new.value.right_height }
+fn rises(other: u8, side: &mut u8) -> bool
+    requires { side.old < 250 }
+    ensures height { side.new ≡ side.old + 1 }
+    ensures higher { result ≡ true → other < side.new }
+    ensures lower { result ≡ false → side.new ≤ other }
 {
-    node.left_height += 1;
-    node.left_height > node.right_height
+    *side += 1;
+    *side > other
 }
 
-// The same on the right.
+// A side is one lower than it was. It tells whether it was another height than the other side.
 #[inline]
-fn right_rises(node: &mut Box<Node>) -> bool
-    requires low { node.old.value.right_height < 250 }
-    ensures numbers { numbers_below node.new.value ≡ numbers_below node.old.value }
-    ensures nodes { nodes_below node.new.value ≡ nodes_below node.old.value }
-    ensures height { node.new.value.right_height ≡ node.old.value.right_height + 1 }
-    ensures others { (node.new.value.left_height ≡ node.old.value.left_height) × (node.new.value.left ≡ node.old.value.left)
-        × (node.new.value.right ≡ node.old.value.right) }
-    ensures higher { result ≡ true → node.new.value.left_height < node.new.value.right_height }
-    ensures lower { result ≡ false → node.new.value.right_height ≤ node.new.value.left_height }
+fn falls(other: u8, side: &mut u8) -> bool
+    requires { 0 < side.old }
+    ensures height { side.new + 1 ≡ side.old }
+    ensures uneven { result ≡ true → side.old ≢ other }
+    ensures even { result ≡ false → side.old ≡ other }
 {
-    node.right_height += 1;
-    node.right_height > node.left_height
-}
-
-// The left side is one lower than it was. It tells whether it was another height than the right side.
-#[inline]
-fn left_falls(node: &mut Box<Node>) -> bool
-    requires some { 0 < node.old.value.left_height }
-    ensures numbers { numbers_below node.new.value ≡ numbers_below node.old.value }
-    ensures nodes { nodes_below node.new.value ≡ nodes_below node.old.value }
-    ensures height { node.new.value.left_height + 1 ≡ node.old.value.left_height }
-    ensures others { (node.new.value.right_height ≡ node.old.value.right_height) × (node.new.value.left ≡ node.old.value.left)
-        × (node.new.value.right ≡ node.old.value.right) }
-    ensures other { result ≡ true → node.old.value.left_height ≢ node.old.value.right_height }
-    ensures even { result ≡ false → node.old.value.left_height ≡ node.old.value.right_height }
-{
-    let height = node.left_height;
-    node.left_height = height - 1;
-    height != node.right_height
-}
-
-// The same on the right.
-#[inline]
-fn right_falls(node: &mut Box<Node>) -> bool
-    requires some { 0 < node.old.value.right_height }
-    ensures numbers { numbers_below node.new.value ≡ numbers_below node.old.value }
-    ensures nodes { nodes_below node.new.value ≡ nodes_below node.old.value }
-    ensures height { node.new.value.right_height + 1 ≡ node.old.value.right_height }
-    ensures others { (node.new.value.left_height ≡ node.old.value.left_height) × (node.new.value.left ≡ node.old.value.left)
-        × (node.new.value.right ≡ node.old.value.right) }
-    ensures other { result ≡ true → node.old.value.right_height ≢ node.old.value.left_height }
-    ensures even { result ≡ false → node.old.value.right_height ≡ node.old.value.left_height }
-{
-    let height = node.right_height;
-    node.right_height = height - 1;
-    height != node.left_height
+    let height = *side;
+    *side = height - 1;
+    height != other
 }
 
 // The node above its left side comes down on the right of that side's node, which takes the place above it.
@@ -357,7 +316,7 @@ fn put_before_below(node: &mut Box<Node>, first: Box<Node>) -> bool
     ensures nodes { nodes_below node.new.value ≡ nodes_below first.value + nodes_below node.old.value }
     ensures rises { Rises node.old.value node.new.value result }
 {
-    put_before(&mut node.left, first) && left_rises(node)
+    put_before(&mut node.left, first) && rises(node.right_height, &mut node.left_height)
 }
 
 // Puts a number into the full block of a node, whose upper half goes to another node, the first on the right. It tells
@@ -379,7 +338,7 @@ fn split(node: &mut Box<Node>, id: u64, mut upper: Box<Node>) -> bool
     upper.right_height = 0;
     upper.left = Tree::Empty;
     upper.right = Tree::Empty;
-    put_before(&mut node.right, upper) && right_rises(node)
+    put_before(&mut node.right, upper) && rises(node.left_height, &mut node.right_height)
 }
 
 // Puts a number into the block of a node, or else into one half of it. It tells whether the right side is the higher
@@ -469,9 +428,11 @@ fn put_below(node: &mut Box<Node>, id: u64, pool: &mut Vec<Box<Node>>, came: &mu
     ensures rises { Rises node.old.value node.new.value result }
 {
     match side_of(node, id) {
-        Side::Left => put_in(&mut node.left, id, pool, came) && left_rises(node),
+        Side::Left => put_in(&mut node.left, id, pool, came)
+            && rises(node.right_height, &mut node.left_height),
         Side::Here => put_here(node, id, pool, came),
-        Side::Right => put_in(&mut node.right, id, pool, came) && right_rises(node),
+        Side::Right => put_in(&mut node.right, id, pool, came)
+            && rises(node.left_height, &mut node.right_height),
     }
 }
 
@@ -573,12 +534,14 @@ fn take_below(node: &mut Box<Node>, id: u64, pool: &mut Vec<Box<Node>>, gone: &m
     ensures falls { Falls node.old.value node.new.value result }
 {
     match side_of(node, id) {
-        Side::Left => take_from(&mut node.left, id, pool, gone) && left_falls(node),
+        Side::Left => take_from(&mut node.left, id, pool, gone)
+            && falls(node.right_height, &mut node.left_height),
         Side::Here => {
             *gone = node.block.take(id);
             false
         }
-        Side::Right => take_from(&mut node.right, id, pool, gone) && right_falls(node),
+        Side::Right => take_from(&mut node.right, id, pool, gone)
+            && falls(node.left_height, &mut node.right_height),
     }
 }
 
@@ -598,7 +561,7 @@ fn take_next(node: &mut Box<Node>, next: u64, pool: &mut Vec<Box<Node>>, gone: &
     ensures falls { Falls node.old.value node.new.value result }
 {
     node.block.begin(next);
-    take_from(&mut node.right, next, pool, gone) && right_falls(node)
+    take_from(&mut node.right, next, pool, gone) && falls(node.left_height, &mut node.right_height)
 }
 
 /// A tree of the same numbers, in as many nodes. Refused only for want of memory.
