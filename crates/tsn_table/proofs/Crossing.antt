@@ -1,4 +1,4 @@
--- A set of numbers may go to another thread, and threads may share one.
+-- A set of numbers may go to another thread.
 use denote.RattleType.{RattleType}
 use denote.Param.Send.{IsSend, IsSync, sendable}
 use Rattle.std.proofs.Crossing.{crosses}
@@ -8,9 +8,6 @@ use Rattle.tsn_table.specs.contracts.Table as Table
 
 pub numbers_send : IsSend Numbers.the_row
 numbers_send = search (knot.crosses, sendable, crosses) depth 60 fits 20000
-
-pub numbers_sync : IsSync Numbers.the_row
-numbers_sync = search (knot.crosses, sendable, crosses) depth 60 fits 20000
 
 -- a table may go to another thread where its rows may, and threads may share one where they may share its rows
 module _ (R : RattleType) where
