@@ -1,5 +1,5 @@
 -- The causes of an edit stand in the order of their numbers, so its least is its first, and a batch is refused by the least of those.
-use Rattle.std.proofs.Common.{◌≡◌, ℕ, refl, sym, ◌∙◌, ap, subst, arith, List, [], ◌∷◌, Option, map}
+use Rattle.std.proofs.Common.{◌≡◌, ◌≤◌, ℕ, refl, sym, ◌∙◌, ap, subst, arith, List, [], ◌∷◌, Option, map}
 use Rattle.std.specs.Prelude.{Bool, ◌&&◌, not, flat_map, is_none, is_some, find, option_map}
 use Rattle.std.specs.FinMap.{get, entries}
 use Rattle.tsn_types.specs.declared.keys.Key.{Key}
@@ -32,50 +32,33 @@ named o = grind arith
 named_beside : (test : Key × Record → Bool) (es : List (Key × Record)) → Is 9 (option_map (λ e. Referred e.0) (find test es))
 named_beside test es = named (find test es)
 
+-- the causes of an edit that puts a record, with their numbers: of what is at its key the cause is o
+abbrev numbered_put : Limits → Configuration → List Edit → Key → Record → ℕ → Option Refusal → List (ℕ × Option Refusal)
+numbered_put l c b k r n o = (3, unless (is_of_kind k r) Shape) ∷ (4, unless (holds_key l k) (Range KeyField)) ∷ (4, out_of_limits l r)
+    ∷ (n, o) ∷ (8, dangling (result c b) r) ∷ []
+
 -- the causes of one edit of a batch, with their numbers
 abbrev numbered_of : Limits → Configuration → List Edit → Edit → List (ℕ × Option Refusal)
-numbered_of l c b (Create k r) = (3, unless (is_of_kind k r) Shape) ∷ (4, unless (holds_key l k) (Range KeyField)) ∷ (4, out_of_limits l r)
-    ∷ (7, unless (is_none (get c k)) (Exists k)) ∷ (8, dangling (result c b) r) ∷ []
-numbered_of l c b (Replace k r) = (3, unless (is_of_kind k r) Shape) ∷ (4, unless (holds_key l k) (Range KeyField)) ∷ (4, out_of_limits l r)
-    ∷ (6, unless (is_some (get c k)) (Missing k)) ∷ (8, dangling (result c b) r) ∷ []
+numbered_of l c b (Create k r) = numbered_put l c b k r 7 (unless (is_none (get c k)) (Exists k))
+numbered_of l c b (Replace k r) = numbered_put l c b k r 6 (unless (is_some (get c k)) (Missing k))
 numbered_of l c b (Remove k) = (3, unless (not (is_port k)) Shape) ∷ (4, unless (holds_key l k) (Range KeyField))
     ∷ (6, unless (is_some (get c k)) (Missing k)) ∷ (9, referrer_beside c b k) ∷ []
 
+ordered_put : (l : Limits) (c : Configuration) (b : List Edit) (k : Key) (r : Record) (n : ℕ) (o : Option Refusal) → 4 ≤ n → n ≤ 8 → Is n o
+    → IsOrdered 0 (numbered_put l c b k r n o)
+ordered_put l c b k r n o low high is = (
+  omega arith,
+  is_unless _ Shape,
+  (
+    omega arith,
+    is_unless _ (Range KeyField),
+    (omega arith, limited l r, (low, is, (high, absent (λ q. is_some (get (result c b) q)) (refs r), tt))),
+  ),
+)
+
 ordered_of : (l : Limits) (c : Configuration) (b : List Edit) (edit : Edit) → IsOrdered 0 (numbered_of l c b edit)
-ordered_of l c b (Create k r) = (
-  omega arith,
-  is_unless _ Shape,
-  (
-    omega arith,
-    is_unless _ (Range KeyField),
-    (
-      omega arith,
-      limited l r,
-      (
-        omega arith,
-        is_unless _ (Exists k),
-        (omega arith, absent (λ q. is_some (get (result c b) q)) (refs r), tt),
-      ),
-    ),
-  ),
-)
-ordered_of l c b (Replace k r) = (
-  omega arith,
-  is_unless _ Shape,
-  (
-    omega arith,
-    is_unless _ (Range KeyField),
-    (
-      omega arith,
-      limited l r,
-      (
-        omega arith,
-        is_unless _ (Missing k),
-        (omega arith, absent (λ q. is_some (get (result c b) q)) (refs r), tt),
-      ),
-    ),
-  ),
-)
+ordered_of l c b (Create k r) = ordered_put l c b k r 7 _ (omega arith) (omega arith) (is_unless (is_none (get c k)) (Exists k))
+ordered_of l c b (Replace k r) = ordered_put l c b k r 6 _ (omega arith) (omega arith) (is_unless (is_some (get c k)) (Missing k))
 ordered_of l c b (Remove k) = (
   omega arith,
   is_unless _ Shape,
