@@ -40,6 +40,7 @@ impl Model for Batch {
 
 impl Batch {
     /// The batch of one edit. It takes no memory.
+    #[tactic(auto, using(crate::proofs::Batched::batch_of_one))]
     pub fn one(edit: Edit) -> Batch
         ensures { result ≡ edit ∷ [] }
     {
