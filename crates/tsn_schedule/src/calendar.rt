@@ -61,8 +61,5 @@ pub fn found_at<E: Timed>(list: &ControlList<E>, offset: u64) -> Option<Found<'_
 pub fn state_at<E: Timed>(list: &ControlList<E>, offset: u64) -> Option<&E>
     ensures { option_copied result ≡ entry_at E.interval list.now offset }
 {
-    match found_at(list, offset) {
-        Some(found) => Some(found.entry),
-        None => None,
-    }
+    Some(found_at(list, offset)?.entry)
 }
