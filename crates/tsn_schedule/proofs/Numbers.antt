@@ -1,9 +1,6 @@
 -- Nominal cycle starts and the one that took place last.
 use Rattle.std.proofs.Common.{◌≡◌, ◌<◌, ◌≤◌, ◌+◌, ◌-◌, ◌*◌, ◌/◌, ◌%◌, ℕ, arith}
-use Rattle.std.proofs.lemmas.Bool.Decides.{nat_tests}
 use Rattle.std.proofs.Math.Nat.{add-mul-mod_self_right, div-add-mod, mul_comm}
-use Rattle.tsn_schedule.specs.Running.{start_by}
-use Rattle.tsn_schedule.specs.Times.{change_of}
 
 -- Going back from m to the grid of cycles through one of its points is the same as from its first.
 pub grid : (c j y m : ℕ) → c + j * y ≤ m → m - (m - (c + j * y)) % y ≡ c + (m - c) / y * y
@@ -36,10 +33,3 @@ round_up base y now p h over = grind arith
 -- A change comes no earlier than its act.
 pub reached : (base y a : ℕ) → 0 < y → a ≤ base + y * ((a - base + (y - 1)) / y)
 reached base y a p = grind arith
-
--- From a change time on, with nothing to come, the latest cycle start is on its grid.
-pub first_start : (y base a t : ℕ) → change_of base y a ≤ t → start_by y (change_of base y a) a t ≡ t - (t - change_of base y a) % y
-first_start y base a t ct = grind arith
-
-pub start_by-le : (y known last m t : ℕ) → m ≤ t → known ≤ t → start_by y known last m ≤ t
-start_by-le y known last m t mt kt = grind (arith, nat_tests)
