@@ -1,6 +1,7 @@
 -- The words of worked command lines.
 use Rattle.std.proofs.Common.{◌⊎◌, ◌↔◌, Bool, true, false, not, ◌&&◌, sym, ◌≡◌, ℕ, List, [], ◌∷◌, codes, refl, ap, ap₂, subst, ◌∙◌, inl, inr, Option, Some, None, Result, Ok, Err, IfErr, IfOk, MatchResult, arith, is_ok, is_some, map, option_map, unwrap_or, ◌+◌, ◌≤◌}
-use Rattle.std.specs.Prelude.{IsOk, IsSome}
+use Rattle.std.specs.Prelude.{IsOk, IsSome, ⊤}
+use Rattle.std.specs.Bool.{MatchBool}
 use Rattle.std.specs.Borrow.{Bor}
 use Rattle.std.proofs.lemmas.Result.{IfOk-weaker}
 use Rattle.std.specs.Result.{result_unwrap_or}
@@ -248,7 +249,7 @@ read_number text (Err e) n h is = (cc)
 -- ---- which subcommand is met
 
 -- it is the one of this name, with these rows
-pub named_rows : {B : Type 0} (f : B → List ℕ × List Row) (o : Option B) (name : List ℕ) (rows : List Row)
+named_rows : {B : Type 0} (f : B → List ℕ × List Row) (o : Option B) (name : List ℕ) (rows : List Row)
     → Some name ≡ option_map (λ b. (f b).0) o → Some rows ≡ option_map (λ p. p.1) (option_map f o) → option_map f o ≡ Some (name, rows)
 named_rows f None name rows is has = (cc)
 named_rows f (Some b) name rows is has =
@@ -262,35 +263,31 @@ never_named name other differs same is =
     let both : true ≡ false = sym same ∙ never in
     (cc)
 
--- what `states` wants is given where it is the one
-pub states_given : (rows : List Row) → IsComplete (Some (codes "states", rows)) → HasStates (Some (codes "states", rows))
-states_given rows complete = elim complete [
-  | inl named ↦ absurd (never_named (codes "states") (codes "script") refl refl named)
-  | inr (inl has) ↦ has
-  | inr (inr (inl has)) ↦ absurd (never_named (codes "states") (codes "serve") refl refl has.named)
-  | inr (inr (inr (inl named))) ↦ absurd (never_named (codes "states") (codes "check") refl refl named)
-  | inr (inr (inr (inr has))) ↦ absurd (never_named (codes "states") (codes "journal") refl refl has.named)
-]
+is_named : (name other : List ℕ) → Some name ≡ Some other → other ≡ name
+is_named name other named = ap (λ x. unwrap_or x name) (sym named)
 
--- and what `serve` wants
-pub serve_given : (rows : List Row) → IsComplete (Some (codes "serve", rows)) → HasServe (Some (codes "serve", rows))
-serve_given rows complete = elim complete [
-  | inl named ↦ absurd (never_named (codes "serve") (codes "script") refl refl named)
-  | inr (inl has) ↦ absurd (never_named (codes "serve") (codes "states") refl refl has.named)
-  | inr (inr (inl has)) ↦ has
-  | inr (inr (inr (inl named))) ↦ absurd (never_named (codes "serve") (codes "check") refl refl named)
-  | inr (inr (inr (inr has))) ↦ absurd (never_named (codes "serve") (codes "journal") refl refl has.named)
-]
+-- what the subcommand of this name wants is given to it
+abbrev Wanted : List ℕ → Given → Type 0
+Wanted name given = MatchBool (bytes_eq name (codes "states")) (HasStates given)
+    (MatchBool (bytes_eq name (codes "serve")) (HasServe given) (MatchBool (bytes_eq name (codes "journal")) (HasJournal given) ⊤))
 
--- and what `journal` wants
-pub journal_given : (rows : List Row) → IsComplete (Some (codes "journal", rows)) → HasJournal (Some (codes "journal", rows))
-journal_given rows complete = elim complete [
-  | inl named ↦ absurd (never_named (codes "journal") (codes "script") refl refl named)
-  | inr (inl has) ↦ absurd (never_named (codes "journal") (codes "states") refl refl has.named)
-  | inr (inr (inl has)) ↦ absurd (never_named (codes "journal") (codes "serve") refl refl has.named)
-  | inr (inr (inr (inl named))) ↦ absurd (never_named (codes "journal") (codes "check") refl refl named)
-  | inr (inr (inr (inr has))) ↦ has
-]
+given_wanted : (name : List ℕ) (rows : List Row) → IsComplete (Some (name, rows)) → Wanted name (Some (name, rows))
+given_wanted name rows (inl named) = subst (λ n. Wanted n (Some (n, rows))) (is_named name (codes "script") named) tt
+given_wanted name rows (inr (inl has)) =
+    subst (λ n. HasStates (Some (n, rows)) → Wanted n (Some (n, rows))) (is_named name (codes "states") has.named) (λ h. h) has
+given_wanted name rows (inr (inr (inl has))) =
+    subst (λ n. HasServe (Some (n, rows)) → Wanted n (Some (n, rows))) (is_named name (codes "serve") has.named) (λ h. h) has
+given_wanted name rows (inr (inr (inr (inl named)))) = subst (λ n. Wanted n (Some (n, rows))) (is_named name (codes "check") named) tt
+given_wanted name rows (inr (inr (inr (inr has)))) =
+    subst (λ n. HasJournal (Some (n, rows)) → Wanted n (Some (n, rows))) (is_named name (codes "journal") has.named) (λ h. h) has
+
+-- what is met wants so, where all is complete
+pub wanted_by : {B : Type 0} (f : B → List ℕ × List Row) (o : Option B) (met name : List ℕ) (rows : List Row)
+    → Some met ≡ option_map (λ b. (f b).0) o → Some rows ≡ option_map (λ p. p.1) (option_map f o) → bytes_eq met name ≡ true
+    → IsComplete (option_map f o) → Wanted name (Some (name, rows))
+wanted_by f o met name rows is has same complete =
+    let named = named_rows f o met rows is has ∙ ap (λ n. Some (n, rows)) ((bytes_eq-Decides met name).0 same) in
+    given_wanted name rows (subst IsComplete named complete)
 
 -- where no word on syncs is given, none is wrong
 no_syncs : (journal syncs : Option (List ℕ)) → syncs ≡ None → Misgives journal syncs → ⊥
@@ -309,12 +306,6 @@ check_named given (inr both) = both.1.named
 -- `script` alone asks for no look at a journal and says no word on syncs, so what it asks for is done
 pub script_works : (name : List ℕ) (words : List (List ℕ)) (given : Given) (asked : Asked) → given ≡ subcommand_of program words
     → words ≡ name ∷ codes "script" ∷ [] → AsksFor given asked → IsWork asked
-script_works name words given (Script file kept) is same asks = tt
-script_works name words given (States file listing) is same asks = tt
-script_works name words given (Serve file listen serving kept) is same asks = tt
-script_works name words given (Check file) is same asks = tt
-script_works name words given Lines is same asks = tt
-script_works name words given (Journal file look) is same asks = tt
 script_works name words given (Shown text) is same asks = asks
 script_works name words given (Refused text) is same asks =
     let named : given ≡ Some (codes "script", []) = is ∙ ap (subcommand_of program) same ∙ script_named name in
@@ -326,6 +317,7 @@ script_works name words given (Refused text) is same asks =
       | inr (inr wrong) ↦ absurd (never_named (codes "script") (codes "check") refl refl
           (sym (ap (option_map (λ (p : List ℕ × List Row). p.0)) named) ∙ check_named given wrong))
     ]
+script_works name words given asked is same asks = tt
 
 -- what is said of the words that are there
 pub some_same : {X Y : Type 0} (f : X → Y) (o : Option X) (x : X) (y : Y) → o ≡ Some x → option_map f o ≡ Some y → f x ≡ y
@@ -348,17 +340,12 @@ module _ (name : List ℕ) (found : Found) where
   abbrev given : Given
   given = Some (name, rows_of found)
 
-  pub kept_in_rows : (kept : Option Kept) → GivesKept (first_value found (codes "journal")) (first_value found (codes "sync")) kept
-      → GivesKept (text_given given (codes "journal")) (text_given given (codes "sync")) kept
-  kept_in_rows kept gives =
-      subst (λ j. GivesKept j (text_given given (codes "sync")) kept) (first_value-rows found (codes "journal"))
-      (subst (λ s. GivesKept (first_value found (codes "journal")) s kept) (first_value-rows found (codes "sync")) gives)
-
-  pub misgiven_in_rows : Misgives (first_value found (codes "journal")) (first_value found (codes "sync"))
-      → Misgives (text_given given (codes "journal")) (text_given given (codes "sync"))
-  misgiven_in_rows wrong =
-      subst (λ j. Misgives j (text_given given (codes "sync"))) (first_value-rows found (codes "journal"))
-      (subst (λ s. Misgives (first_value found (codes "journal")) s) (first_value-rows found (codes "sync")) wrong)
+  pub in_rows : (P : Option (List ℕ) → Option (List ℕ) → Type 0)
+      → P (first_value found (codes "journal")) (first_value found (codes "sync"))
+      → P (text_given given (codes "journal")) (text_given given (codes "sync"))
+  in_rows P holds =
+      subst (λ j. P j (text_given given (codes "sync"))) (first_value-rows found (codes "journal"))
+      (subst (λ s. P (first_value found (codes "journal")) s) (first_value-rows found (codes "sync")) holds)
 
 -- what a refusal asks for, where it is right
 pub refused_asks : (given : Given) (asked : Asked) → IsRefusal asked → GivesTooMuch given ⊎ (GivesWrongSyncs given ⊎ GivesNoCheck given)
@@ -372,7 +359,7 @@ pub misgiven_asks : (name : List ℕ) (found : Found) (asked : Asked)
     → Misgives (first_value found (codes "journal")) (first_value found (codes "sync")) × IsRefusal asked × TellsSomething asked
     → AsksFor (Some (name, rows_of found)) asked
 misgiven_asks name found asked named wrong =
-    refused_asks _ asked wrong.1 (inr (inl (record { named = named; wrong = misgiven_in_rows name found wrong.0 })))
+    refused_asks _ asked wrong.1 (inr (inl (record { named = named; wrong = in_rows name found Misgives wrong.0 })))
 
 -- what is read of a check is what the rows have
 pub check_in_rows : (found : Found) (file : Option (List ℕ)) (is_lines : Bool) → first_value found (codes "FILE") ≡ file
