@@ -145,36 +145,20 @@ IsShown kind = (kind ≡ DisplayHelp) ⊎ (kind ≡ DisplayVersion)
 
 -- Something is to be done, and not only a text to be told.
 abbrev pub IsWork : Asked → Type 0
-IsWork (Script file kept) = ⊤
-IsWork (States file listing) = ⊤
-IsWork (Serve file listen serving kept) = ⊤
-IsWork (Check file) = ⊤
-IsWork Lines = ⊤
-IsWork (Journal file look) = ⊤
 IsWork (Shown text) = ⊥
 IsWork (Refused text) = ⊥
+IsWork asked = ⊤
 
 -- The words are refused by a text.
 abbrev pub IsRefusal : Asked → Type 0
-IsRefusal (Script file kept) = ⊥
-IsRefusal (States file listing) = ⊥
-IsRefusal (Serve file listen serving kept) = ⊥
-IsRefusal (Check file) = ⊥
-IsRefusal Lines = ⊥
-IsRefusal (Journal file look) = ⊥
-IsRefusal (Shown text) = ⊥
 IsRefusal (Refused text) = ⊤
+IsRefusal asked = ⊥
 
 -- A text to show, or to refuse by, is not empty.
 abbrev pub TellsSomething : Asked → Type 0
-TellsSomething (Script file kept) = ⊤
-TellsSomething (States file listing) = ⊤
-TellsSomething (Serve file listen serving kept) = ⊤
-TellsSomething (Check file) = ⊤
-TellsSomething Lines = ⊤
-TellsSomething (Journal file look) = ⊤
 TellsSomething (Shown text) = string_bytes text ≢ []
 TellsSomething (Refused text) = string_bytes text ≢ []
+TellsSomething asked = ⊤
 
 -- The file of the setup that is asked for, if one is.
 abbrev pub file_of : Asked → Option (List ℕ)
@@ -182,10 +166,7 @@ file_of (Script file kept) = option_map string_bytes file
 file_of (States file listing) = Some (string_bytes file)
 file_of (Serve file listen serving kept) = option_map string_bytes file
 file_of (Check file) = Some (string_bytes file)
-file_of Lines = None
-file_of (Journal file look) = None
-file_of (Shown text) = None
-file_of (Refused text) = None
+file_of asked = None
 
 -- The subcommand that words name, with what they give to it, as `clap` reads them.
 abbrev pub Given : Type 0
@@ -417,19 +398,8 @@ AskRightly words asked = (fault_of program words ≡ []) × AsksFor (subcommand_
 -- nothing or of a setup and of lines at once. Else there is a text to show, or to refuse the words by, as the fault is. Words that
 -- are no text are refused.
 abbrev pub Asks : Option (List (List ℕ)) → Asked → Type 0
-Asks (Some words) (Script file kept) = AskRightly words (Script file kept)
-Asks (Some words) (States file x) = AskRightly words (States file x)
-Asks (Some words) (Serve file listen x kept) = AskRightly words (Serve file listen x kept)
-Asks (Some words) (Check file) = AskRightly words (Check file)
-Asks (Some words) Lines = AskRightly words Lines
-Asks (Some words) (Journal file look) = AskRightly words (Journal file look)
 Asks (Some words) (Shown text) = AreShown words
 Asks (Some words) (Refused text) = AreMistaken words ⊎ AskRightly words (Refused text)
-Asks None (Script file kept) = ⊥
-Asks None (States file x) = ⊥
-Asks None (Serve file listen x kept) = ⊥
-Asks None (Check file) = ⊥
-Asks None Lines = ⊥
-Asks None (Journal file look) = ⊥
-Asks None (Shown text) = ⊥
+Asks (Some words) asked = AskRightly words asked
 Asks None (Refused text) = ⊤
+Asks None asked = ⊥
