@@ -2,7 +2,7 @@
 //!
 //! It goes through the members of a command by one table, and through those of a record by the table that setups have
 //! too.
-use crate::told::{as_told, is_plain};
+use crate::told::{allowed_text, as_told, is_plain};
 use serde_json::Value;
 use std::alloc::{AllocError, Global};
 use tsn_records::allowed::{Allowed, Member, entry_members_of, members_of, name_of};
@@ -171,17 +171,6 @@ fn wanted_there(
     }
 }
 
-// What a member of a record may be, in words.
-fn allowed_text(alloc: Global, allowed: Allowed) -> Result<String, AllocError> {
-    match allowed {
-        Allowed::Number(least, most) => format!(in alloc; "{least} to {most}"),
-        Allowed::NumberOrNone(least, most) => format!(in alloc; "{least} to {most}, or null,"),
-        Allowed::Flag => String::from_str(alloc, "true or false"),
-        Allowed::List(most) => format!(in alloc; "an array of up to {most}"),
-        Allowed::Tables => String::from_str(alloc, "an array"),
-    }
-}
-
 // The key that a member names.
 fn key_in(value: &Value) -> Option<KeyDraft> {
     key_of(value.get("key")?.as_str()?)
@@ -276,7 +265,7 @@ fn entry_fault(
     }
     for (item, member) in items.iter().zip(members.iter()) {
         if !is_allowed(item, member.1, by_range) {
-            let allowed = allowed_text(alloc, member.1)?;
+            let allowed = allowed_text(alloc, member.1, "null")?;
             return misfit(alloc, spot, member.0, item, allowed.as_str());
         }
     }
@@ -327,7 +316,7 @@ fn record_fault(alloc: Global, spot: &str, record: &Value, kind: Kind, by_range:
     }
     for member in members {
         let found = record.get(member.0);
-        let allowed = allowed_text(alloc, member.1)?;
+        let allowed = allowed_text(alloc, member.1, "null")?;
         match found {
             _ if member.0 == "id" => {}
             Some(value) if is_allowed(value, member.1, by_range) => {}

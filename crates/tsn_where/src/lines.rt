@@ -3,15 +3,12 @@ use crate::faults::{
     Fault, Sought, Spot, Wrong, fault_of_kind, fault_of_tables, referring, table_of, whole,
     wrong_table,
 };
-use crate::told::is_plain;
+use crate::told::{allowed_text, is_plain};
 use std::alloc::{AllocError, Global};
 use toml::Value;
 use tsn_records::allowed::{Allowed, DOCUMENT, KINDS, Member, name_of};
 use tsn_types::keys::{Key, Kind};
 use tsn_types::refusals::Refusal;
-
-/// What an array of the document's tables is called.
-const TABLES: &str = "an array of tables";
 
 // What stands there.
 fn found_text(alloc: Global, value: &Value) -> Result<String, AllocError> {
@@ -24,17 +21,6 @@ fn found_text(alloc: Global, value: &Value) -> Result<String, AllocError> {
         Value::Datetime(_) => String::from_str(alloc, "a date or a time"),
         Value::Array(items) => format!(in alloc; "an array of {}", items.len()),
         Value::Table(_) => String::from_str(alloc, "a table"),
-    }
-}
-
-// What is allowed.
-fn allowed_text(alloc: Global, allowed: Allowed) -> Result<String, AllocError> {
-    match allowed {
-        Allowed::Number(least, most) => format!(in alloc; "{least} to {most}"),
-        Allowed::NumberOrNone(least, most) => format!(in alloc; "{least} to {most}, or nothing,"),
-        Allowed::Flag => String::from_str(alloc, "true or false"),
-        Allowed::List(most) => format!(in alloc; "an array of up to {most}"),
-        Allowed::Tables => String::from_str(alloc, TABLES),
     }
 }
 
@@ -53,12 +39,12 @@ fn wrong_text(alloc: Global, wrong: Wrong<'_>) -> Result<String, AllocError> {
             }
         }
         Wrong::LeftOut((name, allowed)) => {
-            let allowed = allowed_text(alloc, allowed)?;
+            let allowed = allowed_text(alloc, allowed, "nothing")?;
             format!(in alloc; "{name} is left out, and {allowed} is allowed")
         }
         Wrong::Misfit((name, allowed), value) => {
             let found = found_text(alloc, value)?;
-            let allowed = allowed_text(alloc, allowed)?;
+            let allowed = allowed_text(alloc, allowed, "nothing")?;
             format!(in alloc; "{name} is {found}, and {allowed} is allowed")
         }
     }

@@ -1,5 +1,6 @@
-//! Names that stand in what is told.
+//! Names that stand in what is told, and what members may be.
 use std::alloc::{AllocError, Global};
+use tsn_records::allowed::Allowed;
 
 /// The most bytes of a name that is told.
 const LONGEST_NAME: usize = 60;
@@ -23,5 +24,16 @@ pub fn as_told(alloc: Global, name: &str) -> Result<String, AllocError> {
         format!(in alloc; "\"{name}\"")
     } else {
         String::from_str(alloc, "of such a name")
+    }
+}
+
+/// What a member may be, in words. This word says that it may be none.
+pub fn allowed_text(alloc: Global, allowed: Allowed, none: &str) -> Result<String, AllocError> {
+    match allowed {
+        Allowed::Number(least, most) => format!(in alloc; "{least} to {most}"),
+        Allowed::NumberOrNone(least, most) => format!(in alloc; "{least} to {most}, or {none},"),
+        Allowed::Flag => String::from_str(alloc, "true or false"),
+        Allowed::List(most) => format!(in alloc; "an array of up to {most}"),
+        Allowed::Tables => String::from_str(alloc, "an array of tables"),
     }
 }
