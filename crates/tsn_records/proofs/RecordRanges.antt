@@ -1,5 +1,5 @@
 -- The drafts of records whose numbers are in their ranges, and no others, pass as these records.
-use Rattle.std.proofs.Common.{◌≡◌, ℕ, ◌≤◌, ◌&&◌, List, [], ◌∷◌, map, Bool, true, false, if◌then◌else◌, nat_le, Option, Some, None, Result, Ok, Err, IfSome, refl, ap₂, subst, arith, leb-true}
+use Rattle.std.proofs.Common.{◌≡◌, ℕ, ◌≤◌, ◌&&◌, List, [], ◌∷◌, map, Bool, true, false, if◌then◌else◌, nat_le, Option, Some, None, Result, Ok, Err, IfSome, refl, sym, ap₂, subst, arith, leb-true}
 use Rattle.std.specs.List.{AllByRecursion}
 use Rattle.std.proofs.lemmas.Bool.{and_parts, le-leb}
 use Rattle.tsn_types.specs.declared.records.PortEntry.{PortEntry}
@@ -13,7 +13,7 @@ use Rattle.tsn_types.specs.declared.refusals.Field.{Field}
 use Rattle.tsn_types.specs.declared.refusals.Field.TheVariants as fields
 use Rattle.tsn_types.specs.InRange.{FilterInRange, GateEntryInRange, GateInRange, MeterInRange, PortEntryInRange, PortInRange, ScheduleInRange}
 use Rattle.tsn_types.specs.Numbers.{Within, greatest_bit_rate, greatest_gate_states, greatest_handle, greatest_instance, greatest_instant, greatest_max_sdu, greatest_priority, longest_cycle, longest_extension, longest_interval, most_octets}
-use Rattle.tsn_records.specs.Answers.{each}
+use Rattle.tsn_records.specs.Answers.{◌>>=◌, each}
 use Rattle.tsn_records.specs.Ranges.{within, within_or_none, port_entry, gate_entry, schedule, port, gate, filter, meter}
 use Rattle.tsn_records.specs.Values.{port_entry_draft, gate_entry_draft, schedule_draft, port_draft, gate_draft, filter_draft, meter_draft}
 use Rattle.tsn_records.specs.declared.drafts.PortEntryDraft.{PortEntryDraft}
@@ -53,34 +53,41 @@ upper : (most : ℕ) (o : Option ℕ) → IfSome o (Within 0 most) → IfSome o 
 upper most None h = tt
 upper most (Some n) h = h.1
 
-at_most_or_none : (field : Field) (most : ℕ) (o p : Option ℕ) → within_or_none field 0 most o ≡ Ok p → (o ≡ p) × IfSome p (λ n. n ≤ most)
-at_most_or_none field most o p h = let known = passed_or_none field 0 most o p h in (known.0, upper most p known.1)
+-- a step that tests a number, or one that may be none: it is in range, and the next step goes on with it
+number_step : {A G : Type 0} (field : Field) (least most n : ℕ) (next : ℕ → Result A Unread) (a : A)
+    → (within field least most n >>= next) ≡ Ok a → (Within least most n → next n ≡ Ok a → G) → G
+number_step field least most n next a h more =
+    steps (within field least most n) next a h (λ m m_is m_next.
+    let known = passed field least most n m m_is in
+    more (subst (Within least most) (sym known.0) known.1) (subst (λ k. next k ≡ Ok a) (sym known.0) m_next))
+
+maybe_step : {A G : Type 0} (field : Field) (least most : ℕ) (o : Option ℕ) (next : Option ℕ → Result A Unread) (a : A)
+    → (within_or_none field least most o >>= next) ≡ Ok a → (IfSome o (Within least most) → next o ≡ Ok a → G) → G
+maybe_step field least most o next a h more =
+    steps (within_or_none field least most o) next a h (λ p p_is p_next.
+    let known = passed_or_none field least most o p p_is in
+    more (subst (λ q. IfSome q (Within least most)) (sym known.0) known.1) (subst (λ q. next q ≡ Ok a) (sym known.0) p_next))
 
 -- ---- entries that pass
 
 port_entry_passed : (d : PortEntryDraft) (e : PortEntry) → port_entry d ≡ Ok e → (d ≡ port_entry_draft e) × PortEntryInRange e
 unfolding port_entry
 port_entry_passed d e h =
-    steps (within fields.List 0 greatest_gate_states d.gates) _ e h (λ gates gates_is gates_next.
-    steps (within fields.List 1 longest_interval d.interval) _ e gates_next (λ interval interval_is interval_next.
-    let found : PortEntry = record { gates = gates; interval = interval } in
-    let g = at_most fields.List greatest_gate_states d.gates gates gates_is in
-    let i = passed fields.List 1 longest_interval d.interval interval interval_is in
+    number_step fields.List 0 greatest_gate_states d.gates _ e h (λ gates gates_next.
+    number_step fields.List 1 longest_interval d.interval _ e gates_next (λ interval interval_next.
+    let found : PortEntry = record { gates = d.gates; interval = d.interval } in
     subst (λ x. (d ≡ port_entry_draft x) × PortEntryInRange x) (only (Ok found) found e refl interval_next)
-    (rw (← g.0, ← i.0), record { gates = g.1; interval = i.1 })))
+    (refl, record { gates = gates.1; interval = interval })))
 
 gate_entry_passed : (d : GateEntryDraft) (e : GateEntry) → gate_entry d ≡ Ok e → (d ≡ gate_entry_draft e) × GateEntryInRange e
 unfolding gate_entry
 gate_entry_passed d e h =
-    steps (within_or_none fields.List 0 greatest_priority d.ipv) _ e h (λ ipv ipv_is ipv_next.
-    steps (within fields.List 1 longest_interval d.interval) _ e ipv_next (λ interval interval_is interval_next.
-    steps (within_or_none fields.List 0 most_octets d.octets) _ e interval_next (λ octets octets_is octets_next.
-    let found : GateEntry = record { is_open = d.is_open; ipv = ipv; interval = interval; octets = octets } in
-    let v = at_most_or_none fields.List greatest_priority d.ipv ipv ipv_is in
-    let i = passed fields.List 1 longest_interval d.interval interval interval_is in
-    let o = at_most_or_none fields.List most_octets d.octets octets octets_is in
+    maybe_step fields.List 0 greatest_priority d.ipv _ e h (λ ipv ipv_next.
+    number_step fields.List 1 longest_interval d.interval _ e ipv_next (λ interval interval_next.
+    maybe_step fields.List 0 most_octets d.octets _ e interval_next (λ octets octets_next.
+    let found : GateEntry = record { is_open = d.is_open; ipv = d.ipv; interval = d.interval; octets = d.octets } in
     subst (λ x. (d ≡ gate_entry_draft x) × GateEntryInRange x) (only (Ok found) found e refl octets_next)
-    (rw (← v.0, ← i.0, ← o.0), record { ipv = v.1; interval = i.1; octets = o.1 }))))
+    (refl, record { ipv = upper greatest_priority d.ipv ipv; interval = interval; octets = upper most_octets d.octets octets }))))
 
 each_passed : {D E : Type 0} (range : D → Result E Unread) (draft : E → D) (P : E → Type 0)
     → ((d : D) (e : E) → range d ≡ Ok e → (d ≡ draft e) × P e) → (ds : List D) (es : List E) → each range ds ≡ Ok es
@@ -102,82 +109,67 @@ schedule_passed : {D E : Type 0} (range : D → Result E Unread) (draft : E → 
 unfolding schedule
 schedule_passed {D} {E} range draft P one d s h =
     steps (each range d.list) _ s h (λ list list_is list_next.
-    steps (within fields.Cycle 1 longest_cycle d.cycle) _ s list_next (λ cycle cycle_is cycle_next.
-    steps (within fields.Extension 0 longest_extension d.extension) _ s cycle_next (λ extension extension_is extension_next.
-    steps (within fields.Base 0 greatest_instant d.base) _ s extension_next (λ base base_is base_next.
-    let found : Schedule E = record { list = list; cycle = cycle; extension = extension; base = base } in
+    number_step fields.Cycle 1 longest_cycle d.cycle _ s list_next (λ cycle cycle_next.
+    number_step fields.Extension 0 longest_extension d.extension _ s cycle_next (λ extension extension_next.
+    number_step fields.Base 0 greatest_instant d.base _ s extension_next (λ base base_next.
+    let found : Schedule E = record { list = list; cycle = d.cycle; extension = d.extension; base = d.base } in
     let l = each_passed range draft P one d.list list list_is in
-    let c = passed fields.Cycle 1 longest_cycle d.cycle cycle cycle_is in
-    let x = at_most fields.Extension longest_extension d.extension extension extension_is in
-    let b = at_most fields.Base greatest_instant d.base base base_is in
     subst (λ y. (d ≡ schedule_draft draft y) × ScheduleInRange P y) (only (Ok found) found s refl base_next)
-    (rw (← l.0, ← c.0, ← x.0, ← b.0), record { list = l.1; cycle = c.1; extension = x.1; base = b.1 })))))
+    (rw (← l.0), record { list = l.1; cycle = cycle; extension = extension.1; base = base.1 })))))
 
 pub port_passed : (d : PortDraft) (r : PortGates) → port d ≡ Ok r → (d ≡ port_draft r) × PortInRange r
 unfolding port
 port_passed d r h =
-    steps (within fields.Gates 0 greatest_gate_states d.gates) _ r h (λ gates gates_is gates_next.
+    number_step fields.Gates 0 greatest_gate_states d.gates _ r h (λ gates gates_next.
     steps (schedule port_entry d.admin) _ r gates_next (λ admin admin_is admin_next.
-    let found : PortGates = record { gates = gates; admin = admin } in
-    let g = at_most fields.Gates greatest_gate_states d.gates gates gates_is in
+    let found : PortGates = record { gates = d.gates; admin = admin } in
     let a = schedule_passed port_entry port_entry_draft PortEntryInRange port_entry_passed d.admin admin admin_is in
     subst (λ x. (d ≡ port_draft x) × PortInRange x) (only (Ok found) found r refl admin_next)
-    (rw (← g.0, ← a.0), record { gates = g.1; admin = a.1 })))
+    (rw (← a.0), record { gates = gates.1; admin = a.1 })))
 
 pub gate_passed : (d : GateDraft) (r : StreamGate) → gate d ≡ Ok r → (d ≡ gate_draft r) × GateInRange r
 unfolding gate
 gate_passed d r h =
-    steps (within_or_none fields.Ipv 0 greatest_priority d.ipv) _ r h (λ ipv ipv_is ipv_next.
+    maybe_step fields.Ipv 0 greatest_priority d.ipv _ r h (λ ipv ipv_next.
     steps (schedule gate_entry d.admin) _ r ipv_next (λ admin admin_is admin_next.
     let found : StreamGate = record
-    { is_open = d.is_open; ipv = ipv; invalid_rx = d.invalid_rx; octets_exceeded = d.octets_exceeded; admin = admin } in
-    let v = at_most_or_none fields.Ipv greatest_priority d.ipv ipv ipv_is in
+    { is_open = d.is_open; ipv = d.ipv; invalid_rx = d.invalid_rx; octets_exceeded = d.octets_exceeded; admin = admin } in
     let a = schedule_passed gate_entry gate_entry_draft GateEntryInRange gate_entry_passed d.admin admin admin_is in
     subst (λ x. (d ≡ gate_draft x) × GateInRange x) (only (Ok found) found r refl admin_next)
-    (rw (← v.0, ← a.0), record { ipv = v.1; admin = a.1 })))
+    (rw (← a.0), record { ipv = upper greatest_priority d.ipv ipv; admin = a.1 })))
 
 pub filter_passed : (d : FilterDraft) (r : StreamFilter) → filter d ≡ Ok r → (d ≡ filter_draft r) × FilterInRange r
 unfolding filter
 filter_passed d r h =
-    steps (within_or_none fields.Handle 0 greatest_handle d.handle) _ r h (λ handle handle_is handle_next.
-    steps (within_or_none fields.Priority 0 greatest_priority d.priority) _ r handle_next (λ priority priority_is priority_next.
-    steps (within fields.Gate 0 greatest_instance d.gate) _ r priority_next (λ gate gate_is gate_next.
-    steps (within_or_none fields.MaxSdu 1 greatest_max_sdu d.max_sdu) _ r gate_next (λ max_sdu max_sdu_is max_sdu_next.
-    steps (within_or_none fields.Meter 0 greatest_instance d.meter) _ r max_sdu_next (λ meter meter_is meter_next.
+    maybe_step fields.Handle 0 greatest_handle d.handle _ r h (λ handle handle_next.
+    maybe_step fields.Priority 0 greatest_priority d.priority _ r handle_next (λ priority priority_next.
+    number_step fields.Gate 0 greatest_instance d.gate _ r priority_next (λ gate gate_next.
+    maybe_step fields.MaxSdu 1 greatest_max_sdu d.max_sdu _ r gate_next (λ max_sdu max_sdu_next.
+    maybe_step fields.Meter 0 greatest_instance d.meter _ r max_sdu_next (λ meter meter_next.
     let found : StreamFilter = record
-    { handle = handle; priority = priority; gate = gate; max_sdu = max_sdu; meter = meter; oversize = d.oversize } in
-    let a = at_most_or_none fields.Handle greatest_handle d.handle handle handle_is in
-    let b = at_most_or_none fields.Priority greatest_priority d.priority priority priority_is in
-    let c = at_most fields.Gate greatest_instance d.gate gate gate_is in
-    let e = passed_or_none fields.MaxSdu 1 greatest_max_sdu d.max_sdu max_sdu max_sdu_is in
-    let f = at_most_or_none fields.Meter greatest_instance d.meter meter meter_is in
-    subst (λ x. (d ≡ filter_draft x) × FilterInRange x) (only (Ok found) found r refl meter_next)
-    (rw (← a.0, ← b.0, ← c.0, ← e.0, ← f.0), record { handle = a.1; priority = b.1; gate = c.1; max_sdu = e.1; meter = f.1 }))))))
+    { handle = d.handle; priority = d.priority; gate = d.gate; max_sdu = d.max_sdu; meter = d.meter; oversize = d.oversize } in
+    subst (λ x. (d ≡ filter_draft x) × FilterInRange x) (only (Ok found) found r refl meter_next) (
+      refl,
+      record {
+        handle = upper greatest_handle d.handle handle;
+        priority = upper greatest_priority d.priority priority;
+        gate = gate.1;
+        max_sdu = max_sdu;
+        meter = upper greatest_instance d.meter meter;
+      },
+    ))))))
 
 pub meter_passed : (d : MeterDraft) (r : FlowMeter) → meter d ≡ Ok r → (d ≡ meter_draft r) × MeterInRange r
 unfolding meter
 meter_passed d r h =
-    steps (within fields.Cir 0 greatest_bit_rate d.cir) _ r h (λ cir cir_is cir_next.
-    steps (within fields.Cbs 0 most_octets d.cbs) _ r cir_next (λ cbs cbs_is cbs_next.
-    steps (within fields.Eir 0 greatest_bit_rate d.eir) _ r cbs_next (λ eir eir_is eir_next.
-    steps (within fields.Ebs 0 most_octets d.ebs) _ r eir_next (λ ebs ebs_is ebs_next.
-    let found : FlowMeter = record {
-      cir = cir;
-      cbs = cbs;
-      eir = eir;
-      ebs = ebs;
-      cf = d.cf;
-      aware = d.aware;
-      drop_yellow = d.drop_yellow;
-      all_red = d.all_red;
-    } in
-    let a = at_most fields.Cir greatest_bit_rate d.cir cir cir_is in
-    let b = at_most fields.Cbs most_octets d.cbs cbs cbs_is in
-    let c = at_most fields.Eir greatest_bit_rate d.eir eir eir_is in
-    let e = at_most fields.Ebs most_octets d.ebs ebs ebs_is in
+    number_step fields.Cir 0 greatest_bit_rate d.cir _ r h (λ cir cir_next.
+    number_step fields.Cbs 0 most_octets d.cbs _ r cir_next (λ cbs cbs_next.
+    number_step fields.Eir 0 greatest_bit_rate d.eir _ r cbs_next (λ eir eir_next.
+    number_step fields.Ebs 0 most_octets d.ebs _ r eir_next (λ ebs ebs_next.
+    let found : FlowMeter = record
+    { cir = d.cir; cbs = d.cbs; eir = d.eir; ebs = d.ebs; cf = d.cf; aware = d.aware; drop_yellow = d.drop_yellow; all_red = d.all_red } in
     subst (λ x. (d ≡ meter_draft x) × MeterInRange x) (only (Ok found) found r refl ebs_next)
-    (rw (← a.0, ← b.0, ← c.0, ← e.0), record { cir = a.1; cbs = b.1; eir = c.1; ebs = e.1 })
-    ))))
+    (refl, record { cir = cir.1; cbs = cbs.1; eir = eir.1; ebs = ebs.1 })))))
 
 -- ---- records in range pass
 
