@@ -39,9 +39,7 @@ record_passed (drafts.Meter x) r h =
 
 of_its_kind : (q : Kind) (r : Record) → kind_of_draft (record_draft r) ≡ q → RecordInRange r → InRangeOf q r
 of_its_kind q (records.Port r) is fits = subst (λ k. InRangeOf k (records.Port r)) is fits
-of_its_kind q (records.Filter r) is fits = subst (λ k. InRangeOf k (records.Filter r)) is fits
-of_its_kind q (records.Gate r) is fits = subst (λ k. InRangeOf k (records.Gate r)) is fits
-of_its_kind q (records.Meter r) is fits = subst (λ k. InRangeOf k (records.Meter r)) is fits
+of_its_kind q r is fits = subst (λ k. InRangeOf k r) is fits
 
 -- a record that is read: the value has the shape of the record's draft, and the record is in range and of the value's kind
 pub record_read : {D : Type 0} (look : Look D) (q : Kind) (d : D) (value : RecordDraft) (r : Record) → record_shape look q d ≡ Ok value

@@ -1,12 +1,12 @@
 -- What a value of the shape of a record has, and that a value that has it is of the shape; whatever the text format.
-use Rattle.std.proofs.Common.{◌≡◌, ℕ, List, [], ◌∷◌, Option, Ok, suc, length, arith, codes, refl, sym, ap, subst, ◌∙◌}
+use Rattle.std.proofs.Common.{◌≡◌, ℕ, List, [], ◌∷◌, Option, Ok, codes, refl, sym, ap, subst, ◌∙◌}
 use Rattle.tsn_types.specs.declared.keys.Kind.{Kind}
 use Rattle.tsn_types.specs.declared.keys.Kind.TheVariants as kinds
 use Rattle.tsn_records.specs.Answers.{each}
 use Rattle.tsn_records.specs.Looks.{Look}
 use Rattle.tsn_records.specs.Members.{rows_of}
 use Rattle.tsn_records.specs.Records.{list_shape, member_shape, members_shape, record_shape, port_entry_shape, gate_entry_shape}
-use Rattle.tsn_records.specs.Values.{AllFit, Fits, IsFlag, IsListOf, IsMaybe, IsNumber, entries_of_gate, entries_of_port, flag_in, kind_of_draft, number_in, number_or_none_in, typed, values_of}
+use Rattle.tsn_records.specs.Values.{AllFit, Fits, kind_of_draft, typed, values_of}
 use Rattle.tsn_records.specs.declared.allowed.Allowed.{Allowed}
 use Rattle.tsn_records.specs.declared.allowed.Allowed.TheVariants as allowed
 use Rattle.tsn_records.specs.declared.drafts.GateEntryDraft.{GateEntryDraft}
@@ -23,86 +23,21 @@ use Rattle.tsn_records.proofs.Steps.{steps, last_step, only as one}
 pub typed_back : (r : RecordDraft) → typed (kind_of_draft r) (values_of r) ≡ r
 unfolding typed
 typed_back (records.Port r) = refl
-typed_back (records.Filter r) = refl
-typed_back (records.Gate r) = refl
-typed_back (records.Meter r) = refl
+typed_back r = refl
 
 -- the members of a record are such as the table wants them
 pub values_fit : (r : RecordDraft) → AllFit (kind_of_draft r) (rows_of (kind_of_draft r)) (values_of r)
-values_fit (records.Port r) = (tt, (tt, (tt, (tt, (tt, tt)))))
-values_fit (records.Filter r) = (tt, (tt, (tt, (tt, (tt, (tt, tt))))))
-values_fit (records.Gate r) = (tt, (tt, (tt, (tt, (tt, (tt, (tt, (tt, tt))))))))
-values_fit (records.Meter r) = (tt, (tt, (tt, (tt, (tt, (tt, (tt, (tt, tt))))))))
-
-number_is : (v : MemberDraft) → IsNumber v → Number (number_in v) ≡ v
-number_is (Number n) fits = refl
-number_is v fits = absurd fits
-
-maybe_is : (v : MemberDraft) → IsMaybe v → Maybe (number_or_none_in v) ≡ v
-maybe_is (Maybe o) fits = refl
-maybe_is v fits = absurd fits
-
-flag_is : (v : MemberDraft) → IsFlag v → Flag (flag_in v) ≡ v
-flag_is (Flag b) fits = refl
-flag_is v fits = absurd fits
-
-port_list_is : (v : MemberDraft) → IsListOf kinds.Port v → PortList (entries_of_port v) ≡ v
-port_list_is (PortList es) fits = refl
-port_list_is v fits = absurd fits
-
-gate_list_is : (v : MemberDraft) → IsListOf kinds.Gate v → GateList (entries_of_gate v) ≡ v
-gate_list_is (GateList es) fits = refl
-gate_list_is v fits = absurd fits
-
--- there are as many members as rows
-fit_length : (kind : Kind) (rows : List (List ℕ × Allowed)) (vs : List MemberDraft) → AllFit kind rows vs → length rows ≡ length vs
-fit_length kind [] [] fits = refl
-fit_length kind (row ∷ rows) (v ∷ vs) fits = ap suc (fit_length kind rows vs fits.1)
-fit_length kind [] (v ∷ vs) fits = absurd fits
-fit_length kind (row ∷ rows) [] fits = absurd fits
+values_fit (records.Port r) = assumption
+values_fit r = assumption
 
 -- members such as the table wants them are those of the record that they make
 pub values_back : (kind : Kind) (vs : List MemberDraft) → AllFit kind (rows_of kind) vs → values_of (typed kind vs) ≡ vs
 unfolding typed
-values_back kinds.Port (a ∷ b ∷ c ∷ d ∷ e ∷ []) (fa, (fb, (fc, (fd, (fe, _))))) = rw (
-  number_is a fa,
-  port_list_is b fb,
-  number_is c fc,
-  number_is d fd,
-  number_is e fe,
-) refl
-values_back kinds.Port vs fits = absurd (omega (arith, fit_length kinds.Port (rows_of kinds.Port) vs fits))
-values_back kinds.Filter (a ∷ b ∷ c ∷ d ∷ e ∷ f ∷ []) (fa, (fb, (fc, (fd, (fe, (ff, _)))))) = rw (
-  maybe_is a fa,
-  maybe_is b fb,
-  number_is c fc,
-  maybe_is d fd,
-  maybe_is e fe,
-  flag_is f ff,
-) refl
-values_back kinds.Filter vs fits = absurd (omega (arith, fit_length kinds.Filter (rows_of kinds.Filter) vs fits))
-values_back kinds.Gate (a ∷ b ∷ c ∷ d ∷ e ∷ f ∷ g ∷ h ∷ []) (fa, (fb, (fc, (fd, (fe, (ff, (fg, (fh, _)))))))) = rw (
-  flag_is a fa,
-  maybe_is b fb,
-  gate_list_is c fc,
-  number_is d fd,
-  number_is e fe,
-  number_is f ff,
-  flag_is g fg,
-  flag_is h fh,
-) refl
-values_back kinds.Gate vs fits = absurd (omega (arith, fit_length kinds.Gate (rows_of kinds.Gate) vs fits))
-values_back kinds.Meter (a ∷ b ∷ c ∷ d ∷ e ∷ f ∷ g ∷ h ∷ []) (fa, (fb, (fc, (fd, (fe, (ff, (fg, (fh, _)))))))) = rw (
-  number_is a fa,
-  number_is b fb,
-  number_is c fc,
-  number_is d fd,
-  flag_is e fe,
-  flag_is f ff,
-  flag_is g fg,
-  flag_is h fh,
-) refl
-values_back kinds.Meter vs fits = absurd (omega (arith, fit_length kinds.Meter (rows_of kinds.Meter) vs fits))
+values_back kinds.Port (Number a ∷ PortList b ∷ Number c ∷ Number d ∷ Number e ∷ []) fits = refl
+values_back kinds.Filter (Maybe a ∷ Maybe b ∷ Number c ∷ Maybe d ∷ Maybe e ∷ Flag f ∷ []) fits = refl
+values_back kinds.Gate (Flag a ∷ Maybe b ∷ GateList c ∷ Number d ∷ Number e ∷ Number f ∷ Flag g ∷ Flag h ∷ []) fits = refl
+values_back kinds.Meter (Number a ∷ Number b ∷ Number c ∷ Number d ∷ Flag e ∷ Flag f ∷ Flag g ∷ Flag h ∷ []) fits = refl
+values_back kind vs fits = absurd (assumption)
 
 -- ---- what is read fits
 
@@ -137,9 +72,7 @@ pub record RecordHas {D : Type 0} (look : Look D) (kind : Kind) (d : D) (r : Rec
 pub of_typed : (kind : Kind) (vs : List MemberDraft) → kind_of_draft (typed kind vs) ≡ kind
 unfolding typed
 of_typed kinds.Port vs = refl
-of_typed kinds.Filter vs = refl
-of_typed kinds.Gate vs = refl
-of_typed kinds.Meter vs = refl
+of_typed kind vs = refl
 
 pub record_has : {D : Type 0} (look : Look D) (kind : Kind) (d : D) (r : RecordDraft) → record_shape look kind d ≡ Ok r
     → RecordHas look kind d r
