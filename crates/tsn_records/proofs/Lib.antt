@@ -3,7 +3,6 @@ pub mod Digits
 pub mod Entries
 pub mod Escaping
 pub mod NameOrder
-pub mod Naming
 pub mod Pairs
 pub mod RecordRanges
 pub mod RecordsRead
