@@ -38,10 +38,7 @@ fn priority(number: Option<u64>, field: Field) -> Result<Option<Priority>, Unrea
 {
     match number {
         None => Ok(None),
-        Some(number) => match Priority::new(number) {
-            Ok(priority) => Ok(Some(priority)),
-            Err(_) => Err(Unread::Range(field)),
-        },
+        Some(number) => Ok(Some(Priority::new(number).map_err(|_| Unread::Range(field))?)),
     }
 }
 
@@ -77,10 +74,7 @@ fn handle(number: Option<u64>) -> Result<Option<Handle>, Unread>
 {
     match number {
         None => Ok(None),
-        Some(number) => match Handle::new(number) {
-            Ok(handle) => Ok(Some(handle)),
-            Err(_) => Err(Unread::Range(Field::Handle)),
-        },
+        Some(number) => Ok(Some(Handle::new(number).map_err(|_| Unread::Range(Field::Handle))?)),
     }
 }
 
@@ -89,10 +83,7 @@ fn max_sdu(number: Option<u64>) -> Result<Option<MaxSdu>, Unread>
 {
     match number {
         None => Ok(None),
-        Some(number) => match MaxSdu::new(number) {
-            Ok(size) => Ok(Some(size)),
-            Err(_) => Err(Unread::Range(Field::MaxSdu)),
-        },
+        Some(number) => Ok(Some(MaxSdu::new(number).map_err(|_| Unread::Range(Field::MaxSdu))?)),
     }
 }
 
