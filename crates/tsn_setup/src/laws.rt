@@ -13,6 +13,7 @@ ghost use Rattle.tsn_setup.specs.Values.{AcceptsValues, keyed_rows, tables_of};
 
 /// Documents that are read. The empty one says what `Setup::standard` does. Records come in the order of their kinds,
 /// whatever their order in the file.
+#[tactic(auto, unfolding(crate::proofs::OnLiterals::setups_on_literals))]
 pub fn documents_are_read()
     ensures empty { setup_of [] ≡ sets_up [] }
     ensures limits { setup_of (codes "ports = 7\nmax_filters = 1\nmax_gates = 2\nmax_meters = 3\nlist_max = 4")
@@ -27,6 +28,7 @@ pub fn documents_are_read()
 {}
 
 /// Documents that are refused, by syntax, by shape or by the first number that is out of its range.
+#[tactic(auto, unfolding(crate::proofs::OnLiterals::setups_on_literals))]
 pub fn documents_are_refused()
     ensures no_text { setup_of (255 ∷ []) ≡ Err refusals.Syntax }
     ensures half { setup_of (codes "ports =") ≡ Err refusals.Syntax }
@@ -47,6 +49,7 @@ pub fn documents_are_refused()
 
 /// A text is accepted as a setup exactly where it is a document of it: each record is a table with just its members, by
 /// name and in whatever order they stand in the text, and a limit is left out only where it is the standard one.
+#[tactic(auto, unfolding(crate::proofs::OnLiterals::setups_on_literals))]
 pub fn documents_are_values()
     ensures law { AcceptsValues }
     ensures order { document_of filter_table ≡ Some (table (member (codes "filter")
