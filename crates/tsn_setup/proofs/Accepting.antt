@@ -170,15 +170,7 @@ all_there d u l es names given there = record {
     order = there.order ∙ sym (in_a_row (of_kind kinds.Port es) (of_kind kinds.Filter es) (of_kind kinds.Gate es)
         (of_kind kinds.Meter es));
   };
-  document = record {
-    ports = given.ports;
-    max_filters = given.max_filters;
-    max_gates = given.max_gates;
-    max_meters = given.max_meters;
-    list_max = given.list_max;
-    records = there.kinds_are;
-    nothing_else = nothing_else setup_names d u names;
-  };
+  document = record { limits = given.held; records = there.kinds_are; nothing_else = nothing_else setup_names d u names };
 }
 
 abbrev Accepted : List ℕ → Setup → Type 0
@@ -264,15 +256,7 @@ read_from text d given ts s is shape ranges = rw (is, shape, ranges)
 
 setup_read : (text : List ℕ) (d : Data) (s : Setup) → document_of text ≡ Some d → MayBeGiven s → IsDocumentOf s d → reading text ≡ Ok s
 setup_read text d s is may h =
-    let l : LimitsThere d s.limits = record {
-      ports = h.ports;
-      max_filters = h.max_filters;
-      max_gates = h.max_gates;
-      max_meters = h.max_meters;
-      list_max = h.list_max;
-      in_range = may.limits;
-    } in
-    let read = limits_read d s.limits l in
+    let read = limits_read d s.limits (record { held = h.limits; in_range = may.limits }) in
     let there : TablesThere d s.records = record {
       kinds_are = h.records;
       ranges = may.records;

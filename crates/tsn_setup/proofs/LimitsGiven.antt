@@ -10,7 +10,7 @@ use Rattle.tsn_bridge.specs.Beginning.{standard_limits}
 use Rattle.tsn_setup.specs.Ranges.{limit, limits}
 use Rattle.tsn_setup.specs.Tables.{limits_shape}
 use Rattle.tsn_setup.specs.Toml.{whole, if_given, number_or_none_at}
-use Rattle.tsn_setup.specs.Values.{number_or_none, HasLimit}
+use Rattle.tsn_setup.specs.Values.{number_or_none, HasLimit, HasLimits}
 use Rattle.tsn_setup.specs.declared.drafts.LimitsDraft.{LimitsDraft}
 use Rattle.tsn_records.proofs.RecordRanges.{passed, within_ok}
 use Rattle.tsn_records.proofs.Steps.{steps, only}
@@ -32,11 +32,7 @@ limit_known field most standard n name d o given range fits =
 
 -- the limits of a document
 pub record LimitsThere (d : Data) (l : Limits) : Type 0 where
-  pub ports : HasLimit (codes "ports") standard_limits.ports l.ports d
-  pub max_filters : HasLimit (codes "max_filters") standard_limits.filters l.filters d
-  pub max_gates : HasLimit (codes "max_gates") standard_limits.gates l.gates d
-  pub max_meters : HasLimit (codes "max_meters") standard_limits.meters l.meters d
-  pub list_max : HasLimit (codes "list_max") standard_limits.list l.list d
+  pub held : HasLimits l d
   pub in_range : AreInRange l
 
 -- the limits that were given, where they are
@@ -90,11 +86,7 @@ limits_there d x l shape range =
     (omega arith, omega arith) in
     let found : Limits = record { ports = ports; filters = filters; gates = gates; meters = meters; list = list } in
     let known : LimitsThere d found = record {
-      ports = a.0;
-      max_filters = b.0;
-      max_gates = c.0;
-      max_meters = e.0;
-      list_max = f.0;
+      held = record { ports = a.0; max_filters = b.0; max_gates = c.0; max_meters = e.0; list_max = f.0 };
       in_range = (a.1, (b.1, (c.1, (e.1, f.1))));
     } in
     subst (LimitsThere d) (only (Ok found) found l refl list_next) known)))))
@@ -139,13 +131,14 @@ limits_pass x l ports filters gates meters list = rw (ports, filters, gates, met
 
 pub limits_read : (d : Data) (l : Limits) → LimitsThere d l → AreLimits d l
 limits_read d l h =
-    let a = limit_read fields.Ports most_ports standard_limits.ports l.ports (codes "ports") d h.ports h.in_range.0 in
-    let b = limit_read fields.MaxFilters most_instances standard_limits.filters l.filters (codes "max_filters") d h.max_filters
+    let a = limit_read fields.Ports most_ports standard_limits.ports l.ports (codes "ports") d h.held.ports h.in_range.0 in
+    let b = limit_read fields.MaxFilters most_instances standard_limits.filters l.filters (codes "max_filters") d h.held.max_filters
     h.in_range.1.0 in
-    let c = limit_read fields.MaxGates most_instances standard_limits.gates l.gates (codes "max_gates") d h.max_gates h.in_range.1.1.0 in
-    let e = limit_read fields.MaxMeters most_instances standard_limits.meters l.meters (codes "max_meters") d h.max_meters
+    let c = limit_read fields.MaxGates most_instances standard_limits.gates l.gates (codes "max_gates") d h.held.max_gates
+    h.in_range.1.1.0 in
+    let e = limit_read fields.MaxMeters most_instances standard_limits.meters l.meters (codes "max_meters") d h.held.max_meters
     h.in_range.1.1.1.0 in
-    let f = limit_read fields.ListMax longest_list standard_limits.list l.list (codes "list_max") d h.list_max h.in_range.1.1.1.1 in
+    let f = limit_read fields.ListMax longest_list standard_limits.list l.list (codes "list_max") d h.held.list_max h.in_range.1.1.1.1 in
     let draft : LimitsDraft = record
     { ports = a.draft; max_filters = b.draft; max_gates = c.draft; max_meters = e.draft; list_max = f.draft } in
     record {

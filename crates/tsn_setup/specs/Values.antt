@@ -12,6 +12,7 @@ use Rattle.tsn_types.specs.Keys.{number_of}
 use Rattle.tsn_types.specs.declared.keys.Key.{Key}
 use Rattle.tsn_types.specs.declared.keys.Kind.{Kind}
 use Rattle.tsn_types.specs.declared.keys.Kind.TheVariants as kinds
+use Rattle.tsn_types.specs.declared.limits.Limits.{Limits}
 use Rattle.tsn_types.specs.declared.records.Record.{Record}
 use Rattle.tsn_config.specs.Ids.{is_of}
 use Rattle.tsn_bridge.specs.Beginning.{standard_limits}
@@ -107,14 +108,17 @@ given_or left_out name d = unwrap_or (get name d) left_out
 abbrev pub HasLimit : List ℕ → ℕ → ℕ → Data → Type 0
 HasLimit name standard n d = given_or (integer (pos standard)) name d ≡ integer (pos n)
 
--- A document of a setup: its limits, of which those of the standard setup may be left out; the tables of each kind, which
--- may be left out where there are none; and nothing else.
+-- what a document says of limits, of which those of the standard setup may be left out
+pub record HasLimits (l : Limits) (d : Data) : Type 0 where
+  pub ports : HasLimit (codes "ports") standard_limits.ports l.ports d
+  pub max_filters : HasLimit (codes "max_filters") standard_limits.filters l.filters d
+  pub max_gates : HasLimit (codes "max_gates") standard_limits.gates l.gates d
+  pub max_meters : HasLimit (codes "max_meters") standard_limits.meters l.meters d
+  pub list_max : HasLimit (codes "list_max") standard_limits.list l.list d
+
+-- A document of a setup: its limits; the tables of each kind, which may be left out where there are none; and nothing else.
 pub record IsDocumentOf (s : Setup) (d : Data) : Type 0 where
-  pub ports : HasLimit (codes "ports") standard_limits.ports s.limits.ports d
-  pub max_filters : HasLimit (codes "max_filters") standard_limits.filters s.limits.filters d
-  pub max_gates : HasLimit (codes "max_gates") standard_limits.gates s.limits.gates d
-  pub max_meters : HasLimit (codes "max_meters") standard_limits.meters s.limits.meters d
-  pub list_max : HasLimit (codes "list_max") standard_limits.list s.limits.list d
+  pub limits : HasLimits s.limits d
   pub records : (kind : Kind) → given_or (array no_items) (kind_text kind) d ≡ tables_of keyed_rows (of_kind kind s.records)
   pub nothing_else : (name : List ℕ) → IsSome (get name d) → Contains setup_names name
 
