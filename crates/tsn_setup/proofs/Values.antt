@@ -1,15 +1,16 @@
 -- What is read of a value, and which tray it fills.
-use Rattle.std.proofs.Common.{◌≡◌, ℕ, suc, ◌-◌, ◌<◌, ◌≤◌, ℤ, List, [], Bool, true, ◌==◌, length, drop, Some, Ok, refl, ap, ◌∙◌, arith}
+use Rattle.std.proofs.Common.{◌≡◌, ℕ, suc, ◌-◌, ◌<◌, ◌≤◌, ℤ, List, [], Bool, true, ◌==◌, length, drop, Some, Result, Ok, refl, ap, ◌∙◌, arith}
 use Rattle.toml_parser.specs.Lexical.{first}
-use Rattle.toml.specs.Data.{integer, boolean, array, Items, no_items}
-use Rattle.toml.specs.Parse.{read_map, key_equals, val, items}
+use Rattle.toml.specs.Data.{Data, integer, boolean, array}
+use Rattle.toml.specs.Parse.{read_map, key_equals, val}
 use Rattle.toml.proofs.Turns.{val_open_array, keyval_ok}
 use Rattle.tsn_records.specs.Answers.{◌>>=◌, or_shape}
 use Rattle.tsn_records.specs.declared.drafts.PortEntryDraft.{PortEntryDraft}
 use Rattle.tsn_records.specs.declared.drafts.GateEntryDraft.{GateEntryDraft}
+use Rattle.tsn_records.specs.declared.unread.Unread.{Unread}
 use Rattle.tsn_records.specs.Records.{port_entry_shape, gate_entry_shape}
 use Rattle.tsn_setup.specs.Toml.{natural, as_toml}
-use Rattle.tsn_setup.specs.Plain.{Tray, number, flag, port_list, gate_list, Trays, tray_at, put_tray, IsOpen, ReadsValue, Fills, ReadsMember, ReadsEntries}
+use Rattle.tsn_setup.specs.Plain.{Tray, number, flag, port_list, gate_list, Trays, tray_at, put_tray, list_given, IsOpen, Stands, ReadsValue, Fills, ReadsMember, ReadsEntries}
 
 pub number_read : (n : ℕ) (z : ℤ) (text rest : List ℕ) → ((m : ℕ) → val m text ≡ Some (integer z, rest)) → natural z ≡ Some n
     → ReadsValue 0 text (number (Some n)) rest
@@ -26,28 +27,25 @@ flag_read b text rest reads = record {
   stands = refl;
 }
 
-array_read : (text rest : List ℕ) (found : Items) → (first text == 91) ≡ true → length (drop 1 text) < length text
-    → ((m n : ℕ) → length (drop 1 text) < n → items (val (suc m)) n no_items (drop 1 text) ≡ Some (found, rest))
-    → (m : ℕ) → 2 ≤ m → val m text ≡ Some (array found, rest)
-array_read text rest found opens shorter reads m low =
-    let less : m - 1 ≡ suc (m - 2) = omega arith in
-    val_open_array m text (omega arith) opens ∙ rw less (ap (read_map array) (reads (m - 2) (length text) shorter))
+-- an array of entries fills the tray of a list of them
+list_read : {E : Type 0} (entry : Data → Result E Unread) (tray : Tray) (list : List E) (text rest : List ℕ)
+    → ((d : Data) → list_given entry (Some d) ≡ Ok (Some list) → Stands tray (Some d)) → (first text == 91) ≡ true
+    → length (drop 1 text) < length text → ReadsEntries entry (drop 1 text) list rest → ReadsValue 2 text tray rest
+list_read entry tray list text rest stands opens shorter read = record {
+  value = array read.found;
+  reads = λ m low.
+      let less : m - 1 ≡ suc (m - 2) = omega arith in
+      val_open_array m text (omega arith) opens ∙ rw less (ap (read_map array) (read.reads (m - 2) (length text) shorter));
+  stands = stands (array read.found) (ap (λ r. r >>= (λ es. Ok (Some es))) read.shaped);
+}
 
 pub port_list_read : (list : List PortEntryDraft) (text rest : List ℕ) → (first text == 91) ≡ true → length (drop 1 text) < length text
     → ReadsEntries (port_entry_shape as_toml) (drop 1 text) list rest → ReadsValue 2 text (port_list (Some list)) rest
-port_list_read list text rest opens shorter read = record {
-  value = array read.found;
-  reads = array_read text rest read.found opens shorter read.reads;
-  stands = ap (λ r. r >>= (λ es. Ok (Some es))) read.shaped;
-}
+port_list_read list text rest = list_read (port_entry_shape as_toml) (port_list (Some list)) list text rest (λ d h. h)
 
 pub gate_list_read : (list : List GateEntryDraft) (text rest : List ℕ) → (first text == 91) ≡ true → length (drop 1 text) < length text
     → ReadsEntries (gate_entry_shape as_toml) (drop 1 text) list rest → ReadsValue 2 text (gate_list (Some list)) rest
-gate_list_read list text rest opens shorter read = record {
-  value = array read.found;
-  reads = array_read text rest read.found opens shorter read.reads;
-  stands = ap (λ r. r >>= (λ es. Ok (Some es))) read.shaped;
-}
+gate_list_read list text rest = list_read (gate_entry_shape as_toml) (gate_list (Some list)) list text rest (λ d h. h)
 
 -- a name and a value fill a tray
 pub filled : (n : ℕ) (text name behind : List ℕ) (before after : Tray) (rest : List ℕ) → key_equals text ≡ Some (([], name), behind)
