@@ -1,5 +1,5 @@
 -- What a document is read as holds the members of each table in ascending order of their names.
-use Rattle.std.proofs.Common.{◌≡◌, ℕ, zero, suc, List, [], ◌∷◌, ◌&&◌, ◌==◌, Bool, true, false, cond, Option, Some, None, IfSome, Ordering, Less, Equal, Greater, refl, subst, drop, length, slice_index}
+use Rattle.std.proofs.Common.{◌≡◌, ℕ, zero, suc, List, [], ◌∷◌, ◌&&◌, ◌==◌, Bool, true, false, cond, Option, Some, None, IfSome, option_map, Ordering, Less, Equal, Greater, refl, subst, drop, length, slice_index}
 use Rattle.std.specs.Prelude.{⊤}
 use Rattle.std.specs.Str.{is_utf8}
 use Rattle.std.specs.Ordering.{match_ordering}
@@ -8,10 +8,10 @@ use Rattle.toml_parser.specs.Lexical.{Read, left_bracket, left_brace, right_brac
 use Rattle.toml_parser.specs.Strings.{Key, quoted, starts_string, recursion_limit}
 use Rattle.toml_parser.specs.Numbers.{unquoted}
 use Rattle.toml_parser.specs.declared.scalar.Scalar.{Scalar}
-use Rattle.toml_parser.specs.declared.scalar.Scalar.TheVariants.{Boolean, Integer, Float, Datetime}
+use Rattle.toml_parser.specs.declared.scalar.Scalar.TheVariants.{Boolean}
 use Rattle.toml.specs.Data.{Data, array, table, Items, no_items, item, Members, no_members, member, same_key, push_item}
 use Rattle.toml.specs.Parse.{after_byte, after_element, key_equals, keyval, items, members, scalar_data, atom, val, header_key, expression, ends_line, line, lines, skip_bom, parse_document}
-use Rattle.toml.specs.Tables.{implicit, dotted, header, Node, value, open_table, open_array, Nodes, no_nodes, node, get_node, insert, replace, close_node, close, Edit, header_node, dot_node, by_header, by_dot, along_header, along_dots, Definition, key_value, std_table, array_table, Expression, new_node, redefine, at_found, at_key, put, Document, define_as, define}
+use Rattle.toml.specs.Tables.{Origin, implicit, dotted, Node, value, open_table, open_array, Nodes, no_nodes, node, get_node, insert, replace, close_node, close, Edit, header_node, dot_node, by_header, by_dot, along_header, along_dots, Definition, key_value, std_table, array_table, Expression, new_node, redefine, at_found, at_key, put, Document, define_as, define}
 use Rattle.tsn_records.proofs.NameOrder.{any, if_and_then, if_cond, if_map, order, turned}
 use Rattle.tsn_setup.specs.Setups.{document_of}
 
@@ -138,30 +138,30 @@ header_kept edit keeps (open_array done ns) h =
     if_map NodesOrdered NodeOrdered (open_array done) (λ a fits. (h.0, fits)) (edit ns) (keeps ns h.1)
 
 dots_kept : (edit : Edit) → Keeps edit → (x : Node) → NodeOrdered x → IfSome (dot_node edit x) NodeOrdered
-dots_kept edit keeps (value d) h = tt
-dots_kept edit keeps (open_table header ns) h = tt
 dots_kept edit keeps (open_table implicit ns) h =
     if_map NodesOrdered NodeOrdered (open_table dotted) (λ a fits. fits) (edit ns) (keeps ns h)
 dots_kept edit keeps (open_table dotted ns) h = if_map NodesOrdered NodeOrdered (open_table dotted) (λ a fits. fits) (edit ns) (keeps ns h)
-dots_kept edit keeps (open_array done ns) h = tt
+dots_kept edit keeps x h = tt
+
+-- a table that is begun, or a node that is edited, where it belongs
+begun_kept : (k : List ℕ) (origin : Origin) (edit : Edit) (ns : Nodes) → Keeps edit → NodesOrdered ns
+    → IfSome (option_map (λ new. insert k (open_table origin new) ns) (edit no_nodes)) NodesOrdered
+begun_kept k origin edit ns keeps h =
+    if_map NodesOrdered NodesOrdered _ (λ a fits. inserted k (open_table origin a) ns fits h) (edit no_nodes) (keeps no_nodes tt)
+
+edited_kept : (k : List ℕ) (ns : Nodes) (o : Option Node) → NodesOrdered ns → IfSome o NodeOrdered
+    → IfSome (option_map (λ new. replace k new ns) o) NodesOrdered
+edited_kept k ns o h there = if_map NodeOrdered NodesOrdered _ (λ a fits. replaced k a ns fits h) o there
 
 by_header_kept : (k : List ℕ) (edit : Edit) (ns : Nodes) (o : Option Node) → Keeps edit → NodesOrdered ns → IfSome o NodeOrdered
     → IfSome (by_header k edit ns o) NodesOrdered
-by_header_kept k edit ns None keeps h there =
-    if_map NodesOrdered NodesOrdered (λ new. insert k (open_table implicit new) ns) (λ a fits. inserted k (open_table implicit a) ns fits h)
-    (edit no_nodes) (keeps no_nodes tt)
-by_header_kept k edit ns (Some x) keeps h there =
-    if_map NodeOrdered NodesOrdered (λ new. replace k new ns) (λ a fits. replaced k a ns fits h) (header_node edit x)
-    (header_kept edit keeps x there)
+by_header_kept k edit ns None keeps h there = begun_kept k implicit edit ns keeps h
+by_header_kept k edit ns (Some x) keeps h there = edited_kept k ns (header_node edit x) h (header_kept edit keeps x there)
 
 by_dot_kept : (k : List ℕ) (edit : Edit) (ns : Nodes) (o : Option Node) → Keeps edit → NodesOrdered ns → IfSome o NodeOrdered
     → IfSome (by_dot k edit ns o) NodesOrdered
-by_dot_kept k edit ns None keeps h there =
-    if_map NodesOrdered NodesOrdered (λ new. insert k (open_table dotted new) ns) (λ a fits. inserted k (open_table dotted a) ns fits h)
-    (edit no_nodes) (keeps no_nodes tt)
-by_dot_kept k edit ns (Some x) keeps h there =
-    if_map NodeOrdered NodesOrdered (λ new. replace k new ns) (λ a fits. replaced k a ns fits h) (dot_node edit x)
-    (dots_kept edit keeps x there)
+by_dot_kept k edit ns None keeps h there = begun_kept k dotted edit ns keeps h
+by_dot_kept k edit ns (Some x) keeps h there = edited_kept k ns (dot_node edit x) h (dots_kept edit keeps x there)
 
 along_header_kept : (path : List (List ℕ)) (edit : Edit) → Keeps edit → Keeps (along_header path edit)
 unfolding along_header
@@ -193,8 +193,7 @@ redefined _ _ h = tt
 found_kept : (k : List ℕ) (what : Definition) (ns : Nodes) (o : Option Node) → DefinesOrdered what → NodesOrdered ns → IfSome o NodeOrdered
     → IfSome (at_found k what ns o) NodesOrdered
 found_kept k what ns None defines h there = inserted k (new_node what) ns (new_ordered what defines) h
-found_kept k what ns (Some x) defines h there =
-    if_map NodeOrdered NodesOrdered (λ y. replace k y ns) (λ a fits. replaced k a ns fits h) (redefine what x) (redefined what x there)
+found_kept k what ns (Some x) defines h there = edited_kept k ns (redefine what x) h (redefined what x there)
 
 at_key_kept : (k : List ℕ) (what : Definition) → DefinesOrdered what → Keeps (at_key k what)
 unfolding at_key
@@ -247,9 +246,7 @@ members_ordered reads ordered (suc n) found text h =
 
 scalar_ordered : (s : Scalar) → IsOrdered (scalar_data s)
 scalar_ordered (Boolean b) = tt
-scalar_ordered (Integer z) = tt
-scalar_ordered (Float x) = tt
-scalar_ordered (Datetime t) = tt
+scalar_ordered s = tt
 
 atom_ordered : ReadsOrdered atom
 unfolding atom
