@@ -195,11 +195,8 @@ put_new k d ns none =
     rw missing refl
 
 empty : (s : Tray) → IsOpen s → Stands s None
-empty (number n) unread = ap Ok (sym unread)
-empty (flag b) unread = ap Ok (sym unread)
-empty (port_list es) unread = ap Ok (sym unread)
-empty (gate_list es) unread = ap Ok (sym unread)
 empty (tables kind ts) unread = absurd unread
+empty s unread = ap Ok (sym unread)
 
 -- no member yet, and no tray filled
 pub none_yet : (trays : Trays) → AreOpen trays → Tells (close no_nodes) trays

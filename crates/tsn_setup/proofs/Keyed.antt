@@ -152,9 +152,7 @@ kind_drafted k r fits = absurd fits
 
 id_got : (id : ℕ) (r : Record) → number_at (codes "id") (table_with (record_rows id r)) ≡ Ok id
 id_got id (records.Port r) = number_got (codes "id") (record_rows id (records.Port r)) id refl refl
-id_got id (records.Filter r) = number_got (codes "id") (record_rows id (records.Filter r)) id refl refl
-id_got id (records.Gate r) = number_got (codes "id") (record_rows id (records.Gate r)) id refl refl
-id_got id (records.Meter r) = number_got (codes "id") (record_rows id (records.Meter r)) id refl refl
+id_got id r = number_got (codes "id") (record_rows id r) id refl refl
 
 table_drafted : (k : Key) (r : Record) → KeyedInRange k r → table_shape (kind k) (table_with (keyed_rows (k, r))) ≡ Ok (keyed_draft (k, r))
 table_drafted k r fits =

@@ -38,9 +38,7 @@ all_joined P (x ∷ xs) ys h g = (h.0, all_joined P xs ys h.1 g)
 
 its_own : (k : Key) → is_of (kind k) k ≡ true
 its_own (keys.Port n) = refl
-its_own (keys.Filter n) = refl
-its_own (keys.Gate n) = refl
-its_own (keys.Meter n) = refl
+its_own k = refl
 
 kind_known : (q : Kind) (k : Key) → is_of q k ≡ true → kind k ≡ q
 kind_known kinds.Port (keys.Port n) h = refl

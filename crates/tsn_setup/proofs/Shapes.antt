@@ -89,11 +89,6 @@ flag_got : (name : List ℕ) (rows : Rows) (b : Bool) → is_rising rows ≡ tru
     → or_shape (option_and_then as_bool (get name (table_with rows))) ≡ Ok b
 flag_got name rows b rise is = ap (λ o. or_shape (option_and_then as_bool o)) (at_name name rows (flag b) rise is)
 
-items_got : (name : List ℕ) (rows : Rows) (ds : Items) → is_rising rows ≡ true → looked_up name rows ≡ Some (array ds)
-    → or_shape (option_map items_list (option_and_then as_array (get name (table_with rows)))) ≡ Ok (items_list ds)
-items_got name rows ds rise is =
-    ap (λ o. or_shape (option_map items_list (option_and_then as_array o))) (at_name name rows (Some (array ds)) rise is)
-
 -- ---- a member of what is ordered is ordered
 
 member_ordered : (k : List ℕ) (ms : Members) → AreOrdered ms → IfSome (get_member k ms) IsOrdered
@@ -290,21 +285,15 @@ named_have (row ∷ rows) (v ∷ vs) apart =
 -- the names of a kind's members are such
 apart : (q : Kind) → is_apart (codes "id") (rows_of q) && are_apart (rows_of q) ≡ true
 apart kinds.Port = refl
-apart kinds.Filter = refl
-apart kinds.Gate = refl
-apart kinds.Meter = refl
+apart q = refl
 
 rises : (id : ℕ) (r : Record) → is_rising (record_rows id r) ≡ true
 rises id (records.Port r) = refl
-rises id (records.Filter r) = refl
-rises id (records.Gate r) = refl
-rises id (records.Meter r) = refl
+rises id r = refl
 
 among : (id : ℕ) (r : Record) → rows_among (names_of (kind_of_draft (record_draft r))) (record_rows id r) ≡ true
 among id (records.Port r) = refl
-among id (records.Filter r) = refl
-among id (records.Gate r) = refl
-among id (records.Meter r) = refl
+among id r = refl
 
 pub table_shaped : (id : ℕ) (r : Record)
     → record_shape as_toml (kind_of_draft (record_draft r)) (table_with (record_rows id r)) ≡ Ok (record_draft r)

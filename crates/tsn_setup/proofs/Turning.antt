@@ -156,12 +156,6 @@ entries_ended shape text list rest so ends = record {
   shaped = so.shaped;
 }
 
--- the last answer after the others
-answered_last : {A B : Type 0} (f : A → Result B Unread) (x : A) (y : B) (rs : Result (List B) Unread) (ys : List B) → rs ≡ Ok ys
-    → f x ≡ Ok y → (r : Result B Unread) (z : B) → r ≡ Ok z
-    → (r >>= λ z. rs >>= λ zs. Ok (z ∷ zs)) ≡ Ok (z ∷ ys)
-answered_last f x y rs ys others last r z is = rw (is, others) refl
-
 first_of : {A B : Type 0} (f : A → Result B Unread) (x : A) (xs : List A) (rest : Result (List B) Unread) (r : Result B Unread)
     (ys : List B) (P : Type 0) → f x ≡ r → (r >>= λ z. rest >>= λ zs. Ok (z ∷ zs)) ≡ Ok ys
     → ((z : B) (zs : List B) → r ≡ Ok z → rest ≡ Ok zs → ys ≡ z ∷ zs → P) → P

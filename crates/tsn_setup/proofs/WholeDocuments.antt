@@ -157,9 +157,7 @@ whole_frames edit ns = as_it_is (edit ns)
 missing : (l : LimitsDraft) (kind : Kind) (ms : Members) → are_among (names (limits_trays l)) ms ≡ true
     → get_member (kind_text kind) ms ≡ None
 missing l kinds.Port ms only = other_member (names (limits_trays l)) ms (kind_text kinds.Port) only refl
-missing l kinds.Filter ms only = other_member (names (limits_trays l)) ms (kind_text kinds.Filter) only refl
-missing l kinds.Gate ms only = other_member (names (limits_trays l)) ms (kind_text kinds.Gate) only refl
-missing l kinds.Meter ms only = other_member (names (limits_trays l)) ms (kind_text kinds.Meter) only refl
+missing l kind ms only = other_member (names (limits_trays l)) ms (kind_text kind) only refl
 
 wider : (xs ys : List (List ℕ)) (ms : Members) → are_among xs ms ≡ true → are_among (xs ++ ys) ms ≡ true
 wider xs ys ms only = all_among (xs ++ ys) ms (λ k there.
@@ -248,6 +246,4 @@ document_shaped text l ts all utf8 read is =
 pub own_tray : (kind : Kind) (l : LimitsDraft) (ts : Kind → List TableDraft)
     → tray_at (kind_text kind) (whole_trays l ts) ≡ Some (tables kind (ts kind))
 own_tray kinds.Port l ts = refl
-own_tray kinds.Filter l ts = refl
-own_tray kinds.Gate l ts = refl
-own_tray kinds.Meter l ts = refl
+own_tray kind l ts = refl
