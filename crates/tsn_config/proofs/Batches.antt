@@ -8,7 +8,7 @@ use Rattle.tsn_types.specs.declared.refusals.Refusal.{Refusal}
 use Rattle.tsn_types.specs.Keys.{same_key}
 use Rattle.tsn_types.specs.Refusals.{least, lesser}
 use Rattle.tsn_types.proofs.Causes.{each_none, unless-None}
-use Rattle.tsn_types.proofs.Ordered.{least-append}
+use Rattle.tsn_types.proofs.Ordered.{least-append, lesser-none}
 use Rattle.tsn_edit.specs.declared.Edit.{Edit}
 use Rattle.tsn_edit.specs.declared.Edit.TheVariants.{Create, Replace, Remove}
 use Rattle.tsn_edit.specs.Batches.{EditsInRange, IsBatch, causes, change_of, edited_keys, key_of, part_in, refusal, result, value_of}
@@ -20,9 +20,6 @@ use Rattle.tsn_edit.proofs.KeyFacts.{get-put}
 use Rattle.tsn_edit.proofs.Ordered.{batch_refusal-first, own_cause}
 use Rattle.tsn_config.proofs.Among.{AreSound, IsSound, beside_none, kept_together}
 use Rattle.tsn_config.proofs.Edits.{none_dangling}
-
-pub lesser-none : (o : Option Refusal) → lesser o None ≡ o
-lesser-none o = grind arith
 
 -- where the lesser of two is none, both are
 none_lesser : (o p : Option Refusal) → lesser o p ≡ None → (o ≡ None) × (p ≡ None)

@@ -10,6 +10,7 @@ use Rattle.tsn_types.specs.declared.records.Record.TheVariants.{Filter as Filter
 use Rattle.tsn_types.specs.declared.limits.Limits.{Limits}
 use Rattle.tsn_types.specs.declared.refusals.Field.TheVariants as fields
 use Rattle.tsn_types.specs.declared.refusals.Refusal.TheVariants.{Shape, Range, Missing, Exists, Dangling, Referred}
+use Rattle.tsn_types.specs.Examples.{gate_with}
 use Rattle.tsn_types.specs.Keys.{has, key_cmp, refs, same_key}
 use Rattle.tsn_edit.specs.declared.Edit.TheVariants.{Create, Replace, Remove}
 use Rattle.tsn_edit.specs.Configuration.{Configuration}
@@ -20,24 +21,18 @@ use Rattle.tsn_edit.proofs.Ordered.{batch_refusal-first, own_cause}
 use Rattle.tsn_types.specs.declared.refusals.Refusal.{Refusal}
 use Rattle.tsn_edit.proofs.KeyFacts.{keys_total}
 use Rattle.tsn_config.specs.Opening.{default_port, default_ports, opening, opening_refusal}
-use Rattle.tsn_config.proofs.Batches.{lesser-none}
+use Rattle.tsn_types.proofs.Ordered.{lesser-none}
 use Rattle.tsn_config.proofs.Listed.{from_sorted_list}
 
 -- two ports, sixteen instances of each other kind, lists of up to sixteen entries
 abbrev limits : Limits
 limits = record { ports = 2; filters = 16; gates = 16; meters = 16; list = 16 }
 
-abbrev gate_with : List GateEntry → Record
-gate_with es = GateRecord (record {
-  is_open = true;
-  ipv = None;
-  invalid_rx = false;
-  octets_exceeded = false;
-  admin = record { list = es; cycle = 1000000; extension = 0; base = 0 };
-})
+abbrev gate_of : List GateEntry → Record
+gate_of es = GateRecord (gate_with true false es 1000000)
 
 abbrev gate : Record
-gate = gate_with []
+gate = gate_of []
 
 abbrev entry : GateEntry
 entry = record { is_open = true; ipv = None; interval = 1; octets = None }
@@ -56,16 +51,16 @@ rows = (Port 1, default_port) ∷ (Port 2, default_port) ∷ (Filter 3, filter 0
 abbrev now : Configuration
 now = from_entries rows
 
-inserted : (c : Configuration) (k : Key) (r : Record) (q : Key) → get (insert c k r) q ≡ cond (same_key q k) (Some r) (get c q)
+pub inserted : (c : Configuration) (k : Key) (r : Record) (q : Key) → get (insert c k r) q ≡ cond (same_key q k) (Some r) (get c q)
 inserted = get-insert keys_total
 
-none_at : (q : Key) → get (empty {X = Record} {R = key_cmp}) q ≡ None
+pub none_at : (q : Key) → get (empty {X = Record} {R = key_cmp}) q ≡ None
 none_at = get-empty key_cmp
 
-listed : (c : Configuration) (k : Key) (r : Record) → entries (insert c k r) ≡ put key_cmp k r (entries c)
+pub listed : (c : Configuration) (k : Key) (r : Record) → entries (insert c k r) ≡ put key_cmp k r (entries c)
 listed = entries-insert keys_total
 
-none_listed : entries (empty {X = Record} {R = key_cmp}) ≡ []
+pub none_listed : entries (empty {X = Record} {R = key_cmp}) ≡ []
 none_listed = from_sorted_list [] refl
 
 -- a single edit is a batch of one, and refused by the first of its causes
@@ -81,10 +76,10 @@ gate_twice = simp (inserted, none_at)
 gate_beyond : (c : Configuration) → refusal limits c (Create (Gate 16) gate) ≡ Some (Range fields.Key)
 gate_beyond c = refusal-first limits c (Create (Gate 16) gate)
 
-list_beyond : (c : Configuration) → refusal limits c (Create (Gate 1) (gate_with (replicate 17 entry))) ≡ Some (Range fields.List)
-list_beyond c = refusal-first limits c (Create (Gate 1) (gate_with (replicate 17 entry)))
+list_beyond : (c : Configuration) → refusal limits c (Create (Gate 1) (gate_of (replicate 17 entry))) ≡ Some (Range fields.List)
+list_beyond c = refusal-first limits c (Create (Gate 1) (gate_of (replicate 17 entry)))
 
-longest_list : refusal limits now (Create (Gate 1) (gate_with (replicate 16 entry))) ≡ None
+longest_list : refusal limits now (Create (Gate 1) (gate_of (replicate 16 entry))) ≡ None
 longest_list = simp (inserted, none_at)
 
 reference_beyond : (c : Configuration) → refusal limits c (Create (Filter 4) (filter 16 None)) ≡ Some (Range fields.Gate)
@@ -149,7 +144,7 @@ least_user =
     ap (λ es. option_map (λ (e : Key × Record). Referred e.0) (find (λ e. has (refs e.1) (Gate 0)) es)) (from_sorted_list shared refl)
 
 -- edits at once are seen whole: what a record refers to may come after it, and a key may go with what refers to it
-removed : (c : Configuration) (k q : Key) → get (remove c k) q ≡ cond (same_key q k) None (get c q)
+pub removed : (c : Configuration) (k q : Key) → get (remove c k) q ≡ cond (same_key q k) None (get c q)
 removed = get-remove keys_total
 
 all_come : batches.refusal limits now (Create (Filter 0) (filter 1 (Some 1)) ∷ Create (Gate 1) gate ∷ Create (Meter 1) meter ∷ []) ≡ None

@@ -80,7 +80,7 @@ least-before n o b why h le = grind (arith, not_less)
 
 -- ---- the least of two lists
 
-lesser-none : (o : Option Refusal) → lesser o None ≡ o
+pub lesser-none : (o : Option Refusal) → lesser o None ≡ o
 lesser-none o = grind arith
 
 not_below : (n m : ℕ) → nat_lt m n ≡ false → n ≤ m

@@ -1,8 +1,9 @@
 use Rattle.std.proofs.Common.{sym, ◌∙◌, ap, map, arith}
 use Rattle.std.proofs.Math.ListN.{drop_of_length-le}
 use Rattle.tsn_types.specs.Refusals.{least, lesser}
+use Rattle.tsn_types.proofs.Ordered.{lesser-none}
 use Rattle.tsn_edit.proofs.Ordered.{batch_refusal-first, own_cause}
-use Rattle.tsn_config.proofs.Batches.{lesser-none, one_more}
+use Rattle.tsn_config.proofs.Batches.{one_more}
 use Rattle.tsn_config.proofs.Suffixes.{next_left}
 use Rattle.tsn_config.proofs.Config.check.Goals as goal
 
