@@ -246,21 +246,21 @@ impl Rows {
             Key::Port(id) => {
                 let before = set_row_of(&mut self.ports, id.get(), into_port(value));
                 self.sure = sure_after(self.sure, before.is_some());
-                port_record(before)
+                before.map(Record::Port)
             }
             Key::Filter(id) => {
                 self.sure = 0;
-                filter_record(self.filters.set(id, value))
+                self.filters.set(id, value).map(Record::Filter)
             }
             Key::Gate(id) => {
                 let before = set_row_of(&mut self.gates, id.get(), into_gate(value));
                 self.sure = sure_after(self.sure, before.is_some());
-                gate_record(before)
+                before.map(Record::Gate)
             }
             Key::Meter(id) => {
                 let before = set_row_of(&mut self.meters, id.get(), into_meter(value));
                 self.sure = sure_after(self.sure, before.is_some());
-                meter_record(before)
+                before.map(Record::Meter)
             }
         }
     }
@@ -338,28 +338,4 @@ fn into_meter(value: Option<Record>) -> Option<FlowMeter>
         Some(Record::Meter(row)) => Some(*row),
         _ => None,
     }
-}
-
-fn port_record(row: Option<PortGates>) -> Option<Record>
-    ensures { result ≡ option_map Record.Port row }
-{
-    Some(Record::Port(row?))
-}
-
-fn filter_record(row: Option<StreamFilter>) -> Option<Record>
-    ensures { result ≡ option_map Record.Filter row }
-{
-    Some(Record::Filter(row?))
-}
-
-fn gate_record(row: Option<StreamGate>) -> Option<Record>
-    ensures { result ≡ option_map Record.Gate row }
-{
-    Some(Record::Gate(row?))
-}
-
-fn meter_record(row: Option<FlowMeter>) -> Option<Record>
-    ensures { result ≡ option_map Record.Meter row }
-{
-    Some(Record::Meter(row?))
 }
