@@ -390,6 +390,7 @@ impl Filters {
     }
 
     /// Sets the filter of the number, or takes it out, and gives the one that was there.
+    #[tactic(auto, using(crate::proofs::Indexed::still_small, crate::proofs::Indexed::still_narrow))]
     pub(crate) fn set(&mut self, id: FilterId, value: Option<Record>) -> Option<StreamFilter>
         requires { 1 ≤ self.old.spare }
         ensures before { result ≡ map.get self.old.map id }

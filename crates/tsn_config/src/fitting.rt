@@ -34,6 +34,7 @@ enum Way {
 impl Config {
     /// Whether the change fits: its values before stand at its keys, and with its values after there the configuration
     /// is well kept.
+    #[tactic(auto, using(crate::proofs::Suffixes::turned_forth))]
     pub fn fits(&self, change: &Change) -> bool
         ensures { IsTrue result ↔ Fits self.now.limits self.now.map change.now }
     {
@@ -136,6 +137,7 @@ impl Config {
     }
 
     // Whether the value after of one of the parts may stand at its key.
+    #[tactic(auto, using(crate::proofs::Suffixes::keeps_removed))]
     fn keeps_part(&self, parts: &[Part], way: Way, part: &Part) -> bool
         ensures { result ≡ keeps_part self.now.limits self.now.map (turned way parts.now) (turned_part way part.now) }
     {

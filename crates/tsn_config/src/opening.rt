@@ -33,6 +33,7 @@ impl Config {
     /// reference of the least filter, its gate before its meter (8). Limits are looked at before any memory is taken,
     /// so that a refusal for them is answered whatever memory there is; want of memory (18) may be answered in place of
     /// any other answer.
+    #[tactic(auto, using(crate::proofs::OpeningKept::opening_kept))]
     pub fn open(alloc: Global, limits: Limits, records: Records) -> Result<Config, Refusal>
         ensures admitted { OnOk result (opening_refusal limits records ≡ None) }
         ensures bounds { OnOk result (AreInRange limits) }
@@ -78,6 +79,7 @@ fn refuse_item(limits: Limits, item: &(Key, Record)) -> Option<Refusal>
 }
 
 // Empty tables with the records put into them, refused at the first key that is there already.
+#[tactic(auto, using(crate::proofs::Opened::fill_start, crate::proofs::Opened::fill_more))]
 fn rows_of(alloc: Global, items: Vec<(Key, Record)>) -> Result<Rows, Refusal>
     requires { AreOfKind items.items }
     ensures distinct { OnOk result (repeated_key [] items.items ≡ None) }

@@ -117,6 +117,7 @@ impl Rows {
     }
 
     /// The stream filters by number.
+    #[tactic(auto, using(crate::proofs::Joined::got_in_tables))]
     pub(crate) fn filters(&self) -> &Table<StreamFilter>
         ensures { (n : ℕ) → option_map Record.Filter (map.get result.now.map n) ≡ map.get self.now.map (Key.Filter n) }
     {
@@ -204,6 +205,7 @@ impl Rows {
     }
 
     /// The number of the least filter from this one on that refers to the key.
+    #[tactic(auto, using(crate::proofs::Joined::got_in_tables))]
     pub(crate) fn next_referrer(&self, key: &Key, from: u64) -> Option<u64>
         requires { from ≤ 65536 }
         ensures small { IfSome result (λ n. n < 65536) }
@@ -266,6 +268,7 @@ impl Rows {
     }
 
     /// Sets the values after of the parts, each at its key.
+    #[tactic(auto, using(crate::proofs::Popped::length_next, crate::proofs::Popped::map_next, crate::proofs::Popped::kinds_next))]
     pub(crate) fn set_all(&mut self, mut parts: Vec<Part>)
         requires kinds { AreOfKinds parts.items }
         requires room { length parts.items ≤ self.old.spare }
