@@ -102,10 +102,10 @@ impl FrameRows {
         ensures { result ≡ metered_at (frames_in self.now) id by }
     {
         match (id, by) {
-            (Some(id), Some(by)) => match self.meters.get(id.get()) {
-                Some(kept) => Some(Metered { by, kept: *kept }),
-                None => None,
-            },
+            (Some(id), Some(by)) => Some(Metered {
+                by,
+                kept: *self.meters.get(id.get())?,
+            }),
             _ => None,
         }
     }
