@@ -4,6 +4,7 @@ use Rattle.tsn_types.specs.declared.records.StreamFilter.{StreamFilter}
 use Rattle.tsn_types.specs.declared.records.StreamGate.{StreamGate}
 use Rattle.tsn_types.specs.declared.records.FlowMeter.{FlowMeter}
 use Rattle.tsn_types.specs.declared.records.GateEntry.{GateEntry}
+use Rattle.tsn_types.specs.Examples.{gate_with}
 use Rattle.tsn_schedule.specs.Acts.{Act}
 use Rattle.tsn_chain.specs.declared.data.Met.{Met}
 use Rattle.tsn_chain.specs.declared.frame.Verdict.{Verdict}
@@ -53,17 +54,6 @@ no_meter = record { filter = new_filter; gate = new_gate; meter = None }
 abbrev pub with_meter_new : FlowMeter → Met
 with_meter_new m = record { filter = new_filter; gate = new_gate; meter = Some (record { by = m; kept = new_meter 0 m }) }
 
--- a gate that is open or closed where no list is in force
-abbrev pub gate_with : Bool → Bool → StreamGate
-gate_with is_open octets_exceeded =
-    record {
-      is_open = is_open;
-      ipv = None;
-      invalid_rx = false;
-      octets_exceeded = octets_exceeded;
-      admin = record { list = []; cycle = 1000000; extension = 0; base = 0 };
-    }
-
 -- 8 Mbit/s and 1500 octets, with or without marking all frames red
 abbrev pub meter_with : Bool → FlowMeter
 meter_with all_red =
@@ -77,7 +67,7 @@ abbrev pub filter_3 : Scene
 filter_3 = record {
   number = 3;
   filter = record { handle = Some 7; priority = None; gate = 0; max_sdu = Some 1500; meter = Some 0; oversize = true };
-  gate = gate_with true false;
+  gate = gate_with true false [] 1000000;
   acts = [];
 }
 
@@ -87,7 +77,7 @@ filter_0 octets_exceeded acts =
     record {
       number = 0;
       filter = record { handle = None; priority = None; gate = 0; max_sdu = None; meter = None; oversize = false };
-      gate = gate_with false octets_exceeded;
+      gate = gate_with false octets_exceeded [] 1000000;
       acts = acts;
     }
 
@@ -96,7 +86,7 @@ abbrev pub short_filter : Scene
 short_filter = record {
   number = 0;
   filter = record { handle = None; priority = None; gate = 0; max_sdu = Some 100; meter = None; oversize = true };
-  gate = gate_with true false;
+  gate = gate_with true false [] 1000000;
   acts = [];
 }
 
