@@ -189,10 +189,7 @@ impl PortWorker {
         self.last = Snapshot::of(&seat);
         self.place = place;
         self.is_short = taken.is_err();
-        match taken {
-            Ok(()) => (seat, Ok(())),
-            Err(_) => (seat, Err(RoundFault::Memory)),
-        }
+        (seat, taken.map_err(|_| RoundFault::Memory))
     }
 
     /// What the mirror tells of an instant, where the seat has seen just the history of the worker's last turn.
