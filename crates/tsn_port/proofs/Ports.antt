@@ -32,7 +32,6 @@ use Rattle.tsn_chain.specs.declared.state.State.TheVariants as states
 use Rattle.tsn_chain.specs.State.{port_state}
 use Rattle.tsn_bridge.specs.Acts.{act_rule, acted_state, enabled_at, has_entry, instant}
 use Rattle.tsn_bridge.specs.Beginning.{Opens, begun}
-use Rattle.tsn_bridge.specs.Edits.{next}
 use Rattle.tsn_bridge.specs.Histories.{Answered, AreInRange, Leads}
 use Rattle.tsn_bridge.specs.Later.{ActsAreBy, IsWhole}
 use Rattle.tsn_bridge.specs.Looking.{last_at, shown_at}

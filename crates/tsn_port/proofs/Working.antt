@@ -25,7 +25,7 @@ use Rattle.tsn_bridge.specs.declared.reply.Reply.TheVariants as replies
 use Rattle.tsn_bridge.specs.Reached.{IsReached}
 use Rattle.tsn_bridge.specs.Rule.{is_given}
 use Rattle.tsn_bridge.specs.State.{State}
-use Rattle.tsn_bridge.specs.Turns.{Turns, answered}
+use Rattle.tsn_bridge.specs.Turns.{Turns}
 use Rattle.tsn_bridge.proofs.Reaching.{limits_reached}
 use Rattle.tsn_port.specs.declared.worker.PortWorker.{PortWorker}
 use Rattle.tsn_port.specs.Histories.{IsWhole, Tells, TookSome}
