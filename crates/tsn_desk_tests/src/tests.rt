@@ -14,10 +14,12 @@ use std::thread::Threads;
 use tsn_desk::desk::{Desk, Seat, Standing};
 use tsn_desk::machine::Nobody;
 
-/// Adds 1 so many times. Each reply is the place of its call, since all calls add 1.
-fn count_on<R: Wait + Abort>(
+/// Adds 1 so many times, at the door or from inside, behind a door that it has locked. Each reply is the place of its
+/// call, since all calls add 1.
+fn count_from<R: Wait + Abort>(
     rt: &R,
     desk: &Desk<Tally>,
+    standing: Standing,
     seat: Seat<Tally>,
     times: u64,
 ) -> Seat<Tally>
@@ -26,29 +28,7 @@ fn count_on<R: Wait + Abort>(
 {
     let mut seat = seat;
     for _ in 0..times {
-        let (back, turned) = desk.turn(rt, seat, 1);
-        seat = back;
-        match turned {
-            Ok(turn) => same(rt, &turn.reply, &turn.place),
-            Err(_) => same(rt, &false, &true),
-        }
-    }
-    seat
-}
-
-/// The same from inside, behind a door that it has locked.
-fn count_inside<R: Wait + Abort>(
-    rt: &R,
-    desk: &Desk<Tally>,
-    seat: Seat<Tally>,
-    times: u64,
-) -> Seat<Tally>
-    requires { IsSeatOf desk.now seat }
-    ensures { IsSeatOf desk.now result }
-{
-    let mut seat = seat;
-    for _ in 0..times {
-        let (back, turned) = desk.turn_from(rt, Standing::Inside, seat, 1, &mut Nobody);
+        let (back, turned) = desk.turn_from(rt, standing, seat, 1, &mut Nobody);
         seat = back;
         match turned {
             Ok((turn, ())) => same(rt, &turn.reply, &turn.place),
@@ -71,9 +51,9 @@ fn count_in_lots<R: Wait + Abort>(
     let mut seat = seat;
     for _ in 0..times {
         desk.lock_door(rt);
-        let inside = count_inside(rt, desk, seat, 4);
+        let inside = count_from(rt, desk, Standing::Inside, seat, 4);
         desk.open_door();
-        seat = count_on(rt, desk, inside, 1);
+        seat = count_from(rt, desk, Standing::AtTheDoor, inside, 1);
     }
     seat
 }
@@ -97,7 +77,7 @@ fn count_together<R: Threads + Wait + Abort + Sync>(
         if in_lots {
             count_in_lots(rt, desk, seat, times)
         } else {
-            count_on(rt, desk, seat, times)
+            count_from(rt, desk, Standing::AtTheDoor, seat, times)
         }
     };
     thread::map_vec(rt, seats, &count)
@@ -130,10 +110,10 @@ fn meet_and_close<R: Wait + Abort>(rt: &R, alloc: Global) -> Result<(), Fail> {
     let one = seats.pop().unwrap();
     let (one, front) = desk.front(one);
     same(rt, &front, &0);
-    let one = count_on(rt, &desk, one, 3);
+    let one = count_from(rt, &desk, Standing::AtTheDoor, one, 3);
     let (other, front) = desk.front(other);
     same(rt, &front, &3);
-    let other = count_on(rt, &desk, other, 1);
+    let other = count_from(rt, &desk, Standing::AtTheDoor, other, 1);
     let (one, other, met) = desk.meet(one, other);
     same(rt, &met, &Ok(()));
     seats.push(one)?;
