@@ -23,7 +23,7 @@ use Rattle.tsn_setup.specs.declared.plain_tables.PlainFilter.{PlainFilter}
 use Rattle.tsn_setup.specs.declared.plain_tables.PlainGate.{PlainGate}
 use Rattle.tsn_setup.specs.declared.plain_tables.PlainMeter.{PlainMeter}
 use Rattle.tsn_setup.specs.declared.plain_tables.PlainPort.{PlainPort}
-use Rattle.tsn_setup.proofs.Told.{port_told, filter_told, gate_told, meter_told}
+use Rattle.tsn_setup.proofs.Told.{record_told}
 use Rattle.tsn_export.specs.Text.{number_line, number_or_none_line, flag_line, list_lines, port_entry_line, gate_entry_line, port_table, filter_table, gate_table, meter_table}
 use Rattle.tsn_read_back.proofs.Entries.{port_list_back, gate_list_back}
 use Rattle.tsn_read_back.proofs.Joined.{in_seven, in_eight, in_ten}
@@ -89,8 +89,7 @@ port_back id r more low fits =
       is = in_seven (header kinds.Port) (number_line (codes "id") id) (number_line (codes "gates") r.gates)
           (list_lines port_entry_line r.admin.list) (number_line (codes "cycle") r.admin.cycle)
           (number_line (codes "extension") r.admin.extension) (number_line (codes "base") r.admin.base) more;
-      read = port_told text (skip_blank more) all id r.gates (map port_entry_draft r.admin.list) r.admin.cycle r.admin.extension
-          r.admin.base whole refl refl refl refl refl refl;
+      read = record_told (drafts.Port (port_draft r)) id text (skip_blank more) (port_trays all) whole refl refl;
     }
 
 pub filter_back : (id : ℕ) (r : StreamFilter) (more : List ℕ) → id ≤ greatest_instance → FilterInRange r
@@ -133,7 +132,7 @@ filter_back id r more low fits =
           (number_or_none_line (codes "priority") r.priority) (number_line (codes "gate") r.gate)
           (number_or_none_line (codes "max_sdu") r.max_sdu) (number_or_none_line (codes "meter") r.meter)
           (flag_line (codes "oversize") r.oversize) more;
-      read = filter_told text (skip_blank more) all id r.gate r.oversize whole refl refl refl;
+      read = record_told (drafts.Filter (filter_draft r)) id text (skip_blank more) (filter_trays all) whole refl refl;
     }
 
 pub gate_back : (id : ℕ) (r : StreamGate) (more : List ℕ) → id ≤ greatest_instance → GateInRange r
@@ -187,8 +186,7 @@ gate_back id r more low fits =
           (number_or_none_line (codes "ipv") r.ipv) (list_lines gate_entry_line r.admin.list) (number_line (codes "cycle") r.admin.cycle)
           (number_line (codes "extension") r.admin.extension) (number_line (codes "base") r.admin.base)
           (flag_line (codes "invalid_rx") r.invalid_rx) (flag_line (codes "octets_exceeded") r.octets_exceeded) more;
-      read = gate_told text (skip_blank more) all id r.is_open (map gate_entry_draft r.admin.list) r.admin.cycle r.admin.extension
-          r.admin.base r.invalid_rx r.octets_exceeded whole refl refl refl refl refl refl refl refl;
+      read = record_told (drafts.Gate (gate_draft r)) id text (skip_blank more) (gate_trays all) whole refl refl;
     }
 
 pub meter_back : (id : ℕ) (r : FlowMeter) (more : List ℕ) → id ≤ greatest_instance → MeterInRange r
@@ -233,6 +231,5 @@ meter_back id r more low fits =
           (number_line (codes "eir") r.eir) (number_line (codes "ebs") r.ebs)
           (flag_line (codes "cf") r.cf) (flag_line (codes "aware") r.aware) (flag_line (codes "drop_yellow") r.drop_yellow)
           (flag_line (codes "all_red") r.all_red) more;
-      read = meter_told text (skip_blank more) all id r.cir r.cbs r.eir r.ebs r.cf r.aware r.drop_yellow r.all_red whole refl refl refl refl
-          refl refl refl refl refl;
+      read = record_told (drafts.Meter (meter_draft r)) id text (skip_blank more) (meter_trays all) whole refl refl;
     }

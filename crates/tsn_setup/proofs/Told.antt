@@ -1,26 +1,28 @@
 -- What the trays of a table tell is its shape.
-use Rattle.std.proofs.Common.{◌≡◌, ℕ, List, Bool, true, Option, Some, None, Result, Ok, Err, codes, refl, ap, ◌∙◌}
+use Rattle.std.proofs.Common.{◌≡◌, ℕ, List, [], ◌∷◌, map, Bool, true, Option, Some, None, Result, Ok, Err, codes, refl, ap, subst, ◌∙◌}
 use Rattle.std.specs.Prelude.{option_and_then, option_map}
-use Rattle.toml.specs.Data.{Data, Items, Members, table, get_member, as_bool, as_array}
+use Rattle.std.specs.List.{zip}
+use Rattle.toml.specs.Data.{Data, Items, Members, table, get, get_member, as_bool, as_array}
 use Rattle.toml.specs.Tables.{close}
 use Rattle.tsn_records.specs.Answers.{◌>>=◌, each, or_shape}
+use Rattle.tsn_types.specs.declared.keys.Kind.{Kind}
 use Rattle.tsn_types.specs.declared.keys.Kind.TheVariants as kinds
-use Rattle.tsn_records.specs.declared.drafts.RecordDraft.TheVariants as records
-use Rattle.tsn_records.specs.declared.drafts.PortEntryDraft.{PortEntryDraft}
-use Rattle.tsn_records.specs.declared.drafts.GateEntryDraft.{GateEntryDraft}
-use Rattle.tsn_records.specs.declared.unread.Unread.{Unread}
-use Rattle.tsn_records.specs.Records.{port_entry_shape, gate_entry_shape, member_shape, record_shape}
-use Rattle.tsn_records.specs.Values.{typed}
+use Rattle.tsn_records.specs.declared.allowed.Allowed.{Allowed}
+use Rattle.tsn_records.specs.declared.allowed.Allowed.TheVariants as allowed
+use Rattle.tsn_records.specs.declared.drafts.MemberDraft.{MemberDraft}
+use Rattle.tsn_records.specs.declared.drafts.MemberDraft.TheVariants.{Unread, Number, Maybe, Flag, PortList, GateList}
+use Rattle.tsn_records.specs.declared.drafts.RecordDraft.{RecordDraft}
+use Rattle.tsn_records.specs.declared.unread.Unread.{Unread as NotRead}
+use Rattle.tsn_records.specs.Members.{names_of, rows_of}
+use Rattle.tsn_records.specs.Records.{port_entry_shape, gate_entry_shape, member_shape}
+use Rattle.tsn_records.specs.Values.{AllFit, Fits, kind_of_draft, values_of}
 use Rattle.tsn_setup.specs.Tables.{table_shape}
 use Rattle.tsn_setup.specs.Toml.{are_among, has_only, if_given, items_list, as_toml, whole}
-use Rattle.tsn_setup.specs.Plain.{list_given, names, ReadsTable, ReadsEntry, ReadsLines, ReadsTableOf}
-use Rattle.tsn_setup.specs.PlainTrays.{port_entry_trays, gate_entry_trays, port_trays, gate_trays, filter_trays, meter_trays}
+use Rattle.tsn_setup.specs.Plain.{Tray, Trays, number, flag, port_list, gate_list, list_given, names, Stands, Tells, ReadsTable, ReadsEntry, ReadsLines, ReadsTableOf}
+use Rattle.tsn_setup.specs.PlainTrays.{port_entry_trays, gate_entry_trays}
 use Rattle.tsn_setup.specs.declared.plain_entries.PlainPortEntry.{PlainPortEntry}
 use Rattle.tsn_setup.specs.declared.plain_entries.PlainGateEntry.{PlainGateEntry}
-use Rattle.tsn_setup.specs.declared.plain_tables.PlainPort.{PlainPort}
-use Rattle.tsn_setup.specs.declared.plain_tables.PlainGate.{PlainGate}
-use Rattle.tsn_setup.specs.declared.plain_tables.PlainFilter.{PlainFilter}
-use Rattle.tsn_setup.specs.declared.plain_tables.PlainMeter.{PlainMeter}
+use Rattle.tsn_records.proofs.Shapes.{record_shaped, values_fit}
 
 -- a member that is given is there
 there_at : {A : Type 0} (f : Data → Option A) (d : Data) (o : Option A) (a : A) → f d ≡ o → or_shape o >>= (λ y. Ok (Some y)) ≡ Ok (Some a)
@@ -73,150 +75,71 @@ gate_entry_told text rest m is_open interval read o i = record {
 
 -- ---- tables that have lines
 
-number : (name : List ℕ) (ms : Members) (o : Option ℕ) (n : ℕ) → if_given whole (get_member name ms) ≡ Ok o → o ≡ Some n
-    → or_shape (option_and_then whole (get_member name ms)) ≡ Ok n
-number name ms o n told is = there whole (get_member name ms) n (told ∙ ap Ok is)
-
-flag : (name : List ℕ) (ms : Members) (o : Option Bool) (b : Bool) → if_given as_bool (get_member name ms) ≡ Ok o → o ≡ Some b
-    → or_shape (option_and_then as_bool (get_member name ms)) ≡ Ok b
-flag name ms o b told is = there as_bool (get_member name ms) b (told ∙ ap Ok is)
-
-same_some : {A : Type 0} (a b : A) → Some a ≡ Some b → a ≡ b
-same_some a b e = cc
-
-list_in : {E : Type 0} (r : Result (List E) Unread) (es : List E) → r >>= (λ xs. Ok (Some xs)) ≡ Ok (Some es) → r ≡ Ok es
+list_in : {E : Type 0} (r : Result (List E) NotRead) (es : List E) → r >>= (λ xs. Ok (Some xs)) ≡ Ok (Some es) → r ≡ Ok es
 list_in (Ok xs) es h = (let e : Ok (Some xs) ≡ Ok (Some es) = h in let f : xs ≡ es = cc in ap Ok f)
 list_in (Err e) es h = cc
 
-list_at : {E : Type 0} (entry : Data → Result E Unread) (o : Option Items) (es : List E)
+list_at : {E : Type 0} (entry : Data → Result E NotRead) (o : Option Items) (es : List E)
     → or_shape o >>= (λ items. each entry (items_list items) >>= λ xs. Ok (Some xs)) ≡ Ok (Some es)
     → or_shape (option_map items_list o) >>= each entry ≡ Ok es
 list_at entry None es h = cc
 list_at entry (Some items) es h = list_in (each entry (items_list items)) es h
 
-list_told : {E : Type 0} (entry : Data → Result E Unread) (found : Option Data) (o : Option (List E)) (es : List E)
-    → list_given entry found ≡ Ok o → o ≡ Some es
+list_told : {E : Type 0} (entry : Data → Result E NotRead) (found : Option Data) (es : List E) → list_given entry found ≡ Ok (Some es)
     → or_shape (option_map items_list (option_and_then as_array found)) >>= each entry ≡ Ok es
-list_told entry None o es told is = let none : Ok None ≡ Ok (Some es) = told ∙ ap Ok is in cc
-list_told entry (Some d) o es told is = list_at entry (as_array d) es (told ∙ ap Ok is)
+list_told entry None es told = cc
+list_told entry (Some d) es told = list_at entry (as_array d) es told
 
-pub port_told : (text rest : List ℕ) (m : PlainPort) (id gates : ℕ) (list : List PortEntryDraft) (cycle extension base : ℕ)
-    → ReadsLines text (port_trays m) rest
-    → m.id ≡ Some id → m.gates ≡ Some gates → m.list ≡ Some list → m.cycle ≡ Some cycle → m.extension ≡ Some extension → m.base ≡ Some base
-    → ReadsTableOf kinds.Port text (record {
-      id = id;
-      value = records.Port
-          (record { gates = gates; admin = record { list = list; cycle = cycle; extension = extension; base = base } });
-    }) rest
-unfolding table_shape record_shape member_shape typed
-port_told text rest m id gates list cycle extension base read i g l c e b = record {
+-- the tray of a member that was read
+abbrev pub tray_of : MemberDraft → Tray
+tray_of Unread = number None
+tray_of (Number n) = number (Some n)
+tray_of (Maybe o) = number o
+tray_of (Flag b) = flag (Some b)
+tray_of (PortList es) = port_list (Some es)
+tray_of (GateList es) = gate_list (Some es)
+
+member_told : (kind : Kind) (row : Allowed) (v : MemberDraft) (found : Option Data) → Fits kind row v → Stands (tray_of v) found
+    → member_shape as_toml kind row found ≡ Ok v
+unfolding member_shape
+member_told kind (allowed.Number least most) (Number n) found fits told = rw (there whole found n told) refl
+member_told kind (allowed.NumberOrNone least most) (Maybe o) found fits told = rw told refl
+member_told kind allowed.Flag (Flag b) found fits told = rw (there as_bool found b told) refl
+member_told kinds.Port (allowed.List most) (PortList es) found fits told = rw (list_told (port_entry_shape as_toml) found es told) refl
+member_told kinds.Gate (allowed.List most) (GateList es) found fits told = rw (list_told (gate_entry_shape as_toml) found es told) refl
+member_told kind row v found fits told = absurd fits
+
+-- the names of members, each with its tray
+abbrev pub told_rows : List (List ℕ × Allowed) → List MemberDraft → Trays
+told_rows rows vs = zip (map (λ row. row.0) rows) (map tray_of vs)
+
+members_told : (kind : Kind) (ms : Members) (rows : List (List ℕ × Allowed)) (vs : List MemberDraft) → AllFit kind rows vs
+    → Tells ms (told_rows rows vs) → each (λ row. member_shape as_toml kind row.1 (get row.0 (table ms))) rows ≡ Ok vs
+members_told kind ms [] [] fits told = refl
+members_told kind ms (row ∷ rows) (v ∷ vs) fits told =
+    rw (member_told kind row.1 v (get_member row.0 ms) fits.0 told.0, members_told kind ms rows vs fits.1 told.1) refl
+members_told kind ms rows vs fits told = absurd fits
+
+-- the lines of a table with all of a record's members, whatever its kind
+pub record_told : (r : RecordDraft) (id : ℕ) (text rest : List ℕ) (trays : Trays) → ReadsLines text trays rest
+    → names trays ≡ names_of (kind_of_draft r)
+    → trays ≡ (codes "id", number (Some id)) ∷ told_rows (rows_of (kind_of_draft r)) (values_of r)
+    → ReadsTableOf (kind_of_draft r) text (record { id = id; value = r }) rest
+unfolding table_shape
+record_told r id text rest trays read named are = record {
   found = read.found;
   leads = read.leads;
   shaped =
+      let kind = kind_of_draft r in
       let ms = close read.found in
-      let told = read.tells.tells in
+      let told = subst (Tells ms) are read.tells.tells in
+      let names_are : are_among (names_of kind) ms ≡ true = subst (λ ns. are_among ns ms ≡ true) named read.tells.only in
       rw (
-        number (codes "id") ms m.id id told.0 i,
-        only (names (port_trays m)) ms read.tells.only,
-        number (codes "gates") ms m.gates gates told.1.0 g,
-        list_told (port_entry_shape as_toml) (get_member (codes "list") ms) m.list list told.1.1.0 l,
-        number (codes "cycle") ms m.cycle cycle told.1.1.1.0 c,
-        number (codes "extension") ms m.extension extension told.1.1.1.1.0 e,
-        number (codes "base") ms m.base base told.1.1.1.1.1.0 b,
-      ) refl;
-}
-
-pub filter_told : (text rest : List ℕ) (m : PlainFilter) (id gate : ℕ) (oversize : Bool) → ReadsLines text (filter_trays m) rest
-    → m.id ≡ Some id → m.gate ≡ Some gate → m.oversize ≡ Some oversize
-    → ReadsTableOf kinds.Filter text
-    (record {
-      id = id;
-      value = records.Filter
-          (record { handle = m.handle; priority = m.priority; gate = gate; max_sdu = m.max_sdu; meter = m.meter; oversize = oversize });
-    })
-    rest
-unfolding table_shape record_shape member_shape typed
-filter_told text rest m id gate oversize read i g o = record {
-  found = read.found;
-  leads = read.leads;
-  shaped =
-      let ms = close read.found in
-      let told = read.tells.tells in
-      rw (
-        number (codes "id") ms m.id id told.0 i,
-        only (names (filter_trays m)) ms read.tells.only,
-        told.1.0,
-        told.1.1.0,
-        number (codes "gate") ms m.gate gate told.1.1.1.0 g,
-        told.1.1.1.1.0,
-        told.1.1.1.1.1.0,
-        flag (codes "oversize") ms m.oversize oversize told.1.1.1.1.1.1.0 o,
-      ) refl;
-}
-
-pub gate_told : (text rest : List ℕ) (m : PlainGate) (id : ℕ) (is_open : Bool) (list : List GateEntryDraft) (cycle extension base : ℕ)
-    (invalid_rx octets_exceeded : Bool) → ReadsLines text (gate_trays m) rest
-    → m.id ≡ Some id → m.open ≡ Some is_open → m.list ≡ Some list → m.cycle ≡ Some cycle → m.extension ≡ Some extension → m.base ≡ Some base
-    → m.invalid_rx ≡ Some invalid_rx → m.octets_exceeded ≡ Some octets_exceeded
-    → ReadsTableOf kinds.Gate text (record {
-      id = id;
-      value = records.Gate (record {
-        is_open = is_open;
-        ipv = m.ipv;
-        admin = record { list = list; cycle = cycle; extension = extension; base = base };
-        invalid_rx = invalid_rx;
-        octets_exceeded = octets_exceeded;
-      });
-    }) rest
-unfolding table_shape record_shape member_shape typed
-gate_told text rest m id is_open list cycle extension base invalid_rx octets_exceeded read i o l c e b v x = record {
-  found = read.found;
-  leads = read.leads;
-  shaped =
-      let ms = close read.found in
-      let told = read.tells.tells in
-      rw (
-        number (codes "id") ms m.id id told.0 i,
-        only (names (gate_trays m)) ms read.tells.only,
-        flag (codes "open") ms m.open is_open told.1.0 o,
-        told.1.1.0,
-        list_told (gate_entry_shape as_toml) (get_member (codes "list") ms) m.list list told.1.1.1.0 l,
-        number (codes "cycle") ms m.cycle cycle told.1.1.1.1.0 c,
-        number (codes "extension") ms m.extension extension told.1.1.1.1.1.0 e,
-        number (codes "base") ms m.base base told.1.1.1.1.1.1.0 b,
-        flag (codes "invalid_rx") ms m.invalid_rx invalid_rx told.1.1.1.1.1.1.1.0 v,
-        flag (codes "octets_exceeded") ms m.octets_exceeded octets_exceeded told.1.1.1.1.1.1.1.1.0 x,
-      ) refl;
-}
-
-pub meter_told : (text rest : List ℕ) (m : PlainMeter) (id cir cbs eir ebs : ℕ) (cf aware drop_yellow all_red : Bool)
-    → ReadsLines text (meter_trays m) rest
-    → m.id ≡ Some id → m.cir ≡ Some cir → m.cbs ≡ Some cbs → m.eir ≡ Some eir → m.ebs ≡ Some ebs → m.cf ≡ Some cf → m.aware ≡ Some aware
-    → m.drop_yellow ≡ Some drop_yellow → m.all_red ≡ Some all_red
-    → ReadsTableOf kinds.Meter text
-    (record {
-      id = id;
-      value = records.Meter
-          (record { cir = cir; cbs = cbs; eir = eir; ebs = ebs; cf = cf; aware = aware; drop_yellow = drop_yellow; all_red = all_red });
-    })
-    rest
-unfolding table_shape record_shape member_shape typed
-meter_told text rest m id cir cbs eir ebs cf aware drop_yellow all_red read i a b c d e f g h = record {
-  found = read.found;
-  leads = read.leads;
-  shaped =
-      let ms = close read.found in
-      let told = read.tells.tells in
-      rw (
-        number (codes "id") ms m.id id told.0 i,
-        only (names (meter_trays m)) ms read.tells.only,
-        number (codes "cir") ms m.cir cir told.1.0 a,
-        number (codes "cbs") ms m.cbs cbs told.1.1.0 b,
-        number (codes "eir") ms m.eir eir told.1.1.1.0 c,
-        number (codes "ebs") ms m.ebs ebs told.1.1.1.1.0 d,
-        flag (codes "cf") ms m.cf cf told.1.1.1.1.1.0 e,
-        flag (codes "aware") ms m.aware aware told.1.1.1.1.1.1.0 f,
-        flag (codes "drop_yellow") ms m.drop_yellow drop_yellow told.1.1.1.1.1.1.1.0 g,
-        flag (codes "all_red") ms m.all_red all_red told.1.1.1.1.1.1.1.1.0 h,
+        there whole (get_member (codes "id") ms) id told.0,
+        record_shaped as_toml kind (table ms) r (record {
+          only = only (names_of kind) ms names_are;
+          of = refl;
+          members = members_told kind ms (rows_of kind) (values_of r) (values_fit r) told.1;
+        }),
       ) refl;
 }

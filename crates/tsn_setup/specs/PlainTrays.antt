@@ -1,8 +1,10 @@
--- The names that each table of a setup may have, with what was read of it.
-use Rattle.std.specs.Prelude.{◌≡◌, List, [], ◌∷◌, ◌++◌, map, codes}
+-- The names that each table of a setup may have, as the table of members has them, with what was read of it.
+use Rattle.std.specs.Prelude.{◌≡◌, List, [], ◌∷◌, ◌++◌, map}
+use Rattle.std.specs.List.{zip}
 use Rattle.tsn_types.specs.declared.keys.Kind.{Kind}
 use Rattle.tsn_types.specs.declared.keys.Kind.TheVariants.{Port, Filter, Gate, Meter}
 use Rattle.tsn_records.specs.Keys.{kind_text}
+use Rattle.tsn_records.specs.Members.{names_of, entry_names_of, setup_names}
 use Rattle.tsn_setup.specs.Plain.{Trays, number, flag, port_list, gate_list, tables, put_tray}
 use Rattle.tsn_setup.specs.declared.drafts.LimitsDraft.{LimitsDraft}
 use Rattle.tsn_setup.specs.declared.drafts.TableDraft.{TableDraft}
@@ -14,66 +16,34 @@ use Rattle.tsn_setup.specs.declared.plain_tables.PlainFilter.{PlainFilter}
 use Rattle.tsn_setup.specs.declared.plain_tables.PlainMeter.{PlainMeter}
 use Rattle.tsn_setup.specs.declared.plain_documents.DocumentTables.{DocumentTables}
 
+-- what was read of a table's members, each under its name
 abbrev pub port_entry_trays : PlainPortEntry → Trays
-port_entry_trays m = (codes "gates", number m.gates) ∷ (codes "interval", number m.interval) ∷ []
+port_entry_trays m = zip (entry_names_of Port) (number m.gates ∷ number m.interval ∷ [])
 
 abbrev pub gate_entry_trays : PlainGateEntry → Trays
-gate_entry_trays m =
-    (codes "open", flag m.open) ∷
-    (codes "ipv", number m.ipv) ∷
-    (codes "interval", number m.interval) ∷
-    (codes "octets", number m.octets) ∷ []
+gate_entry_trays m = zip (entry_names_of Gate) (flag m.open ∷ number m.ipv ∷ number m.interval ∷ number m.octets ∷ [])
 
 abbrev pub port_trays : PlainPort → Trays
-port_trays m =
-    (codes "id", number m.id) ∷
-    (codes "gates", number m.gates) ∷
-    (codes "list", port_list m.list) ∷
-    (codes "cycle", number m.cycle) ∷
-    (codes "extension", number m.extension) ∷
-    (codes "base", number m.base) ∷ []
+port_trays m = zip (names_of Port)
+    (number m.id ∷ number m.gates ∷ port_list m.list ∷ number m.cycle ∷ number m.extension ∷ number m.base ∷ [])
 
 abbrev pub gate_trays : PlainGate → Trays
-gate_trays m =
-    (codes "id", number m.id) ∷
-    (codes "open", flag m.open) ∷
-    (codes "ipv", number m.ipv) ∷
-    (codes "list", gate_list m.list) ∷
-    (codes "cycle", number m.cycle) ∷
-    (codes "extension", number m.extension) ∷
-    (codes "base", number m.base) ∷
-    (codes "invalid_rx", flag m.invalid_rx) ∷
-    (codes "octets_exceeded", flag m.octets_exceeded) ∷ []
+gate_trays m = zip (names_of Gate)
+    (number m.id ∷ flag m.open ∷ number m.ipv ∷ gate_list m.list ∷ number m.cycle ∷ number m.extension ∷ number m.base ∷
+    flag m.invalid_rx ∷ flag m.octets_exceeded ∷ [])
 
 abbrev pub filter_trays : PlainFilter → Trays
-filter_trays m =
-    (codes "id", number m.id) ∷
-    (codes "handle", number m.handle) ∷
-    (codes "priority", number m.priority) ∷
-    (codes "gate", number m.gate) ∷
-    (codes "max_sdu", number m.max_sdu) ∷
-    (codes "meter", number m.meter) ∷
-    (codes "oversize", flag m.oversize) ∷ []
+filter_trays m = zip (names_of Filter)
+    (number m.id ∷ number m.handle ∷ number m.priority ∷ number m.gate ∷ number m.max_sdu ∷ number m.meter ∷ flag m.oversize ∷ [])
 
 abbrev pub meter_trays : PlainMeter → Trays
-meter_trays m =
-    (codes "id", number m.id) ∷
-    (codes "cir", number m.cir) ∷
-    (codes "cbs", number m.cbs) ∷
-    (codes "eir", number m.eir) ∷
-    (codes "ebs", number m.ebs) ∷
-    (codes "cf", flag m.cf) ∷
-    (codes "aware", flag m.aware) ∷
-    (codes "drop_yellow", flag m.drop_yellow) ∷
-    (codes "all_red", flag m.all_red) ∷ []
+meter_trays m = zip (names_of Meter)
+    (number m.id ∷ number m.cir ∷ number m.cbs ∷ number m.eir ∷ number m.ebs ∷ flag m.cf ∷ flag m.aware ∷ flag m.drop_yellow ∷
+    flag m.all_red ∷ [])
 
 abbrev pub limits_trays : LimitsDraft → Trays
 limits_trays m =
-    (codes "ports", number m.ports) ∷
-    (codes "max_filters", number m.max_filters) ∷
-    (codes "max_gates", number m.max_gates) ∷
-    (codes "max_meters", number m.max_meters) ∷
-    (codes "list_max", number m.list_max) ∷ []
+    zip setup_names (number m.ports ∷ number m.max_filters ∷ number m.max_gates ∷ number m.max_meters ∷ number m.list_max ∷ [])
 
 -- the members of a document: the limits, and the tables of each kind
 abbrev pub whole_trays : LimitsDraft → (Kind → List TableDraft) → Trays

@@ -1,6 +1,17 @@
-use Rattle.tsn_setup.proofs.Told.{gate_told}
+use Rattle.std.proofs.Common.{refl}
+use Rattle.tsn_records.specs.declared.drafts.RecordDraft.TheVariants as records
+use Rattle.tsn_setup.proofs.Told.{record_told}
 use Rattle.tsn_setup.proofs.plain_tables.gate_table.Goals as goal
 
 pub returns-clause-table : goal.returns-clause-table
-returns-clause-table c = gate_told _ _ _ _ _ _ _ _ _ _ _ c.in_ok-found.ensures.table c.in_ok-id.was c.in_ok-is_open.was c.in_ok-list.was
-    c.in_ok-cycle.was c.in_ok-extension.was c.in_ok-base.was c.in_ok-invalid_rx.was c.in_ok-octets_exceeded.was
+returns-clause-table c = record_told (records.Gate _) _ _ _ _
+    (rw (
+      c.in_ok-id.was,
+      c.in_ok-is_open.was,
+      c.in_ok-list.was,
+      c.in_ok-cycle.was,
+      c.in_ok-extension.was,
+      c.in_ok-base.was,
+      c.in_ok-invalid_rx.was,
+      c.in_ok-octets_exceeded.was,
+    ) at c.in_ok-found.ensures.table) refl refl
