@@ -3,6 +3,7 @@ pub mod Grown
 pub mod Lines
 pub mod Names
 pub mod Numerals
+pub mod OnLiterals
 pub mod Pieces
 pub mod Escapes
 pub mod Setups

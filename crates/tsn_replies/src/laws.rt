@@ -16,6 +16,7 @@ ghost use Rattle.tsn_types.specs.declared.refusals.Field.TheVariants as fields;
 ghost use Rattle.tsn_types.specs.declared.refusals.Refusal.TheVariants as refusals;
 
 /// The text of replies.
+#[tactic(auto, unfolding(crate::proofs::OnLiterals::replies_on_literals))]
 pub fn replies_are_spelled()
     ensures session { reply_text (replies.Session 1) ≡ codes "{\"session\":1}\n" }
     ensures entry { reply_text (replies.Entry 3) ≡ codes "{\"entry\":3}\n" }
@@ -73,6 +74,7 @@ pub fn replies_are_spelled()
 {}
 
 /// The text of records, of numbers of instances, of sessions and of a setup.
+#[tactic(auto, unfolding(crate::proofs::OnLiterals::replies_on_literals))]
 pub fn records_are_shown()
     ensures port { reply_text (replies.Shown (keys.Port 1) (records.Port a_port))
         ≡ shown_line (codes "port 1") port_text }
@@ -92,6 +94,7 @@ pub fn records_are_shown()
 {}
 
 /// The text of the journal's entries.
+#[tactic(auto, unfolding(crate::proofs::OnLiterals::replies_on_literals))]
 pub fn entries_are_told()
     ensures undone { reply_text (replies.Entries a_removal_undone) ≡ removal_undone_text }
     ensures redone { reply_text (replies.Entries a_removal_redone) ≡ removal_redone_text }
