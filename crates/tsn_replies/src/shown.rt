@@ -369,46 +369,6 @@ fn push_meter_line(text: &mut ShortText, key: Key, meter: &FlowMeter)
     text.push("}\n");
 }
 
-fn write_port<W: ByteOut>(
-    writer: &mut W,
-    text: &mut ShortText,
-    key: Key,
-    port: &PortGates,
-) -> Result<(), Fault>
-    requires { text.old ≡ [] }
-    ensures ok { OnOk result (Appends (W.taken writer.old) (W.taken writer.new)
-        (compact_text (shown_data key (records.Port port.now)) ++ codes "\n")) }
-    ensures worked { OnOk result (W.has_failed writer.new ≡ W.has_failed writer.old) }
-    ensures fault { IfErr result (λ e. e ≡ Write) }
-    ensures failed { OnErr result (W.has_failed writer.new ≡ true) }
-    ensures cut { OnErr result (IsCut (W.taken writer.old) (W.taken writer.new)
-        (compact_text (shown_data key (records.Port port.now)) ++ codes "\n")) }
-{
-    push_key_front(text, key);
-    push_port_front(text, port);
-    write_listed(writer, text, port.admin.list.as_slice(), b"}}\n")
-}
-
-fn write_gate<W: ByteOut>(
-    writer: &mut W,
-    text: &mut ShortText,
-    key: Key,
-    gate: &StreamGate,
-) -> Result<(), Fault>
-    requires { text.old ≡ [] }
-    ensures ok { OnOk result (Appends (W.taken writer.old) (W.taken writer.new)
-        (compact_text (shown_data key (records.Gate gate.now)) ++ codes "\n")) }
-    ensures worked { OnOk result (W.has_failed writer.new ≡ W.has_failed writer.old) }
-    ensures fault { IfErr result (λ e. e ≡ Write) }
-    ensures failed { OnErr result (W.has_failed writer.new ≡ true) }
-    ensures cut { OnErr result (IsCut (W.taken writer.old) (W.taken writer.new)
-        (compact_text (shown_data key (records.Gate gate.now)) ++ codes "\n")) }
-{
-    push_key_front(text, key);
-    push_gate_front(text, gate);
-    write_listed(writer, text, gate.admin.list.as_slice(), gate_rest(gate))
-}
-
 /// The record, lent.
 pub fn lent(value: &Record) -> RecordRef<'_>
     ensures { lent_record result ≡ value.now }
@@ -439,12 +399,20 @@ pub fn write_lent_record<W: ByteOut>(
         (compact_text (shown_data key (lent_record lent.entry)) ++ codes "\n")) }
 {
     match lent {
-        RecordRef::Port(port) => write_port(writer, text, key, port),
+        RecordRef::Port(port) => {
+            push_key_front(text, key);
+            push_port_front(text, port);
+            write_listed(writer, text, port.admin.list.as_slice(), b"}}\n")
+        }
         RecordRef::Filter(filter) => {
             push_filter_line(text, key, filter);
             put_all(writer, text.as_slice())
         }
-        RecordRef::Gate(gate) => write_gate(writer, text, key, gate),
+        RecordRef::Gate(gate) => {
+            push_key_front(text, key);
+            push_gate_front(text, gate);
+            write_listed(writer, text, gate.admin.list.as_slice(), gate_rest(gate))
+        }
         RecordRef::Meter(meter) => {
             push_meter_line(text, key, meter);
             put_all(writer, text.as_slice())

@@ -108,26 +108,6 @@ fn push_taking_back(text: &mut ShortText, number: u64, session: u32, of: u64, ch
     push_number(text, ",\"session\":", u64::from(session));
 }
 
-fn push_undone(text: &mut ShortText, number: u64, session: u32, of: u64, change: &Change)
-    requires { length text.old + LONGEST_ITEM ≤ CAPACITY }
-    ensures text { text.new
-        ≡ text.old ++ compact_text (taking_back_data number session of (keys_of change.now) (codes "undone")) }
-    ensures len { length text.new ≤ length text.old + LONGEST_ITEM }
-{
-    push_taking_back(text, number, session, of, change);
-    text.push(",\"what\":\"undone\"}");
-}
-
-fn push_redone(text: &mut ShortText, number: u64, session: u32, of: u64, change: &Change)
-    requires { length text.old + LONGEST_ITEM ≤ CAPACITY }
-    ensures text { text.new
-        ≡ text.old ++ compact_text (taking_back_data number session of (keys_of change.now) (codes "redone")) }
-    ensures len { length text.new ≤ length text.old + LONGEST_ITEM }
-{
-    push_taking_back(text, number, session, of, change);
-    text.push(",\"what\":\"redone\"}");
-}
-
 fn push_acted(text: &mut ShortText, number: u64, session: u32, act: Act, key: Key, now: u64)
     requires { length text.old + LONGEST_ITEM ≤ CAPACITY }
     ensures text { text.new ≡ text.old ++ compact_text (acted_data number session act key now) }
@@ -164,8 +144,14 @@ fn push_entry(text: &mut ShortText, entry: &Entry)
     } = entry;
     match what {
         What::Made(change) => push_made(text, *number, *session, change),
-        What::Undone { of, change } => push_undone(text, *number, *session, *of, change),
-        What::Redone { of, change } => push_redone(text, *number, *session, *of, change),
+        What::Undone { of, change } => {
+            push_taking_back(text, *number, *session, *of, change);
+            text.push(",\"what\":\"undone\"}");
+        }
+        What::Redone { of, change } => {
+            push_taking_back(text, *number, *session, *of, change);
+            text.push(",\"what\":\"redone\"}");
+        }
         What::Acted { act, key, now } => {
             push_acted(text, *number, *session, *act, *key, now.get());
         }
