@@ -8,3 +8,4 @@ pub mod Pieces
 pub mod Escapes
 pub mod Setups
 pub mod Telling
+pub mod Written

@@ -4,3 +4,4 @@ pub mod Pieces
 pub mod Replies
 pub mod Running
 pub mod Told
+pub mod Writing

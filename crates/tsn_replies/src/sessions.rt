@@ -1,10 +1,8 @@
 //! The line of the sessions that were given out, spelled piece by piece. None of it takes memory.
-ghost use Rattle.std.specs.Prelude.{◌≡◌, ◌+◌, ◌≤◌, ◌++◌, [], length, true, IfErr, OnOk, OnErr, codes};
-ghost use Rattle.std.specs.Io.KnownBytes.{Appends};
+ghost use Rattle.std.specs.Prelude.{◌≡◌, ◌+◌, ◌≤◌, ◌++◌, [], length, codes};
 ghost use Rattle.serde_json.specs.Written.{compact_text};
-ghost use Rattle.tsn_bytes.specs.Bytes.{IsCut};
-ghost use Rattle.tsn_bytes.specs.declared.bytes.Fault.TheVariants.{Write};
 ghost use Rattle.tsn_replies.specs.Told.{session_data, sessions_data};
+ghost use Rattle.tsn_replies.specs.Writing.{Writes};
 
 use crate::session_names::push_name_or_null;
 use crate::shown::{LONGEST_ITEM, ShownItem, push_number, write_listed};
@@ -40,13 +38,8 @@ pub fn write_sessions<W: ByteOut>(
     sessions: &[GivenSession],
 ) -> Result<(), Fault>
     requires { text.old ≡ [] }
-    ensures ok { OnOk result (Appends (W.taken writer.old) (W.taken writer.new)
-        (compact_text (sessions_data sessions.now) ++ codes "\n")) }
-    ensures worked { OnOk result (W.has_failed writer.new ≡ W.has_failed writer.old) }
-    ensures fault { IfErr result (λ e. e ≡ Write) }
-    ensures failed { OnErr result (W.has_failed writer.new ≡ true) }
-    ensures cut { OnErr result (IsCut (W.taken writer.old) (W.taken writer.new)
-        (compact_text (sessions_data sessions.now) ++ codes "\n")) }
+    ensures { Writes result (W.taken writer.old) (W.taken writer.new) (W.has_failed writer.old) (W.has_failed writer.new)
+        (compact_text (sessions_data sessions.now) ++ codes "\n") }
 {
     text.push("{\"sessions\":[");
     write_listed(writer, text, sessions, b"}\n")

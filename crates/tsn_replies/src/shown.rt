@@ -15,6 +15,7 @@ ghost use Rattle.tsn_types.specs.Lent.{lent_record};
 ghost use Rattle.tsn_types.specs.Numbers.{greatest_instance};
 ghost use Rattle.tsn_records.specs.Shown.{whole_data, or_null, port_entry_data, gate_entry_data, filter_data, meter_data};
 ghost use Rattle.tsn_replies.specs.Told.{shown_data, ids_data};
+ghost use Rattle.tsn_replies.specs.Writing.{Writes};
 ghost use Rattle.tsn_records.specs.Keys.{key_text};
 ghost use Rattle.tsn_replies.specs.Pieces.{TakesFront, key_front, port_front, gate_front, gate_end, gate_rest};
 
@@ -423,13 +424,8 @@ pub fn write_lent_record<W: ByteOut>(
 /// Writes the line of numbers of instances, in their order, as `write_lent_record` does that of a record.
 pub fn write_ids<W: ByteOut>(writer: &mut W, text: &mut ShortText, ids: &[u64]) -> Result<(), Fault>
     requires { text.old ≡ [] }
-    ensures ok { OnOk result (Appends (W.taken writer.old) (W.taken writer.new)
-        (compact_text (ids_data ids.now) ++ codes "\n")) }
-    ensures worked { OnOk result (W.has_failed writer.new ≡ W.has_failed writer.old) }
-    ensures fault { IfErr result (λ e. e ≡ Write) }
-    ensures failed { OnErr result (W.has_failed writer.new ≡ true) }
-    ensures cut { OnErr result (IsCut (W.taken writer.old) (W.taken writer.new)
-        (compact_text (ids_data ids.now) ++ codes "\n")) }
+    ensures { Writes result (W.taken writer.old) (W.taken writer.new) (W.has_failed writer.old) (W.has_failed writer.new)
+        (compact_text (ids_data ids.now) ++ codes "\n") }
 {
     text.push("{\"ids\":[");
     write_listed(writer, text, ids, b"}\n")

@@ -1,13 +1,11 @@
 //! The line of entries of the journal, spelled piece by piece. None of it takes memory.
-ghost use Rattle.std.specs.Prelude.{◌≡◌, ◌+◌, ◌≤◌, ◌++◌, [], length, map, true, IfErr, OnOk, OnErr, codes};
-ghost use Rattle.std.specs.Io.KnownBytes.{Appends};
+ghost use Rattle.std.specs.Prelude.{◌≡◌, ◌+◌, ◌≤◌, ◌++◌, [], length, map, codes};
 ghost use Rattle.serde_json.specs.Data.{string};
 ghost use Rattle.serde_json.specs.Written.{compact_text};
 ghost use Rattle.tsn_edit.specs.Changes.{keys_of};
-ghost use Rattle.tsn_bytes.specs.Bytes.{IsCut};
-ghost use Rattle.tsn_bytes.specs.declared.bytes.Fault.TheVariants.{Write};
 ghost use Rattle.tsn_replies.specs.Pieces.{keys_piece, taking_back_front, told_line};
-ghost use Rattle.tsn_replies.specs.Told.{act_name, key_data, made_data, taking_back_data, acted_data, settled_data, entry_data, entries_data, kept_data};
+ghost use Rattle.tsn_replies.specs.Told.{act_name, key_data, made_data, acted_data, settled_data, entry_data, entries_data, kept_data};
+ghost use Rattle.tsn_replies.specs.Writing.{Writes};
 ghost use Rattle.tsn_journal.specs.Marks.{entries_of};
 
 use crate::shown::{LONGEST_ITEM, LONGEST_KEY, ShownItem, push_key, push_number, write_listed};
@@ -182,11 +180,8 @@ fn write_told<W: ByteOut, I: ShownItem>(
     entries: &[I],
 ) -> Result<(), Fault>
     requires { text.old ≡ [] }
-    ensures ok { OnOk result (Appends (W.taken writer.old) (W.taken writer.new) (told_line (map I.shown entries.now))) }
-    ensures worked { OnOk result (W.has_failed writer.new ≡ W.has_failed writer.old) }
-    ensures fault { IfErr result (λ e. e ≡ Write) }
-    ensures failed { OnErr result (W.has_failed writer.new ≡ true) }
-    ensures cut { OnErr result (IsCut (W.taken writer.old) (W.taken writer.new) (told_line (map I.shown entries.now))) }
+    ensures { Writes result (W.taken writer.old) (W.taken writer.new) (W.has_failed writer.old) (W.has_failed writer.new)
+        (told_line (map I.shown entries.now)) }
 {
     text.push("{\"entries\":[");
     write_listed(writer, text, entries, b"}\n")
@@ -200,13 +195,8 @@ pub fn write_entries<W: ByteOut>(
     entries: &[Entry],
 ) -> Result<(), Fault>
     requires { text.old ≡ [] }
-    ensures ok { OnOk result (Appends (W.taken writer.old) (W.taken writer.new)
-        (compact_text (entries_data entries.now) ++ codes "\n")) }
-    ensures worked { OnOk result (W.has_failed writer.new ≡ W.has_failed writer.old) }
-    ensures fault { IfErr result (λ e. e ≡ Write) }
-    ensures failed { OnErr result (W.has_failed writer.new ≡ true) }
-    ensures cut { OnErr result (IsCut (W.taken writer.old) (W.taken writer.new)
-        (compact_text (entries_data entries.now) ++ codes "\n")) }
+    ensures { Writes result (W.taken writer.old) (W.taken writer.new) (W.has_failed writer.old) (W.has_failed writer.new)
+        (compact_text (entries_data entries.now) ++ codes "\n") }
 {
     write_told(writer, text, entries)
 }
@@ -218,13 +208,8 @@ pub fn write_kept_entries<W: ByteOut>(
     kept: &[MarkedEntry],
 ) -> Result<(), Fault>
     requires { text.old ≡ [] }
-    ensures ok { OnOk result (Appends (W.taken writer.old) (W.taken writer.new)
-        (compact_text (entries_data (entries_of kept.now)) ++ codes "\n")) }
-    ensures worked { OnOk result (W.has_failed writer.new ≡ W.has_failed writer.old) }
-    ensures fault { IfErr result (λ e. e ≡ Write) }
-    ensures failed { OnErr result (W.has_failed writer.new ≡ true) }
-    ensures cut { OnErr result (IsCut (W.taken writer.old) (W.taken writer.new)
-        (compact_text (entries_data (entries_of kept.now)) ++ codes "\n")) }
+    ensures { Writes result (W.taken writer.old) (W.taken writer.new) (W.has_failed writer.old) (W.has_failed writer.new)
+        (compact_text (entries_data (entries_of kept.now)) ++ codes "\n") }
 {
     write_told(writer, text, kept)
 }
