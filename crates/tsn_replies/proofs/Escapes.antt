@@ -1,8 +1,7 @@
 -- What stands within quotes for a text, and how long that is.
-use Rattle.std.proofs.Common.{◌≡◌, ℕ, ◌+◌, ◌*◌, ◌<◌, ◌≤◌, Bool, true, false, cond, not, ◌==◌, ◌||◌, ◌&&◌, nat_lt, nat_le, List, [], ◌∷◌, ◌++◌, length, take, drop, get_or, refl, sym, ap, ◌∙◌, arith, append_assoc, append-nil, length-append, take-append-drop}
+use Rattle.std.proofs.Common.{◌≡◌, ℕ, ◌+◌, ◌*◌, ◌≤◌, Bool, true, false, cond, not, ◌==◌, ◌||◌, ◌&&◌, nat_lt, nat_le, List, [], ◌∷◌, ◌++◌, length, take, drop, refl, sym, ap, ◌∙◌, arith, append_assoc, length-append, take-append-drop}
 use Rattle.std.specs.Str.{is_utf8}
 use Rattle.std.proofs.lemmas.Bool.{and_parts, leb-true, not-true, or_parts}
-use Rattle.std.proofs.lemmas.List.{take_more}
 use Rattle.json.specs.Print.{escape, escape_byte}
 use Rattle.tsn_types.specs.Names.{ends_control, has_control, is_name, longest_name}
 
@@ -10,13 +9,6 @@ use Rattle.tsn_types.specs.Names.{ends_control, has_control, is_name, longest_na
 pub escape_joined : (xs ys : List ℕ) → escape (xs ++ ys) ≡ escape xs ++ escape ys
 escape_joined [] ys = refl
 escape_joined (x ∷ xs) ys = ap (λ l. escape_byte x ++ l) (escape_joined xs ys) ∙ sym (append_assoc (escape_byte x) (escape xs) (escape ys))
-
--- one byte more
-pub escape_more : (xs : List ℕ) (byte i d : ℕ) → i < length xs → byte ≡ get_or xs i d
-    → escape (take (i + 1) xs) ≡ escape (take i xs) ++ escape_byte byte
-escape_more xs byte i d within is =
-    ap escape (take_more xs i d within ∙ ap (λ x. take i xs ++ x ∷ []) (sym is)) ∙ escape_joined (take i xs) (byte ∷ [])
-    ∙ ap (λ l. escape (take i xs) ++ l) (append-nil (escape_byte byte))
 
 -- what stands for a byte
 at_most_six : (a b : Bool) (x y z w : ℕ) → length (cond a (92 ∷ y ∷ []) (cond b (92 ∷ 117 ∷ 48 ∷ 48 ∷ z ∷ w ∷ []) (x ∷ []))) ≤ 6

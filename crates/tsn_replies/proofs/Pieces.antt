@@ -34,9 +34,6 @@ use Rattle.tsn_records.proofs.Escaping.{escape_key}
 pub none_gone : (a : Option (List ℕ)) (text : List ℕ) → TakesFront a a text text
 none_gone a text = ([], Appends-nil a, refl)
 
-pub all_gone : (a b : Option (List ℕ)) (text held : List ℕ) → Appends a b text → held ≡ [] → TakesFront a b text held
-all_gone a b text held took e = (text, took, sym (ap (λ l. text ++ l) e ∙ append-nil text))
-
 -- a piece goes behind what is held
 pub held_more : (a b : Option (List ℕ)) (text held piece : List ℕ) → TakesFront a b text held
     → TakesFront a b (text ++ piece) (held ++ piece)

@@ -20,25 +20,14 @@ text_member name text = codes "\"" ++ name ++ codes "\":\"" ++ text ++ codes "\"
 
 -- what a refusal is about, by names that come before `refused`
 abbrev pub members_of : Refusal → List ℕ
-members_of refusals.TooLong = []
-members_of refusals.Syntax = []
-members_of refusals.Shape = []
 members_of (refusals.Range field) = text_member (codes "field") (field_name field)
-members_of refusals.NoSession = []
 members_of (refusals.Missing key) = text_member (codes "key") (key_text key)
 members_of (refusals.Exists key) = text_member (codes "key") (key_text key)
 members_of (refusals.Dangling key) = text_member (codes "key") (key_text key)
 members_of (refusals.Referred by) = text_member (codes "by") (key_text by)
-members_of refusals.NothingToUndo = []
 members_of (refusals.Conflict own other) = number_member (codes "other") other ++ number_member (codes "own") own
-members_of refusals.NothingToRedo = []
 members_of (refusals.RedoConflict other) = number_member (codes "other") other
-members_of refusals.NotEnabled = []
-members_of refusals.EmptyList = []
-members_of refusals.Past = []
-members_of refusals.JournalFull = []
-members_of refusals.Memory = []
-members_of (refusals.Settled upto) = []
+members_of refusal = []
 
 -- and what it is about by a name that comes behind `refused`
 abbrev pub behind_of : Refusal → List ℕ
