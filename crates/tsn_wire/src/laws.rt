@@ -15,6 +15,7 @@ ghost use Rattle.tsn_wire.specs.ReadingBack.{ReadsBack};
 ghost use Rattle.tsn_wire.specs.Values.{AcceptsValues, value_of};
 
 /// Lines that are read, and lines that are not.
+#[tactic(auto, unfolding(crate::proofs::OnLiterals::lines_on_literals))]
 pub fn lines_are_read()
     ensures hello { line_of (codes "{\"do\":\"hello\"}")
         ≡ Ok (record { session = 0; command = commands.Hello None }) }
@@ -86,6 +87,7 @@ pub fn lines_are_read()
 
 /// Records that are read, and the order in which their faults are found: a shape anywhere before a range anywhere, the
 /// key before the record.
+#[tactic(auto, unfolding(crate::proofs::OnLiterals::lines_on_literals))]
 pub fn records_are_read()
     ensures port { line_of (create_line (codes "port 1") port_text)
         ≡ created (keys.Port 1) (records.Port a_port) }
@@ -105,6 +107,7 @@ pub fn records_are_read()
 
 /// Batches that are read, and the order in which their faults are found: a key that stands twice before a number out of
 /// its range, also where it is that key's own, and then the edits in their order.
+#[tactic(auto, unfolding(crate::proofs::OnLiterals::lines_on_literals))]
 pub fn batches_are_read()
     ensures batch { line_of (batch_line
         (creation_text (codes "meter 0") meter_text ++ codes "," ++ removal_text (codes "gate 0")))
@@ -129,6 +132,7 @@ pub fn batches_are_read()
 
 /// A line is accepted as a command of a session exactly where it is the value of that command: the members by name,
 /// whatever their order in the line, and the record as it is shown.
+#[tactic(auto, unfolding(crate::proofs::OnLiterals::lines_on_literals))]
 pub fn lines_are_values()
     ensures law { AcceptsValues }
     ensures order { data_of (codes "{\"s\":1,\"do\":\"undo\"}") ≡ Some (value_of 1 commands.Undo) }
