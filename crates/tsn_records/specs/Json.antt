@@ -1,6 +1,6 @@
 -- What a JSON value holds, as commands and records are made of it.
 use Rattle.std.specs.Prelude.{ℕ, suc, ◌-◌, ◌==◌, List, [], ◌∷◌, length, Bool, if◌then◌else◌, is_some, Option, Some, None, option_map, option_and_then, Result, Ok, Err}
-use Rattle.serde_json.specs.Data.{Data, null, boolean, number, string, array, object, Items, no_items, item, Members, no_members, member}
+use Rattle.serde_json.specs.Data.{Data, number, array, object, Items, no_items, item, Members, no_members, member}
 use Rattle.serde_json.specs.Find.{get, at, as_null, as_bool, as_number, as_str, as_array, as_u64}
 use Rattle.tsn_records.specs.declared.unread.Unread.{Unread}
 use Rattle.tsn_records.specs.declared.unread.Unread.TheVariants.{Shape}
@@ -14,12 +14,8 @@ members_len (member k d ms) = suc (members_len ms)
 
 -- how many members an object has; an object has each name once
 abbrev pub member_count : Data → ℕ
-member_count null = 0
-member_count (boolean b) = 0
-member_count (number n) = 0
-member_count (string s) = 0
-member_count (array ds) = 0
 member_count (object ms) = members_len ms
+member_count d = 0
 
 -- the items of an array in order
 abbrev pub items_list : Items → List Data
@@ -32,12 +28,8 @@ items_len (item d ds) = suc (items_len ds)
 
 -- how many items an array has
 abbrev pub item_count : Data → ℕ
-item_count null = 0
-item_count (boolean b) = 0
-item_count (number n) = 0
-item_count (string s) = 0
 item_count (array ds) = items_len ds
-item_count (object ms) = 0
+item_count d = 0
 
 -- a whole number from 0 up, below 2^64, with no sign, fraction or exponent
 abbrev pub whole : Data → Option ℕ

@@ -1,7 +1,9 @@
 -- Records as JSON values, as they are shown.
-use Rattle.std.specs.Prelude.{ℕ, Bool, List, [], ◌∷◌, map, Option, Some, None, codes}
-use Rattle.serde_json.specs.Data.{Data, null, boolean, number, unsigned, array, object, no_items, item, Members, no_members, member, put}
+use Rattle.std.specs.Prelude.{ℕ, Bool, List, [], ◌∷◌, map, Option, Some, None}
+use Rattle.serde_json.specs.Data.{Data, null, boolean, number, unsigned, array, object, no_items, item, Members, no_members, put}
 use Rattle.serde_json.specs.View.{items_of}
+use Rattle.tsn_types.specs.declared.keys.Kind.{Kind}
+use Rattle.tsn_types.specs.declared.keys.Kind.TheVariants as kinds
 use Rattle.tsn_types.specs.declared.records.PortEntry.{PortEntry}
 use Rattle.tsn_types.specs.declared.records.GateEntry.{GateEntry}
 use Rattle.tsn_types.specs.declared.records.PortGates.{PortGates}
@@ -40,45 +42,15 @@ gate_entry_array is_open ipv interval octets =
 abbrev pub list_array : {E : Type 0} → (E → Data) → List E → Data
 list_array entry es = array (items_of (map entry es))
 
--- The members of each record in ascending order of their names.
-abbrev pub port_object : ℕ → ℕ → ℕ → ℕ → Data → Data
-port_object base cycle extension gates list =
-    object (member (codes "base") (whole_data base)
-    (member (codes "cycle") (whole_data cycle)
-    (member (codes "extension") (whole_data extension)
-    (member (codes "gates") (whole_data gates)
-    (member (codes "list") list no_members)))))
+-- each value under its name; an object has them in ascending order of their names
+abbrev pub named : List (List ℕ × Allowed) → List Data → Members
+named [] ds = no_members
+named (row ∷ rows) [] = no_members
+named (row ∷ rows) (d ∷ ds) = put row.0 d (named rows ds)
 
-abbrev pub filter_object : ℕ → Option ℕ → Option ℕ → Option ℕ → Bool → Option ℕ → Data
-filter_object gate handle max_sdu meter oversize priority =
-    object (member (codes "gate") (whole_data gate)
-    (member (codes "handle") (or_null handle)
-    (member (codes "max_sdu") (or_null max_sdu)
-    (member (codes "meter") (or_null meter)
-    (member (codes "oversize") (boolean oversize)
-    (member (codes "priority") (or_null priority) no_members))))))
-
-abbrev pub gate_object : ℕ → ℕ → ℕ → Bool → Option ℕ → Data → Bool → Bool → Data
-gate_object base cycle extension invalid_rx ipv list octets_exceeded is_open =
-    object (member (codes "base") (whole_data base)
-    (member (codes "cycle") (whole_data cycle)
-    (member (codes "extension") (whole_data extension)
-    (member (codes "invalid_rx") (boolean invalid_rx)
-    (member (codes "ipv") (or_null ipv)
-    (member (codes "list") list
-    (member (codes "octets_exceeded") (boolean octets_exceeded)
-    (member (codes "open") (boolean is_open) no_members))))))))
-
-abbrev pub meter_object : Bool → Bool → ℕ → Bool → ℕ → Bool → ℕ → ℕ → Data
-meter_object all_red aware cbs cf cir drop_yellow ebs eir =
-    object (member (codes "all_red") (boolean all_red)
-    (member (codes "aware") (boolean aware)
-    (member (codes "cbs") (whole_data cbs)
-    (member (codes "cf") (boolean cf)
-    (member (codes "cir") (whole_data cir)
-    (member (codes "drop_yellow") (boolean drop_yellow)
-    (member (codes "ebs") (whole_data ebs)
-    (member (codes "eir") (whole_data eir) no_members))))))))
+-- a record of that kind, whose members have these values, in the order of the table of members
+abbrev pub object_of : Kind → List Data → Data
+object_of kind ds = object (named (rows_of kind) ds)
 
 -- A record and its entries.
 abbrev pub port_entry_data : PortEntry → Data
@@ -88,18 +60,23 @@ abbrev pub gate_entry_data : GateEntry → Data
 gate_entry_data e = gate_entry_array e.is_open e.ipv e.interval e.octets
 
 abbrev pub port_data : PortGates → Data
-port_data r = port_object r.admin.base r.admin.cycle r.admin.extension r.gates (list_array port_entry_data r.admin.list)
+port_data r = object_of kinds.Port
+    (whole_data r.gates ∷ list_array port_entry_data r.admin.list ∷ whole_data r.admin.cycle ∷ whole_data r.admin.extension ∷
+    whole_data r.admin.base ∷ [])
 
 abbrev pub filter_data : StreamFilter → Data
-filter_data r = filter_object r.gate r.handle r.max_sdu r.meter r.oversize r.priority
+filter_data r = object_of kinds.Filter
+    (or_null r.handle ∷ or_null r.priority ∷ whole_data r.gate ∷ or_null r.max_sdu ∷ or_null r.meter ∷ boolean r.oversize ∷ [])
 
 abbrev pub gate_data : StreamGate → Data
-gate_data r =
-    gate_object r.admin.base r.admin.cycle r.admin.extension r.invalid_rx r.ipv (list_array gate_entry_data r.admin.list) r.octets_exceeded
-    r.is_open
+gate_data r = object_of kinds.Gate
+    (boolean r.is_open ∷ or_null r.ipv ∷ list_array gate_entry_data r.admin.list ∷ whole_data r.admin.cycle ∷
+    whole_data r.admin.extension ∷ whole_data r.admin.base ∷ boolean r.invalid_rx ∷ boolean r.octets_exceeded ∷ [])
 
 abbrev pub meter_data : FlowMeter → Data
-meter_data r = meter_object r.all_red r.aware r.cbs r.cf r.cir r.drop_yellow r.ebs r.eir
+meter_data r = object_of kinds.Meter
+    (whole_data r.cir ∷ whole_data r.cbs ∷ whole_data r.eir ∷ whole_data r.ebs ∷ boolean r.cf ∷ boolean r.aware ∷
+    boolean r.drop_yellow ∷ boolean r.all_red ∷ [])
 
 abbrev pub record_data : Record → Data
 record_data (Port r) = port_data r
@@ -122,11 +99,5 @@ member_data (Flag b) = boolean b
 member_data (PortList es) = list_array port_entry_value es
 member_data (GateList es) = list_array gate_entry_value es
 
--- each member under its name; an object has them in ascending order of their names
-abbrev pub named : List (List ℕ × Allowed) → List MemberDraft → Members
-named [] vs = no_members
-named (row ∷ rows) [] = no_members
-named (row ∷ rows) (v ∷ vs) = put row.0 (member_data v) (named rows vs)
-
 abbrev pub draft_data : RecordDraft → Data
-draft_data r = object (named (rows_of (kind_of_draft r)) (values_of r))
+draft_data r = object_of (kind_of_draft r) (map member_data (values_of r))

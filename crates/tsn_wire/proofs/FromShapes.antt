@@ -83,37 +83,28 @@ array_of n (array ds) u h = (ds, refl, counted (items_len ds) (suc n) u h)
 array_of n d u h = let none = counted 0 (suc n) u h in absurd (omega arith)
 
 two : (ds : Items) (a b : Data) → items_len ds ≡ 2 → get_item 0 ds ≡ Some a → get_item 1 ds ≡ Some b → ds ≡ item a (item b no_items)
-two no_items a b len e0 e1 = absurd (omega arith)
-two (item x no_items) a b len e0 e1 = absurd (omega arith)
 two (item x (item y no_items)) a b len e0 e1 = cc
-two (item x (item y (item z ds))) a b len e0 e1 = absurd (omega arith)
+two ds a b len e0 e1 = absurd (omega arith)
 
 four : (ds : Items) (a b c d : Data) → items_len ds ≡ 4 → get_item 0 ds ≡ Some a → get_item 1 ds ≡ Some b → get_item 2 ds ≡ Some c
     → get_item 3 ds ≡ Some d → ds ≡ item a (item b (item c (item d no_items)))
-four no_items a b c d len e0 e1 e2 e3 = absurd (omega arith)
-four (item x no_items) a b c d len e0 e1 e2 e3 = absurd (omega arith)
-four (item x (item y no_items)) a b c d len e0 e1 e2 e3 = absurd (omega arith)
-four (item x (item y (item z no_items))) a b c d len e0 e1 e2 e3 = absurd (omega arith)
 four (item x (item y (item z (item w no_items)))) a b c d len e0 e1 e2 e3 = cc
-four (item x (item y (item z (item w (item v ds))))) a b c d len e0 e1 e2 e3 = absurd (omega arith)
+four ds a b c d len e0 e1 e2 e3 = absurd (omega arith)
 
 port_entry_known : (d : Data) (e : PortEntryDraft) → port_entry_shape as_json d ≡ Ok e → d ≡ port_entry_value e
 port_entry_known d e h =
     let has = port_entry_has as_json d e h in
     let items = array_of 1 d tt has.only in
-    let first : get_item 0 items.0 ≡ Some (whole_data e.gates) = ap (at 0) (sym items.1) ∙ number_there _ _ has.gates in
-    let second : get_item 1 items.0 ≡ Some (whole_data e.interval) = ap (at 1) (sym items.1) ∙ number_there _ _ has.interval in
-    items.1 ∙ ap array (two items.0 _ _ items.2 first second)
+    let same = λ (i : ℕ). ap (at i) (sym items.1) in
+    items.1 ∙ ap array (two items.0 _ _ items.2 (same 0 ∙ number_there _ _ has.gates) (same 1 ∙ number_there _ _ has.interval))
 
 gate_entry_known : (d : Data) (e : GateEntryDraft) → gate_entry_shape as_json d ≡ Ok e → d ≡ gate_entry_value e
 gate_entry_known d e h =
     let has = gate_entry_has as_json d e h in
     let items = array_of 3 d tt has.only in
-    let first : get_item 0 items.0 ≡ Some (boolean e.is_open) = ap (at 0) (sym items.1) ∙ flag_there _ _ has.is_open in
-    let second : get_item 1 items.0 ≡ Some (or_null e.ipv) = ap (at 1) (sym items.1) ∙ or_null_there _ _ has.ipv in
-    let third : get_item 2 items.0 ≡ Some (whole_data e.interval) = ap (at 2) (sym items.1) ∙ number_there _ _ has.interval in
-    let fourth : get_item 3 items.0 ≡ Some (or_null e.octets) = ap (at 3) (sym items.1) ∙ or_null_there _ _ has.octets in
-    items.1 ∙ ap array (four items.0 _ _ _ _ items.2 first second third fourth)
+    let same = λ (i : ℕ). ap (at i) (sym items.1) in
+    items.1 ∙ ap array (four items.0 _ _ _ _ items.2 (same 0 ∙ flag_there _ _ has.is_open) (same 1 ∙ or_null_there _ _ has.ipv)
+    (same 2 ∙ number_there _ _ has.interval) (same 3 ∙ or_null_there _ _ has.octets))
 
 each_known : {E : Type 0} (shape : Data → Result E Unread) (value : E → Data) → ((d : Data) (e : E) → shape d ≡ Ok e → d ≡ value e)
     → (ds : Items) (es : List E) → each shape (items_list ds) ≡ Ok es → ds ≡ items_of (map value es)
@@ -176,17 +167,17 @@ holds_put : (d : Data) (k : List ℕ) (e : Data) (ms : Members) → get k d ≡ 
 holds_put d k e no_members here held = (here, tt)
 holds_put d k e (member l f ms) here held = holds_put_at (order k l) d k l e f ms refl here held (holds_put d k e ms here held.1)
 
-holds_named : (d : Data) (rows : List (List ℕ × Allowed)) (vs : List MemberDraft) → AreHeld d rows vs → Holds d (named rows vs)
+holds_named : (d : Data) (rows : List (List ℕ × Allowed)) (vs : List MemberDraft) → AreHeld d rows vs
+    → Holds d (named rows (map member_data vs))
 holds_named d [] vs h = tt
 holds_named d (row ∷ rows) [] h = tt
-holds_named d (row ∷ rows) (v ∷ vs) h = holds_put d row.0 (member_data v) (named rows vs) h.0 (holds_named d rows vs h.1)
+holds_named d (row ∷ rows) (v ∷ vs) h =
+    holds_put d row.0 (member_data v) (named rows (map member_data vs)) h.0 (holds_named d rows vs h.1)
 
 -- the members of a record's object rise
 pub record_rises : (r : RecordDraft) → Rise (members_of (draft_data r))
-record_rises (records.Port r) = (refl, (refl, (refl, (refl, tt))))
-record_rises (records.Filter r) = (refl, (refl, (refl, (refl, (refl, tt)))))
-record_rises (records.Gate r) = (refl, (refl, (refl, (refl, (refl, (refl, (refl, tt)))))))
-record_rises (records.Meter r) = (refl, (refl, (refl, (refl, (refl, (refl, (refl, tt)))))))
+record_rises (records.Port r) = assumption
+record_rises r = assumption
 
 record_is : (d : Data) (r : RecordDraft) → IsOrdered d → RecordHas as_json (kind_of_draft r) d r
     → Holds d (members_of (draft_data r)) → d ≡ draft_data r
