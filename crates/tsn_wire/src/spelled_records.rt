@@ -5,7 +5,7 @@ ghost use Rattle.serde_json.specs.Written.{compact_text};
 ghost use Rattle.tsn_records.specs.Keys.{kind_text, spelled_key};
 ghost use Rattle.tsn_records.specs.Shown.{draft_data, gate_entry_value, or_null, port_entry_value};
 ghost use Rattle.tsn_records.specs.declared.drafts.RecordDraft.TheVariants as RecordOf;
-ghost use Rattle.tsn_wire.specs.Spelled.{IsSmall, IsKey, PortEntryIsSmall, GateEntryIsSmall, PortIsSmall, GateIsSmall, FilterIsSmall, MeterIsSmall, SpellsRecord};
+ghost use Rattle.tsn_wire.specs.Spelled.{IsSmall, IsKey, PortEntryIsSmall, GateEntryIsSmall, PortIsSmall, GateIsSmall, FilterIsSmall, MeterIsSmall, RecordIsSmall, SpellsRecord};
 
 use crate::cursor::Cursor;
 use crate::lexemes::{scanned_gate_entry, scanned_port_entry};
@@ -237,15 +237,24 @@ pub fn kind(text: &mut Cursor<'_>) -> Option<Kind>
     Some(Kind::Meter)
 }
 
+// A record of that kind.
+fn record(alloc: Global, kind: Kind, text: &mut Cursor<'_>) -> Option<RecordDraft>
+    ensures small { IfSome result (RecordIsSmall kind) }
+    ensures text { IfSome result (λ r. text.old ≡ compact_text (draft_data r) ++ text.new) }
+{
+    match kind {
+        Kind::Port => Some(RecordDraft::Port(port(alloc, text)?)),
+        Kind::Filter => Some(RecordDraft::Filter(filter(text)?)),
+        Kind::Gate => Some(RecordDraft::Gate(gate(alloc, text)?)),
+        Kind::Meter => Some(RecordDraft::Meter(meter(text)?)),
+    }
+}
+
 pub fn keyed_record(alloc: Global, text: &mut Cursor<'_>) -> Option<(KeyDraft, RecordDraft)>
     ensures { IfSome result (λ p. SpellsRecord text.old p.0 p.1 text.new) }
 {
     let key = key(text)?;
     text.expect("\",\"record\":")?;
-    match key.kind {
-        Kind::Port => Some((key, RecordDraft::Port(port(alloc, text)?))),
-        Kind::Filter => Some((key, RecordDraft::Filter(filter(text)?))),
-        Kind::Gate => Some((key, RecordDraft::Gate(gate(alloc, text)?))),
-        Kind::Meter => Some((key, RecordDraft::Meter(meter(text)?))),
-    }
+    let value = record(alloc, key.kind, text)?;
+    Some((key, value))
 }
