@@ -11,7 +11,7 @@ use crate::cursor::Cursor;
 use crate::drafts::{BatchDraft, EditDraft};
 use crate::guess::record_tray;
 use crate::lists::scanned_list;
-use crate::members::{Gathered, members, tray};
+use crate::members::{Gathered, members, named, tray};
 use crate::spelled_batch::EDITS;
 use crate::values::Word;
 use std::alloc::Global;
@@ -85,15 +85,7 @@ pub fn edits_tray(alloc: Global, text: &mut Cursor<'_>, tray: &mut Option<BatchD
     ensures { IfSome result (λ _. Fills 5 (lexed text.old) (codes "edits")
         (option_map batch_value tray.old) (option_map batch_value tray.new) (lexed text.new)) }
 {
-    if tray.is_some() {
-        return None;
-    }
-    if !text.quoted("edits") {
-        return None;
-    }
-    if !text.mark(b':') {
-        return None;
-    }
+    named(text, "edits", tray)?;
     let batch = edits(alloc, text)?;
     *tray = Some(batch);
     Some(())

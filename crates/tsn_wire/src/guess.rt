@@ -6,6 +6,7 @@ ghost use Rattle.tsn_records.specs.Shown.{draft_data};
 
 use crate::any_record::record;
 use crate::cursor::Cursor;
+use crate::members::named;
 use std::alloc::Global;
 use tsn_records::allowed::{KINDS, members_of};
 use tsn_records::drafts::{KeyDraft, RecordDraft};
@@ -73,15 +74,7 @@ pub fn record_tray(
     ensures { IfSome result (λ _. Fills 3 (lexed text.old) (codes "record")
         (option_map draft_data tray.old) (option_map draft_data tray.new) (lexed text.new)) }
 {
-    if tray.is_some() {
-        return None;
-    }
-    if !text.quoted("record") {
-        return None;
-    }
-    if !text.mark(b':') {
-        return None;
-    }
+    named(text, "record", tray)?;
     let kind = kind_ahead(key, text);
     let value = record(alloc, kind, text)?;
     *tray = Some(value);

@@ -1,5 +1,7 @@
 //! Objects whose members may come in any order, each once.
-ghost use Rattle.std.specs.Prelude.{◌≡◌, ℕ, true, IfSome, option_map};
+ghost use Rattle.std.specs.Prelude.{◌≡◌, ◌∷◌, ℕ, None, true, IfSome, OnSome, option_map};
+ghost use Rattle.json.specs.Lex.{colon, token};
+ghost use Rattle.json.specs.Token.{Token};
 ghost use Rattle.tsn_wire.specs.Lexed.{lexed, is_bare};
 ghost use Rattle.tsn_wire.specs.Members.{Rows, AreOpen, Fills, ReadsMember, ReadsMembers};
 
@@ -47,6 +49,25 @@ pub fn members<M: Gathered>(alloc: Global, text: &mut Cursor<'_>, found: &mut M)
     None
 }
 
+/// Goes behind the name of a member, which must come next and for the first time, and the colon behind it.
+#[inline(always)]
+pub fn named<V>(text: &mut Cursor<'_>, name: &str, tray: &Option<V>) -> Option<()>
+    requires { is_bare name.now ≡ true }
+    ensures first { OnSome result (tray.now ≡ None) }
+    ensures name { OnSome result (lexed text.old ≡ token (Token.string name.now) ∷ colon ∷ lexed text.new) }
+{
+    if tray.is_some() {
+        return None;
+    }
+    if !text.quoted(name) {
+        return None;
+    }
+    if !text.mark(b':') {
+        return None;
+    }
+    Some(())
+}
+
 /// Reads the member of that name, which must come next and for the first time.
 pub fn tray<V: Scanned>(
     alloc: Global,
@@ -58,15 +79,7 @@ pub fn tray<V: Scanned>(
     ensures { IfSome result (λ _. Fills 2 (lexed text.old) name.now
         (option_map V.value tray.old) (option_map V.value tray.new) (lexed text.new)) }
 {
-    if tray.is_some() {
-        return None;
-    }
-    if !text.quoted(name) {
-        return None;
-    }
-    if !text.mark(b':') {
-        return None;
-    }
+    named(text, name, tray)?;
     let value = V::scanned(alloc, text)?;
     *tray = Some(value);
     Some(())
