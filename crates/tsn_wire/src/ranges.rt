@@ -17,16 +17,11 @@ use tsn_records::unread::Unread;
 use tsn_types::numbers::{Handle, Instant, Octets, Priority};
 use tsn_types::refusals::Field;
 
-fn after(number: u64) -> Result<u32, Unread>
-    ensures { result ≡ within fields.After 0 greatest_after number }
+// The number of an entry.
+fn entry(number: u64, field: Field) -> Result<u32, Unread>
+    ensures { result ≡ within field 0 greatest_after number }
 {
-    u32::try_from(number).map_err(|_| Unread::Range(Field::After))
-}
-
-fn upto(number: u64) -> Result<u32, Unread>
-    ensures { result ≡ within fields.Upto 0 greatest_after number }
-{
-    u32::try_from(number).map_err(|_| Unread::Range(Field::Upto))
+    u32::try_from(number).map_err(|_| Unread::Range(field))
 }
 
 fn instant(number: u64, field: Field) -> Result<Instant, Unread>
@@ -142,7 +137,7 @@ pub fn command_of_draft(alloc: Global, draft: &CommandDraft) -> Result<Command, 
         CommandDraft::UndoAll => Ok(Command::UndoAll),
         CommandDraft::Redo => Ok(Command::Redo),
         CommandDraft::Settle { upto: number } => Ok(Command::Settle {
-            upto: upto(*number)?,
+            upto: entry(*number, Field::Upto)?,
         }),
         CommandDraft::Enable { key: draft, now } => {
             let key = key(*draft)?;
@@ -173,7 +168,7 @@ pub fn command_of_draft(alloc: Global, draft: &CommandDraft) -> Result<Command, 
         CommandDraft::Show { key: draft } => Ok(Command::Show { key: key(*draft)? }),
         CommandDraft::List { kind } => Ok(Command::List { kind: *kind }),
         CommandDraft::Since { after: number } => Ok(Command::Since {
-            after: after(*number)?,
+            after: entry(*number, Field::After)?,
         }),
         CommandDraft::Resume => Ok(Command::Resume),
         CommandDraft::Sessions => Ok(Command::Sessions),
