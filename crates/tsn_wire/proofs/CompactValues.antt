@@ -53,8 +53,8 @@ gate_entry_plain n e small = tt & small_or_null n e.ipv small.ipv & small.interv
 
 port_plain : (n : ℕ) (r : PortDraft) → PortIsSmall r → IsPlain (suc (suc (suc n))) (draft_data (records.Port r))
 port_plain n r small =
-    refl & small.base & small.cycle & small.extension & small.gates &
-    items_plain (suc n) PortEntryIsSmall port_entry_value (port_entry_plain n) r.admin.list small.list & tt
+    refl & small.admin.base & small.admin.cycle & small.admin.extension & small.gates &
+    items_plain (suc n) PortEntryIsSmall port_entry_value (port_entry_plain n) r.admin.list small.admin.list & tt
 
 filter_plain : (n : ℕ) (r : FilterDraft) → FilterIsSmall r → IsPlain (suc n) (draft_data (records.Filter r))
 filter_plain n r small =
@@ -63,8 +63,8 @@ filter_plain n r small =
 
 gate_plain : (n : ℕ) (r : GateDraft) → GateIsSmall r → IsPlain (suc (suc (suc n))) (draft_data (records.Gate r))
 gate_plain n r small =
-    refl & small.base & small.cycle & small.extension & tt & small_or_null (suc (suc n)) r.ipv small.ipv &
-    items_plain (suc n) GateEntryIsSmall gate_entry_value (gate_entry_plain n) r.admin.list small.list & tt & tt & tt
+    refl & small.admin.base & small.admin.cycle & small.admin.extension & tt & small_or_null (suc (suc n)) r.ipv small.ipv &
+    items_plain (suc n) GateEntryIsSmall gate_entry_value (gate_entry_plain n) r.admin.list small.admin.list & tt & tt & tt
 
 meter_plain : (n : ℕ) (r : MeterDraft) → MeterIsSmall r → IsPlain (suc n) (draft_data (records.Meter r))
 meter_plain n r small = refl & tt & tt & small.cbs & tt & small.cir & tt & small.ebs & small.eir & tt

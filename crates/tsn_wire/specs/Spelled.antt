@@ -12,6 +12,7 @@ use Rattle.tsn_records.specs.Shown.{draft_data, list_array}
 use Rattle.tsn_records.specs.declared.drafts.KeyDraft.{KeyDraft}
 use Rattle.tsn_records.specs.declared.drafts.PortEntryDraft.{PortEntryDraft}
 use Rattle.tsn_records.specs.declared.drafts.GateEntryDraft.{GateEntryDraft}
+use Rattle.tsn_records.specs.declared.drafts.ScheduleDraft.{ScheduleDraft}
 use Rattle.tsn_records.specs.declared.drafts.PortDraft.{PortDraft}
 use Rattle.tsn_records.specs.declared.drafts.GateDraft.{GateDraft}
 use Rattle.tsn_records.specs.declared.drafts.FilterDraft.{FilterDraft}
@@ -23,7 +24,7 @@ use Rattle.tsn_wire.specs.Values.{put_data, removal_data, IsNoPort}
 use Rattle.tsn_wire.specs.declared.drafts.CommandDraft.{CommandDraft}
 use Rattle.tsn_wire.specs.declared.drafts.EditDraft.{EditDraft}
 use Rattle.tsn_wire.specs.declared.drafts.EditDraft.TheVariants as edits
-use Rattle.tsn_wire.specs.declared.drafts.CommandDraft.TheVariants.{Create, Replace, Remove, Batch, Undo, UndoAll, Redo, Settle, Enable, Disable, Apply, Frame, States, Counters, Show, List as ListKind, Since, Resume, Sessions, Setup}
+use Rattle.tsn_wire.specs.declared.drafts.CommandDraft.TheVariants.{Create, Replace, Remove, Batch, Undo, UndoAll, Redo, Counters, Show, List as ListKind}
 
 -- a number that a line can hold
 abbrev pub IsSmall : ℕ → Type 0
@@ -59,19 +60,19 @@ pub record GateEntryIsSmall (e : GateEntryDraft) : Type 0 where
   pub interval : IsSmall e.interval
   pub octets : IfSome e.octets IsSmall
 
+pub record ScheduleIsSmall {E : Type 0} (P : E → Type 0) (s : ScheduleDraft E) : Type 0 where
+  pub list : AllByRecursion P s.list
+  pub cycle : IsSmall s.cycle
+  pub extension : IsSmall s.extension
+  pub base : IsSmall s.base
+
 pub record PortIsSmall (r : PortDraft) : Type 0 where
   pub gates : IsSmall r.gates
-  pub list : AllByRecursion PortEntryIsSmall r.admin.list
-  pub cycle : IsSmall r.admin.cycle
-  pub extension : IsSmall r.admin.extension
-  pub base : IsSmall r.admin.base
+  pub admin : ScheduleIsSmall PortEntryIsSmall r.admin
 
 pub record GateIsSmall (r : GateDraft) : Type 0 where
   pub ipv : IfSome r.ipv IsSmall
-  pub list : AllByRecursion GateEntryIsSmall r.admin.list
-  pub cycle : IsSmall r.admin.cycle
-  pub extension : IsSmall r.admin.extension
-  pub base : IsSmall r.admin.base
+  pub admin : ScheduleIsSmall GateEntryIsSmall r.admin
 
 pub record FilterIsSmall (r : FilterDraft) : Type 0 where
   pub handle : IfSome r.handle IsSmall
@@ -124,17 +125,8 @@ Spells text (Batch batch) rest = (is_batch_draft batch ≡ true) × AllByRecursi
 Spells text Undo rest = text ≡ codes "undo\"" ++ rest
 Spells text UndoAll rest = text ≡ codes "undo_all\"" ++ rest
 Spells text Redo rest = text ≡ codes "redo\"" ++ rest
-Spells text (Settle upto) rest = ⊥
-Spells text (Enable key now) rest = ⊥
-Spells text (Disable key now) rest = ⊥
-Spells text (Apply key now) rest = ⊥
-Spells text (Frame frame now) rest = ⊥
-Spells text (States key at) rest = ⊥
 Spells text (Counters key) rest =
     IsKey key × (text ≡ codes "counters\",\"key\":\"" ++ (spelled_key key.kind key.number ++ (codes "\"" ++ rest)))
 Spells text (Show key) rest = IsKey key × (text ≡ codes "show\",\"key\":\"" ++ (spelled_key key.kind key.number ++ (codes "\"" ++ rest)))
 Spells text (ListKind kind) rest = text ≡ codes "list\",\"kind\":\"" ++ (kind_text kind ++ (codes "\"" ++ rest))
-Spells text (Since after) rest = ⊥
-Spells text Resume rest = ⊥
-Spells text Sessions rest = ⊥
-Spells text Setup rest = ⊥
+Spells text command rest = ⊥
