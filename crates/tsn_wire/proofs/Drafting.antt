@@ -43,21 +43,10 @@ same_number n m =
 
 same_drafts : (k l : Key) → same_draft (key_draft k) (key_draft l) ≡ same_key k l
 same_drafts (keys.Port n) (keys.Port m) = same_number n m
-same_drafts (keys.Port n) (keys.Filter m) = refl
-same_drafts (keys.Port n) (keys.Gate m) = refl
-same_drafts (keys.Port n) (keys.Meter m) = refl
-same_drafts (keys.Filter n) (keys.Port m) = refl
 same_drafts (keys.Filter n) (keys.Filter m) = same_number n m
-same_drafts (keys.Filter n) (keys.Gate m) = refl
-same_drafts (keys.Filter n) (keys.Meter m) = refl
-same_drafts (keys.Gate n) (keys.Port m) = refl
-same_drafts (keys.Gate n) (keys.Filter m) = refl
 same_drafts (keys.Gate n) (keys.Gate m) = same_number n m
-same_drafts (keys.Gate n) (keys.Meter m) = refl
-same_drafts (keys.Meter n) (keys.Port m) = refl
-same_drafts (keys.Meter n) (keys.Filter m) = refl
-same_drafts (keys.Meter n) (keys.Gate m) = refl
 same_drafts (keys.Meter n) (keys.Meter m) = same_number n m
+same_drafts k l = refl
 
 has_drafts : (ks : List Key) (k : Key) → has_draft (map key_draft ks) (key_draft k) ≡ has ks k
 has_drafts [] k = refl

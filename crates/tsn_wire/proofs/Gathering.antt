@@ -251,23 +251,19 @@ record_read n text rest rows count d w m all =
 
 draft_whole : (r : RecordDraft) (count : ℕ) → count ≡ members_len (members_of (draft_data r)) → IsWhole count (draft_data r)
 draft_whole (records.Port r) count len = record { same = refl; rise = record_rises (records.Port r); len = len }
-draft_whole (records.Filter r) count len = record { same = refl; rise = record_rises (records.Filter r); len = len }
-draft_whole (records.Gate r) count len = record { same = refl; rise = record_rises (records.Gate r); len = len }
-draft_whole (records.Meter r) count len = record { same = refl; rise = record_rises (records.Meter r); len = len }
+draft_whole r count len = record { same = refl; rise = record_rises r; len = len }
 
 pub draft_read : (text rest : List Lexeme) (rows : Rows) (count : ℕ) (r : RecordDraft) → ReadsMembers 2 text rows count rest
     → AllTold rows (members_of (draft_data r)) → count ≡ members_len (members_of (draft_data r)) → ReadsValue 3 text (draft_data r) rest
 draft_read text rest rows count r m all len = record_read 2 text rest rows count (draft_data r) (draft_whole r count len) m all
 
 edit_rises : (e : EditDraft) → Rise (members_of (edit_value e))
-edit_rises (edits.Create key v) = (refl, (refl, tt))
-edit_rises (edits.Replace key v) = (refl, (refl, tt))
-edit_rises (edits.Remove key) = (refl, tt)
+edit_rises (edits.Create key v) = assumption
+edit_rises e = assumption
 
 edit_same : (e : EditDraft) → object (members_of (edit_value e)) ≡ edit_value e
 edit_same (edits.Create key v) = refl
-edit_same (edits.Replace key v) = refl
-edit_same (edits.Remove key) = refl
+edit_same e = refl
 
 pub edit_read : (text rest : List Lexeme) (rows : Rows) (count : ℕ) (o : Option EditDraft) → ReadsMembers 3 text rows count rest
     → IfSome o (IsEdit rows count) → IfSome o (λ e. ReadsValue 4 text (edit_value e) rest)

@@ -6,7 +6,7 @@ use Rattle.std.specs.Str.Parse.{digits_value}
 use Rattle.std.proofs.lemmas.Bool.{leb-true}
 use Rattle.std.proofs.lemmas.Fmt.{decimal-digits_value}
 use Rattle.std.proofs.lemmas.Int.Digits.{digits_value_push}
-use Rattle.std.proofs.lemmas.List.{drop-drop, get_or_append_left, take_more, take-append-drop, length-take-le}
+use Rattle.std.proofs.lemmas.List.{drop-drop, get_or_append_left, take_more, length-take-le}
 use Rattle.std.proofs.lemmas.List.Folds.{list_all-append}
 use Rattle.std.proofs.lemmas.Str.{digit_value_digit}
 use Rattle.std.proofs.Math.Seq.{drop-append_seam}
@@ -22,13 +22,6 @@ behind text piece rest at fits is =
     sym (drop-append_seam piece rest) ∙ sym (ap (drop (length piece)) is) ∙ drop-drop (length piece) at text
     ∙ ap (λ n. drop n text) place in
     is ∙ ap (λ l. piece ++ l) tail
-
--- the same where the piece was compared with what is left
-pub behind_piece : (text piece : List ℕ) (at : ℕ) → take (length piece) (drop at text) ≡ piece
-    → drop at text ≡ piece ++ drop (at + length piece) text
-behind_piece text piece at same =
-    sym (take-append-drop (length piece) (drop at text)) ∙ ap (λ l. l ++ drop (length piece) (drop at text)) same
-    ∙ ap (λ l. piece ++ l) (drop-drop (length piece) at text ∙ ap (λ n. drop n text) (omega arith))
 
 all_digits_more : (ds : List ℕ) (d : ℕ) → list_all is_ascii_digit ds ≡ true → is_ascii_digit d ≡ true
     → list_all is_ascii_digit (ds ++ d ∷ []) ≡ true

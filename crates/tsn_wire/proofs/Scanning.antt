@@ -40,32 +40,11 @@ deeper m n text d rest low (j, is, same, shallow) = (j, is, same, omega arith)
 
 word_is_bare : (w : Word) → is_bare (word_text w) ≡ true
 word_is_bare words.Hello = refl
-word_is_bare words.Create = refl
-word_is_bare words.Replace = refl
-word_is_bare words.Remove = refl
-word_is_bare words.Batch = refl
-word_is_bare words.Undo = refl
-word_is_bare words.UndoAll = refl
-word_is_bare words.Redo = refl
-word_is_bare words.Enable = refl
-word_is_bare words.Disable = refl
-word_is_bare words.Apply = refl
-word_is_bare words.Frame = refl
-word_is_bare words.States = refl
-word_is_bare words.Counters = refl
-word_is_bare words.Show = refl
-word_is_bare words.List = refl
-word_is_bare words.Since = refl
-word_is_bare words.Settle = refl
-word_is_bare words.Resume = refl
-word_is_bare words.Sessions = refl
-word_is_bare words.Setup = refl
+word_is_bare w = refl
 
 kind_is_bare : (k : Kind) → is_bare (kind_text k) ≡ true
 kind_is_bare kinds.Port = refl
-kind_is_bare kinds.Filter = refl
-kind_is_bare kinds.Gate = refl
-kind_is_bare kinds.Meter = refl
+kind_is_bare k = refl
 
 -- the text between two quotes
 between_quotes : (inner text now inside behind rest : List ℕ) → lexed now ≡ lexed text → now ≡ codes "\"" ++ inside

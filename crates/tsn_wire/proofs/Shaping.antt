@@ -23,7 +23,7 @@ use Rattle.tsn_wire.specs.Spelled.{IsKey, batch_value, drafted_text, edit_value}
 use Rattle.tsn_records.specs.Shown.{draft_data, gate_entry_value, port_entry_value}
 use Rattle.tsn_wire.specs.Values.{act_data, batched_data, edit_data, put_data, states_data, MayHaveList}
 use Rattle.tsn_wire.specs.declared.drafts.CommandDraft.{CommandDraft}
-use Rattle.tsn_wire.specs.declared.drafts.CommandDraft.TheVariants.{Create, Replace, Remove, Batch, Undo, UndoAll, Redo, Settle, Enable, Disable, Apply, Frame, States, Counters, Show, List as ListKind, Since, Resume, Sessions, Setup}
+use Rattle.tsn_wire.specs.declared.drafts.CommandDraft.TheVariants.{Create, Replace, Remove, Batch, Enable, Disable, Apply, States, Counters, Show, List as ListKind}
 use Rattle.tsn_wire.specs.declared.drafts.EditDraft.{EditDraft}
 use Rattle.tsn_wire.specs.declared.drafts.EditDraft.TheVariants as drafts
 use Rattle.tsn_wire.specs.declared.drafts.LineDraft.TheVariants.{Session}
@@ -57,9 +57,7 @@ members_kept (records.Meter r) = refl
 
 only_kept : (r : RecordDraft) → as_json.only (kind_of_draft r) (draft_data r) ≡ Ok tt
 only_kept (records.Port r) = refl
-only_kept (records.Filter r) = refl
-only_kept (records.Gate r) = refl
-only_kept (records.Meter r) = refl
+only_kept r = refl
 
 of_kind : (k : Kind) (r : RecordDraft) → IsOf k r → kind_of_draft r ≡ k
 of_kind kinds.Port (records.Port r) of = refl
@@ -94,9 +92,7 @@ look_shaped s key at k has = rw (key_spelled key k, listed_back key key.kind has
 
 kind_spelled : (k : Kind) → kind_of (kind_text k) ≡ Some k
 kind_spelled kinds.Port = refl
-kind_spelled kinds.Filter = refl
-kind_spelled kinds.Gate = refl
-kind_spelled kinds.Meter = refl
+kind_spelled k = refl
 
 put_kept : (word : List ℕ) (key : KeyDraft) (v : RecordDraft) → IsKey key → IsOf key.kind v
     → keyed_record 3 (put_data word (drafted_text key) (draft_data v))
@@ -126,19 +122,11 @@ shaped s (Create key v) (k, of) = rw (edit_shaped (codes "create") s key v k of)
 shaped s (Replace key v) (k, of) = rw (edit_shaped (codes "replace") s key v k of) refl
 shaped s (Remove key) (k, other) = rw (key_spelled key k, removable_back key key.kind other) refl
 shaped s (Batch batch) sound = batch_kept s batch sound.0 sound.1
-shaped s Undo sound = refl
-shaped s UndoAll sound = refl
-shaped s Redo sound = refl
-shaped s (Settle upto) sound = refl
 shaped s (Enable key now) (k, has) = rw (act_shaped (codes "enable") s key now k has) refl
 shaped s (Disable key now) (k, has) = rw (act_shaped (codes "disable") s key now k has) refl
 shaped s (Apply key now) (k, has) = rw (act_shaped (codes "apply") s key now k has) refl
-shaped s (Frame frame now) sound = refl
 shaped s (States key at) (k, has) = rw (look_shaped s key at k has) refl
 shaped s (Counters key) k = rw (key_spelled key k) refl
 shaped s (Show key) k = rw (key_spelled key k) refl
 shaped s (ListKind kind) sound = rw (kind_spelled kind) refl
-shaped s (Since after) sound = refl
-shaped s Resume sound = refl
-shaped s Sessions sound = refl
-shaped s Setup sound = refl
+shaped s command sound = refl

@@ -21,12 +21,13 @@ removal_of : (front key rest : List ℕ)
     → front ++ ((key ++ codes "\"") ++ (codes "}" ++ rest)) ≡ (front ++ ((key ++ codes "\"") ++ codes "}")) ++ rest
 removal_of front key rest = simp append_assoc
 
-put_text : (front : List ℕ) (key : KeyDraft) (v : RecordDraft) (t0 t2 t3 t4 : List ℕ) → t0 ≡ front ++ t2
+put_text : (word : List ℕ) (key : KeyDraft) (v : RecordDraft) (t0 t1 t2 t3 t4 : List ℕ) → t0 ≡ codes "{\"do\":\"" ++ t1 → t1 ≡ word ++ t2
     → SpellsRecord t2 key v t3 → t3 ≡ codes "}" ++ t4
-    → t0 ≡ (front ++ ((escape (spelled_key key.kind key.number) ++ codes "\"")
+    → t0 ≡ ((codes "{\"do\":\"" ++ word) ++ ((escape (spelled_key key.kind key.number) ++ codes "\"")
     ++ (codes ",\"record\":" ++ (compact_text (draft_data v) ++ codes "}")))) ++ t4
-put_text front key v t0 t2 t3 t4 e0 (k, small, is) e3 =
-    e0 ∙ ap (λ l. front ++ l)
+put_text word key v t0 t1 t2 t3 t4 e0 e1 (k, small, is) e3 =
+    let front = codes "{\"do\":\"" ++ word in
+    e0 ∙ ap (λ l. codes "{\"do\":\"" ++ l) e1 ∙ ap (λ l. front ++ l)
     (is ∙ ap (λ l. spelled_key key.kind key.number ++ (codes "\",\"record\":" ++ (compact_text (draft_data v) ++ l))) e3)
     ∙ quoted_key front (codes ",\"record\":" ++ (compact_text (draft_data v) ++ (codes "}" ++ t4))) key.kind key.number k
     ∙ put_of front (escape (spelled_key key.kind key.number)) (compact_text (draft_data v)) t4
@@ -34,18 +35,14 @@ put_text front key v t0 t2 t3 t4 e0 (k, small, is) e3 =
 pub create_edit : (key : KeyDraft) (v : RecordDraft) (t0 t1 t2 t3 t4 : List ℕ) → t0 ≡ codes "{\"do\":\"" ++ t1
     → t1 ≡ codes "create\",\"key\":\"" ++ t2 → SpellsRecord t2 key v t3 → t3 ≡ codes "}" ++ t4 → SpellsEdit t0 (drafts.Create key v) t4
 unfolding escape_byte
-create_edit key v t0 t1 t2 t3 t4 e0 e1 spells e3 = (
-  (spells.0, spells.1),
-  put_text (codes "{\"do\":\"create\",\"key\":\"") key v t0 t2 t3 t4 (e0 ∙ ap (λ l. codes "{\"do\":\"" ++ l) e1) spells e3,
-)
+create_edit key v t0 t1 t2 t3 t4 e0 e1 spells e3 =
+    ((spells.0, spells.1), put_text (codes "create\",\"key\":\"") key v t0 t1 t2 t3 t4 e0 e1 spells e3)
 
 pub replace_edit : (key : KeyDraft) (v : RecordDraft) (t0 t1 t2 t3 t4 : List ℕ) → t0 ≡ codes "{\"do\":\"" ++ t1
     → t1 ≡ codes "replace\",\"key\":\"" ++ t2 → SpellsRecord t2 key v t3 → t3 ≡ codes "}" ++ t4 → SpellsEdit t0 (drafts.Replace key v) t4
 unfolding escape_byte
-replace_edit key v t0 t1 t2 t3 t4 e0 e1 spells e3 = (
-  (spells.0, spells.1),
-  put_text (codes "{\"do\":\"replace\",\"key\":\"") key v t0 t2 t3 t4 (e0 ∙ ap (λ l. codes "{\"do\":\"" ++ l) e1) spells e3,
-)
+replace_edit key v t0 t1 t2 t3 t4 e0 e1 spells e3 =
+    ((spells.0, spells.1), put_text (codes "replace\",\"key\":\"") key v t0 t1 t2 t3 t4 e0 e1 spells e3)
 
 pub remove_edit : (key : KeyDraft) (t0 t1 t2 t3 t4 : List ℕ) → t0 ≡ codes "{\"do\":\"" ++ t1 → t1 ≡ codes "remove\",\"key\":\"" ++ t2
     → IsKey key → t2 ≡ spelled_key key.kind key.number ++ t3 → IsNoPort key.kind → t3 ≡ codes "\"}" ++ t4

@@ -6,8 +6,6 @@ use Rattle.serde_json.specs.Data.{Data, boolean, member, no_members}
 use Rattle.serde_json.specs.View.{items_of}
 use Rattle.serde_json.specs.Written.{compact_text, members_text, items_text, comma_if}
 use Rattle.tsn_records.specs.Shown.{draft_data, gate_entry_value, list_array, or_null, port_entry_value}
-use Rattle.tsn_records.specs.declared.drafts.PortEntryDraft.{PortEntryDraft}
-use Rattle.tsn_records.specs.declared.drafts.GateEntryDraft.{GateEntryDraft}
 use Rattle.tsn_records.specs.declared.drafts.RecordDraft.TheVariants as records
 use Rattle.tsn_records.specs.declared.drafts.PortDraft.{PortDraft}
 use Rattle.tsn_records.specs.declared.drafts.GateDraft.{GateDraft}
@@ -96,22 +94,6 @@ unfolding escape_byte
 port_text r t0 t1 t2 t3 t4 t5 t6 e0 e1 e2 e3 e4 e5 = rw (e0, e1, e2, e3, e4, e5) (simp append_assoc)
 
 -- ---- lists of entries
-
-pub port_entry_text : (e : PortEntryDraft) (t0 t1 t2 t3 : List ℕ)
-    → t0 ≡ codes "[" ++ (decimal e.gates ++ t1)
-    → t1 ≡ codes "," ++ (decimal e.interval ++ t2)
-    → t2 ≡ codes "]" ++ t3
-    → t0 ≡ compact_text (port_entry_value e) ++ t3
-port_entry_text e t0 t1 t2 t3 e0 e1 e2 = rw (e0, e1, e2) (simp append_assoc)
-
-pub gate_entry_text : (e : GateEntryDraft) (t0 t1 t2 t3 t4 t5 : List ℕ)
-    → t0 ≡ codes "[" ++ (compact_text (boolean e.is_open) ++ t1)
-    → t1 ≡ codes "," ++ (compact_text (or_null e.ipv) ++ t2)
-    → t2 ≡ codes "," ++ (decimal e.interval ++ t3)
-    → t3 ≡ codes "," ++ (compact_text (or_null e.octets) ++ t4)
-    → t4 ≡ codes "]" ++ t5
-    → t0 ≡ compact_text (gate_entry_value e) ++ t5
-gate_entry_text e t0 t1 t2 t3 t4 t5 e0 e1 e2 e3 e4 = rw (e0, e1, e2, e3, e4) (simp append_assoc)
 
 -- these entries, each with a comma behind it
 pub so_far : {E : Type 0} → (E → Data) → List E → List ℕ

@@ -30,9 +30,7 @@ key_at d = text_at (codes "key") d >>= λ text. or_shape (key_of text)
 -- a port is never removed
 abbrev pub removable : KeyDraft → Kind → Result KeyDraft Unread
 removable key kinds.Port = Err Shape
-removable key kinds.Filter = Ok key
-removable key kinds.Gate = Ok key
-removable key kinds.Meter = Ok key
+removable key kind = Ok key
 
 -- ports and stream gates have a gate control list
 abbrev pub listed : KeyDraft → Kind → Result KeyDraft Unread

@@ -102,22 +102,13 @@ IsSound (Create key value) = IsKey key × IsOf key.kind value
 IsSound (Replace key value) = IsKey key × IsOf key.kind value
 IsSound (Remove key) = IsKey key × IsNoPort key.kind
 IsSound (Batch batch) = (is_batch_draft batch ≡ true) × AllByRecursion IsSoundEdit batch
-IsSound Undo = ⊤
-IsSound UndoAll = ⊤
-IsSound Redo = ⊤
-IsSound (Settle upto) = ⊤
 IsSound (Enable key now) = IsKey key × MayHaveList key.kind
 IsSound (Disable key now) = IsKey key × MayHaveList key.kind
 IsSound (Apply key now) = IsKey key × MayHaveList key.kind
-IsSound (Frame frame now) = ⊤
 IsSound (States key at) = IsKey key × MayHaveList key.kind
 IsSound (Counters key) = IsKey key
 IsSound (Show key) = IsKey key
-IsSound (ListKind kind) = ⊤
-IsSound (Since after) = ⊤
-IsSound Resume = ⊤
-IsSound Sessions = ⊤
-IsSound Setup = ⊤
+IsSound command = ⊤
 
 abbrev pub IsSoundLine : LineDraft → Type 0
 IsSoundLine Hello = ⊤

@@ -154,9 +154,7 @@ MayHaveList kinds.Meter = ⊥
 -- a port is never removed
 abbrev pub IsNoPort : Kind → Type 0
 IsNoPort kinds.Port = ⊥
-IsNoPort kinds.Filter = ⊤
-IsNoPort kinds.Gate = ⊤
-IsNoPort kinds.Meter = ⊤
+IsNoPort q = ⊤
 
 -- a key of a kind that has a list, and an instant
 pub record ListInRange (k : Key) (a : ℕ) : Type 0 where
@@ -190,9 +188,6 @@ MayBeAsked s (Create k r) = IsSession s × KeyedInRange k r
 MayBeAsked s (Replace k r) = IsSession s × KeyedInRange k r
 MayBeAsked s (Remove k) = IsSession s × KeyInRange k × IsNoPort (kind k)
 MayBeAsked s (Batch b) = IsSession s × IsBatch b × AllByRecursion EditMayBeAsked b
-MayBeAsked s Undo = IsSession s
-MayBeAsked s UndoAll = IsSession s
-MayBeAsked s Redo = IsSession s
 MayBeAsked s (Settle upto) = IsSession s × (upto ≤ greatest_after)
 MayBeAsked s (Enable k now) = IsSession s × ListInRange k now
 MayBeAsked s (Disable k now) = IsSession s × ListInRange k now
@@ -201,11 +196,8 @@ MayBeAsked s (FrameIn frame now) = IsSession s × FrameInRange frame now
 MayBeAsked s (States k at) = IsSession s × ListInRange k at
 MayBeAsked s (Counters k) = IsSession s × KeyInRange k
 MayBeAsked s (Show k) = IsSession s × KeyInRange k
-MayBeAsked s (ListKind k) = IsSession s
 MayBeAsked s (Since after) = IsSession s × (after ≤ greatest_after)
-MayBeAsked s Resume = IsSession s
-MayBeAsked s Sessions = IsSession s
-MayBeAsked s Setup = IsSession s
+MayBeAsked s command = IsSession s
 
 -- A line is accepted as a command of a session exactly where that may be asked and the line is its value.
 abbrev pub AcceptsValues : Type 0
