@@ -40,6 +40,7 @@ pub fn others_may_be_asked()
 {}
 
 /// Lines of worked examples.
+#[tactic(auto, unfolding(tsn_replies::proofs::OnLiterals::replies_on_literals))]
 pub fn asks_are_spelled()
     ensures hello { line_text (asked (commands.Hello None)) ≡ codes "{\"do\":\"hello\"}" }
     ensures name { line_text (asked (commands.Hello (Some (codes "anna \"n\"")))) ≡ codes "{\"do\":\"hello\",\"name\":\"anna \\\"n\\\"\"}" }
