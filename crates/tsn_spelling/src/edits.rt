@@ -9,7 +9,7 @@ ghost use Rattle.tsn_wire.specs.Values.{batch_data, edit_data, edit_value, put_d
 ghost use Rattle.tsn_spelling.specs.Growing.{GoesOn, Grows, edit_front};
 
 use crate::line::{LONGEST_WORD, MOST_HELD, hand_on, make_room, push_session, push_word};
-use crate::recorded::{MOST_BEFORE_RECORD, MOST_BEHIND_RECORD, put_record};
+use crate::recorded::{MOST_BEFORE_RECORD, put_record};
 use std::alloc::AllocError;
 use tsn_edit::Edit;
 use tsn_edit::batches::Batch;
@@ -30,26 +30,6 @@ fn push_edit_front(text: &mut ShortText, word: &str, key: Key)
     text.push(",\"record\":");
 }
 
-// The value of a creation or a replacement, up to its last brace.
-fn put_change(
-    line: &mut Vec<u8>,
-    text: &mut ShortText,
-    word: &str,
-    key: Key,
-    value: &Record,
-) -> Result<(), AllocError>
-    requires room { length text.old ≤ MOST_HELD + 1 }
-    requires short { length word.now ≤ LONGEST_WORD }
-    requires plain { escape word.now ≡ word.now }
-    ensures ok { OnOk result (GoesOn line.old.items text.old line.new.items text.new
-        (edit_front word.now key ++ compact_text (record_data value.now))) }
-    ensures room { OnOk result (length text.new ≤ MOST_BEHIND_RECORD) }
-    ensures front { Grows line.old.items line.new.items }
-{
-    push_edit_front(text, word, key);
-    put_record(line, text, value)
-}
-
 /// The line of a creation or a replacement.
 pub fn put_edit(
     line: &mut Vec<u8>,
@@ -67,7 +47,8 @@ pub fn put_edit(
     ensures empty { OnOk result (text.new ≡ []) }
     ensures front { Grows line.old.items line.new.items }
 {
-    put_change(line, text, word, key, value)?;
+    push_edit_front(text, word, key);
+    put_record(line, text, value)?;
     push_session(text, session);
     hand_on(line, text)
 }
@@ -89,7 +70,8 @@ fn put_part(
         (compact_text (put_data word.now (key_text key) (record_data value.now)))) }
     ensures front { Grows line.old.items line.new.items }
 {
-    put_change(line, text, word, key, value)?;
+    push_edit_front(text, word, key);
+    put_record(line, text, value)?;
     text.push("}");
     Ok(())
 }

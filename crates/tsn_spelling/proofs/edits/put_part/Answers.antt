@@ -4,4 +4,5 @@ use Rattle.tsn_spelling.proofs.edits.put_part.Goals as goal
 
 pub returns-clause-ok : goal.returns-clause-ok
 returns-clause-ok c =
-    part_pieces c.args.word.now c.args.key (record_data c.args.value.now) _ _ _ _ _ c.in_ok-put_change.ensures.ok c.push.ensures.text
+    part_pieces c.args.word.now c.args.key (record_data c.args.value.now) _ _ _ _ _ _ c.push_edit_front.ensures.text
+    c.in_ok-put_record.ensures.ok c.push.ensures.text
