@@ -2,7 +2,7 @@
 ghost use Rattle.std.specs.Prelude.{◌≡◌, ◌+◌, ◌≤◌, ◌++◌, false, length, map, OnOk, codes};
 ghost use Rattle.serde_json.specs.View.{items_of};
 ghost use Rattle.serde_json.specs.Written.{compact_text, items_text};
-ghost use Rattle.tsn_records.specs.Shown.{gate_data, port_data, record_data};
+ghost use Rattle.tsn_records.specs.Shown.{record_data};
 ghost use Rattle.tsn_spelling.specs.Growing.{GoesOn, Grows};
 
 use crate::line::{MOST_HELD, make_room};
@@ -10,7 +10,7 @@ use std::alloc::AllocError;
 use tsn_replies::{
     ShortText, ShownItem, push_filter, push_gate_end, push_gate_front, push_meter, push_port_front,
 };
-use tsn_types::records::{PortGates, Record, StreamGate};
+use tsn_types::records::Record;
 
 /// The most bytes that may be held before a record.
 pub const MOST_BEFORE_RECORD: usize = 350;
@@ -45,30 +45,6 @@ fn put_items<I: ShownItem>(
     Ok(())
 }
 
-fn put_port(line: &mut Vec<u8>, text: &mut ShortText, port: &PortGates) -> Result<(), AllocError>
-    requires { length text.old ≤ MOST_BEFORE_RECORD }
-    ensures ok { OnOk result (GoesOn line.old.items text.old line.new.items text.new (compact_text (port_data port.now))) }
-    ensures room { OnOk result (length text.new ≤ MOST_BEHIND_RECORD) }
-    ensures front { Grows line.old.items line.new.items }
-{
-    push_port_front(text, port);
-    put_items(line, text, port.admin.list.as_slice())?;
-    text.push("}");
-    Ok(())
-}
-
-fn put_gate(line: &mut Vec<u8>, text: &mut ShortText, gate: &StreamGate) -> Result<(), AllocError>
-    requires { length text.old ≤ MOST_BEFORE_RECORD }
-    ensures ok { OnOk result (GoesOn line.old.items text.old line.new.items text.new (compact_text (gate_data gate.now))) }
-    ensures room { OnOk result (length text.new ≤ MOST_BEHIND_RECORD) }
-    ensures front { Grows line.old.items line.new.items }
-{
-    push_gate_front(text, gate);
-    put_items(line, text, gate.admin.list.as_slice())?;
-    push_gate_end(text, gate);
-    Ok(())
-}
-
 /// The value of a record.
 pub fn put_record(
     line: &mut Vec<u8>,
@@ -81,12 +57,22 @@ pub fn put_record(
     ensures front { Grows line.old.items line.new.items }
 {
     match shown {
-        Record::Port(port) => put_port(line, text, port),
+        Record::Port(port) => {
+            push_port_front(text, port);
+            put_items(line, text, port.admin.list.as_slice())?;
+            text.push("}");
+            Ok(())
+        }
         Record::Filter(filter) => {
             push_filter(text, filter);
             Ok(())
         }
-        Record::Gate(gate) => put_gate(line, text, gate),
+        Record::Gate(gate) => {
+            push_gate_front(text, gate);
+            put_items(line, text, gate.admin.list.as_slice())?;
+            push_gate_end(text, gate);
+            Ok(())
+        }
         Record::Meter(meter) => {
             push_meter(text, meter);
             Ok(())
