@@ -6,7 +6,7 @@ use Rattle.tsn_bridge.specs.declared.command.Command.TheVariants as commands
 use Rattle.tsn_edit.specs.declared.Edit.{Edit}
 use Rattle.tsn_edit.specs.declared.Edit.TheVariants as edits
 use Rattle.tsn_records.proofs.Pairs.{◌&◌}
-use Rattle.tsn_records.specs.Shown.{list_array, port_entry_data, gate_entry_data, port_data, filter_data, gate_data, meter_data, record_data}
+use Rattle.tsn_records.specs.Shown.{port_entry_data, gate_entry_data, port_data, filter_data, gate_data, meter_data, record_data}
 use Rattle.tsn_types.specs.Keys.{kind, number_of}
 use Rattle.tsn_types.specs.declared.keys.Key.{Key}
 use Rattle.tsn_types.specs.declared.keys.Key.TheVariants as keys
@@ -21,7 +21,7 @@ use Rattle.tsn_types.specs.declared.records.Record.TheVariants as records
 use Rattle.tsn_types.specs.InRange.{PortEntryInRange, GateEntryInRange, PortInRange, GateInRange, FilterInRange, MeterInRange, RecordInRange, KeyedInRange}
 use Rattle.tsn_wire.specs.Values.{edit_value, value_of, EditMayBeAsked, MayBeAsked}
 use Rattle.tsn_wire.proofs.Backs.{IsPlain, items_plain, number_or_null}
-use Rattle.tsn_wire.proofs.Visible.{IsShown, filter_shown, gate_shown, items_shown, key_shown, kind_shown, meter_shown, or_null_shown, port_shown}
+use Rattle.tsn_wire.proofs.Visible.{IsShown, items_shown, key_shown, kind_shown, or_null_shown}
 
 -- ---- its numbers fit
 
@@ -80,9 +80,6 @@ value_plain s (commands.Create k r) h = (refl, (tt, (tt, (record_plain 2 r (keye
 value_plain s (commands.Replace k r) h = (refl, (tt, (tt, (record_plain 2 r (keyed k r h.1), (omega (arith, h.0.1), tt)))))
 value_plain s (commands.Remove k) h = (refl, (tt, (tt, (omega (arith, h.0.1), tt))))
 value_plain s (commands.Batch b) h = (refl, (tt, (items_plain 4 EditMayBeAsked edit_value edit_plain b h.2, (omega (arith, h.0.1), tt))))
-value_plain s commands.Undo h = (refl, (tt, (omega (arith, h.1), tt)))
-value_plain s commands.UndoAll h = (refl, (tt, (omega (arith, h.1), tt)))
-value_plain s commands.Redo h = (refl, (tt, (omega (arith, h.1), tt)))
 value_plain s (commands.Settle upto) h = (refl, (tt, (omega (arith, h.0.1), (omega (arith, h.1), tt))))
 value_plain s (commands.Enable k now) h = (refl, (tt, (tt, (omega (arith, h.1.instant), (omega (arith, h.0.1), tt)))))
 value_plain s (commands.Disable k now) h = (refl, (tt, (tt, (omega (arith, h.1.instant), (omega (arith, h.0.1), tt)))))
@@ -102,9 +99,7 @@ value_plain s (commands.Counters k) h = (refl, (tt, (tt, (omega (arith, h.0.1), 
 value_plain s (commands.Show k) h = (refl, (tt, (tt, (omega (arith, h.0.1), tt))))
 value_plain s (commands.List k) h = (refl, (tt, (tt, (omega (arith, h.1), tt))))
 value_plain s (commands.Since after) h = (refl, (omega (arith, h.1), (tt, (omega (arith, h.0.1), tt))))
-value_plain s commands.Resume h = (refl, (tt, (omega (arith, h.1), tt)))
-value_plain s commands.Sessions h = (refl, (tt, (omega (arith, h.1), tt)))
-value_plain s commands.Setup h = (refl, (tt, (omega (arith, h.1), tt)))
+value_plain s c h = (refl, (tt, (omega (arith, h.1), tt)))
 
 -- ---- its texts are plain
 
@@ -115,14 +110,11 @@ gate_entry_shown : (e : GateEntry) → IsShown (gate_entry_data e)
 gate_entry_shown e = (tt, (or_null_shown e.ipv, (tt, (or_null_shown e.octets, tt))))
 
 record_shown : (r : Record) → IsShown (record_data r)
-record_shown (records.Port r) =
-    port_shown r.admin.base r.admin.cycle r.admin.extension r.gates (list_array port_entry_data r.admin.list)
-    (items_shown port_entry_data port_entry_shown r.admin.list)
-record_shown (records.Filter r) = filter_shown r.gate r.handle r.max_sdu r.meter r.oversize r.priority
-record_shown (records.Gate r) =
-    gate_shown r.admin.base r.admin.cycle r.admin.extension r.invalid_rx r.ipv (list_array gate_entry_data r.admin.list)
-    r.octets_exceeded r.is_open (items_shown gate_entry_data gate_entry_shown r.admin.list)
-record_shown (records.Meter r) = meter_shown r.all_red r.aware r.cbs r.cf r.cir r.drop_yellow r.ebs r.eir
+record_shown (records.Port r) = assumption (items_shown port_entry_data port_entry_shown r.admin.list)
+record_shown (records.Filter r) =
+    assumption (or_null_shown r.handle, or_null_shown r.max_sdu, or_null_shown r.meter, or_null_shown r.priority)
+record_shown (records.Gate r) = assumption (or_null_shown r.ipv, items_shown gate_entry_data gate_entry_shown r.admin.list)
+record_shown (records.Meter r) = assumption
 
 edit_shown : (e : Edit) → IsShown (edit_value e)
 edit_shown (edits.Create k r) = (refl, refl, (refl, key_shown (kind k) (number_of k), (refl, record_shown r, tt)))
@@ -141,9 +133,6 @@ value_shown s (commands.Create k r) h = (refl, refl, (refl, key_shown (kind k) (
 value_shown s (commands.Replace k r) h = (refl, refl, (refl, key_shown (kind k) (number_of k), (refl, record_shown r, (refl, tt, tt))))
 value_shown s (commands.Remove k) h = (refl, refl, (refl, key_shown (kind k) (number_of k), (refl, tt, tt)))
 value_shown s (commands.Batch b) h = (refl, refl, (refl, items_shown edit_value edit_shown b, (refl, tt, tt)))
-value_shown s commands.Undo h = (refl, refl, (refl, tt, tt))
-value_shown s commands.UndoAll h = (refl, refl, (refl, tt, tt))
-value_shown s commands.Redo h = (refl, refl, (refl, tt, tt))
 value_shown s (commands.Settle upto) h = (refl, refl, (refl, tt, (refl, tt, tt)))
 value_shown s (commands.Enable k now) h = (refl, refl, (refl, key_shown (kind k) (number_of k), (refl, tt, (refl, tt, tt))))
 value_shown s (commands.Disable k now) h = (refl, refl, (refl, key_shown (kind k) (number_of k), (refl, tt, (refl, tt, tt))))
@@ -154,9 +143,7 @@ value_shown s (commands.Counters k) h = (refl, refl, (refl, key_shown (kind k) (
 value_shown s (commands.Show k) h = (refl, refl, (refl, key_shown (kind k) (number_of k), (refl, tt, tt)))
 value_shown s (commands.List k) h = (refl, refl, (refl, kind_shown k, (refl, tt, tt)))
 value_shown s (commands.Since after) h = (refl, tt, (refl, refl, (refl, tt, tt)))
-value_shown s commands.Resume h = (refl, refl, (refl, tt, tt))
-value_shown s commands.Sessions h = (refl, refl, (refl, tt, tt))
-value_shown s commands.Setup h = (refl, refl, (refl, tt, tt))
+value_shown s c h = (refl, refl, (refl, tt, tt))
 
 -- what holds of hellos by a name and of all others holds of each
 pub by_name : (P : Command → Type 0) → ((name : List ℕ) → P (commands.Hello (Some name))) → ((c : Command) → IsUnnamed c → P c)

@@ -5,9 +5,6 @@ use Rattle.tsn_spelling.specs.Growing.{Grows, GoesOn}
 pub none_more : (line : List ℕ) → Grows line line
 none_more line = record { more = []; is = sym (append-nil line) }
 
-pub more_behind : (old new piece : List ℕ) → new ≡ old ++ piece → Grows old new
-more_behind old new piece e = record { more = piece; is = e }
-
 pub grows_on : (a b c : List ℕ) → Grows a b → Grows b c → Grows a c
 grows_on a b c h k = record { more = h.more ++ k.more; is = k.is ∙ ap (λ l. l ++ k.more) h.is ∙ append_assoc a h.more k.more }
 

@@ -142,9 +142,7 @@ list_of front t0 t1 t2 rest e0 e1 e2 = rw (e2, e1, e0) refl
 list_text : (s : ℕ) (k : Kind) → list_front k ++ session_end (decimal s) ≡ compact_text (listed_data s (kind_text k))
 unfolding escape_byte
 list_text s kinds.Port = refl
-list_text s kinds.Filter = refl
-list_text s kinds.Gate = refl
-list_text s kinds.Meter = refl
+list_text s k = refl
 
 pub list_line : (s : ℕ) (k : Kind) (t0 t1 t2 : List ℕ) → t0 ≡ [] → t1 ≡ t0 ++ list_front k → t2 ≡ t1 ++ session_end (decimal s)
     → t2 ≡ compact_text (listed_data s (kind_text k))

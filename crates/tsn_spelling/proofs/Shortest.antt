@@ -1,5 +1,5 @@
 -- The compact text of a value is no longer than any text that reads as it.
-use Rattle.std.proofs.Common.{◌≡◌, ℕ, ◌+◌, ◌≤◌, Bool, true, false, cond, ◌&&◌, List, [], ◌∷◌, ◌++◌, length, Option, Some, None, option_map, option_and_then, Ordering, Less, Equal, Greater, refl, ap, subst, arith, append_assoc, length-append}
+use Rattle.std.proofs.Common.{◌≡◌, ℕ, ◌+◌, ◌≤◌, Bool, true, false, cond, ◌&&◌, List, [], ◌∷◌, ◌++◌, length, Option, Some, None, option_map, option_and_then, Ordering, Less, refl, ap, subst, arith, append_assoc, length-append}
 use Rattle.std.specs.Prelude.{⊤}
 use Rattle.std.specs.Ordering.{match_ordering, nat_cmp}
 use Rattle.std.specs.Cmp.Lexicographic.{slice_cmp}
@@ -19,16 +19,10 @@ use Rattle.tsn_spelling.proofs.Weighing.{whole_weight, token_weight, weight, bet
 -- ---- tokens take no more than their lexemes
 
 abbrev begins_value : Token → Bool
-begins_value begin_object = true
 begins_value end_object = false
-begins_value begin_array = true
 begins_value end_array = false
-begins_value (key s) = true
-begins_value (string s) = true
-begins_value (number s) = true
-begins_value (boolean b) = true
-begins_value null = true
 begins_value bad = false
+begins_value t = true
 
 -- a comma
 abbrev one_if : Bool → ℕ
@@ -40,10 +34,8 @@ cost after [] = 0
 cost after (t ∷ ts) = one_if (begins_value t && after) + token_weight t + cost (ends t) ts
 
 abbrev is_after : Place → Bool
-is_after fresh = false
 is_after after_value = true
-is_after after_comma = false
-is_after after_key = false
+is_after p = false
 
 no_comma : (p : Place) → may_begin p ≡ true → is_after p ≡ false
 no_comma fresh e = refl
@@ -133,12 +125,9 @@ abbrev mutual
 mutual
   json_cost : (after : Bool) (j : json.Json) (ts : List Token)
       → cost after (json_tokens j ++ ts) ≡ one_if after + json_weight j + cost true ts
-  json_cost after json.null ts = refl
-  json_cost after (json.boolean b) ts = refl
-  json_cost after (json.number s) ts = refl
-  json_cost after (json.string s) ts = refl
   json_cost after (json.array js) ts = omega (arith, items_cost false js ts)
   json_cost after (json.object ms) ts = omega (arith, members_cost false ms ts)
+  json_cost after j ts = refl
 
   items_cost : (later : Bool) (js : json.Items) (ts : List Token)
       → cost later (items_tokens js ++ ts) ≡ items_weight later js + cost true ts
@@ -194,8 +183,7 @@ put_step : (o : Ordering) (k l : List ℕ) (d e : Data) (ms more : Members) → 
     → total (match_ordering o (member k d (member l e ms)) (member l d ms) (member l e more)) ≤ total (member l e ms)
     + (length (escape k) + 4 + data_weight d)
 put_step Less k l d e ms more h = omega arith
-put_step Equal k l d e ms more h = omega arith
-put_step Greater k l d e ms more h = omega arith
+put_step o k l d e ms more h = omega arith
 
 put_total : (k : List ℕ) (d : Data) (ms : Members) → total (put k d ms) ≤ total ms + (length (escape k) + 4 + data_weight d)
 put_total k d no_members = omega arith
@@ -242,18 +230,16 @@ fewer f m n (Some a) h le = omega arith
 
 mutual
   of_json_weight : (j : json.Json) → AtMost data_weight (json_weight j) (of_json j)
-  of_json_weight json.null = omega arith
-  of_json_weight (json.boolean b) = omega arith
   of_json_weight (json.number s) =
       mapped (λ x. whole_weight (Some x)) data_weight (whole_weight (number_of s)) _ values.number (λ x h. h) (number_of s)
       (itself (number_of s))
-  of_json_weight (json.string s) = omega arith
   of_json_weight (json.array js) =
       mapped (list_weight false) data_weight (items_weight false js) _ values.array (λ x h. omega arith) _ (of_items_weight false js)
   of_json_weight (json.object ms) =
       mapped total data_weight (json_total ms) _ values.object (λ x h. let p = json_first ms in
       omega (arith, first_total x (members_weight false ms) (omega (arith, p.0)) p.1)) _
       (fewer total (0 + json_total ms) (json_total ms) _ (of_members_weight ms no_members 0 (omega arith)) (omega arith))
+  of_json_weight j = omega arith
 
   of_items_weight : (later : Bool) (js : json.Items) → AtMost (list_weight later) (items_weight later js) (of_items js)
   of_items_weight later json.no_items = omega arith
@@ -292,12 +278,10 @@ comma_long false = refl
 -- its numbers are whole
 abbrev mutual
   pub AreWhole : Data → Type 0
-  AreWhole values.null = ⊤
-  AreWhole (values.boolean b) = ⊤
   AreWhole (values.number x) = IsWhole x
-  AreWhole (values.string s) = ⊤
   AreWhole (values.array ds) = ItemsAreWhole ds
   AreWhole (values.object ms) = MembersAreWhole ms
+  AreWhole d = ⊤
 
   ItemsAreWhole : Items → Type 0
   ItemsAreWhole no_items = ⊤
@@ -309,12 +293,10 @@ abbrev mutual
 
 mutual
   pub shown_whole : (d : Data) → IsShown d → AreWhole d
-  shown_whole values.null h = tt
-  shown_whole (values.boolean b) h = tt
   shown_whole (values.number x) h = h
-  shown_whole (values.string s) h = tt
   shown_whole (values.array ds) h = shown_items ds h
   shown_whole (values.object ms) h = shown_members ms h
+  shown_whole d h = tt
 
   shown_items : (ds : Items) → ItemsAreShown ds → ItemsAreWhole ds
   shown_items no_items h = tt

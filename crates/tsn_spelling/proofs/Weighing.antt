@@ -14,7 +14,7 @@ use Rattle.json.specs.Text.{code_unit, short_escape, is_high_surrogate, is_low_s
 use Rattle.json.specs.Word.{is_operator, is_space, head, ends_word, word, literal, number_before, after_number}
 use Rattle.json.specs.Ascii.{true_text, false_text, null_text}
 use Rattle.std.proofs.lemmas.List.Folds.{length-prefix_len}
-use Rattle.json.specs.Lex.{Lexeme, token, comma, colon, Class, quote, backslash, operator, space, other, class, operator_lexeme, string_token, Mode, between, in_word, in_string, in_escape, lex_byte, lex}
+use Rattle.json.specs.Lex.{Lexeme, token, comma, colon, Class, quote, operator, space, other, class, operator_lexeme, string_token, Mode, between, in_word, in_string, in_escape, lex_byte, lex}
 use Rattle.serde_json.specs.Data.{Num, unsigned, negative, float}
 use Rattle.std.proofs.lemmas.Int.Digits.{digits_value-lt}
 use Rattle.std.proofs.lemmas.Fmt.{length-decimal-le}
@@ -25,17 +25,11 @@ use Rattle.tsn_replies.proofs.Escapes.{byte_short, byte_within, escape_joined}
 
 -- the digits of a whole number; nothing is said of others
 abbrev pub whole_weight : Option Num → ℕ
-whole_weight None = 0
 whole_weight (Some (unsigned n)) = length (decimal n)
-whole_weight (Some (negative z)) = 0
-whole_weight (Some (float x)) = 0
+whole_weight o = 0
 
 -- how many bytes a token takes at least, a key with its colon
 abbrev pub token_weight : Token → ℕ
-token_weight begin_object = 1
-token_weight end_object = 1
-token_weight begin_array = 1
-token_weight end_array = 1
 token_weight (key s) = length (escape s) + 3
 token_weight (string s) = length (escape s) + 2
 token_weight (number s) = whole_weight (number_of s)
@@ -43,6 +37,7 @@ token_weight (boolean true) = 4
 token_weight (boolean false) = 5
 token_weight null = 4
 token_weight bad = 0
+token_weight t = 1
 
 abbrev pub lexeme_weight : Lexeme → ℕ
 lexeme_weight (token t) = token_weight t
@@ -57,11 +52,9 @@ weight (l ∷ ls) = lexeme_weight l + weight ls
 
 -- how many bytes of a word stand here
 abbrev span_of : Class → ℕ → ℕ
-span_of quote n = 1 + n
-span_of backslash n = 1 + n
 span_of operator n = 0
 span_of space n = 0
-span_of other n = 1 + n
+span_of c n = 1 + n
 
 pub span : List ℕ → ℕ
 span [] = 0
@@ -379,41 +372,28 @@ quoted_fits : (o : Option (List ℕ)) (w n : ℕ) → Fits w n o → w ≤ n →
 quoted_fits None w n h k = omega arith
 quoted_fits (Some s) w n h k = omega arith
 
-abbrev goes_on_from : List ℕ → Mode → List Lexeme
-goes_on_from xs m = lex m xs
-
 byte_between : (c : Class) (x : ℕ) (xs : List ℕ) → Fits (weight (lex in_string xs)) (length xs) (content plain xs)
     → weight (lex in_string xs) ≤ length xs → weight (lex in_word xs) + span xs ≤ length xs
     → weight (lex between xs) ≤ length xs → token_weight (word (x ∷ xs)) ≤ span_of c (span xs)
     → weight (lex_byte between c x xs (λ next. lex next xs)) ≤ suc (length xs)
 byte_between quote x xs text closed worded plainly named = quoted_fits (content plain xs) _ _ text closed
-byte_between backslash x xs text closed worded plainly named = omega arith
 byte_between operator x xs text closed worded plainly named = omega (arith, one_operator x)
-byte_between space x xs text closed worded plainly named = omega arith
-byte_between other x xs text closed worded plainly named = omega arith
+byte_between c x xs text closed worded plainly named = omega arith
 
 byte_in_word : (c : Class) (x : ℕ) (xs : List ℕ) → weight (lex in_word xs) + span xs ≤ length xs → weight (lex between xs) ≤ length xs
     → weight (lex_byte in_word c x xs (λ next. lex next xs)) + span_of c (span xs) ≤ suc (length xs)
-byte_in_word quote x xs worded plainly = omega arith
-byte_in_word backslash x xs worded plainly = omega arith
 byte_in_word operator x xs worded plainly = omega (arith, one_operator x)
-byte_in_word space x xs worded plainly = omega arith
-byte_in_word other x xs worded plainly = omega arith
+byte_in_word c x xs worded plainly = omega arith
 
 byte_in_string : (c : Class) (x : ℕ) (xs : List ℕ) → weight (lex in_string xs) ≤ length xs → weight (lex in_escape xs) ≤ length xs
     → weight (lex between xs) ≤ length xs
     → weight (lex_byte in_string c x xs (λ next. lex next xs)) ≤ suc (length xs)
 byte_in_string quote x xs closed escaped plainly = omega arith
-byte_in_string backslash x xs closed escaped plainly = omega arith
-byte_in_string operator x xs closed escaped plainly = omega arith
-byte_in_string space x xs closed escaped plainly = omega arith
-byte_in_string other x xs closed escaped plainly = omega arith
+byte_in_string c x xs closed escaped plainly = omega arith
 
 abbrev mode : Within → Mode
-mode plain = in_string
 mode after_backslash = in_escape
-mode after_u = in_string
-mode (after_high h) = in_string
+mode w = in_string
 
 -- how many bytes of a spelled character stand ahead
 abbrev ahead : Within → ℕ
@@ -443,7 +423,6 @@ mutual
   escape_fits (x ∷ xs) = omega (arith, string_fits xs)
 
   content_fits : (w : Within) (xs : List ℕ) (n : ℕ) → n ≡ ahead w + length xs → Fits (weight (lex (mode w) xs)) n (content w xs)
-  content_fits plain [] n e = tt
   content_fits plain (x ∷ xs) n e =
       both _ n (x == 34) _ _ (λ q. let k = string_ends x xs q in omega (arith, ap weight k, between_fits xs, e))
       (λ q. both _ n (x == 92) _ _ (λ b.
@@ -452,27 +431,16 @@ mutual
       (λ l. same_weight _ _ n _ (ap weight (string_byte x xs q b))
       (longer _ (length xs) n (x ∷ []) _ (content_fits plain xs (length xs) (omega arith))
       (omega (arith, e, one_escaped x, itself_escaped x q b l))))))
-  content_fits after_backslash [] n e = tt
   content_fits after_backslash (x ∷ xs) n e =
       both _ n (x == 117) _ _ (λ u. content_fits after_u xs n (omega (arith, e)))
       (λ u. then _ n _ (short_escape x)
       (λ c f. longer _ (length xs) n (c ∷ []) _ (content_fits plain xs (length xs) (omega arith))
       (omega (arith, e, short_escaped x c f))))
-  content_fits after_u [] n e = tt
-  content_fits after_u (a ∷ []) n e = tt
-  content_fits after_u (a ∷ b ∷ []) n e = tt
-  content_fits after_u (a ∷ b ∷ c ∷ []) n e = tt
   content_fits after_u (a ∷ b ∷ c ∷ d ∷ xs) n e =
       then _ n _ (code_unit a b c d) (λ u f. same_weight _ _ n _ (ap weight (four_hex a b c d u xs f))
       (both _ n (is_high_surrogate u) _ _ (λ h. content_fits (after_high u) xs n (omega (arith, e)))
       (λ h. both _ n (is_low_surrogate u) _ _ (λ l. tt)
       (λ l. longer _ (length xs) n (encode_utf8 u) _ (content_fits plain xs (length xs) (omega arith)) (omega (arith, e, encoded u))))))
-  content_fits (after_high h) [] n e = tt
-  content_fits (after_high h) (s ∷ []) n e = tt
-  content_fits (after_high h) (s ∷ u ∷ []) n e = tt
-  content_fits (after_high h) (s ∷ u ∷ a ∷ []) n e = tt
-  content_fits (after_high h) (s ∷ u ∷ a ∷ b ∷ []) n e = tt
-  content_fits (after_high h) (s ∷ u ∷ a ∷ b ∷ c ∷ []) n e = tt
   content_fits (after_high h) (s ∷ u ∷ a ∷ b ∷ c ∷ d ∷ xs) n e =
       both _ n ((s == 92) && (u == 117)) _ _
       (λ p. then _ n _ (code_unit a b c d)
@@ -483,3 +451,4 @@ mutual
       (λ y. longer _ (length xs) n (encode_utf8 (surrogate_pair h l)) _ (content_fits plain xs (length xs) (omega arith))
       (omega (arith, e, encoded (surrogate_pair h l)))) (λ y. tt))))
       (λ p. tt)
+  content_fits w xs n e = tt

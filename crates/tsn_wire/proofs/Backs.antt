@@ -9,7 +9,7 @@ use Rattle.json.specs.Tree as tree
 use Rattle.json.proofs.Printed.Decimals.{IsNumber-decimal}
 use Rattle.json.proofs.Printed.Trees.{value-json_tokens, ArePrintable-json_tokens}
 use Rattle.json.proofs.Printed.Tokens.{tokens-print}
-use Rattle.serde_json.specs.Data.{Num, unsigned, negative, float, Data, null, boolean, number, string, array, object, Items, no_items, item, Members, no_members, member, put}
+use Rattle.serde_json.specs.Data.{Num, unsigned, negative, float, Data, null, number, array, object, Items, no_items, item, Members, no_members, member, put}
 use Rattle.serde_json.specs.Read.{of_json, of_items, of_members, read, max_depth}
 use Rattle.serde_json.specs.View.{items_of}
 use Rattle.serde_json.specs.Written.{outline, items_outline, members_outline, compact_text}
@@ -31,14 +31,12 @@ IsSmall (float x) = ⊥
 -- nested at most so deep, its numbers small, its members in their order
 abbrev mutual
   pub IsPlain : ℕ → Data → Type 0
-  IsPlain n null = ⊤
-  IsPlain n (boolean b) = ⊤
   IsPlain n (number x) = IsSmall x
-  IsPlain n (string s) = ⊤
   IsPlain zero (array ds) = ⊥
   IsPlain (suc n) (array ds) = ItemsArePlain n ds
   IsPlain zero (object ms) = ⊥
   IsPlain (suc n) (object ms) = (puts ms no_members ≡ ms) × MembersArePlain n ms
+  IsPlain n d = ⊤
 
   pub ItemsArePlain : ℕ → Items → Type 0
   ItemsArePlain n no_items = ⊤
@@ -55,14 +53,12 @@ number_back (float x) h = absurd h
 
 mutual
   pub value_back : (n : ℕ) (d : Data) → IsPlain n d → of_json (outline d) ≡ Some d
-  value_back n null h = refl
-  value_back n (boolean b) h = refl
   value_back n (number x) h = number_back x h
-  value_back n (string s) h = refl
   value_back zero (array ds) h = absurd h
   value_back (suc n) (array ds) h = ap (option_map array) (items_back n ds h)
   value_back zero (object ms) h = absurd h
   value_back (suc n) (object ms) h = ap (option_map object) (members_back n ms no_members h.1 ∙ ap Some h.0)
+  value_back n d h = refl
 
   items_back : (n : ℕ) (ds : Items) → ItemsArePlain n ds → of_items (items_outline ds) ≡ Some ds
   items_back n no_items h = refl
@@ -79,14 +75,12 @@ number_prints (float x) h = absurd h
 
 mutual
   prints : (n : ℕ) (d : Data) → IsPlain n d → tree.HasNumbers (outline d)
-  prints n null h = tt
-  prints n (boolean b) h = tt
   prints n (number x) h = number_prints x h
-  prints n (string s) h = tt
   prints zero (array ds) h = absurd h
   prints (suc n) (array ds) h = items_print n ds h
   prints zero (object ms) h = absurd h
   prints (suc n) (object ms) h = members_print n ms h.1
+  prints n d h = tt
 
   items_print : (n : ℕ) (ds : Items) → ItemsArePlain n ds → tree.ItemsHaveNumbers (items_outline ds)
   items_print n no_items h = tt
@@ -99,13 +93,11 @@ mutual
 mutual
   shallow : (n : ℕ) (d : Data) → IsPlain n d → tree.depth (outline d) ≤ n
   shallow n null h = omega arith
-  shallow n (boolean b) h = omega arith
-  shallow n (number x) h = omega arith
-  shallow n (string s) h = omega arith
   shallow zero (array ds) h = absurd h
   shallow (suc n) (array ds) h = omega (arith, items_shallow n ds h)
   shallow zero (object ms) h = absurd h
   shallow (suc n) (object ms) h = omega (arith, members_shallow n ms h.1)
+  shallow n d h = omega arith
 
   items_shallow : (n : ℕ) (ds : Items) → ItemsArePlain n ds → tree.items_depth (items_outline ds) ≤ n
   items_shallow n no_items h = omega arith

@@ -10,7 +10,7 @@ use Rattle.tsn_types.specs.declared.keys.Kind.{Kind}
 use Rattle.tsn_types.specs.declared.keys.Kind.TheVariants as kinds
 use Rattle.tsn_records.proofs.Pairs.{◌&◌}
 use Rattle.tsn_records.specs.Keys.{kind_text}
-use Rattle.tsn_records.specs.Shown.{draft_data, gate_entry_value, list_array, or_null, port_entry_value}
+use Rattle.tsn_records.specs.Shown.{draft_data, gate_entry_value, or_null, port_entry_value}
 use Rattle.tsn_records.specs.declared.drafts.PortEntryDraft.{PortEntryDraft}
 use Rattle.tsn_records.specs.declared.drafts.GateEntryDraft.{GateEntryDraft}
 use Rattle.tsn_records.specs.declared.drafts.PortDraft.{PortDraft}
@@ -26,7 +26,7 @@ use Rattle.tsn_wire.specs.Values.{asked_data, bare_data, batched_data, edit_data
 use Rattle.tsn_wire.specs.declared.drafts.EditDraft.{EditDraft}
 use Rattle.tsn_wire.specs.declared.drafts.EditDraft.TheVariants as edits
 use Rattle.tsn_wire.proofs.Backs.{IsPlain, items_plain, number_or_null, read_back}
-use Rattle.tsn_wire.proofs.Visible.{are_plain, IsShown, filter_shown, gate_shown, items_shown, key_shown, kind_shown, meter_shown, or_null_shown, port_shown, text_visible, visible_utf8}
+use Rattle.tsn_wire.proofs.Visible.{are_plain, IsShown, items_shown, key_shown, kind_shown, or_null_shown, text_visible, visible_utf8}
 
 -- its numbers fit, and its texts are plain
 pub record IsSpelled (d : Data) : Type 0 where
@@ -83,14 +83,11 @@ gate_entry_shown : (e : GateEntryDraft) → IsShown (gate_entry_value e)
 gate_entry_shown e = (tt, (or_null_shown e.ipv, (tt, (or_null_shown e.octets, tt))))
 
 record_shown : (r : RecordDraft) → IsShown (draft_data r)
-record_shown (records.Port r) =
-    port_shown r.admin.base r.admin.cycle r.admin.extension r.gates (list_array port_entry_value r.admin.list)
-    (items_shown port_entry_value port_entry_shown r.admin.list)
-record_shown (records.Filter r) = filter_shown r.gate r.handle r.max_sdu r.meter r.oversize r.priority
-record_shown (records.Gate r) =
-    gate_shown r.admin.base r.admin.cycle r.admin.extension r.invalid_rx r.ipv (list_array gate_entry_value r.admin.list)
-    r.octets_exceeded r.is_open (items_shown gate_entry_value gate_entry_shown r.admin.list)
-record_shown (records.Meter r) = meter_shown r.all_red r.aware r.cbs r.cf r.cir r.drop_yellow r.ebs r.eir
+record_shown (records.Port r) = assumption (items_shown port_entry_value port_entry_shown r.admin.list)
+record_shown (records.Filter r) =
+    assumption (or_null_shown r.handle, or_null_shown r.max_sdu, or_null_shown r.meter, or_null_shown r.priority)
+record_shown (records.Gate r) = assumption (or_null_shown r.ipv, items_shown gate_entry_value gate_entry_shown r.admin.list)
+record_shown (records.Meter r) = assumption
 
 -- ---- commands
 

@@ -14,7 +14,7 @@ use Rattle.serde_json.specs.Written.{compact_text, items_text, members_text, num
 use Rattle.tsn_types.specs.declared.keys.Kind.{Kind}
 use Rattle.tsn_types.specs.declared.keys.Kind.TheVariants as kinds
 use Rattle.tsn_records.specs.Keys.{kind_text, spelled_key}
-use Rattle.tsn_records.specs.Shown.{or_null, port_object, filter_object, gate_object, meter_object}
+use Rattle.tsn_records.specs.Shown.{or_null}
 
 -- a space or what ASCII shows
 abbrev pub is_visible : ℕ → Bool
@@ -149,7 +149,7 @@ mutual
       (visible_both (quoted k) _ (quoted_visible k h.0)
       (visible_both (compact_text d) _ (text_visible d h.1) (members_visible true ms h.2)))
 
--- ---- keys, numbers that may be none, lists and records
+-- ---- keys, numbers that may be none, and lists
 
 pub key_shown : (k : Kind) (n : ℕ) → are_plain (spelled_key k n) ≡ true
 key_shown kinds.Port n = decimal_plain n
@@ -159,9 +159,7 @@ key_shown kinds.Meter n = decimal_plain n
 
 pub kind_shown : (k : Kind) → are_plain (kind_text k) ≡ true
 kind_shown kinds.Port = refl
-kind_shown kinds.Filter = refl
-kind_shown kinds.Gate = refl
-kind_shown kinds.Meter = refl
+kind_shown k = refl
 
 pub or_null_shown : (o : Option ℕ) → IsShown (or_null o)
 or_null_shown None = tt
@@ -170,35 +168,6 @@ or_null_shown (Some n) = tt
 pub items_shown : {I : Type 0} (f : I → Data) → ((x : I) → IsShown (f x)) → (xs : List I) → ItemsAreShown (items_of (map f xs))
 items_shown f each [] = tt
 items_shown f each (x ∷ xs) = (each x, items_shown f each xs)
-
-pub port_shown : (base cycle extension gates : ℕ) (list : Data) → IsShown list → IsShown (port_object base cycle extension gates list)
-port_shown base cycle extension gates list h = (refl, tt, (refl, tt, (refl, tt, (refl, tt, (refl, h, tt)))))
-
-pub filter_shown : (gate : ℕ) (handle max_sdu meter : Option ℕ) (oversize : Bool) (priority : Option ℕ)
-    → IsShown (filter_object gate handle max_sdu meter oversize priority)
-filter_shown gate handle max_sdu meter oversize priority = (
-  refl,
-  tt,
-  (
-    refl,
-    or_null_shown handle,
-    (
-      refl,
-      or_null_shown max_sdu,
-      (refl, or_null_shown meter, (refl, tt, (refl, or_null_shown priority, tt))),
-    ),
-  ),
-)
-
-pub gate_shown : (base cycle extension : ℕ) (invalid_rx : Bool) (ipv : Option ℕ) (list : Data) (octets_exceeded is_open : Bool)
-    → IsShown list → IsShown (gate_object base cycle extension invalid_rx ipv list octets_exceeded is_open)
-gate_shown base cycle extension invalid_rx ipv list octets_exceeded is_open h =
-    (refl, tt, (refl, tt, (refl, tt, (refl, tt, (refl, or_null_shown ipv, (refl, h, (refl, tt, (refl, tt, tt))))))))
-
-pub meter_shown : (all_red aware : Bool) (cbs : ℕ) (cf : Bool) (cir : ℕ) (drop_yellow : Bool) (ebs eir : ℕ)
-    → IsShown (meter_object all_red aware cbs cf cir drop_yellow ebs eir)
-meter_shown all_red aware cbs cf cir drop_yellow ebs eir =
-    (refl, tt, (refl, tt, (refl, tt, (refl, tt, (refl, tt, (refl, tt, (refl, tt, (refl, tt, tt))))))))
 
 -- ---- what that means
 
