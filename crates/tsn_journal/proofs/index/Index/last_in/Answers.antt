@@ -2,37 +2,27 @@ use Rattle.std.proofs.Common.{◌+◌, ◌≤◌, ◌&&◌, Bool, sym, ◌∙◌
 use Rattle.std.proofs.lemmas.Bool.{and_from}
 use Rattle.tsn_journal.specs.declared.entries.MarkedEntry.{MarkedEntry}
 use Rattle.tsn_journal.specs.Index.{belongs, number_at, number_of}
-use Rattle.tsn_journal.proofs.Links.{next_group, node_there, step_none, the_node}
+use Rattle.tsn_journal.proofs.Links.{came_to, next_group, node_there, step_none}
 use Rattle.tsn_journal.proofs.Walking.{and_out, found_from, in_list, none_from}
 use Rattle.tsn_journal.proofs.index.Index.last_in.Goals as goal
 use Rattle.tsn_journal.proofs.index.Index.last_in.Goals.{else-is_in-via-then-is_in+else-test, else-is_in-via-else-is_in}
 
 pub numbered-entry-requires-clause-some : goal.numbered-entry-requires-clause-some
 numbered-entry-requires-clause-some g c =
-    (the_node c.args.marked.now c.args.self.now.nodes.items c.args.group.now c.back.node c.index-found.result.now c.back.invariant.group
-    (node_there c.args.self.now.nodes.items c.back.node c.index-found.result.now c.back-test.true c.back.invariant.within
-    c.index-found.ensures) c.requires.index.nodes).some
+    (came_to c.back-test.true c.back.invariant.within c.index-found.ensures c.requires.index.nodes).some
 
 pub numbered-entry-requires-clause-within : goal.numbered-entry-requires-clause-within
 numbered-entry-requires-clause-within g c =
-    (the_node c.args.marked.now c.args.self.now.nodes.items c.args.group.now c.back.node c.index-found.result.now c.back.invariant.group
-    (node_there c.args.self.now.nodes.items c.back.node c.index-found.result.now c.back-test.true c.back.invariant.within
-    c.index-found.ensures) c.requires.index.nodes).within
+    (came_to c.back-test.true c.back.invariant.within c.index-found.ensures c.requires.index.nodes).within
 
 pub back-smaller : goal.back-smaller
 back-smaller g c =
-    let at = the_node c.args.marked.now c.args.self.now.nodes.items c.args.group.now c.back.node c.index-found.result.now
-    c.back.invariant.group (node_there c.args.self.now.nodes.items c.back.node c.index-found.result.now c.back-test.true
-    c.back.invariant.within c.index-found.ensures) c.requires.index.nodes in
-    omega (arith, at.earlier, c.back-test.true)
+    omega (arith, (came_to c.back-test.true c.back.invariant.within c.index-found.ensures c.requires.index.nodes).earlier)
 
 pub returns-then-test : goal.returns-then-test
 returns-then-test g c = λ p answers.
-    let at = the_node c.args.marked.now c.args.self.now.nodes.items c.args.group.now c.back.node c.index-found.result.now
-    c.back.invariant.group (node_there c.args.self.now.nodes.items c.back.node c.index-found.result.now c.back-test.true
-    c.back.invariant.within c.index-found.ensures) c.requires.index.nodes in
-    let here = (node_there c.args.self.now.nodes.items c.back.node c.index-found.result.now c.back-test.true c.back.invariant.within
-    c.index-found.ensures) in
+    let at = came_to c.back-test.true c.back.invariant.within c.index-found.ensures c.requires.index.nodes in
+    let here = node_there _ _ _ c.back-test.true c.back.invariant.within c.index-found.ensures in
     sym (found_from (λ m. belongs c.args.group.now m && p m) c.args.marked.now c.index-found.result.now.number c.numbered-entry.result.now
     at.some at.within c.numbered-entry.ensures
     (λ i m low is. c.back.invariant.none_later p answers i m (subst (λ o. number_of o ≤ i) (sym here) low)
@@ -41,19 +31,16 @@ returns-then-test g c = λ p answers.
 
 pub back-preserved : goal.back-preserved
 back-preserved g c =
-    let at = the_node c.args.marked.now c.args.self.now.nodes.items c.args.group.now c.back.node c.index-found.result.now
-    c.back.invariant.group (node_there c.args.self.now.nodes.items c.back.node c.index-found.result.now c.back-test.true
-    c.back.invariant.within c.index-found.ensures) c.requires.index.nodes in
+    let at = came_to c.back-test.true c.back.invariant.within c.index-found.ensures c.requires.index.nodes in
+    let here = node_there _ _ _ c.back-test.true c.back.invariant.within c.index-found.ensures in
     record {
       within = at.last.within;
       group = next_group c.args.marked.now c.args.self.now.nodes.items c.args.group.now c.back.node c.index-found.result.now
-          c.back.invariant.group (node_there c.args.self.now.nodes.items c.back.node c.index-found.result.now c.back-test.true
-          c.back.invariant.within c.index-found.ensures) c.requires.index.nodes;
+          c.back.invariant.group here c.requires.index.nodes;
       none_later = λ p answers.
           let t : MarkedEntry → Bool = λ m. belongs c.args.group.now m && p m in
           step_none c.args.marked.now c.args.self.now.nodes.items c.args.group.now c.back.node c.index-found.result.now
-          c.back.invariant.group (node_there c.args.self.now.nodes.items c.back.node c.index-found.result.now c.back-test.true
-          c.back.invariant.within c.index-found.ensures) c.requires.index.nodes
+          c.back.invariant.group here c.requires.index.nodes
           t (length c.args.marked.now + 1) (and_out p (belongs c.args.group.now)) (c.back.invariant.none_later p answers)
           c.numbered-entry.result.now c.numbered-entry.ensures
           (grind arith);

@@ -3,48 +3,36 @@ use Rattle.std.proofs.lemmas.List.{length-take-le}
 use Rattle.std.proofs.lemmas.Bool.{and_from}
 use Rattle.tsn_journal.specs.declared.entries.MarkedEntry.{MarkedEntry}
 use Rattle.tsn_journal.specs.declared.groups.Group.TheVariants.{Of}
-use Rattle.tsn_journal.specs.Index.{IsLast, belongs, number_at, number_of}
+use Rattle.tsn_journal.specs.Index.{belongs, number_at, number_of}
 use Rattle.tsn_journal.specs.Marks.{is_own}
-use Rattle.tsn_journal.proofs.Links.{next_group, node_there, step_beyond, step_none, the_node}
+use Rattle.tsn_journal.proofs.Links.{came_to, next_group, node_there, step_beyond, step_none}
+use Rattle.tsn_journal.proofs.Lowering.{newest_told}
 use Rattle.tsn_journal.proofs.Walking.{and_out, found_from, in_list, last_upto, none_from}
 use Rattle.tsn_journal.proofs.index.Index.last_own.Goals as goal
 use Rattle.tsn_journal.proofs.index.Index.last_own.Goals.{then-from-upto+else-is_own, else-is_own-via-then-is_own+else-test, else-is_own-via-else-is_own, else-from-upto+else-passed-upto}
 
 pub back-init : goal.back-init
 back-init g c =
-    let ps = c.args.self.now.nodes.items in
-    let h = Of c.args.session in
-    let at : IsLast h (belongs h) c.args.marked.now ps c.session_nodes-node.result.standing (length c.args.marked.now + 1) =
-    subst (λ j. IsLast h (belongs h) c.args.marked.now ps j (length c.args.marked.now + 1)) (sym c.session_nodes-node.ensures.standing)
-    (c.requires.index.latest_is h) in
+    let at = newest_told (Of c.args.session) c.args.marked.now c.args.self.now c.session_nodes-node.result.standing c.requires.index
+    c.session_nodes-node.ensures.standing in
     grind arith
 
 pub numbered-entry-requires-clause-some : goal.numbered-entry-requires-clause-some
 numbered-entry-requires-clause-some g c =
-    (the_node c.args.marked.now c.args.self.now.nodes.items (Of c.args.session) c.back.node c.index-found.result.now
-    c.back.invariant.group (node_there c.args.self.now.nodes.items c.back.node c.index-found.result.now c.back-test.true
-    c.back.invariant.within c.index-found.ensures) c.requires.index.nodes).some
+    (came_to c.back-test.true c.back.invariant.within c.index-found.ensures c.requires.index.nodes).some
 
 pub numbered-entry-requires-clause-within : goal.numbered-entry-requires-clause-within
 numbered-entry-requires-clause-within g c =
-    (the_node c.args.marked.now c.args.self.now.nodes.items (Of c.args.session) c.back.node c.index-found.result.now
-    c.back.invariant.group (node_there c.args.self.now.nodes.items c.back.node c.index-found.result.now c.back-test.true
-    c.back.invariant.within c.index-found.ensures) c.requires.index.nodes).within
+    (came_to c.back-test.true c.back.invariant.within c.index-found.ensures c.requires.index.nodes).within
 
 pub back-smaller : goal.back-smaller
 back-smaller g c =
-    let at = the_node c.args.marked.now c.args.self.now.nodes.items (Of c.args.session) c.back.node c.index-found.result.now
-    c.back.invariant.group (node_there c.args.self.now.nodes.items c.back.node c.index-found.result.now c.back-test.true
-    c.back.invariant.within c.index-found.ensures) c.requires.index.nodes in
-    omega (arith, at.earlier, c.back-test.true)
+    omega (arith, (came_to c.back-test.true c.back.invariant.within c.index-found.ensures c.requires.index.nodes).earlier)
 
 pub returns-then-test : goal.returns-then-test
 returns-then-test g c = λ p answers above.
-    let at = the_node c.args.marked.now c.args.self.now.nodes.items (Of c.args.session) c.back.node c.index-found.result.now
-    c.back.invariant.group (node_there c.args.self.now.nodes.items c.back.node c.index-found.result.now c.back-test.true
-    c.back.invariant.within c.index-found.ensures) c.requires.index.nodes in
-    let here = (node_there c.args.self.now.nodes.items c.back.node c.index-found.result.now c.back-test.true c.back.invariant.within
-    c.index-found.ensures) in
+    let at = came_to c.back-test.true c.back.invariant.within c.index-found.ensures c.requires.index.nodes in
+    let here = node_there _ _ _ c.back-test.true c.back.invariant.within c.index-found.ensures in
     sym (found_from (λ m. is_own c.args.session m && p m) c.args.marked.now c.index-found.result.now.number c.numbered-entry.result.now
     at.some at.within c.numbered-entry.ensures
     (λ i m low is. c.back.invariant.none_later p answers above i m (subst (λ o. number_of o ≤ i) (sym here) low)
@@ -53,28 +41,24 @@ returns-then-test g c = λ p answers above.
 
 pub back-preserved : goal.back-preserved
 back-preserved g c =
-    let at = the_node c.args.marked.now c.args.self.now.nodes.items (Of c.args.session) c.back.node c.index-found.result.now
-    c.back.invariant.group (node_there c.args.self.now.nodes.items c.back.node c.index-found.result.now c.back-test.true
-    c.back.invariant.within c.index-found.ensures) c.requires.index.nodes in
+    let at = came_to c.back-test.true c.back.invariant.within c.index-found.ensures c.requires.index.nodes in
+    let here = node_there _ _ _ c.back-test.true c.back.invariant.within c.index-found.ensures in
     record {
       within = at.last.within;
       group = next_group c.args.marked.now c.args.self.now.nodes.items (Of c.args.session) c.back.node c.index-found.result.now
-          c.back.invariant.group (node_there c.args.self.now.nodes.items c.back.node c.index-found.result.now c.back-test.true
-          c.back.invariant.within c.index-found.ensures) c.requires.index.nodes;
+          c.back.invariant.group here c.requires.index.nodes;
       none_later = λ p answers above.
           let t : MarkedEntry → Bool = λ m. is_own c.args.session m && p m in
           elim c.if-from-upto.branch [
             | then-from-upto+else-is_own w ↦
                 step_none c.args.marked.now c.args.self.now.nodes.items (Of c.args.session) c.back.node c.index-found.result.now
-                c.back.invariant.group (node_there c.args.self.now.nodes.items c.back.node c.index-found.result.now c.back-test.true
-                c.back.invariant.within c.index-found.ensures) c.requires.index.nodes
+                c.back.invariant.group here c.requires.index.nodes
                 t (length c.args.marked.now + 1) (and_out p (belongs (Of c.args.session))) (c.back.invariant.none_later p answers above)
                 w.numbered-entry.result.now w.numbered-entry.ensures
                 (grind arith)
             | else-from-upto+else-passed-upto w ↦
                 step_beyond c.args.marked.now c.args.self.now.nodes.items (Of c.args.session) c.back.node c.index-found.result.now
-                c.back.invariant.group (node_there c.args.self.now.nodes.items c.back.node c.index-found.result.now c.back-test.true
-                c.back.invariant.within c.index-found.ensures) c.requires.index.nodes
+                c.back.invariant.group here c.requires.index.nodes
                 t (length c.args.marked.now + 1) (and_out p (belongs (Of c.args.session))) c.args.upto
                 (omega (arith, w.if-from-upto.false, c.from.ensures)) above
           ];
@@ -90,9 +74,7 @@ returns g c = λ p answers above.
 
 pub slice_bounds-last-end : goal.slice_bounds-last-end
 slice_bounds-last-end g c =
-    let at = the_node c.args.marked.now c.args.self.now.nodes.items (Of c.args.session) c.back.node c.index-found.result.now
-    c.back.invariant.group (node_there c.args.self.now.nodes.items c.back.node c.index-found.result.now c.back-test.true
-    c.back.invariant.within c.index-found.ensures) c.requires.index.nodes in
+    let at = came_to c.back-test.true c.back.invariant.within c.index-found.ensures c.requires.index.nodes in
     grind (arith, length-take-le)
 
 pub returns-then-passed-upto : goal.returns-then-passed-upto

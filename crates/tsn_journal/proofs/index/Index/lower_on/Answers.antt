@@ -1,18 +1,15 @@
-use Rattle.std.proofs.Common.{◌+◌, sym, subst, length}
 use Rattle.tsn_journal.specs.declared.groups.Group.TheVariants.{On}
-use Rattle.tsn_journal.specs.Index.{IsLast, belongs, set_at}
+use Rattle.tsn_journal.specs.Index.{set_at}
 use Rattle.tsn_journal.specs.Latest.{latest_of}
 use Rattle.tsn_journal.proofs.Indexing.{reindexed}
-use Rattle.tsn_journal.proofs.Lowering.{index_lowered}
+use Rattle.tsn_journal.proofs.Lowering.{index_lowered, newest_told}
 use Rattle.tsn_journal.proofs.Off.{none_on}
 use Rattle.tsn_journal.proofs.Rows.{set_on}
 use Rattle.tsn_journal.proofs.index.Index.lower_on.Goals as goal
 
 pub first_from-on-requires-clause-latest : goal.first_from-on-requires-clause-latest
 first_from-on-requires-clause-latest c =
-    let g = On c.args.key.now in
-    subst (λ j. IsLast g (belongs g) c.args.marked.now c.args.self.now.nodes.items j (length c.args.marked.now + 1))
-    (sym c.key_nodes-latest.ensures.on) (c.requires.index.latest_is g)
+    newest_told (On c.args.key.now) c.args.marked.now c.args.self.now _ c.requires.index c.key_nodes-latest.ensures.on
 
 pub first_from-on-requires-clause-settled : goal.first_from-on-requires-clause-settled
 first_from-on-requires-clause-settled c = none_on c.args.key.now c.args.settled c.args.marked.now c.requires.off

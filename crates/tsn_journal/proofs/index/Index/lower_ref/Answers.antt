@@ -1,12 +1,12 @@
-use Rattle.std.proofs.Common.{◌+◌, ◌∷◌, [], Option, option_map, refl, sym, subst, length}
+use Rattle.std.proofs.Common.{◌∷◌, [], Option, option_map, refl, sym, subst}
 use Rattle.tsn_types.specs.declared.keys.Key.{Key}
 use Rattle.tsn_journal.specs.declared.groups.Group.TheVariants.{RefersTo}
-use Rattle.tsn_journal.specs.Index.{IsLast, belongs, set_at}
+use Rattle.tsn_journal.specs.Index.{set_at}
 use Rattle.tsn_journal.specs.declared.index.Index.{Index}
 use Rattle.tsn_journal.specs.Latest.{latest_of}
 use Rattle.tsn_journal.specs.Newest.{MendsNewest}
 use Rattle.tsn_journal.proofs.Indexing.{reindexed}
-use Rattle.tsn_journal.proofs.Lowering.{index_lowered}
+use Rattle.tsn_journal.proofs.Lowering.{index_lowered, newest_told}
 use Rattle.tsn_journal.proofs.Newest.{mends_ref}
 use Rattle.tsn_journal.proofs.Off.{none_refers}
 use Rattle.tsn_journal.proofs.Rows.{set_refers}
@@ -14,9 +14,7 @@ use Rattle.tsn_journal.proofs.index.Index.lower_ref.Goals as goal
 
 pub first_from-refers-requires-clause-latest : goal.first_from-refers-requires-clause-latest
 first_from-refers-requires-clause-latest c =
-    let g = RefersTo c.in-Some.key in
-    subst (λ j. IsLast g (belongs g) c.args.marked.now c.args.self.now.nodes.items j (length c.args.marked.now + 1))
-    (sym c.key_nodes-latest.ensures.refers) (c.requires.index.latest_is g)
+    newest_told (RefersTo c.in-Some.key) c.args.marked.now c.args.self.now _ c.requires.index c.key_nodes-latest.ensures.refers
 
 pub first_from-refers-requires-clause-settled : goal.first_from-refers-requires-clause-settled
 first_from-refers-requires-clause-settled c = none_refers c.in-Some.key c.args.settled c.args.marked.now c.requires.off

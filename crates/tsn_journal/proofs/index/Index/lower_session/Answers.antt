@@ -1,9 +1,9 @@
-use Rattle.std.proofs.Common.{◌+◌, refl, sym, subst, length}
+use Rattle.std.proofs.Common.{refl}
 use Rattle.tsn_journal.specs.declared.groups.Group.TheVariants.{Of, EndsRedo}
-use Rattle.tsn_journal.specs.Index.{IsLast, belongs, set_at}
+use Rattle.tsn_journal.specs.Index.{set_at}
 use Rattle.tsn_journal.specs.Latest.{latest_of}
 use Rattle.tsn_journal.proofs.Indexing.{reindexed}
-use Rattle.tsn_journal.proofs.Lowering.{index_lowered}
+use Rattle.tsn_journal.proofs.Lowering.{index_lowered, newest_told}
 use Rattle.tsn_journal.proofs.Newest.{mends_two}
 use Rattle.tsn_journal.proofs.Off.{none_own}
 use Rattle.tsn_journal.proofs.Rows.{set_both}
@@ -11,15 +11,11 @@ use Rattle.tsn_journal.proofs.index.Index.lower_session.Goals as goal
 
 pub first_from-standing-requires-clause-latest : goal.first_from-standing-requires-clause-latest
 first_from-standing-requires-clause-latest c =
-    let g = Of c.args.session in
-    subst (λ j. IsLast g (belongs g) c.args.marked.now c.args.self.now.nodes.items j (length c.args.marked.now + 1))
-    (sym c.session_nodes-latest.ensures.standing) (c.requires.index.latest_is g)
+    newest_told (Of c.args.session) c.args.marked.now c.args.self.now _ c.requires.index c.session_nodes-latest.ensures.standing
 
 pub first_from-ends_redo-requires-clause-latest : goal.first_from-ends_redo-requires-clause-latest
 first_from-ends_redo-requires-clause-latest c =
-    let g = EndsRedo c.args.session in
-    subst (λ j. IsLast g (belongs g) c.args.marked.now c.args.self.now.nodes.items j (length c.args.marked.now + 1))
-    (sym c.session_nodes-latest.ensures.ends_redo) (c.requires.index.latest_is g)
+    newest_told (EndsRedo c.args.session) c.args.marked.now c.args.self.now _ c.requires.index c.session_nodes-latest.ensures.ends_redo
 
 pub returns-clause-index : goal.returns-clause-index
 returns-clause-index c =
