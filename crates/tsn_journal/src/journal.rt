@@ -284,6 +284,7 @@ impl Journal {
 
     /// The number of the latest later entry of any kind whose change is in conflict with that of the Undone entry of
     /// the number, if there is one. It takes no memory.
+    #[tactic(auto, using(crate::proofs::Conflicts::redo_conflict, crate::proofs::Telling::at_its_number))]
     pub fn find_redo_conflict(&self, number: u64) -> Option<u64>
         requires { IsSome (undone_entry self.now.entries number) }
         ensures { (u : Applied) → undone_entry self.now.entries number ≡ Some u

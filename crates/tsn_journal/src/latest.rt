@@ -118,6 +118,7 @@ impl Latest {
 
     /// Sets the row of the key. A key that has one takes no room, and one that has none takes a row of its
     /// kind.
+    #[tactic(auto, using(crate::proofs::Rows::port_put, crate::proofs::Rows::filter_put, crate::proofs::Rows::gate_put, crate::proofs::Rows::meter_put))]
     pub(crate) fn set_key(&mut self, key: Key, row: KeyNodes)
         requires { IsSome (key_row self.old key) ⊎ HasRows 1 self.old }
         ensures rows { (q : AnyKey) → key_row self.new q ≡ (if same_key q key then Some row else key_row self.old q) }
