@@ -27,10 +27,7 @@ pub(crate) fn latest<F: Fn(&MarkedEntry) -> bool>(marked: &[MarkedEntry], test: 
     ensures { (p : AnyEntry → Bool) → Tests F.Fn p test.now
         → result ≡ option_map (λ m. m.entry.number) (last_where p marked.now) }
 {
-    match last(marked, test) {
-        Some(found) => Some(found.entry.number),
-        None => None,
-    }
+    Some(last(marked, test)?.entry.number)
 }
 
 /// The place of the number among entries that are numbered from 1, if they have it.
@@ -89,10 +86,7 @@ pub(crate) fn conflict_after<F: Fn(&MarkedEntry) -> bool>(
 fn number_of(found: Option<&MarkedEntry>) -> Option<u64>
     ensures { result ≡ option_map (λ m. m.entry.number) (option_copied found.entry) }
 {
-    match found {
-        Some(found) => Some(found.entry.number),
-        None => None,
-    }
+    Some(found?.entry.number)
 }
 
 /// The number of the last entry of the group, whose newest node this is, of any session, or of others than the one
@@ -263,10 +257,7 @@ pub(crate) fn own_in_conflict(
     requires free { IsFreeAbove crossed marked.now }
     ensures { result ≡ newest_blocked session marked.now marked.now }
 {
-    match newest_blocked(index, marked, session, crossed) {
-        Some(found) => Some(found.entry.number),
-        None => None,
-    }
+    number_of(newest_blocked(index, marked, session, crossed))
 }
 
 /// The same entry itself.

@@ -177,10 +177,7 @@ impl Journal {
     pub fn last_of(&self, session: u32) -> Option<u64>
         ensures { result ≡ option_map (λ x. x.number) (last_of self.now.entries session) }
     {
-        match self.newest_of(session) {
-            Some(marked) => Some(marked.entry.number),
-            None => None,
-        }
+        Some(self.newest_of(session)?.entry.number)
     }
 
     /// The session's newest standing entry itself.
