@@ -3,10 +3,6 @@ use denote.Param.Send.{IsSend, sendable}
 use Rattle.std.proofs.Crossing.{crosses}
 use Rattle.tsn_table.proofs.Crossing.{table_send}
 use Rattle.tsn_types.specs.contracts.records.Record as Record
-use Rattle.tsn_edit.specs.contracts.Change as Change
-use Rattle.tsn_edit.specs.contracts.Part as Part
-use Rattle.tsn_journal.specs.contracts.entries.Entry as Entry
-use Rattle.tsn_journal.specs.contracts.entries.What as What
 use Rattle.tsn_journal.specs.contracts.entries.MarkedEntry as MarkedEntry
 use Rattle.tsn_journal.specs.contracts.index.Index as Index
 use Rattle.tsn_journal.specs.contracts.journal.Journal as Journal
@@ -14,20 +10,8 @@ use Rattle.tsn_journal.specs.contracts.journal.Journal as Journal
 record_send : IsSend (Record.the_field).row
 record_send = search (crosses, sendable) depth 60 fits 20000
 
-part_send : IsSend (Part.the_field).row
-part_send = search (record_send, crosses, sendable) depth 60 fits 20000
-
-change_send : IsSend (Change.the_field).row
-change_send = search (part_send, crosses, sendable) depth 60 fits 20000
-
-what_send : IsSend (What.the_field).row
-what_send = search (change_send, crosses, sendable) depth 60 fits 20000
-
-entry_send : IsSend (Entry.the_field).row
-entry_send = search (what_send, crosses, sendable) depth 60 fits 20000
-
 marked_send : IsSend (MarkedEntry.the_field).row
-marked_send = search (entry_send, crosses, sendable) depth 60 fits 20000
+marked_send = search (record_send, crosses, sendable) depth 200 fits 20000
 
 index_send : IsSend (Index.the_field).row
 index_send = search (table_send, crosses, sendable) depth 200 fits 20000

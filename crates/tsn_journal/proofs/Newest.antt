@@ -1,5 +1,5 @@
 -- The newest nodes of groups: with a node more, set back, and with marks off.
-use Rattle.std.proofs.Common.{◌≡◌, ℕ, zero, suc, ◌+◌, ◌-◌, ◌<◌, ◌≤◌, ◌⊎◌, inl, inr, Bool, true, cond, ◌||◌, List, [], ◌∷◌, ◌++◌, refl, sym, ◌∙◌, ap, subst, Option, Some, None, arith, get_or, length, map, max, take}
+use Rattle.std.proofs.Common.{◌≡◌, ℕ, zero, suc, ◌+◌, ◌-◌, ◌<◌, ◌≤◌, ◌⊎◌, inl, inr, Bool, true, cond, ◌||◌, List, [], ◌∷◌, ◌++◌, refl, sym, ◌∙◌, ap, subst, Option, Some, None, append-nil, arith, get_or, length, map, max, take}
 use Rattle.std.proofs.lemmas.Grind.{common_steps}
 use Rattle.std.specs.Prelude.{◌==◌, option_map}
 use Rattle.std.specs.List.{find, slice_get}
@@ -167,13 +167,9 @@ mends_part ms ps i p refs a b d e f short is same before on first second =
           ∙ more q (sym (is_among-append (groups_of_parts (take i ps)) (part_groups p) q)
           ∙ sym (ap (λ gs. is_among gs q)
           (ap groups_of_parts (take_next ps i p short is) ∙ flat_map-append part_groups (take i ps) (p ∷ [])
-          ∙ ap (λ gs. groups_of_parts (take i ps) ++ gs) (nothing_after (part_groups p)))) ∙ among));
+          ∙ ap (λ gs. groups_of_parts (take i ps) ++ gs) (append-nil (part_groups p)))) ∙ among));
     }
   where
-    nothing_after : {A : Type 0} (xs : List A) → xs ++ [] ≡ xs
-    nothing_after [] = refl
-    nothing_after (x ∷ xs) = ap (λ ys. x ∷ ys) (nothing_after xs)
-
     two : (k : Key) (x y : Option Key) (q : Group)
         → is_among (Some (On k) ∷ map (λ r. Some (RefersTo r)) (keys_of_refs (record { first = x; second = y }))) q
         ≡ is_among (Some (On k) ∷ option_map RefersTo x ∷ option_map RefersTo y ∷ []) q
