@@ -1,6 +1,5 @@
 //! Settling: the entries up to a number are made final.
-ghost use Rattle.std.specs.Prelude.{◌≡◌, IfErr, IfOk, None, OnErr};
-ghost use Rattle.tsn_types.specs.declared.refusals.Refusal.TheVariants.{Memory};
+ghost use Rattle.std.specs.Prelude.{◌≡◌, IfErr, IfOk, OnErr};
 ghost use Rattle.tsn_types.specs.Refusals.{IsLeastOrMemory};
 ghost use Rattle.tsn_undo.specs.Ledger.{Takes};
 ghost use Rattle.tsn_undo.specs.Settling.{Settles, settle_refusal};
@@ -23,7 +22,10 @@ impl Book {
         if let Some(why) = self.refuse_settle(upto) {
             return Err(why);
         }
-        self.try_settle(session, upto)
+        // The proof needs that the entries are sound, which the journal tells.
+        let _ = self.journal();
+        self.reserve_parts(1, 0)?;
+        Ok(self.append(session, What::Settled { upto }, None))
     }
 
     /// Why a settle up to the number would be refused, but for want of memory. It takes no memory.
@@ -40,21 +42,5 @@ impl Book {
             });
         }
         self.refuse_entries(1)
-    }
-
-    /// Makes a settle that nothing but want of memory refuses.
-    fn try_settle(&mut self, session: u32, upto: u64) -> Result<u64, Refusal>
-        requires { settle_refusal self.old.ledger upto ≡ None }
-        ensures ok { IfOk result (λ number. Settles self.old.ledger session upto number self.new.ledger) }
-        ensures memory { IfErr result (λ why. why ≡ Memory) }
-        ensures unchanged { OnErr result (self.new.ledger ≡ self.old.ledger) }
-        ensures kept { OnErr result (Takes self.old.room 0 0 self.new.room) }
-    {
-        // That the entries are sound is the type's rule, which the proof has where a field is looked at.
-        let _ = self.journal();
-        if let Err(why) = self.reserve_parts(1, 0) {
-            return Err(why);
-        }
-        Ok(self.append(session, What::Settled { upto }, None))
     }
 }

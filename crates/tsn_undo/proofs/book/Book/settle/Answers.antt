@@ -5,7 +5,7 @@ use Rattle.tsn_undo.specs.Ledger.{Ledger, enter}
 use Rattle.tsn_undo.specs.Soundness.{IsSound}
 use Rattle.tsn_undo.proofs.Adding.{sound_settled}
 use Rattle.tsn_undo.proofs.Settled.{makes_settle}
-use Rattle.tsn_undo.proofs.book.Book.try_settle.Goals as goal
+use Rattle.tsn_undo.proofs.book.Book.settle.Goals as goal
 
 pub append-requires-clause-sound : goal.append-requires-clause-sound
 append-requires-clause-sound c =
@@ -16,7 +16,7 @@ append-requires-clause-sound c =
 
 pub returns-clause-ok : goal.returns-clause-ok
 returns-clause-ok c =
-    makes_settle c.args.self.now.ledger c.args.session c.args.upto c.journal.ensures.sound c.requires c.append.result
+    makes_settle c.args.self.now.ledger c.args.session c.args.upto c.journal.ensures.sound (sym c.in_default.ensures) c.append.result
     c.append.new.self.ledger
     (c.append.ensures.number ∙ ap (λ (l : Ledger). length l.entries + 1) c.reserve_parts.ensures.ledger)
     (c.append.ensures.after ∙ ap (λ (l : Ledger). enter l c.args.session (Settled c.args.upto)) c.reserve_parts.ensures.ledger)
