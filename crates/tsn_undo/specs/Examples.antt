@@ -6,6 +6,7 @@ use Rattle.tsn_types.specs.declared.keys.Key.{Key}
 use Rattle.tsn_types.specs.declared.keys.Key.TheVariants.{Filter, Gate, Meter}
 use Rattle.tsn_types.specs.declared.records.Record.{Record}
 use Rattle.tsn_types.specs.declared.records.Record.TheVariants.{Filter as FilterRecord, Gate as GateRecord, Meter as MeterRecord}
+use Rattle.tsn_types.specs.Examples.{gate_with}
 use Rattle.tsn_edit.specs.Parts.{Change}
 use Rattle.tsn_journal.specs.declared.entries.Entry.{Entry}
 use Rattle.tsn_journal.specs.declared.entries.What.TheVariants.{Made, Settled}
@@ -13,13 +14,7 @@ use Rattle.tsn_journal.specs.Entries.{Applied, undone, with_entry}
 
 -- an open gate with an empty list
 abbrev pub gate : Record
-gate = GateRecord (record {
-  is_open = true;
-  ipv = None;
-  invalid_rx = false;
-  octets_exceeded = false;
-  admin = record { list = []; cycle = 1000000; extension = 0; base = 0 };
-})
+gate = GateRecord (gate_with true false [] 1000000)
 
 -- a filter of stream handle 7 on a gate, with no meter
 abbrev pub filter : ℕ → Record
