@@ -178,9 +178,7 @@ impl Book {
         ensures room { Takes self.old.room 1 0 self.new.room }
         ensures enough { 1 ≤ self.old.room.entries → IsOk result }
     {
-        if let Err(why) = self.journal.reserve(1, 0) {
-            return Err(why);
-        }
+        self.journal.reserve(1, 0)?;
         Ok(self.enter_act(session, act, key, now))
     }
 
@@ -270,12 +268,10 @@ impl Book {
         ensures unchanged { OnErr result (self.new.ledger ≡ self.old.ledger) }
         ensures kept { OnErr result (Takes self.old.room 0 0 self.new.room) }
     {
-        // That the entries are sound is the type's rule, which the proof has where a field is looked at.
-        let _ = &self.journal;
+        // The proof needs that the entries are sound, which the journal tells.
+        let _ = self.journal();
         let back = self.taking_back(of)?;
-        if let Err(why) = self.reserve_parts(1, back.applied.parts().len()) {
-            return Err(why);
-        }
+        self.reserve_parts(1, back.applied.parts().len())?;
         Ok(self.enter_undone(session, back))
     }
 
@@ -335,8 +331,8 @@ impl Book {
         ensures map { present self.new.ledger ≡ present self.old.ledger }
         ensures room { Takes self.old.room 1 0 self.new.room }
     {
-        // That the entries are sound is the type's rule, which the proof has where a field is looked at.
-        let _ = &self.journal;
+        // The proof needs that the entries are sound, which the journal tells.
+        let _ = self.journal();
         self.append(session, What::Acted { act, key, now }, None)
     }
 

@@ -96,16 +96,14 @@ impl Book {
         ensures unchanged { OnErr result (self.new.ledger ≡ self.old.ledger) }
         ensures kept { OnErr result (Takes self.old.room 0 0 self.new.room) }
     {
-        // That the entries are sound is the type's rule, which the proof has where a field is looked at.
-        let _ = &self.journal;
+        // The proof needs that the entries are sound, which the journal tells.
+        let _ = self.journal();
         let TakingBack {
             of,
             entered,
             applied,
         } = self.taking_back(of)?;
-        if let Err(why) = self.reserve_parts(1, applied.parts().len()) {
-            return Err(why);
-        }
+        self.reserve_parts(1, applied.parts().len())?;
         Ok(self.append(
             session,
             What::Redone {

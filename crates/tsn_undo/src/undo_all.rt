@@ -99,13 +99,11 @@ impl Book {
         ensures unchanged { OnErr result (self.new.ledger ≡ self.old.ledger) }
         ensures kept { OnErr result (Takes self.old.room 0 0 self.new.room) }
     {
-        // That the entries are sound is the type's rule, which the proof has where a field is looked at.
-        let _ = &self.journal;
+        // The proof needs that the entries are sound, which the journal tells.
+        let _ = self.journal();
         let backs = self.takings_back(session)?;
         let count = backs.len();
-        if let Err(why) = self.reserve_parts(count, parts_of(&backs)) {
-            return Err(why);
-        }
+        self.reserve_parts(count, parts_of(&backs))?;
         self.enter_all_undone(session, backs);
         Ok((count as u64, self.journal().len() as u64))
     }
@@ -146,8 +144,8 @@ impl Book {
         ensures all { all_undone self.new.ledger session ≡ all_undone self.old.ledger session }
         ensures room { Takes self.old.room 1 (room_of back.applied) self.new.room }
     {
-        // That the entries are sound is the type's rule, which the proof has where a field is looked at.
-        let _ = &self.journal;
+        // The proof needs that the entries are sound, which the journal tells.
+        let _ = self.journal();
         let _ = rest;
         self.enter_undone(session, back);
     }

@@ -1,16 +1,15 @@
-use Rattle.std.proofs.Common.{refl, ◌∙◌, ap, subst}
+use Rattle.std.proofs.Common.{refl, ◌∙◌, ap}
 use Rattle.tsn_edit.specs.Runs.{run}
 use Rattle.tsn_journal.specs.declared.entries.What.TheVariants.{Acted}
-use Rattle.tsn_undo.specs.Ledger.{LedgerWithRoom, present}
+use Rattle.tsn_undo.specs.Ledger.{present}
 use Rattle.tsn_undo.proofs.Adding.{nothing_push, sound_quiet}
-use Rattle.tsn_undo.proofs.Making.{SoundLedger}
 use Rattle.tsn_undo.proofs.book.Book.enter_act.Goals as goal
 
 pub append-requires-clause-sound : goal.append-requires-clause-sound
 append-requires-clause-sound c =
     let b = c.args.self.now.ledger in
-    let sound : SoundLedger b = subst (λ (a : LedgerWithRoom). SoundLedger a.ledger) c.self.view_is c.self.invariant.sound in
-    sound_quiet b.limits b.opening b.entries c.args.session (Acted c.args.act c.args.key c.args.now) sound tt (λ n. refl) refl refl
+    sound_quiet b.limits b.opening b.entries c.args.session (Acted c.args.act c.args.key c.args.now) c.journal.ensures.sound tt
+    (λ n. refl) refl refl
 
 pub returns-clause-map : goal.returns-clause-map
 returns-clause-map c =

@@ -4,9 +4,8 @@ use Rattle.std.specs.Prelude.{◌==◌}
 use Rattle.tsn_journal.specs.Entries.{Applied, standing}
 use Rattle.tsn_journal.specs.Finding.{own_standing}
 use Rattle.tsn_undo.specs.Commuting.{IsClosed}
-use Rattle.tsn_undo.specs.Ledger.{Ledger, LedgerWithRoom}
+use Rattle.tsn_undo.specs.Ledger.{Ledger}
 use Rattle.tsn_undo.specs.UndoAll.{taking_back, with_undone}
-use Rattle.tsn_undo.proofs.Making.{SoundLedger}
 use Rattle.tsn_undo.proofs.Room.{few_own}
 use Rattle.tsn_undo.proofs.UndoAll.{free_of_all, makes_all, own_closed}
 use Rattle.tsn_undo.proofs.book.Book.try_undo_all.Goals as goal
@@ -27,16 +26,14 @@ pub enter_all_undone-requires-clause-closed : goal.enter_all_undone-requires-cla
 enter_all_undone-requires-clause-closed c =
     let b = c.args.self.now.ledger in
     let s = c.args.session in
-    let sound : SoundLedger b = subst (λ (a : LedgerWithRoom). SoundLedger a.ledger) c.self.view_is c.self.invariant.sound in
     subst (λ (l : Ledger). IsClosed (λ (x : Applied). x.session == s) (standing l.entries)) (sym c.reserve_parts.ensures.ledger)
-    (own_closed b.entries s sound.numbered (free_of_all b s c.requires).none)
+    (own_closed b.entries s c.journal.ensures.sound.numbered (free_of_all b s c.requires).none)
 
 pub returns-clause-ok : goal.returns-clause-ok
 returns-clause-ok c =
     let b = c.args.self.now.ledger in
     let s = c.args.session in
     let own = own_standing b.entries s in
-    let sound : SoundLedger b = subst (λ (a : LedgerWithRoom). SoundLedger a.ledger) c.self.view_is c.self.invariant.sound in
     let after = c.enter_all_undone.ensures ∙ ap (λ (l : Ledger). record l { entries = with_undone l.entries s (own_standing l.entries s) })
     c.reserve_parts.ensures.ledger in
     let counted : c.len-count.result ≡ length own = omega (
@@ -46,5 +43,5 @@ returns-clause-ok c =
       c.deref.ensures.len,
       c.len-count.ensures,
     ) in
-    makes_all b s sound c.requires c.len-count.result c.len.result c.enter_all_undone.new.self.ledger counted
-    (c.len.ensures.number ∙ ap length (c.journal.ensures.entries ∙ ap (λ (l : Ledger). l.entries) after)) after
+    makes_all b s c.journal.ensures.sound c.requires c.len-count.result c.len.result c.enter_all_undone.new.self.ledger counted
+    (c.len.ensures.number ∙ ap length (c.journal-2.ensures.entries ∙ ap (λ (l : Ledger). l.entries) after)) after
