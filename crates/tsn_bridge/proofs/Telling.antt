@@ -1,5 +1,5 @@
 -- What the runtime tells of a key, for whatever acts its runner stands, is what the key's acts in the journal say.
-use Rattle.std.proofs.Common.{◌≡◌, ◌≤◌, ◌<◌, ℕ, true, refl, sym, ◌∙◌, ap, subst, [], ◌∷◌, ◌++◌, Option, Some, None}
+use Rattle.std.proofs.Common.{◌≡◌, ◌≤◌, ◌<◌, ℕ, Bool, true, false, refl, sym, ◌∙◌, ap, subst, [], ◌∷◌, ◌++◌, Option, Some, None}
 use Rattle.std.specs.Prelude.{Err, IsSome, MatchResult, Ok, Result, is_some, option_map, unwrap_or}
 use Rattle.std.specs.FinMap.{get}
 use Rattle.std.specs.Option.{option_or}
@@ -21,14 +21,13 @@ use Rattle.tsn_chain.specs.declared.state.Counters.{Counters}
 use Rattle.tsn_chain.specs.declared.state.Counters.TheVariants as counters
 use Rattle.tsn_chain.specs.declared.state.State.{State as Shown}
 use Rattle.tsn_chain.specs.Acts.{HasList, KeyRefuses, KeyStates}
-use Rattle.tsn_chain.specs.Counters.{KeyCounts, gate_counters}
-use Rattle.tsn_chain.specs.Instances.{HasData, HasRunner, Instances}
+use Rattle.tsn_chain.specs.Counters.{KeyCounts, gate_counters, list_counters}
+use Rattle.tsn_chain.specs.Instances.{FrameData, HasData, HasRunner, Instances}
 use Rattle.tsn_undo.specs.Ledger.{Ledger, present}
 use Rattle.tsn_bridge.specs.Acts.{act_causes, enabled_at, has_entry, has_list, says_enabled}
 use Rattle.tsn_bridge.specs.Kept.{IsTied}
 use Rattle.tsn_bridge.specs.Looking.{counted_at, last_at, shown_at}
 use Rattle.tsn_bridge.specs.Objects.{gate_at, port_at}
-use Rattle.tsn_bridge.specs.Pair.{PairState}
 
 -- what stands at a place that is not empty
 pub held : {A : Type 0} (o : Option A) → IsSome o → (x : A) × (o ≡ Some x)
@@ -105,23 +104,21 @@ module _ (b : Ledger) (t : Instances) (h : IsTied b t.runners t.frames) where
   counted_told (Meter m) now told there is =
       let d = held (get t.frames.meters m) there in ap Some (is d.0 d.1) ∙ sym (ap (option_map (λ x. counters.Meter x.red)) d.1)
 
-  pub enabled_told : (key : Key) (now : ℕ) (told : Counters) → HasData t.runners t.frames key → KeyCounts t.runners t.frames now key told
-      → says_enabled told ≡ enabled_at b key
-  enabled_told (Port m) now told there is =
-      let r = held (get t.runners.ports m) there in ap says_enabled (is r.0 r.1 (port_at b m).acts (h.runs.ports m r.0 r.1))
-  enabled_told (Filter m) now told there is = let d = held (get t.frames.filters m) there in ap says_enabled (is d.0 d.1)
-  enabled_told (Gate m) now told there is =
-      let r = held (get t.runners.gates m) there.0 in
-      let d = held (get t.frames.gates m) there.1 in
-      ap says_enabled (is d.0 d.1 r.0 r.1 (gate_at b m).acts (h.runs.gates m r.0 r.1))
-  enabled_told (Meter m) now told there is = let d = held (get t.frames.meters m) there in ap says_enabled (is d.0 d.1)
+-- what is told of a value that is there says whether the key is enabled
+told_enabled : {A : Type 0} (f : A → Counters) (o : Option A) (told : Counters) (b : Bool) → option_map f o ≡ Some told
+    → ((x : A) → says_enabled (f x) ≡ b) → says_enabled told ≡ b
+told_enabled f None told b is each = (cc)
+told_enabled f (Some x) told b is each = let same : f x ≡ told = (cc) in sym (ap says_enabled same) ∙ each x
 
-  -- the same, of the pair that is seen
-  pub enabled_of : (p : PairState) (key : Key) (told : Counters) → b ≡ p.ledger → is_some (get (present p.ledger) key) ≡ true
-      → KeyCounts t.runners t.frames t.time key told → says_enabled told ≡ enabled_at p.ledger key
-  enabled_of p key told view there counts =
-      enabled_told key t.time told (data_of key (ap (λ (c : Ledger). is_some (get (present c) key)) view ∙ there)) counts
-      ∙ ap (λ (c : Ledger). enabled_at c key) view
+-- the counters of a key say whether its acts leave it enabled
+pub enabled_told : (b : Ledger) (f : FrameData) (now : ℕ) (key : Key) (told : Counters) → counted_at b f now key ≡ Some told
+    → says_enabled told ≡ enabled_at b key
+enabled_told b f now (Port m) told is =
+    let same : counters.Port (list_counters now (port_at b m).acts) ≡ told = (cc) in sym (ap says_enabled same)
+enabled_told b f now (Filter m) told is = told_enabled (λ d. counters.Filter d) (get f.filters m) told false is (λ d. refl)
+enabled_told b f now (Gate m) told is =
+    told_enabled (λ d. gate_counters now d (gate_at b m).acts) (get f.gates m) told (enabled_at b (Gate m)) is (λ d. refl)
+enabled_told b f now (Meter m) told is = told_enabled (λ d. counters.Meter d.red) (get f.meters m) told false is (λ d. refl)
 
 -- the record of a key that has a list, in a well kept configuration
 record_of : (b : Ledger) (key : Key) (r : Record) → has_list key ≡ true → HoldsRecord b.limits key r → HasList key (Some r)

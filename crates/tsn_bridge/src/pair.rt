@@ -278,14 +278,15 @@ impl Pair {
 
     // Why an apply is refused but for the journal: the key's acts leave it disabled (14), or its record's list is empty
     // (15).
+    #[tactic(auto, using(crate::proofs::Telling::enabled_told))]
     fn refuse_apply(&self, key: &Key) -> Option<Refusal>
         requires { IsSome (map.get (present self.now.ledger) key.now) }
         ensures { result ≡ first_cause (apply_causes self.now.ledger key.now) }
     {
-        if !is_enabled(self.runtime.counters(*key)) {
+        if !is_enabled(self.counters(key)) {
             return Some(Refusal::NotEnabled);
         }
-        if !has_entry(self.book.config().get(*key)) {
+        if !has_entry(self.book().config().get(*key)) {
             return Some(Refusal::EmptyList);
         }
         None
