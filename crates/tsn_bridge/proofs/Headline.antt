@@ -37,7 +37,7 @@ use Rattle.tsn_bridge.specs.declared.reply.Reply.{Reply}
 use Rattle.tsn_bridge.specs.declared.reply.Reply.TheVariants.{Acted, Entry, EntryOf, Refused, States, TakenBack}
 use Rattle.tsn_bridge.specs.Acts.{apply_change, apply_rule, has_entry, instant}
 use Rattle.tsn_bridge.specs.Edits.{edit_rule, next, undo_rule}
-use Rattle.tsn_bridge.specs.Headline.{AtOnceUndone, EditsLast, GateRestored, GateRuns, OthersAlone, OthersLeft, PortRestored, PortRuns, PutsAllBack, PutsBack, RestoredList}
+use Rattle.tsn_bridge.specs.Headline.{AtOnceUndone, EditsLast, GateRestored, GateRuns, ListRuns, OthersAlone, OthersLeft, PortRestored, PortRuns, PutsAllBack, PutsBack, RestoredList}
 use Rattle.tsn_bridge.specs.Families.{Editing, Family, family}
 use Rattle.tsn_bridge.specs.Histories.{CommandInRange, StateIsSound, edits_of, batch_of}
 use Rattle.tsn_bridge.specs.Machine.{Step}
@@ -74,23 +74,21 @@ module _ (before between : State) (session : ℕ) (command : Command) (entry : �
       let on = (follow last.asks last.edited between sound_edited last.in_range last.leads).later in
       λ i. record { limits = on.limits i; opening = on.opening i; entries = last.none_since i }
 
-  undone_edit : (after : State) (number of : ℕ) → Allows (undo_rule between session) between (EntryOf number of) after
-      → (of ≡ entry) × (present after.book ≡ present before.book)
-  undone_edit after number of back =
-      let fine = edits_in_range command last.batch last.asks_for last.ranges in
-      undone_at_once before last.edited between session last.batch entry fine.0 fine.1 sound
-      (made_by before last.edited session command last.batch entry last.asks_for last.step) same_book after number of back
+  made : Allows (edit_rule before session last.batch) before (Entry entry) last.edited
+  made = made_by before last.edited session command last.batch entry last.asks_for last.step
+
+  fine : IsBatch last.batch × EditsInRange last.batch
+  fine = edits_in_range command last.batch last.asks_for last.ranges
+
+  sessions_on : last.edited.sessions ≤ between.sessions
+  sessions_on = (follow last.asks last.edited between sound_edited last.in_range last.leads).later.sessions
 
   -- what is said of the batch of the edit and the undo after it
   module _ (after : State) where
-    sessions_on : last.edited.sessions ≤ between.sessions
-    sessions_on = (follow last.asks last.edited between sound_edited last.in_range last.leads).later.sessions
-
-    made : Allows (edit_rule before session last.batch) before (Entry entry) last.edited
-    made = made_by before last.edited session command last.batch entry last.asks_for last.step
-
-    fine : IsBatch last.batch × EditsInRange last.batch
-    fine = edits_in_range command last.batch last.asks_for last.ranges
+    undone_edit : (number of : ℕ) → Allows (undo_rule between session) between (EntryOf number of) after
+        → (of ≡ entry) × (present after.book ≡ present before.book)
+    undone_edit number of back =
+        undone_at_once before last.edited between session last.batch entry fine.0 fine.1 sound made same_book after number of back
 
     free_edit : (why : Refusal) → Allows (undo_rule between session) between (Refused why) after → (why ≡ JournalFull) ⊎ (why ≡ Memory)
     free_edit why back =
@@ -191,12 +189,7 @@ module _ {E : Type 0} (admin : Option Record → Option (Schedule E)) (interval 
     (a : Schedule E) (list : IsListOf admin interval shows k r a) (s : State) (sound : StateIsSound s)
     (is : get (present s.book) k ≡ Some r) (tells : (x : ℕ) → apply_change (Some r) x ≡ Some (change_of a.base a.cycle x))
     (some : has_entry (Some r) ≡ has_entries a.list) where
-  list_runs : (applied : State) (session now entry at : ℕ) (change : Option ℕ)
-      → Step s session (commands.Apply k now) (Acted change entry at) applied → a.base ≤ at
-      → (change ≡ Some (change_of a.base a.cycle at))
-      × ((later : State) (asker t : ℕ) (reply : Reply) → SinceQuiet k applied later → change_of a.base a.cycle at ≤ t
-      → is_given later asker ≡ true → Step later asker (commands.States k t) reply later
-      → (e : E) × (entry_at interval a.list ((t - a.base) % a.cycle) ≡ Some e) × (reply ≡ States (shows e)))
+  list_runs : ListRuns interval shows s k a
   list_runs applied session now entry at change step past =
       let done = applied_is s applied session k now entry at change step in
       let at_is = done.counted in (
@@ -225,9 +218,6 @@ gate_runs s m g sound is =
     list_runs _ _ _ _ _ _ (gate_list m g ((kept_now s.book sound).in_range (Gate m) (records.Gate g) is).admin.cycle.0) s sound is
     (λ x. refl) refl
 
-same_entry : (x y : Applied) → Some x ≡ Some y → x ≡ y
-same_entry x y e = (cc)
-
 -- the record that an undo put back stands
 put_back : (s undone : State) (k : Key) (r : Record) → StateIsSound s → PutsBack s undone k r → get (present undone.book) k ≡ Some r
 unfolding part_on
@@ -235,7 +225,7 @@ put_back s undone k r sound back =
     let taken = taken_map s undone back.session back.number back.of back.step in
     let x = taken.0 in
     let found = standing_found s.book.entries (λ (y : Applied). y.session == back.session) x sound.numbered taken.1 in
-    let same : x ≡ back.entry = same_entry x back.entry (sym found ∙ ap (standing_entry s.book.entries) (sym taken.2) ∙ back.entry_is) in
+    let same : x ≡ back.entry = done_of x back.entry (sym found ∙ ap (standing_entry s.book.entries) (sym taken.2) ∙ back.entry_is) in
     let map : present undone.book ≡ restored (present s.book) back.entry.change = taken.3
     ∙ ap (λ (y : Applied). restored (present s.book) y.change) same in
     ap (λ (c : Configuration). get c k) map

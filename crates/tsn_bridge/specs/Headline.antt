@@ -8,6 +8,7 @@ use Rattle.tsn_types.specs.declared.records.PortEntry.{PortEntry}
 use Rattle.tsn_types.specs.declared.records.PortGates.{PortGates}
 use Rattle.tsn_types.specs.declared.records.Record.{Record}
 use Rattle.tsn_types.specs.declared.records.Record.TheVariants as records
+use Rattle.tsn_types.specs.declared.records.Schedule.{Schedule}
 use Rattle.tsn_types.specs.declared.records.StreamGate.{StreamGate}
 use Rattle.tsn_types.specs.declared.refusals.Refusal.{Refusal}
 use Rattle.tsn_types.specs.declared.refusals.Refusal.TheVariants.{Conflict, JournalFull, Memory, NoSession, NothingToUndo}
@@ -20,6 +21,7 @@ use Rattle.tsn_schedule.specs.Times.{change_of}
 use Rattle.tsn_journal.specs.declared.entries.Entry.{Entry as AnyEntry}
 use Rattle.tsn_journal.specs.Entries.{Applied, changes, no_room, standing}
 use Rattle.tsn_journal.specs.Finding.{last_of, others_standing, own_standing, standing_entry}
+use Rattle.tsn_chain.specs.declared.state.State.{State as Shown}
 use Rattle.tsn_chain.specs.declared.state.State.TheVariants as states
 use Rattle.tsn_undo.specs.Commuting.{first_on}
 use Rattle.tsn_undo.specs.Ledger.{base_of, present}
@@ -127,32 +129,25 @@ OthersLeft before =
 
 -- ---- a list that an undo restored, once applied with its base past, gives its states at every later instant
 
--- The list of a port's record, once it is applied with its base not after the instant that counted, runs as if it had run
--- since its base. The apply tells the change time; and at each instant from then on, until the next act on the port's list,
--- the states are told, to any session that was given out, and are those of the entry at the time since the base, counted
--- round the cycle.
-abbrev pub PortRuns : State → ℕ → PortGates → Type 0
-PortRuns ready port p =
+-- The list of a port's or a stream gate's record, once it is applied with its base not after the instant that counted, runs as if it
+-- had run since its base. The apply tells the change time; and at each instant from then on, until the next act on the key's list,
+-- the states are told, to any session that was given out, and are those of the entry at the time since the base, counted round the
+-- cycle.
+abbrev pub ListRuns : {E : Type 0} → (E → ℕ) → (E → Shown) → State → Key → Schedule E → Type 0
+ListRuns {E} interval shows ready key admin =
     (applied : State) (session now entry at : ℕ) (told : Option ℕ)
-    → Step ready session (commands.Apply (Port port) now) (Acted told entry at) applied → p.admin.base ≤ at
-    → (told ≡ Some (change_of p.admin.base p.admin.cycle at))
+    → Step ready session (commands.Apply key now) (Acted told entry at) applied → admin.base ≤ at
+    → (told ≡ Some (change_of admin.base admin.cycle at))
     × ((later : State) (asker t : ℕ) (reply : Reply)
-    → SinceQuiet (Port port) applied later → change_of p.admin.base p.admin.cycle at ≤ t → is_given later asker ≡ true
-    → Step later asker (commands.States (Port port) t) reply later
-    → (e : PortEntry) × (entry_at (λ (y : PortEntry). y.interval) p.admin.list ((t - p.admin.base) % p.admin.cycle) ≡ Some e)
-    × (reply ≡ States (states.Port e.gates)))
+    → SinceQuiet key applied later → change_of admin.base admin.cycle at ≤ t → is_given later asker ≡ true
+    → Step later asker (commands.States key t) reply later
+    → (e : E) × (entry_at interval admin.list ((t - admin.base) % admin.cycle) ≡ Some e) × (reply ≡ States (shows e)))
 
--- the list of a stream gate's record likewise
+abbrev pub PortRuns : State → ℕ → PortGates → Type 0
+PortRuns ready port p = ListRuns (λ (e : PortEntry). e.interval) (λ (e : PortEntry). states.Port e.gates) ready (Port port) p.admin
+
 abbrev pub GateRuns : State → ℕ → StreamGate → Type 0
-GateRuns ready gate g =
-    (applied : State) (session now entry at : ℕ) (told : Option ℕ)
-    → Step ready session (commands.Apply (Gate gate) now) (Acted told entry at) applied → g.admin.base ≤ at
-    → (told ≡ Some (change_of g.admin.base g.admin.cycle at))
-    × ((later : State) (asker t : ℕ) (reply : Reply)
-    → SinceQuiet (Gate gate) applied later → change_of g.admin.base g.admin.cycle at ≤ t → is_given later asker ≡ true
-    → Step later asker (commands.States (Gate gate) t) reply later
-    → (e : GateEntry) × (entry_at (λ (y : GateEntry). y.interval) g.admin.list ((t - g.admin.base) % g.admin.cycle) ≡ Some e)
-    × (reply ≡ States (states.Gate e.is_open e.ipv)))
+GateRuns ready gate g = ListRuns (λ (e : GateEntry). e.interval) (λ (e : GateEntry). states.Gate e.is_open e.ipv) ready (Gate gate) g.admin
 
 -- an undo that was answered with an entry, and took back one before which the key had this record
 pub record PutsBack (before undone : State) (k : Key) (r : Record) : Type 0 where
@@ -178,17 +173,17 @@ pub record PutsAllBack (before undone : State) (k : Key) (r : Record) : Type 0 w
   pub stood : part.before ≡ Some r
 
 -- the record stands at its key; and wherever asks lead from there, while it stands its list runs so
-abbrev pub PortRestored : State → ℕ → PortGates → Type 0
-PortRestored undone port p =
-    (get (present undone.book) (Port port) ≡ Some (records.Port p))
+abbrev pub IsRestored : State → Key → Record → (State → Type 0) → Type 0
+IsRestored undone k r Runs =
+    (get (present undone.book) k ≡ Some r)
     × ((asks : List Answered) (ready : State) → AreInRange asks → Leads undone asks ready
-    → get (present ready.book) (Port port) ≡ Some (records.Port p) → PortRuns ready port p)
+    → get (present ready.book) k ≡ Some r → Runs ready)
+
+abbrev pub PortRestored : State → ℕ → PortGates → Type 0
+PortRestored undone port p = IsRestored undone (Port port) (records.Port p) (λ ready. PortRuns ready port p)
 
 abbrev pub GateRestored : State → ℕ → StreamGate → Type 0
-GateRestored undone gate g =
-    (get (present undone.book) (Gate gate) ≡ Some (records.Gate g))
-    × ((asks : List Answered) (ready : State) → AreInRange asks → Leads undone asks ready
-    → get (present ready.book) (Gate gate) ≡ Some (records.Gate g) → GateRuns ready gate g)
+GateRestored undone gate g = IsRestored undone (Gate gate) (records.Gate g) (λ ready. GateRuns ready gate g)
 
 -- so it is after an undo that put the record back, and after an undo of all that did
 pub record RestoredList (before : State) : Type 0 where
