@@ -1,5 +1,5 @@
 -- Every step leaves a whole state whole, and leads to a later one.
-use Rattle.std.proofs.Common.{◌≡◌, ℕ, true, ◌+◌, ◌≤◌, List, [], ◌∷◌, ◌++◌, refl, sym, ◌∙◌, ap, subst, Option, Some, None, arith, length, append_assoc}
+use Rattle.std.proofs.Common.{◌≡◌, ℕ, ◌+◌, ◌≤◌, List, [], ◌∷◌, ◌++◌, refl, sym, ◌∙◌, ap, subst, Option, Some, None, arith, length, append_assoc}
 use Rattle.std.specs.Prelude.{is_some, option_map}
 use Rattle.std.specs.List.{AllByRecursion}
 use Rattle.std.specs.FinMap.{get}
@@ -11,13 +11,10 @@ use Rattle.tsn_types.specs.declared.records.Record.{Record}
 use Rattle.tsn_types.specs.declared.records.Record.TheVariants as records
 use Rattle.tsn_types.specs.declared.records.StreamFilter.{StreamFilter}
 use Rattle.tsn_types.specs.declared.records.StreamGate.{StreamGate}
-use Rattle.tsn_types.specs.Keys.{has, meter_ref, refs, same_key}
-use Rattle.std.proofs.lemmas.Bool.{or_left, or_right}
 use Rattle.tsn_edit.specs.Changes.{Fits, after_change}
 use Rattle.tsn_edit.specs.Configuration.{Configuration, IsWellKept}
 use Rattle.tsn_edit.specs.Parts.{Change, inverse}
 use Rattle.tsn_edit.specs.Runs.{run}
-use Rattle.tsn_edit.proofs.KeyFacts.{same_itself}
 use Rattle.tsn_config.specs.Kinds.{filter_of, gate_of}
 use Rattle.tsn_config.specs.Opening.{dangling_cause, limits_cause, opening, repeated_key}
 use Rattle.tsn_config.proofs.OpeningKept.{opening_kept}
@@ -43,6 +40,7 @@ use Rattle.tsn_chain.specs.Chosen.{chosen, filters_of}
 use Rattle.tsn_chain.specs.Frames.{GateActs, framed_at, framed_by, met_at, meter_at, state_at, with_met}
 use Rattle.tsn_chain.specs.Instances.{FrameData, HasFrameKeys}
 use Rattle.tsn_chain.proofs.FirstRows.{begun_keys}
+use Rattle.tsn_chain.proofs.Framing.{refers_to_gate, refers_to_meter}
 use Rattle.tsn_chain.proofs.Keys.{keys_fit, met_keys}
 use Rattle.tsn_bridge.specs.declared.command.Command.{Command}
 use Rattle.tsn_bridge.specs.declared.reply.Reply.{Reply}
@@ -130,13 +128,6 @@ is_filter (Some (records.Port r)) q e = (cc)
 is_filter (Some (records.Filter r)) q e = let same : r ≡ q = (cc) in ap (λ x. Some (records.Filter x)) same
 is_filter (Some (records.Gate r)) q e = (cc)
 is_filter (Some (records.Meter r)) q e = (cc)
-
-refers_to_gate : (q : StreamFilter) → has (refs (records.Filter q)) (Gate q.gate) ≡ true
-refers_to_gate q = or_left (same_key (Gate q.gate) (Gate q.gate)) _ (same_itself (Gate q.gate))
-
-refers_to_meter : (q : StreamFilter) (m : ℕ) → q.meter ≡ Some m → has (refs (records.Filter q)) (Meter m) ≡ true
-refers_to_meter q m is = ap (λ o. has (Gate q.gate ∷ meter_ref o) (Meter m)) is
-    ∙ or_right (same_key (Meter m) (Gate q.gate)) _ (or_left (same_key (Meter m) (Meter m)) _ (same_itself (Meter m)))
 
 module _ (l : Limits) (c : Configuration) (f : FrameData) (acts : GateActs) (frame : Frame) (time : ℕ) (kept : IsWellKept l c)
     (h : HasFrameKeys f c) where

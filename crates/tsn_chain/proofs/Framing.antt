@@ -46,10 +46,10 @@ gate_there l n (Some (records.Filter r)) there held = absurd (held (records.Filt
 gate_there l n (Some (records.Gate r)) there held = (r, refl)
 gate_there l n (Some (records.Meter r)) there held = absurd (held (records.Meter r) refl)
 
-refers_to_gate : (q : StreamFilter) → has (refs (records.Filter q)) (Gate q.gate) ≡ true
+pub refers_to_gate : (q : StreamFilter) → has (refs (records.Filter q)) (Gate q.gate) ≡ true
 refers_to_gate q = or_left (same_key (Gate q.gate) (Gate q.gate)) _ (same_itself (Gate q.gate))
 
-refers_to_meter : (q : StreamFilter) (m : ℕ) → q.meter ≡ Some m → has (refs (records.Filter q)) (Meter m) ≡ true
+pub refers_to_meter : (q : StreamFilter) (m : ℕ) → q.meter ≡ Some m → has (refs (records.Filter q)) (Meter m) ≡ true
 refers_to_meter q m is = ap (λ o. has (Gate q.gate ∷ meter_ref o) (Meter m)) is
     ∙ or_right (same_key (Meter m) (Gate q.gate)) _ (or_left (same_key (Meter m) (Meter m)) _ (same_itself (Meter m)))
 
