@@ -3,18 +3,17 @@ use Rattle.std.proofs.Common.{◌≡◌, ◌∙◌, ℕ, Bool, true, false, cond
 use Rattle.std.specs.Cmp.{nat_cmp_total}
 use Rattle.std.specs.Ordering.{nat_cmp, eq_by_cmp}
 use Rattle.std.specs.Prelude.{max, option_map}
-use Rattle.std.specs.FinMap.{FinMap, empty, entries, entries-from_sorted, entries-insert, from_entries, from_sorted, same_map, get-from_sorted, nat_cmp-IsAntisymmetric, get, get-empty, get-from_entries, get-insert, get-remove, insert, put, remove}
+use Rattle.std.specs.FinMap.{FinMap, entries, entries-from_sorted, from_entries, from_sorted, same_map, get-from_sorted, nat_cmp-IsAntisymmetric, get, get-from_entries, get-insert, insert}
 use Rattle.tsn_types.specs.declared.keys.Key.{Key}
 use Rattle.tsn_types.specs.declared.keys.Key.TheVariants.{Filter, Gate}
 use Rattle.tsn_types.specs.declared.keys.Kind.TheVariants as kinds
-use Rattle.tsn_types.specs.declared.records.Record.{Record}
 use Rattle.tsn_types.specs.declared.records.StreamFilter.{StreamFilter}
-use Rattle.tsn_types.specs.declared.records.StreamGate.{StreamGate}
-use Rattle.tsn_types.specs.Keys.{key_cmp, same_key}
+use Rattle.tsn_types.specs.Examples.{gate_with}
+use Rattle.tsn_types.specs.Keys.{same_key}
 use Rattle.tsn_edit.specs.Configuration.{Configuration}
-use Rattle.tsn_edit.proofs.KeyFacts.{keys_total, one_key, same_configuration}
+use Rattle.tsn_edit.proofs.KeyFacts.{one_key, same_configuration}
 use Rattle.tsn_config.specs.Ids.{ids_of}
-use Rattle.tsn_config.proofs.Listed.{from_sorted_list}
+use Rattle.tsn_config.proofs.Examples.{inserted, listed, none_at, none_listed, removed}
 use Rattle.tsn_schedule.specs.Examples.{gate_acts, gate_list}
 use Rattle.tsn_chain.specs.declared.data.Met.{Met}
 use Rattle.tsn_chain.specs.declared.data.FilterData.{FilterData}
@@ -41,21 +40,6 @@ use Rattle.tsn_bridge.specs.Looking.{counted_at}
 use Rattle.tsn_bridge.specs.State.{State}
 use Rattle.tsn_bridge.specs.Examples.{answers, any_stream, book_of, closed_gate, gate_runs, in_turns, one_left, rows_1, rows_2, rows_3, rows_new, with_rows}
 
-inserted : (c : Configuration) (k : Key) (r : Record) (q : Key) → get (insert c k r) q ≡ cond (same_key q k) (Some r) (get c q)
-inserted = get-insert keys_total
-
-taken_out : (c : Configuration) (k q : Key) → get (remove c k) q ≡ cond (same_key q k) None (get c q)
-taken_out = get-remove keys_total
-
-none_at : (q : Key) → get (empty {X = Record} {R = key_cmp}) q ≡ None
-none_at = get-empty key_cmp
-
-listed : (c : Configuration) (k : Key) (r : Record) → entries (insert c k r) ≡ put key_cmp k r (entries c)
-listed = entries-insert keys_total
-
-none_listed : entries (empty {X = Record} {R = key_cmp}) ≡ []
-none_listed = from_sorted_list [] refl
-
 -- ---- an undo of all that keeps another session's edits
 
 -- what the key has where neither of the keys taken out is asked for
@@ -63,11 +47,11 @@ same_at : (a b : Bool) (k : Key) → same_key k (Gate 1) ≡ a → same_key k (F
     → get (present (book_of one_left)) k ≡ get (others_alone (book_of in_turns) 1) k
 same_at true b k gate_1 filter_0 =
     subst (λ q. get (present (book_of one_left)) q ≡ get (others_alone (book_of in_turns) 1) q) (sym (one_key k (Gate 1) gate_1))
-    (simp (inserted, taken_out, none_at))
+    (simp (inserted, removed, none_at))
 same_at false true k gate_1 filter_0 =
     subst (λ q. get (present (book_of one_left)) q ≡ get (others_alone (book_of in_turns) 1) q) (sym (one_key k (Filter 0) filter_0))
-    (simp (inserted, taken_out, none_at))
-same_at false false k gate_1 filter_0 = simp (inserted, taken_out, gate_1, filter_0)
+    (simp (inserted, removed, none_at))
+same_at false false k gate_1 filter_0 = simp (inserted, removed, gate_1, filter_0)
 
 pub left_is : present (book_of one_left) ≡ others_alone (book_of in_turns) 1
 left_is = same_configuration _ _ (λ k. same_at (same_key k (Gate 1)) (same_key k (Filter 0)) k refl refl)
@@ -120,13 +104,7 @@ acts_held = acts_of_gates (book_of gate_runs)
 module _ (f : FrameData) (d : FilterData) (g : GateData) (has_filter : get f.filters 0 ≡ Some d) (has_gate : get f.gates 0 ≡ Some g) where
   abbrev case_of : Frame → ℕ → Case
   case_of frame time =
-      let by : StreamGate = record {
-        is_open = false;
-        ipv = None;
-        invalid_rx = false;
-        octets_exceeded = true;
-        admin = record { list = gate_list; cycle = 2000; extension = 0; base = 0 };
-      } in
+      let by = gate_with false true gate_list 2000 in
       record {
         number = 0;
         filter = record { handle = None; priority = None; gate = 0; max_sdu = None; meter = None; oversize = false };

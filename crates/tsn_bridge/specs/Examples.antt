@@ -7,6 +7,7 @@ use Rattle.tsn_types.specs.declared.keys.Key.TheVariants.{Filter, Gate, Port}
 use Rattle.tsn_types.specs.declared.records.PortEntry.{PortEntry}
 use Rattle.tsn_types.specs.declared.records.Record.{Record}
 use Rattle.tsn_types.specs.declared.records.Record.TheVariants as records
+use Rattle.tsn_types.specs.Examples.{gate_with}
 use Rattle.tsn_config.specs.Opening.{default_port, opening}
 use Rattle.tsn_schedule.specs.Examples.{gate_acts, gate_list, one_two, open_shut, plan}
 use Rattle.tsn_chain.specs.declared.state.State.{State as Shown}
@@ -81,14 +82,7 @@ shows es r ts = map (λ t. shown_at (book_of es) (Port 1) (Some r) t) ts
 
 -- it closes for good after a frame with more octets than the interval has left
 abbrev pub closed_gate : Record
-closed_gate =
-    records.Gate (record {
-      is_open = false;
-      ipv = None;
-      invalid_rx = false;
-      octets_exceeded = true;
-      admin = record { list = gate_list; cycle = 2000; extension = 0; base = 0 };
-    })
+closed_gate = records.Gate (gate_with false true gate_list 2000)
 
 abbrev pub any_stream : Record
 any_stream = records.Filter (record { handle = None; priority = None; gate = 0; max_sdu = None; meter = None; oversize = false })
