@@ -45,10 +45,7 @@ pub fn run_act(
             runtime.disable(key, now);
             Ok(None)
         }
-        Act::Apply => match runtime.apply(config, key, now) {
-            Ok(change) => Ok(Some(change)),
-            Err(why) => Err(why),
-        },
+        Act::Apply => Ok(Some(runtime.apply(config, key, now)?)),
     }
 }
 
