@@ -25,14 +25,11 @@ use Rattle.tsn_bridge.specs.Looking.{counted_at, counters_rule, last_at, shown_a
 use Rattle.tsn_bridge.specs.Pair.{PairState, acted}
 use Rattle.tsn_bridge.specs.Rule.{Allows, Rule}
 use Rattle.tsn_bridge.specs.State.{State}
+use Rattle.tsn_types.proofs.Causes.{option_or-None}
 use Rattle.tsn_bridge.proofs.Causes.{least_key, least_list}
 use Rattle.tsn_bridge.proofs.Stepping.{is_done, is_refused, is_surely_refused, seen}
 
 -- ---- what a command adds to the causes of its key
-
-only : (o : Option Refusal) → option_or o None ≡ o
-only None = refl
-only (Some why) = refl
 
 full : State → List (ℕ × Option Refusal)
 full s = (18, no_room s.book.entries 1) ∷ []
@@ -90,7 +87,7 @@ apply_first s k =
     grouped (unless (enabled_at s.book k) NotEnabled) (unless (has_entry (get (present s.book) k)) EmptyList) (no_room s.book.entries 1)
   where
     grouped : (a b m : Option Refusal) → option_or a (option_or b (option_or m None)) ≡ option_or (option_or a (option_or b None)) m
-    grouped None None m = only m
+    grouped None None m = option_or-None m
     grouped (Some a) b m = refl
     grouped None (Some b) m = refl
 

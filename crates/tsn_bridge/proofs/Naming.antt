@@ -32,10 +32,6 @@ within_next last None names h = within_later 0 last (last + 1) names h (omega ar
 within_next last (Some name) names h = within_push 0 last (last + 1) name names h (omega arith)
 
 -- a session that goes by a name was given out
-named_by : (b : Bool) (n m : ℕ) (rest : Option ℕ) → cond b (Some m) rest ≡ Some n → (b ≡ true → m ≡ n → ⊥) → rest ≡ Some n
-named_by true n m rest is never = absurd (never refl (let same : Some m ≡ Some n = is in (cc)))
-named_by false n m rest is never = is
-
 pub known_given : (before last n : ℕ) (name : List ℕ) (names : List Named) → AreWithin before names last → session_of names name ≡ Some n
     → (before < n) × (n ≤ last)
 known_given before last n name [] h is = absurd (cc)
@@ -61,9 +57,6 @@ none_before before last n (x ∷ xs) h le =
 pub record AreLeft (names left : List Named) (before last : ℕ) : Type 0 where
   pub within : AreWithin before left last
   pub same : (n : ℕ) → before < n → name_of names n ≡ name_of left n
-
-pub all_left : (names : List Named) (last : ℕ) → AreWithin 0 names last → AreLeft names names 0 last
-all_left names last h = record { within = h; same = λ n less. refl }
 
 head_told : (before last : ℕ) (left : List Named) → AreWithin before left last → head_name left (before + 1) ≡ name_of left (before + 1)
 head_told before last [] h = refl

@@ -114,8 +114,5 @@ act_rule s n act k now = record {
 abbrev pub enable_rule : State → ℕ → Key → ℕ → Rule
 enable_rule s n k now = act_rule s n asked.Enable k now
 
-abbrev pub disable_rule : State → ℕ → Key → ℕ → Rule
-disable_rule s n k now = act_rule s n asked.Disable k now
-
 abbrev pub apply_rule : State → ℕ → Key → ℕ → Rule
 apply_rule s n k now = act_rule s n asked.Apply k now
