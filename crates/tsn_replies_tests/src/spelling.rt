@@ -98,22 +98,14 @@ fn spells_counters_of_gates(rt: &impl Abort, alloc: Global) -> Result<(), Fail> 
 }
 
 fn filter(blocked: bool, counts: [u64; 6]) -> Reply {
-    let [
-        matching,
-        not_passing,
-        not_passing_sdu,
-        passing,
-        passing_sdu,
-        red,
-    ] = counts;
     Reply::Counters(Counters::Filter(FilterData {
         blocked,
-        matching,
-        not_passing,
-        not_passing_sdu,
-        passing,
-        passing_sdu,
-        red,
+        matching: counts[0],
+        not_passing: counts[1],
+        not_passing_sdu: counts[2],
+        passing: counts[3],
+        passing_sdu: counts[4],
+        red: counts[5],
     }))
 }
 
