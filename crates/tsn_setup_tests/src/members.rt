@@ -71,14 +71,17 @@ fn with_each_text(
     Ok(())
 }
 
-/// One member with each value that is out of range or of another kind.
-fn with_each_value(
-    rt: &impl Abort,
-    alloc: Global,
-    kind: &Kind,
+/// A member of a kind's table, with its place there.
+#[derive(Clone, Copy)]
+struct Member<'a> {
+    kind: &'a Kind,
     index: usize,
-    row: &Row,
-) -> Result<(), Fail> {
+    row: &'a Row,
+}
+
+/// One member with each value that is out of range or of another kind.
+fn with_each_value(rt: &impl Abort, alloc: Global, member: &Member<'_>) -> Result<(), Fail> {
+    let Member { kind, index, row } = *member;
     if !row.out.is_empty() {
         let want = Some(Refusal::Range(row.field));
         with_each_text(rt, alloc, kind, index, row.out, &want)?;
@@ -87,13 +90,8 @@ fn with_each_value(
 }
 
 /// One member left out, and of a value that has more bits than a number may.
-fn without(
-    rt: &impl Abort,
-    alloc: Global,
-    kind: &Kind,
-    index: usize,
-    row: &Row,
-) -> Result<(), Fail> {
+fn without(rt: &impl Abort, alloc: Global, member: &Member<'_>) -> Result<(), Fail> {
+    let Member { kind, index, row } = *member;
     let want = if row.is_optional {
         None
     } else {
@@ -110,13 +108,12 @@ fn out_of(row: &Row) -> &'static str {
 }
 
 /// With one member out of range, another that is out of range too or of another shape.
-fn with_each_other(
-    rt: &impl Abort,
-    alloc: Global,
-    kind: &Kind,
-    first: usize,
-    row: &Row,
-) -> Result<(), Fail> {
+fn with_each_other(rt: &impl Abort, alloc: Global, member: &Member<'_>) -> Result<(), Fail> {
+    let Member {
+        kind,
+        index: first,
+        row,
+    } = *member;
     let out = out_of(row);
     let (_header, rows) = *kind;
     for (second, other) in rows.iter().enumerate() {
@@ -134,25 +131,15 @@ fn with_each_other(
     Ok(())
 }
 
-fn tests_member(
-    rt: &impl Abort,
-    alloc: Global,
-    kind: &Kind,
-    index: usize,
-    row: &Row,
-) -> Result<(), Fail> {
-    with_each_value(rt, alloc, kind, index, row)?;
-    without(rt, alloc, kind, index, row)?;
-    if !out_of(row).is_empty() {
-        with_each_other(rt, alloc, kind, index, row)?;
-    }
-    Ok(())
-}
-
 fn tests_members(rt: &impl Abort, alloc: Global, kind: &Kind) -> Result<(), Fail> {
     let (_header, rows) = *kind;
     for (index, row) in rows.iter().enumerate() {
-        tests_member(rt, alloc, kind, index, row)?;
+        let member = Member { kind, index, row };
+        with_each_value(rt, alloc, &member)?;
+        without(rt, alloc, &member)?;
+        if !out_of(row).is_empty() {
+            with_each_other(rt, alloc, &member)?;
+        }
     }
     Ok(())
 }
