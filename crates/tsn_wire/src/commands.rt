@@ -5,7 +5,7 @@ ghost use Rattle.std.specs.Prelude.{◌≡◌, Ok};
 ghost use Rattle.serde_json.specs.View.{view};
 ghost use Rattle.tsn_records.specs.Answers.{Reads};
 ghost use Rattle.tsn_records.specs.Json.{has_members, text_at};
-ghost use Rattle.tsn_wire.specs.Commands.{listed, listed_at, create_shape, replace_shape, remove_shape, bare_shape, enable_shape, disable_shape, apply_shape, frame_members, frame_shape, states_shape, counters_shape, show_shape, list_shape, since_shape, settle_shape, command_shape, name_draft, named_shape, bare_or_named, line_shape};
+ghost use Rattle.tsn_wire.specs.Commands.{listed, listed_at, bare_shape, frame_members, frame_shape, command_shape, name_draft, named_shape, bare_or_named, line_shape};
 
 use crate::batches::batch_shape;
 use crate::drafts::{CommandDraft, FrameDraft, LineDraft, NameDraft};
@@ -40,30 +40,6 @@ fn listed_at(name: &str, value: &Value) -> Result<(KeyDraft, u64), Unread>
     Ok((key, instant))
 }
 
-#[tactic(auto, unfolding(crate::specs::Commands::create_shape))]
-fn create_shape(alloc: Global, value: &Value) -> Result<CommandDraft, Unread>
-    ensures { Reads result (create_shape (view value.now)) }
-{
-    let (key, value) = keyed_record(alloc, 4, value)?;
-    Ok(CommandDraft::Create { key, value })
-}
-
-#[tactic(auto, unfolding(crate::specs::Commands::replace_shape))]
-fn replace_shape(alloc: Global, value: &Value) -> Result<CommandDraft, Unread>
-    ensures { Reads result (replace_shape (view value.now)) }
-{
-    let (key, value) = keyed_record(alloc, 4, value)?;
-    Ok(CommandDraft::Replace { key, value })
-}
-
-#[tactic(auto, unfolding(crate::specs::Commands::remove_shape))]
-fn remove_shape(value: &Value) -> Result<CommandDraft, Unread>
-    ensures { result ≡ remove_shape (view value.now) }
-{
-    let key = removed_key(3, value)?;
-    Ok(CommandDraft::Remove { key })
-}
-
 // A command that names nothing.
 #[tactic(auto, unfolding(crate::specs::Commands::bare_shape))]
 fn bare_shape(command: CommandDraft, value: &Value) -> Result<CommandDraft, Unread>
@@ -71,30 +47,6 @@ fn bare_shape(command: CommandDraft, value: &Value) -> Result<CommandDraft, Unre
 {
     has_members(2, value)?;
     Ok(command)
-}
-
-#[tactic(auto, unfolding(crate::specs::Commands::enable_shape))]
-fn enable_shape(value: &Value) -> Result<CommandDraft, Unread>
-    ensures { result ≡ enable_shape (view value.now) }
-{
-    let (key, now) = listed_at("now", value)?;
-    Ok(CommandDraft::Enable { key, now })
-}
-
-#[tactic(auto, unfolding(crate::specs::Commands::disable_shape))]
-fn disable_shape(value: &Value) -> Result<CommandDraft, Unread>
-    ensures { result ≡ disable_shape (view value.now) }
-{
-    let (key, now) = listed_at("now", value)?;
-    Ok(CommandDraft::Disable { key, now })
-}
-
-#[tactic(auto, unfolding(crate::specs::Commands::apply_shape))]
-fn apply_shape(value: &Value) -> Result<CommandDraft, Unread>
-    ensures { result ≡ apply_shape (view value.now) }
-{
-    let (key, now) = listed_at("now", value)?;
-    Ok(CommandDraft::Apply { key, now })
 }
 
 #[tactic(auto, unfolding(crate::specs::Commands::frame_members))]
@@ -123,82 +75,70 @@ fn frame_shape(value: &Value) -> Result<CommandDraft, Unread>
     Ok(CommandDraft::Frame { frame, now })
 }
 
-#[tactic(auto, unfolding(crate::specs::Commands::states_shape))]
-fn states_shape(value: &Value) -> Result<CommandDraft, Unread>
-    ensures { result ≡ states_shape (view value.now) }
-{
-    let (key, at) = listed_at("at", value)?;
-    Ok(CommandDraft::States { key, at })
-}
-
-#[tactic(auto, unfolding(crate::specs::Commands::counters_shape))]
-fn counters_shape(value: &Value) -> Result<CommandDraft, Unread>
-    ensures { result ≡ counters_shape (view value.now) }
-{
-    has_members(3, value)?;
-    let key = key_at(value)?;
-    Ok(CommandDraft::Counters { key })
-}
-
-#[tactic(auto, unfolding(crate::specs::Commands::show_shape))]
-fn show_shape(value: &Value) -> Result<CommandDraft, Unread>
-    ensures { result ≡ show_shape (view value.now) }
-{
-    has_members(3, value)?;
-    let key = key_at(value)?;
-    Ok(CommandDraft::Show { key })
-}
-
-#[tactic(auto, unfolding(crate::specs::Commands::list_shape))]
-fn list_shape(value: &Value) -> Result<CommandDraft, Unread>
-    ensures { result ≡ list_shape (view value.now) }
-{
-    has_members(3, value)?;
-    let text = text_at("kind", value)?;
-    let kind = kind_of(text).ok_or(Unread::Shape)?;
-    Ok(CommandDraft::List { kind })
-}
-
-#[tactic(auto, unfolding(crate::specs::Commands::since_shape))]
-fn since_shape(value: &Value) -> Result<CommandDraft, Unread>
-    ensures { result ≡ since_shape (view value.now) }
-{
-    has_members(3, value)?;
-    let after = number_at("after", value)?;
-    Ok(CommandDraft::Since { after })
-}
-
-#[tactic(auto, unfolding(crate::specs::Commands::settle_shape))]
-fn settle_shape(value: &Value) -> Result<CommandDraft, Unread>
-    ensures { result ≡ settle_shape (view value.now) }
-{
-    has_members(3, value)?;
-    let upto = number_at("upto", value)?;
-    Ok(CommandDraft::Settle { upto })
-}
-
-#[tactic(auto, unfolding(crate::specs::Commands::command_shape))]
+#[tactic(auto, unfolding(crate::specs::Commands::command_shape, crate::specs::Commands::create_shape, crate::specs::Commands::replace_shape, crate::specs::Commands::remove_shape, crate::specs::Commands::settle_shape, crate::specs::Commands::enable_shape, crate::specs::Commands::disable_shape, crate::specs::Commands::apply_shape, crate::specs::Commands::states_shape, crate::specs::Commands::counters_shape, crate::specs::Commands::show_shape, crate::specs::Commands::list_shape, crate::specs::Commands::since_shape))]
 fn command_shape(alloc: Global, word: &str, value: &Value) -> Result<CommandDraft, Unread>
     ensures { Reads result (command_shape word.now (view value.now)) }
 {
     match word {
-        "create" => create_shape(alloc, value),
-        "replace" => replace_shape(alloc, value),
-        "remove" => remove_shape(value),
+        "create" => {
+            let (key, value) = keyed_record(alloc, 4, value)?;
+            Ok(CommandDraft::Create { key, value })
+        }
+        "replace" => {
+            let (key, value) = keyed_record(alloc, 4, value)?;
+            Ok(CommandDraft::Replace { key, value })
+        }
+        "remove" => {
+            let key = removed_key(3, value)?;
+            Ok(CommandDraft::Remove { key })
+        }
         "batch" => batch_shape(alloc, value),
         "undo" => bare_shape(CommandDraft::Undo, value),
         "undo_all" => bare_shape(CommandDraft::UndoAll, value),
         "redo" => bare_shape(CommandDraft::Redo, value),
-        "settle" => settle_shape(value),
-        "enable" => enable_shape(value),
-        "disable" => disable_shape(value),
-        "apply" => apply_shape(value),
+        "settle" => {
+            has_members(3, value)?;
+            let upto = number_at("upto", value)?;
+            Ok(CommandDraft::Settle { upto })
+        }
+        "enable" => {
+            let (key, now) = listed_at("now", value)?;
+            Ok(CommandDraft::Enable { key, now })
+        }
+        "disable" => {
+            let (key, now) = listed_at("now", value)?;
+            Ok(CommandDraft::Disable { key, now })
+        }
+        "apply" => {
+            let (key, now) = listed_at("now", value)?;
+            Ok(CommandDraft::Apply { key, now })
+        }
         "frame" => frame_shape(value),
-        "states" => states_shape(value),
-        "counters" => counters_shape(value),
-        "show" => show_shape(value),
-        "list" => list_shape(value),
-        "since" => since_shape(value),
+        "states" => {
+            let (key, at) = listed_at("at", value)?;
+            Ok(CommandDraft::States { key, at })
+        }
+        "counters" => {
+            has_members(3, value)?;
+            let key = key_at(value)?;
+            Ok(CommandDraft::Counters { key })
+        }
+        "show" => {
+            has_members(3, value)?;
+            let key = key_at(value)?;
+            Ok(CommandDraft::Show { key })
+        }
+        "list" => {
+            has_members(3, value)?;
+            let text = text_at("kind", value)?;
+            let kind = kind_of(text).ok_or(Unread::Shape)?;
+            Ok(CommandDraft::List { kind })
+        }
+        "since" => {
+            has_members(3, value)?;
+            let after = number_at("after", value)?;
+            Ok(CommandDraft::Since { after })
+        }
         "resume" => bare_shape(CommandDraft::Resume, value),
         "sessions" => bare_shape(CommandDraft::Sessions, value),
         "setup" => bare_shape(CommandDraft::Setup, value),
