@@ -5,24 +5,10 @@ use Rattle.json.specs.Print.{escape_byte}
 use Rattle.serde_json.specs.Data.{Data, boolean, member, no_members}
 use Rattle.serde_json.specs.View.{items_of}
 use Rattle.serde_json.specs.Written.{compact_text, members_text, items_text, comma_if}
-use Rattle.tsn_records.specs.Shown.{draft_data, gate_entry_value, list_array, or_null, port_entry_value}
+use Rattle.tsn_records.specs.Shown.{draft_data, gate_entry_value, list_array, or_null}
 use Rattle.tsn_records.specs.declared.drafts.RecordDraft.TheVariants as records
-use Rattle.tsn_records.specs.declared.drafts.PortDraft.{PortDraft}
 use Rattle.tsn_records.specs.declared.drafts.GateDraft.{GateDraft}
-use Rattle.tsn_records.specs.declared.drafts.FilterDraft.{FilterDraft}
 use Rattle.tsn_records.specs.declared.drafts.MeterDraft.{MeterDraft}
-
-pub filter_text : (r : FilterDraft) (t0 t1 t2 t3 t4 t5 t6 t7 : List ℕ)
-    → t0 ≡ codes "{\"gate\":" ++ (decimal r.gate ++ t1)
-    → t1 ≡ codes ",\"handle\":" ++ (compact_text (or_null r.handle) ++ t2)
-    → t2 ≡ codes ",\"max_sdu\":" ++ (compact_text (or_null r.max_sdu) ++ t3)
-    → t3 ≡ codes ",\"meter\":" ++ (compact_text (or_null r.meter) ++ t4)
-    → t4 ≡ codes ",\"oversize\":" ++ (compact_text (boolean r.oversize) ++ t5)
-    → t5 ≡ codes ",\"priority\":" ++ (compact_text (or_null r.priority) ++ t6)
-    → t6 ≡ codes "}" ++ t7
-    → t0 ≡ compact_text (draft_data (records.Filter r)) ++ t7
-unfolding escape_byte
-filter_text r t0 t1 t2 t3 t4 t5 t6 t7 e0 e1 e2 e3 e4 e5 e6 = rw (e0, e1, e2, e3, e4, e5, e6) (simp append_assoc)
 
 pub meter_text : (r : MeterDraft) (t0 t1 t2 t3 t4 t5 t6 t7 t8 t9 : List ℕ)
     → t0 ≡ codes "{\"all_red\":" ++ (compact_text (boolean r.all_red) ++ t1)
@@ -81,17 +67,6 @@ unfolding escape_byte
 gate_text r t0 t1 t2 t3 t4 t5 t6 t7 t8 t9 e0 e1 e2 e3 e4 e5 e6 e7 e8 =
     gate_front _ _ _ _ _ (compact_text (list_array gate_entry_value r.admin.list)) (gate_rest r) t0 t1 t2 t3 t4 t5 t6 t9 e0 e1 e2 e3 e4 e5
     (gate_tail r t6 t7 t8 t9 e6 e7 e8)
-
-pub port_text : (r : PortDraft) (t0 t1 t2 t3 t4 t5 t6 : List ℕ)
-    → t0 ≡ codes "{\"base\":" ++ (decimal r.admin.base ++ t1)
-    → t1 ≡ codes ",\"cycle\":" ++ (decimal r.admin.cycle ++ t2)
-    → t2 ≡ codes ",\"extension\":" ++ (decimal r.admin.extension ++ t3)
-    → t3 ≡ codes ",\"gates\":" ++ (decimal r.gates ++ t4)
-    → t4 ≡ codes ",\"list\":" ++ (compact_text (list_array port_entry_value r.admin.list) ++ t5)
-    → t5 ≡ codes "}" ++ t6
-    → t0 ≡ compact_text (draft_data (records.Port r)) ++ t6
-unfolding escape_byte
-port_text r t0 t1 t2 t3 t4 t5 t6 e0 e1 e2 e3 e4 e5 = rw (e0, e1, e2, e3, e4, e5) (simp append_assoc)
 
 -- ---- lists of entries
 
