@@ -11,7 +11,7 @@ use Rattle.tsn_types.specs.declared.keys.Key.{Key}
 use Rattle.tsn_types.specs.declared.keys.Kind.{Kind}
 use Rattle.tsn_types.specs.declared.keys.Kind.TheVariants as kinds
 use Rattle.tsn_spelling.specs.Growing.{edit_front, list_front, session_end}
-use Rattle.tsn_wire.specs.Values.{bare_data, keyed_data, edit_data, put_data, removal_data, act_data, states_data, batch_data, edit_value, frame_data, hello_data, settle_data, asked_data, listed_data}
+use Rattle.tsn_wire.specs.Values.{bare_data, keyed_data, edit_data, put_data, removal_data, act_data, states_data, batch_data, edit_value, frame_data, hello_data, asked_data, listed_data}
 
 -- ---- so many pieces, the first behind an empty text
 
@@ -114,16 +114,6 @@ frame_line s f now t0 t1 t2 t3 t4 t5 t6 t7 e0 e1 e2 e3 e4 e5 e6 e7 =
     (decimal f.octets) (codes ",\"priority\":") (decimal f.priority)
     (codes ",\"s\":") (decimal s) (codes ",\"yellow\":") (compact_text (boolean f.yellow)) (codes "}") t0 t1 t2 t3 t4 t5 t6 t7 e0 e1 e2 e3
     e4 e5 e6 e7
-
-pub settle_line : (s upto : ℕ) (t0 t1 t2 t3 : List ℕ)
-    → t0 ≡ []
-    → t1 ≡ t0 ++ (codes "{\"do\":\"settle\",\"s\":" ++ decimal s)
-    → t2 ≡ t1 ++ (codes ",\"upto\":" ++ decimal upto)
-    → t3 ≡ t2 ++ codes "}"
-    → t3 ≡ compact_text (settle_data s upto)
-unfolding escape_byte
-settle_line s upto t0 t1 t2 t3 e0 e1 e2 e3 =
-    three (codes "{\"do\":\"settle\",\"s\":") (decimal s) (codes ",\"upto\":") (decimal upto) (codes "}") t0 t1 t2 t3 e0 e1 e2 e3
 
 pub since_line : (s after : ℕ) (t0 t1 t2 t3 : List ℕ)
     → t0 ≡ []

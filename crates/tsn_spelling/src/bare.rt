@@ -89,6 +89,7 @@ pub fn push_states(text: &mut ShortText, key: Key, at: Instant, session: u32)
 }
 
 /// The line that settles the entries up to a number.
+#[tactic(auto, unfolding(json::specs::Print::escape_byte))]
 pub fn push_settle(text: &mut ShortText, upto: u32, session: u32)
     requires { text.old ≡ [] }
     ensures { text.new ≡ compact_text (settle_data session upto) }

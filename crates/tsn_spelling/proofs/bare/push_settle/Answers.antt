@@ -1,6 +1,0 @@
-use Rattle.tsn_spelling.proofs.Shapes.{settle_line}
-use Rattle.tsn_spelling.proofs.bare.push_settle.Goals as goal
-
-pub returns : goal.returns
-returns c = settle_line c.args.session c.args.upto _ _ _ _ c.requires (rw c.from.ensures at c.push_number.ensures.text)
-    (rw c.from-2.ensures at c.push_number-2.ensures.text) c.push.ensures.text
