@@ -1,6 +1,6 @@
 -- What a JSON value holds, as commands and records are made of it.
 use Rattle.std.specs.Prelude.{ℕ, suc, ◌-◌, ◌==◌, List, [], ◌∷◌, length, Bool, if◌then◌else◌, is_some, Option, Some, None, option_map, option_and_then, Result, Ok, Err}
-use Rattle.serde_json.specs.Data.{Data, number, array, object, Items, no_items, item, Members, no_members, member}
+use Rattle.serde_json.specs.Data.{Data, array, object, Items, no_items, item, Members, no_members, member}
 use Rattle.serde_json.specs.Find.{get, at, as_null, as_bool, as_number, as_str, as_array, as_u64}
 use Rattle.tsn_records.specs.declared.unread.Unread.{Unread}
 use Rattle.tsn_records.specs.declared.unread.Unread.TheVariants.{Shape}
