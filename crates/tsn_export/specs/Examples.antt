@@ -6,7 +6,7 @@ use Rattle.tsn_types.specs.declared.keys.Key.TheVariants.{Port, Filter, Gate, Me
 use Rattle.tsn_types.specs.declared.limits.Limits.{Limits}
 use Rattle.tsn_types.specs.declared.records.Record.{Record}
 use Rattle.tsn_types.specs.declared.records.Record.TheVariants as records
-use Rattle.tsn_types.specs.Examples.{a_filter, a_gate, a_port}
+use Rattle.tsn_types.specs.Examples.{a_filter, a_gate, a_meter, a_port}
 use Rattle.tsn_config.specs.Opening.{default_port}
 use Rattle.tsn_edit.specs.Configuration.{Configuration}
 
@@ -40,16 +40,7 @@ gate_lines = codes "\n[[gate]]\nid = 0\nopen = false\n"
 
 -- no excess rate and no excess burst
 abbrev pub meter : Record
-meter = records.Meter (record {
-  cir = 8000000;
-  cbs = 1500;
-  eir = 0;
-  ebs = 0;
-  cf = false;
-  aware = false;
-  drop_yellow = false;
-  all_red = true;
-})
+meter = records.Meter (record a_meter { all_red = true })
 
 abbrev pub meter_lines : List ℕ
 meter_lines = codes "\n[[meter]]\nid = 0\ncir = 8000000\ncbs = 1500\neir = 0\nebs = 0\n"

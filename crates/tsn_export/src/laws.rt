@@ -16,6 +16,7 @@ ghost use Rattle.tsn_export.specs.Text.{named, setup_text, table_text};
 
 /// What is opened from the records that a setup names is the configuration that it was made of, and nothing of them is
 /// refused.
+#[tactic(auto, using(crate::proofs::Opens::opens, crate::proofs::Opens::unrefused))]
 pub fn exports_open()
     ensures opens { (l : Limits) (c : Configuration) → IsWellKept l c → opening l (named c) ≡ c }
     ensures unrefused { (l : Limits) (c : Configuration) → IsWellKept l c → opening_refusal l (named c) ≡ None }
