@@ -7,15 +7,16 @@ use Rattle.tsn_types.specs.declared.records.GateEntry.{GateEntry}
 use Rattle.tsn_types.specs.declared.records.PortEntry.{PortEntry}
 use Rattle.tsn_types.specs.declared.records.Record.{Record}
 use Rattle.tsn_types.specs.declared.records.Record.TheVariants as records
+use Rattle.tsn_types.specs.Examples.{a_gate, a_port}
 use Rattle.tsn_edit.specs.Configuration.{Configuration}
 use Rattle.tsn_export.specs.Examples.{meter}
 
 abbrev port_of : List PortEntry → Record
-port_of list = records.Port (record { gates = 255; admin = record { list = list; cycle = 1000; extension = 0; base = 0 } })
+port_of list = records.Port (record a_port { admin = record a_port.admin { list = list } })
 
 -- 300 ns and 700 ns, a whole cycle
 abbrev pub filled_port : Record
-filled_port = port_of (record { gates = 1; interval = 300 } ∷ record { gates = 128; interval = 700 } ∷ [])
+filled_port = records.Port a_port
 
 -- 300 ns and 600 ns of 1000 ns
 abbrev pub short_port : Record
@@ -28,13 +29,7 @@ abbrev entry : GateEntry
 entry = record { is_open = true; ipv = None; interval = 1250; octets = None }
 
 abbrev gate_of : List GateEntry → Record
-gate_of list = records.Gate (record {
-  is_open = false;
-  ipv = None;
-  invalid_rx = false;
-  octets_exceeded = false;
-  admin = record { list = list; cycle = 2000; extension = 0; base = 0 };
-})
+gate_of list = records.Gate (record a_gate { octets_exceeded = false; admin = record a_gate.admin { list = list } })
 
 -- 1250 ns twice, of 2000 ns
 abbrev pub long_gate : Record
