@@ -9,7 +9,6 @@ ghost use Rattle.tsn_recorded.specs.Text.{line_feed, longest_command_after, long
 ghost use Rattle.tsn_recorded.specs.Reading.{IsEnd, Reads, recorded_within};
 
 /// What may be recorded behind a digest: what has no line feed, no space in its stamp, and is no longer than it may be.
-#[tactic(auto, using(crate::proofs::Lengths::are_recorded_after, crate::proofs::Lengths::is_recorded_after))]
 pub fn fits()
     ensures one { (last : List ℕ) (r : Recorded) → IsRecorded r →
         length r.stamp ≤ longest_stamp → length r.command ≤ longest_command_after last → IsRecordedAfter last r }
@@ -19,7 +18,6 @@ pub fn fits()
 
 /// Bytes read in one way only: the recorded commands, the rest behind them, and which end that is. Whatever lines
 /// verify at their front are a front of those that are read, which so are the most that do.
-#[tactic(auto, using(crate::proofs::Readings::same_end))]
 pub fn one_reading()
     ensures recorded { (last bytes : List ℕ) (rs others : List Recorded) (rest other : List ℕ) →
         Reads last bytes rs rest → Reads last bytes others other → (rs ≡ others) × (rest ≡ other) }

@@ -1,5 +1,5 @@
-use Rattle.tsn_recorded.proofs.Lengths.{all_recorded}
+use Rattle.tsn_recorded.proofs.Lengths.{all_recorded, are_recorded_after, is_recorded_after}
 use Rattle.tsn_recorded.proofs.laws.fits.Goals as goal
 
-pub returns-clause-recorded : goal.returns-clause-recorded
-returns-clause-recorded c = all_recorded
+pub returns : goal.returns
+returns c = record { one = is_recorded_after; all = are_recorded_after; recorded = all_recorded }

@@ -1,8 +1,5 @@
-use Rattle.tsn_recorded.proofs.Readings.{longest_front, same_reading}
+use Rattle.tsn_recorded.proofs.Readings.{longest_front, same_end, same_reading}
 use Rattle.tsn_recorded.proofs.laws.one_reading.Goals as goal
 
-pub returns-clause-recorded : goal.returns-clause-recorded
-returns-clause-recorded c = same_reading
-
-pub returns-clause-longest : goal.returns-clause-longest
-returns-clause-longest c = longest_front
+pub returns : goal.returns
+returns c = record { recorded = same_reading; longest = longest_front; end = same_end }
