@@ -1,6 +1,7 @@
 //! One call of each public function on its happy path, with rows that come in no order.
 use crate::comparing::same;
 use std::alloc::{AllocError, Global};
+use std::process::Abort;
 use std::test::Fail;
 use std::thread::{Threads, join};
 use tsn_table::Table;
@@ -13,6 +14,17 @@ fn three_rows(alloc: Global) -> Result<Table<u64>, AllocError> {
     let _ = table.put(1, 10);
     let _ = table.put(6, 60);
     Ok(table)
+}
+
+// The rows of a table have just these numbers.
+fn has_ids(
+    rt: &impl Abort,
+    alloc: Global,
+    table: &Table<u64>,
+    wanted: &[u64],
+) -> Result<(), AllocError> {
+    same(rt, &table.ids(alloc)?.as_slice(), &wanted);
+    Ok(())
 }
 
 #[test]
@@ -36,11 +48,7 @@ fn gets_the_row_of_a_number(rt: HostRuntime) -> Result<(), Fail> {
 #[test]
 fn numbers_come_ascending(rt: HostRuntime) -> Result<(), Fail> {
     let table = three_rows(rt.alloc())?;
-    same(
-        &rt,
-        &table.ids(rt.alloc())?.as_slice(),
-        &[1, 4, 6].as_slice(),
-    );
+    has_ids(&rt, rt.alloc(), &table, &[1, 4, 6])?;
     Ok(())
 }
 
@@ -60,11 +68,7 @@ fn a_put_replaces_the_row(rt: HostRuntime) -> Result<(), Fail> {
     same(&rt, &table.put(4, 44), &Some(40));
     same(&rt, &table.get(4).copied(), &Some(44));
     same(&rt, &table.put(2, 20), &None);
-    same(
-        &rt,
-        &table.ids(rt.alloc())?.as_slice(),
-        &[1, 2, 4, 6].as_slice(),
-    );
+    has_ids(&rt, rt.alloc(), &table, &[1, 2, 4, 6])?;
     Ok(())
 }
 
@@ -72,11 +76,7 @@ fn a_put_replaces_the_row(rt: HostRuntime) -> Result<(), Fail> {
 fn a_reserve_makes_room_and_keeps_the_rows(rt: HostRuntime) -> Result<(), Fail> {
     let mut table = three_rows(rt.alloc())?;
     table.reserve(100)?;
-    same(
-        &rt,
-        &table.ids(rt.alloc())?.as_slice(),
-        &[1, 4, 6].as_slice(),
-    );
+    has_ids(&rt, rt.alloc(), &table, &[1, 4, 6])?;
     same(&rt, &table.get(4).copied(), &Some(40));
     same(&rt, &table.put(9, 90), &None);
     same(&rt, &table.get(9).copied(), &Some(90));
@@ -88,7 +88,7 @@ fn takes_a_row_out(rt: HostRuntime) -> Result<(), Fail> {
     let mut table = three_rows(rt.alloc())?;
     same(&rt, &table.take(4), &Some(40));
     same(&rt, &table.take(4), &None);
-    same(&rt, &table.ids(rt.alloc())?.as_slice(), &[1, 6].as_slice());
+    has_ids(&rt, rt.alloc(), &table, &[1, 6])?;
     Ok(())
 }
 
@@ -97,7 +97,7 @@ fn takes_a_row_out(rt: HostRuntime) -> Result<(), Fail> {
 fn taking_the_first_row_keeps_the_others(rt: HostRuntime) -> Result<(), Fail> {
     let mut table = three_rows(rt.alloc())?;
     same(&rt, &table.take(1), &Some(10));
-    same(&rt, &table.ids(rt.alloc())?.as_slice(), &[4, 6].as_slice());
+    has_ids(&rt, rt.alloc(), &table, &[4, 6])?;
     same(&rt, &table.get(4).copied(), &Some(40));
     same(&rt, &table.get(6).copied(), &Some(60));
     Ok(())
@@ -107,11 +107,7 @@ fn taking_the_first_row_keeps_the_others(rt: HostRuntime) -> Result<(), Fail> {
 fn copies_every_row(rt: HostRuntime) -> Result<(), Fail> {
     let table = three_rows(rt.alloc())?;
     let copy = table.copy(|row| Ok(*row))?;
-    same(
-        &rt,
-        &copy.ids(rt.alloc())?.as_slice(),
-        &[1, 4, 6].as_slice(),
-    );
+    has_ids(&rt, rt.alloc(), &copy, &[1, 4, 6])?;
     same(&rt, &copy.get(4).copied(), &Some(40));
     Ok(())
 }
@@ -121,11 +117,7 @@ fn a_reserve_of_10000_rows_keeps_the_rows(rt: HostRuntime) -> Result<(), Fail> {
     let mut table = three_rows(rt.alloc())?;
     table.reserve(10_000)?;
     same(&rt, &table.put(9, 90), &None);
-    same(
-        &rt,
-        &table.ids(rt.alloc())?.as_slice(),
-        &[1, 4, 6, 9].as_slice(),
-    );
+    has_ids(&rt, rt.alloc(), &table, &[1, 4, 6, 9])?;
     Ok(())
 }
 
@@ -173,11 +165,12 @@ fn great_and_small_numbers_keep_their_rows(rt: HostRuntime) -> Result<(), Fail> 
     same(&rt, &table.take(512), &Some(41));
     same(&rt, &table.get(512).copied(), &None);
     same(&rt, &table.get(513).copied(), &Some(42));
-    same(
+    has_ids(
         &rt,
-        &table.ids(rt.alloc())?.as_slice(),
-        &[2, 300, 511, 513, 65_536, u64::MAX].as_slice(),
-    );
+        rt.alloc(),
+        &table,
+        &[2, 300, 511, 513, 65_536, u64::MAX],
+    )?;
     Ok(())
 }
 
