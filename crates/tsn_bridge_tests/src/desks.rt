@@ -1,5 +1,5 @@
 //! Sessions that share one bridge at a desk, each with a seat: in threads of their own, and one after the other.
-ghost use Rattle.std.specs.Prelude.{◌≡◌, ◌+◌, ◌<◌, All, IfOk, IfSome, IsSome, OnOk, OnSome, vec_len};
+ghost use Rattle.std.specs.Prelude.{◌≡◌, All, IfOk, vec_len};
 ghost use Rattle.tsn_desk.specs.Desks.{IsSeatOf};
 
 use crate::comparing::same;
@@ -174,28 +174,6 @@ fn show<R: Wait>(
     }
 }
 
-/// Takes the last seat of a row.
-#[tactic(auto, using(crate::proofs::Rows::all_popped))]
-fn take(desk: &Desk<Bridge>, row: &mut Vec<Seat<Bridge>>) -> Option<Seat<Bridge>>
-    requires { All (λ seat. IsSeatOf desk.now seat) row.old.items }
-    ensures own { All (λ seat. IsSeatOf desk.now seat) row.new.items × IfSome result (λ seat. IsSeatOf desk.now seat) }
-    ensures some { 0 < vec_len row.old → IsSome result }
-    ensures len { OnSome result (vec_len row.new + 1 ≡ vec_len row.old) }
-{
-    row.pop()
-}
-
-/// Puts a seat back to a row.
-#[tactic(auto, using(crate::proofs::Rows::all_pushed))]
-fn put(desk: &Desk<Bridge>, row: &mut Vec<Seat<Bridge>>, seat: Seat<Bridge>) -> Result<(), Fail>
-    requires { All (λ seat. IsSeatOf desk.now seat) row.old.items × IsSeatOf desk.now seat }
-    ensures own { OnOk result (All (λ seat. IsSeatOf desk.now seat) row.new.items) }
-    ensures len { OnOk result (vec_len row.new ≡ vec_len row.old + 1) }
-{
-    row.push(seat)?;
-    Ok(())
-}
-
 /// The first seat creates a gate, the second is shown it, the third looks at the front, and the first two meet.
 fn share<R: Wait + Abort>(
     rt: &R,
@@ -228,18 +206,19 @@ fn share<R: Wait + Abort>(
 }
 
 /// The bridge that a desk of three seats gives back.
+#[tactic(auto, using(tsn_samples::proofs::Rows::all_popped, tsn_samples::proofs::Rows::all_pushed))]
 fn shared_by_three<R: Wait + Abort>(rt: &R, alloc: Global) -> Result<Bridge, Fail> {
     let bridge = Bridge::new(alloc, Setup::standard(alloc))?;
     let Ok((desk, mut row)) = Desk::new(alloc, bridge, 3) else {
         return Err(Fail::from("out of memory"));
     };
-    let third = take(&desk, &mut row).unwrap();
-    let second = take(&desk, &mut row).unwrap();
-    let first = take(&desk, &mut row).unwrap();
+    let third = row.pop().unwrap();
+    let second = row.pop().unwrap();
+    let first = row.pop().unwrap();
     let (first, second, third) = share(rt, alloc, &desk, first, second, third);
-    put(&desk, &mut row, first)?;
-    put(&desk, &mut row, second)?;
-    put(&desk, &mut row, third)?;
+    row.push(first)?;
+    row.push(second)?;
+    row.push(third)?;
     Ok(desk.close(row))
 }
 

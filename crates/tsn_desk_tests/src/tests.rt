@@ -101,7 +101,7 @@ fn count_of<R: Threads + Wait + Abort + Sync>(
 }
 
 /// What two seats learn of each other's calls, and the machine that they leave.
-#[tactic(auto, using(crate::proofs::Rows::all_popped, crate::proofs::Rows::all_pushed))]
+#[tactic(auto, using(tsn_samples::proofs::Rows::all_popped, tsn_samples::proofs::Rows::all_pushed))]
 fn meet_and_close<R: Wait + Abort>(rt: &R, alloc: Global) -> Result<(), Fail> {
     let Ok((desk, mut seats)) = Desk::new(alloc, Tally { count: 0 }, 2) else {
         return Err(Fail::from("out of memory"));

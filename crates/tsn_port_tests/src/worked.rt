@@ -1,6 +1,6 @@
 //! A worker of port 1 at a desk of three seats, where a session sets another list in force meanwhile, and a mirror that
 //! takes what a session did on a bridge alone. What the seats see of each other is tested in `tsn_bridge_tests`.
-ghost use Rattle.std.specs.Prelude.{◌≡◌, ◌+◌, ◌<◌, All, IfOk, IfSome, IsSome, OnOk, OnSome, vec_len};
+ghost use Rattle.std.specs.Prelude.{◌≡◌, All, IfOk, OnOk, vec_len};
 ghost use Rattle.tsn_desk.specs.Desks.{IsSeatOf, first_of, seats_of, seen};
 ghost use Rattle.tsn_desk.specs.History.{Begins};
 ghost use Rattle.tsn_bridge.specs.Beginning.{IsOpened};
@@ -182,7 +182,7 @@ fn change_over<R: Wait + Abort>(
 }
 
 /// A worker of port 1, with the seat for its rounds.
-#[tactic(auto, using(crate::proofs::Rows::begins_alike))]
+#[tactic(auto, using(crate::proofs::Beginning::begins_alike))]
 fn start<R: Wait>(
     rt: &R,
     desk: &Desk<Bridge>,
@@ -228,29 +228,8 @@ fn opened(alloc: Global) -> Result<(Desk<Bridge>, Vec<Seat<Bridge>>), Fail>
     }
 }
 
-/// Takes the last seat of a row.
-#[tactic(auto, using(crate::proofs::Rows::all_popped))]
-fn take(desk: &Desk<Bridge>, row: &mut Vec<Seat<Bridge>>) -> Option<Seat<Bridge>>
-    requires { All (λ seat. IsSeatOf desk.now seat) row.old.items }
-    ensures own { All (λ seat. IsSeatOf desk.now seat) row.new.items × IfSome result (λ seat. IsSeatOf desk.now seat) }
-    ensures some { 0 < vec_len row.old → IsSome result }
-    ensures len { OnSome result (vec_len row.new + 1 ≡ vec_len row.old) }
-{
-    row.pop()
-}
-
-/// Puts a seat back to a row.
-#[tactic(auto, using(crate::proofs::Rows::all_pushed))]
-fn put(desk: &Desk<Bridge>, row: &mut Vec<Seat<Bridge>>, seat: Seat<Bridge>) -> Result<(), Fail>
-    requires { All (λ seat. IsSeatOf desk.now seat) row.old.items × IsSeatOf desk.now seat }
-    ensures own { OnOk result (All (λ seat. IsSeatOf desk.now seat) row.new.items) }
-    ensures len { OnOk result (vec_len row.new ≡ vec_len row.old + 1) }
-{
-    row.push(seat)?;
-    Ok(())
-}
-
 /// Two sessions edit, and a worker follows them.
+#[tactic(auto, using(tsn_samples::proofs::Rows::all_popped, tsn_samples::proofs::Rows::all_pushed))]
 fn play<R: Wait + Abort>(
     rt: &R,
     alloc: Global,
@@ -262,15 +241,16 @@ fn play<R: Wait + Abort>(
     ensures row { OnOk result (All (λ seat. IsSeatOf desk.now seat) row.new.items × (vec_len row.new ≡ 3)) }
 {
     let replace = replace(alloc)?;
-    let third = take(desk, row).unwrap();
-    let second = take(desk, row).unwrap();
-    let first = take(desk, row).unwrap();
+    let third = row.pop().unwrap();
+    let second = row.pop().unwrap();
+    let first = row.pop().unwrap();
     let (first, second) = begin(rt, alloc, desk, first, second);
     let third = refuse(rt, desk, third);
     let (first, third) = follow(rt, desk, first, third, replace)?;
-    put(desk, row, first)?;
-    put(desk, row, second)?;
-    put(desk, row, third)
+    row.push(first)?;
+    row.push(second)?;
+    row.push(third)?;
+    Ok(())
 }
 
 /// The bridge that the desk gives back.
