@@ -2,12 +2,12 @@
 //!
 //! Contracts see the numbers of a record as plain numbers. Each call here tells the ranges of those that it is given,
 //! for the proofs above, and does nothing as the program runs.
-ghost use Rattle.std.specs.List.{AllByRecursion};
 ghost use Rattle.tsn_types.specs.InRange.{FilterInRange, GateEntryInRange, GateInRange, MeterInRange, PortEntryInRange, PortInRange, RecordInRange};
+ghost use Rattle.tsn_types.specs.Numbers.{IsCycle, IsExtension, IsInstant};
 
 use crate::numbers::{Handle, MaxSdu, MeterId, Octets, Priority};
 use crate::records::{
-    FlowMeter, GateEntry, PortEntry, PortGates, Record, StreamFilter, StreamGate,
+    FlowMeter, GateEntry, PortEntry, PortGates, Record, Schedule, StreamFilter, StreamGate,
 };
 
 impl Record {
@@ -28,16 +28,8 @@ fn recall_port(ports: &PortGates)
     ensures { PortInRange ports.now }
 {
     let _gates = ports.gates;
-    let _cycle = ports.admin.cycle.get();
-    let _extension = ports.admin.extension.get();
-    let _base = ports.admin.base.get();
-    recall_port_entries(ports.admin.list.as_slice());
-}
-
-fn recall_port_entries(entries: &[PortEntry])
-    ensures { AllByRecursion PortEntryInRange entries.now }
-{
-    for entry in entries {
+    recall_times(&ports.admin);
+    for entry in ports.admin.list.as_slice() {
         recall_port_entry(entry);
     }
 }
@@ -53,16 +45,8 @@ fn recall_gate(gate: &StreamGate)
     ensures { GateInRange gate.now }
 {
     let _ipv = gate.ipv.map(Priority::get);
-    let _cycle = gate.admin.cycle.get();
-    let _extension = gate.admin.extension.get();
-    let _base = gate.admin.base.get();
-    recall_gate_entries(gate.admin.list.as_slice());
-}
-
-fn recall_gate_entries(entries: &[GateEntry])
-    ensures { AllByRecursion GateEntryInRange entries.now }
-{
-    for entry in entries {
+    recall_times(&gate.admin);
+    for entry in gate.admin.list.as_slice() {
         recall_gate_entry(entry);
     }
 }
@@ -73,6 +57,16 @@ fn recall_gate_entry(entry: &GateEntry)
     let _ipv = entry.ipv.map(Priority::get);
     let _interval = entry.interval.get();
     let _octets = entry.octets.map(Octets::get);
+}
+
+fn recall_times<E: Drop>(schedule: &Schedule<E>)
+    ensures cycle { IsCycle schedule.now.cycle }
+    ensures extension { IsExtension schedule.now.extension }
+    ensures base { IsInstant schedule.now.base }
+{
+    let _cycle = schedule.cycle.get();
+    let _extension = schedule.extension.get();
+    let _base = schedule.base.get();
 }
 
 fn recall_filter(filter: &StreamFilter)
