@@ -5,21 +5,17 @@ use Rattle.tsn_meter.specs.declared.bucket.Colour.TheVariants.{Green, Yellow, Re
 
 abbrev pub is_green : Colour → Bool
 is_green Green = true
-is_green Yellow = false
-is_green Red = false
+is_green c = false
 
 abbrev pub is_yellow : Colour → Bool
-is_yellow Green = false
 is_yellow Yellow = true
-is_yellow Red = false
+is_yellow c = false
 
 abbrev pub is_red : Colour → Bool
-is_red Green = false
-is_red Yellow = false
 is_red Red = true
+is_red c = false
 
 -- what passes a meter is green or yellow
 abbrev pub is_passed : Colour → Bool
-is_passed Green = true
-is_passed Yellow = true
 is_passed Red = false
+is_passed c = true
