@@ -1,4 +1,4 @@
-use Rattle.std.proofs.Common.{rules, ◌≡◌, ◌++◌, ◌∷◌, [], List, Option, length, map, slice_get, sym, ap, ◌∙◌, subst, append_assoc, arith}
+use Rattle.std.proofs.Common.{rules, ◌≡◌, ◌++◌, ◌∷◌, [], List, Option, Some, length, map, slice_get, sym, ap, ◌∙◌, subst, append_assoc, arith}
 use Rattle.std.proofs.lemmas.List.{append-nil, map-append}
 use Rattle.std.proofs.lemmas.List.{length-map}
 use Rattle.std.specs.Option.{option_to_list}
@@ -11,6 +11,8 @@ use Rattle.tsn_desk.specs.Desks.{IsSeatOf}
 use Rattle.tsn_desk.specs.Seats.{seen, first_of, Closes}
 use Rattle.tsn_desk.proofs.Begin.{begins_self}
 use Rattle.tsn_desk.proofs.Closing.{AllBegin-more, closing, same_machine, slice_get_front, slice_get_last, no_length, Some_same, None_Some}
+use Rattle.tsn_desk.proofs.desk.Desk.close.Given.{Over}
+use Rattle.tsn_desk.proofs.desk.Desk.close.Goals.{After-take-slot}
 use Rattle.tsn_desk.proofs.desk.Desk.close.Goals as goal
 
 pub loop-other-init : goal.loop-other-init
@@ -68,8 +70,11 @@ loop-other-preserved g c =
       ),
     )
 
-pub unreachable-requires : goal.unreachable-requires
-unreachable-requires g c =
+-- the slot has the machine that the turns of all seats leave
+ended : (g : Over) (c : After-take-slot g)
+    → (machine : g.row.M.Denot) × (c.take-slot.result ≡ Some machine)
+    × Closes g.M.Machine.steps (first_of c.args.self.table) (map (λ t. t.inner) c.args.seats.items) machine
+ended g c =
     let inv = c.loop-other.invariant in
     let none_left = no_length c.loop-other.seats.items (search rules) in
     let whole = inv.2.1 ∙ ap (λ l. map (λ t. t.inner) l ++ inv.2.0) none_left in
@@ -78,21 +83,20 @@ unreachable-requires g c =
     ∙ (length-map c.args.seats.items (λ t. t.inner) ∙ all) in
     let end = closing g.M.Machine.steps (first_of c.args.self.table) c.args.self.table.shared.key.seats _ _ _ _
     c.close_with-closed.ensures.values.2 inv.0.idle inv.2.0 inv.2.2 inv.2.3 inv.2.4 count in
-    None_Some end.0 (sym c.in_default-slot.is ∙ some-injective _ _ (sym c.take-slot.ensures.value ∙ end.1))
+    let F = λ (l : List (Seat (Option g.row.M.Denot) (View g.row.M.Denot g.row.M-Request.Denot g.row.M-Reply.Denot))). Closes
+    g.M.Machine.steps (first_of c.args.self.table) l end.0 in
+    (end.0, some-injective _ _ (sym c.take-slot.ensures.value ∙ end.1), subst F (sym whole) end.2)
+
+pub unreachable-requires : goal.unreachable-requires
+unreachable-requires g c =
+    let end = ended g (goal.at.unreachable-requires g c).After-take-slot in
+    None_Some end.0 (sym c.in_default-slot.is ∙ end.1)
 
 pub returns : goal.returns
 returns g c =
-    let inv = c.loop-other.invariant in
-    let none_left = no_length c.loop-other.seats.items (search rules) in
-    let whole = inv.2.1 ∙ ap (λ l. map (λ t. t.inner) l ++ inv.2.0) none_left in
-    let all : length c.args.seats.items ≡ c.args.self.table.shared.key.seats = omega arith in
-    let count : length inv.2.0 ≡ c.args.self.table.shared.key.seats = sym (ap length whole)
-    ∙ (length-map c.args.seats.items (λ t. t.inner) ∙ all) in
-    let end = closing g.M.Machine.steps (first_of c.args.self.table) c.args.self.table.shared.key.seats _ _ _ _
-    c.close_with-closed.ensures.values.2 inv.0.idle inv.2.0 inv.2.2 inv.2.3 inv.2.4 count in
-    let one = Some_same end.0 c.in-Some-slot.machine
-    (sym (some-injective _ _ (sym c.take-slot.ensures.value ∙ end.1)) ∙ c.in-Some-slot.is) in
-    let F = λ (l : List (Seat (Option g.row.M.Denot) (View g.row.M.Denot g.row.M-Request.Denot g.row.M-Reply.Denot))). Closes
-    g.M.Machine.steps (first_of c.args.self.table) l c.in-Some-slot.machine in
-    closes_seats g.M.Machine.steps (first_of c.args.self.table) c.args.seats.items c.in-Some-slot.machine
-    (subst F (sym whole) (same_machine g.M.Machine.steps (first_of c.args.self.table) end.0 c.in-Some-slot.machine inv.2.0 one end.2))
+    let end = ended g (goal.at.returns g c).After-take-slot in
+    let steps = g.M.Machine.steps in
+    let first = first_of c.args.self.table in
+    closes_seats steps first c.args.seats.items c.in-Some-slot.machine
+    (same_machine steps first end.0 c.in-Some-slot.machine _
+    (Some_same end.0 c.in-Some-slot.machine (sym end.1 ∙ c.in-Some-slot.is)) end.2)
