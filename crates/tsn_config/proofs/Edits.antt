@@ -1,19 +1,22 @@
 -- One key with a value or none: what keeps a well kept map well kept, and what the tests of limits and references come to.
-use Rattle.std.proofs.Common.{◌≡◌, ℕ, true, false, cond, ◌||◌, not, List, [], ◌∷◌, refl, sym, ◌∙◌, ap, subst, Option, Some, None, map, arith, rules}
+use Rattle.std.proofs.Common.{◌≡◌, ℕ, true, false, cond, ◌||◌, not, List, [], ◌∷◌, ◌++◌, refl, sym, ◌∙◌, ap, subst, Option, Some, None, map, arith, rules}
 use Rattle.std.specs.Prelude.{find, IsSome, is_some, option_map}
 use Rattle.std.specs.FinMap.{get, find as find_entry}
+use Rattle.std.specs.Option.{option_or}
 use Rattle.tsn_types.specs.declared.keys.Key.{Key}
 use Rattle.tsn_types.specs.declared.keys.Key.TheVariants.{Port}
 use Rattle.tsn_types.specs.declared.records.Record.{Record}
 use Rattle.tsn_types.specs.declared.limits.Limits.{Limits}
+use Rattle.tsn_types.specs.declared.refusals.Refusal.{Refusal}
 use Rattle.tsn_types.specs.declared.refusals.Refusal.TheVariants.{Dangling}
 use Rattle.tsn_types.specs.InRange.{RecordInRange}
 use Rattle.tsn_types.specs.Keys.{key_cmp, same_key, has, refs}
 use Rattle.tsn_edit.specs.Configuration.{Configuration, put, IsWellKept}
 use Rattle.tsn_types.specs.Limits.{HoldsKey, HoldsRecord, unless, first_cause, holds_key, out_of_limits}
-use Rattle.tsn_edit.specs.Edits.{is_of_kind, is_port, dangling}
+use Rattle.tsn_edit.specs.Edits.{is_of_kind, is_port, dangling, limit_causes}
 use Rattle.tsn_edit.proofs.KeyFacts.{by_bool, get-put, one_key}
-use Rattle.tsn_types.proofs.Causes.{option_or_parts, unless-None}
+use Rattle.tsn_types.proofs.Causes.{first_cause-append, option_or_parts, unless-None}
+use Rattle.tsn_config.specs.Views.{ConfigView}
 
 pub HoldsKey-from_test : (l : Limits) (k : Key) → holds_key l k ≡ true → HoldsKey l k
 HoldsKey-from_test l k h = grind arith
@@ -105,3 +108,10 @@ module _ (l : Limits) (c : Configuration) (kept : IsWellKept l c) where
   pub fits_put : (k : Key) (r : Record) → RecordInRange r → is_of_kind k r ≡ true → holds_key l k ≡ true → out_of_limits l r ≡ None
       → dangling c r ≡ None → IsWellKept l (put c k (Some r))
   fits_put k r ranges kind in_limits fields there = search (rules, put_kept, HoldsKey-from_test, HoldsRecord-from_test, none_dangling)
+
+-- what the limits refuse is told before all later causes
+pub limits_first : (seen now : ConfigView) (k : Key) (r : Record) (why : Refusal) (late : List (Option Refusal)) → seen ≡ now
+    → first_cause (limit_causes seen.limits k r) ≡ Some why → Some why ≡ first_cause (limit_causes now.limits k r ++ late)
+limits_first seen now k r why late is first =
+    sym (first_cause-append (limit_causes now.limits k r) late
+    ∙ ap (λ o. option_or o (first_cause late)) (ap (λ (s : ConfigView). first_cause (limit_causes s.limits k r)) (sym is) ∙ first))
