@@ -12,16 +12,14 @@ use tsn_types::numbers::{FilterId, GateId, MeterId, PortId};
 
 /// Numbers of instances in a list, which contracts see as the list.
 #[derive(Debug, Drop)]
-pub struct Ids {
-    ids: Vec<u64>,
-}
+pub struct Ids(Vec<u64>);
 
 impl Model for Ids {
     ghost use Rattle.std.specs.Prelude.{List, ℕ};
 
     ghost Value = { List ℕ };
 
-    ghost view = { λ a. a.ids.items };
+    ghost view = { λ a. a.0.items };
 }
 
 impl Ids {
@@ -29,7 +27,7 @@ impl Ids {
     pub fn as_slice(&self) -> &[u64]
         ensures { result.now ≡ self.now }
     {
-        self.ids.as_slice()
+        self.0.as_slice()
     }
 }
 
@@ -40,9 +38,7 @@ impl Config {
         ensures ids { IfOk result (λ ids. ids ≡ ids_of kind self.now.map) }
         ensures memory { OnErr result (0 < length (ids_of kind self.now.map)) }
     {
-        Ok(Ids {
-            ids: self.rows.ids(alloc, kind)?,
-        })
+        Ok(Ids(self.rows.ids(alloc, kind)?))
     }
 }
 

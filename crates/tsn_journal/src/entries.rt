@@ -166,9 +166,7 @@ impl Entry {
 
 /// Copies of entries, in the order of their numbers, seen as the list of them.
 #[derive(Debug, Drop)]
-pub struct Entries {
-    items: Vec<Entry>,
-}
+pub struct Entries(Vec<Entry>);
 
 impl Model for Entries {
     ghost use Rattle.std.specs.Prelude.{List};
@@ -176,7 +174,7 @@ impl Model for Entries {
 
     ghost Value = { List Entry };
 
-    ghost view = { λ a. a.items.items };
+    ghost view = { λ a. a.0.items };
 }
 
 impl Entries {
@@ -184,16 +182,14 @@ impl Entries {
     pub fn as_slice(&self) -> &[Entry]
         ensures { result.now ≡ self.now }
     {
-        &self.items
+        &self.0
     }
 
     /// Copies of the marked entries. Refused only for want of memory.
     pub(crate) fn copies_of(alloc: Global, marked: &[MarkedEntry]) -> Result<Entries, AllocError>
         ensures { IfOk result (λ copies. copies ≡ entries_of marked.now) }
     {
-        Ok(Entries {
-            items: copied(alloc, marked)?,
-        })
+        Ok(Entries(copied(alloc, marked)?))
     }
 }
 
