@@ -1,4 +1,4 @@
-use Rattle.std.proofs.Common.{◌≡◌, [], sym, subst, ◌∙◌, ap, length, arith}
+use Rattle.std.proofs.Common.{[], sym, subst, ◌∙◌, ap, arith}
 use Rattle.tsn_journal.specs.Entries.{added_parts}
 use Rattle.tsn_journal.specs.Index.{HasRoom, TakesRoom, nodes_for}
 use Rattle.tsn_journal.proofs.Keeping.{indexed_same}
@@ -13,24 +13,20 @@ returns-in-Undone-clause-index c =
 
 pub enter_change-requires-clause-room : goal.enter_change-requires-clause-room
 enter_change-requires-clause-room c =
-    let count : length c.in-Made.change ≡ c.args.parts = sym (ap added_parts c.in-Made.is)
-    ∙ c.requires.parts c.numbered.result.now c.numbered.ensures in
-    subst (λ n. HasRoom (nodes_for 1 n) c.args.self.now) (sym count) c.requires.room
+    subst (λ n. HasRoom (nodes_for 1 n) c.args.self.now)
+    (sym (c.requires.parts c.numbered.result.now c.numbered.ensures) ∙ ap added_parts c.in-Made.is) c.requires.room
 
 pub returns-in-Made-clause-room : goal.returns-in-Made-clause-room
 returns-in-Made-clause-room c =
-    let count : length c.in-Made.change ≡ c.args.parts = sym (ap added_parts c.in-Made.is)
-    ∙ c.requires.parts c.numbered.result.now c.numbered.ensures in
-    subst (λ n. TakesRoom (nodes_for 1 n) c.args.self.now c.enter_change.new.self) count c.enter_change.ensures.room
+    subst (λ n. TakesRoom (nodes_for 1 n) c.args.self.now c.enter_change.new.self)
+    (sym (ap added_parts c.in-Made.is) ∙ c.requires.parts c.numbered.result.now c.numbered.ensures) c.enter_change.ensures.room
 
 pub enter_change-requires-in-Redone-clause-room : goal.enter_change-requires-in-Redone-clause-room
 enter_change-requires-in-Redone-clause-room c =
-    let count : length c.in-Redone.change ≡ c.args.parts = sym (ap added_parts c.in-Redone.is)
-    ∙ c.requires.parts c.numbered.result.now c.numbered.ensures in
-    subst (λ n. HasRoom (nodes_for 1 n) c.args.self.now) (sym count) c.requires.room
+    subst (λ n. HasRoom (nodes_for 1 n) c.args.self.now)
+    (sym (c.requires.parts c.numbered.result.now c.numbered.ensures) ∙ ap added_parts c.in-Redone.is) c.requires.room
 
 pub returns-in-Redone-clause-room : goal.returns-in-Redone-clause-room
 returns-in-Redone-clause-room c =
-    let count : length c.in-Redone.change ≡ c.args.parts = sym (ap added_parts c.in-Redone.is)
-    ∙ c.requires.parts c.numbered.result.now c.numbered.ensures in
-    subst (λ n. TakesRoom (nodes_for 1 n) c.args.self.now c.enter_change-in-Redone.new.self) count c.enter_change-in-Redone.ensures.room
+    subst (λ n. TakesRoom (nodes_for 1 n) c.args.self.now c.enter_change-in-Redone.new.self)
+    (sym (ap added_parts c.in-Redone.is) ∙ c.requires.parts c.numbered.result.now c.numbered.ensures) c.enter_change-in-Redone.ensures.room
