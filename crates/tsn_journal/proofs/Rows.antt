@@ -1,5 +1,5 @@
 -- The newest nodes of groups when one row of a key or a session is set.
-use Rattle.std.proofs.Common.{◌≡◌, ℕ, Bool, true, cond, ◌∙◌, ap, Option, Some, None, arith}
+use Rattle.std.proofs.Common.{◌≡◌, ℕ, Bool, true, cond, sym, ◌∙◌, ap, Option, Some, None, arith}
 use Rattle.std.proofs.lemmas.Grind.{common_steps}
 use Rattle.std.specs.Prelude.{◌==◌}
 use Rattle.std.specs.Ordering.{nat_cmp, eq_by_cmp}
@@ -7,7 +7,6 @@ use Rattle.std.specs.FinMap.{FinMap, empty, get, get-empty, get-insert, insert}
 use Rattle.std.proofs.lemmas.Cmp.{nat_cmp_total}
 use Rattle.tsn_edit.proofs.Conflicting.{same_key_swap}
 use Rattle.tsn_types.specs.declared.keys.Key.{Key}
-use Rattle.tsn_types.specs.declared.keys.Key.TheVariants.{Port, Filter, Gate, Meter}
 use Rattle.tsn_types.specs.Keys.{same_key}
 use Rattle.tsn_edit.proofs.KeyFacts.{one_key}
 use Rattle.tsn_journal.specs.declared.groups.Group.{Group}
@@ -15,6 +14,7 @@ use Rattle.tsn_journal.specs.declared.groups.Group.TheVariants.{On, RefersTo, Of
 use Rattle.tsn_journal.specs.declared.latest_rows.Latest.{Latest}
 use Rattle.tsn_journal.specs.declared.latest_rows.KeyNodes.{KeyNodes}
 use Rattle.tsn_journal.specs.declared.latest_rows.SessionNodes.{SessionNodes}
+use Rattle.tsn_journal.specs.Index.{set_at}
 use Rattle.tsn_journal.specs.Latest.{ends_of, key_row, latest_of, on_of, referred_of, refers_of, same_group, session_row, standing_of, touched_of}
 
 -- numbers are told apart by their order
@@ -47,6 +47,19 @@ module _ (l k : Latest) (key : Key) (row : KeyNodes) (rows : (q : Key) → key_r
       → latest_of k q ≡ cond (same_group (RefersTo key) q) row.refers (latest_of l q)
   set_refers same q = grind (arith, common_steps, set_on', same_either, one_key, set_refers', session_same)
 
+-- the same of a row that was set where the newest nodes were these
+module _ (l mid k : Latest) (same : mid ≡ l) (key : Key) (row : KeyNodes)
+    (rows : (q : Key) → key_row k q ≡ cond (same_key q key) (Some row) (key_row mid q)) (sessions : k.sessions ≡ mid.sessions) where
+  pub enters_on : row.refers ≡ refers_of (key_row l key) → (q : Group) → latest_of k q ≡ set_at (On key) row.on (latest_of l) q
+  enters_on refers q =
+      set_on mid k key row rows sessions (refers ∙ ap (λ (x : Latest). refers_of (key_row x key)) (sym same)) q
+      ∙ ap (λ (x : Latest). set_at (On key) row.on (latest_of x) q) same
+
+  pub enters_ref : row.on ≡ on_of (key_row l key) → (q : Group) → latest_of k q ≡ set_at (RefersTo key) row.refers (latest_of l) q
+  enters_ref on q =
+      set_refers mid k key row rows sessions (on ∙ ap (λ (x : Latest). on_of (key_row x key)) (sym same)) q
+      ∙ ap (λ (x : Latest). set_at (RefersTo key) row.refers (latest_of x) q) same
+
 module _ (l k : Latest) (session : ℕ) (row : SessionNodes) (sessions : k.sessions.map ≡ insert l.sessions.map session row)
     (keys : (q : Key) → key_row k q ≡ key_row l q) where
   row_at : (s : ℕ) → session_row k s ≡ cond (session == s) (Some row) (session_row l s)
@@ -67,22 +80,6 @@ module _ (l k : Latest) (session : ℕ) (row : SessionNodes) (sessions : k.sessi
 module _ (m n : FinMap nat_cmp KeyNodes) (number : ℕ) (row : KeyNodes) (put : n ≡ insert m number row) where
   pub row_put : (q : ℕ) → get n q ≡ cond (eq_by_cmp nat_cmp q number) (Some row) (get m q)
   row_put q = ap (λ (t : FinMap nat_cmp KeyNodes). get t q) put ∙ get-insert nat_cmp_total m number row q
-
-pub port_put : (l k : Latest) (n : ℕ) (row : KeyNodes) → k.ports.map ≡ insert l.ports.map n row → k.filters ≡ l.filters → k.gates ≡ l.gates
-    → k.meters ≡ l.meters → (q : Key) → key_row k q ≡ cond (same_key q (Port n)) (Some row) (key_row l q)
-port_put l k n row put f g m q = grind (arith, row_put)
-
-pub filter_put : (l k : Latest) (n : ℕ) (row : KeyNodes) → k.filters.map ≡ insert l.filters.map n row → k.ports ≡ l.ports
-    → k.gates ≡ l.gates → k.meters ≡ l.meters → (q : Key) → key_row k q ≡ cond (same_key q (Filter n)) (Some row) (key_row l q)
-filter_put l k n row put p g m q = grind (arith, row_put)
-
-pub gate_put : (l k : Latest) (n : ℕ) (row : KeyNodes) → k.gates.map ≡ insert l.gates.map n row → k.ports ≡ l.ports → k.filters ≡ l.filters
-    → k.meters ≡ l.meters → (q : Key) → key_row k q ≡ cond (same_key q (Gate n)) (Some row) (key_row l q)
-gate_put l k n row put p f m q = grind (arith, row_put)
-
-pub meter_put : (l k : Latest) (n : ℕ) (row : KeyNodes) → k.meters.map ≡ insert l.meters.map n row → k.ports ≡ l.ports
-    → k.filters ≡ l.filters → k.gates ≡ l.gates → (q : Key) → key_row k q ≡ cond (same_key q (Meter n)) (Some row) (key_row l q)
-meter_put l k n row put p f g q = grind (arith, row_put)
 
 -- tables with no row have no node in any group
 no_key_row : (m : FinMap nat_cmp KeyNodes) (n : ℕ) → m ≡ empty → get m n ≡ None

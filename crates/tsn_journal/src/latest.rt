@@ -118,7 +118,7 @@ impl Latest {
 
     /// Sets the row of the key. A key that has one takes no room, and one that has none takes a row of its
     /// kind.
-    #[tactic(auto, using(crate::proofs::Rows::port_put, crate::proofs::Rows::filter_put, crate::proofs::Rows::gate_put, crate::proofs::Rows::meter_put))]
+    #[tactic(auto, using(crate::proofs::Rows::row_put))]
     pub(crate) fn set_key(&mut self, key: Key, row: KeyNodes)
         requires { IsSome (key_row self.old key) ⊎ HasRows 1 self.old }
         ensures rows { (q : AnyKey) → key_row self.new q ≡ (if same_key q key then Some row else key_row self.old q) }
@@ -126,24 +126,13 @@ impl Latest {
         ensures room { TakesRows 1 self.old self.new }
         ensures same_room { IsSome (key_row self.old key) → TakesRows 0 self.old self.new }
     {
-        match key {
-            Key::Port(number) => {
-                let before = self.ports.put(number.get(), row);
-                self.sure = sure_after(self.sure, before.is_some());
-            }
-            Key::Filter(number) => {
-                let before = self.filters.put(number.get(), row);
-                self.sure = sure_after(self.sure, before.is_some());
-            }
-            Key::Gate(number) => {
-                let before = self.gates.put(number.get(), row);
-                self.sure = sure_after(self.sure, before.is_some());
-            }
-            Key::Meter(number) => {
-                let before = self.meters.put(number.get(), row);
-                self.sure = sure_after(self.sure, before.is_some());
-            }
-        }
+        let before = match key {
+            Key::Port(number) => self.ports.put(number.get(), row),
+            Key::Filter(number) => self.filters.put(number.get(), row),
+            Key::Gate(number) => self.gates.put(number.get(), row),
+            Key::Meter(number) => self.meters.put(number.get(), row),
+        };
+        self.sure = sure_after(self.sure, before.is_some());
     }
 
     /// Sets the newest nodes of the session. A session that has some takes no room, and one that has none takes a row.
