@@ -17,9 +17,9 @@ back-smaller-then-is_of c =
 
 pub back-preserved-then-is_of : goal.back-preserved-then-is_of
 back-preserved-then-is_of c =
-    let here = node_there _ _ _ c.back-test.true c.back.invariant.within c.index-found.ensures in
     hop c.args.marked.now c.args.self.now.nodes.items c.args.group.now c.back.node c.index-found.result.now c.back.invariant.group
-    here c.requires.index.nodes c.args.session (length c.args.marked.now + 1) c.back.invariant
+    (node_there _ _ _ c.back-test.true c.back.invariant.within c.index-found.ensures) c.requires.index.nodes c.args.session
+    (length c.args.marked.now + 1) c.back.invariant
     (ap (is_by c.args.session) c.numbered-entry.ensures ∙ sym c.is_of.ensures ∙ c.if-is_of.true)
 
 pub returns-then-is_in : goal.returns-then-is_in
@@ -39,9 +39,9 @@ back-smaller c =
 
 pub back-preserved : goal.back-preserved
 back-preserved c =
-    let here = node_there _ _ _ c.back-test.true c.back.invariant.within c.index-found.ensures in
     step c.args.marked.now c.args.self.now.nodes.items c.args.group.now c.back.node c.index-found.result.now c.back.invariant.group
-    here c.requires.index.nodes (belongs_to_others c.args.group.now c.args.session) (length c.args.marked.now + 1)
+    (node_there _ _ _ c.back-test.true c.back.invariant.within c.index-found.ensures) c.requires.index.nodes
+    (belongs_to_others c.args.group.now c.args.session) (length c.args.marked.now + 1)
     (not_of_others c.args.group.now c.args.session) c.back.invariant c.numbered-entry.result.now c.numbered-entry.ensures
     (not_of_others c.args.group.now c.args.session c.numbered-entry.result.now (sym c.is_in.ensures ∙ c.if-is_in.false))
 
