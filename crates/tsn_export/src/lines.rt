@@ -1,5 +1,5 @@
 //! The lines of members, each of which has one of its own.
-ghost use Rattle.std.specs.Prelude.{◌≡◌, ◌++◌, OnOk};
+ghost use Rattle.std.specs.Prelude.{◌≡◌, ◌++◌, OnOk, codes};
 ghost use Rattle.tsn_export.specs.Text.{flag_line, list_lines, number_line, number_or_none_line};
 
 use crate::entries::EntryLine;
@@ -11,8 +11,7 @@ impl PlainText {
     pub(crate) fn number_line(&mut self, name: &str, number: u64) -> Result<(), AllocError>
         ensures { OnOk result (self.new ≡ self.old ++ number_line name.now number) }
     {
-        self.push(name)?;
-        self.push(" = ")?;
+        self.begin_line(name)?;
         self.push_number(number)?;
         self.push("\n")
     }
@@ -35,10 +34,17 @@ impl PlainText {
     pub(crate) fn flag_line(&mut self, name: &str, flag: bool) -> Result<(), AllocError>
         ensures { OnOk result (self.new ≡ self.old ++ flag_line name.now flag) }
     {
-        self.push(name)?;
-        self.push(" = ")?;
+        self.begin_line(name)?;
         self.push_flag(flag)?;
         self.push("\n")
+    }
+
+    // Puts what stands before the value of a member at the end.
+    fn begin_line(&mut self, name: &str) -> Result<(), AllocError>
+        ensures { OnOk result (self.new ≡ self.old ++ name.now ++ codes " = ") }
+    {
+        self.push(name)?;
+        self.push(" = ")
     }
 
     // Puts the lines of a list at the end.
