@@ -9,8 +9,7 @@ use Rattle.tsn_export.proofs.text.PlainText.push_kind.Goals as goal
 
 pub key_of-requires : goal.key_of-requires
 key_of-requires c =
-    number_at c.args.config.now.limits c.args.config.now.map c.requires c.args.kind c.as_slice-id-items.result.now c.loop-id.id-index
-    (c.as_slice-id-items.ensures ∙ c.in_ok-ids.ensures.ids) c.loop-id-test.true
+    number_at _ _ c.requires c.args.kind _ c.loop-id.id-index (c.as_slice-id-items.ensures ∙ c.in_ok-ids.ensures.ids) c.loop-id-test.true
 
 pub loop-id-preserved : goal.loop-id-preserved
 loop-id-preserved c =
