@@ -12,9 +12,7 @@ pub const LONGEST_NAME: usize = 64;
 /// A name by which a session is known: 1 to 64 bytes of UTF-8 with no control character (a code point below 32, or from
 /// 127 to 159). Contracts see it as the list of its bytes.
 #[derive(Debug, Drop)]
-pub struct SessionName {
-    bytes: Vec<u8>,
-}
+pub struct SessionName(Vec<u8>);
 
 impl Model for SessionName {
     ghost use Rattle.std.specs.Prelude.{◌≡◌, ℕ, List, true};
@@ -22,9 +20,9 @@ impl Model for SessionName {
 
     ghost Value = { List ℕ };
 
-    ghost view = { λ a. a.bytes.items };
+    ghost view = { λ a. a.0.items };
 
-    ghost invariant = { λ a. is_name a.bytes.items ≡ true };
+    ghost invariant = { λ a. is_name a.0.items ≡ true };
 }
 
 impl SessionName {
@@ -36,7 +34,7 @@ impl SessionName {
             return Ok(None);
         }
         let bytes = Vec::from_slice(alloc, text.as_bytes())?;
-        Ok(Some(SessionName { bytes }))
+        Ok(Some(SessionName(bytes)))
     }
 
     /// The bytes of the name.
@@ -44,30 +42,28 @@ impl SessionName {
         ensures bytes { result.now ≡ self.now }
         ensures name { is_name self.now ≡ true }
     {
-        self.bytes.as_slice()
+        self.0.as_slice()
     }
 
     /// Tells a proof that the text may be a name. It does nothing else.
     pub fn recall_range(&self)
         ensures { is_name self.now ≡ true }
     {
-        let _ = &self.bytes;
+        let _ = &self.0;
     }
 
     /// Whether the other name is the same.
     pub fn is(&self, other: &SessionName) -> bool
         ensures { result ≡ bytes_eq self.now other.now }
     {
-        self.bytes.as_slice() == other.bytes.as_slice()
+        self.0.as_slice() == other.0.as_slice()
     }
 
     /// A copy that equals its source.
     pub fn try_clone(&self) -> Result<SessionName, AllocError>
         ensures { IfOk result (λ copy. copy ≡ self.now) }
     {
-        Ok(SessionName {
-            bytes: self.bytes.clone()?,
-        })
+        Ok(SessionName(self.0.clone()?))
     }
 }
 
