@@ -1,5 +1,5 @@
 -- Tests of a colour.
-use Rattle.std.specs.Prelude.{Bool, true, false}
+use Rattle.std.specs.Prelude.{Bool, true, false, not}
 use Rattle.tsn_meter.specs.declared.bucket.Colour.{Colour}
 use Rattle.tsn_meter.specs.declared.bucket.Colour.TheVariants.{Green, Yellow, Red}
 
@@ -17,5 +17,4 @@ is_red c = false
 
 -- what passes a meter is green or yellow
 abbrev pub is_passed : Colour → Bool
-is_passed Red = false
-is_passed c = true
+is_passed c = not (is_red c)
