@@ -38,24 +38,15 @@ fn count_from<R: Wait + Abort>(
     seat
 }
 
-/// Adds 1 four times behind a locked door and once at the door, so many times.
-fn count_in_lots<R: Wait + Abort>(
-    rt: &R,
-    desk: &Desk<Tally>,
-    seat: Seat<Tally>,
-    times: u64,
-) -> Seat<Tally>
+/// Adds 1 four times behind a locked door and once at the door.
+fn count_lot<R: Wait + Abort>(rt: &R, desk: &Desk<Tally>, seat: Seat<Tally>) -> Seat<Tally>
     requires { IsSeatOf desk.now seat }
     ensures { IsSeatOf desk.now result }
 {
-    let mut seat = seat;
-    for _ in 0..times {
-        desk.lock_door(rt);
-        let inside = count_from(rt, desk, Standing::Inside, seat, 4);
-        desk.open_door();
-        seat = count_from(rt, desk, Standing::AtTheDoor, inside, 1);
-    }
-    seat
+    desk.lock_door(rt);
+    let inside = count_from(rt, desk, Standing::Inside, seat, 4);
+    desk.open_door();
+    count_from(rt, desk, Standing::AtTheDoor, inside, 1)
 }
 
 /// Lets each seat count in a thread of its own, in lots or one by one.
@@ -74,11 +65,15 @@ fn count_together<R: Threads + Wait + Abort + Sync>(
         requires { IsSeatOf desk.now seat }
         ensures { IsSeatOf desk.entry.now result }
     {
-        if in_lots {
-            count_in_lots(rt, desk, seat, times)
-        } else {
-            count_from(rt, desk, Standing::AtTheDoor, seat, times)
+        let mut seat = seat;
+        for _ in 0..times {
+            seat = if in_lots {
+                count_lot(rt, desk, seat)
+            } else {
+                count_from(rt, desk, Standing::AtTheDoor, seat, 1)
+            };
         }
+        seat
     };
     thread::map_vec(rt, seats, &count)
 }
