@@ -324,9 +324,7 @@ fn sent<R: Threads + Sync>(rt: &R, sets: Vec<Numbers>) -> Result<Vec<Numbers>, A
 #[test]
 fn threads_share_a_set(rt: HostRuntime) -> Result<(), Fail> {
     let numbers = three_numbers(rt.alloc())?;
-    let (first, second) = found_by_two(&rt, &numbers);
-    same(&rt, &first, &Some(1));
-    same(&rt, &second, &Some(6));
+    same(&rt, &found_by_two(&rt, &numbers), &(Some(1), Some(6)));
     Ok(())
 }
 

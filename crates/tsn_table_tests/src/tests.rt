@@ -220,8 +220,6 @@ fn found_by_two<R: Threads + Sync>(rt: &R, table: &Table<u64>) -> (Option<u64>, 
 #[test]
 fn threads_share_a_table(rt: HostRuntime) -> Result<(), Fail> {
     let table = three_rows(rt.alloc())?;
-    let (first, second) = found_by_two(&rt, &table);
-    same(&rt, &first, &Some(40));
-    same(&rt, &second, &Some(60));
+    same(&rt, &found_by_two(&rt, &table), &(Some(40), Some(60)));
     Ok(())
 }
