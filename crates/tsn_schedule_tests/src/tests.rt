@@ -326,16 +326,12 @@ fn one_list_by_its_offsets(rt: HostRuntime) -> Result<(), Fail> {
 /// A port's schedule of the most entries: gates 1, and 128 in the last one.
 fn largest_plan(alloc: Global) -> Result<Schedule<PortEntry>, Fail> {
     let mut list = ControlList::new(alloc);
-    for _ in 0..1023 {
+    for place in 0..1024u32 {
         list.push(PortEntry {
-            gates: 1,
+            gates: if place < 1023 { 1 } else { 128 },
             interval: Interval::new(2).unwrap(),
         })?;
     }
-    list.push(PortEntry {
-        gates: 128,
-        interval: Interval::new(2).unwrap(),
-    })?;
     Ok(Schedule {
         list,
         cycle: Cycle::new(2048).unwrap(),
