@@ -14,7 +14,7 @@ use Rattle.tsn_undo.specs.UndoAll.{with_undone}
 use Rattle.tsn_undo.proofs.UndoAll.{length-taken}
 use Rattle.tsn_chain.specs.Following.{frames_after, runners_after}
 use Rattle.tsn_chain.specs.Instances.{FrameData, Instances, Runners}
-use Rattle.tsn_bridge.specs.Together.{followed, followed_by, undone_by}
+use Rattle.tsn_bridge.specs.Together.{Follows, followed, followed_by, undone_by}
 
 -- an entry of another number is found as before
 front : (es : List Entry) (w : Entry) (n : ℕ) → (w.number == n) ≡ false → entry (es ++ w ∷ []) n ≡ entry es n
@@ -84,6 +84,11 @@ pub record FollowsEntry (b b' : Ledger) (s : ℕ) (w : What) (e : Change) (t t' 
   pub runners : t'.runners ≡ runners_after t.runners e
   pub frames : t'.frames ≡ frames_after t.time t.frames e
   pub time : t'.time ≡ t.time
+
+-- and so did what contracts see of it
+pub follows : {b b' : Ledger} {s : ℕ} {w : What} {e : Change} {t t' : Instances} → FollowsEntry b b' s w e t t'
+    → Follows (record { ledger = b; time = t.time; frames = t.frames }) e (record { ledger = b'; time = t'.time; frames = t'.frames })
+follows f = record { frames = f.frames; time = f.time }
 
 -- the runtime followed the taking back of all of xs, the last of them first
 pub record FollowsUndone (xs : List Applied) (t t' : Instances) : Type 0 where

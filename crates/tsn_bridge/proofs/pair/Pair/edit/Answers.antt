@@ -5,7 +5,7 @@ use Rattle.tsn_journal.specs.declared.entries.What.TheVariants.{Made}
 use Rattle.tsn_undo.specs.Ledger.{present}
 use Rattle.tsn_bridge.specs.Pair.{PairState}
 use Rattle.tsn_bridge.specs.Together.{Follows}
-use Rattle.tsn_bridge.proofs.Pushed.{FollowsEntry, follows_entry}
+use Rattle.tsn_bridge.proofs.Pushed.{FollowsEntry, follows, follows_entry}
 use Rattle.tsn_bridge.proofs.Tied.{tied_entry}
 use Rattle.tsn_bridge.proofs.pair.Pair.edit.Goals.{After-follow}
 use Rattle.tsn_bridge.proofs.pair.Pair.edit.Goals as goal
@@ -30,7 +30,6 @@ invariant_of-self-2 c =
 
 pub returns-clause-follows : goal.returns-clause-follows
 returns-clause-follows c =
-    let f = followed (goal.at.returns-clause-follows c).After-follow in
     subst (λ (p : PairState). Follows p (change_of (present p.ledger) c.args.batch)
     (record { ledger = c.edit.new.self.ledger; time = c.follow.new.runtime.time; frames = c.follow.new.runtime.frames })) c.self.view_is
-    (record { frames = f.frames; time = f.time })
+    (follows (followed (goal.at.returns-clause-follows c).After-follow))

@@ -4,7 +4,7 @@ use Rattle.tsn_journal.specs.Entries.{undone}
 use Rattle.tsn_undo.specs.Steps.{TakesBack}
 use Rattle.tsn_bridge.specs.Pair.{PairState}
 use Rattle.tsn_bridge.specs.Together.{Follows}
-use Rattle.tsn_bridge.proofs.Pushed.{FollowsEntry, follows_entry}
+use Rattle.tsn_bridge.proofs.Pushed.{FollowsEntry, follows, follows_entry}
 use Rattle.tsn_bridge.proofs.Tied.{tied_entry}
 use Rattle.tsn_bridge.proofs.pair.Pair.undo.Goals.{After-follow}
 use Rattle.tsn_bridge.proofs.pair.Pair.undo.Goals as goal
@@ -27,9 +27,8 @@ invariant_of-self-2 c =
 
 pub returns-clause-made : goal.returns-clause-made
 returns-clause-made c =
-    let f = followed (goal.at.returns-clause-made c).After-follow in
     let new : PairState = record { ledger = c.undo.new.self.ledger; time = c.follow.new.runtime.time; frames = c.follow.new.runtime.frames }
     in
     subst (λ (p : PairState). (is : TakesBack p.ledger c.args.session c.in_ok-number.number c.in_ok-number.of new.ledger)
     × Follows p (inverse is.newest.change) new) c.self.view_is
-    (c.in_ok-number.ensures.ok, record { frames = f.frames; time = f.time })
+    (c.in_ok-number.ensures.ok, follows (followed (goal.at.returns-clause-made c).After-follow))
