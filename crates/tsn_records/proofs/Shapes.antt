@@ -109,10 +109,8 @@ unfolding port_entry_shape
 port_entry_has look d x h =
     steps (look.only_entry kinds.Port d) _ x h (λ only only_is only_next.
     steps (look.number (look.part 0 (codes "gates") d)) _ x only_next (λ gates gates_is gates_next.
-    steps (look.number (look.part 1 (codes "interval") d)) _ x gates_next (λ interval interval_is interval_next.
-    let found : PortEntryDraft = record { gates = gates; interval = interval } in
-    subst (PortEntryHas look d) (one (Ok found) found x refl interval_next)
-    (record { only = only_is; gates = gates_is; interval = interval_is }))))
+    last_step (look.number (look.part 1 (codes "interval") d)) x (PortEntryHas look d) (λ interval. record { gates = gates; interval = interval })
+    gates_next (λ interval interval_is. record { only = only_is; gates = gates_is; interval = interval_is })))
 
 pub gate_entry_has : {D : Type 0} (look : Look D) (d : D) (x : GateEntryDraft) → gate_entry_shape look d ≡ Ok x → GateEntryHas look d x
 unfolding gate_entry_shape
@@ -121,10 +119,9 @@ gate_entry_has look d x h =
     steps (look.flag (look.part 0 (codes "open") d)) _ x only_next (λ is_open is_open_is is_open_next.
     steps (look.number_or_none (look.part 1 (codes "ipv") d)) _ x is_open_next (λ ipv ipv_is ipv_next.
     steps (look.number (look.part 2 (codes "interval") d)) _ x ipv_next (λ interval interval_is interval_next.
-    steps (look.number_or_none (look.part 3 (codes "octets") d)) _ x interval_next (λ octets octets_is octets_next.
-    let found : GateEntryDraft = record { is_open = is_open; ipv = ipv; interval = interval; octets = octets } in
-    subst (GateEntryHas look d) (one (Ok found) found x refl octets_next)
-    (record { only = only_is; is_open = is_open_is; ipv = ipv_is; interval = interval_is; octets = octets_is }))))))
+    last_step (look.number_or_none (look.part 3 (codes "octets") d)) x (GateEntryHas look d)
+    (λ octets. record { is_open = is_open; ipv = ipv; interval = interval; octets = octets }) interval_next
+    (λ octets octets_is. record { only = only_is; is_open = is_open_is; ipv = ipv_is; interval = interval_is; octets = octets_is })))))
 
 pub port_entry_of : {D : Type 0} (look : Look D) (d : D) (x : PortEntryDraft) → PortEntryHas look d x → port_entry_shape look d ≡ Ok x
 unfolding port_entry_shape

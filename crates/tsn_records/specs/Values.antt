@@ -1,5 +1,5 @@
 -- The members of a record as values, in the order of the table of members: which of them is which.
-use Rattle.std.specs.Prelude.{ℕ, List, [], ◌∷◌, Bool, false, Option, Some, None, map, slice_get, ⊤}
+use Rattle.std.specs.Prelude.{ℕ, ◌+◌, List, [], ◌∷◌, Bool, false, Option, Some, None, map, slice_get, ⊤}
 use Rattle.tsn_records.specs.declared.allowed.Allowed.{Allowed}
 use Rattle.tsn_records.specs.declared.allowed.Allowed.TheVariants as allowed
 use Rattle.tsn_types.specs.declared.keys.Kind.{Kind}
@@ -58,46 +58,47 @@ or_unread (Some v) = v
 abbrev pub value_at : ℕ → List MemberDraft → MemberDraft
 value_at i vs = or_unread (slice_get vs i)
 
+-- what the member at a place holds
+abbrev number_at : ℕ → List MemberDraft → ℕ
+number_at i vs = number_in (value_at i vs)
+
+abbrev maybe_at : ℕ → List MemberDraft → Option ℕ
+maybe_at i vs = number_or_none_in (value_at i vs)
+
+abbrev flag_at : ℕ → List MemberDraft → Bool
+flag_at i vs = flag_in (value_at i vs)
+
+-- the schedule of those entries, whose times are the members from a place on
+abbrev schedule_at : {E : Type 0} → List E → ℕ → List MemberDraft → ScheduleDraft E
+schedule_at list i vs = record { list = list; cycle = number_at i vs; extension = number_at (i + 1) vs; base = number_at (i + 2) vs }
+
 -- the record of a kind that has these members
 unfoldable pub typed : Kind → List MemberDraft → RecordDraft
-typed kinds.Port vs = Port (record {
-  gates = number_in (value_at 0 vs);
-  admin = record {
-    list = entries_of_port (value_at 1 vs);
-    cycle = number_in (value_at 2 vs);
-    extension = number_in (value_at 3 vs);
-    base = number_in (value_at 4 vs);
-  };
-})
+typed kinds.Port vs = Port (record { gates = number_at 0 vs; admin = schedule_at (entries_of_port (value_at 1 vs)) 2 vs })
 typed kinds.Filter vs = Filter (record {
-  handle = number_or_none_in (value_at 0 vs);
-  priority = number_or_none_in (value_at 1 vs);
-  gate = number_in (value_at 2 vs);
-  max_sdu = number_or_none_in (value_at 3 vs);
-  meter = number_or_none_in (value_at 4 vs);
-  oversize = flag_in (value_at 5 vs);
+  handle = maybe_at 0 vs;
+  priority = maybe_at 1 vs;
+  gate = number_at 2 vs;
+  max_sdu = maybe_at 3 vs;
+  meter = maybe_at 4 vs;
+  oversize = flag_at 5 vs;
 })
 typed kinds.Gate vs = Gate (record {
-  is_open = flag_in (value_at 0 vs);
-  ipv = number_or_none_in (value_at 1 vs);
-  admin = record {
-    list = entries_of_gate (value_at 2 vs);
-    cycle = number_in (value_at 3 vs);
-    extension = number_in (value_at 4 vs);
-    base = number_in (value_at 5 vs);
-  };
-  invalid_rx = flag_in (value_at 6 vs);
-  octets_exceeded = flag_in (value_at 7 vs);
+  is_open = flag_at 0 vs;
+  ipv = maybe_at 1 vs;
+  admin = schedule_at (entries_of_gate (value_at 2 vs)) 3 vs;
+  invalid_rx = flag_at 6 vs;
+  octets_exceeded = flag_at 7 vs;
 })
 typed kinds.Meter vs = Meter (record {
-  cir = number_in (value_at 0 vs);
-  cbs = number_in (value_at 1 vs);
-  eir = number_in (value_at 2 vs);
-  ebs = number_in (value_at 3 vs);
-  cf = flag_in (value_at 4 vs);
-  aware = flag_in (value_at 5 vs);
-  drop_yellow = flag_in (value_at 6 vs);
-  all_red = flag_in (value_at 7 vs);
+  cir = number_at 0 vs;
+  cbs = number_at 1 vs;
+  eir = number_at 2 vs;
+  ebs = number_at 3 vs;
+  cf = flag_at 4 vs;
+  aware = flag_at 5 vs;
+  drop_yellow = flag_at 6 vs;
+  all_red = flag_at 7 vs;
 })
 
 -- the kind of a record
@@ -112,30 +113,12 @@ abbrev pub values_of : RecordDraft → List MemberDraft
 values_of (Port r) =
     Number r.gates ∷ PortList r.admin.list ∷ Number r.admin.cycle ∷ Number r.admin.extension ∷ Number r.admin.base ∷ []
 values_of (Filter r) =
-    Maybe r.handle ∷
-    Maybe r.priority ∷
-    Number r.gate ∷
-    Maybe r.max_sdu ∷
-    Maybe r.meter ∷
-    Flag r.oversize ∷ []
+    Maybe r.handle ∷ Maybe r.priority ∷ Number r.gate ∷ Maybe r.max_sdu ∷ Maybe r.meter ∷ Flag r.oversize ∷ []
 values_of (Gate r) =
-    Flag r.is_open ∷
-    Maybe r.ipv ∷
-    GateList r.admin.list ∷
-    Number r.admin.cycle ∷
-    Number r.admin.extension ∷
-    Number r.admin.base ∷
-    Flag r.invalid_rx ∷
-    Flag r.octets_exceeded ∷ []
+    Flag r.is_open ∷ Maybe r.ipv ∷ GateList r.admin.list ∷ Number r.admin.cycle ∷ Number r.admin.extension ∷ Number r.admin.base ∷
+    Flag r.invalid_rx ∷ Flag r.octets_exceeded ∷ []
 values_of (Meter r) =
-    Number r.cir ∷
-    Number r.cbs ∷
-    Number r.eir ∷
-    Number r.ebs ∷
-    Flag r.cf ∷
-    Flag r.aware ∷
-    Flag r.drop_yellow ∷
-    Flag r.all_red ∷ []
+    Number r.cir ∷ Number r.cbs ∷ Number r.eir ∷ Number r.ebs ∷ Flag r.cf ∷ Flag r.aware ∷ Flag r.drop_yellow ∷ Flag r.all_red ∷ []
 
 -- a member is a number, a number or none, a flag, or a list of a kind's entries
 abbrev pub IsNumber : MemberDraft → Type 0
@@ -197,16 +180,8 @@ filter_draft r =
     record { handle = r.handle; priority = r.priority; gate = r.gate; max_sdu = r.max_sdu; meter = r.meter; oversize = r.oversize }
 
 abbrev pub meter_draft : FlowMeter → MeterDraft
-meter_draft r = record {
-  cir = r.cir;
-  cbs = r.cbs;
-  eir = r.eir;
-  ebs = r.ebs;
-  cf = r.cf;
-  aware = r.aware;
-  drop_yellow = r.drop_yellow;
-  all_red = r.all_red;
-}
+meter_draft r =
+    record { cir = r.cir; cbs = r.cbs; eir = r.eir; ebs = r.ebs; cf = r.cf; aware = r.aware; drop_yellow = r.drop_yellow; all_red = r.all_red }
 
 abbrev pub record_draft : Record → RecordDraft
 record_draft (records.Port r) = Port (port_draft r)
