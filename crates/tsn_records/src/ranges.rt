@@ -33,12 +33,19 @@ fn gates(number: u64, field: Field) -> Result<u8, Unread>
     u8::try_from(number).map_err(|_| Unread::Range(field))
 }
 
-fn priority(number: Option<u64>, field: Field) -> Result<Option<Priority>, Unread>
+/// The priority, or refusal 4 of the member.
+pub fn priority(number: u64, field: Field) -> Result<Priority, Unread>
+    ensures { result ≡ within field 0 greatest_priority number }
+{
+    Priority::new(number).map_err(|_| Unread::Range(field))
+}
+
+fn priority_or_none(number: Option<u64>, field: Field) -> Result<Option<Priority>, Unread>
     ensures { result ≡ within_or_none field 0 greatest_priority number }
 {
     match number {
         None => Ok(None),
-        Some(number) => Ok(Some(Priority::new(number).map_err(|_| Unread::Range(field))?)),
+        Some(number) => Ok(Some(priority(number, field)?)),
     }
 }
 
@@ -69,12 +76,19 @@ fn bit_rate(number: u64, field: Field) -> Result<BitRate, Unread>
     BitRate::new(number).map_err(|_| Unread::Range(field))
 }
 
-fn handle(number: Option<u64>) -> Result<Option<Handle>, Unread>
+/// The stream handle, or refusal 4 of the member `handle`.
+pub fn handle(number: u64) -> Result<Handle, Unread>
+    ensures { result ≡ within fields.Handle 0 greatest_handle number }
+{
+    Handle::new(number).map_err(|_| Unread::Range(Field::Handle))
+}
+
+fn handle_or_none(number: Option<u64>) -> Result<Option<Handle>, Unread>
     ensures { result ≡ within_or_none fields.Handle 0 greatest_handle number }
 {
     match number {
         None => Ok(None),
-        Some(number) => Ok(Some(Handle::new(number).map_err(|_| Unread::Range(Field::Handle))?)),
+        Some(number) => Ok(Some(handle(number)?)),
     }
 }
 
@@ -132,10 +146,11 @@ fn extension(number: u64) -> Result<Extension, Unread>
     Extension::new(number).map_err(|_| Unread::Range(Field::Extension))
 }
 
-fn base(number: u64) -> Result<Instant, Unread>
-    ensures { result ≡ within fields.Base 0 greatest_instant number }
+/// The instant, or refusal 4 of the member.
+pub fn instant(number: u64, field: Field) -> Result<Instant, Unread>
+    ensures { result ≡ within field 0 greatest_instant number }
 {
-    Instant::new(number).map_err(|_| Unread::Range(Field::Base))
+    Instant::new(number).map_err(|_| Unread::Range(field))
 }
 
 /// An entry of a gate control list, whose numbers are tested.
@@ -170,7 +185,7 @@ impl EntryRange for GateEntry {
     fn of_draft(draft: &GateEntryDraft) -> Result<GateEntry, Unread> {
         Ok(GateEntry {
             is_open: draft.is_open,
-            ipv: priority(draft.ipv, Field::List)?,
+            ipv: priority_or_none(draft.ipv, Field::List)?,
             interval: interval(draft.interval)?,
             octets: octets_or_none(draft.octets, Field::List)?,
         })
@@ -198,7 +213,7 @@ fn schedule<E: EntryRange>(
     let list = entries(alloc, draft.list.as_slice())?;
     let cycle = cycle(draft.cycle)?;
     let extension = extension(draft.extension)?;
-    let base = base(draft.base)?;
+    let base = instant(draft.base, Field::Base)?;
     Ok(Schedule {
         list,
         cycle,
@@ -220,7 +235,7 @@ fn port(alloc: Global, draft: &PortDraft) -> Result<PortGates, Unread>
 fn gate(alloc: Global, draft: &GateDraft) -> Result<StreamGate, Unread>
     ensures { Reads result (gate draft.now) }
 {
-    let ipv = priority(draft.ipv, Field::Ipv)?;
+    let ipv = priority_or_none(draft.ipv, Field::Ipv)?;
     let admin = schedule(alloc, &draft.admin)?;
     Ok(StreamGate {
         is_open: draft.is_open,
@@ -236,8 +251,8 @@ fn filter(draft: &FilterDraft) -> Result<StreamFilter, Unread>
     ensures { result ≡ filter draft.now }
 {
     Ok(StreamFilter {
-        handle: handle(draft.handle)?,
-        priority: priority(draft.priority, Field::Priority)?,
+        handle: handle_or_none(draft.handle)?,
+        priority: priority_or_none(draft.priority, Field::Priority)?,
         gate: gate_id(draft.gate, Field::Gate)?,
         max_sdu: max_sdu(draft.max_sdu)?,
         meter: meter_or_none(draft.meter)?,
