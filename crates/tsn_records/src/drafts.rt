@@ -2,6 +2,8 @@
 //!
 //! Reading goes in two steps. The first finds the members and their kinds and gives a draft; the second tests each
 //! number against its range. So every fault of shape is found before any fault of range.
+ghost use Rattle.std.specs.Prelude.{◌≡◌, IfSome, Some};
+
 use tsn_types::keys::Kind;
 use tsn_types::lists::ControlList;
 
@@ -28,6 +30,26 @@ pub struct ScheduleDraft<E> {
     pub cycle: u64,
     pub extension: u64,
     pub base: u64,
+}
+
+impl<E: Drop> ScheduleDraft<E> {
+    /// The schedule of these members, where each of them was found.
+    pub fn of(
+        list: Option<ControlList<E>>,
+        cycle: Option<u64>,
+        extension: Option<u64>,
+        base: Option<u64>,
+    ) -> Option<Self>
+        ensures { IfSome result (λ s. (list ≡ Some s.list) × (cycle ≡ Some s.cycle)
+            × (extension ≡ Some s.extension) × (base ≡ Some s.base)) }
+    {
+        Some(ScheduleDraft {
+            list: list?,
+            cycle: cycle?,
+            extension: extension?,
+            base: base?,
+        })
+    }
 }
 
 /// A member of a record, whose number may still be outside its range.
