@@ -185,16 +185,7 @@ fn port_table(alloc: Global, text: &str) -> Option<(TableDraft, &str)>
     let (found, rest) = table_lines::<PlainPort>(alloc, text)?;
     let id = found.id?;
     let gates = found.gates?;
-    let list = found.list?;
-    let cycle = found.cycle?;
-    let extension = found.extension?;
-    let base = found.base?;
-    let admin = ScheduleDraft {
-        list,
-        cycle,
-        extension,
-        base,
-    };
+    let admin = ScheduleDraft::of(found.list, found.cycle, found.extension, found.base)?;
     let value = RecordDraft::Port(PortDraft { gates, admin });
     Some((TableDraft { id, value }, rest))
 }
@@ -226,18 +217,9 @@ fn gate_table(alloc: Global, text: &str) -> Option<(TableDraft, &str)>
     let id = found.id?;
     let is_open = found.open?;
     let ipv = found.ipv;
-    let list = found.list?;
-    let cycle = found.cycle?;
-    let extension = found.extension?;
-    let base = found.base?;
+    let admin = ScheduleDraft::of(found.list, found.cycle, found.extension, found.base)?;
     let invalid_rx = found.invalid_rx?;
     let octets_exceeded = found.octets_exceeded?;
-    let admin = ScheduleDraft {
-        list,
-        cycle,
-        extension,
-        base,
-    };
     let value = RecordDraft::Gate(GateDraft {
         is_open,
         ipv,

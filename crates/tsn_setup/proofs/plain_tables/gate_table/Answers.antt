@@ -4,14 +4,8 @@ use Rattle.tsn_setup.proofs.Told.{record_told}
 use Rattle.tsn_setup.proofs.plain_tables.gate_table.Goals as goal
 
 pub returns-clause-table : goal.returns-clause-table
-returns-clause-table c = record_told (records.Gate _) _ _ _ _
-    (rw (
-      c.in_ok-id.was,
-      c.in_ok-is_open.was,
-      c.in_ok-list.was,
-      c.in_ok-cycle.was,
-      c.in_ok-extension.was,
-      c.in_ok-base.was,
-      c.in_ok-invalid_rx.was,
-      c.in_ok-octets_exceeded.was,
-    ) at c.in_ok-found.ensures.table) refl refl
+returns-clause-table c =
+    let admin = c.in_ok-admin.ensures in
+    record_told (records.Gate _) _ _ _ _
+    (rw (c.in_ok-id.was, c.in_ok-is_open.was, admin.0, admin.1, admin.2, admin.3, c.in_ok-invalid_rx.was, c.in_ok-octets_exceeded.was) at
+    c.in_ok-found.ensures.table) refl refl
