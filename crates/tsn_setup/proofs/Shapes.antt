@@ -189,26 +189,18 @@ pub table_is : (d : Data) (id : ℕ) (r : Record) → IsOrdered d → number_at 
 table_is d id (records.Port r) ordered id_is h =
     let has = all_there d (records.Port r) ordered h in
     whole_table (names_of kinds.Port) d (record_rows id (records.Port r)) tt ordered has.0 refl refl (number_there _ id id_is, has.1)
-table_is d id (records.Filter r) ordered id_is h =
-    let has = all_there d (records.Filter r) ordered h in
-    whole_table (names_of kinds.Filter) d (record_rows id (records.Filter r)) tt ordered has.0 refl refl (number_there _ id id_is, has.1)
-table_is d id (records.Gate r) ordered id_is h =
-    let has = all_there d (records.Gate r) ordered h in
-    whole_table (names_of kinds.Gate) d (record_rows id (records.Gate r)) tt ordered has.0 refl refl (number_there _ id id_is, has.1)
-table_is d id (records.Meter r) ordered id_is h =
-    let has = all_there d (records.Meter r) ordered h in
-    whole_table (names_of kinds.Meter) d (record_rows id (records.Meter r)) tt ordered has.0 refl refl (number_there _ id id_is, has.1)
+table_is d id r ordered id_is h =
+    let has = all_there d r ordered h in
+    whole_table (names_of (kind_of_draft (record_draft r))) d (record_rows id r) tt ordered has.0 refl refl (number_there _ id id_is, has.1)
 
 -- ---- the shape of a record's table
 
 port_entry_shaped : (e : PortEntryDraft) → port_entry_shape as_toml (table_with (port_entry_rows e)) ≡ Ok e
-port_entry_shaped e =
-    let rows = port_entry_rows e in
-    port_entry_of as_toml (table_with rows) e (record {
-      only = only_these (entry_names_of kinds.Port) rows refl;
-      gates = number_got (codes "gates") rows e.gates refl refl;
-      interval = number_got (codes "interval") rows e.interval refl refl;
-    })
+port_entry_shaped e = port_entry_of as_toml (table_with (port_entry_rows e)) e (record {
+  only = only_these (entry_names_of kinds.Port) (port_entry_rows e) refl;
+  gates = number_got (codes "gates") (port_entry_rows e) e.gates refl refl;
+  interval = number_got (codes "interval") (port_entry_rows e) e.interval refl refl;
+})
 
 gate_entry_shaped : (e : GateEntryDraft) → gate_entry_shape as_toml (table_with (gate_entry_rows e)) ≡ Ok e
 gate_entry_shaped e =

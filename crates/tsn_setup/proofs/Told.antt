@@ -39,39 +39,34 @@ there f (Some d) a h = there_at f d (f d) a refl h
 pub only : (names : List (List ℕ)) (ms : Members) → are_among names ms ≡ true → has_only names (table ms) ≡ Ok tt
 only names ms h = rw h refl
 
+-- an inline table that was read is an entry, where its members are of that shape
+entry_told : {E : Type 0} (shape : Data → Result E NotRead) (text rest : List ℕ) (trays : Trays) (x : E) (read : ReadsTable text trays rest)
+    → shape (table read.found) ≡ Ok x → ReadsEntry shape text x rest
+entry_told shape text rest trays x read shaped = record { found = read.found; reads = read.reads; shaped = shaped }
+
 pub port_entry_told : (text rest : List ℕ) (m : PlainPortEntry) (gates interval : ℕ) → ReadsTable text (port_entry_trays m) rest
     → m.gates ≡ Some gates → m.interval ≡ Some interval
     → ReadsEntry (port_entry_shape as_toml) text (record { gates = gates; interval = interval }) rest
 unfolding port_entry_shape
-port_entry_told text rest m gates interval read g i = record {
-  found = read.found;
-  reads = read.reads;
-  shaped =
-      let told = read.tells.tells in
-      rw (
-        only (names (port_entry_trays m)) read.found read.tells.only,
-        there whole (get_member (codes "gates") read.found) gates (told.0 ∙ ap Ok g),
-        there whole (get_member (codes "interval") read.found) interval (told.1.0 ∙ ap Ok i),
-      ) refl;
-}
+port_entry_told text rest m gates interval read g i = entry_told _ text rest (port_entry_trays m) _ read (rw (
+  only (names (port_entry_trays m)) read.found read.tells.only,
+  there whole (get_member (codes "gates") read.found) gates (read.tells.tells.0 ∙ ap Ok g),
+  there whole (get_member (codes "interval") read.found) interval (read.tells.tells.1.0 ∙ ap Ok i),
+) refl)
 
 pub gate_entry_told : (text rest : List ℕ) (m : PlainGateEntry) (is_open : Bool) (interval : ℕ)
     → ReadsTable text (gate_entry_trays m) rest → m.open ≡ Some is_open → m.interval ≡ Some interval
     → ReadsEntry (gate_entry_shape as_toml) text (record { is_open = is_open; ipv = m.ipv; interval = interval; octets = m.octets }) rest
 unfolding gate_entry_shape
-gate_entry_told text rest m is_open interval read o i = record {
-  found = read.found;
-  reads = read.reads;
-  shaped =
-      let told = read.tells.tells in
-      rw (
-        only (names (gate_entry_trays m)) read.found read.tells.only,
-        there as_bool (get_member (codes "open") read.found) is_open (told.0 ∙ ap Ok o),
-        told.1.0,
-        there whole (get_member (codes "interval") read.found) interval (told.1.1.0 ∙ ap Ok i),
-        told.1.1.1.0,
-      ) refl;
-}
+gate_entry_told text rest m is_open interval read o i =
+    let told = read.tells.tells in
+    entry_told _ text rest (gate_entry_trays m) _ read (rw (
+      only (names (gate_entry_trays m)) read.found read.tells.only,
+      there as_bool (get_member (codes "open") read.found) is_open (told.0 ∙ ap Ok o),
+      told.1.0,
+      there whole (get_member (codes "interval") read.found) interval (told.1.1.0 ∙ ap Ok i),
+      told.1.1.1.0,
+    ) refl)
 
 -- ---- tables that have lines
 

@@ -12,8 +12,7 @@ returns-then-first-eq125-clause-table g c =
     let rest = c.members.rest.now in
     let start_is = c.skip_blank-start.ensures.rest in
     let ends : (first (skip_blank rest) == 125) ≡ true = grind (arith, common_steps) in
-    let ended = table_ended c.args.text.now _ rest c.members.invariant.1.1 ends in
-    rw (c.skip.ensures.rest, start_is) ended
+    rw (c.skip.ensures.rest, start_is) (table_ended c.args.text.now _ rest c.members.invariant.1.1 ends)
 
 pub members-preserved : goal.members-preserved
 members-preserved g c =

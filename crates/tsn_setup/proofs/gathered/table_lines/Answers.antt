@@ -10,10 +10,9 @@ lines-init g c = (search rules, (le_refl _, lines_begun _ _ (g.met.M.PlainTable.
 
 pub lines-preserved : goal.lines-preserved
 lines-preserved g c =
-    let rest = c.lines.rest.now in
     let start_is = c.skip_blank-start.ensures.rest in
-    let some : (length (skip_blank rest) == 0) ≡ false = grind (arith, common_steps) in
-    let goes : (first (skip_blank rest) == 91) ≡ false = grind (arith, common_steps) in
+    let some : (length (skip_blank c.lines.rest.now) == 0) ≡ false = grind (arith, common_steps) in
+    let goes : (first (skip_blank c.lines.rest.now) == 91) ≡ false = grind (arith, common_steps) in
     let member = rw start_is at c.in_ok-after.ensures.member in
     let ends : ends_line (skip_ws c.in_ok-after.after.now) ≡ true = grind (arith, common_steps) in
     let before = c.skip_blank-start.ensures.within in
@@ -21,7 +20,7 @@ lines-preserved g c =
       search rules,
       (
         omega (arith, c.lines.invariant.1.0),
-        line_more _ c.args.text.now _ _ rest _ c.requires c.lines.invariant.1.1 some goes member ends (omega arith),
+        line_more _ c.args.text.now _ _ c.lines.rest.now _ c.requires c.lines.invariant.1.1 some goes member ends (omega arith),
       ),
     )
 

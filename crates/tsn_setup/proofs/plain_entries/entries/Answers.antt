@@ -20,8 +20,7 @@ returns-then-first-eq93-clause-value g c =
     let rest = c.entries.rest.now in
     let start_is = c.skip_blank-start.ensures.rest in
     let ends : (first (skip_blank rest) == 93) ≡ true = grind (arith, common_steps) in
-    let ended = entries_ended g.E.PlainEntry.shape c.args.text.now _ rest c.entries.invariant.1.1 ends in
-    rw (c.skip.ensures.rest, start_is) ended
+    rw (c.skip.ensures.rest, start_is) (entries_ended g.E.PlainEntry.shape c.args.text.now _ rest c.entries.invariant.1.1 ends)
 
 pub entries-preserved : goal.entries-preserved
 entries-preserved g c =
