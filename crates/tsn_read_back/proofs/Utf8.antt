@@ -61,6 +61,9 @@ flag_plain : (b : Bool) → are_ascii (flag_text b) ≡ true
 flag_plain true = refl
 flag_plain false = refl
 
+-- a text is plain whose pieces are, and so are numbers and flags
+ruleset pieces_plain = (joined, decimal_plain, flag_plain)
+
 or_none_plain : (name : List ℕ) (o : Option ℕ) → are_ascii name ≡ true → are_ascii (number_or_none_line name o) ≡ true
 or_none_plain name (Some n) plain = simp (joined, decimal_plain, plain) refl
 or_none_plain name None plain = refl
@@ -74,14 +77,7 @@ port_entry_plain e = simp (joined, decimal_plain) refl
 
 gate_entry_plain : (e : GateEntry) → are_ascii (gate_entry_line e) ≡ true
 gate_entry_plain e =
-    simp (
-      joined,
-      decimal_plain,
-      flag_plain,
-      inner_or_none_plain (codes "ipv") e.ipv refl,
-      inner_or_none_plain (codes "octets") e.octets
-          refl,
-    ) refl
+    simp (pieces_plain, inner_or_none_plain (codes "ipv") e.ipv refl, inner_or_none_plain (codes "octets") e.octets refl) refl
 
 row_plain : {E : Type 0} (line : E → List ℕ) (es : List E) → ((e : E) → are_ascii (line e) ≡ true) → are_ascii (flat_map line es) ≡ true
 row_plain line [] each = refl
@@ -97,7 +93,7 @@ list_plain {E} line (e ∷ es) each =
 -- ---- tables
 
 meter_plain : (id : ℕ) (r : FlowMeter) → are_ascii (meter_table id r) ≡ true
-meter_plain id r = simp (joined, decimal_plain, flag_plain) refl
+meter_plain id r = simp pieces_plain refl
 
 port_plain : (id : ℕ) (r : PortGates) → are_ascii (port_table id r) ≡ true
 port_plain id r = simp (joined, decimal_plain, list_plain port_entry_line r.admin.list port_entry_plain) refl
@@ -105,9 +101,7 @@ port_plain id r = simp (joined, decimal_plain, list_plain port_entry_line r.admi
 filter_plain : (id : ℕ) (r : StreamFilter) → are_ascii (filter_table id r) ≡ true
 filter_plain id r =
     simp (
-      joined,
-      decimal_plain,
-      flag_plain,
+      pieces_plain,
       or_none_plain (codes "handle") r.handle refl,
       or_none_plain (codes "priority") r.priority refl,
       or_none_plain (codes "max_sdu") r.max_sdu refl,
@@ -116,14 +110,7 @@ filter_plain id r =
 
 gate_plain : (id : ℕ) (r : StreamGate) → are_ascii (gate_table id r) ≡ true
 gate_plain id r =
-    simp (
-      joined,
-      decimal_plain,
-      flag_plain,
-      or_none_plain (codes "ipv") r.ipv refl,
-      list_plain gate_entry_line r.admin.list
-          gate_entry_plain,
-    ) refl
+    simp (pieces_plain, or_none_plain (codes "ipv") r.ipv refl, list_plain gate_entry_line r.admin.list gate_entry_plain) refl
 
 table_plain : (k : Key) (r : Record) → are_ascii (table_text (k, r)) ≡ true
 table_plain k (Port r) = port_plain (number_of k) r
