@@ -229,8 +229,11 @@ const KINDS: &'static [Kind] = &[
 pub const EXAMPLE: &'static str =
     "[[port]]\nid = 1\ngates = 255\ncycle = 1000\nextension = 0\nbase = 0\nlist = [{gates = 1, interval = 300}, {gates = 128, interval = 700}]\n";
 
+/// What some members are given in place of the values that are accepted, each by its place.
+pub type Changes<'a> = &'a [(usize, &'a str)];
+
 /// The member's value: the last change of it, else the one that is accepted.
-fn text_of<'a>(index: usize, row: &Row, changes: &[(usize, &'a str)]) -> &'a str {
+fn text_of<'a>(index: usize, row: &Row, changes: Changes<'a>) -> &'a str {
     let mut text = row.value;
     for (place, changed) in changes {
         if *place == index {
@@ -245,7 +248,7 @@ fn push_member(
     text: &mut String,
     index: usize,
     row: &Row,
-    changes: &[(usize, &str)],
+    changes: Changes<'_>,
     equals: &str,
     end: &str,
 ) -> Result<(), AllocError> {
@@ -263,7 +266,7 @@ fn push_member(
 pub fn members_text(
     alloc: Global,
     kind: &Kind,
-    changes: &[(usize, &str)],
+    changes: Changes<'_>,
 ) -> Result<String, AllocError> {
     let (header, rows) = *kind;
     let mut text = String::from_str(alloc, header)?;
@@ -277,7 +280,7 @@ pub fn members_text(
 pub fn members_backwards(
     alloc: Global,
     kind: &Kind,
-    changes: &[(usize, &str)],
+    changes: Changes<'_>,
 ) -> Result<String, AllocError> {
     let (header, rows) = *kind;
     let mut text = String::from_str(alloc, header)?;
