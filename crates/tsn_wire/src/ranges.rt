@@ -1,7 +1,6 @@
 //! The ranges of a command's numbers: those of its key before those of its record, and those of a batch edit by edit.
 ghost use Rattle.std.specs.Prelude.{◌≡◌};
 ghost use Rattle.tsn_types.specs.declared.refusals.Field.TheVariants as fields;
-ghost use Rattle.tsn_types.specs.Numbers.{greatest_handle, greatest_instant, greatest_priority};
 ghost use Rattle.tsn_records.specs.Answers.{Reads, each, seen};
 ghost use Rattle.tsn_records.specs.Ranges.{within};
 ghost use Rattle.tsn_wire.specs.Ranges.{greatest_after, longest_frame, frame_of_draft, edit_of_draft, command_of_draft};
@@ -12,9 +11,9 @@ use tsn_bridge::command::Command;
 use tsn_chain::frame::Frame;
 use tsn_edit::Edit;
 use tsn_edit::batches::Batch;
-use tsn_records::ranges::{key, record_of};
+use tsn_records::ranges::{handle, instant, key, priority, record_of};
 use tsn_records::unread::Unread;
-use tsn_types::numbers::{Handle, Instant, Octets, Priority};
+use tsn_types::numbers::Octets;
 use tsn_types::refusals::Field;
 
 // The number of an entry.
@@ -22,24 +21,6 @@ fn entry(number: u64, field: Field) -> Result<u32, Unread>
     ensures { result ≡ within field 0 greatest_after number }
 {
     u32::try_from(number).map_err(|_| Unread::Range(field))
-}
-
-fn instant(number: u64, field: Field) -> Result<Instant, Unread>
-    ensures { result ≡ within field 0 greatest_instant number }
-{
-    Instant::new(number).map_err(|_| Unread::Range(field))
-}
-
-fn handle(number: u64) -> Result<Handle, Unread>
-    ensures { result ≡ within fields.Handle 0 greatest_handle number }
-{
-    Handle::new(number).map_err(|_| Unread::Range(Field::Handle))
-}
-
-fn priority(number: u64) -> Result<Priority, Unread>
-    ensures { result ≡ within fields.Priority 0 greatest_priority number }
-{
-    Priority::new(number).map_err(|_| Unread::Range(Field::Priority))
 }
 
 /// The most octets of a frame.
@@ -60,7 +41,7 @@ fn frame_of_draft(draft: FrameDraft) -> Result<Frame, Unread>
     ensures { result ≡ frame_of_draft draft }
 {
     let handle = handle(draft.handle)?;
-    let priority = priority(draft.priority)?;
+    let priority = priority(draft.priority, Field::Priority)?;
     let octets = octets(draft.octets)?;
     Ok(Frame {
         handle,
