@@ -32,18 +32,16 @@ impl EditDraft {
         ensures { result ≡ drafted_key self.now }
     {
         match self {
-            EditDraft::Create { key, .. } => *key,
-            EditDraft::Replace { key, .. } => *key,
-            EditDraft::Remove { key } => *key,
+            EditDraft::Create { key, .. }
+            | EditDraft::Replace { key, .. }
+            | EditDraft::Remove { key } => *key,
         }
     }
 }
 
 /// The edits of a batch: 1 to 16, on distinct keys. Contracts see them as a list.
 #[derive(Debug, Drop)]
-pub struct BatchDraft {
-    edits: Vec<EditDraft>,
-}
+pub struct BatchDraft(Vec<EditDraft>);
 
 impl Model for BatchDraft {
     ghost use Rattle.std.specs.Prelude.{◌≡◌, List, true};
@@ -52,9 +50,9 @@ impl Model for BatchDraft {
 
     ghost Value = { List EditDraft };
 
-    ghost view = { λ a. a.edits.items };
+    ghost view = { λ a. a.0.items };
 
-    ghost invariant = { λ a. is_batch_draft a.edits.items ≡ true };
+    ghost invariant = { λ a. is_batch_draft a.0.items ≡ true };
 }
 
 impl BatchDraft {
@@ -66,7 +64,7 @@ impl BatchDraft {
         if edits.is_empty() || edits.len() > MOST_PARTS || !are_distinct(&edits) {
             return Err(Unread::Shape);
         }
-        Ok(BatchDraft { edits })
+        Ok(BatchDraft(edits))
     }
 
     /// The edits, in their order.
@@ -74,7 +72,7 @@ impl BatchDraft {
         ensures edits { result.now ≡ self.now }
         ensures batch { is_batch_draft self.now ≡ true }
     {
-        self.edits.as_slice()
+        self.0.as_slice()
     }
 }
 
