@@ -146,19 +146,8 @@ fn port_of(found: PortMembers) -> Option<PortDraft>
     ensures { IfSome result (λ r. AllTold (port_rows found) (members_of (draft_data (records.Port r)))) }
 {
     let gates = found.gates?;
-    let list = found.list?;
-    let cycle = found.cycle?;
-    let extension = found.extension?;
-    let base = found.base?;
-    Some(PortDraft {
-        gates,
-        admin: ScheduleDraft {
-            list,
-            cycle,
-            extension,
-            base,
-        },
-    })
+    let admin = ScheduleDraft::of(found.list, found.cycle, found.extension, found.base)?;
+    Some(PortDraft { gates, admin })
 }
 
 fn filter_of(found: FilterMembers) -> Option<FilterDraft>
@@ -177,25 +166,13 @@ fn filter_of(found: FilterMembers) -> Option<FilterDraft>
 fn gate_of(found: GateMembers) -> Option<GateDraft>
     ensures { IfSome result (λ r. AllTold (gate_rows found) (members_of (draft_data (records.Gate r)))) }
 {
-    let is_open = found.open?;
-    let ipv = found.ipv?;
-    let list = found.list?;
-    let cycle = found.cycle?;
-    let extension = found.extension?;
-    let base = found.base?;
-    let invalid_rx = found.invalid_rx?;
-    let octets_exceeded = found.octets_exceeded?;
+    let admin = ScheduleDraft::of(found.list, found.cycle, found.extension, found.base)?;
     Some(GateDraft {
-        is_open,
-        ipv,
-        admin: ScheduleDraft {
-            list,
-            cycle,
-            extension,
-            base,
-        },
-        invalid_rx,
-        octets_exceeded,
+        is_open: found.open?,
+        ipv: found.ipv?,
+        admin,
+        invalid_rx: found.invalid_rx?,
+        octets_exceeded: found.octets_exceeded?,
     })
 }
 
