@@ -1,5 +1,5 @@
 -- What each command has of a line's members.
-use Rattle.std.proofs.Common.{◌≡◌, ℕ, List, true, Option, Some, option_map, ap, refl, sym, subst, ◌∙◌}
+use Rattle.std.proofs.Common.{◌≡◌, ℕ, List, true, Option, Some, option_map, ap, sym, subst, ◌∙◌}
 use Rattle.std.specs.List.{AllByRecursion}
 use Rattle.serde_json.specs.Data.{Data, boolean, string}
 use Rattle.tsn_types.specs.declared.keys.Kind.{Kind}
@@ -41,24 +41,6 @@ session_row m s is = row_is whole_data m.session s is
 
 key_row : (m : LineMembers) (key : KeyDraft) → m.key ≡ Some key → Some (option_map key_value m.key) ≡ Some (Some (key_value key))
 key_row m key is = row_is key_value m.key key is
-
-pub bare_undo : IsBare words.Undo wanted.Undo
-bare_undo = record { members = λ s. refl; sound = tt }
-
-pub bare_undo_all : IsBare words.UndoAll wanted.UndoAll
-bare_undo_all = record { members = λ s. refl; sound = tt }
-
-pub bare_redo : IsBare words.Redo wanted.Redo
-bare_redo = record { members = λ s. refl; sound = tt }
-
-pub bare_resume : IsBare words.Resume wanted.Resume
-bare_resume = record { members = λ s. refl; sound = tt }
-
-pub bare_sessions : IsBare words.Sessions wanted.Sessions
-bare_sessions = record { members = λ s. refl; sound = tt }
-
-pub bare_setup : IsBare words.Setup wanted.Setup
-bare_setup = record { members = λ s. refl; sound = tt }
 
 -- a command that names nothing
 pub bare_line : (m : LineMembers) (count s : ℕ) (w : Word) (command : CommandDraft) → IsBare w command → m.word ≡ Some w

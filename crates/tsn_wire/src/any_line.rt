@@ -62,7 +62,6 @@ impl Gathered for LineMembers {
 }
 
 // The command of a word that names nothing.
-#[tactic(auto, using(crate::proofs::AnyLine::bare_undo, crate::proofs::AnyLine::bare_undo_all, crate::proofs::AnyLine::bare_redo, crate::proofs::AnyLine::bare_resume, crate::proofs::AnyLine::bare_sessions, crate::proofs::AnyLine::bare_setup))]
 fn bare_command(word: Word) -> Option<CommandDraft>
     ensures { IfSome result (IsBare word) }
 {
@@ -150,28 +149,27 @@ fn instant_draft(found: &LineMembers, session: u64, count: u32) -> Option<Comman
     requires { found.now.session ≡ Some session }
     ensures { IfSome result (λ command. IsLine (line_rows found.now) count (Session session command)) }
 {
-    let word = found.word?;
-    match (word, count) {
-        (Word::Enable, 4) => Some(CommandDraft::Enable {
-            key: listed_key(found.key)?,
-            now: found.instant?,
-        }),
-        (Word::Disable, 4) => Some(CommandDraft::Disable {
-            key: listed_key(found.key)?,
-            now: found.instant?,
-        }),
-        (Word::Apply, 4) => Some(CommandDraft::Apply {
-            key: listed_key(found.key)?,
-            now: found.instant?,
-        }),
-        (Word::States, 4) => Some(CommandDraft::States {
-            key: listed_key(found.key)?,
-            at: found.at?,
-        }),
-        (Word::Frame, 7) => Some(CommandDraft::Frame {
-            frame: frame_draft(found)?,
-            now: found.instant?,
-        }),
+    match (found.word?, count) {
+        (Word::Frame, 7) => {
+            let frame = frame_draft(found)?;
+            let now = found.instant?;
+            Some(CommandDraft::Frame { frame, now })
+        }
+        (Word::States, 4) => {
+            let key = listed_key(found.key)?;
+            let at = found.at?;
+            Some(CommandDraft::States { key, at })
+        }
+        (word, 4) => {
+            let key = listed_key(found.key)?;
+            let now = found.instant?;
+            match word {
+                Word::Enable => Some(CommandDraft::Enable { key, now }),
+                Word::Disable => Some(CommandDraft::Disable { key, now }),
+                Word::Apply => Some(CommandDraft::Apply { key, now }),
+                _ => None,
+            }
+        }
         _ => None,
     }
 }
