@@ -173,6 +173,7 @@ fn gate(alloc: Global, text: &mut Cursor<'_>) -> Option<GateDraft>
     })
 }
 
+#[tactic(auto, unfolding(json::specs::Print::escape_byte))]
 fn port(alloc: Global, text: &mut Cursor<'_>) -> Option<PortDraft>
     ensures small { IfSome result PortIsSmall }
     ensures text { IfSome result (λ r. text.old ≡ compact_text (draft_data (RecordOf.Port r)) ++ text.new) }
