@@ -288,15 +288,13 @@ frame_members_known d f shape =
     steps (number_at (codes "handle") d) _ f shape (λ handle handle_is handle_next.
     steps (number_at (codes "priority") d) _ f handle_next (λ priority priority_is priority_next.
     steps (number_at (codes "octets") d) _ f priority_next (λ octets octets_is octets_next.
-    steps (flag_at (codes "yellow") d) _ f octets_next (λ yellow yellow_is yellow_next.
-    let draft : FrameDraft = record { handle = handle; priority = priority; octets = octets; yellow = yellow } in
-    let known : HoldsFrame d draft = record {
+    last_step (flag_at (codes "yellow") d) f (HoldsFrame d)
+    (λ yellow. record { handle = handle; priority = priority; octets = octets; yellow = yellow }) octets_next (λ yellow yellow_is. record {
       handle = number_there _ handle handle_is;
       octets = number_there _ octets octets_is;
       priority = number_there _ priority priority_is;
       yellow = flag_there _ yellow yellow_is;
-    } in
-    subst (HoldsFrame d) (only (Ok draft) draft f refl yellow_next) known))))
+    }))))
 
 -- a frame as a line names it
 abbrev frame_draft : Frame → FrameDraft

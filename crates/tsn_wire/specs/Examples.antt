@@ -46,15 +46,17 @@ sixteen_removals =
 abbrev pub seventeen_removals : List ℕ
 seventeen_removals = sixteen_removals ++ codes "," ++ removal_text (codes "filter 0")
 
--- a gate whose cycle time is out of range
+-- a gate in that state, whose cycle time is out of range
+abbrev pub no_cycle_in : List ℕ → List ℕ
+no_cycle_in state = codes "{\"base\":0,\"cycle\":0,\"extension\":0,\"invalid_rx\":false,\"ipv\":null,"
+    ++ codes "\"list\":[],\"octets_exceeded\":false,\"open\":" ++ state ++ codes "}"
+
 abbrev pub no_cycle_text : List ℕ
-no_cycle_text = codes "{\"base\":0,\"cycle\":0,\"extension\":0,\"invalid_rx\":false,\"ipv\":null,"
-    ++ codes "\"list\":[],\"octets_exceeded\":false,\"open\":true}"
+no_cycle_text = no_cycle_in (codes "true")
 
 -- the same, and the state is no flag
 abbrev pub no_flag_text : List ℕ
-no_flag_text = codes "{\"base\":0,\"cycle\":0,\"extension\":0,\"invalid_rx\":false,\"ipv\":null,"
-    ++ codes "\"list\":[],\"octets_exceeded\":false,\"open\":1}"
+no_flag_text = no_cycle_in (codes "1")
 
 -- the line that hands in a frame of that length, priority and drop eligibility, in session 1
 abbrev pub frame_line : List ℕ → List ℕ → List ℕ → List ℕ
