@@ -1,5 +1,5 @@
 -- The value of what may be asked: its numbers fit 64 bits, and its texts are plain ASCII.
-use Rattle.std.proofs.Common.{◌≡◌, ℕ, suc, List, Some, None, refl, arith}
+use Rattle.std.proofs.Common.{◌≡◌, ℕ, suc, List, Some, None, refl, subst, arith}
 use Rattle.std.specs.Prelude.{⊤}
 use Rattle.tsn_bridge.specs.declared.command.Command.{Command}
 use Rattle.tsn_bridge.specs.declared.command.Command.TheVariants as commands
@@ -20,8 +20,11 @@ use Rattle.tsn_types.specs.declared.records.Record.{Record}
 use Rattle.tsn_types.specs.declared.records.Record.TheVariants as records
 use Rattle.tsn_types.specs.InRange.{PortEntryInRange, GateEntryInRange, PortInRange, GateInRange, FilterInRange, MeterInRange, RecordInRange, KeyedInRange}
 use Rattle.tsn_wire.specs.Values.{edit_value, value_of, EditMayBeAsked, MayBeAsked}
+use Rattle.tsn_records.specs.Values.{record_draft}
+use Rattle.tsn_wire.proofs.CompactValues.{draft_shown}
+use Rattle.tsn_wire.proofs.Known.{record_same}
 use Rattle.tsn_wire.proofs.Backs.{IsPlain, items_plain, number_or_null}
-use Rattle.tsn_wire.proofs.Visible.{IsShown, items_shown, key_shown, kind_shown, or_null_shown}
+use Rattle.tsn_wire.proofs.Visible.{IsShown, items_shown, key_shown, kind_shown}
 
 -- ---- its numbers fit
 
@@ -103,18 +106,8 @@ value_plain s c h = (refl, (tt, (omega (arith, h.1), tt)))
 
 -- ---- its texts are plain
 
-port_entry_shown : (e : PortEntry) → IsShown (port_entry_data e)
-port_entry_shown e = (tt, (tt, tt))
-
-gate_entry_shown : (e : GateEntry) → IsShown (gate_entry_data e)
-gate_entry_shown e = (tt, (or_null_shown e.ipv, (tt, (or_null_shown e.octets, tt))))
-
 record_shown : (r : Record) → IsShown (record_data r)
-record_shown (records.Port r) = assumption (items_shown port_entry_data port_entry_shown r.admin.list)
-record_shown (records.Filter r) =
-    assumption (or_null_shown r.handle, or_null_shown r.max_sdu, or_null_shown r.meter, or_null_shown r.priority)
-record_shown (records.Gate r) = assumption (or_null_shown r.ipv, items_shown gate_entry_data gate_entry_shown r.admin.list)
-record_shown (records.Meter r) = assumption
+record_shown r = subst IsShown (record_same r) (draft_shown (record_draft r))
 
 edit_shown : (e : Edit) → IsShown (edit_value e)
 edit_shown (edits.Create k r) = (refl, refl, (refl, key_shown (kind k) (number_of k), (refl, record_shown r, tt)))

@@ -1,6 +1,6 @@
 -- The value of what a line in the service's compact spelling asks for: its numbers fit 64 bits, and its texts are plain ASCII. So its text
 -- is UTF-8, and is read as the value.
-use Rattle.std.proofs.Common.{◌≡◌, ℕ, suc, List, cond, Option, Some, None, true, codes, IfSome, refl, ap, ◌∙◌, arith}
+use Rattle.std.proofs.Common.{◌≡◌, ℕ, suc, List, cond, Option, Some, None, true, IfSome, refl, ap, ◌∙◌, arith}
 use Rattle.std.specs.List.{AllByRecursion}
 use Rattle.serde_json.specs.Data.{Data}
 use Rattle.serde_json.specs.Read.{read}
@@ -82,12 +82,12 @@ port_entry_shown e = (tt, (tt, tt))
 gate_entry_shown : (e : GateEntryDraft) → IsShown (gate_entry_value e)
 gate_entry_shown e = (tt, (or_null_shown e.ipv, (tt, (or_null_shown e.octets, tt))))
 
-record_shown : (r : RecordDraft) → IsShown (draft_data r)
-record_shown (records.Port r) = assumption (items_shown port_entry_value port_entry_shown r.admin.list)
-record_shown (records.Filter r) =
+pub draft_shown : (r : RecordDraft) → IsShown (draft_data r)
+draft_shown (records.Port r) = assumption (items_shown port_entry_value port_entry_shown r.admin.list)
+draft_shown (records.Filter r) =
     assumption (or_null_shown r.handle, or_null_shown r.max_sdu, or_null_shown r.meter, or_null_shown r.priority)
-record_shown (records.Gate r) = assumption (or_null_shown r.ipv, items_shown gate_entry_value gate_entry_shown r.admin.list)
-record_shown (records.Meter r) = assumption
+draft_shown (records.Gate r) = assumption (or_null_shown r.ipv, items_shown gate_entry_value gate_entry_shown r.admin.list)
+draft_shown (records.Meter r) = assumption
 
 -- ---- commands
 
@@ -95,7 +95,7 @@ pub edited : (word : List ℕ) (s : ℕ) (key : KeyDraft) (v : RecordDraft) → 
     → IsSpelled (edit_data word s (drafted_text key) (draft_data v))
 edited word s key v w small of_kind = record {
   plain = (refl, (tt, (tt, (record_plain 2 key.kind v of_kind, (small, tt)))));
-  shown = (refl, w, (refl, key_shown key.kind key.number, (refl, record_shown v, (refl, tt, tt))));
+  shown = (refl, w, (refl, key_shown key.kind key.number, (refl, draft_shown v, (refl, tt, tt))));
 }
 
 pub keyed : (word : List ℕ) (s : ℕ) (key : KeyDraft) → are_plain word ≡ true → IsSmall s
@@ -115,8 +115,8 @@ edit_plain (edits.Replace key v) small = (refl, (tt, (tt, (record_plain 0 key.ki
 edit_plain (edits.Remove key) small = (refl, (tt, (tt, tt)))
 
 edit_shown : (e : EditDraft) → IsShown (edit_value e)
-edit_shown (edits.Create key v) = (refl, refl, (refl, key_shown key.kind key.number, (refl, record_shown v, tt)))
-edit_shown (edits.Replace key v) = (refl, refl, (refl, key_shown key.kind key.number, (refl, record_shown v, tt)))
+edit_shown (edits.Create key v) = (refl, refl, (refl, key_shown key.kind key.number, (refl, draft_shown v, tt)))
+edit_shown (edits.Replace key v) = (refl, refl, (refl, key_shown key.kind key.number, (refl, draft_shown v, tt)))
 edit_shown (edits.Remove key) = (refl, refl, (refl, key_shown key.kind key.number, tt))
 
 pub batched : (s : ℕ) (es : List EditDraft) → IsSmall s → AllByRecursion EditIsSmall es → IsSpelled (batched_data s (batch_value es))
