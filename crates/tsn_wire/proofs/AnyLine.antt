@@ -121,23 +121,19 @@ pub show_line : (m : LineMembers) (count s : ℕ) (key : KeyDraft) → m.word �
     → m.key ≡ Some key → count ≡ 3 → IsLine (line_rows m) count (Session s (wanted.Show key))
 show_line m count s key w e k x len = record { told = keyed_told m s words.Show key w e x; len = len; sound = k }
 
-pub enable_line : (m : LineMembers) (count s : ℕ) (key : KeyDraft) (now : ℕ) → m.word ≡ Some words.Enable → m.session ≡ Some s → IsKey key
-    → MayHaveList key.kind → m.key ≡ Some key → m.instant ≡ Some now → count ≡ 4
-    → IsLine (line_rows m) count (Session s (wanted.Enable key now))
-enable_line m count s key now w e k r x y len =
-    record { told = act_told m s words.Enable key now w e x y; len = len; sound = (k, r) }
+-- a line with the word, a key and an instant is that of the act
+abbrev pub ReadsAct : Word → (KeyDraft → ℕ → CommandDraft) → Type 0
+ReadsAct word act = (m : LineMembers) (count s : ℕ) (key : KeyDraft) (now : ℕ) → m.word ≡ Some word → m.session ≡ Some s → IsKey key
+    → MayHaveList key.kind → m.key ≡ Some key → m.instant ≡ Some now → count ≡ 4 → IsLine (line_rows m) count (Session s (act key now))
 
-pub disable_line : (m : LineMembers) (count s : ℕ) (key : KeyDraft) (now : ℕ) → m.word ≡ Some words.Disable → m.session ≡ Some s → IsKey key
-    → MayHaveList key.kind → m.key ≡ Some key → m.instant ≡ Some now → count ≡ 4
-    → IsLine (line_rows m) count (Session s (wanted.Disable key now))
-disable_line m count s key now w e k r x y len =
-    record { told = act_told m s words.Disable key now w e x y; len = len; sound = (k, r) }
+pub enable_line : ReadsAct words.Enable wanted.Enable
+enable_line m count s key now w e k r x y len = record { told = act_told m s words.Enable key now w e x y; len = len; sound = (k, r) }
 
-pub apply_line : (m : LineMembers) (count s : ℕ) (key : KeyDraft) (now : ℕ) → m.word ≡ Some words.Apply → m.session ≡ Some s → IsKey key
-    → MayHaveList key.kind → m.key ≡ Some key → m.instant ≡ Some now → count ≡ 4
-    → IsLine (line_rows m) count (Session s (wanted.Apply key now))
-apply_line m count s key now w e k r x y len =
-    record { told = act_told m s words.Apply key now w e x y; len = len; sound = (k, r) }
+pub disable_line : ReadsAct words.Disable wanted.Disable
+disable_line m count s key now w e k r x y len = record { told = act_told m s words.Disable key now w e x y; len = len; sound = (k, r) }
+
+pub apply_line : ReadsAct words.Apply wanted.Apply
+apply_line m count s key now w e k r x y len = record { told = act_told m s words.Apply key now w e x y; len = len; sound = (k, r) }
 
 pub states_line : (m : LineMembers) (count s : ℕ) (key : KeyDraft) (at : ℕ) → m.word ≡ Some words.States → m.session ≡ Some s → IsKey key
     → MayHaveList key.kind → m.key ≡ Some key → m.at ≡ Some at → count ≡ 4 → IsLine (line_rows m) count (Session s (wanted.States key at))
