@@ -248,7 +248,7 @@ fn push_member(
     text: &mut String,
     index: usize,
     row: &Row,
-    changes: Changes<'_>,
+    changes: Changes,
     equals: &str,
     end: &str,
 ) -> Result<(), AllocError> {
@@ -263,11 +263,7 @@ fn push_member(
 }
 
 /// The members with these changes, one in a line. The empty text leaves a member out.
-pub fn members_text(
-    alloc: Global,
-    kind: &Kind,
-    changes: Changes<'_>,
-) -> Result<String, AllocError> {
+pub fn members_text(alloc: Global, kind: &Kind, changes: Changes) -> Result<String, AllocError> {
     let (header, rows) = *kind;
     let mut text = String::from_str(alloc, header)?;
     for (index, row) in rows.iter().enumerate() {
@@ -280,7 +276,7 @@ pub fn members_text(
 pub fn members_backwards(
     alloc: Global,
     kind: &Kind,
-    changes: Changes<'_>,
+    changes: Changes,
 ) -> Result<String, AllocError> {
     let (header, rows) = *kind;
     let mut text = String::from_str(alloc, header)?;
