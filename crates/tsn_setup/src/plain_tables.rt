@@ -196,15 +196,13 @@ fn filter_table(alloc: Global, text: &str) -> Option<(TableDraft, &str)>
 {
     let (found, rest) = table_lines::<PlainFilter>(alloc, text)?;
     let id = found.id?;
-    let gate = found.gate?;
-    let oversize = found.oversize?;
     let value = RecordDraft::Filter(FilterDraft {
         handle: found.handle,
         priority: found.priority,
-        gate,
+        gate: found.gate?,
         max_sdu: found.max_sdu,
         meter: found.meter,
-        oversize,
+        oversize: found.oversize?,
     });
     Some((TableDraft { id, value }, rest))
 }
@@ -215,17 +213,13 @@ fn gate_table(alloc: Global, text: &str) -> Option<(TableDraft, &str)>
 {
     let (found, rest) = table_lines::<PlainGate>(alloc, text)?;
     let id = found.id?;
-    let is_open = found.open?;
-    let ipv = found.ipv;
     let admin = ScheduleDraft::of(found.list, found.cycle, found.extension, found.base)?;
-    let invalid_rx = found.invalid_rx?;
-    let octets_exceeded = found.octets_exceeded?;
     let value = RecordDraft::Gate(GateDraft {
-        is_open,
-        ipv,
+        is_open: found.open?,
+        ipv: found.ipv,
         admin,
-        invalid_rx,
-        octets_exceeded,
+        invalid_rx: found.invalid_rx?,
+        octets_exceeded: found.octets_exceeded?,
     });
     Some((TableDraft { id, value }, rest))
 }
@@ -236,23 +230,15 @@ fn meter_table(alloc: Global, text: &str) -> Option<(TableDraft, &str)>
 {
     let (found, rest) = table_lines::<PlainMeter>(alloc, text)?;
     let id = found.id?;
-    let cir = found.cir?;
-    let cbs = found.cbs?;
-    let eir = found.eir?;
-    let ebs = found.ebs?;
-    let cf = found.cf?;
-    let aware = found.aware?;
-    let drop_yellow = found.drop_yellow?;
-    let all_red = found.all_red?;
     let value = RecordDraft::Meter(MeterDraft {
-        cir,
-        cbs,
-        eir,
-        ebs,
-        cf,
-        aware,
-        drop_yellow,
-        all_red,
+        cir: found.cir?,
+        cbs: found.cbs?,
+        eir: found.eir?,
+        ebs: found.ebs?,
+        cf: found.cf?,
+        aware: found.aware?,
+        drop_yellow: found.drop_yellow?,
+        all_red: found.all_red?,
     });
     Some((TableDraft { id, value }, rest))
 }

@@ -5,4 +5,4 @@ use Rattle.tsn_setup.proofs.plain_tables.filter_table.Goals as goal
 
 pub returns-clause-table : goal.returns-clause-table
 returns-clause-table c = record_told (records.Filter _) _ _ _ _
-    (rw (c.in_ok-id.was, c.in_ok-gate.was, c.in_ok-oversize.was) at c.in_ok-found.ensures.table) refl refl
+    (rw (c.in_ok-id.was, c.in_ok-found-2.was, c.in_ok-found-3.was) at c.in_ok-found.ensures.table) refl refl

@@ -7,12 +7,12 @@ pub returns-clause-table : goal.returns-clause-table
 returns-clause-table c = record_told (records.Meter _) _ _ _ _
     (rw (
       c.in_ok-id.was,
-      c.in_ok-cir.was,
-      c.in_ok-cbs.was,
-      c.in_ok-eir.was,
-      c.in_ok-ebs.was,
-      c.in_ok-cf.was,
-      c.in_ok-aware.was,
-      c.in_ok-drop_yellow.was,
-      c.in_ok-all_red.was,
+      c.in_ok-found-2.was,
+      c.in_ok-found-3.was,
+      c.in_ok-found-4.was,
+      c.in_ok-found-5.was,
+      c.in_ok-found-6.was,
+      c.in_ok-found-7.was,
+      c.in_ok-found-8.was,
+      c.in_ok-found-9.was,
     ) at c.in_ok-found.ensures.table) refl refl
