@@ -175,12 +175,9 @@ member_ordered : (k : List ℕ) (ms : Members) → AreOrdered ms → IfSome (get
 member_ordered k no_members h = tt
 member_ordered k (member l e ms) h = if_found IsOrdered (order k l) e (get_member k ms) h.1.0 (member_ordered k ms h.1.1)
 
-got_ordered : (k : List ℕ) (d : Data) → IsOrdered d → IfSome (get k d) IsOrdered
-got_ordered k (object ms) h = member_ordered k ms h
-got_ordered k d h = tt
-
 pub inner_ordered : (k : List ℕ) (d e : Data) → IsOrdered d → get k d ≡ Some e → IsOrdered e
-inner_ordered k d e h is = subst (λ o. IfSome o IsOrdered) is (got_ordered k d h)
+inner_ordered k (object ms) e h is = subst (λ o. IfSome o IsOrdered) is (member_ordered k ms h)
+inner_ordered k d e h is = cc
 
 read_ordered : (b : Bool) (bytes : List ℕ) → IfSome (cond b (read bytes) None) IsOrdered
 read_ordered true bytes =
