@@ -1,5 +1,5 @@
 -- The value of what may be asked: its numbers fit 64 bits, and its texts are plain ASCII.
-use Rattle.std.proofs.Common.{◌≡◌, ℕ, suc, List, Some, None, refl, subst, arith}
+use Rattle.std.proofs.Common.{ℕ, suc, List, Some, None, refl, subst, arith}
 use Rattle.std.specs.Prelude.{⊤}
 use Rattle.tsn_bridge.specs.declared.command.Command.{Command}
 use Rattle.tsn_bridge.specs.declared.command.Command.TheVariants as commands

@@ -73,25 +73,15 @@ operator_weight false false false false false = omega arith
 one_operator : (x : ℕ) → lexeme_weight (operator_lexeme x) ≤ 1
 one_operator x = operator_weight _ _ _ _ _
 
+-- what is no digit is another byte than a digit
+apart : (x n : ℕ) → is_ascii_digit x ≡ true → is_ascii_digit n ≡ false → (x == n) ≡ false
+apart x n digit none = ne_eqb x n (λ same. false≢true (sym none ∙ ap is_ascii_digit (sym same) ∙ digit))
+
 digit_class : (x : ℕ) → is_ascii_digit x ≡ true → class x ≡ other
 digit_class x h =
-    let p = and_parts _ _ h in
-    let low : 48 ≤ x = leb-true _ _ p.0 in
-    let high : x ≤ 57 = leb-true _ _ p.1 in
-    rw (
-      ne_eqb x 34 (λ e. omega arith),
-      ne_eqb x 92 (λ e. omega arith),
-      ne_eqb x 123 (λ e. omega arith),
-      ne_eqb x 125 (λ e. omega arith),
-      ne_eqb x 91 (λ e. omega arith),
-      ne_eqb x 93 (λ e. omega arith),
-      ne_eqb x 58 (λ e. omega arith),
-      ne_eqb x 44 (λ e. omega arith),
-      ne_eqb x 32 (λ e. omega arith),
-      ne_eqb x 9 (λ e. omega arith),
-      ne_eqb x 10 (λ e. omega arith),
-      ne_eqb x 13 (λ e. omega arith),
-    ) refl
+    let off = λ (n : ℕ) (none : is_ascii_digit n ≡ false). apart x n h none in
+    rw (off 34 refl, off 92 refl, off 123 refl, off 125 refl, off 91 refl, off 93 refl)
+    (rw (off 58 refl, off 44 refl, off 32 refl, off 9 refl, off 10 refl, off 13 refl) refl)
 
 digits_step : (b : Bool) (c : Class) (n m : ℕ) → (b ≡ true → c ≡ other) → n ≤ m → cond b (1 + n) 0 ≤ span_of c m
 digits_step false c n m h k = omega arith
