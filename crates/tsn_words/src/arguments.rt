@@ -169,56 +169,12 @@ fn setup_file<'a>(alloc: Global, is_wanted: bool) -> Arg<'a>
         .help("The setup of the bridge, a TOML document")
 }
 
-// An option that wants a text, whatever it is.
-fn any_text<'a>(alloc: Global, name: &'a str, help: &'a str) -> Arg<'a>
-    ensures rule { rule_of result ≡ any_text name.entry.now }
-    ensures local { result.global ≡ false }
-{
-    Arg::new(alloc, name).long(name).required(true).help(help)
-}
-
-// An option that may be left out, and else wants a text.
+// An option that may be left out, and else wants a text, whatever it is.
 fn text_or_none<'a>(alloc: Global, name: &'a str, help: &'a str) -> Arg<'a>
     ensures rule { rule_of result ≡ optional (any_text name.entry.now) }
     ensures local { result.global ≡ false }
 {
-    any_text(alloc, name, help).required(false)
-}
-
-// The journal that may be named.
-fn kept<'a>(alloc: Global) -> Arg<'a>
-    ensures rule { rule_of result ≡ optional (any_text (codes "journal")) }
-    ensures local { result.global ≡ false }
-{
-    text_or_none(
-        alloc,
-        "journal",
-        "The journal file that keeps what the sessions do; made where it is not there",
-    )
-}
-
-// The syncs that may be named.
-fn syncs<'a>(alloc: Global) -> Arg<'a>
-    ensures rule { rule_of result ≡ optional (any_text (codes "sync")) }
-    ensures local { result.global ≡ false }
-{
-    text_or_none(
-        alloc,
-        "sync",
-        "none: replies don't wait for the disk, and a loss of power may lose what they told",
-    )
-}
-
-fn script<'a>(alloc: Global) -> Result<Command<'a>, AllocError>
-    ensures { IfOk result (λ c. app_of c ≡ script) }
-{
-    let file = setup_file(alloc, false);
-    Command::new(alloc, "script")
-        .about("Answers the command lines on standard input, one reply line each")
-        .after_help(SCRIPT_EXAMPLE)
-        .arg(file)?
-        .arg(kept(alloc))?
-        .arg(syncs(alloc))
+    Arg::new(alloc, name).long(name).help(help)
 }
 
 // An option that wants a number in its range.
@@ -241,94 +197,89 @@ fn number_or_none<'a>(alloc: Global, name: &'a str, help: &'a str, least: u64, m
     number(alloc, name, help, least, most).required(false)
 }
 
+// An option that takes no value.
+fn flag<'a>(alloc: Global, name: &'a str, help: &'a str) -> Arg<'a>
+    ensures rule { rule_of result ≡ flag name.entry.now }
+    ensures local { result.global ≡ false }
+{
+    Arg::new(alloc, name)
+        .long(name)
+        .action(ArgAction::SetTrue)
+        .help(help)
+}
+
+// The help on its options, and on those of `serve` of the same names.
+const KEPT: &str = "The journal file that keeps what the sessions do; made where it is not there";
+
+const SYNC: &str =
+    "none: replies don't wait for the disk, and a loss of power may lose what they told";
+
+fn script<'a>(alloc: Global) -> Result<Command<'a>, AllocError>
+    ensures { IfOk result (λ c. app_of c ≡ script) }
+{
+    Command::new(alloc, "script")
+        .about("Answers the command lines on standard input, one reply line each")
+        .after_help(SCRIPT_EXAMPLE)
+        .arg(setup_file(alloc, false))?
+        .arg(text_or_none(alloc, "journal", KEPT))?
+        .arg(text_or_none(alloc, "sync", SYNC))
+}
+
 fn states<'a>(alloc: Global) -> Result<Command<'a>, AllocError>
     ensures { IfOk result (λ c. app_of c ≡ states) }
 {
-    let file = setup_file(alloc, true);
-    let port = number(alloc, "port", "The port", 0, u64::MAX);
-    let from = number(alloc, "from", "The first instant", 0, u64::MAX);
-    let step = number(alloc, "step", "The time to the next", 0, LONGEST_STEP);
-    let count = number(alloc, "count", "How many instants", 1, MOST_INSTANTS);
     Command::new(alloc, "states")
         .about("Prints the gate states of a port, enabled at the first instant, one line each")
         .after_help(STATES_EXAMPLE)
-        .arg(file)?
-        .arg(port)?
-        .arg(from)?
-        .arg(step)?
-        .arg(count)
+        .arg(setup_file(alloc, true))?
+        .arg(number(alloc, "port", "The port", 0, u64::MAX))?
+        .arg(number(alloc, "from", "The first instant", 0, u64::MAX))?
+        .arg(number(alloc, "step", "The time to the next", 0, LONGEST_STEP))?
+        .arg(number(alloc, "count", "How many instants", 1, MOST_INSTANTS))
 }
+
+// The help on its other options.
+const LISTEN: &str =
+    "Where it listens: an IP address and port, 0 being one that is free, or unix:PATH [127.0.0.1:7000]";
+
+const WORKERS: &str = "How many connections at a time, 1 to 1000 [64]";
+
+const CONNECTIONS: &str = "How many connections in all, 1 to 65535 [without end]";
+
+const PROBE: &str = "The instant of the gates that it prints at the end [prints nothing]";
+
+const IDLE: &str = "After how many idle seconds a connection is ended, 1 to 86400 [never]";
+
+const LOG: &str = "Tells on standard error of each connection, as it begins and ends";
 
 fn serve<'a>(alloc: Global) -> Result<Command<'a>, AllocError>
     ensures { IfOk result (λ c. app_of c ≡ serve) }
 {
-    let file = setup_file(alloc, false);
-    let listen = text_or_none(
-        alloc,
-        "listen",
-        "Where it listens: an IP address and port, 0 being one that is free, or unix:PATH [127.0.0.1:7000]",
-    );
-    let workers = number_or_none(
-        alloc,
-        "workers",
-        "How many connections at a time, 1 to 1000 [64]",
-        1,
-        MOST_WORKERS,
-    );
-    let connections = number_or_none(
-        alloc,
-        "connections",
-        "How many connections in all, 1 to 65535 [without end]",
-        1,
-        MOST_CONNECTIONS,
-    );
-    let probe = number_or_none(
-        alloc,
-        "probe",
-        "The instant of the gates that it prints at the end [prints nothing]",
-        0,
-        LAST_PROBE,
-    );
-    let idle = number_or_none(
-        alloc,
-        "idle",
-        "After how many idle seconds a connection is ended, 1 to 86400 [never]",
-        1,
-        LONGEST_IDLE,
-    );
-    let log = flag(
-        alloc,
-        "log",
-        "Tells on standard error of each connection, as it begins and ends",
-    );
     Command::new(alloc, "serve")
         .about("Answers the command lines of connections")
         .after_help(SERVE_EXAMPLE)
-        .arg(file)?
-        .arg(listen)?
-        .arg(workers)?
-        .arg(connections)?
-        .arg(probe)?
-        .arg(idle)?
-        .arg(kept(alloc))?
-        .arg(syncs(alloc))?
-        .arg(log)
+        .arg(setup_file(alloc, false))?
+        .arg(text_or_none(alloc, "listen", LISTEN))?
+        .arg(number_or_none(alloc, "workers", WORKERS, 1, MOST_WORKERS))?
+        .arg(number_or_none(alloc, "connections", CONNECTIONS, 1, MOST_CONNECTIONS))?
+        .arg(number_or_none(alloc, "probe", PROBE, 0, LAST_PROBE))?
+        .arg(number_or_none(alloc, "idle", IDLE, 1, LONGEST_IDLE))?
+        .arg(text_or_none(alloc, "journal", KEPT))?
+        .arg(text_or_none(alloc, "sync", SYNC))?
+        .arg(flag(alloc, "log", LOG))
 }
+
+// The help on its option.
+const LINES: &str = "Says which of the command lines on standard input are at fault, and where";
 
 fn check<'a>(alloc: Global) -> Result<Command<'a>, AllocError>
     ensures { IfOk result (λ c. app_of c ≡ check) }
 {
-    let file = setup_file(alloc, false);
-    let lines = flag(
-        alloc,
-        "lines",
-        "Says which of the command lines on standard input are at fault, and where",
-    );
     Command::new(alloc, "check")
         .about("Says whether a setup opens a bridge, and what is in it or where it is at fault")
         .after_help(CHECK_EXAMPLE)
-        .arg(file)?
-        .arg(lines)
+        .arg(setup_file(alloc, false))?
+        .arg(flag(alloc, "lines", LINES))
 }
 
 // The file of a journal.
@@ -341,59 +292,29 @@ fn journal_file<'a>(alloc: Global) -> Arg<'a>
         .help("The journal file")
 }
 
-// An option that takes no value.
-fn flag<'a>(alloc: Global, name: &'a str, help: &'a str) -> Arg<'a>
-    ensures rule { rule_of result ≡ flag name.entry.now }
-    ensures local { result.global ≡ false }
-{
-    Arg::new(alloc, name)
-        .long(name)
-        .action(ArgAction::SetTrue)
-        .help(help)
-}
+// The help on its options.
+const SINCE: &str = "Tells the entries behind this number, a line each";
+
+const DIFF: &str = "Tells what this entry changed";
+
+const SETUP: &str = "Tells the configuration at its end, as a setup";
+
+const BEGIN: &str = "Makes a new journal of this file, which begins with that configuration";
+
+const MEND: &str = "Moves what is behind the last good line to JOURNAL.cut";
 
 fn journal<'a>(alloc: Global) -> Result<Command<'a>, AllocError>
     ensures { IfOk result (λ c. app_of c ≡ journal) }
 {
-    let file = journal_file(alloc);
-    let since = number_or_none(
-        alloc,
-        "since",
-        "Tells the entries behind this number, a line each",
-        0,
-        LAST_ENTRY,
-    );
-    let diff = number_or_none(
-        alloc,
-        "diff",
-        "Tells what this entry changed",
-        1,
-        LAST_ENTRY,
-    );
-    let setup = flag(
-        alloc,
-        "setup",
-        "Tells the configuration at its end, as a setup",
-    );
-    let begin = text_or_none(
-        alloc,
-        "begin",
-        "Makes a new journal of this file, which begins with that configuration",
-    );
-    let mend = flag(
-        alloc,
-        "mend",
-        "Moves what is behind the last good line to JOURNAL.cut",
-    );
     Command::new(alloc, "journal")
         .about("Says what is in a journal file")
         .after_help(JOURNAL_EXAMPLE)
-        .arg(file)?
-        .arg(since)?
-        .arg(diff)?
-        .arg(setup)?
-        .arg(begin)?
-        .arg(mend)
+        .arg(journal_file(alloc))?
+        .arg(number_or_none(alloc, "since", SINCE, 0, LAST_ENTRY))?
+        .arg(number_or_none(alloc, "diff", DIFF, 1, LAST_ENTRY))?
+        .arg(flag(alloc, "setup", SETUP))?
+        .arg(text_or_none(alloc, "begin", BEGIN))?
+        .arg(flag(alloc, "mend", MEND))
 }
 
 // The program, but for its subcommands.
@@ -435,15 +356,11 @@ fn listing_of(given: &ArgMatches<'_>) -> Listing
     requires { HasStates (Some (codes "states", rows_of (found_of given.now))) }
     ensures { GivesListing (Some (codes "states", rows_of (found_of given.now))) result }
 {
-    let port = number_of(given, "port");
-    let from = number_of(given, "from");
-    let step = number_of(given, "step");
-    let count = number_of(given, "count");
     Listing {
-        port,
-        from,
-        step,
-        count,
+        port: number_of(given, "port"),
+        from: number_of(given, "from"),
+        step: number_of(given, "step"),
+        count: number_of(given, "count"),
     }
 }
 

@@ -6,10 +6,10 @@ use Rattle.tsn_words.proofs.arguments.journal.Goals as goal
 pub returns : goal.returns
 returns c =
     let begun : app_of c.after_help.result ≡ new_app (codes "journal") = search rules in
-    let first = c.in_ok-arg.ensures.shape c.journal_file-file.ensures.local ∙ ap₂ with_rule begun c.journal_file-file.ensures.rule in
-    let second = c.in_ok-arg-2.ensures.shape c.number_or_none-since.ensures.local
-    ∙ ap₂ with_rule first c.number_or_none-since.ensures.rule in
-    let third = c.in_ok-arg-3.ensures.shape c.number_or_none-diff.ensures.local ∙ ap₂ with_rule second c.number_or_none-diff.ensures.rule in
-    let fourth = c.in_ok-arg-4.ensures.shape c.flag-setup.ensures.local ∙ ap₂ with_rule third c.flag-setup.ensures.rule in
-    let fifth = c.in_ok-arg-5.ensures.shape c.text_or_none-begin.ensures.local ∙ ap₂ with_rule fourth c.text_or_none-begin.ensures.rule in
-    IfOk-weaker c.arg-6.result _ _ (λ r h. h.shape c.flag-mend.ensures.local ∙ ap₂ with_rule fifth c.flag-mend.ensures.rule) c.arg-6.ensures
+    let first = c.in_ok-arg.ensures.shape c.journal_file.ensures.local ∙ ap₂ with_rule begun c.journal_file.ensures.rule in
+    let second = c.in_ok-arg-2.ensures.shape c.number_or_none.ensures.local
+    ∙ ap₂ with_rule first c.number_or_none.ensures.rule in
+    let third = c.in_ok-arg-3.ensures.shape c.number_or_none-2.ensures.local ∙ ap₂ with_rule second c.number_or_none-2.ensures.rule in
+    let fourth = c.in_ok-arg-4.ensures.shape c.flag.ensures.local ∙ ap₂ with_rule third c.flag.ensures.rule in
+    let fifth = c.in_ok-arg-5.ensures.shape c.text_or_none.ensures.local ∙ ap₂ with_rule fourth c.text_or_none.ensures.rule in
+    IfOk-weaker c.arg-6.result _ _ (λ r h. h.shape c.flag-2.ensures.local ∙ ap₂ with_rule fifth c.flag-2.ensures.rule) c.arg-6.ensures
