@@ -1,5 +1,5 @@
 -- What words without a fault give: a subcommand of the program, and to each all that it wants.
-use Rattle.std.proofs.Common.{◌≡◌, ◌∙◌, ◌&&◌, ◌||◌, inl, inr, ℕ, ◌-◌, ◌^◌, Bool, cond, true, false, not, refl, sym, ap, subst, codes, List, [], ◌∷◌, Option, Some, None, is_some}
+use Rattle.std.proofs.Common.{◌≡◌, ◌∙◌, ◌&&◌, ◌||◌, inl, inr, ℕ, ◌-◌, ◌^◌, Bool, cond, true, false, not, zero, suc, refl, sym, ap, subst, codes, List, [], ◌∷◌, Option, Some, None, is_some}
 use Rattle.std.specs.Prelude.{⊤, option_map}
 use Rattle.std.specs.Option.{option_map_or}
 use Rattle.std.specs.List.{fold, list_any}
@@ -156,218 +156,158 @@ all_given true true true false e h = (cc)
 all_given true true true true false h = (cc)
 all_given true true true true true h = (refl, refl, refl, refl, refl)
 
--- ---- an argument that is wanted
-
-module _ (accepted : Text → Text → Bool) where
-  one : (a : Rule) → a.defaults ≡ [] → action_of a ≡ Set → ◌≡◌ {A = ValueRange} (unwrap_or_range a.range)
-      (record { start_inclusive = 1; end_inclusive = 1 })
-      → ((v : Text) → accepts a.ignore_case (parser_of_value a.parser) v ≡ true → accepted a.id v ≡ true) → RuleFits accepted a
-  one a none action range passes =
-      (subst (DefaultsFit accepted a.id) (sym none) tt, inr (inl (record { action = action; range = range; passes = passes })))
-
-  text_given : (sub name : Text) (rows : List Row) → RowsFit accepted rows → is_given name rows ≡ true → HasText (Some (sub, rows)) name
-  text_given sub name rows fit given =
-      let found = given_value accepted name rows fit given in
-      (found.0, found.1)
-
-  number_given : (sub name : Text) (least most : ℕ) (rows : List Row)
-      → ((v : Text) → accepted name v ≡ true → is_unsigned_in least most v ≡ true) → RowsFit accepted rows → is_given name rows ≡ true
-      → HasNumber (Some (sub, rows)) name least most
-  number_given sub name least most rows passes fit given =
-      let found = given_value accepted name rows fit given in
-      (found.0, found.1, accepts-Accepts false (Unsigned least most) found.0 (passes found.0 found.2))
-
-  number_fits : (sub name : Text) (least most : ℕ) (rows : List Row)
-      → ((v : Text) → accepted name v ≡ true → is_unsigned_in least most v ≡ true) → RowsFit accepted rows
-      → MayHaveNumber (Some (sub, rows)) name least most
-  number_fits sub name least most rows passes fit v is =
-      accepts-Accepts false (Unsigned least most) v (passes v (value_fits accepted name rows fit v is))
-
--- ---- the commands as they are built
-
-first : List Shape → Shape
-first (a ∷ rest) = a
-first shapes = new_shape []
-
-second : List Shape → Shape
-second (a ∷ (b ∷ rest)) = b
-second shapes = new_shape []
-
-third : List Shape → Shape
-third (a ∷ (b ∷ (c ∷ rest))) = c
-third shapes = new_shape []
-
-fourth : List Shape → Shape
-fourth (a ∷ (b ∷ (c ∷ (d ∷ rest)))) = d
-fourth shapes = new_shape []
-
-fifth : List Shape → Shape
-fifth (a ∷ (b ∷ (c ∷ (d ∷ (e ∷ rest))))) = e
-fifth shapes = new_shape []
-
-sixth : List Shape → Shape
-sixth (a ∷ (b ∷ (c ∷ (d ∷ (e ∷ (f ∷ rest)))))) = f
-sixth shapes = new_shape []
-
--- ---- `states`
+-- ---- what is taken for an argument, by its name in whichever subcommand has it
 
 accepted : Text → Text → Bool
 accepted id v = cond (bytes_eq id (codes "port")) (is_unsigned_in 0 (2 ^ 64 - 1) v)
     (cond (bytes_eq id (codes "from")) (is_unsigned_in 0 (2 ^ 64 - 1) v)
     (cond (bytes_eq id (codes "step")) (is_unsigned_in 0 longest_step v)
-    (cond (bytes_eq id (codes "count")) (is_unsigned_in 1 most_instants v) true)))
+    (cond (bytes_eq id (codes "count")) (is_unsigned_in 1 most_instants v)
+    (cond (bytes_eq id (codes "workers")) (is_unsigned_in 1 most_workers v)
+    (cond (bytes_eq id (codes "connections")) (is_unsigned_in 1 most_connections v)
+    (cond (bytes_eq id (codes "probe")) (is_unsigned_in 0 last_probe v)
+    (cond (bytes_eq id (codes "idle")) (is_unsigned_in 1 longest_idle v)
+    (cond (bytes_eq id (codes "since")) (is_unsigned_in 0 last_entry v)
+    (cond (bytes_eq id (codes "diff")) (is_unsigned_in 1 last_entry v) true)))))))))
+
+one : (a : Rule) → a.defaults ≡ [] → action_of a ≡ Set → ◌≡◌ {A = ValueRange} (unwrap_or_range a.range)
+    (record { start_inclusive = 1; end_inclusive = 1 })
+    → ((v : Text) → accepts a.ignore_case (parser_of_value a.parser) v ≡ true → accepted a.id v ≡ true) → RuleFits accepted a
+one a none action range passes =
+    (subst (DefaultsFit accepted a.id) (sym none) tt, inr (inl (record { action = action; range = range; passes = passes })))
+
+text_given : (sub name : Text) (rows : List Row) → RowsFit accepted rows → is_given name rows ≡ true → HasText (Some (sub, rows)) name
+text_given sub name rows fit given =
+    let found = given_value accepted name rows fit given in
+    (found.0, found.1)
+
+number_given : (sub name : Text) (least most : ℕ) (rows : List Row)
+    → ((v : Text) → accepted name v ≡ true → is_unsigned_in least most v ≡ true) → RowsFit accepted rows → is_given name rows ≡ true
+    → HasNumber (Some (sub, rows)) name least most
+number_given sub name least most rows passes fit given =
+    let found = given_value accepted name rows fit given in
+    (found.0, found.1, accepts-Accepts false (Unsigned least most) found.0 (passes found.0 found.2))
+
+number_fits : (sub name : Text) (least most : ℕ) (rows : List Row)
+    → ((v : Text) → accepted name v ≡ true → is_unsigned_in least most v ≡ true) → RowsFit accepted rows
+    → MayHaveNumber (Some (sub, rows)) name least most
+number_fits sub name least most rows passes fit v is =
+    accepts-Accepts false (Unsigned least most) v (passes v (value_fits accepted name rows fit v is))
+
+-- a rule fits, and those behind it do
+both : {A B : Type 0} → A → B → A × B
+both a b = (a, b)
+
+-- the rows that a subcommand has fit, and none is missing that it wants
+given_to : (s : Shape) → s.args_override_self ≡ false → RulesFit accepted s.rules → (words : List Text)
+    → level_fault s [] nothing_held words false [] ≡ []
+    → RowsFit accepted (rows_after s.rules [] words)
+    × ((not (s.subcommand_negates_reqs && false)
+    && list_any (λ (a : Rule). a.required && not (is_given a.id (rows_after s.rules [] words))) s.rules) ≡ false)
+given_to s once all words none =
+    let parts = level s [] words false [] none in
+    (after_fit accepted s [] once all words parts.walks parts.settles, (checks s (rows_after s.rules [] words) false parts.checks).1)
+
+-- ---- the commands as they are built
+
+shape_at : ℕ → List Shape → Shape
+shape_at k [] = new_shape []
+shape_at zero (s ∷ shapes) = s
+shape_at (suc k) (s ∷ shapes) = shape_at k shapes
+
+-- ---- `states`
 
 states_built : Shape
-unfolding second
-states_built = second (built program).subs
+unfolding shape_at
+states_built = shape_at 1 (built program).subs
 
 states_fit : RulesFit accepted states_built.rules
-unfolding accepted second states_built
-states_fit = (
-  one accepted _ refl refl refl (λ v e. refl),
-  (
-    one accepted _ refl refl refl (λ v e. e),
-    (
-      one accepted _ refl refl refl (λ v e. e),
-      (one accepted _ refl refl refl (λ v e. e), (one accepted _ refl refl refl (λ v e. e), ((tt, inl refl), tt))),
-    ),
-  ),
-)
+unfolding accepted shape_at states_built
+states_fit =
+    both (one _ refl refl refl (λ v e. refl)) (both (one _ refl refl refl (λ v e. e)) (both (one _ refl refl refl (λ v e. e))
+    (both (one _ refl refl refl (λ v e. e)) (both (one _ refl refl refl (λ v e. e)) ((tt, inl refl), tt)))))
 
 states_given : (words : List Text) → level_fault states_built [] nothing_held words false [] ≡ []
     → HasStates (Some (rows_at states_built words))
-unfolding accepted second states_built
+unfolding accepted shape_at states_built
 states_given words none =
-    let parts = level states_built [] words false [] none in
     let rows = rows_after states_built.rules [] words in
-    let fit = after_fit accepted states_built [] refl states_fit words parts.walks parts.settles in
-    let wanted = (checks states_built rows false parts.checks).1 in
+    let given = given_to states_built refl states_fit words none in
     let each = all_given (is_given (codes "FILE") rows) (is_given (codes "port") rows) (is_given (codes "from") rows)
-    (is_given (codes "step") rows) (is_given (codes "count") rows) wanted in
+    (is_given (codes "step") rows) (is_given (codes "count") rows) given.1 in
     record {
       named = refl;
-      file = text_given accepted (codes "states") (codes "FILE") rows fit each.0;
-      port = number_given accepted (codes "states") (codes "port") 0 (2 ^ 64 - 1) rows (λ v e. e) fit each.1;
-      from = number_given accepted (codes "states") (codes "from") 0 (2 ^ 64 - 1) rows (λ v e. e) fit each.2;
-      step = number_given accepted (codes "states") (codes "step") 0 longest_step rows (λ v e. e) fit each.3;
-      count = number_given accepted (codes "states") (codes "count") 1 most_instants rows (λ v e. e) fit each.4;
+      file = text_given (codes "states") (codes "FILE") rows given.0 each.0;
+      port = number_given (codes "states") (codes "port") 0 (2 ^ 64 - 1) rows (λ v e. e) given.0 each.1;
+      from = number_given (codes "states") (codes "from") 0 (2 ^ 64 - 1) rows (λ v e. e) given.0 each.2;
+      step = number_given (codes "states") (codes "step") 0 longest_step rows (λ v e. e) given.0 each.3;
+      count = number_given (codes "states") (codes "count") 1 most_instants rows (λ v e. e) given.0 each.4;
     }
 
 -- ---- `serve`
 
-served : Text → Text → Bool
-served id v = cond (bytes_eq id (codes "workers")) (is_unsigned_in 1 most_workers v)
-    (cond (bytes_eq id (codes "connections")) (is_unsigned_in 1 most_connections v)
-    (cond (bytes_eq id (codes "probe")) (is_unsigned_in 0 last_probe v)
-    (cond (bytes_eq id (codes "idle")) (is_unsigned_in 1 longest_idle v) true)))
-
 serve_built : Shape
-unfolding third
-serve_built = third (built program).subs
+unfolding shape_at
+serve_built = shape_at 2 (built program).subs
 
-serve_fit : RulesFit served serve_built.rules
-unfolding served third serve_built
-serve_fit = (
-  one served _ refl refl refl (λ v e. refl),
-  (
-    one served _ refl refl refl (λ v e. refl),
-    (
-      one served _ refl refl refl (λ v e. e),
-      (
-        one served _ refl refl refl (λ v e. e),
-        (
-          one served _ refl refl refl (λ v e. e),
-          (
-            one served _ refl refl refl (λ v e. e),
-            (
-              one served _ refl refl refl (λ v e. refl),
-              (
-                one served _ refl refl refl (λ v e. refl),
-                (((refl, refl), inr (inr (record { action = refl; range = refl; missing = refl; passes = refl }))), ((tt, inl refl), tt)),
-              ),
-            ),
-          ),
-        ),
-      ),
-    ),
-  ),
-)
+serve_fit : RulesFit accepted serve_built.rules
+unfolding accepted shape_at serve_built
+serve_fit =
+    both (one _ refl refl refl (λ v e. refl)) (both (one _ refl refl refl (λ v e. refl)) (both (one _ refl refl refl (λ v e. e))
+    (both (one _ refl refl refl (λ v e. e)) (both (one _ refl refl refl (λ v e. e)) (both (one _ refl refl refl (λ v e. e))
+    (both (one _ refl refl refl (λ v e. refl)) (both (one _ refl refl refl (λ v e. refl))
+    (both ((refl, refl), inr (inr (record { action = refl; range = refl; missing = refl; passes = refl }))) ((tt, inl refl), tt)))))))))
 
 serve_given : (words : List Text) → level_fault serve_built [] nothing_held words false [] ≡ []
     → HasServe (Some (rows_at serve_built words))
-unfolding served third serve_built
+unfolding accepted shape_at serve_built
 serve_given words none =
-    let parts = level serve_built [] words false [] none in
     let rows = rows_after serve_built.rules [] words in
-    let fit = after_fit served serve_built [] refl serve_fit words parts.walks parts.settles in
+    let given = given_to serve_built refl serve_fit words none in
     record {
       named = refl;
-      workers = number_fits served (codes "serve") (codes "workers") 1 most_workers rows (λ v e. e) fit;
-      connections = number_fits served (codes "serve") (codes "connections") 1 most_connections rows (λ v e. e) fit;
-      probe = number_fits served (codes "serve") (codes "probe") 0 last_probe rows (λ v e. e) fit;
-      idle = number_fits served (codes "serve") (codes "idle") 1 longest_idle rows (λ v e. e) fit;
+      workers = number_fits (codes "serve") (codes "workers") 1 most_workers rows (λ v e. e) given.0;
+      connections = number_fits (codes "serve") (codes "connections") 1 most_connections rows (λ v e. e) given.0;
+      probe = number_fits (codes "serve") (codes "probe") 0 last_probe rows (λ v e. e) given.0;
+      idle = number_fits (codes "serve") (codes "idle") 1 longest_idle rows (λ v e. e) given.0;
     }
 
--- ---- `check`
+-- ---- `journal`
 
-check_built : Shape
-unfolding fourth
-check_built = fourth (built program).subs
+journal_built : Shape
+unfolding shape_at
+journal_built = shape_at 4 (built program).subs
+
+journal_fit : RulesFit accepted journal_built.rules
+unfolding accepted shape_at journal_built
+journal_fit =
+    both (one _ refl refl refl (λ v e. refl)) (both (one _ refl refl refl (λ v e. e)) (both (one _ refl refl refl (λ v e. e))
+    (both ((refl, refl), inr (inr (record { action = refl; range = refl; missing = refl; passes = refl }))) (both (one _ refl refl refl (λ v e. refl))
+    (both ((refl, refl), inr (inr (record { action = refl; range = refl; missing = refl; passes = refl }))) ((tt, inl refl), tt))))))
 
 -- what one test does not miss is given
 one_given : (a : Bool) → ((true && not a) || false) ≡ false → a ≡ true
 one_given false h = (cc)
 one_given true h = refl
 
--- ---- `journal`
-
-kept : Text → Text → Bool
-kept id v = cond (bytes_eq id (codes "since")) (is_unsigned_in 0 last_entry v)
-    (cond (bytes_eq id (codes "diff")) (is_unsigned_in 1 last_entry v) true)
-
-journal_built : Shape
-unfolding fifth
-journal_built = fifth (built program).subs
-
-journal_fit : RulesFit kept journal_built.rules
-unfolding kept fifth journal_built
-journal_fit = (
-  one kept _ refl refl refl (λ v e. refl),
-  (
-    one kept _ refl refl refl (λ v e. e),
-    (
-      one kept _ refl refl refl (λ v e. e),
-      (
-        ((refl, refl), inr (inr (record { action = refl; range = refl; missing = refl; passes = refl }))),
-        (
-          one kept _ refl refl refl (λ v e. refl),
-          (((refl, refl), inr (inr (record { action = refl; range = refl; missing = refl; passes = refl }))), ((tt, inl refl), tt)),
-        ),
-      ),
-    ),
-  ),
-)
-
 journal_given : (words : List Text) → level_fault journal_built [] nothing_held words false [] ≡ []
     → HasJournal (Some (rows_at journal_built words))
-unfolding kept fifth journal_built
+unfolding accepted shape_at journal_built
 journal_given words none =
-    let parts = level journal_built [] words false [] none in
     let rows = rows_after journal_built.rules [] words in
-    let fit = after_fit kept journal_built [] refl journal_fit words parts.walks parts.settles in
-    let wanted = (checks journal_built rows false parts.checks).1 in
+    let given = given_to journal_built refl journal_fit words none in
     record {
       named = refl;
-      file = text_given kept (codes "journal") (codes "JOURNAL") rows fit (one_given (is_given (codes "JOURNAL") rows) wanted);
-      since = number_fits kept (codes "journal") (codes "since") 0 last_entry rows (λ v e. e) fit;
-      diff = number_fits kept (codes "journal") (codes "diff") 1 last_entry rows (λ v e. e) fit;
+      file = text_given (codes "journal") (codes "JOURNAL") rows given.0 (one_given (is_given (codes "JOURNAL") rows) given.1);
+      since = number_fits (codes "journal") (codes "since") 0 last_entry rows (λ v e. e) given.0;
+      diff = number_fits (codes "journal") (codes "diff") 1 last_entry rows (λ v e. e) given.0;
     }
 
 -- ---- the program
 
 by_stop : (stop : Option (Text × List Text)) → StopsWell stop → entered_fault (built program) stop ≡ []
     → is_some (entered (built program) stop) ≡ true → IsComplete (entered (built program) stop)
-unfolding StopsWell IsNoHelp first second third fourth fifth sixth states_built serve_built check_built journal_built
+unfolding StopsWell IsNoHelp shape_at states_built serve_built journal_built
 by_stop None well none some = (cc)
 by_stop (Some p) well none some =
     go (bytes_eq (codes "script") p.0) (bytes_eq (codes "states") p.0) (bytes_eq (codes "serve") p.0) (bytes_eq (codes "check") p.0)
@@ -381,9 +321,9 @@ by_stop (Some p) well none some =
 
     shape : Bool → Bool → Bool → Bool → Bool → Bool → Option Shape
     shape a b c d e f =
-        cond (a || false) (Some (first (built program).subs)) (cond (b || false) (Some states_built) (cond (c || false) (Some serve_built)
-        (cond (d || false) (Some check_built)
-        (cond (e || false) (Some journal_built) (cond (f || false) (Some (sixth (built program).subs)) None)))))
+        cond (a || false) (Some (shape_at 0 (built program).subs)) (cond (b || false) (Some states_built) (cond (c || false) (Some serve_built)
+        (cond (d || false) (Some (shape_at 3 (built program).subs))
+        (cond (e || false) (Some journal_built) (cond (f || false) (Some (shape_at 5 (built program).subs)) None)))))
 
     go : (a b c d e f : Bool) → bytes_eq (codes "help") p.0 ≡ f
         → option_map_or (λ (s : Shape). level_fault s [] nothing_held p.1 false []) (shape a b c d e f) [] ≡ []
