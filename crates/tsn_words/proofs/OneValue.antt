@@ -164,15 +164,24 @@ module _ (accepted : Text → Text → Bool) where
       go true never = (cc)
       go false none = refl
 
+  -- no fault comes of how many values there are, of an earlier use, or of a value
+  faultless : (x : ArgAction) (range : ValueRange) (a : Rule) (values : List Text) (rows : List Row) → action_of a ≡ x
+      → unwrap_or_range a.range ≡ range → use_fault false a values rows ≡ []
+      → (range_kinds range.start_inclusive range.end_inclusive (length values) ≡ [])
+      × (action_fault x false a (values_or_missing a values) rows ≡ [])
+  faultless x range a values rows acts in_range none =
+      let steps = no_kind (range_kinds (unwrap_or_range a.range).start_inclusive (most_values a) (length values)) _ none in (
+        ap (λ (r : ValueRange). range_kinds r.start_inclusive r.end_inclusive (length values)) (sym in_range) ∙ steps.0,
+        ap (λ y. action_fault y false a (values_or_missing a values) rows) (sym acts) ∙ steps.1,
+      )
+
   set_fits : (a : Rule) (values : List Text) (rows : List Row) → IsOne a → use_fault false a values rows ≡ [] → RowsFit rows
       → RowsFit (used a values rows)
   set_fits a values rows one none h =
-      let steps = no_kind (range_kinds (unwrap_or_range a.range).start_inclusive (most_values a) (length values)) _ none in
-      let range = ap (λ (r : ValueRange). range_kinds r.start_inclusive r.end_inclusive (length values)) (sym one.range) ∙ steps.0 in
-      let single = one_value values (one_of (length values) range) in
+      let steps = faultless Set _ a values rows one.action one.range none in
+      let single = one_value values (one_of (length values) steps.0) in
       let v = single.0 in
-      let acts = ap (λ x. action_fault x false a (values_or_missing a values) rows) (sym one.action) ∙ steps.1 in
-      let sets = no_kind (repeat_fault false a.id rows) (values_fault a (values_or_missing a values)) acts in
+      let sets = no_kind (repeat_fault false a.id rows) (values_fault a (values_or_missing a values)) steps.1 in
       let takes = one.passes v (taken a v (ap (λ vs. values_fault a (values_or_missing a vs)) (sym single.1) ∙ sets.1)) in
       let same : used a values rows ≡ with_values a.id (reading_by a) CommandLine (v ∷ []) (without a.id rows) =
       ap (λ vs. used a vs rows) single.1 ∙ ap (λ x. used_as x a.id (reading_by a) (v ∷ []) rows) one.action in
@@ -181,11 +190,9 @@ module _ (accepted : Text → Text → Bool) where
   flag_sets : (a : Rule) (values : List Text) (rows : List Row) → IsFlag a → use_fault false a values rows ≡ [] → RowsFit rows
       → RowsFit (used a values rows)
   flag_sets a values rows flag none h =
-      let steps = no_kind (range_kinds (unwrap_or_range a.range).start_inclusive (most_values a) (length values)) _ none in
-      let range = ap (λ (r : ValueRange). range_kinds r.start_inclusive r.end_inclusive (length values)) (sym flag.range) ∙ steps.0 in
-      let empty = no_value values (none_of (length values) range) in
-      let acts = ap (λ x. action_fault x false a (values_or_missing a values) rows) (sym flag.action) ∙ steps.1 in
-      let sets = no_kind (repeat_fault false a.id rows) (values_fault a (values_or_missing a values)) acts in
+      let steps = faultless SetTrue _ a values rows flag.action flag.range none in
+      let empty = no_value values (none_of (length values) steps.0) in
+      let sets = no_kind (repeat_fault false a.id rows) (values_fault a (values_or_missing a values)) steps.1 in
       let same : used a values rows ≡ with_values a.id (reading_by a) CommandLine (codes "true" ∷ []) (without a.id rows) =
       ap (λ vs. used a vs rows) empty ∙ ap (λ x. used_as x a.id (reading_by a) a.missing rows) flag.action
       ∙ ap (λ vs. with_values a.id (reading_by a) CommandLine vs (without a.id rows)) flag.missing in
