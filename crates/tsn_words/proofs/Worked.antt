@@ -21,7 +21,7 @@ use Rattle.clap.specs.Words.{first_value, rows_of}
 use Rattle.clap.specs.declared.parser.matches.Found.{Found}
 use Rattle.clap.proofs.WalkLemmas.{first_value-rows}
 use Rattle.clap.proofs.OnLiterals.{clap_on_literals}
-use Rattle.tsn_words.specs.Asking.{AsksFor, Given, GivesCheck, GivesKept, GivesNoCheck, GivesTooMuch, GivesWrongSyncs, HasJournal, HasServe, HasStates, IsComplete, IsFlagged, IsNumber, IsRefusal, IsWork, Misgives, Names, TellsSomething, bit, has_text, is_flagged, looks, number_of, program, text_given}
+use Rattle.tsn_words.specs.Asking.{AsksFor, Given, GivesCheck, GivesKept, GivesNoCheck, GivesTooMuch, GivesWrongSyncs, HasJournal, HasServe, HasStates, IsComplete, IsFlagged, IsNumber, IsRefusal, IsWork, KeepsOrRefuses, Misgives, Names, TellsSomething, bit, has_text, is_flagged, looks, number_of, program, text_given}
 use Rattle.tsn_words.specs.declared.kept.Kept.{Kept}
 use Rattle.tsn_words.specs.declared.arguments.Asked.{Asked}
 use Rattle.tsn_words.specs.declared.arguments.Asked.TheVariants.{Script, States, Serve, Check, Lines, Journal, Shown, Refused}
@@ -353,13 +353,18 @@ pub refused_asks : (given : Given) (asked : Asked) → IsRefusal asked → Gives
 refused_asks given (Refused text) is wrong = wrong
 refused_asks given asked is wrong = absurd is
 
--- words that give syncs wrong ask for a refusal
-pub misgiven_asks : (name : List ℕ) (found : Found) (asked : Asked)
-    → Names (Some (name, rows_of found)) (codes "script") ⊎ Names (Some (name, rows_of found)) (codes "serve")
-    → Misgives (first_value found (codes "journal")) (first_value found (codes "sync")) × IsRefusal asked × TellsSomething asked
-    → AsksFor (Some (name, rows_of found)) asked
-misgiven_asks name found asked named wrong =
-    refused_asks _ asked wrong.1 (inr (inl (record { named = named; wrong = in_rows name found Misgives wrong.0 })))
+-- what is read of a journal is given right, or the words ask for a refusal
+module _ (name : List ℕ) (found : Found) {r : Result (Option Kept) Asked}
+    (read : KeepsOrRefuses (first_value found (codes "journal")) (first_value found (codes "sync")) r) where
+  pub kept_given : {kept : Option Kept} → r ≡ Ok kept
+      → GivesKept (text_given (given name found) (codes "journal")) (text_given (given name found) (codes "sync")) kept
+  kept_given {kept} is = in_rows name found (λ j s. GivesKept j s kept) (subst (KeepsOrRefuses _ _) is read)
+
+  pub misgiven_asks : {asked : Asked} → r ≡ Err asked → Names (given name found) (codes "script") ⊎ Names (given name found) (codes "serve")
+      → AsksFor (given name found) asked
+  misgiven_asks {asked} is named =
+      let wrong = subst (KeepsOrRefuses _ _) is read in
+      refused_asks _ asked wrong.1 (inr (inl (record { named = named; wrong = in_rows name found Misgives wrong.0 })))
 
 -- what is read of a check is what the rows have
 pub check_in_rows : (found : Found) (file : Option (List ℕ)) (is_lines : Bool) → first_value found (codes "FILE") ≡ file

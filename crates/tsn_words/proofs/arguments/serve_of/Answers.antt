@@ -1,8 +1,8 @@
-use Rattle.std.proofs.Common.{◌∙◌, ap, inr, refl, subst}
+use Rattle.std.proofs.Common.{◌∙◌, ap, inr, refl}
 use Rattle.std.specs.Prelude.{codes}
 use Rattle.clap.specs.Words.{found_of}
-use Rattle.tsn_words.specs.Asking.{GivesKept, KeepsOrRefuses, endpoint_of}
-use Rattle.tsn_words.proofs.Worked.{given_in_rows, in_rows, misgiven_asks}
+use Rattle.tsn_words.specs.Asking.{endpoint_of}
+use Rattle.tsn_words.proofs.Worked.{given_in_rows, kept_given, misgiven_asks}
 use Rattle.tsn_words.proofs.arguments.serve_of.Goals as goal
 
 pub returns-in-Ok-clause-asked : goal.returns-in-Ok-clause-asked
@@ -11,11 +11,9 @@ returns-in-Ok-clause-asked c = record {
   setup = given_in_rows (codes "serve") (found_of c.args.given.now) (codes "FILE") _ c.in_ok-file.ensures;
   endpoint = ap endpoint_of (given_in_rows (codes "serve") (found_of c.args.given.now) (codes "listen") _ refl) ∙ c.in_ok-listen.ensures;
   serving = c.given_in-serving.ensures;
-  journal = in_rows (codes "serve") (found_of c.args.given.now) (λ j s. GivesKept j s c.in-Ok.kept)
-      (subst (KeepsOrRefuses _ _) c.in-Ok.is c.in_ok-kept.ensures);
+  journal = kept_given (codes "serve") (found_of c.args.given.now) c.in_ok-kept.ensures c.in-Ok.is;
 }
 
 pub returns-in-Err-clause-asked : goal.returns-in-Err-clause-asked
 returns-in-Err-clause-asked c =
-    misgiven_asks (codes "serve") (found_of c.args.given.now) c.in-Err.refused (inr refl)
-    (subst (KeepsOrRefuses _ _) c.in-Err.is c.in_ok-kept.ensures)
+    misgiven_asks (codes "serve") (found_of c.args.given.now) c.in_ok-kept.ensures c.in-Err.is (inr refl)
