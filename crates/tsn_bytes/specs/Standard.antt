@@ -1,5 +1,6 @@
 -- What a reader or writer of std is seen as, and how a call stands that a signal may interrupt.
-use Rattle.std.specs.Prelude.{◌≡◌, ◌≢◌, ℕ, ◌-◌, ◌^◌, Bool, true, false}
+use Rattle.std.specs.Prelude.{◌≡◌, ◌≢◌, ℕ, ◌-◌, ◌^◌, List, Option, Bool, true, false}
+use Rattle.std.specs.Io.KnownBytes.{Keeps}
 use Rattle.std.specs.declared.io.ErrorKind.{ErrorKind}
 use Rattle.std.specs.declared.io.ErrorKind.TheVariants.{Interrupted}
 
@@ -23,6 +24,10 @@ HasFailedBy kind before after =
     (after.is_done ≡ before.is_done)
     × (kind ≡ Interrupted → after.tries_left ≡ before.tries_left - 1)
     × (kind ≢ Interrupted → after.tries_left ≡ 0)
+
+-- Since this no try has worked, and none moved a byte, as far as these are known.
+abbrev pub IsTried : {T : Type 0} → (T → Option (List ℕ)) → Attempt T → Attempt T → Type 0
+IsTried known before now = (now.is_done ≡ false) × Keeps (known before.inner) (known now.inner)
 
 -- No try is left, and the call did not work.
 abbrev pub HasGivenUp : {T : Type 0} → Attempt T → Type 0
