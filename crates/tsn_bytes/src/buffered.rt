@@ -115,8 +115,9 @@ impl<W: ByteOut> Buffered<W> {
     }
 }
 
-// Puts the piece behind the bytes, where there is room.
-fn append(bytes: &mut Vec<u8>, piece: &[u8])
+/// Puts the piece behind the bytes, where there is room.
+#[inline(always)]
+pub fn append(bytes: &mut Vec<u8>, piece: &[u8])
     requires { vec_len bytes.old + length piece.now ≤ vec_capacity bytes.old }
     ensures items { bytes.new.items ≡ bytes.old.items ++ piece.now }
     ensures len { vec_len bytes.new ≡ vec_len bytes.old + length piece.now }

@@ -6,6 +6,7 @@ use crate::digest::digest_of_parts;
 use crate::line::{LONGEST_FIRST_LINE, LONGEST_LINE};
 use std::alloc::AllocError;
 use std::marker::Model;
+use tsn_bytes::append;
 
 /// The bytes of a line's text beside its stamp and its command: the digest, two spaces and the line feed.
 pub const AROUND: usize = 35;
@@ -118,17 +119,4 @@ impl Chain {
         self.put(buffer, stamp, command);
         Ok(())
     }
-}
-
-/// Puts the piece behind the bytes, where there is room.
-#[inline(always)]
-pub fn append(bytes: &mut Vec<u8>, piece: &[u8])
-    requires { vec_len bytes.old + length piece.now ≤ vec_capacity bytes.old }
-    ensures items { bytes.new.items ≡ bytes.old.items ++ piece.now }
-    ensures len { vec_len bytes.new ≡ vec_len bytes.old + length piece.now }
-    ensures capacity { vec_capacity bytes.old ≤ vec_capacity bytes.new }
-{
-    let Ok(()) = bytes.extend_from_slice(piece) else {
-        unreachable!()
-    };
 }

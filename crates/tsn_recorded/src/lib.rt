@@ -18,9 +18,10 @@ mod laws;
 mod line;
 mod reader;
 
-pub use chain::{AROUND, Chain, append};
+pub use chain::{AROUND, Chain};
 pub use end::End;
 pub use line::{
     LONGEST_COMMAND, LONGEST_FIRST_COMMAND, LONGEST_FIRST_LINE, LONGEST_LINE, LONGEST_STAMP,
 };
 pub use reader::Reader;
+pub use tsn_bytes::append;
