@@ -2,10 +2,11 @@
 //! leave.
 ghost use Rattle.std.specs.Prelude.{◌≡◌, ◌≤◌, ◌↔◌, ◌++◌, Some, [], true, false, length, take, IsErr, IsTrue, OnOk, OnErr};
 ghost use Rattle.tsn_device.specs.Kept.{IsCutShort, LeavesFront};
-ghost use Rattle.tsn_device.specs.Memory.{one_call_later};
+ghost use Rattle.tsn_bytes.specs.Memory.{one_call_later};
 
 use crate::device::{Device, Failed};
 use std::marker::Model;
+use tsn_bytes::is_due;
 
 /// Bytes in memory, of which a front counts as kept.
 #[derive(Drop)]
@@ -32,24 +33,6 @@ impl Model for MemoryDevice {
     } };
 
     ghost invariant = { λ m. m.kept ≤ vec_len m.bytes };
-}
-
-// Whether this call is the one that fails.
-fn is_due(fails_after: &mut Option<u64>) -> bool
-    ensures due { IsTrue result ↔ (fails_after.old ≡ Some 0) }
-    ensures later { fails_after.new ≡ one_call_later fails_after.old }
-{
-    match *fails_after {
-        None => false,
-        Some(0) => {
-            *fails_after = None;
-            true
-        }
-        Some(calls) => {
-            *fails_after = Some(calls - 1);
-            false
-        }
-    }
 }
 
 impl MemoryDevice {
