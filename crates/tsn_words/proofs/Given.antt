@@ -215,24 +215,24 @@ shape_at k [] = new_shape []
 shape_at zero (s ∷ shapes) = s
 shape_at (suc k) (s ∷ shapes) = shape_at k shapes
 
+built_at : ℕ → Shape
+unfolding shape_at
+built_at k = shape_at k (built program).subs
+
 -- ---- `states`
 
-states_built : Shape
-unfolding shape_at
-states_built = shape_at 1 (built program).subs
-
-states_fit : RulesFit accepted states_built.rules
-unfolding accepted shape_at states_built
+states_fit : RulesFit accepted (built_at 1).rules
+unfolding accepted shape_at built_at
 states_fit =
     both (one _ refl refl refl (λ v e. refl)) (both (one _ refl refl refl (λ v e. e)) (both (one _ refl refl refl (λ v e. e))
     (both (one _ refl refl refl (λ v e. e)) (both (one _ refl refl refl (λ v e. e)) ((tt, inl refl), tt)))))
 
-states_given : (words : List Text) → level_fault states_built [] nothing_held words false [] ≡ []
-    → HasStates (Some (rows_at states_built words))
-unfolding accepted shape_at states_built
+states_given : (words : List Text) → level_fault (built_at 1) [] nothing_held words false [] ≡ []
+    → HasStates (Some (rows_at (built_at 1) words))
+unfolding accepted shape_at built_at
 states_given words none =
-    let rows = rows_after states_built.rules [] words in
-    let given = given_to states_built refl states_fit words none in
+    let rows = rows_after (built_at 1).rules [] words in
+    let given = given_to (built_at 1) refl states_fit words none in
     let each = all_given (is_given (codes "FILE") rows) (is_given (codes "port") rows) (is_given (codes "from") rows)
     (is_given (codes "step") rows) (is_given (codes "count") rows) given.1 in
     record {
@@ -246,24 +246,20 @@ states_given words none =
 
 -- ---- `serve`
 
-serve_built : Shape
-unfolding shape_at
-serve_built = shape_at 2 (built program).subs
-
-serve_fit : RulesFit accepted serve_built.rules
-unfolding accepted shape_at serve_built
+serve_fit : RulesFit accepted (built_at 2).rules
+unfolding accepted shape_at built_at
 serve_fit =
     both (one _ refl refl refl (λ v e. refl)) (both (one _ refl refl refl (λ v e. refl)) (both (one _ refl refl refl (λ v e. e))
     (both (one _ refl refl refl (λ v e. e)) (both (one _ refl refl refl (λ v e. e)) (both (one _ refl refl refl (λ v e. e))
     (both (one _ refl refl refl (λ v e. refl)) (both (one _ refl refl refl (λ v e. refl))
     (both ((refl, refl), inr (inr (record { action = refl; range = refl; missing = refl; passes = refl }))) ((tt, inl refl), tt)))))))))
 
-serve_given : (words : List Text) → level_fault serve_built [] nothing_held words false [] ≡ []
-    → HasServe (Some (rows_at serve_built words))
-unfolding accepted shape_at serve_built
+serve_given : (words : List Text) → level_fault (built_at 2) [] nothing_held words false [] ≡ []
+    → HasServe (Some (rows_at (built_at 2) words))
+unfolding accepted shape_at built_at
 serve_given words none =
-    let rows = rows_after serve_built.rules [] words in
-    let given = given_to serve_built refl serve_fit words none in
+    let rows = rows_after (built_at 2).rules [] words in
+    let given = given_to (built_at 2) refl serve_fit words none in
     record {
       named = refl;
       workers = number_fits (codes "serve") (codes "workers") 1 most_workers rows (λ v e. e) given.0;
@@ -274,15 +270,12 @@ serve_given words none =
 
 -- ---- `journal`
 
-journal_built : Shape
-unfolding shape_at
-journal_built = shape_at 4 (built program).subs
-
-journal_fit : RulesFit accepted journal_built.rules
-unfolding accepted shape_at journal_built
+journal_fit : RulesFit accepted (built_at 4).rules
+unfolding accepted shape_at built_at
 journal_fit =
     both (one _ refl refl refl (λ v e. refl)) (both (one _ refl refl refl (λ v e. e)) (both (one _ refl refl refl (λ v e. e))
-    (both ((refl, refl), inr (inr (record { action = refl; range = refl; missing = refl; passes = refl }))) (both (one _ refl refl refl (λ v e. refl))
+    (both ((refl, refl), inr (inr (record { action = refl; range = refl; missing = refl; passes = refl })))
+    (both (one _ refl refl refl (λ v e. refl))
     (both ((refl, refl), inr (inr (record { action = refl; range = refl; missing = refl; passes = refl }))) ((tt, inl refl), tt))))))
 
 -- what one test does not miss is given
@@ -290,12 +283,12 @@ one_given : (a : Bool) → ((true && not a) || false) ≡ false → a ≡ true
 one_given false h = (cc)
 one_given true h = refl
 
-journal_given : (words : List Text) → level_fault journal_built [] nothing_held words false [] ≡ []
-    → HasJournal (Some (rows_at journal_built words))
-unfolding accepted shape_at journal_built
+journal_given : (words : List Text) → level_fault (built_at 4) [] nothing_held words false [] ≡ []
+    → HasJournal (Some (rows_at (built_at 4) words))
+unfolding accepted shape_at built_at
 journal_given words none =
-    let rows = rows_after journal_built.rules [] words in
-    let given = given_to journal_built refl journal_fit words none in
+    let rows = rows_after (built_at 4).rules [] words in
+    let given = given_to (built_at 4) refl journal_fit words none in
     record {
       named = refl;
       file = text_given (codes "journal") (codes "JOURNAL") rows given.0 (one_given (is_given (codes "JOURNAL") rows) given.1);
@@ -307,7 +300,7 @@ journal_given words none =
 
 by_stop : (stop : Option (Text × List Text)) → StopsWell stop → entered_fault (built program) stop ≡ []
     → is_some (entered (built program) stop) ≡ true → IsComplete (entered (built program) stop)
-unfolding StopsWell IsNoHelp shape_at states_built serve_built journal_built
+unfolding StopsWell IsNoHelp shape_at built_at
 by_stop None well none some = (cc)
 by_stop (Some p) well none some =
     go (bytes_eq (codes "script") p.0) (bytes_eq (codes "states") p.0) (bytes_eq (codes "serve") p.0) (bytes_eq (codes "check") p.0)
@@ -321,9 +314,8 @@ by_stop (Some p) well none some =
 
     shape : Bool → Bool → Bool → Bool → Bool → Bool → Option Shape
     shape a b c d e f =
-        cond (a || false) (Some (shape_at 0 (built program).subs)) (cond (b || false) (Some states_built) (cond (c || false) (Some serve_built)
-        (cond (d || false) (Some (shape_at 3 (built program).subs))
-        (cond (e || false) (Some journal_built) (cond (f || false) (Some (shape_at 5 (built program).subs)) None)))))
+        cond (a || false) (Some (built_at 0)) (cond (b || false) (Some (built_at 1)) (cond (c || false) (Some (built_at 2))
+        (cond (d || false) (Some (built_at 3)) (cond (e || false) (Some (built_at 4)) (cond (f || false) (Some (built_at 5)) None)))))
 
     go : (a b c d e f : Bool) → bytes_eq (codes "help") p.0 ≡ f
         → option_map_or (λ (s : Shape). level_fault s [] nothing_held p.1 false []) (shape a b c d e f) [] ≡ []
