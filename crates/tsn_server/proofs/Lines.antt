@@ -1,6 +1,6 @@
 -- The lines of last rounds, one after another.
-use Rattle.std.proofs.Common.{◌≡◌, ℕ, zero, suc, Option, Some, None, ◌++◌, List, [], ◌∷◌, All, map, length, refl, sym, ap, subst, ◌∙◌, arith, append_assoc, append-nil}
-use Rattle.std.specs.Io.KnownBytes.{Appends, Keeps}
+use Rattle.std.proofs.Common.{◌≡◌, ℕ, zero, suc, Option, Some, None, ◌++◌, List, [], ◌∷◌, All, map, length, refl, sym, ap, subst, ◌∙◌, arith, append_assoc, append-nil, unwrap_or}
+use Rattle.std.specs.Io.KnownBytes.{Appends}
 use Rattle.tsn_desk.specs.declared.desk.Desk.{Desk}
 use Rattle.tsn_desk.specs.Desks.{first_of, seen}
 use Rattle.tsn_bridge.specs.State.{State}
@@ -12,7 +12,7 @@ use Rattle.tsn_serve.specs.declared.probing.Probe.{Probe}
 use Rattle.tsn_serve.specs.Probes.{IsProbed}
 use Rattle.tsn_serve.specs.Serving.{Matched, HasProbed}
 use Rattle.tsn_server.specs.Reporting.{IsRested, IsToldOf, Reports}
-use Rattle.tsn_server.specs.Serving.{IsSo, ReportsEnd, ReportsPorts, ports_to}
+use Rattle.tsn_server.specs.Serving.{IsSo, ReportsEnd, ReportsPorts, followed}
 
 module _ (desk : Desk State Ask Reply) where
   -- a line behind the others
@@ -32,7 +32,7 @@ module _ (desk : Desk State Ask Reply) where
   told_so at pair line (told, (history, begins, ends), is) = (told, (history, (history, refl), ends), is)
 
   -- what is told of workers is so of their ports
-  pub of_ports : (at : ℕ) (pairs : List (BridgeSeat × PortWorker)) (text : List ℕ) → Reports desk at pairs text
+  of_ports : (at : ℕ) (pairs : List (BridgeSeat × PortWorker)) (text : List ℕ) → Reports desk at pairs text
       → ReportsPorts (first_of desk) at (map (λ p. port_of p.1) pairs) text
   of_ports at [] text none = none
   of_ports at (pair ∷ pairs) text (line, more, is, rest, whole) = (line, more, told_so at pair line is, of_ports at pairs more rest, whole)
@@ -75,21 +75,17 @@ appends_both (Some a) None new first second p q = absurd p
 appends_both (Some a) (Some b) None first second p q = absurd q
 appends_both (Some a) (Some b) (Some c) first second p q = q ∙ (ap (λ l. l ++ second) p ∙ append_assoc a first second)
 
--- bytes that stay as they were grew by none
-kept_appends : (old new : Option (List ℕ)) → Keeps old new → Appends old new []
-kept_appends None new kept = tt
-kept_appends (Some xs) None kept = absurd kept
-kept_appends (Some xs) (Some ys) kept = kept ∙ sym (append-nil xs)
+-- what is told at the end is of the ports that were followed, at the instant; where none is given, of no port, whatever the instant
+told_of : (first : State) (asked : Option ℕ) (other : ℕ) (text : List ℕ)
+    → ReportsPorts first (unwrap_or asked other) (followed first.book.limits.ports asked) text → ReportsEnd first asked text
+told_of first None other text told = told
+told_of first (Some at) other text told = told
 
-module _ (first : State) (old new : Option (List ℕ)) where
-  abbrev TellsEnd : Option ℕ → Type 0
-  TellsEnd at = (text : List ℕ) × ReportsEnd first at text × Appends old new text
-
-  -- what was told where an instant is given
-  pub told_at : (asked : Option ℕ) (at : ℕ) → asked ≡ Some at
-      → (text : List ℕ) × ReportsPorts first at (ports_to first.book.limits.ports) text × Appends old new text → TellsEnd asked
-  told_at asked at is told = subst TellsEnd (sym is) told
-
-  -- and where none is
-  pub told_nothing : (asked : Option ℕ) → asked ≡ None → Keeps old new → TellsEnd asked
-  told_nothing asked is kept = subst TellsEnd (sym is) ([], refl, kept_appends old new kept)
+pub told_end : (desk : Desk State Ask Reply) (first : State) (asked : Option ℕ) (other at : ℕ) (pairs : List (BridgeSeat × PortWorker))
+    (text : List ℕ)
+    → first_of desk ≡ first → at ≡ unwrap_or asked other
+    → map (λ p. port_of p.1) pairs ≡ followed first.book.limits.ports asked → Reports desk at pairs text → ReportsEnd first asked text
+told_end desk first asked other at pairs text same is ports told =
+    told_of first asked other text (subst (λ (ps : List ℕ). ReportsPorts first (unwrap_or asked other) ps text) ports
+    (subst (λ n. ReportsPorts first n (map (λ p. port_of p.1) pairs) text) is
+    (subst (λ (s : State). ReportsPorts s at (map (λ p. port_of p.1) pairs) text) same (of_ports desk at pairs text told))))

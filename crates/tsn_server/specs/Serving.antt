@@ -8,6 +8,11 @@ abbrev pub ports_to : ℕ → List ℕ
 ports_to zero = []
 ports_to (suc n) = ports_to n ++ suc n ∷ []
 
+-- the ports that are followed: none where no instant is given
+abbrev pub followed : ℕ → Option ℕ → List ℕ
+followed ports None = []
+followed ports (Some at) = ports_to ports
+
 -- the line tells of a port at the instant, where a legal history of this bridge ends
 abbrev pub IsSo : State → ℕ → ℕ → List ℕ → Type 0
 IsSo first at port line = (told : Option ℕ) × Shows first [] port at told × (line ≡ report_line port told)
