@@ -1,11 +1,11 @@
 //! Connections served on a bridge, from a source to the last rounds and the status.
 ghost use Rattle.std.specs.Prelude.{◌≡◌};
 ghost use Rattle.tsn_bridge.specs.Beginning.{IsOpened};
-ghost use Rattle.tsn_program.specs.Serving.{EndsServing, ServesConnections};
+ghost use Rattle.tsn_program.specs.Serving.{ServesConnections};
 ghost use Rattle.tsn_program.specs.Program.{written};
 
 use crate::failures::Failure;
-use crate::program::status_of;
+use crate::program::fail;
 use std::alloc::Global;
 use std::sync::Wait;
 use std::thread::Threads;
@@ -26,41 +26,10 @@ pub fn last_instant(serving: &Serving) -> Option<Instant>
     }
 }
 
-// Serves the connections, and tells of the last rounds.
-#[tactic(auto, using(tsn_bridge::proofs::Reaching::opened_is_reached))]
-fn serve_all_of<R: Wait + Threads + Sync, S: Source + Sync, O: ByteOut>(
-    rt: &R,
-    alloc: Global,
-    bridge: Bridge,
-    serving: Serving,
-    source: &S,
-    output: &mut O,
-) -> Result<(), Failure>
-    requires { IsOpened bridge }
-    ensures { EndsServing bridge serving.probe
-        (written O.taken O.pending O.has_failed output.old output.new)
-        result }
-{
-    let at = last_instant(&serving);
-    match serve_bridge(
-        rt,
-        alloc,
-        bridge,
-        serving.workers as usize,
-        source,
-        &Gated { gate: &Free },
-        at,
-        output,
-    ) {
-        Ok(()) => Ok(()),
-        Err(ServerFault::Fault(fault)) => Err(Failure::Fault(fault)),
-        Err(ServerFault::Refused(why)) => Err(Failure::Refused(why)),
-    }
-}
-
 /// Serves the source's connections on the bridge, as many at once as there are workers, until none is left; then, where
 /// an instant is given, writes a line for each port, which tells its gates at the instant or that it is past, in the
 /// order of the ports. Gives the status: 0, or 1 after one line that says what failed.
+#[tactic(auto, using(tsn_bridge::proofs::Reaching::opened_is_reached))]
 pub fn serve<R: Wait + Threads + Sync, S: Source + Sync, O: ByteOut, E: ByteOut>(
     rt: &R,
     alloc: Global,
@@ -76,6 +45,18 @@ pub fn serve<R: Wait + Threads + Sync, S: Source + Sync, O: ByteOut, E: ByteOut>
         result
         (written E.taken E.pending E.has_failed errors.old errors.new) }
 {
-    let outcome = serve_all_of(rt, alloc, bridge, serving, source, output);
-    status_of(errors, outcome)
+    match serve_bridge(
+        rt,
+        alloc,
+        bridge,
+        serving.workers as usize,
+        source,
+        &Gated { gate: &Free },
+        last_instant(&serving),
+        output,
+    ) {
+        Ok(()) => 0,
+        Err(ServerFault::Fault(fault)) => fail(errors, Failure::Fault(fault)),
+        Err(ServerFault::Refused(why)) => fail(errors, Failure::Refused(why)),
+    }
 }
