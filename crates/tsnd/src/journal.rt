@@ -94,89 +94,52 @@ pub(crate) fn fail_over<E: ByteOut>(
     path: &str,
     fault: &JournalFault,
 ) -> u8 {
-    match fault {
+    let told = match fault {
         JournalFault::Failed(failure) => return fail(errors, *failure),
         JournalFault::Start(StartFault::Read) => {
-            say(
-                errors,
-                format!(in alloc; "tsnd: cannot read the journal: {path}\n"),
-            )
+            format!(in alloc; "tsnd: cannot read the journal: {path}\n")
         }
         JournalFault::Start(StartFault::Memory) => {
             return fail(errors, Failure::Fault(Fault::Memory));
         }
         JournalFault::Start(StartFault::NoJournal) => {
-            say(errors, format!(in alloc; "tsnd: {path} is no journal\n"))
+            format!(in alloc; "tsnd: {path} is no journal\n")
         }
         JournalFault::Start(StartFault::OtherVersion) => {
-            say(
-                errors,
-                format!(in alloc; "tsnd: the journal is of another version\n"),
-            )
+            format!(in alloc; "tsnd: the journal is of another version\n")
         }
         JournalFault::Start(StartFault::OtherSetup) => {
-            say(
-                errors,
-                format!(in alloc; "tsnd: the journal has another setup\n"),
-            )
+            format!(in alloc; "tsnd: the journal has another setup\n")
         }
         JournalFault::Start(StartFault::Setup(why)) => return fail(errors, Failure::Refused(*why)),
         JournalFault::Start(StartFault::Refused { line, why }) => {
             let number = why.number();
-            say(
-                errors,
-                format!(in alloc; "tsnd: the journal: line {line} is refused {number}\n"),
-            )
+            format!(in alloc; "tsnd: the journal: line {line} is refused {number}\n")
         }
-        JournalFault::InUse => {
-            say(
-                errors,
-                format!(in alloc; "tsnd: the journal is in use: {path}\n"),
-            )
-        }
+        JournalFault::InUse => format!(in alloc; "tsnd: the journal is in use: {path}\n"),
         JournalFault::Damaged(line) => {
-            say(
-                errors,
-                format!(in alloc; "tsnd: the journal is damaged at line {line}\n"),
-            )
+            format!(in alloc; "tsnd: the journal is damaged at line {line}\n")
         }
         JournalFault::NoEntry(number) => {
-            say(
-                errors,
-                format!(in alloc; "tsnd: the journal has no entry {number}\n"),
-            )
+            format!(in alloc; "tsnd: the journal has no entry {number}\n")
         }
         JournalFault::Open(error) => {
-            say(
-                errors,
-                format!(in alloc; "tsnd: cannot open the journal {path}: {error}\n"),
-            )
+            format!(in alloc; "tsnd: cannot open the journal {path}: {error}\n")
         }
         JournalFault::Make(error) => {
-            say(
-                errors,
-                format!(in alloc; "tsnd: cannot make the journal {path}: {error}\n"),
-            )
+            format!(in alloc; "tsnd: cannot make the journal {path}: {error}\n")
         }
         JournalFault::Write(Some(error)) => {
-            say(
-                errors,
-                format!(in alloc; "tsnd: cannot write the journal: {error}\n"),
-            )
+            format!(in alloc; "tsnd: cannot write the journal: {error}\n")
         }
-        JournalFault::Write(None) => say(
-            errors,
-            format!(in alloc; "tsnd: cannot write the journal\n"),
-        ),
-        JournalFault::NoSession => { say(errors, format!(in alloc; "tsnd: no session is left\n")) }
+        JournalFault::Write(None) => format!(in alloc; "tsnd: cannot write the journal\n"),
+        JournalFault::NoSession => format!(in alloc; "tsnd: no session is left\n"),
         JournalFault::LongRecord(key) => {
             let (kind, id) = name_of(key);
-            say(
-                errors,
-                format!(in alloc; "tsnd: the record of {kind} {id} is longer than a line may be\n"),
-            )
+            format!(in alloc; "tsnd: the record of {kind} {id} is longer than a line may be\n")
         }
-    }
+    };
+    say(errors, told);
     1
 }
 
