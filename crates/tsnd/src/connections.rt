@@ -1,6 +1,6 @@
 //! The service of connections, with what a process has: the network and threads.
 use crate::logging::ErrorLog;
-use std::alloc::{AllocError, Global};
+use std::alloc::Global;
 use std::net::{Net, TcpListener, TcpStream};
 use std::rt::Files;
 use std::sync::Wait;
@@ -12,20 +12,8 @@ use tsn_server::SocketSource;
 use tsn_sockets::{Endpoint, ListenFault, listen_on};
 use tsn_words::Serving;
 
-// Says where connections are taken, in one line. Refused where there is no memory for that line; where standard error
-// takes none, nothing is left to do.
-pub(crate) fn say_where<E: ByteOut>(
-    alloc: Global,
-    errors: &mut E,
-    endpoint: &Endpoint,
-) -> Result<(), AllocError> {
-    let line = format!(in alloc; "tsnd: listens on {endpoint}\n")?;
-    let _ = put_all(errors, line.as_bytes());
-    Ok(())
-}
-
-/// Tells why nothing listens at the endpoint, and gives its status, 1.
-pub(crate) fn fail_to_listen<E: ByteOut>(
+// Tells why nothing listens at the endpoint, and gives its status, 1.
+fn fail_to_listen<E: ByteOut>(
     alloc: Global,
     errors: &mut E,
     endpoint: &str,
@@ -37,34 +25,52 @@ pub(crate) fn fail_to_listen<E: ByteOut>(
     }
 }
 
-/// Serves connections at the endpoint on the bridge of a setup's text, and gives the status. The setup is read before
-/// the endpoint, and both before anything is served.
+/// Where a server listens, what it is to serve there, and who is told of connections.
+#[derive(Drop)]
+pub(crate) struct Place<'a, R: Clock> {
+    pub(crate) endpoint: &'a str,
+    pub(crate) serving: Serving,
+    pub(crate) log: &'a ErrorLog<'a, R>,
+}
+
+impl<'a, R: Files + Clock + Net<Listener = TcpListener, Stream = TcpStream>> Place<'a, R> {
+    /// Listens there, says so in one line, and gives where connections come from. Else tells why not, and gives the
+    /// status, 1: where nothing listens, or where there is no memory for that line. Where standard error does not take
+    /// the line, nothing is left to do.
+    pub(crate) fn listen<E: ByteOut>(
+        &self,
+        rt: &'a R,
+        alloc: Global,
+        errors: &mut E,
+    ) -> Result<(SocketSource<'a, R, ErrorLog<'a, R>>, Endpoint), u8> {
+        let (listener, bound) = match listen_on(rt, alloc, self.endpoint) {
+            Ok(listening) => listening,
+            Err(fault) => return Err(fail_to_listen(alloc, errors, self.endpoint, &fault)),
+        };
+        let Ok(line) = format!(in alloc; "tsnd: listens on {bound}\n") else {
+            return Err(fail(errors, Failure::Fault(Fault::Memory)));
+        };
+        let _ = put_all(errors, line.as_bytes());
+        let serving = self.serving;
+        let log = serving.is_logged.then_some(self.log);
+        let source = SocketSource::new(rt, listener, serving.connections, serving.idle, log);
+        Ok((source, bound))
+    }
+}
+
+/// Serves connections there on the bridge of a setup's text, and gives the status. The setup is read before the
+/// endpoint, and both before anything is served.
 pub fn serve_at<
     R: Files + Wait + Threads + Clock + Net<Listener = TcpListener, Stream = TcpStream> + Sync,
     O: ByteOut,
     E: ByteOut,
->(
-    rt: &R,
-    alloc: Global,
-    setup: &[u8],
-    endpoint: &str,
-    serving: Serving,
-    log: &ErrorLog<'_, R>,
-    output: &mut O,
-    errors: &mut E,
-) -> u8 {
+>(rt: &R, alloc: Global, setup: &[u8], place: &Place<'_, R>, output: &mut O, errors: &mut E) -> u8 {
     let bridge = match bridge_of(alloc, setup) {
         Ok(bridge) => bridge,
         Err(why) => return fail(errors, Failure::Refused(why)),
     };
-    let (listener, bound) = match listen_on(rt, alloc, endpoint) {
-        Ok(listening) => listening,
-        Err(fault) => return fail_to_listen(alloc, errors, endpoint, &fault),
-    };
-    if say_where(alloc, errors, &bound).is_err() {
-        return fail(errors, Failure::Fault(Fault::Memory));
+    match place.listen(rt, alloc, errors) {
+        Ok((source, _)) => serve(rt, alloc, bridge, place.serving, &source, output, errors),
+        Err(status) => status,
     }
-    let log = serving.is_logged.then_some(log);
-    let source = SocketSource::new(rt, listener, serving.connections, serving.idle, log);
-    serve(rt, alloc, bridge, serving, &source, output, errors)
 }

@@ -21,7 +21,7 @@ mod setup;
 #[cfg(test)]
 mod tests;
 
-use connections::serve_at;
+use connections::{Place, serve_at};
 use journal::script_over;
 use logging::ErrorLog;
 use looking::look_at;
@@ -84,32 +84,19 @@ fn main(rt: HostRuntime) -> ExitCode {
         Asked::Serve {
             listen,
             serving,
-            kept: Some(kept),
-            ..
-        } => serve_over(
-            &rt,
-            own,
             kept,
-            listen.as_str(),
-            *serving,
-            &log,
-            &mut output,
-            &mut errors,
-        ),
-        Asked::Serve {
-            listen,
-            serving,
             ..
-        } => serve_at(
-            &rt,
-            alloc,
-            text,
-            listen.as_str(),
-            *serving,
-            &log,
-            &mut output,
-            &mut errors,
-        ),
+        } => {
+            let place = Place {
+                endpoint: listen.as_str(),
+                serving: *serving,
+                log: &log,
+            };
+            match kept {
+                Some(kept) => serve_over(&rt, own, kept, &place, &mut output, &mut errors),
+                None => serve_at(&rt, alloc, text, &place, &mut output, &mut errors),
+            }
+        }
         Asked::Script {
             kept: Some(kept),
             ..

@@ -1,9 +1,8 @@
 //! The service of connections over a journal.
 ghost use Rattle.tsn_bridge.specs.Reached.{IsReached};
 
-use crate::connections::{fail_to_listen, say_where};
+use crate::connections::Place;
 use crate::journal::{JournalFault, NO_MEMORY, WallClock, error_of, fail_over, start};
-use crate::logging::ErrorLog;
 use std::alloc::Global;
 use std::fs::File;
 use std::marker::Brand;
@@ -13,14 +12,15 @@ use std::sync::Wait;
 use std::sync::atomic::{AtomicI32, Ordering};
 use std::thread::Threads;
 use std::time;
-use tsn_bytes::{ByteOut, Fault};
+use tsn_bytes::ByteOut;
+use tsn_clerk::Stop;
 use tsn_device::{Device, DeviceOverFile, Failed, FileDevice, UnsyncedDevice};
 use tsn_history::Opened;
 use tsn_keeping::Keeper;
 use tsn_program::{Failure, last_instant};
 use tsn_resuming::Resumed;
-use tsn_server::{LastingServerFault, ServerFault, SocketSource, StoppableSource, serve_lasting};
-use tsn_sockets::{ListenFault, listen_on};
+use tsn_serve::Source;
+use tsn_server::{LastingServerFault, ServerFault, StoppableSource, serve_lasting};
 use tsn_types::refusals::{Field, Refusal};
 use tsn_words::{Kept, Serving, Syncs};
 
@@ -66,25 +66,6 @@ impl<D: DeviceOverFile> Device for TellingDevice<'_, D> {
     }
 }
 
-/// What ends a service over a journal with status 1.
-#[derive(Drop)]
-enum Ended {
-    Journal(JournalFault),
-    Listen(ListenFault),
-}
-
-impl From<JournalFault> for Ended {
-    fn from(fault: JournalFault) -> Ended {
-        Ended::Journal(fault)
-    }
-}
-
-impl From<ListenFault> for Ended {
-    fn from(fault: ListenFault) -> Ended {
-        Ended::Listen(fault)
-    }
-}
-
 // Why a service ended before its end, as its line says.
 fn fault_of(fault: LastingServerFault, why: &AtomicI32) -> JournalFault {
     match fault {
@@ -104,19 +85,15 @@ fn fault_of(fault: LastingServerFault, why: &AtomicI32) -> JournalFault {
 // Serves the source's connections over the bridge that goes on and the file that keeps it.
 fn serve_on<
     D: DeviceOverFile + Drop + Send,
-    R: AllocGlobal
-        + time::Clock
-        + Wait
-        + Threads
-        + Net<Listener = TcpListener, Stream = TcpStream>
-        + Sync,
+    R: time::Clock + Wait + Threads + Sync,
+    S: Source + Stop + Sync,
     O: ByteOut,
 >(
     rt: &R,
     alloc: Global,
     started: (File, Resumed),
     serving: Serving,
-    source: &StoppableSource<'_, R, ErrorLog<'_, R>>,
+    source: &S,
     output: &mut O,
 ) -> Result<(), JournalFault>
     requires { IsReached started.1.bridge }
@@ -151,50 +128,7 @@ fn serve_on<
     }
 }
 
-// Opens the journal, listens at the endpoint, says where, and serves.
-fn serve_from<
-    R: Files<File = File>
-        + AllocGlobal
-        + time::Clock
-        + Wait
-        + Threads
-        + Net<Listener = TcpListener, Stream = TcpStream>
-        + Sync,
-    O: ByteOut,
-    E: ByteOut,
->(
-    rt: &R,
-    setup: Option<&[u8]>,
-    kept: &Kept,
-    endpoint: &str,
-    serving: Serving,
-    log: &ErrorLog<'_, R>,
-    output: &mut O,
-    errors: &mut E,
-) -> Result<(), Ended> {
-    let alloc = rt.alloc();
-    let started = start(rt, setup, kept.file.as_str(), errors)?;
-    let (listener, bound) = listen_on(rt, alloc, endpoint)?;
-    if say_where(alloc, errors, &bound).is_err() {
-        return Err(Ended::Journal(NO_MEMORY));
-    }
-    let log = serving.is_logged.then_some(log);
-    let source = SocketSource::new(rt, listener, serving.connections, serving.idle, log);
-    let Ok(source) = StoppableSource::new(alloc, rt, source, bound, serving.workers) else {
-        return Err(Ended::Journal(NO_MEMORY));
-    };
-    match kept.syncs {
-        Syncs::Each => {
-            serve_on::<FileDevice, _, _>(rt, alloc, started, serving, &source, output)?
-        }
-        Syncs::None => {
-            serve_on::<UnsyncedDevice, _, _>(rt, alloc, started, serving, &source, output)?
-        }
-    }
-    Ok(())
-}
-
-/// Serves connections at the endpoint over the journal, whose file is made where it is not there, and gives the status.
+/// Serves connections there over the journal, whose file is made where it is not there, and gives the status.
 /// With a setup the journal must have just that one. The journal is opened before the endpoint, and both before
 /// anything is served.
 pub(crate) fn serve_over<
@@ -211,15 +145,34 @@ pub(crate) fn serve_over<
     rt: &R,
     setup: Option<&[u8]>,
     kept: &Kept,
-    endpoint: &str,
-    serving: Serving,
-    log: &ErrorLog<'_, R>,
+    place: &Place<'_, R>,
     output: &mut O,
     errors: &mut E,
 ) -> u8 {
-    match serve_from(rt, setup, kept, endpoint, serving, log, output, errors) {
+    let alloc = rt.alloc();
+    let path = kept.file.as_str();
+    let serving = place.serving;
+    let started = match start(rt, setup, path, errors) {
+        Ok(started) => started,
+        Err(fault) => return fail_over(alloc, errors, path, &fault),
+    };
+    let (source, bound) = match place.listen(rt, alloc, errors) {
+        Ok(listening) => listening,
+        Err(status) => return status,
+    };
+    let Ok(source) = StoppableSource::new(alloc, rt, source, bound, serving.workers) else {
+        return fail_over(alloc, errors, path, &NO_MEMORY);
+    };
+    let ended = match kept.syncs {
+        Syncs::Each => serve_on::<FileDevice, _, _, _>(
+            rt, alloc, started, serving, &source, output,
+        ),
+        Syncs::None => {
+            serve_on::<UnsyncedDevice, _, _, _>(rt, alloc, started, serving, &source, output)
+        }
+    };
+    match ended {
         Ok(()) => 0,
-        Err(Ended::Journal(fault)) => fail_over(rt.alloc(), errors, kept.file.as_str(), &fault),
-        Err(Ended::Listen(fault)) => fail_to_listen(rt.alloc(), errors, endpoint, &fault),
+        Err(fault) => fail_over(alloc, errors, path, &fault),
     }
 }
