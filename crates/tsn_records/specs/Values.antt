@@ -181,7 +181,16 @@ filter_draft r =
 
 abbrev pub meter_draft : FlowMeter → MeterDraft
 meter_draft r =
-    record { cir = r.cir; cbs = r.cbs; eir = r.eir; ebs = r.ebs; cf = r.cf; aware = r.aware; drop_yellow = r.drop_yellow; all_red = r.all_red }
+    record {
+      cir = r.cir;
+      cbs = r.cbs;
+      eir = r.eir;
+      ebs = r.ebs;
+      cf = r.cf;
+      aware = r.aware;
+      drop_yellow = r.drop_yellow;
+      all_red = r.all_red;
+    }
 
 abbrev pub record_draft : Record → RecordDraft
 record_draft (records.Port r) = Port (port_draft r)
