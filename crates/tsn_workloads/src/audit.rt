@@ -538,7 +538,7 @@ impl Audit {
 }
 
 impl Job for Audit {
-    fn next(&mut self, text: &mut Text) -> bool {
+    fn next(&mut self, text: &mut Text, _turn: u64) -> bool {
         if self.turn >= self.turns() {
             self.phase = self.phase.next();
             self.turn = 0;

@@ -11,7 +11,6 @@ use crate::text::Text;
 #[derive(Drop)]
 pub struct Blocked {
     random: Random,
-    turn: u64,
     standing: u64,
     asks: u64,
 }
@@ -21,7 +20,6 @@ impl Blocked {
     pub fn new(random: Random, standing: u64, asks: u64) -> Blocked {
         Blocked {
             random,
-            turn: 0,
             standing,
             asks,
         }
@@ -83,9 +81,7 @@ impl Blocked {
 }
 
 impl Job for Blocked {
-    fn next(&mut self, text: &mut Text) -> bool {
-        let turn = self.turn;
-        self.turn = self.turn.wrapping_add(1);
+    fn next(&mut self, text: &mut Text, turn: u64) -> bool {
         if turn == 0 {
             self.begin(text);
         } else if turn <= self.standing {

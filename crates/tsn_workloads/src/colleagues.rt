@@ -38,7 +38,6 @@ struct Known {
 pub struct Colleagues {
     random: Random,
     known: Vec<Known>,
-    turn: u64,
     turns: u64,
 }
 
@@ -59,7 +58,6 @@ impl Colleagues {
         Colleagues {
             random,
             known,
-            turn: 0,
             turns,
         }
     }
@@ -255,9 +253,7 @@ fn filter_of(session: u64, created: u64) -> u64 {
 }
 
 impl Job for Colleagues {
-    fn next(&mut self, text: &mut Text) -> bool {
-        let turn = self.turn;
-        self.turn = self.turn.wrapping_add(1);
+    fn next(&mut self, text: &mut Text, turn: u64) -> bool {
         if turn < OWNER {
             hello(text);
         } else if turn < 2 * OWNER {

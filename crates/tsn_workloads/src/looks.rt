@@ -22,7 +22,6 @@ pub struct Looks {
     gates: Pool,
     instances: u64,
     looks: u64,
-    turn: u64,
     now: u64,
     entries: u64,
     edited: u64,
@@ -37,7 +36,6 @@ impl Looks {
             gates,
             instances,
             looks,
-            turn: 0,
             now: 0,
             entries: 0,
             edited: 0,
@@ -156,9 +154,7 @@ impl Looks {
 }
 
 impl Job for Looks {
-    fn next(&mut self, text: &mut Text) -> bool {
-        let turn = self.turn;
-        self.turn = self.turn.wrapping_add(1);
+    fn next(&mut self, text: &mut Text, turn: u64) -> bool {
         if turn == 0 {
             hello(text);
         } else if turn <= self.instances {

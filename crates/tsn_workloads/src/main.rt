@@ -27,10 +27,10 @@ mod traffic;
 
 use digest::Digest;
 use jobs::{Name, play, put_audit};
-use std::alloc::AllocError;
+use std::alloc::{AllocError, Global};
 use std::rt::Env;
 use std::{env, io};
-use tsn_bytes::{Buffered, StdIo};
+use tsn_bytes::{Buffered, ByteOut, StdIo};
 
 // What is printed of a job.
 #[derive(Clone, Copy, PartialEq, Eq)]
@@ -48,6 +48,13 @@ struct Request {
     rounds: u64,
     size: u64,
     shown: Shown,
+}
+
+impl Request {
+    // Does the job, and gives its status.
+    fn play<W: ByteOut>(self, alloc: Global, output: &mut W) -> u8 {
+        play(alloc, self.name, self.seed, self.rounds, self.size, output)
+    }
 }
 
 // The small run of each job.
@@ -96,14 +103,7 @@ fn request_of(words: &[String]) -> Option<Request> {
 fn print_digest(rt: &(impl Print + AllocGlobal), word: &str, request: Request) -> io::Result<()> {
     let alloc = rt.alloc();
     let mut output = Buffered::new(alloc, Digest::new())?;
-    let status = play(
-        alloc,
-        request.name,
-        request.seed,
-        request.rounds,
-        request.size,
-        &mut output,
-    );
+    let status = request.play(alloc, &mut output);
     let digest = output.inner().value();
     let taken = output.inner().taken();
     println!(rt; "{word} {digest:x} of {taken} bytes, status {status}")
@@ -113,14 +113,7 @@ fn print_digest(rt: &(impl Print + AllocGlobal), word: &str, request: Request) -
 fn print_replies(rt: &(impl Print + AllocGlobal), request: Request) -> io::Result<()> {
     let alloc = rt.alloc();
     let mut output = Buffered::new(alloc, StdIo::new(io::writer(rt)))?;
-    let status = play(
-        alloc,
-        request.name,
-        request.seed,
-        request.rounds,
-        request.size,
-        &mut output,
-    );
+    let status = request.play(alloc, &mut output);
     println!(rt; "status {status}")
 }
 

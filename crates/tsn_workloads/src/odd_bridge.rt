@@ -3,6 +3,7 @@
 use crate::numbers::Random;
 use crate::odd_records::{Record, odd_filter, odd_gate, odd_meter, odd_port};
 use crate::records::perhaps;
+use crate::setups::put_limits;
 use crate::text::Text;
 use std::alloc::Global;
 
@@ -95,19 +96,11 @@ fn put_table(text: &mut Text, random: &mut Random, record: &Record, number: u64)
     record.put_table(text, number, first);
 }
 
-fn put_limits(text: &mut Text, sizes: &Sizes) {
-    text.with("ports = ", sizes.ports);
-    text.with("\nmax_filters = ", sizes.filters);
-    text.with("\nmax_gates = ", sizes.gates);
-    text.with("\nmax_meters = ", sizes.meters);
-    text.with("\nlist_max = ", sizes.entries);
-    text.put("\n");
-}
-
 /// The setup: a table for each port but the last, and for so many filters, gates and meters.
 pub fn odd_setup(alloc: Global, random: &mut Random, sizes: &Sizes) -> Text {
     let mut text = Text::new(alloc);
-    put_limits(&mut text, sizes);
+    let tables = [sizes.filters, sizes.gates, sizes.meters];
+    put_limits(&mut text, sizes.ports, tables, sizes.entries);
     for number in 1..sizes.ports {
         let record = sizes.port(random);
         put_table(&mut text, random, &record, number);

@@ -23,7 +23,6 @@ pub struct Plan {
     random: Random,
     ports: Pool,
     gates: Pool,
-    turn: u64,
     now: u64,
     streams: u64,
 }
@@ -37,7 +36,6 @@ impl Plan {
             random,
             ports,
             gates,
-            turn: 0,
             now: 0,
             streams,
         }
@@ -107,9 +105,11 @@ impl Plan {
 }
 
 impl Job for Plan {
-    fn next(&mut self, text: &mut Text) -> bool {
-        let turn = self.turn;
-        self.turn = self.turn.wrapping_add(1);
+    fn next(&mut self, text: &mut Text, turn: u64) -> bool {
+        let stream = turn.saturating_sub(2 * LISTED);
+        if stream > self.streams || stream > 60_000 {
+            return false;
+        }
         if turn == 0 {
             hello(text);
         } else if turn <= LISTED {
@@ -117,10 +117,6 @@ impl Job for Plan {
         } else if turn <= 2 * LISTED {
             self.gate_list(text, turn - LISTED);
         } else {
-            let stream = turn - 2 * LISTED;
-            if stream > self.streams || stream > 60_000 {
-                return false;
-            }
             self.stream(text, FIRST + stream);
         }
         true

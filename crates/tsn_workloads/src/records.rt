@@ -45,24 +45,31 @@ pub fn act(text: &mut Text, word: &str, kind: &str, number: u64, now: u64, sessi
     close_command(text, session);
 }
 
-/// The record of a port, with the entries of its list.
-pub fn put_port(text: &mut Text, gates: u64, cycle: u64, base: u64, entries: &[u8]) {
+// What a record with a list begins with.
+fn put_times(text: &mut Text, cycle: u64, base: u64) {
     text.with("{\"base\":", base);
     text.with(",\"cycle\":", cycle);
-    text.with(",\"extension\":0,\"gates\":", gates);
+}
+
+// Its list, and what stands behind that.
+fn put_list(text: &mut Text, entries: &[u8], rest: &str) {
     text.put(",\"list\":[");
     text.put_bytes(entries);
-    text.put("]}");
+    text.put(rest);
+}
+
+/// The record of a port, with the entries of its list.
+pub fn put_port(text: &mut Text, gates: u64, cycle: u64, base: u64, entries: &[u8]) {
+    put_times(text, cycle, base);
+    text.with(",\"extension\":0,\"gates\":", gates);
+    put_list(text, entries, "]}");
 }
 
 /// The record of a stream gate, with the entries of its list.
 pub fn put_gate(text: &mut Text, ipv: Option<u64>, cycle: u64, base: u64, entries: &[u8]) {
-    text.with("{\"base\":", base);
-    text.with(",\"cycle\":", cycle);
+    put_times(text, cycle, base);
     text.with_or_null(",\"extension\":0,\"invalid_rx\":false,\"ipv\":", ipv);
-    text.put(",\"list\":[");
-    text.put_bytes(entries);
-    text.put("],\"octets_exceeded\":false,\"open\":true}");
+    put_list(text, entries, "],\"octets_exceeded\":false,\"open\":true}");
 }
 
 /// The record of a flow meter of this rate and burst.

@@ -10,14 +10,15 @@ const AHEAD: usize = 65536;
 
 /// What makes the lines of a job.
 pub trait Job {
-    /// Puts the next line or lines, each with its line feed, and says whether there were any.
-    fn next(&mut self, text: &mut Text) -> bool;
+    /// Puts the line or lines of this turn, from 0, each with its line feed, and says whether there were any.
+    fn next(&mut self, text: &mut Text, turn: u64) -> bool;
 }
 
 /// The lines of a job as a script that is read.
 #[derive(Drop)]
 pub struct Script<J> {
     job: J,
+    turn: u64,
     text: Text,
     calls: u64,
     has_failed: bool,
@@ -27,6 +28,7 @@ impl<J: Job> Script<J> {
     pub fn new(alloc: Global, job: J) -> Script<J> {
         Script {
             job,
+            turn: 0,
             text: Text::new(alloc),
             calls: 0,
             has_failed: false,
@@ -35,13 +37,15 @@ impl<J: Job> Script<J> {
 }
 
 // Makes lines in place of those that were read, as far as there are any.
-fn refill<J: Job>(job: &mut J, text: &mut Text) {
+fn refill<J: Job>(job: &mut J, turn: &mut u64, text: &mut Text) {
     text.clear();
     for _ in 0..AHEAD {
         if text.len() >= AHEAD {
             break;
         }
-        if !job.next(text) {
+        let this = *turn;
+        *turn = this.wrapping_add(1);
+        if !job.next(text, this) {
             break;
         }
     }
@@ -60,7 +64,7 @@ impl<J: Job> ByteIn for Script<J> {
         if first == buffer.len() {
             return Ok(first);
         }
-        refill(&mut self.job, &mut self.text);
+        refill(&mut self.job, &mut self.turn, &mut self.text);
         if self.text.lacks_memory() {
             self.has_failed = true;
             return Err(Failed);

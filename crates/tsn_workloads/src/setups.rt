@@ -4,13 +4,19 @@ use crate::numbers::Random;
 use crate::text::Text;
 use std::alloc::Global;
 
-/// The limits of a setup: its ports, and the sizes of its tables and of its lists.
-pub fn put_limits(text: &mut Text, ports: u64, instances: u64, entries: u64) {
-    text.with("ports = ", ports);
-    text.with("\nmax_filters = ", instances);
-    text.with("\nmax_gates = ", instances);
-    text.with("\nmax_meters = ", instances);
-    text.with("\nlist_max = ", entries);
+/// The limits of a setup: its ports, and the sizes of its tables of filters, gates and meters and of its lists.
+pub fn put_limits(text: &mut Text, ports: u64, tables: [u64; 3], entries: u64) {
+    let [filters, gates, meters] = tables;
+    let limits = [
+        ("ports = ", ports),
+        ("\nmax_filters = ", filters),
+        ("\nmax_gates = ", gates),
+        ("\nmax_meters = ", meters),
+        ("\nlist_max = ", entries),
+    ];
+    for (name, most) in limits {
+        text.with(name, most);
+    }
     text.put("\n");
 }
 
@@ -64,7 +70,7 @@ fn put_filter(text: &mut Text, random: &mut Random, number: u64) {
 /// The setup of a plan: 64 ports with lists, and so many streams, a gate, a meter and a filter each.
 pub fn plan_setup(alloc: Global, random: &mut Random, streams: u64) -> Text {
     let mut text = Text::new(alloc);
-    put_limits(&mut text, 64, 65_536, 4096);
+    put_limits(&mut text, 64, [65_536; 3], 4096);
     for number in 1..65 {
         put_port(&mut text, random, number, 64);
     }
@@ -83,7 +89,7 @@ pub fn plan_setup(alloc: Global, random: &mut Random, streams: u64) -> Text {
 /// A setup of limits alone.
 pub fn limits_setup(alloc: Global, ports: u64, instances: u64, entries: u64) -> Text {
     let mut text = Text::new(alloc);
-    put_limits(&mut text, ports, instances, entries);
+    put_limits(&mut text, ports, [instances; 3], entries);
     text
 }
 

@@ -16,8 +16,14 @@ const LONG_PIECES: u64 = 1320;
 pub struct Spellings {
     random: Random,
     lines: u64,
-    turn: u64,
     now: u64,
+}
+
+// What a line begins with: its word, and what stands between this and the number of its key.
+fn put_front(text: &mut Text, word: &str, between: &str, number: u64) {
+    text.put("{\"do\": \"");
+    text.put(word);
+    text.with(between, number);
 }
 
 impl Spellings {
@@ -26,7 +32,6 @@ impl Spellings {
         Spellings {
             random,
             lines,
-            turn: 0,
             now: 0,
         }
     }
@@ -68,19 +73,20 @@ impl Spellings {
 
     // The word, the session, the key and the record, in this order.
     fn word_first(&mut self, text: &mut Text, word: &str, number: u64) {
-        text.put("{\"do\": \"");
-        text.put(word);
-        text.with("\", \"s\": 1, \"key\": \"gate ", number);
-        text.put("\", \"record\": ");
+        put_front(text, word, "\", \"s\": 1, \"key\": \"gate ", number);
+        self.last_gate(text, "\", \"record\": ");
+    }
+
+    // A gate's record as the last member of a line.
+    fn last_gate(&mut self, text: &mut Text, name: &str) {
+        text.put(name);
         self.gate(text);
         text.put("}\n");
     }
 
     // Sorted by name, with spaces.
     fn sorted(&mut self, text: &mut Text, word: &str, number: u64) {
-        text.put("{\"do\": \"");
-        text.put(word);
-        text.with("\", \"key\": \"meter ", number);
+        put_front(text, word, "\", \"key\": \"meter ", number);
         text.put("\", \"record\": ");
         self.meter(text);
         text.put(", \"s\": 1}\n");
@@ -98,12 +104,8 @@ impl Spellings {
 
     // A key with an escape.
     fn escaped(&mut self, text: &mut Text, word: &str, number: u64) {
-        text.put("{\"do\": \"");
-        text.put(word);
-        text.with("\", \"key\": \"\\u0067ate ", number);
-        text.put("\", \"s\": 1, \"record\": ");
-        self.gate(text);
-        text.put("}\n");
+        put_front(text, word, "\", \"key\": \"\\u0067ate ", number);
+        self.last_gate(text, "\", \"s\": 1, \"record\": ");
     }
 
     fn undo(&mut self, text: &mut Text) {
@@ -213,9 +215,7 @@ impl Spellings {
 }
 
 impl Job for Spellings {
-    fn next(&mut self, text: &mut Text) -> bool {
-        let turn = self.turn;
-        self.turn = self.turn.wrapping_add(1);
+    fn next(&mut self, text: &mut Text, turn: u64) -> bool {
         if turn == 0 {
             self.begin(text);
         } else if turn > self.lines {

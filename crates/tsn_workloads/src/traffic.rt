@@ -20,7 +20,6 @@ pub struct Traffic {
     random: Random,
     filters: u64,
     frames: u64,
-    turn: u64,
     now: u64,
 }
 
@@ -31,7 +30,6 @@ impl Traffic {
             random,
             filters,
             frames,
-            turn: 0,
             now: 0,
         }
     }
@@ -104,9 +102,7 @@ impl Traffic {
 }
 
 impl Job for Traffic {
-    fn next(&mut self, text: &mut Text) -> bool {
-        let turn = self.turn;
-        self.turn = self.turn.wrapping_add(1);
+    fn next(&mut self, text: &mut Text, turn: u64) -> bool {
         if turn == 0 {
             self.begin(text);
         } else if turn <= self.filters {
