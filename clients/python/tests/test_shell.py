@@ -415,6 +415,7 @@ class Terminal(Served):
         """A shell in a terminal of its own: its process, and the terminal."""
         pid, terminal = pty.fork()
         if pid == 0:
+            signal.signal(signal.SIGINT, signal.SIG_DFL)  # who runs the tests in the background ignores Ctrl-C
             os.environ.update(PYTHONPATH=str(HERE.parents[1]), TERM="dumb")
             os.execv(sys.executable, [sys.executable, "-m", "tsnd.shell", self.server.address, *words])
         self.addCleanup(os.close, terminal)
