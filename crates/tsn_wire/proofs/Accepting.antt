@@ -1,11 +1,13 @@
 -- A line is accepted exactly where it is the value of a command.
-use Rattle.std.proofs.Common.{◌≡◌, ℕ, ◌≤◌, List, map, Bool, true, false, cond, Some, None, Result, Ok, Err, codes, bytes_eq, refl, sym, ap, subst, ◌∙◌}
+use Rattle.std.proofs.Common.{◌≡◌, ℕ, ◌≤◌, List, map, Bool, true, false, cond, Some, None, Result, Ok, Err, codes, refl, sym, ap, subst, ◌∙◌}
 use Rattle.serde_json.specs.Data.{Data, boolean, object, string}
 use Rattle.serde_json.specs.Find.{get}
 use Rattle.tsn_bridge.specs.declared.command.Command.{Command}
 use Rattle.tsn_bridge.specs.declared.command.Command.TheVariants as commands
 use Rattle.tsn_bridge.specs.Sessions.{most_sessions}
 use Rattle.tsn_chain.specs.declared.frame.Frame.{Frame}
+use Rattle.tsn_edit.specs.declared.Edit.{Edit}
+use Rattle.tsn_edit.specs.declared.Edit.TheVariants as edits
 use Rattle.tsn_types.specs.declared.keys.Key.{Key}
 use Rattle.tsn_types.specs.declared.keys.Kind.{Kind}
 use Rattle.tsn_types.specs.declared.keys.Kind.TheVariants as kinds
@@ -17,33 +19,45 @@ use Rattle.tsn_types.specs.Names.{is_name}
 use Rattle.tsn_types.specs.Keys.{kind}
 use Rattle.tsn_types.specs.Numbers.{IsHandle, IsPriority, greatest_handle, greatest_instant, greatest_priority}
 use Rattle.tsn_records.specs.Answers.{◌>>=◌, or_shape, or_syntax}
-use Rattle.tsn_wire.specs.Commands.{bare_or_named, key_at, listed, name_draft, named_shape, listed_at, keyed_record, create_shape, replace_shape, removed_key, remove_shape, batch_shape, bare_shape, enable_shape, disable_shape, apply_shape, frame_members, frame_shape, states_shape, counters_shape, show_shape, list_shape, since_shape, settle_shape, command_shape, line_shape}
+use Rattle.tsn_wire.specs.Commands.{bare_or_named, key_at, listed, name_draft, named_shape, listed_at, removed_key, edited_shape, batch_shape, frame_members, frame_shape, command_shape, worded_shape, line_shape}
 use Rattle.tsn_records.specs.Json.{flag_at, has_members, number_at, text_at}
 use Rattle.tsn_records.specs.Keys.{kind_of, key_text, kind_text}
-use Rattle.tsn_records.specs.Ranges.{within, record_of, key}
-use Rattle.tsn_wire.specs.Ranges.{greatest_after, longest_frame, frame_of_draft, command_of_draft}
+use Rattle.tsn_records.specs.Ranges.{within, key}
+use Rattle.tsn_wire.specs.Ranges.{greatest_after, longest_frame, frame_of_draft, edit_of_draft, command_of_draft}
 use Rattle.tsn_wire.specs.Rows.{members_of}
 use Rattle.tsn_wire.specs.Reading.{data_of, line_of_draft, name_of_draft, reading, line_of}
-use Rattle.tsn_records.specs.Shown.{draft_data, record_data, whole_data}
+use Rattle.tsn_records.specs.Shown.{record_data, whole_data}
 use Rattle.tsn_wire.specs.Lines.{command_members, IsOf as IsOfKind, IsSound}
 use Rattle.tsn_wire.specs.Spelled.{IsKey}
 use Rattle.tsn_wire.specs.Values.{act_data, asked_data, bare_data, frame_data, keyed_data, edit_data, listed_data, hello_data, settle_data, states_data, value_of, KeyInRange, MayHaveList, ListInRange, FrameInRange, IsSession, MayBeAsked, AcceptsValues, IsNoPort}
 use Rattle.tsn_wire.specs.ReadingBack.{ReadsBack}
 use Rattle.tsn_records.specs.Values.{record_draft}
 use Rattle.tsn_records.specs.declared.drafts.KeyDraft.{KeyDraft}
-use Rattle.tsn_records.specs.declared.drafts.RecordDraft.{RecordDraft}
 use Rattle.tsn_records.specs.declared.unread.Unread.{Unread}
 use Rattle.tsn_wire.specs.declared.drafts.CommandDraft.{CommandDraft}
 use Rattle.tsn_wire.specs.declared.drafts.CommandDraft.TheVariants as wanted
+use Rattle.tsn_wire.specs.declared.drafts.EditDraft.{EditDraft}
+use Rattle.tsn_wire.specs.declared.drafts.EditDraft.TheVariants as drafts
 use Rattle.tsn_wire.specs.declared.drafts.FrameDraft.{FrameDraft}
 use Rattle.tsn_wire.specs.declared.drafts.LineDraft.{LineDraft}
 use Rattle.tsn_wire.specs.declared.drafts.LineDraft.TheVariants.{Hello, Named, Session}
 use Rattle.tsn_wire.specs.declared.drafts.NameDraft.TheVariants.{Fit, Unfit}
+use Rattle.tsn_wire.specs.declared.words.Act.{Act}
+use Rattle.tsn_wire.specs.declared.words.Act.TheVariants as acts
+use Rattle.tsn_wire.specs.declared.words.Bare.{Bare}
+use Rattle.tsn_wire.specs.declared.words.Bare.TheVariants as bares
+use Rattle.tsn_wire.specs.declared.words.Look.{Look}
+use Rattle.tsn_wire.specs.declared.words.Look.TheVariants as looks
+use Rattle.tsn_wire.specs.declared.words.Put.{Put}
+use Rattle.tsn_wire.specs.declared.words.Put.TheVariants as puts
+use Rattle.tsn_wire.specs.declared.words.Word.{Word}
+use Rattle.tsn_wire.specs.declared.words.Word.TheVariants as words
+use Rattle.tsn_wire.specs.Words.{act_command, act_word, bare_command, bare_word, edit_command, look_command, look_word, put_edit, put_word, word_of, word_text}
 use Rattle.tsn_bridge.specs.declared.command.Ask.{Ask}
 use Rattle.tsn_records.proofs.RecordRanges.{passed, at_most, within_ok, at_most_ok}
 use Rattle.tsn_records.proofs.Steps.{last_step, only, steps, syntax_there, not_refused}
 use Rattle.tsn_wire.proofs.Batching.{batch_known, batch_shaped, edit_draft, edits_back}
-use Rattle.tsn_wire.proofs.Known.{by_test, same_text, kind_known, put_known, put_back, removable_known, key_there, record_same, key_draft, key_back, instance, read_back}
+use Rattle.tsn_wire.proofs.Known.{word_known, kind_known, put_known, put_back, removable_known, key_there, record_same, key_draft, key_back, instance, read_back}
 use Rattle.tsn_wire.proofs.FromShapes.{number_there, flag_there, text_there, value_there}
 use Rattle.tsn_wire.proofs.Objects.{IsOrdered, whole_object, line_ordered}
 use Rattle.tsn_wire.proofs.ReadingBack.{in_steps}
@@ -79,71 +93,71 @@ drafted : (asked draft : CommandDraft) (c : Command) → ◌≡◌ {A = Result C
     → command_of_draft draft ≡ Ok c → command_of_draft asked ≡ Ok c
 drafted asked draft c is range = ap command_of_draft (only (Ok asked) asked draft refl is) ∙ range
 
--- edits that name a record
-edit_known : (word : List ℕ) (asked : KeyDraft → RecordDraft → CommandDraft) (found : Key → Record → Command)
-    → ((q : KeyDraft) (v : RecordDraft) → command_of_draft (asked q v) ≡ (key q >>= λ k. record_of v >>= λ r. Ok (found k r)))
-    → ((s : ℕ) (d : Data) (k : Key) (r : Record) → IsSession s → KeyedInRange k r → d ≡ edit_data word s (key_text k) (record_data r)
-    → IsValue s d (found k r))
-    → Asks word (λ d. keyed_record 4 d >>= λ p. Ok (asked p.0 p.1))
-edit_known word asked found ranges value s d draft c of shape range =
-    put_known 4 asked found command_of_draft d draft c (IsValue s d) of.ordered ranges shape range (λ k r held.
-    value s d k r of.session held.fits
-    (whole_object 3 d (members_of (edit_data word s (key_text k) (record_data r))) held.unit of.ordered held.count refl
+-- what is asked by a word with a key and a record, with a key and an instant, with a key, with nothing
+put_value : (put : Put) (s : ℕ) (d : Data) (k : Key) (r : Record) → IsSession s → KeyedInRange k r
+    → d ≡ edit_data (put_word put) s (key_text k) (record_data r) → IsValue s d (edit_command (put_edit put k r))
+put_value puts.Create s d k r session fits is = ((session, fits), is)
+put_value puts.Replace s d k r session fits is = ((session, fits), is)
+
+act_value : (act : Act) (s : ℕ) (d : Data) (k : Key) (a : ℕ) → IsSession s → ListInRange k a
+    → d ≡ act_data (act_word act) s (key_text k) a → IsValue s d (act_command act k a)
+act_value acts.Enable s d k a session fits is = ((session, fits), is)
+act_value act s d k a session fits is = ((session, fits), is)
+
+look_value : (look : Look) (s : ℕ) (d : Data) (k : Key) → IsSession s → KeyInRange k
+    → d ≡ keyed_data (look_word look) s (key_text k) → IsValue s d (look_command look k)
+look_value looks.Counters s d k session fits is = ((session, fits), is)
+look_value looks.Show s d k session fits is = ((session, fits), is)
+
+bare_value : (b : Bare) (s : ℕ) (d : Data) → IsSession s → d ≡ bare_data (bare_word b) s → IsValue s d (bare_command b)
+bare_value bares.Undo s d session is = (session, is)
+bare_value b s d session is = (session, is)
+
+edited_known : (word : Word) (s : ℕ) (d : Data) (e : EditDraft) (x : Edit) → IsOf (word_text word) s d
+    → edited_shape 1 word d ≡ Ok e → edit_of_draft e ≡ Ok x → IsValue s d (edit_command x)
+unfolding removed_key
+edited_known (words.Put put) s d e x of shape range =
+    put_known 4 (drafts.Put put) (put_edit put) edit_of_draft d e x (λ x. IsValue s d (edit_command x)) of.ordered (λ _ _. refl)
+    shape range (λ k r held. put_value put s d k r of.session held.fits
+    (whole_object 3 d (members_of (edit_data (put_word put) s (key_text k) (record_data r))) held.unit of.ordered held.count refl
     (refl, (refl, (refl, tt))) (of.word_there, (held.key_is, (held.record_is, (of.session_there, tt))))))
-
-create_known : Asks (codes "create") create_shape
-unfolding create_shape
-create_known = edit_known (codes "create") wanted.Create commands.Create (λ _ _. refl) (λ s d k r session fits is. ((session, fits), is))
-
-replace_known : Asks (codes "replace") replace_shape
-unfolding replace_shape
-replace_known =
-    edit_known (codes "replace") wanted.Replace commands.Replace (λ _ _. refl) (λ s d k r session fits is. ((session, fits), is))
-
-remove_known : Asks (codes "remove") remove_shape
-unfolding remove_shape removed_key
-remove_known s d draft c of shape range =
-    steps (removed_key 3 d) _ draft shape (λ p p_is p_next.
+edited_known words.Remove s d e x of shape range =
+    steps (removed_key 3 d) _ e shape (λ p p_is p_next.
     steps (has_members 3 d) _ p p_is (λ count count_is count_next.
     steps (key_at d) _ p count_next (λ q q_is q_next.
     let may = removable_known q p q.kind q_next in
-    last_step (key p) c (IsValue s d) commands.Remove (drafted (wanted.Remove p) draft c p_next range) (λ k k_is.
+    let whole = drafts.Remove p in
+    last_step (key p) x (λ x. IsValue s d (edit_command x)) edits.Remove (ap edit_of_draft (only (Ok whole) whole e refl p_next) ∙ range)
+    (λ k k_is.
     let range_of : key q ≡ Ok k = ap key may.0 ∙ k_is in
     let named = key_there d q k q_is range_of in
     ((of.session, named.2, subst IsNoPort named.1 may.1), named_by_key (codes "remove") s d q k count of count_is q_is range_of)))))
+edited_known word s d e x of shape range = cc
 
--- looks at a key
-look_known : (word : List ℕ) (asked : KeyDraft → CommandDraft) (found : Key → Command)
-    → ((q : KeyDraft) → command_of_draft (asked q) ≡ (key q >>= λ k. Ok (found k)))
-    → ((s : ℕ) (d : Data) (k : Key) → IsSession s → KeyInRange k → d ≡ keyed_data word s (key_text k) → IsValue s d (found k))
-    → Asks word (λ d. has_members 3 d >>= λ _. key_at d >>= λ q. Ok (asked q))
-look_known word asked found ranges value s d draft c of shape range =
+edit_asked : (word : Word) → Asks (word_text word) (λ d. edited_shape 1 word d >>= λ e. Ok (wanted.Edit e))
+edit_asked word s d draft c of shape range =
+    steps (edited_shape 1 word d) _ draft shape (λ e e_is e_next.
+    steps (edit_of_draft e) _ c (drafted (wanted.Edit e) draft c e_next range) (λ x x_is x_next.
+    let found = edit_command x in
+    subst (IsValue s d) (only (Ok found) found c refl x_next) (edited_known word s d e x of e_is x_is)))
+
+look_asked : (look : Look) → Asks (look_word look) (λ d. has_members 3 d >>= λ _. key_at d >>= λ q. Ok (wanted.Look look q))
+look_asked look s d draft c of shape range =
     steps (has_members 3 d) _ draft shape (λ count count_is count_next.
     steps (key_at d) _ draft count_next (λ q q_is q_next.
-    last_step (key q) c (IsValue s d) found (sym (ranges q) ∙ drafted (asked q) draft c q_next range) (λ k k_is.
-    value s d k of.session (key_there d q k q_is k_is).2 (named_by_key word s d q k count of count_is q_is k_is))))
+    last_step (key q) c (IsValue s d) (look_command look) (drafted (wanted.Look look q) draft c q_next range) (λ k k_is.
+    look_value look s d k of.session (key_there d q k q_is k_is).2 (named_by_key (look_word look) s d q k count of count_is q_is k_is))))
 
-counters_known : Asks (codes "counters") counters_shape
-unfolding counters_shape
-counters_known =
-    look_known (codes "counters") wanted.Counters commands.Counters (λ _. refl) (λ s d k session fits is. ((session, fits), is))
-
-show_known : Asks (codes "show") show_shape
-unfolding show_shape
-show_known = look_known (codes "show") wanted.Show commands.Show (λ _. refl) (λ s d k session fits is. ((session, fits), is))
-
--- commands of their words alone
-bare_known : (word : List ℕ) (asked : CommandDraft) (found : Command) → command_of_draft asked ≡ Ok found
-    → ((s : ℕ) (d : Data) → IsSession s → d ≡ bare_data word s → IsValue s d found) → Asks word (bare_shape asked)
-unfolding bare_shape
-bare_known word asked found is value s d draft c of shape range =
+bare_asked : (b : Bare) → Asks (bare_word b) (λ d. has_members 2 d >>= λ _. Ok (wanted.Bare b))
+bare_asked b s d draft c of shape range =
     steps (has_members 2 d) _ draft shape (λ count count_is count_next.
-    subst (IsValue s d) (only (Ok found) found c refl (sym is ∙ drafted asked draft c count_next range))
-    (value s d of.session (whole_object 1 d (members_of (bare_data word s)) count of.ordered count_is refl (refl, tt)
+    let found = bare_command b in
+    subst (IsValue s d) (only (Ok found) found c refl (drafted (wanted.Bare b) draft c count_next range))
+    (bare_value b s d of.session (whole_object 1 d (members_of (bare_data (bare_word b) s)) count of.ordered count_is refl (refl, tt)
     (of.word_there, (of.session_there, tt)))))
 
-list_known : Asks (codes "list") list_shape
-unfolding list_shape
+list_known : Asks (codes "list")
+    (λ d. has_members 3 d >>= λ _. text_at (codes "kind") d >>= λ text. or_shape (kind_of text) >>= λ kind. Ok (wanted.List kind))
 list_known s d draft c of shape range =
     steps (has_members 3 d) _ draft shape (λ count count_is count_next.
     steps (text_at (codes "kind") d) _ draft count_next (λ text text_is text_next.
@@ -180,16 +194,14 @@ numbered_known word name field asked found ranges value s d draft c of shape ran
       fits = fits.1;
     }))))
 
-since_known : Asks (codes "since") since_shape
-unfolding since_shape
+since_known : Asks (codes "since") (λ d. has_members 3 d >>= λ _. number_at (codes "after") d >>= λ n. Ok (wanted.Since n))
 since_known = numbered_known (codes "since") (codes "after") fields.After wanted.Since commands.Since (λ _. refl) (λ s d after of held. (
   (of.session, held.fits),
   whole_object 2 d (members_of (asked_data s after)) held.unit of.ordered held.count refl (refl, (refl, tt))
       (held.number_is, (of.word_there, (of.session_there, tt))),
 ))
 
-settle_known : Asks (codes "settle") settle_shape
-unfolding settle_shape
+settle_known : Asks (codes "settle") (λ d. has_members 3 d >>= λ _. number_at (codes "upto") d >>= λ n. Ok (wanted.Settle n))
 settle_known = numbered_known (codes "settle") (codes "upto") fields.Upto wanted.Settle commands.Settle (λ _. refl) (λ s d upto of held. (
   (of.session, held.fits),
   whole_object 2 d (members_of (settle_data s upto)) held.unit of.ordered held.count refl (refl, (refl, tt))
@@ -244,31 +256,13 @@ at_instant_known word name field asked found ranges value s d draft c of shape r
     last_step (within field 0 greatest_instant p.1) c (IsValue s d) (found k) k_next (λ a a_is.
     value s d k a of (listed_at_known name field d p k a p_is k_is a_is))))
 
--- acts on lists
-act_known : (word : List ℕ) (asked : KeyDraft → ℕ → CommandDraft) (found : Key → ℕ → Command)
-    → ((q : KeyDraft) (n : ℕ)
-    → command_of_draft (asked q n) ≡ (key q >>= λ k. within fields.Now 0 greatest_instant n >>= λ a. Ok (found k a)))
-    → ((s : ℕ) (d : Data) (k : Key) (a : ℕ) → IsSession s → ListInRange k a → d ≡ act_data word s (key_text k) a → IsValue s d (found k a))
-    → Asks word (λ d. listed_at (codes "now") d >>= λ p. Ok (asked p.0 p.1))
-act_known word asked found ranges value =
-    at_instant_known word (codes "now") fields.Now asked found ranges (λ s d k a of at. value s d k a of.session at.fits
-    (whole_object 3 d (members_of (act_data word s (key_text k) a)) at.unit of.ordered at.count refl (refl, (refl, (refl, tt)))
+act_asked : (act : Act) → Asks (act_word act) (λ d. listed_at (codes "now") d >>= λ p. Ok (wanted.Act act p.0 p.1))
+act_asked act = at_instant_known (act_word act) (codes "now") fields.Now (wanted.Act act) (act_command act) (λ _ _. refl)
+    (λ s d k a of at. act_value act s d k a of.session at.fits
+    (whole_object 3 d (members_of (act_data (act_word act) s (key_text k) a)) at.unit of.ordered at.count refl (refl, (refl, (refl, tt)))
     (of.word_there, (at.key_is, (at.instant_is, (of.session_there, tt))))))
 
-enable_known : Asks (codes "enable") enable_shape
-unfolding enable_shape
-enable_known = act_known (codes "enable") wanted.Enable commands.Enable (λ _ _. refl) (λ s d k a session fits is. ((session, fits), is))
-
-disable_known : Asks (codes "disable") disable_shape
-unfolding disable_shape
-disable_known = act_known (codes "disable") wanted.Disable commands.Disable (λ _ _. refl) (λ s d k a session fits is. ((session, fits), is))
-
-apply_known : Asks (codes "apply") apply_shape
-unfolding apply_shape
-apply_known = act_known (codes "apply") wanted.Apply commands.Apply (λ _ _. refl) (λ s d k a session fits is. ((session, fits), is))
-
-states_known : Asks (codes "states") states_shape
-unfolding states_shape
+states_known : Asks (codes "states") (λ d. listed_at (codes "at") d >>= λ p. Ok (wanted.States p.0 p.1))
 states_known = at_instant_known (codes "states") (codes "at") fields.At wanted.States commands.States (λ _ _. refl) (λ s d k a of at. (
   (of.session, at.fits),
   whole_object 3 d (members_of (states_data s (key_text k) a)) at.unit of.ordered at.count refl
@@ -342,40 +336,20 @@ frame_known s d draft c of shape range =
 batch_asked : Asks (codes "batch") batch_shape
 batch_asked s d draft c of shape range = batch_known s d draft c of.ordered of.word_there of.session_there of.session shape range
 
--- the same value, with the word by its name
-named : (word name : List ℕ) (s : ℕ) (d : Data) → IsOf word s d → bytes_eq word name ≡ true → IsOf name s d
-named word name s d of e = subst (λ w. IsOf w s d) (same_text word name e) of
-
-command_known : (word : List ℕ) → Asks word (command_shape word)
+command_known : (word : Word) → Asks (word_text word) (command_shape word)
 unfolding command_shape
-command_known word s d draft c of shape range =
-    by_test _ _ _ _ shape (λ e h. create_known s d draft c (named word _ s d of e) h range)
-    (λ _ h1. by_test _ _ _ _ h1 (λ e h. replace_known s d draft c (named word _ s d of e) h range)
-    (λ _ h2. by_test _ _ _ _ h2 (λ e h. remove_known s d draft c (named word _ s d of e) h range)
-    (λ _ h3. by_test _ _ _ _ h3 (λ e h. batch_asked s d draft c (named word _ s d of e) h range)
-    (λ _ h4. by_test _ _ _ _ h4 (λ e h. bare_known _ wanted.Undo commands.Undo refl (λ s d session is. (session, is)) s d draft c
-    (named word _ s d of e) h range)
-    (λ _ h5. by_test _ _ _ _ h5 (λ e h. bare_known _ wanted.UndoAll commands.UndoAll refl (λ s d session is. (session, is)) s d draft c
-    (named word _ s d of e) h range)
-    (λ _ h6. by_test _ _ _ _ h6 (λ e h. bare_known _ wanted.Redo commands.Redo refl (λ s d session is. (session, is)) s d draft c
-    (named word _ s d of e) h range)
-    (λ _ h7. by_test _ _ _ _ h7 (λ e h. settle_known s d draft c (named word _ s d of e) h range)
-    (λ _ h8. by_test _ _ _ _ h8 (λ e h. enable_known s d draft c (named word _ s d of e) h range)
-    (λ _ h9. by_test _ _ _ _ h9 (λ e h. disable_known s d draft c (named word _ s d of e) h range)
-    (λ _ h10. by_test _ _ _ _ h10 (λ e h. apply_known s d draft c (named word _ s d of e) h range)
-    (λ _ h11. by_test _ _ _ _ h11 (λ e h. frame_known s d draft c (named word _ s d of e) h range)
-    (λ _ h12. by_test _ _ _ _ h12 (λ e h. states_known s d draft c (named word _ s d of e) h range)
-    (λ _ h13. by_test _ _ _ _ h13 (λ e h. counters_known s d draft c (named word _ s d of e) h range)
-    (λ _ h14. by_test _ _ _ _ h14 (λ e h. show_known s d draft c (named word _ s d of e) h range)
-    (λ _ h15. by_test _ _ _ _ h15 (λ e h. list_known s d draft c (named word _ s d of e) h range)
-    (λ _ h16. by_test _ _ _ _ h16 (λ e h. since_known s d draft c (named word _ s d of e) h range)
-    (λ _ h17. by_test _ _ _ _ h17 (λ e h. bare_known _ wanted.Resume commands.Resume refl (λ s d session is. (session, is)) s d draft c
-    (named word _ s d of e) h range)
-    (λ _ h18. by_test _ _ _ _ h18 (λ e h. bare_known _ wanted.Sessions commands.Sessions refl (λ s d session is. (session, is)) s d draft c
-    (named word _ s d of e) h range)
-    (λ _ h19. by_test _ _ _ _ h19 (λ e h. bare_known _ wanted.Setup commands.Setup refl (λ s d session is. (session, is)) s d draft c
-    (named word _ s d of e) h range)
-    (λ _ h20. cc))))))))))))))))))))
+command_known words.Hello s d draft c of shape range = cc
+command_known (words.Put put) s d draft c of shape range = edit_asked (words.Put put) s d draft c of shape range
+command_known words.Remove s d draft c of shape range = edit_asked words.Remove s d draft c of shape range
+command_known words.Batch s d draft c of shape range = batch_asked s d draft c of shape range
+command_known (words.Act act) s d draft c of shape range = act_asked act s d draft c of shape range
+command_known words.Frame s d draft c of shape range = frame_known s d draft c of shape range
+command_known words.States s d draft c of shape range = states_known s d draft c of shape range
+command_known (words.Look look) s d draft c of shape range = look_asked look s d draft c of shape range
+command_known words.List s d draft c of shape range = list_known s d draft c of shape range
+command_known words.Since s d draft c of shape range = since_known s d draft c of shape range
+command_known words.Settle s d draft c of shape range = settle_known s d draft c of shape range
+command_known (words.Bare b) s d draft c of shape range = bare_asked b s d draft c of shape range
 
 -- a value that asks for what a line says
 abbrev SaysAsk : Data → Ask → Type 0
@@ -420,31 +394,36 @@ hello_known d draft line (Ok u) ordered word count shape range =
     bare_hello_known d u line ordered word count (ap line_of_draft (only (Ok Hello) Hello draft refl shape) ∙ range)
 hello_known d draft line (Err why) ordered word count shape range = named_known d draft line ordered word shape range
 
-session_known : (word : List ℕ) (n : ℕ) (d : Data) (draft : CommandDraft) (line : Ask) → IsOrdered d
-    → get (codes "do") d ≡ Some (string word) → get (codes "s") d ≡ Some (whole_data n)
+session_known : (word : Word) (n : ℕ) (d : Data) (draft : CommandDraft) (line : Ask) → IsOrdered d
+    → get (codes "do") d ≡ Some (string (word_text word)) → get (codes "s") d ≡ Some (whole_data n)
     → command_shape word d ≡ Ok draft → line_of_draft (Session n draft) ≡ Ok line → SaysAsk d line
 session_known word n d draft line ordered there session shape range =
     steps (within fields.S 1 most_sessions n) _ line range (λ s s_is s_next.
     steps (command_of_draft draft) _ line s_next (λ c c_is c_next.
     let fits = passed fields.S 1 most_sessions n s s_is in
-    let of : IsOf word s d = record
+    let of : IsOf (word_text word) s d = record
     { ordered = ordered; word_there = there; session_there = session ∙ ap (λ m. Some (whole_data m)) fits.0; session = fits.1 } in
     let found : Ask = record { session = s; command = c } in
     subst (SaysAsk d) (only (Ok found) found line refl c_next) (command_known word s d draft c of shape c_is)))
+
+worded_known : (word : Word) (d : Data) (draft : LineDraft) (line : Ask) → IsOrdered d
+    → get (codes "do") d ≡ Some (string (word_text word)) → worded_shape word d ≡ Ok draft → line_of_draft draft ≡ Ok line → SaysAsk d line
+worded_known words.Hello d draft line ordered there shape range = hello_known d draft line (has_members 1 d) ordered there refl shape range
+worded_known word d draft line ordered there shape range =
+    steps (number_at (codes "s") d) _ draft shape (λ n n_is n_next.
+    steps (command_shape word d) _ draft n_next (λ command command_is command_next.
+    let whole = Session n command in
+    session_known word n d command line ordered there (number_there _ n n_is) command_is
+    (ap line_of_draft (only (Ok whole) whole draft refl command_next) ∙ range)))
 
 line_known : (d : Data) (draft : LineDraft) (line : Ask) → IsOrdered d → line_shape d ≡ Ok draft → line_of_draft draft ≡ Ok line
     → SaysAsk d line
 unfolding line_shape
 line_known d draft line ordered shape range =
-    steps (text_at (codes "do") d) _ draft shape (λ word word_is word_next.
-    let there = text_there _ word word_is in
-    by_test _ _ _ _ word_next
-    (λ e h. hello_known d draft line (has_members 1 d) ordered (there ∙ ap (λ l. Some (string l)) (same_text word _ e)) refl h range)
-    (λ _ h. steps (number_at (codes "s") d) _ draft h (λ n n_is n_next.
-    steps (command_shape word d) _ draft n_next (λ command command_is command_next.
-    let whole = Session n command in
-    session_known word n d command line ordered there (number_there _ n n_is) command_is
-    (ap line_of_draft (only (Ok whole) whole draft refl command_next) ∙ range)))))
+    steps (text_at (codes "do") d) _ draft shape (λ text text_is text_next.
+    steps (or_shape (word_of text)) _ draft text_next (λ word word_is word_next.
+    let named = word_known text word (value_there (word_of text) word word_is) in
+    worded_known word d draft line ordered (text_there _ text text_is ∙ ap (λ l. Some (string l)) named) word_next range))
 
 accepted : (line : List ℕ) (l : Ask) → line_of line ≡ Ok l
     → MayBeAsked l.session l.command × (data_of line ≡ Some (value_of l.session l.command))
@@ -457,20 +436,12 @@ accepted line l h =
 
 -- ---- a value is accepted
 
-setup_shaped : (s : ℕ) → line_shape (bare_data (codes "setup") s) ≡ Ok (Session s wanted.Setup)
-unfolding line_shape command_shape bare_shape
-setup_shaped s = refl
-
-settle_shaped : (s upto : ℕ) → line_shape (settle_data s upto) ≡ Ok (Session s (wanted.Settle upto))
-unfolding line_shape command_shape settle_shape
-settle_shaped s upto = refl
-
 hello_shaped : (s : ℕ) → line_shape (value_of s (commands.Hello None)) ≡ Ok Hello
-unfolding line_shape
+unfolding line_shape word_of
 hello_shaped s = refl
 
 named_shaped : (name : List ℕ) → line_shape (hello_data (Some name)) ≡ Ok (Named (name_draft name))
-unfolding line_shape named_shape
+unfolding line_shape named_shape word_of
 named_shaped name = refl
 
 frame_back : (f : Frame) (now : ℕ) → FrameInRange f now → frame_of_draft (frame_draft f) ≡ Ok f
@@ -499,68 +470,69 @@ by_members : (line : List ℕ) (s : ℕ) (draft : CommandDraft) (c : Command) �
 by_members line s draft c session read sound passes =
     by_shape line s (object (command_members s draft)) draft c session read (shaped s draft sound) passes
 
--- the same of an edit, in whose value the record is seen as its draft
-by_edit : (line word : List ℕ) (s : ℕ) (k : Key) (r : Record) (asked : KeyDraft → RecordDraft → CommandDraft)
-    (found : Key → Record → Command) → IsSession s × KeyedInRange k r → data_of line ≡ Some (edit_data word s (key_text k) (record_data r))
-    → (line_shape (edit_data word s (key_text k) (draft_data (record_draft r))) ≡ Ok (Session s (asked (key_draft k) (record_draft r))))
-    → command_of_draft (asked (key_draft k) (record_draft r)) ≡ Ok (found k r)
-    → line_of line ≡ Ok (record { session = s; command = found k r })
-by_edit line word s k r asked found fits read shape passes =
-    by_shape line s _ (asked (key_draft k) (record_draft r)) (found k r) fits.0
-    (read ∙ ap (λ d. Some (edit_data word s (key_text k) d)) (sym (record_same r))) shape passes
-
 edit_sound : (k : Key) (r : Record) → KeyedInRange k r → IsKey (key_draft k) × IsOfKind (kind k) (record_draft r)
 edit_sound k r fits = let back = read_back k r fits in (instance k back.in_range, back.of)
 
-read_as : (line : List ℕ) (s : ℕ) (c : Command) → MayBeAsked s c → data_of line ≡ Some (value_of s c) → line_of line
-    ≡ Ok (record { session = s; command = c })
+-- the same by the word; the record in the value of an edit is seen as its draft
+by_put : (put : Put) (line : List ℕ) (s : ℕ) (k : Key) (r : Record) → IsSession s × KeyedInRange k r
+    → data_of line ≡ Some (edit_data (put_word put) s (key_text k) (record_data r))
+    → line_of line ≡ Ok (record { session = s; command = edit_command (put_edit put k r) })
+by_put put line s k r fits read =
+    let asked = wanted.Edit (drafts.Put put (key_draft k) (record_draft r)) in
+    by_shape line s _ asked (edit_command (put_edit put k r)) fits.0
+    (read ∙ ap (λ d. Some (edit_data (put_word put) s (key_text k) d)) (sym (record_same r)))
+    (shaped s asked (edit_sound k r fits.1)) (rw (put_back (put_edit put) k r fits.1) refl)
+
+by_act : (act : Act) (line : List ℕ) (s : ℕ) (k : Key) (now : ℕ) → IsSession s × ListInRange k now
+    → data_of line ≡ Some (act_data (act_word act) s (key_text k) now)
+    → line_of line ≡ Ok (record { session = s; command = act_command act k now })
+by_act act line s k now fits read =
+    by_members line s (wanted.Act act (key_draft k) now) _ fits.0 read (instance k fits.1.key, fits.1.list)
+    (at_instant_back fields.Now (act_command act) k now fits.1)
+
+by_look : (look : Look) (line : List ℕ) (s : ℕ) (k : Key) → IsSession s × KeyInRange k
+    → data_of line ≡ Some (keyed_data (look_word look) s (key_text k))
+    → line_of line ≡ Ok (record { session = s; command = look_command look k })
+by_look look line s k fits read =
+    by_members line s (wanted.Look look (key_draft k)) _ fits.0 read (instance k fits.1) (rw (key_back k fits.1) refl)
+
+by_bare : (b : Bare) (line : List ℕ) (s : ℕ) → IsSession s → data_of line ≡ Some (bare_data (bare_word b) s)
+    → line_of line ≡ Ok (record { session = s; command = bare_command b })
+by_bare b line s fits read = by_members line s (wanted.Bare b) _ fits read tt refl
+
+read_as : (line : List ℕ) (s : ℕ) (c : Command) → MayBeAsked s c → data_of line ≡ Some (value_of s c)
+    → line_of line ≡ Ok (record { session = s; command = c })
 read_as line s (commands.Hello None) fits read = rw fits (in_steps line _ Hello _ read (hello_shaped s) refl)
 read_as line s (commands.Hello (Some name)) fits read =
     rw fits.0 (in_steps line _ (Named (name_draft name)) _ read (named_shaped name) (rw fits.1 refl))
-read_as line s (commands.Create k r) fits read =
-    let asked = wanted.Create (key_draft k) (record_draft r) in
-    let sound : IsSound asked = edit_sound k r fits.1 in
-    by_edit line (codes "create") s k r wanted.Create commands.Create fits read (shaped s asked sound) (put_back commands.Create k r fits.1)
-read_as line s (commands.Replace k r) fits read =
-    let asked = wanted.Replace (key_draft k) (record_draft r) in
-    let sound : IsSound asked = edit_sound k r fits.1 in
-    by_edit line (codes "replace") s k r wanted.Replace commands.Replace fits read (shaped s asked sound)
-    (put_back commands.Replace k r fits.1)
+read_as line s (commands.Create k r) fits read = by_put puts.Create line s k r fits read
+read_as line s (commands.Replace k r) fits read = by_put puts.Replace line s k r fits read
 read_as line s (commands.Remove k) fits read =
-    by_members line s (wanted.Remove (key_draft k)) _ fits.0 read (instance k fits.1, fits.2) (rw (key_back k fits.1) refl)
+    by_members line s (wanted.Edit (drafts.Remove (key_draft k))) _ fits.0 read (instance k fits.1, fits.2) (rw (key_back k fits.1) refl)
 read_as line s (commands.Batch b) fits read =
     by_shape line s _ (wanted.Batch (map edit_draft b)) _ fits.0 read (batch_shaped s b fits.1 fits.2) (rw (edits_back b fits.2) refl)
-read_as line s commands.Undo fits read = by_members line s wanted.Undo _ fits read tt refl
-read_as line s commands.UndoAll fits read = by_members line s wanted.UndoAll _ fits read tt refl
-read_as line s commands.Redo fits read = by_members line s wanted.Redo _ fits read tt refl
 read_as line s (commands.Settle upto) fits read =
-    by_shape line s _ (wanted.Settle upto) _ fits.0 read (settle_shaped s upto)
-    (rw (at_most_ok fields.Upto greatest_after upto fits.1) refl)
-read_as line s (commands.Enable k now) fits read =
-    by_members line s (wanted.Enable (key_draft k) now) _ fits.0 read (instance k fits.1.key, fits.1.list)
-    (at_instant_back fields.Now commands.Enable k now fits.1)
-read_as line s (commands.Disable k now) fits read =
-    by_members line s (wanted.Disable (key_draft k) now) _ fits.0 read (instance k fits.1.key, fits.1.list)
-    (at_instant_back fields.Now commands.Disable k now fits.1)
-read_as line s (commands.Apply k now) fits read =
-    by_members line s (wanted.Apply (key_draft k) now) _ fits.0 read (instance k fits.1.key, fits.1.list)
-    (at_instant_back fields.Now commands.Apply k now fits.1)
+    by_members line s (wanted.Settle upto) _ fits.0 read tt (rw (at_most_ok fields.Upto greatest_after upto fits.1) refl)
+read_as line s (commands.Enable k now) fits read = by_act acts.Enable line s k now fits read
+read_as line s (commands.Disable k now) fits read = by_act acts.Disable line s k now fits read
+read_as line s (commands.Apply k now) fits read = by_act acts.Apply line s k now fits read
 read_as line s (commands.Frame frame now) fits read =
     by_members line s (wanted.Frame (frame_draft frame) now) _ fits.0 read tt
     (rw (frame_back frame now fits.1, at_most_ok fields.Now greatest_instant now fits.1.now) refl)
 read_as line s (commands.States k at) fits read =
     by_members line s (wanted.States (key_draft k) at) _ fits.0 read (instance k fits.1.key, fits.1.list)
     (at_instant_back fields.At commands.States k at fits.1)
-read_as line s (commands.Counters k) fits read =
-    by_members line s (wanted.Counters (key_draft k)) _ fits.0 read (instance k fits.1) (rw (key_back k fits.1) refl)
-read_as line s (commands.Show k) fits read =
-    by_members line s (wanted.Show (key_draft k)) _ fits.0 read (instance k fits.1) (rw (key_back k fits.1) refl)
+read_as line s (commands.Counters k) fits read = by_look looks.Counters line s k fits read
+read_as line s (commands.Show k) fits read = by_look looks.Show line s k fits read
 read_as line s (commands.List k) fits read = by_members line s (wanted.List k) _ fits read tt refl
-read_as line s commands.Resume fits read = by_members line s wanted.Resume _ fits read tt refl
-read_as line s commands.Sessions fits read = by_members line s wanted.Sessions _ fits read tt refl
-read_as line s commands.Setup fits read = by_shape line s _ wanted.Setup _ fits read (setup_shaped s) refl
 read_as line s (commands.Since after) fits read =
     by_members line s (wanted.Since after) _ fits.0 read tt (rw (at_most_ok fields.After greatest_after after fits.1) refl)
+read_as line s commands.Undo fits read = by_bare bares.Undo line s fits read
+read_as line s commands.UndoAll fits read = by_bare bares.UndoAll line s fits read
+read_as line s commands.Redo fits read = by_bare bares.Redo line s fits read
+read_as line s commands.Resume fits read = by_bare bares.Resume line s fits read
+read_as line s commands.Sessions fits read = by_bare bares.Sessions line s fits read
+read_as line s commands.Setup fits read = by_bare bares.Setup line s fits read
 
 pub accepts_values : AcceptsValues
 accepts_values line s c = (λ h. accepted line (record { session = s; command = c }) h, λ p. read_as line s c p.0 p.1)

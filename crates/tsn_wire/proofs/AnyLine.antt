@@ -1,5 +1,5 @@
 -- What each command has of a line's members.
-use Rattle.std.proofs.Common.{◌≡◌, ℕ, List, true, Option, Some, option_map, ap, sym, subst, ◌∙◌}
+use Rattle.std.proofs.Common.{◌≡◌, ℕ, List, true, Option, Some, option_map, ap}
 use Rattle.std.specs.List.{AllByRecursion}
 use Rattle.serde_json.specs.Data.{Data, boolean, string}
 use Rattle.tsn_types.specs.declared.keys.Kind.{Kind}
@@ -7,23 +7,24 @@ use Rattle.tsn_records.specs.Keys.{kind_text}
 use Rattle.tsn_records.specs.Shown.{draft_data, whole_data}
 use Rattle.tsn_records.specs.declared.drafts.KeyDraft.{KeyDraft}
 use Rattle.tsn_records.specs.declared.drafts.RecordDraft.{RecordDraft}
-use Rattle.tsn_records.specs.Json.{members_len}
 use Rattle.tsn_wire.specs.Batches.{is_batch_draft}
-use Rattle.tsn_wire.specs.Lines.{edit_rows, line_rows, IsBare, IsEdit, IsOf, IsLine, IsSoundEdit}
-use Rattle.tsn_wire.specs.Rows.{AllTold, members_of}
-use Rattle.tsn_wire.specs.Spelled.{batch_value, key_value, IsKey, drafted_text}
-use Rattle.tsn_wire.specs.Values.{act_data, edit_data, keyed_data, MayHaveList, IsNoPort}
+use Rattle.tsn_wire.specs.Lines.{edit_rows, line_rows, IsEdit, IsOf, IsLine, IsSoundEdit}
+use Rattle.tsn_wire.specs.Spelled.{batch_value, key_value, IsKey}
+use Rattle.tsn_wire.specs.Values.{MayHaveList, IsNoPort}
 use Rattle.tsn_wire.specs.Words.{word_text}
 use Rattle.tsn_wire.specs.declared.any_edits.EditMembers.{EditMembers}
 use Rattle.tsn_wire.specs.declared.any_line.LineMembers.{LineMembers}
-use Rattle.tsn_wire.specs.declared.drafts.CommandDraft.{CommandDraft}
 use Rattle.tsn_wire.specs.declared.drafts.CommandDraft.TheVariants as wanted
 use Rattle.tsn_wire.specs.declared.drafts.EditDraft.{EditDraft}
 use Rattle.tsn_wire.specs.declared.drafts.EditDraft.TheVariants as drafts
 use Rattle.tsn_wire.specs.declared.drafts.FrameDraft.{FrameDraft}
 use Rattle.tsn_wire.specs.declared.drafts.LineDraft.TheVariants.{Hello, Session}
-use Rattle.tsn_wire.specs.declared.values.Word.{Word}
-use Rattle.tsn_wire.specs.declared.values.Word.TheVariants as words
+use Rattle.tsn_wire.specs.declared.words.Act.{Act}
+use Rattle.tsn_wire.specs.declared.words.Bare.{Bare}
+use Rattle.tsn_wire.specs.declared.words.Look.{Look}
+use Rattle.tsn_wire.specs.declared.words.Put.{Put}
+use Rattle.tsn_wire.specs.declared.words.Word.{Word}
+use Rattle.tsn_wire.specs.declared.words.Word.TheVariants as words
 
 -- a row whose value was read
 row_is : {A : Type 0} (value : A → Data) (o : Option A) (a : A) → o ≡ Some a → Some (option_map value o) ≡ Some (Some (value a))
@@ -42,41 +43,18 @@ session_row m s is = row_is whole_data m.session s is
 key_row : (m : LineMembers) (key : KeyDraft) → m.key ≡ Some key → Some (option_map key_value m.key) ≡ Some (Some (key_value key))
 key_row m key is = row_is key_value m.key key is
 
--- a command that names nothing
-pub bare_line : (m : LineMembers) (count s : ℕ) (w : Word) (command : CommandDraft) → IsBare w command → m.word ≡ Some w
-    → m.session ≡ Some s → count ≡ 2 → IsLine (line_rows m) count (Session s command)
-bare_line m count s w command bare read e len = record {
-  told = subst (AllTold (line_rows m)) (sym (bare.members s)) (word_row m w read, (session_row m s e, tt));
-  len = len ∙ ap members_len (sym (bare.members s));
-  sound = bare.sound;
+pub bare_line : (m : LineMembers) (count s : ℕ) (bare : Bare) → m.word ≡ Some (words.Bare bare) → m.session ≡ Some s → count ≡ 2
+    → IsLine (line_rows m) count (Session s (wanted.Bare bare))
+bare_line m count s bare w e len = record { told = (word_row m (words.Bare bare) w, (session_row m s e, tt)); len = len; sound = tt }
+
+pub put_line : (m : LineMembers) (count s : ℕ) (put : Put) (key : KeyDraft) (value : RecordDraft) → m.word ≡ Some (words.Put put)
+    → m.session ≡ Some s → IsKey key → IsOf key.kind value → m.key ≡ Some key → m.record ≡ Some value → count ≡ 4
+    → IsLine (line_rows m) count (Session s (wanted.Edit (drafts.Put put key value)))
+put_line m count s put key value w e k r x y len = record {
+  told = (word_row m (words.Put put) w, (key_row m key x, (row_is draft_data m.record value y, (session_row m s e, tt))));
+  len = len;
+  sound = (k, r);
 }
-
--- the members of lines that several commands have, with a key, with a record, with an instant
-edit_told : (m : LineMembers) (s : ℕ) (word : Word) (key : KeyDraft) (value : RecordDraft) → m.word ≡ Some word → m.session ≡ Some s
-    → m.key ≡ Some key → m.record ≡ Some value
-    → AllTold (line_rows m) (members_of (edit_data (word_text word) s (drafted_text key) (draft_data value)))
-edit_told m s word key value w e x y = (word_row m word w, (key_row m key x, (row_is draft_data m.record value y, (session_row m s e, tt))))
-
-keyed_told : (m : LineMembers) (s : ℕ) (word : Word) (key : KeyDraft) → m.word ≡ Some word → m.session ≡ Some s → m.key ≡ Some key
-    → AllTold (line_rows m) (members_of (keyed_data (word_text word) s (drafted_text key)))
-keyed_told m s word key w e x = (word_row m word w, (key_row m key x, (session_row m s e, tt)))
-
-act_told : (m : LineMembers) (s : ℕ) (word : Word) (key : KeyDraft) (now : ℕ) → m.word ≡ Some word → m.session ≡ Some s
-    → m.key ≡ Some key → m.instant ≡ Some now
-    → AllTold (line_rows m) (members_of (act_data (word_text word) s (drafted_text key) now))
-act_told m s word key now w e x y = (word_row m word w, (key_row m key x, (row_is whole_data m.instant now y, (session_row m s e, tt))))
-
-pub create_line : (m : LineMembers) (count s : ℕ) (key : KeyDraft) (value : RecordDraft) → m.word ≡ Some words.Create → m.session ≡ Some s
-    → IsKey key → IsOf key.kind value → m.key ≡ Some key → m.record ≡ Some value → count ≡ 4
-    → IsLine (line_rows m) count (Session s (wanted.Create key value))
-create_line m count s key value w e k r x y len =
-    record { told = edit_told m s words.Create key value w e x y; len = len; sound = (k, r) }
-
-pub replace_line : (m : LineMembers) (count s : ℕ) (key : KeyDraft) (value : RecordDraft) → m.word ≡ Some words.Replace → m.session ≡ Some s
-    → IsKey key → IsOf key.kind value → m.key ≡ Some key → m.record ≡ Some value → count ≡ 4
-    → IsLine (line_rows m) count (Session s (wanted.Replace key value))
-replace_line m count s key value w e k r x y len =
-    record { told = edit_told m s words.Replace key value w e x y; len = len; sound = (k, r) }
 
 pub batch_line : (m : LineMembers) (count s : ℕ) (batch : List EditDraft) → m.word ≡ Some words.Batch → m.session ≡ Some s
     → is_batch_draft batch ≡ true → AllByRecursion IsSoundEdit batch → m.edits ≡ Some batch → count ≡ 3
@@ -88,17 +66,10 @@ batch_line m count s batch w e is sound x len =
       sound = (is, sound);
     }
 
-pub create_edit : (m : EditMembers) (count : ℕ) (key : KeyDraft) (value : RecordDraft) → m.word ≡ Some words.Create → m.key ≡ Some key
-    → m.record ≡ Some value → count ≡ 3 → IsEdit (edit_rows m) count (drafts.Create key value)
-create_edit m count key value w x y len = record {
-  told = (word_is m.word words.Create w, (row_is key_value m.key key x, (row_is draft_data m.record value y, tt)));
-  len = len;
-}
-
-pub replace_edit : (m : EditMembers) (count : ℕ) (key : KeyDraft) (value : RecordDraft) → m.word ≡ Some words.Replace → m.key ≡ Some key
-    → m.record ≡ Some value → count ≡ 3 → IsEdit (edit_rows m) count (drafts.Replace key value)
-replace_edit m count key value w x y len = record {
-  told = (word_is m.word words.Replace w, (row_is key_value m.key key x, (row_is draft_data m.record value y, tt)));
+pub put_edit : (m : EditMembers) (count : ℕ) (put : Put) (key : KeyDraft) (value : RecordDraft) → m.word ≡ Some (words.Put put)
+    → m.key ≡ Some key → m.record ≡ Some value → count ≡ 3 → IsEdit (edit_rows m) count (drafts.Put put key value)
+put_edit m count put key value w x y len = record {
+  told = (word_is m.word (words.Put put) w, (row_is key_value m.key key x, (row_is draft_data m.record value y, tt)));
   len = len;
 }
 
@@ -110,30 +81,23 @@ remove_edit m count key w x len = record {
 }
 
 pub remove_line : (m : LineMembers) (count s : ℕ) (key : KeyDraft) → m.word ≡ Some words.Remove → m.session ≡ Some s → IsKey key
-    → IsNoPort key.kind → m.key ≡ Some key → count ≡ 3 → IsLine (line_rows m) count (Session s (wanted.Remove key))
-remove_line m count s key w e k r x len = record { told = keyed_told m s words.Remove key w e x; len = len; sound = (k, r) }
+    → IsNoPort key.kind → m.key ≡ Some key → count ≡ 3 → IsLine (line_rows m) count (Session s (wanted.Edit (drafts.Remove key)))
+remove_line m count s key w e k r x len =
+    record { told = (word_row m words.Remove w, (key_row m key x, (session_row m s e, tt))); len = len; sound = (k, r) }
 
-pub counters_line : (m : LineMembers) (count s : ℕ) (key : KeyDraft) → m.word ≡ Some words.Counters → m.session ≡ Some s → IsKey key
-    → m.key ≡ Some key → count ≡ 3 → IsLine (line_rows m) count (Session s (wanted.Counters key))
-counters_line m count s key w e k x len = record { told = keyed_told m s words.Counters key w e x; len = len; sound = k }
+pub look_line : (m : LineMembers) (count s : ℕ) (look : Look) (key : KeyDraft) → m.word ≡ Some (words.Look look) → m.session ≡ Some s
+    → IsKey key → m.key ≡ Some key → count ≡ 3 → IsLine (line_rows m) count (Session s (wanted.Look look key))
+look_line m count s look key w e k x len =
+    record { told = (word_row m (words.Look look) w, (key_row m key x, (session_row m s e, tt))); len = len; sound = k }
 
-pub show_line : (m : LineMembers) (count s : ℕ) (key : KeyDraft) → m.word ≡ Some words.Show → m.session ≡ Some s → IsKey key
-    → m.key ≡ Some key → count ≡ 3 → IsLine (line_rows m) count (Session s (wanted.Show key))
-show_line m count s key w e k x len = record { told = keyed_told m s words.Show key w e x; len = len; sound = k }
-
--- a line with the word, a key and an instant is that of the act
-abbrev pub ReadsAct : Word → (KeyDraft → ℕ → CommandDraft) → Type 0
-ReadsAct word act = (m : LineMembers) (count s : ℕ) (key : KeyDraft) (now : ℕ) → m.word ≡ Some word → m.session ≡ Some s → IsKey key
-    → MayHaveList key.kind → m.key ≡ Some key → m.instant ≡ Some now → count ≡ 4 → IsLine (line_rows m) count (Session s (act key now))
-
-pub enable_line : ReadsAct words.Enable wanted.Enable
-enable_line m count s key now w e k r x y len = record { told = act_told m s words.Enable key now w e x y; len = len; sound = (k, r) }
-
-pub disable_line : ReadsAct words.Disable wanted.Disable
-disable_line m count s key now w e k r x y len = record { told = act_told m s words.Disable key now w e x y; len = len; sound = (k, r) }
-
-pub apply_line : ReadsAct words.Apply wanted.Apply
-apply_line m count s key now w e k r x y len = record { told = act_told m s words.Apply key now w e x y; len = len; sound = (k, r) }
+pub act_line : (m : LineMembers) (count s : ℕ) (act : Act) (key : KeyDraft) (now : ℕ) → m.word ≡ Some (words.Act act)
+    → m.session ≡ Some s → IsKey key → MayHaveList key.kind → m.key ≡ Some key → m.instant ≡ Some now → count ≡ 4
+    → IsLine (line_rows m) count (Session s (wanted.Act act key now))
+act_line m count s act key now w e k r x y len = record {
+  told = (word_row m (words.Act act) w, (key_row m key x, (row_is whole_data m.instant now y, (session_row m s e, tt))));
+  len = len;
+  sound = (k, r);
+}
 
 pub states_line : (m : LineMembers) (count s : ℕ) (key : KeyDraft) (at : ℕ) → m.word ≡ Some words.States → m.session ≡ Some s → IsKey key
     → MayHaveList key.kind → m.key ≡ Some key → m.at ≡ Some at → count ≡ 4 → IsLine (line_rows m) count (Session s (wanted.States key at))

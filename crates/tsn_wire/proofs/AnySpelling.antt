@@ -9,11 +9,13 @@ use Rattle.json.proofs.Printed.Trees.{value-json_tokens}
 use Rattle.serde_json.specs.Data.{object}
 use Rattle.serde_json.specs.Read.{read, max_depth}
 use Rattle.tsn_wire.specs.Commands.{line_shape}
+use Rattle.tsn_wire.specs.Words.{word_of}
 use Rattle.tsn_wire.specs.Lexed.{lexed, value_lexemes, items_lexemes, members_lexemes}
 use Rattle.tsn_wire.specs.Lines.{line_members, IsSoundLine, IsLine}
 use Rattle.tsn_wire.specs.Members.{Rows, ReadsMembers}
 use Rattle.tsn_wire.specs.Reading.{line_of_draft, reading}
-use Rattle.tsn_wire.specs.declared.drafts.CommandDraft.TheVariants.{Create}
+use Rattle.tsn_wire.specs.declared.drafts.CommandDraft.TheVariants.{Edit}
+use Rattle.tsn_wire.specs.declared.drafts.EditDraft.TheVariants as drafts
 use Rattle.tsn_wire.specs.declared.drafts.LineDraft.{LineDraft}
 use Rattle.tsn_wire.specs.declared.drafts.LineDraft.TheVariants.{Hello, Named, Session}
 use Rattle.tsn_wire.proofs.Answering.{data_of_read}
@@ -98,11 +100,12 @@ nothing_left rest now passed none = sym passed ∙ ap lexed none
 rises : (draft : LineDraft) → Rise (line_members draft)
 rises Hello = tt
 rises (Named name) = tt
-rises (Session s (Create key v)) = assumption
+rises (Session s (Edit (drafts.Put put key v))) = assumption
+rises (Session s (Edit (drafts.Remove key))) = assumption
 rises (Session s command) = assumption
 
 line_shaped : (draft : LineDraft) → IsSoundLine draft → line_shape (object (line_members draft)) ≡ Ok draft
-unfolding line_shape
+unfolding line_shape word_of
 line_shaped Hello sound = refl
 line_shaped (Named name) never = absurd never
 line_shaped (Session s command) sound = shaped s command sound

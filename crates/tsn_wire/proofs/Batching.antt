@@ -1,5 +1,5 @@
 -- A batch is read exactly where it is the value of its edits.
-use Rattle.std.proofs.Common.{◌≡◌, ℕ, List, [], ◌∷◌, map, Bool, true, false, Some, Ok, codes, bytes_eq, refl, sym, ap, ap₂, subst, ◌∙◌}
+use Rattle.std.proofs.Common.{◌≡◌, ℕ, List, [], ◌∷◌, map, Bool, true, false, Some, Ok, codes, refl, sym, ap, ap₂, subst, ◌∙◌}
 use Rattle.std.specs.List.{AllByRecursion}
 use Rattle.serde_json.specs.Data.{Data, string, array, object, Items, no_items, item, member, no_members}
 use Rattle.serde_json.specs.Find.{get}
@@ -11,7 +11,7 @@ use Rattle.tsn_edit.specs.declared.Edit.TheVariants as edits
 use Rattle.tsn_edit.specs.Batches.{IsBatch}
 use Rattle.tsn_types.specs.declared.keys.Key.{Key}
 use Rattle.tsn_types.specs.declared.records.Record.{Record}
-use Rattle.tsn_records.specs.Answers.{each}
+use Rattle.tsn_records.specs.Answers.{each, or_shape}
 use Rattle.tsn_records.specs.Json.{has_members, items_at, items_list, text_at}
 use Rattle.tsn_records.specs.Keys.{key_text}
 use Rattle.tsn_records.specs.Ranges.{key}
@@ -20,7 +20,7 @@ use Rattle.tsn_records.specs.Values.{record_draft}
 use Rattle.tsn_records.specs.declared.drafts.KeyDraft.{KeyDraft}
 use Rattle.tsn_records.proofs.Steps.{last_step, only, steps}
 use Rattle.tsn_wire.specs.Batches.{batch_of, is_batch_draft}
-use Rattle.tsn_wire.specs.Commands.{key_at, removed_key, edit_shape, batch_shape, line_shape}
+use Rattle.tsn_wire.specs.Commands.{key_at, removed_key, edited_shape, edit_shape, batch_shape, line_shape}
 use Rattle.tsn_wire.specs.Ranges.{edit_of_draft, command_of_draft}
 use Rattle.tsn_wire.specs.Rows.{members_of}
 use Rattle.tsn_wire.specs.Spelled.{edit_value as edit_value_of}
@@ -30,11 +30,16 @@ use Rattle.tsn_wire.specs.declared.drafts.CommandDraft.TheVariants as wanted
 use Rattle.tsn_wire.specs.declared.drafts.EditDraft.{EditDraft}
 use Rattle.tsn_wire.specs.declared.drafts.EditDraft.TheVariants as drafts
 use Rattle.tsn_wire.specs.declared.drafts.LineDraft.TheVariants.{Session}
+use Rattle.tsn_wire.specs.declared.words.Put.{Put}
+use Rattle.tsn_wire.specs.declared.words.Put.TheVariants as puts
+use Rattle.tsn_wire.specs.declared.words.Word.{Word}
+use Rattle.tsn_wire.specs.declared.words.Word.TheVariants as words
+use Rattle.tsn_wire.specs.Words.{put_edit, put_word, word_of, word_text}
 use Rattle.tsn_wire.proofs.Drafting.{batch_passes, tested, test_of}
 use Rattle.tsn_wire.specs.Lines.{IsSoundEdit}
 use Rattle.tsn_wire.proofs.Shaping.{batch_kept}
-use Rattle.tsn_wire.proofs.FromShapes.{items_there, text_there}
-use Rattle.tsn_wire.proofs.Known.{by_test, same_text, removable_known, key_there, record_same, IsKeyed, put_known, put_back, key_draft, key_back, instance, read_back}
+use Rattle.tsn_wire.proofs.FromShapes.{items_there, text_there, value_there}
+use Rattle.tsn_wire.proofs.Known.{word_known, removable_known, key_there, record_same, IsKeyed, put_known, put_back, key_draft, key_back, instance, read_back}
 use Rattle.tsn_wire.proofs.Objects.{IsOrdered, ItemsAreOrdered, inner_ordered, whole_object}
 
 -- ---- an edit that is read is the value
@@ -62,23 +67,29 @@ remove_known d p x ordered there shape range =
       (named.2, subst IsNoPort named.1 may.1),
     ))))
 
+put_kept : (put : Put) (d : Data) (k : Key) (r : Record) → IsOrdered d → get (codes "do") d ≡ Some (string (put_word put))
+    → IsKeyed 3 d k r → IsEdit d (put_edit put k r)
+put_kept puts.Create d k r ordered there held = (put_is (codes "create") d k r ordered there held, held.fits)
+put_kept puts.Replace d k r ordered there held = (put_is (codes "replace") d k r ordered there held, held.fits)
+
+edited_known : (word : Word) (d : Data) (e : EditDraft) (x : Edit) → IsOrdered d → get (codes "do") d ≡ Some (string (word_text word))
+    → edited_shape 0 word d ≡ Ok e → edit_of_draft e ≡ Ok x → IsEdit d x
+edited_known (words.Put put) d e x ordered there shape range =
+    put_known 3 (drafts.Put put) (put_edit put) edit_of_draft d e x (IsEdit d) ordered (λ _ _. refl) shape range (λ k r held.
+    put_kept put d k r ordered there held)
+edited_known words.Remove d e x ordered there shape range =
+    steps (removed_key 2 d) _ e shape (λ p p_is p_next.
+    let whole = drafts.Remove p in
+    remove_known d p x ordered there p_is (ap edit_of_draft (only (Ok whole) whole e refl p_next) ∙ range))
+edited_known word d e x ordered there shape range = cc
+
 edit_known : (d : Data) (e : EditDraft) (x : Edit) → IsOrdered d → edit_shape d ≡ Ok e → edit_of_draft e ≡ Ok x → IsEdit d x
 unfolding edit_shape
 edit_known d e x ordered shape range =
-    steps (text_at (codes "do") d) _ e shape (λ word word_is word_next.
-    let named : (name : List ℕ) → bytes_eq word name ≡ true → get (codes "do") d ≡ Some (string name) = λ name t.
-    text_there _ word word_is ∙ ap (λ l. Some (string l)) (same_text word name t) in
-    by_test _ _ _ _ word_next
-    (λ t h. put_known 3 drafts.Create edits.Create edit_of_draft d e x (IsEdit d) ordered (λ _ _. refl) h range (λ k r held.
-    (put_is (codes "create") d k r ordered (named (codes "create") t) held, held.fits)))
-    (λ _ h1. by_test _ _ _ _ h1
-    (λ t h. put_known 3 drafts.Replace edits.Replace edit_of_draft d e x (IsEdit d) ordered (λ _ _. refl) h range (λ k r held.
-    (put_is (codes "replace") d k r ordered (named (codes "replace") t) held, held.fits)))
-    (λ _ h2. by_test _ _ _ _ h2
-    (λ t h. steps (removed_key 2 d) _ e h (λ p p_is p_next.
-    let whole = drafts.Remove p in
-    remove_known d p x ordered (named (codes "remove") t) p_is (ap edit_of_draft (only (Ok whole) whole e refl p_next) ∙ range)))
-    (λ _ h3. cc))))
+    steps (text_at (codes "do") d) _ e shape (λ text text_is text_next.
+    steps (or_shape (word_of text)) _ e text_next (λ word word_is word_next.
+    let named = word_known text word (value_there (word_of text) word word_is) in
+    edited_known word d e x ordered (text_there _ text text_is ∙ ap (λ l. Some (string l)) named) word_next range))
 
 -- the items are the values of these edits
 abbrev AreEditsOf : Items → List Edit → Type 0
@@ -130,8 +141,8 @@ batch_known s d draft c ordered there session_there session shape range =
 -- ---- a value is read
 
 abbrev pub edit_draft : Edit → EditDraft
-edit_draft (edits.Create k r) = drafts.Create (key_draft k) (record_draft r)
-edit_draft (edits.Replace k r) = drafts.Replace (key_draft k) (record_draft r)
+edit_draft (edits.Create k r) = drafts.Put puts.Create (key_draft k) (record_draft r)
+edit_draft (edits.Replace k r) = drafts.Put puts.Replace (key_draft k) (record_draft r)
 edit_draft (edits.Remove k) = drafts.Remove (key_draft k)
 
 -- the value of the draft is that of the edit

@@ -13,19 +13,28 @@ use Rattle.tsn_records.specs.Shown.{draft_data}
 use Rattle.tsn_wire.specs.Commands.{line_shape}
 use Rattle.tsn_wire.specs.Reading.{data_of, line_of_draft, reading}
 use Rattle.tsn_wire.specs.Lines.{command_members, IsOf, IsSound, IsSoundEdit}
-use Rattle.tsn_wire.specs.Spelled.{IsSmall, EditIsSmall, batch_value, RecordIsSmall, Spells}
-use Rattle.tsn_wire.specs.Values.{batched_data, listed_data}
+use Rattle.tsn_wire.specs.Spelled.{IsSmall, EditIsSmall, batch_value, drafted_text, RecordIsSmall, Spells}
+use Rattle.tsn_wire.specs.Values.{bare_data, batched_data, edit_data, keyed_data, listed_data}
 use Rattle.tsn_wire.specs.SpelledFront.{SpellsFront, SpellsStates}
 use Rattle.tsn_records.specs.declared.drafts.KeyDraft.{KeyDraft}
 use Rattle.tsn_records.specs.declared.drafts.RecordDraft.{RecordDraft}
 use Rattle.tsn_records.specs.declared.drafts.RecordDraft.TheVariants as records
 use Rattle.tsn_wire.specs.declared.drafts.CommandDraft.{CommandDraft}
-use Rattle.tsn_wire.specs.declared.drafts.CommandDraft.TheVariants.{Create, Replace, Remove, Batch, Undo, UndoAll, Redo, States, Counters, Show, List as ListKind, Since}
+use Rattle.tsn_wire.specs.declared.drafts.CommandDraft.TheVariants.{Edit, Batch, States, Look, List as ListKind, Since, Bare}
 use Rattle.tsn_wire.specs.declared.drafts.EditDraft.{EditDraft}
 use Rattle.tsn_wire.specs.declared.drafts.EditDraft.TheVariants as edits
 use Rattle.tsn_wire.specs.declared.drafts.LineDraft.{LineDraft}
 use Rattle.tsn_wire.specs.declared.drafts.LineDraft.TheVariants.{Session}
+use Rattle.tsn_wire.specs.declared.words.Bare.{Bare as BareWord}
+use Rattle.tsn_wire.specs.declared.words.Bare.TheVariants as bares
+use Rattle.tsn_wire.specs.declared.words.Look.{Look as LookWord}
+use Rattle.tsn_wire.specs.declared.words.Look.TheVariants as looks
+use Rattle.tsn_wire.specs.declared.words.Put.{Put as PutWord}
+use Rattle.tsn_wire.specs.declared.words.Put.TheVariants as puts
+use Rattle.tsn_wire.specs.declared.words.Word.TheVariants as words
+use Rattle.tsn_wire.specs.Words.{bare_word, look_word, put_word}
 use Rattle.tsn_wire.proofs.CompactValues.{IsSpelled, asked, bare, batched, edited, keyed, listed, printed_reads, states_asked}
+use Rattle.tsn_wire.proofs.OfWords.{of_word}
 use Rattle.tsn_wire.proofs.Shaping.{batch_kept, shaped}
 use Rattle.tsn_records.proofs.Escaping.{escape_key}
 use Rattle.tsn_records.proofs.Steps.{then}
@@ -71,8 +80,7 @@ is_of k v small = absurd small
 
 all_kept : (es : List EditDraft) → AllByRecursion EditIsSmall es → AllByRecursion IsSoundEdit es
 all_kept [] all = tt
-all_kept (edits.Create key v ∷ es) all = ((all.0.0, is_of key.kind v all.0.1), all_kept es all.1)
-all_kept (edits.Replace key v ∷ es) all = ((all.0.0, is_of key.kind v all.0.1), all_kept es all.1)
+all_kept (edits.Put put key v ∷ es) all = ((all.0.0, is_of key.kind v all.0.1), all_kept es all.1)
 all_kept (edits.Remove key ∷ es) all = (all.0, all_kept es all.1)
 
 -- ---- looks
@@ -101,23 +109,39 @@ states_says line text rest command s first (key, at, asks, small_at, k, has, is)
 abbrev with_record : KeyDraft → RecordDraft → List ℕ → List ℕ
 with_record key v l = spelled_key key.kind key.number ++ (codes "\",\"record\":" ++ (compact_text (draft_data v) ++ l))
 
+-- what stands behind `{"do":"` is the rest of the text of the value
+put_quoted : (put : PutWord) (key : KeyDraft) (v : RecordDraft) (s : ℕ) → IsInstanceId key.number
+    → codes "{\"do\":\"" ++ (put_word put ++ (codes "\",\"key\":\"" ++ with_record key v (tail s)))
+    ≡ compact_text (edit_data (put_word put) s (drafted_text key) (draft_data v))
+unfolding escape_byte
+put_quoted puts.Create key v s k =
+    quoted_key (codes "{\"do\":\"create\",\"key\":\"") (codes ",\"record\":" ++ (compact_text (draft_data v) ++ tail s))
+    key.kind key.number k
+put_quoted puts.Replace key v s k =
+    quoted_key (codes "{\"do\":\"replace\",\"key\":\"") (codes ",\"record\":" ++ (compact_text (draft_data v) ++ tail s))
+    key.kind key.number k
+
+look_quoted : (look : LookWord) (key : KeyDraft) (s : ℕ) → IsInstanceId key.number
+    → codes "{\"do\":\"" ++ (look_word look ++ (codes "\",\"key\":\"" ++ (spelled_key key.kind key.number ++ (codes "\"" ++ tail s))))
+    ≡ compact_text (keyed_data (look_word look) s (drafted_text key))
+unfolding escape_byte
+look_quoted looks.Counters key s k = quoted_key (codes "{\"do\":\"counters\",\"key\":\"") (tail s) key.kind key.number k
+look_quoted looks.Show key s k = quoted_key (codes "{\"do\":\"show\",\"key\":\"") (tail s) key.kind key.number k
+
+bare_quoted : (b : BareWord) (s : ℕ) → codes "{\"do\":\"" ++ (bare_word b ++ (codes "\"" ++ tail s)) ≡ compact_text (bare_data (bare_word b) s)
+unfolding escape_byte
+bare_quoted bares.Undo s = refl
+bare_quoted b s = refl
+
 spelled_says : (line text rest : List ℕ) (command : CommandDraft) (s : ℕ) → line ≡ codes "{\"do\":\"" ++ text → Spells text command rest
     → IsSmall s → rest ≡ tail s → reading line ≡ line_of_draft (Session s command)
 unfolding escape_byte
-spelled_says line text rest (Create key v) s first (behind, word, (k, v_small, is)) small last =
-    word_says line text _ s (Create key v) (k, is_of key.kind v v_small)
-    (edited (codes "create") s key v refl small v_small) first
-    (word ∙ ap (λ l. codes "create\",\"key\":\"" ++ l) (is ∙ ap (with_record key v) last))
-    (quoted_key (codes "{\"do\":\"create\",\"key\":\"") (codes ",\"record\":" ++ (compact_text (draft_data v) ++ tail s))
-    key.kind key.number k)
-spelled_says line text rest (Replace key v) s first (behind, word, (k, v_small, is)) small last =
-    word_says line text _ s (Replace key v) (k, is_of key.kind v v_small)
-    (edited (codes "replace") s key v refl small v_small) first
-    (word ∙ ap (λ l. codes "replace\",\"key\":\"" ++ l) (is ∙ ap (with_record key v) last))
-    (quoted_key (codes "{\"do\":\"replace\",\"key\":\"") (codes ",\"record\":" ++ (compact_text (draft_data v) ++ tail s))
-    key.kind key.number k)
-spelled_says line text rest (Remove key) s first (k, other, is) small last =
-    word_says line text _ s (Remove key) (k, other) (keyed (codes "remove") s key refl small) first
+spelled_says line text rest (Edit (edits.Put put key v)) s first (behind, word, (k, v_small, is)) small last =
+    word_says line text _ s (Edit (edits.Put put key v)) (k, is_of key.kind v v_small)
+    (edited (put_word put) s key v (of_word (words.Put put)).plain small v_small) first
+    (word ∙ ap (λ l. put_word put ++ (codes "\",\"key\":\"" ++ l)) (is ∙ ap (with_record key v) last)) (put_quoted put key v s k)
+spelled_says line text rest (Edit (edits.Remove key)) s first (k, other, is) small last =
+    word_says line text _ s (Edit (edits.Remove key)) (k, other) (keyed (codes "remove") s key refl small) first
     (is ∙ ap (λ l. codes "remove\",\"key\":\"" ++ (spelled_key key.kind key.number ++ (codes "\"" ++ l))) last)
     (quoted_key (codes "{\"do\":\"remove\",\"key\":\"") (tail s) key.kind key.number k)
 spelled_says line text rest (Batch es) s first (batch, all, is) small last =
@@ -125,20 +149,13 @@ spelled_says line text rest (Batch es) s first (batch, all, is) small last =
     (printed_reads line _ (batched s es small all) (first ∙ ap (λ l. codes "{\"do\":\"" ++ l)
     (is ∙ ap (λ l. codes "batch\",\"edits\":" ++ (compact_text (batch_value es) ++ l)) last)))
     (batch_kept s es batch (all_kept es all))
-spelled_says line text rest Undo s first is small last =
-    word_says line text _ s Undo tt (bare (codes "undo") s refl small) first (is ∙ ap (λ l. codes "undo\"" ++ l) last) refl
-spelled_says line text rest UndoAll s first is small last =
-    word_says line text _ s UndoAll tt (bare (codes "undo_all") s refl small) first (is ∙ ap (λ l. codes "undo_all\"" ++ l) last) refl
-spelled_says line text rest Redo s first is small last =
-    word_says line text _ s Redo tt (bare (codes "redo") s refl small) first (is ∙ ap (λ l. codes "redo\"" ++ l) last) refl
-spelled_says line text rest (Show key) s first (k, is) small last =
-    word_says line text _ s (Show key) k (keyed (codes "show") s key refl small) first
-    (is ∙ ap (λ l. codes "show\",\"key\":\"" ++ (spelled_key key.kind key.number ++ (codes "\"" ++ l))) last)
-    (quoted_key (codes "{\"do\":\"show\",\"key\":\"") (tail s) key.kind key.number k)
-spelled_says line text rest (Counters key) s first (k, is) small last =
-    word_says line text _ s (Counters key) k (keyed (codes "counters") s key refl small) first
-    (is ∙ ap (λ l. codes "counters\",\"key\":\"" ++ (spelled_key key.kind key.number ++ (codes "\"" ++ l))) last)
-    (quoted_key (codes "{\"do\":\"counters\",\"key\":\"") (tail s) key.kind key.number k)
+spelled_says line text rest (Bare b) s first is small last =
+    word_says line text _ s (Bare b) tt (bare (bare_word b) s (of_word (words.Bare b)).plain small) first
+    (is ∙ ap (λ l. bare_word b ++ (codes "\"" ++ l)) last) (bare_quoted b s)
+spelled_says line text rest (Look look key) s first (k, is) small last =
+    word_says line text _ s (Look look key) k (keyed (look_word look) s key (of_word (words.Look look)).plain small) first
+    (is ∙ ap (λ l. look_word look ++ (codes "\",\"key\":\"" ++ (spelled_key key.kind key.number ++ (codes "\"" ++ l)))) last)
+    (look_quoted look key s k)
 spelled_says line text rest (ListKind k) s first is small last =
     word_says line text _ s (ListKind k) tt (listed s k small) first
     (is ∙ ap (λ l. codes "list\",\"kind\":\"" ++ (kind_text k ++ (codes "\"" ++ l))) last) (listed_text s k)

@@ -25,6 +25,8 @@ use Rattle.tsn_wire.specs.Spelled.{IsSmall, EditIsSmall, batch_value, drafted_te
 use Rattle.tsn_wire.specs.Values.{asked_data, bare_data, batched_data, edit_data, frame_data, keyed_data, listed_data, states_data}
 use Rattle.tsn_wire.specs.declared.drafts.EditDraft.{EditDraft}
 use Rattle.tsn_wire.specs.declared.drafts.EditDraft.TheVariants as edits
+use Rattle.tsn_wire.specs.declared.words.Word.TheVariants as words
+use Rattle.tsn_wire.proofs.OfWords.{of_word}
 use Rattle.tsn_wire.proofs.Backs.{IsPlain, items_plain, number_or_null, read_back}
 use Rattle.tsn_wire.proofs.Visible.{are_plain, IsShown, items_shown, key_shown, kind_shown, or_null_shown, text_visible, visible_utf8}
 
@@ -110,13 +112,11 @@ pub bare : (word : List ℕ) (s : ℕ) → are_plain word ≡ true → IsSmall s
 bare word s w small = record { plain = (refl, (tt, (small, tt))); shown = (refl, w, (refl, tt, tt)) }
 
 edit_plain : (e : EditDraft) → EditIsSmall e → IsPlain 4 (edit_value e)
-edit_plain (edits.Create key v) small = (refl, (tt, (tt, (record_plain 0 key.kind v small.1, tt))))
-edit_plain (edits.Replace key v) small = (refl, (tt, (tt, (record_plain 0 key.kind v small.1, tt))))
+edit_plain (edits.Put put key v) small = (refl, (tt, (tt, (record_plain 0 key.kind v small.1, tt))))
 edit_plain (edits.Remove key) small = (refl, (tt, (tt, tt)))
 
 edit_shown : (e : EditDraft) → IsShown (edit_value e)
-edit_shown (edits.Create key v) = (refl, refl, (refl, key_shown key.kind key.number, (refl, draft_shown v, tt)))
-edit_shown (edits.Replace key v) = (refl, refl, (refl, key_shown key.kind key.number, (refl, draft_shown v, tt)))
+edit_shown (edits.Put put key v) = (refl, (of_word (words.Put put)).plain, (refl, key_shown key.kind key.number, (refl, draft_shown v, tt)))
 edit_shown (edits.Remove key) = (refl, refl, (refl, key_shown key.kind key.number, tt))
 
 pub batched : (s : ℕ) (es : List EditDraft) → IsSmall s → AllByRecursion EditIsSmall es → IsSpelled (batched_data s (batch_value es))

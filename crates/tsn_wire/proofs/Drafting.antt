@@ -20,6 +20,10 @@ use Rattle.tsn_wire.specs.Batches.{drafted_key, drafted_keys, drafts_are_distinc
 use Rattle.tsn_wire.specs.Ranges.{edit_of_draft}
 use Rattle.tsn_wire.specs.declared.drafts.EditDraft.{EditDraft}
 use Rattle.tsn_wire.specs.declared.drafts.EditDraft.TheVariants as drafts
+use Rattle.tsn_types.specs.declared.records.Record.{Record}
+use Rattle.tsn_wire.specs.declared.words.Put.{Put}
+use Rattle.tsn_wire.specs.declared.words.Put.TheVariants as puts
+use Rattle.tsn_wire.specs.Words.{put_edit}
 use Rattle.tsn_wire.proofs.Known.{key_draft, key_passed_at}
 
 pub drafted_is : (es : List EditDraft) (k : KeyDraft) → has_draft (drafted_keys es) k ≡ list_any (λ e. same_draft k (drafted_key e)) es
@@ -65,15 +69,16 @@ batch_same es b len same = rw (len, same, distinct_drafts (edited_keys b)) refl
 key_passed : (q : KeyDraft) (k : Key) → key q ≡ Ok k → q ≡ key_draft k
 key_passed q k h = let known = key_passed_at q.kind q.number k h in ap₂ (λ a n. record { kind = a; number = n }) known.0 known.1
 
+put_on : (put : Put) (k : Key) (v : Record) → key_of (put_edit put k v) ≡ k
+put_on puts.Create k v = refl
+put_on puts.Replace k v = refl
+
 edit_passed : (e : EditDraft) (x : Edit) → edit_of_draft e ≡ Ok x → drafted_key e ≡ key_draft (key_of x)
-edit_passed (drafts.Create q r) x h =
+edit_passed (drafts.Put put q r) x h =
     steps (key q) _ x h (λ k k_is k_next.
     steps (record_of r) _ x k_next (λ v v_is v_next.
-    key_passed q k k_is ∙ ap (λ y. key_draft (key_of y)) (only (Ok (edits.Create k v)) (edits.Create k v) x refl v_next)))
-edit_passed (drafts.Replace q r) x h =
-    steps (key q) _ x h (λ k k_is k_next.
-    steps (record_of r) _ x k_next (λ v v_is v_next.
-    key_passed q k k_is ∙ ap (λ y. key_draft (key_of y)) (only (Ok (edits.Replace k v)) (edits.Replace k v) x refl v_next)))
+    let edit = put_edit put k v in
+    key_passed q k k_is ∙ ap key_draft (sym (put_on put k v)) ∙ ap (λ y. key_draft (key_of y)) (only (Ok edit) edit x refl v_next)))
 edit_passed (drafts.Remove q) x h =
     steps (key q) _ x h (λ k k_is k_next.
     key_passed q k k_is ∙ ap (λ y. key_draft (key_of y)) (only (Ok (edits.Remove k)) (edits.Remove k) x refl k_next))

@@ -258,11 +258,11 @@ pub draft_read : (text rest : List Lexeme) (rows : Rows) (count : ℕ) (r : Reco
 draft_read text rest rows count r m all len = record_read 2 text rest rows count (draft_data r) (draft_whole r count len) m all
 
 edit_rises : (e : EditDraft) → Rise (members_of (edit_value e))
-edit_rises (edits.Create key v) = assumption
+edit_rises (edits.Put put key v) = assumption
 edit_rises e = assumption
 
 edit_same : (e : EditDraft) → object (members_of (edit_value e)) ≡ edit_value e
-edit_same (edits.Create key v) = refl
+edit_same (edits.Put put key v) = refl
 edit_same e = refl
 
 pub edit_read : (text rest : List Lexeme) (rows : Rows) (count : ℕ) (o : Option EditDraft) → ReadsMembers 3 text rows count rest

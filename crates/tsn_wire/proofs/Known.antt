@@ -1,6 +1,6 @@
 -- Keys and records that are read: a key and a record that pass are those of the value, and read back from it.
 use Rattle.std.proofs.Common.{◌≡◌, ℕ, ◌≤◌, ◌||◌, ◌==◌, ◌++◌, List, [], ◌∷◌, length, drop, map, Bool, true, false, not, cond, nat_eq, Option, Some, None, option_map, Result, Ok, codes, decimal, bytes_eq, refl, sym, ap, ap₂, ◌∙◌, arith, eqb-true, leb-true, ltb-true}
-use Rattle.std.specs.List.{starts_with}
+use Rattle.std.specs.List.{find, starts_with}
 use Rattle.std.specs.Str.Parse.{digits_value}
 use Rattle.std.proofs.lemmas.Bool.Decides.{Decides-eqb}
 use Rattle.std.proofs.lemmas.Fmt.{decimal-digits_value}
@@ -26,6 +26,8 @@ use Rattle.tsn_records.specs.Ranges.{within, record_of, key, key_of_kind}
 use Rattle.tsn_records.specs.Records.{record_shape}
 use Rattle.tsn_records.specs.Shown.{draft_data, gate_entry_data, gate_entry_value, port_entry_data, port_entry_value, record_data}
 use Rattle.tsn_wire.specs.Lines.{IsOf}
+use Rattle.tsn_wire.specs.Words.{all_words, word_of, word_text}
+use Rattle.tsn_wire.specs.declared.words.Word.{Word}
 use Rattle.tsn_wire.specs.Values.{KeyInRange, IsNoPort}
 use Rattle.tsn_records.specs.Values.{port_entry_draft, gate_entry_draft, record_draft}
 use Rattle.tsn_records.specs.declared.drafts.KeyDraft.{KeyDraft}
@@ -48,6 +50,15 @@ some a b h = cc
 
 pub same_text : (a b : List ℕ) → bytes_eq a b ≡ true → a ≡ b
 same_text a b e = (bytes_eq-Decides a b).0 e
+
+-- a text is that of the word found for it
+found_passes : {A : Type 0} (test : A → Bool) (xs : List A) (x : A) → find test xs ≡ Some x → test x ≡ true
+found_passes test [] x h = cc
+found_passes test (y ∷ ys) x h = by_test _ _ _ _ h (λ e is. ap test (sym (some y x is)) ∙ e) (λ _ rest. found_passes test ys x rest)
+
+pub word_known : (text : List ℕ) (word : Word) → word_of text ≡ Some word → text ≡ word_text word
+unfolding word_of
+word_known text word h = same_text text (word_text word) (found_passes (λ w. bytes_eq text (word_text w)) all_words word h)
 
 -- ---- keys
 

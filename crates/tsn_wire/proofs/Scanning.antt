@@ -12,8 +12,8 @@ use Rattle.tsn_records.specs.Shown.{whole_data, or_null}
 use Rattle.tsn_wire.specs.Lexed.{lexed, is_bare, ReadsValue}
 use Rattle.tsn_wire.specs.Spelled.{IsSmall}
 use Rattle.tsn_wire.specs.Words.{word_text}
-use Rattle.tsn_wire.specs.declared.values.Word.{Word}
-use Rattle.tsn_wire.specs.declared.values.Word.TheVariants as words
+use Rattle.tsn_wire.proofs.OfWords.{of_word}
+use Rattle.tsn_wire.specs.declared.words.Word.{Word}
 use Rattle.tsn_wire.proofs.Lexing.{lexed_decimal, lexed_true, lexed_false, lexed_null, lexed_bare, lexed_key}
 
 pub number_read : (n : ℕ) (text now rest : List ℕ) → lexed now ≡ lexed text → IsSmall n → now ≡ decimal n ++ rest → ends_word rest ≡ true
@@ -38,10 +38,6 @@ deeper m n text d rest low (j, is, same, shallow) = (j, is, same, omega arith)
 
 -- ---- texts in quotes
 
-word_is_bare : (w : Word) → is_bare (word_text w) ≡ true
-word_is_bare words.Hello = refl
-word_is_bare w = refl
-
 kind_is_bare : (k : Kind) → is_bare (kind_text k) ≡ true
 kind_is_bare kinds.Port = refl
 kind_is_bare k = refl
@@ -63,7 +59,7 @@ bare_read bare text now inside behind rest is passed e0 e1 e2 = (
 
 pub word_read : (w : Word) (text now inside behind rest : List ℕ) → lexed now ≡ lexed text → now ≡ codes "\"" ++ inside
     → inside ≡ word_text w ++ behind → behind ≡ codes "\"" ++ rest → ReadsValue 2 (lexed text) (string (word_text w)) (lexed rest)
-word_read w text now inside behind rest = bare_read (word_text w) text now inside behind rest (word_is_bare w)
+word_read w text now inside behind rest = bare_read (word_text w) text now inside behind rest (of_word w).bare
 
 pub kind_read : (k : Kind) (text now inside behind rest : List ℕ) → lexed now ≡ lexed text → now ≡ codes "\"" ++ inside
     → inside ≡ kind_text k ++ behind → behind ≡ codes "\"" ++ rest → ReadsValue 2 (lexed text) (string (kind_text k)) (lexed rest)

@@ -16,17 +16,20 @@ use Rattle.tsn_records.specs.declared.drafts.KeyDraft.{KeyDraft}
 use Rattle.tsn_records.specs.declared.drafts.RecordDraft.{RecordDraft}
 use Rattle.tsn_records.specs.declared.drafts.RecordDraft.TheVariants as records
 use Rattle.tsn_records.specs.declared.unread.Unread.{Unread}
-use Rattle.tsn_wire.specs.Commands.{line_shape, command_shape, listed_at, keyed_record, create_shape, replace_shape, removed_key, remove_shape, edit_shape, batch_shape, bare_shape, enable_shape, disable_shape, apply_shape, frame_members, frame_shape, states_shape, counters_shape, show_shape, list_shape, since_shape, settle_shape}
+use Rattle.tsn_wire.specs.Commands.{line_shape, command_shape, listed_at, keyed_record, removed_key, edit_shape, batch_shape, frame_members, frame_shape}
 use Rattle.tsn_wire.specs.Batches.{is_batch_draft}
 use Rattle.tsn_wire.specs.Lines.{command_members, IsOf, IsSound, IsSoundEdit}
 use Rattle.tsn_wire.specs.Spelled.{IsKey, batch_value, drafted_text, edit_value}
 use Rattle.tsn_records.specs.Shown.{draft_data, gate_entry_value, port_entry_value}
 use Rattle.tsn_wire.specs.Values.{act_data, batched_data, edit_data, put_data, states_data, MayHaveList}
 use Rattle.tsn_wire.specs.declared.drafts.CommandDraft.{CommandDraft}
-use Rattle.tsn_wire.specs.declared.drafts.CommandDraft.TheVariants.{Create, Replace, Remove, Batch, Enable, Disable, Apply, States, Counters, Show, List as ListKind}
+use Rattle.tsn_wire.specs.declared.drafts.CommandDraft.TheVariants.{Edit, Batch, Settle, Act, Frame, States, Look, List as ListKind, Since, Bare}
 use Rattle.tsn_wire.specs.declared.drafts.EditDraft.{EditDraft}
 use Rattle.tsn_wire.specs.declared.drafts.EditDraft.TheVariants as drafts
 use Rattle.tsn_wire.specs.declared.drafts.LineDraft.TheVariants.{Session}
+use Rattle.tsn_wire.specs.declared.words.Word.TheVariants as words
+use Rattle.tsn_wire.specs.Words.{act_word, put_word}
+use Rattle.tsn_wire.proofs.OfWords.{of_word}
 use Rattle.tsn_records.proofs.Shapes.{record_shaped}
 use Rattle.tsn_wire.proofs.ReadingBack.{key_spelled, removable_back, listed_back, whole_or_null_back}
 
@@ -102,9 +105,8 @@ put_kept word key v k of = rw (key_spelled key k, record_kept key.kind v of) ref
 
 edit_kept : (e : EditDraft) → IsSoundEdit e → edit_shape (edit_value e) ≡ Ok e
 unfolding edit_shape removed_key
-edit_kept (drafts.Create key v) kept = rw (put_kept (codes "create") key v kept.0 kept.1) refl
-edit_kept (drafts.Replace key v) kept = rw (put_kept (codes "replace") key v kept.0 kept.1) refl
-edit_kept (drafts.Remove key) kept = rw (key_spelled key kept.0, removable_back key key.kind kept.1) refl
+edit_kept (drafts.Put put key v) kept = rw ((of_word (words.Put put)).found, put_kept (put_word put) key v kept.0 kept.1) refl
+edit_kept (drafts.Remove key) kept = rw ((of_word words.Remove).found, key_spelled key kept.0, removable_back key key.kind kept.1) refl
 
 edits_kept : (es : List EditDraft) → AllByRecursion IsSoundEdit es → each edit_shape (items_list (items_of (map edit_value es))) ≡ Ok es
 edits_kept [] kept = refl
@@ -113,20 +115,18 @@ edits_kept (e ∷ es) kept = rw (edit_kept e kept.0, edits_kept es kept.1) refl
 pub batch_kept : (s : ℕ) (es : List EditDraft) → is_batch_draft es ≡ true → AllByRecursion IsSoundEdit es
     → line_shape (batched_data s (batch_value es)) ≡ Ok (Session s (Batch es))
 unfolding line_shape command_shape batch_shape
-batch_kept s es batch kept = rw (edits_kept es kept, batch) refl
+batch_kept s es batch kept = rw ((of_word words.Batch).found, edits_kept es kept, batch) refl
 
 pub shaped : (s : ℕ) (command : CommandDraft) → IsSound command → line_shape (object (command_members s command)) ≡ Ok (Session s command)
-unfolding line_shape command_shape create_shape replace_shape remove_shape removed_key bare_shape enable_shape disable_shape apply_shape
-    frame_members frame_shape states_shape counters_shape show_shape list_shape since_shape settle_shape
-shaped s (Create key v) (k, of) = rw (edit_shaped (codes "create") s key v k of) refl
-shaped s (Replace key v) (k, of) = rw (edit_shaped (codes "replace") s key v k of) refl
-shaped s (Remove key) (k, other) = rw (key_spelled key k, removable_back key key.kind other) refl
+unfolding line_shape command_shape removed_key frame_members frame_shape
+shaped s (Edit (drafts.Put put key v)) (k, of) = rw ((of_word (words.Put put)).found, edit_shaped (put_word put) s key v k of) refl
+shaped s (Edit (drafts.Remove key)) (k, other) = rw ((of_word words.Remove).found, key_spelled key k, removable_back key key.kind other) refl
 shaped s (Batch batch) sound = batch_kept s batch sound.0 sound.1
-shaped s (Enable key now) (k, has) = rw (act_shaped (codes "enable") s key now k has) refl
-shaped s (Disable key now) (k, has) = rw (act_shaped (codes "disable") s key now k has) refl
-shaped s (Apply key now) (k, has) = rw (act_shaped (codes "apply") s key now k has) refl
-shaped s (States key at) (k, has) = rw (look_shaped s key at k has) refl
-shaped s (Counters key) k = rw (key_spelled key k) refl
-shaped s (Show key) k = rw (key_spelled key k) refl
-shaped s (ListKind kind) sound = rw (kind_spelled kind) refl
-shaped s command sound = refl
+shaped s (Act act key now) (k, has) = rw ((of_word (words.Act act)).found, act_shaped (act_word act) s key now k has) refl
+shaped s (States key at) (k, has) = rw ((of_word words.States).found, look_shaped s key at k has) refl
+shaped s (Look look key) k = rw ((of_word (words.Look look)).found, key_spelled key k) refl
+shaped s (ListKind kind) sound = rw ((of_word words.List).found, kind_spelled kind) refl
+shaped s (Frame f now) sound = rw ((of_word words.Frame).found) refl
+shaped s (Since after) sound = rw ((of_word words.Since).found) refl
+shaped s (Settle upto) sound = rw ((of_word words.Settle).found) refl
+shaped s (Bare bare) sound = rw ((of_word (words.Bare bare)).found) refl

@@ -9,12 +9,11 @@ use Rattle.tsn_records.specs.declared.drafts.KeyDraft.{KeyDraft}
 use Rattle.tsn_records.specs.declared.unread.Unread.{Unread}
 use Rattle.tsn_records.specs.declared.unread.Unread.TheVariants.{Shape}
 use Rattle.tsn_wire.specs.declared.drafts.EditDraft.{EditDraft}
-use Rattle.tsn_wire.specs.declared.drafts.EditDraft.TheVariants.{Create, Replace, Remove}
+use Rattle.tsn_wire.specs.declared.drafts.EditDraft.TheVariants.{Put, Remove}
 
 -- the key of an edit
 abbrev pub drafted_key : EditDraft → KeyDraft
-drafted_key (Create k r) = k
-drafted_key (Replace k r) = k
+drafted_key (Put put k r) = k
 drafted_key (Remove k) = k
 
 abbrev pub drafted_keys : List EditDraft → List KeyDraft

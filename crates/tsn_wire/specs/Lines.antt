@@ -14,16 +14,15 @@ use Rattle.tsn_wire.specs.Batches.{is_batch_draft}
 use Rattle.tsn_wire.specs.Rows.{AllTold, members_of}
 use Rattle.tsn_wire.specs.Spelled.{batch_value, drafted_text, edit_value, key_value, IsKey}
 use Rattle.tsn_wire.specs.Values.{act_data, asked_data, bare_data, batched_data, edit_data, framed_data, hello_data, keyed_data, listed_data, settle_data, states_data, IsNoPort, MayHaveList}
-use Rattle.tsn_wire.specs.Words.{word_text}
+use Rattle.tsn_wire.specs.Words.{act_word, bare_word, look_word, put_word, word_text}
 use Rattle.tsn_wire.specs.declared.any_edits.EditMembers.{EditMembers}
 use Rattle.tsn_wire.specs.declared.any_line.LineMembers.{LineMembers}
 use Rattle.tsn_wire.specs.declared.drafts.CommandDraft.{CommandDraft}
-use Rattle.tsn_wire.specs.declared.drafts.CommandDraft.TheVariants.{Create, Replace, Remove, Batch, Undo, UndoAll, Redo, Settle, Enable, Disable, Apply, Frame, States, Counters, Show, List as ListKind, Since, Resume, Sessions, Setup}
+use Rattle.tsn_wire.specs.declared.drafts.CommandDraft.TheVariants.{Edit, Batch, Settle, Act, Frame, States, Look, List as ListKind, Since, Bare}
 use Rattle.tsn_wire.specs.declared.drafts.EditDraft.{EditDraft}
 use Rattle.tsn_wire.specs.declared.drafts.EditDraft.TheVariants as edits
 use Rattle.tsn_wire.specs.declared.drafts.LineDraft.{LineDraft}
 use Rattle.tsn_wire.specs.declared.drafts.LineDraft.TheVariants.{Hello, Named, Session}
-use Rattle.tsn_wire.specs.declared.values.Word.{Word}
 
 -- the names that a line may have, each with its value where that was read
 abbrev pub line_rows : LineMembers → Rows
@@ -60,26 +59,17 @@ IsOf k r = ⊥
 
 -- the value of a session's command, whatever its numbers
 abbrev pub draft_value : ℕ → CommandDraft → Data
-draft_value s (Create key value) = edit_data (codes "create") s (drafted_text key) (draft_data value)
-draft_value s (Replace key value) = edit_data (codes "replace") s (drafted_text key) (draft_data value)
-draft_value s (Remove key) = keyed_data (codes "remove") s (drafted_text key)
+draft_value s (Edit (edits.Put put key value)) = edit_data (put_word put) s (drafted_text key) (draft_data value)
+draft_value s (Edit (edits.Remove key)) = keyed_data (codes "remove") s (drafted_text key)
 draft_value s (Batch batch) = batched_data s (batch_value batch)
-draft_value s Undo = bare_data (codes "undo") s
-draft_value s UndoAll = bare_data (codes "undo_all") s
-draft_value s Redo = bare_data (codes "redo") s
 draft_value s (Settle upto) = settle_data s upto
-draft_value s (Enable key now) = act_data (codes "enable") s (drafted_text key) now
-draft_value s (Disable key now) = act_data (codes "disable") s (drafted_text key) now
-draft_value s (Apply key now) = act_data (codes "apply") s (drafted_text key) now
+draft_value s (Act act key now) = act_data (act_word act) s (drafted_text key) now
 draft_value s (Frame f now) = framed_data s f.handle f.priority f.octets f.yellow now
 draft_value s (States key at) = states_data s (drafted_text key) at
-draft_value s (Counters key) = keyed_data (codes "counters") s (drafted_text key)
-draft_value s (Show key) = keyed_data (codes "show") s (drafted_text key)
+draft_value s (Look look key) = keyed_data (look_word look) s (drafted_text key)
 draft_value s (ListKind kind) = listed_data s (kind_text kind)
 draft_value s (Since after) = asked_data s after
-draft_value s Resume = bare_data (codes "resume") s
-draft_value s Sessions = bare_data (codes "sessions") s
-draft_value s Setup = bare_data (codes "setup") s
+draft_value s (Bare bare) = bare_data (bare_word bare) s
 
 -- the members of each line in ascending order of their names
 abbrev pub command_members : ℕ → CommandDraft → Members
@@ -92,33 +82,22 @@ line_members (Session s command) = command_members s command
 
 -- an edit of a batch, on a key that some table may have, whose record is of the key's kind
 abbrev pub IsSoundEdit : EditDraft → Type 0
-IsSoundEdit (edits.Create key value) = IsKey key × IsOf key.kind value
-IsSoundEdit (edits.Replace key value) = IsKey key × IsOf key.kind value
+IsSoundEdit (edits.Put put key value) = IsKey key × IsOf key.kind value
 IsSoundEdit (edits.Remove key) = IsKey key × IsNoPort key.kind
 
 -- a key that some table may have, and what its kind must be; a hello by a name is not read so
 abbrev pub IsSound : CommandDraft → Type 0
-IsSound (Create key value) = IsKey key × IsOf key.kind value
-IsSound (Replace key value) = IsKey key × IsOf key.kind value
-IsSound (Remove key) = IsKey key × IsNoPort key.kind
+IsSound (Edit e) = IsSoundEdit e
 IsSound (Batch batch) = (is_batch_draft batch ≡ true) × AllByRecursion IsSoundEdit batch
-IsSound (Enable key now) = IsKey key × MayHaveList key.kind
-IsSound (Disable key now) = IsKey key × MayHaveList key.kind
-IsSound (Apply key now) = IsKey key × MayHaveList key.kind
+IsSound (Act act key now) = IsKey key × MayHaveList key.kind
 IsSound (States key at) = IsKey key × MayHaveList key.kind
-IsSound (Counters key) = IsKey key
-IsSound (Show key) = IsKey key
+IsSound (Look look key) = IsKey key
 IsSound command = ⊤
 
 abbrev pub IsSoundLine : LineDraft → Type 0
 IsSoundLine Hello = ⊤
 IsSoundLine (Named name) = ⊥
 IsSoundLine (Session s command) = IsSound command
-
--- the command of a word that names nothing
-pub record IsBare (word : Word) (command : CommandDraft) : Type 0 where
-  pub members : (s : ℕ) → command_members s command ≡ members_of (bare_data (word_text word) s)
-  pub sound : IsSound command
 
 -- so many members were read, which are just those of this line
 pub record IsLine (rows : Rows) (count : ℕ) (draft : LineDraft) : Type 0 where

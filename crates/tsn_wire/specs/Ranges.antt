@@ -11,6 +11,7 @@ use Rattle.tsn_types.specs.Numbers.{greatest_handle, greatest_instant, greatest_
 use Rattle.tsn_records.specs.Answers.{◌>>=◌, each}
 use Rattle.tsn_records.specs.Ranges.{within, key, record_of}
 use Rattle.tsn_records.specs.declared.unread.Unread.{Unread}
+use Rattle.tsn_wire.specs.Words.{act_command, bare_command, edit_command, look_command, put_edit}
 use Rattle.tsn_wire.specs.declared.drafts.CommandDraft.{CommandDraft}
 use Rattle.tsn_wire.specs.declared.drafts.CommandDraft.TheVariants as wanted
 use Rattle.tsn_wire.specs.declared.drafts.EditDraft.{EditDraft}
@@ -34,30 +35,19 @@ frame_of_draft f = do
 
 -- the key before the record, as where an edit comes alone
 abbrev pub edit_of_draft : EditDraft → Result Edit Unread
-edit_of_draft (drafts.Create k r) = key k >>= λ named. record_of r >>= λ value. Ok (edits.Create named value)
-edit_of_draft (drafts.Replace k r) = key k >>= λ named. record_of r >>= λ value. Ok (edits.Replace named value)
+edit_of_draft (drafts.Put put k r) = key k >>= λ named. record_of r >>= λ value. Ok (put_edit put named value)
 edit_of_draft (drafts.Remove k) = key k >>= λ named. Ok (edits.Remove named)
 
 -- the key or the frame, and then the record or the instant; the edits of a batch in their order
 abbrev pub command_of_draft : CommandDraft → Result Command Unread
-command_of_draft (wanted.Create k r) = key k >>= λ named. record_of r >>= λ value. Ok (commands.Create named value)
-command_of_draft (wanted.Replace k r) = key k >>= λ named. record_of r >>= λ value. Ok (commands.Replace named value)
-command_of_draft (wanted.Remove k) = key k >>= λ named. Ok (commands.Remove named)
+command_of_draft (wanted.Edit e) = edit_of_draft e >>= λ edit. Ok (edit_command edit)
 command_of_draft (wanted.Batch b) = each edit_of_draft b >>= λ batch. Ok (commands.Batch batch)
-command_of_draft wanted.Undo = Ok commands.Undo
-command_of_draft wanted.UndoAll = Ok commands.UndoAll
-command_of_draft wanted.Redo = Ok commands.Redo
 command_of_draft (wanted.Settle n) = within fields.Upto 0 greatest_after n >>= λ upto. Ok (commands.Settle upto)
-command_of_draft (wanted.Enable k n) = key k >>= λ named. within fields.Now 0 greatest_instant n >>= λ now. Ok (commands.Enable named now)
-command_of_draft (wanted.Disable k n) = key k >>= λ named. within fields.Now 0 greatest_instant n >>= λ now. Ok (commands.Disable named now)
-command_of_draft (wanted.Apply k n) = key k >>= λ named. within fields.Now 0 greatest_instant n >>= λ now. Ok (commands.Apply named now)
+command_of_draft (wanted.Act act k n) = key k >>= λ named. within fields.Now 0 greatest_instant n >>= λ now. Ok (act_command act named now)
 command_of_draft (wanted.Frame f n) =
     frame_of_draft f >>= λ frame. within fields.Now 0 greatest_instant n >>= λ now. Ok (commands.Frame frame now)
 command_of_draft (wanted.States k n) = key k >>= λ named. within fields.At 0 greatest_instant n >>= λ at. Ok (commands.States named at)
-command_of_draft (wanted.Counters k) = key k >>= λ named. Ok (commands.Counters named)
-command_of_draft (wanted.Show k) = key k >>= λ named. Ok (commands.Show named)
+command_of_draft (wanted.Look look k) = key k >>= λ named. Ok (look_command look named)
 command_of_draft (wanted.List kind) = Ok (commands.List kind)
 command_of_draft (wanted.Since n) = within fields.After 0 greatest_after n >>= λ after. Ok (commands.Since after)
-command_of_draft wanted.Resume = Ok commands.Resume
-command_of_draft wanted.Sessions = Ok commands.Sessions
-command_of_draft wanted.Setup = Ok commands.Setup
+command_of_draft (wanted.Bare bare) = Ok (bare_command bare)

@@ -21,10 +21,11 @@ use Rattle.tsn_records.specs.declared.drafts.RecordDraft.{RecordDraft}
 use Rattle.tsn_records.specs.declared.drafts.RecordDraft.TheVariants.{Port, Filter, Gate, Meter}
 use Rattle.tsn_wire.specs.Batches.{is_batch_draft}
 use Rattle.tsn_wire.specs.Values.{put_data, removal_data, IsNoPort}
+use Rattle.tsn_wire.specs.Words.{bare_word, look_word, put_word}
 use Rattle.tsn_wire.specs.declared.drafts.CommandDraft.{CommandDraft}
 use Rattle.tsn_wire.specs.declared.drafts.EditDraft.{EditDraft}
 use Rattle.tsn_wire.specs.declared.drafts.EditDraft.TheVariants as edits
-use Rattle.tsn_wire.specs.declared.drafts.CommandDraft.TheVariants.{Create, Replace, Remove, Batch, Undo, UndoAll, Redo, Counters, Show, List as ListKind}
+use Rattle.tsn_wire.specs.declared.drafts.CommandDraft.TheVariants.{Edit, Batch, Look, List as ListKind, Bare}
 
 -- a number that a line can hold
 abbrev pub IsSmall : ℕ → Type 0
@@ -43,8 +44,7 @@ key_value k = string (drafted_text k)
 
 -- an edit of a batch
 abbrev pub edit_value : EditDraft → Data
-edit_value (edits.Create key value) = put_data (codes "create") (drafted_text key) (draft_data value)
-edit_value (edits.Replace key value) = put_data (codes "replace") (drafted_text key) (draft_data value)
+edit_value (edits.Put put key value) = put_data (put_word put) (drafted_text key) (draft_data value)
 edit_value (edits.Remove key) = removal_data (drafted_text key)
 
 abbrev pub batch_value : List EditDraft → Data
@@ -97,8 +97,7 @@ RecordIsSmall k r = ⊥
 
 -- an edit whose key some table may have, and whose numbers are such
 abbrev pub EditIsSmall : EditDraft → Type 0
-EditIsSmall (edits.Create key value) = IsKey key × RecordIsSmall key.kind value
-EditIsSmall (edits.Replace key value) = IsKey key × RecordIsSmall key.kind value
+EditIsSmall (edits.Put put key value) = IsKey key × RecordIsSmall key.kind value
 EditIsSmall (edits.Remove key) = IsKey key × IsNoPort key.kind
 
 -- a text that begins with an edit of a batch, and the rest after it
@@ -111,22 +110,21 @@ SpellsRecord text key value rest =
     IsKey key × RecordIsSmall key.kind value
     × (text ≡ spelled_key key.kind key.number ++ (codes "\",\"record\":" ++ (compact_text (draft_data value) ++ rest)))
 
+-- the text begins with what follows `{"do":"` in an edit, up to its last member, and the rest comes after it
+abbrev pub SpellsEdited : List ℕ → EditDraft → List ℕ → Type 0
+SpellsEdited text (edits.Put put key value) rest =
+    (behind : List ℕ) × (text ≡ put_word put ++ (codes "\",\"key\":\"" ++ behind)) × SpellsRecord behind key value rest
+SpellsEdited text (edits.Remove key) rest =
+    IsKey key × IsNoPort key.kind × (text ≡ codes "remove\",\"key\":\"" ++ (spelled_key key.kind key.number ++ (codes "\"" ++ rest)))
+
 -- The text begins with what follows `{"do":"` in a command's line, up to `,"s":`, and the rest comes after it. Lines that
 -- settle or act on a list are not read so, those that hand in a frame elsewhere, and those that look at states begin otherwise.
 abbrev pub Spells : List ℕ → CommandDraft → List ℕ → Type 0
-Spells text (Create key value) rest =
-    (behind : List ℕ) × (text ≡ codes "create\",\"key\":\"" ++ behind) × SpellsRecord behind key value rest
-Spells text (Replace key value) rest =
-    (behind : List ℕ) × (text ≡ codes "replace\",\"key\":\"" ++ behind) × SpellsRecord behind key value rest
-Spells text (Remove key) rest =
-    IsKey key × IsNoPort key.kind × (text ≡ codes "remove\",\"key\":\"" ++ (spelled_key key.kind key.number ++ (codes "\"" ++ rest)))
+Spells text (Edit e) rest = SpellsEdited text e rest
 Spells text (Batch batch) rest = (is_batch_draft batch ≡ true) × AllByRecursion EditIsSmall batch
     × (text ≡ codes "batch\",\"edits\":" ++ (compact_text (batch_value batch) ++ rest))
-Spells text Undo rest = text ≡ codes "undo\"" ++ rest
-Spells text UndoAll rest = text ≡ codes "undo_all\"" ++ rest
-Spells text Redo rest = text ≡ codes "redo\"" ++ rest
-Spells text (Counters key) rest =
-    IsKey key × (text ≡ codes "counters\",\"key\":\"" ++ (spelled_key key.kind key.number ++ (codes "\"" ++ rest)))
-Spells text (Show key) rest = IsKey key × (text ≡ codes "show\",\"key\":\"" ++ (spelled_key key.kind key.number ++ (codes "\"" ++ rest)))
+Spells text (Bare bare) rest = text ≡ bare_word bare ++ (codes "\"" ++ rest)
+Spells text (Look look key) rest =
+    IsKey key × (text ≡ look_word look ++ (codes "\",\"key\":\"" ++ (spelled_key key.kind key.number ++ (codes "\"" ++ rest))))
 Spells text (ListKind kind) rest = text ≡ codes "list\",\"kind\":\"" ++ (kind_text kind ++ (codes "\"" ++ rest))
 Spells text command rest = ⊥

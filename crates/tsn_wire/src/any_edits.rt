@@ -13,7 +13,7 @@ use crate::guess::record_tray;
 use crate::lists::scanned_list;
 use crate::members::{Gathered, members, named, tray};
 use crate::spelled_batch::EDITS;
-use crate::values::Word;
+use crate::words::Word;
 use std::alloc::Global;
 use tsn_records::drafts::{KeyDraft, RecordDraft};
 use tsn_types::keys::Kind;
@@ -43,18 +43,15 @@ impl Gathered for EditMembers {
 }
 
 // The edit of the word, with no test of its key.
-#[tactic(auto, using(crate::proofs::AnyLine::create_edit, crate::proofs::AnyLine::replace_edit, crate::proofs::AnyLine::remove_edit))]
+#[tactic(auto, using(crate::proofs::AnyLine::put_edit, crate::proofs::AnyLine::remove_edit))]
 fn edit_of(found: EditMembers, count: u32) -> Option<EditDraft>
     ensures { IfSome result (IsEdit (edit_rows found) count) }
 {
     let word = found.word?;
     let key = found.key?;
     match (word, count) {
-        (Word::Create, 3) => Some(EditDraft::Create {
-            key,
-            value: found.record?,
-        }),
-        (Word::Replace, 3) => Some(EditDraft::Replace {
+        (Word::Put(put), 3) => Some(EditDraft::Put {
+            put,
             key,
             value: found.record?,
         }),
@@ -96,9 +93,7 @@ fn is_sound(edit: &EditDraft) -> bool
     ensures { IsTrue result → IsSoundEdit edit.now }
 {
     match edit {
-        EditDraft::Create { key, value } => table_key(Some(*key)).is_some()
-            && is_of(value, key.kind),
-        EditDraft::Replace { key, value } => {
+        EditDraft::Put { key, value, .. } => {
             table_key(Some(*key)).is_some() && is_of(value, key.kind)
         }
         EditDraft::Remove { key } => table_key(Some(*key)).is_some() && key.kind != Kind::Port,

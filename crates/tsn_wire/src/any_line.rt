@@ -1,16 +1,16 @@
 //! Command lines whose members come in any order, with any white space.
 ghost use Rattle.std.specs.Prelude.{◌≡◌, IfSome, Some};
-ghost use Rattle.tsn_wire.specs.Lines.{line_rows, IsBare, IsLine};
+ghost use Rattle.tsn_wire.specs.Lines.{line_rows, IsLine};
 ghost use Rattle.tsn_wire.specs.Reading.{line_of_draft, reading};
 ghost use Rattle.tsn_wire.specs.declared.drafts.LineDraft.TheVariants.{Session};
 
 use crate::any_edits::{are_sound, edits_tray};
 use crate::any_keys::{keyed_record, listed_key, removable_key, table_key};
 use crate::cursor::Cursor;
-use crate::drafts::{BatchDraft, CommandDraft, FrameDraft, LineDraft};
+use crate::drafts::{BatchDraft, CommandDraft, EditDraft, FrameDraft, LineDraft};
 use crate::guess::record_tray;
 use crate::members::{Gathered, members, tray};
-use crate::values::Word;
+use crate::words::Word;
 use std::alloc::Global;
 use tsn_records::drafts::{KeyDraft, RecordDraft};
 use tsn_types::keys::Kind;
@@ -61,21 +61,6 @@ impl Gathered for LineMembers {
     }
 }
 
-// The command of a word that names nothing.
-fn bare_command(word: Word) -> Option<CommandDraft>
-    ensures { IfSome result (IsBare word) }
-{
-    match word {
-        Word::Undo => Some(CommandDraft::Undo),
-        Word::UndoAll => Some(CommandDraft::UndoAll),
-        Word::Redo => Some(CommandDraft::Redo),
-        Word::Resume => Some(CommandDraft::Resume),
-        Word::Sessions => Some(CommandDraft::Sessions),
-        Word::Setup => Some(CommandDraft::Setup),
-        _ => None,
-    }
-}
-
 // The frame whose members a line has.
 fn frame_draft(found: &LineMembers) -> Option<FrameDraft>
     ensures { IfSome result (λ frame. (found.now.handle ≡ Some frame.handle) × (found.now.priority ≡ Some frame.priority)
@@ -90,7 +75,7 @@ fn frame_draft(found: &LineMembers) -> Option<FrameDraft>
 }
 
 // The command of a session whose members a line has.
-#[tactic(auto, using(crate::proofs::AnyLine::create_line, crate::proofs::AnyLine::replace_line, crate::proofs::AnyLine::batch_line))]
+#[tactic(auto, using(crate::proofs::AnyLine::put_line, crate::proofs::AnyLine::batch_line))]
 fn command_draft(found: &mut LineMembers, session: u64, count: u32) -> Option<CommandDraft>
     requires { found.old.session ≡ Some session }
     ensures { IfSome result (λ command. IsLine (line_rows found.old) count (Session session command)) }
@@ -104,33 +89,30 @@ fn command_draft(found: &mut LineMembers, session: u64, count: u32) -> Option<Co
             }
             Some(CommandDraft::Batch { batch })
         }
-        (Word::Create, 4) => {
+        (Word::Put(put), 4) => {
             let (key, value) = keyed_record(found.key, found.record.take())?;
-            Some(CommandDraft::Create { key, value })
-        }
-        (Word::Replace, 4) => {
-            let (key, value) = keyed_record(found.key, found.record.take())?;
-            Some(CommandDraft::Replace { key, value })
+            let edit = EditDraft::Put { put, key, value };
+            Some(CommandDraft::Edit { edit })
         }
         _ => plain_draft(found, session, count),
     }
 }
 
 // The same of one that hands in no record.
-#[tactic(auto, using(crate::proofs::AnyLine::bare_line, crate::proofs::AnyLine::remove_line, crate::proofs::AnyLine::counters_line, crate::proofs::AnyLine::show_line, crate::proofs::AnyLine::list_line, crate::proofs::AnyLine::since_line, crate::proofs::AnyLine::settle_line))]
+#[tactic(auto, using(crate::proofs::AnyLine::bare_line, crate::proofs::AnyLine::remove_line, crate::proofs::AnyLine::look_line, crate::proofs::AnyLine::list_line, crate::proofs::AnyLine::since_line, crate::proofs::AnyLine::settle_line))]
 fn plain_draft(found: &LineMembers, session: u64, count: u32) -> Option<CommandDraft>
     requires { found.now.session ≡ Some session }
     ensures { IfSome result (λ command. IsLine (line_rows found.now) count (Session session command)) }
 {
     let word = found.word?;
     match (word, count) {
-        (Word::Remove, 3) => Some(CommandDraft::Remove {
-            key: removable_key(found.key)?,
-        }),
-        (Word::Counters, 3) => Some(CommandDraft::Counters {
-            key: table_key(found.key)?,
-        }),
-        (Word::Show, 3) => Some(CommandDraft::Show {
+        (Word::Remove, 3) => {
+            let key = removable_key(found.key)?;
+            let edit = EditDraft::Remove { key };
+            Some(CommandDraft::Edit { edit })
+        }
+        (Word::Look(look), 3) => Some(CommandDraft::Look {
+            look,
             key: table_key(found.key)?,
         }),
         (Word::List, 3) => Some(CommandDraft::List { kind: found.kind? }),
@@ -138,13 +120,13 @@ fn plain_draft(found: &LineMembers, session: u64, count: u32) -> Option<CommandD
             after: found.after?,
         }),
         (Word::Settle, 3) => Some(CommandDraft::Settle { upto: found.upto? }),
-        (_, 2) => Some(bare_command(word)?),
+        (Word::Bare(bare), 2) => Some(CommandDraft::Bare { bare }),
         _ => instant_draft(found, session, count),
     }
 }
 
 // The same of one that names an instant.
-#[tactic(auto, using(crate::proofs::AnyLine::enable_line, crate::proofs::AnyLine::disable_line, crate::proofs::AnyLine::apply_line, crate::proofs::AnyLine::states_line, crate::proofs::AnyLine::frame_line))]
+#[tactic(auto, using(crate::proofs::AnyLine::act_line, crate::proofs::AnyLine::states_line, crate::proofs::AnyLine::frame_line))]
 fn instant_draft(found: &LineMembers, session: u64, count: u32) -> Option<CommandDraft>
     requires { found.now.session ≡ Some session }
     ensures { IfSome result (λ command. IsLine (line_rows found.now) count (Session session command)) }
@@ -160,15 +142,10 @@ fn instant_draft(found: &LineMembers, session: u64, count: u32) -> Option<Comman
             let at = found.at?;
             Some(CommandDraft::States { key, at })
         }
-        (word, 4) => {
+        (Word::Act(act), 4) => {
             let key = listed_key(found.key)?;
             let now = found.instant?;
-            match word {
-                Word::Enable => Some(CommandDraft::Enable { key, now }),
-                Word::Disable => Some(CommandDraft::Disable { key, now }),
-                Word::Apply => Some(CommandDraft::Apply { key, now }),
-                _ => None,
-            }
+            Some(CommandDraft::Act { act, key, now })
         }
         _ => None,
     }

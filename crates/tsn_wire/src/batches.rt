@@ -2,38 +2,50 @@
 //!
 //! An edit of a batch has the members of the line of one edit, but no session of its own. Every fault is one of shape,
 //! also a key that stands twice; numbers are tested later.
-ghost use Rattle.std.specs.Prelude.{◌≡◌};
+ghost use Rattle.std.specs.Prelude.{◌≡◌, ◌≤◌};
 ghost use Rattle.serde_json.specs.View.{view, items_view};
 ghost use Rattle.tsn_records.specs.Answers.{Reads, each, seen};
 ghost use Rattle.tsn_records.specs.Json.{items_list};
-ghost use Rattle.tsn_wire.specs.Commands.{batch_shape, edit_shape};
+ghost use Rattle.tsn_wire.specs.Commands.{batch_shape, edited_shape, edit_shape};
 
 use crate::drafts::{BatchDraft, CommandDraft, EditDraft};
 use crate::keyed::{keyed_record, removed_key};
+use crate::words::Word;
 use serde_json::Value;
 use std::alloc::Global;
 use tsn_records::members::{has_members, text_at};
 use tsn_records::unread::Unread;
 
-#[tactic(auto, unfolding(crate::specs::Commands::edit_shape))]
-fn edit_shape(alloc: Global, value: &Value) -> Result<EditDraft, Unread>
-    ensures { Reads result (edit_shape (view value.now)) }
+/// The edit of the word, in an object of so many members beside its own.
+pub fn edited_shape(
+    alloc: Global,
+    word: Word,
+    others: usize,
+    value: &Value,
+) -> Result<EditDraft, Unread>
+    requires { others ≤ 1 }
+    ensures { Reads result (edited_shape others word (view value.now)) }
 {
-    match text_at("do", value)? {
-        "create" => {
-            let (key, value) = keyed_record(alloc, 3, value)?;
-            Ok(EditDraft::Create { key, value })
+    match word {
+        Word::Put(put) => {
+            let (key, value) = keyed_record(alloc, 3 + others, value)?;
+            Ok(EditDraft::Put { put, key, value })
         }
-        "replace" => {
-            let (key, value) = keyed_record(alloc, 3, value)?;
-            Ok(EditDraft::Replace { key, value })
-        }
-        "remove" => {
-            let key = removed_key(2, value)?;
+        Word::Remove => {
+            let key = removed_key(2 + others, value)?;
             Ok(EditDraft::Remove { key })
         }
         _ => Err(Unread::Shape),
     }
+}
+
+#[tactic(auto, unfolding(crate::specs::Commands::edit_shape))]
+fn edit_shape(alloc: Global, value: &Value) -> Result<EditDraft, Unread>
+    ensures { Reads result (edit_shape (view value.now)) }
+{
+    let text = text_at("do", value)?;
+    let word = Word::of(text).ok_or(Unread::Shape)?;
+    edited_shape(alloc, word, 0, value)
 }
 
 // The edits that the values are, in their order.

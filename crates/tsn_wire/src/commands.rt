@@ -5,11 +5,12 @@ ghost use Rattle.std.specs.Prelude.{◌≡◌, Ok};
 ghost use Rattle.serde_json.specs.View.{view};
 ghost use Rattle.tsn_records.specs.Answers.{Reads};
 ghost use Rattle.tsn_records.specs.Json.{has_members, text_at};
-ghost use Rattle.tsn_wire.specs.Commands.{listed, listed_at, bare_shape, frame_members, frame_shape, command_shape, name_draft, named_shape, bare_or_named, line_shape};
+ghost use Rattle.tsn_wire.specs.Commands.{listed, listed_at, frame_members, frame_shape, command_shape, name_draft, named_shape, bare_or_named, line_shape};
 
-use crate::batches::batch_shape;
+use crate::batches::{batch_shape, edited_shape};
 use crate::drafts::{CommandDraft, FrameDraft, LineDraft, NameDraft};
-use crate::keyed::{key_at, keyed_record, removed_key};
+use crate::keyed::key_at;
+use crate::words::Word;
 use serde_json::Value;
 use std::alloc::Global;
 use tsn_records::drafts::KeyDraft;
@@ -40,15 +41,6 @@ fn listed_at(name: &str, value: &Value) -> Result<(KeyDraft, u64), Unread>
     Ok((key, instant))
 }
 
-// A command that names nothing.
-#[tactic(auto, unfolding(crate::specs::Commands::bare_shape))]
-fn bare_shape(command: CommandDraft, value: &Value) -> Result<CommandDraft, Unread>
-    ensures { result ≡ bare_shape command (view value.now) }
-{
-    has_members(2, value)?;
-    Ok(command)
-}
-
 #[tactic(auto, unfolding(crate::specs::Commands::frame_members))]
 fn frame_members(value: &Value) -> Result<FrameDraft, Unread>
     ensures { result ≡ frame_members (view value.now) }
@@ -75,74 +67,51 @@ fn frame_shape(value: &Value) -> Result<CommandDraft, Unread>
     Ok(CommandDraft::Frame { frame, now })
 }
 
-#[tactic(auto, unfolding(crate::specs::Commands::command_shape, crate::specs::Commands::create_shape, crate::specs::Commands::replace_shape, crate::specs::Commands::remove_shape, crate::specs::Commands::settle_shape, crate::specs::Commands::enable_shape, crate::specs::Commands::disable_shape, crate::specs::Commands::apply_shape, crate::specs::Commands::states_shape, crate::specs::Commands::counters_shape, crate::specs::Commands::show_shape, crate::specs::Commands::list_shape, crate::specs::Commands::since_shape))]
-fn command_shape(alloc: Global, word: &str, value: &Value) -> Result<CommandDraft, Unread>
-    ensures { Reads result (command_shape word.now (view value.now)) }
+#[tactic(auto, unfolding(crate::specs::Commands::command_shape))]
+fn command_shape(alloc: Global, word: Word, value: &Value) -> Result<CommandDraft, Unread>
+    ensures { Reads result (command_shape word (view value.now)) }
 {
     match word {
-        "create" => {
-            let (key, value) = keyed_record(alloc, 4, value)?;
-            Ok(CommandDraft::Create { key, value })
+        Word::Hello => Err(Unread::Shape),
+        Word::Put(_) | Word::Remove => {
+            let edit = edited_shape(alloc, word, 1, value)?;
+            Ok(CommandDraft::Edit { edit })
         }
-        "replace" => {
-            let (key, value) = keyed_record(alloc, 4, value)?;
-            Ok(CommandDraft::Replace { key, value })
-        }
-        "remove" => {
-            let key = removed_key(3, value)?;
-            Ok(CommandDraft::Remove { key })
-        }
-        "batch" => batch_shape(alloc, value),
-        "undo" => bare_shape(CommandDraft::Undo, value),
-        "undo_all" => bare_shape(CommandDraft::UndoAll, value),
-        "redo" => bare_shape(CommandDraft::Redo, value),
-        "settle" => {
-            has_members(3, value)?;
-            let upto = number_at("upto", value)?;
-            Ok(CommandDraft::Settle { upto })
-        }
-        "enable" => {
+        Word::Batch => batch_shape(alloc, value),
+        Word::Act(act) => {
             let (key, now) = listed_at("now", value)?;
-            Ok(CommandDraft::Enable { key, now })
+            Ok(CommandDraft::Act { act, key, now })
         }
-        "disable" => {
-            let (key, now) = listed_at("now", value)?;
-            Ok(CommandDraft::Disable { key, now })
-        }
-        "apply" => {
-            let (key, now) = listed_at("now", value)?;
-            Ok(CommandDraft::Apply { key, now })
-        }
-        "frame" => frame_shape(value),
-        "states" => {
+        Word::Frame => frame_shape(value),
+        Word::States => {
             let (key, at) = listed_at("at", value)?;
             Ok(CommandDraft::States { key, at })
         }
-        "counters" => {
+        Word::Look(look) => {
             has_members(3, value)?;
             let key = key_at(value)?;
-            Ok(CommandDraft::Counters { key })
+            Ok(CommandDraft::Look { look, key })
         }
-        "show" => {
-            has_members(3, value)?;
-            let key = key_at(value)?;
-            Ok(CommandDraft::Show { key })
-        }
-        "list" => {
+        Word::List => {
             has_members(3, value)?;
             let text = text_at("kind", value)?;
             let kind = kind_of(text).ok_or(Unread::Shape)?;
             Ok(CommandDraft::List { kind })
         }
-        "since" => {
+        Word::Since => {
             has_members(3, value)?;
             let after = number_at("after", value)?;
             Ok(CommandDraft::Since { after })
         }
-        "resume" => bare_shape(CommandDraft::Resume, value),
-        "sessions" => bare_shape(CommandDraft::Sessions, value),
-        "setup" => bare_shape(CommandDraft::Setup, value),
-        _ => Err(Unread::Shape),
+        Word::Settle => {
+            has_members(3, value)?;
+            let upto = number_at("upto", value)?;
+            Ok(CommandDraft::Settle { upto })
+        }
+        Word::Bare(bare) => {
+            has_members(2, value)?;
+            Ok(CommandDraft::Bare { bare })
+        }
     }
 }
 
@@ -182,8 +151,9 @@ fn hello_shape(alloc: Global, value: &Value) -> Result<LineDraft, Unread>
 pub fn line_shape(alloc: Global, value: &Value) -> Result<LineDraft, Unread>
     ensures { Reads result (line_shape (view value.now)) }
 {
-    let word = text_at("do", value)?;
-    if word == "hello" {
+    let text = text_at("do", value)?;
+    let word = Word::of(text).ok_or(Unread::Shape)?;
+    if let Word::Hello = word {
         return hello_shape(alloc, value);
     }
     let session = number_at("s", value)?;

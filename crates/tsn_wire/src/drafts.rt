@@ -2,6 +2,7 @@
 ghost use Rattle.std.specs.Prelude.{◌≡◌, true};
 ghost use Rattle.tsn_wire.specs.Batches.{batch_of, drafted_key, drafted_keys, drafts_are_distinct, has_draft, is_batch_draft, same_draft};
 
+use crate::words::{Act, Bare, Look, Put};
 use std::marker::Model;
 use tsn_edit::MOST_PARTS;
 use tsn_records::drafts::{KeyDraft, RecordDraft};
@@ -21,9 +22,14 @@ pub struct FrameDraft {
 /// An edit of a batch.
 #[derive(Debug, Drop)]
 pub enum EditDraft {
-    Create { key: KeyDraft, value: RecordDraft },
-    Replace { key: KeyDraft, value: RecordDraft },
-    Remove { key: KeyDraft },
+    Put {
+        put: Put,
+        key: KeyDraft,
+        value: RecordDraft,
+    },
+    Remove {
+        key: KeyDraft,
+    },
 }
 
 impl EditDraft {
@@ -32,9 +38,7 @@ impl EditDraft {
         ensures { result ≡ drafted_key self.now }
     {
         match self {
-            EditDraft::Create { key, .. }
-            | EditDraft::Replace { key, .. }
-            | EditDraft::Remove { key } => *key,
+            EditDraft::Put { key, .. } | EditDraft::Remove { key } => *key,
         }
     }
 }
@@ -112,26 +116,16 @@ fn are_distinct(edits: &[EditDraft]) -> bool
 /// A command other than a hello.
 #[derive(Debug, Drop)]
 pub enum CommandDraft {
-    Create { key: KeyDraft, value: RecordDraft },
-    Replace { key: KeyDraft, value: RecordDraft },
-    Remove { key: KeyDraft },
+    Edit { edit: EditDraft },
     Batch { batch: BatchDraft },
-    Undo,
-    UndoAll,
-    Redo,
     Settle { upto: u64 },
-    Enable { key: KeyDraft, now: u64 },
-    Disable { key: KeyDraft, now: u64 },
-    Apply { key: KeyDraft, now: u64 },
+    Act { act: Act, key: KeyDraft, now: u64 },
     Frame { frame: FrameDraft, now: u64 },
     States { key: KeyDraft, at: u64 },
-    Counters { key: KeyDraft },
-    Show { key: KeyDraft },
+    Look { look: Look, key: KeyDraft },
     List { kind: Kind },
     Since { after: u64 },
-    Resume,
-    Sessions,
-    Setup,
+    Bare { bare: Bare },
 }
 
 /// The name of a hello: what may be one, or a text that may not.

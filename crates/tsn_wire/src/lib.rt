@@ -25,6 +25,7 @@ mod spelled;
 mod spelled_batch;
 mod spelled_records;
 mod values;
+mod words;
 
 pub use drafts::{BatchDraft, CommandDraft, EditDraft, FrameDraft, LineDraft};
 pub use reading::command_of;
@@ -34,3 +35,4 @@ pub use tsn_bytes::{
     Buffered, ByteIn, ByteOut, Failed, Failing, Fault, MemIn, MemOut, StdIo, put_all,
 };
 pub use tsn_replies::{write_refusal, write_reply};
+pub use words::{Act, Bare, Look, Put};

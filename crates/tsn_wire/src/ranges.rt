@@ -4,6 +4,7 @@ ghost use Rattle.tsn_types.specs.declared.refusals.Field.TheVariants as fields;
 ghost use Rattle.tsn_records.specs.Answers.{Reads, each, seen};
 ghost use Rattle.tsn_records.specs.Ranges.{within};
 ghost use Rattle.tsn_wire.specs.Ranges.{greatest_after, longest_frame, frame_of_draft, edit_of_draft, command_of_draft};
+ghost use Rattle.tsn_wire.specs.Words.{edit_command};
 
 use crate::drafts::{BatchDraft, CommandDraft, EditDraft, FrameDraft};
 use std::alloc::Global;
@@ -55,15 +56,14 @@ fn edit_of_draft(alloc: Global, draft: &EditDraft) -> Result<Edit, Unread>
     ensures { Reads result (edit_of_draft draft.now) }
 {
     match draft {
-        EditDraft::Create { key: draft, value } => {
+        EditDraft::Put {
+            put,
+            key: draft,
+            value,
+        } => {
             let key = key(*draft)?;
             let value = record_of(alloc, value)?;
-            Ok(Edit::Create(key, value))
-        }
-        EditDraft::Replace { key: draft, value } => {
-            let key = key(*draft)?;
-            let value = record_of(alloc, value)?;
-            Ok(Edit::Replace(key, value))
+            Ok(put.edit(key, value))
         }
         EditDraft::Remove { key: draft } => Ok(Edit::Remove(key(*draft)?)),
     }
@@ -95,45 +95,37 @@ fn batch_of_draft(alloc: Global, draft: &BatchDraft) -> Result<Batch, Unread>
     }
 }
 
-/// The command that the draft is, or the first number that is outside its range.
-pub fn command_of_draft(alloc: Global, draft: &CommandDraft) -> Result<Command, Unread>
-    ensures { Reads result (command_of_draft draft.now) }
+// The edit as a command of its own.
+fn command_of_edit(edit: Edit) -> Command
+    ensures { result ≡ edit_command edit }
 {
-    match draft {
-        CommandDraft::Create { key: draft, value } => {
-            let key = key(*draft)?;
-            let value = record_of(alloc, value)?;
-            Ok(Command::Create { key, value })
-        }
-        CommandDraft::Replace { key: draft, value } => {
-            let key = key(*draft)?;
-            let value = record_of(alloc, value)?;
-            Ok(Command::Replace { key, value })
-        }
-        CommandDraft::Remove { key: draft } => Ok(Command::Remove { key: key(*draft)? }),
+    match edit {
+        Edit::Create(key, value) => Command::Create { key, value },
+        Edit::Replace(key, value) => Command::Replace { key, value },
+        Edit::Remove(key) => Command::Remove { key },
+    }
+}
+
+/// The command that the draft is, or the first number that is outside its range.
+pub fn command_of_draft(alloc: Global, wanted: &CommandDraft) -> Result<Command, Unread>
+    ensures { Reads result (command_of_draft wanted.now) }
+{
+    match wanted {
+        CommandDraft::Edit { edit } => Ok(command_of_edit(edit_of_draft(alloc, edit)?)),
         CommandDraft::Batch { batch } => Ok(Command::Batch {
             batch: batch_of_draft(alloc, batch)?,
         }),
-        CommandDraft::Undo => Ok(Command::Undo),
-        CommandDraft::UndoAll => Ok(Command::UndoAll),
-        CommandDraft::Redo => Ok(Command::Redo),
         CommandDraft::Settle { upto: number } => Ok(Command::Settle {
             upto: entry(*number, Field::Upto)?,
         }),
-        CommandDraft::Enable { key: draft, now } => {
+        CommandDraft::Act {
+            act,
+            key: draft,
+            now,
+        } => {
             let key = key(*draft)?;
             let now = instant(*now, Field::Now)?;
-            Ok(Command::Enable { key, now })
-        }
-        CommandDraft::Disable { key: draft, now } => {
-            let key = key(*draft)?;
-            let now = instant(*now, Field::Now)?;
-            Ok(Command::Disable { key, now })
-        }
-        CommandDraft::Apply { key: draft, now } => {
-            let key = key(*draft)?;
-            let now = instant(*now, Field::Now)?;
-            Ok(Command::Apply { key, now })
+            Ok(act.command(key, now))
         }
         CommandDraft::Frame { frame: draft, now } => {
             let frame = frame_of_draft(*draft)?;
@@ -145,14 +137,11 @@ pub fn command_of_draft(alloc: Global, draft: &CommandDraft) -> Result<Command, 
             let at = instant(*at, Field::At)?;
             Ok(Command::States { key, at })
         }
-        CommandDraft::Counters { key: draft } => Ok(Command::Counters { key: key(*draft)? }),
-        CommandDraft::Show { key: draft } => Ok(Command::Show { key: key(*draft)? }),
+        CommandDraft::Look { look, key: draft } => Ok(look.command(key(*draft)?)),
         CommandDraft::List { kind } => Ok(Command::List { kind: *kind }),
         CommandDraft::Since { after: number } => Ok(Command::Since {
             after: entry(*number, Field::After)?,
         }),
-        CommandDraft::Resume => Ok(Command::Resume),
-        CommandDraft::Sessions => Ok(Command::Sessions),
-        CommandDraft::Setup => Ok(Command::Setup),
+        CommandDraft::Bare { bare } => Ok(bare.command()),
     }
 }

@@ -12,8 +12,9 @@ ghost use Rattle.tsn_wire.specs.SpelledFront.{SpellsFront, SpellsStates};
 use crate::any_line::any_draft;
 use crate::cursor::Cursor;
 use crate::drafts::{CommandDraft, FrameDraft, LineDraft};
-use crate::spelled_batch::batch;
-use crate::spelled_records::{flag_member, key, keyed_record, kind, number_member};
+use crate::spelled_batch::{batch, spelled_edit};
+use crate::spelled_records::{flag_member, key, kind, number_member};
+use crate::words::{Bare, Look};
 use std::alloc::Global;
 use tsn_types::keys::Kind;
 
@@ -25,20 +26,14 @@ fn command(alloc: Global, text: &mut Cursor<'_>) -> Option<CommandDraft>
     ensures { IfSome result (λ command. Spells text.old command text.new) }
 {
     match text.letters() {
-        (b'r', b'e') => {
-            text.expect("create\",\"key\":\"")?;
-            let (key, value) = keyed_record(alloc, text)?;
-            Some(CommandDraft::Create { key, value })
-        }
-        (b'e', b'p') => {
-            text.expect("replace\",\"key\":\"")?;
-            let (key, value) = keyed_record(alloc, text)?;
-            Some(CommandDraft::Replace { key, value })
+        (b'r', b'e') | (b'e', b'p') | (b'e', b'm') => {
+            let edit = spelled_edit(alloc, text)?;
+            Some(CommandDraft::Edit { edit })
         }
         (b'n', _) => undo(text),
         (b'e', b'd') => {
             text.expect("redo\"")?;
-            Some(CommandDraft::Redo)
+            Some(CommandDraft::Bare { bare: Bare::Redo })
         }
         _ => look(alloc, text),
     }
@@ -48,25 +43,18 @@ fn undo(text: &mut Cursor<'_>) -> Option<CommandDraft>
     ensures { IfSome result (λ command. Spells text.old command text.new) }
 {
     if text.take("undo_all\"") {
-        return Some(CommandDraft::UndoAll);
+        return Some(CommandDraft::Bare {
+            bare: Bare::UndoAll,
+        });
     }
     text.expect("undo\"")?;
-    Some(CommandDraft::Undo)
+    Some(CommandDraft::Bare { bare: Bare::Undo })
 }
 
 fn look(alloc: Global, text: &mut Cursor<'_>) -> Option<CommandDraft>
     ensures { IfSome result (λ command. Spells text.old command text.new) }
 {
     match text.letters() {
-        (b'e', b'm') => {
-            text.expect("remove\",\"key\":\"")?;
-            let key = key(text)?;
-            if key.kind == Kind::Port {
-                return None;
-            }
-            text.expect("\"")?;
-            Some(CommandDraft::Remove { key })
-        }
         (b'a', _) => {
             text.expect("batch\",\"edits\":")?;
             let batch = batch(alloc, text)?;
@@ -76,13 +64,19 @@ fn look(alloc: Global, text: &mut Cursor<'_>) -> Option<CommandDraft>
             text.expect("show\",\"key\":\"")?;
             let key = key(text)?;
             text.expect("\"")?;
-            Some(CommandDraft::Show { key })
+            Some(CommandDraft::Look {
+                look: Look::Show,
+                key,
+            })
         }
         (b'o', _) => {
             text.expect("counters\",\"key\":\"")?;
             let key = key(text)?;
             text.expect("\"")?;
-            Some(CommandDraft::Counters { key })
+            Some(CommandDraft::Look {
+                look: Look::Counters,
+                key,
+            })
         }
         (b'i', _) => {
             text.expect("list\",\"kind\":\"")?;

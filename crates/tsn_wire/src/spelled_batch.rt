@@ -3,36 +3,37 @@ ghost use Rattle.std.specs.Prelude.{◌≡◌, ◌++◌, true, IfSome};
 ghost use Rattle.std.specs.List.{AllByRecursion};
 ghost use Rattle.serde_json.specs.Written.{compact_text};
 ghost use Rattle.tsn_wire.specs.Batches.{is_batch_draft};
-ghost use Rattle.tsn_wire.specs.Spelled.{batch_value, edit_value, EditIsSmall, SpellsEdit};
+ghost use Rattle.tsn_wire.specs.Spelled.{batch_value, edit_value, EditIsSmall, SpellsEdit, SpellsEdited};
 
 use crate::any_edits::any_edit;
 use crate::cursor::Cursor;
 use crate::drafts::{BatchDraft, EditDraft};
 use crate::lists::{Item, spelled_list};
 use crate::spelled_records::{key, keyed_record};
+use crate::words::Put;
 use std::alloc::Global;
 use tsn_types::keys::Kind;
 
 /// The most edits that are read so.
 pub const EDITS: u32 = 16;
 
-// An edit with its braces. Which one it may be is guessed from the second and third letter of its word.
-fn edit(alloc: Global, text: &mut Cursor<'_>) -> Option<EditDraft>
-    ensures { IfSome result (λ e. SpellsEdit text.old e text.new) }
+/// What comes behind `{"do":"` in an edit, up to its last member. Which edit it may be is guessed from the second and
+/// third letter of its word.
+pub fn spelled_edit(alloc: Global, text: &mut Cursor<'_>) -> Option<EditDraft>
+    ensures { IfSome result (λ e. SpellsEdited text.old e text.new) }
 {
-    text.expect("{\"do\":\"")?;
     match text.letters() {
         (b'r', _) => {
             text.expect("create\",\"key\":\"")?;
             let (key, value) = keyed_record(alloc, text)?;
-            text.expect("}")?;
-            Some(EditDraft::Create { key, value })
+            let put = Put::Create;
+            Some(EditDraft::Put { put, key, value })
         }
         (b'e', b'p') => {
             text.expect("replace\",\"key\":\"")?;
             let (key, value) = keyed_record(alloc, text)?;
-            text.expect("}")?;
-            Some(EditDraft::Replace { key, value })
+            let put = Put::Replace;
+            Some(EditDraft::Put { put, key, value })
         }
         _ => {
             text.expect("remove\",\"key\":\"")?;
@@ -40,10 +41,20 @@ fn edit(alloc: Global, text: &mut Cursor<'_>) -> Option<EditDraft>
             if key.kind == Kind::Port {
                 return None;
             }
-            text.expect("\"}")?;
+            text.expect("\"")?;
             Some(EditDraft::Remove { key })
         }
     }
+}
+
+// An edit of a batch, with its braces.
+fn edit(alloc: Global, text: &mut Cursor<'_>) -> Option<EditDraft>
+    ensures { IfSome result (λ e. SpellsEdit text.old e text.new) }
+{
+    text.expect("{\"do\":\"")?;
+    let edit = spelled_edit(alloc, text)?;
+    text.expect("}")?;
+    Some(edit)
 }
 
 impl Item for EditDraft {

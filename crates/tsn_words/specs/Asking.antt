@@ -268,7 +268,7 @@ Misgives journal syncs = IsOther syncs ⊎ ((journal ≡ None) × (syncs ≡ Som
 -- What is given of a journal is right, or wrong in one of two ways.
 abbrev pub GivesKeeping : Option (List ℕ) → Option (List ℕ) → Keeping → Type 0
 GivesKeeping journal syncs (IsGiven kept) = GivesKept journal syncs kept
-GivesKeeping journal syncs OtherSyncs = IsOther syncs
+GivesKeeping _ syncs OtherSyncs = IsOther syncs
 GivesKeeping journal syncs NoJournal = (journal ≡ None) × (syncs ≡ Some (codes "none"))
 
 -- What is given of a journal is right, or is wrong, and the words are refused.
