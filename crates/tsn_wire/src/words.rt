@@ -157,63 +157,46 @@ fn named(text: &mut Cursor<'_>, name: &str, word: Word) -> Option<Word>
     Some(word)
 }
 
-// Which word it may be is guessed from its first letters.
-fn command_word(text: &mut Cursor<'_>, letters: (u8, u8)) -> Option<Word>
+// The word, or else the other one, must come next.
+fn either(text: &mut Cursor<'_>, name: &str, word: Word, last: &str, other: Word) -> Option<Word>
+    requires first { word_text word ≡ name.now }
+    requires last { word_text other ≡ last.now }
     ensures { IfSome result (λ w. text.old ≡ word_text w ++ text.new) }
 {
-    match letters {
-        (b'c', b'r') => named(text, "create", Word::Put(Put::Create)),
-        (b'u', _) => undo_word(text),
-        (b'r', _) => other_word(text),
-        (b'f', _) => named(text, "frame", Word::Frame),
-        (b's', b't') => named(text, "states", Word::States),
-        (b's', b'h') => named(text, "show", Word::Look(Look::Show)),
-        (b's', b'i') => named(text, "since", Word::Since),
-        (b's', _) => later_word(text),
-        (b'c', _) => named(text, "counters", Word::Look(Look::Counters)),
-        (b'e', _) => named(text, "enable", Word::Act(Act::Enable)),
-        (b'd', _) => named(text, "disable", Word::Act(Act::Disable)),
-        (b'a', _) => named(text, "apply", Word::Act(Act::Apply)),
-        (b'b', _) => named(text, "batch", Word::Batch),
-        (b'l', _) => named(text, "list", Word::List),
+    if text.take(name) {
+        return Some(word);
+    }
+    named(text, last, other)
+}
+
+// Which word it may be is guessed from its first three letters.
+fn command_word(text: &mut Cursor<'_>, first: u8) -> Option<Word>
+    ensures { IfSome result (λ w. text.old ≡ word_text w ++ text.new) }
+{
+    let undo = Word::Bare(Bare::Undo);
+    let setup = Word::Bare(Bare::Setup);
+    let (second, third) = text.letters();
+    match (first, second, third) {
+        (b'c', b'r', _) => named(text, "create", Word::Put(Put::Create)),
+        (b'r', _, b'p') => named(text, "replace", Word::Put(Put::Replace)),
+        (b'r', _, b'm') => named(text, "remove", Word::Remove),
+        (b'u', _, _) => either(text, "undo_all", Word::Bare(Bare::UndoAll), "undo", undo),
+        (b'r', _, b'd') => named(text, "redo", Word::Bare(Bare::Redo)),
+        (b'f', _, _) => named(text, "frame", Word::Frame),
+        (b's', b't', _) => named(text, "states", Word::States),
+        (b's', b'h', _) => named(text, "show", Word::Look(Look::Show)),
+        (b's', b'i', _) => named(text, "since", Word::Since),
+        (b's', _, b's') => named(text, "sessions", Word::Bare(Bare::Sessions)),
+        (b's', _, _) => either(text, "setup", setup, "settle", Word::Settle),
+        (b'c', _, _) => named(text, "counters", Word::Look(Look::Counters)),
+        (b'e', _, _) => named(text, "enable", Word::Act(Act::Enable)),
+        (b'd', _, _) => named(text, "disable", Word::Act(Act::Disable)),
+        (b'a', _, _) => named(text, "apply", Word::Act(Act::Apply)),
+        (b'b', _, _) => named(text, "batch", Word::Batch),
+        (b'l', _, _) => named(text, "list", Word::List),
+        (b'r', _, _) => named(text, "resume", Word::Bare(Bare::Resume)),
         _ => named(text, "hello", Word::Hello),
     }
-}
-
-fn undo_word(text: &mut Cursor<'_>) -> Option<Word>
-    ensures { IfSome result (λ w. text.old ≡ word_text w ++ text.new) }
-{
-    if text.take("undo_all") {
-        return Some(Word::Bare(Bare::UndoAll));
-    }
-    named(text, "undo", Word::Bare(Bare::Undo))
-}
-
-fn later_word(text: &mut Cursor<'_>) -> Option<Word>
-    ensures { IfSome result (λ w. text.old ≡ word_text w ++ text.new) }
-{
-    if text.take("setup") {
-        return Some(Word::Bare(Bare::Setup));
-    }
-    if text.take("settle") {
-        return Some(Word::Settle);
-    }
-    named(text, "sessions", Word::Bare(Bare::Sessions))
-}
-
-fn other_word(text: &mut Cursor<'_>) -> Option<Word>
-    ensures { IfSome result (λ w. text.old ≡ word_text w ++ text.new) }
-{
-    if text.take("replace") {
-        return Some(Word::Put(Put::Replace));
-    }
-    if text.take("remove") {
-        return Some(Word::Remove);
-    }
-    if text.take("resume") {
-        return Some(Word::Bare(Bare::Resume));
-    }
-    named(text, "redo", Word::Bare(Bare::Redo))
 }
 
 impl Scanned for Word {
@@ -221,9 +204,9 @@ impl Scanned for Word {
 
     fn scanned(_alloc: Global, text: &mut Cursor<'_>) -> Option<Word> {
         text.skip();
-        let letters = text.letters();
+        let (first, _) = text.letters();
         text.expect("\"")?;
-        let word = command_word(text, letters)?;
+        let word = command_word(text, first)?;
         text.expect("\"")?;
         Some(word)
     }
