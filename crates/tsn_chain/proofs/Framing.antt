@@ -1,5 +1,5 @@
 -- From what a frame meets to what is said of it.
-use Rattle.std.proofs.Common.{◌≡◌, ℕ, refl, sym, ◌∙◌, ap, subst, true, ◌∷◌, Option, Some, None, arith}
+use Rattle.std.proofs.Common.{◌≡◌, ℕ, refl, sym, ◌∙◌, ap, subst, true, ◌∷◌, Option, Some, None}
 use Rattle.std.specs.Prelude.{IsSome, is_some}
 use Rattle.std.specs.Option.{option_map}
 use Rattle.std.specs.FinMap.{FinMap, get}
@@ -11,7 +11,6 @@ use Rattle.tsn_types.specs.declared.records.Record.{Record}
 use Rattle.tsn_types.specs.declared.records.Record.TheVariants as records
 use Rattle.tsn_types.specs.declared.records.StreamFilter.{StreamFilter}
 use Rattle.tsn_types.specs.declared.records.StreamGate.{StreamGate}
-use Rattle.tsn_types.specs.declared.records.FlowMeter.{FlowMeter}
 use Rattle.tsn_types.specs.Keys.{has, meter_ref, refs, same_key}
 use Rattle.tsn_types.specs.Limits.{HoldsRecord}
 use Rattle.tsn_types.specs.declared.records.GateEntry.{GateEntry}
@@ -19,24 +18,11 @@ use Rattle.tsn_config.specs.Kinds.{filter_of, gate_of}
 use Rattle.tsn_edit.specs.Configuration.{Configuration, IsWellKept}
 use Rattle.tsn_edit.proofs.KeyFacts.{same_itself}
 use Rattle.tsn_schedule.specs.Kept.{Kept}
-use Rattle.tsn_chain.specs.declared.data.GateState.{GateState}
-use Rattle.tsn_chain.specs.declared.data.Met.{Met}
 use Rattle.tsn_chain.specs.declared.frame.Frame.{Frame}
 use Rattle.tsn_chain.specs.declared.frame.Verdict.{Verdict}
-use Rattle.tsn_chain.specs.Chain.{through}
-use Rattle.tsn_chain.specs.Frames.{GateActs, StandFor, framed, framed_at, met_at, meter_at, state_at, with_met}
+use Rattle.tsn_chain.specs.Frames.{GateActs, StandFor, framed}
 use Rattle.tsn_chain.specs.Instances.{FrameData, HasFrameKeys, SameKeys}
 use Rattle.tsn_chain.specs.Rows.{IsReady}
-
--- the parts of a frame's way, put together
-pub put_together : (c : Configuration) (f : FrameData) (acts : GateActs) (frame : Frame) (time n : ℕ) (q : StreamFilter) (g : StreamGate)
-    (by : Option FlowMeter) (state : GateState) (met left : Met) (verdict : Verdict) (new : FrameData)
-    → filter_of (get c (Filter n)) ≡ Some q → gate_of (get c (Gate q.gate)) ≡ Some g → by ≡ meter_at c q.meter → met_at f n q by ≡ Some met
-    → state ≡ state_at acts q.gate g time
-    → (verdict, left) ≡ through (record { number = n; filter = q; gate = g; state = state; frame = frame; time = time; met = met })
-    → new ≡ with_met f n q left
-    → framed_at c f acts frame time (Some n) ≡ Some (verdict, new)
-put_together c f acts frame time n q g by state met left verdict new filter gate meter found shown passed back = grind arith
 
 gate_there : (l : Limits) (n : ℕ) (v : Option Record) → IsSome v → ((r : Record) → v ≡ Some r → HoldsRecord l (Gate n) r)
     → (g : StreamGate) × (gate_of v ≡ Some g)

@@ -1,8 +1,6 @@
-pub mod Answering
 pub mod Beginning
 pub mod Each
 pub mod FirstRows
-pub mod Following
 pub mod Framing
 pub mod Keys
 pub mod Least

@@ -3,21 +3,18 @@
 //! It follows the changes of a configuration, acts on the gate control lists, and passes frames through the chain. It
 //! keeps no record and no act: a call that needs records is given the configuration, and contracts speak of whatever
 //! acts a runner stands for. An instant that is earlier than the bridge time counts as the bridge time.
-ghost use Rattle.std.specs.Prelude.{◌≡◌, ℕ, ◌+◌, ◌≤◌, max, Some, IsSome, IsOk, IfOk, MatchResult, OnOk, OnErr};
+ghost use Rattle.std.specs.Prelude.{◌≡◌, ℕ, ◌+◌, ◌≤◌, max, Some, IsOk, IfOk, MatchResult, OnOk, OnErr};
 ghost use Rattle.std.specs.FinMap as map;
 ghost use Rattle.std.specs.Option.{option_copied};
 ghost use Rattle.tsn_config.specs.Kinds.{meter_of};
 ghost use Rattle.tsn_schedule.specs.Acts.{Disable, Enable};
 ghost use Rattle.tsn_schedule.specs.Counters.{enabled_change};
-ghost use Rattle.tsn_chain.specs.Acts.{ChangesAt, HasList, KeyActs, KeyAnswers, KeyApplies, KeyRefuses, KeyStates, RowAnswers, StateAt};
+ghost use Rattle.tsn_chain.specs.Acts.{ChangesAt, HasList, KeyActs, KeyAnswers, KeyApplies, KeyRefuses, KeyStates};
 ghost use Rattle.tsn_chain.specs.Counters.{KeyCounts};
 ghost use Rattle.tsn_edit.specs.Changes.{room_of};
 ghost use Rattle.tsn_chain.specs.Following.{frames_after, frames_at, runners_after, runners_at};
 ghost use Rattle.tsn_chain.specs.Frames.{GateActs, StandFor, framed};
 ghost use Rattle.tsn_chain.specs.Instances.{HasData, HasKeys, HasRunner};
-ghost use Rattle.tsn_chain.specs.State.{gate_state, port_state};
-ghost use Rattle.tsn_types.specs.declared.records.GateEntry.{GateEntry as AnyGateEntry};
-ghost use Rattle.tsn_types.specs.declared.records.PortEntry.{PortEntry as AnyPortEntry};
 
 use crate::data::{FilterData, GateData};
 use crate::frame::{Frame, Verdict};
@@ -33,9 +30,7 @@ use tsn_table::Table;
 use tsn_types::keys::Key;
 use tsn_types::limits::Limits;
 use tsn_types::numbers::Instant;
-use tsn_types::records::{
-    FlowMeter, GateEntry, PortEntry, PortGates, Record, RecordRef, StreamGate,
-};
+use tsn_types::records::{FlowMeter, GateEntry, PortEntry, Record, RecordRef};
 use tsn_types::refusals::Refusal;
 
 /// The bridge time and instance data. `runners` are those of the ports and the gates, `frames` is what the filter chain
@@ -238,25 +233,19 @@ impl Runtime {
         ensures still { OnErr result (self.new.time ≡ self.old.time) }
     {
         let time = later(self.time, now);
-        match key {
+        let change = match key {
             Key::Port(id) => match config.get(key) {
-                Some(RecordRef::Port(port)) => {
-                    let change = apply_row(&mut self.ports, id.get(), &port.admin, time)?;
-                    self.time = time;
-                    Ok(change)
-                }
+                Some(RecordRef::Port(r)) => apply_row(&mut self.ports, id.get(), &r.admin, time)?,
                 _ => unreachable!(),
             },
             Key::Gate(id) => match config.get(key) {
-                Some(RecordRef::Gate(gate)) => {
-                    let change = apply_row(&mut self.gates, id.get(), &gate.admin, time)?;
-                    self.time = time;
-                    Ok(change)
-                }
+                Some(RecordRef::Gate(r)) => apply_row(&mut self.gates, id.get(), &r.admin, time)?,
                 _ => unreachable!(),
             },
             _ => unreachable!(),
-        }
+        };
+        self.time = time;
+        Ok(change)
     }
 
     /// The state of a port or a stream gate, which is there, at an instant, by its list or its record; latches are not
@@ -268,11 +257,17 @@ impl Runtime {
     {
         match key {
             Key::Port(id) => match config.get(key) {
-                Some(RecordRef::Port(port)) => port_state_at(&self.ports, id.get(), port, t),
+                Some(RecordRef::Port(port)) => {
+                    let runner = self.ports.get(id.get()).unwrap();
+                    Ok(port_shows(port, runner.states_at(t)?))
+                }
                 _ => unreachable!(),
             },
             Key::Gate(id) => match config.get(key) {
-                Some(RecordRef::Gate(gate)) => gate_state_at(&self.gates, id.get(), gate, t),
+                Some(RecordRef::Gate(gate)) => {
+                    let runner = self.gates.get(id.get()).unwrap();
+                    Ok(gate_shows(gate, runner.states_at(t)?))
+                }
                 _ => unreachable!(),
             },
             _ => unreachable!(),
@@ -286,22 +281,19 @@ impl Runtime {
     {
         match key {
             Key::Port(id) => Counters::Port(counters_of(&self.ports, id.get(), self.time)),
-            Key::Filter(id) => match self.rows.filters.get(id.get()) {
-                Some(kept) => Counters::Filter(*kept),
-                None => unreachable!(),
-            },
-            Key::Gate(id) => match self.rows.gates.get(id.get()) {
-                Some(kept) => Counters::Gate {
+            Key::Filter(id) => Counters::Filter(*self.rows.filters.get(id.get()).unwrap()),
+            Key::Gate(id) => {
+                let kept = self.rows.gates.get(id.get()).unwrap();
+                Counters::Gate {
                     list: counters_of(&self.gates, id.get(), self.time),
                     invalid_rx: kept.invalid_rx,
                     octets_exceeded: kept.octets_exceeded,
-                },
-                None => unreachable!(),
-            },
-            Key::Meter(id) => match self.rows.meters.get(id.get()) {
-                Some(kept) => Counters::Meter { all_red: kept.red },
-                None => unreachable!(),
-            },
+                }
+            }
+            Key::Meter(id) => {
+                let kept = self.rows.meters.get(id.get()).unwrap();
+                Counters::Meter { all_red: kept.red }
+            }
         }
     }
 }
@@ -319,36 +311,4 @@ pub fn police(config: &Config, runtime: &mut Runtime, frame: Frame, now: Instant
     let time = later(runtime.time, now);
     runtime.time = time;
     runtime.rows.police(config, &runtime.gates, frame, time)
-}
-
-// The state of a port at an instant.
-fn port_state_at(
-    table: &Table<Runner<PortEntry>>,
-    id: u64,
-    port: &PortGates,
-    t: Instant,
-) -> Result<State, Past>
-    requires { IsSome (map.get table.now.map id) }
-    ensures { RowAnswers table.now.map id (StateAt (λ (e : AnyPortEntry). e.interval) (port_state port.now) t result) }
-{
-    match table.get(id) {
-        Some(runner) => Ok(port_shows(port, runner.states_at(t)?)),
-        None => unreachable!(),
-    }
-}
-
-// The state of a stream gate at an instant.
-fn gate_state_at(
-    table: &Table<Runner<GateEntry>>,
-    id: u64,
-    gate: &StreamGate,
-    t: Instant,
-) -> Result<State, Past>
-    requires { IsSome (map.get table.now.map id) }
-    ensures { RowAnswers table.now.map id (StateAt (λ (e : AnyGateEntry). e.interval) (gate_state gate.now) t result) }
-{
-    match table.get(id) {
-        Some(runner) => Ok(gate_shows(gate, runner.states_at(t)?)),
-        None => unreachable!(),
-    }
 }

@@ -81,6 +81,11 @@ fn take_out(rt: &impl Abort, config: &mut Config, change: &Change) -> Result<(),
     Ok(())
 }
 
+/// Two ports, and 16 of everything else.
+fn standard() -> Limits {
+    Limits::new(2, 16, 16, 16, 16).unwrap()
+}
+
 /// The removal of filter 3 from the first entries, where it has this meter.
 fn removal(meter: Option<MeterId>) -> Change {
     Change::of(Part {
@@ -104,8 +109,7 @@ fn take_out_and_put_back(rt: &impl Abort, config: &mut Config) -> Result<(), Fai
 #[test]
 fn a_change_fits_only_where_its_value_before_stands(rt: HostRuntime) -> Result<(), Fail> {
     let alloc = rt.alloc();
-    let standard = Limits::new(2, 16, 16, 16, 16).unwrap();
-    on_a_config(alloc, standard, Records::new(alloc), |config| {
+    on_a_config(alloc, standard(), Records::new(alloc), |config| {
         make_first_entries(&rt, alloc, config)?;
         take_out_and_put_back(&rt, config)
     })
@@ -154,8 +158,7 @@ fn has_filters_and_gates(
 #[test]
 fn sixteen_parts_are_made_and_taken_back(rt: HostRuntime) -> Result<(), Fail> {
     let alloc = rt.alloc();
-    let standard = Limits::new(2, 16, 16, 16, 16).unwrap();
-    on_a_config(alloc, standard, Records::new(alloc), |config| {
+    on_a_config(alloc, standard(), Records::new(alloc), |config| {
         let change = filters_with_their_gates(&rt, alloc)?;
         let again = change.try_clone()?;
         make_at_once(&rt, config, change)?;
@@ -198,8 +201,7 @@ fn is_held(rt: &impl Abort, alloc: Global, config: &Config) -> Result<(), Fail> 
 #[test]
 fn edits_at_once_are_seen_whole(rt: HostRuntime) -> Result<(), Fail> {
     let alloc = rt.alloc();
-    let limits = Limits::new(2, 16, 16, 16, 16).unwrap();
-    on_a_config(alloc, limits, Records::new(alloc), |config| {
+    on_a_config(alloc, standard(), Records::new(alloc), |config| {
         make_all_at_once(&rt, alloc, config)?;
         is_held(&rt, alloc, config)
     })

@@ -33,30 +33,11 @@ pub(crate) fn crossed_by(
     ensures own { result ≤ length marked.now → is_on_referred (adds what.now) ≡ false }
     ensures raised { IsRaised number result marked.now session (adds what.now) }
 {
-    match what.added() {
-        Some(change) => crossed_by_parts(index, marked, session, change.parts(), number),
-        None => number,
-    }
-}
-
-/// The same for a change of these parts.
-fn crossed_by_parts(
-    index: &Index,
-    marked: &[MarkedEntry],
-    session: u32,
-    parts: &[Part],
-    number: u64,
-) -> u64
-    requires index { IsIndexed marked.now index.now }
-    requires numbered { IsNumbered 1 (entries_of marked.now) }
-    requires referred { NoneReferred number marked.now }
-    ensures free { NoneCrossed result (Some parts.now) session marked.now }
-    ensures rises { number ≤ result }
-    ensures own { result ≤ length marked.now → is_on_referred (Some parts.now) ≡ false }
-    ensures raised { IsRaised number result marked.now session (Some parts.now) }
-{
+    let Some(change) = what.added() else {
+        return number;
+    };
     let mut crossed = number;
-    for part in parts {
+    for part in change.parts() {
         crossed = crossed_by_part(index, marked, session, part, crossed);
     }
     crossed

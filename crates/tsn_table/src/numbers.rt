@@ -13,7 +13,7 @@ ghost use Rattle.std.specs.Vec.{vec_capacity, vec_len};
 ghost use Rattle.tsn_table.specs.Tree.{HasRoom, share};
 
 use crate::packing::{pack, put_packed};
-use crate::tree::{Node, Tree, copy_in, fill_pool, first_in, take_out};
+use crate::tree::{Node, Tree, copy_in, fill_pool, first_in, take_from};
 use std::alloc::{AllocError, Global};
 use std::marker::Model;
 
@@ -176,7 +176,7 @@ impl Numbers {
         ensures back { IsSome (map.get self.old.map id) → 1 ≤ self.new.spare }
     {
         let mut gone = false;
-        take_out(&mut self.tree, id, &mut self.pool, &mut gone);
+        take_from(&mut self.tree, id, &mut self.pool, &mut gone);
         if gone {
             self.count -= 1;
             self.room = self.room.max(1);

@@ -10,7 +10,7 @@ ghost use Rattle.tsn_table.specs.Levels.{height_of, Differs, IsHeightFor, IsLeve
 ghost use Rattle.tsn_table.specs.Rising.{IsRising, put_number};
 ghost use Rattle.tsn_table.specs.Tree.{nodes_below, nodes_of, numbers_below, numbers_of, share, IsPacked, IsVine};
 
-use crate::tree::{Node, Tree, put_among};
+use crate::tree::{Node, Tree, put_in};
 use std::mem;
 
 /// Packs the blocks of a tree, which has so many nodes with those of the pool. Where it has fewer than 24 numbers for
@@ -52,7 +52,7 @@ pub(crate) fn put_packed(
     if pool.is_empty() {
         pack(tree, pool, nodes);
     }
-    put_among(tree, id, pool, came);
+    put_in(tree, id, pool, came);
 }
 
 // The nodes of a tree in a vine, before another vine.

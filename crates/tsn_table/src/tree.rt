@@ -375,24 +375,9 @@ fn put_here(node: &mut Box<Node>, id: u64, pool: &mut Vec<Box<Node>>, came: &mut
 }
 
 /// Puts a number into a tree, and says whether it came in. It takes a node of the pool, which has one, where the tree
-/// is empty or the block that the number belongs to is full.
-pub(crate) fn put_among(tree: &mut Tree, id: u64, pool: &mut Vec<Box<Node>>, came: &mut bool)
-    requires level { IsLevel tree.old }
-    requires low { height_of tree.old < 240 }
-    requires rising { IsRising (numbers_of tree.old) }
-    requires pool { 0 < vec_len pool.old }
-    ensures numbers { numbers_of tree.new ≡ put_number id (numbers_of tree.old) }
-    ensures longer { length (numbers_of tree.new) ≡ length (numbers_of tree.old) + one_if came.new }
-    ensures nodes { nodes_of tree.new + vec_len pool.new ≡ nodes_of tree.old + vec_len pool.old }
-    ensures capacity { vec_capacity pool.new ≡ vec_capacity pool.old }
-    ensures level { IsLevel tree.new }
-{
-    put_in(tree, id, pool, came);
-}
-
-// The same. It tells whether the tree is higher now.
+/// is empty or the block that the number belongs to is full. It tells whether the tree is higher now.
 #[cycle(putting)]
-fn put_in(tree: &mut Tree, id: u64, pool: &mut Vec<Box<Node>>, came: &mut bool) -> bool
+pub(crate) fn put_in(tree: &mut Tree, id: u64, pool: &mut Vec<Box<Node>>, came: &mut bool) -> bool
     requires level { IsLevel tree.old }
     requires low { height_of tree.old < 240 }
     requires rising { IsRising (numbers_of tree.old) }
@@ -472,24 +457,14 @@ fn next_after(node: &Node, id: u64) -> Option<u64>
 }
 
 /// Takes a number out of a tree, where it is there, and says whether it was. A node that has no number left goes to the
-/// pool.
-pub(crate) fn take_out(tree: &mut Tree, id: u64, pool: &mut Vec<Box<Node>>, gone: &mut bool)
-    requires level { IsLevel tree.old }
-    requires low { height_of tree.old < 240 }
-    requires rising { IsRising (numbers_of tree.old) }
-    requires place { nodes_of tree.old + vec_len pool.old ≤ vec_capacity pool.old }
-    ensures numbers { numbers_of tree.new ≡ without_number id (numbers_of tree.old) }
-    ensures shorter { length (numbers_of tree.old) ≡ length (numbers_of tree.new) + one_if gone.new }
-    ensures nodes { nodes_of tree.new + vec_len pool.new ≡ nodes_of tree.old + vec_len pool.old }
-    ensures capacity { vec_capacity pool.new ≡ vec_capacity pool.old }
-    ensures level { IsLevel tree.new }
-{
-    take_from(tree, id, pool, gone);
-}
-
-// The same. It tells whether the tree is lower now.
+/// pool. It tells whether the tree is lower now.
 #[cycle(taking)]
-fn take_from(tree: &mut Tree, id: u64, pool: &mut Vec<Box<Node>>, gone: &mut bool) -> bool
+pub(crate) fn take_from(
+    tree: &mut Tree,
+    id: u64,
+    pool: &mut Vec<Box<Node>>,
+    gone: &mut bool,
+) -> bool
     requires level { IsLevel tree.old }
     requires low { height_of tree.old < 240 }
     requires rising { IsRising (numbers_of tree.old) }

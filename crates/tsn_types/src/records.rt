@@ -53,9 +53,7 @@ impl<E: Clone> Schedule<E> {
     {
         Ok(Schedule {
             list: self.list.try_clone()?,
-            cycle: self.cycle,
-            extension: self.extension,
-            base: self.base,
+            ..*self
         })
     }
 }
@@ -100,11 +98,8 @@ impl StreamGate {
         ensures { IfOk result (λ copy. copy ≡ self.now) }
     {
         Ok(StreamGate {
-            is_open: self.is_open,
-            ipv: self.ipv,
-            invalid_rx: self.invalid_rx,
-            octets_exceeded: self.octets_exceeded,
             admin: self.admin.try_clone()?,
+            ..*self
         })
     }
 }
