@@ -101,49 +101,13 @@ fn max_sdu(number: Option<u64>) -> Result<Option<MaxSdu>, Unread>
     }
 }
 
-fn port_id(number: u64) -> Result<PortId, Unread>
-    ensures { result ≡ within fields.Key 1 most_ports number }
-{
-    PortId::new(number).map_err(|_| Unread::Range(Field::Key))
-}
-
-fn filter_id(number: u64) -> Result<FilterId, Unread>
-    ensures { result ≡ within fields.Key 0 greatest_instance number }
-{
-    FilterId::new(number).map_err(|_| Unread::Range(Field::Key))
-}
-
-fn gate_id(number: u64, field: Field) -> Result<GateId, Unread>
-    ensures { result ≡ within field 0 greatest_instance number }
-{
-    GateId::new(number).map_err(|_| Unread::Range(field))
-}
-
-fn meter_id(number: u64, field: Field) -> Result<MeterId, Unread>
-    ensures { result ≡ within field 0 greatest_instance number }
-{
-    MeterId::new(number).map_err(|_| Unread::Range(field))
-}
-
 fn meter_or_none(number: Option<u64>) -> Result<Option<MeterId>, Unread>
     ensures { result ≡ within_or_none fields.Meter 0 greatest_instance number }
 {
     match number {
         None => Ok(None),
-        Some(number) => Ok(Some(meter_id(number, Field::Meter)?)),
+        Some(number) => Ok(Some(MeterId::new(number).map_err(|_| Unread::Range(Field::Meter))?)),
     }
-}
-
-fn cycle(number: u64) -> Result<Cycle, Unread>
-    ensures { result ≡ within fields.Cycle 1 longest_cycle number }
-{
-    Cycle::new(number).map_err(|_| Unread::Range(Field::Cycle))
-}
-
-fn extension(number: u64) -> Result<Extension, Unread>
-    ensures { result ≡ within fields.Extension 0 longest_extension number }
-{
-    Extension::new(number).map_err(|_| Unread::Range(Field::Extension))
 }
 
 /// The instant, or refusal 4 of the member.
@@ -211,8 +175,8 @@ fn schedule<E: EntryRange>(
     ensures { Reads result (schedule E.in_range draft.now) }
 {
     let list = entries(alloc, draft.list.as_slice())?;
-    let cycle = cycle(draft.cycle)?;
-    let extension = extension(draft.extension)?;
+    let cycle = Cycle::new(draft.cycle).map_err(|_| Unread::Range(Field::Cycle))?;
+    let extension = Extension::new(draft.extension).map_err(|_| Unread::Range(Field::Extension))?;
     let base = instant(draft.base, Field::Base)?;
     Ok(Schedule {
         list,
@@ -253,7 +217,7 @@ fn filter(draft: &FilterDraft) -> Result<StreamFilter, Unread>
     Ok(StreamFilter {
         handle: handle_or_none(draft.handle)?,
         priority: priority_or_none(draft.priority, Field::Priority)?,
-        gate: gate_id(draft.gate, Field::Gate)?,
+        gate: GateId::new(draft.gate).map_err(|_| Unread::Range(Field::Gate))?,
         max_sdu: max_sdu(draft.max_sdu)?,
         meter: meter_or_none(draft.meter)?,
         oversize: draft.oversize,
@@ -292,10 +256,11 @@ pub fn record_of(alloc: Global, draft: &RecordDraft) -> Result<Record, Unread>
 pub fn key(draft: KeyDraft) -> Result<Key, Unread>
     ensures { result ≡ key draft }
 {
-    match draft.kind {
-        Kind::Port => Ok(Key::Port(port_id(draft.number)?)),
-        Kind::Filter => Ok(Key::Filter(filter_id(draft.number)?)),
-        Kind::Gate => Ok(Key::Gate(gate_id(draft.number, Field::Key)?)),
-        Kind::Meter => Ok(Key::Meter(meter_id(draft.number, Field::Key)?)),
-    }
+    let read = match draft.kind {
+        Kind::Port => PortId::new(draft.number).map(Key::Port),
+        Kind::Filter => FilterId::new(draft.number).map(Key::Filter),
+        Kind::Gate => GateId::new(draft.number).map(Key::Gate),
+        Kind::Meter => MeterId::new(draft.number).map(Key::Meter),
+    };
+    read.map_err(|_| Unread::Range(Field::Key))
 }
