@@ -14,8 +14,8 @@ use Rattle.tsn_wire.specs.Rows.{AllTold, members_of}
 use Rattle.tsn_wire.specs.Spelled.{batch_value, key_value, IsKey, drafted_text}
 use Rattle.tsn_wire.specs.Values.{act_data, edit_data, keyed_data, MayHaveList, IsNoPort}
 use Rattle.tsn_wire.specs.Words.{word_text}
-use Rattle.tsn_wire.specs.declared.any_edits.EditMembers.{EditMembers}
-use Rattle.tsn_wire.specs.declared.any_line.LineMembers.{LineMembers}
+use Rattle.tsn_wire.specs.declared.gathered.EditMembers.{EditMembers}
+use Rattle.tsn_wire.specs.declared.gathered.LineMembers.{LineMembers}
 use Rattle.tsn_wire.specs.declared.drafts.CommandDraft.{CommandDraft}
 use Rattle.tsn_wire.specs.declared.drafts.CommandDraft.TheVariants as wanted
 use Rattle.tsn_wire.specs.declared.drafts.EditDraft.{EditDraft}
