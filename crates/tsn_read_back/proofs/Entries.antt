@@ -17,8 +17,8 @@ use Rattle.tsn_records.specs.Records.{port_entry_shape, gate_entry_shape}
 use Rattle.tsn_setup.specs.Plain.{Tray, number, flag, port_list, gate_list, IsOpen, Trays, tray_at, put_tray, ReadsMember, ReadsValue, ReadsTable, ReadsEntry, ReadsEntries, TableSoFar, EntriesSoFar, is_name}
 use Rattle.tsn_setup.specs.PlainTrays.{port_entry_trays, gate_entry_trays}
 use Rattle.tsn_setup.specs.Toml.{as_toml}
-use Rattle.tsn_setup.specs.declared.plain_entries.PlainPortEntry.{PlainPortEntry}
-use Rattle.tsn_setup.specs.declared.plain_entries.PlainGateEntry.{PlainGateEntry}
+use Rattle.tsn_setup.specs.declared.drafts.PlainPortEntry.{PlainPortEntry}
+use Rattle.tsn_setup.specs.declared.drafts.PlainGateEntry.{PlainGateEntry}
 use Rattle.tsn_setup.proofs.OfKind.{nothing_more}
 use Rattle.tsn_setup.proofs.Told.{port_entry_told, gate_entry_told}
 use Rattle.tsn_setup.proofs.Turning.{table_begun, table_more, table_ended, entries_begun, entries_more, entries_ended}

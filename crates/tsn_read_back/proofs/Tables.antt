@@ -19,10 +19,10 @@ use Rattle.tsn_records.specs.declared.drafts.RecordDraft.TheVariants as drafts
 use Rattle.tsn_setup.specs.Plain.{Trays, AreOpen, ReadsLines, ReadsTableOf}
 use Rattle.tsn_setup.specs.PlainTrays.{port_trays, filter_trays, gate_trays, meter_trays}
 use Rattle.tsn_setup.specs.declared.drafts.TableDraft.{TableDraft}
-use Rattle.tsn_setup.specs.declared.plain_tables.PlainFilter.{PlainFilter}
-use Rattle.tsn_setup.specs.declared.plain_tables.PlainGate.{PlainGate}
-use Rattle.tsn_setup.specs.declared.plain_tables.PlainMeter.{PlainMeter}
-use Rattle.tsn_setup.specs.declared.plain_tables.PlainPort.{PlainPort}
+use Rattle.tsn_setup.specs.declared.drafts.PlainFilter.{PlainFilter}
+use Rattle.tsn_setup.specs.declared.drafts.PlainGate.{PlainGate}
+use Rattle.tsn_setup.specs.declared.drafts.PlainMeter.{PlainMeter}
+use Rattle.tsn_setup.specs.declared.drafts.PlainPort.{PlainPort}
 use Rattle.tsn_setup.proofs.Told.{record_told}
 use Rattle.tsn_export.specs.Text.{number_line, number_or_none_line, flag_line, list_lines, port_entry_line, gate_entry_line, port_table, filter_table, gate_table, meter_table}
 use Rattle.tsn_read_back.proofs.Entries.{port_list_back, gate_list_back}

@@ -33,6 +33,13 @@ own_reverse Greater e = absurd (cc)
 pub same_order : (k : List ℕ) → order k k ≡ Equal
 same_order k = own_reverse (order k k) (nat_list_cmp_total.antisymm k k)
 
+-- what holds however two names are ordered
+pub at_order : {A : Type 0} (P : A → Type 0) (o : Ordering) (a b c : A) → (o ≡ Less → P a) → (o ≡ Equal → P b) → (o ≡ Greater → P c)
+    → P (match_ordering o a b c)
+at_order P Less a b c less equal greater = less refl
+at_order P Equal a b c less equal greater = equal refl
+at_order P Greater a b c less equal greater = greater refl
+
 -- ---- answers that may be none
 
 pub if_map : {A B : Type 0} (P : A → Type 0) (Q : B → Type 0) (f : A → B) → ((a : A) → P a → Q (f a)) → (o : Option A) → IfSome o P

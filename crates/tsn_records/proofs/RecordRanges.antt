@@ -162,10 +162,8 @@ filter_passed d r h =
 pub meter_passed : (d : MeterDraft) (r : FlowMeter) → meter d ≡ Ok r → (d ≡ meter_draft r) × MeterInRange r
 unfolding meter
 meter_passed d r h =
-    number_step fields.Cir 0 greatest_bit_rate d.cir _ r h (λ cir cir_next.
-    number_step fields.Cbs 0 most_octets d.cbs _ r cir_next (λ cbs cbs_next.
-    number_step fields.Eir 0 greatest_bit_rate d.eir _ r cbs_next (λ eir eir_next.
-    number_step fields.Ebs 0 most_octets d.ebs _ r eir_next (λ ebs ebs_next.
+    number_step _ 0 _ d.cir _ r h (λ cir cir_next. number_step _ 0 _ d.cbs _ r cir_next (λ cbs cbs_next.
+    number_step _ 0 _ d.eir _ r cbs_next (λ eir eir_next. number_step _ 0 _ d.ebs _ r eir_next (λ ebs ebs_next.
     let found : FlowMeter = record
     { cir = d.cir; cbs = d.cbs; eir = d.eir; ebs = d.ebs; cf = d.cf; aware = d.aware; drop_yellow = d.drop_yellow; all_red = d.all_red } in
     subst (λ x. (d ≡ meter_draft x) × MeterInRange x) (only (Ok found) found r refl ebs_next)
@@ -197,15 +195,12 @@ entries_back P f draft one (x ∷ xs) fits = rw (one x fits.0, entries_back P f 
 port_entry_back : (e : PortEntry) → PortEntryInRange e → port_entry (port_entry_draft e) ≡ Ok e
 unfolding port_entry
 port_entry_back e fits =
-    rw (at_most_ok _ greatest_gate_states e.gates fits.gates, within_ok _ 1 longest_interval e.interval fits.interval) refl
+    rw (at_most_ok _ _ e.gates fits.gates, within_ok _ _ _ e.interval fits.interval) refl
 
 gate_entry_back : (e : GateEntry) → GateEntryInRange e → gate_entry (gate_entry_draft e) ≡ Ok e
 unfolding gate_entry
-gate_entry_back e fits = rw (
-  at_most_or_none_ok _ greatest_priority e.ipv fits.ipv,
-  within_ok _ 1 longest_interval e.interval fits.interval,
-  at_most_or_none_ok _ most_octets e.octets fits.octets,
-) refl
+gate_entry_back e fits =
+    rw (at_most_or_none_ok _ _ e.ipv fits.ipv, within_ok _ _ _ e.interval fits.interval, at_most_or_none_ok _ _ e.octets fits.octets) refl
 
 schedule_back : {D E : Type 0} (range : D → Result E Unread) (draft : E → D) (P : E → Type 0) → ((e : E) → P e → range (draft e) ≡ Ok e)
     → (s : Schedule E) → ScheduleInRange P s → schedule range (schedule_draft draft s) ≡ Ok s
@@ -219,17 +214,13 @@ schedule_back range draft P one s fits = rw (
 
 pub port_back : (r : PortGates) → PortInRange r → port (port_draft r) ≡ Ok r
 unfolding port
-port_back r fits = rw (
-  at_most_ok _ greatest_gate_states r.gates fits.gates,
-  schedule_back port_entry port_entry_draft PortEntryInRange port_entry_back r.admin fits.admin,
-) refl
+port_back r fits =
+    rw (at_most_ok _ _ r.gates fits.gates, schedule_back _ _ PortEntryInRange port_entry_back r.admin fits.admin) refl
 
 pub gate_back : (r : StreamGate) → GateInRange r → gate (gate_draft r) ≡ Ok r
 unfolding gate
-gate_back r fits = rw (
-  at_most_or_none_ok _ greatest_priority r.ipv fits.ipv,
-  schedule_back gate_entry gate_entry_draft GateEntryInRange gate_entry_back r.admin fits.admin,
-) refl
+gate_back r fits =
+    rw (at_most_or_none_ok _ _ r.ipv fits.ipv, schedule_back _ _ GateEntryInRange gate_entry_back r.admin fits.admin) refl
 
 pub filter_back : (r : StreamFilter) → FilterInRange r → filter (filter_draft r) ≡ Ok r
 unfolding filter
@@ -243,9 +234,5 @@ filter_back r fits = rw (
 
 pub meter_back : (r : FlowMeter) → MeterInRange r → meter (meter_draft r) ≡ Ok r
 unfolding meter
-meter_back r fits = rw (
-  at_most_ok _ greatest_bit_rate r.cir fits.cir,
-  at_most_ok _ most_octets r.cbs fits.cbs,
-  at_most_ok _ greatest_bit_rate r.eir fits.eir,
-  at_most_ok _ most_octets r.ebs fits.ebs,
-) refl
+meter_back r fits =
+    rw (at_most_ok _ _ r.cir fits.cir, at_most_ok _ _ r.cbs fits.cbs, at_most_ok _ _ r.eir fits.eir, at_most_ok _ _ r.ebs fits.ebs) refl

@@ -180,17 +180,8 @@ filter_draft r =
     record { handle = r.handle; priority = r.priority; gate = r.gate; max_sdu = r.max_sdu; meter = r.meter; oversize = r.oversize }
 
 abbrev pub meter_draft : FlowMeter → MeterDraft
-meter_draft r =
-    record {
-      cir = r.cir;
-      cbs = r.cbs;
-      eir = r.eir;
-      ebs = r.ebs;
-      cf = r.cf;
-      aware = r.aware;
-      drop_yellow = r.drop_yellow;
-      all_red = r.all_red;
-    }
+meter_draft m = record
+    { cir = m.cir; cbs = m.cbs; eir = m.eir; ebs = m.ebs; cf = m.cf; aware = m.aware; drop_yellow = m.drop_yellow; all_red = m.all_red }
 
 abbrev pub record_draft : Record → RecordDraft
 record_draft (records.Port r) = Port (port_draft r)

@@ -3,12 +3,12 @@
 //! The first number outside its range is refused, with its member's name; inside a list entry that is `list`. Whether
 //! an identifier or a list is within a bridge's limits is not tested here. Lists of entries take memory; nothing else
 //! does.
-ghost use Rattle.std.specs.Prelude.{◌≡◌, ◌^◌, ℕ, List, Result};
+ghost use Rattle.std.specs.Prelude.{◌≡◌, ◌^◌, ℕ, List, Result, Ok, Err, IfOk, OnErr};
 ghost use Rattle.tsn_types.specs.declared.refusals.Field.TheVariants as fields;
 ghost use Rattle.tsn_records.specs.declared.unread.Unread.{Unread};
 ghost use Rattle.tsn_records.specs.Answers.{Reads, each};
-ghost use Rattle.tsn_types.specs.Numbers.{greatest_bit_rate, greatest_gate_states, greatest_handle, greatest_instance, greatest_instant, greatest_max_sdu, greatest_priority, longest_cycle, longest_extension, longest_interval, most_octets, most_ports};
-ghost use Rattle.tsn_records.specs.Ranges.{within, within_or_none, port_entry, gate_entry, schedule, port, gate, filter, meter, record_of, key};
+ghost use Rattle.tsn_types.specs.Numbers.{greatest_handle, greatest_instant, greatest_priority};
+ghost use Rattle.tsn_records.specs.Ranges.{within, port_entry, gate_entry, schedule, port, gate, filter, meter, record_of, key};
 
 use crate::drafts::{
     FilterDraft, GateDraft, GateEntryDraft, KeyDraft, MeterDraft, PortDraft, PortEntryDraft,
@@ -27,130 +27,33 @@ use tsn_types::records::{
 };
 use tsn_types::refusals::Field;
 
-fn gates(number: u64, field: Field) -> Result<u8, Unread>
-    ensures { result ≡ within field 0 greatest_gate_states number }
+// What was read, or refusal 4 of the member.
+fn in_range<T: Drop, E: Drop>(read: Result<T, E>, field: Field) -> Result<T, Unread>
+    ensures ok { IfOk read (λ value. result ≡ Ok value) }
+    ensures err { OnErr read (result ≡ Err (Unread.Range field)) }
 {
-    u8::try_from(number).map_err(|_| Unread::Range(field))
+    read.map_err(|_| Unread::Range(field))
 }
 
 /// The priority, or refusal 4 of the member.
 pub fn priority(number: u64, field: Field) -> Result<Priority, Unread>
     ensures { result ≡ within field 0 greatest_priority number }
 {
-    Priority::new(number).map_err(|_| Unread::Range(field))
-}
-
-fn priority_or_none(number: Option<u64>, field: Field) -> Result<Option<Priority>, Unread>
-    ensures { result ≡ within_or_none field 0 greatest_priority number }
-{
-    match number {
-        None => Ok(None),
-        Some(number) => Ok(Some(priority(number, field)?)),
-    }
-}
-
-fn interval(number: u64) -> Result<Interval, Unread>
-    ensures { result ≡ within fields.List 1 longest_interval number }
-{
-    Interval::new(number).map_err(|_| Unread::Range(Field::List))
-}
-
-fn octets(number: u64, field: Field) -> Result<Octets, Unread>
-    ensures { result ≡ within field 0 most_octets number }
-{
-    Octets::new(number).map_err(|_| Unread::Range(field))
-}
-
-fn octets_or_none(number: Option<u64>, field: Field) -> Result<Option<Octets>, Unread>
-    ensures { result ≡ within_or_none field 0 most_octets number }
-{
-    match number {
-        None => Ok(None),
-        Some(number) => Ok(Some(octets(number, field)?)),
-    }
-}
-
-fn bit_rate(number: u64, field: Field) -> Result<BitRate, Unread>
-    ensures { result ≡ within field 0 greatest_bit_rate number }
-{
-    BitRate::new(number).map_err(|_| Unread::Range(field))
+    in_range(Priority::new(number), field)
 }
 
 /// The stream handle, or refusal 4 of the member `handle`.
 pub fn handle(number: u64) -> Result<Handle, Unread>
     ensures { result ≡ within fields.Handle 0 greatest_handle number }
 {
-    Handle::new(number).map_err(|_| Unread::Range(Field::Handle))
-}
-
-fn handle_or_none(number: Option<u64>) -> Result<Option<Handle>, Unread>
-    ensures { result ≡ within_or_none fields.Handle 0 greatest_handle number }
-{
-    match number {
-        None => Ok(None),
-        Some(number) => Ok(Some(handle(number)?)),
-    }
-}
-
-fn max_sdu(number: Option<u64>) -> Result<Option<MaxSdu>, Unread>
-    ensures { result ≡ within_or_none fields.MaxSdu 1 greatest_max_sdu number }
-{
-    match number {
-        None => Ok(None),
-        Some(number) => Ok(Some(MaxSdu::new(number).map_err(|_| Unread::Range(Field::MaxSdu))?)),
-    }
-}
-
-fn port_id(number: u64) -> Result<PortId, Unread>
-    ensures { result ≡ within fields.Key 1 most_ports number }
-{
-    PortId::new(number).map_err(|_| Unread::Range(Field::Key))
-}
-
-fn filter_id(number: u64) -> Result<FilterId, Unread>
-    ensures { result ≡ within fields.Key 0 greatest_instance number }
-{
-    FilterId::new(number).map_err(|_| Unread::Range(Field::Key))
-}
-
-fn gate_id(number: u64, field: Field) -> Result<GateId, Unread>
-    ensures { result ≡ within field 0 greatest_instance number }
-{
-    GateId::new(number).map_err(|_| Unread::Range(field))
-}
-
-fn meter_id(number: u64, field: Field) -> Result<MeterId, Unread>
-    ensures { result ≡ within field 0 greatest_instance number }
-{
-    MeterId::new(number).map_err(|_| Unread::Range(field))
-}
-
-fn meter_or_none(number: Option<u64>) -> Result<Option<MeterId>, Unread>
-    ensures { result ≡ within_or_none fields.Meter 0 greatest_instance number }
-{
-    match number {
-        None => Ok(None),
-        Some(number) => Ok(Some(meter_id(number, Field::Meter)?)),
-    }
-}
-
-fn cycle(number: u64) -> Result<Cycle, Unread>
-    ensures { result ≡ within fields.Cycle 1 longest_cycle number }
-{
-    Cycle::new(number).map_err(|_| Unread::Range(Field::Cycle))
-}
-
-fn extension(number: u64) -> Result<Extension, Unread>
-    ensures { result ≡ within fields.Extension 0 longest_extension number }
-{
-    Extension::new(number).map_err(|_| Unread::Range(Field::Extension))
+    in_range(Handle::new(number), Field::Handle)
 }
 
 /// The instant, or refusal 4 of the member.
 pub fn instant(number: u64, field: Field) -> Result<Instant, Unread>
     ensures { result ≡ within field 0 greatest_instant number }
 {
-    Instant::new(number).map_err(|_| Unread::Range(field))
+    in_range(Instant::new(number), field)
 }
 
 /// An entry of a gate control list, whose numbers are tested.
@@ -170,8 +73,8 @@ impl EntryRange for PortEntry {
 
     #[tactic(auto, unfolding(crate::specs::Ranges::port_entry))]
     fn of_draft(draft: &PortEntryDraft) -> Result<PortEntry, Unread> {
-        let gates = gates(draft.gates, Field::List)?;
-        let interval = interval(draft.interval)?;
+        let gates = in_range(u8::try_from(draft.gates), Field::List)?;
+        let interval = in_range(Interval::new(draft.interval), Field::List)?;
         Ok(PortEntry { gates, interval })
     }
 }
@@ -185,9 +88,9 @@ impl EntryRange for GateEntry {
     fn of_draft(draft: &GateEntryDraft) -> Result<GateEntry, Unread> {
         Ok(GateEntry {
             is_open: draft.is_open,
-            ipv: priority_or_none(draft.ipv, Field::List)?,
-            interval: interval(draft.interval)?,
-            octets: octets_or_none(draft.octets, Field::List)?,
+            ipv: in_range(draft.ipv.map(Priority::new).transpose(), Field::List)?,
+            interval: in_range(Interval::new(draft.interval), Field::List)?,
+            octets: in_range(draft.octets.map(Octets::new).transpose(), Field::List)?,
         })
     }
 }
@@ -211,8 +114,8 @@ fn schedule<E: EntryRange>(
     ensures { Reads result (schedule E.in_range draft.now) }
 {
     let list = entries(alloc, draft.list.as_slice())?;
-    let cycle = cycle(draft.cycle)?;
-    let extension = extension(draft.extension)?;
+    let cycle = in_range(Cycle::new(draft.cycle), Field::Cycle)?;
+    let extension = in_range(Extension::new(draft.extension), Field::Extension)?;
     let base = instant(draft.base, Field::Base)?;
     Ok(Schedule {
         list,
@@ -226,7 +129,7 @@ fn schedule<E: EntryRange>(
 fn port(alloc: Global, draft: &PortDraft) -> Result<PortGates, Unread>
     ensures { Reads result (port draft.now) }
 {
-    let gates = gates(draft.gates, Field::Gates)?;
+    let gates = in_range(u8::try_from(draft.gates), Field::Gates)?;
     let admin = schedule(alloc, &draft.admin)?;
     Ok(PortGates { gates, admin })
 }
@@ -235,7 +138,7 @@ fn port(alloc: Global, draft: &PortDraft) -> Result<PortGates, Unread>
 fn gate(alloc: Global, draft: &GateDraft) -> Result<StreamGate, Unread>
     ensures { Reads result (gate draft.now) }
 {
-    let ipv = priority_or_none(draft.ipv, Field::Ipv)?;
+    let ipv = in_range(draft.ipv.map(Priority::new).transpose(), Field::Ipv)?;
     let admin = schedule(alloc, &draft.admin)?;
     Ok(StreamGate {
         is_open: draft.is_open,
@@ -251,11 +154,14 @@ fn filter(draft: &FilterDraft) -> Result<StreamFilter, Unread>
     ensures { result ≡ filter draft.now }
 {
     Ok(StreamFilter {
-        handle: handle_or_none(draft.handle)?,
-        priority: priority_or_none(draft.priority, Field::Priority)?,
-        gate: gate_id(draft.gate, Field::Gate)?,
-        max_sdu: max_sdu(draft.max_sdu)?,
-        meter: meter_or_none(draft.meter)?,
+        handle: in_range(draft.handle.map(Handle::new).transpose(), Field::Handle)?,
+        priority: in_range(
+            draft.priority.map(Priority::new).transpose(),
+            Field::Priority,
+        )?,
+        gate: in_range(GateId::new(draft.gate), Field::Gate)?,
+        max_sdu: in_range(draft.max_sdu.map(MaxSdu::new).transpose(), Field::MaxSdu)?,
+        meter: in_range(draft.meter.map(MeterId::new).transpose(), Field::Meter)?,
         oversize: draft.oversize,
     })
 }
@@ -265,10 +171,10 @@ fn meter(draft: &MeterDraft) -> Result<FlowMeter, Unread>
     ensures { result ≡ meter draft.now }
 {
     Ok(FlowMeter {
-        cir: bit_rate(draft.cir, Field::Cir)?,
-        cbs: octets(draft.cbs, Field::Cbs)?,
-        eir: bit_rate(draft.eir, Field::Eir)?,
-        ebs: octets(draft.ebs, Field::Ebs)?,
+        cir: in_range(BitRate::new(draft.cir), Field::Cir)?,
+        cbs: in_range(Octets::new(draft.cbs), Field::Cbs)?,
+        eir: in_range(BitRate::new(draft.eir), Field::Eir)?,
+        ebs: in_range(Octets::new(draft.ebs), Field::Ebs)?,
         cf: draft.cf,
         aware: draft.aware,
         drop_yellow: draft.drop_yellow,
@@ -292,10 +198,11 @@ pub fn record_of(alloc: Global, draft: &RecordDraft) -> Result<Record, Unread>
 pub fn key(draft: KeyDraft) -> Result<Key, Unread>
     ensures { result ≡ key draft }
 {
-    match draft.kind {
-        Kind::Port => Ok(Key::Port(port_id(draft.number)?)),
-        Kind::Filter => Ok(Key::Filter(filter_id(draft.number)?)),
-        Kind::Gate => Ok(Key::Gate(gate_id(draft.number, Field::Key)?)),
-        Kind::Meter => Ok(Key::Meter(meter_id(draft.number, Field::Key)?)),
-    }
+    let read = match draft.kind {
+        Kind::Port => PortId::new(draft.number).map(Key::Port),
+        Kind::Filter => FilterId::new(draft.number).map(Key::Filter),
+        Kind::Gate => GateId::new(draft.number).map(Key::Gate),
+        Kind::Meter => MeterId::new(draft.number).map(Key::Meter),
+    };
+    in_range(read, Field::Key)
 }

@@ -69,20 +69,14 @@ one_digit xs at n h room = rw (decimal_digit n h) (take_more_set xs at (48 + n) 
 pub below_hundred : (t0 t1 : List ℕ) (n : ℕ) → 10 ≤ n → n < 100 → t1 ≡ t0 ++ two_digits n → t1 ≡ t0 ++ decimal n
 below_hundred t0 t1 n low high e = rw (decimal_step n low (omega arith), decimal_digit (n / 10) (omega arith)) e
 
-pub up_to_four : (t0 t1 t2 : List ℕ) (n : ℕ) → 100 ≤ n → n < 2 ^ 64
-    → t1 ≡ t0 ++ decimal (n / 100)
-    → t2 ≡ t1 ++ two_digits (n % 100)
+pub up_to_four : (t0 t1 t2 : List ℕ) (n : ℕ) → 100 ≤ n → n < 2 ^ 64 → t1 ≡ t0 ++ decimal (n / 100) → t2 ≡ t1 ++ two_digits (n % 100)
     → t2 ≡ t0 ++ decimal n
 up_to_four t0 t1 t2 n low high e1 e2 = rw (last_two n low high) (two_pieces t0 t1 t2 _ _ e1 e2)
 
-pub up_to_eight : (t0 t1 t2 : List ℕ) (n : ℕ) → 10000 ≤ n → n < 2 ^ 64
-    → t1 ≡ t0 ++ decimal (n / 10000)
-    → t2 ≡ t1 ++ four_digits (n % 10000)
+pub up_to_eight : (t0 t1 t2 : List ℕ) (n : ℕ) → 10000 ≤ n → n < 2 ^ 64 → t1 ≡ t0 ++ decimal (n / 10000) → t2 ≡ t1 ++ four_digits (n % 10000)
     → t2 ≡ t0 ++ decimal n
 up_to_eight t0 t1 t2 n low high e1 e2 = rw (last_four n low high) (two_pieces t0 t1 t2 _ _ e1 e2)
 
-pub beyond_eight : (t0 t1 t2 : List ℕ) (n : ℕ) → 100000000 ≤ n → n < 2 ^ 64
-    → t1 ≡ t0 ++ decimal (n / 100000000)
-    → t2 ≡ t1 ++ eight_digits (n % 100000000)
-    → t2 ≡ t0 ++ decimal n
+pub beyond_eight : (t0 t1 t2 : List ℕ) (n : ℕ) → 100000000 ≤ n → n < 2 ^ 64 → t1 ≡ t0 ++ decimal (n / 100000000)
+    → t2 ≡ t1 ++ eight_digits (n % 100000000) → t2 ≡ t0 ++ decimal n
 beyond_eight t0 t1 t2 n low high e1 e2 = rw (last_eight n low high) (two_pieces t0 t1 t2 _ _ e1 e2)

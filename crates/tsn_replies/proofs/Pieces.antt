@@ -103,49 +103,34 @@ key_pieces k small =
 
 -- ---- records
 
-pub filter_pieces : (r : StreamFilter) (t0 t1 t2 t3 t4 t5 t6 t7 : List ℕ)
-    → t1 ≡ t0 ++ (codes "{\"gate\":" ++ decimal r.gate)
+pub filter_pieces : (r : StreamFilter) (t0 t1 t2 t3 t4 t5 t6 t7 : List ℕ) → t1 ≡ t0 ++ (codes "{\"gate\":" ++ decimal r.gate)
     → t2 ≡ t1 ++ (codes ",\"handle\":" ++ compact_text (or_null r.handle))
     → t3 ≡ t2 ++ (codes ",\"max_sdu\":" ++ compact_text (or_null r.max_sdu))
     → t4 ≡ t3 ++ (codes ",\"meter\":" ++ compact_text (or_null r.meter))
     → t5 ≡ t4 ++ (codes ",\"oversize\":" ++ compact_text (boolean r.oversize))
-    → t6 ≡ t5 ++ (codes ",\"priority\":" ++ compact_text (or_null r.priority))
-    → t7 ≡ t6 ++ codes "}"
+    → t6 ≡ t5 ++ (codes ",\"priority\":" ++ compact_text (or_null r.priority)) → t7 ≡ t6 ++ codes "}"
     → t7 ≡ t0 ++ compact_text (filter_data r)
 unfolding escape_byte
 filter_pieces r t0 t1 t2 t3 t4 t5 t6 t7 e1 e2 e3 e4 e5 e6 e7 = rw (e7, e6, e5, e4, e3, e2, e1) (simp append_assoc)
 
 pub meter_pieces : (r : FlowMeter) (t0 t1 t2 t3 t4 t5 t6 t7 t8 t9 : List ℕ)
     → t1 ≡ t0 ++ (codes "{\"all_red\":" ++ compact_text (boolean r.all_red))
-    → t2 ≡ t1 ++ (codes ",\"aware\":" ++ compact_text (boolean r.aware))
-    → t3 ≡ t2 ++ (codes ",\"cbs\":" ++ decimal r.cbs)
-    → t4 ≡ t3 ++ (codes ",\"cf\":" ++ compact_text (boolean r.cf))
-    → t5 ≡ t4 ++ (codes ",\"cir\":" ++ decimal r.cir)
-    → t6 ≡ t5 ++ (codes ",\"drop_yellow\":" ++ compact_text (boolean r.drop_yellow))
-    → t7 ≡ t6 ++ (codes ",\"ebs\":" ++ decimal r.ebs)
-    → t8 ≡ t7 ++ (codes ",\"eir\":" ++ decimal r.eir)
-    → t9 ≡ t8 ++ codes "}"
-    → t9 ≡ t0 ++ compact_text (meter_data r)
+    → t2 ≡ t1 ++ (codes ",\"aware\":" ++ compact_text (boolean r.aware)) → t3 ≡ t2 ++ (codes ",\"cbs\":" ++ decimal r.cbs)
+    → t4 ≡ t3 ++ (codes ",\"cf\":" ++ compact_text (boolean r.cf)) → t5 ≡ t4 ++ (codes ",\"cir\":" ++ decimal r.cir)
+    → t6 ≡ t5 ++ (codes ",\"drop_yellow\":" ++ compact_text (boolean r.drop_yellow)) → t7 ≡ t6 ++ (codes ",\"ebs\":" ++ decimal r.ebs)
+    → t8 ≡ t7 ++ (codes ",\"eir\":" ++ decimal r.eir) → t9 ≡ t8 ++ codes "}" → t9 ≡ t0 ++ compact_text (meter_data r)
 unfolding escape_byte
 meter_pieces r t0 t1 t2 t3 t4 t5 t6 t7 t8 t9 e1 e2 e3 e4 e5 e6 e7 e8 e9 = rw (e9, e8, e7, e6, e5, e4, e3, e2, e1) (simp append_assoc)
 
-pub port_pieces : (r : PortGates) (t0 t1 t2 t3 t4 t5 : List ℕ)
-    → t1 ≡ t0 ++ (codes "{\"base\":" ++ decimal r.admin.base)
-    → t2 ≡ t1 ++ (codes ",\"cycle\":" ++ decimal r.admin.cycle)
-    → t3 ≡ t2 ++ (codes ",\"extension\":" ++ decimal r.admin.extension)
-    → t4 ≡ t3 ++ (codes ",\"gates\":" ++ decimal r.gates)
-    → t5 ≡ t4 ++ codes ",\"list\":["
-    → t5 ≡ t0 ++ port_front r
+pub port_pieces : (r : PortGates) (t0 t1 t2 t3 t4 t5 : List ℕ) → t1 ≡ t0 ++ (codes "{\"base\":" ++ decimal r.admin.base)
+    → t2 ≡ t1 ++ (codes ",\"cycle\":" ++ decimal r.admin.cycle) → t3 ≡ t2 ++ (codes ",\"extension\":" ++ decimal r.admin.extension)
+    → t4 ≡ t3 ++ (codes ",\"gates\":" ++ decimal r.gates) → t5 ≡ t4 ++ codes ",\"list\":[" → t5 ≡ t0 ++ port_front r
 port_pieces r t0 t1 t2 t3 t4 t5 e1 e2 e3 e4 e5 = rw (e5, e4, e3, e2, e1) (simp append_assoc)
 
-pub gate_pieces : (r : StreamGate) (t0 t1 t2 t3 t4 t5 t6 : List ℕ)
-    → t1 ≡ t0 ++ (codes "{\"base\":" ++ decimal r.admin.base)
-    → t2 ≡ t1 ++ (codes ",\"cycle\":" ++ decimal r.admin.cycle)
-    → t3 ≡ t2 ++ (codes ",\"extension\":" ++ decimal r.admin.extension)
+pub gate_pieces : (r : StreamGate) (t0 t1 t2 t3 t4 t5 t6 : List ℕ) → t1 ≡ t0 ++ (codes "{\"base\":" ++ decimal r.admin.base)
+    → t2 ≡ t1 ++ (codes ",\"cycle\":" ++ decimal r.admin.cycle) → t3 ≡ t2 ++ (codes ",\"extension\":" ++ decimal r.admin.extension)
     → t4 ≡ t3 ++ (codes ",\"invalid_rx\":" ++ compact_text (boolean r.invalid_rx))
-    → t5 ≡ t4 ++ (codes ",\"ipv\":" ++ compact_text (or_null r.ipv))
-    → t6 ≡ t5 ++ codes ",\"list\":["
-    → t6 ≡ t0 ++ gate_front r
+    → t5 ≡ t4 ++ (codes ",\"ipv\":" ++ compact_text (or_null r.ipv)) → t6 ≡ t5 ++ codes ",\"list\":[" → t6 ≡ t0 ++ gate_front r
 gate_pieces r t0 t1 t2 t3 t4 t5 t6 e1 e2 e3 e4 e5 e6 =
     grown ((codes "{\"base\":" ++ decimal r.admin.base) ∷ (codes ",\"cycle\":" ++ decimal r.admin.cycle)
     ∷ (codes ",\"extension\":" ++ decimal r.admin.extension) ∷ (codes ",\"invalid_rx\":" ++ compact_text (boolean r.invalid_rx))
@@ -153,21 +138,17 @@ gate_pieces r t0 t1 t2 t3 t4 t5 t6 e1 e2 e3 e4 e5 e6 =
     t0 t5 t6 (codes ",\"list\":[") (t1, e1, (t2, e2, (t3, e3, (t4, e4, (t5, e5, refl))))) e6
 
 gate_end_of : (a b t0 t1 t2 t3 : List ℕ) → t1 ≡ t0 ++ (codes ",\"octets_exceeded\":" ++ a) → t2 ≡ t1 ++ (codes ",\"open\":" ++ b)
-    → t3 ≡ t2 ++ codes "}"
-    → t3 ≡ t0 ++ (codes ",\"octets_exceeded\":" ++ (a ++ (codes ",\"open\":" ++ (b ++ codes "}"))))
+    → t3 ≡ t2 ++ codes "}" → t3 ≡ t0 ++ (codes ",\"octets_exceeded\":" ++ (a ++ (codes ",\"open\":" ++ (b ++ codes "}"))))
 gate_end_of a b t0 t1 t2 t3 e1 e2 e3 = rw (e3, e2, e1) (simp append_assoc)
 
 pub gate_end_pieces : (r : StreamGate) (t0 t1 t2 t3 : List ℕ)
     → t1 ≡ t0 ++ (codes ",\"octets_exceeded\":" ++ compact_text (boolean r.octets_exceeded))
-    → t2 ≡ t1 ++ (codes ",\"open\":" ++ compact_text (boolean r.is_open))
-    → t3 ≡ t2 ++ codes "}"
-    → t3 ≡ t0 ++ gate_end r
+    → t2 ≡ t1 ++ (codes ",\"open\":" ++ compact_text (boolean r.is_open)) → t3 ≡ t2 ++ codes "}" → t3 ≡ t0 ++ gate_end r
 gate_end_pieces r = gate_end_of (compact_text (boolean r.octets_exceeded)) (compact_text (boolean r.is_open))
 
 -- a record is its front, its list and its end
 
-port_text_of : (base cycle extension gates items : List ℕ)
-    → (codes "{\"base\":" ++ (base ++
+port_text_of : (base cycle extension gates items : List ℕ) → (codes "{\"base\":" ++ (base ++
     (codes ",\"cycle\":" ++ (cycle ++
     (codes ",\"extension\":" ++ (extension ++ (codes ",\"gates\":" ++ (gates ++ codes ",\"list\":[")))))))) ++ (items ++ codes "}")
     ≡ codes "{\"base\":" ++ (base ++
@@ -180,8 +161,7 @@ pub port_text : (r : PortGates) → port_front r ++ (items_text false (items_of 
 unfolding escape_byte
 port_text r = port_text_of _ _ _ _ (items_text false (items_of (map port_entry_data r.admin.list)))
 
-gate_text_of : (base cycle extension invalid_rx ipv items octets_exceeded is_open : List ℕ)
-    → (codes "{\"base\":" ++ (base ++
+gate_text_of : (base cycle extension invalid_rx ipv items octets_exceeded is_open : List ℕ) → (codes "{\"base\":" ++ (base ++
     (codes ",\"cycle\":" ++ (cycle ++
     (codes ",\"extension\":" ++ (extension
     ++ (codes ",\"invalid_rx\":" ++ (invalid_rx ++ (codes ",\"ipv\":" ++ (ipv ++ codes ",\"list\":["))))))))))
@@ -200,8 +180,7 @@ gate_text r = gate_text_of _ _ _ _ _ (items_text false (items_of (map gate_entry
 
 -- ---- lines
 
-line_of_record : (key value : List ℕ)
-    → (codes "{\"key\":" ++ (key ++ codes ",\"record\":"))
+line_of_record : (key value : List ℕ) → (codes "{\"key\":" ++ (key ++ codes ",\"record\":"))
     ++ (value ++ codes "}\n") ≡ (codes "{\"key\":" ++ (key ++ (codes ",\"record\":" ++ (value ++ codes "}")))) ++ codes "\n"
 line_of_record key value = simp append_assoc
 
@@ -273,8 +252,7 @@ in_parts front first done left rest = simp append_assoc
 
 -- a list in its front, its first items and those that are left
 whole_at : {I : Type 0} (f : I → Data) (front rest t : List ℕ) (items others : List I) (first : I) (i : ℕ) → items ≡ first ∷ others
-    → t ≡ front ++ compact_text (f first)
-    → front ++ (items_text false (items_of (map f items)) ++ rest) ≡ (t ++ behind f (take i others))
+    → t ≡ front ++ compact_text (f first) → front ++ (items_text false (items_of (map f items)) ++ rest) ≡ (t ++ behind f (take i others))
     ++ (behind f (drop i others) ++ 93 ∷ rest)
 whole_at f front rest t items others first i e et =
     let split : items_text true (items_of (map f others)) ≡ (behind f (take i others) ++ behind f (drop i others)) ++ 93 ∷ [] =

@@ -85,11 +85,8 @@ keys_text (k ∷ (l ∷ ks)) others = refl
 
 -- ---- entries
 
-made_of : (number keys session t0 t1 t2 t3 t4 : List ℕ)
-    → t1 ≡ t0 ++ (codes "{\"entry\":" ++ number)
-    → t2 ≡ t1 ++ keys
-    → t3 ≡ t2 ++ (codes ",\"session\":" ++ session)
-    → t4 ≡ t3 ++ codes ",\"what\":\"made\"}"
+made_of : (number keys session t0 t1 t2 t3 t4 : List ℕ) → t1 ≡ t0 ++ (codes "{\"entry\":" ++ number) → t2 ≡ t1 ++ keys
+    → t3 ≡ t2 ++ (codes ",\"session\":" ++ session) → t4 ≡ t3 ++ codes ",\"what\":\"made\"}"
     → t4 ≡ t0 ++ (codes "{\"entry\":" ++ (number ++ (keys ++ (codes ",\"session\":" ++ (session ++ codes ",\"what\":\"made\"}")))))
 made_of number keys session t0 t1 t2 t3 t4 e1 e2 e3 e4 = rw (e4, e3, e2, e1) (simp append_assoc)
 
@@ -102,11 +99,8 @@ numbered_text : (number : ℕ) (ks : List Key) (others : Members)
 unfolding escape_byte numbered
 numbered_text number ks others = sym (ap (λ l. codes "{\"entry\":" ++ (decimal number ++ l)) (keys_text ks others))
 
-pub made_pieces : (number session : ℕ) (ks : List Key) (t0 t1 t2 t3 t4 : List ℕ)
-    → t1 ≡ t0 ++ (codes "{\"entry\":" ++ decimal number)
-    → t2 ≡ t1 ++ keys_piece ks
-    → t3 ≡ t2 ++ (codes ",\"session\":" ++ decimal session)
-    → t4 ≡ t3 ++ codes ",\"what\":\"made\"}"
+pub made_pieces : (number session : ℕ) (ks : List Key) (t0 t1 t2 t3 t4 : List ℕ) → t1 ≡ t0 ++ (codes "{\"entry\":" ++ decimal number)
+    → t2 ≡ t1 ++ keys_piece ks → t3 ≡ t2 ++ (codes ",\"session\":" ++ decimal session) → t4 ≡ t3 ++ codes ",\"what\":\"made\"}"
     → t4 ≡ t0 ++ compact_text (made_data number session ks)
 unfolding escape_byte numbered
 made_pieces number session ks t0 t1 t2 t3 t4 e1 e2 e3 e4 =
@@ -114,20 +108,14 @@ made_pieces number session ks t0 t1 t2 t3 t4 e1 e2 e3 e4 =
     ∙ ap (λ l. t0 ++ l) (numbered_text number ks
     (member (codes "session") (whole_data session) (member (codes "what") (string (codes "made")) no_members)))
 
-taking_back_of : (number keys of session t0 t1 t2 t3 t4 : List ℕ)
-    → t1 ≡ t0 ++ (codes "{\"entry\":" ++ number)
-    → t2 ≡ t1 ++ keys
-    → t3 ≡ t2 ++ (codes ",\"of\":" ++ of)
-    → t4 ≡ t3 ++ (codes ",\"session\":" ++ session)
+taking_back_of : (number keys of session t0 t1 t2 t3 t4 : List ℕ) → t1 ≡ t0 ++ (codes "{\"entry\":" ++ number) → t2 ≡ t1 ++ keys
+    → t3 ≡ t2 ++ (codes ",\"of\":" ++ of) → t4 ≡ t3 ++ (codes ",\"session\":" ++ session)
     → t4 ≡ t0 ++ (codes "{\"entry\":" ++ (number ++ (keys ++ (codes ",\"of\":" ++ (of ++ (codes ",\"session\":" ++ session))))))
 taking_back_of number keys of session t0 t1 t2 t3 t4 e1 e2 e3 e4 = rw (e4, e3, e2, e1) (simp append_assoc)
 
 pub taking_back_pieces : (number session of : ℕ) (ks : List Key) (t0 t1 t2 t3 t4 : List ℕ)
-    → t1 ≡ t0 ++ (codes "{\"entry\":" ++ decimal number)
-    → t2 ≡ t1 ++ keys_piece ks
-    → t3 ≡ t2 ++ (codes ",\"of\":" ++ decimal of)
-    → t4 ≡ t3 ++ (codes ",\"session\":" ++ decimal session)
-    → t4 ≡ t0 ++ taking_back_front number session of ks
+    → t1 ≡ t0 ++ (codes "{\"entry\":" ++ decimal number) → t2 ≡ t1 ++ keys_piece ks → t3 ≡ t2 ++ (codes ",\"of\":" ++ decimal of)
+    → t4 ≡ t3 ++ (codes ",\"session\":" ++ decimal session) → t4 ≡ t0 ++ taking_back_front number session of ks
 taking_back_pieces number session of ks t0 t1 t2 t3 t4 e1 e2 e3 e4 =
     taking_back_of (decimal number) (keys_piece ks) (decimal of) (decimal session) t0 t1 t2 t3 t4 e1 e2 e3 e4
 
@@ -160,12 +148,9 @@ unfolding escape_byte
 redone_pieces number session of ks = taken_back number session of ks (codes "redone")
 
 pub acted_pieces : (number session : ℕ) (act : Act) (k : Key) (now : ℕ) (t0 t1 t2 t3 t4 t5 t6 : List ℕ)
-    → t1 ≡ t0 ++ (codes "{\"act\":" ++ compact_text (string (act_name act)))
-    → t2 ≡ t1 ++ (codes ",\"entry\":" ++ decimal number)
-    → t3 ≡ t2 ++ (codes ",\"key\":" ++ compact_text (key_data k))
-    → t4 ≡ t3 ++ (codes ",\"now\":" ++ decimal now)
-    → t5 ≡ t4 ++ (codes ",\"session\":" ++ decimal session)
-    → t6 ≡ t5 ++ codes ",\"what\":\"acted\"}"
+    → t1 ≡ t0 ++ (codes "{\"act\":" ++ compact_text (string (act_name act))) → t2 ≡ t1 ++ (codes ",\"entry\":" ++ decimal number)
+    → t3 ≡ t2 ++ (codes ",\"key\":" ++ compact_text (key_data k)) → t4 ≡ t3 ++ (codes ",\"now\":" ++ decimal now)
+    → t5 ≡ t4 ++ (codes ",\"session\":" ++ decimal session) → t6 ≡ t5 ++ codes ",\"what\":\"acted\"}"
     → t6 ≡ t0 ++ compact_text (acted_data number session act k now)
 unfolding escape_byte
 acted_pieces number session act k now t0 t1 t2 t3 t4 t5 t6 e1 e2 e3 e4 e5 e6 =
@@ -174,34 +159,24 @@ acted_pieces number session act k now t0 t1 t2 t3 t4 t5 t6 e1 e2 e3 e4 e5 e6 =
     ∷ (codes ",\"session\":" ++ decimal session) ∷ [])
     t0 t5 t6 (codes ",\"what\":\"acted\"}") (t1, e1, (t2, e2, (t3, e3, (t4, e4, (t5, e5, refl))))) e6
 
-pub settled_pieces : (number session upto : ℕ) (t0 t1 t2 t3 t4 : List ℕ)
-    → t1 ≡ t0 ++ (codes "{\"entry\":" ++ decimal number)
-    → t2 ≡ t1 ++ (codes ",\"session\":" ++ decimal session)
-    → t3 ≡ t2 ++ (codes ",\"settled\":" ++ decimal upto)
-    → t4 ≡ t3 ++ codes ",\"what\":\"settled\"}"
-    → t4 ≡ t0 ++ compact_text (settled_data number session upto)
+pub settled_pieces : (number session upto : ℕ) (t0 t1 t2 t3 t4 : List ℕ) → t1 ≡ t0 ++ (codes "{\"entry\":" ++ decimal number)
+    → t2 ≡ t1 ++ (codes ",\"session\":" ++ decimal session) → t3 ≡ t2 ++ (codes ",\"settled\":" ++ decimal upto)
+    → t4 ≡ t3 ++ codes ",\"what\":\"settled\"}" → t4 ≡ t0 ++ compact_text (settled_data number session upto)
 unfolding escape_byte
 settled_pieces number session upto t0 t1 t2 t3 t4 e1 e2 e3 e4 =
     grown ((codes "{\"entry\":" ++ decimal number) ∷ (codes ",\"session\":" ++ decimal session)
     ∷ (codes ",\"settled\":" ++ decimal upto) ∷ [])
     t0 t3 t4 (codes ",\"what\":\"settled\"}") (t1, e1, (t2, e2, (t3, e3, refl))) e4
 
-given_of : (name session standing t0 t1 t2 t3 t4 t5 : List ℕ)
-    → t1 ≡ t0 ++ codes "{\"name\":"
-    → t2 ≡ t1 ++ name
-    → t3 ≡ t2 ++ (codes ",\"session\":" ++ session)
-    → t4 ≡ t3 ++ (codes ",\"standing\":" ++ standing)
-    → t5 ≡ t4 ++ codes "}"
+given_of : (name session standing t0 t1 t2 t3 t4 t5 : List ℕ) → t1 ≡ t0 ++ codes "{\"name\":" → t2 ≡ t1 ++ name
+    → t3 ≡ t2 ++ (codes ",\"session\":" ++ session) → t4 ≡ t3 ++ (codes ",\"standing\":" ++ standing) → t5 ≡ t4 ++ codes "}"
     → t5 ≡ t0 ++ (codes "{\"name\":"
     ++ (name ++ (codes ",\"session\":" ++ (session ++ (codes ",\"standing\":" ++ (standing ++ codes "}"))))))
 given_of name session standing t0 t1 t2 t3 t4 t5 e1 e2 e3 e4 e5 = rw (e5, e4, e3, e2, e1) (simp append_assoc)
 
-pub given_pieces : (name : Option (List ℕ)) (session standing : ℕ) (t0 t1 t2 t3 t4 t5 : List ℕ)
-    → t1 ≡ t0 ++ codes "{\"name\":"
-    → t2 ≡ t1 ++ compact_text (name_data name)
-    → t3 ≡ t2 ++ (codes ",\"session\":" ++ decimal session)
-    → t4 ≡ t3 ++ (codes ",\"standing\":" ++ decimal standing)
-    → t5 ≡ t4 ++ codes "}"
+pub given_pieces : (name : Option (List ℕ)) (session standing : ℕ) (t0 t1 t2 t3 t4 t5 : List ℕ) → t1 ≡ t0 ++ codes "{\"name\":"
+    → t2 ≡ t1 ++ compact_text (name_data name) → t3 ≡ t2 ++ (codes ",\"session\":" ++ decimal session)
+    → t4 ≡ t3 ++ (codes ",\"standing\":" ++ decimal standing) → t5 ≡ t4 ++ codes "}"
     → t5 ≡ t0 ++ compact_text (session_data (record { name = name; session = session; standing = standing }))
 unfolding escape_byte
 given_pieces name session standing t0 t1 t2 t3 t4 t5 e1 e2 e3 e4 e5 =

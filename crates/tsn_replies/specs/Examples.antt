@@ -1,11 +1,15 @@
 -- Worked examples: the line round a shown record, entries and counters with their text.
 use Rattle.std.specs.Prelude.{ℕ, List, [], ◌∷◌, ◌++◌, true, false, Some, None, codes}
+use Rattle.tsn_bridge.specs.declared.reply.Reply.TheVariants as replies
 use Rattle.tsn_chain.specs.declared.data.FilterData.{FilterData}
+use Rattle.tsn_chain.specs.declared.frame.DropCause.{DropCause}
+use Rattle.tsn_chain.specs.declared.frame.Verdict.TheVariants as verdicts
 use Rattle.tsn_chain.specs.declared.state.ListCounters.{ListCounters}
 use Rattle.tsn_edit.specs.Parts.{Change, inverse}
 use Rattle.tsn_journal.specs.declared.entries.Act.TheVariants.{Apply}
 use Rattle.tsn_journal.specs.declared.entries.Entry.{Entry}
 use Rattle.tsn_journal.specs.declared.entries.What.TheVariants.{Made, Undone, Redone, Acted, Settled}
+use Rattle.tsn_replies.specs.Replies.{reply_text}
 use Rattle.tsn_types.specs.Examples.{a_filter, a_gate, a_meter}
 use Rattle.tsn_types.specs.declared.keys.Key.TheVariants as keys
 use Rattle.tsn_types.specs.declared.records.Record.TheVariants as records
@@ -13,6 +17,10 @@ use Rattle.tsn_types.specs.declared.records.Record.TheVariants as records
 -- the line that shows the record of a text
 abbrev pub shown_line : List ℕ → List ℕ → List ℕ
 shown_line key text = codes "{\"key\":\"" ++ key ++ codes "\",\"record\":" ++ text ++ codes "}\n"
+
+-- the line of a frame that filter 3 drops for that cause
+abbrev pub dropped_line : DropCause → List ℕ
+dropped_line cause = reply_text (replies.Framed (verdicts.Dropped 3 700 cause))
 
 -- a filter is removed
 abbrev pub a_removal : Change

@@ -8,7 +8,7 @@ ghost use Rattle.tsn_chain.specs.declared.state.Counters.TheVariants as counters
 ghost use Rattle.tsn_chain.specs.declared.state.State.TheVariants as states;
 ghost use Rattle.tsn_types.specs.Examples.{a_port, a_filter, a_gate, a_meter};
 ghost use Rattle.tsn_records.specs.Examples.{port_text, filter_text, gate_text, meter_text};
-ghost use Rattle.tsn_replies.specs.Examples.{shown_line, a_removal_undone, removal_undone_text, a_removal_redone, removal_redone_text, a_batch_redone, batch_redone_text, an_apply, apply_text, a_settle, a_list, a_counted_filter, port_counters_text, filter_counters_text, gate_counters_text};
+ghost use Rattle.tsn_replies.specs.Examples.{dropped_line, shown_line, a_removal_undone, removal_undone_text, a_removal_redone, removal_redone_text, a_batch_redone, batch_redone_text, an_apply, apply_text, a_settle, a_list, a_counted_filter, port_counters_text, filter_counters_text, gate_counters_text};
 ghost use Rattle.tsn_replies.specs.Replies.{reply_text};
 ghost use Rattle.tsn_types.specs.declared.keys.Key.TheVariants as keys;
 ghost use Rattle.tsn_types.specs.declared.records.Record.TheVariants as records;
@@ -25,36 +25,25 @@ pub fn replies_are_spelled()
     ensures settled { reply_text (replies.Settled 4 2) ≡ codes "{\"entry\":4,\"settled\":2}\n" }
     ensures acted { reply_text (replies.Acted (Some 3000) 4 2500)
         ≡ codes "{\"change\":3000,\"entry\":4,\"now\":2500}\n" }
-    ensures no_change { reply_text (replies.Acted None 5 2500)
-        ≡ codes "{\"change\":null,\"entry\":5,\"now\":2500}\n" }
+    ensures no_change { reply_text (replies.Acted None 5 2500) ≡ codes "{\"change\":null,\"entry\":5,\"now\":2500}\n" }
     ensures passed { reply_text (replies.Framed (verdicts.Passed (Some 3) 700 5 true))
         ≡ codes "{\"filter\":3,\"now\":700,\"priority\":5,\"verdict\":\"pass\",\"yellow\":true}\n" }
     ensures unmatched { reply_text (replies.Framed (verdicts.Passed None 700 0 false))
         ≡ codes "{\"filter\":null,\"now\":700,\"priority\":0,\"verdict\":\"pass\",\"yellow\":false}\n" }
-    ensures blocked { reply_text (replies.Framed (verdicts.Dropped 3 700 causes.Blocked))
-        ≡ codes "{\"filter\":3,\"now\":700,\"verdict\":\"blocked\"}\n" }
-    ensures oversize { reply_text (replies.Framed (verdicts.Dropped 3 700 causes.Oversize))
-        ≡ codes "{\"filter\":3,\"now\":700,\"verdict\":\"oversize\"}\n" }
-    ensures closed { reply_text (replies.Framed (verdicts.Dropped 3 700 causes.Closed))
-        ≡ codes "{\"filter\":3,\"now\":700,\"verdict\":\"closed\"}\n" }
-    ensures octets { reply_text (replies.Framed (verdicts.Dropped 3 700 causes.Octets))
-        ≡ codes "{\"filter\":3,\"now\":700,\"verdict\":\"octets\"}\n" }
-    ensures red { reply_text (replies.Framed (verdicts.Dropped 3 700 causes.Red))
-        ≡ codes "{\"filter\":3,\"now\":700,\"verdict\":\"red\"}\n" }
-    ensures yellow { reply_text (replies.Framed (verdicts.Dropped 3 700 causes.Yellow))
-        ≡ codes "{\"filter\":3,\"now\":700,\"verdict\":\"yellow\"}\n" }
+    ensures blocked { dropped_line causes.Blocked ≡ codes "{\"filter\":3,\"now\":700,\"verdict\":\"blocked\"}\n" }
+    ensures oversize { dropped_line causes.Oversize ≡ codes "{\"filter\":3,\"now\":700,\"verdict\":\"oversize\"}\n" }
+    ensures closed { dropped_line causes.Closed ≡ codes "{\"filter\":3,\"now\":700,\"verdict\":\"closed\"}\n" }
+    ensures octets { dropped_line causes.Octets ≡ codes "{\"filter\":3,\"now\":700,\"verdict\":\"octets\"}\n" }
+    ensures red { dropped_line causes.Red ≡ codes "{\"filter\":3,\"now\":700,\"verdict\":\"red\"}\n" }
+    ensures yellow { dropped_line causes.Yellow ≡ codes "{\"filter\":3,\"now\":700,\"verdict\":\"yellow\"}\n" }
     ensures port_gates { reply_text (replies.States (states.Port 129)) ≡ codes "{\"gates\":129}\n" }
-    ensures open_gate { reply_text (replies.States (states.Gate true (Some 6)))
-        ≡ codes "{\"ipv\":6,\"open\":true}\n" }
+    ensures open_gate { reply_text (replies.States (states.Gate true (Some 6))) ≡ codes "{\"ipv\":6,\"open\":true}\n" }
     ensures closed_gate { reply_text (replies.States (states.Gate false None))
         ≡ codes "{\"ipv\":null,\"open\":false}\n" }
     ensures port_counters { reply_text (replies.Counters (counters.Port a_list)) ≡ port_counters_text }
-    ensures filter_counters { reply_text (replies.Counters (counters.Filter a_counted_filter))
-        ≡ filter_counters_text }
-    ensures gate_counters { reply_text (replies.Counters (counters.Gate a_list true false))
-        ≡ gate_counters_text }
-    ensures meter_counters { reply_text (replies.Counters (counters.Meter true))
-        ≡ codes "{\"all_red\":true}\n" }
+    ensures filter_counters { reply_text (replies.Counters (counters.Filter a_counted_filter)) ≡ filter_counters_text }
+    ensures gate_counters { reply_text (replies.Counters (counters.Gate a_list true false)) ≡ gate_counters_text }
+    ensures meter_counters { reply_text (replies.Counters (counters.Meter true)) ≡ codes "{\"all_red\":true}\n" }
     ensures range { reply_text (replies.Refused (refusals.Range fields.Key))
         ≡ codes "{\"field\":\"key\",\"refused\":4,\"why\":\"range\"}\n" }
     ensures dangling { reply_text (replies.Refused (refusals.Dangling (keys.Gate 9)))
@@ -69,8 +58,7 @@ pub fn replies_are_spelled()
         ≡ codes "{\"other\":4,\"refused\":13,\"why\":\"redo_conflict\"}\n" }
     ensures settled_already { reply_text (replies.Refused (refusals.Settled 2))
         ≡ codes "{\"refused\":19,\"upto\":2,\"why\":\"settled\"}\n" }
-    ensures memory { reply_text (replies.Refused refusals.Memory)
-        ≡ codes "{\"refused\":18,\"why\":\"memory\"}\n" }
+    ensures memory { reply_text (replies.Refused refusals.Memory) ≡ codes "{\"refused\":18,\"why\":\"memory\"}\n" }
 {}
 
 /// The text of records, of numbers of instances, of sessions and of a setup.

@@ -2,7 +2,7 @@
 //!
 //! A short reply is spelled in a buffer of fixed size and goes out in one piece; a record and a list go out in
 //! as many as they fill. No reply takes memory.
-ghost use Rattle.std.specs.Prelude.{◌≡◌, ◌+◌, ◌≤◌, ◌++◌, [], length, true, IfErr, OnOk, OnErr, codes};
+ghost use Rattle.std.specs.Prelude.{◌≡◌, ◌+◌, ◌≤◌, ◌++◌, [], length, true, IfErr, OnOk, OnErr, codes, decimal};
 ghost use Rattle.std.specs.Io.KnownBytes.{Appends};
 ghost use Rattle.tsn_types.specs.Lent.{lent_record};
 ghost use Rattle.tsn_types.specs.Refusals.{name_of, field_name};
@@ -15,9 +15,9 @@ ghost use Rattle.tsn_bytes.specs.declared.bytes.Fault.TheVariants.{Write};
 use crate::running::{push_act, push_counters, push_state, push_verdict};
 use crate::sessions::write_sessions;
 use crate::setup::write_setup;
-use crate::shown::{lent, push_key, write_ids, write_lent_record};
+use crate::shown::{lent, push_key, push_number, write_ids, write_lent_record};
 use crate::text::{CAPACITY, ShortText};
-use crate::told::{write_entries, write_kept_entries};
+use crate::told::{write_entries, write_told};
 use tsn_bridge::reply::Reply;
 use tsn_bytes::{ByteOut, Fault, put_all};
 use tsn_journal::entries::MarkedEntry;
@@ -119,54 +119,31 @@ fn push_refusal(text: &mut ShortText, refusal: &Refusal)
     text.push("\"}\n");
 }
 
+// The line of a number behind its name.
+#[inline(always)]
+fn push_one(text: &mut ShortText, name: &str, number: u64)
+    requires { (text.old ≡ []) × (length name.now ≤ 16) }
+    ensures { text.new ≡ name.now ++ decimal number ++ codes "}\n" }
+{
+    push_number(text, name, number);
+    text.push("}\n");
+}
+
 fn push_session(text: &mut ShortText, session: u32)
     requires { text.old ≡ [] }
     ensures { text.new ≡ reply_text (Reply.Session session) }
 {
-    text.push("{\"session\":");
-    text.push_number(u64::from(session));
-    text.push("}\n");
+    push_one(text, "{\"session\":", u64::from(session));
 }
 
-fn push_entry(text: &mut ShortText, entry: u64)
-    requires { text.old ≡ [] }
-    ensures { text.new ≡ reply_text (Reply.Entry entry) }
+// The line of two of them.
+#[inline(always)]
+fn push_two(text: &mut ShortText, name: &str, number: u64, other_name: &str, other: u64)
+    requires { (text.old ≡ []) × (length name.now ≤ 16) × (length other_name.now ≤ 16) }
+    ensures { text.new ≡ name.now ++ decimal number ++ other_name.now ++ decimal other ++ codes "}\n" }
 {
-    text.push("{\"entry\":");
-    text.push_number(entry);
-    text.push("}\n");
-}
-
-fn push_entry_of(text: &mut ShortText, entry: u64, of: u64)
-    requires { text.old ≡ [] }
-    ensures { text.new ≡ reply_text (Reply.EntryOf entry of) }
-{
-    text.push("{\"entry\":");
-    text.push_number(entry);
-    text.push(",\"of\":");
-    text.push_number(of);
-    text.push("}\n");
-}
-
-fn push_taken_back(text: &mut ShortText, count: u64, entry: u64)
-    requires { text.old ≡ [] }
-    ensures { text.new ≡ reply_text (Reply.TakenBack count entry) }
-{
-    text.push("{\"count\":");
-    text.push_number(count);
-    text.push(",\"entry\":");
-    text.push_number(entry);
-    text.push("}\n");
-}
-
-fn push_settled(text: &mut ShortText, entry: u64, settled: u64)
-    requires { text.old ≡ [] }
-    ensures { text.new ≡ reply_text (Reply.Settled entry settled) }
-{
-    text.push("{\"entry\":");
-    text.push_number(entry);
-    text.push(",\"settled\":");
-    text.push_number(settled);
+    push_number(text, name, number);
+    push_number(text, other_name, other);
     text.push("}\n");
 }
 
@@ -232,19 +209,19 @@ pub fn write_reply_by<W: ByteOut>(
             put_text(writer, text)
         }
         Reply::Entry { entry } => {
-            push_entry(text, *entry);
+            push_one(text, "{\"entry\":", *entry);
             put_text(writer, text)
         }
         Reply::EntryOf { entry, of } => {
-            push_entry_of(text, *entry, *of);
+            push_two(text, "{\"entry\":", *entry, ",\"of\":", *of);
             put_text(writer, text)
         }
         Reply::TakenBack { count, entry } => {
-            push_taken_back(text, *count, *entry);
+            push_two(text, "{\"count\":", *count, ",\"entry\":", *entry);
             put_text(writer, text)
         }
         Reply::Settled { entry, settled } => {
-            push_settled(text, *entry, *settled);
+            push_two(text, "{\"entry\":", *entry, ",\"settled\":", *settled);
             put_text(writer, text)
         }
         Reply::Acted { change, entry, now } => {
@@ -298,5 +275,5 @@ pub fn write_kept<W: ByteOut>(writer: &mut W, entries: &[MarkedEntry]) -> Result
     ensures cut { OnErr result
         (IsCut (W.taken writer.old) (W.taken writer.new) (reply_text (Reply.Entries (entries_of entries.now)))) }
 {
-    write_kept_entries(writer, &mut ShortText::new(), entries)
+    write_told(writer, &mut ShortText::new(), entries)
 }

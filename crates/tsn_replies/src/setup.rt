@@ -8,9 +8,9 @@ ghost use Rattle.tsn_bytes.specs.Bytes.{IsCut};
 ghost use Rattle.tsn_bytes.specs.declared.bytes.Fault.TheVariants.{Write};
 ghost use Rattle.tsn_replies.specs.Told.{setup_data};
 
-use crate::shown::make_room;
+use crate::shown::{Written, make_room};
 use crate::text::{CAPACITY, ShortText};
-use tsn_bytes::{ByteOut, Fault, put_all};
+use tsn_bytes::{ByteOut, put_all};
 
 /// The most bytes that stand for one.
 pub const LONGEST_ESCAPE: usize = 6;
@@ -58,11 +58,7 @@ pub(crate) fn push_escaped(text: &mut ShortText, byte: u8)
 
 /// Writes the line of a setup by way of an empty text. Its one fault is `Write`; what went out is then a front of the
 /// line.
-pub fn write_setup<W: ByteOut>(
-    writer: &mut W,
-    text: &mut ShortText,
-    setup: &[u8],
-) -> Result<(), Fault>
+pub fn write_setup<W: ByteOut>(writer: &mut W, text: &mut ShortText, setup: &[u8]) -> Written
     requires { text.old ≡ [] }
     ensures ok { OnOk result (Appends (W.taken writer.old) (W.taken writer.new)
         (compact_text (setup_data setup.now) ++ codes "\n")) }

@@ -291,6 +291,9 @@ impl ShownItem for GateEntry {
     }
 }
 
+/// What a write comes to.
+pub type Written = Result<(), Fault>;
+
 /// Writes what is held, unless there is room behind it for one item more.
 pub fn make_room<W: ByteOut>(writer: &mut W, text: &mut ShortText) -> Result<(), Fault>
     ensures ok { OnOk result (

@@ -6,11 +6,12 @@ ghost use Rattle.tsn_edit.specs.Changes.{keys_of};
 ghost use Rattle.tsn_replies.specs.Pieces.{keys_piece, taking_back_front, told_line};
 ghost use Rattle.tsn_replies.specs.Told.{act_name, key_data, made_data, acted_data, settled_data, entry_data, entries_data, kept_data};
 ghost use Rattle.tsn_replies.specs.Writing.{Writes};
-ghost use Rattle.tsn_journal.specs.Marks.{entries_of};
 
-use crate::shown::{LONGEST_ITEM, LONGEST_KEY, ShownItem, push_key, push_number, write_listed};
+use crate::shown::{
+    LONGEST_ITEM, LONGEST_KEY, ShownItem, Written, push_key, push_number, write_listed,
+};
 use crate::text::{CAPACITY, ShortText};
-use tsn_bytes::{ByteOut, Fault};
+use tsn_bytes::ByteOut;
 use tsn_edit::{Change, MOST_PARTS, Part};
 use tsn_journal::entries::{Act, Entry, MarkedEntry, What};
 use tsn_types::keys::Key;
@@ -173,43 +174,26 @@ impl ShownItem for MarkedEntry {
     }
 }
 
-// Writes the line of entries in either form, in their order.
-fn write_told<W: ByteOut, I: ShownItem>(
+/// Writes the line of entries in either form, in their order, by way of an empty text. Its one fault is `Write`; what
+/// went out is then a front of the line.
+pub fn write_told<W: ByteOut, I: ShownItem>(
     writer: &mut W,
     text: &mut ShortText,
-    entries: &[I],
-) -> Result<(), Fault>
+    all: &[I],
+) -> Written
     requires { text.old ≡ [] }
     ensures { Writes result (W.taken writer.old) (W.taken writer.new) (W.has_failed writer.old) (W.has_failed writer.new)
-        (told_line (map I.shown entries.now)) }
+        (told_line (map I.shown all.now)) }
 {
     text.push("{\"entries\":[");
-    write_listed(writer, text, entries, b"}\n")
+    write_listed(writer, text, all, b"}\n")
 }
 
-/// Writes the line of entries, in their order, by way of an empty text. Its one fault is `Write`; what went out is then
-/// a front of the line.
-pub fn write_entries<W: ByteOut>(
-    writer: &mut W,
-    text: &mut ShortText,
-    entries: &[Entry],
-) -> Result<(), Fault>
+/// Writes the line of entries, as `write_told` does.
+pub fn write_entries<W: ByteOut>(writer: &mut W, text: &mut ShortText, entries: &[Entry]) -> Written
     requires { text.old ≡ [] }
     ensures { Writes result (W.taken writer.old) (W.taken writer.new) (W.has_failed writer.old) (W.has_failed writer.new)
         (compact_text (entries_data entries.now) ++ codes "\n") }
 {
     write_told(writer, text, entries)
-}
-
-/// Writes the line of entries as the journal keeps them, as `write_entries` does that of copies of them.
-pub fn write_kept_entries<W: ByteOut>(
-    writer: &mut W,
-    text: &mut ShortText,
-    kept: &[MarkedEntry],
-) -> Result<(), Fault>
-    requires { text.old ≡ [] }
-    ensures { Writes result (W.taken writer.old) (W.taken writer.new) (W.has_failed writer.old) (W.has_failed writer.new)
-        (compact_text (entries_data (entries_of kept.now)) ++ codes "\n") }
-{
-    write_told(writer, text, kept)
 }

@@ -51,10 +51,6 @@ abbrev pub setup_of_data : Data → Result (List ℕ) NoSetup
 setup_of_data d = setup_of_version (or_no_journal (number_at (codes "journal") d)) d
 
 -- bytes that are no JSON value are no first command
-abbrev pub or_none : Option Data → Result Data NoSetup
-or_none None = Err NoJournal
-or_none (Some d) = Ok d
-
 abbrev pub setup_of_read : Option Data → Result (List ℕ) NoSetup
 setup_of_read None = Err NoJournal
 setup_of_read (Some d) = setup_of_data d

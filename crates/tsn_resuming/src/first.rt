@@ -3,13 +3,14 @@
 ghost use Rattle.std.specs.Prelude.{◌≡◌, IfOk, Ok, string_bytes};
 ghost use Rattle.serde_json.specs.View.{view};
 ghost use Rattle.tsn_records.specs.Answers.{IsOrMemory};
-ghost use Rattle.tsn_wire.specs.Reading.{data_of};
-ghost use Rattle.tsn_resuming.specs.First.{Finds, first_data, first_of, first_text, or_none, seen, setup_in, setup_of_data};
+ghost use Rattle.tsn_resuming.specs.First.{Finds, first_data, first_of, first_text, seen, setup_in, setup_of_data};
 
 use serde_json::{Value, json};
 use std::alloc::{AllocError, Global};
 use tsn_records::members::{has_members, number_at, text_at};
+use tsn_records::unread::Unread;
 use tsn_types::refusals::Refusal;
+use tsn_wire::value_of;
 
 /// The version of a journal file that is written.
 const VERSION: u64 = 2;
@@ -74,17 +75,6 @@ fn setup_of_value(value: &Value) -> Result<&str, NoSetup>
     }
 }
 
-// The value that the command is.
-fn value_of(alloc: Global, command: &[u8]) -> Result<Value, NoSetup>
-    ensures { Finds (seen view result) (or_none (data_of command.now)) }
-{
-    match Value::from_slice(alloc, command) {
-        Ok(value) => Ok(value),
-        Err(error) if error.is_memory() => Err(NoSetup::Memory),
-        Err(_) => Err(NoSetup::NoJournal),
-    }
-}
-
 // A copy of the setup's text.
 fn copied(alloc: Global, setup: &str) -> Result<Vec<u8>, NoSetup>
     ensures { Finds (seen (λ setup. setup.items) result) (Ok setup.now) }
@@ -102,7 +92,8 @@ pub fn setup_in(alloc: Global, command: &[u8]) -> Result<Vec<u8>, NoSetup>
 {
     let value = match value_of(alloc, command) {
         Ok(value) => value,
-        Err(why) => return Err(why),
+        Err(Unread::Memory) => return Err(NoSetup::Memory),
+        Err(_) => return Err(NoSetup::NoJournal),
     };
     match setup_of_value(&value) {
         Ok(setup) => copied(alloc, setup),

@@ -216,6 +216,30 @@ fn find_first<R: ByteIn>(
     Err(StartFault::Memory)
 }
 
+// The bridge that the first line of the file opens.
+fn begin_reading<R: ByteIn, W: Watcher>(
+    alloc: Global,
+    file: &mut R,
+    piece: &mut [u8],
+    reader: &mut Reader,
+    given: Option<&[u8]>,
+    watcher: &mut W,
+) -> Result<Bridge, StartFault>
+    requires { 0 < length piece.old }
+    ensures begun { (before : Option (List ℕ)) → IsFed before (R.remaining file.old) [] reader.old →
+        IfOk result (HasBegun before (R.remaining file.new) (option_map (λ own. own.now) given.entry) reader.new) }
+    ensures reached { IfOk result IsReached }
+    ensures worked { OnOk result (R.has_failed file.new ≡ R.has_failed file.old) }
+    ensures fault { (before : Option (List ℕ)) → IsFed before (R.remaining file.old) [] reader.old →
+        IfErr result (Fails before (R.remaining file.new) (R.has_failed file.new) (option_map (λ own. own.now) given.entry)) }
+{
+    match find_first(file, piece, reader) {
+        Ok(true) => begin(alloc, reader.command(), reader.stamp(), given, watcher),
+        Ok(false) => Err(StartFault::NoJournal),
+        Err(why) => Err(why),
+    }
+}
+
 // Reads the rest of the file, and steps the bridge by each line.
 fn step_all<R: ByteIn, W: Watcher>(
     alloc: Global,
@@ -246,30 +270,6 @@ fn step_all<R: ByteIn, W: Watcher>(
         }
     }
     Err(StartFault::Memory)
-}
-
-// The bridge that the first line of the file opens.
-fn begin_reading<R: ByteIn, W: Watcher>(
-    alloc: Global,
-    file: &mut R,
-    piece: &mut [u8],
-    reader: &mut Reader,
-    given: Option<&[u8]>,
-    watcher: &mut W,
-) -> Result<Bridge, StartFault>
-    requires { 0 < length piece.old }
-    ensures begun { (before : Option (List ℕ)) → IsFed before (R.remaining file.old) [] reader.old →
-        IfOk result (HasBegun before (R.remaining file.new) (option_map (λ own. own.now) given.entry) reader.new) }
-    ensures reached { IfOk result IsReached }
-    ensures worked { OnOk result (R.has_failed file.new ≡ R.has_failed file.old) }
-    ensures fault { (before : Option (List ℕ)) → IsFed before (R.remaining file.old) [] reader.old →
-        IfErr result (Fails before (R.remaining file.new) (R.has_failed file.new) (option_map (λ own. own.now) given.entry)) }
-{
-    match find_first(file, piece, reader) {
-        Ok(true) => begin(alloc, reader.command(), reader.stamp(), given, watcher),
-        Ok(false) => Err(StartFault::NoJournal),
-        Err(why) => Err(why),
-    }
 }
 
 /// A bridge that goes on from a journal file: it begins with the setup in the first line, which must be the one that is

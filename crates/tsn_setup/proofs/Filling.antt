@@ -12,7 +12,7 @@ use Rattle.tsn_records.specs.declared.unread.Unread.{Unread}
 use Rattle.tsn_records.specs.Records.{port_entry_shape, gate_entry_shape}
 use Rattle.tsn_setup.specs.Toml.{are_among, items_list, as_toml}
 use Rattle.tsn_setup.specs.Plain.{Tray, number, flag, port_list, gate_list, tables, Stands, IsOpen, Trays, tray_at, put_tray, AreOpen, Tells, names, TellsAll}
-use Rattle.tsn_records.proofs.NameOrder.{order, same_bytes, same_name, same_text}
+use Rattle.tsn_records.proofs.NameOrder.{at_order, order, same_bytes, same_name, same_text}
 use Rattle.tsn_setup.proofs.Rows.{is_among, known_at, all_among}
 
 -- ---- nodes and the members that they stand for
@@ -35,18 +35,13 @@ unequal false k l is other = refl
 differ : (k l : List ℕ) → (k ≡ l → ⊥) → same_key k l ≡ false
 differ k l other = is_eq-slice_cmp k l ∙ unequal (bytes_eq k l) k l refl other
 
-insert_other_at : (o : Ordering) (l k m : List ℕ) (x y : Node) (ns : Nodes) → order k m ≡ o → (l ≡ k → ⊥)
-    → get_node l (insert k x ns) ≡ get_node l ns
-    → get_node l (match_ordering o (node k x (node m y ns)) (node m x ns) (node m y (insert k x ns))) ≡ get_node l (node m y ns)
-insert_other_at Less l k m x y ns is other later = rw (differ l k other) refl
-insert_other_at Equal l k m x y ns is other later =
-    let apart : l ≡ m → ⊥ = λ same. other (same ∙ sym (same_name k m is)) in
-    rw (differ l m apart) refl
-insert_other_at Greater l k m x y ns is other later = rw later refl
-
 pub insert_other : (l k : List ℕ) (x : Node) (ns : Nodes) → (l ≡ k → ⊥) → get_node l (insert k x ns) ≡ get_node l ns
 insert_other l k x no_nodes other = rw (differ l k other) refl
-insert_other l k x (node m y ns) other = insert_other_at (order k m) l k m x y ns refl other (insert_other l k x ns other)
+insert_other l k x (node m y ns) other =
+    at_order (λ found. get_node l found ≡ get_node l (node m y ns)) (order k m)
+    (node k x (node m y ns)) (node m x ns) (node m y (insert k x ns)) (λ _. rw (differ l k other) refl)
+    (λ is. let apart : l ≡ m → ⊥ = λ same. other (same ∙ sym (same_name k m is)) in rw (differ l m apart) refl)
+    (λ _. rw (insert_other l k x ns other) refl)
 
 replace_other_at : (b : Bool) (l k m : List ℕ) (x y : Node) (ns : Nodes) → same_key k m ≡ b → (l ≡ k → ⊥)
     → get_node l (replace k x ns) ≡ get_node l ns

@@ -46,21 +46,13 @@ record LimitsGiven (d : Data) (x : LimitsDraft) : Type 0 where
 limits_given : (d : Data) (x : LimitsDraft) → limits_shape d ≡ Ok x → LimitsGiven d x
 unfolding limits_shape
 limits_given d x h =
-    steps (number_or_none_at (codes "ports") d) _ x h (λ ports ports_is ports_next.
-    steps (number_or_none_at (codes "max_filters") d) _ x ports_next (λ max_filters max_filters_is max_filters_next.
-    steps (number_or_none_at (codes "max_gates") d) _ x max_filters_next (λ max_gates max_gates_is max_gates_next.
-    steps (number_or_none_at (codes "max_meters") d) _ x max_gates_next (λ max_meters max_meters_is max_meters_next.
-    steps (number_or_none_at (codes "list_max") d) _ x max_meters_next (λ list_max list_max_is list_max_next.
-    let draft : LimitsDraft = record
-    { ports = ports; max_filters = max_filters; max_gates = max_gates; max_meters = max_meters; list_max = list_max } in
-    let known : LimitsGiven d draft = record {
-      ports = ports_is;
-      max_filters = max_filters_is;
-      max_gates = max_gates_is;
-      max_meters = max_meters_is;
-      list_max = list_max_is;
-    } in
-    subst (LimitsGiven d) (only (Ok draft) draft x refl list_max_next) known)))))
+    steps _ _ x h (λ ports ports_is ports_next. steps _ _ x ports_next (λ filters filters_is filters_next.
+    steps _ _ x filters_next (λ gates gates_is gates_next. steps _ _ x gates_next (λ meters meters_is meters_next.
+    steps _ _ x meters_next (λ list list_is list_next.
+    let draft : LimitsDraft = record { ports = ports; max_filters = filters; max_gates = gates; max_meters = meters; list_max = list } in
+    let known : LimitsGiven d draft = record
+    { ports = ports_is; max_filters = filters_is; max_gates = gates_is; max_meters = meters_is; list_max = list_is } in
+    subst (LimitsGiven d) (only (Ok draft) draft x refl list_next) known)))))
 
 instances_fit : Within 1 most_instances 16
 instances_fit = (omega arith, omega arith)

@@ -1,8 +1,7 @@
 -- What a document is read as holds the members of each table in ascending order of their names.
-use Rattle.std.proofs.Common.{◌≡◌, ℕ, zero, suc, List, [], ◌∷◌, ◌&&◌, ◌==◌, Bool, true, false, cond, Option, Some, None, IfSome, option_map, Ordering, Less, Equal, Greater, refl, subst, drop, length, slice_index}
+use Rattle.std.proofs.Common.{◌≡◌, ℕ, zero, suc, List, [], ◌∷◌, ◌&&◌, ◌==◌, Bool, true, false, cond, Option, Some, None, IfSome, option_map, Less, refl, subst, drop, length, slice_index}
 use Rattle.std.specs.Prelude.{⊤}
 use Rattle.std.specs.Str.{is_utf8}
-use Rattle.std.specs.Ordering.{match_ordering}
 use Rattle.std.proofs.lemmas.Cmp.{nat_list_cmp_total}
 use Rattle.toml_parser.specs.Lexical.{Read, left_bracket, left_brace, right_bracket, right_brace, first, skip_ws, skip_blank}
 use Rattle.toml_parser.specs.Strings.{Key, quoted, starts_string, recursion_limit}
@@ -12,7 +11,7 @@ use Rattle.toml_parser.specs.declared.scalar.Scalar.TheVariants.{Boolean}
 use Rattle.toml.specs.Data.{Data, array, table, Items, no_items, item, Members, no_members, member, same_key, push_item}
 use Rattle.toml.specs.Parse.{after_byte, after_element, key_equals, keyval, items, members, scalar_data, atom, val, header_key, expression, ends_line, line, lines, skip_bom, parse_document}
 use Rattle.toml.specs.Tables.{Origin, implicit, dotted, Node, value, open_table, open_array, Nodes, no_nodes, node, get_node, insert, replace, close_node, close, Edit, header_node, dot_node, by_header, by_dot, along_header, along_dots, Definition, key_value, std_table, array_table, Expression, new_node, redefine, at_found, at_key, put, Document, define_as, define}
-use Rattle.tsn_records.proofs.NameOrder.{any, if_and_then, if_cond, if_map, order, turned}
+use Rattle.tsn_records.proofs.NameOrder.{any, at_order, if_and_then, if_cond, if_map, order, turned}
 use Rattle.tsn_setup.specs.Setups.{document_of}
 
 -- every name is above k
@@ -77,53 +76,37 @@ mutual
   closed no_nodes h = tt
   closed (node k x ns) h = (closed_above k ns h.0, (node_closed x h.1.0, closed ns h.1.1))
 
-above_inserted_at : (o : Ordering) (l k m : List ℕ) (x y : Node) (ns : Nodes) → order l k ≡ Less → NodesAbove l (node m y ns)
-    → NodesAbove l (insert k x ns)
-    → NodesAbove l (match_ordering o (node k x (node m y ns)) (node m x ns) (node m y (insert k x ns)))
-above_inserted_at Less l k m x y ns less h later = (less, h)
-above_inserted_at Equal l k m x y ns less h later = h
-above_inserted_at Greater l k m x y ns less h later = (h.0, later)
+by_flag : {A : Type 0} (P : A → Type 0) (b : Bool) (x y : A) → P x → P y → P (cond b x y)
+by_flag P true x y here later = here
+by_flag P false x y here later = later
 
 above_inserted : (l k : List ℕ) (x : Node) (ns : Nodes) → order l k ≡ Less → NodesAbove l ns → NodesAbove l (insert k x ns)
 above_inserted l k x no_nodes less h = (less, tt)
-above_inserted l k x (node m y ns) less h = above_inserted_at (order k m) l k m x y ns less h (above_inserted l k x ns less h.1)
-
-inserted_at : (o : Ordering) (k l : List ℕ) (x y : Node) (ns : Nodes) → order k l ≡ o → NodeOrdered x → NodesOrdered (node l y ns)
-    → NodesOrdered (insert k x ns)
-    → NodesOrdered (match_ordering o (node k x (node l y ns)) (node l x ns) (node l y (insert k x ns)))
-inserted_at Less k l x y ns is fits h later = ((is, nodes_above_below k l ns is h.0), (fits, h))
-inserted_at Equal k l x y ns is fits h later = (h.0, (fits, h.1.1))
-inserted_at Greater k l x y ns is fits h later = (above_inserted l k x ns (turned k l is) h.0, (h.1.0, later))
+above_inserted l k x (node m y ns) less h =
+    at_order (NodesAbove l) (order k m) (node k x (node m y ns)) (node m x ns) (node m y (insert k x ns))
+    (λ _. (less, h)) (λ _. h) (λ _. (h.0, above_inserted l k x ns less h.1))
 
 inserted : (k : List ℕ) (x : Node) (ns : Nodes) → NodeOrdered x → NodesOrdered ns → NodesOrdered (insert k x ns)
 inserted k x no_nodes fits h = (tt, (fits, tt))
-inserted k x (node l y ns) fits h = inserted_at (order k l) k l x y ns refl fits h (inserted k x ns fits h.1.1)
-
-above_replaced_at : (b : Bool) (l k m : List ℕ) (x y : Node) (ns : Nodes) → NodesAbove l (node m y ns) → NodesAbove l (replace k x ns)
-    → NodesAbove l (cond b (node m x ns) (node m y (replace k x ns)))
-above_replaced_at true l k m x y ns h later = h
-above_replaced_at false l k m x y ns h later = (h.0, later)
+inserted k x (node l y ns) fits h =
+    at_order NodesOrdered (order k l) (node k x (node l y ns)) (node l x ns) (node l y (insert k x ns))
+    (λ is. ((is, nodes_above_below k l ns is h.0), (fits, h))) (λ is. (h.0, (fits, h.1.1)))
+    (λ is. (above_inserted l k x ns (turned k l is) h.0, (h.1.0, inserted k x ns fits h.1.1)))
 
 above_replaced : (l k : List ℕ) (x : Node) (ns : Nodes) → NodesAbove l ns → NodesAbove l (replace k x ns)
 above_replaced l k x no_nodes h = tt
-above_replaced l k x (node m y ns) h = above_replaced_at (same_key k m) l k m x y ns h (above_replaced l k x ns h.1)
-
-replaced_at : (b : Bool) (k l : List ℕ) (x y : Node) (ns : Nodes) → NodeOrdered x → NodesOrdered (node l y ns)
-    → NodesOrdered (replace k x ns) → NodesOrdered (cond b (node l x ns) (node l y (replace k x ns)))
-replaced_at true k l x y ns fits h later = (h.0, (fits, h.1.1))
-replaced_at false k l x y ns fits h later = (above_replaced l k x ns h.0, (h.1.0, later))
+above_replaced l k x (node m y ns) h =
+    by_flag (NodesAbove l) (same_key k m) (node m x ns) (node m y (replace k x ns)) h (h.0, above_replaced l k x ns h.1)
 
 replaced : (k : List ℕ) (x : Node) (ns : Nodes) → NodeOrdered x → NodesOrdered ns → NodesOrdered (replace k x ns)
 replaced k x no_nodes fits h = tt
-replaced k x (node l y ns) fits h = replaced_at (same_key k l) k l x y ns fits h (replaced k x ns fits h.1.1)
-
-got_at : (b : Bool) (y : Node) (o : Option Node) → NodeOrdered y → IfSome o NodeOrdered → IfSome (cond b (Some y) o) NodeOrdered
-got_at true y o here later = here
-got_at false y o here later = later
+replaced k x (node l y ns) fits h =
+    by_flag NodesOrdered (same_key k l) (node l x ns) (node l y (replace k x ns)) (h.0, (fits, h.1.1))
+    (above_replaced l k x ns h.0, (h.1.0, replaced k x ns fits h.1.1))
 
 got : (k : List ℕ) (ns : Nodes) → NodesOrdered ns → IfSome (get_node k ns) NodeOrdered
 got k no_nodes h = tt
-got k (node l y ns) h = got_at (same_key k l) y (get_node k ns) h.1.0 (got k ns h.1.1)
+got k (node l y ns) h = if_cond NodeOrdered (same_key k l) (Some y) (get_node k ns) h.1.0 (got k ns h.1.1)
 
 -- ---- edits
 
@@ -222,13 +205,12 @@ items_ordered : (reads : List ℕ → Read Data) → ReadsOrdered reads → (n :
 unfolding items
 items_ordered reads ordered zero found text h = tt
 items_ordered reads ordered (suc n) found text h =
-    let start = skip_blank text in
-    if_cond (First EachOrdered) (first start == right_bracket) _ _ h (
+    if_cond (First EachOrdered) (first (skip_blank text) == right_bracket) _ _ h (
     if_and_then (First IsOrdered) (First EachOrdered) _ (λ v fits.
     if_and_then (λ _. ⊤) (First EachOrdered) (items reads n (push_item found v.0))
     (λ rest _. items_ordered reads ordered n (push_item found v.0) rest (pushed found v.0 h fits)) (after_element right_bracket v.1)
     (any (after_element right_bracket v.1)))
-    (reads start) (ordered start))
+    (reads (skip_blank text)) (ordered (skip_blank text)))
 
 members_ordered : (reads : List ℕ → Read Data) → ReadsOrdered reads → (n : ℕ) (found : Nodes) (text : List ℕ) → NodesOrdered found
     → IfSome (members reads n found text) (First AreOrdered)

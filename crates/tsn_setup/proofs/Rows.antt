@@ -9,7 +9,7 @@ use Rattle.toml.specs.Data.{Data, table, Members, no_members, member, get, get_m
 use Rattle.tsn_records.specs.declared.unread.Unread.TheVariants.{Shape}
 use Rattle.tsn_setup.specs.Toml.{are_among, has_only}
 use Rattle.tsn_setup.specs.Values.{Rows, given, put_row, table_with}
-use Rattle.tsn_records.proofs.NameOrder.{order, same_name, same_order, same_text, turned}
+use Rattle.tsn_records.proofs.NameOrder.{at_order, order, same_name, same_order, same_text, turned}
 use Rattle.tsn_setup.proofs.Ordered.{Above, IsOrdered, AreOrdered, above_below}
 
 abbrev Row : Type 0
@@ -185,18 +185,13 @@ pub members_have : (names : List (List ℕ)) (d : Data) (u : Unit {0}) → has_o
 members_have names (table ms) u h k there = known_at (is_among names k) names ms k refl (only_among (are_among names ms) u h) there
 members_have names d u h k there = cc
 
-later_at : (o : Ordering) (d : Data) (x : Option Data) → IsSome x → IsSome (match_ordering o x (Some d) x)
-later_at Less d x h = h
-later_at Equal d x h = refl
-later_at Greater d x h = h
-
 -- members of known names alone
 pub all_among : (names : List (List ℕ)) (ms : Members) → ((k : List ℕ) → IsSome (get_member k ms) → is_among names k ≡ true)
     → are_among names ms ≡ true
 all_among names no_members h = refl
 all_among names (member l d ms) h =
     let first = h l (subst IsSome (sym (first_found l d ms)) refl) in
-    rw (first, all_among names ms (λ k there. h k (later_at (order k l) d (get_member k ms) there)))
+    rw (first, all_among names ms (λ k there. h k (at_order IsSome (order k l) _ (Some d) _ (λ _. there) (λ _. refl) (λ _. there))))
 
 -- what holds of each of these names
 of_each_at : (b : Bool) (P : List ℕ → Type 0) (name k : List ℕ) (more : Bool) → bytes_eq name k ≡ b → b || more ≡ true → P name
@@ -236,16 +231,11 @@ only_these names rows h = rw (members_among names rows h)
 
 -- ---- a row that was put where it belongs
 
-put_found_at : (o : Ordering) (k : List ℕ) (d : Option Data) (row : Row) (rest : Rows) → order k row.0 ≡ o
-    → looked_up k (put_row k d rest) ≡ d
-    → looked_up k (match_ordering o ((k, d) ∷ row ∷ rest) ((k, d) ∷ rest) (row ∷ put_row k d rest)) ≡ d
-put_found_at Less k d row rest is later = rw (same_order k)
-put_found_at Equal k d row rest is later = rw (same_order k)
-put_found_at Greater k d row rest is later = rw is later
-
 pub put_found : (k : List ℕ) (d : Option Data) (rows : Rows) → looked_up k (put_row k d rows) ≡ d
 put_found k d [] = rw (same_order k)
-put_found k d (row ∷ rest) = put_found_at (order k row.0) k d row rest refl (put_found k d rest)
+put_found k d (row ∷ rest) =
+    at_order (λ found. looked_up k found ≡ d) (order k row.0) ((k, d) ∷ row ∷ rest) ((k, d) ∷ rest) (row ∷ put_row k d rest)
+    (λ _. rw (same_order k)) (λ _. rw (same_order k)) (λ is. rw is (put_found k d rest))
 
 -- names that differ
 abbrev pub differ : List ℕ → List ℕ → Bool
@@ -256,16 +246,13 @@ passed_by Less x y h = refl
 passed_by Equal x y h = cc
 passed_by Greater x y h = refl
 
-put_other_at : (o : Ordering) (j k : List ℕ) (d : Option Data) (row : Row) (rest : Rows) → order k row.0 ≡ o → differ j k ≡ true
-    → looked_up j (put_row k d rest) ≡ looked_up j rest
-    → looked_up j (match_ordering o ((k, d) ∷ row ∷ rest) ((k, d) ∷ rest) (row ∷ put_row k d rest)) ≡ looked_up j (row ∷ rest)
-put_other_at Less j k d row rest is other later = passed_by (order j k) (looked_up j (row ∷ rest)) d other
-put_other_at Equal j k d row rest is other later =
-    let apart : differ j row.0 ≡ true = subst (λ n. differ j n ≡ true) (same_name k row.0 is) other in
-    passed_by (order j k) (looked_up j rest) d other ∙ sym (passed_by (order j row.0) (looked_up j rest) row.1 apart)
-put_other_at Greater j k d row rest is other later = ap (λ x. match_ordering (order j row.0) x row.1 x) later
-
 -- others are found as before
 pub put_other : (j k : List ℕ) (d : Option Data) (rows : Rows) → differ j k ≡ true → looked_up j (put_row k d rows) ≡ looked_up j rows
 put_other j k d [] other = passed_by (order j k) None d other
-put_other j k d (row ∷ rest) other = put_other_at (order k row.0) j k d row rest refl other (put_other j k d rest other)
+put_other j k d (row ∷ rest) other =
+    at_order (λ found. looked_up j found ≡ looked_up j (row ∷ rest)) (order k row.0)
+    ((k, d) ∷ row ∷ rest) ((k, d) ∷ rest) (row ∷ put_row k d rest)
+    (λ _. passed_by (order j k) (looked_up j (row ∷ rest)) d other)
+    (λ is. let apart : differ j row.0 ≡ true = subst (λ n. differ j n ≡ true) (same_name k row.0 is) other in
+    passed_by (order j k) (looked_up j rest) d other ∙ sym (passed_by (order j row.0) (looked_up j rest) row.1 apart))
+    (λ _. ap (λ x. match_ordering (order j row.0) x row.1 x) (put_other j k d rest other))

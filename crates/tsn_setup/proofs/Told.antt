@@ -20,8 +20,8 @@ use Rattle.tsn_setup.specs.Tables.{table_shape}
 use Rattle.tsn_setup.specs.Toml.{are_among, has_only, if_given, items_list, as_toml, whole}
 use Rattle.tsn_setup.specs.Plain.{Tray, Trays, number, flag, port_list, gate_list, list_given, names, Stands, Tells, ReadsTable, ReadsEntry, ReadsLines, ReadsTableOf}
 use Rattle.tsn_setup.specs.PlainTrays.{port_entry_trays, gate_entry_trays}
-use Rattle.tsn_setup.specs.declared.plain_entries.PlainPortEntry.{PlainPortEntry}
-use Rattle.tsn_setup.specs.declared.plain_entries.PlainGateEntry.{PlainGateEntry}
+use Rattle.tsn_setup.specs.declared.drafts.PlainPortEntry.{PlainPortEntry}
+use Rattle.tsn_setup.specs.declared.drafts.PlainGateEntry.{PlainGateEntry}
 use Rattle.tsn_records.proofs.Shapes.{record_shaped, values_fit}
 
 -- a member that is given is there

@@ -8,12 +8,12 @@ use Rattle.tsn_records.specs.Members.{names_of, entry_names_of, setup_names}
 use Rattle.tsn_setup.specs.Plain.{Trays, number, flag, port_list, gate_list, tables, put_tray}
 use Rattle.tsn_setup.specs.declared.drafts.LimitsDraft.{LimitsDraft}
 use Rattle.tsn_setup.specs.declared.drafts.TableDraft.{TableDraft}
-use Rattle.tsn_setup.specs.declared.plain_entries.PlainPortEntry.{PlainPortEntry}
-use Rattle.tsn_setup.specs.declared.plain_entries.PlainGateEntry.{PlainGateEntry}
-use Rattle.tsn_setup.specs.declared.plain_tables.PlainPort.{PlainPort}
-use Rattle.tsn_setup.specs.declared.plain_tables.PlainGate.{PlainGate}
-use Rattle.tsn_setup.specs.declared.plain_tables.PlainFilter.{PlainFilter}
-use Rattle.tsn_setup.specs.declared.plain_tables.PlainMeter.{PlainMeter}
+use Rattle.tsn_setup.specs.declared.drafts.PlainPortEntry.{PlainPortEntry}
+use Rattle.tsn_setup.specs.declared.drafts.PlainGateEntry.{PlainGateEntry}
+use Rattle.tsn_setup.specs.declared.drafts.PlainPort.{PlainPort}
+use Rattle.tsn_setup.specs.declared.drafts.PlainGate.{PlainGate}
+use Rattle.tsn_setup.specs.declared.drafts.PlainFilter.{PlainFilter}
+use Rattle.tsn_setup.specs.declared.drafts.PlainMeter.{PlainMeter}
 use Rattle.tsn_setup.specs.declared.plain_documents.DocumentTables.{DocumentTables}
 
 -- what was read of a table's members, each under its name

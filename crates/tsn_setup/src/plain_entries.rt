@@ -1,18 +1,17 @@
 //! Gate control lists in the plain spelling: arrays of inline tables.
-ghost use Rattle.std.proofs.Common.{rules};
 ghost use Rattle.std.specs.Prelude.{◌≡◌, ◌<◌, Result, length, IfSome};
 ghost use Rattle.toml.specs.Data.{Data};
 ghost use Rattle.tsn_records.specs.declared.unread.Unread.{Unread};
 ghost use Rattle.tsn_setup.specs.Plain.{port_list, gate_list, ReadsEntries, ReadsEntry};
-ghost use Rattle.tsn_setup.specs.PlainTrays.{port_entry_trays, gate_entry_trays};
 ghost use Rattle.tsn_records.specs.Records.{port_entry_shape, gate_entry_shape};
 ghost use Rattle.tsn_setup.specs.Toml.{as_toml};
 
-use crate::gathered::{PlainTable, inline_table, tray};
+use crate::drafts::{PlainGateEntry, PlainPortEntry};
+use crate::gathered::inline_table;
 use crate::given::Given;
 use crate::plain::behind_element;
 use std::alloc::Global;
-use toml_parser::text::{byte_at, first, skip, skip_blank};
+use toml_parser::text::{first, skip, skip_blank};
 use tsn_records::drafts::{GateEntryDraft, PortEntryDraft};
 use tsn_types::lists::ControlList;
 
@@ -25,58 +24,6 @@ pub trait PlainEntry: Drop {
     fn entry(alloc: Global, text: &str) -> Option<(Self, &str)>
         ensures value { IfSome result (λ p. ReadsEntry shape text.now p.0 p.1.now) }
         ensures shorter { IfSome result (λ p. length p.1.now < length text.now) };
-}
-
-/// The members of a port's entry, as far as they were read.
-#[derive(Default, Drop)]
-pub struct PlainPortEntry {
-    pub gates: Option<u64>,
-    pub interval: Option<u64>,
-}
-
-impl PlainTable for PlainPortEntry {
-    ghost trays = { port_entry_trays };
-
-    ghost nesting = { 0 };
-
-    #[tactic(auto, using(crate::proofs::Values::tray_filled))]
-    fn member<'a>(&mut self, alloc: Global, text: &'a str) -> Option<&'a str> {
-        match first(text) {
-            b'g' => tray(alloc, text, "gates", &mut self.gates),
-            b'i' => tray(alloc, text, "interval", &mut self.interval),
-            _ => None,
-        }
-    }
-
-    ghost opens = { λ found h. Prim.search rules };
-}
-
-/// The members of a stream gate's entry, as far as they were read.
-#[derive(Default, Drop)]
-pub struct PlainGateEntry {
-    pub open: Option<bool>,
-    pub ipv: Option<u64>,
-    pub interval: Option<u64>,
-    pub octets: Option<u64>,
-}
-
-impl PlainTable for PlainGateEntry {
-    ghost trays = { gate_entry_trays };
-
-    ghost nesting = { 0 };
-
-    #[tactic(auto, using(crate::proofs::Values::tray_filled))]
-    fn member<'a>(&mut self, alloc: Global, text: &'a str) -> Option<&'a str> {
-        match (first(text), byte_at(text, 1)) {
-            (b'i', b'n') => tray(alloc, text, "interval", &mut self.interval),
-            (b'i', _) => tray(alloc, text, "ipv", &mut self.ipv),
-            (b'o', b'c') => tray(alloc, text, "octets", &mut self.octets),
-            (b'o', _) => tray(alloc, text, "open", &mut self.open),
-            _ => None,
-        }
-    }
-
-    ghost opens = { λ found h. Prim.search rules };
 }
 
 impl PlainEntry for PortEntryDraft {

@@ -11,13 +11,9 @@ use Rattle.tsn_spelling.proofs.Growing.{none_more, grows_on, pushed, goes_on, mo
 -- ---- records
 
 -- a record with a list: its front, the items of the list and what stands behind them
-pub record_pieces : {I : Type 0} (f : I → Data) (front end text : List ℕ) (es list : List I) (l0 t0 t1 l2 t2 t3 : List ℕ)
-    → es ≡ list
-    → front ++ (items_text false (items_of (map f list)) ++ end) ≡ text
-    → t1 ≡ t0 ++ front
-    → GoesOn l0 t1 l2 t2 (items_text false (items_of (map f es)))
-    → t3 ≡ t2 ++ end
-    → GoesOn l0 t0 l2 t3 text
+pub record_pieces : {I : Type 0} (f : I → Data) (front end text : List ℕ) (es list : List I) (l0 t0 t1 l2 t2 t3 : List ℕ) → es ≡ list
+    → front ++ (items_text false (items_of (map f list)) ++ end) ≡ text → t1 ≡ t0 ++ front
+    → GoesOn l0 t1 l2 t2 (items_text false (items_of (map f es))) → t3 ≡ t2 ++ end → GoesOn l0 t0 l2 t3 text
 record_pieces f front end text es list l0 t0 t1 l2 t2 t3 e is e1 e2 e3 =
     as_piece l0 t0 l2 t3 _ _ (ap (λ x. front ++ (items_text false (items_of (map f x)) ++ end)) e ∙ is)
     (goes_on l0 t0 l0 t1 l2 t3 _ _ (pushed l0 t0 t1 _ e1) (goes_on l0 t1 l2 t2 l2 t3 _ _ e2 (pushed l2 t2 t3 _ e3)))
@@ -42,16 +38,9 @@ begun f others l t = record {
   grows = none_more l;
 }
 
-pub one_more : {I : Type 0} (f : I → Data) (x d : I) (others : List I) (n : ℕ) (l0 t0 l1 t1 l2 t2 t3 l4 t4 : List ℕ)
-    → n < length others
-    → x ≡ get_or others n d
-    → SoFar f others n l0 t0 l1 t1
-    → l2 ++ t2 ≡ l1 ++ t1
-    → Grows l1 l2
-    → t3 ≡ t2 ++ codes ","
-    → GoesOn l2 t3 l4 t4 (compact_text (f x))
-    → Grows l2 l4
-    → SoFar f others (n + 1) l0 t0 l4 t4
+pub one_more : {I : Type 0} (f : I → Data) (x d : I) (others : List I) (n : ℕ) (l0 t0 l1 t1 l2 t2 t3 l4 t4 : List ℕ) → n < length others
+    → x ≡ get_or others n d → SoFar f others n l0 t0 l1 t1 → l2 ++ t2 ≡ l1 ++ t1 → Grows l1 l2 → t3 ≡ t2 ++ codes ","
+    → GoesOn l2 t3 l4 t4 (compact_text (f x)) → Grows l2 l4 → SoFar f others (n + 1) l0 t0 l4 t4
 one_more f x d others n l0 t0 l1 t1 l2 t2 t3 l4 t4 within is h e2 g2 e3 e4 g4 =
     let piece = 44 ∷ compact_text (f x) in
     let more : behind f (take (n + 1) others) ≡ behind f (take n others) ++ piece =
@@ -64,13 +53,8 @@ one_more f x d others n l0 t0 l1 t1 l2 t2 t3 l4 t4 within is h e2 g2 e3 e4 g4 =
     }
 
 pub all_items : {I : Type 0} (f : I → Data) (first : I) (items others : List I) (n : ℕ) (l0 t0 l1 t1 l2 t2 l3 t3 l4 t4 t5 : List ℕ)
-    → items ≡ first ∷ others
-    → length others ≤ n
-    → l1 ++ t1 ≡ l0 ++ t0
-    → GoesOn l1 t1 l2 t2 (compact_text (f first))
-    → SoFar f others n l2 t2 l3 t3
-    → l4 ++ t4 ≡ l3 ++ t3
-    → t5 ≡ t4 ++ codes "]"
+    → items ≡ first ∷ others → length others ≤ n → l1 ++ t1 ≡ l0 ++ t0 → GoesOn l1 t1 l2 t2 (compact_text (f first))
+    → SoFar f others n l2 t2 l3 t3 → l4 ++ t4 ≡ l3 ++ t3 → t5 ≡ t4 ++ codes "]"
     → GoesOn l0 t0 l4 t5 (items_text false (items_of (map f items)))
 all_items f first items others n l0 t0 l1 t1 l2 t2 l3 t3 l4 t4 t5 e all e1 e2 h e4 e5 =
     let whole : compact_text (f first) ++ (behind f (take n others) ++ codes "]") ≡ items_text false (items_of (map f items)) =

@@ -14,6 +14,7 @@ use tsn_types::names::SessionName;
 use tsn_types::numbers::Instant;
 
 /// The line of a hello.
+#[tactic(auto, unfolding(json::specs::Print::escape_byte))]
 pub fn push_hello(text: &mut ShortText, name: &Option<SessionName>)
     requires { text.old ≡ [] }
     ensures { text.new ≡ compact_text (hello_data name.now) }
@@ -29,6 +30,7 @@ pub fn push_hello(text: &mut ShortText, name: &Option<SessionName>)
 }
 
 /// The line of a command with no member but its session.
+#[tactic(auto, unfolding(json::specs::Print::escape_byte))]
 pub fn push_bare(text: &mut ShortText, word: &str, session: u32)
     requires empty { text.old ≡ [] }
     requires short { length word.now ≤ LONGEST_WORD }
@@ -40,6 +42,7 @@ pub fn push_bare(text: &mut ShortText, word: &str, session: u32)
 }
 
 /// The line of a command on a key.
+#[tactic(auto, unfolding(json::specs::Print::escape_byte))]
 pub fn push_keyed(text: &mut ShortText, word: &str, key: Key, session: u32)
     requires empty { text.old ≡ [] }
     requires short { length word.now ≤ LONGEST_WORD }
@@ -52,6 +55,7 @@ pub fn push_keyed(text: &mut ShortText, word: &str, key: Key, session: u32)
 }
 
 /// The line of an act on a gate list at an instant.
+#[tactic(auto, unfolding(json::specs::Print::escape_byte))]
 pub fn push_act(text: &mut ShortText, word: &str, key: Key, now: Instant, session: u32)
     requires empty { text.old ≡ [] }
     requires short { length word.now ≤ LONGEST_WORD }
@@ -105,8 +109,8 @@ pub fn push_since(text: &mut ShortText, after: u32, session: u32)
     ensures { text.new ≡ compact_text (asked_data session after) }
 {
     push_number(text, "{\"after\":", u64::from(after));
-    push_number(text, ",\"do\":\"since\",\"s\":", u64::from(session));
-    text.push("}");
+    text.push(",\"do\":\"since\"");
+    push_session(text, session);
 }
 
 // Up to the session.
@@ -123,6 +127,7 @@ fn list_front(kind: Kind) -> &'static [u8]
 }
 
 /// The line that asks for the numbers of the instances of a kind.
+#[tactic(auto, unfolding(json::specs::Print::escape_byte))]
 pub fn push_list(text: &mut ShortText, kind: Kind, session: u32)
     requires { text.old ≡ [] }
     ensures { text.new ≡ compact_text (listed_data session (kind_text kind)) }

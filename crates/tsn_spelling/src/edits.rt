@@ -76,6 +76,7 @@ fn put_part(
     Ok(())
 }
 
+#[tactic(auto, unfolding(json::specs::Print::escape_byte))]
 fn push_removal(text: &mut ShortText, key: Key)
     requires { length text.old ≤ MOST_HELD + 1 }
     ensures { text.new ≡ text.old ++ compact_text (removal_data (key_text key)) }

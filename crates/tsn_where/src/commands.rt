@@ -277,9 +277,8 @@ fn list_fault(alloc: Global, spot: &str, record: &Value, kind: Kind, by_range: b
     let Some(entries) = record.get("list").and_then(Value::as_array) else {
         return Ok(None);
     };
-    let mut number = 0usize;
-    for entry in entries.iter() {
-        number = number.saturating_add(1);
+    for (place, entry) in entries.iter().enumerate() {
+        let number = place.saturating_add(1);
         let at = format!(in alloc; "{spot}entry {number} of the list: ")?;
         if let Some(told) = entry_fault(
             alloc,
@@ -388,9 +387,8 @@ fn edits_fault(alloc: Global, value: &Value, by_range: bool) -> Told {
     let Some(edits) = value.get("edits").and_then(Value::as_array) else {
         return Ok(None);
     };
-    let mut number = 0usize;
-    for edit in edits.iter() {
-        number = number.saturating_add(1);
+    for (place, edit) in edits.iter().enumerate() {
+        let number = place.saturating_add(1);
         let spot = format!(in alloc; "edit {number}: ")?;
         if let Some(told) = edit_fault(alloc, spot.as_str(), edit, by_range)? {
             return Ok(Some(told));

@@ -12,8 +12,8 @@ use Rattle.tsn_wire.specs.Lines.{edit_rows, line_rows, IsEdit, IsOf, IsLine, IsS
 use Rattle.tsn_wire.specs.Spelled.{batch_value, key_value, IsKey}
 use Rattle.tsn_wire.specs.Values.{MayHaveList, IsNoPort}
 use Rattle.tsn_wire.specs.Words.{word_text}
-use Rattle.tsn_wire.specs.declared.any_edits.EditMembers.{EditMembers}
-use Rattle.tsn_wire.specs.declared.any_line.LineMembers.{LineMembers}
+use Rattle.tsn_wire.specs.declared.gathered.EditMembers.{EditMembers}
+use Rattle.tsn_wire.specs.declared.gathered.LineMembers.{LineMembers}
 use Rattle.tsn_wire.specs.declared.drafts.CommandDraft.TheVariants as wanted
 use Rattle.tsn_wire.specs.declared.drafts.EditDraft.{EditDraft}
 use Rattle.tsn_wire.specs.declared.drafts.EditDraft.TheVariants as drafts

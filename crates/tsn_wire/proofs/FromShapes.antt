@@ -1,6 +1,5 @@
 -- A value of an accepted shape is the value of its draft.
-use Rattle.std.proofs.Common.{◌≡◌, ℕ, suc, List, [], ◌∷◌, map, Bool, Option, Some, None, option_and_then, option_map, Result, Ok, Ordering, Less, Equal, Greater, refl, sym, ap, ap₂, subst, ◌∙◌, arith}
-use Rattle.std.specs.Ordering.{match_ordering}
+use Rattle.std.proofs.Common.{◌≡◌, ℕ, suc, List, [], ◌∷◌, map, Bool, Option, Some, None, option_and_then, option_map, Result, Ok, refl, sym, ap, ap₂, subst, ◌∙◌, arith}
 use Rattle.std.specs.Prelude.{⊤}
 use Rattle.serde_json.specs.Data.{Data, null, boolean, number, unsigned, string, array, Items, no_items, item, Members, no_members, member, put}
 use Rattle.serde_json.specs.Find.{at, get, get_item, as_bool, as_str, as_array}
@@ -25,7 +24,7 @@ use Rattle.tsn_records.specs.declared.drafts.GateEntryDraft.{GateEntryDraft}
 use Rattle.tsn_records.specs.declared.unread.Unread.{Unread}
 use Rattle.tsn_records.proofs.Shapes.{RecordHas, port_entry_has, gate_entry_has, record_has}
 use Rattle.tsn_records.proofs.Steps.{last_step, mapped_there, only, steps, there}
-use Rattle.tsn_records.proofs.NameOrder.{order, same_name}
+use Rattle.tsn_records.proofs.NameOrder.{at_order, order, same_name}
 use Rattle.tsn_wire.proofs.Objects.{Holds, IsOrdered, Rise, counted, whole_object}
 
 -- ---- members and items of one kind
@@ -156,16 +155,11 @@ members_known kind d (row ∷ rows) vs h =
     (λ ws ws_is. (member_known kind row.1 (get row.0 d) v v_is, members_known kind d rows ws ws_is)))
 
 -- a member more that is held
-holds_put_at : (o : Ordering) (d : Data) (k l : List ℕ) (e f : Data) (ms : Members) → order k l ≡ o → get k d ≡ Some e
-    → Holds d (member l f ms) → Holds d (put k e ms)
-    → Holds d (match_ordering o (member k e (member l f ms)) (member l e ms) (member l f (put k e ms)))
-holds_put_at Less d k l e f ms is here held later = (here, held)
-holds_put_at Equal d k l e f ms is here held later = (subst (λ n. get n d ≡ Some e) (same_name k l is) here, held.1)
-holds_put_at Greater d k l e f ms is here held later = (held.0, later)
-
 holds_put : (d : Data) (k : List ℕ) (e : Data) (ms : Members) → get k d ≡ Some e → Holds d ms → Holds d (put k e ms)
 holds_put d k e no_members here held = (here, tt)
-holds_put d k e (member l f ms) here held = holds_put_at (order k l) d k l e f ms refl here held (holds_put d k e ms here held.1)
+holds_put d k e (member l f ms) here held =
+    at_order (Holds d) (order k l) (member k e (member l f ms)) (member l e ms) (member l f (put k e ms)) (λ _. (here, held))
+    (λ is. (subst (λ n. get n d ≡ Some e) (same_name k l is) here, held.1)) (λ _. (held.0, holds_put d k e ms here held.1))
 
 holds_named : (d : Data) (rows : List (List ℕ × Allowed)) (vs : List MemberDraft) → AreHeld d rows vs
     → Holds d (named rows (map member_data vs))

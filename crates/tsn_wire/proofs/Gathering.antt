@@ -1,5 +1,5 @@
 -- The members of an object are gathered, one after another.
-use Rattle.std.proofs.Common.{◌≡◌, ℕ, ◌+◌, ◌≤◌, suc, List, [], ◌∷◌, ◌++◌, Bool, true, false, Option, Some, None, IfSome, option_map, option_and_then, Ordering, Less, Equal, Greater, refl, sym, ap, subst, ◌∙◌, arith, append_assoc}
+use Rattle.std.proofs.Common.{◌≡◌, ℕ, ◌+◌, ◌≤◌, suc, List, [], ◌∷◌, ◌++◌, Bool, true, false, Option, Some, None, IfSome, option_map, option_and_then, refl, sym, ap, subst, ◌∙◌, arith, append_assoc}
 use Rattle.std.specs.Prelude.{if◌then◌else◌}
 use Rattle.std.specs.Ordering.{match_ordering}
 use Rattle.std.specs.Str.{bytes_eq}
@@ -23,56 +23,40 @@ use Rattle.tsn_wire.specs.declared.drafts.EditDraft.{EditDraft}
 use Rattle.tsn_wire.specs.declared.drafts.EditDraft.TheVariants as edits
 use Rattle.tsn_wire.specs.Spelled.{edit_value}
 use Rattle.tsn_wire.proofs.FromShapes.{record_rises}
-use Rattle.tsn_records.proofs.NameOrder.{order, same_name, same_order}
+use Rattle.tsn_records.proofs.NameOrder.{at_order, order, same_name, same_order}
 use Rattle.tsn_wire.proofs.Objects.{Holds, Rise, IsOrdered, of_json_ordered, only_these}
 use Rattle.tsn_wire.proofs.Scanning.{deeper}
 
 -- ---- what stands at a name once another member was put
 
-differ_at : {A : Type 0} (o : Ordering) (l m : List ℕ) (a b : A) → order l m ≡ o → (l ≡ m → ⊥) → match_ordering o a b a ≡ a
-differ_at Less l m a b is other = refl
-differ_at Equal l m a b is other = absurd (other (same_name l m is))
-differ_at Greater l m a b is other = refl
-
 -- a name that differs is passed over
 differ : {A : Type 0} (l m : List ℕ) (a b : A) → (l ≡ m → ⊥) → match_ordering (order l m) a b a ≡ a
-differ l m a b other = differ_at (order l m) l m a b refl other
-
-same_at : (o : Ordering) (k m : List ℕ) (d e : Data) (ms : Members) → order k m ≡ o → get_member k (put k d ms) ≡ Some d
-    → get_member k (match_ordering o (member k d (member m e ms)) (member m d ms) (member m e (put k d ms))) ≡ Some d
-same_at Less k m d e ms is later = rw (same_order k) refl
-same_at Equal k m d e ms is later = rw is refl
-same_at Greater k m d e ms is later = rw is later
+differ l m a b other =
+    at_order (λ x. x ≡ a) (order l m) a b a (λ _. refl) (λ is. absurd (other (same_name l m is))) (λ _. refl)
 
 get_same : (k : List ℕ) (d : Data) (ms : Members) → get_member k (put k d ms) ≡ Some d
 get_same k d no_members = rw (same_order k) refl
-get_same k d (member m e ms) = same_at (order k m) k m d e ms refl (get_same k d ms)
-
-other_at : (o : Ordering) (l k m : List ℕ) (d e : Data) (ms : Members) → order k m ≡ o → (l ≡ k → ⊥)
-    → get_member l (put k d ms) ≡ get_member l ms
-    → get_member l (match_ordering o (member k d (member m e ms)) (member m d ms) (member m e (put k d ms))) ≡ get_member l (member m e ms)
-other_at Less l k m d e ms is other later = differ l k (get_member l (member m e ms)) (Some d) other
-other_at Equal l k m d e ms is other later =
-    let apart : l ≡ m → ⊥ = λ same. other (same ∙ sym (same_name k m is)) in
-    differ l m (get_member l ms) (Some d) apart ∙ sym (differ l m (get_member l ms) (Some e) apart)
-other_at Greater l k m d e ms is other later = ap (λ o. match_ordering (order l m) o (Some e) o) later
+get_same k d (member m e ms) =
+    at_order (λ found. get_member k found ≡ Some d) (order k m) (member k d (member m e ms)) (member m d ms) (member m e (put k d ms))
+    (λ _. rw (same_order k) refl) (λ is. rw is refl) (λ is. rw is (get_same k d ms))
 
 get_other : (l k : List ℕ) (d : Data) (ms : Members) → (l ≡ k → ⊥) → get_member l (put k d ms) ≡ get_member l ms
 get_other l k d no_members other = differ l k None (Some d) other
-get_other l k d (member m e ms) other = other_at (order k m) l k m d e ms refl other (get_other l k d ms other)
-
-len_at : (o : Ordering) (k m : List ℕ) (d e : Data) (ms : Members) → order k m ≡ o
-    → match_ordering o (get_member k ms) (Some e) (get_member k ms) ≡ None
-    → (get_member k ms ≡ None → members_len (put k d ms) ≡ suc (members_len ms))
-    → members_len (match_ordering o (member k d (member m e ms)) (member m d ms) (member m e (put k d ms))) ≡ suc (suc (members_len ms))
-len_at Less k m d e ms is none later = refl
-len_at Equal k m d e ms is none later = absurd (cc)
-len_at Greater k m d e ms is none later = ap suc (later none)
+get_other l k d (member m e ms) other =
+    at_order (λ found. get_member l found ≡ get_member l (member m e ms)) (order k m)
+    (member k d (member m e ms)) (member m d ms) (member m e (put k d ms))
+    (λ _. differ l k (get_member l (member m e ms)) (Some d) other)
+    (λ is. let apart : l ≡ m → ⊥ = λ same. other (same ∙ sym (same_name k m is)) in
+    differ l m (get_member l ms) (Some d) apart ∙ sym (differ l m (get_member l ms) (Some e) apart))
+    (λ _. ap (λ o. match_ordering (order l m) o (Some e) o) (get_other l k d ms other))
 
 -- a new name is one member more
 len_put : (k : List ℕ) (d : Data) (ms : Members) → get_member k ms ≡ None → members_len (put k d ms) ≡ suc (members_len ms)
 len_put k d no_members none = refl
-len_put k d (member m e ms) none = len_at (order k m) k m d e ms refl none (len_put k d ms)
+len_put k d (member m e ms) none =
+    at_order (λ found. members_len found ≡ suc (suc (members_len ms))) (order k m)
+    (member k d (member m e ms)) (member m d ms) (member m e (put k d ms)) (λ _. refl)
+    (λ is. let never : Some e ≡ None = rw is at none in absurd (cc)) (λ is. ap suc (len_put k d ms (rw is at none)))
 
 -- ---- rows
 

@@ -3,7 +3,6 @@
 use Rattle.std.proofs.Common.{◌≡◌, ℕ, ◌≤◌, suc, List, Bool, true, false, cond, Ok, Err, Some, None, option_map, option_and_then, IfSome, Ordering, Less, Equal, Greater, refl, sym, ap, subst, ◌∙◌, arith, eqb-true}
 use Rattle.std.specs.Prelude.{⊤, ◌==◌, if◌then◌else◌}
 use Rattle.std.specs.Str.{is_utf8}
-use Rattle.std.specs.Ordering.{match_ordering}
 use Rattle.std.proofs.lemmas.Cmp.{nat_list_cmp_total}
 use Rattle.json.specs.Json as json
 use Rattle.json.specs.Lex.{tokens}
@@ -11,7 +10,7 @@ use Rattle.serde_json.specs.Data.{Data, number, array, object, Items, no_items, 
 use Rattle.serde_json.specs.Find.{get, get_member}
 use Rattle.serde_json.specs.Read.{number_of, of_json, of_items, of_members, read, max_depth}
 use Rattle.tsn_records.specs.Json.{has_members, members_len}
-use Rattle.tsn_records.proofs.NameOrder.{any, if_and_then, if_found, if_map, order, same_name, turned, turned_back}
+use Rattle.tsn_records.proofs.NameOrder.{any, at_order, if_and_then, if_found, if_map, order, same_name, turned, turned_back}
 use Rattle.tsn_wire.specs.Reading.{data_of}
 use Rattle.tsn_records.specs.declared.unread.Unread.TheVariants.{Shape}
 
@@ -41,27 +40,18 @@ above_below k l (member m e ms) less h = (nat_list_cmp_total.trans k l m less h.
 
 -- ---- what was read is ordered
 
-above_put_at : (o : Ordering) (l k m : List ℕ) (d e : Data) (ms : Members) → order l k ≡ Less → Above l (member m e ms)
-    → Above l (put k d ms)
-    → Above l (match_ordering o (member k d (member m e ms)) (member m d ms) (member m e (put k d ms)))
-above_put_at Less l k m d e ms less h later = (less, h)
-above_put_at Equal l k m d e ms less h later = h
-above_put_at Greater l k m d e ms less h later = (h.0, later)
-
 above_put : (l k : List ℕ) (d : Data) (ms : Members) → order l k ≡ Less → Above l ms → Above l (put k d ms)
 above_put l k d no_members less h = (less, tt)
-above_put l k d (member m e ms) less h = above_put_at (order k m) l k m d e ms less h (above_put l k d ms less h.1)
-
-ordered_put_at : (o : Ordering) (k l : List ℕ) (d e : Data) (ms : Members) → order k l ≡ o → IsOrdered d → AreOrdered (member l e ms)
-    → AreOrdered (put k d ms)
-    → AreOrdered (match_ordering o (member k d (member l e ms)) (member l d ms) (member l e (put k d ms)))
-ordered_put_at Less k l d e ms is x h later = ((is, above_below k l ms is h.0), (x, h))
-ordered_put_at Equal k l d e ms is x h later = (h.0, (x, h.1.1))
-ordered_put_at Greater k l d e ms is x h later = (above_put l k d ms (turned k l is) h.0, (h.1.0, later))
+above_put l k d (member m e ms) less h =
+    at_order (Above l) (order k m) (member k d (member m e ms)) (member m d ms) (member m e (put k d ms))
+    (λ _. (less, h)) (λ _. h) (λ _. (h.0, above_put l k d ms less h.1))
 
 ordered_put : (k : List ℕ) (d : Data) (ms : Members) → IsOrdered d → AreOrdered ms → AreOrdered (put k d ms)
 ordered_put k d no_members x h = (tt, (x, tt))
-ordered_put k d (member l e ms) x h = ordered_put_at (order k l) k l d e ms refl x h (ordered_put k d ms x h.1.1)
+ordered_put k d (member l e ms) x h =
+    at_order AreOrdered (order k l) (member k d (member l e ms)) (member l d ms) (member l e (put k d ms))
+    (λ is. ((is, above_below k l ms is h.0), (x, h))) (λ is. (h.0, (x, h.1.1)))
+    (λ is. (above_put l k d ms (turned k l is) h.0, (h.1.0, ordered_put k d ms x h.1.1)))
 
 mutual
   pub of_json_ordered : (j : json.Json) → IfSome (of_json j) IsOrdered

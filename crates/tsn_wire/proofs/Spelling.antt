@@ -12,15 +12,10 @@ use Rattle.tsn_records.specs.declared.drafts.MeterDraft.{MeterDraft}
 
 pub meter_text : (r : MeterDraft) (t0 t1 t2 t3 t4 t5 t6 t7 t8 t9 : List ℕ)
     → t0 ≡ codes "{\"all_red\":" ++ (compact_text (boolean r.all_red) ++ t1)
-    → t1 ≡ codes ",\"aware\":" ++ (compact_text (boolean r.aware) ++ t2)
-    → t2 ≡ codes ",\"cbs\":" ++ (decimal r.cbs ++ t3)
-    → t3 ≡ codes ",\"cf\":" ++ (compact_text (boolean r.cf) ++ t4)
-    → t4 ≡ codes ",\"cir\":" ++ (decimal r.cir ++ t5)
-    → t5 ≡ codes ",\"drop_yellow\":" ++ (compact_text (boolean r.drop_yellow) ++ t6)
-    → t6 ≡ codes ",\"ebs\":" ++ (decimal r.ebs ++ t7)
-    → t7 ≡ codes ",\"eir\":" ++ (decimal r.eir ++ t8)
-    → t8 ≡ codes "}" ++ t9
-    → t0 ≡ compact_text (draft_data (records.Meter r)) ++ t9
+    → t1 ≡ codes ",\"aware\":" ++ (compact_text (boolean r.aware) ++ t2) → t2 ≡ codes ",\"cbs\":" ++ (decimal r.cbs ++ t3)
+    → t3 ≡ codes ",\"cf\":" ++ (compact_text (boolean r.cf) ++ t4) → t4 ≡ codes ",\"cir\":" ++ (decimal r.cir ++ t5)
+    → t5 ≡ codes ",\"drop_yellow\":" ++ (compact_text (boolean r.drop_yellow) ++ t6) → t6 ≡ codes ",\"ebs\":" ++ (decimal r.ebs ++ t7)
+    → t7 ≡ codes ",\"eir\":" ++ (decimal r.eir ++ t8) → t8 ≡ codes "}" ++ t9 → t0 ≡ compact_text (draft_data (records.Meter r)) ++ t9
 unfolding escape_byte
 meter_text r t0 t1 t2 t3 t4 t5 t6 t7 t8 t9 e0 e1 e2 e3 e4 e5 e6 e7 e8 = rw (e0, e1, e2, e3, e4, e5, e6, e7, e8) (simp append_assoc)
 
@@ -29,39 +24,28 @@ abbrev gate_rest : GateDraft → List ℕ
 gate_rest r =
     members_text true (member (codes "octets_exceeded") (boolean r.octets_exceeded) (member (codes "open") (boolean r.is_open) no_members))
 
-gate_tail : (r : GateDraft) (t6 t7 t8 t9 : List ℕ)
-    → t6 ≡ codes ",\"octets_exceeded\":" ++ (compact_text (boolean r.octets_exceeded) ++ t7)
-    → t7 ≡ codes ",\"open\":" ++ (compact_text (boolean r.is_open) ++ t8)
-    → t8 ≡ codes "}" ++ t9
-    → t6 ≡ gate_rest r ++ t9
+gate_tail : (r : GateDraft) (t6 t7 t8 t9 : List ℕ) → t6 ≡ codes ",\"octets_exceeded\":" ++ (compact_text (boolean r.octets_exceeded) ++ t7)
+    → t7 ≡ codes ",\"open\":" ++ (compact_text (boolean r.is_open) ++ t8) → t8 ≡ codes "}" ++ t9 → t6 ≡ gate_rest r ++ t9
 unfolding escape_byte
 gate_tail r t6 t7 t8 t9 e6 e7 e8 = rw (e6, e7, e8) (simp append_assoc)
 
-gate_front : (base cycle extension invalid_rx ipv list rest t0 t1 t2 t3 t4 t5 t6 t9 : List ℕ)
-    → t0 ≡ codes "{\"base\":" ++ (base ++ t1)
-    → t1 ≡ codes ",\"cycle\":" ++ (cycle ++ t2)
-    → t2 ≡ codes ",\"extension\":" ++ (extension ++ t3)
-    → t3 ≡ codes ",\"invalid_rx\":" ++ (invalid_rx ++ t4)
-    → t4 ≡ codes ",\"ipv\":" ++ (ipv ++ t5)
-    → t5 ≡ codes ",\"list\":" ++ (list ++ t6)
-    → t6 ≡ rest ++ t9
-    → t0 ≡ (codes "{\"base\":" ++ (base
+gate_front : (base cycle extension invalid_rx ipv list rest t0 t1 t2 t3 t4 t5 t6 t9 : List ℕ) → t0 ≡ codes "{\"base\":" ++ (base ++ t1)
+    → t1 ≡ codes ",\"cycle\":" ++ (cycle ++ t2) → t2 ≡ codes ",\"extension\":" ++ (extension ++ t3)
+    → t3 ≡ codes ",\"invalid_rx\":" ++ (invalid_rx ++ t4) → t4 ≡ codes ",\"ipv\":" ++ (ipv ++ t5) → t5 ≡ codes ",\"list\":" ++ (list ++ t6)
+    → t6 ≡ rest ++ t9 → t0 ≡ (codes "{\"base\":" ++ (base
     ++ (codes ",\"cycle\":" ++ (cycle
     ++ (codes ",\"extension\":" ++ (extension
     ++ (codes ",\"invalid_rx\":" ++ (invalid_rx ++ (codes ",\"ipv\":" ++ (ipv ++ (codes ",\"list\":" ++ (list ++ rest)))))))))))) ++ t9
 gate_front base cycle extension invalid_rx ipv list rest t0 t1 t2 t3 t4 t5 t6 t9 e0 e1 e2 e3 e4 e5 e6 =
     rw (e0, e1, e2, e3, e4, e5, e6) (simp append_assoc)
 
-pub gate_text : (r : GateDraft) (t0 t1 t2 t3 t4 t5 t6 t7 t8 t9 : List ℕ)
-    → t0 ≡ codes "{\"base\":" ++ (decimal r.admin.base ++ t1)
-    → t1 ≡ codes ",\"cycle\":" ++ (decimal r.admin.cycle ++ t2)
-    → t2 ≡ codes ",\"extension\":" ++ (decimal r.admin.extension ++ t3)
+pub gate_text : (r : GateDraft) (t0 t1 t2 t3 t4 t5 t6 t7 t8 t9 : List ℕ) → t0 ≡ codes "{\"base\":" ++ (decimal r.admin.base ++ t1)
+    → t1 ≡ codes ",\"cycle\":" ++ (decimal r.admin.cycle ++ t2) → t2 ≡ codes ",\"extension\":" ++ (decimal r.admin.extension ++ t3)
     → t3 ≡ codes ",\"invalid_rx\":" ++ (compact_text (boolean r.invalid_rx) ++ t4)
     → t4 ≡ codes ",\"ipv\":" ++ (compact_text (or_null r.ipv) ++ t5)
     → t5 ≡ codes ",\"list\":" ++ (compact_text (list_array gate_entry_value r.admin.list) ++ t6)
     → t6 ≡ codes ",\"octets_exceeded\":" ++ (compact_text (boolean r.octets_exceeded) ++ t7)
-    → t7 ≡ codes ",\"open\":" ++ (compact_text (boolean r.is_open) ++ t8)
-    → t8 ≡ codes "}" ++ t9
+    → t7 ≡ codes ",\"open\":" ++ (compact_text (boolean r.is_open) ++ t8) → t8 ≡ codes "}" ++ t9
     → t0 ≡ compact_text (draft_data (records.Gate r)) ++ t9
 unfolding escape_byte
 gate_text r t0 t1 t2 t3 t4 t5 t6 t7 t8 t9 e0 e1 e2 e3 e4 e5 e6 e7 e8 =

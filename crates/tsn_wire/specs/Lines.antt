@@ -15,8 +15,8 @@ use Rattle.tsn_wire.specs.Rows.{AllTold, members_of}
 use Rattle.tsn_wire.specs.Spelled.{batch_value, drafted_text, edit_value, key_value, IsKey}
 use Rattle.tsn_wire.specs.Values.{act_data, asked_data, bare_data, batched_data, edit_data, framed_data, hello_data, keyed_data, listed_data, settle_data, states_data, IsNoPort, MayHaveList}
 use Rattle.tsn_wire.specs.Words.{act_word, bare_word, look_word, put_word, word_text}
-use Rattle.tsn_wire.specs.declared.any_edits.EditMembers.{EditMembers}
-use Rattle.tsn_wire.specs.declared.any_line.LineMembers.{LineMembers}
+use Rattle.tsn_wire.specs.declared.gathered.EditMembers.{EditMembers}
+use Rattle.tsn_wire.specs.declared.gathered.LineMembers.{LineMembers}
 use Rattle.tsn_wire.specs.declared.drafts.CommandDraft.{CommandDraft}
 use Rattle.tsn_wire.specs.declared.drafts.CommandDraft.TheVariants.{Edit, Batch, Settle, Act, Frame, States, Look, List as ListKind, Since, Bare}
 use Rattle.tsn_wire.specs.declared.drafts.EditDraft.{EditDraft}

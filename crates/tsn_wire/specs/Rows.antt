@@ -7,10 +7,10 @@ use Rattle.tsn_types.specs.declared.keys.Kind.TheVariants.{Port, Filter, Gate, M
 use Rattle.tsn_records.specs.Members.{names_of}
 use Rattle.tsn_records.specs.Shown.{gate_entry_value, list_array, or_null, port_entry_value, whole_data}
 use Rattle.tsn_wire.specs.Members.{Rows, row_at}
-use Rattle.tsn_wire.specs.declared.any_record.PortMembers.{PortMembers}
-use Rattle.tsn_wire.specs.declared.any_record.FilterMembers.{FilterMembers}
-use Rattle.tsn_wire.specs.declared.any_record.GateMembers.{GateMembers}
-use Rattle.tsn_wire.specs.declared.any_record.MeterMembers.{MeterMembers}
+use Rattle.tsn_wire.specs.declared.gathered.PortMembers.{PortMembers}
+use Rattle.tsn_wire.specs.declared.gathered.FilterMembers.{FilterMembers}
+use Rattle.tsn_wire.specs.declared.gathered.GateMembers.{GateMembers}
+use Rattle.tsn_wire.specs.declared.gathered.MeterMembers.{MeterMembers}
 
 -- the members of an object
 abbrev pub members_of : Data → Members

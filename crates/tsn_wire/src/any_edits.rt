@@ -9,38 +9,13 @@ ghost use Rattle.tsn_wire.specs.Spelled.{batch_value, edit_value};
 use crate::any_keys::{is_of, table_key};
 use crate::cursor::Cursor;
 use crate::drafts::{BatchDraft, EditDraft};
-use crate::guess::record_tray;
+use crate::gathered::EditMembers;
 use crate::lists::scanned_list;
-use crate::members::{Gathered, members, named, tray};
+use crate::members::{members, named};
 use crate::spelled_batch::EDITS;
 use crate::words::Word;
 use std::alloc::Global;
-use tsn_records::drafts::{KeyDraft, RecordDraft};
 use tsn_types::keys::Kind;
-
-/// The members of an edit, as far as they were read.
-#[derive(Default, Drop)]
-pub struct EditMembers {
-    pub word: Option<Word>,
-    pub key: Option<KeyDraft>,
-    pub record: Option<RecordDraft>,
-}
-
-impl Gathered for EditMembers {
-    ghost rows = { edit_rows };
-
-    ghost nesting = { 3 };
-
-    #[tactic(auto, using(crate::proofs::Gathering::row_filled))]
-    fn member(&mut self, alloc: Global, text: &mut Cursor<'_>) -> Option<()> {
-        match text.letters() {
-            (b'd', _) => tray(alloc, text, "do", &mut self.word),
-            (b'k', _) => tray(alloc, text, "key", &mut self.key),
-            (b'r', _) => record_tray(alloc, text, self.key, &mut self.record),
-            _ => None,
-        }
-    }
-}
 
 // The edit of the word, with no test of its key.
 #[tactic(auto, using(crate::proofs::AnyLine::put_edit, crate::proofs::AnyLine::remove_edit))]

@@ -4,62 +4,14 @@ ghost use Rattle.tsn_wire.specs.Lines.{line_rows, IsLine};
 ghost use Rattle.tsn_wire.specs.Reading.{line_of_draft, reading};
 ghost use Rattle.tsn_wire.specs.declared.drafts.LineDraft.TheVariants.{Session};
 
-use crate::any_edits::{are_sound, edits_tray};
+use crate::any_edits::are_sound;
 use crate::any_keys::{keyed_record, listed_key, removable_key, table_key};
 use crate::cursor::Cursor;
-use crate::drafts::{BatchDraft, CommandDraft, EditDraft, FrameDraft, LineDraft};
-use crate::guess::record_tray;
-use crate::members::{Gathered, members, tray};
+use crate::drafts::{CommandDraft, EditDraft, FrameDraft, LineDraft};
+use crate::gathered::LineMembers;
+use crate::members::members;
 use crate::words::Word;
 use std::alloc::Global;
-use tsn_records::drafts::{KeyDraft, RecordDraft};
-use tsn_types::keys::Kind;
-
-/// The members of a line, as far as they were read.
-#[derive(Default, Drop)]
-pub struct LineMembers {
-    pub after: Option<u64>,
-    pub at: Option<u64>,
-    pub word: Option<Word>,
-    pub handle: Option<u64>,
-    pub key: Option<KeyDraft>,
-    pub kind: Option<Kind>,
-    pub instant: Option<u64>,
-    pub octets: Option<u64>,
-    pub priority: Option<u64>,
-    pub record: Option<RecordDraft>,
-    pub edits: Option<BatchDraft>,
-    pub session: Option<u64>,
-    pub upto: Option<u64>,
-    pub yellow: Option<bool>,
-}
-
-impl Gathered for LineMembers {
-    ghost rows = { line_rows };
-
-    ghost nesting = { 5 };
-
-    #[tactic(auto, using(crate::proofs::Gathering::row_filled))]
-    fn member(&mut self, alloc: Global, text: &mut Cursor<'_>) -> Option<()> {
-        match text.letters() {
-            (b'd', _) => tray(alloc, text, "do", &mut self.word),
-            (b's', _) => tray(alloc, text, "s", &mut self.session),
-            (b'k', b'e') => tray(alloc, text, "key", &mut self.key),
-            (b'r', _) => record_tray(alloc, text, self.key, &mut self.record),
-            (b'n', _) => tray(alloc, text, "now", &mut self.instant),
-            (b'h', _) => tray(alloc, text, "handle", &mut self.handle),
-            (b'p', _) => tray(alloc, text, "priority", &mut self.priority),
-            (b'o', _) => tray(alloc, text, "octets", &mut self.octets),
-            (b'y', _) => tray(alloc, text, "yellow", &mut self.yellow),
-            (b'a', b't') => tray(alloc, text, "at", &mut self.at),
-            (b'a', _) => tray(alloc, text, "after", &mut self.after),
-            (b'k', _) => tray(alloc, text, "kind", &mut self.kind),
-            (b'u', _) => tray(alloc, text, "upto", &mut self.upto),
-            (b'e', _) => edits_tray(alloc, text, &mut self.edits),
-            _ => None,
-        }
-    }
-}
 
 // The frame whose members a line has.
 fn frame_draft(found: &LineMembers) -> Option<FrameDraft>

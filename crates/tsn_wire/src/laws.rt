@@ -17,8 +17,7 @@ ghost use Rattle.tsn_wire.specs.Values.{AcceptsValues, value_of};
 /// Lines that are read, and lines that are not.
 #[tactic(auto, unfolding(crate::proofs::OnLiterals::lines_on_literals))]
 pub fn lines_are_read()
-    ensures hello { line_of (codes "{\"do\":\"hello\"}")
-        ≡ Ok (record { session = 0; command = commands.Hello None }) }
+    ensures hello { line_of (codes "{\"do\":\"hello\"}") ≡ Ok (record { session = 0; command = commands.Hello None }) }
     ensures name { line_of (codes "{\"do\":\"hello\",\"name\":\"planner anna\"}")
         ≡ Ok (record { session = 0; command = commands.Hello (Some (codes "planner anna")) }) }
     ensures escaped_name { line_of (codes "{\"name\":\"a\\u006ena \\\"n\\\"\",\"do\":\"hello\"}")
@@ -27,12 +26,10 @@ pub fn lines_are_read()
     ensures bell { line_of (codes "{\"do\":\"hello\",\"name\":\"a\\u0007\"}") ≡ Err (refusals.Range fields.Name) }
     ensures null_name { line_of (codes "{\"do\":\"hello\",\"name\":null}") ≡ Err refusals.Shape }
     ensures hello_of_a_session { line_of (codes "{\"do\":\"hello\",\"s\":1}") ≡ Err refusals.Shape }
-    ensures undo { line_of (codes "{\"do\":\"undo\",\"s\":1}")
-        ≡ Ok (record { session = 1; command = commands.Undo }) }
+    ensures undo { line_of (codes "{\"do\":\"undo\",\"s\":1}") ≡ Ok (record { session = 1; command = commands.Undo }) }
     ensures undo_all { line_of (codes "{\"do\":\"undo_all\",\"s\":1}")
         ≡ Ok (record { session = 1; command = commands.UndoAll }) }
-    ensures redo { line_of (codes "{\"do\":\"redo\",\"s\":1}")
-        ≡ Ok (record { session = 1; command = commands.Redo }) }
+    ensures redo { line_of (codes "{\"do\":\"redo\",\"s\":1}") ≡ Ok (record { session = 1; command = commands.Redo }) }
     ensures since { line_of (codes "{\"after\":3,\"do\":\"since\",\"s\":1}")
         ≡ Ok (record { session = 1; command = commands.Since 3 }) }
     ensures resume { line_of (codes "{\"do\":\"resume\",\"s\":2}")
@@ -74,10 +71,8 @@ pub fn lines_are_read()
         ≡ Err (refusals.Range fields.Key) }
     ensures fraction { line_of (codes "{\"do\":\"undo\",\"s\":1.0}") ≡ Err refusals.Shape }
     ensures sign { line_of (codes "{\"do\":\"undo\",\"s\":-1}") ≡ Err refusals.Shape }
-    ensures session { line_of (codes "{\"do\":\"undo\",\"s\":70000}")
-        ≡ Err (refusals.Range fields.S) }
-    ensures digits { line_of (codes "{\"do\":\"remove\",\"key\":\"gate 00\",\"s\":1}")
-        ≡ Err refusals.Shape }
+    ensures session { line_of (codes "{\"do\":\"undo\",\"s\":70000}") ≡ Err (refusals.Range fields.S) }
+    ensures digits { line_of (codes "{\"do\":\"remove\",\"key\":\"gate 00\",\"s\":1}") ≡ Err refusals.Shape }
     ensures key { line_of (codes "{\"do\":\"remove\",\"key\":\"gate 4294967296\",\"s\":1}")
         ≡ Err (refusals.Range fields.Key) }
     ensures array { line_of (codes "[1]") ≡ Err refusals.Shape }
@@ -89,18 +84,14 @@ pub fn lines_are_read()
 /// key before the record.
 #[tactic(auto, unfolding(crate::proofs::OnLiterals::lines_on_literals))]
 pub fn records_are_read()
-    ensures port { line_of (create_line (codes "port 1") port_text)
-        ≡ created (keys.Port 1) (records.Port a_port) }
+    ensures port { line_of (create_line (codes "port 1") port_text) ≡ created (keys.Port 1) (records.Port a_port) }
     ensures filter { line_of (create_line (codes "filter 3") filter_text)
         ≡ created (keys.Filter 3) (records.Filter a_filter) }
-    ensures gate { line_of (create_line (codes "gate 0") gate_text)
-        ≡ created (keys.Gate 0) (records.Gate a_gate) }
+    ensures gate { line_of (create_line (codes "gate 0") gate_text) ≡ created (keys.Gate 0) (records.Gate a_gate) }
     ensures meter { line_of (create_line (codes "meter 0") meter_text)
         ≡ created (keys.Meter 0) (records.Meter a_meter) }
-    ensures cycle { line_of (create_line (codes "gate 0") no_cycle_text)
-        ≡ Err (refusals.Range fields.Cycle) }
-    ensures order { line_of (create_line (codes "gate 70000") no_cycle_text)
-        ≡ Err (refusals.Range fields.Key) }
+    ensures cycle { line_of (create_line (codes "gate 0") no_cycle_text) ≡ Err (refusals.Range fields.Cycle) }
+    ensures order { line_of (create_line (codes "gate 70000") no_cycle_text) ≡ Err (refusals.Range fields.Key) }
     ensures shape { line_of (create_line (codes "gate 70000") no_flag_text) ≡ Err refusals.Shape }
     ensures kind { line_of (create_line (codes "gate 0") filter_text) ≡ Err refusals.Shape }
 {}
@@ -112,8 +103,7 @@ pub fn batches_are_read()
     ensures batch { line_of (batch_line
         (creation_text (codes "meter 0") meter_text ++ codes "," ++ removal_text (codes "gate 0")))
         ≡ batched (edits.Create (keys.Meter 0) (records.Meter a_meter) ∷ edits.Remove (keys.Gate 0) ∷ []) }
-    ensures one { line_of (batch_line (removal_text (codes "gate 0")))
-        ≡ batched (edits.Remove (keys.Gate 0) ∷ []) }
+    ensures one { line_of (batch_line (removal_text (codes "gate 0"))) ≡ batched (edits.Remove (keys.Gate 0) ∷ []) }
     ensures none { line_of (batch_line []) ≡ Err refusals.Shape }
     ensures too_many { line_of (batch_line seventeen_removals) ≡ Err refusals.Shape }
     ensures twice { line_of (batch_line

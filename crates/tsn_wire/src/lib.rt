@@ -13,6 +13,7 @@ mod batches;
 mod commands;
 mod cursor;
 mod drafts;
+mod gathered;
 mod guess;
 mod keyed;
 pub mod laws;
@@ -28,7 +29,7 @@ mod values;
 mod words;
 
 pub use drafts::{BatchDraft, CommandDraft, EditDraft, FrameDraft, LineDraft};
-pub use reading::command_of;
+pub use reading::{command_of, value_of};
 pub use spelled::spelled_draft;
 pub use tsn_bridge::command::Ask;
 pub use tsn_bytes::{

@@ -22,7 +22,8 @@ use tsn_records::unread::Unread;
 use tsn_types::names::SessionName;
 use tsn_types::refusals::{Field, Refusal};
 
-fn value_of(alloc: Global, line: &[u8]) -> Result<Value, Unread>
+/// The JSON value that the bytes are; a fault of syntax where they are none, and want of memory in place of either.
+pub fn value_of(alloc: Global, line: &[u8]) -> Result<Value, Unread>
     ensures { Reads (seen view result) (or_syntax (data_of line.now)) }
 {
     match Value::from_slice(alloc, line) {

@@ -11,6 +11,7 @@ use crate::cursor::Cursor;
 use crate::lexemes::{scanned_gate_entry, scanned_port_entry};
 use crate::lists::{Item, spelled_list};
 use std::alloc::Global;
+use tsn_records::allowed::name_of;
 use tsn_records::drafts::{
     FilterDraft, GateDraft, GateEntryDraft, KeyDraft, MeterDraft, PortDraft, PortEntryDraft,
     RecordDraft, ScheduleDraft,
@@ -225,17 +226,14 @@ pub fn key(text: &mut Cursor<'_>) -> Option<KeyDraft>
 pub fn kind(text: &mut Cursor<'_>) -> Option<Kind>
     ensures { IfSome result (λ k. text.old ≡ kind_text k ++ text.new) }
 {
-    if text.take("port") {
-        return Some(Kind::Port);
-    }
-    if text.take("filter") {
-        return Some(Kind::Filter);
-    }
-    if text.take("gate") {
-        return Some(Kind::Gate);
-    }
-    text.expect("meter")?;
-    Some(Kind::Meter)
+    let kind = match text.letters() {
+        (b'o', _) => Kind::Port,
+        (b'i', _) => Kind::Filter,
+        (b'a', _) => Kind::Gate,
+        _ => Kind::Meter,
+    };
+    text.expect(name_of(kind))?;
+    Some(kind)
 }
 
 // A record of that kind.

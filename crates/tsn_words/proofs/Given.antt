@@ -219,6 +219,10 @@ built_at : ℕ → Shape
 unfolding shape_at
 built_at k = shape_at k (built program).subs
 
+-- all is right with the words of a subcommand
+abbrev AreTaken : ℕ → List Text → Type 0
+AreTaken k words = level_fault (built_at k) [] nothing_held words false [] ≡ []
+
 -- ---- `states`
 
 states_fit : RulesFit accepted (built_at 1).rules
@@ -227,8 +231,7 @@ states_fit =
     both (one _ refl refl refl (λ v e. refl)) (both (one _ refl refl refl (λ v e. e)) (both (one _ refl refl refl (λ v e. e))
     (both (one _ refl refl refl (λ v e. e)) (both (one _ refl refl refl (λ v e. e)) ((tt, inl refl), tt)))))
 
-states_given : (words : List Text) → level_fault (built_at 1) [] nothing_held words false [] ≡ []
-    → HasStates (Some (rows_at (built_at 1) words))
+states_given : (words : List Text) → AreTaken 1 words → HasStates (Some (rows_at (built_at 1) words))
 unfolding accepted shape_at built_at
 states_given words none =
     let rows = rows_after (built_at 1).rules [] words in
@@ -254,18 +257,16 @@ serve_fit =
     (both (one _ refl refl refl (λ v e. refl)) (both (one _ refl refl refl (λ v e. refl))
     (both ((refl, refl), inr (inr (record { action = refl; range = refl; missing = refl; passes = refl }))) ((tt, inl refl), tt)))))))))
 
-serve_given : (words : List Text) → level_fault (built_at 2) [] nothing_held words false [] ≡ []
-    → HasServe (Some (rows_at (built_at 2) words))
+serve_given : (words : List Text) → AreTaken 2 words → HasServe (Some (rows_at (built_at 2) words))
 unfolding accepted shape_at built_at
 serve_given words none =
-    let rows = rows_after (built_at 2).rules [] words in
     let given = given_to (built_at 2) refl serve_fit words none in
     record {
+      workers = number_fits (codes "serve") (codes "workers") 1 most_workers _ (λ v e. e) given.0;
+      connections = number_fits (codes "serve") (codes "connections") 1 most_connections _ (λ v e. e) given.0;
+      probe = number_fits (codes "serve") (codes "probe") 0 last_probe _ (λ v e. e) given.0;
+      idle = number_fits (codes "serve") (codes "idle") 1 longest_idle _ (λ v e. e) given.0;
       named = refl;
-      workers = number_fits (codes "serve") (codes "workers") 1 most_workers rows (λ v e. e) given.0;
-      connections = number_fits (codes "serve") (codes "connections") 1 most_connections rows (λ v e. e) given.0;
-      probe = number_fits (codes "serve") (codes "probe") 0 last_probe rows (λ v e. e) given.0;
-      idle = number_fits (codes "serve") (codes "idle") 1 longest_idle rows (λ v e. e) given.0;
     }
 
 -- ---- `journal`
@@ -283,17 +284,16 @@ one_given : (a : Bool) → ((true && not a) || false) ≡ false → a ≡ true
 one_given false h = (cc)
 one_given true h = refl
 
-journal_given : (words : List Text) → level_fault (built_at 4) [] nothing_held words false [] ≡ []
-    → HasJournal (Some (rows_at (built_at 4) words))
+journal_given : (words : List Text) → AreTaken 4 words → HasJournal (Some (rows_at (built_at 4) words))
 unfolding accepted shape_at built_at
 journal_given words none =
     let rows = rows_after (built_at 4).rules [] words in
     let given = given_to (built_at 4) refl journal_fit words none in
     record {
-      named = refl;
       file = text_given (codes "journal") (codes "JOURNAL") rows given.0 (one_given (is_given (codes "JOURNAL") rows) given.1);
       since = number_fits (codes "journal") (codes "since") 0 last_entry rows (λ v e. e) given.0;
       diff = number_fits (codes "journal") (codes "diff") 1 last_entry rows (λ v e. e) given.0;
+      named = refl;
     }
 
 -- ---- the program
