@@ -1,19 +1,12 @@
 -- Where a line stands in a text.
-use Rattle.std.proofs.Common.{◌≡◌, ℕ, List, [], ◌∷◌, ◌++◌, refl, sym, subst, ◌∙◌, ap, arith}
+use Rattle.std.proofs.Common.{ℕ, List, ◌++◌, sym, subst, ◌∙◌, ap}
 use Rattle.std.specs.Prelude.{Contains}
 use Rattle.std.proofs.lemmas.List.{append-nil}
-use Rattle.std.proofs.lemmas.List.Elements.{Contains-append_left, Contains-append_right}
+use Rattle.std.proofs.lemmas.List.Elements.{Contains-append_left}
 use Rattle.tsn_recorded.specs.Text.{AreRecordedAfter, text_after}
 use Rattle.tsn_keeping.specs.Keeping.{Keeping}
 use Rattle.tsn_history.specs.Texts.{BeginsWith}
 use Rattle.tsn_commit.specs.Resting.{Begins, KeepsBoth, Rests}
-
--- What begins with a text that ends with the line has the line.
-pub has_end : (kept mine before : List (List ℕ)) (line : List ℕ) → BeginsWith kept mine → mine ≡ before ++ line ∷ [] → Contains kept line
-has_end kept mine before line b e =
-    let P : List (List ℕ) → Type 0 = λ ls. Contains ls line in
-    let here : Contains (line ∷ []) line = (0, omega arith, refl) in
-    subst P (sym b.1) (Contains-append_left mine b.0 line (subst P (sym e) (Contains-append_right before (line ∷ []) line here)))
 
 -- What begins with a text that has the line has it.
 pub has_more : (text front : List (List ℕ)) (line : List ℕ) → BeginsWith text front → Contains front line → Contains text line

@@ -12,12 +12,12 @@ use crate::told::Told;
 use std::alloc::{AllocError, Global};
 use std::sync::{Mutex, MutexGuard, Wait};
 use tsn_device::Device;
-use tsn_history::{Book, Front, Naming};
+use tsn_history::{Book, Front, Naming, Opened};
 use tsn_keeping::{Clock, Keeper};
 
 /// A text of records that threads share, and the journal that keeps them.
 #[derive(Drop)]
-pub struct Commit<C: Clock, D: Device, R: Naming, K: Naming + Ahead> {
+pub struct Commit<C: Clock, D: Device, R: Naming, K: Ahead> {
     records: Book<R>,
     state: Mutex<State<C, D, R, K>>,
     // What is kept has a lock of its own, so that those who were woken are not in the way of who records.
@@ -30,19 +30,21 @@ pub struct Commit<C: Clock, D: Device, R: Naming, K: Naming + Ahead> {
     full: Bed,
 }
 
-impl<C: Clock + Drop, D: Device + Drop, R: Naming, K: Naming + Ahead> Commit<C, D, R, K> {
-    /// Over a keeper at rest, the clock that stamps its lines, and two texts that were just opened. It takes all memory
-    /// that it ever needs, two mebibytes.
+impl<C: Clock, D: Device, R: Naming, K: Ahead> Commit<C, D, R, K> {
+    /// Over a keeper at rest, the clock that stamps its lines, and two texts that were just opened, under their names.
+    /// It takes all memory that it ever needs, two mebibytes.
     pub fn new(
         alloc: Global,
         keeper: Keeper<D>,
         clock: C,
-        records: (Book<R>, Front<R>),
-        keeps: (Book<K>, Front<K>),
+        records: Opened,
+        keeps: Opened,
     ) -> Result<Commit<C, D, R, K>, AllocError>
         requires keeper { Begins K.had K.digest keeper }
-        requires fronts { (records.1 ≡ []) × (keeps.1 ≡ []) }
+        requires names { (records.seen.book ≡ R.book) × (keeps.seen.book ≡ K.book) }
     {
+        let records = records.named::<R>();
+        let keeps = keeps.named::<K>();
         let told = Told {
             records: records.1.again(),
             kept: keeps.1.again(),
@@ -170,14 +172,7 @@ impl<C: Clock + Drop, D: Device + Drop, R: Naming, K: Naming + Ahead> Commit<C, 
     pub fn into_keeper(self) -> Option<(Keeper<D>, Front<K>)>
         ensures { IfSome result (λ r. Rests K.had K.digest r.1 r.0) }
     {
-        let Commit {
-            records: _,
-            state,
-            told: _,
-            even: _,
-            odd: _,
-            full: _,
-        } = self;
+        let Commit { state, .. } = self;
         state.into_inner().into_keeper()
     }
 }

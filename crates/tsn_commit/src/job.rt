@@ -10,12 +10,12 @@ use tsn_keeping::Clock;
 
 /// The scribe while nobody is at it, with empty memory for the lines that come next. A contract sees what is kept.
 #[derive(Drop)]
-pub(crate) struct Free<C: Clock, D: Device, K: Naming + Ahead> {
+pub(crate) struct Free<C: Clock, D: Device, K: Ahead> {
     pub(crate) scribe: Scribe<C, D, K>,
     pub(crate) spare: Lines,
 }
 
-impl<C: Clock, D: Device, K: Naming + Ahead> Model for Free<C, D, K> {
+impl<C: Clock, D: Device, K: Ahead> Model for Free<C, D, K> {
     ghost use Rattle.std.specs.Prelude.{◌≡◌, [], ℕ, List};
 
     ghost Value = { List (List ℕ) };
@@ -27,13 +27,13 @@ impl<C: Clock, D: Device, K: Naming + Ahead> Model for Free<C, D, K> {
 
 /// The scribe, the lines that it is to keep, and what is recorded up to them, which a contract sees.
 #[derive(Drop)]
-pub(crate) struct Job<C: Clock, D: Device, R: Naming, K: Naming + Ahead> {
+pub(crate) struct Job<C: Clock, D: Device, R: Naming, K: Ahead> {
     pub(crate) scribe: Scribe<C, D, K>,
     pub(crate) lines: Lines,
     pub(crate) upto: Front<R>,
 }
 
-impl<C: Clock, D: Device, R: Naming, K: Naming + Ahead> Model for Job<C, D, R, K> {
+impl<C: Clock, D: Device, R: Naming, K: Ahead> Model for Job<C, D, R, K> {
     ghost use Rattle.std.specs.Prelude.{◌≡◌, ◌++◌, ℕ, List};
 
     ghost Value = { List (List ℕ) };
@@ -45,12 +45,12 @@ impl<C: Clock, D: Device, R: Naming, K: Naming + Ahead> Model for Job<C, D, R, K
 
 /// A scribe that has kept all that is recorded up to here, which a contract sees.
 #[derive(Drop)]
-pub(crate) struct Done<C: Clock, D: Device, R: Naming, K: Naming + Ahead> {
+pub(crate) struct Done<C: Clock, D: Device, R: Naming, K: Ahead> {
     pub(crate) free: Free<C, D, K>,
     pub(crate) upto: Front<R>,
 }
 
-impl<C: Clock, D: Device, R: Naming, K: Naming + Ahead> Model for Done<C, D, R, K> {
+impl<C: Clock, D: Device, R: Naming, K: Ahead> Model for Done<C, D, R, K> {
     ghost use Rattle.std.specs.Prelude.{◌≡◌, ℕ, List};
 
     ghost Value = { List (List ℕ) };
@@ -60,7 +60,7 @@ impl<C: Clock, D: Device, R: Naming, K: Naming + Ahead> Model for Done<C, D, R, 
     ghost invariant = { λ d. d.upto ≡ d.free };
 }
 
-impl<C: Clock + Drop, D: Device + Drop, R: Naming, K: Naming + Ahead> Job<C, D, R, K> {
+impl<C: Clock, D: Device, R: Naming, K: Ahead> Job<C, D, R, K> {
     /// Has the scribe keep the lines. Where the device fails nothing comes back.
     pub(crate) fn run(self) -> Option<Done<C, D, R, K>>
         ensures { IfSome result (λ done. done ≡ self) }
@@ -82,7 +82,7 @@ impl<C: Clock + Drop, D: Device + Drop, R: Naming, K: Naming + Ahead> Job<C, D, 
     }
 }
 
-impl<C: Clock + Drop, D: Device + Drop, R: Naming, K: Naming + Ahead> Done<C, D, R, K> {
+impl<C: Clock, D: Device, R: Naming, K: Ahead> Done<C, D, R, K> {
     /// What is recorded up to here, and what is kept, which is the same.
     pub(crate) fn told(&self) -> (Front<R>, Front<K>)
         ensures { result.1 ≡ result.0 }

@@ -14,7 +14,7 @@ use tsn_keeping::{Clock, Keeper};
 
 /// What stands ahead of the kept text: the bytes that the device had, and the digest with which they end. Each call of
 /// a program picks it.
-pub trait Ahead {
+pub trait Ahead: Naming {
     ghost use Rattle.std.specs.Prelude.{ℕ, List};
 
     ghost had: { List ℕ };
@@ -33,14 +33,14 @@ impl Ahead for Brand {
 /// A keeper at rest, with the clock for its lines, and the kept text with the front of it that has just these. A
 /// contract sees the front. Nobody else adds to that text.
 #[derive(Drop)]
-pub(crate) struct Scribe<C: Clock, D: Device, K: Naming + Ahead> {
+pub(crate) struct Scribe<C: Clock, D: Device, K: Ahead> {
     pub(crate) keeper: Keeper<D>,
     pub(crate) clock: C,
     pub(crate) keeps: Book<K>,
     pub(crate) kept: Front<K>,
 }
 
-impl<C: Clock, D: Device, K: Naming + Ahead> Model for Scribe<C, D, K> {
+impl<C: Clock, D: Device, K: Ahead> Model for Scribe<C, D, K> {
     ghost use Rattle.std.specs.Prelude.{ℕ, List};
     ghost use Rattle.tsn_commit.specs.Resting.{Rests};
 
@@ -51,7 +51,7 @@ impl<C: Clock, D: Device, K: Naming + Ahead> Model for Scribe<C, D, K> {
     ghost invariant = { λ s. Rests K.had K.digest s.kept s.keeper };
 }
 
-impl<C: Clock + Drop, D: Device + Drop, K: Naming + Ahead> Scribe<C, D, K> {
+impl<C: Clock, D: Device, K: Ahead> Scribe<C, D, K> {
     /// Enters the lines, has them kept, and adds them to the kept text. Where the device fails nothing comes back.
     #[tactic(auto, using(crate::proofs::Entered::rests_more))]
     pub(crate) fn keep(self, lines: &Lines) -> Option<Scribe<C, D, K>>

@@ -29,7 +29,7 @@ pub enum RecordFault {
 /// What is recorded, which a contract sees: the part that was handed out to be kept, and the rest, which waits. The
 /// scribe, while nobody is at it, has kept just what was handed out.
 #[derive(Drop)]
-pub(crate) struct State<C: Clock, D: Device, R: Naming, K: Naming + Ahead> {
+pub(crate) struct State<C: Clock, D: Device, R: Naming, K: Ahead> {
     records: Front<R>,
     handed: Front<R>,
     // Changes with each handing out.
@@ -39,7 +39,7 @@ pub(crate) struct State<C: Clock, D: Device, R: Naming, K: Naming + Ahead> {
     stopped: bool,
 }
 
-impl<C: Clock, D: Device, R: Naming, K: Naming + Ahead> Model for State<C, D, R, K> {
+impl<C: Clock, D: Device, R: Naming, K: Ahead> Model for State<C, D, R, K> {
     ghost use Rattle.std.specs.Prelude.{◌≡◌, ◌++◌, ℕ, List, IfSome};
 
     ghost Value = { List (List ℕ) };
@@ -49,7 +49,7 @@ impl<C: Clock, D: Device, R: Naming, K: Naming + Ahead> Model for State<C, D, R,
     ghost invariant = { λ s. (s.records ≡ s.handed ++ s.waiting) × IfSome s.free (λ f. f ≡ s.handed) };
 }
 
-impl<C: Clock + Drop, D: Device + Drop, R: Naming, K: Naming + Ahead> State<C, D, R, K> {
+impl<C: Clock, D: Device, R: Naming, K: Ahead> State<C, D, R, K> {
     /// Nothing is recorded yet. It takes all memory that it ever needs.
     #[tactic(auto, using(crate::proofs::Entered::begins_rests))]
     pub(crate) fn new(
@@ -172,21 +172,9 @@ impl<C: Clock + Drop, D: Device + Drop, R: Naming, K: Naming + Ahead> State<C, D
     pub(crate) fn into_keeper(self) -> Option<(Keeper<D>, Front<K>)>
         ensures { IfSome result (λ r. Rests K.had K.digest r.1 r.0) }
     {
-        let State {
-            records: _,
-            handed: _,
-            is_odd: _,
-            waiting: _,
-            free,
-            stopped: _,
-        } = self;
-        let Free { scribe, spare: _ } = free?;
-        let Scribe {
-            keeper,
-            clock: _,
-            keeps: _,
-            kept,
-        } = scribe;
+        let State { free, .. } = self;
+        let Free { scribe, .. } = free?;
+        let Scribe { keeper, kept, .. } = scribe;
         Some((keeper, kept))
     }
 }

@@ -5,7 +5,6 @@ ghost use Rattle.tsn_commit.specs.Resting.{Begins, KeepsBoth};
 
 use crate::commit::Commit;
 use crate::scribe::Ahead;
-use crate::state::RecordFault;
 use std::alloc::Global;
 use std::sync::Wait;
 use std::thread;
@@ -14,8 +13,8 @@ use tsn_device::Device;
 use tsn_history::{Front, Naming, Opened};
 use tsn_keeping::{Clock, Keeper};
 
-/// Records the line behind whatever is recorded, and waits until it is kept: what is kept has it.
-pub fn keep<C: Clock + Drop, D: Device + Drop, R: Naming, K: Naming + Ahead, W: Wait>(
+/// Records the line behind all that is recorded, and waits until it is kept: what is kept has it.
+pub fn keep<C: Clock, D: Device, R: Naming, K: Ahead, W: Wait>(
     rt: &W,
     commit: &Commit<C, D, R, K>,
     line: &[u8],
@@ -23,24 +22,17 @@ pub fn keep<C: Clock + Drop, D: Device + Drop, R: Naming, K: Naming + Ahead, W: 
     requires { IsLine line.now }
     ensures { IfSome result (λ kept. Contains kept line.now) }
 {
-    'tries: for _ in rt.forever() {
-        let last = commit.recorded(rt);
-        match commit.record(rt, &last, line) {
-            Ok(mine) => return commit.settle(rt, &mine).ok(),
-            Err(RecordFault::Behind) => {}
-            Err(RecordFault::Stopped) => return None,
-        }
-    }
-    unreachable!()
+    let mine = commit.add(rt, line).ok()?;
+    commit.settle(rt, &mine).ok()
 }
 
 /// Two threads record and settle a line each. Where both were told that theirs is kept, and the keeper comes back, its
 /// journal surely keeps both.
 pub fn keep_both<
-    C: Clock + Drop + Send,
-    D: Device + Drop + Send,
+    C: Clock + Send,
+    D: Device + Send,
     R: Naming + Send + Sync,
-    K: Naming + Ahead + Send + Sync,
+    K: Ahead + Send + Sync,
     W: Threads + Wait + Sync,
 >(
     rt: &W,
@@ -57,13 +49,7 @@ pub fn keep_both<
     requires lines { IsLine one.now × IsLine other.now }
     ensures { IfSome result (λ k. KeepsBoth keeper.kept keeper.last k.kept one.now other.now) }
 {
-    let Ok(commit) = Commit::new(
-        alloc,
-        keeper,
-        clock,
-        records.named::<R>(),
-        keeps.named::<K>(),
-    ) else {
+    let Ok(commit) = Commit::<C, D, R, K>::new(alloc, keeper, clock, records, keeps) else {
         return None;
     };
     let shared = &commit;

@@ -40,7 +40,7 @@ fn is_line(line: &[u8]) -> bool
 }
 
 // Records the line and settles it, twice, and once more settles the first. Says how often that was told to be kept.
-fn settle_thrice<R: Naming, K: Naming + Ahead, W: Wait>(
+fn settle_thrice<R: Naming, K: Ahead, W: Wait>(
     rt: &W,
     commit: &Commit<Still, MemoryDevice, R, K>,
     line: &[u8],
@@ -61,15 +61,14 @@ fn settle_thrice<R: Naming, K: Naming + Ahead, W: Wait>(
 }
 
 // Records the line so often, one behind the other, and settles the last one. False where that failed.
-fn record_many<R: Naming, K: Naming + Ahead, W: Wait>(
+fn record_many<R: Naming, K: Ahead, W: Wait>(
     rt: &W,
     commit: &Commit<Still, MemoryDevice, R, K>,
     line: &[u8],
     count: u64,
-) -> bool {
-    if !is_line(line) {
-        return false;
-    }
+) -> bool
+    requires { IsLine line.now }
+{
     let mut last = commit.recorded(rt);
     for _ in 0..count {
         let Ok(mine) = commit.record(rt, &last, line) else {
@@ -81,7 +80,7 @@ fn record_many<R: Naming, K: Naming + Ahead, W: Wait>(
 }
 
 // Records the line and waits until it is kept, so often. False where that failed.
-fn keep_often<R: Naming, K: Naming + Ahead, W: Wait>(
+fn keep_often<R: Naming, K: Ahead, W: Wait>(
     rt: &W,
     commit: &Commit<Still, MemoryDevice, R, K>,
     line: &[u8],
@@ -102,7 +101,7 @@ fn keep_often<R: Naming, K: Naming + Ahead, W: Wait>(
 }
 
 // Two threads do so. False where one of them failed.
-fn keep_in_two<R: Naming + Send + Sync, K: Naming + Ahead + Send + Sync, W: Threads + Wait + Sync>(
+fn keep_in_two<R: Naming + Send + Sync, K: Ahead + Send + Sync, W: Threads + Wait + Sync>(
     rt: &W,
     commit: &Commit<Still, MemoryDevice, R, K>,
     line: &[u8],
@@ -118,7 +117,7 @@ fn keep_in_two<R: Naming + Send + Sync, K: Naming + Ahead + Send + Sync, W: Thre
 
 // Four threads record a line each, two of them the first and two the other, so often, and each time wait until it is
 // kept. False where one of them failed.
-fn keep_in_four<R: Naming + Send + Sync, K: Naming + Ahead + Send + Sync, W: Threads + Wait + Sync>(
+fn keep_in_four<R: Naming + Send + Sync, K: Ahead + Send + Sync, W: Threads + Wait + Sync>(
     rt: &W,
     commit: &Commit<Still, MemoryDevice, R, K>,
     lines: (&[u8], &[u8]),
@@ -148,7 +147,7 @@ struct Done {
 }
 
 // What is told of a task to be kept.
-fn done_by<R: Naming + Send + Sync, K: Naming + Ahead + Send + Sync, W: Threads + Wait + Sync>(
+fn done_by<R: Naming + Send + Sync, K: Ahead + Send + Sync, W: Threads + Wait + Sync>(
     rt: &W,
     commit: &Commit<Still, MemoryDevice, R, K>,
     task: Task<'_>,
@@ -156,7 +155,7 @@ fn done_by<R: Naming + Send + Sync, K: Naming + Ahead + Send + Sync, W: Threads 
     match task {
         Task::Thrice(line) => settle_thrice(rt, commit, line),
         Task::Many(line, count) => {
-            let all = record_many(rt, commit, line, count);
+            let all = is_line(line) && record_many(rt, commit, line, count);
             (all, all, all)
         }
         Task::InFour(lines, count) => {
@@ -166,7 +165,7 @@ fn done_by<R: Naming + Send + Sync, K: Naming + Ahead + Send + Sync, W: Threads 
     }
 }
 
-fn work<R: Naming + Send + Sync, K: Naming + Ahead + Send + Sync, W: Threads + Wait + Sync>(
+fn work<R: Naming + Send + Sync, K: Ahead + Send + Sync, W: Threads + Wait + Sync>(
     rt: &W,
     alloc: Global,
     keeper: Keeper<MemoryDevice>,
@@ -177,21 +176,10 @@ fn work<R: Naming + Send + Sync, K: Naming + Ahead + Send + Sync, W: Threads + W
     requires keeper { Begins K.had K.digest keeper }
     requires names { (records.seen.book ≡ R.book) × (keeps.seen.book ≡ K.book) }
 {
-    let commit = Commit::new(
-        alloc,
-        keeper,
-        Still,
-        records.named::<R>(),
-        keeps.named::<K>(),
-    )?;
+    let commit = Commit::<_, _, R, K>::new(alloc, keeper, Still, records, keeps)?;
     let told = done_by(rt, &commit, task);
-    match commit.into_keeper() {
-        Some((keeper, _)) => Ok(Done {
-            told,
-            keeper: Some(keeper),
-        }),
-        None => Ok(Done { told, keeper: None }),
-    }
+    let keeper = commit.into_keeper().map(|(keeper, _)| keeper);
+    Ok(Done { told, keeper })
 }
 
 // A commit at work over a new journal, whose device fails at the call of the number, if one is given; a crash leaves it

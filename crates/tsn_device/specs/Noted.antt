@@ -7,24 +7,15 @@ pub record Log : Type 0 where
   pub loose : List ℕ
 
 abbrev pub no_bytes : Log
-no_bytes = record {
-  kept = [];
-  loose = [];
-}
+no_bytes = record { kept = []; loose = [] }
 
 -- The file took these bytes behind the others.
 abbrev pub taken : List ℕ → Log → Log
-taken bytes log = record {
-  kept = log.kept;
-  loose = log.loose ++ bytes;
-}
+taken bytes log = record { kept = log.kept; loose = log.loose ++ bytes }
 
 -- A sync came back.
 abbrev pub synced : Log → Log
-synced log = record {
-  kept = log.kept ++ log.loose;
-  loose = [];
-}
+synced log = record { kept = log.kept ++ log.loose; loose = [] }
 
 -- A note of one number, 0, tells of bytes that the file took; any other tells that a sync came back.
 abbrev pub noted : List ℕ → List ℕ → Log → Log

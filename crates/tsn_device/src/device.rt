@@ -7,7 +7,7 @@ ghost use Rattle.tsn_device.specs.Kept.{IsCutShort};
 pub struct Failed;
 
 /// What keeps a journal. Behind a call that failed none may be made: what the device then holds is not known.
-pub trait Device {
+pub trait Device: Drop {
     // The bytes that it surely keeps, in order.
     ghost kept: { Self → List ℕ };
 

@@ -39,13 +39,7 @@ impl MemoryDevice {
     /// A device with this text, which it keeps. The append or sync behind so many others fails, and an append that does
     /// takes at most `takes` bytes; with none, none fails but for want of memory.
     pub fn new(bytes: Vec<u8>, fails_after: Option<u64>, takes: usize) -> MemoryDevice
-        ensures { result ≡ record {
-          kept = bytes.items;
-          loose = [];
-          fails_after = fails_after;
-          takes = takes;
-          works = true;
-        } }
+        ensures { result ≡ record { kept = bytes.items; loose = []; fails_after = fails_after; takes = takes; works = true } }
     {
         let kept = bytes.len();
         MemoryDevice {

@@ -21,12 +21,7 @@ with_entered r k = record {
 
 -- All that was entered is kept.
 abbrev pub with_settled : Keeping → Keeping
-with_settled k = record {
-  kept = k.kept ++ k.unsettled;
-  unsettled = [];
-  last = k.last;
-  works = k.works;
-}
+with_settled k = record { kept = k.kept ++ k.unsettled; unsettled = []; last = k.last; works = k.works }
 
 -- Behind what the device had, and the digest with which that ends, these recorded commands were entered: the first are
 -- settled, and the others are not.

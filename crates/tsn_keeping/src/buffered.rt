@@ -26,12 +26,7 @@ impl<D: Device> Model for BufferedDevice<D> {
 
     ghost Value = { Held };
 
-    ghost view = { λ b. record {
-      kept = D.kept b.device;
-      loose = D.loose b.device;
-      waiting = b.buffer.items;
-      works = b.works;
-    } };
+    ghost view = { λ b. record { kept = D.kept b.device; loose = D.loose b.device; waiting = b.buffer.items; works = b.works } };
 
     ghost invariant = { λ b. IsSound (D.loose b.device) (D.works b.device) (vec_len b.buffer) (vec_capacity b.buffer)
         b.has_loose b.works };
@@ -39,8 +34,6 @@ impl<D: Device> Model for BufferedDevice<D> {
 
 impl<D: Device> BufferedDevice<D> {
     pub(crate) fn new(alloc: Global, device: D) -> Result<BufferedDevice<D>, AllocError>
-    where
-        D: Drop,
         requires { (D.loose device ≡ []) × (D.works device ≡ true) }
         ensures { IfOk result (λ b. b ≡ record { kept = D.kept device; loose = []; waiting = []; works = true }) }
     {

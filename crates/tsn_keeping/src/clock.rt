@@ -65,7 +65,7 @@ fn is_word(text: &[u8]) -> bool
 }
 
 /// What tells the time.
-pub trait Clock {
+pub trait Clock: Drop {
     /// The stamp of this moment.
     fn stamp(&mut self) -> Stamp;
 }

@@ -37,15 +37,8 @@ impl<D: Device> Keeper<D> {
     /// A keeper over this device, which goes on behind this chain. It takes the memory of its buffer, 64 KiB, and no
     /// more later.
     pub fn new(alloc: Global, device: D, chain: Chain) -> Result<Keeper<D>, AllocError>
-    where
-        D: Drop,
         requires { (D.loose device ≡ []) × (D.works device ≡ true) }
-        ensures { IfOk result (λ k. k ≡ record {
-          kept = D.kept device;
-          unsettled = [];
-          last = chain;
-          works = true;
-        }) }
+        ensures { IfOk result (λ k. k ≡ record { kept = D.kept device; unsettled = []; last = chain; works = true }) }
     {
         Ok(Keeper {
             behind: BufferedDevice::new(alloc, device)?,

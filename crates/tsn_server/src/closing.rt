@@ -30,7 +30,7 @@ impl Closing for Nothing {
     }
 }
 
-impl<'a, W: Wait, C: Clock + Drop, D: Device + Drop, R: Naming, K: Naming + Ahead, S: Stop> Closing
+impl<'a, W: Wait, C: Clock, D: Device, R: Naming, K: Ahead, S: Stop> Closing
     for LastingHost<'a, W, C, D, R, K, S> {
     ghost fails = { ⊤ };
 

@@ -27,10 +27,10 @@ use tsn_types::numbers::Instant;
 pub fn serve_lasting<
     W: Wait + Threads + Sync,
     S: Source + Stop + Sync,
-    C: Clock + Drop + Send,
-    D: Device + Drop + Send,
+    C: Clock + Send,
+    D: Device + Send,
     R: Naming + Send + Sync,
-    K: Naming + Ahead + Send + Sync,
+    K: Ahead + Send + Sync,
     O: ByteOut,
 >(
     rt: &W,
@@ -52,13 +52,7 @@ pub fn serve_lasting<
     ensures lines { OnOk result ((text : List ℕ) × ReportsEnd bridge at text × Appends (O.taken writer.old) (O.taken writer.new) text) }
     ensures handed_on { OnOk result (O.pending writer.new ≡ []) }
 {
-    let Ok(commit) = Commit::new(
-        alloc,
-        keeper,
-        clock,
-        records.named::<R>(),
-        keeps.named::<K>(),
-    ) else {
+    let Ok(commit) = Commit::<C, D, R, K>::new(alloc, keeper, clock, records, keeps) else {
         return Err(ended_by(Fault::Memory));
     };
     let host = LastingHost {
