@@ -1,7 +1,6 @@
-use Rattle.std.proofs.Common.{refl, subst, sym, arith}
-use Rattle.std.proofs.lemmas.List.{drop-append-le}
+use Rattle.std.proofs.Common.{refl, subst, sym}
 use Rattle.tsn_recorded.specs.Reader.{HasGiven, Standing}
-use Rattle.tsn_recorded.proofs.Giving.{found_with, gives_counted, gives_held}
+use Rattle.tsn_recorded.proofs.Giving.{found_with, gives_counted}
 use Rattle.tsn_recorded.proofs.reader.Reader.feed.Goals as goal
 
 pub returns-then-self-clause-fed : goal.returns-then-self-clause-fed
@@ -11,6 +10,3 @@ returns-then-self-clause-fed c fed rs given =
     let here = subst P (sym c.self.view_is) given in
     gives_counted fed piece rs _ _ here (record { last = refl; lines = refl; good = refl }) refl refl
     (found_with _ _ here.counted piece here.line_feeds c.has_line_feed-self-inside.ensures.some c.has_line_feed-self-inside.ensures.none)
-
-pub returns-clause-fed : goal.returns-clause-fed
-returns-clause-fed c fed rs given = grind (arith, gives_held, drop-append-le)
